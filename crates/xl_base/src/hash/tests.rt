@@ -1,0 +1,34 @@
+use super::half512;
+use hex::FromHex;
+use std::test::Fail;
+
+/// A message's bytes and its half hash, as hexadecimal digits.
+const VECTORS: [(&str, &str); 4] = [
+    // FIPS 180-4's examples of SHA-512, and the empty message.
+    (
+        "",
+        "cf83e1357eefb8bdf1542850d66d8007d620e4050b5715dc83f4a921d36ce9ce",
+    ),
+    (
+        "616263",
+        "ddaf35a193617abacc417349ae20413112e6fa4e89a97ea20a9eeee64b55d39a",
+    ),
+    (
+        "61626364656667686263646566676869636465666768696a6465666768696a6b65666768696a6b6c666768696a6b6c6d6768696a6b6c6d6e68696a6b6c6d6e6f696a6b6c6d6e6f706a6b6c6d6e6f70716b6c6d6e6f7071726c6d6e6f707172736d6e6f70717273746e6f707172737475",
+        "8e959b75dae313da8cf4f72814fc143f8f7779c6eb9f7fa17299aeadb6889018",
+    ),
+    // The first ledger of the real network: the prefix of headers, and the header's 118 bytes.
+    (
+        "4c57520000000001016345785d8a000000000000000000000000000000000000000000000000000000000000000000000000000000000000000000000000000000000000000000000000000000000000a21ed30c04c88046fc61db9dc19375eedbd365fd8c17286f27127df804e9caa600000000000000001e00",
+        "ab868a6cfeec779c2ff845c0af00a642259986af40c01976a7f842b6918936c7",
+    ),
+];
+
+#[test]
+fn hashes_the_published_messages(rt: HostRuntime) -> Result<(), Fail> {
+    for (message, half) in VECTORS {
+        let message = hex::decode(rt.alloc(), message)?;
+        assert_eq!(rt; half512(&message), <[u8; 32]>::from_hex(half)?);
+    }
+    Ok(())
+}

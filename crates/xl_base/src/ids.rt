@@ -1,0 +1,3 @@
+/// A ledger, named by the half hash of its header, or the root by 32 zero bytes. Ids are ordered by their bytes.
+#[derive(Clone, Copy, Debug, PartialEq, Eq, PartialOrd, Ord)]
+pub struct LedgerId(pub [u8; 32]);

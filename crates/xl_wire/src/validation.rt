@@ -1,0 +1,12 @@
+use xl_base::{LedgerId, Secs, Seq};
+
+/// A member's word that a ledger is the one of its sequence.
+#[derive(Clone, Copy, Debug, PartialEq, Eq)]
+pub struct Validation {
+    pub id: LedgerId,
+    pub seq: Seq,
+    /// The second at which it was signed.
+    pub signed: Secs,
+    /// A partial validation is a vote for the branch and counts for no quorum.
+    pub full: bool,
+}
