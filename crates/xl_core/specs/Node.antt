@@ -1,0 +1,113 @@
+-- One node: its rows, the last sequence that it saved, and what it reports as fully validated.
+-- Source: the paper, and rippled's Consensus and Validations.
+use Rattle.std.specs.Prelude.{ℕ, ◌==◌, ◌&&◌, ◌||◌, Bool, true, false, not, List, map, filter_map, find, option_map, nat_lt, nat_le, if◌then◌else◌}
+use Rattle.std.specs.Prelude.{Some, None}
+use Rattle.std.specs.declared.option.Option.{Option}
+use Rattle.std.specs.Option.{is_none, option_and_then}
+use Rattle.xl_base.specs.declared.ids.LedgerId.{LedgerId}
+use Rattle.xl_lists.specs.Lists.{TrustedList, is_on}
+use Rattle.xl_wire.specs.declared.validation.Validation.{Validation}
+use Rattle.xl_validations.specs.declared.row.Row.{Row}
+use Rattle.xl_validations.specs.declared.refusal.ValRefusal.{ValRefusal}
+use Rattle.xl_validations.specs.Rows.{row_of, refusal, with_validation, at_member, count_full, empty_row}
+use Rattle.xl_core.specs.declared.report.Report.{Report}
+use Rattle.xl_core.specs.declared.refusal.Refusal.{Refusal}
+use Rattle.xl_core.specs.declared.refusal.Refusal.TheVariants.{Stranger, NotAfter}
+use Rattle.xl_core.specs.Refusals.{refusal_from}
+
+pub record Node : Type 0 where
+  pub me : ℕ
+  pub list : TrustedList
+  pub rows : List Row
+  -- the last sequence that was saved
+  pub kept : ℕ
+  -- the last report since the node opened
+  pub last : Option Report
+
+-- What may happen at a node. Moments are in seconds.
+pub data Event : Type 0 where
+  -- it is asked to issue a validation
+  Issue : (now seq : ℕ) (id : LedgerId) (full : Bool) → Event
+  -- a validation comes, sent by a number
+  Comes : (now from : ℕ) (validation : Validation) → Event
+
+-- what came of it: the node then, why it was refused, what it issued, and what it reports
+pub record Reply : Type 0 where
+  pub node : Node
+  pub refused : Option Refusal
+  pub issued : Option Validation
+  pub report : Option Report
+
+-- a node opened with the number that its keeper holds
+abbrev pub opened : ℕ → TrustedList → ℕ → Node
+opened me list kept = record { me = me; list = list; rows = map empty_row list.members; kept = kept; last = None }
+
+-- whether a sequence is above the last report's
+abbrev pub is_above : Option Report → ℕ → Bool
+is_above None seq = true
+is_above (Some report) seq = nat_lt report.seq seq
+
+-- whether a quorum of rows holds it as a full validation, above the last report
+abbrev pub arises : Node → Validation → Bool
+arises n v = nat_le n.list.quorum (count_full v.seq v.id n.rows) && is_above n.last v.seq
+
+abbrev pub report_of : Validation → Report
+report_of v = record { seq = v.seq; id = v.id }
+
+-- what the rows give to report
+abbrev pub arisen : Node → Option Report
+arisen n = option_map report_of (find (arises n) (filter_map (λ row. row.current) n.rows))
+
+-- the last report, once one has arisen or none
+abbrev pub later : Option Report → Option Report → Option Report
+later last None = last
+later last (Some report) = Some report
+
+abbrev pub refusing : Node → Refusal → Reply
+refusing n why = record { node = n; refused = Some why; issued = None; report = None }
+
+-- the rows report what arises in them
+abbrev pub reporting : Node → Option Validation → Reply
+reporting n issued = record { node = record n { last = later n.last (arisen n) }; refused = None; issued = issued; report = arisen n }
+
+-- the sender's row takes the validation, unless it refuses it
+abbrev pub take : ℕ → Validation → Row → Row
+take now v row = if is_none (refusal row now v) then with_validation v row else row
+
+abbrev pub with_taken : Node → ℕ → ℕ → Validation → Node
+with_taken n now from v = record n { rows = at_member from (take now v) n.rows }
+
+-- the node that has saved the validation's sequence: only then its own row takes it
+abbrev pub saving : Node → ℕ → Validation → Node
+saving n now v = with_taken (record n { kept = v.seq }) now n.me v
+
+-- the save that an event asks
+abbrev pub asks : Node → Event → Option ℕ
+asks n (Issue now seq id full) = if nat_lt n.kept seq then Some seq else None
+asks n (Comes now from v) = None
+
+-- a save that failed leaves the node as it was
+abbrev pub issues : Node → ℕ → Bool → Validation → Reply
+issues n now true v = reporting (saving n now v) (Some v)
+issues n now false v = record { node = n; refused = None; issued = None; report = None }
+
+-- a member's row answers
+abbrev pub hears : Node → ℕ → ℕ → Validation → Option ValRefusal → Reply
+hears n now from v None = reporting (with_taken n now from v) None
+hears n now from v (Some why) = refusing n (refusal_from why)
+
+-- why the row of a number doesn't take the validation
+abbrev pub refusal_at : Node → ℕ → ℕ → Validation → Option ValRefusal
+refusal_at n now from v = option_and_then (λ row. refusal row now v) (row_of n.rows from)
+
+abbrev pub is_stranger : Node → ℕ → Bool
+is_stranger n from = from == n.me || not (is_on n.list.members from)
+
+-- what came of an event, whose save was Ok or failed
+abbrev pub happens : Node → Event → Bool → Reply
+happens n (Issue now seq id full) saved =
+    if nat_lt n.kept seq
+    then issues n now saved (record { id = id; seq = seq; signed = now; full = full })
+    else refusing n (NotAfter n.kept)
+happens n (Comes now from v) saved =
+    if is_stranger n from then refusing n (Stranger from) else hears n now from v (refusal_at n now from v)
