@@ -1,0 +1,4 @@
+pub mod Settling
+pub mod NodeSteps
+pub mod Runs
+pub mod Lists

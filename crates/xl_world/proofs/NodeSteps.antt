@@ -1,0 +1,196 @@
+-- What each event at a node shows.
+use Rattle.std.proofs.Common.{◌≡◌, ℕ, ◌<◌, ◌≤◌, Bool, true, false, cond, List, [], ◌∷◌, refl, arith, ap, sym, ◌∙◌, inl, inr, Option, Some, None, subst}
+use Rattle.std.specs.Prelude.{◌==◌, ◌&&◌, All, IfSome, map, find, filter_map, option_map, nat_lt, nat_le, nat_eq}
+use Rattle.std.specs.Option.{is_none}
+use Rattle.std.proofs.lemmas.Bool.{and_parts, eqb-true, cond_both, ltb-true, leb-true}
+use Rattle.std.proofs.lemmas.List.Elements.{All-map, All-head, All-tail, All-nil, All-cons}
+use Rattle.xl_lists.specs.Lists.{TrustedList, IsValid}
+use Rattle.xl_lists.specs.Agreement.{Said}
+use Rattle.xl_wire.specs.declared.validation.Validation.{Validation}
+use Rattle.xl_validations.specs.declared.row.Row.{Row}
+use Rattle.xl_validations.specs.declared.refusal.ValRefusal.{ValRefusal}
+use Rattle.xl_validations.specs.Rows.{refusal, with_validation, at_member, count_full, empty_row}
+use Rattle.xl_core.specs.declared.report.Report.{Report}
+use Rattle.xl_core.specs.declared.refusal.Refusal.{Refusal}
+use Rattle.xl_core.specs.declared.refusal.Refusal.TheVariants.{Stranger, NotAfter}
+use Rattle.xl_core.specs.Node.{Node, Event, Issue, Comes, Reply, take, with_taken, saving, arises, arisen, report_of, reporting, refusing, issues, hears, refusal_at, is_stranger, asks, happens, opened}
+use Rattle.xl_world.specs.Keeper.{Keeper, MayHold, holding, after_save}
+use Rattle.xl_world.specs.World.{Place, said_by, RowSays, NodeSays, quiet}
+use Rattle.xl_world.proofs.Settling.{IsWell, IsStep, ReplySays, if_some}
+
+-- ROWS
+
+-- a validation that is taken stands under its sender's name
+take_says : (P : Said → Type 0) (now : ℕ) (v : Validation) (row : Row) → P (said_by row.member v) → RowSays P row → RowSays P (take now v row)
+take_says P now v row fair says = cond_both (is_none (refusal row now v)) (with_validation v row) row (RowSays P) (λ _. fair) (λ _. says)
+
+rows_say : (P : Said → Type 0) (now from : ℕ) (v : Validation) → P (said_by from v) → (rows : List Row) → All (RowSays P) rows → All (RowSays P) (at_member from (take now v) rows)
+rows_say P now from v fair [] says = says
+rows_say P now from v fair (row ∷ rows) says =
+    let first = All-head (RowSays P) row rows says in
+    let rest = All-tail (RowSays P) row rows says in
+    cond_both (row.member == from) (take now v row ∷ rows) (row ∷ at_member from (take now v) rows) (All (RowSays P))
+    (λ e. All-cons (RowSays P) (take now v row) rows (take_says P now v row (subst (λ m. P (said_by m v)) (sym (eqb-true row.member from e)) fair) first) rest)
+    (λ _. All-cons (RowSays P) row (at_member from (take now v) rows) first (rows_say P now from v fair rows rest))
+
+cons_same : {x y : ℕ} {xs ys : List ℕ} → x ≡ y → xs ≡ ys → x ∷ xs ≡ y ∷ ys
+cons_same p q = cc
+
+member_taken : (now : ℕ) (v : Validation) (row : Row) → (take now v row).member ≡ row.member
+member_taken now v row = cond_both (is_none (refusal row now v)) (with_validation v row) row (λ r. r.member ≡ row.member) (λ _. refl) (λ _. refl)
+
+-- rows stay their members'
+members_taken : (now from : ℕ) (v : Validation) (rows : List Row) → map (λ row. row.member) (at_member from (take now v) rows) ≡ map (λ row. row.member) rows
+members_taken now from v [] = refl
+members_taken now from v (row ∷ rows) =
+    cond_both (row.member == from) (take now v row ∷ rows) (row ∷ at_member from (take now v) rows) (λ rs. map (λ r. r.member) rs ≡ row.member ∷ map (λ r. r.member) rows)
+    (λ _. cons_same (member_taken now v row) refl) (λ _. cons_same refl (members_taken now from v rows))
+
+members_opened : (ms : List ℕ) → map (λ row. row.member) (map empty_row ms) ≡ ms
+members_opened [] = refl
+members_opened (m ∷ ms) = cons_same refl (members_opened ms)
+
+-- THE KEEPER
+
+held : (n j : ℕ) → MayHold (holding n) j → j ≡ n
+held n j (inl e) = e
+held n j (inr e) = cc
+
+-- after a save that failed the keeper holds the number in force, or the asked one
+pub failed_rises : (k : Keeper) (s j : ℕ) → k.in_force < s → MayHold (after_save k (Some s) false) j → (i : ℕ) × (i ≤ j) × MayHold k i
+failed_rises k s j above (inl e) = (j, omega arith, inl e)
+failed_rises k s j above (inr e) = (k.in_force, omega (arith, some_number s j e), inl refl)
+  where
+    some_number : (a b : ℕ) → Some a ≡ Some b → a ≡ b
+    some_number a b e = cc
+
+-- THE EVENTS
+
+-- nothing is issued or reported
+still : (p : Place) (r : Reply) → r.node ≡ p.node → r.issued ≡ None → r.report ≡ None → IsWell p → IsStep p r p.keeper
+still p r node issued report well = record {
+  me = ap (λ (n : Node). n.me) node;
+  list = ap (λ (n : Node). n.list) node;
+  well = subst (λ n. IsWell (record { node = n; keeper = p.keeper })) (sym node) (record { members = well.members; valid = well.valid; in_force = well.in_force });
+  rises = λ j h. (j, omega arith, h);
+  above = subst (λ o. IfSome o (λ v. (i : ℕ) × (i < v.seq) × MayHold p.keeper i)) (sym issued) tt;
+  saved = subst (λ o. IfSome o (λ v. (j : ℕ) → MayHold p.keeper j → v.seq ≤ j)) (sym issued) tt;
+  quorum = subst (λ o. IfSome o (λ q. r.node.list.quorum ≤ count_full q.seq q.id r.node.rows)) (sym report) tt;
+}
+
+find_passes : {X : Type 0} (p : X → Bool) (xs : List X) → IfSome (find p xs) (λ x. p x ≡ true)
+find_passes p [] = tt
+find_passes p (x ∷ xs) = cond_both (p x) (Some x) (find p xs) (λ o. IfSome o (λ y. p y ≡ true)) (λ e. e) (λ _. find_passes p xs)
+
+-- a fact of what is found is one of its report
+mapped : (P : Report → Type 0) (o : Option Validation) → IfSome o (λ v. P (report_of v)) → IfSome (option_map report_of o) P
+mapped P None h = tt
+mapped P (Some v) h = h
+
+-- what arises has its rows
+arisen_quorum : (n : Node) → IfSome (arisen n) (λ q. n.list.quorum ≤ count_full q.seq q.id n.rows)
+arisen_quorum n =
+    mapped (λ q. n.list.quorum ≤ count_full q.seq q.id n.rows) (find (arises n) (filter_map (λ row. row.current) n.rows))
+    (if_some (λ v. arises n v ≡ true) _ (λ v e. leb-true _ _ (and_parts (nat_le n.list.quorum (count_full v.seq v.id n.rows)) _ e).0)
+    _ (find_passes (arises n) (filter_map (λ row. row.current) n.rows)))
+
+-- an issue, by whether its sequence is above the kept one and whether its save is Ok
+issue_steps : (p : Place) (now : ℕ) (v : Validation) (b saved : Bool) → (b ≡ true → p.node.kept < v.seq) → IsWell p →
+    IsStep p (cond b (issues p.node now saved v) (refusing p.node (NotAfter p.node.kept))) (after_save p.keeper (cond b (Some v.seq) None) saved)
+issue_steps p now v true true above well = record {
+  me = refl;
+  list = refl;
+  well = record { members = members_taken now p.node.me v p.node.rows ∙ well.members; valid = well.valid; in_force = refl };
+  rises = λ j h. (p.keeper.in_force, omega (arith, held v.seq j h, above refl, well.in_force), inl refl);
+  above = (p.keeper.in_force, omega (arith, above refl, well.in_force), inl refl);
+  saved = λ j h. omega (arith, held v.seq j h);
+  quorum = arisen_quorum (saving p.node now v);
+}
+issue_steps p now v true false above well = record {
+  me = refl;
+  list = refl;
+  well = record { members = well.members; valid = well.valid; in_force = well.in_force };
+  rises = λ j h. failed_rises p.keeper v.seq j (omega (arith, above refl, well.in_force)) h;
+  above = tt;
+  saved = tt;
+  quorum = tt;
+}
+issue_steps p now v false saved above well = still p (refusing p.node (NotAfter p.node.kept)) refl refl refl well
+
+hears_steps : (p : Place) (now from : ℕ) (v : Validation) (o : Option ValRefusal) → IsWell p → IsStep p (hears p.node now from v o) p.keeper
+hears_steps p now from v (Some why) well = still p (hears p.node now from v (Some why)) refl refl refl well
+hears_steps p now from v None well = record {
+  me = refl;
+  list = refl;
+  well = record { members = members_taken now from v p.node.rows ∙ well.members; valid = well.valid; in_force = well.in_force };
+  rises = λ j h. (j, omega arith, h);
+  above = tt;
+  saved = tt;
+  quorum = arisen_quorum (with_taken p.node now from v);
+}
+
+pub happens_steps : (p : Place) (e : Event) (saved : Bool) → IsWell p → IsStep p (happens p.node e saved) (after_save p.keeper (asks p.node e) saved)
+happens_steps p (Issue now seq id full) saved well = issue_steps p now _ (nat_lt p.node.kept seq) saved (λ e. ltb-true _ _ e) well
+happens_steps p (Comes now from v) saved well =
+    cond_both (is_stranger p.node from) (refusing p.node (Stranger from)) (hears p.node now from v (refusal_at p.node now from v)) (λ r. IsStep p r p.keeper)
+    (λ _. still p (refusing p.node (Stranger from)) refl refl refl well) (λ _. hears_steps p now from v (refusal_at p.node now from v) well)
+
+-- WHAT STANDS AT THE NODE
+
+-- P holds of what came, unless it came under the node's own number
+abbrev pub HeardSays : (Said → Type 0) → Node → Event → Type 0
+HeardSays P n (Issue now seq id full) = Unit {0}
+HeardSays P n (Comes now from v) = (from == n.me) ≡ false → P (said_by from v)
+
+pub heard_weaker : (P Q : Said → Type 0) → ((x : Said) → P x → Q x) → (n : Node) (e : Event) → HeardSays P n e → HeardSays Q n e
+heard_weaker P Q h n (Issue now seq id full) heard = tt
+heard_weaker P Q h n (Comes now from v) heard = λ other. h (said_by from v) (heard other)
+
+issue_says : (P : Said → Type 0) (n : Node) (now : ℕ) (v : Validation) (b saved : Bool) → NodeSays P n →
+    IfSome (cond b (issues n now saved v) (refusing n (NotAfter n.kept))).issued (λ u. P (said_by n.me u)) →
+    ReplySays P n.me (cond b (issues n now saved v) (refusing n (NotAfter n.kept)))
+issue_says P n now v true true says fair = record { node = rows_say P now n.me v fair n.rows says; issued = fair }
+issue_says P n now v true false says fair = record { node = says; issued = tt }
+issue_says P n now v false saved says fair = record { node = says; issued = tt }
+
+hears_says : (P : Said → Type 0) (n : Node) (now from : ℕ) (v : Validation) (o : Option ValRefusal) → NodeSays P n → P (said_by from v) → ReplySays P n.me (hears n now from v o)
+hears_says P n now from v (Some why) says fair = record { node = says; issued = tt }
+hears_says P n now from v None says fair = record { node = rows_say P now from v fair n.rows says; issued = tt }
+
+-- a number that is no stranger is not the node's own
+not_me : (me on : Bool) → (me || not on) ≡ false → me ≡ false
+not_me me on h = grind arith
+
+-- what holds of what stands at the node, of what came and of what is issued holds of what stands there then
+pub happens_says : (P : Said → Type 0) (n : Node) (e : Event) (saved : Bool) → NodeSays P n → HeardSays P n e →
+    IfSome (happens n e saved).issued (λ v. P (said_by n.me v)) → ReplySays P n.me (happens n e saved)
+happens_says P n (Issue now seq id full) saved says heard fair = issue_says P n now _ (nat_lt n.kept seq) saved says fair
+happens_says P n (Comes now from v) saved says heard fair =
+    cond_both (is_stranger n from) (refusing n (Stranger from)) (hears n now from v (refusal_at n now from v)) (ReplySays P n.me)
+    (λ _. record { node = says; issued = tt })
+    (λ e. hears_says P n now from v (refusal_at n now from v) says (heard (not_me (from == n.me) _ e)))
+
+-- a node that is opened has nothing
+pub opened_says : (P : Said → Type 0) (me : ℕ) (list : TrustedList) (kept : ℕ) → NodeSays P (opened me list kept)
+opened_says P me list kept = All-map (RowSays P) empty_row list.members (λ _ _ _. tt)
+
+pub opened_well : (me : ℕ) (list : TrustedList) (number : ℕ) → IsValid list → IsWell (record { node = opened me list number; keeper = holding number })
+opened_well me list number valid = record { members = members_opened list.members; valid = valid; in_force = refl }
+
+-- a save is asked above the number that was kept
+pub asks_above : (n : Node) (e : Event) → IfSome (asks n e) (λ s. n.kept < s)
+asks_above n (Issue now seq id full) = cond_both (nat_lt n.kept seq) (Some seq) None (λ o. IfSome o (λ s. n.kept < s)) (λ e. ltb-true _ _ e) (λ _. tt)
+asks_above n (Comes now from v) = tt
+
+-- a node opened again with a number that is not below its keeper's
+pub opened_steps : (p : Place) (number : ℕ) → IsWell p → (i : ℕ) × (i ≤ number) × MayHold p.keeper i →
+    IsStep p (quiet (opened p.node.me p.node.list number)) (holding number)
+opened_steps p number well low = record {
+  me = refl;
+  list = refl;
+  well = opened_well p.node.me p.node.list number well.valid;
+  rises = λ j h. (low.0, omega (arith, held number j h, low.1), low.2);
+  above = tt;
+  saved = tt;
+  quorum = tt;
+}

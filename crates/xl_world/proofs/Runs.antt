@@ -1,0 +1,191 @@
+-- Each step of an unforged run keeps what is kept, so reports agree.
+use Rattle.std.proofs.Common.{◌≡◌, ℕ, ◌+◌, ◌<◌, ◌≤◌, Bool, true, false, cond, List, [], ◌∷◌, ◌++◌, refl, arith, ap, sym, ◌∙◌, inl, inr, Option, Some, None, subst}
+use Rattle.std.specs.Prelude.{◌==◌, ◌&&◌, ◌⊎◌, All, IfSome, not, slice_index_or}
+use Rattle.std.specs.List.{list_any}
+use Rattle.std.proofs.lemmas.Bool.{and_parts, or_left, or_cases, eqb-true, cond_both}
+use Rattle.std.proofs.lemmas.List.Elements.{All-map, All-head, All-tail, All-nil}
+use Rattle.xl_base.specs.declared.ids.LedgerId.{LedgerId}
+use Rattle.xl_lists.specs.Lists.{IsValid, is_on}
+use Rattle.xl_lists.specs.Agreement.{Said, same_id, IsGenuine, IsBacked, Agree}
+use Rattle.xl_lists.proofs.Agreement.{agreement_from_kept, vouches_still, same_id-true}
+use Rattle.xl_wire.specs.declared.validation.Validation.{Validation}
+use Rattle.xl_core.specs.Node.{Node, Event, Issue, Comes, Reply, asks, happens, opened}
+use Rattle.xl_world.specs.declared.sent.Sent.{Sent}
+use Rattle.xl_world.specs.Keeper.{Keeper, MayHold, may_hold, is_asked, holding, after_save}
+use Rattle.xl_world.specs.World.{Place, World, Step, Act, Again, Torn, place_at, said_by, same_validation, was_sent, is_forged, acts, reopened, quiet, again, torn, asked_at, step, run, Declared, place_of, start, AreLists, FrameSays, NodeSays, Stands, IsRun}
+use Rattle.xl_world.proofs.Settling.{IsWell, IsSound, ReplySays, GenuineThen, spoken, settled_sound, issued_genuine, node_weaker, at_its_number, some_same}
+use Rattle.xl_world.proofs.NodeSteps.{happens_steps, happens_says, HeardSays, heard_weaker, opened_says, opened_well, opened_steps, asks_above, failed_rises}
+
+-- WHAT COMES UNFORGED
+
+-- what holds of each element holds of one that a test finds
+from_found : {X : Type 0} (p : X → Bool) (P : X → Type 0) (R : Type 0) (xs : List X) → list_any p xs ≡ true → All P xs → ((x : X) → p x ≡ true → P x → R) → R
+from_found p P R [] found each then_ = cc
+from_found p P R (x ∷ xs) found each then_ =
+    elim (or_cases (p x) (list_any p xs) found)
+    [ inl here ↦ then_ x here (All-head P x xs each) | inr there ↦ from_found p P R xs there (All-tail P x xs each) then_ ]
+
+-- what is not forged comes from a liar or was sent
+unforged : (me liar sent : Bool) → (not me && not liar && not sent) ≡ false → me ≡ false → (liar ≡ true) ⊎ (sent ≡ true)
+unforged me liar sent h e = grind arith
+
+said_equal : (m k s t : ℕ) (a b : LedgerId) → m ≡ k → s ≡ t → a ≡ b → (let x : Said = record { member = m; seq = s; id = a } in x) ≡ record { member = k; seq = t; id = b }
+said_equal m k s t a b e f g = cc
+
+-- what was sent says what comes
+sent_says : (P : Said → Type 0) (w : World) (from i : ℕ) (v : Validation) → All (FrameSays P) w.sent → was_sent w from i v ≡ true → P (said_by from v)
+sent_says P w from i v says sent =
+    from_found _ (FrameSays P) _ w.sent sent says
+    (λ f same says_f.
+    let outer = and_parts (f.from == from && f.to == i) _ same in
+    let named = eqb-true _ _ (and_parts (f.from == from) _ outer.0).0 in
+    let inner = and_parts (f.validation.seq == v.seq) _ outer.1 in
+    subst P (said_equal f.from from f.validation.seq v.seq f.validation.id v.id named (eqb-true _ _ inner.0) (same_id-true _ _ inner.1)) says_f)
+
+heard_genuine : (w : World) (i : ℕ) (n : Node) → n.me ≡ i → Stands w (IsGenuine w.liars w.said) → (e : Event) → is_forged w i e ≡ false → HeardSays (IsGenuine w.liars w.said) n e
+heard_genuine w i n its stands (Issue now seq id full) fair = tt
+heard_genuine w i n its stands (Comes now from v) fair = λ other.
+    elim (unforged (from == i) (is_on w.liars from) (was_sent w from i v) fair (subst (λ (k : ℕ). (from == k) ≡ false) its other)) [
+      | inl liar ↦ or_left _ _ liar
+      | inr sent ↦ sent_says (IsGenuine w.liars w.said) w from i v stands.sent sent
+    ]
+
+-- THE STEPS
+
+act_sound : (w : World) (i : ℕ) (e : Event) (saved : Bool) → IsSound w → (o : Option Place) → place_at i w.places ≡ o → (acts w i e saved o).forged ≡ w.forged → IsSound (acts w i e saved o)
+act_sound w i e saved sound None at same = sound
+act_sound w i e saved sound (Some p) at same =
+    let its : p.node.me ≡ i = at_its_number i w.places p at in
+    let r : Reply = happens p.node e saved in
+    let still = λ (x : Said). vouches_still w.liars w.said (spoken i r.issued) x.member x.seq x.id in
+    settled_sound w i (is_forged w i e) p r (after_save p.keeper (asks p.node e) saved) at (happens_steps p e saved (sound.well i p at))
+    (subst (λ m. ReplySays (GenuineThen w i r) m r) its
+    (happens_says (GenuineThen w i r) p.node e saved
+    (node_weaker (IsGenuine w.liars w.said) (GenuineThen w i r) still p.node (sound.kept.genuine.places i p at))
+    (heard_weaker (IsGenuine w.liars w.said) (GenuineThen w i r) still p.node e (heard_genuine w i p.node its sound.kept.genuine e (not_forged (is_forged w i e) w.forged same)))
+    (subst (λ m. IfSome r.issued (λ v. GenuineThen w i r (said_by m v))) (sym its) (issued_genuine w.liars w.said i r.issued))))
+    sound
+  where
+    not_forged : (b : Bool) (k : ℕ) → cond b (k + 1) k ≡ k → b ≡ false
+    not_forged true k h = absurd (omega arith)
+    not_forged false k h = refl
+
+-- a test that passes says that the keeper may hold it
+asked_holds : (n : ℕ) (o : Option ℕ) → is_asked o n ≡ true → o ≡ Some n
+asked_holds n None h = cc
+asked_holds n (Some s) h = ap (λ (k : ℕ). Some k) (eqb-true s n h)
+
+may_hold-true : (k : Keeper) (n : ℕ) → may_hold k n ≡ true → MayHold k n
+may_hold-true k n h = elim (or_cases (n == k.in_force) (is_asked k.asked n) h) [ inl e ↦ inl (eqb-true n k.in_force e) | inr e ↦ inr (asked_holds n k.asked e) ]
+
+-- a node opened again with a number that is not below its keeper's
+reopened_sound : (w : World) (i number : ℕ) → IsSound w → (p : Place) → place_at i w.places ≡ Some p → (k : ℕ) × (k ≤ number) × MayHold p.keeper k → IsSound (reopened w i p.node number)
+reopened_sound w i number sound p at low =
+    settled_sound w i false p (quiet (opened p.node.me p.node.list number)) (holding number) at
+    (opened_steps p number (sound.well i p at) low)
+    (record { node = opened_says (IsGenuine w.liars w.said) p.node.me p.node.list number; issued = tt }) sound
+
+again_sound : (w : World) (i number : ℕ) → IsSound w → (o : Option Place) → place_at i w.places ≡ o → IsSound (again w i number o)
+again_sound w i number sound None at = sound
+again_sound w i number sound (Some p) at =
+    cond_both (may_hold p.keeper number) (reopened w i p.node number) w IsSound
+    (λ e. reopened_sound w i number sound p at (number, omega arith, may_hold-true p.keeper number e)) (λ _. sound)
+
+torn_sound : (w : World) (i number : ℕ) → IsSound w → (p : Place) → place_at i w.places ≡ Some p → (asked : Option ℕ) → IfSome asked (λ s. p.node.kept < s) → IsSound (torn w i number (Some p) asked)
+torn_sound w i number sound p at None above = sound
+torn_sound w i number sound p at (Some s) above =
+    cond_both (may_hold (after_save p.keeper (Some s) false) number) (reopened w i p.node number) w IsSound
+    (λ e. reopened_sound w i number sound p at
+    (failed_rises p.keeper s number (omega (arith, above, (sound.well i p at).in_force)) (may_hold-true (after_save p.keeper (Some s) false) number e)))
+    (λ _. sound)
+
+torn_at : (w : World) (i number : ℕ) (e : Event) → IsSound w → (o : Option Place) → place_at i w.places ≡ o → IsSound (torn w i number o (asked_at o e))
+torn_at w i number e sound None at = sound
+torn_at w i number e sound (Some p) at = torn_sound w i number sound p at (asks p.node e) (asks_above p.node e)
+
+step_sound : (w : World) (s : Step) → (step w s).forged ≡ w.forged → IsSound w → IsSound (step w s)
+step_sound w (Act i e saved) same sound = act_sound w i e saved sound (place_at i w.places) refl same
+step_sound w (Again i number) same sound = again_sound w i number sound (place_at i w.places) refl
+step_sound w (Torn i e number) same sound = torn_at w i number e sound (place_at i w.places) refl
+
+-- WHAT STAYS OVER A RUN
+
+-- the liars stay, and the count of forged frames does not fall
+pub record Stays (w v : World) : Type 0 where
+  pub liars : v.liars ≡ w.liars
+  pub forged : w.forged ≤ v.forged
+
+acts_stays : (w : World) (i : ℕ) (e : Event) (saved : Bool) (o : Option Place) → Stays w (acts w i e saved o)
+acts_stays w i e saved None = record { liars = refl; forged = omega arith }
+acts_stays w i e saved (Some p) = record { liars = refl; forged = cond_both (is_forged w i e) (w.forged + 1) w.forged (λ k. w.forged ≤ k) (λ _. omega arith) (λ _. omega arith) }
+
+again_stays : (w : World) (i number : ℕ) (o : Option Place) → Stays w (again w i number o)
+again_stays w i number None = record { liars = refl; forged = omega arith }
+again_stays w i number (Some p) =
+    cond_both (may_hold p.keeper number) (reopened w i p.node number) w (Stays w) (λ _. record { liars = refl; forged = omega arith }) (λ _. record { liars = refl; forged = omega arith })
+
+torn_stays : (w : World) (i number : ℕ) (o : Option Place) (asked : Option ℕ) → Stays w (torn w i number o asked)
+torn_stays w i number None asked = record { liars = refl; forged = omega arith }
+torn_stays w i number (Some p) None = record { liars = refl; forged = omega arith }
+torn_stays w i number (Some p) (Some s) = again_stays w i number (Some (record { node = p.node; keeper = after_save p.keeper (Some s) false }))
+
+pub step_stays : (w : World) (s : Step) → Stays w (step w s)
+step_stays w (Act i e saved) = acts_stays w i e saved (place_at i w.places)
+step_stays w (Again i number) = again_stays w i number (place_at i w.places)
+step_stays w (Torn i e number) = torn_stays w i number (place_at i w.places) (asked_at (place_at i w.places) e)
+
+pub run_stays : (w : World) (ss : List Step) → Stays w (run w ss)
+run_stays w [] = record { liars = refl; forged = omega arith }
+run_stays w (s ∷ ss) =
+    let first = step_stays w s in
+    let rest = run_stays (step w s) ss in
+    record { liars = rest.liars ∙ first.liars; forged = omega (arith, first.forged, rest.forged) }
+
+-- each world of an unforged run is sound
+pub run_sound : (w : World) (ss : List Step) → (run w ss).forged ≡ w.forged → IsSound w → IsSound (run w ss)
+run_sound w [] none sound = sound
+run_sound w (s ∷ ss) none sound =
+    let first = step_stays w s in
+    let rest = run_stays (step w s) ss in
+    run_sound (step w s) ss (omega (arith, first.forged, rest.forged)) (step_sound w s (omega (arith, first.forged, rest.forged)) sound)
+
+-- what holds of each place holds of the one of a number
+pub each_at : (P : Place → Type 0) (i : ℕ) (ps : List Place) (p : Place) → All P ps → place_at i ps ≡ Some p → P p
+each_at P i [] p each h = cc
+each_at P i (x ∷ xs) p each h =
+    cond_both (x.node.me == i) (Some x) (place_at i xs) (λ o. o ≡ Some p → P p)
+    (λ _ here. subst P (sym (some_same x p here)) (All-head P x xs each)) (λ _ there. each_at P i xs p (All-tail P x xs each) there) h
+
+pub start_sound : (liars : List ℕ) (plan : List Declared) → AreLists plan → IsSound (start liars plan)
+start_sound liars plan lists = record {
+  kept = record {
+    saved = λ m s n id said _. cc;
+    once = λ m s a b said _. cc;
+    genuine = record {
+      places = λ i p h. each_at (λ x. NodeSays (IsGenuine liars []) x.node) i _ p
+          (All-map (λ x. NodeSays (IsGenuine liars []) x.node) place_of plan (λ k e _. let d : Declared = slice_index_or plan k e in opened_says (IsGenuine liars []) d.me d.list 0)) h;
+      sent = All-nil (FrameSays (IsGenuine liars []));
+    };
+    backed = All-nil (IsBacked liars []);
+  };
+  well = λ i p h. each_at IsWell i _ p (All-map IsWell place_of plan (λ k e in_plan. let d : Declared = slice_index_or plan k e in opened_well d.me d.list 0 (lists k e in_plan))) h;
+}
+
+-- reports agree, in each unforged run
+pub agreement : (liars : List ℕ) (plan : List Declared) (steps : List Step) → AreLists plan → (run (start liars plan) steps).forged ≡ 0 → Agree liars (run (start liars plan) steps).reports
+agreement liars plan steps lists none =
+    subst (λ ls. Agree ls (run (start liars plan) steps).reports) (run_stays (start liars plan) steps).liars
+    (agreement_from_kept (run_sound (start liars plan) steps none (start_sound liars plan lists)).kept)
+
+-- RUNS GO ON
+
+run-append : (w : World) (ss : List Step) (s : Step) → run w (ss ++ s ∷ []) ≡ step (run w ss) s
+run-append w [] s = refl
+run-append w (r ∷ rs) s = run-append (step w r) rs s
+
+-- a run and a step more
+pub run_more : (w v : World) (s : Step) → v ≡ step w s → IsRun w → IsRun v
+run_more w v s is run_w =
+    let e : run (start w.liars run_w.0) (run_w.1 ++ s ∷ []) ≡ v = run-append (start w.liars run_w.0) run_w.1 s ∙ (ap (λ (u : World). step u s) (sym run_w.3) ∙ sym is) in
+    let same : w.liars ≡ v.liars = sym (step_stays w s).liars ∙ ap (λ (u : World). u.liars) (sym is) in
+    (run_w.0, (run_w.1 ++ s ∷ []), run_w.2, sym (subst (λ ls. run (start ls run_w.0) (run_w.1 ++ s ∷ []) ≡ v) same e))

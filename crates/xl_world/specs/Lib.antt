@@ -1,0 +1,5 @@
+pub mod Keeper
+pub mod World
+pub mod Schedule
+pub mod Forks
+pub mod Seen

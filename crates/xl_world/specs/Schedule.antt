@@ -1,0 +1,54 @@
+-- What an event of a schedule is in a world, and what is told of it.
+use Rattle.std.specs.Prelude.{ℕ, ◌-◌, ◌/◌, true, List, [], ◌++◌, slice_get, option_map, option_to_list}
+use Rattle.std.specs.Prelude.{Some, None}
+use Rattle.std.specs.declared.option.Option.{Option}
+use Rattle.std.specs.Option.{option_map_or, option_and_then}
+use Rattle.xl_sched.specs.declared.event.Event.{Event}
+use Rattle.xl_sched.specs.declared.event.Event.TheVariants as event
+use Rattle.xl_core.specs.Node.{Issue, Comes, Reply, happens}
+use Rattle.xl_world.specs.declared.outcome.Outcome.{Outcome}
+use Rattle.xl_world.specs.declared.outcome.Outcome.TheVariants.{Refused, Full}
+use Rattle.xl_world.specs.declared.sent.Sent.{Sent}
+use Rattle.xl_world.specs.World.{World, Step, Act, Again, Torn, place_at, step}
+
+-- a frame is delivered
+abbrev pub delivery : ℕ → Sent → Step
+delivery at f = Act f.to (Comes (at / 1000) f.from f.validation) true
+
+-- the step that an event is, where there is one. Frames are numbered from 1; moments are in milliseconds
+abbrev pub step_of : World → Event → Option Step
+step_of w (event.Issue at node seq id full) = Some (Act node (Issue (at / 1000) seq id full) true)
+step_of w (event.Deliver at place) = option_map (delivery at) (slice_get w.sent (place - 1))
+step_of w (event.Restart at node) = option_map (λ p. Again node p.keeper.in_force) (place_at node w.places)
+
+-- the world after an event
+abbrev pub after_event : World → Event → World
+after_event w e = option_map_or (step w) w (step_of w e)
+
+-- what came of a step at a node
+abbrev pub reply_to : World → Step → Option Reply
+reply_to w (Act i event saved) = option_map (λ p. happens p.node event saved) (place_at i w.places)
+reply_to w (Again i number) = None
+reply_to w (Torn i event number) = None
+
+-- what is told of a reply: that it refused, and what it reports
+abbrev pub outcomes_of : ℕ → Reply → List Outcome
+outcomes_of i r = option_to_list (option_map (Refused i) r.refused) ++ option_to_list (option_map (λ q. Full i q.seq q.id) r.report)
+
+abbrev pub told_of : ℕ → Option Reply → List Outcome
+told_of i None = []
+told_of i (Some r) = outcomes_of i r
+
+-- the number of the node at which a step happens
+abbrev pub node_of : Step → ℕ
+node_of (Act i event saved) = i
+node_of (Again i number) = i
+node_of (Torn i event number) = i
+
+abbrev pub outcomes_at : World → Option Step → List Outcome
+outcomes_at w None = []
+outcomes_at w (Some s) = told_of (node_of s) (reply_to w s)
+
+-- what is told of an event
+abbrev pub outcomes : World → Event → List Outcome
+outcomes w e = outcomes_at w (step_of w e)

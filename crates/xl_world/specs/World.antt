@@ -1,0 +1,207 @@
+-- A network of honest nodes and liars, and its runs. Whatever was ever sent may be delivered never, once or often, at any later
+-- place: so runs have every loss, repetition and reordering.
+-- Source: the paper's network; restarts and keepers by this profile.
+use Rattle.std.specs.Prelude.{◌≡◌, nat_eq, ℕ, ◌+◌, ◌==◌, ◌&&◌, ◌||◌, Bool, false, not, List, [], ◌∷◌, ◌++◌, zero, suc, map, filter, All, IfSome, option_map, option_to_list, find, if◌then◌else◌}
+use Rattle.std.specs.Prelude.{Some, None}
+use Rattle.std.specs.declared.option.Option.{Option}
+use Rattle.std.specs.List.{list_any}
+use Rattle.xl_base.specs.declared.ids.LedgerId.{LedgerId}
+use Rattle.xl_lists.specs.Lists.{TrustedList, IsValid, is_on}
+use Rattle.xl_lists.specs.Quorums.{Enough}
+use Rattle.xl_lists.specs.Agreement.{same_id, Said, Report as Reported, with_said, Kept, Agree}
+use Rattle.xl_wire.specs.declared.validation.Validation.{Validation}
+use Rattle.xl_validations.specs.declared.row.Row.{Row}
+use Rattle.xl_core.specs.declared.report.Report.{Report}
+use Rattle.xl_core.specs.Node.{Node, Event, Issue, Comes, Reply, happens, asks, opened}
+use Rattle.xl_world.specs.declared.sent.Sent.{Sent}
+use Rattle.xl_world.specs.Keeper.{Keeper, MayHold, holding, after_save, may_hold}
+
+-- a node and its keeper
+pub record Place : Type 0 where
+  pub node : Node
+  pub keeper : Keeper
+
+pub record World : Type 0 where
+  pub liars : List ℕ
+  -- all declared numbers, rising
+  pub numbers : List ℕ
+  pub places : List Place
+  -- every frame that a node ever sent
+  pub sent : List Sent
+  -- every validation that a node ever issued
+  pub said : List Said
+  -- every report of a node, under the list that was in force
+  pub reports : List Reported
+  -- how many frames came that the named sender, no liar, had not sent
+  pub forged : ℕ
+
+-- What may happen next: something at a node, whose save may fail; a node is opened again; or it stops in the event's save,
+-- and is opened again with what that leaves.
+pub data Step : Type 0 where
+  Act : (i : ℕ) (event : Event) (saved : Bool) → Step
+  Again : (i number : ℕ) → Step
+  Torn : (i : ℕ) (event : Event) (number : ℕ) → Step
+
+-- the place of a number
+abbrev pub place_at : ℕ → List Place → Option Place
+place_at i places = find (λ p. p.node.me == i) places
+
+-- the places with this one in place of the one of its number
+abbrev pub put : Place → List Place → List Place
+put p [] = []
+put p (x ∷ xs) = if x.node.me == p.node.me then p ∷ xs else x ∷ put p xs
+
+-- a frame for each other declared number, rising
+abbrev pub frames_for : List ℕ → ℕ → Option Validation → List Sent
+frames_for numbers i None = []
+frames_for numbers i (Some v) = map (λ to. record { from = i; to = to; validation = v }) (filter (λ k. not (k == i)) numbers)
+
+abbrev pub said_by : ℕ → Validation → Said
+said_by m v = record { member = m; seq = v.seq; id = v.id }
+
+abbrev pub reported_by : Node → Report → Reported
+reported_by n r = record { node = n.me; list = n.list; seq = r.seq; id = r.id }
+
+abbrev pub same_validation : Validation → Validation → Bool
+same_validation u v = u.seq == v.seq && same_id u.id v.id
+
+-- whether a frame with this validation was sent so
+abbrev pub was_sent : World → ℕ → ℕ → Validation → Bool
+was_sent w from to v = list_any (λ f. f.from == from && f.to == to && same_validation f.validation v) w.sent
+
+-- whether what comes names a sender that is no liar and did not send it
+abbrev pub is_forged : World → ℕ → Event → Bool
+is_forged w i (Issue now seq id full) = false
+is_forged w i (Comes now from v) = not (from == i) && not (is_on w.liars from) && not (was_sent w from i v)
+
+-- the world after what came of an event at a node, with its keeper then
+abbrev pub settled : World → ℕ → Bool → Reply → Keeper → World
+settled w i forged r keeper = record {
+  liars = w.liars;
+  numbers = w.numbers;
+  places = put (record { node = r.node; keeper = keeper }) w.places;
+  sent = w.sent ++ frames_for w.numbers i r.issued;
+  said = with_said w.said (option_map (said_by i) r.issued);
+  reports = w.reports ++ option_to_list (option_map (reported_by r.node) r.report);
+  forged = if forged then w.forged + 1 else w.forged;
+}
+
+abbrev pub acts : World → ℕ → Event → Bool → Option Place → World
+acts w i event saved None = w
+acts w i event saved (Some p) = settled w i (is_forged w i event) (happens p.node event saved) (after_save p.keeper (asks p.node event) saved)
+
+-- a node that is opened says and reports nothing
+abbrev pub quiet : Node → Reply
+quiet n = record { node = n; refused = None; issued = None; report = None }
+
+-- the node opened again with this number, which its keeper then holds alone
+abbrev pub reopened : World → ℕ → Node → ℕ → World
+reopened w i n number = settled w i false (quiet (opened n.me n.list number)) (holding number)
+
+abbrev pub again : World → ℕ → ℕ → Option Place → World
+again w i number None = w
+again w i number (Some p) = if may_hold p.keeper number then reopened w i p.node number else w
+
+-- only an event that asks a save can be torn
+abbrev pub torn : World → ℕ → ℕ → Option Place → Option ℕ → World
+torn w i number None asked = w
+torn w i number (Some p) None = w
+torn w i number (Some p) (Some s) = again w i number (Some (record { node = p.node; keeper = after_save p.keeper (Some s) false }))
+
+abbrev pub asked_at : Option Place → Event → Option ℕ
+asked_at None event = None
+asked_at (Some p) event = asks p.node event
+
+abbrev pub step : World → Step → World
+step w (Act i event saved) = acts w i event saved (place_at i w.places)
+step w (Again i number) = again w i number (place_at i w.places)
+step w (Torn i event number) = torn w i number (place_at i w.places) (asked_at (place_at i w.places) event)
+
+abbrev pub run : World → List Step → World
+run w [] = w
+run w (s ∷ ss) = run (step w s) ss
+
+-- an honest node as it is declared
+pub record Declared : Type 0 where
+  pub me : ℕ
+  pub list : TrustedList
+
+-- so many numbers from one on
+unfoldable pub up_from : ℕ → ℕ → List ℕ
+up_from n zero = []
+up_from n (suc k) = n ∷ up_from (n + 1) k
+
+-- the numbers that a member may have
+abbrev pub all_numbers : List ℕ
+all_numbers = up_from 1 64
+
+abbrev pub is_declared : List ℕ → List Declared → ℕ → Bool
+is_declared liars plan k = list_any (λ d. d.me == k) plan || is_on liars k
+
+abbrev pub place_of : Declared → Place
+place_of d = record { node = opened d.me d.list 0; keeper = holding 0 }
+
+-- the network at the start
+abbrev pub start : List ℕ → List Declared → World
+start liars plan = record {
+  liars = liars;
+  numbers = filter (is_declared liars plan) all_numbers;
+  places = map place_of plan;
+  sent = [];
+  said = [];
+  reports = [];
+  forged = 0;
+}
+
+-- each declared list is a list
+abbrev pub AreLists : List Declared → Type 0
+AreLists plan = All (λ d. IsValid d.list) plan
+
+-- the list that a number is declared with
+abbrev pub list_at : List Declared → ℕ → Option TrustedList
+list_at plan i = option_map (λ d. d.list) (find (λ d. d.me == i) plan)
+
+-- the list of a node of the world
+abbrev pub list_in : World → ℕ → Option TrustedList
+list_in w i = option_map (λ p. p.node.list) (place_at i w.places)
+
+-- the keeper of this member may hold this number
+abbrev pub Holds : World → ℕ → ℕ → Type 0
+Holds w m k = (p : Place) × (place_at m w.places ≡ Some p) × MayHold p.keeper k
+
+-- P holds of what the row says
+abbrev pub RowSays : (Said → Type 0) → Row → Type 0
+RowSays P row = IfSome row.current (λ v. P (said_by row.member v))
+
+-- P holds of what a frame says
+abbrev pub FrameSays : (Said → Type 0) → Sent → Type 0
+FrameSays P f = P (said_by f.from f.validation)
+
+-- P holds of each validation that stands at the node
+abbrev pub NodeSays : (Said → Type 0) → Node → Type 0
+NodeSays P n = All (RowSays P) n.rows
+
+-- P holds of each validation that stands at a node or was sent
+pub record Stands (w : World) (P : Said → Type 0) : Type 0 where
+  pub places : (i : ℕ) (p : Place) → place_at i w.places ≡ Some p → NodeSays P p.node
+  pub sent : All (FrameSays P) w.sent
+
+-- what is kept of a world
+abbrev pub IsKept : World → Type 0
+IsKept w = Kept w.liars w.said w.reports (Holds w) (Stands w)
+
+-- no report of i and no report of j share a sequence and differ in id
+abbrev pub AgreeAt : List Reported → ℕ → ℕ → Type 0
+AgreeAt reports i j = All (λ r. All (λ q. r.node ≡ i → q.node ≡ j → r.seq ≡ q.seq → r.id ≡ q.id) reports) reports
+
+-- The headline: in each run in which no frame is forged, the nodes of two numbers never report different ledgers of one sequence,
+-- if their quorums together exceed the sum of both lists' sizes, minus the overlap, plus the liars in the overlap.
+abbrev pub Headline : Type 0
+Headline =
+    (liars : List ℕ) (plan : List Declared) (steps : List Step) (i j : ℕ) (a b : TrustedList) →
+    AreLists plan → list_at plan i ≡ Some a → list_at plan j ≡ Some b → Enough liars a b →
+    (run (start liars plan) steps).forged ≡ 0 → AgreeAt (run (start liars plan) steps).reports i j
+
+-- the world comes from a declared one by steps
+abbrev pub IsRun : World → Type 0
+IsRun w = (plan : List Declared) × (steps : List Step) × AreLists plan × (w ≡ run (start w.liars plan) steps)
