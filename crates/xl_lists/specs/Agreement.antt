@@ -1,0 +1,83 @@
+-- Why two quorums report one ledger, whatever the nodes are: what is kept of a network at each step.
+use Rattle.std.specs.Prelude.{◌≡◌, ℕ, ◌≤◌, ◌<◌, ◌==◌, ◌&&◌, ◌||◌, ◌++◌, Bool, List, [], ◌∷◌, Option, Some, None, count_by, nat_eq, All, IsTrue, IfSome}
+use Rattle.std.specs.List.{list_any, IsDistinct}
+use Rattle.std.specs.Str.{bytes_eq}
+use Rattle.xl_base.specs.declared.ids.LedgerId.{LedgerId}
+use Rattle.xl_lists.specs.Lists.{TrustedList, is_on}
+use Rattle.xl_lists.specs.Quorums.{Enough}
+
+abbrev pub same_id : LedgerId → LedgerId → Bool
+same_id a b = bytes_eq a.0 b.0
+
+-- a member said that this ledger is the one of this sequence
+pub record Said : Type 0 where
+  pub member : ℕ
+  pub seq : ℕ
+  pub id : LedgerId
+
+-- a node reported a ledger as fully validated, under the list and quorum that were in force
+pub record Report : Type 0 where
+  pub node : ℕ
+  pub list : TrustedList
+  pub seq : ℕ
+  pub id : LedgerId
+
+-- whether the member said this
+abbrev pub has_said : List Said → ℕ → ℕ → LedgerId → Bool
+has_said said m s id = list_any (λ x. x.member == m && x.seq == s && same_id x.id id) said
+
+-- what is said in one step comes to the end
+abbrev pub with_said : List Said → Option Said → List Said
+with_said said None = said
+with_said said (Some x) = said ++ x ∷ []
+
+-- whether the member may vouch for this ledger: it is a liar, or it said so
+abbrev pub vouches : List ℕ → List Said → ℕ → LedgerId → ℕ → Bool
+vouches liars said s id m = is_on liars m || has_said said m s id
+
+-- no liar is misquoted, and each other member said it
+abbrev pub IsGenuine : List ℕ → List Said → Said → Type 0
+IsGenuine liars said x = IsTrue (vouches liars said x.seq x.id x.member)
+
+-- a quorum of the report's list, on which each member stands once, vouches for it
+pub record IsBacked (liars : List ℕ) (said : List Said) (r : Report) : Type 0 where
+  pub once : IsDistinct nat_eq r.list.members
+  pub quorum : r.list.quorum ≤ count_by (vouches liars said r.seq r.id) r.list.members
+
+-- What each step of a network keeps. `Holds m n`: the keeper of m may hold the number n.
+-- `Each P`: P holds of each validation that stands in a row, among outgoing items or among what was sent.
+pub record Kept (liars : List ℕ) (said : List Said) (reports : List Report) (Holds : ℕ → ℕ → Type 0) (Each : (Said → Type 0) → Type 0) : Type 0 where
+  -- a keeper is never behind what its member said
+  pub saved : (m s n : ℕ) (id : LedgerId) → IsTrue (has_said said m s id) → Holds m n → s ≤ n
+  -- no member said two ledgers of one sequence
+  pub once : (m s : ℕ) (a b : LedgerId) → IsTrue (has_said said m s a) → IsTrue (has_said said m s b) → a ≡ b
+  -- what stands anywhere under the name of a member that is no liar was said by it
+  pub genuine : Each (IsGenuine liars said)
+  -- each report has its quorum
+  pub backed : All (IsBacked liars said) reports
+
+-- two reports of one sequence name one ledger, where their quorums together are enough
+abbrev pub Agree : List ℕ → List Report → Type 0
+Agree liars reports = All (λ r. All (λ q. Enough liars r.list q.list → r.seq ≡ q.seq → r.id ≡ q.id) reports) reports
+
+-- What a step may do: say at most one thing, above a number that its member's keeper held and not above those that it may hold then;
+-- keepers do not fall; and only reports with a quorum are added.
+pub record IsLawful (liars : List ℕ) (said : List Said) (spoken : Option Said) (arisen : List Report) (Holds Holds' : ℕ → ℕ → Type 0) : Type 0 where
+  pub rises : (m n : ℕ) → Holds' m n → (k : ℕ) × (k ≤ n) × Holds m k
+  pub above : IfSome spoken (λ x. (k : ℕ) × (k < x.seq) × Holds x.member k)
+  pub saved : IfSome spoken (λ x. (n : ℕ) → Holds' x.member n → x.seq ≤ n)
+  pub backed : All (IsBacked liars (with_said said spoken)) arisen
+
+-- The law, for keepers that are told by a test and for a list of what stands: where the four facts are kept, reports agree.
+abbrev pub KeptAgrees : Type 0
+KeptAgrees = (liars : List ℕ) (said : List Said) (reports : List Report) (holds : ℕ → ℕ → Bool) (standing : List Said) →
+    Kept liars said reports (λ m n. IsTrue (holds m n)) (λ P. All P standing) → Agree liars reports
+
+-- And a lawful step keeps them, where what stands after it is genuine.
+abbrev pub LawfulKeeps : Type 0
+LawfulKeeps = (liars : List ℕ) (said : List Said) (reports : List Report) (spoken : Option Said) (arisen : List Report)
+    (holds holds' : ℕ → ℕ → Bool) (standing standing' : List Said) →
+    Kept liars said reports (λ m n. IsTrue (holds m n)) (λ P. All P standing) →
+    IsLawful liars said spoken arisen (λ m n. IsTrue (holds m n)) (λ m n. IsTrue (holds' m n)) →
+    All (IsGenuine liars (with_said said spoken)) standing' →
+    Kept liars (with_said said spoken) (reports ++ arisen) (λ m n. IsTrue (holds' m n)) (λ P. All P standing')

@@ -1,0 +1,5 @@
+pub mod Lists
+pub mod Marks
+pub mod Stored
+pub mod Quorums
+pub mod Agreement

@@ -1,0 +1,131 @@
+ghost use Rattle.std.specs.Prelude.{◌≡◌, length};
+ghost use Rattle.xl_lists.specs.Lists.{list_of, is_on, IsValid};
+
+use crate::marks::Marks;
+use crate::refusal::ListRefusal;
+use std::marker::Model;
+use xl_base::NodeNo;
+
+const PLACES: usize = 64;
+
+/// The members that a node trusts, in the order in which they were given, and how many of them are a quorum.
+///
+/// There are 1 to 64 members, each once, and the quorum is more than half of them and at most all.
+#[derive(Debug, Drop)]
+pub struct List {
+    /// The members stand at the front.
+    places: [NodeNo; PLACES],
+    len: usize,
+    quorum: u32,
+    marks: Marks,
+}
+
+impl Model for List {
+    ghost use Rattle.xl_lists.specs.Lists.{TrustedList};
+    ghost use Rattle.xl_lists.specs.Stored.{stored, IsStored};
+
+    ghost Value = { TrustedList };
+
+    ghost view = { λ list. stored list.places list.len list.quorum };
+
+    ghost invariant = { λ list. IsStored list.places list.len list.quorum list.marks.bits };
+}
+
+impl List {
+    /// The list of these members and this quorum.
+    ///
+    /// Refused as empty, as too many, for a number outside 1 to 64, for a repeated one, or for the quorum, in this order.
+    pub fn new(members: &[u32], quorum: u32) -> Result<List, ListRefusal>
+        ensures { result ≡ list_of members.now quorum }
+    {
+        let places = places_of(members)?;
+        let len = members.len();
+        let marks = marks_of_distinct(&places[..len])?;
+        if quorum as usize > len || 2 * quorum as usize <= len {
+            return Err(ListRefusal::Quorum {
+                quorum,
+                members: len as u32,
+            });
+        }
+        Ok(List {
+            places,
+            len,
+            quorum,
+            marks,
+        })
+    }
+
+    /// Whether the member stands on the list.
+    pub fn has(&self, member: NodeNo) -> bool
+        ensures { result ≡ is_on self.now.members member }
+    {
+        self.marks.has(member)
+    }
+
+    /// How many members there are, 1 to 64.
+    pub fn len(&self) -> u32
+        ensures { result ≡ length self.now.members }
+    {
+        self.len as u32
+    }
+
+    /// How many members are a quorum.
+    pub fn quorum(&self) -> u32
+        ensures value { result ≡ self.now.quorum }
+        ensures valid { IsValid self.now }
+    {
+        self.quorum
+    }
+
+    /// The members in the order in which they were given.
+    pub fn members(&self) -> &[NodeNo]
+        ensures value { result.now ≡ self.now.members }
+        ensures valid { IsValid self.now }
+    {
+        &self.places[..self.len]
+    }
+
+    /// An equal list.
+    pub fn copy(&self) -> List
+        ensures { result ≡ self.now }
+    {
+        List {
+            places: self.places,
+            len: self.len,
+            quorum: self.quorum,
+            marks: self.marks,
+        }
+    }
+}
+
+/// The members at the front of the places.
+fn places_of(numbers: &[u32]) -> Result<[NodeNo; PLACES], ListRefusal> {
+    if numbers.is_empty() {
+        return Err(ListRefusal::Empty);
+    }
+    if numbers.len() > PLACES {
+        return Err(ListRefusal::TooMany(numbers.len()));
+    }
+    let first = member_of(numbers[0])?;
+    let mut places = [first; PLACES];
+    for (i, &number) in numbers.iter().enumerate() {
+        places[i] = member_of(number)?;
+    }
+    Ok(places)
+}
+
+fn member_of(number: u32) -> Result<NodeNo, ListRefusal> {
+    NodeNo::new(number).ok_or(ListRefusal::OutOfRange(number))
+}
+
+/// The marks of members that stand there once each.
+fn marks_of_distinct(members: &[NodeNo]) -> Result<Marks, ListRefusal> {
+    let mut marks = Marks::none();
+    for &member in members {
+        if marks.has(member) {
+            return Err(ListRefusal::Repeated(member.get()));
+        }
+        marks = marks.with(member);
+    }
+    Ok(marks)
+}
