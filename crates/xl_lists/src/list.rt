@@ -1,5 +1,7 @@
-ghost use Rattle.std.specs.Prelude.{◌≡◌, length};
-ghost use Rattle.xl_lists.specs.Lists.{list_of, is_on, IsValid};
+ghost use Rattle.std.specs.Prelude.{◌≡◌, ◌≤◌, [], length, take, find, option_map, IfOk};
+ghost use Rattle.std.specs.Result.{result_err};
+ghost use Rattle.xl_lists.specs.Lists.{list_of, is_on, is_outside, repeated_after, IsValid};
+ghost use Rattle.xl_lists.specs.Marks.{AreMarked};
 
 use crate::marks::Marks;
 use crate::refusal::ListRefusal;
@@ -38,8 +40,14 @@ impl List {
     pub fn new(members: &[u32], quorum: u32) -> Result<List, ListRefusal>
         ensures { result ≡ list_of members.now quorum }
     {
-        let places = places_of(members)?;
+        if members.is_empty() {
+            return Err(ListRefusal::Empty);
+        }
         let len = members.len();
+        if len > PLACES {
+            return Err(ListRefusal::TooMany(len));
+        }
+        let places = places_of(members)?;
         let marks = marks_of_distinct(&places[..len])?;
         if quorum as usize > len || 2 * quorum as usize <= len {
             return Err(ListRefusal::Quorum {
@@ -98,28 +106,25 @@ impl List {
     }
 }
 
-/// The members at the front of the places.
-fn places_of(numbers: &[u32]) -> Result<[NodeNo; PLACES], ListRefusal> {
-    if numbers.is_empty() {
-        return Err(ListRefusal::Empty);
-    }
-    if numbers.len() > PLACES {
-        return Err(ListRefusal::TooMany(numbers.len()));
-    }
-    let first = member_of(numbers[0])?;
-    let mut places = [first; PLACES];
-    for (i, &number) in numbers.iter().enumerate() {
-        places[i] = member_of(number)?;
+/// The members of these numbers, at the front of the places.
+fn places_of(numbers: &[u32]) -> Result<[NodeNo; PLACES], ListRefusal>
+    requires { length numbers.now ≤ PLACES }
+    ensures refused { result_err result ≡ option_map ListRefusal.OutOfRange (find is_outside numbers.now) }
+    ensures placed { IfOk result (λ places. take (length numbers.now) places ≡ numbers.now) }
+{
+    // No place after the last member is ever read.
+    let mut places = [NodeNo::new(1).unwrap(); PLACES];
+    for (place, &number) in numbers.iter().enumerate() {
+        places[place] = NodeNo::new(number).ok_or(ListRefusal::OutOfRange(number))?;
     }
     Ok(places)
 }
 
-fn member_of(number: u32) -> Result<NodeNo, ListRefusal> {
-    NodeNo::new(number).ok_or(ListRefusal::OutOfRange(number))
-}
-
-/// The marks of members that stand there once each.
-fn marks_of_distinct(members: &[NodeNo]) -> Result<Marks, ListRefusal> {
+/// The marks of members each of which stands there once.
+fn marks_of_distinct(members: &[NodeNo]) -> Result<Marks, ListRefusal>
+    ensures refused { result_err result ≡ option_map ListRefusal.Repeated (repeated_after [] members.now) }
+    ensures marked { IfOk result (λ marks. AreMarked marks.bits members.now) }
+{
     let mut marks = Marks::none();
     for &member in members {
         if marks.has(member) {
