@@ -72,7 +72,9 @@ impl List {
 
     /// How many members there are, 1 to 64.
     pub fn len(&self) -> u32
-        ensures { result ≡ length self.now.members }
+        ensures value { result ≡ length self.now.members }
+        ensures least { 1 ≤ result }
+        ensures most { result ≤ 64 }
     {
         self.len as u32
     }

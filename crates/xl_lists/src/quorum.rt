@@ -1,4 +1,4 @@
-ghost use Rattle.std.specs.Prelude.{◌≡◌, ◌+◌, ◌*◌, ◌/◌, ◌≤◌, ◌<◌, ◌↔◌, IsTrue, pos, ◌-ℤ◌};
+ghost use Rattle.std.specs.Prelude.{◌≡◌, ◌+◌, ◌*◌, ◌/◌, ◌≤◌, ◌<◌, ◌↔◌, IsTrue, length, pos, ◌-ℤ◌};
 ghost use Rattle.xl_lists.specs.Quorums.{overlap as overlap_of, liars_shared as liars_shared_of, bound_of, Enough};
 
 use crate::list::List;
@@ -17,7 +17,8 @@ pub fn default_quorum(n: u32) -> u32
 
 /// How many members stand on both lists.
 pub fn overlap(a: &List, b: &List) -> u32
-    ensures { result ≡ overlap_of a.now.members b.now.members }
+    ensures value { result ≡ overlap_of a.now.members b.now.members }
+    ensures within { result ≤ length a.now.members }
 {
     a.members().iter().filter(|&&member| b.has(member)).count() as u32
 }
@@ -25,7 +26,8 @@ pub fn overlap(a: &List, b: &List) -> u32
 /// What two quorums together must exceed, so that they share a member that is no liar: both lists' sizes, minus the
 /// overlap, plus the liars in the overlap.
 pub fn bound(a: &List, b: &List, liars: &[NodeNo]) -> u32
-    ensures { result ≡ bound_of liars.now a.now b.now }
+    ensures value { result ≡ bound_of liars.now a.now b.now }
+    ensures within { result ≤ length a.now.members + length b.now.members }
 {
     a.len() + b.len() - overlap(a, b) + liars_shared(a, b, liars)
 }
