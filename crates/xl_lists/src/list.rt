@@ -136,3 +136,64 @@ fn marks_of_distinct(members: &[NodeNo]) -> Result<Marks, ListRefusal>
     }
     Ok(marks)
 }
+
+#[cfg(test)]
+mod tests {
+    use super::*;
+    use std::test::Fail;
+
+    #[test]
+    fn refuses_by_the_first_cause(rt: HostRuntime) {
+        let mut too_many = [0; 65];
+        for (place, member) in too_many.iter_mut().enumerate() {
+            *member = place as u32 + 1;
+        }
+        let cases: [(&[u32], u32, ListRefusal, u32); 8] = [
+            (&[], 0, ListRefusal::Empty, 11),
+            (&too_many, 33, ListRefusal::TooMany(65), 12),
+            (&[65], 1, ListRefusal::OutOfRange(65), 15),
+            (&[5, 5, 0], 9, ListRefusal::OutOfRange(0), 15),
+            (&[1, 1], 2, ListRefusal::Repeated(1), 13),
+            (&[1, 2, 3, 2, 1], 9, ListRefusal::Repeated(2), 13),
+            (
+                &[1, 2, 3, 4],
+                2,
+                ListRefusal::Quorum {
+                    quorum: 2,
+                    members: 4,
+                },
+                14,
+            ),
+            (
+                &[1, 2, 3, 4],
+                5,
+                ListRefusal::Quorum {
+                    quorum: 5,
+                    members: 4,
+                },
+                14,
+            ),
+        ];
+        for (members, quorum, refusal, code) in cases {
+            assert_eq!(rt; List::new(members, quorum).err(), Some(refusal));
+            assert_eq!(rt; refusal.code(), code);
+        }
+    }
+
+    #[test]
+    fn keeps_what_was_given(rt: HostRuntime) -> Result<(), Fail> {
+        let list = List::new(&[64, 3, 1], 2)?;
+        for list in [list.copy(), list] {
+            assert_eq!(rt; list.len(), 3);
+            assert_eq!(rt; list.quorum(), 2);
+            for (&member, number) in list.members().iter().zip([64, 3, 1]) {
+                assert_eq!(rt; member.get(), number);
+                assert!(rt; list.has(member));
+            }
+            for number in [2, 4, 63] {
+                assert!(rt; !list.has(NodeNo::new(number).ok_or(number)?));
+            }
+        }
+        Ok(())
+    }
+}
