@@ -12,7 +12,7 @@ pub fn default_quorum(n: u32) -> u32
     ensures within { result ≤ n }
     ensures majority { 1 ≤ n → n < 2 * result }
 {
-    (4 * n + 4) / 5
+    (4 * n).div_ceil(5)
 }
 
 /// How many members stand on both lists.
