@@ -1,4 +1,4 @@
 pub mod Node
 pub mod Refusals
 pub mod Replies
-pub mod Lives
+pub mod Rest

@@ -3,13 +3,13 @@
 use Rattle.std.specs.Prelude.{ℕ, ◌==◌, ◌&&◌, ◌||◌, Bool, true, false, not, List, map, filter_map, find, option_map, nat_lt, nat_le, if◌then◌else◌}
 use Rattle.std.specs.Prelude.{Some, None}
 use Rattle.std.specs.declared.option.Option.{Option}
-use Rattle.std.specs.Option.{is_none, option_and_then}
+use Rattle.std.specs.Option.{is_none}
 use Rattle.xl_base.specs.declared.ids.LedgerId.{LedgerId}
 use Rattle.xl_lists.specs.Lists.{TrustedList, is_on}
 use Rattle.xl_wire.specs.declared.validation.Validation.{Validation}
 use Rattle.xl_validations.specs.declared.row.Row.{Row}
 use Rattle.xl_validations.specs.declared.refusal.ValRefusal.{ValRefusal}
-use Rattle.xl_validations.specs.Rows.{row_of, refusal, with_validation, at_member, count_full, empty_row}
+use Rattle.xl_validations.specs.Rows.{refusal, refusal_of, with_validation, at_member, count_full, empty_row}
 use Rattle.xl_core.specs.declared.report.Report.{Report}
 use Rattle.xl_core.specs.declared.refusal.Refusal.{Refusal}
 use Rattle.xl_core.specs.declared.refusal.Refusal.TheVariants.{Stranger, NotAfter}
@@ -48,8 +48,11 @@ is_above None seq = true
 is_above (Some report) seq = nat_lt report.seq seq
 
 -- whether a quorum of rows holds it as a full validation, above the last report
+abbrev pub arises_in : ℕ → List Row → Option Report → Validation → Bool
+arises_in quorum rows last v = nat_le quorum (count_full v.seq v.id rows) && is_above last v.seq
+
 abbrev pub arises : Node → Validation → Bool
-arises n v = nat_le n.list.quorum (count_full v.seq v.id n.rows) && is_above n.last v.seq
+arises n v = arises_in n.list.quorum n.rows n.last v
 
 abbrev pub report_of : Validation → Report
 report_of v = record { seq = v.seq; id = v.id }
@@ -98,7 +101,7 @@ hears n now from v (Some why) = refusing n (refusal_from why)
 
 -- why the row of a number doesn't take the validation
 abbrev pub refusal_at : Node → ℕ → ℕ → Validation → Option ValRefusal
-refusal_at n now from v = option_and_then (λ row. refusal row now v) (row_of n.rows from)
+refusal_at n now from v = refusal_of n.rows from now v
 
 abbrev pub is_stranger : Node → ℕ → Bool
 is_stranger n from = from == n.me || not (is_on n.list.members from)

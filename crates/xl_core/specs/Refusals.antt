@@ -1,4 +1,5 @@
--- A refusal of the rows is one of the node's.
+-- A refusal of the rows is one of the node's, and each has a number.
+use Rattle.std.specs.Prelude.{ℕ}
 use Rattle.xl_validations.specs.declared.refusal.ValRefusal.{ValRefusal}
 use Rattle.xl_validations.specs.declared.refusal.ValRefusal.TheVariants as row
 use Rattle.xl_core.specs.declared.refusal.Refusal.{Refusal}
@@ -9,3 +10,12 @@ refusal_from (row.Stale now signed) = node.Stale now signed
 refusal_from (row.Repeat id) = node.Repeat id
 refusal_from (row.Conflict id) = node.Conflict id
 refusal_from (row.OldSeq largest) = node.OldSeq largest
+
+-- the number of each refusal
+abbrev pub code_of : Refusal → ℕ
+code_of (node.Stranger from) = 9
+code_of (node.Stale now signed) = 20
+code_of (node.Repeat id) = 21
+code_of (node.Conflict id) = 22
+code_of (node.OldSeq largest) = 23
+code_of (node.NotAfter kept) = 30

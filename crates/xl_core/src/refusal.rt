@@ -1,3 +1,6 @@
+ghost use Rattle.std.specs.Prelude.{◌≡◌};
+ghost use Rattle.xl_core.specs.Refusals.{refusal_from, code_of};
+
 use xl_base::{LedgerId, NodeNo, Secs, Seq};
 use xl_validations::ValRefusal;
 
@@ -16,4 +19,33 @@ pub enum Refusal {
     OldSeq(Seq),
     /// The sequence to be issued is at most the last one that was saved, which is given.
     NotAfter(Seq),
+}
+
+impl From<ValRefusal> for Refusal {
+    ghost from_gives = { λ why refusal. refusal ≡ refusal_from why };
+
+    fn from(why: ValRefusal) -> Refusal {
+        match why {
+            ValRefusal::Stale(now, signed) => Refusal::Stale(now, signed),
+            ValRefusal::Repeat(id) => Refusal::Repeat(id),
+            ValRefusal::Conflict(id) => Refusal::Conflict(id),
+            ValRefusal::OldSeq(largest) => Refusal::OldSeq(largest),
+        }
+    }
+}
+
+impl Refusal {
+    /// The number of the refusal.
+    pub fn code(&self) -> u32
+        ensures { result ≡ code_of self.now }
+    {
+        match self {
+            Refusal::Stranger(_) => 9,
+            Refusal::Stale(..) => 20,
+            Refusal::Repeat(_) => 21,
+            Refusal::Conflict(_) => 22,
+            Refusal::OldSeq(_) => 23,
+            Refusal::NotAfter(_) => 30,
+        }
+    }
 }

@@ -2,6 +2,7 @@
 use Rattle.std.specs.Prelude.{ℕ, ◌+◌, ◌-◌, ◌==◌, ◌&&◌, Bool, false, not, List, [], ◌∷◌, find, count_by, nat_lt, nat_le, if◌then◌else◌}
 use Rattle.std.specs.Prelude.{Some, None}
 use Rattle.std.specs.declared.option.Option.{Option}
+use Rattle.std.specs.Option.{option_and_then}
 use Rattle.xl_base.specs.declared.ids.LedgerId.{LedgerId}
 use Rattle.xl_lists.specs.Agreement.{same_id}
 use Rattle.xl_wire.specs.declared.validation.Validation.{Validation}
@@ -40,6 +41,10 @@ with_validation v row = record { member = row.member; largest = v.seq; current =
 -- the row of a member
 abbrev pub row_of : List Row → ℕ → Option Row
 row_of rows member = find (λ row. row.member == member) rows
+
+-- why the row of a member doesn't take the validation
+abbrev pub refusal_of : List Row → ℕ → ℕ → Validation → Option ValRefusal
+refusal_of rows member now v = option_and_then (λ row. refusal row now v) (row_of rows member)
 
 -- the rows with the member's own one changed
 abbrev pub at_member : ℕ → (Row → Row) → List Row → List Row

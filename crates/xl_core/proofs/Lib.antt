@@ -1,0 +1,5 @@
+pub mod Counts
+pub mod Members
+pub mod Arising
+pub mod Answered
+pub mod Opening

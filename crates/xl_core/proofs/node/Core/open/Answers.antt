@@ -1,0 +1,12 @@
+use Rattle.std.proofs.Common.{List, None, sym, subst}
+use Rattle.xl_lists.specs.Lists.{IsValid}
+use Rattle.xl_validations.specs.declared.row.Row.{Row}
+use Rattle.xl_core.specs.Node.{Node}
+use Rattle.xl_core.specs.Rest.{IsAtRest}
+use Rattle.xl_core.proofs.Opening.{opened_at_rest}
+use Rattle.xl_core.proofs.node.Core.open.Goals as goal
+
+pub invariant_of-result : goal.invariant_of-result
+invariant_of-result c =
+    subst (λ (rows : List Row). let n : Node = record { me = c.args.me; list = c.args.list; rows = rows; kept = c.args.kept; last = None } in IsAtRest n) (sym c.in_ok-rows.ensures)
+    (opened_at_rest c.args.me c.args.list c.args.kept (subst IsValid c.list.view_is c.list.invariant))

@@ -1,0 +1,142 @@
+ghost use Rattle.std.specs.Prelude.{◌≡◌, ◌==◌, ◌≤◌, map, length, position, Some, IsSome, IfSome, IfOk, OnOk, OnErr};
+ghost use Rattle.std.specs.Result.{result_err};
+ghost use Rattle.xl_validations.specs.Rows.{
+  row_of,
+  refusal_of,
+  empty_row,
+  with_validation,
+  at_member,
+  row_at,
+  count_full,
+  named,
+};
+
+use crate::{Row, ValRefusal};
+use std::alloc::{AllocError, Global};
+use std::marker::Model;
+use xl_base::{LedgerId, NodeNo, OutOfMemory, Secs, Seq};
+use xl_lists::List;
+use xl_wire::Validation;
+
+/// The rows of a list's members, in the order of the list. No call after `open` takes memory.
+#[derive(Debug, Drop)]
+pub struct Rows {
+    rows: Vec<Row>,
+}
+
+impl Model for Rows {
+    ghost use Rattle.std.specs.Prelude.{List, ◌≤◌, length};
+    ghost use Rattle.xl_validations.specs.declared.row.Row.{Row};
+
+    ghost Value = { List Row };
+
+    ghost view = { λ a. a.rows.items };
+
+    ghost invariant = { λ a. length a.rows.items ≤ 64 };
+}
+
+/// An empty row for each member.
+fn empty_rows(alloc: Global, members: &[NodeNo]) -> Result<Vec<Row>, AllocError>
+    ensures { IfOk result (λ rows. rows.items ≡ map empty_row members.now) }
+{
+    members
+        .iter()
+        .map(|member| Row::empty(*member))
+        .collect(alloc)
+}
+
+/// The place of the first row of a member, if there is one.
+fn position_of(rows: &[Row], member: NodeNo) -> Option<usize>
+    ensures { result ≡ position (λ row. row.member == member) rows.now }
+{
+    rows.iter().position(|row| row.member == member)
+}
+
+/// The place of a member's row.
+fn place_of(rows: &[Row], member: NodeNo) -> usize
+    requires listed { IsSome (row_of rows.now member) }
+    ensures { position (λ row. row.member == member) rows.now ≡ Some result }
+{
+    position_of(rows, member).unwrap()
+}
+
+/// A member's row.
+fn find_row(rows: &[Row], member: NodeNo) -> &Row
+    requires listed { IsSome (row_of rows.now member) }
+    ensures { row_of rows.now member ≡ Some result.now }
+{
+    &rows[place_of(rows, member)]
+}
+
+/// Expires each row.
+fn expire_all(rows: &mut [Row], now: Secs)
+    ensures { rows.new ≡ map (row_at now) rows.old }
+{
+    for row in rows.iter_mut() {
+        row.expire(now);
+    }
+}
+
+impl Rows {
+    /// An empty row for each member of the list.
+    pub fn open(alloc: Global, list: &List) -> Result<Rows, OutOfMemory>
+        ensures { IfOk result (λ rows. rows ≡ map empty_row list.now.members) }
+    {
+        let rows = empty_rows(alloc, list.members())?;
+        Ok(Rows { rows })
+    }
+
+    /// Takes a member's validation into its row.
+    ///
+    /// Refused as stale, as a repeat, as a conflict, or as old, tested in this order; the rows then stay as they were.
+    pub fn take(&mut self, from: NodeNo, v: &Validation, now: Secs) -> Result<(), ValRefusal>
+        requires listed { IsSome (row_of self.old from) }
+        ensures answer { result_err result ≡ refusal_of self.old from now v.now }
+        ensures taken { OnOk result (self.new ≡ at_member from (with_validation v.now) self.old) }
+        ensures refused { OnErr result (self.new ≡ self.old) }
+    {
+        let place = place_of(&self.rows, from);
+        let row = &mut self.rows[place];
+        row.take(v, now)
+    }
+
+    /// Removes the validations that are no longer current at a second. Each row keeps its greatest sequence.
+    pub fn expire(&mut self, now: Secs)
+        ensures { self.new ≡ map (row_at now) self.old }
+    {
+        expire_all(&mut self.rows, now);
+    }
+
+    /// How many members' current full validations are of this sequence and name this id: at most 64.
+    pub fn count_full(&self, seq: Seq, id: &LedgerId) -> u32
+        ensures { result ≡ count_full seq id.now self.now }
+    {
+        self.rows.iter().filter(|row| row.is_full(seq, id)).count() as u32
+    }
+
+    /// How many members other than `me` have a current validation, full or partial, that names this id: at most 64.
+    pub fn named(&self, me: NodeNo, id: &LedgerId) -> u32
+        ensures { result ≡ named me id.now self.now }
+    {
+        self.rows
+            .iter()
+            .filter(|row| row.member != me && row.is_for(id))
+            .count() as u32
+    }
+
+    /// The greatest sequence taken from a member, 0 at first.
+    pub fn largest(&self, member: NodeNo) -> Seq
+        requires listed { IsSome (row_of self.now member) }
+        ensures { IfSome (row_of self.now member) (λ row. result ≡ row.largest) }
+    {
+        find_row(&self.rows, member).largest
+    }
+
+    /// A member's current validation, if it has one.
+    pub fn current(&self, member: NodeNo) -> Option<Validation>
+        requires listed { IsSome (row_of self.now member) }
+        ensures { IfSome (row_of self.now member) (λ row. result ≡ row.current) }
+    {
+        find_row(&self.rows, member).current
+    }
+}
