@@ -1,3 +1,4 @@
-pub mod Failing
+pub mod Scripts
+pub mod Memory
 pub mod Sources
 pub mod Sinks

@@ -17,3 +17,6 @@ pub use sink::{Sink, Wrote, write_all};
 pub use source::memory::{MemSource, PlainSource};
 pub use source::standard::StdSource;
 pub use source::{Piece, Source};
+
+#[cfg(test)]
+mod tests;

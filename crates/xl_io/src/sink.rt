@@ -4,6 +4,9 @@ ghost use Rattle.std.specs.Io.KnownBytes.{append_known};
 ghost use Rattle.xl_base.specs.Faults.{Rose};
 ghost use Rattle.xl_io.specs.Sinks.{FitsPiece, Writes, GrewByFront};
 
+pub mod memory;
+pub mod standard;
+
 use crate::Failed;
 
 /// What a write answers.
@@ -47,6 +50,3 @@ pub fn write_all<K: Sink>(sink: &mut K, bytes: &[u8]) -> Result<(), Failed>
     }
     Ok(())
 }
-
-pub mod memory;
-pub mod standard;

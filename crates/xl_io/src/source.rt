@@ -3,6 +3,9 @@ ghost use Rattle.std.specs.declared.option.Option.{Option};
 ghost use Rattle.xl_base.specs.Faults.{Rose};
 ghost use Rattle.xl_io.specs.Sources.{FitsRoom, Reads};
 
+pub mod memory;
+pub mod standard;
+
 /// What a read answers.
 #[derive(Clone, Copy, Debug, PartialEq, Eq)]
 pub enum Piece {
@@ -29,6 +32,3 @@ pub trait Source {
         ensures later { faults self.old ≤ faults self.new }
         ensures failed { result ≡ Piece.Failed → Rose (faults self.old) (faults self.new) };
 }
-
-pub mod memory;
-pub mod standard;

@@ -13,10 +13,14 @@ pub struct MemSink {
 }
 
 impl MemSink {
+    ghost use Rattle.xl_io.specs.Memory.{write_script};
+    ghost use Rattle.xl_io.specs.Scripts.{script_of};
+
     /// A write takes at most `piece` bytes, 0 being read as 1, and the writes whose numbers, from 1, are listed fail.
     pub fn new(alloc: Global, piece: usize, failing: Vec<u64>) -> Self
         ensures held { ⟦<MemSink as Sink>⟧.held result ≡ Some [] }
         ensures faults { ⟦<MemSink as Sink>⟧.faults result ≡ 0 }
+        ensures script { write_script result ≡ script_of failing.items }
     {
         MemSink {
             held: Vec::new(alloc),
@@ -34,11 +38,24 @@ impl MemSink {
 }
 
 impl Sink for MemSink {
-    ghost held = { λ s. Some s.held.items };
+    ghost use Rattle.std.specs.Prelude.{IsTrue};
+    ghost use Rattle.xl_base.specs.Faults.{Rose};
+    ghost use Rattle.xl_io.specs.Memory.{bytes_held, write_faults, write_script};
+    ghost use Rattle.xl_io.specs.Scripts.{called, next_fails};
+    ghost use Rattle.xl_io.specs.Sinks.{FitsPiece, Writes};
 
-    ghost faults = { λ s. s.failures.count };
+    ghost held = { bytes_held };
 
-    fn write(&mut self, piece: &[u8]) -> Wrote {
+    ghost faults = { write_faults };
+
+    fn write(&mut self, piece: &[u8]) -> Wrote
+        ensures fits { FitsPiece result piece.now }
+        ensures bytes { Writes (bytes_held self.old) (bytes_held self.new) result piece.now }
+        ensures later { write_faults self.old ≤ write_faults self.new }
+        ensures failed { result ≡ Wrote.Failed → Rose (write_faults self.old) (write_faults self.new) }
+        ensures script { write_script self.new ≡ called (write_script self.old) }
+        ensures scripted { IsTrue (next_fails (write_script self.old)) → result ≡ Wrote.Failed }
+    {
         if self.failures.next_fails() {
             return Wrote::Failed;
         }

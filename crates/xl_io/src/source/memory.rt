@@ -51,10 +51,14 @@ pub struct MemSource {
 }
 
 impl MemSource {
+    ghost use Rattle.xl_io.specs.Memory.{read_script};
+    ghost use Rattle.xl_io.specs.Scripts.{script_of};
+
     /// Pieces have at most `piece` bytes, 0 being read as 1, and the reads whose numbers, from 1, are listed fail.
     pub fn new(bytes: Vec<u8>, piece: usize, failing: Vec<u64>) -> Self
         ensures left { ⟦<MemSource as Source>⟧.left result ≡ Some bytes.items }
         ensures faults { ⟦<MemSource as Source>⟧.faults result ≡ 0 }
+        ensures script { read_script result ≡ script_of failing.items }
     {
         MemSource {
             source: PlainSource::new(bytes, piece),
@@ -64,11 +68,23 @@ impl MemSource {
 }
 
 impl Source for MemSource {
-    ghost left = { λ s. Some (drop s.source.given s.source.bytes.items) };
+    ghost use Rattle.std.specs.Prelude.{◌↔◌, IsTrue};
+    ghost use Rattle.xl_base.specs.Faults.{Rose};
+    ghost use Rattle.xl_io.specs.Memory.{bytes_left, read_faults, read_script};
+    ghost use Rattle.xl_io.specs.Scripts.{called, next_fails};
 
-    ghost faults = { λ s. s.failures.count };
+    ghost left = { bytes_left };
 
-    fn read(&mut self, room: &mut [u8]) -> Piece {
+    ghost faults = { read_faults };
+
+    fn read(&mut self, room: &mut [u8]) -> Piece
+        ensures fits { FitsRoom result room.new }
+        ensures bytes { Reads (bytes_left self.old) (bytes_left self.new) result room.new }
+        ensures later { read_faults self.old ≤ read_faults self.new }
+        ensures failed { result ≡ Piece.Failed → Rose (read_faults self.old) (read_faults self.new) }
+        ensures script { read_script self.new ≡ called (read_script self.old) }
+        ensures scripted { (result ≡ Piece.Failed) ↔ IsTrue (next_fails (read_script self.old)) }
+    {
         if self.failures.next_fails() {
             return Piece::Failed;
         }

@@ -3,7 +3,8 @@ ghost use Rattle.std.specs.Prelude.{◌≡◌, None};
 use crate::{Piece, Source};
 use std::io::Read;
 
-/// A source over any reader. What it has left isn't told. A read that gives no byte is the end.
+/// A source over any reader. A read that gives no byte is the end. What it has left isn't told, so its end comes
+/// wherever the reader says so.
 #[derive(Drop)]
 pub struct StdSource<R> {
     reader: R,
