@@ -1,0 +1,60 @@
+use super::*;
+use std::test::Fail;
+
+#[test]
+fn a_reader_is_read_to_its_end(rt: HostRuntime) -> Result<(), Fail> {
+    let mut source = StdSource::new(b"abc".as_slice());
+    let mut room = [0; 2];
+    assert!(rt; source.read(&mut room) == Piece::Got(2));
+    assert_eq!(rt; room, *b"ab");
+    assert!(rt; source.read(&mut room) == Piece::Got(1));
+    assert_eq!(rt; room, *b"cb");
+    assert!(rt; source.read(&mut room) == Piece::End);
+    Ok(())
+}
+
+#[test]
+fn a_full_writer_is_a_fault(rt: HostRuntime) -> Result<(), Fail> {
+    let mut room = [0; 4];
+    let mut sink = StdSink::new(room.as_mut_slice());
+    assert!(rt; write_all(&mut sink, b"abc") == Ok(()));
+    assert!(rt; sink.write(b"de") == Wrote::Took(1));
+    assert!(rt; sink.write(b"e") == Wrote::Failed);
+    assert!(rt; write_all(&mut sink, b"e") == Err(Failed));
+    Ok(())
+}
+
+#[test]
+fn scripted_calls_fail(rt: HostRuntime) -> Result<(), Fail> {
+    let alloc = rt.alloc();
+    let mut room = [0; 8];
+    let bytes = b"abcde".to_vec(alloc)?;
+    let mut source = MemSource::new(bytes, 3, [1, 3].to_vec(alloc)?);
+    for piece in [
+        Piece::Failed,
+        Piece::Got(3),
+        Piece::Failed,
+        Piece::Got(2),
+        Piece::End,
+    ] {
+        assert!(rt; source.read(&mut room) == piece);
+    }
+
+    let mut sink = MemSink::new(alloc, 2, [2].to_vec(alloc)?);
+    for wrote in [Wrote::Took(2), Wrote::Failed, Wrote::Took(2)] {
+        assert!(rt; sink.write(b"xyz") == wrote);
+    }
+    assert_eq!(rt; sink.held(), b"xyxy".as_slice());
+    Ok(())
+}
+
+#[test]
+fn plain_forms_never_fail(rt: HostRuntime) -> Result<(), Fail> {
+    let mut room = [0; 8];
+    let mut source = PlainSource::new(b"abcde".to_vec(rt.alloc())?, 4);
+    for piece in [Piece::Got(4), Piece::Got(1), Piece::End] {
+        assert!(rt; source.read(&mut room) == piece);
+    }
+    assert!(rt; write_all(&mut Discard, &room) == Ok(()));
+    Ok(())
+}
