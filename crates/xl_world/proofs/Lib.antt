@@ -2,3 +2,8 @@ pub mod Settling
 pub mod NodeSteps
 pub mod Runs
 pub mod Lists
+pub mod Agreeing
+pub mod Numbers
+pub mod Each
+pub mod Places
+pub mod Steps

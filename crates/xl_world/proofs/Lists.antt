@@ -11,22 +11,25 @@ use Rattle.xl_core.specs.declared.refusal.Refusal.TheVariants.{Stranger, NotAfte
 use Rattle.xl_core.specs.Node.{Node, Event, Issue, Comes, Reply, issues, hears, refusing, refusal_at, is_stranger, happens, asks, opened}
 use Rattle.xl_wire.specs.declared.validation.Validation.{Validation}
 use Rattle.xl_validations.specs.declared.refusal.ValRefusal.{ValRefusal}
-use Rattle.xl_world.specs.Keeper.{Keeper, may_hold, holding, after_save}
-use Rattle.xl_world.specs.World.{Place, World, Step, Act, Again, Torn, place_at, list_in, reported_by, is_forged, settled, acts, quiet, reopened, again, torn, asked_at, step, run, Declared, place_of, start, AreLists, list_at, AgreeAt, IsRun, Headline}
+use Rattle.xl_world.specs.declared.place.Keeper.{Keeper}
+use Rattle.xl_world.specs.Keeper.{may_hold, holding, after_save}
+use Rattle.xl_world.specs.declared.place.Place.{Place}
+use Rattle.xl_world.specs.declared.plan.PlanNode.{PlanNode}
+use Rattle.xl_world.specs.World.{World, Step, Act, Again, Torn, place_at, list_in, reported_by, is_forged, settled, acts, quiet, reopened, again, torn, asked_at, step, run, place_of, start, AreLists, list_at, AgreeAt, IsRun, Headline}
 use Rattle.xl_world.proofs.Settling.{IsStep, IsWell, put_cases, at_its_number, some_same}
 use Rattle.xl_world.proofs.Runs.{agreement}
 
 -- each node has the list of its number, and reported under it
-record HasLists (plan : List Declared) (w : World) : Type 0 where
+record HasLists (plan : List PlanNode) (w : World) : Type 0 where
   pub nodes : (i : ℕ) (p : Place) → place_at i w.places ≡ Some p → list_at plan i ≡ Some p.node.list
   pub reports : All (λ r. list_at plan r.node ≡ Some r.list) w.reports
 
-reported_under : (plan : List Declared) (n : Node) → list_at plan n.me ≡ Some n.list → (o : Option Report) →
+reported_under : (plan : List PlanNode) (n : Node) → list_at plan n.me ≡ Some n.list → (o : Option Report) →
     All (λ r. list_at plan r.node ≡ Some r.list) (option_to_list (option_map (reported_by n) o))
 reported_under plan n h None = All-nil (λ r. list_at plan r.node ≡ Some r.list)
 reported_under plan n h (Some q) = All-cons (λ r. list_at plan r.node ≡ Some r.list) (reported_by n q) [] h (All-nil (λ r. list_at plan r.node ≡ Some r.list))
 
-settled_lists : (plan : List Declared) (w : World) (i : ℕ) (forged : Bool) (p : Place) (r : Reply) (k : Keeper) → place_at i w.places ≡ Some p → r.node.me ≡ p.node.me → r.node.list ≡ p.node.list →
+settled_lists : (plan : List PlanNode) (w : World) (i : ℕ) (forged : Bool) (p : Place) (r : Reply) (k : Keeper) → place_at i w.places ≡ Some p → r.node.me ≡ p.node.me → r.node.list ≡ p.node.list →
     HasLists plan w → HasLists plan (settled w i forged r k)
 settled_lists plan w i forged p r k at same_me same_list has =
     let its : r.node.me ≡ i = same_me ∙ at_its_number i w.places p at in
@@ -41,7 +44,7 @@ settled_lists plan w i forged p r k at same_me same_list has =
     }
 
 -- a node keeps its number and its list
-abbrev KeepsList : Node → Reply → Type 0
+abbrev pub KeepsList : Node → Reply → Type 0
 KeepsList n r = (r.node.me ≡ n.me) × (r.node.list ≡ n.list)
 
 issues_keep : (n : Node) (now : ℕ) (saved : Bool) (v : Validation) → KeepsList n (issues n now saved v)
@@ -52,42 +55,42 @@ hears_keep : (n : Node) (now from : ℕ) (v : Validation) (o : Option ValRefusal
 hears_keep n now from v None = (refl, refl)
 hears_keep n now from v (Some why) = (refl, refl)
 
-happens_keeps : (n : Node) (e : Event) (saved : Bool) → KeepsList n (happens n e saved)
+pub happens_keeps : (n : Node) (e : Event) (saved : Bool) → KeepsList n (happens n e saved)
 happens_keeps n (Issue now seq id full) saved =
     cond_both (nat_lt n.kept seq) (issues n now saved _) (refusing n (NotAfter n.kept)) (KeepsList n) (λ _. issues_keep n now saved _) (λ _. (refl, refl))
 happens_keeps n (Comes now from v) saved =
     cond_both (is_stranger n from) (refusing n (Stranger from)) (hears n now from v (refusal_at n now from v)) (KeepsList n) (λ _. (refl, refl)) (λ _. hears_keep n now from v (refusal_at n now from v))
 
-acts_lists : (plan : List Declared) (w : World) (i : ℕ) (e : Event) (saved : Bool) → HasLists plan w → (o : Option Place) → place_at i w.places ≡ o → HasLists plan (acts w i e saved o)
+acts_lists : (plan : List PlanNode) (w : World) (i : ℕ) (e : Event) (saved : Bool) → HasLists plan w → (o : Option Place) → place_at i w.places ≡ o → HasLists plan (acts w i e saved o)
 acts_lists plan w i e saved has None at = has
 acts_lists plan w i e saved has (Some p) at =
     settled_lists plan w i (is_forged w i e) p (happens p.node e saved) (after_save p.keeper (asks p.node e) saved) at (happens_keeps p.node e saved).0 (happens_keeps p.node e saved).1 has
 
-reopened_lists : (plan : List Declared) (w : World) (i number : ℕ) → HasLists plan w → (p : Place) → place_at i w.places ≡ Some p → HasLists plan (reopened w i p.node number)
+reopened_lists : (plan : List PlanNode) (w : World) (i number : ℕ) → HasLists plan w → (p : Place) → place_at i w.places ≡ Some p → HasLists plan (reopened w i p.node number)
 reopened_lists plan w i number has p at = settled_lists plan w i false p (quiet (opened p.node.me p.node.list number)) (holding number) at refl refl has
 
-again_lists : (plan : List Declared) (w : World) (i number : ℕ) → HasLists plan w → (o : Option Place) → place_at i w.places ≡ o → HasLists plan (again w i number o)
+again_lists : (plan : List PlanNode) (w : World) (i number : ℕ) → HasLists plan w → (o : Option Place) → place_at i w.places ≡ o → HasLists plan (again w i number o)
 again_lists plan w i number has None at = has
 again_lists plan w i number has (Some p) at =
     cond_both (may_hold p.keeper number) (reopened w i p.node number) w (HasLists plan) (λ _. reopened_lists plan w i number has p at) (λ _. has)
 
-torn_lists : (plan : List Declared) (w : World) (i number : ℕ) → HasLists plan w → (o : Option Place) → place_at i w.places ≡ o → (asked : Option ℕ) → HasLists plan (torn w i number o asked)
+torn_lists : (plan : List PlanNode) (w : World) (i number : ℕ) → HasLists plan w → (o : Option Place) → place_at i w.places ≡ o → (asked : Option ℕ) → HasLists plan (torn w i number o asked)
 torn_lists plan w i number has None at asked = has
 torn_lists plan w i number has (Some p) at None = has
 torn_lists plan w i number has (Some p) at (Some s) =
     cond_both (may_hold (after_save p.keeper (Some s) false) number) (reopened w i p.node number) w (HasLists plan) (λ _. reopened_lists plan w i number has p at) (λ _. has)
 
-step_lists : (plan : List Declared) (w : World) (s : Step) → HasLists plan w → HasLists plan (step w s)
+step_lists : (plan : List PlanNode) (w : World) (s : Step) → HasLists plan w → HasLists plan (step w s)
 step_lists plan w (Act i e saved) has = acts_lists plan w i e saved has (place_at i w.places) refl
 step_lists plan w (Again i number) has = again_lists plan w i number has (place_at i w.places) refl
 step_lists plan w (Torn i e number) has = torn_lists plan w i number has (place_at i w.places) refl (asked_at (place_at i w.places) e)
 
-run_lists : (plan : List Declared) (w : World) (ss : List Step) → HasLists plan w → HasLists plan (run w ss)
+run_lists : (plan : List PlanNode) (w : World) (ss : List Step) → HasLists plan w → HasLists plan (run w ss)
 run_lists plan w [] has = has
 run_lists plan w (s ∷ ss) has = run_lists plan (step w s) ss (step_lists plan w s has)
 
 -- the nodes that are opened have the lists that are declared
-opened_under : (plan : List Declared) (i : ℕ) (p : Place) → place_at i (map place_of plan) ≡ Some p → list_at plan i ≡ Some p.node.list
+opened_under : (plan : List PlanNode) (i : ℕ) (p : Place) → place_at i (map place_of plan) ≡ Some p → list_at plan i ≡ Some p.node.list
 opened_under [] i p h = cc
 opened_under (d ∷ ds) i p h =
     cond_both (d.me == i) (Some (place_of d)) (place_at i (map place_of ds)) (λ o. o ≡ Some p → list_at (d ∷ ds) i ≡ Some p.node.list)
@@ -95,14 +98,14 @@ opened_under (d ∷ ds) i p h =
     (λ is_not there. ap (option_map (λ x. x.list)) (cond-false (d.me == i) (Some d) _ is_not) ∙ opened_under ds i p there)
     h
 
-start_lists : (liars : List ℕ) (plan : List Declared) → HasLists plan (start liars plan)
+start_lists : (liars : List ℕ) (plan : List PlanNode) → HasLists plan (start liars plan)
 start_lists liars plan = record { nodes = opened_under plan; reports = All-nil (λ r. list_at plan r.node ≡ Some r.list) }
 
 some_list : (a b : TrustedList) → Some a ≡ Some b → a ≡ b
 some_list a b e = cc
 
 -- a report of a number is under its list
-its_list : (plan : List Declared) (i : ℕ) (a : TrustedList) (r : Reported) → list_at plan i ≡ Some a → r.node ≡ i → list_at plan r.node ≡ Some r.list → a ≡ r.list
+its_list : (plan : List PlanNode) (i : ℕ) (a : TrustedList) (r : Reported) → list_at plan i ≡ Some a → r.node ≡ i → list_at plan r.node ≡ Some r.list → a ≡ r.list
 its_list plan i a r at_i of_i under = some_list a r.list (sym at_i ∙ (ap (list_at plan) (sym of_i) ∙ under))
 
 pub headline : Headline
@@ -116,12 +119,12 @@ headline liars plan steps i j a b lists at_i at_j enough none k d k_in l e l_in 
     agreement liars plan steps lists none k d k_in l e l_in (subst (λ x. Enough liars r.list x) theirs (subst (λ x. Enough liars x b) mine enough)) same_seq
 
 -- a number's list in the world is the declared one
-declared_as : (plan : List Declared) (w : World) (i : ℕ) (a : TrustedList) (o : Option Place) → place_at i w.places ≡ o → HasLists plan w → option_map (λ p. p.node.list) o ≡ Some a → list_at plan i ≡ Some a
+declared_as : (plan : List PlanNode) (w : World) (i : ℕ) (a : TrustedList) (o : Option Place) → place_at i w.places ≡ o → HasLists plan w → option_map (λ p. p.node.list) o ≡ Some a → list_at plan i ≡ Some a
 declared_as plan w i a None at has is = cc
 declared_as plan w i a (Some p) at has is = has.nodes i p at ∙ is
 
 -- so the reports of a world that is a run agree, where no frame was forged
-run_agrees : (liars : List ℕ) (plan : List Declared) (steps : List Step) (i j : ℕ) (a b : TrustedList) → AreLists plan →
+run_agrees : (liars : List ℕ) (plan : List PlanNode) (steps : List Step) (i j : ℕ) (a b : TrustedList) → AreLists plan →
     list_in (run (start liars plan) steps) i ≡ Some a → list_in (run (start liars plan) steps) j ≡ Some b → Enough liars a b →
     (run (start liars plan) steps).forged ≡ 0 → AgreeAt (run (start liars plan) steps).reports i j
 run_agrees liars plan steps i j a b lists at_i at_j enough none =

@@ -1,6 +1,6 @@
 -- A world stays sound when an event at a node is settled, whatever the event was.
 use Rattle.std.proofs.Common.{◌≡◌, ℕ, ◌<◌, ◌≤◌, Bool, List, [], ◌∷◌, arith, ap, sym, ◌∙◌, inl, inr, Option, Some, None, subst}
-use Rattle.std.specs.Prelude.{◌==◌, ◌⊎◌, All, IsTrue, IfSome, map, filter, not, count_by, option_map, option_to_list, nat_eq}
+use Rattle.std.specs.Prelude.{◌==◌, ◌&&◌, ◌⊎◌, All, IsTrue, IfSome, map, filter, not, count_by, option_map, option_to_list, nat_eq}
 use Rattle.std.specs.List.{IsDistinct}
 use Rattle.std.proofs.lemmas.Bool.{and_parts, or_right, eqb-true, eqb-false, cond_both, cond-true, cond-false}
 use Rattle.std.proofs.lemmas.List.Elements.{All-append, All-weaker, All-nil, All-cons, All-map}
@@ -15,8 +15,10 @@ use Rattle.xl_validations.specs.Rows.{is_full_of, count_full}
 use Rattle.xl_core.specs.declared.report.Report.{Report}
 use Rattle.xl_core.specs.Node.{Node, Reply}
 use Rattle.xl_world.specs.declared.sent.Sent.{Sent}
-use Rattle.xl_world.specs.Keeper.{Keeper, MayHold}
-use Rattle.xl_world.specs.World.{Place, World, place_at, put, frames_for, said_by, reported_by, settled, Holds, RowSays, FrameSays, NodeSays, IsKept}
+use Rattle.xl_world.specs.declared.place.Keeper.{Keeper}
+use Rattle.xl_world.specs.Keeper.{MayHold}
+use Rattle.xl_world.specs.declared.place.Place.{Place}
+use Rattle.xl_world.specs.World.{World, place_at, put, frames_for, said_by, reported_by, settled, Holds, RowSays, FrameSays, NodeSays, IsKept}
 
 -- a node's rows are its list's, on which each member stands once, and the number that it kept is its keeper's
 pub record IsWell (p : Place) : Type 0 where

@@ -2,10 +2,7 @@
 use Rattle.std.specs.Prelude.{◌≡◌, ℕ, ◌==◌, ◌||◌, Bool, true, false, ◌⊎◌}
 use Rattle.std.specs.Prelude.{Some, None}
 use Rattle.std.specs.declared.option.Option.{Option}
-
-pub record Keeper : Type 0 where
-  pub in_force : ℕ
-  pub asked : Option ℕ
+use Rattle.xl_world.specs.declared.place.Keeper.{Keeper}
 
 -- a stop at this moment may leave this number
 abbrev pub MayHold : Keeper → ℕ → Type 0

@@ -3,3 +3,4 @@ pub mod World
 pub mod Schedule
 pub mod Forks
 pub mod Seen
+pub mod Worlds

@@ -1,13 +1,13 @@
 -- What an event of a schedule is in a world, and what is told of it.
-use Rattle.std.specs.Prelude.{ℕ, ◌-◌, ◌/◌, true, List, [], ◌++◌, slice_get, option_map, option_to_list}
+use Rattle.std.specs.Prelude.{ℕ, zero, suc, ◌/◌, true, List, [], ◌++◌, slice_get, option_map, option_to_list}
 use Rattle.std.specs.Prelude.{Some, None}
 use Rattle.std.specs.declared.option.Option.{Option}
-use Rattle.std.specs.Option.{option_map_or, option_and_then}
 use Rattle.xl_sched.specs.declared.event.Event.{Event}
 use Rattle.xl_sched.specs.declared.event.Event.TheVariants as event
 use Rattle.xl_core.specs.Node.{Issue, Comes, Reply, happens}
 use Rattle.xl_world.specs.declared.outcome.Outcome.{Outcome}
 use Rattle.xl_world.specs.declared.outcome.Outcome.TheVariants.{Refused, Full}
+use Rattle.xl_world.specs.declared.place.Place.{Place}
 use Rattle.xl_world.specs.declared.sent.Sent.{Sent}
 use Rattle.xl_world.specs.World.{World, Step, Act, Again, Torn, place_at, step}
 
@@ -15,15 +15,34 @@ use Rattle.xl_world.specs.World.{World, Step, Act, Again, Torn, place_at, step}
 abbrev pub delivery : ℕ → Sent → Step
 delivery at f = Act f.to (Comes (at / 1000) f.from f.validation) true
 
--- the step that an event is, where there is one. Frames are numbered from 1; moments are in milliseconds
+-- the sent frame of a place, from 1 on
+abbrev pub frame_at : List Sent → ℕ → Option Sent
+frame_at sent zero = None
+frame_at sent (suc k) = slice_get sent k
+
+-- a node is opened anew with the number that its keeper holds
+abbrev pub restart : Place → Step
+restart p = Again p.node.me p.keeper.in_force
+
+-- the step that an event is, where there is one. Moments are in milliseconds
 abbrev pub step_of : World → Event → Option Step
 step_of w (event.Issue at node seq id full) = Some (Act node (Issue (at / 1000) seq id full) true)
-step_of w (event.Deliver at place) = option_map (delivery at) (slice_get w.sent (place - 1))
-step_of w (event.Restart at node) = option_map (λ p. Again node p.keeper.in_force) (place_at node w.places)
+step_of w (event.Deliver at place) = option_map (delivery at) (frame_at w.sent place)
+step_of w (event.Restart at node) = option_map restart (place_at node w.places)
+
+abbrev pub stepped : World → Option Step → World
+stepped w None = w
+stepped w (Some s) = step w s
 
 -- the world after an event
 abbrev pub after_event : World → Event → World
-after_event w e = option_map_or (step w) w (step_of w e)
+after_event w e = stepped w (step_of w e)
+
+-- the moment of an event
+abbrev pub moment_of : Event → ℕ
+moment_of (event.Issue at node seq id full) = at
+moment_of (event.Deliver at place) = at
+moment_of (event.Restart at node) = at
 
 -- what came of a step at a node
 abbrev pub reply_to : World → Step → Option Reply

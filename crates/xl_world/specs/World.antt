@@ -14,12 +14,10 @@ use Rattle.xl_validations.specs.declared.row.Row.{Row}
 use Rattle.xl_core.specs.declared.report.Report.{Report}
 use Rattle.xl_core.specs.Node.{Node, Event, Issue, Comes, Reply, happens, asks, opened}
 use Rattle.xl_world.specs.declared.sent.Sent.{Sent}
-use Rattle.xl_world.specs.Keeper.{Keeper, MayHold, holding, after_save, may_hold}
-
--- a node and its keeper
-pub record Place : Type 0 where
-  pub node : Node
-  pub keeper : Keeper
+use Rattle.xl_world.specs.declared.place.Keeper.{Keeper}
+use Rattle.xl_world.specs.declared.plan.PlanNode.{PlanNode}
+use Rattle.xl_world.specs.declared.place.Place.{Place}
+use Rattle.xl_world.specs.Keeper.{MayHold, holding, after_save, may_hold}
 
 pub record World : Type 0 where
   pub liars : List ℕ
@@ -90,6 +88,10 @@ abbrev pub acts : World → ℕ → Event → Bool → Option Place → World
 acts w i event saved None = w
 acts w i event saved (Some p) = settled w i (is_forged w i event) (happens p.node event saved) (after_save p.keeper (asks p.node event) saved)
 
+-- the place of a node after an event
+abbrev pub place_after : Place → Event → Bool → Place
+place_after p event saved = record { node = (happens p.node event saved).node; keeper = after_save p.keeper (asks p.node event) saved }
+
 -- a node that is opened says and reports nothing
 abbrev pub quiet : Node → Reply
 quiet n = record { node = n; refused = None; issued = None; report = None }
@@ -121,11 +123,6 @@ abbrev pub run : World → List Step → World
 run w [] = w
 run w (s ∷ ss) = run (step w s) ss
 
--- an honest node as it is declared
-pub record Declared : Type 0 where
-  pub me : ℕ
-  pub list : TrustedList
-
 -- so many numbers from one on
 unfoldable pub up_from : ℕ → ℕ → List ℕ
 up_from n zero = []
@@ -135,14 +132,14 @@ up_from n (suc k) = n ∷ up_from (n + 1) k
 abbrev pub all_numbers : List ℕ
 all_numbers = up_from 1 64
 
-abbrev pub is_declared : List ℕ → List Declared → ℕ → Bool
+abbrev pub is_declared : List ℕ → List PlanNode → ℕ → Bool
 is_declared liars plan k = list_any (λ d. d.me == k) plan || is_on liars k
 
-abbrev pub place_of : Declared → Place
+abbrev pub place_of : PlanNode → Place
 place_of d = record { node = opened d.me d.list 0; keeper = holding 0 }
 
 -- the network at the start
-abbrev pub start : List ℕ → List Declared → World
+abbrev pub start : List ℕ → List PlanNode → World
 start liars plan = record {
   liars = liars;
   numbers = filter (is_declared liars plan) all_numbers;
@@ -154,11 +151,11 @@ start liars plan = record {
 }
 
 -- each declared list is a list
-abbrev pub AreLists : List Declared → Type 0
+abbrev pub AreLists : List PlanNode → Type 0
 AreLists plan = All (λ d. IsValid d.list) plan
 
 -- the list that a number is declared with
-abbrev pub list_at : List Declared → ℕ → Option TrustedList
+abbrev pub list_at : List PlanNode → ℕ → Option TrustedList
 list_at plan i = option_map (λ d. d.list) (find (λ d. d.me == i) plan)
 
 -- the list of a node of the world
@@ -198,10 +195,10 @@ AgreeAt reports i j = All (λ r. All (λ q. r.node ≡ i → q.node ≡ j → r.
 -- if their quorums together exceed the sum of both lists' sizes, minus the overlap, plus the liars in the overlap.
 abbrev pub Headline : Type 0
 Headline =
-    (liars : List ℕ) (plan : List Declared) (steps : List Step) (i j : ℕ) (a b : TrustedList) →
+    (liars : List ℕ) (plan : List PlanNode) (steps : List Step) (i j : ℕ) (a b : TrustedList) →
     AreLists plan → list_at plan i ≡ Some a → list_at plan j ≡ Some b → Enough liars a b →
     (run (start liars plan) steps).forged ≡ 0 → AgreeAt (run (start liars plan) steps).reports i j
 
 -- the world comes from a declared one by steps
 abbrev pub IsRun : World → Type 0
-IsRun w = (plan : List Declared) × (steps : List Step) × AreLists plan × (w ≡ run (start w.liars plan) steps)
+IsRun w = (plan : List PlanNode) × (steps : List Step) × AreLists plan × (w ≡ run (start w.liars plan) steps)

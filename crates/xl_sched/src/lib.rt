@@ -1,0 +1,3 @@
+#![tactic(auto)]
+mod event;
+pub use event::Event;

@@ -1,0 +1,100 @@
+-- The place that the code finds is the place of its number.
+use Rattle.std.proofs.Common.{◌≡◌, ℕ, zero, suc, ◌<◌, true, false, List, [], ◌∷◌, length, get_or, set, refl, arith, ap, sym, ◌∙◌, Option, Some, None, Result, Ok, Err}
+use Rattle.std.specs.Prelude.{◌==◌, position, nat_lt, OnOk, OnErr}
+use Rattle.std.specs.List.{position_or_len}
+use Rattle.std.proofs.Common.{inl, inr, subst}
+use Rattle.std.proofs.lemmas.List.Sums.{fails_before_first}
+use Rattle.std.proofs.lemmas.List.Quantifiers.{position-Some}
+use Rattle.std.proofs.lemmas.Bool.{eqb-true, lt-ltb, cases_lt, cond-true, cond-false}
+use Rattle.xl_core.specs.Node.{Event, happens}
+use Rattle.xl_world.specs.declared.act.Answer.{Answer}
+use Rattle.xl_world.specs.declared.place.Place.{Place}
+use Rattle.xl_world.specs.World.{place_at, put, place_after}
+use Rattle.xl_world.specs.Seen.{IsAnswer, put_acted, acted_at, Answers, AnswersAt, restarted, put_restarted, restarted_at}
+use Rattle.xl_world.proofs.Lists.{happens_keeps}
+
+cons_same : {X : Type 0} (x y : X) (xs ys : List X) → x ≡ y → xs ≡ ys → x ∷ xs ≡ y ∷ ys
+cons_same x y xs ys p q = cc
+
+-- the place at the first index of its number, and the places with another one there
+there : (xs : List Place) (i k : ℕ) (d : Place) → k < length xs → ((get_or xs k d).node.me == i) ≡ true → ((j : ℕ) → j < k → ((get_or xs j d).node.me == i) ≡ false) →
+    place_at i xs ≡ Some (get_or xs k d)
+there [] i k d k_in is first = absurd (omega arith)
+there (x ∷ xs) i zero d k_in is first = cond-true (x.node.me == i) _ _ is
+there (x ∷ xs) i (suc k) d k_in is first =
+    cond-false (x.node.me == i) _ _ (first 0 (omega arith)) ∙ there xs i k d (omega arith) is (λ j h. first (suc j) (omega arith))
+
+put_there : (xs : List Place) (i k : ℕ) (d y : Place) → k < length xs → ((get_or xs k d).node.me == i) ≡ true → ((j : ℕ) → j < k → ((get_or xs j d).node.me == i) ≡ false) → y.node.me ≡ i →
+    set xs k y ≡ put y xs
+put_there [] i k d y k_in is first its = absurd (omega arith)
+put_there (x ∷ xs) i zero d y k_in is first its = sym (cond-true (x.node.me == y.node.me) _ _ (ap (λ (m : ℕ). x.node.me == m) its ∙ is))
+put_there (x ∷ xs) i (suc k) d y k_in is first its =
+    cons_same _ _ _ _ refl (put_there xs i k d y (omega arith) is (λ j h. first (suc j) (omega arith)) its)
+    ∙ sym (cond-false (x.node.me == y.node.me) _ _ (ap (λ (m : ℕ). x.node.me == m) its ∙ first 0 (omega arith)))
+
+-- no place of that number
+nowhere : (xs : List Place) (i : ℕ) → ((j : ℕ) (d : Place) → j < length xs → ((get_or xs j d).node.me == i) ≡ false) → place_at i xs ≡ None
+nowhere [] i none = refl
+nowhere (x ∷ xs) i none = cond-false (x.node.me == i) _ _ (none 0 x (omega arith)) ∙ nowhere xs i (λ j d h. none (suc j) d (omega arith))
+
+-- where no index is found, none has the number
+none_found : (xs : List Place) (i : ℕ) → position (λ p. p.node.me == i) xs ≡ None → (j : ℕ) (d : Place) → j < length xs → ((get_or xs j d).node.me == i) ≡ false
+none_found xs i none j d j_in =
+    elim (cases_lt (position_or_len (λ p. p.node.me == i) xs) (length xs)) [
+      | inl within ↦ let some = cond-true (nat_lt (position_or_len (λ p. p.node.me == i) xs) (length xs)) (Some (position_or_len (λ p. p.node.me == i) xs)) None (lt-ltb _ _ within) in cc
+      | inr past ↦ fails_before_first (λ p. p.node.me == i) xs j d (omega arith)
+    ]
+
+-- the place that is found is the one of the number
+pub found_there : (xs : List Place) (i k : ℕ) (d : Place) → position (λ p. p.node.me == i) xs ≡ Some k → place_at i xs ≡ Some (get_or xs k d)
+found_there xs i k d found =
+    let at = position-Some (λ p. p.node.me == i) xs k d found in there xs i k d at.0 at.1 (λ j h. at.2 j h)
+
+-- with another one put there
+pub put_found : (xs : List Place) (i k : ℕ) (d y : Place) → position (λ p. p.node.me == i) xs ≡ Some k → y.node.me ≡ (get_or xs k d).node.me → set xs k y ≡ put y xs
+put_found xs i k d y found same =
+    let at = position-Some (λ p. p.node.me == i) xs k d found in put_there xs i k d y at.0 at.1 (λ j h. at.2 j h) (same ∙ eqb-true _ _ at.1)
+
+pub none_there : (xs : List Place) (i : ℕ) → position (λ p. p.node.me == i) xs ≡ None → place_at i xs ≡ None
+none_there xs i none = nowhere xs i (none_found xs i none)
+
+-- an event at the place that is found
+pub acted_there : (xs : List Place) (i k : ℕ) (e : Event) (d y : Place) → position (λ p. p.node.me == i) xs ≡ Some k → y ≡ place_after (get_or xs k d) e true → set xs k y ≡ acted_at i e xs
+acted_there xs i k e d y found is =
+    put_found xs i k d y found (ap (λ (p : Place). p.node.me) is ∙ (happens_keeps (get_or xs k d).node e true).0)
+    ∙ (ap (λ (p : Place). put p xs) is ∙ ap (λ o. put_acted e o xs) (sym (found_there xs i k d found)))
+
+pub acted_nowhere : (xs : List Place) (i : ℕ) (e : Event) → position (λ p. p.node.me == i) xs ≡ None → xs ≡ acted_at i e xs
+acted_nowhere xs i e none = ap (λ o. put_acted e o xs) (sym (none_there xs i none))
+
+pub answered_there : (xs : List Place) (i k : ℕ) (e : Event) (d : Place) (a : Answer) → position (λ p. p.node.me == i) xs ≡ Some k → IsAnswer a (happens (get_or xs k d).node e true) → AnswersAt i e xs (Some a)
+answered_there xs i k e d a found is = subst (λ o. Answers e o (Some a)) (sym (found_there xs i k d found)) is
+
+pub answered_nowhere : (xs : List Place) (i : ℕ) (e : Event) → position (λ p. p.node.me == i) xs ≡ None → AnswersAt i e xs None
+answered_nowhere xs i e none = subst (λ o. Answers e o None) (sym (none_there xs i none)) tt
+
+-- a restart at the place that is found
+pub restarted_there : (xs : List Place) (i k : ℕ) (d y : Place) → position (λ p. p.node.me == i) xs ≡ Some k → y ≡ restarted (get_or xs k d) → set xs k y ≡ restarted_at i xs
+restarted_there xs i k d y found is =
+    put_found xs i k d y found (ap (λ (p : Place). p.node.me) is)
+    ∙ (ap (λ (p : Place). put p xs) is ∙ ap (λ o. put_restarted o xs) (sym (found_there xs i k d found)))
+
+pub restarted_nowhere : (xs : List Place) (i : ℕ) → position (λ p. p.node.me == i) xs ≡ None → xs ≡ restarted_at i xs
+restarted_nowhere xs i none = ap (λ o. put_restarted o xs) (sym (none_there xs i none))
+
+-- nothing changes
+set_same : (xs : List Place) (k : ℕ) (d y : Place) → k < length xs → y ≡ get_or xs k d → set xs k y ≡ xs
+set_same [] k d y k_in is = absurd (omega arith)
+set_same (x ∷ xs) zero d y k_in is = cons_same _ _ _ _ is refl
+set_same (x ∷ xs) (suc k) d y k_in is = cons_same _ _ _ _ refl (set_same xs k d y (omega arith) is)
+
+pub same_there : (xs : List Place) (i k : ℕ) (d y : Place) → position (λ p. p.node.me == i) xs ≡ Some k → y ≡ get_or xs k d → set xs k y ≡ xs
+same_there xs i k d y found is = set_same xs k d y (position-Some (λ p. p.node.me == i) xs k d found).0 is
+
+pub on_ok : {X E : Type 0} (P Q : Type 0) (r : Result X E) → OnOk r P → (P → Q) → OnOk r Q
+on_ok P Q (Ok x) p h = h p
+on_ok P Q (Err e) p h = tt
+
+pub on_err : {X E : Type 0} (P Q : Type 0) (r : Result X E) → OnErr r P → (P → Q) → OnErr r Q
+on_err P Q (Ok x) p h = tt
+on_err P Q (Err e) p h = h p

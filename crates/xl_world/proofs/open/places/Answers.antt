@@ -1,0 +1,13 @@
+use Rattle.std.proofs.Common.{◌∙◌}
+use Rattle.xl_lists.specs.Lists.{IsValid}
+use Rattle.xl_world.specs.declared.plan.PlanNode.{PlanNode}
+use Rattle.xl_world.specs.World.{place_of}
+use Rattle.xl_world.proofs.Each.{all_more, map_more}
+use Rattle.xl_world.proofs.open.places.Goals as goal
+
+pub loop-node-preserved : goal.loop-node-preserved
+loop-node-preserved c = (
+  c.in_ok-push.ensures.items
+      ∙ map_more place_of c.args.nodes.now c.loop-node.node-index c.node-item.result c.loop-node.places.items c.in_ok-place.field-0 c.loop-node-test.true c.node-item.is c.loop-node.invariant.0 c.in_ok-place.ensures,
+  all_more (λ (d : PlanNode). IsValid d.list) c.args.nodes.now c.loop-node.node-index c.node-item.result c.loop-node-test.true c.node-item.is c.loop-node.invariant.1 c.quorum.ensures.valid,
+)

@@ -1,0 +1,78 @@
+-- How the definitions see the types of the code.
+use Rattle.std.specs.Prelude.{◌≡◌, ℕ, Bool, true, List, ◌++◌, map, option_map, option_to_list, not, ◌==◌, ◌&&◌, ◌||◌}
+use Rattle.std.specs.Prelude.{Some, None}
+use Rattle.std.specs.declared.option.Option.{Option}
+use Rattle.std.specs.List.{list_all}
+use Rattle.xl_lists.specs.Agreement.{same_id, Said, Report}
+use Rattle.xl_core.specs.Node.{Event, Issue, Comes, Reply, happens, opened}
+use Rattle.xl_world.specs.declared.act.Answer.{Answer}
+use Rattle.xl_world.specs.declared.act.NodeEvent.{NodeEvent}
+use Rattle.xl_world.specs.declared.act.NodeEvent.TheVariants as event
+use Rattle.xl_world.specs.declared.outcome.Outcome.{Outcome}
+use Rattle.xl_world.specs.declared.outcome.Outcome.TheVariants.{Refused, Full}
+use Rattle.xl_world.specs.declared.place.Place.{Place}
+use Rattle.xl_world.specs.declared.place.Saying.{Saying}
+use Rattle.xl_world.specs.declared.report.WorldReport.{WorldReport}
+use Rattle.xl_world.specs.Keeper.{holding}
+use Rattle.xl_world.specs.World.{place_at, put, place_after, reported_by}
+
+abbrev pub said_seen : Saying → Said
+said_seen s = record { member = s.member; seq = s.seq; id = s.id }
+
+abbrev pub report_seen : WorldReport → Report
+report_seen r = record { node = r.node; list = r.list; seq = r.seq; id = r.id }
+
+abbrev pub reports_seen : List WorldReport → List Report
+reports_seen reports = map report_seen reports
+
+-- whether the second report, if it is of j and of the first one's sequence, has its id
+abbrev pub agrees_at : ℕ → Report → Report → Bool
+agrees_at j r q = not (q.node == j && (r.seq == q.seq && not (same_id r.id q.id)))
+
+-- whether all reports of j agree with this one, if it is of i
+abbrev pub accords : ℕ → ℕ → List WorldReport → WorldReport → Bool
+accords i j reports r = not (r.node == i) || list_all (λ q. agrees_at j (report_seen r) (report_seen q)) reports
+
+abbrev pub event_seen : NodeEvent → Event
+event_seen (event.Issue now seq id full) = Issue now seq id full
+event_seen (event.Comes now from validation) = Comes now from validation
+
+-- what a node's calls answered is this reply
+pub record IsAnswer (a : Answer) (r : Reply) : Type 0 where
+  pub refused : a.refused ≡ r.refused
+  pub issued : a.issued ≡ r.issued
+  pub report : option_map report_seen a.report ≡ option_map (reported_by r.node) r.report
+
+abbrev pub put_acted : Event → Option Place → List Place → List Place
+put_acted e None places = places
+put_acted e (Some p) places = put (place_after p e true) places
+
+-- the places after an event at the node of a number
+abbrev pub acted_at : ℕ → Event → List Place → List Place
+acted_at i e places = put_acted e (place_at i places) places
+
+-- what the node of a number answered, where there is one
+abbrev pub Answers : Event → Option Place → Option Answer → Type 0
+Answers e None None = Unit {0}
+Answers e None (Some a) = ⊥
+Answers e (Some p) None = ⊥
+Answers e (Some p) (Some a) = IsAnswer a (happens p.node e true)
+
+abbrev pub AnswersAt : ℕ → Event → List Place → Option Answer → Type 0
+AnswersAt i e places answer = Answers e (place_at i places) answer
+
+-- what is told of an answer
+abbrev pub outcomes_told : ℕ → Answer → List Outcome
+outcomes_told i a = option_to_list (option_map (Refused i) a.refused) ++ option_to_list (option_map (λ r. Full i r.seq r.id) a.report)
+
+-- a place whose node is opened anew
+abbrev pub restarted : Place → Place
+restarted p = record { node = opened p.node.me p.node.list p.keeper.in_force; keeper = holding p.keeper.in_force }
+
+abbrev pub put_restarted : Option Place → List Place → List Place
+put_restarted None places = places
+put_restarted (Some p) places = put (restarted p) places
+
+-- the places when the node of a number is opened anew
+abbrev pub restarted_at : ℕ → List Place → List Place
+restarted_at i places = put_restarted (place_at i places) places

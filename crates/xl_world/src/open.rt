@@ -1,0 +1,84 @@
+// A world at its start.
+ghost use Rattle.std.specs.Prelude.{◌≡◌, ◌++◌, option_to_list, ◌≤◌, ◌||◌, ◌==◌, IfOk, OnOk, Some, None, map, filter, All, if◌then◌else◌};
+ghost use Rattle.std.specs.List.{list_any};
+ghost use Rattle.xl_lists.specs.Lists.{is_on};
+ghost use Rattle.xl_world.specs.World.{place_of, is_declared, all_numbers, AreLists};
+
+use crate::place::{Keeper, Place};
+use crate::{Plan, PlanNode};
+use std::alloc::Global;
+use xl_base::{GREATEST_NODE_NO, NodeNo, OutOfMemory};
+use xl_core::Core;
+
+/// A node at its start, and its keeper.
+fn place(alloc: Global, node: &PlanNode) -> Result<Place, OutOfMemory>
+    ensures { IfOk result (λ place. place ≡ place_of node.now) }
+{
+    Ok(Place {
+        node: Core::open(alloc, node.me, node.list.copy(), 0)?,
+        keeper: Keeper::holding(0),
+    })
+}
+
+/// The nodes at their start.
+pub fn places(alloc: Global, nodes: &[PlanNode]) -> Result<Vec<Place>, OutOfMemory>
+    ensures opened { IfOk result (λ places. places.items ≡ map place_of nodes.now) }
+    ensures lists { OnOk result (AreLists nodes.now) }
+{
+    let mut places = Vec::with_capacity(alloc, nodes.len())?;
+    for node in nodes {
+        let _ = node.list.quorum();
+        places.push(place(alloc, node)?)?;
+    }
+    Ok(places)
+}
+
+fn is_honest(nodes: &[PlanNode], number: NodeNo) -> bool
+    ensures { result ≡ list_any (λ d. d.me == number) nodes.now }
+{
+    nodes.iter().any(|node| node.me == number)
+}
+
+fn is_liar(liars: &[NodeNo], number: NodeNo) -> bool
+    ensures { result ≡ is_on liars.now number }
+{
+    liars.iter().any(|liar| number == *liar)
+}
+
+fn is_declared(plan: &Plan, number: NodeNo) -> bool
+    ensures { result ≡ is_declared plan.now.liars.items plan.now.nodes.items number }
+{
+    is_honest(&plan.nodes, number) || is_liar(&plan.liars, number)
+}
+
+/// The member of a number, where it is declared.
+fn declared(plan: &Plan, number: u32) -> Option<NodeNo>
+    requires least { 1 ≤ number }
+    requires greatest { number ≤ 64 }
+    ensures { result ≡ (if is_declared plan.now.liars.items plan.now.nodes.items number then Some number else None) }
+{
+    match NodeNo::new(number) {
+        Some(member) if is_declared(plan, member) => Some(member),
+        _ => None,
+    }
+}
+
+fn push_some(numbers: &mut Vec<NodeNo>, found: Option<NodeNo>) -> Result<(), OutOfMemory>
+    ensures { OnOk result (numbers.new.items ≡ numbers.old.items ++ option_to_list found) }
+{
+    if let Some(number) = found {
+        numbers.push(number)?;
+    }
+    Ok(())
+}
+
+/// All declared numbers, rising.
+pub fn numbers(alloc: Global, plan: &Plan) -> Result<Vec<NodeNo>, OutOfMemory>
+    ensures { IfOk result (λ numbers. numbers.items ≡ filter (is_declared plan.now.liars.items plan.now.nodes.items) all_numbers) }
+{
+    let mut numbers = Vec::new(alloc);
+    for number in 1..=GREATEST_NODE_NO {
+        push_some(&mut numbers, declared(plan, number))?;
+    }
+    Ok(numbers)
+}

@@ -1,0 +1,58 @@
+ghost use Rattle.std.specs.Prelude.{◌≡◌, []};
+
+use std::alloc::Global;
+use std::marker::Model;
+use xl_base::{LedgerId, NodeNo, Seq};
+use xl_core::Refusal;
+
+/// What is told of an event.
+#[derive(Clone, Copy, Debug, PartialEq, Eq)]
+pub enum Outcome {
+    /// The node refused it.
+    Refused {
+        node: NodeNo,
+        refusal: Refusal,
+    },
+    /// The node reports the ledger as fully validated.
+    Full {
+        node: NodeNo,
+        seq: Seq,
+        id: LedgerId,
+    },
+}
+
+/// All that is told of an event, in order. Contracts see it as a list.
+#[derive(Debug, Drop)]
+pub struct Happened {
+    outcomes: Vec<Outcome>,
+}
+
+impl Model for Happened {
+    ghost use Rattle.std.specs.Prelude.{List};
+    ghost use Rattle.xl_world.specs.declared.outcome.Outcome.{Outcome};
+
+    ghost Value = { List Outcome };
+
+    ghost view = { λ h. h.outcomes.items };
+}
+
+impl Happened {
+    pub fn from_vec(outcomes: Vec<Outcome>) -> Happened
+        ensures { result ≡ outcomes.items }
+    {
+        Happened { outcomes }
+    }
+
+    /// Nothing is told.
+    pub fn nothing(alloc: Global) -> Happened
+        ensures { result ≡ [] }
+    {
+        Happened::from_vec(Vec::new(alloc))
+    }
+
+    pub fn as_slice(&self) -> &[Outcome]
+        ensures { result.now ≡ self.now }
+    {
+        &self.outcomes
+    }
+}

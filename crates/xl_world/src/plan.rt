@@ -1,0 +1,16 @@
+use xl_base::NodeNo;
+use xl_lists::List;
+
+/// An honest node as it is declared.
+#[derive(Debug, Drop)]
+pub struct PlanNode {
+    pub me: NodeNo,
+    pub list: List,
+}
+
+/// Who is in the world: the honest nodes, in the order in which they are declared, and the liars.
+#[derive(Debug, Drop)]
+pub struct Plan {
+    pub nodes: Vec<PlanNode>,
+    pub liars: Vec<NodeNo>,
+}

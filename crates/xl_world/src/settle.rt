@@ -1,0 +1,91 @@
+// What came of an event, taken into the lists of a world. The room was made before, so no call wants memory.
+ghost use Rattle.std.specs.Prelude.{◌≡◌, ◌+◌, ◌<◌, ◌≤◌, ◌++◌, Some, length, map, option_map, option_to_list, vec_len, vec_capacity};
+ghost use Rattle.xl_lists.specs.Agreement.{with_said};
+ghost use Rattle.xl_world.specs.World.{frames_for, said_by};
+ghost use Rattle.xl_world.specs.Seen.{outcomes_told, said_seen, report_seen, reports_seen};
+
+use crate::act::Answer;
+use crate::place::Saying;
+use crate::{Outcome, Sent, WorldReport};
+use xl_base::NodeNo;
+use xl_wire::Validation;
+
+/// Adds an element where there is one.
+fn push_some<T: Drop>(list: &mut Vec<T>, element: Option<T>)
+    requires { vec_len list.old < vec_capacity list.old }
+    ensures items { list.new.items ≡ list.old.items ++ option_to_list element }
+    ensures len { vec_len list.new ≤ vec_len list.old + 1 }
+    ensures capacity { vec_capacity list.old ≤ vec_capacity list.new }
+{
+    if let Some(element) = element {
+        let _ = list.push(element);
+    }
+}
+
+/// A frame for each other declared number, rising.
+fn send(sent: &mut Vec<Sent>, numbers: &[NodeNo], from: NodeNo, validation: &Validation)
+    requires { vec_len sent.old + length numbers.now ≤ vec_capacity sent.old }
+    ensures { sent.new.items ≡ sent.old.items ++ frames_for numbers.now from (Some validation.now) }
+{
+    for &to in numbers {
+        if to != from {
+            let _ = sent.push(Sent {
+                from,
+                to,
+                validation: *validation,
+            });
+        }
+    }
+}
+
+/// The frames of what is issued, if anything is.
+pub fn send_some(
+    sent: &mut Vec<Sent>,
+    numbers: &[NodeNo],
+    from: NodeNo,
+    issued: &Option<Validation>,
+)
+    requires { vec_len sent.old + length numbers.now ≤ vec_capacity sent.old }
+    ensures { sent.new.items ≡ sent.old.items ++ frames_for numbers.now from issued.now }
+{
+    if let Some(validation) = issued {
+        send(sent, numbers, from, validation);
+    }
+}
+
+/// What is issued is said.
+pub fn say_some(said: &mut Vec<Saying>, member: NodeNo, issued: &Option<Validation>)
+    requires { vec_len said.old < vec_capacity said.old }
+    ensures { map said_seen said.new.items ≡ with_said (map said_seen said.old.items) (option_map (said_by member) issued.now) }
+{
+    if let Some(validation) = issued {
+        let _ = said.push(Saying::of(member, validation));
+    }
+}
+
+/// A report, if there is one, comes after the others.
+pub fn report_some(reports: &mut Vec<WorldReport>, report: Option<WorldReport>)
+    requires { vec_len reports.old < vec_capacity reports.old }
+    ensures { reports_seen reports.new.items ≡ reports_seen reports.old.items ++ option_to_list (option_map report_seen report) }
+{
+    if let Some(report) = report {
+        let _ = reports.push(report);
+    }
+}
+
+/// What is told of an answer.
+pub fn tell(outcomes: &mut Vec<Outcome>, node: NodeNo, answer: &Answer)
+    requires { vec_len outcomes.old + 2 ≤ vec_capacity outcomes.old }
+    ensures { outcomes.new.items ≡ outcomes.old.items ++ outcomes_told node answer.now }
+{
+    let refused = answer
+        .refused
+        .map(|refusal| Outcome::Refused { node, refusal });
+    push_some(outcomes, refused);
+    let full = answer.report.as_ref().map(|report| Outcome::Full {
+        node,
+        seq: report.seq,
+        id: report.id,
+    });
+    push_some(outcomes, full);
+}
