@@ -19,8 +19,8 @@ its_step c =
     (with_items_is c.self.inside.places c.restart_at.new.places (c.restart_at.auto.places ∙ c.deref_mut.ensures.len)
     ∙ (c.in_ok-restart_at.ensures.ok ∙ ap (λ (ps : List Place). restarted_at c.args.node ps) c.deref_mut.ensures.value))
 
-pub invariant_of-self : goal.invariant_of-self
-invariant_of-self c =
+pub invariant_of-self-2 : goal.invariant_of-self-2
+invariant_of-self-2 c =
     stepped_run (world_seen c.self.inside) _ (option_map restart (place_at c.args.node c.self.inside.places.items)) (its_step c) c.self.invariant
 
 pub returns-clause-world : goal.returns-clause-world
