@@ -13,6 +13,8 @@ use xl_io::{Piece, Sink, Source};
 const ROOM: usize = 8192;
 
 /// Reads the input to its end, or up to what is refused, and writes what is told about it to the output.
+///
+/// A failed read ends it with `Read`, a failed write with `Write`, and want of memory, at any time, with `Memory`.
 pub fn drive<T: Teller, I: Source, O: Sink>(
     teller: &mut T,
     input: &mut I,
@@ -53,7 +55,7 @@ pub fn drive<T: Teller, I: Source, O: Sink>(
 /// Hands the input's lines to the machine, and writes its answers to the output, each as soon as its line was read.
 ///
 /// The lines are those of the whole input, in whatever pieces it comes. A line beyond a limit is refused, first for its
-/// length and then as one too many.
+/// length and then as one too many, and the text ends there. Faults are those of `drive`.
 pub fn run<M: Machine + Drop, I: Source, O: Sink>(
     alloc: Global,
     limits: Limits,

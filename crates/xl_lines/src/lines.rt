@@ -148,7 +148,13 @@ impl<M: Machine> Teller for Lines<M> {
         if self.line.is_empty() {
             return close(&mut self.machine, output, &mut self.text);
         }
-        match answer(&mut self.machine, output, self.left, &self.line, &mut self.text)? {
+        match answer(
+            &mut self.machine,
+            output,
+            self.left,
+            &self.line,
+            &mut self.text,
+        )? {
             Next::Line => close(&mut self.machine, output, &mut self.text),
             Next::Refused => Ok(Verdict::Refused),
         }

@@ -33,7 +33,7 @@ pub trait Machine {
     /// What it does, as functions of that.
     ghost rules: { Rules State };
 
-    /// Takes a line, and puts the answer into `text`.
+    /// Takes a line, without its newline and a return before it, and puts the answer into `text`.
     fn line(&mut self, line: &[u8], text: &mut String) -> Result<Next, OutOfMemory>
         requires { string_bytes text.old ≡ [] }
         ensures { IfOk result (λ next.

@@ -1,5 +1,4 @@
 use Rattle.std.proofs.Common.{◌≡◌, ◌+◌, ◌<◌, ◌∷◌, ◌++◌, ℕ, List, true, false, is_some, not, length, drop, ap, ◌∙◌, arith}
-use Rattle.std.specs.Vec.{vec_len}
 use Rattle.xl_lines.specs.declared.limits.Overrun.TheVariants.{LongLine}
 use Rattle.xl_lines.specs.Rules.{refused}
 use Rattle.xl_lines.specs.Running.{told_at}
