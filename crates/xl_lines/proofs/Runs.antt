@@ -1,0 +1,55 @@
+-- A run over an input, as far as it has come.
+use Rattle.std.proofs.Common.{◌≡◌, ◌++◌, ℕ, List, [], Option, Some, None, IfSome, refl, sym, ap, ◌∙◌, append_assoc}
+use Rattle.std.specs.Io.KnownBytes.{prepend_known, IsAtEnd}
+use Rattle.xl_io.specs.Sinks.{GrewByFront}
+use Rattle.xl_lines.specs.Rules.{Told}
+use Rattle.xl_lines.specs.Running.{Tells}
+use Rattle.xl_lines.proofs.Telling.{tells_from, tells_none, tells_then, tells_front, front_of_tells}
+
+-- Of what all says about the bytes, a front is held, and now says what is left to tell about those that are to come.
+pub record Runs (left0 left held0 held : Option (List ℕ)) (all now : List ℕ → Told) : Type 0 where
+  pub consumed : List ℕ
+  pub source : left0 ≡ prepend_known consumed left
+  pub tells : (rest : List ℕ) → Tells held0 held (all (consumed ++ rest)) (now rest)
+
+prepend_known-none : (known : Option (List ℕ)) → known ≡ prepend_known [] known
+prepend_known-none None = refl
+prepend_known-none (Some xs) = refl
+
+prepend_known-twice : (xs ys : List ℕ) (known : Option (List ℕ)) → prepend_known xs (prepend_known ys known) ≡ prepend_known (xs ++ ys) known
+prepend_known-twice xs ys None = refl
+prepend_known-twice xs ys (Some bytes) = ap Some (sym (append_assoc xs ys bytes))
+
+-- a fact about all the bytes, from one about those that are left
+if_left : (left0 left : Option (List ℕ)) (consumed : List ℕ) (P : List ℕ → Type 0) → left0 ≡ prepend_known consumed left → ((rest : List ℕ) → left ≡ Some rest → P (consumed ++ rest)) → IfSome left0 P
+if_left left0 None consumed P e f = rw e tt
+if_left left0 (Some rest) consumed P e f = rw e (f rest refl)
+
+at_end : (left : Option (List ℕ)) (rest : List ℕ) → IsAtEnd left → left ≡ Some rest → rest ≡ []
+at_end None rest end e = cc
+at_end (Some xs) rest end e = cc
+
+pub runs_none : (left held : Option (List ℕ)) (all : List ℕ → Told) → Runs left left held held all all
+runs_none left held all = record { consumed = []; source = prepend_known-none left; tells = λ rest. tells_none held (all rest) }
+
+module _ {left0 left held0 held : Option (List ℕ)} {all now : List ℕ → Told} (runs : Runs left0 left held0 held all now) where
+  pub runs_more : {left' held' : Option (List ℕ)} (now' : List ℕ → Told) (piece : List ℕ) → left ≡ prepend_known piece left' → ((rest : List ℕ) → Tells held held' (now (piece ++ rest)) (now' rest)) → Runs left0 left' held0 held' all now'
+  runs_more {left' = left'} now' piece e more = record {
+    consumed = runs.consumed ++ piece;
+    source = runs.source ∙ ap (prepend_known runs.consumed) e ∙ prepend_known-twice runs.consumed piece left';
+    tells = λ rest. tells_from (ap all (append_assoc runs.consumed piece rest)) (tells_then (runs.tells (piece ++ rest)) (more rest));
+  }
+
+  pub runs_front : IfSome left0 (λ bytes. GrewByFront held0 held (all bytes).text)
+  runs_front = if_left left0 left runs.consumed (λ bytes. GrewByFront held0 held (all bytes).text) runs.source (λ rest e. front_of_tells (runs.tells rest))
+
+  pub runs_more_front : {held' : Option (List ℕ)} (left' : Option (List ℕ)) (piece : List ℕ) → left ≡ prepend_known piece left' → ((rest : List ℕ) → GrewByFront held held' (now (piece ++ rest)).text) → IfSome left0 (λ bytes. GrewByFront held0 held' (all bytes).text)
+  runs_more_front {held' = held'} left' piece e more =
+      if_left left0 left' (runs.consumed ++ piece) (λ bytes. GrewByFront held0 held' (all bytes).text)
+      (runs.source ∙ ap (prepend_known runs.consumed) e ∙ prepend_known-twice runs.consumed piece left')
+      (λ rest e. rw append_assoc (tells_front (runs.tells (piece ++ rest)) (more rest)))
+
+  pub runs_last_front : {held' : Option (List ℕ)} → IsAtEnd left → GrewByFront held held' (now []).text → IfSome left0 (λ bytes. GrewByFront held0 held' (all bytes).text)
+  runs_last_front {held' = held'} end last =
+      if_left left0 left runs.consumed (λ bytes. GrewByFront held0 held' (all bytes).text) runs.source
+      (λ rest e. rw (at_end left rest end e) (tells_front (runs.tells []) last))

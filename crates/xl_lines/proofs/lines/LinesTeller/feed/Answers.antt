@@ -1,0 +1,21 @@
+use Rattle.std.proofs.Common.{◌∙◌, ◌+◌, ◌-◌, ◌≤◌, ℕ, arith, length-drop}
+use Rattle.std.proofs.lemmas.List.{take_rest}
+use Rattle.xl_lines.proofs.Telling.{tells_then, tells_front}
+use Rattle.xl_lines.proofs.lines.LinesTeller.feed.Goals as goal
+
+fewer_still : (new mid old all rest count : ℕ) → new + count ≤ mid → mid + all ≤ old + rest → count ≤ rest → new + all ≤ old + (rest - count)
+fewer_still new mid old all rest count a b c = omega arith
+
+pub loop-rest-preserved : goal.loop-rest-preserved
+loop-rest-preserved g c = rw take_rest (record {
+  limits = c.in_ok-count.ensures.limits ∙ c.loop-rest.invariant.limits;
+  fewer = rw length-drop (fewer_still _ _ _ _ _ _ (rw c.in-Taken.is at c.in_ok-count.ensures.fewer) c.loop-rest.invariant.fewer (rw c.in-Taken.is at c.in_ok-count.ensures.some).1);
+  tells = λ more. tells_then (c.loop-rest.invariant.tells more) (rw c.in-Taken.is at (c.in_ok-count.ensures.ok more));
+  later = omega arith;
+})
+
+pub returns-in-Refused-clause-ok : goal.returns-in-Refused-clause-ok
+returns-in-Refused-clause-ok g c more = tells_then (c.loop-rest.invariant.tells more) (rw c.in-Refused.is at (c.in_ok-count.ensures.ok more))
+
+pub returns-in-Refused-clause-front : goal.returns-in-Refused-clause-front
+returns-in-Refused-clause-front g c more = tells_front (c.loop-rest.invariant.tells more) (c.take_part.ensures.front more)

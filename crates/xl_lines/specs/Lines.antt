@@ -1,0 +1,25 @@
+-- The lines of a list of bytes. Source: text files of POSIX, whose last line may lack its newline, with a return dropped before a newline.
+use Rattle.std.specs.Prelude.{ℕ, ◌-◌, ◌==◌, Bool, true, false, List, [], ◌∷◌, length, take, slice_index, cond}
+
+-- a line without its newline, and whether it has one
+pub record Line : Type 0 where
+  pub bytes : List ℕ
+  pub ended : Bool
+
+-- the lines after a byte that is no newline: it goes onto the first of them
+abbrev pub onto : ℕ → List Line → List Line
+onto byte [] = record { bytes = byte ∷ []; ended = false } ∷ []
+onto byte (line ∷ lines) = record { bytes = byte ∷ line.bytes; ended = line.ended } ∷ lines
+
+-- a newline (10) ends a line; what stands after the last one is a line too, unless it is nothing
+abbrev pub lines_of : List ℕ → List Line
+lines_of [] = []
+lines_of (byte ∷ bytes) = cond (byte == 10) (record { bytes = []; ended = true } ∷ lines_of bytes) (onto byte (lines_of bytes))
+
+-- without the return (13) that stands at the end, if one does
+abbrev pub without_return : List ℕ → List ℕ
+without_return bytes = cond (slice_index bytes (length bytes - 1) == 13) (take (length bytes - 1) bytes) bytes
+
+-- what a machine is handed: a return before the newline is dropped
+abbrev pub content : Line → List ℕ
+content line = cond line.ended (without_return line.bytes) line.bytes

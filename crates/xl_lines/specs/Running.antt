@@ -1,0 +1,67 @@
+-- How far a run has come. Source: the definitions of lines and of what is told about them.
+use Rattle.std.specs.Prelude.{◌≡◌, ℕ, ◌+◌, ◌-◌, ◌*◌, ◌<◌, ◌≤◌, ◌==◌, false, List, [], ◌∷◌, ◌++◌, length, take, drop, None, Some}
+use Rattle.std.specs.declared.option.Option.{Option}
+use Rattle.std.specs.List.{list_any}
+use Rattle.std.specs.Io.KnownBytes.{append_known}
+use Rattle.xl_lines.specs.declared.limits.Limits.{Limits}
+use Rattle.xl_lines.specs.declared.machine.Verdict.{Verdict}
+use Rattle.xl_lines.specs.declared.machine.Next.{Next}
+use Rattle.xl_lines.specs.declared.machine.Next.TheVariants as next
+use Rattle.xl_lines.specs.declared.lines.Part.{Part}
+use Rattle.xl_lines.specs.declared.lines.Part.TheVariants as part
+use Rattle.xl_lines.specs.Lines.{lines_of}
+use Rattle.xl_lines.specs.Rules.{Rules, Step, goes_on, refuses, Told, refused}
+use Rattle.xl_lines.specs.Told.{after, told_from}
+
+-- no newline stands in the bytes
+abbrev pub IsOneLine : List ℕ → Type 0
+IsOneLine bytes = list_any (λ byte. byte == 10) bytes ≡ false
+
+-- the place of the first newline
+abbrev pub FindsNewline : List ℕ → Option ℕ → Type 0
+FindsNewline bytes None = IsOneLine bytes
+FindsNewline bytes (Some place) = (place < length bytes) × IsOneLine (take place bytes) × (bytes ≡ take place bytes ++ 10 ∷ drop (place + 1) bytes)
+
+-- what is told where left lines may come, these bytes of the first have come, and the rest is to come
+unfoldable pub told_at : {S : Type 0} → Limits → Rules S → ℕ → S → List ℕ → List ℕ → Told
+told_at limits rules left state line rest = told_from limits rules left state (lines_of (line ++ rest))
+
+-- of what was to be told, a front is written, and this is left
+pub record Tells (old new : Option (List ℕ)) (told left : Told) : Type 0 where
+  pub written : List ℕ
+  pub held : new ≡ append_known old written
+  pub parts : told ≡ after written left
+
+-- what is left to tell after a part of the bytes
+abbrev pub left_after : Part → (List ℕ → Told) → List ℕ → Told
+left_after (part.Taken n) told bytes = told (drop n bytes)
+left_after part.Refused told bytes = refused []
+
+-- what is left to tell, unless a line was refused
+abbrev pub left_unless_refused : Next → Told → Told
+left_unless_refused next.Line told = told
+left_unless_refused next.Refused told = refused []
+
+-- some bytes were taken, and no more than there are
+abbrev pub TakesSome : Part → List ℕ → Type 0
+TakesSome (part.Taken n) bytes = (0 < n) × (n ≤ length bytes)
+TakesSome part.Refused bytes = Unit {0}
+
+-- what was taken is no longer to come
+abbrev pub FewerToCome : Part → ℕ → ℕ → Type 0
+FewerToCome (part.Taken n) old new = new + n ≤ old
+FewerToCome part.Refused old new = Unit {0}
+
+-- the text of a step
+abbrev pub step_text : {S : Type 0} → Step S → List ℕ
+step_text (goes_on text state) = text
+step_text (refuses text) = text
+
+-- how many bytes may come at most before a line is refused
+abbrev pub bytes_to_come : Limits → ℕ → ℕ → ℕ
+bytes_to_come limits left line = (limits.bytes + 1) * left + (limits.bytes + 1 - line)
+
+-- all of it is written, and it says this
+pub record TellsAll (old new : Option (List ℕ)) (verdict : Verdict) (told : Told) : Type 0 where
+  pub held : new ≡ append_known old told.text
+  pub says : told.verdict ≡ verdict

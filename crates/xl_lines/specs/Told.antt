@@ -1,0 +1,32 @@
+-- What a machine tells about a whole list of bytes. Source: the limits of this profile, and the order in which they are tested.
+use Rattle.std.specs.Prelude.{ℕ, ◌-◌, nat_lt, List, [], ◌∷◌, ◌++◌, length, cond}
+use Rattle.xl_lines.specs.declared.limits.Limits.{Limits}
+use Rattle.xl_lines.specs.declared.limits.Overrun.TheVariants.{LongLine, ManyLines}
+use Rattle.xl_lines.specs.Lines.{Line, lines_of, content}
+use Rattle.xl_lines.specs.Rules.{Rules, Step, goes_on, refuses, Told, refused}
+
+-- a text before what is told
+abbrev pub after : List ℕ → Told → Told
+after text told = record { text = text ++ told.text; verdict = told.verdict; closed = told.closed }
+
+-- what is told from a step on, where next says what is told of the state that it leads to
+unfoldable pub told_by : {S : Type 0} → (S → Told) → Step S → Told
+told_by next (goes_on text state) = after text (next state)
+told_by next (refuses text) = refused text
+
+-- the machine answers to a line where left lines may come, and where none may it is one too many
+abbrev pub step_within : {S : Type 0} → Rules S → ℕ → S → List ℕ → Step S
+step_within rules left state line = cond (nat_lt 0 left) (rules.step state line) (refuses (rules.overrun state ManyLines))
+
+-- first the line's length is tested, its return counted, and then whether it may come
+abbrev pub step_at : {S : Type 0} → Limits → Rules S → ℕ → S → Line → Step S
+step_at limits rules left state line = cond (nat_lt limits.bytes (length line.bytes)) (refuses (rules.overrun state LongLine)) (step_within rules left state (content line))
+
+-- line by line, where left lines may come, up to the first that is refused
+abbrev pub told_from : {S : Type 0} → Limits → Rules S → ℕ → S → List Line → Told
+told_from limits rules left state [] = rules.closing state
+told_from limits rules left state (line ∷ lines) = told_by (λ next. told_from limits rules (left - 1) next lines) (step_at limits rules left state line)
+
+-- what is told about these bytes
+abbrev pub told_of : {S : Type 0} → Limits → Rules S → S → List ℕ → Told
+told_of limits rules state bytes = told_from limits rules limits.lines state (lines_of bytes)

@@ -1,0 +1,87 @@
+ghost use Rattle.std.specs.Prelude.{◌≡◌, ◌≢◌, ◌≤◌, true, ℕ, List, IfOk, IfSome, IfErr, IsErrOf};
+ghost use Rattle.std.specs.Io.KnownBytes.{IsAtEnd};
+ghost use Rattle.xl_base.specs.Faults.{Rose};
+ghost use Rattle.xl_io.specs.Sinks.{GrewByFront};
+ghost use Rattle.xl_lines.specs.Running.{TellsAll};
+ghost use Rattle.xl_lines.specs.Told.{told_of};
+
+use crate::{Fault, Limits, Lines, Machine, Next, Teller, Verdict};
+use std::alloc::Global;
+use xl_io::{Piece, Sink, Source};
+
+/// The bytes that a read is asked for.
+const ROOM: usize = 8192;
+
+/// Reads the input to its end, or up to what is refused, and writes what is told about it to the output.
+///
+/// A failed read ends it with `Read`, a failed write with `Write`, and want of memory, at any time, with `Memory`.
+pub fn drive<T: Teller, I: Source, O: Sink>(
+    teller: &mut T,
+    input: &mut I,
+    output: &mut O,
+) -> Result<Verdict, Fault>
+    // The whole text is written, and the verdict is its own.
+    ensures whole { IfOk result (λ verdict. IfSome (I.left input.old) (λ bytes.
+        TellsAll (O.held output.old) (O.held output.new) verdict (T.tells teller.old bytes))) }
+    // Unless a line is refused, all the bytes were read; so they were where the verdict isn't `Refused`.
+    ensures closed { IfOk result (λ _. IfSome (I.left input.old) (λ bytes.
+        (T.tells teller.old bytes).closed ≡ true → IsAtEnd (I.left input.new))) }
+    ensures to_end { IfOk result (λ verdict. verdict ≢ Verdict.Refused → IsAtEnd (I.left input.new)) }
+    // A front of the text is written, whatever happens.
+    ensures front { IfSome (I.left input.old) (λ bytes.
+        GrewByFront (O.held output.old) (O.held output.new) (T.tells teller.old bytes).text) }
+
+    // A fault is answered only where its count rose.
+    ensures read { IsErrOf result Fault.Read → Rose (I.faults input.old) (I.faults input.new) }
+    ensures write { IsErrOf result Fault.Write → Rose (O.faults output.old) (O.faults output.new) }
+    ensures complete { IfErr result (λ fault. ¬ Rose (I.faults input.old) (I.faults input.new)
+        → ¬ Rose (O.faults output.old) (O.faults output.new) → fault ≡ Fault.Memory) }
+    ensures later_read { I.faults input.old ≤ I.faults input.new }
+    ensures later_write { O.faults output.old ≤ O.faults output.new }
+{
+    let mut room = [0; ROOM];
+    loop {
+        match input.read(&mut room) {
+            Piece::Got(count) => match teller.feed(output, &room[..count])? {
+                Next::Line => {}
+                Next::Refused => return Ok(Verdict::Refused),
+            },
+            Piece::End => return teller.finish(output),
+            Piece::Failed => return Err(Fault::Read),
+        }
+    }
+}
+
+/// Hands the input's lines to the machine, and writes its answers to the output, each as soon as its line was read.
+///
+/// The lines are those of the whole input, in whatever pieces it comes. A line beyond a limit is refused, first for its
+/// length and then as one too many, and the text ends there. Faults are those of `drive`.
+pub fn run<M: Machine + Drop, I: Source, O: Sink>(
+    alloc: Global,
+    limits: Limits,
+    machine: M,
+    input: &mut I,
+    output: &mut O,
+) -> Result<Verdict, Fault>
+    // The whole text is written, and the verdict is its own.
+    ensures whole { IfOk result (λ verdict. IfSome (I.left input.old) (λ bytes.
+        TellsAll (O.held output.old) (O.held output.new) verdict (told_of limits M.rules (M.state machine) bytes))) }
+    // Unless a line is refused, all the bytes were read; so they were where the verdict isn't `Refused`.
+    ensures closed { IfOk result (λ _. IfSome (I.left input.old) (λ bytes.
+        (told_of limits M.rules (M.state machine) bytes).closed ≡ true → IsAtEnd (I.left input.new))) }
+    ensures to_end { IfOk result (λ verdict. verdict ≢ Verdict.Refused → IsAtEnd (I.left input.new)) }
+    // A front of the text is written, whatever happens.
+    ensures front { IfSome (I.left input.old) (λ bytes. GrewByFront (O.held output.old) (O.held output.new)
+        (told_of limits M.rules (M.state machine) bytes).text) }
+
+    // A fault is answered only where its count rose.
+    ensures read { IsErrOf result Fault.Read → Rose (I.faults input.old) (I.faults input.new) }
+    ensures write { IsErrOf result Fault.Write → Rose (O.faults output.old) (O.faults output.new) }
+    ensures complete { IfErr result (λ fault. ¬ Rose (I.faults input.old) (I.faults input.new)
+        → ¬ Rose (O.faults output.old) (O.faults output.new) → fault ≡ Fault.Memory) }
+    ensures later_read { I.faults input.old ≤ I.faults input.new }
+    ensures later_write { O.faults output.old ≤ O.faults output.new }
+{
+    let mut lines = Lines::new(alloc, limits, machine);
+    drive(&mut lines, input, output)
+}

@@ -1,0 +1,27 @@
+//! The driver of every command that reads lines: it cuts what a source gives into lines, hands each to a machine, and
+//! writes the machine's answer to a sink as soon as the line was read.
+//!
+//! `run` does this for any `Machine`, by `Lines`, which cuts lines, and `drive`, which runs any `Teller` over an input
+//! in pieces. It stands on xl_base and xl_io. Its one contract: the text is a function of the bytes alone, however they
+//! come; a run writes the whole text and answers its verdict, or writes a front of it and answers a fault, and never a
+//! fault of a source or a sink whose count of faults didn't rise.
+#![tactic(auto)]
+
+mod answer;
+mod driver;
+mod ends;
+mod fault;
+mod limits;
+mod lines;
+mod machine;
+mod teller;
+
+pub use driver::{drive, run};
+pub use fault::Fault;
+pub use limits::{Limits, Overrun};
+pub use lines::Lines;
+pub use machine::{Machine, Next, Verdict};
+pub use teller::Teller;
+
+#[cfg(test)]
+mod tests;

@@ -1,0 +1,15 @@
+/// The most lines of an input, and the most bytes of a line, its newline left out and a return before it counted.
+#[derive(Clone, Copy, Debug, PartialEq, Eq)]
+pub struct Limits {
+    pub lines: usize,
+    pub bytes: usize,
+}
+
+/// Which limit a line goes beyond. The length is tested first, also of the line that is one too many.
+#[derive(Clone, Copy, Debug, PartialEq, Eq)]
+pub enum Overrun {
+    /// The line has too many bytes. It is refused at the first byte that is too many.
+    LongLine,
+    /// The line is one too many. It is refused at its end.
+    ManyLines,
+}
