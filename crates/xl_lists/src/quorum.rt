@@ -32,8 +32,7 @@ pub fn bound(a: &List, b: &List, liars: &[NodeNo]) -> u32
     a.len() + b.len() - overlap(a, b) + liars_shared(a, b, liars)
 }
 
-/// Whether the quorums of two lists exceed their bound. Then any two quorums of theirs share a member that is no liar, and
-/// that member named one ledger of a sequence.
+/// Whether the quorums of two lists exceed their bound. Then any two quorums of theirs share a member that is no liar.
 pub fn enough(a: &List, b: &List, liars: &[NodeNo]) -> bool
     ensures exact { IsTrue result ↔ Enough liars.now a.now b.now }
     ensures meet { IsTrue result → QuorumsMeet liars.now a.now b.now }
