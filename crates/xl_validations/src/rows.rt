@@ -1,5 +1,6 @@
 ghost use Rattle.std.specs.Prelude.{◌≡◌, ◌==◌, ◌≤◌, map, length, position, Some, IsSome, IfSome, IfOk, OnOk, OnErr};
 ghost use Rattle.std.specs.Result.{result_err};
+ghost use Rattle.xl_lists.specs.Lists.{IsValid};
 ghost use Rattle.xl_validations.specs.Rows.{
   row_of,
   refusal_of,
@@ -80,7 +81,8 @@ fn expire_all(rows: &mut [Row], now: Secs)
 impl Rows {
     /// An empty row for each member of the list.
     pub fn open(alloc: Global, list: &List) -> Result<Rows, OutOfMemory>
-        ensures { IfOk result (λ rows. rows ≡ map empty_row list.now.members) }
+        ensures rows { IfOk result (λ rows. rows ≡ map empty_row list.now.members) }
+        ensures valid { IsValid list.now }
     {
         let rows = empty_rows(alloc, list.members())?;
         Ok(Rows { rows })

@@ -1,5 +1,4 @@
 use Rattle.std.proofs.Common.{List, None, sym, subst}
-use Rattle.xl_lists.specs.Lists.{IsValid}
 use Rattle.xl_validations.specs.declared.row.Row.{Row}
 use Rattle.xl_core.specs.Node.{Node}
 use Rattle.xl_core.specs.Rest.{IsAtRest}
@@ -8,5 +7,5 @@ use Rattle.xl_core.proofs.node.Core.open.Goals as goal
 
 pub invariant_of-result : goal.invariant_of-result
 invariant_of-result c =
-    subst (λ (rows : List Row). let n : Node = record { me = c.args.me; list = c.args.list; rows = rows; kept = c.args.kept; last = None } in IsAtRest n) (sym c.in_ok-rows.ensures)
-    (opened_at_rest c.args.me c.args.list c.args.kept (subst IsValid c.list.view_is c.list.invariant))
+    subst (λ (rows : List Row). let n : Node = record { me = c.args.me; list = c.args.list; rows = rows; kept = c.args.kept; last = None } in IsAtRest n) (sym c.in_ok-rows.ensures.rows)
+    (opened_at_rest c.args.me c.args.list c.args.kept c.open.ensures.valid)
