@@ -30,7 +30,7 @@ has_none n from rest off = none (row_of n.rows from) (sym (row_if_on n.rows from
 
 -- A ROW TAKES A VALIDATION
 
-or_later : (report last : Option Report) → option_or report last ≡ later last report
+pub or_later : (report last : Option Report) → option_or report last ≡ later last report
 or_later None last = refl
 or_later (Some r) last = refl
 

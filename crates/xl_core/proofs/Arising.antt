@@ -1,6 +1,6 @@
 -- What a node at rest reports once a row has taken a validation: that validation's ledger, or nothing.
-use Rattle.std.proofs.Common.{◌≡◌, ℕ, ◌≤◌, true, false, List, refl, arith, ap, sym, ◌∙◌, inl, inr, Option, Some, None, subst}
-use Rattle.std.specs.Prelude.{◌&&◌, find, filter_map, option_map, IsSome, IfSome, is_some, nat_le, nat_lt}
+use Rattle.std.proofs.Common.{◌≡◌, ℕ, ◌<◌, ◌≤◌, true, false, List, refl, arith, ap, sym, ◌∙◌, inl, inr, Option, Some, None, subst}
+use Rattle.std.specs.Prelude.{◌&&◌, find, filter_map, option_map, IsSome, IfSome, is_some, nat_le}
 use Rattle.std.proofs.lemmas.Bool.{and_parts, and_from, cond_both, cond-true, cases_Bool, leb-true, le-leb, ltb-true, ltb-false, le-ltb}
 use Rattle.xl_base.specs.declared.ids.LedgerId.{LedgerId}
 use Rattle.xl_wire.specs.declared.validation.Validation.{Validation}
@@ -14,10 +14,19 @@ use Rattle.xl_core.proofs.Counts.{count_of_others, names_it, found_if_taken, fin
 abbrev currents : List Row → List Validation
 currents rows = filter_map (λ row. row.current) rows
 
+-- what isn't above the last report is below what is
+pub under : (last : Option Report) (s t : ℕ) → is_above last s ≡ true → is_above last t ≡ false → t < s
+under None s t above below = cc
+under (Some r) s t above below = omega (arith, ltb-true r.seq s above, ltb-false r.seq t below)
+
 -- what arises is above the last report, and a quorum holds it
-parts_of : (quorum : ℕ) (rows : List Row) (last : Option Report) (v : Validation) → arises_in quorum rows last v ≡ true → (quorum ≤ count_full v.seq v.id rows) × (is_above last v.seq ≡ true)
+pub parts_of : (quorum : ℕ) (rows : List Row) (last : Option Report) (v : Validation) → arises_in quorum rows last v ≡ true → (quorum ≤ count_full v.seq v.id rows) × (is_above last v.seq ≡ true)
 parts_of quorum rows last v arises =
     let parts = and_parts (nat_le quorum (count_full v.seq v.id rows)) (is_above last v.seq) arises in (leb-true _ _ parts.0, parts.1)
+
+-- a report is its sequence and its id
+pub same_report : (s t : ℕ) (a b : LedgerId) → s ≡ t → a ≡ b → ◌≡◌ {A = Report} (record { seq = s; id = a }) (record { seq = t; id = b })
+same_report s t a b p q = cc
 
 -- at rest no validation arises
 pub none_arises : (quorum : ℕ) (rows : List Row) (last : Option Report) → NothingArises quorum rows last → (v : Validation) → arises_in quorum rows last v ≡ false
@@ -53,9 +62,6 @@ module _ (quorum : ℕ) (rows : List Row) (last : Option Report) (from : ℕ) (v
   pub arisen_by : IsSome (row_of rows from) → option_map report_of (find (arises_in quorum taken last) (currents taken)) ≡ report_if (arises_in quorum taken last v) v
   arisen_by has = by (find (arises_in quorum taken last) (currents taken)) refl
     where
-      same_report : (s t : ℕ) (a b : LedgerId) → s ≡ t → a ≡ b → ◌≡◌ {A = Report} (record { seq = s; id = a }) (record { seq = t; id = b })
-      same_report s t a b p q = cc
-
       by : (o : Option Validation) → find (arises_in quorum taken last) (currents taken) ≡ o → option_map report_of o ≡ report_if (arises_in quorum taken last v) v
       by None none =
           cond_both (arises_in quorum taken last v) (Some (report_of v)) None (λ o. None ≡ o)
@@ -88,10 +94,6 @@ module _ (quorum : ℕ) (rows : List Row) (last : Option Report) (from : ℕ) (v
         | inr other ↦
             let below = others_rest seq id enough other in
             cond_both (arises_in quorum taken last v) (Some (report_of v)) None (λ o. is_above (later last o) seq ≡ false)
-            (λ it_does. still_below last (parts_of quorum taken last v it_does).1 below)
+            (λ it_does. le-ltb v.seq seq (omega (arith, under last v.seq seq (parts_of quorum taken last v it_does).1 below)))
             (λ _. below)
       ]
-    where
-      still_below : (l : Option Report) → is_above l v.seq ≡ true → is_above l seq ≡ false → nat_lt v.seq seq ≡ false
-      still_below None above below = cc
-      still_below (Some r) above below = le-ltb v.seq seq (omega (arith, ltb-true r.seq v.seq above, ltb-false r.seq seq below))

@@ -2,3 +2,4 @@ pub mod Node
 pub mod Refusals
 pub mod Replies
 pub mod Rest
+pub mod Lives

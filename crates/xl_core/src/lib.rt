@@ -5,10 +5,12 @@
 //! memory.
 #![tactic(auto)]
 
+mod law;
 mod node;
 mod refusal;
 mod report;
 
+pub use law::reports;
 pub use node::Core;
 pub use refusal::Refusal;
 pub use report::{Issued, Report};

@@ -1,13 +1,13 @@
 -- A member's row is the first one of its number, and stands at a place.
-use Rattle.std.proofs.Common.{◌≡◌, ℕ, zero, suc, ◌<◌, true, false, List, [], ◌∷◌, length, get_or, set, refl, arith, ap, sym, ◌∙◌, Some, None, subst}
-use Rattle.std.specs.Prelude.{◌==◌, position, IsSome, IfSome, is_some, nat_lt}
+use Rattle.std.proofs.Common.{◌≡◌, ℕ, zero, suc, ◌<◌, true, false, List, [], ◌∷◌, length, get_or, set, arith, ap, sym, ◌∙◌, Some, None, subst}
+use Rattle.std.specs.Prelude.{◌==◌, position, IfSome, is_some, nat_lt}
 use Rattle.std.specs.List.{position_or_len}
 use Rattle.std.proofs.lemmas.List.Folds.{find_at}
-use Rattle.std.proofs.lemmas.Option.{slice_get_past}
+use Rattle.std.proofs.lemmas.Option.{slice_get_past, slice_get-get_or}
 use Rattle.std.proofs.lemmas.List.Quantifiers.{position-Some}
-use Rattle.std.proofs.lemmas.Bool.{cond-true, cond-false, cond_both, ltb-false}
+use Rattle.std.proofs.lemmas.Bool.{cond-true, cond-false, cond_both, ltb-false, ltb-true}
 use Rattle.xl_validations.specs.declared.row.Row.{Row}
-use Rattle.xl_validations.specs.Rows.{row_of, at_member}
+use Rattle.xl_validations.specs.Rows.{empty_row, row_of, at_member}
 
 -- the row at the first place of the number
 row_there : (member : ℕ) (rows : List Row) (k : ℕ) (d : Row) → k < length rows → ((get_or rows k d).member == member) ≡ true → ((j : ℕ) → j < k → ((get_or rows j d).member == member) ≡ false) →
@@ -44,14 +44,13 @@ same_at_place [] k row k_in is = absurd (omega arith)
 same_at_place (x ∷ xs) zero row k_in is = ap (λ r. r ∷ xs) is
 same_at_place (x ∷ xs) (suc k) row k_in is = ap (λ rest. x ∷ rest) (same_at_place xs k row (omega arith) is)
 
--- a member with a row has a place
-pub place_of_row : (member : ℕ) (rows : List Row) → IsSome (row_of rows member) → IsSome (position (λ row. row.member == member) rows)
-place_of_row member rows has =
+-- a member has a place exactly where it has a row
+pub place_if_row : (member : ℕ) (rows : List Row) → is_some (position (λ row. row.member == member) rows) ≡ is_some (row_of rows member)
+place_if_row member rows =
     let n : ℕ = position_or_len (λ row. row.member == member) rows in
-    cond_both (nat_lt n (length rows)) (Some n) None IsSome (λ _. refl)
-    (λ past. let none : row_of rows member ≡ None = find_at (λ row. row.member == member) rows ∙ slice_get_past rows n (ltb-false n (length rows) past) in
-    let never : false ≡ true = sym (ap is_some none) ∙ has in
-    cc)
+    cond_both (nat_lt n (length rows)) (Some n) None (λ o. is_some o ≡ is_some (row_of rows member))
+    (λ inside. sym (ap is_some (find_at (λ row. row.member == member) rows ∙ slice_get-get_or rows n (empty_row member) (ltb-true n (length rows) inside))))
+    (λ past. sym (ap is_some (find_at (λ row. row.member == member) rows ∙ slice_get_past rows n (ltb-false n (length rows) past))))
 
 -- what holds of the row that is found holds of the member's row
 pub says_of_row : (member : ℕ) (rows : List Row) (row : Row) (P : Row → Type 0) → row_of rows member ≡ Some row → P row → IfSome (row_of rows member) P

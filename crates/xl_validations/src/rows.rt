@@ -1,4 +1,4 @@
-ghost use Rattle.std.specs.Prelude.{◌≡◌, ◌==◌, ◌≤◌, map, length, position, Some, IsSome, IfSome, IfOk, OnOk, OnErr};
+ghost use Rattle.std.specs.Prelude.{◌≡◌, ◌==◌, ◌≤◌, map, length, position, Some, IsSome, is_some, IfSome, IfOk, OnOk, OnErr};
 ghost use Rattle.std.specs.Result.{result_err};
 ghost use Rattle.xl_lists.specs.Lists.{IsValid};
 ghost use Rattle.xl_validations.specs.Rows.{
@@ -88,6 +88,13 @@ impl Rows {
         Ok(Rows { rows })
     }
 
+    /// Whether the member has a row: it is on the list.
+    pub fn has(&self, member: NodeNo) -> bool
+        ensures { result ≡ is_some (row_of self.now member) }
+    {
+        position_of(&self.rows, member).is_some()
+    }
+
     /// Takes a member's validation into its row.
     ///
     /// Refused as stale, as a repeat, as a conflict, or as old, tested in this order; the rows then stay as they were.
@@ -142,3 +149,6 @@ impl Rows {
         find_row(&self.rows, member).current
     }
 }
+
+#[cfg(test)]
+mod tests;

@@ -1,5 +1,4 @@
 use Rattle.std.proofs.Common.{List, None, sym, subst}
-use Rattle.xl_lists.specs.Lists.{IsValid}
 use Rattle.xl_validations.specs.declared.row.Row.{Row}
 use Rattle.xl_core.specs.Node.{Node}
 use Rattle.xl_core.specs.Rest.{IsAtRest}

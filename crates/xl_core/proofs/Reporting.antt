@@ -1,0 +1,139 @@
+-- The law of reports: a report arises exactly where a quorum holds what wasn't reported, and sequences rise.
+use Rattle.std.proofs.Common.{◌≡◌, ℕ, ◌≤◌, Bool, true, false, List, [], ◌∷◌, ◌++◌, length, refl, arith, ap, sym, ◌∙◌, inl, inr, Option, Some, None, subst}
+use Rattle.std.specs.Prelude.{◌==◌, ◌&&◌, ◌||◌, ◌⊎◌, IfSome, Contains, find, filter_map, option_map, option_to_list, count_by, nat_lt, slice_index_or}
+use Rattle.std.proofs.lemmas.Option.{none-some, same_Some}
+use Rattle.std.proofs.lemmas.List.{length-map}
+use Rattle.std.proofs.lemmas.Bool.{and_parts, or_cases, cond_both, eqb-true, ltb-true, lt-ltb}
+use Rattle.std.proofs.lemmas.List.Elements.{All-contains, Contains-append_cases}
+use Rattle.xl_base.specs.declared.ids.LedgerId.{LedgerId}
+use Rattle.xl_lists.specs.Lists.{TrustedList}
+use Rattle.xl_lists.specs.Agreement.{same_id}
+use Rattle.xl_lists.proofs.Agreement.{same_id-true}
+use Rattle.xl_lists.proofs.Counting.{quorums_meet}
+use Rattle.xl_wire.specs.declared.validation.Validation.{Validation}
+use Rattle.xl_validations.specs.declared.row.Row.{Row}
+use Rattle.xl_validations.specs.declared.refusal.ValRefusal.{ValRefusal}
+use Rattle.xl_validations.specs.Rows.{is_full_of, count_full}
+use Rattle.xl_core.specs.declared.report.Report.{Report}
+use Rattle.xl_core.specs.declared.refusal.Refusal.TheVariants.{Stranger, NotAfter}
+use Rattle.xl_core.specs.Node.{Node, Event, Issue, Comes, Reply, opened, happens, hears, issues, saving, refusing, reporting, with_taken, arises, is_above, report_of, refusal_at, is_stranger}
+use Rattle.xl_core.specs.Lives.{node_after, reports_in, ReportsArise, ReportsRise}
+use Rattle.xl_core.proofs.Counts.{find_passes, names_it}
+use Rattle.xl_core.proofs.Arising.{parts_of, same_report}
+use Rattle.xl_core.proofs.Passing.{IsHead, is_past, still_names}
+use Rattle.xl_core.proofs.Living.{IsLiving, happens_on, living_from_opening}
+
+-- WHAT IS REPORTED
+
+-- a reply's report has its quorum, and is above the last one
+pub record IsNews (n : Node) (reply : Reply) (r : Report) : Type 0 where
+  pub quorum : n.list.quorum ≤ count_full r.seq r.id reply.node.rows
+  pub above : is_above n.last r.seq ≡ true
+
+no_news : (n : Node) (reply : Reply) (r : Report) → reply.report ≡ None → reply.report ≡ Some r → IsNews n reply r
+no_news n reply r none is = absurd (none-some r (sym none ∙ is))
+
+news_of : (m : Node) (r : Report) (o : Option Validation) → IfSome o (λ v. arises m v ≡ true) → option_map report_of o ≡ Some r → (m.list.quorum ≤ count_full r.seq r.id m.rows) × (is_above m.last r.seq ≡ true)
+news_of m r None passes is = absurd (none-some r is)
+news_of m r (Some v) passes is =
+    subst (λ (x : Report). (m.list.quorum ≤ count_full x.seq x.id m.rows) × (is_above m.last x.seq ≡ true)) (same_Some (report_of v) r is) (parts_of m.list.quorum m.rows m.last v passes)
+
+reporting_news : (n m : Node) (issued : Option Validation) (r : Report) → m.list ≡ n.list → m.last ≡ n.last → (reporting m issued).report ≡ Some r → IsNews n (reporting m issued) r
+reporting_news n m issued r same_list same_last is =
+    let parts = news_of m r (find (arises m) (filter_map (λ row. row.current) m.rows)) (find_passes (arises m) (filter_map (λ row. row.current) m.rows)) is in
+    record {
+      quorum = subst (λ (l : TrustedList). l.quorum ≤ count_full r.seq r.id m.rows) same_list parts.0;
+      above = subst (λ o. is_above o r.seq ≡ true) same_last parts.1;
+    }
+
+issued_news : (n : Node) (now : ℕ) (saved : Bool) (v : Validation) (r : Report) → (issues n now saved v).report ≡ Some r → IsNews n (issues n now saved v) r
+issued_news n now true v r is = reporting_news n (saving n now v) (Some v) r refl refl is
+issued_news n now false v r is = no_news n (issues n now false v) r refl is
+
+heard_news : (n : Node) (now from : ℕ) (v : Validation) (o : Option ValRefusal) (r : Report) → (hears n now from v o).report ≡ Some r → IsNews n (hears n now from v o) r
+heard_news n now from v None r is = reporting_news n (with_taken n now from v) None r refl refl is
+heard_news n now from v (Some why) r is = no_news n (hears n now from v (Some why)) r refl is
+
+happens_news : (n : Node) (e : Event) (saved : Bool) (r : Report) → (happens n e saved).report ≡ Some r → IsNews n (happens n e saved) r
+happens_news n (Issue now seq id full) saved r is =
+    cond_both (nat_lt n.kept seq) (issues n now saved (record { id = id; seq = seq; signed = now; full = full })) (refusing n (NotAfter n.kept)) (λ reply. reply.report ≡ Some r → IsNews n reply r)
+    (λ _ e. issued_news n now saved (record { id = id; seq = seq; signed = now; full = full }) r e)
+    (λ _ e. no_news n (refusing n (NotAfter n.kept)) r refl e)
+    is
+happens_news n (Comes now from v) saved r is =
+    cond_both (is_stranger n from) (refusing n (Stranger from)) (hears n now from v (refusal_at n now from v)) (λ reply. reply.report ≡ Some r → IsNews n reply r)
+    (λ _ e. no_news n (refusing n (Stranger from)) r refl e)
+    (λ _ e. heard_news n now from v (refusal_at n now from v) r e)
+    is
+
+-- WHAT A QUORUM HOLDS NOW
+
+-- a row that is past the last report and holds a ledger: this one is above, or is the report's own
+held_row : (row : Row) (l : Report) (seq : ℕ) (id : LedgerId) (o : Option Validation) → IfSome o (λ v. v.seq ≡ row.largest) → is_full_of seq id o ≡ true →
+    (nat_lt l.seq row.largest || (l.seq == row.largest && still_names l.id o)) ≡ true → (nat_lt l.seq seq ≡ true) ⊎ ((l.seq ≡ seq) × (l.id ≡ id))
+held_row row l seq id None head full past = let never : false ≡ true = full in cc
+held_row row l seq id (Some v) head full past =
+    let named = names_it v seq id full in
+    elim (or_cases (nat_lt l.seq row.largest) (l.seq == row.largest && same_id v.id l.id) past) [
+      | inl before ↦ inl (lt-ltb l.seq seq (omega (arith, ltb-true l.seq row.largest before, head, named.0)))
+      | inr at ↦
+          let parts = and_parts (l.seq == row.largest) (same_id v.id l.id) at in
+          inr (omega (arith, eqb-true l.seq row.largest parts.0, head, named.0), sym (same_id-true v.id l.id parts.1) ∙ named.1)
+    ]
+
+held_again : (list : TrustedList) (n : Node) (reports : List Report) → IsLiving list n reports → (l : Report) → n.last ≡ Some l → (seq : ℕ) (id : LedgerId) → n.list.quorum ≤ count_full seq id n.rows →
+    (nat_lt l.seq seq ≡ true) ⊎ ((l.seq ≡ seq) × (l.id ≡ id))
+held_again list n reports living l is_last seq id enough =
+    let past : n.list.quorum ≤ count_by (is_past l.seq l.id) n.rows = subst (λ o. IfSome o (λ r. n.list.quorum ≤ count_by (is_past r.seq r.id) n.rows)) is_last living.past in
+    let met = quorums_meet (λ row. is_full_of seq id row.current) (is_past l.seq l.id) n.list.quorum n.rows
+    (omega (arith, living.rest.valid.majority, ap length living.rest.members, length-map n.rows (λ (row : Row). row.member))) enough past in
+    held_row met.1 l seq id met.1.current (subst IsHead met.3 (living.heads met.0 met.1 met.2)) met.4.0 met.4.1
+
+in_one : (o : Option Report) (r : Report) → Contains (option_to_list o) r → o ≡ Some r
+in_one None r (k, within, is) = absurd (omega arith)
+in_one (Some x) r (k, within, is) =
+    let first : k ≡ 0 = omega (arith, within) in
+    ap (λ y. Some y) (subst (λ j. slice_index_or (x ∷ []) j r ≡ r) first is)
+
+-- THE LAW
+
+pub reports_arise : ReportsArise
+reports_arise me list kept life next r valid =
+    let n : Node = node_after (opened me list kept) life in
+    let told : List Report = reports_in (opened me list kept) life in
+    let living : IsLiving list n told = living_from_opening me list kept life valid in (
+      λ is.
+          let news = happens_news n next.event next.saved r is in (
+            subst (λ (l : TrustedList). l.quorum ≤ count_full r.seq r.id (happens n next.event next.saved).node.rows) living.listed news.quorum,
+            λ before. let never : true ≡ false = sym news.above ∙ All-contains (λ x. is_above n.last x.seq ≡ false) told r living.below before in cc,
+          ),
+      λ (enough, fresh). arises_now list (happens n next.event next.saved) told (happens_on list n told next.event next.saved living) r enough fresh,
+    )
+  where
+    by_last : (list : TrustedList) (reply : Reply) (told : List Report) → IsLiving list reply.node (told ++ option_to_list reply.report) → (r : Report) → list.quorum ≤ count_full r.seq r.id reply.node.rows →
+        ¬ Contains told r → (o : Option Report) → reply.node.last ≡ o → reply.report ≡ Some r
+    by_last list reply told after r enough fresh None is_last =
+        let held : reply.node.list.quorum ≤ count_full r.seq r.id reply.node.rows = subst (λ (l : TrustedList). l.quorum ≤ count_full r.seq r.id reply.node.rows) (sym after.listed) enough in
+        let never : true ≡ false = subst (λ o. is_above o r.seq ≡ false) is_last (after.rest.reported r.seq r.id held) in
+        cc
+    by_last list reply told after r enough fresh (Some l) is_last =
+        let held : reply.node.list.quorum ≤ count_full r.seq r.id reply.node.rows = subst (λ (l' : TrustedList). l'.quorum ≤ count_full r.seq r.id reply.node.rows) (sym after.listed) enough in
+        elim (held_again list reply.node (told ++ option_to_list reply.report) after l is_last r.seq r.id held) [
+          | inl above ↦
+              let never : true ≡ false = sym above ∙ subst (λ o. is_above o r.seq ≡ false) is_last (after.rest.reported r.seq r.id held) in
+              cc
+          | inr (e, f) ↦
+              let contained : Contains (told ++ option_to_list reply.report) r =
+              subst (Contains (told ++ option_to_list reply.report)) (same_report l.seq r.seq l.id r.id e f) (subst (λ o. IfSome o (Contains (told ++ option_to_list reply.report))) is_last after.told) in
+              elim (Contains-append_cases told (option_to_list reply.report) r contained) [
+                | inl before ↦ absurd (fresh before)
+                | inr now ↦ in_one reply.report r now
+              ]
+        ]
+
+    arises_now : (list : TrustedList) (reply : Reply) (told : List Report) → IsLiving list reply.node (told ++ option_to_list reply.report) → (r : Report) → list.quorum ≤ count_full r.seq r.id reply.node.rows →
+        ¬ Contains told r → reply.report ≡ Some r
+    arises_now list reply told after r enough fresh = by_last list reply told after r enough fresh reply.node.last refl
+
+pub reports_rise : ReportsRise
+reports_rise me list kept life valid = (living_from_opening me list kept life valid).rising

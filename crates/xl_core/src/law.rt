@@ -1,0 +1,9 @@
+ghost use Rattle.xl_core.specs.Lives.{ReportsArise, ReportsRise};
+
+/// The law of a node's reports, which has no code: it speaks of every life of a node, which is what happened since it opened.
+pub fn reports()
+    // A report arises exactly where a quorum holds a ledger that wasn't reported in this life.
+    ensures arise { ReportsArise }
+    // So no ledger is reported twice, nor two of one sequence.
+    ensures rise { ReportsRise }
+{}
