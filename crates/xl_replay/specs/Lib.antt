@@ -1,2 +1,4 @@
 pub mod Texts
 pub mod Replays
+pub mod Replayers
+pub mod Statuses

@@ -27,21 +27,22 @@ use Rattle.xl_replay.specs.Texts.{outcome_lines, bad_line, end_lines}
 pub record Replaying : Type 0 where
   pub reading : Reading
   pub plan : List PlanNode
+  pub liars : List ℕ
   pub world : Option World
 
 -- the world so far; before the first event it is the one of the plan
 abbrev pub world_of : Replaying → World
-world_of r = unwrap_or r.world (start [] r.plan)
+world_of r = unwrap_or r.world (start r.liars r.plan)
 
 -- a line that tells nothing
 abbrev pub silent : Replaying → Reading → List PlanNode → Step Replaying
-silent r reading plan = goes_on [] (record { reading = reading; plan = plan; world = r.world })
+silent r reading plan = goes_on [] (record { reading = reading; plan = plan; liars = r.liars; world = r.world })
 
 -- an event is a step of the world, and what came of it is told
 abbrev pub after : Replaying → Reading → Event → Step Replaying
 after r reading e =
     goes_on (outcome_lines reading.names reading.lines (outcomes (world_of r) e))
-    (record { reading = reading; plan = r.plan; world = Some (after_event (world_of r) e) })
+    (record { reading = reading; plan = r.plan; liars = r.liars; world = Some (after_event (world_of r) e) })
 
 abbrev pub after_line : Replaying → Reading → Line → Step Replaying
 after_line r reading (line.Node me list validating) = silent r reading (r.plan ++ record { me = me; list = list } ∷ [])
@@ -81,7 +82,7 @@ limits = record { lines = MOST_LINES; bytes = MOST_BYTES }
 
 -- before the first line
 abbrev pub at_first : Replaying
-at_first = record { reading = opened; plan = []; world = None }
+at_first = record { reading = opened; plan = []; liars = []; world = None }
 
 -- what is told about a schedule: the report, and what it says
 abbrev pub report_of : List ℕ → Told

@@ -1,4 +1,4 @@
-use crate::act::{NodeEvent, act_at, restart_at};
+use crate::act::{NodeEvent, act_at, place_of, restart_at};
 use crate::agreement::all_agree;
 use crate::place::{Place, Saying};
 use crate::sent::frame_at;
@@ -7,6 +7,7 @@ use crate::{Happened, Plan, Sent, WorldReport, open};
 use std::alloc::Global;
 use std::marker::Model;
 use xl_base::{Millis, NodeNo, OutOfMemory, secs_of};
+use xl_lists::List;
 use xl_sched::Event;
 
 /// A world: the nodes, and all that they ever sent, said and reported.
@@ -35,7 +36,7 @@ impl Model for World {
 }
 
 impl World {
-    ghost use Rattle.std.specs.Prelude.{◌≡◌, ◌≤◌, ◌↔◌, option_map, Some, IsTrue, IfOk, OnOk, OnErr, true, false, map};
+    ghost use Rattle.std.specs.Prelude.{◌≡◌, ◌≤◌, ◌↔◌, option_map, option_copied, Some, IsTrue, IfOk, OnOk, OnErr, true, false, map};
     ghost use Rattle.xl_lists.specs.Lists.{TrustedList};
     ghost use Rattle.xl_lists.specs.Quorums.{Enough};
     ghost use Rattle.xl_world.specs.World.{AgreeAt, Headline, list_in, start, step, Act, is_forged, place_at};
@@ -139,6 +140,23 @@ impl World {
         ensures { result.now ≡ self.now.sent }
     {
         &self.sent
+    }
+
+    /// The declared liars.
+    pub fn liars(&self) -> &[NodeNo]
+        ensures { result.now ≡ self.now.liars }
+    {
+        &self.liars
+    }
+
+    /// The list of a node, or None for a number that no honest node has.
+    pub fn list_of(&self, node: NodeNo) -> Option<&List>
+        ensures { option_copied result ≡ list_in self.now node }
+    {
+        match place_of(&self.places, node) {
+            Some(k) => Some(self.places[k].node.list()),
+            None => None,
+        }
     }
 
     /// Every report of a node, in order.

@@ -1,0 +1,63 @@
+// What is told of one line of a schedule.
+ghost use Rattle.std.specs.Prelude.{◌≡◌, ◌++◌, OnOk};
+ghost use Rattle.std.specs.String.{string_bytes};
+ghost use Rattle.xl_replay.specs.Texts.{outcome_line, outcome_lines, bad_line};
+
+use crate::words::{push_id, push_values};
+use std::alloc::Global;
+use std::fmt::Write;
+use xl_base::{LedgerId, NodeNo, OutOfMemory, Seq};
+use xl_core::Refusal;
+use xl_sched::{Reader, SchedRefusal, printed_token};
+use xl_world::Outcome;
+
+fn push_refused(alloc: Global, text: &mut String, reader: &Reader, line: u64, node: NodeNo, refusal: &Refusal) -> Result<(), OutOfMemory>
+    ensures { OnOk result (string_bytes text.new ≡ string_bytes text.old ++ outcome_line reader.now.names line (Outcome.Refused node refusal.now)) }
+{
+    let number = node.get();
+    let code = refusal.code();
+    write!(text, "refused {line} {number} {code} ")?;
+    push_values(alloc, text, reader, refusal)?;
+    text.push('\n')?;
+    Ok(())
+}
+
+fn push_full(alloc: Global, text: &mut String, reader: &Reader, line: u64, node: NodeNo, seq: Seq, id: &LedgerId) -> Result<(), OutOfMemory>
+    ensures { OnOk result (string_bytes text.new ≡ string_bytes text.old ++ outcome_line reader.now.names line (Outcome.Full node seq id.now)) }
+{
+    let number = node.get();
+    write!(text, "full {number} {seq} ")?;
+    push_id(alloc, text, reader, id)?;
+    text.push('\n')?;
+    Ok(())
+}
+
+fn push_outcome(alloc: Global, text: &mut String, reader: &Reader, line: u64, outcome: &Outcome) -> Result<(), OutOfMemory>
+    ensures { OnOk result (string_bytes text.new ≡ string_bytes text.old ++ outcome_line reader.now.names line outcome.now) }
+{
+    match outcome {
+        Outcome::Refused { node, refusal } => push_refused(alloc, text, reader, line, *node, refusal),
+        Outcome::Full { node, seq, id } => push_full(alloc, text, reader, line, *node, *seq, id),
+    }
+}
+
+/// What is told of the event in a line, a line each.
+pub fn push_outcomes(alloc: Global, text: &mut String, reader: &Reader, line: u64, outcomes: &[Outcome]) -> Result<(), OutOfMemory>
+    ensures { OnOk result (string_bytes text.new ≡ string_bytes text.old ++ outcome_lines reader.now.names line outcomes.now) }
+{
+    for outcome in outcomes {
+        push_outcome(alloc, text, reader, line, outcome)?;
+    }
+    Ok(())
+}
+
+/// The line that says why a line was refused.
+pub fn push_bad(text: &mut String, line: u64, refusal: &SchedRefusal) -> Result<(), OutOfMemory>
+    ensures { OnOk result (string_bytes text.new ≡ string_bytes text.old ++ bad_line line refusal.now) }
+{
+    let code = refusal.code();
+    write!(text, "bad {line} {code} ")?;
+    printed_token(refusal.token(), text)?;
+    text.push('\n')?;
+    Ok(())
+}

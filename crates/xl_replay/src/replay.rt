@@ -1,0 +1,59 @@
+// A whole run of `xl replay`.
+ghost use Rattle.std.specs.Prelude.{◌≡◌, ◌≤◌, ◌⊎◌, IfSome};
+ghost use Rattle.std.specs.Io.KnownBytes.{IsAtEnd};
+ghost use Rattle.xl_base.specs.Faults.{Rose};
+ghost use Rattle.xl_io.specs.Sinks.{GrewByFront};
+ghost use Rattle.xl_lines.specs.Running.{TellsAll};
+ghost use Rattle.xl_replay.specs.Replays.{report_of};
+ghost use Rattle.xl_replay.specs.Statuses.{IsTold, IsReplayed};
+
+use crate::replayer::Replayer;
+use std::alloc::Global;
+use xl_base::Status;
+use xl_io::{Sink, Source};
+use xl_lines::{Fault, Limits, Verdict, run};
+use xl_sched::{MOST_BYTES, MOST_LINES};
+
+/// Reads a schedule from the input to its end, or up to a line that is refused, and writes its report to the output, each part as
+/// soon as its line was read.
+///
+/// The status says how the report ends, or why it wasn't written whole.
+pub fn replay<I: Source, O: Sink>(alloc: Global, input: &mut I, output: &mut O) -> Status
+    // The whole report is written, and it says what the status says.
+    ensures done { result ≡ Status.Done → IfSome (I.left input.old) (λ bytes.
+        TellsAll (O.held output.old) (O.held output.new) Verdict.Good (report_of bytes)) }
+    ensures fork { result ≡ Status.Fork → IfSome (I.left input.old) (λ bytes.
+        TellsAll (O.held output.old) (O.held output.new) Verdict.Found (report_of bytes)) }
+    ensures refused { result ≡ Status.InputRefused → IfSome (I.left input.old) (λ bytes.
+        TellsAll (O.held output.old) (O.held output.new) Verdict.Refused (report_of bytes)) }
+    // Unless a line is refused, the input was read to its end.
+    ensures done_at_end { result ≡ Status.Done → IsAtEnd (I.left input.new) }
+    ensures fork_at_end { result ≡ Status.Fork → IsAtEnd (I.left input.new) }
+    // A front of the report is written, whatever happens.
+    ensures front { IfSome (I.left input.old) (λ bytes.
+        GrewByFront (O.held output.old) (O.held output.new) (report_of bytes).text) }
+
+    // A fault is answered only where its count rose, and where neither did the whole report is written, or memory was wanting.
+    ensures read { result ≡ Status.ReadFault → Rose (I.faults input.old) (I.faults input.new) }
+    ensures write { result ≡ Status.WriteFault → Rose (O.faults output.old) (O.faults output.new) }
+    ensures complete { ¬ Rose (I.faults input.old) (I.faults input.new) → ¬ Rose (O.faults output.old) (O.faults output.new)
+        → IsTold result ⊎ (result ≡ Status.OutOfMemory) }
+    // No other status is answered.
+    ensures known { IsReplayed result }
+{
+    let Ok(replayer) = Replayer::new(alloc) else {
+        return Status::OutOfMemory;
+    };
+    let limits = Limits {
+        lines: MOST_LINES as usize,
+        bytes: MOST_BYTES,
+    };
+    match run(alloc, limits, replayer, input, output) {
+        Ok(Verdict::Good) => Status::Done,
+        Ok(Verdict::Found) => Status::Fork,
+        Ok(Verdict::Refused) => Status::InputRefused,
+        Err(Fault::Read) => Status::ReadFault,
+        Err(Fault::Write) => Status::WriteFault,
+        Err(Fault::Memory) => Status::OutOfMemory,
+    }
+}
