@@ -1,6 +1,7 @@
 -- Numbers in a line. Source: this project's schedule language.
 use Rattle.std.specs.Prelude.{ℕ, Bool, true, false, ◌==◌, ◌&&◌, ◌||◌, ◌^◌, ◌-◌, not, nat_le, nat_lt, List, [], ◌∷◌, length, Result, Ok, Err, if◌then◌else◌}
-use Rattle.std.specs.Str.{all_ascii_digits}
+use Rattle.std.specs.List.{list_all}
+use Rattle.std.specs.Char.{is_ascii_digit}
 use Rattle.std.specs.Str.Parse.{digits_value}
 use Rattle.xl_sched.specs.declared.refusal.SchedRefusal.{SchedRefusal}
 use Rattle.xl_sched.specs.declared.refusal.SchedRefusal.TheVariants.{Number, Absent}
@@ -8,7 +9,7 @@ use Rattle.xl_sched.specs.declared.refusal.SchedRefusal.TheVariants.{Number, Abs
 -- decimal digits, the first of which is `0` only where it stands alone
 abbrev pub is_number : List ℕ → Bool
 is_number [] = false
-is_number (first ∷ rest) = all_ascii_digits (first ∷ rest) && (not (first == 48) || length rest == 0)
+is_number (first ∷ rest) = list_all is_ascii_digit (first ∷ rest) && (not (first == 48) || length rest == 0)
 
 -- the number that they write, of any size
 abbrev pub value_of : List ℕ → ℕ

@@ -59,7 +59,7 @@ impl Token<'_> {
     ghost use Rattle.xl_sched.specs.Faults.{bytes_of};
 
     fn copy(self, alloc: Global) -> Result<Vec<u8>, AllocError>
-        ensures { IfOk result (λ copy. copy.items ≡ bytes_of self) }
+        ensures { IfOk result (λ copy. copy.items ≡ bytes_of self.entry) }
     {
         match self {
             Token::Text(text) => Vec::from_slice(alloc, text),
@@ -115,7 +115,7 @@ impl<'a> Fault<'a> {
 
     /// The refusal with its token copied, or that memory was wanting.
     pub fn refusal(self, alloc: Global) -> SchedRefusal
-        ensures { (result ≡ SchedRefusal.OutOfMemory) ⊎ (result ≡ self) }
+        ensures { (result ≡ SchedRefusal.OutOfMemory) ⊎ (result ≡ self.entry) }
     {
         match self.token.copy(alloc) {
             Ok(token) => self.cause.refusal(Bytes::from_vec(token)),
@@ -125,7 +125,9 @@ impl<'a> Fault<'a> {
 }
 
 impl From<AllocError> for Fault<'_> {
-    ghost from_gives = { λ _ fault. fault ≡ SchedRefusal.OutOfMemory };
+    ghost use Rattle.xl_sched.specs.declared.refusal.SchedRefusal.TheVariants.{OutOfMemory as WantOfMemory};
+
+    ghost from_gives = { λ _ fault. fault ≡ WantOfMemory };
 
     fn from(_: AllocError) -> Self {
         Fault::out_of_memory()
@@ -133,7 +135,9 @@ impl From<AllocError> for Fault<'_> {
 }
 
 impl<T: Drop> From<AllocFailed<T>> for Fault<'_> {
-    ghost from_gives = { λ _ fault. fault ≡ SchedRefusal.OutOfMemory };
+    ghost use Rattle.xl_sched.specs.declared.refusal.SchedRefusal.TheVariants.{OutOfMemory as WantOfMemory};
+
+    ghost from_gives = { λ _ fault. fault ≡ WantOfMemory };
 
     fn from(_: AllocFailed<T>) -> Self {
         Fault::out_of_memory()
@@ -141,7 +145,9 @@ impl<T: Drop> From<AllocFailed<T>> for Fault<'_> {
 }
 
 impl From<OutOfMemory> for Fault<'_> {
-    ghost from_gives = { λ _ fault. fault ≡ SchedRefusal.OutOfMemory };
+    ghost use Rattle.xl_sched.specs.declared.refusal.SchedRefusal.TheVariants.{OutOfMemory as WantOfMemory};
+
+    ghost from_gives = { λ _ fault. fault ≡ WantOfMemory };
 
     fn from(_: OutOfMemory) -> Self {
         Fault::out_of_memory()

@@ -1,5 +1,6 @@
 ghost use Rattle.std.specs.Prelude.{◌≡◌, ◌<◌, ◌^◌, IsTrue, SomeIff};
-ghost use Rattle.std.specs.Str.{all_ascii_digits};
+ghost use Rattle.std.specs.List.{list_all};
+ghost use Rattle.std.specs.Char.{is_ascii_digit};
 ghost use Rattle.xl_sched.specs.Numbers.{is_number, value_of, number_within as number_within_of, number_of, place_of};
 
 use crate::fault::{Cause, Fault};
@@ -44,14 +45,14 @@ fn is_number(token: &[u8]) -> bool
 }
 
 fn all_digits(token: &[u8]) -> bool
-    ensures { result ≡ all_ascii_digits token.now }
+    ensures { result ≡ list_all is_ascii_digit token.now }
 {
     token.iter().all(|b| b.is_ascii_digit())
 }
 
 /// The number that digits write, or None above what 64 bits hold.
 fn value(digits: &[u8]) -> Option<u64>
-    requires { IsTrue (all_ascii_digits digits.now) }
+    requires { IsTrue (list_all is_ascii_digit digits.now) }
     ensures { SomeIff result (value_of digits.now < 2 ^ 64) (value_of digits.now) }
 {
     let mut value: u64 = 0;

@@ -22,7 +22,7 @@ const FIRST_MOMENT: Millis = 1_000;
 #[derive(Debug, Drop)]
 pub struct Reader {
     lines: u32,
-    now: Millis,
+    moment: Millis,
     started: bool,
     nodes: Nodes,
     names: Names,
@@ -38,7 +38,7 @@ impl Model for Reader {
 
     ghost view = { λ r. record {
       lines = r.lines;
-      now = r.now;
+      now = r.moment;
       started = r.started;
       nodes = r.nodes;
       names = r.names;
@@ -59,7 +59,7 @@ impl Reader {
     {
         Ok(Reader {
             lines: 0,
-            now: FIRST_MOMENT,
+            moment: FIRST_MOMENT,
             started: false,
             nodes: Nodes::new(alloc),
             names: Names::with_root(alloc)?,
@@ -109,7 +109,7 @@ impl Reader {
 
     /// What the line of these tokens says.
     fn line<'a>(&self, tokens: Tokens<'a>, sent: u64) -> Result<Option<Line>, Fault<'a>>
-        ensures { GivenMemory result (line_of_tokens self.now sent tokens) }
+        ensures { GivenMemory result (line_of_tokens self.now sent tokens.entry) }
     {
         if self.lines == 0 {
             header(tokens)
@@ -119,7 +119,7 @@ impl Reader {
     }
 
     fn later_line<'a>(&self, mut tokens: Tokens<'a>, sent: u64) -> Result<Option<Line>, Fault<'a>>
-        ensures { GivenMemory result (later_line self.now sent tokens) }
+        ensures { GivenMemory result (later_line self.now sent tokens.entry) }
     {
         match tokens.next() {
             None => Ok(None),
@@ -161,7 +161,7 @@ impl Reader {
 
 /// Line 1 must be the header.
 fn header<'a>(mut tokens: Tokens<'a>) -> Result<Option<Line>, Fault<'a>>
-    ensures { result ≡ header_line tokens }
+    ensures { result ≡ header_line tokens.entry }
 {
     let name = tokens.next().unwrap_or(b"".as_slice());
     let version = tokens.next().unwrap_or(b"".as_slice());

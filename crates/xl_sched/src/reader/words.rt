@@ -22,7 +22,7 @@ impl Reader {
         arguments: Tokens<'a>,
         sent: u64,
     ) -> Result<Line, Fault<'a>>
-        ensures { GivenMemory result (worded_line self.now sent token.now arguments) }
+        ensures { GivenMemory result (worded_line self.now sent token.now arguments.entry) }
     {
         match Word::of(token) {
             None => Err(Fault::with_text(Cause::Word, token)),
@@ -35,7 +35,7 @@ impl Reader {
     }
 
     fn node_in_time<'a>(&self, token: &'a [u8], arguments: Tokens<'a>) -> Result<Line, Fault<'a>>
-        ensures { GivenMemory result (unless_late self.now token.now (node_line self.now arguments)) }
+        ensures { GivenMemory result (unless_late self.now token.now (node_line self.now arguments.entry)) }
     {
         if self.started {
             return Err(Fault::with_text(Cause::Late, token));
@@ -45,7 +45,7 @@ impl Reader {
 
     /// `node i q list`, and `node i q list observing`.
     fn node<'a>(&self, mut arguments: Tokens<'a>) -> Result<Line, Fault<'a>>
-        ensures { GivenMemory result (node_line self.now arguments) }
+        ensures { GivenMemory result (node_line self.now arguments.entry) }
     {
         let count = arguments.count();
         if count != 3 && count != 4 {
@@ -64,7 +64,7 @@ impl Reader {
         list: &'a [u8],
         mode: Option<&'a [u8]>,
     ) -> Result<Line, Fault<'a>>
-        ensures { GivenMemory result (node_of self.now me.now quorum.now list.now (mode_of (option_copied mode))) }
+        ensures { GivenMemory result (node_of self.now me.now quorum.now list.now (mode_of (option_copied mode.entry))) }
     {
         let me = self.nodes.undeclared(me)?;
         let quorum = number(quorum)?;
@@ -83,7 +83,7 @@ impl Reader {
 
     /// `name w id`. Too many names are refused before all else.
     fn name<'a>(&self, arguments: Tokens<'a>) -> Result<Line, Fault<'a>>
-        ensures { GivenMemory result (name_line self.now arguments) }
+        ensures { GivenMemory result (name_line self.now arguments.entry) }
     {
         if self.names.len() > MOST_NAMES {
             return Err(Fault::with_number(Cause::Limit, MOST_NAMES as u64));
@@ -100,11 +100,11 @@ impl Reader {
 
     /// `issue i seq id full`, or `partial`.
     fn issue<'a>(&self, arguments: Tokens<'a>) -> Result<Event, Fault<'a>>
-        ensures { result ≡ issue_event self.now arguments }
+        ensures { result ≡ issue_event self.now arguments.entry }
     {
         let (node, seq, id, kind) = arguments.four()?;
         Ok(Event::Issue {
-            at: self.now,
+            at: self.moment,
             node: self.nodes.declared(node)?,
             seq: number(seq)?,
             id: self.names.id(id)?,
@@ -114,22 +114,22 @@ impl Reader {
 
     /// `deliver k`.
     fn deliver<'a>(&self, arguments: Tokens<'a>, sent: u64) -> Result<Event, Fault<'a>>
-        ensures { result ≡ deliver_event self.now sent arguments }
+        ensures { result ≡ deliver_event self.now sent arguments.entry }
     {
         let number = arguments.one()?;
         Ok(Event::Deliver {
-            at: self.now,
+            at: self.moment,
             place: place(number, sent)?,
         })
     }
 
     /// `restart i`.
     fn restart<'a>(&self, arguments: Tokens<'a>) -> Result<Event, Fault<'a>>
-        ensures { result ≡ restart_event self.now arguments }
+        ensures { result ≡ restart_event self.now arguments.entry }
     {
         let node = arguments.one()?;
         Ok(Event::Restart {
-            at: self.now,
+            at: self.moment,
             node: self.nodes.declared(node)?,
         })
     }
