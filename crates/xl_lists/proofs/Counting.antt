@@ -1,11 +1,13 @@
 -- Two counts over two lists share a member.
-use Rattle.std.proofs.Common.{◌≡◌, ℕ, ◌+◌, ◌-◌, ◌<◌, ◌≤◌, Bool, true, false, cond, List, [], ◌∷◌, length, refl, arith, inl, inr}
-use Rattle.std.specs.Prelude.{count_by, map, All, ◌==◌, ◌&&◌, ◌||◌, nat_eq, ◌⊎◌}
+use Rattle.std.proofs.Common.{◌≡◌, ℕ, suc, ◌*◌, ◌+◌, ◌-◌, ◌<◌, ◌≤◌, Bool, true, false, cond, List, [], ◌∷◌, length, refl, arith, inl, inr}
+use Rattle.std.specs.Prelude.{count_by, map, All, Any, ◌==◌, ◌&&◌, ◌||◌, nat_eq, ◌⊎◌}
 use Rattle.std.specs.List.{IsDistinct, AllByRecursion}
 use Rattle.std.proofs.lemmas.List.Sums.{sum_by-cons, count_by-le-length}
+use Rattle.std.proofs.lemmas.Bool.{and_parts}
 use Rattle.std.proofs.lemmas.Bool.Decides.{nat_tests}
 use Rattle.std.proofs.lemmas.List.Elements.{All-head, All-tail}
 use Rattle.xl_lists.specs.Lists.{is_on}
+use Rattle.xl_lists.specs.Quorums.{overlap, liars_shared}
 
 -- a count goes element by element
 pub count_by-cons : {X : Type 0} (p : X → Bool) (x : X) (xs : List X) → count_by p (x ∷ xs) ≡ cond (p x) 1 0 + count_by p xs
@@ -117,3 +119,29 @@ pub quorums_share : (p q t : ℕ → Bool) (a b : List ℕ) → IsDistinct nat_e
 quorums_share p q t a b a_once b_once enough =
     shared p q (is_on b) t a
     (omega (arith, count_both p (is_on b) a, count_both q (is_on a) b, count_shared q a b b_once, count_shared (λ _. true) b a a_once, count_by-le-length (is_on b) a))
+
+-- the liars in an overlap are some of it
+pub liars_within : (liars a b : List ℕ) → liars_shared liars a b ≤ overlap a b
+liars_within liars a b = count_weaker (λ m. is_on b m && is_on liars m) (is_on b) (λ m both. (and_parts (is_on b m) (is_on liars m) both).0) a
+
+both_or_at_most_one : (a b : Bool) → (a ≡ true) × (b ≡ true) ⊎ (cond a 1 0 + cond b 1 0 ≤ 1)
+both_or_at_most_one true true = inl (refl, refl)
+both_or_at_most_one true false = inr (omega arith)
+both_or_at_most_one false true = inr (omega arith)
+both_or_at_most_one false false = inr (omega arith)
+
+-- where two tests of one list are passed more often, together, than it is long, some element passes both
+pub both_pass : {X : Type 0} (p r : X → Bool) (xs : List X) → length xs < count_by p xs + count_by r xs → Any (λ x. (p x ≡ true) × (r x ≡ true)) xs
+both_pass p r [] more = absurd (omega arith)
+both_pass p r (x ∷ xs) more =
+    let counted : length xs + 1 < (cond (p x) 1 0 + count_by p xs) + (cond (r x) 1 0 + count_by r xs)
+    = rw (← count_by-cons p x xs, ← count_by-cons r x xs) (omega (arith, more))
+    in elim (both_or_at_most_one (p x) (r x)) [
+      | inl both ↦ (0, x, omega arith, refl, both)
+      | inr one ↦ let later = both_pass p r xs (omega (arith, counted, one)) in (suc later.0, later.1, omega (arith, later.2), later.3, later.4)
+    ]
+
+-- so two quorums of one list share a member, being more than half of it
+pub quorums_meet : {X : Type 0} (p r : X → Bool) (quorum : ℕ) (xs : List X) → length xs < 2 * quorum → quorum ≤ count_by p xs → quorum ≤ count_by r xs →
+    Any (λ x. (p x ≡ true) × (r x ≡ true)) xs
+quorums_meet p r quorum xs half by_p by_r = both_pass p r xs (omega (arith, half, by_p, by_r))

@@ -30,14 +30,19 @@ is_quorum quorum n = nat_le quorum n && nat_lt n (2 * quorum)
 abbrev pub refused_if : Bool → ListRefusal → Option ListRefusal
 refused_if holds refusal = if holds then Some refusal else None
 
+abbrev pub first_of : List (Option ListRefusal) → Option ListRefusal
+first_of [] = None
+first_of (cause ∷ causes) = option_or cause (first_of causes)
+
 -- the first cause for which these are no list
 abbrev pub refusal_of : List ℕ → ℕ → Option ListRefusal
-refusal_of members quorum =
-    option_or (refused_if (length members == 0) Empty)
-    (option_or (refused_if (nat_lt 64 (length members)) (TooMany (length members)))
-    (option_or (option_map OutOfRange (find is_outside members))
-    (option_or (option_map Repeated (repeated_after [] members))
-    (refused_if (not (is_quorum quorum (length members))) (Quorum quorum (length members))))))
+refusal_of members quorum = first_of (
+    refused_if (length members == 0) Empty
+    ∷ refused_if (nat_lt 64 (length members)) (TooMany (length members))
+    ∷ option_map OutOfRange (find is_outside members)
+    ∷ option_map Repeated (repeated_after [] members)
+    ∷ refused_if (not (is_quorum quorum (length members))) (Quorum quorum (length members))
+    ∷ [])
 
 abbrev pub unless_refused : Option ListRefusal → TrustedList → Result TrustedList ListRefusal
 unless_refused None list = Ok list

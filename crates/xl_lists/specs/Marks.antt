@@ -1,12 +1,12 @@
 -- Members as the bits of a number.
-use Rattle.std.specs.Prelude.{◌≡◌, ℕ, ◌-◌, ◌==◌, ◌≤◌, Bool, List}
+use Rattle.std.specs.Prelude.{◌≡◌, ℕ, ◌-◌, ◌==◌, ◌&&◌, not, Bool, List}
 use Rattle.std.specs.Int.{bit_at}
 use Rattle.xl_lists.specs.Lists.{is_on}
 
--- whether a member is marked: the lowest bit is that of member 1
+-- whether a number is marked: the lowest bit is that of member 1, and 0 is no member
 abbrev pub is_marked : ℕ → ℕ → Bool
-is_marked bits m = bit_at bits (m - 1) == 1
+is_marked bits m = not (m == 0) && bit_at bits (m - 1) == 1
 
--- of the numbers 1 to 64 those of the list are marked
+-- the numbers of the list are marked, and no others
 abbrev pub AreMarked : ℕ → List ℕ → Type 0
-AreMarked bits members = (m : ℕ) → 1 ≤ m → m ≤ 64 → is_marked bits m ≡ is_on members m
+AreMarked bits members = (m : ℕ) → is_marked bits m ≡ is_on members m

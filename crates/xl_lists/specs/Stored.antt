@@ -1,5 +1,5 @@
 -- How a list is stored.
-use Rattle.std.specs.Prelude.{ℕ, ◌≤◌, List, take}
+use Rattle.std.specs.Prelude.{◌≡◌, ℕ, List, length, take}
 use Rattle.xl_lists.specs.Lists.{TrustedList, IsValid}
 use Rattle.xl_lists.specs.Marks.{AreMarked}
 
@@ -9,6 +9,6 @@ stored places len quorum = record { members = take len places; quorum = quorum }
 
 -- what the fields of a list keep: it is valid, and its members are those that are marked
 pub record IsStored (places : List ℕ) (len quorum bits : ℕ) : Type 0 where
-  pub within : len ≤ 64
+  pub count : length (take len places) ≡ len
   pub valid : IsValid (stored places len quorum)
   pub marked : AreMarked bits (take len places)

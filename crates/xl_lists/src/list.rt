@@ -1,5 +1,7 @@
-ghost use Rattle.std.specs.Prelude.{◌≡◌, length};
-ghost use Rattle.xl_lists.specs.Lists.{list_of, is_on, IsValid};
+ghost use Rattle.std.specs.Prelude.{◌≡◌, ◌≤◌, [], length, take, find, option_map, IfOk};
+ghost use Rattle.std.specs.Result.{result_err};
+ghost use Rattle.xl_lists.specs.Lists.{list_of, is_on, is_outside, repeated_after, IsValid};
+ghost use Rattle.xl_lists.specs.Marks.{AreMarked};
 
 use crate::marks::Marks;
 use crate::refusal::ListRefusal;
@@ -38,8 +40,14 @@ impl List {
     pub fn new(members: &[u32], quorum: u32) -> Result<List, ListRefusal>
         ensures { result ≡ list_of members.now quorum }
     {
-        let places = places_of(members)?;
+        if members.is_empty() {
+            return Err(ListRefusal::Empty);
+        }
         let len = members.len();
+        if len > PLACES {
+            return Err(ListRefusal::TooMany(len));
+        }
+        let places = places_of(members)?;
         let marks = marks_of_distinct(&places[..len])?;
         if quorum as usize > len || 2 * quorum as usize <= len {
             return Err(ListRefusal::Quorum {
@@ -64,7 +72,9 @@ impl List {
 
     /// How many members there are, 1 to 64.
     pub fn len(&self) -> u32
-        ensures { result ≡ length self.now.members }
+        ensures value { result ≡ length self.now.members }
+        ensures least { 1 ≤ result }
+        ensures most { result ≤ 64 }
     {
         self.len as u32
     }
@@ -98,28 +108,25 @@ impl List {
     }
 }
 
-/// The members at the front of the places.
-fn places_of(numbers: &[u32]) -> Result<[NodeNo; PLACES], ListRefusal> {
-    if numbers.is_empty() {
-        return Err(ListRefusal::Empty);
-    }
-    if numbers.len() > PLACES {
-        return Err(ListRefusal::TooMany(numbers.len()));
-    }
-    let first = member_of(numbers[0])?;
-    let mut places = [first; PLACES];
-    for (i, &number) in numbers.iter().enumerate() {
-        places[i] = member_of(number)?;
+/// The members of these numbers, at the front of the places.
+fn places_of(numbers: &[u32]) -> Result<[NodeNo; PLACES], ListRefusal>
+    requires { length numbers.now ≤ PLACES }
+    ensures refused { result_err result ≡ option_map ListRefusal.OutOfRange (find is_outside numbers.now) }
+    ensures placed { IfOk result (λ places. take (length numbers.now) places ≡ numbers.now) }
+{
+    // No place after the last member is ever read.
+    let mut places = [NodeNo::new(1).unwrap(); PLACES];
+    for (place, &number) in numbers.iter().enumerate() {
+        places[place] = NodeNo::new(number).ok_or(ListRefusal::OutOfRange(number))?;
     }
     Ok(places)
 }
 
-fn member_of(number: u32) -> Result<NodeNo, ListRefusal> {
-    NodeNo::new(number).ok_or(ListRefusal::OutOfRange(number))
-}
-
-/// The marks of members that stand there once each.
-fn marks_of_distinct(members: &[NodeNo]) -> Result<Marks, ListRefusal> {
+/// The marks of members each of which stands there once.
+fn marks_of_distinct(members: &[NodeNo]) -> Result<Marks, ListRefusal>
+    ensures refused { result_err result ≡ option_map ListRefusal.Repeated (repeated_after [] members.now) }
+    ensures marked { IfOk result (λ marks. AreMarked marks.bits members.now) }
+{
     let mut marks = Marks::none();
     for &member in members {
         if marks.has(member) {
@@ -128,4 +135,65 @@ fn marks_of_distinct(members: &[NodeNo]) -> Result<Marks, ListRefusal> {
         marks = marks.with(member);
     }
     Ok(marks)
+}
+
+#[cfg(test)]
+mod tests {
+    use super::*;
+    use std::test::Fail;
+
+    #[test]
+    fn refuses_by_the_first_cause(rt: HostRuntime) {
+        let mut too_many = [0; 65];
+        for (place, member) in too_many.iter_mut().enumerate() {
+            *member = place as u32 + 1;
+        }
+        let cases: [(&[u32], u32, ListRefusal, u32); 8] = [
+            (&[], 0, ListRefusal::Empty, 11),
+            (&too_many, 33, ListRefusal::TooMany(65), 12),
+            (&[65], 1, ListRefusal::OutOfRange(65), 15),
+            (&[5, 5, 0], 9, ListRefusal::OutOfRange(0), 15),
+            (&[1, 1], 2, ListRefusal::Repeated(1), 13),
+            (&[1, 2, 3, 2, 1], 9, ListRefusal::Repeated(2), 13),
+            (
+                &[1, 2, 3, 4],
+                2,
+                ListRefusal::Quorum {
+                    quorum: 2,
+                    members: 4,
+                },
+                14,
+            ),
+            (
+                &[1, 2, 3, 4],
+                5,
+                ListRefusal::Quorum {
+                    quorum: 5,
+                    members: 4,
+                },
+                14,
+            ),
+        ];
+        for (members, quorum, refusal, code) in cases {
+            assert_eq!(rt; List::new(members, quorum).err(), Some(refusal));
+            assert_eq!(rt; refusal.code(), code);
+        }
+    }
+
+    #[test]
+    fn keeps_what_was_given(rt: HostRuntime) -> Result<(), Fail> {
+        let list = List::new(&[64, 3, 1], 2)?;
+        for list in [list.copy(), list] {
+            assert_eq!(rt; list.len(), 3);
+            assert_eq!(rt; list.quorum(), 2);
+            for (&member, number) in list.members().iter().zip([64, 3, 1]) {
+                assert_eq!(rt; member.get(), number);
+                assert!(rt; list.has(member));
+            }
+            for number in [2, 4, 63] {
+                assert!(rt; !list.has(NodeNo::new(number).ok_or(number)?));
+            }
+        }
+        Ok(())
+    }
 }

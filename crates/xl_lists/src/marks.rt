@@ -33,7 +33,7 @@ impl Marks {
     }
 
     pub fn with(self, member: NodeNo) -> Marks
-        ensures { (m : ℕ) → 1 ≤ m → is_marked result.bits m ≡ (m == member || is_marked self.bits m) }
+        ensures { (m : ℕ) → is_marked result.bits m ≡ (m == member || is_marked self.bits m) }
     {
         Marks {
             bits: self.bits | 1 << (member.get() - 1),

@@ -1,4 +1,4 @@
-ghost use Rattle.std.specs.Prelude.{◌≡◌, ◌+◌, ◌*◌, ◌/◌, ◌≤◌, ◌<◌, ◌↔◌, IsTrue, pos, ◌-ℤ◌};
+ghost use Rattle.std.specs.Prelude.{◌≡◌, ◌+◌, ◌*◌, ◌/◌, ◌≤◌, ◌<◌, ◌↔◌, IsTrue, length, pos, ◌-ℤ◌};
 ghost use Rattle.xl_lists.specs.Quorums.{overlap as overlap_of, liars_shared as liars_shared_of, bound_of, Enough};
 
 use crate::list::List;
@@ -12,12 +12,13 @@ pub fn default_quorum(n: u32) -> u32
     ensures within { result ≤ n }
     ensures majority { 1 ≤ n → n < 2 * result }
 {
-    (4 * n + 4) / 5
+    (4 * n).div_ceil(5)
 }
 
 /// How many members stand on both lists.
 pub fn overlap(a: &List, b: &List) -> u32
-    ensures { result ≡ overlap_of a.now.members b.now.members }
+    ensures value { result ≡ overlap_of a.now.members b.now.members }
+    ensures within { result ≤ length a.now.members }
 {
     a.members().iter().filter(|&&member| b.has(member)).count() as u32
 }
@@ -25,7 +26,8 @@ pub fn overlap(a: &List, b: &List) -> u32
 /// What two quorums together must exceed, so that they share a member that is no liar: both lists' sizes, minus the
 /// overlap, plus the liars in the overlap.
 pub fn bound(a: &List, b: &List, liars: &[NodeNo]) -> u32
-    ensures { result ≡ bound_of liars.now a.now b.now }
+    ensures value { result ≡ bound_of liars.now a.now b.now }
+    ensures within { result ≤ length a.now.members + length b.now.members }
 {
     a.len() + b.len() - overlap(a, b) + liars_shared(a, b, liars)
 }
@@ -53,4 +55,41 @@ fn liars_shared(a: &List, b: &List, liars: &[NodeNo]) -> u32
         .iter()
         .filter(|&&member| b.has(member) && liars.has(member))
         .count() as u32
+}
+
+#[cfg(test)]
+mod tests {
+    use super::*;
+    use std::test::Fail;
+
+    #[test]
+    fn takes_four_fifths_rounded_up(rt: HostRuntime) {
+        for (n, quorum) in [(1, 1), (5, 4), (7, 6), (35, 28), (64, 52)] {
+            assert_eq!(rt; default_quorum(n), quorum);
+        }
+    }
+
+    #[test]
+    fn counts_the_overlap_and_its_liars(rt: HostRuntime) -> Result<(), Fail> {
+        let list = List::new(&[1, 2, 3, 4, 5], 4)?;
+        // The first of the five members of another list, a liar (64 is on neither list); and then what is told.
+        let cases = [
+            (1, 64, 5, 5, 3),
+            (3, 64, 3, 7, 1),
+            (3, 3, 3, 8, 0),
+            (3, 1, 3, 7, 1),
+            (4, 64, 2, 8, 0),
+            (6, 64, 0, 10, -2),
+        ];
+        for (first, liar, shared, limit, left) in cases {
+            let other = List::new(&[first, first + 1, first + 2, first + 3, first + 4], 4)?;
+            // Named twice, a liar counts once.
+            let liars = [NodeNo::new(liar).ok_or(liar)?; 2];
+            assert_eq!(rt; overlap(&list, &other), shared);
+            assert_eq!(rt; bound(&list, &other, &liars), limit);
+            assert_eq!(rt; slack(&list, &other, &liars), left);
+            assert_eq!(rt; enough(&list, &other, &liars), left > 0);
+        }
+        Ok(())
+    }
 }
