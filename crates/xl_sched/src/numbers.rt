@@ -9,9 +9,14 @@ use crate::fault::{Cause, Fault};
 pub fn number_within<'a>(token: &'a [u8], least: u64, greatest: u64) -> Result<u64, Fault<'a>>
     ensures { result ≡ number_within_of least greatest token.now }
 {
-    match value(token) {
-        Some(number) if is_number(token) && least <= number && number <= greatest => Ok(number),
-        _ => Err(Fault::with_text(Cause::Number, token)),
+    if is_number(token)
+        && let Some(number) = value(token)
+        && least <= number
+        && number <= greatest
+    {
+        Ok(number)
+    } else {
+        Err(Fault::with_text(Cause::Number, token))
     }
 }
 
