@@ -1,11 +1,11 @@
 -- How tokens begin.
-use Rattle.std.proofs.Common.{◌≡◌, ◌==◌, ◌+◌, ◌≤◌, ◌<◌, ℕ, Bool, true, false, cond, not, List, [], ◌∷◌, ◌++◌, length, take, drop, filter, nat_lt, Option, Some, None, unwrap_or, refl, ap, sym, ◌∙◌, arith, add-one, suc}
+use Rattle.std.proofs.Common.{◌≡◌, ◌==◌, ◌+◌, ◌≤◌, ◌<◌, ℕ, Bool, true, false, cond, not, List, [], ◌∷◌, ◌++◌, length, take, drop, filter, map, min, nat_lt, Option, Some, None, unwrap_or, refl, ap, sym, ◌∙◌, arith, add-one, suc}
 use Rattle.std.specs.List.{slice_split, onto_first, position_or_len, prefix_len, position}
-use Rattle.std.proofs.lemmas.List.{take-append-drop}
+use Rattle.std.proofs.lemmas.List.{take-append-drop, take_all, take_min}
 use Rattle.std.proofs.lemmas.List.Sums.{prefix_len-le-length, length-filter, count_by-le-length}
 use Rattle.std.proofs.lemmas.List.Splits.{length-slice_split}
 use Rattle.std.proofs.lemmas.Bool.Decides.{nat_tests}
-use Rattle.xl_sched.specs.Tokens.{tokens, is_blank, BeginsToken, IsTokenSplit}
+use Rattle.xl_sched.specs.Tokens.{tokens, is_blank, BeginsToken, IsTokenSplit, shown_byte, shown_token}
 
 abbrev is_run : List ℕ → Bool
 is_run run = not (length run == 0)
@@ -73,3 +73,9 @@ pub length-tokens-le : (bs : List ℕ) → length (tokens bs) ≤ length bs + 1
 length-tokens-le bs =
     let parts = slice_split is_blank bs in
     omega (arith, length-filter is_run parts, count_by-le-length is_run parts, length-slice_split is_blank bs, count_by-le-length is_blank bs)
+
+-- what is shown of a token that isn't empty
+pub shown_token-some : (token : List ℕ) (n i : ℕ) → (length token == 0) ≡ false → n ≡ min 32 (length token) → length (take n token) ≤ i → map shown_byte (take i (take n token)) ≡ shown_token token
+shown_token-some [] n i e m h = cc
+shown_token-some (b ∷ bs) n i e m h =
+    ap (map shown_byte) (take_all i (take n (b ∷ bs)) h ∙ ap (λ k. take k (b ∷ bs)) m ∙ take_min 32 (b ∷ bs))

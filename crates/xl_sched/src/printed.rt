@@ -4,15 +4,20 @@ ghost use Rattle.xl_sched.specs.Tokens.{shown_byte, shown_token};
 
 use xl_base::OutOfMemory;
 
+/// The most bytes of a token that are printed.
+const MOST_SHOWN: usize = 32;
+
 /// Appends a token as it is printed: its first 32 bytes, each that is no visible one of ASCII as `?`, and `-` for none.
+/// Where memory is wanting, a front of that may have been appended.
 pub fn printed_token(token: &[u8], text: &mut String) -> Result<(), OutOfMemory>
     ensures { OnOk result (string_bytes text.new ≡ string_bytes text.old ++ shown_token token.now) }
 {
     if token.is_empty() {
         text.push('-')?;
+        return Ok(());
     }
-    for &b in token.iter().take(32) {
-        text.push(shown(b))?;
+    for b in &token[..MOST_SHOWN.min(token.len())] {
+        text.push(shown(*b))?;
     }
     Ok(())
 }
