@@ -1,3 +1,4 @@
 pub mod TokenLemmas
 pub mod NumberLemmas
 pub mod MemberLemmas
+pub mod PlaceLemmas

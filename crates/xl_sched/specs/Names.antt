@@ -27,11 +27,11 @@ is_name (first ∷ rest) = is_letter first && list_all (λ b. is_letter b || is_
 
 -- the id that a declared name stands for
 abbrev pub id_named : List Named → List ℕ → Option LedgerId
-id_named names name = option_map (λ n. n.id) (find (λ n. bytes_eq n.name name) names)
+id_named names name = option_map (λ n. n.id) (find (λ n. bytes_eq name n.name) names)
 
 -- the first declared name that stands for the id
 abbrev pub name_of : List Named → LedgerId → Option (List ℕ)
-name_of names id = option_map (λ n. n.name) (find (λ n. same_id n.id id) names)
+name_of names id = option_map (λ n. n.name) (find (λ n. same_id id n.id) names)
 
 -- the id that 64 hexadecimal digits of either case write
 abbrev pub id_written : List ℕ → Option LedgerId

@@ -16,6 +16,7 @@ mod named;
 mod names;
 mod nodes;
 mod numbers;
+mod places;
 mod printed;
 mod reader;
 mod refusal;
