@@ -2,3 +2,4 @@ pub mod TokenLemmas
 pub mod NumberLemmas
 pub mod MemberLemmas
 pub mod PlaceLemmas
+pub mod NameLemmas

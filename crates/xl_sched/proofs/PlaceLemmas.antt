@@ -39,17 +39,17 @@ pub lookup-insert_entry : {K : Type 0} (bytes : K → List ℕ) (t : List ℕ) (
 lookup-insert_entry bytes t key v [] = refl
 lookup-insert_entry {K} bytes t key v (e ∷ es) =
     elim (orders bytes key e.0) as (λ o. orders bytes key e.0 ≡ o → lookup (tests bytes t) (match_ordering o ((key, v) ∷ e ∷ es) ((e.0, v) ∷ es) (e ∷ insert_entry (orders bytes) es key v)) ≡ cond (tests bytes t key) (Some v) (cond (tests bytes t e.0) (Some e.1) (lookup (tests bytes t) es))) [
-      Less ↦ λ _. refl
-    | Equal ↦ λ q.
-        let same = same_bytes (bytes key) (bytes e.0) (ap is_eq q) in
-        let tested : tests bytes t key ≡ tests bytes t e.0 = ap (λ b. is_eq (slice_cmp nat_cmp t b)) same in
-        rw tested (once (tests bytes t e.0) (Some v) (lookup (tests bytes t) es) (Some e.1))
-    | Greater ↦ λ q.
-        let apart : tests bytes t e.0 ≡ true → tests bytes t key ≡ true → ⊥ = λ here there.
-            let same = sym (same_bytes t (bytes key) there) ∙ same_bytes t (bytes e.0) here in
-            let equal : is_eq (orders bytes key e.0) ≡ true = ap (λ b. is_eq (slice_cmp nat_cmp (bytes key) b)) (sym same) ∙ bytes_eq-refl (bytes key) in
-            false≢true (sym (ap is_eq q) ∙ equal) in
-        ap (λ rest. cond (tests bytes t e.0) (Some e.1) rest) (lookup-insert_entry bytes t key v es) ∙ swaps (tests bytes t e.0) (tests bytes t key) (Some e.1) (Some v) (lookup (tests bytes t) es) apart
+      | Less ↦ λ _. refl
+      | Equal ↦ λ q.
+          let same = same_bytes (bytes key) (bytes e.0) (ap is_eq q) in
+          let tested : tests bytes t key ≡ tests bytes t e.0 = ap (λ b. is_eq (slice_cmp nat_cmp t b)) same in
+          rw tested (once (tests bytes t e.0) (Some v) (lookup (tests bytes t) es) (Some e.1))
+      | Greater ↦ λ q.
+          let apart : tests bytes t e.0 ≡ true → tests bytes t key ≡ true → ⊥ = λ here there.
+          let same = sym (same_bytes t (bytes key) there) ∙ same_bytes t (bytes e.0) here in
+          let equal : is_eq (orders bytes key e.0) ≡ true = ap (λ b. is_eq (slice_cmp nat_cmp (bytes key) b)) (sym same) ∙ bytes_eq-refl (bytes key) in
+          false≢true (sym (ap is_eq q) ∙ equal) in
+          ap (λ rest. cond (tests bytes t e.0) (Some e.1) rest) (lookup-insert_entry bytes t key v es) ∙ swaps (tests bytes t e.0) (tests bytes t key) (Some e.1) (Some v) (lookup (tests bytes t) es) apart
     ] refl
 
 -- an entry that is taken out was no other key's
@@ -58,11 +58,11 @@ pub lookup-remove_entry : {K : Type 0} (bytes : K → List ℕ) (t name : List �
 lookup-remove_entry bytes t name [] apart = refl
 lookup-remove_entry bytes t name (e ∷ es) apart =
     elim (tests bytes name e.0) as (λ b. tests bytes name e.0 ≡ b → lookup (tests bytes t) (cond b es (e ∷ remove_entry (tests bytes name) es)) ≡ cond (tests bytes t e.0) (Some e.1) (lookup (tests bytes t) es)) [
-      true ↦ λ q.
-        let same = same_bytes name (bytes e.0) q in
-        let other : tests bytes t e.0 ≡ false = ap (λ b. is_eq (slice_cmp nat_cmp t b)) (sym same) ∙ is_eq-slice_cmp t name ∙ apart in
-        rw other refl
-    | false ↦ λ q. ap (λ rest. cond (tests bytes t e.0) (Some e.1) rest) (lookup-remove_entry bytes t name es apart)
+      | true ↦ λ q.
+          let same = same_bytes name (bytes e.0) q in
+          let other : tests bytes t e.0 ≡ false = ap (λ b. is_eq (slice_cmp nat_cmp t b)) (sym same) ∙ is_eq-slice_cmp t name ∙ apart in
+          rw other refl
+      | false ↦ λ q. ap (λ rest. cond (tests bytes t e.0) (Some e.1) rest) (lookup-remove_entry bytes t name es apart)
     ] refl
 
 -- what a map with one entry more finds

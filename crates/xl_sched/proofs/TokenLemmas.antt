@@ -28,24 +28,24 @@ first_part : (bs : List ℕ) → slice_split is_blank bs ≡ take (first_len bs)
 first_part [] = refl
 first_part (b ∷ bs) =
     elim (is_blank b) as (λ v. cond v ([] ∷ slice_split is_blank bs) (onto_first b (slice_split is_blank bs)) ≡ take (cond (not v) (1 + first_len bs) 0) (b ∷ bs) ∷ later_parts (drop (cond (not v) (1 + first_len bs) 0) (b ∷ bs))) [
-      true ↦ refl
-    | false ↦ ap (onto_first b) (first_part bs) ∙ sym (ap (λ k. take k (b ∷ bs) ∷ later_parts (drop k (b ∷ bs))) (one_more (first_len bs)))
+      | true ↦ refl
+      | false ↦ ap (onto_first b) (first_part bs) ∙ sym (ap (λ k. take k (b ∷ bs) ∷ later_parts (drop k (b ∷ bs))) (one_more (first_len bs)))
     ]
 
 tokens_later : (bs : List ℕ) → filter is_run (later_parts (drop (first_len bs) bs)) ≡ tokens (drop (first_len bs) bs)
 tokens_later [] = refl
 tokens_later (b ∷ bs) =
     elim (is_blank b) as (λ v. is_blank b ≡ v → filter is_run (later_parts (drop (cond (not v) (1 + first_len bs) 0) (b ∷ bs))) ≡ tokens (drop (cond (not v) (1 + first_len bs) 0) (b ∷ bs))) [
-      true ↦ λ e. sym (tokens-blank b bs e)
-    | false ↦ λ e. rw (one_more (first_len bs)) (tokens_later bs)
+      | true ↦ λ e. sym (tokens-blank b bs e)
+      | false ↦ λ e. rw (one_more (first_len bs)) (tokens_later bs)
     ] refl
 
 pub position_or_len-unwrap : (p : ℕ → Bool) (bs : List ℕ) → unwrap_or (position p bs) (length bs) ≡ position_or_len p bs
 position_or_len-unwrap p bs =
     let within = prefix_len-le-length (λ x. not (p x)) bs in
     elim (nat_lt (position_or_len p bs) (length bs)) as (λ v. nat_lt (position_or_len p bs) (length bs) ≡ v → unwrap_or (cond v (Some (position_or_len p bs)) None) (length bs) ≡ position_or_len p bs) [
-      true ↦ λ _. refl
-    | false ↦ λ e. grind (arith, nat_tests)
+      | true ↦ λ _. refl
+      | false ↦ λ e. grind (arith, nat_tests)
     ] refl
 
 not_zero : (k : ℕ) → (suc k == 0) ≡ false
@@ -62,7 +62,7 @@ begins_run [] h = refl
 begins_run (b ∷ bs) h =
     let n = first_len bs in
     let some : length (take (first_len (b ∷ bs)) (b ∷ bs)) == 0 ≡ false =
-        ap (λ v. length (take (cond (not v) (1 + n) 0) (b ∷ bs)) == 0) h ∙ ap (λ k. length (take k (b ∷ bs)) == 0) (one_more n) ∙ not_zero (length (take n bs)) in
+    ap (λ v. length (take (cond (not v) (1 + n) 0) (b ∷ bs)) == 0) h ∙ ap (λ k. length (take k (b ∷ bs)) == 0) (one_more n) ∙ not_zero (length (take n bs)) in
     tokens_first (b ∷ bs) ∙ chosen _ _ _ _ some
 
 pub IsTokenSplit-first : (bs : List ℕ) → IsTokenSplit bs (take (first_len bs) bs) (drop (first_len bs) bs)

@@ -1,6 +1,7 @@
 -- The lines of a schedule, word by word. Source: this project's schedule language.
-use Rattle.std.specs.Prelude.{ℕ, ◌+◌, ◌==◌, Bool, true, nat_lt, List, [], ◌∷◌, ◌++◌, length, decimal, codes, Option, Some, None, Result, Ok, Err, if◌then◌else◌}
+use Rattle.std.specs.Prelude.{◌≡◌, ◌≤◌, ℕ, ◌+◌, ◌==◌, Bool, true, false, nat_lt, List, [], ◌∷◌, ◌++◌, length, decimal, codes, Option, Some, None, Result, Ok, Err, if◌then◌else◌}
 use Rattle.std.specs.Str.{bytes_eq}
+use Rattle.xl_lists.specs.Lists.{is_on}
 use Rattle.xl_sched.specs.declared.limits.TheConstants.{MOST_NAMES}
 use Rattle.xl_sched.specs.declared.named.Named.{Named}
 use Rattle.xl_sched.specs.declared.refusal.SchedRefusal.{SchedRefusal}
@@ -13,7 +14,7 @@ use Rattle.xl_sched.specs.declared.word.Word.{Word}
 use Rattle.xl_sched.specs.declared.word.Word.TheVariants as word
 use Rattle.xl_sched.specs.Refusals.{◌>>=◌}
 use Rattle.xl_sched.specs.Numbers.{number_of, place_of}
-use Rattle.xl_sched.specs.Names.{id_of, new_name_of}
+use Rattle.xl_sched.specs.Names.{id_of, id_named, new_name_of}
 use Rattle.xl_sched.specs.Members.{declared_of, new_member_of, members_of, trusted_of, validating_of, full_of}
 
 -- what a reader knows of the lines that it has read
@@ -129,3 +130,15 @@ line_if_word reading sent (Some word) token arguments = line_of reading sent wor
 -- the line that begins with this token
 abbrev pub worded_line : Reading → ℕ → List ℕ → List (List ℕ) → Result Line SchedRefusal
 worded_line reading sent token arguments = line_if_word reading sent (word_of token) token arguments
+
+-- an event of declared nodes and sent frames
+abbrev pub IsFitEvent : Reading → ℕ → Event → Type 0
+IsFitEvent reading sent (event.Issue at node seq id full) = is_on reading.nodes node ≡ true
+IsFitEvent reading sent (event.Deliver at place) = (1 ≤ place) × (place ≤ sent)
+IsFitEvent reading sent (event.Restart at node) = is_on reading.nodes node ≡ true
+
+-- a line that declares nothing twice, or such an event
+abbrev pub IsFit : Reading → ℕ → Line → Type 0
+IsFit reading sent (line.Node me list validating) = is_on reading.nodes me ≡ false
+IsFit reading sent (line.Name name id) = id_named reading.names name ≡ None
+IsFit reading sent (line.Event event) = IsFitEvent reading sent event

@@ -1,4 +1,4 @@
-ghost use Rattle.std.specs.Prelude.{◌≡◌, ◌++◌, ◌∷◌, [], OnOk, OnErr};
+ghost use Rattle.std.specs.Prelude.{◌≡◌, ◌++◌, ◌∷◌, [], true, false, IfOk, OnOk, OnErr};
 ghost use Rattle.xl_lists.specs.Lists.{is_on};
 ghost use Rattle.xl_sched.specs.Members.{declared_of, new_member_of};
 
@@ -39,7 +39,8 @@ impl Nodes {
 
     /// A node that is declared.
     pub fn declared<'a>(&self, token: &'a [u8]) -> Result<NodeNo, Fault<'a>>
-        ensures { result ≡ declared_of self.now token.now }
+        ensures value { result ≡ declared_of self.now token.now }
+        ensures declared { IfOk result (λ node. is_on self.now node ≡ true) }
     {
         let node = member(token)?;
         if self.has(node) {
@@ -51,7 +52,8 @@ impl Nodes {
 
     /// A number that may still be declared.
     pub fn undeclared<'a>(&self, token: &'a [u8]) -> Result<NodeNo, Fault<'a>>
-        ensures { result ≡ new_member_of self.now token.now }
+        ensures value { result ≡ new_member_of self.now token.now }
+        ensures new { IfOk result (λ node. is_on self.now node ≡ false) }
     {
         let node = member(token)?;
         if self.has(node) {

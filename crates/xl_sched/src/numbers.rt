@@ -1,4 +1,4 @@
-ghost use Rattle.std.specs.Prelude.{◌≡◌, ◌<◌, ◌^◌, IsTrue, SomeIff};
+ghost use Rattle.std.specs.Prelude.{◌≡◌, ◌<◌, ◌≤◌, ◌^◌, IsTrue, IfOk, SomeIff};
 ghost use Rattle.std.specs.List.{list_all};
 ghost use Rattle.std.specs.Char.{is_ascii_digit};
 ghost use Rattle.xl_sched.specs.Numbers.{is_number, value_of, number_within as number_within_of, number_of, place_of};
@@ -29,7 +29,8 @@ pub fn number<'a>(token: &'a [u8]) -> Result<u32, Fault<'a>>
 
 /// The place of one of the frames sent so far.
 pub fn place<'a>(token: &'a [u8], sent: u64) -> Result<u64, Fault<'a>>
-    ensures { result ≡ place_of sent token.now }
+    ensures value { result ≡ place_of sent token.now }
+    ensures sent { IfOk result (λ place. (1 ≤ place) × (place ≤ sent)) }
 {
     if !is_number(token) {
         return Err(Fault::with_text(Cause::Number, token));

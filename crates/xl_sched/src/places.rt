@@ -38,7 +38,13 @@ impl Places {
     }
 
     /// Keeps the place of a new name, and of its id unless that has one.
-    pub fn insert(&mut self, name: &[u8], id: &LedgerId, place: usize, alloc: Global) -> Result<(), OutOfMemory>
+    pub fn insert(
+        &mut self,
+        name: &[u8],
+        id: &LedgerId,
+        place: usize,
+        alloc: Global,
+    ) -> Result<(), OutOfMemory>
         requires { place_of_name self.old name.now ≡ None }
         ensures more { OnOk result (HasPlaceMore self.old self.new name.now id.now.0 place) }
         ensures kept { OnErr result (HasSamePlaces self.old self.new) }

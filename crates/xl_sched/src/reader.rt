@@ -1,6 +1,6 @@
 mod words;
 
-ghost use Rattle.std.specs.Prelude.{◌≡◌, ◌⊎◌, ◌≤◌, ◌<◌, OnOk, OnErr, IfOk, IfErr, option_copied};
+ghost use Rattle.std.specs.Prelude.{◌≡◌, ◌⊎◌, ◌≤◌, ◌<◌, OnOk, OnErr, IfOk, IfErr, IfSome, option_copied};
 ghost use Rattle.xl_sched.specs.Reading.{header_line, is_comment};
 ghost use Rattle.xl_sched.specs.declared.limits.TheConstants.{MOST_LINES};
 
@@ -48,7 +48,7 @@ impl Model for Reader {
 }
 
 impl Reader {
-    ghost use Rattle.xl_sched.specs.Words.{Reading};
+    ghost use Rattle.xl_sched.specs.Words.{IsFit};
     ghost use Rattle.xl_sched.specs.Names.{name_of};
     ghost use Rattle.xl_sched.specs.Refusals.{GivenMemory};
     ghost use Rattle.xl_sched.specs.Reading.{opened, reading_of, refuses, answered, after, line_of_tokens, later_line};
@@ -78,6 +78,7 @@ impl Reader {
         ensures read { IfOk result (λ read. reading_of self.old sent line.now ≡ answered read self.new) }
         ensures refused { IfErr result (λ refusal.
             (refusal ≡ SchedRefusal.OutOfMemory) ⊎ (reading_of self.old sent line.now ≡ refuses refusal)) }
+        ensures fit { IfOk result (λ read. IfSome read (IsFit self.old sent)) }
         ensures kept { OnErr result (self.new ≡ self.old) }
     {
         let alloc = self.alloc;
@@ -91,6 +92,7 @@ impl Reader {
         ensures read { IfOk result (λ read. reading_of self.old sent line.now ≡ answered read self.new) }
         ensures refused { IfErr result (λ refusal.
             (refusal ≡ SchedRefusal.OutOfMemory) ⊎ (reading_of self.old sent line.now ≡ refuses refusal)) }
+        ensures fit { IfOk result (λ read. IfSome read (IsFit self.old sent)) }
         ensures kept { OnErr result (self.new ≡ self.old) }
     {
         if line.len() > MOST_BYTES {
@@ -101,7 +103,7 @@ impl Reader {
         }
         let read = self.line(Tokens::of(line), sent)?;
         match &read {
-            Some(line) => self.learn(line)?,
+            Some(line) => self.learn(line, sent)?,
             None => self.lines += 1,
         }
         Ok(read)
@@ -109,7 +111,8 @@ impl Reader {
 
     /// What the line of these tokens says.
     fn line<'a>(&self, tokens: Tokens<'a>, sent: u64) -> Result<Option<Line>, Fault<'a>>
-        ensures { GivenMemory result (line_of_tokens self.now sent tokens.entry) }
+        ensures value { GivenMemory result (line_of_tokens self.now sent tokens.entry) }
+        ensures fit { IfOk result (λ read. IfSome read (IsFit self.now sent)) }
     {
         if self.lines == 0 {
             header(tokens)
@@ -119,7 +122,8 @@ impl Reader {
     }
 
     fn later_line<'a>(&self, mut tokens: Tokens<'a>, sent: u64) -> Result<Option<Line>, Fault<'a>>
-        ensures { GivenMemory result (later_line self.now sent tokens.entry) }
+        ensures value { GivenMemory result (later_line self.now sent tokens.entry) }
+        ensures fit { IfOk result (λ read. IfSome read (IsFit self.now sent)) }
     {
         match tokens.next() {
             None => Ok(None),
@@ -129,8 +133,9 @@ impl Reader {
     }
 
     /// Counts a line, and takes in what it says.
-    fn learn(&mut self, line: &Line) -> Result<(), OutOfMemory>
-        requires { self.old.lines < MOST_LINES }
+    fn learn(&mut self, line: &Line, sent: u64) -> Result<(), OutOfMemory>
+        requires more { self.old.lines < MOST_LINES }
+        requires fit { IsFit self.old sent line.now }
         ensures learnt { OnOk result (self.new ≡ after self.old line.now) }
         ensures kept { OnErr result (self.new ≡ self.old) }
     {

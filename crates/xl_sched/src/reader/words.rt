@@ -1,4 +1,4 @@
-ghost use Rattle.std.specs.Prelude.{◌≡◌, option_copied};
+ghost use Rattle.std.specs.Prelude.{◌≡◌, ℕ, IfOk, option_copied};
 
 use crate::event::Event;
 use crate::fault::{Cause, Fault};
@@ -13,7 +13,7 @@ use xl_base::Bytes;
 
 impl Reader {
     ghost use Rattle.xl_sched.specs.Refusals.{GivenMemory};
-    ghost use Rattle.xl_sched.specs.Words.{worded_line, unless_late, node_line, node_of, mode_of, name_line, issue_event, deliver_event, restart_event};
+    ghost use Rattle.xl_sched.specs.Words.{worded_line, unless_late, node_line, node_of, mode_of, name_line, issue_event, deliver_event, restart_event, IsFit, IsFitEvent};
 
     /// The line of a first token, and of the tokens after it.
     pub(super) fn worded_line<'a>(
@@ -22,7 +22,8 @@ impl Reader {
         arguments: Tokens<'a>,
         sent: u64,
     ) -> Result<Line, Fault<'a>>
-        ensures { GivenMemory result (worded_line self.now sent token.now arguments.entry) }
+        ensures value { GivenMemory result (worded_line self.now sent token.now arguments.entry) }
+        ensures fit { IfOk result (IsFit self.now sent) }
     {
         match Word::of(token) {
             None => Err(Fault::with_text(Cause::Word, token)),
@@ -35,7 +36,8 @@ impl Reader {
     }
 
     fn node_in_time<'a>(&self, token: &'a [u8], arguments: Tokens<'a>) -> Result<Line, Fault<'a>>
-        ensures { GivenMemory result (unless_late self.now token.now (node_line self.now arguments.entry)) }
+        ensures value { GivenMemory result (unless_late self.now token.now (node_line self.now arguments.entry)) }
+        ensures fit { IfOk result (λ line. (sent : ℕ) → IsFit self.now sent line) }
     {
         if self.started {
             return Err(Fault::with_text(Cause::Late, token));
@@ -45,7 +47,8 @@ impl Reader {
 
     /// `node i q list`, and `node i q list observing`.
     fn node<'a>(&self, mut arguments: Tokens<'a>) -> Result<Line, Fault<'a>>
-        ensures { GivenMemory result (node_line self.now arguments.entry) }
+        ensures value { GivenMemory result (node_line self.now arguments.entry) }
+        ensures fit { IfOk result (λ line. (sent : ℕ) → IsFit self.now sent line) }
     {
         let count = arguments.count();
         if count != 3 && count != 4 {
@@ -64,7 +67,8 @@ impl Reader {
         list: &'a [u8],
         mode: Option<&'a [u8]>,
     ) -> Result<Line, Fault<'a>>
-        ensures { GivenMemory result (node_of self.now me.now quorum.now list.now (mode_of (option_copied mode.entry))) }
+        ensures value { GivenMemory result (node_of self.now me.now quorum.now list.now (mode_of (option_copied mode.entry))) }
+        ensures fit { IfOk result (λ line. (sent : ℕ) → IsFit self.now sent line) }
     {
         let me = self.nodes.undeclared(me)?;
         let quorum = number(quorum)?;
@@ -83,7 +87,8 @@ impl Reader {
 
     /// `name w id`. Too many names are refused before all else.
     fn name<'a>(&self, arguments: Tokens<'a>) -> Result<Line, Fault<'a>>
-        ensures { GivenMemory result (name_line self.now arguments.entry) }
+        ensures value { GivenMemory result (name_line self.now arguments.entry) }
+        ensures fit { IfOk result (λ line. (sent : ℕ) → IsFit self.now sent line) }
     {
         if self.names.len() > MOST_NAMES {
             return Err(Fault::with_number(Cause::Limit, MOST_NAMES as u64));
@@ -100,7 +105,8 @@ impl Reader {
 
     /// `issue i seq id full`, or `partial`.
     fn issue<'a>(&self, arguments: Tokens<'a>) -> Result<Event, Fault<'a>>
-        ensures { result ≡ issue_event self.now arguments.entry }
+        ensures value { result ≡ issue_event self.now arguments.entry }
+        ensures fit { IfOk result (λ event. (sent : ℕ) → IsFitEvent self.now sent event) }
     {
         let (node, seq, id, kind) = arguments.four()?;
         Ok(Event::Issue {
@@ -114,7 +120,8 @@ impl Reader {
 
     /// `deliver k`.
     fn deliver<'a>(&self, arguments: Tokens<'a>, sent: u64) -> Result<Event, Fault<'a>>
-        ensures { result ≡ deliver_event self.now sent arguments.entry }
+        ensures value { result ≡ deliver_event self.now sent arguments.entry }
+        ensures fit { IfOk result (IsFitEvent self.now sent) }
     {
         let number = arguments.one()?;
         Ok(Event::Deliver {
@@ -125,7 +132,8 @@ impl Reader {
 
     /// `restart i`.
     fn restart<'a>(&self, arguments: Tokens<'a>) -> Result<Event, Fault<'a>>
-        ensures { result ≡ restart_event self.now arguments.entry }
+        ensures value { result ≡ restart_event self.now arguments.entry }
+        ensures fit { IfOk result (λ event. (sent : ℕ) → IsFitEvent self.now sent event) }
     {
         let node = arguments.one()?;
         Ok(Event::Restart {
