@@ -1,0 +1,5 @@
+pub mod TokenLemmas
+pub mod NumberLemmas
+pub mod MemberLemmas
+pub mod PlaceLemmas
+pub mod NameLemmas

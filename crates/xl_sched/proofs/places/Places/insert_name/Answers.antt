@@ -1,0 +1,9 @@
+use Rattle.std.proofs.Common.{◌≡◌, ap, sym, ◌∙◌, cond, Some, List, ℕ}
+use Rattle.std.specs.Map.{lookup}
+use Rattle.std.specs.BTreeMap.{get_by}
+use Rattle.xl_sched.specs.Places.{place_of_name}
+use Rattle.xl_sched.proofs.PlaceLemmas.{looks_up-inserted}
+use Rattle.xl_sched.proofs.places.Places.insert_name.Goals as goal
+
+pub returns-clause-names : goal.returns-clause-names
+returns-clause-names c = λ other. looks_up-inserted (λ key. key.items) other _ _ c.args.place _ _ c.in_ok-from_slice.ensures.items c.in_ok-insert.ensures.entries

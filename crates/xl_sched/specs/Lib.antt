@@ -1,0 +1,9 @@
+pub mod Tokens
+pub mod Refusals
+pub mod Faults
+pub mod Numbers
+pub mod Names
+pub mod Places
+pub mod Members
+pub mod Words
+pub mod Reading

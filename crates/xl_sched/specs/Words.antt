@@ -1,0 +1,144 @@
+-- The lines of a schedule, word by word. Source: this project's schedule language.
+use Rattle.std.specs.Prelude.{◌≡◌, ◌≤◌, ℕ, ◌+◌, ◌==◌, Bool, true, false, nat_lt, List, [], ◌∷◌, ◌++◌, length, decimal, codes, Option, Some, None, Result, Ok, Err, if◌then◌else◌}
+use Rattle.std.specs.Str.{bytes_eq}
+use Rattle.xl_lists.specs.Lists.{is_on}
+use Rattle.xl_sched.specs.declared.limits.TheConstants.{MOST_NAMES}
+use Rattle.xl_sched.specs.declared.named.Named.{Named}
+use Rattle.xl_sched.specs.declared.refusal.SchedRefusal.{SchedRefusal}
+use Rattle.xl_sched.specs.declared.refusal.SchedRefusal.TheVariants.{Limit, Word as IsNoWord, Count, Late}
+use Rattle.xl_sched.specs.declared.event.Event.{Event}
+use Rattle.xl_sched.specs.declared.event.Event.TheVariants as event
+use Rattle.xl_sched.specs.declared.line.Line.{Line}
+use Rattle.xl_sched.specs.declared.line.Line.TheVariants as line
+use Rattle.xl_sched.specs.declared.word.Word.{Word}
+use Rattle.xl_sched.specs.declared.word.Word.TheVariants as word
+use Rattle.xl_sched.specs.Refusals.{◌>>=◌}
+use Rattle.xl_sched.specs.Numbers.{number_of, place_of}
+use Rattle.xl_sched.specs.Names.{id_of, id_named, new_name_of}
+use Rattle.xl_sched.specs.Members.{declared_of, new_member_of, members_of, trusted_of, validating_of, full_of}
+
+-- what a reader knows of the lines that it has read
+pub record Reading : Type 0 where
+  -- how many they were
+  pub lines : ℕ
+  -- the moment in force, in milliseconds
+  pub now : ℕ
+  -- whether an event was among them
+  pub started : Bool
+  -- the honest nodes in the order of their declaration
+  pub nodes : List ℕ
+  -- the names in the order of their declaration, `root` first
+  pub names : List Named
+
+-- the word that a line begins with
+abbrev pub word_of : List ℕ → Option Word
+word_of token =
+    if bytes_eq token (codes "node") then Some word.Node
+    else if bytes_eq token (codes "name") then Some word.Name
+    else if bytes_eq token (codes "issue") then Some word.Issue
+    else if bytes_eq token (codes "deliver") then Some word.Deliver
+    else if bytes_eq token (codes "restart") then Some word.Restart
+    else None
+
+-- so many tokens no line of the word has, the word counted
+abbrev pub miscounted : {A : Type 0} → List (List ℕ) → Result A SchedRefusal
+miscounted arguments = Err (Count (decimal (length arguments + 1)))
+
+-- a declaration comes too late after the first event
+abbrev pub unless_late : Reading → List ℕ → Result Line SchedRefusal → Result Line SchedRefusal
+unless_late reading token line = if reading.started then Err (Late token) else line
+
+-- a node validates, unless another mode is written
+abbrev pub mode_of : Option (List ℕ) → Result Bool SchedRefusal
+mode_of None = Ok true
+mode_of (Some token) = validating_of token
+
+-- the parts of a node's line from left to right, and then its list
+abbrev pub node_of : Reading → List ℕ → List ℕ → List ℕ → Result Bool SchedRefusal → Result Line SchedRefusal
+node_of reading number quorum members mode = do
+  me ← new_member_of reading.nodes number
+  least ← number_of quorum
+  numbers ← members_of members
+  validating ← mode
+  list ← trusted_of numbers least
+  Ok (line.Node me list validating)
+
+-- `node i q list`, and `node i q list observing`
+abbrev pub node_line : Reading → List (List ℕ) → Result Line SchedRefusal
+node_line reading (number ∷ quorum ∷ members ∷ []) = node_of reading number quorum members (mode_of None)
+node_line reading (number ∷ quorum ∷ members ∷ mode ∷ []) = node_of reading number quorum members (mode_of (Some mode))
+node_line reading arguments = miscounted arguments
+
+-- whether as many names are declared as may be, `root` not counted
+abbrev pub has_most_names : Reading → Bool
+has_most_names reading = nat_lt MOST_NAMES (length reading.names)
+
+-- `name w id`
+abbrev pub named_line : Reading → List (List ℕ) → Result Line SchedRefusal
+named_line reading (name ∷ id ∷ []) = do
+  fresh ← new_name_of reading.names name
+  ledger ← id_of reading.names id
+  Ok (line.Name fresh ledger)
+named_line reading arguments = miscounted arguments
+
+-- the limit is tested before all else
+abbrev pub name_line : Reading → List (List ℕ) → Result Line SchedRefusal
+name_line reading arguments =
+    if has_most_names reading then Err (Limit (decimal MOST_NAMES)) else named_line reading arguments
+
+-- `issue i seq id full`, or `partial`
+abbrev pub issue_event : Reading → List (List ℕ) → Result Event SchedRefusal
+issue_event reading (number ∷ sequence ∷ id ∷ kind ∷ []) = do
+  node ← declared_of reading.nodes number
+  seq ← number_of sequence
+  ledger ← id_of reading.names id
+  full ← full_of kind
+  Ok (event.Issue reading.now node seq ledger full)
+issue_event reading arguments = miscounted arguments
+
+-- `deliver k`
+abbrev pub deliver_event : Reading → ℕ → List (List ℕ) → Result Event SchedRefusal
+deliver_event reading sent (number ∷ []) = do
+  place ← place_of sent number
+  Ok (event.Deliver reading.now place)
+deliver_event reading sent arguments = miscounted arguments
+
+-- `restart i`
+abbrev pub restart_event : Reading → List (List ℕ) → Result Event SchedRefusal
+restart_event reading (number ∷ []) = do
+  node ← declared_of reading.nodes number
+  Ok (event.Restart reading.now node)
+restart_event reading arguments = miscounted arguments
+
+abbrev pub event_line : Result Event SchedRefusal → Result Line SchedRefusal
+event_line result = do
+  event ← result
+  Ok (line.Event event)
+
+-- the line of a word and the tokens after it
+abbrev pub line_of : Reading → ℕ → Word → List ℕ → List (List ℕ) → Result Line SchedRefusal
+line_of reading sent word.Node token arguments = unless_late reading token (node_line reading arguments)
+line_of reading sent word.Name token arguments = name_line reading arguments
+line_of reading sent word.Issue token arguments = event_line (issue_event reading arguments)
+line_of reading sent word.Deliver token arguments = event_line (deliver_event reading sent arguments)
+line_of reading sent word.Restart token arguments = event_line (restart_event reading arguments)
+
+abbrev pub line_if_word : Reading → ℕ → Option Word → List ℕ → List (List ℕ) → Result Line SchedRefusal
+line_if_word reading sent None token arguments = Err (IsNoWord token)
+line_if_word reading sent (Some word) token arguments = line_of reading sent word token arguments
+
+-- the line that begins with this token
+abbrev pub worded_line : Reading → ℕ → List ℕ → List (List ℕ) → Result Line SchedRefusal
+worded_line reading sent token arguments = line_if_word reading sent (word_of token) token arguments
+
+-- an event of declared nodes and sent frames
+abbrev pub IsFitEvent : Reading → ℕ → Event → Type 0
+IsFitEvent reading sent (event.Issue at node seq id full) = is_on reading.nodes node ≡ true
+IsFitEvent reading sent (event.Deliver at place) = (1 ≤ place) × (place ≤ sent)
+IsFitEvent reading sent (event.Restart at node) = is_on reading.nodes node ≡ true
+
+-- a line that declares nothing twice, or such an event
+abbrev pub IsFit : Reading → ℕ → Line → Type 0
+IsFit reading sent (line.Node me list validating) = is_on reading.nodes me ≡ false
+IsFit reading sent (line.Name name id) = id_named reading.names name ≡ None
+IsFit reading sent (line.Event event) = IsFitEvent reading sent event

@@ -1,0 +1,8 @@
+/// The most lines of a schedule.
+pub const MOST_LINES: u32 = 1_000_000;
+
+/// The most bytes of a line, without the byte that ends it.
+pub const MOST_BYTES: usize = 17_000;
+
+/// The most names that a schedule declares; `root` isn't counted.
+pub const MOST_NAMES: usize = 4_096;

@@ -1,0 +1,64 @@
+ghost use Rattle.std.specs.Prelude.{◌≡◌, ◌⊎◌, Ok, Err, MatchResult};
+ghost use Rattle.xl_sched.specs.Members.{member_of, members_of, trusted_of, validating_of, full_of};
+ghost use Rattle.xl_sched.specs.declared.refusal.SchedRefusal.TheVariants.{OutOfMemory};
+
+use crate::fault::{Cause, Fault};
+use crate::numbers::{number, number_within};
+use std::alloc::Global;
+use xl_base::NodeNo;
+use xl_lists::List;
+
+/// A member's number.
+pub fn member<'a>(token: &'a [u8]) -> Result<NodeNo, Fault<'a>>
+    ensures { result ≡ member_of token.now }
+{
+    let number = number_within(token, 1, 64)?;
+    NodeNo::new(number as u32).ok_or(Fault::with_text(Cause::Number, token))
+}
+
+/// Numbers that are joined by commas, or the first entry that is none.
+pub fn members<'a>(alloc: Global, token: &'a [u8]) -> Result<Vec<u32>, Fault<'a>>
+    ensures { MatchResult result
+        (λ numbers. members_of token.now ≡ Ok numbers.items)
+        (λ fault. (fault ≡ OutOfMemory) ⊎ (members_of token.now ≡ Err fault)) }
+{
+    let mut numbers = Vec::new(alloc);
+    for entry in token.split(|&b| b == b',') {
+        numbers.push(number(entry)?)?;
+    }
+    Ok(numbers)
+}
+
+/// The list of these members and this quorum.
+pub fn trusted<'a>(members: &[u32], quorum: u32) -> Result<List, Fault<'a>>
+    ensures { result ≡ trusted_of members.now quorum }
+{
+    match List::new(members, quorum) {
+        Ok(list) => Ok(list),
+        Err(refusal) => Err(Fault::with_number(Cause::List, u64::from(refusal.code()))),
+    }
+}
+
+/// Whether a node validates: not where the token is `observing`.
+pub fn validating<'a>(token: &'a [u8]) -> Result<bool, Fault<'a>>
+    ensures { result ≡ validating_of token.now }
+{
+    if token == b"observing".as_slice() {
+        Ok(false)
+    } else {
+        Err(Fault::with_text(Cause::Choice, token))
+    }
+}
+
+/// Whether the token is `full`, and not `partial`.
+pub fn full<'a>(token: &'a [u8]) -> Result<bool, Fault<'a>>
+    ensures { result ≡ full_of token.now }
+{
+    if token == b"full".as_slice() {
+        Ok(true)
+    } else if token == b"partial".as_slice() {
+        Ok(false)
+    } else {
+        Err(Fault::with_text(Cause::Choice, token))
+    }
+}

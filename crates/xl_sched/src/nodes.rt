@@ -1,0 +1,73 @@
+ghost use Rattle.std.specs.Prelude.{◌≡◌, ◌++◌, ◌∷◌, [], true, false, IfOk, OnOk, OnErr};
+ghost use Rattle.xl_lists.specs.Lists.{is_on};
+ghost use Rattle.xl_sched.specs.Members.{declared_of, new_member_of};
+
+use crate::fault::{Cause, Fault};
+use crate::members::member;
+use std::alloc::{AllocError, Global};
+use std::marker::Model;
+use xl_base::NodeNo;
+
+/// The declared nodes in the order of their declaration. Contracts see them as a list of numbers.
+#[derive(Debug, Drop)]
+pub struct Nodes {
+    numbers: Vec<NodeNo>,
+}
+
+impl Model for Nodes {
+    ghost use Rattle.std.specs.Prelude.{ℕ, List};
+
+    ghost Value = { List ℕ };
+
+    ghost view = { λ nodes. nodes.numbers.items };
+}
+
+impl Nodes {
+    pub fn new(alloc: Global) -> Self
+        ensures { result ≡ [] }
+    {
+        Nodes {
+            numbers: Vec::new(alloc),
+        }
+    }
+
+    fn has(&self, node: NodeNo) -> bool
+        ensures { result ≡ is_on self.now node }
+    {
+        self.numbers.iter().any(|number| node == *number)
+    }
+
+    /// A node that is declared.
+    pub fn declared<'a>(&self, token: &'a [u8]) -> Result<NodeNo, Fault<'a>>
+        ensures value { result ≡ declared_of self.now token.now }
+        ensures declared { IfOk result (λ node. is_on self.now node ≡ true) }
+    {
+        let node = member(token)?;
+        if self.has(node) {
+            Ok(node)
+        } else {
+            Err(Fault::with_text(Cause::Absent, token))
+        }
+    }
+
+    /// A number that may still be declared.
+    pub fn undeclared<'a>(&self, token: &'a [u8]) -> Result<NodeNo, Fault<'a>>
+        ensures value { result ≡ new_member_of self.now token.now }
+        ensures new { IfOk result (λ node. is_on self.now node ≡ false) }
+    {
+        let node = member(token)?;
+        if self.has(node) {
+            Err(Fault::with_text(Cause::Twice, token))
+        } else {
+            Ok(node)
+        }
+    }
+
+    pub fn declare(&mut self, node: NodeNo) -> Result<(), AllocError>
+        ensures declared { OnOk result (self.new ≡ self.old ++ node ∷ []) }
+        ensures kept { OnErr result (self.new ≡ self.old) }
+    {
+        self.numbers.push(node)?;
+        Ok(())
+    }
+}

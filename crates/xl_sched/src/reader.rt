@@ -1,0 +1,184 @@
+mod words;
+
+ghost use Rattle.std.specs.Prelude.{◌≡◌, ◌⊎◌, ◌≤◌, ◌<◌, OnOk, OnErr, IfOk, IfErr, IfSome, option_copied};
+ghost use Rattle.xl_sched.specs.Reading.{header_line, is_comment};
+ghost use Rattle.xl_sched.specs.declared.limits.TheConstants.{MOST_LINES};
+
+use crate::fault::{Cause, Fault};
+use crate::limits::{MOST_BYTES, MOST_LINES};
+use crate::line::Line;
+use crate::names::Names;
+use crate::nodes::Nodes;
+use crate::refusal::SchedRefusal;
+use crate::tokens::Tokens;
+use std::alloc::Global;
+use std::marker::Model;
+use xl_base::{LedgerId, Millis, OutOfMemory};
+
+/// The moment in force before a line says another.
+const FIRST_MOMENT: Millis = 1_000;
+
+/// Reads a schedule line by line. Contracts see what it knows of the lines that it has read.
+#[derive(Debug, Drop)]
+pub struct Reader {
+    lines: u32,
+    moment: Millis,
+    started: bool,
+    nodes: Nodes,
+    names: Names,
+    alloc: Global,
+}
+
+impl Model for Reader {
+    ghost use Rattle.std.specs.Prelude.{◌≤◌};
+    ghost use Rattle.xl_sched.specs.declared.limits.TheConstants.{MOST_LINES};
+    ghost use Rattle.xl_sched.specs.Words.{Reading};
+
+    ghost Value = { Reading };
+
+    ghost view = { λ r. record {
+      lines = r.lines;
+      now = r.moment;
+      started = r.started;
+      nodes = r.nodes;
+      names = r.names;
+    } };
+
+    ghost invariant = { λ r. r.lines ≤ MOST_LINES };
+}
+
+impl Reader {
+    ghost use Rattle.xl_sched.specs.Words.{IsFit};
+    ghost use Rattle.xl_sched.specs.Names.{name_of};
+    ghost use Rattle.xl_sched.specs.Refusals.{GivenMemory};
+    ghost use Rattle.xl_sched.specs.Reading.{opened, reading_of, refuses, answered, after, line_of_tokens, later_line};
+
+    /// A reader before the first line: no node is declared, and `root` stands for 32 zero bytes.
+    pub fn open(alloc: Global) -> Result<Reader, OutOfMemory>
+        ensures { IfOk result (λ reader. reader ≡ opened) }
+    {
+        Ok(Reader {
+            lines: 0,
+            moment: FIRST_MOMENT,
+            started: false,
+            nodes: Nodes::new(alloc),
+            names: Names::with_root(alloc)?,
+            alloc,
+        })
+    }
+
+    /// Reads the next line, without the byte that ends it, where so many frames were sent so far. None comes exactly for
+    /// the header, an empty line and a comment.
+    ///
+    /// Refused with the first of the causes that holds: the line is too long; there are too many lines, or names; line 1
+    /// is no header; the first token is no word; a declaration comes after an event; no line of the word has so many
+    /// tokens; a token, from left to right, is no number, no id, no choice, was declared before or isn't declared; the
+    /// numbers are no list. Or memory was wanting.
+    pub fn read_line(&mut self, line: &[u8], sent: u64) -> Result<Option<Line>, SchedRefusal>
+        ensures read { IfOk result (λ read. reading_of self.old sent line.now ≡ answered read self.new) }
+        ensures refused { IfErr result (λ refusal.
+            (refusal ≡ SchedRefusal.OutOfMemory) ⊎ (reading_of self.old sent line.now ≡ refuses refusal)) }
+        ensures fit { IfOk result (λ read. IfSome read (IsFit self.old sent)) }
+        ensures kept { OnErr result (self.new ≡ self.old) }
+    {
+        let alloc = self.alloc;
+        match self.read(line, sent) {
+            Ok(read) => Ok(read),
+            Err(fault) => Err(fault.refusal(alloc)),
+        }
+    }
+
+    fn read<'a>(&mut self, line: &'a [u8], sent: u64) -> Result<Option<Line>, Fault<'a>>
+        ensures read { IfOk result (λ read. reading_of self.old sent line.now ≡ answered read self.new) }
+        ensures refused { IfErr result (λ refusal.
+            (refusal ≡ SchedRefusal.OutOfMemory) ⊎ (reading_of self.old sent line.now ≡ refuses refusal)) }
+        ensures fit { IfOk result (λ read. IfSome read (IsFit self.old sent)) }
+        ensures kept { OnErr result (self.new ≡ self.old) }
+    {
+        if line.len() > MOST_BYTES {
+            return Err(Fault::with_number(Cause::LongLine, MOST_BYTES as u64));
+        }
+        if self.lines == MOST_LINES {
+            return Err(Fault::with_number(Cause::Limit, u64::from(MOST_LINES)));
+        }
+        let read = self.line(Tokens::of(line), sent)?;
+        match &read {
+            Some(line) => self.learn(line, sent)?,
+            None => self.lines += 1,
+        }
+        Ok(read)
+    }
+
+    /// What the line of these tokens says.
+    fn line<'a>(&self, tokens: Tokens<'a>, sent: u64) -> Result<Option<Line>, Fault<'a>>
+        ensures value { GivenMemory result (line_of_tokens self.now sent tokens.entry) }
+        ensures fit { IfOk result (λ read. IfSome read (IsFit self.now sent)) }
+    {
+        if self.lines == 0 {
+            header(tokens)
+        } else {
+            self.later_line(tokens, sent)
+        }
+    }
+
+    fn later_line<'a>(&self, mut tokens: Tokens<'a>, sent: u64) -> Result<Option<Line>, Fault<'a>>
+        ensures value { GivenMemory result (later_line self.now sent tokens.entry) }
+        ensures fit { IfOk result (λ read. IfSome read (IsFit self.now sent)) }
+    {
+        match tokens.next() {
+            None => Ok(None),
+            Some(token) if is_comment(token) => Ok(None),
+            Some(token) => Ok(Some(self.worded_line(token, tokens, sent)?)),
+        }
+    }
+
+    /// Counts a line, and takes in what it says.
+    fn learn(&mut self, line: &Line, sent: u64) -> Result<(), OutOfMemory>
+        requires more { self.old.lines < MOST_LINES }
+        requires fit { IsFit self.old sent line.now }
+        ensures learnt { OnOk result (self.new ≡ after self.old line.now) }
+        ensures kept { OnErr result (self.new ≡ self.old) }
+    {
+        match line {
+            Line::Node { me, .. } => self.nodes.declare(*me)?,
+            Line::Name { name, id } => self.names.declare(name.as_slice(), *id, self.alloc)?,
+            Line::Event(_) => self.started = true,
+        }
+        self.lines += 1;
+        Ok(())
+    }
+
+    /// How many lines were read, the refused ones not counted; at most 1,000,000.
+    pub fn lines(&self) -> u64
+        ensures value { result ≡ self.now.lines }
+        ensures most { result ≤ MOST_LINES }
+    {
+        u64::from(self.lines)
+    }
+
+    /// The first declared name that stands for an id.
+    pub fn name_of(&self, id: &LedgerId) -> Option<&[u8]>
+        ensures { option_copied result ≡ name_of self.now.names id.now }
+    {
+        self.names.name_of(id)
+    }
+}
+
+/// Line 1 must be the header.
+fn header<'a>(mut tokens: Tokens<'a>) -> Result<Option<Line>, Fault<'a>>
+    ensures { result ≡ header_line tokens.entry }
+{
+    let name = tokens.next().unwrap_or(b"".as_slice());
+    let version = tokens.next().unwrap_or(b"".as_slice());
+    if name == b"xl-schedule".as_slice() && version == b"1".as_slice() && tokens.next().is_none() {
+        Ok(None)
+    } else {
+        Err(Fault::with_text(Cause::Header, name))
+    }
+}
+
+fn is_comment(token: &[u8]) -> bool
+    ensures { result ≡ is_comment token.now }
+{
+    matches!(token, [b'#', ..])
+}

@@ -1,0 +1,33 @@
+ghost use Rattle.std.specs.Prelude.{◌≡◌};
+ghost use Rattle.xl_sched.specs.Words.{word_of};
+
+/// The words that a line may begin with.
+#[derive(Clone, Copy, Debug, PartialEq, Eq)]
+pub enum Word {
+    Node,
+    Name,
+    Issue,
+    Deliver,
+    Restart,
+}
+
+impl Word {
+    /// The word that the token is.
+    pub fn of(token: &[u8]) -> Option<Word>
+        ensures { result ≡ word_of token.now }
+    {
+        if token == b"node".as_slice() {
+            Some(Word::Node)
+        } else if token == b"name".as_slice() {
+            Some(Word::Name)
+        } else if token == b"issue".as_slice() {
+            Some(Word::Issue)
+        } else if token == b"deliver".as_slice() {
+            Some(Word::Deliver)
+        } else if token == b"restart".as_slice() {
+            Some(Word::Restart)
+        } else {
+            None
+        }
+    }
+}
