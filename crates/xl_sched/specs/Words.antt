@@ -2,6 +2,7 @@
 use Rattle.std.specs.Prelude.{◌≡◌, ◌≤◌, ℕ, ◌+◌, ◌==◌, Bool, true, false, nat_lt, List, [], ◌∷◌, ◌++◌, length, decimal, codes, Option, Some, None, Result, Ok, Err, if◌then◌else◌}
 use Rattle.std.specs.Str.{bytes_eq}
 use Rattle.xl_lists.specs.Lists.{is_on}
+use Rattle.xl_base.specs.declared.moments.TheConstants.{GREATEST_MILLIS}
 use Rattle.xl_sched.specs.declared.limits.TheConstants.{MOST_NAMES}
 use Rattle.xl_sched.specs.declared.named.Named.{Named}
 use Rattle.xl_sched.specs.declared.refusal.SchedRefusal.{SchedRefusal}
@@ -133,9 +134,9 @@ worded_line reading sent token arguments = line_if_word reading sent (word_of to
 
 -- an event of declared nodes and sent frames
 abbrev pub IsFitEvent : Reading → ℕ → Event → Type 0
-IsFitEvent reading sent (event.Issue at node seq id full) = is_on reading.nodes node ≡ true
-IsFitEvent reading sent (event.Deliver at place) = (1 ≤ place) × (place ≤ sent)
-IsFitEvent reading sent (event.Restart at node) = is_on reading.nodes node ≡ true
+IsFitEvent reading sent (event.Issue at node seq id full) = (at ≤ GREATEST_MILLIS) × (is_on reading.nodes node ≡ true)
+IsFitEvent reading sent (event.Deliver at place) = (at ≤ GREATEST_MILLIS) × (1 ≤ place) × (place ≤ sent)
+IsFitEvent reading sent (event.Restart at node) = (at ≤ GREATEST_MILLIS) × (is_on reading.nodes node ≡ true)
 
 -- a line that declares nothing twice, or such an event
 abbrev pub IsFit : Reading → ℕ → Line → Type 0

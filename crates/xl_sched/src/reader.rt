@@ -31,6 +31,7 @@ pub struct Reader {
 
 impl Model for Reader {
     ghost use Rattle.std.specs.Prelude.{◌≤◌};
+    ghost use Rattle.xl_base.specs.declared.moments.TheConstants.{GREATEST_MILLIS};
     ghost use Rattle.xl_sched.specs.declared.limits.TheConstants.{MOST_LINES};
     ghost use Rattle.xl_sched.specs.Words.{Reading};
 
@@ -44,7 +45,7 @@ impl Model for Reader {
       names = r.names;
     } };
 
-    ghost invariant = { λ r. r.lines ≤ MOST_LINES };
+    ghost invariant = { λ r. (r.lines ≤ MOST_LINES) × (r.moment ≤ GREATEST_MILLIS) };
 }
 
 impl Reader {

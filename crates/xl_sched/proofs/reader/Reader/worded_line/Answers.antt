@@ -1,0 +1,7 @@
+use Rattle.xl_sched.proofs.reader.Reader.worded_line.Goals as goal
+
+pub returns-in_ok-issue-in-Some-Issue-clause-fit : goal.returns-in_ok-issue-in-Some-Issue-clause-fit
+returns-in_ok-issue-in-Some-Issue-clause-fit c = c.in_ok-issue-in-Some-Issue.ensures.fit c.args.sent
+
+pub returns-in_ok-restart-in-Some-Restart-clause-fit : goal.returns-in_ok-restart-in-Some-Restart-clause-fit
+returns-in_ok-restart-in-Some-Restart-clause-fit c = c.in_ok-restart-in-Some-Restart.ensures.fit c.args.sent
