@@ -1,7 +1,7 @@
 // What an event does to one place, and what comes of it.
-ghost use Rattle.std.specs.Prelude.{◌≡◌, ◌==◌, true, Some, None, OnOk, OnErr, option_map, position};
+ghost use Rattle.std.specs.Prelude.{◌≡◌, ◌==◌, true, Some, None, OnOk, OnErr, option_copied, option_map, position};
 ghost use Rattle.xl_core.specs.Node.{happens, Issue, Comes};
-ghost use Rattle.xl_world.specs.World.{reported_by, place_after};
+ghost use Rattle.xl_world.specs.World.{reported_by, place_after, place_at};
 ghost use Rattle.xl_world.specs.Seen.{report_seen, event_seen, IsAnswer, acted_at, AnswersAt, restarted, restarted_at};
 
 use crate::WorldReport;
@@ -9,6 +9,7 @@ use crate::place::{Keeper, Place};
 use std::alloc::Global;
 use xl_base::{LedgerId, NodeNo, OutOfMemory, Secs, Seq};
 use xl_core::{Core, Refusal, Report};
+use xl_lists::List;
 use xl_wire::Validation;
 
 /// What may happen at a node.
@@ -117,6 +118,19 @@ pub fn place_of(places: &[Place], i: NodeNo) -> Option<usize>
     ensures { result ≡ position (λ p. p.node.me == i) places.now }
 {
     places.iter().position(|place| place.node.me() == i)
+}
+
+/// The list of the node of a number, where there is one.
+pub fn list_at(places: &[Place], i: NodeNo) -> Option<&List>
+    ensures { option_copied result ≡ option_map (λ p. p.node.list) (place_at i places.now) }
+{
+    match place_of(places, i) {
+        Some(k) => {
+            let place = &places[k];
+            Some(place.node.list())
+        }
+        None => None,
+    }
 }
 
 /// An event at the node of a number, where there is one.

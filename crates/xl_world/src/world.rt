@@ -1,4 +1,4 @@
-use crate::act::{NodeEvent, act_at, place_of, restart_at};
+use crate::act::{NodeEvent, act_at, list_at, restart_at};
 use crate::agreement::all_agree;
 use crate::place::{Place, Saying};
 use crate::sent::frame_at;
@@ -153,10 +153,7 @@ impl World {
     pub fn list_of(&self, node: NodeNo) -> Option<&List>
         ensures { option_copied result ≡ list_in self.now node }
     {
-        match place_of(&self.places, node) {
-            Some(k) => Some(self.places[k].node.list()),
-            None => None,
-        }
+        list_at(&self.places, node)
     }
 
     /// Every report of a node, in order.
