@@ -1,5 +1,5 @@
 -- The lines that a replay writes. Source: this project's own formats.
-use Rattle.std.specs.Prelude.{ℕ, ◌+◌, ◌-◌, nat_lt, List, [], ◌∷◌, ◌++◌, decimal, codes, unwrap_or, if◌then◌else◌}
+use Rattle.std.specs.Prelude.{ℕ, ◌+◌, ◌-◌, nat_lt, List, [], ◌∷◌, ◌++◌, decimal, codes, if◌then◌else◌}
 use Rattle.std.specs.Prelude.{Some, None}
 use Rattle.std.specs.declared.option.Option.{Option}
 use Rattle.std.specs.List.{flat_map}
@@ -26,9 +26,14 @@ space = codes " "
 abbrev pub newline : List ℕ
 newline = 10 ∷ []
 
--- an id is printed as the first declared name that stands for it, or as 64 lower-case digits
+-- a name is printed as any token is, and an id without one as 64 lower-case digits
+abbrev pub named_text : Option (List ℕ) → LedgerId → List ℕ
+named_text None id = encode_lower id.0
+named_text (Some name) id = shown_token name
+
+-- an id is printed by the first declared name that stands for it
 abbrev pub id_text : List Named → LedgerId → List ℕ
-id_text names id = unwrap_or (name_of names id) (encode_lower id.0)
+id_text names id = named_text (name_of names id) id
 
 -- the values of a refusal, parted by spaces
 abbrev pub values_text : List Named → Refusal → List ℕ

@@ -11,7 +11,14 @@ use xl_core::Refusal;
 use xl_sched::{Reader, SchedRefusal, printed_token};
 use xl_world::Outcome;
 
-fn push_refused(alloc: Global, text: &mut String, reader: &Reader, line: u64, node: NodeNo, refusal: &Refusal) -> Result<(), OutOfMemory>
+fn push_refused(
+    alloc: Global,
+    text: &mut String,
+    reader: &Reader,
+    line: u64,
+    node: NodeNo,
+    refusal: &Refusal,
+) -> Result<(), OutOfMemory>
     ensures { OnOk result (string_bytes text.new ≡ string_bytes text.old ++ outcome_line reader.now.names line (Outcome.Refused node refusal.now)) }
 {
     let number = node.get();
@@ -22,7 +29,15 @@ fn push_refused(alloc: Global, text: &mut String, reader: &Reader, line: u64, no
     Ok(())
 }
 
-fn push_full(alloc: Global, text: &mut String, reader: &Reader, line: u64, node: NodeNo, seq: Seq, id: &LedgerId) -> Result<(), OutOfMemory>
+fn push_full(
+    alloc: Global,
+    text: &mut String,
+    reader: &Reader,
+    line: u64,
+    node: NodeNo,
+    seq: Seq,
+    id: &LedgerId,
+) -> Result<(), OutOfMemory>
     ensures { OnOk result (string_bytes text.new ≡ string_bytes text.old ++ outcome_line reader.now.names line (Outcome.Full node seq id.now)) }
 {
     let number = node.get();
@@ -32,17 +47,31 @@ fn push_full(alloc: Global, text: &mut String, reader: &Reader, line: u64, node:
     Ok(())
 }
 
-fn push_outcome(alloc: Global, text: &mut String, reader: &Reader, line: u64, outcome: &Outcome) -> Result<(), OutOfMemory>
+fn push_outcome(
+    alloc: Global,
+    text: &mut String,
+    reader: &Reader,
+    line: u64,
+    outcome: &Outcome,
+) -> Result<(), OutOfMemory>
     ensures { OnOk result (string_bytes text.new ≡ string_bytes text.old ++ outcome_line reader.now.names line outcome.now) }
 {
     match outcome {
-        Outcome::Refused { node, refusal } => push_refused(alloc, text, reader, line, *node, refusal),
+        Outcome::Refused { node, refusal } => push_refused(
+            alloc, text, reader, line, *node, refusal,
+        ),
         Outcome::Full { node, seq, id } => push_full(alloc, text, reader, line, *node, *seq, id),
     }
 }
 
 /// What is told of the event in a line, a line each.
-pub fn push_outcomes(alloc: Global, text: &mut String, reader: &Reader, line: u64, outcomes: &[Outcome]) -> Result<(), OutOfMemory>
+pub fn push_outcomes(
+    alloc: Global,
+    text: &mut String,
+    reader: &Reader,
+    line: u64,
+    outcomes: &[Outcome],
+) -> Result<(), OutOfMemory>
     ensures { OnOk result (string_bytes text.new ≡ string_bytes text.old ++ outcome_lines reader.now.names line outcomes.now) }
 {
     for outcome in outcomes {

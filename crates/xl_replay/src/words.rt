@@ -1,34 +1,25 @@
 // Names, ids and values, added to a text.
-ghost use Rattle.std.specs.Prelude.{◌≡◌, ◌++◌, ◌<◌, true, All, decimal, OnOk, IfSome, unwrap_or};
+ghost use Rattle.std.specs.Prelude.{◌≡◌, ◌++◌, decimal, OnOk};
 ghost use Rattle.std.specs.String.{string_bytes};
-ghost use Rattle.std.specs.Option.{option_copied};
-ghost use Rattle.hex.specs.Hex.{encode_lower};
-ghost use Rattle.xl_sched.specs.Names.{is_name};
 ghost use Rattle.xl_replay.specs.Texts.{id_text, values_text};
 
 use std::alloc::Global;
 use std::fmt::Write;
 use xl_base::{LedgerId, OutOfMemory};
 use xl_core::Refusal;
-use xl_sched::Reader;
-
-/// A name, whose bytes are letters and digits.
-fn push_name(text: &mut String, name: &[u8]) -> Result<(), OutOfMemory>
-    requires { All (λ b. b < 128) name.now }
-    ensures { OnOk result (string_bytes text.new ≡ string_bytes text.old ++ name.now) }
-{
-    for &b in name {
-        text.push(char::from(b))?;
-    }
-    Ok(())
-}
+use xl_sched::{Reader, printed_token};
 
 /// An id, by the first declared name that stands for it, or in digits.
-pub fn push_id(alloc: Global, text: &mut String, reader: &Reader, id: &LedgerId) -> Result<(), OutOfMemory>
+pub fn push_id(
+    alloc: Global,
+    text: &mut String,
+    reader: &Reader,
+    id: &LedgerId,
+) -> Result<(), OutOfMemory>
     ensures { OnOk result (string_bytes text.new ≡ string_bytes text.old ++ id_text reader.now.names id.now) }
 {
     match reader.name_of(id) {
-        Some(name) => push_name(text, name),
+        Some(name) => printed_token(name, text),
         None => {
             let digits = hex::encode(alloc, id.0.as_slice())?;
             text.push_str(digits.as_str())?;
@@ -38,7 +29,12 @@ pub fn push_id(alloc: Global, text: &mut String, reader: &Reader, id: &LedgerId)
 }
 
 /// The values of a refusal, parted by spaces.
-pub fn push_values(alloc: Global, text: &mut String, reader: &Reader, refusal: &Refusal) -> Result<(), OutOfMemory>
+pub fn push_values(
+    alloc: Global,
+    text: &mut String,
+    reader: &Reader,
+    refusal: &Refusal,
+) -> Result<(), OutOfMemory>
     ensures { OnOk result (string_bytes text.new ≡ string_bytes text.old ++ values_text reader.now.names refusal.now) }
 {
     match refusal {
