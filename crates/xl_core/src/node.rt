@@ -1,4 +1,5 @@
-ghost use Rattle.std.specs.Prelude.{◌≡◌, IfOk, IsTrue, true, Some};
+ghost use Rattle.std.specs.Prelude.{◌≡◌, ◌↔◌, ◌<◌, ◌≤◌, IfOk, IsOk, OnOk, OnErr, IsTrue, true, false, Some, Err, option_map};
+ghost use Rattle.std.specs.Result.{result_err};
 ghost use Rattle.xl_lists.specs.Lists.{is_on};
 ghost use Rattle.xl_core.specs.Node.{
   Issue,
@@ -12,7 +13,10 @@ ghost use Rattle.xl_core.specs.Node.{
   arisen,
   arises_in,
   is_above,
+  is_stranger,
 };
+ghost use Rattle.xl_core.specs.declared.refusal.Refusal.TheVariants.{Stranger, NotAfter};
+ghost use Rattle.xl_core.specs.Refusals.{refusal_from};
 ghost use Rattle.xl_core.specs.Rest.{report_if};
 ghost use Rattle.xl_core.specs.Replies.{issue_reply, hear_reply};
 
@@ -97,7 +101,11 @@ impl Core {
         id: LedgerId,
         full: bool,
     ) -> Result<Issued, Refusal>
-        ensures { issue_reply result self.new ≡ happens self.old (Issue now seq id full) true }
+        ensures exact { issue_reply result self.new ≡ happens self.old (Issue now seq id full) true }
+        ensures not_after { (result ≡ Err (NotAfter self.old.kept)) ↔ (seq ≤ self.old.kept) }
+        ensures otherwise_issued { self.old.kept < seq → IsOk result }
+        ensures saved { OnOk result (self.new.kept ≡ seq) }
+        ensures unchanged { OnErr result (self.new ≡ self.old) }
     {
         if seq <= self.kept {
             return Err(Refusal::NotAfter(self.kept));
@@ -123,7 +131,11 @@ impl Core {
         from: NodeNo,
         validation: &Validation,
     ) -> Result<Option<Report>, Refusal>
-        ensures { hear_reply result self.new ≡ happens self.old (Comes now from validation.now) true }
+        ensures exact { hear_reply result self.new ≡ happens self.old (Comes now from validation.now) true }
+        ensures stranger { (result ≡ Err (Stranger from)) ↔ IsTrue (is_stranger self.old from) }
+        ensures by_its_row { is_stranger self.old from ≡ false →
+            result_err result ≡ option_map refusal_from (refusal_at self.old now from validation.now) }
+        ensures unchanged { OnErr result (self.new ≡ self.old) }
     {
         if from == self.me || !self.list.has(from) {
             return Err(Refusal::Stranger(from));
@@ -147,7 +159,9 @@ impl Core {
     /// A member's row takes a validation, and what that gives is reported.
     fn take(&mut self, now: Secs, from: NodeNo, v: &Validation) -> Result<Option<Report>, Refusal>
         requires listed { IsTrue (is_on self.old.list.members from) }
-        ensures { hear_reply result self.new ≡ hears self.old now from v.now (refusal_at self.old now from v.now) }
+        ensures exact { hear_reply result self.new ≡ hears self.old now from v.now (refusal_at self.old now from v.now) }
+        ensures refused { result_err result ≡ option_map refusal_from (refusal_at self.old now from v.now) }
+        ensures unchanged { OnErr result (self.new ≡ self.old) }
     {
         self.rows.take(from, v, now)?;
         let report = report_by(&self.rows, self.list.quorum(), &self.last, v);
@@ -183,3 +197,6 @@ impl Core {
         self.last
     }
 }
+
+#[cfg(test)]
+mod tests;

@@ -20,8 +20,8 @@ invariant_of-self-2 c =
     (c.report_by-report.ensures ∙ ap (λ q. report_if (arises_in q c.take.new.self c.self.inside.last c.args.v.now) c.args.v.now) c.quorum.ensures.value)
     c.or-self-inside.ensures
 
-pub returns : goal.returns
-returns c =
+pub returns-clause-exact : goal.returns-clause-exact
+returns-clause-exact c =
     let n : Node = record { me = c.self.inside.me; list = c.self.inside.list; rows = c.self.inside.rows; kept = c.self.inside.kept; last = c.self.inside.last } in
     answer_when_taken n c.args.now c.args.from c.args.v.now c.take.new.self c.report_by-report.result c.or-self-inside.result c.self.invariant
     (subst (λ (m : Node). is_on m.list.members c.args.from ≡ true) (sym c.self.view_is) c.requires.listed)

@@ -10,14 +10,14 @@ pub returns-then-has-clause-node : goal.returns-then-has-clause-node
 returns-then-has-clause-node c =
     let me_is = ap (λ (n : Node). n.me) c.self.view_is in
     (own_taken c.args.self.now c.args.now c.args.self.now.me c.args.v.now c.take.result c.take.new.self (subst IsAtRest c.self.view_is c.self.invariant)
-    (c.take.ensures ∙ ap (λ m. hears c.args.self.now c.args.now m c.args.v.now (refusal_at c.args.self.now c.args.now m c.args.v.now)) me_is)).0
+    (c.take.ensures.exact ∙ ap (λ m. hears c.args.self.now c.args.now m c.args.v.now (refusal_at c.args.self.now c.args.now m c.args.v.now)) me_is)).0
 
 pub returns-then-has-clause-report : goal.returns-then-has-clause-report
 returns-then-has-clause-report c =
     let me_is = ap (λ (n : Node). n.me) c.self.view_is in
     c.unwrap_or.ensures
     ∙ (own_taken c.args.self.now c.args.now c.args.self.now.me c.args.v.now c.take.result c.take.new.self (subst IsAtRest c.self.view_is c.self.invariant)
-    (c.take.ensures ∙ ap (λ m. hears c.args.self.now c.args.now m c.args.v.now (refusal_at c.args.self.now c.args.now m c.args.v.now)) me_is)).1
+    (c.take.ensures.exact ∙ ap (λ m. hears c.args.self.now c.args.now m c.args.v.now (refusal_at c.args.self.now c.args.now m c.args.v.now)) me_is)).1
 
 pub returns-else-has-clause-node : goal.returns-else-has-clause-node
 returns-else-has-clause-node c =
