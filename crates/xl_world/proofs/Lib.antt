@@ -7,3 +7,5 @@ pub mod Numbers
 pub mod Each
 pub mod Places
 pub mod Steps
+pub mod Forks
+pub mod Firsts
