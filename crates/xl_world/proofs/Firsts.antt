@@ -12,7 +12,7 @@ use Rattle.xl_lists.specs.Agreement.{same_id, Report}
 use Rattle.xl_world.specs.declared.report.WorldReport.{WorldReport}
 use Rattle.xl_world.specs.Forks.{first_fork, fork_after}
 use Rattle.xl_world.specs.Seen.{report_seen, reports_seen}
-use Rattle.xl_world.proofs.Forks.{Ahead, fork_of, ahead_of_all, repeated, begun, found}
+use Rattle.xl_world.proofs.Opposing.{Ahead, fork_of, ahead_of_all, repeated, begun, found}
 
 -- the first report that the map has of a sequence
 abbrev pub first_at : BTreeMap ℕ (Bor WorldReport) → ℕ → Option Report

@@ -1,6 +1,6 @@
 // The first two reports of one sequence that name different ledgers.
 ghost use Rattle.std.specs.Prelude.{◌≡◌, IfOk, option_map};
-ghost use Rattle.xl_world.specs.Forks.{first_fork};
+ghost use Rattle.xl_world.specs.Forks.{first_fork, NoForkAgrees, ForkDiffers};
 ghost use Rattle.xl_world.specs.Seen.{report_seen, reports_seen, fork_seen};
 
 use crate::WorldReport;
@@ -40,3 +40,11 @@ pub fn first_fork<'a>(
     }
     Ok(None)
 }
+
+/// What the first fork says of any reports. It has no code.
+pub fn forks()
+    // Where there is none, no two reports of one sequence name different ledgers.
+    ensures none { NoForkAgrees }
+    // Where there is one, its two are among the reports, of one sequence, and name different ledgers.
+    ensures differs { ForkDiffers }
+{}

@@ -19,7 +19,7 @@ mod sent;
 mod settle;
 mod world;
 
-pub use fork::{Fork, first_fork};
+pub use fork::{Fork, first_fork, forks};
 pub use outcome::{Happened, Outcome};
 pub use plan::{Plan, PlanNode};
 pub use report::WorldReport;
