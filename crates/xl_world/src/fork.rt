@@ -25,14 +25,13 @@ pub fn first_fork<'a>(
 ) -> Result<Option<Fork<'a>>, OutOfMemory>
     ensures { IfOk result (λ fork. option_map fork_seen fork ≡ first_fork (reports_seen reports.now)) }
 {
-    let mut firsts: BTreeMap<Seq, &'a WorldReport> = BTreeMap::new(alloc);
+    let mut firsts: BTreeMap<Seq, &WorldReport> = BTreeMap::new(alloc);
     for later in reports {
         match firsts.get(&later.seq) {
-            Some(&earlier) => {
-                if earlier.id != later.id {
-                    return Ok(Some(Fork { earlier, later }));
-                }
+            Some(&earlier) if earlier.id != later.id => {
+                return Ok(Some(Fork { earlier, later }));
             }
+            Some(_) => {}
             None => {
                 firsts.insert(later.seq, later)?;
             }

@@ -9,8 +9,8 @@ use Rattle.xl_world.proofs.fork.first_fork.Goals.{in-Some+else-ne, in-None+in_ok
 pub loop-later-init : goal.loop-later-init
 loop-later-init c = begins c.args.reports.now c.new-firsts.result c.new-firsts.ensures.empty
 
-pub returns-then-ne : goal.returns-then-ne
-returns-then-ne c =
+pub returns-in-Some : goal.returns-in-Some
+returns-in-Some c =
     finds c.args.reports.now c.loop-later.later-index c.loop-later.firsts c.later-item.result c.in-Some.field-0.now.now c.loop-later-test.true c.later-item.is c.loop-later.invariant
     (ap (option_map (λ r. report_seen r.now)) (sym c.in-Some.ensures.value))
     (not-true _ (sym c.ne.ensures ∙ c.if-ne.true))
