@@ -7,3 +7,6 @@ pub mod Numbers
 pub mod Each
 pub mod Places
 pub mod Steps
+pub mod Opposing
+pub mod Firsts
+pub mod Differing

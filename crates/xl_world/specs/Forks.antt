@@ -1,7 +1,8 @@
 -- Forks: two reports of one sequence that name different ledgers.
-use Rattle.std.specs.Prelude.{ℕ, ◌==◌, ◌&&◌, not, List, [], ◌∷◌, ◌++◌, find, option_map}
+use Rattle.std.specs.Prelude.{◌≡◌, ◌==◌, ◌&&◌, not, List, [], ◌∷◌, ◌++◌, find, option_map, All}
 use Rattle.std.specs.Prelude.{Some, None}
 use Rattle.std.specs.declared.option.Option.{Option}
+use Rattle.std.specs.List.{Contains}
 use Rattle.std.specs.Option.{option_or}
 use Rattle.xl_lists.specs.Agreement.{same_id, Report}
 
@@ -20,3 +21,18 @@ fork_after earlier (r ∷ rs) = option_or (option_map (λ q. record { earlier = 
 
 abbrev pub first_fork : List Report → Option Fork
 first_fork reports = fork_after [] reports
+
+-- where there is no fork, no two reports of one sequence name different ledgers
+abbrev pub NoForkAgrees : Type 0
+NoForkAgrees = (reports : List Report) → first_fork reports ≡ None → All (λ r. All (λ q. r.seq ≡ q.seq → r.id ≡ q.id) reports) reports
+
+-- a fork is two of the reports, of one sequence, that name different ledgers
+pub record IsFork (reports : List Report) (fork : Fork) : Type 0 where
+  pub has_earlier : Contains reports fork.earlier
+  pub has_later : Contains reports fork.later
+  pub one_seq : fork.earlier.seq ≡ fork.later.seq
+  pub two_ids : ¬ (fork.earlier.id ≡ fork.later.id)
+
+-- the first fork is one
+abbrev pub ForkDiffers : Type 0
+ForkDiffers = (reports : List Report) (fork : Fork) → first_fork reports ≡ Some fork → IsFork reports fork

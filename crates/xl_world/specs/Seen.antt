@@ -8,12 +8,14 @@ use Rattle.xl_core.specs.Node.{Event, Issue, Comes, Reply, happens, opened}
 use Rattle.xl_world.specs.declared.act.Answer.{Answer}
 use Rattle.xl_world.specs.declared.act.NodeEvent.{NodeEvent}
 use Rattle.xl_world.specs.declared.act.NodeEvent.TheVariants as event
+use Rattle.xl_world.specs.declared.fork.Fork.{Fork}
 use Rattle.xl_world.specs.declared.outcome.Outcome.{Outcome}
 use Rattle.xl_world.specs.declared.outcome.Outcome.TheVariants.{Refused, Full}
 use Rattle.xl_world.specs.declared.place.Place.{Place}
 use Rattle.xl_world.specs.declared.place.Saying.{Saying}
 use Rattle.xl_world.specs.declared.report.WorldReport.{WorldReport}
 use Rattle.xl_world.specs.Keeper.{holding}
+use Rattle.xl_world.specs.Forks as Forks
 use Rattle.xl_world.specs.World.{place_at, put, place_after, reported_by}
 
 abbrev pub said_seen : Saying → Said
@@ -24,6 +26,9 @@ report_seen r = record { node = r.node; list = r.list; seq = r.seq; id = r.id }
 
 abbrev pub reports_seen : List WorldReport → List Report
 reports_seen reports = map report_seen reports
+
+abbrev pub fork_seen : Fork → Forks.Fork
+fork_seen f = record { earlier = report_seen f.earlier.now; later = report_seen f.later.now }
 
 -- whether the second report, if it is of j and of the first one's sequence, has its id
 abbrev pub agrees_at : ℕ → Report → Report → Bool

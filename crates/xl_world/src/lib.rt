@@ -9,6 +9,7 @@
 
 mod act;
 mod agreement;
+mod fork;
 mod open;
 mod outcome;
 mod place;
@@ -18,6 +19,7 @@ mod sent;
 mod settle;
 mod world;
 
+pub use fork::{Fork, first_fork, forks};
 pub use outcome::{Happened, Outcome};
 pub use plan::{Plan, PlanNode};
 pub use report::WorldReport;

@@ -1,0 +1,49 @@
+// The first two reports of one sequence that name different ledgers.
+ghost use Rattle.std.specs.Prelude.{◌≡◌, IfOk, option_map};
+ghost use Rattle.xl_world.specs.Forks.{first_fork, NoForkAgrees, ForkDiffers};
+ghost use Rattle.xl_world.specs.Seen.{report_seen, reports_seen, fork_seen};
+
+use crate::WorldReport;
+use std::alloc::Global;
+use std::collections::BTreeMap;
+use xl_base::{OutOfMemory, Seq};
+
+/// The first report that has an earlier one of its sequence with another id, and the earliest such one.
+#[derive(Clone, Copy, Debug)]
+pub struct Fork<'a> {
+    pub earlier: &'a WorldReport,
+    pub later: &'a WorldReport,
+}
+
+/// The first fork of these reports, in their order, or none where all reports of one sequence name one ledger.
+///
+/// It keeps the first report of each sequence and looks at each report once: until there is a fork, all reports of a sequence
+/// name the ledger of the first.
+pub fn first_fork<'a>(
+    alloc: Global,
+    reports: &'a [WorldReport],
+) -> Result<Option<Fork<'a>>, OutOfMemory>
+    ensures { IfOk result (λ fork. option_map fork_seen fork ≡ first_fork (reports_seen reports.now)) }
+{
+    let mut firsts: BTreeMap<Seq, &WorldReport> = BTreeMap::new(alloc);
+    for later in reports {
+        match firsts.get(&later.seq) {
+            Some(&earlier) if earlier.id != later.id => {
+                return Ok(Some(Fork { earlier, later }));
+            }
+            Some(_) => {}
+            None => {
+                firsts.insert(later.seq, later)?;
+            }
+        }
+    }
+    Ok(None)
+}
+
+/// What the first fork says of any reports. It has no code.
+pub fn forks()
+    // Where there is none, no two reports of one sequence name different ledgers.
+    ensures none { NoForkAgrees }
+    // Where there is one, its two are among the reports, of one sequence, and name different ledgers.
+    ensures differs { ForkDiffers }
+{}
