@@ -182,3 +182,6 @@ fn is_comment(token: &[u8]) -> bool
 {
     matches!(token, [b'#', ..])
 }
+
+#[cfg(test)]
+mod tests;
