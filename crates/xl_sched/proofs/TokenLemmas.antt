@@ -1,6 +1,6 @@
 -- How tokens begin.
-use Rattle.std.proofs.Common.{◌≡◌, ◌==◌, ◌+◌, ◌≤◌, ◌<◌, ℕ, Bool, true, false, cond, not, List, [], ◌∷◌, ◌++◌, length, take, drop, filter, map, min, nat_lt, Option, Some, None, unwrap_or, refl, ap, sym, ◌∙◌, arith, add-one, suc}
-use Rattle.std.specs.List.{slice_split, onto_first, position_or_len, prefix_len, position}
+use Rattle.std.proofs.Common.{◌≡◌, ◌==◌, ◌+◌, ◌≤◌, ℕ, Bool, true, false, cond, not, List, [], ◌∷◌, length, take, drop, filter, map, min, nat_lt, Some, None, unwrap_or, refl, ap, sym, ◌∙◌, arith, suc}
+use Rattle.std.specs.List.{slice_split, onto_first, position_or_len, position}
 use Rattle.std.proofs.lemmas.List.{take-append-drop, take_all, take_min}
 use Rattle.std.proofs.lemmas.List.Sums.{prefix_len-le-length, length-filter, count_by-le-length}
 use Rattle.std.proofs.lemmas.List.Splits.{length-slice_split}

@@ -1,6 +1,6 @@
 mod words;
 
-ghost use Rattle.std.specs.Prelude.{◌≡◌, ◌⊎◌, ◌≤◌, ◌<◌, OnOk, OnErr, IfOk, IfErr, IfSome, option_copied};
+ghost use Rattle.std.specs.Prelude.{◌≡◌, ◌⊎◌, ℕ, ◌≤◌, ◌<◌, OnOk, OnErr, IfOk, IfErr, IfSome, option_copied};
 ghost use Rattle.xl_sched.specs.Reading.{header_line, is_comment};
 ghost use Rattle.xl_sched.specs.declared.limits.TheConstants.{MOST_LINES};
 
@@ -104,7 +104,7 @@ impl Reader {
         }
         let read = self.line(Tokens::of(line), sent)?;
         match &read {
-            Some(line) => self.learn(line, sent)?,
+            Some(line) => self.learn(line)?,
             None => self.lines += 1,
         }
         Ok(read)
@@ -134,9 +134,9 @@ impl Reader {
     }
 
     /// Counts a line, and takes in what it says.
-    fn learn(&mut self, line: &Line, sent: u64) -> Result<(), OutOfMemory>
+    fn learn(&mut self, line: &Line) -> Result<(), OutOfMemory>
         requires more { self.old.lines < MOST_LINES }
-        requires fit { IsFit self.old sent line.now }
+        requires fit { (sent : ℕ) × IsFit self.old sent line.now }
         ensures learnt { OnOk result (self.new ≡ after self.old line.now) }
         ensures kept { OnErr result (self.new ≡ self.old) }
     {
@@ -183,3 +183,6 @@ fn is_comment(token: &[u8]) -> bool
 {
     matches!(token, [b'#', ..])
 }
+
+#[cfg(test)]
+mod tests;

@@ -36,7 +36,8 @@ impl Reader {
     }
 
     fn node_in_time<'a>(&self, token: &'a [u8], arguments: Tokens<'a>) -> Result<Line, Fault<'a>>
-        ensures value { GivenMemory result (unless_late self.now token.now (node_line self.now arguments.entry)) }
+        ensures value { GivenMemory result
+            (unless_late self.now token.now (node_line self.now arguments.entry)) }
         ensures fit { IfOk result (λ line. (sent : ℕ) → IsFit self.now sent line) }
     {
         if self.started {
@@ -67,7 +68,8 @@ impl Reader {
         list: &'a [u8],
         mode: Option<&'a [u8]>,
     ) -> Result<Line, Fault<'a>>
-        ensures value { GivenMemory result (node_of self.now me.now quorum.now list.now (mode_of (option_copied mode.entry))) }
+        ensures value { GivenMemory result
+            (node_of self.now me.now quorum.now list.now (mode_of (option_copied mode.entry))) }
         ensures fit { IfOk result (λ line. (sent : ℕ) → IsFit self.now sent line) }
     {
         let me = self.nodes.undeclared(me)?;

@@ -1,10 +1,10 @@
-use Rattle.std.proofs.Common.{◌≡◌, ◌+◌, ◌==◌, List, ◌∷◌, [], ◌++◌, length, drop, Ok, Err, sym, ap, ◌∙◌, inr, append-nil, rules, tests, arith}
+use Rattle.std.proofs.Common.{◌≡◌, ◌==◌, length, Ok, Err, sym, ap, ◌∙◌, append-nil, rules, tests, arith}
 use Rattle.std.proofs.lemmas.List.{length_push}
 use Rattle.std.proofs.lemmas.Iterator.Splits.{YieldsList-from_slice_split}
 use Rattle.std.proofs.lemmas.Iterator.Consumers.{YieldsList-turn, YieldsList-end}
 use Rattle.xl_sched.specs.Tokens.{entries}
-use Rattle.xl_sched.specs.Members.{members_of, numbers_of}
-use Rattle.xl_sched.proofs.MemberLemmas.{read_on, read_on-more, read_on-none, read_on-all}
+use Rattle.xl_sched.specs.Members.{members_of}
+use Rattle.xl_sched.proofs.MemberLemmas.{read_on-more, read_on-none, read_on-all}
 use Rattle.xl_sched.proofs.members.members.Goals as goal
 
 pub returns-in_err-number : goal.returns-in_err-number

@@ -1,8 +1,7 @@
-use Rattle.std.proofs.Common.{◌≡◌, ap, sym, ◌∙◌, Option, option_map, find, List, position, Some, None, ◌++◌, ◌∷◌, [], length, refl, arith}
+use Rattle.std.proofs.Common.{◌≡◌, ap, ◌∙◌, length, refl, arith}
 use Rattle.std.proofs.Math.Seq.{take-append_seam}
 use Rattle.std.specs.Str.{bytes_eq}
 use Rattle.xl_sched.specs.Names.{id_named}
-use Rattle.xl_sched.specs.Places.{with_place}
 use Rattle.xl_sched.proofs.NameLemmas.{position-none, AreFirst-more, AreFirst-kept}
 use Rattle.xl_sched.proofs.names.Names.declare.Goals as goal
 

@@ -1,4 +1,4 @@
-use Rattle.std.proofs.Common.{◌≡◌, ap, sym, ◌∙◌, Option, option_map, find, List, position, Some, None}
+use Rattle.std.proofs.Common.{ap, sym, ◌∙◌}
 use Rattle.std.specs.Str.{bytes_eq}
 use Rattle.xl_sched.specs.Names.{id_named}
 use Rattle.xl_sched.proofs.NameLemmas.{found, not_found}

@@ -1,6 +1,6 @@
-use Rattle.std.proofs.Common.{◌∙◌, sym, ap}
+use Rattle.std.proofs.Common.{◌∙◌, ap}
 use Rattle.std.specs.Str.{bytes_eq}
-use Rattle.xl_sched.specs.Places.{place_of_name, place_of_id, with_place}
+use Rattle.xl_sched.specs.Places.{place_of_name, with_place}
 use Rattle.xl_sched.proofs.PlaceLemmas.{with_place-new, none_too, restored}
 use Rattle.xl_sched.proofs.places.Places.insert.Goals as goal
 

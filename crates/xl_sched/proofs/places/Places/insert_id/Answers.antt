@@ -1,4 +1,4 @@
-use Rattle.std.proofs.Common.{◌≡◌, None, sym, ◌∙◌, Option, is_none}
+use Rattle.std.proofs.Common.{◌≡◌, None, ◌∙◌}
 use Rattle.std.specs.Str.{bytes_eq}
 use Rattle.xl_sched.specs.Places.{place_of_id}
 use Rattle.xl_sched.proofs.PlaceLemmas.{looks_up-inserted, with_place-new, none_too}

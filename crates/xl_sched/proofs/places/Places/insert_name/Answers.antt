@@ -1,7 +1,3 @@
-use Rattle.std.proofs.Common.{◌≡◌, ap, sym, ◌∙◌, cond, Some, List, ℕ}
-use Rattle.std.specs.Map.{lookup}
-use Rattle.std.specs.BTreeMap.{get_by}
-use Rattle.xl_sched.specs.Places.{place_of_name}
 use Rattle.xl_sched.proofs.PlaceLemmas.{looks_up-inserted}
 use Rattle.xl_sched.proofs.places.Places.insert_name.Goals as goal
 
