@@ -6,6 +6,7 @@ ghost use Rattle.xl_world.specs.Forks.{first_fork};
 ghost use Rattle.xl_world.specs.Seen.{fork_seen};
 ghost use Rattle.xl_world.specs.World.{list_in, up_from};
 ghost use Rattle.xl_replay.specs.Texts.{short_of, short_with, shorts_of, short_lines, forged_line, agreement_line, end_lines};
+ghost use Rattle.xl_base.specs.declared.node_no.TheConstants.{GREATEST_NODE_NO};
 
 use crate::words::push_id;
 use std::alloc::Global;
@@ -16,7 +17,14 @@ use xl_sched::Reader;
 use xl_world::{Fork, World};
 
 /// A pair of nodes, where their quorums aren't enough.
-fn push_short(text: &mut String, liars: &[NodeNo], i: NodeNo, a: &List, j: NodeNo, b: &List) -> Result<(), OutOfMemory>
+fn push_short(
+    text: &mut String,
+    liars: &[NodeNo],
+    i: NodeNo,
+    a: &List,
+    j: NodeNo,
+    b: &List,
+) -> Result<(), OutOfMemory>
     ensures { OnOk result (string_bytes text.new ≡ string_bytes text.old ++ short_of liars.now i a.now j b.now) }
 {
     let sum = a.quorum() + b.quorum();
@@ -29,43 +37,54 @@ fn push_short(text: &mut String, liars: &[NodeNo], i: NodeNo, a: &List, j: NodeN
     Ok(())
 }
 
+/// The member of a number that one may have.
+fn member(number: u32) -> NodeNo
+    requires least { 1 ≤ number }
+    requires greatest { number ≤ GREATEST_NODE_NO }
+    ensures { result ≡ number }
+{
+    NodeNo::new(number).unwrap()
+}
+
 /// The pair of a node and a number, where that is a node too.
-fn push_short_with(text: &mut String, world: &World, i: NodeNo, a: &List, j: u32) -> Result<(), OutOfMemory>
-    requires least { 1 ≤ j }
-    requires greatest { j ≤ 64 }
+fn push_short_with(
+    text: &mut String,
+    world: &World,
+    i: NodeNo,
+    a: &List,
+    j: NodeNo,
+) -> Result<(), OutOfMemory>
     ensures { OnOk result (string_bytes text.new ≡ string_bytes text.old ++ short_with world.now.liars i a.now j (list_in world.now j)) }
 {
-    match NodeNo::new(j) {
-        Some(j) => match world.list_of(j) {
-            Some(b) => push_short(text, world.liars(), i, a, j, b),
-            None => Ok(()),
-        },
+    match world.list_of(j) {
+        Some(b) => push_short(text, world.liars(), i, a, j, b),
         None => Ok(()),
     }
 }
 
 /// The pairs of a node with the numbers from it on.
-fn push_shorts_from(text: &mut String, world: &World, i: NodeNo, a: &List) -> Result<(), OutOfMemory>
+fn push_shorts_from(
+    text: &mut String,
+    world: &World,
+    i: NodeNo,
+    a: &List,
+) -> Result<(), OutOfMemory>
     ensures { OnOk result (string_bytes text.new ≡ string_bytes text.old
         ++ flat_map (λ j. short_with world.now.liars i a.now j (list_in world.now j)) (up_from i (65 - i))) }
 {
-    for j in i.get()..=GREATEST_NODE_NO {
-        push_short_with(text, world, i, a, j)?;
+    let first = i.get();
+    for j in first..=GREATEST_NODE_NO {
+        push_short_with(text, world, i, a, member(j))?;
     }
     Ok(())
 }
 
 /// The pairs of a number, where it is a node.
-fn push_shorts_of(text: &mut String, world: &World, i: u32) -> Result<(), OutOfMemory>
-    requires least { 1 ≤ i }
-    requires greatest { i ≤ 64 }
+fn push_shorts_of(text: &mut String, world: &World, i: NodeNo) -> Result<(), OutOfMemory>
     ensures { OnOk result (string_bytes text.new ≡ string_bytes text.old ++ shorts_of world.now i (list_in world.now i)) }
 {
-    match NodeNo::new(i) {
-        Some(i) => match world.list_of(i) {
-            Some(a) => push_shorts_from(text, world, i, a),
-            None => Ok(()),
-        },
+    match world.list_of(i) {
+        Some(a) => push_shorts_from(text, world, i, a),
         None => Ok(()),
     }
 }
@@ -75,13 +94,18 @@ fn push_shorts(text: &mut String, world: &World) -> Result<(), OutOfMemory>
     ensures { OnOk result (string_bytes text.new ≡ string_bytes text.old ++ short_lines world.now) }
 {
     for i in 1..=GREATEST_NODE_NO {
-        push_shorts_of(text, world, i)?;
+        push_shorts_of(text, world, member(i))?;
     }
     Ok(())
 }
 
 /// Whether reports agree, or the first two that don't.
-fn push_agreement(alloc: Global, text: &mut String, reader: &Reader, fork: &Option<Fork<'_>>) -> Result<(), OutOfMemory>
+fn push_agreement(
+    alloc: Global,
+    text: &mut String,
+    reader: &Reader,
+    fork: &Option<Fork<'_>>,
+) -> Result<(), OutOfMemory>
     ensures { OnOk result (string_bytes text.new ≡ string_bytes text.old ++ agreement_line reader.now.names (option_map fork_seen fork.now)) }
 {
     let Some(fork) = fork else {
@@ -99,7 +123,13 @@ fn push_agreement(alloc: Global, text: &mut String, reader: &Reader, fork: &Opti
 }
 
 /// The lines at the end.
-pub fn push_end(alloc: Global, text: &mut String, reader: &Reader, world: &World, fork: &Option<Fork<'_>>) -> Result<(), OutOfMemory>
+pub fn push_end(
+    alloc: Global,
+    text: &mut String,
+    reader: &Reader,
+    world: &World,
+    fork: &Option<Fork<'_>>,
+) -> Result<(), OutOfMemory>
     requires { option_map fork_seen fork.now ≡ first_fork world.now.reports }
     ensures { OnOk result (string_bytes text.new ≡ string_bytes text.old ++ end_lines reader.now.names world.now) }
 {

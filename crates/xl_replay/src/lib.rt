@@ -7,10 +7,10 @@
 //! of the bytes that the source held.
 #![tactic(auto)]
 
+mod command;
 mod ends;
 mod outcomes;
-mod replay;
 mod replayer;
 mod words;
 
-pub use replay::replay;
+pub use command::replay;

@@ -74,22 +74,31 @@ impl Replayer {
         let mut world = self.take_world()?;
         let happened = world.event(event)?;
         self.world = Some(world);
-        push_outcomes(self.alloc, text, &self.reader, self.reader.lines(), happened.as_slice())
+        push_outcomes(
+            self.alloc,
+            text,
+            &self.reader,
+            self.reader.lines(),
+            happened.as_slice(),
+        )
     }
 
     /// What a line says is taken in.
-    fn take(&mut self, line: Line, text: &mut String) -> Result<(), OutOfMemory>
-        requires timely { IsTimely line }
+    fn take(&mut self, line: &Line, text: &mut String) -> Result<(), OutOfMemory>
+        requires timely { IsTimely line.now }
         requires empty { string_bytes text.old ≡ [] }
-        ensures { OnOk result (goes_on (string_bytes text.new) (state_of self.new) ≡ after_line (state_of self.old) self.old.reader line) }
+        ensures { OnOk result (goes_on (string_bytes text.new) (state_of self.new) ≡ after_line (state_of self.old) self.old.reader line.now) }
     {
         match line {
             Line::Node { me, list, .. } => {
-                self.plan.nodes.push(PlanNode { me, list })?;
+                self.plan.nodes.push(PlanNode {
+                    me: *me,
+                    list: list.copy(),
+                })?;
                 Ok(())
             }
             Line::Name { .. } => Ok(()),
-            Line::Event(event) => self.happen(&event, text),
+            Line::Event(event) => self.happen(event, text),
         }
     }
 
@@ -117,7 +126,7 @@ impl Machine for Replayer {
         match self.reader.read_line(line, sent) {
             Ok(None) => Ok(Next::Line),
             Ok(Some(line)) => {
-                self.take(line, text)?;
+                self.take(&line, text)?;
                 Ok(Next::Line)
             }
             Err(SchedRefusal::OutOfMemory) => Err(OutOfMemory),
@@ -141,7 +150,11 @@ impl Machine for Replayer {
         let world = self.take_world()?;
         let fork = first_fork(self.alloc, world.reports())?;
         push_end(self.alloc, text, &self.reader, &world, &fork)?;
-        Ok(if fork.is_some() { Verdict::Found } else { Verdict::Good })
+        Ok(if fork.is_some() {
+            Verdict::Found
+        } else {
+            Verdict::Good
+        })
     }
 }
 
