@@ -86,9 +86,9 @@ opposed_differs done x left q at =
       has_later = Contains-append_right done (x ∷ left) x (Contains-append_left (x ∷ []) left x (Contains-push [] x));
       one_seq = eqb-true q.seq x.seq parts.0;
       two_ids = λ same.
-        let other : same_id q.id x.id ≡ false = not-true _ parts.1 in
-        let alike : same_id q.id x.id ≡ true = subst (λ id. same_id q.id id ≡ true) same (same_id_itself q.id) in
-        cc;
+          let other : same_id q.id x.id ≡ false = not-true _ parts.1 in
+          let alike : same_id q.id x.id ≡ true = subst (λ id. same_id q.id id ≡ true) same (same_id_itself q.id) in
+          cc;
     }
 
 differs : (done left : List Report) (fork : Fork) → fork_after done left ≡ Some fork → IsFork (done ++ left) fork
