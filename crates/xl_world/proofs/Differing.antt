@@ -1,6 +1,6 @@
 -- What a fork says of the reports, and what it says that there is none.
 use Rattle.std.proofs.Common.{◌≡◌, Bool, true, false, List, [], ◌∷◌, ◌++◌, refl, ap, sym, ◌∙◌, inl, inr, Option, Some, None, subst}
-use Rattle.std.specs.Prelude.{◌==◌, ◌&&◌, not, find, option_map, All, slice_index_or, ◌⊎◌, if◌then◌else◌}
+use Rattle.std.specs.Prelude.{◌==◌, ◌&&◌, not, find, option_map, All, slice_index_or, ◌⊎◌}
 use Rattle.std.specs.List.{Contains}
 use Rattle.std.specs.Option.{option_or}
 use Rattle.std.proofs.lemmas.Bool.{cases_Bool, cond_both, eqb-true, eq-eqb, and_parts, not-true}
@@ -8,7 +8,7 @@ use Rattle.std.proofs.lemmas.List.{append-nil, append_assoc}
 use Rattle.std.proofs.lemmas.List.Elements.{All-nil, All-cons, All-push, All-weaker, Contains-push, Contains-append_left, Contains-append_right}
 use Rattle.xl_lists.specs.Agreement.{same_id, Report}
 use Rattle.xl_lists.proofs.Agreement.{same_id-true, same_id_itself}
-use Rattle.xl_world.specs.Forks.{Fork, opposed, fork_after, first_fork, IsFork, NoForkAgrees, ForkDiffers}
+use Rattle.xl_world.specs.Forks.{Fork, opposed, fork_after, IsFork, NoForkAgrees, ForkDiffers}
 use Rattle.xl_world.proofs.Opposing.{fork_of}
 
 -- what is not found fails the test everywhere
@@ -86,9 +86,9 @@ opposed_differs done x left q at =
       has_later = Contains-append_right done (x ∷ left) x (Contains-append_left (x ∷ []) left x (Contains-push [] x));
       one_seq = eqb-true q.seq x.seq parts.0;
       two_ids = λ same.
-        let other : same_id q.id x.id ≡ false = not-true _ parts.1 in
-        let alike : same_id q.id x.id ≡ true = subst (λ id. same_id q.id id ≡ true) same (same_id_itself q.id) in
-        cc;
+          let other : same_id q.id x.id ≡ false = not-true _ parts.1 in
+          let alike : same_id q.id x.id ≡ true = subst (λ id. same_id q.id id ≡ true) same (same_id_itself q.id) in
+          cc;
     }
 
 differs : (done left : List Report) (fork : Fork) → fork_after done left ≡ Some fork → IsFork (done ++ left) fork

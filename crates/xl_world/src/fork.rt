@@ -1,7 +1,7 @@
 // The first two reports of one sequence that name different ledgers.
 ghost use Rattle.std.specs.Prelude.{◌≡◌, IfOk, option_map};
 ghost use Rattle.xl_world.specs.Forks.{first_fork, NoForkAgrees, ForkDiffers};
-ghost use Rattle.xl_world.specs.Seen.{report_seen, reports_seen, fork_seen};
+ghost use Rattle.xl_world.specs.Seen.{reports_seen, fork_seen};
 
 use crate::WorldReport;
 use std::alloc::Global;

@@ -25,3 +25,6 @@ pub use plan::{Plan, PlanNode};
 pub use report::WorldReport;
 pub use sent::Sent;
 pub use world::World;
+
+#[cfg(test)]
+mod tests;
