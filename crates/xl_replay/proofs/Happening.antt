@@ -1,5 +1,5 @@
 -- What the code does at an event is what the definition says.
-use Rattle.std.proofs.Common.{◌≡◌, ℕ, List, [], ◌++◌, ap, sym, ◌∙◌, Some, refl}
+use Rattle.std.proofs.Common.{◌≡◌, ℕ, List, [], ◌++◌, ap, ◌∙◌, Some}
 use Rattle.xl_lines.specs.Rules.{Step, goes_on}
 use Rattle.xl_sched.specs.declared.event.Event.{Event}
 use Rattle.xl_sched.specs.Words.{Reading}

@@ -1,6 +1,6 @@
 -- A node reports under the list that it was declared with.
 use Rattle.std.proofs.Common.{◌≡◌, ℕ, Bool, true, false, List, [], ◌∷◌, refl, ap, sym, ◌∙◌, inl, inr, Option, Some, None, subst}
-use Rattle.std.specs.Prelude.{◌==◌, All, map, option_map, option_to_list, find, nat_lt, slice_index_or}
+use Rattle.std.specs.Prelude.{◌==◌, All, map, option_map, option_to_list, nat_lt, slice_index_or}
 use Rattle.std.proofs.lemmas.Bool.{cond_both, cond-true, cond-false}
 use Rattle.std.proofs.lemmas.List.Elements.{All-append, All-nil, All-cons}
 use Rattle.xl_lists.specs.Lists.{TrustedList}
@@ -16,7 +16,7 @@ use Rattle.xl_world.specs.Keeper.{may_hold, holding, after_save}
 use Rattle.xl_world.specs.declared.place.Place.{Place}
 use Rattle.xl_world.specs.declared.plan.PlanNode.{PlanNode}
 use Rattle.xl_world.specs.World.{World, Step, Act, Again, Torn, place_at, list_in, reported_by, is_forged, settled, acts, quiet, reopened, again, torn, asked_at, step, run, place_of, start, AreLists, list_at, AgreeAt, IsRun, Headline}
-use Rattle.xl_world.proofs.Settling.{IsStep, IsWell, put_cases, at_its_number, some_same}
+use Rattle.xl_world.proofs.Settling.{put_cases, at_its_number, some_same}
 use Rattle.xl_world.proofs.Runs.{agreement}
 
 -- each node has the list of its number, and reported under it

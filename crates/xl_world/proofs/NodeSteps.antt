@@ -1,9 +1,9 @@
 -- What each event at a node shows.
 use Rattle.std.proofs.Common.{◌≡◌, ℕ, ◌<◌, ◌≤◌, Bool, true, false, cond, List, [], ◌∷◌, refl, arith, ap, sym, ◌∙◌, inl, inr, Option, Some, None, subst}
-use Rattle.std.specs.Prelude.{◌==◌, ◌&&◌, ◌||◌, not, All, IfSome, map, find, filter_map, option_map, nat_lt, nat_le, nat_eq}
+use Rattle.std.specs.Prelude.{◌==◌, ◌||◌, not, All, IfSome, map, find, filter_map, option_map, nat_lt, nat_le}
 use Rattle.std.specs.Option.{is_none}
 use Rattle.std.proofs.lemmas.Bool.{and_parts, eqb-true, cond_both, ltb-true, leb-true}
-use Rattle.std.proofs.lemmas.List.Elements.{All-map, All-head, All-tail, All-nil, All-cons}
+use Rattle.std.proofs.lemmas.List.Elements.{All-map, All-head, All-tail, All-cons}
 use Rattle.xl_lists.specs.Lists.{TrustedList, IsValid}
 use Rattle.xl_lists.specs.Agreement.{Said}
 use Rattle.xl_wire.specs.declared.validation.Validation.{Validation}
@@ -11,9 +11,8 @@ use Rattle.xl_validations.specs.declared.row.Row.{Row}
 use Rattle.xl_validations.specs.declared.refusal.ValRefusal.{ValRefusal}
 use Rattle.xl_validations.specs.Rows.{refusal, with_validation, at_member, count_full, empty_row}
 use Rattle.xl_core.specs.declared.report.Report.{Report}
-use Rattle.xl_core.specs.declared.refusal.Refusal.{Refusal}
 use Rattle.xl_core.specs.declared.refusal.Refusal.TheVariants.{Stranger, NotAfter}
-use Rattle.xl_core.specs.Node.{Node, Event, Issue, Comes, Reply, take, with_taken, saving, arises, arisen, report_of, reporting, refusing, issues, hears, refusal_at, is_stranger, asks, happens, opened}
+use Rattle.xl_core.specs.Node.{Node, Event, Issue, Comes, Reply, take, with_taken, saving, arises, arisen, report_of, refusing, issues, hears, refusal_at, is_stranger, asks, happens, opened}
 use Rattle.xl_world.specs.declared.place.Keeper.{Keeper}
 use Rattle.xl_world.specs.Keeper.{MayHold, holding, after_save}
 use Rattle.xl_world.specs.declared.place.Place.{Place}

@@ -1,5 +1,5 @@
 -- The place that the code finds is the place of its number.
-use Rattle.std.proofs.Common.{◌≡◌, ℕ, zero, suc, ◌<◌, true, false, List, [], ◌∷◌, length, get_or, set, refl, arith, ap, sym, ◌∙◌, Option, Some, None, Result, Ok, Err}
+use Rattle.std.proofs.Common.{◌≡◌, ℕ, zero, suc, ◌<◌, true, false, List, [], ◌∷◌, length, get_or, set, refl, arith, ap, sym, ◌∙◌, Some, None, Result, Ok, Err}
 use Rattle.std.specs.Prelude.{◌==◌, position, nat_lt, OnOk, OnErr}
 use Rattle.std.specs.List.{position_or_len}
 use Rattle.std.proofs.Common.{inl, inr, subst}

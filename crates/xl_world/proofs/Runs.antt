@@ -5,17 +5,16 @@ use Rattle.std.specs.List.{list_any}
 use Rattle.std.proofs.lemmas.Bool.{and_parts, or_left, or_cases, eqb-true, cond_both}
 use Rattle.std.proofs.lemmas.List.Elements.{All-map, All-head, All-tail, All-nil}
 use Rattle.xl_base.specs.declared.ids.LedgerId.{LedgerId}
-use Rattle.xl_lists.specs.Lists.{IsValid, is_on}
-use Rattle.xl_lists.specs.Agreement.{Said, same_id, IsGenuine, IsBacked, Agree}
+use Rattle.xl_lists.specs.Lists.{is_on}
+use Rattle.xl_lists.specs.Agreement.{Said, IsGenuine, IsBacked, Agree}
 use Rattle.xl_lists.proofs.Agreement.{agreement_from_kept, vouches_still, same_id-true}
 use Rattle.xl_wire.specs.declared.validation.Validation.{Validation}
 use Rattle.xl_core.specs.Node.{Node, Event, Issue, Comes, Reply, asks, happens, opened}
-use Rattle.xl_world.specs.declared.sent.Sent.{Sent}
 use Rattle.xl_world.specs.declared.place.Keeper.{Keeper}
 use Rattle.xl_world.specs.Keeper.{MayHold, may_hold, is_asked, holding, after_save}
 use Rattle.xl_world.specs.declared.place.Place.{Place}
 use Rattle.xl_world.specs.declared.plan.PlanNode.{PlanNode}
-use Rattle.xl_world.specs.World.{World, Step, Act, Again, Torn, place_at, said_by, same_validation, was_sent, is_forged, acts, reopened, quiet, again, torn, asked_at, step, run, place_of, start, AreLists, FrameSays, NodeSays, Stands, IsRun}
+use Rattle.xl_world.specs.World.{World, Step, Act, Again, Torn, place_at, said_by, was_sent, is_forged, acts, reopened, quiet, again, torn, asked_at, step, run, place_of, start, AreLists, FrameSays, NodeSays, Stands, IsRun}
 use Rattle.xl_world.proofs.Settling.{IsWell, IsSound, ReplySays, GenuineThen, spoken, settled_sound, issued_genuine, node_weaker, at_its_number, some_same}
 use Rattle.xl_world.proofs.NodeSteps.{happens_steps, happens_says, HeardSays, heard_weaker, opened_says, opened_well, opened_steps, asks_above, failed_rises}
 

@@ -1,11 +1,10 @@
 -- A world stays sound when an event at a node is settled, whatever the event was.
 use Rattle.std.proofs.Common.{◌≡◌, ℕ, ◌<◌, ◌≤◌, Bool, List, [], ◌∷◌, arith, ap, sym, ◌∙◌, inl, inr, Option, Some, None, subst}
-use Rattle.std.specs.Prelude.{◌==◌, ◌&&◌, ◌⊎◌, All, IsTrue, IfSome, map, filter, not, count_by, option_map, option_to_list, nat_eq}
-use Rattle.std.specs.List.{IsDistinct}
+use Rattle.std.specs.Prelude.{◌==◌, ◌&&◌, ◌⊎◌, All, IsTrue, IfSome, map, filter, not, count_by, option_map, option_to_list}
 use Rattle.std.proofs.lemmas.Bool.{and_parts, or_right, eqb-true, eqb-false, cond_both, cond-true, cond-false}
 use Rattle.std.proofs.lemmas.List.Elements.{All-append, All-weaker, All-nil, All-cons, All-map}
 use Rattle.xl_base.specs.declared.ids.LedgerId.{LedgerId}
-use Rattle.xl_lists.specs.Lists.{TrustedList, IsValid}
+use Rattle.xl_lists.specs.Lists.{IsValid}
 use Rattle.xl_lists.specs.Agreement.{Said, with_said, vouches, IsGenuine, IsBacked}
 use Rattle.xl_lists.proofs.Agreement.{same_id-true, kept_by_step, vouches_still, now_said}
 use Rattle.xl_lists.proofs.Counting.{count_image}
@@ -14,7 +13,6 @@ use Rattle.xl_validations.specs.declared.row.Row.{Row}
 use Rattle.xl_validations.specs.Rows.{is_full_of, count_full}
 use Rattle.xl_core.specs.declared.report.Report.{Report}
 use Rattle.xl_core.specs.Node.{Node, Reply}
-use Rattle.xl_world.specs.declared.sent.Sent.{Sent}
 use Rattle.xl_world.specs.declared.place.Keeper.{Keeper}
 use Rattle.xl_world.specs.Keeper.{MayHold}
 use Rattle.xl_world.specs.declared.place.Place.{Place}

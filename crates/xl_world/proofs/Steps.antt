@@ -1,30 +1,28 @@
 -- What the code's changes are of the world.
-use Rattle.std.proofs.Common.{◌≡◌, ℕ, zero, suc, ◌+◌, arith, Bool, true, false, cond, List, [], ◌∷◌, ◌++◌, refl, ap, sym, ◌∙◌, Option, Some, None, subst}
-use Rattle.std.specs.Prelude.{◌==◌, ◌&&◌, not, map, option_map, option_to_list, slice_get}
+use Rattle.std.proofs.Common.{◌≡◌, ℕ, zero, suc, ◌+◌, arith, Bool, true, false, List, [], ◌++◌, refl, ap, sym, ◌∙◌, Option, Some, None, subst}
+use Rattle.std.specs.Prelude.{◌==◌, ◌&&◌, not, option_map, option_to_list, slice_get}
 use Rattle.std.proofs.lemmas.Bool.{cond-false, cond-true, or_left, eq-eqb, and_from}
 use Rattle.std.proofs.lemmas.List.Folds.{list_any_at}
 use Rattle.std.proofs.lemmas.Option.{slice_get_within, get_or_from_slice_get}
-use Rattle.std.proofs.lemmas.List.{append-nil, map-append}
+use Rattle.std.proofs.lemmas.List.{append-nil}
 use Rattle.xl_lists.specs.Agreement.{Said, Report, with_said}
 use Rattle.xl_wire.specs.declared.validation.Validation.{Validation}
 use Rattle.xl_core.specs.declared.report.Report.{Report as NodeReport}
 use Rattle.xl_lists.specs.Lists.{is_on}
 use Rattle.xl_lists.proofs.Agreement.{same_id_itself}
-use Rattle.xl_core.specs.Node.{Node, Event, Comes, Reply, happens, asks}
+use Rattle.xl_core.specs.Node.{Node, Event, Comes, Reply, happens}
 use Rattle.xl_world.specs.declared.act.Answer.{Answer}
 use Rattle.xl_world.specs.declared.outcome.Outcome.{Outcome}
 use Rattle.xl_world.specs.declared.outcome.Outcome.TheVariants.{Refused, Full}
-use Rattle.xl_world.specs.declared.place.Keeper.{Keeper}
 use Rattle.xl_world.specs.declared.place.Place.{Place}
-use Rattle.xl_world.specs.declared.place.Saying.{Saying}
 use Rattle.xl_world.specs.declared.report.WorldReport.{WorldReport}
 use Rattle.xl_world.specs.declared.sent.Sent.{Sent}
-use Rattle.xl_world.specs.Keeper.{after_save, may_hold}
-use Rattle.xl_world.specs.World.{World, Step, Act, IsRun, again, reopened, was_sent, same_validation, place_at, put, frames_for, said_by, reported_by, is_forged, settled, acts, step, place_after}
+use Rattle.xl_world.specs.Keeper.{may_hold}
+use Rattle.xl_world.specs.World.{World, Step, Act, IsRun, again, reopened, was_sent, same_validation, place_at, put, frames_for, said_by, reported_by, is_forged, acts, step, place_after}
 use Rattle.xl_world.proofs.Settling.{at_its_number}
 use Rattle.xl_world.proofs.Runs.{run_more}
-use Rattle.xl_world.specs.Schedule.{frame_at, restart, stepped, outcomes_of, told_of, reply_to}
-use Rattle.xl_world.specs.Seen.{restarted, put_restarted, restarted_at, said_seen, report_seen, reports_seen, IsAnswer, put_acted, acted_at, Answers, AnswersAt, outcomes_told}
+use Rattle.xl_world.specs.Schedule.{frame_at, restart, stepped, told_of, reply_to}
+use Rattle.xl_world.specs.Seen.{restarted, put_restarted, restarted_at, report_seen, IsAnswer, put_acted, acted_at, Answers, AnswersAt, outcomes_told}
 
 -- what a step changes of a world
 abbrev pub with_lists : World → List Place → List Sent → List Said → List Report → World

@@ -1,14 +1,13 @@
 -- A network of honest nodes and liars, and its runs. Whatever was ever sent may be delivered never, once or often, at any later
 -- place: so runs have every loss, repetition and reordering.
 -- Source: the paper's network; restarts and keepers by this profile.
-use Rattle.std.specs.Prelude.{◌≡◌, nat_eq, ℕ, ◌+◌, ◌==◌, ◌&&◌, ◌||◌, Bool, false, not, List, [], ◌∷◌, ◌++◌, zero, suc, map, filter, All, IfSome, option_map, option_to_list, find, if◌then◌else◌}
+use Rattle.std.specs.Prelude.{◌≡◌, ℕ, ◌+◌, ◌==◌, ◌&&◌, ◌||◌, Bool, false, not, List, [], ◌∷◌, ◌++◌, zero, suc, map, filter, All, IfSome, option_map, option_to_list, find, if◌then◌else◌}
 use Rattle.std.specs.Prelude.{Some, None}
 use Rattle.std.specs.declared.option.Option.{Option}
 use Rattle.std.specs.List.{list_any}
-use Rattle.xl_base.specs.declared.ids.LedgerId.{LedgerId}
 use Rattle.xl_lists.specs.Lists.{TrustedList, IsValid, is_on}
 use Rattle.xl_lists.specs.Quorums.{Enough}
-use Rattle.xl_lists.specs.Agreement.{same_id, Said, Report as Reported, with_said, Kept, Agree}
+use Rattle.xl_lists.specs.Agreement.{same_id, Said, Report as Reported, with_said, Kept}
 use Rattle.xl_wire.specs.declared.validation.Validation.{Validation}
 use Rattle.xl_validations.specs.declared.row.Row.{Row}
 use Rattle.xl_core.specs.declared.report.Report.{Report}

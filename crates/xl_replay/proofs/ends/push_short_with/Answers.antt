@@ -1,4 +1,4 @@
-use Rattle.std.proofs.Common.{◌≡◌, ℕ, List, ◌++◌, Option, ap, sym, ◌∙◌}
+use Rattle.std.proofs.Common.{ℕ, List, ◌++◌, Option, ap, ◌∙◌}
 use Rattle.std.specs.String.{string_bytes}
 use Rattle.xl_lists.specs.Lists.{TrustedList}
 use Rattle.xl_world.proofs.Places.{on_ok}

@@ -1,4 +1,4 @@
-use Rattle.std.proofs.Common.{◌≡◌, ℕ, List, ◌++◌, ap, ◌∙◌}
+use Rattle.std.proofs.Common.{ℕ, List, ◌++◌, ap, ◌∙◌}
 use Rattle.std.specs.String.{string_bytes}
 use Rattle.xl_world.specs.World.{list_in}
 use Rattle.xl_replay.specs.Texts.{shorts_of}

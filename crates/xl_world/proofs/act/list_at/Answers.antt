@@ -1,4 +1,4 @@
-use Rattle.std.proofs.Common.{sym, ◌∙◌, ap, Some, Option}
+use Rattle.std.proofs.Common.{sym, ◌∙◌, ap, Some}
 use Rattle.std.specs.Prelude.{option_map}
 use Rattle.xl_lists.specs.Lists.{TrustedList}
 use Rattle.xl_world.specs.declared.place.Place.{Place}

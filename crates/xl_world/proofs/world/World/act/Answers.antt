@@ -1,8 +1,8 @@
-use Rattle.std.proofs.Common.{◌≡◌, ◌++◌, ◌∙◌, [], true, false, ap, sym, subst, map, List, Some}
+use Rattle.std.proofs.Common.{◌≡◌, ◌++◌, ◌∙◌, true, false, ap, sym, subst, map, List, Some}
 use Rattle.std.specs.Prelude.{option_map, option_to_list}
 use Rattle.std.specs.Vec.{with_items}
 use Rattle.std.proofs.lemmas.List.{with_items_is}
-use Rattle.xl_lists.specs.Agreement.{Said, Report, with_said}
+use Rattle.xl_lists.specs.Agreement.{with_said}
 use Rattle.xl_core.specs.Node.{Event}
 use Rattle.xl_world.specs.declared.outcome.Outcome.{Outcome}
 use Rattle.xl_world.specs.declared.place.Place.{Place}

@@ -1,4 +1,4 @@
-use Rattle.std.proofs.Common.{◌≡◌, ◌∙◌, ap, sym, Some}
+use Rattle.std.proofs.Common.{◌∙◌, ap, sym}
 use Rattle.xl_world.specs.World.{World}
 use Rattle.xl_world.specs.Schedule.{frame_at}
 use Rattle.xl_world.proofs.Steps.{frame_fair}
