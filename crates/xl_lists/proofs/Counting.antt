@@ -6,8 +6,8 @@ use Rattle.std.proofs.lemmas.List.Sums.{sum_by-cons, count_by-le-length}
 use Rattle.std.proofs.lemmas.Bool.{and_parts}
 use Rattle.std.proofs.lemmas.Bool.Decides.{nat_tests}
 use Rattle.std.proofs.lemmas.List.Elements.{All-head, All-tail}
-use Rattle.xl_lists.specs.Lists.{is_on}
-use Rattle.xl_lists.specs.Quorums.{overlap, liars_shared}
+use Rattle.xl_lists.specs.Lists.{TrustedList, is_on, IsValid}
+use Rattle.xl_lists.specs.Quorums.{overlap, liars_shared, Enough, QuorumsMeet}
 
 -- a count goes element by element
 pub count_by-cons : {X : Type 0} (p : X → Bool) (x : X) (xs : List X) → count_by p (x ∷ xs) ≡ cond (p x) 1 0 + count_by p xs
@@ -145,3 +145,9 @@ both_pass p r (x ∷ xs) more =
 pub quorums_meet : {X : Type 0} (p r : X → Bool) (quorum : ℕ) (xs : List X) → length xs < 2 * quorum → quorum ≤ count_by p xs → quorum ≤ count_by r xs →
     Any (λ x. (p x ≡ true) × (r x ≡ true)) xs
 quorums_meet p r quorum xs half by_p by_r = both_pass p r xs (omega (arith, half, by_p, by_r))
+
+-- where two quorums of valid lists are enough, they meet
+pub enough_meet : (liars : List ℕ) (a b : TrustedList) → IsValid a → IsValid b → Enough liars a b → QuorumsMeet liars a b
+enough_meet liars a b valid_a valid_b enough p r by_p by_r =
+    let found = quorums_share p r (is_on liars) a.members b.members valid_a.once valid_b.once (omega (arith, enough, by_p, by_r)) in
+    (found.0, found.1.first, found.1.second, found.1.honest)

@@ -1,5 +1,5 @@
 -- A member's bit, and the bits of a list.
-use Rattle.std.proofs.Common.{◌≡◌, ℕ, ◌+◌, ◌-◌, ◌*◌, ◌%◌, ◌^◌, ◌≤◌, ◌<◌, Bool, true, false, List, [], ◌∷◌, ◌++◌, take, length, get_or, refl, arith, ap, subst, sym, ◌∙◌, inl, inr, bit_or, w64}
+use Rattle.std.proofs.Common.{◌≡◌, ℕ, ◌+◌, ◌-◌, ◌*◌, ◌%◌, ◌^◌, ◌≤◌, ◌<◌, Bool, true, false, List, [], ◌∷◌, ◌++◌, take, length, get_or, arith, ap, subst, sym, ◌∙◌, inl, inr, bit_or, w64}
 use Rattle.std.specs.Prelude.{◌==◌, ◌||◌, ◌&&◌, not}
 use Rattle.std.specs.Int.{bit_at}
 use Rattle.std.proofs.lemmas.Bool.{cases_eq}
@@ -7,7 +7,6 @@ use Rattle.std.proofs.lemmas.Bool.Decides.{nat_tests}
 use Rattle.std.proofs.lemmas.Nat.Bits.{bit_at_set_same, bit_at_set_other}
 use Rattle.std.proofs.lemmas.List.{take_more}
 use Rattle.std.proofs.lemmas.List.Folds.{list_any-append}
-use Rattle.xl_lists.specs.Lists.{is_on}
 use Rattle.xl_lists.specs.Marks.{is_marked, AreMarked}
 
 at_zero : (bit old m member : ℕ) → m ≡ 0 → 1 ≤ member → (not (m == 0) && (bit == 1)) ≡ (m == member || (not (m == 0) && (old == 1)))

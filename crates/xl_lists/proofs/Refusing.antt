@@ -1,8 +1,8 @@
 -- The refusals of a list, one cause after the other.
-use Rattle.std.proofs.Common.{◌≡◌, ℕ, ◌+◌, ◌<◌, ◌≤◌, Bool, true, false, cond, List, [], ◌∷◌, ◌++◌, take, drop, length, get_or, refl, arith, ap, subst, sym, ◌∙◌, inl, inr, Option, Some, None}
+use Rattle.std.proofs.Common.{◌≡◌, ℕ, ◌+◌, ◌<◌, ◌≤◌, false, List, [], ◌∷◌, ◌++◌, take, drop, length, get_or, refl, arith, ap, subst, sym, ◌∙◌, inl, inr, Option, Some, None}
 use Rattle.std.specs.Prelude.{◌*◌, nat_eq, find, All, option_map}
 use Rattle.std.specs.List.{IsDistinct}
-use Rattle.std.proofs.lemmas.Bool.{cond-false, cond-true, cond_both, cases_Bool}
+use Rattle.std.proofs.lemmas.Bool.{cond-false, cond-true, cases_Bool}
 use Rattle.std.proofs.lemmas.Cmp.{nat_eq_equiv}
 use Rattle.std.proofs.lemmas.List.{at_drop_more, take_more, append-nil, append_assoc}
 use Rattle.std.proofs.lemmas.Map.Keys.{IsDistinct-push}

@@ -1,4 +1,5 @@
 -- Why two quorums report one ledger, whatever the nodes are: what is kept of a network at each step.
+-- Source: the counting of quorums by Chase and MacBrough, "Analysis of the XRP Ledger Consensus Protocol" (2018), with liars and restarts.
 use Rattle.std.specs.Prelude.{◌≡◌, ℕ, ◌≤◌, ◌<◌, ◌==◌, ◌&&◌, ◌||◌, ◌++◌, Bool, List, [], ◌∷◌, Option, Some, None, count_by, nat_eq, All, IsTrue, IfSome}
 use Rattle.std.specs.List.{list_any, IsDistinct}
 use Rattle.std.specs.Str.{bytes_eq}
@@ -6,6 +7,7 @@ use Rattle.xl_base.specs.declared.ids.LedgerId.{LedgerId}
 use Rattle.xl_lists.specs.Lists.{TrustedList, is_on}
 use Rattle.xl_lists.specs.Quorums.{Enough}
 
+-- whether two ids have the same bytes
 abbrev pub same_id : LedgerId → LedgerId → Bool
 same_id a b = bytes_eq a.0 b.0
 
@@ -68,12 +70,12 @@ pub record IsLawful (liars : List ℕ) (said : List Said) (spoken : Option Said)
   pub saved : IfSome spoken (λ x. (n : ℕ) → Holds' x.member n → x.seq ≤ n)
   pub backed : All (IsBacked liars (with_said said spoken)) arisen
 
--- The law, for keepers that are told by a test and for a list of what stands: where the four facts are kept, reports agree.
+-- The law: where these facts hold of a network, its reports agree. What a keeper may hold is told by a test here, and what stands by a list.
 abbrev pub KeptAgrees : Type 0
 KeptAgrees = (liars : List ℕ) (said : List Said) (reports : List Report) (holds : ℕ → ℕ → Bool) (standing : List Said) →
     Kept liars said reports (λ m n. IsTrue (holds m n)) (λ P. All P standing) → Agree liars reports
 
--- And a lawful step keeps them, where what stands after it is genuine.
+-- and a lawful step keeps them, where what stands after it is genuine
 abbrev pub LawfulKeeps : Type 0
 LawfulKeeps = (liars : List ℕ) (said : List Said) (reports : List Report) (spoken : Option Said) (arisen : List Report)
     (holds holds' : ℕ → ℕ → Bool) (standing standing' : List Said) →

@@ -1,5 +1,5 @@
 ghost use Rattle.std.specs.Prelude.{◌≡◌, ◌+◌, ◌*◌, ◌/◌, ◌≤◌, ◌<◌, ◌↔◌, IsTrue, length, pos, ◌-ℤ◌};
-ghost use Rattle.xl_lists.specs.Quorums.{overlap as overlap_of, liars_shared as liars_shared_of, bound_of, Enough};
+ghost use Rattle.xl_lists.specs.Quorums.{overlap as overlap_of, liars_shared as liars_shared_of, bound_of, Enough, QuorumsMeet};
 
 use crate::list::List;
 use crate::marks::Marks;
@@ -32,10 +32,10 @@ pub fn bound(a: &List, b: &List, liars: &[NodeNo]) -> u32
     a.len() + b.len() - overlap(a, b) + liars_shared(a, b, liars)
 }
 
-/// Whether the quorums of two lists exceed their bound: then no ledger can have a quorum on the one list and another of
-/// its sequence one on the other, unless a member names two or one that is no liar is misquoted.
+/// Whether the quorums of two lists exceed their bound. Then any two quorums of theirs share a member that is no liar.
 pub fn enough(a: &List, b: &List, liars: &[NodeNo]) -> bool
-    ensures { IsTrue result ↔ Enough liars.now a.now b.now }
+    ensures exact { IsTrue result ↔ Enough liars.now a.now b.now }
+    ensures meet { IsTrue result → QuorumsMeet liars.now a.now b.now }
 {
     a.quorum() + b.quorum() > bound(a, b, liars)
 }
