@@ -109,30 +109,43 @@ fn refuses_a_long_line(rt: HostRuntime) -> Result<(), Fail> {
     Ok(())
 }
 
+/// Whether a name is the one that is printed for an id.
+fn is_printed_as(reader: &Reader, id: &LedgerId, name: &[u8]) -> bool {
+    match reader.name_of(id) {
+        Some(printed) => printed == name,
+        None => false,
+    }
+}
+
 #[test]
-fn reads_each_word(rt: HostRuntime) -> Result<(), Fail> {
+fn declares_names(rt: HostRuntime) -> Result<(), Fail> {
     let mut reader = Reader::open(rt.alloc())?;
     read_all(&mut reader, "xl-schedule\t1\n  # a comment\n\n \t")?;
-    let id = LedgerId([0x11; 32]);
-    let node = NodeNo::new(1).ok_or("no number")?;
     read_all(
         &mut reader,
         "name x 1111111111111111111111111111111111111111111111111111111111111111",
     )?;
-    match reader.read_line(b"name y x", 0)? {
-        Some(Line::Name { name, id: named }) => {
+    let read = reader.read_line(b"name y x", 0)?;
+    match &read {
+        Some(Line::Name { name, id }) => {
             assert_eq!(rt; name.as_slice(), b"y".as_slice());
-            assert_eq!(rt; named, id);
+            assert_eq!(rt; id.0, [0x11; 32]);
         }
         _ => assert!(rt; false, "no name"),
     }
-    assert_eq!(rt; reader.name_of(&id), Some(b"x".as_slice()));
-    assert_eq!(rt;
-        reader.name_of(&LedgerId([0; 32])),
-        Some(b"root".as_slice())
-    );
-    assert_eq!(rt; reader.name_of(&LedgerId([2; 32])), None);
-    match reader.read_line(b"node 1 2 1,3,2 observing", 0)? {
+    assert!(rt; is_printed_as(&reader, &LedgerId([0x11; 32]), b"x"));
+    assert!(rt; is_printed_as(&reader, &LedgerId([0; 32]), b"root"));
+    assert!(rt; reader.name_of(&LedgerId([2; 32])).is_none());
+    assert_eq!(rt; reader.lines(), 6);
+    Ok(())
+}
+
+#[test]
+fn declares_a_node(rt: HostRuntime) -> Result<(), Fail> {
+    let mut reader = Reader::open(rt.alloc())?;
+    read_all(&mut reader, "xl-schedule 1")?;
+    let read = reader.read_line(b"node 1 2 1,3,2 observing", 0)?;
+    match &read {
         Some(
             Line::Node {
                 me,
@@ -140,40 +153,49 @@ fn reads_each_word(rt: HostRuntime) -> Result<(), Fail> {
                 validating,
             },
         ) => {
-            assert_eq!(rt; me, node);
+            assert_eq!(rt; me.get(), 1);
             assert_eq!(rt; list.quorum(), 2);
             assert_eq!(rt; list.len(), 3);
-            assert!(rt; !validating);
+            assert!(rt; !*validating);
         }
         _ => assert!(rt; false, "no node"),
     }
-    let events = [
-        (
-            "issue 1 4294967295 y full",
-            Event::Issue {
-                at: 1_000,
-                node,
-                seq: u32::MAX,
-                id,
-                full: true,
-            },
-        ),
-        (
-            "deliver\t2 ",
-            Event::Deliver {
-                at: 1_000,
-                place: 2,
-            },
-        ),
-        ("restart 1", Event::Restart { at: 1_000, node }),
-    ];
-    for (line, event) in events {
-        match reader.read_line(line.as_bytes(), 2)? {
-            Some(Line::Event(read)) => assert_eq!(rt; read, event, "{line}"),
-            _ => assert!(rt; false, "{line}"),
-        }
+    Ok(())
+}
+
+/// The event that a line of a schedule with node 1 and two sent frames is.
+fn event_of(reader: &mut Reader, line: &str) -> Result<Option<Event>, SchedRefusal> {
+    let read = reader.read_line(line.as_bytes(), 2)?;
+    match &read {
+        Some(Line::Event(event)) => Ok(Some(*event)),
+        _ => Ok(None),
     }
-    assert_eq!(rt; reader.lines(), 10);
+}
+
+#[test]
+fn reads_events(rt: HostRuntime) -> Result<(), Fail> {
+    let mut reader = Reader::open(rt.alloc())?;
+    read_all(&mut reader, "xl-schedule 1\nnode 1 1 1")?;
+    let node = NodeNo::new(1).ok_or("no number")?;
+    let id = LedgerId([0; 32]);
+    let issue = Event::Issue {
+        at: 1_000,
+        node,
+        seq: u32::MAX,
+        id,
+        full: true,
+    };
+    assert_eq!(rt;
+        event_of(&mut reader, "issue 1 4294967295 root full")?,
+        Some(issue)
+    );
+    let deliver = Event::Deliver {
+        at: 1_000,
+        place: 2,
+    };
+    assert_eq!(rt; event_of(&mut reader, "deliver\t2 ")?, Some(deliver));
+    let restart = Event::Restart { at: 1_000, node };
+    assert_eq!(rt; event_of(&mut reader, "restart 1")?, Some(restart));
     Ok(())
 }
 
