@@ -1,2 +1,6 @@
 pub mod Numbers
 pub mod Happening
+pub mod Declaring
+pub mod Telling
+pub mod Shorts
+pub mod Headline

@@ -1,9 +1,10 @@
 // A whole run of `xl replay`.
-ghost use Rattle.std.specs.Prelude.{◌≡◌, ◌≤◌, ◌⊎◌, IfSome};
+ghost use Rattle.std.specs.Prelude.{◌≡◌, ◌≢◌, ◌≤◌, ◌⊎◌, IfSome};
 ghost use Rattle.std.specs.Io.KnownBytes.{IsAtEnd};
 ghost use Rattle.xl_base.specs.Faults.{Rose};
 ghost use Rattle.xl_io.specs.Sinks.{GrewByFront};
 ghost use Rattle.xl_lines.specs.Running.{TellsAll};
+ghost use Rattle.xl_replay.specs.Headlines.{AddsReport};
 ghost use Rattle.xl_replay.specs.Replays.{report_of};
 ghost use Rattle.xl_replay.specs.Statuses.{IsTold, IsReplayed};
 
@@ -26,6 +27,10 @@ pub fn replay<I: Source, O: Sink>(alloc: Global, input: &mut I, output: &mut O) 
         TellsAll (O.held output.old) (O.held output.new) Verdict.Found (report_of bytes)) }
     ensures refused { result ≡ Status.InputRefused → IfSome (I.left input.old) (λ bytes.
         TellsAll (O.held output.old) (O.held output.new) Verdict.Refused (report_of bytes)) }
+    // Unless a line is refused, the whole text that was written is a report in which, where it says `forged 0`, no two `full` lines of
+    // a pair with no `short` line share a sequence and stand for different ids.
+    ensures headline { IsTold result → result ≢ Status.InputRefused → IfSome (I.left input.old) (λ bytes.
+        AddsReport (O.held output.old) (O.held output.new)) }
     // Unless a line is refused, the input was read to its end.
     ensures done_at_end { result ≡ Status.Done → IsAtEnd (I.left input.new) }
     ensures fork_at_end { result ≡ Status.Fork → IsAtEnd (I.left input.new) }

@@ -4,7 +4,7 @@
 //! end it tells whose quorums aren't enough, how many frames were forged, and whether the reports agree.
 //!
 //! It stands on xl_lines, xl_sched and xl_world. Its one contract: what `replay` writes is the report of the schedule, a function
-//! of the bytes that the source held.
+//! of the bytes that the source held, and in that text reports agree wherever quorums are enough.
 #![tactic(auto)]
 
 mod command;

@@ -10,3 +10,4 @@ pub mod Steps
 pub mod Opposing
 pub mod Firsts
 pub mod Differing
+pub mod Reporters

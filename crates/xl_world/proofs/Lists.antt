@@ -15,12 +15,12 @@ use Rattle.xl_world.specs.declared.place.Keeper.{Keeper}
 use Rattle.xl_world.specs.Keeper.{may_hold, holding, after_save}
 use Rattle.xl_world.specs.declared.place.Place.{Place}
 use Rattle.xl_world.specs.declared.plan.PlanNode.{PlanNode}
-use Rattle.xl_world.specs.World.{World, Step, Act, Again, Torn, place_at, list_in, reported_by, is_forged, settled, acts, quiet, reopened, again, torn, asked_at, step, run, place_of, start, AreLists, list_at, AgreeAt, IsRun, Headline}
+use Rattle.xl_world.specs.World.{World, Step, Act, Again, Torn, place_at, list_in, reported_by, is_forged, settled, acts, quiet, reopened, again, torn, asked_at, step, run, place_of, start, AreDeclared, list_at, AgreeAt, IsRun, Headline}
 use Rattle.xl_world.proofs.Settling.{put_cases, at_its_number, some_same}
 use Rattle.xl_world.proofs.Runs.{agreement}
 
 -- each node has the list of its number, and reported under it
-record HasLists (plan : List PlanNode) (w : World) : Type 0 where
+pub record HasLists (plan : List PlanNode) (w : World) : Type 0 where
   pub nodes : (i : ℕ) (p : Place) → place_at i w.places ≡ Some p → list_at plan i ≡ Some p.node.list
   pub reports : All (λ r. list_at plan r.node ≡ Some r.list) w.reports
 
@@ -85,7 +85,7 @@ step_lists plan w (Act i e saved) has = acts_lists plan w i e saved has (place_a
 step_lists plan w (Again i number) has = again_lists plan w i number has (place_at i w.places) refl
 step_lists plan w (Torn i e number) has = torn_lists plan w i number has (place_at i w.places) refl (asked_at (place_at i w.places) e)
 
-run_lists : (plan : List PlanNode) (w : World) (ss : List Step) → HasLists plan w → HasLists plan (run w ss)
+pub run_lists : (plan : List PlanNode) (w : World) (ss : List Step) → HasLists plan w → HasLists plan (run w ss)
 run_lists plan w [] has = has
 run_lists plan w (s ∷ ss) has = run_lists plan (step w s) ss (step_lists plan w s has)
 
@@ -98,7 +98,7 @@ opened_under (d ∷ ds) i p h =
     (λ is_not there. ap (option_map (λ x. x.list)) (cond-false (d.me == i) (Some d) _ is_not) ∙ opened_under ds i p there)
     h
 
-start_lists : (liars : List ℕ) (plan : List PlanNode) → HasLists plan (start liars plan)
+pub start_lists : (liars : List ℕ) (plan : List PlanNode) → HasLists plan (start liars plan)
 start_lists liars plan = record { nodes = opened_under plan; reports = All-nil (λ r. list_at plan r.node ≡ Some r.list) }
 
 some_list : (a b : TrustedList) → Some a ≡ Some b → a ≡ b
@@ -124,7 +124,7 @@ declared_as plan w i a None at has is = cc
 declared_as plan w i a (Some p) at has is = has.nodes i p at ∙ is
 
 -- so the reports of a world that is a run agree, where no frame was forged
-run_agrees : (liars : List ℕ) (plan : List PlanNode) (steps : List Step) (i j : ℕ) (a b : TrustedList) → AreLists plan →
+run_agrees : (liars : List ℕ) (plan : List PlanNode) (steps : List Step) (i j : ℕ) (a b : TrustedList) → AreDeclared plan →
     list_in (run (start liars plan) steps) i ≡ Some a → list_in (run (start liars plan) steps) j ≡ Some b → Enough liars a b →
     (run (start liars plan) steps).forged ≡ 0 → AgreeAt (run (start liars plan) steps).reports i j
 run_agrees liars plan steps i j a b lists at_i at_j enough none =

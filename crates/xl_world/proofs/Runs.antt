@@ -14,7 +14,7 @@ use Rattle.xl_world.specs.declared.place.Keeper.{Keeper}
 use Rattle.xl_world.specs.Keeper.{MayHold, may_hold, is_asked, holding, after_save}
 use Rattle.xl_world.specs.declared.place.Place.{Place}
 use Rattle.xl_world.specs.declared.plan.PlanNode.{PlanNode}
-use Rattle.xl_world.specs.World.{World, Step, Act, Again, Torn, place_at, said_by, was_sent, is_forged, acts, reopened, quiet, again, torn, asked_at, step, run, place_of, start, AreLists, FrameSays, NodeSays, Stands, IsRun}
+use Rattle.xl_world.specs.World.{World, Step, Act, Again, Torn, place_at, said_by, was_sent, is_forged, acts, reopened, quiet, again, torn, asked_at, step, run, place_of, start, AreDeclared, FrameSays, NodeSays, Stands, IsRun}
 use Rattle.xl_world.proofs.Settling.{IsWell, IsSound, ReplySays, GenuineThen, spoken, settled_sound, issued_genuine, node_weaker, at_its_number, some_same}
 use Rattle.xl_world.proofs.NodeSteps.{happens_steps, happens_says, HeardSays, heard_weaker, opened_says, opened_well, opened_steps, asks_above, failed_rises}
 
@@ -158,7 +158,7 @@ each_at P i (x ∷ xs) p each h =
     cond_both (x.node.me == i) (Some x) (place_at i xs) (λ o. o ≡ Some p → P p)
     (λ _ here. subst P (sym (some_same x p here)) (All-head P x xs each)) (λ _ there. each_at P i xs p (All-tail P x xs each) there) h
 
-pub start_sound : (liars : List ℕ) (plan : List PlanNode) → AreLists plan → IsSound (start liars plan)
+pub start_sound : (liars : List ℕ) (plan : List PlanNode) → AreDeclared plan → IsSound (start liars plan)
 start_sound liars plan lists = record {
   kept = record {
     saved = λ m s n id said _. cc;
@@ -170,11 +170,11 @@ start_sound liars plan lists = record {
     };
     backed = All-nil (IsBacked liars []);
   };
-  well = λ i p h. each_at IsWell i _ p (All-map IsWell place_of plan (λ k e in_plan. let d : PlanNode = slice_index_or plan k e in opened_well d.me d.list 0 (lists k e in_plan))) h;
+  well = λ i p h. each_at IsWell i _ p (All-map IsWell place_of plan (λ k e in_plan. let d : PlanNode = slice_index_or plan k e in opened_well d.me d.list 0 (lists k e in_plan).list)) h;
 }
 
 -- reports agree, in each unforged run
-pub agreement : (liars : List ℕ) (plan : List PlanNode) (steps : List Step) → AreLists plan → (run (start liars plan) steps).forged ≡ 0 → Agree liars (run (start liars plan) steps).reports
+pub agreement : (liars : List ℕ) (plan : List PlanNode) (steps : List Step) → AreDeclared plan → (run (start liars plan) steps).forged ≡ 0 → Agree liars (run (start liars plan) steps).reports
 agreement liars plan steps lists none =
     subst (λ ls. Agree ls (run (start liars plan) steps).reports) (run_stays (start liars plan) steps).liars
     (agreement_from_kept (run_sound (start liars plan) steps none (start_sound liars plan lists)).kept)

@@ -1,7 +1,7 @@
 -- A network of honest nodes and liars, and its runs. Whatever was ever sent may be delivered never, once or often, at any later
 -- place: so runs have every loss, repetition and reordering.
 -- Source: the paper's network; restarts and keepers by this profile.
-use Rattle.std.specs.Prelude.{◌≡◌, ℕ, ◌+◌, ◌==◌, ◌&&◌, ◌||◌, Bool, false, not, List, [], ◌∷◌, ◌++◌, zero, suc, map, filter, All, IfSome, option_map, option_to_list, find, if◌then◌else◌}
+use Rattle.std.specs.Prelude.{◌≤◌, ◌≡◌, ℕ, ◌+◌, ◌==◌, ◌&&◌, ◌||◌, Bool, false, not, List, [], ◌∷◌, ◌++◌, zero, suc, map, filter, All, IfSome, option_map, option_to_list, find, if◌then◌else◌}
 use Rattle.std.specs.Prelude.{Some, None}
 use Rattle.std.specs.declared.option.Option.{Option}
 use Rattle.std.specs.List.{list_any}
@@ -149,9 +149,14 @@ start liars plan = record {
   forged = 0;
 }
 
--- each declared list is a list
-abbrev pub AreLists : List PlanNode → Type 0
-AreLists plan = All (λ d. IsValid d.list) plan
+-- a node is declared with a number that a member may have, and a list that may be one
+pub record IsDeclared (d : PlanNode) : Type 0 where
+  pub least : 1 ≤ d.me
+  pub greatest : d.me ≤ 64
+  pub list : IsValid d.list
+
+abbrev pub AreDeclared : List PlanNode → Type 0
+AreDeclared plan = All IsDeclared plan
 
 -- the list that a number is declared with
 abbrev pub list_at : List PlanNode → ℕ → Option TrustedList
@@ -195,9 +200,9 @@ AgreeAt reports i j = All (λ r. All (λ q. r.node ≡ i → q.node ≡ j → r.
 abbrev pub Headline : Type 0
 Headline =
     (liars : List ℕ) (plan : List PlanNode) (steps : List Step) (i j : ℕ) (a b : TrustedList) →
-    AreLists plan → list_at plan i ≡ Some a → list_at plan j ≡ Some b → Enough liars a b →
+    AreDeclared plan → list_at plan i ≡ Some a → list_at plan j ≡ Some b → Enough liars a b →
     (run (start liars plan) steps).forged ≡ 0 → AgreeAt (run (start liars plan) steps).reports i j
 
 -- the world comes from a declared one by steps
 abbrev pub IsRun : World → Type 0
-IsRun w = (plan : List PlanNode) × (steps : List Step) × AreLists plan × (w ≡ run (start w.liars plan) steps)
+IsRun w = (plan : List PlanNode) × (steps : List Step) × AreDeclared plan × (w ≡ run (start w.liars plan) steps)

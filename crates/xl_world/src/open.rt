@@ -2,7 +2,7 @@
 ghost use Rattle.std.specs.Prelude.{◌≡◌, ◌++◌, option_to_list, ◌≤◌, ◌||◌, ◌==◌, IfOk, OnOk, Some, None, map, filter, All, if◌then◌else◌};
 ghost use Rattle.std.specs.List.{list_any};
 ghost use Rattle.xl_lists.specs.Lists.{is_on};
-ghost use Rattle.xl_world.specs.World.{place_of, is_declared, all_numbers, AreLists};
+ghost use Rattle.xl_world.specs.World.{place_of, is_declared, all_numbers, AreDeclared};
 
 use crate::place::{Keeper, Place};
 use crate::{Plan, PlanNode};
@@ -23,11 +23,12 @@ fn place(alloc: Global, node: &PlanNode) -> Result<Place, OutOfMemory>
 /// The nodes at their start.
 pub fn places(alloc: Global, nodes: &[PlanNode]) -> Result<Vec<Place>, OutOfMemory>
     ensures opened { IfOk result (λ places. places.items ≡ map place_of nodes.now) }
-    ensures lists { OnOk result (AreLists nodes.now) }
+    ensures declared { OnOk result (AreDeclared nodes.now) }
 {
     let mut places = Vec::with_capacity(alloc, nodes.len())?;
     for node in nodes {
-        let _ = node.list.quorum();
+        // What every member number and every list is, of this node.
+        let _ = (node.me.get(), node.list.quorum());
         places.push(place(alloc, node)?)?;
     }
     Ok(places)

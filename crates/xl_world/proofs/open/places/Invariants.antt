@@ -1,8 +1,8 @@
 use Rattle.std.proofs.Common.{◌≡◌, take}
 use Rattle.std.specs.Prelude.{map}
-use Rattle.xl_world.specs.World.{place_of, AreLists}
+use Rattle.xl_world.specs.World.{place_of, AreDeclared}
 use Rattle.xl_world.proofs.open.places.Given as goal
 
 -- the nodes so far stand at their places, and their lists are lists
 abbrev pub invariant-loop-node : goal.invariant-loop-node
-invariant-loop-node l = (l.places.items ≡ map place_of (take l.node-index l.nodes)) × AreLists (take l.node-index l.nodes)
+invariant-loop-node l = (l.places.items ≡ map place_of (take l.node-index l.nodes)) × AreDeclared (take l.node-index l.nodes)

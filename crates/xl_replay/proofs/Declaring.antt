@@ -1,0 +1,188 @@
+-- A node's line declares a node: its number is a member's and its list is a list.
+use Rattle.std.proofs.Common.{◌≡◌, ℕ, ◌≤◌, Bool, true, false, cond, List, [], ◌∷◌, length, refl, arith, Option, Some, None, Result, Ok, Err}
+use Rattle.std.specs.Prelude.{◌==◌, ◌&&◌, not, nat_lt, nat_le, find, option_map, IfOk, IfSome}
+use Rattle.std.specs.Option.{option_or}
+use Rattle.std.proofs.lemmas.Bool.{cond_both, and_parts, leb-true, ltb-true}
+use Rattle.std.proofs.lemmas.Bool.Decides.{nat_tests}
+use Rattle.xl_lists.specs.declared.refusal.ListRefusal.{ListRefusal}
+use Rattle.xl_lists.specs.declared.refusal.ListRefusal.TheVariants.{Empty, TooMany, OutOfRange, Repeated, Quorum}
+use Rattle.xl_lists.specs.Lists.{TrustedList, IsValid, is_on, is_outside, repeated_after, is_quorum, refused_if, refusal_of, unless_refused as list_unless, list_of}
+use Rattle.xl_lists.proofs.Refusing.{distinct, all_in_range}
+use Rattle.xl_sched.specs.declared.event.Event.{Event}
+use Rattle.xl_sched.specs.declared.refusal.SchedRefusal.{SchedRefusal}
+use Rattle.xl_sched.specs.declared.refusal.SchedRefusal.TheVariants.{Twice, Late}
+use Rattle.xl_sched.specs.declared.limits.TheConstants.{MOST_LINES, MOST_BYTES}
+use Rattle.xl_sched.specs.declared.line.Line.{Line}
+use Rattle.xl_sched.specs.declared.line.Line.TheVariants as line
+use Rattle.xl_sched.specs.declared.word.Word.{Word}
+use Rattle.xl_sched.specs.declared.word.Word.TheVariants as word
+use Rattle.xl_base.specs.declared.ids.LedgerId.{LedgerId}
+use Rattle.xl_sched.specs.Refusals.{◌>>=◌}
+use Rattle.xl_sched.specs.Tokens.{tokens}
+use Rattle.xl_sched.specs.Numbers.{is_number, value_of, number_of}
+use Rattle.xl_sched.specs.Names.{new_name_of, id_of}
+use Rattle.xl_sched.specs.Members.{member_of, new_member_of, members_of, trusted_of, unless_refused}
+use Rattle.xl_sched.specs.Words.{Reading, mode_of, node_of, node_line, has_most_names, named_line, issue_event, deliver_event, restart_event, event_line, line_of, line_if_word, word_of, worded_line}
+use Rattle.xl_sched.specs.Reading.{Answer, passes, gives, refuses, is_header, header_line, is_comment, some_line, later_line, bounded_line, answer_to, reading_of}
+use Rattle.xl_world.specs.World.{IsDeclared}
+
+-- LISTS
+
+or_none : {X : Type 0} (a b : Option X) → option_or a b ≡ None → (a ≡ None) × (b ≡ None)
+or_none None b h = (refl, h)
+or_none (Some x) b h = cc
+
+if_false : (b : Bool) (x : ListRefusal) → refused_if b x ≡ None → b ≡ false
+if_false true x h = cc
+if_false false x h = refl
+
+map_none : (f : ℕ → ListRefusal) (o : Option ℕ) → option_map f o ≡ None → o ≡ None
+map_none f None h = refl
+map_none f (Some n) h = cc
+
+some_members : (n : ℕ) → (n == 0) ≡ false → 1 ≤ n
+some_members n h = grind (arith, nat_tests)
+
+few_members : (n : ℕ) → nat_lt 64 n ≡ false → n ≤ 64
+few_members n h = grind (arith, nat_tests)
+
+not_false : (b : Bool) → not b ≡ false → b ≡ true
+not_false true h = refl
+not_false false h = cc
+
+-- what no cause refuses is a list
+unrefused : (members : List ℕ) (quorum : ℕ) → refusal_of members quorum ≡ None → IsValid (record { members = members; quorum = quorum })
+unrefused members quorum none =
+    let a = or_none (refused_if (length members == 0) Empty) _ none in
+    let b = or_none (refused_if (nat_lt 64 (length members)) (TooMany (length members))) _ a.1 in
+    let c = or_none (option_map OutOfRange (find is_outside members)) _ b.1 in
+    let d = or_none (option_map Repeated (repeated_after [] members)) _ c.1 in
+    let e = or_none (refused_if (not (is_quorum quorum (length members))) (Quorum quorum (length members))) None d.1 in
+    let q = and_parts (nat_le quorum (length members)) _ (not_false (is_quorum quorum (length members)) (if_false _ _ e.0)) in
+    record {
+      some = some_members (length members) (if_false _ _ a.0);
+      at_most = few_members (length members) (if_false _ _ b.0);
+      numbers = all_in_range members (map_none OutOfRange (find is_outside members) c.0);
+      once = distinct members (map_none Repeated (repeated_after [] members) d.0);
+      within = leb-true _ _ q.0;
+      majority = ltb-true _ _ q.1;
+    }
+
+list_valid : (o : Option ListRefusal) (l : TrustedList) → (o ≡ None → IsValid l) → IfOk (list_unless o l) IsValid
+list_valid None l h = h refl
+list_valid (Some e) l h = tt
+
+kept_valid : (r : Result TrustedList ListRefusal) → IfOk r IsValid → IfOk (unless_refused r) IsValid
+kept_valid (Ok l) h = h
+kept_valid (Err e) h = tt
+
+trusted_valid : (members : List ℕ) (quorum : ℕ) → IfOk (trusted_of members quorum) IsValid
+trusted_valid members quorum = kept_valid (list_of members quorum) (list_valid (refusal_of members quorum) _ (unrefused members quorum))
+
+-- NUMBERS
+
+record InRange (m : ℕ) : Type 0 where
+  pub least : 1 ≤ m
+  pub greatest : m ≤ 64
+
+member_in_range : (token : List ℕ) → IfOk (member_of token) InRange
+member_in_range token =
+    cond_both (is_number token && nat_le 1 (value_of token) && nat_le (value_of token) 64) (Ok (value_of token)) _ (λ r. IfOk r InRange)
+    (λ e. let outer = and_parts (is_number token && nat_le 1 (value_of token)) _ e in record { least = leb-true _ _ (and_parts (is_number token) _ outer.0).1; greatest = leb-true _ _ outer.1 })
+    (λ _. tt)
+
+new_in_range : (nodes token : List ℕ) (r : Result ℕ SchedRefusal) → IfOk r InRange → IfOk (r >>= (λ m. cond (is_on nodes m) (Err (Twice token)) (Ok m))) InRange
+new_in_range nodes token (Err e) range = tt
+new_in_range nodes token (Ok m) range = cond_both (is_on nodes m) (Err (Twice token)) (Ok m) (λ r. IfOk r InRange) (λ _. tt) (λ _. range)
+
+-- LINES
+
+-- what a line declares is declared
+abbrev pub Declares : Line → Type 0
+Declares (line.Node me list validating) = IsDeclared (record { me = me; list = list })
+Declares (line.Name name id) = Unit {0}
+Declares (line.Event event) = Unit {0}
+
+declared_node : (me : ℕ) (validating : Bool) (r : Result TrustedList SchedRefusal) → InRange me → IfOk r IsValid → IfOk (r >>= (λ list. Ok (line.Node me list validating))) Declares
+declared_node me validating (Err e) range valid = tt
+declared_node me validating (Ok list) range valid = record { least = range.least; greatest = range.greatest; list = valid }
+
+node_declares : (me least : Result ℕ SchedRefusal) (numbers : Result (List ℕ) SchedRefusal) (mode : Result Bool SchedRefusal) → IfOk me InRange →
+    IfOk (me >>= (λ m. least >>= (λ l. numbers >>= (λ ns. mode >>= (λ v. trusted_of ns l >>= (λ list. Ok (line.Node m list v))))))) Declares
+node_declares (Err e) least numbers mode range = tt
+node_declares (Ok m) (Err e) numbers mode range = tt
+node_declares (Ok m) (Ok l) (Err e) mode range = tt
+node_declares (Ok m) (Ok l) (Ok ns) (Err e) range = tt
+node_declares (Ok m) (Ok l) (Ok ns) (Ok v) range = declared_node m v (trusted_of ns l) range (trusted_valid ns l)
+
+node_of_declares : (reading : Reading) (number quorum members : List ℕ) (mode : Result Bool SchedRefusal) → IfOk (node_of reading number quorum members mode) Declares
+node_of_declares reading number quorum members mode =
+    node_declares (new_member_of reading.nodes number) (number_of quorum) (members_of members) mode (new_in_range reading.nodes number (member_of number) (member_in_range number))
+
+node_line_declares : (reading : Reading) (arguments : List (List ℕ)) → IfOk (node_line reading arguments) Declares
+node_line_declares reading [] = tt
+node_line_declares reading (a ∷ []) = tt
+node_line_declares reading (a ∷ b ∷ []) = tt
+node_line_declares reading (a ∷ b ∷ c ∷ []) = node_of_declares reading a b c (mode_of None)
+node_line_declares reading (a ∷ b ∷ c ∷ d ∷ []) = node_of_declares reading a b c (mode_of (Some d))
+node_line_declares reading (a ∷ b ∷ c ∷ d ∷ e ∷ rest) = tt
+
+name_declares : (name : Result (List ℕ) SchedRefusal) (id : Result LedgerId SchedRefusal) → IfOk (name >>= (λ n. id >>= (λ i. Ok (line.Name n i)))) Declares
+name_declares (Err e) id = tt
+name_declares (Ok n) (Err e) = tt
+name_declares (Ok n) (Ok i) = tt
+
+named_line_declares : (reading : Reading) (arguments : List (List ℕ)) → IfOk (named_line reading arguments) Declares
+named_line_declares reading [] = tt
+named_line_declares reading (a ∷ []) = tt
+named_line_declares reading (a ∷ b ∷ []) = name_declares (new_name_of reading.names a) (id_of reading.names b)
+named_line_declares reading (a ∷ b ∷ c ∷ rest) = tt
+
+event_declares : (r : Result Event SchedRefusal) → IfOk (event_line r) Declares
+event_declares (Err e) = tt
+event_declares (Ok event) = tt
+
+line_declares : (reading : Reading) (sent : ℕ) (w : Word) (token : List ℕ) (arguments : List (List ℕ)) → IfOk (line_of reading sent w token arguments) Declares
+line_declares reading sent word.Node token arguments =
+    cond_both reading.started (Err (Late token)) (node_line reading arguments) (λ r. IfOk r Declares) (λ _. tt) (λ _. node_line_declares reading arguments)
+line_declares reading sent word.Name token arguments =
+    cond_both (has_most_names reading) _ (named_line reading arguments) (λ r. IfOk r Declares) (λ _. tt) (λ _. named_line_declares reading arguments)
+line_declares reading sent word.Issue token arguments = event_declares (issue_event reading arguments)
+line_declares reading sent word.Deliver token arguments = event_declares (deliver_event reading sent arguments)
+line_declares reading sent word.Restart token arguments = event_declares (restart_event reading arguments)
+
+word_declares : (reading : Reading) (sent : ℕ) (o : Option Word) (token : List ℕ) (arguments : List (List ℕ)) → IfOk (line_if_word reading sent o token arguments) Declares
+word_declares reading sent None token arguments = tt
+word_declares reading sent (Some w) token arguments = line_declares reading sent w token arguments
+
+some_declares : (r : Result Line SchedRefusal) → IfOk r Declares → IfOk (some_line r) (λ o. IfSome o Declares)
+some_declares (Err e) h = tt
+some_declares (Ok l) h = h
+
+later_declares : (reading : Reading) (sent : ℕ) (line : List (List ℕ)) → IfOk (later_line reading sent line) (λ o. IfSome o Declares)
+later_declares reading sent [] = tt
+later_declares reading sent (token ∷ arguments) =
+    cond_both (is_comment token) (Ok None) _ (λ r. IfOk r (λ o. IfSome o Declares)) (λ _. tt)
+    (λ _. some_declares (worded_line reading sent token arguments) (word_declares reading sent (word_of token) token arguments))
+
+bounded_declares : (reading : Reading) (sent : ℕ) (bytes : List ℕ) → IfOk (bounded_line reading sent bytes) (λ o. IfSome o Declares)
+bounded_declares reading sent bytes =
+    cond_both (nat_lt MOST_BYTES (length bytes)) _ _ (λ r. IfOk r (λ o. IfSome o Declares)) (λ _. tt)
+    (λ _. cond_both (reading.lines == MOST_LINES) _ _ (λ r. IfOk r (λ o. IfSome o Declares)) (λ _. tt)
+    (λ _. cond_both (reading.lines == 0) (header_line (tokens bytes)) (later_line reading sent (tokens bytes)) (λ r. IfOk r (λ o. IfSome o Declares))
+    (λ _. cond_both (is_header (tokens bytes)) (Ok None) _ (λ r. IfOk r (λ o. IfSome o Declares)) (λ _. tt) (λ _. tt))
+    (λ _. later_declares reading sent (tokens bytes))))
+
+abbrev pub AnswerDeclares : Answer → Type 0
+AnswerDeclares (passes reading) = Unit {0}
+AnswerDeclares (gives line reading) = Declares line
+AnswerDeclares (refuses why) = Unit {0}
+
+answer_declares : (reading : Reading) (r : Result (Option Line) SchedRefusal) → IfOk r (λ o. IfSome o Declares) → AnswerDeclares (answer_to reading r)
+answer_declares reading (Err e) h = tt
+answer_declares reading (Ok None) h = tt
+answer_declares reading (Ok (Some l)) h = h
+
+-- what is read of a line declares only what may be declared
+pub reading_declares : (reading : Reading) (sent : ℕ) (bytes : List ℕ) → AnswerDeclares (reading_of reading sent bytes)
+reading_declares reading sent bytes = answer_declares reading (bounded_line reading sent bytes) (bounded_declares reading sent bytes)

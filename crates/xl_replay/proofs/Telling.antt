@@ -1,0 +1,277 @@
+-- A report is the lines of its outcomes and those at its end, and what it reports was reported in its world.
+use Rattle.std.proofs.Common.{◌≡◌, ◌≢◌, ℕ, ◌-◌, Bool, false, List, [], ◌∷◌, ◌++◌, length, refl, ap, sym, ◌∙◌, append_assoc, Option, Some, None, Result, Ok, Err, subst}
+use Rattle.std.specs.Prelude.{nat_lt, All, Contains, map, option_map, option_to_list, unwrap_or}
+use Rattle.std.specs.List.{flat_map}
+use Rattle.std.proofs.lemmas.Bool.{cond_both}
+use Rattle.std.proofs.lemmas.Grind.{flat_map-append}
+use Rattle.std.proofs.lemmas.List.{append-nil}
+use Rattle.std.proofs.lemmas.List.Elements.{All-append, All-nil, All-cons, All-weaker, All-map, Contains-append_left, Contains-push}
+use Rattle.xl_lists.specs.Lists.{TrustedList}
+use Rattle.xl_lists.specs.Agreement.{Report as Reported}
+use Rattle.xl_lines.specs.declared.limits.Limits.{Limits}
+use Rattle.xl_lines.specs.declared.machine.Verdict.TheVariants.{Refused as IsRefused}
+use Rattle.xl_lines.specs.Lines.{Line as TextLine, content}
+use Rattle.xl_lines.specs.Rules.{Step, goes_on, refuses as refuses_line, Told}
+use Rattle.xl_lines.specs.Told.{after as after_text, told_by, step_within, step_at, told_from}
+use Rattle.xl_core.specs.declared.report.Report.{Report}
+use Rattle.xl_core.specs.Node.{Node, Event as NodeEvent, Reply, happens}
+use Rattle.xl_sched.specs.declared.event.Event.{Event}
+use Rattle.xl_sched.specs.declared.line.Line.{Line}
+use Rattle.xl_sched.specs.declared.named.Named.{Named}
+use Rattle.xl_sched.specs.declared.refusal.SchedRefusal.{SchedRefusal}
+use Rattle.xl_sched.specs.declared.line.Line.TheVariants as line
+use Rattle.xl_sched.specs.Words.{Reading}
+use Rattle.xl_sched.specs.Reading.{Answer, passes, gives, refuses, answer_to, bounded_line, reading_of}
+use Rattle.xl_world.specs.declared.outcome.Outcome.{Outcome}
+use Rattle.xl_world.specs.declared.outcome.Outcome.TheVariants.{Refused, Full}
+use Rattle.xl_world.specs.declared.place.Place.{Place}
+use Rattle.xl_world.specs.declared.plan.PlanNode.{PlanNode}
+use Rattle.xl_world.specs.Keeper.{may_hold, after_save}
+use Rattle.xl_world.specs.World.{World, Step as WorldStep, Act, Again, Torn, place_at, reported_by, acts, reopened, again, torn, asked_at, step, start, IsDeclared, AreDeclared, IsRun}
+use Rattle.xl_world.specs.Schedule.{step_of, stepped, after_event, reply_to, told_of as told_at, node_of, outcomes_at, outcomes}
+use Rattle.xl_world.proofs.Settling.{at_its_number}
+use Rattle.xl_world.proofs.Lists.{happens_keeps}
+use Rattle.xl_world.proofs.Steps.{stepped_run}
+use Rattle.xl_replay.specs.Texts.{outcome_line, outcome_lines}
+use Rattle.xl_replay.specs.Replays.{Replaying, world_of, silent, after, after_line, after_answer, ending, rules}
+use Rattle.xl_replay.specs.Headlines.{Spoken, spoken_line, Extends}
+use Rattle.xl_replay.proofs.Declaring.{Declares, AnswerDeclares, reading_declares}
+
+-- WHAT IS TOLD WAS REPORTED
+
+-- a `full` outcome is a report of the world
+abbrev pub IsReported : World → Outcome → Type 0
+IsReported w (Refused node refusal) = Unit {0}
+IsReported w (Full node seq id) = (list : TrustedList) × Contains w.reports (record { node = node; list = list; seq = seq; id = id })
+
+-- the reports of the one world are among those of the other
+abbrev pub Grows : World → World → Type 0
+Grows w v = (r : Reported) → Contains w.reports r → Contains v.reports r
+
+still_reported : (w v : World) → Grows w v → (o : Outcome) → IsReported w o → IsReported v o
+still_reported w v grows (Refused node refusal) h = tt
+still_reported w v grows (Full node seq id) h = (h.0, grows _ h.1)
+
+settled_grows : (w v : World) (more : List Reported) → v.reports ≡ w.reports ++ more → Grows w v
+settled_grows w v more is r h = subst (λ rs. Contains rs r) (sym is) (Contains-append_left w.reports more r h)
+
+acts_grows : (w : World) (i : ℕ) (e : NodeEvent) (saved : Bool) (o : Option Place) → Grows w (acts w i e saved o)
+acts_grows w i e saved None = λ r h. h
+acts_grows w i e saved (Some p) = settled_grows w (acts w i e saved (Some p)) (option_to_list (option_map (reported_by (happens p.node e saved).node) (happens p.node e saved).report)) refl
+
+again_grows : (w : World) (i number : ℕ) (o : Option Place) → Grows w (again w i number o)
+again_grows w i number None = λ r h. h
+again_grows w i number (Some p) = cond_both (may_hold p.keeper number) (reopened w i p.node number) w (Grows w) (λ _. settled_grows w (reopened w i p.node number) [] refl) (λ _ r h. h)
+
+torn_grows : (w : World) (i number : ℕ) (o : Option Place) (asked : Option ℕ) → Grows w (torn w i number o asked)
+torn_grows w i number None asked = λ r h. h
+torn_grows w i number (Some p) None = λ r h. h
+torn_grows w i number (Some p) (Some s) = cond_both (may_hold (after_save p.keeper (Some s) false) number) (reopened w i p.node number) w (Grows w) (λ _. settled_grows w (reopened w i p.node number) [] refl) (λ _ r h. h)
+
+step_grows : (w : World) (s : WorldStep) → Grows w (step w s)
+step_grows w (Act i e saved) = acts_grows w i e saved (place_at i w.places)
+step_grows w (Again i number) = again_grows w i number (place_at i w.places)
+step_grows w (Torn i e number) = torn_grows w i number (place_at i w.places) (asked_at (place_at i w.places) e)
+
+stepped_grows : (w : World) (o : Option WorldStep) → Grows w (stepped w o)
+stepped_grows w None = λ r h. h
+stepped_grows w (Some s) = step_grows w s
+
+refused_reported : (v : World) (i : ℕ) (r : Reply) → All (IsReported v) (option_to_list (option_map (Refused i) r.refused))
+refused_reported v i r = refused_at r.refused
+  where
+    refused_at : (o : Option _) → All (IsReported v) (option_to_list (option_map (Refused i) o))
+    refused_at None = All-nil (IsReported v)
+    refused_at (Some why) = All-cons (IsReported v) (Refused i why) [] tt (All-nil (IsReported v))
+
+full_reported : (w : World) (i : ℕ) (n : Node) → n.me ≡ i → (o : Option Report) (v : World) → v.reports ≡ w.reports ++ option_to_list (option_map (reported_by n) o) →
+    All (IsReported v) (option_to_list (option_map (λ q. Full i q.seq q.id) o))
+full_reported w i n its None v is = All-nil (IsReported v)
+full_reported w i n its (Some q) v is =
+    All-cons (IsReported v) (Full i q.seq q.id) [] (
+      n.list,
+      subst (λ (k : ℕ). Contains v.reports (record { node = k; list = n.list; seq = q.seq; id = q.id })) its
+          (subst (λ rs. Contains rs (reported_by n q)) (sym is) (Contains-push w.reports (reported_by n q))),
+    )
+    (All-nil (IsReported v))
+
+act_reported : (w : World) (i : ℕ) (e : NodeEvent) (saved : Bool) (o : Option Place) → place_at i w.places ≡ o → All (IsReported (acts w i e saved o)) (told_at i (option_map (λ p. happens p.node e saved) o))
+act_reported w i e saved None at = All-nil (IsReported w)
+act_reported w i e saved (Some p) at =
+    let r : Reply = happens p.node e saved in
+    let v : World = acts w i e saved (Some p) in
+    All-append (IsReported v) _ _ (refused_reported v i r)
+    (full_reported w i r.node ((happens_keeps p.node e saved).0 ∙ at_its_number i w.places p at) r.report v refl)
+
+step_reported : (w : World) (s : WorldStep) → All (IsReported (step w s)) (told_at (node_of s) (reply_to w s))
+step_reported w (Act i e saved) = act_reported w i e saved (place_at i w.places) refl
+step_reported w (Again i number) = All-nil (IsReported (step w (Again i number)))
+step_reported w (Torn i e number) = All-nil (IsReported (step w (Torn i e number)))
+
+stepped_reported : (w : World) (o : Option WorldStep) → All (IsReported (stepped w o)) (outcomes_at w o)
+stepped_reported w None = All-nil (IsReported w)
+stepped_reported w (Some s) = step_reported w s
+
+event_reported : (w : World) (e : Event) → All (IsReported (after_event w e)) (outcomes w e)
+event_reported w e = stepped_reported w (step_of w e)
+
+-- STEP BY STEP
+
+-- the world so far is a run, and the nodes may be declared
+pub record IsSound (r : Replaying) : Type 0 where
+  pub declared : AreDeclared r.plan
+  pub is_run : IsRun (world_of r)
+
+-- what a step tells, and the state that it leads to
+pub record Tells (r next : Replaying) (text : List ℕ) : Type 0 where
+  pub spoken : List Spoken
+  pub written : text ≡ flat_map spoken_line spoken
+  pub reported : All (λ s. IsReported (world_of next) s.outcome) spoken
+  pub named : All (λ s. Extends s.names next.reading.names) spoken
+  pub extends : Extends r.reading.names next.reading.names
+  pub grows : Grows (world_of r) (world_of next)
+  pub sound : IsSound next
+
+abbrev pub StepTells : Replaying → Step Replaying → Type 0
+StepTells r (goes_on text next) = Tells r next text
+StepTells r (refuses_line text) = Unit {0}
+
+-- a plan's own world is a run of no steps
+world_run : (plan : List PlanNode) (liars : List ℕ) → AreDeclared plan → IsRun (start liars plan)
+world_run plan liars declared = (plan, [], declared, refl)
+
+abbrev SameWorld : Replaying → Replaying → Type 0
+SameWorld r next = Grows (world_of r) (world_of next) × IsSound next
+
+quiet_tells : (r : Replaying) (reading : Reading) (plan : List PlanNode) → IsSound r → Extends r.reading.names reading.names → AreDeclared plan → (o : Option World) → r.world ≡ o → StepTells r (silent r reading plan)
+quiet_tells r reading plan sound extends declared o at = record {
+  spoken = [];
+  written = refl;
+  reported = All-nil (λ s. IsReported (world_of (record { reading = reading; plan = plan; liars = r.liars; world = r.world })) s.outcome);
+  named = All-nil (λ s. Extends s.names reading.names);
+  extends = extends;
+  grows = grown o at;
+  sound = record { declared = declared; is_run = run_at o at };
+}
+  where
+    grown : (o : Option World) → r.world ≡ o → Grows (world_of r) (world_of (record { reading = reading; plan = plan; liars = r.liars; world = r.world }))
+    grown None at = subst (λ (x : Option World). Grows (unwrap_or x (start r.liars r.plan)) (unwrap_or x (start r.liars plan))) (sym at) (λ q h. h)
+    grown (Some w) at = subst (λ (x : Option World). Grows (unwrap_or x (start r.liars r.plan)) (unwrap_or x (start r.liars plan))) (sym at) (λ q h. h)
+
+    run_at : (o : Option World) → r.world ≡ o → IsRun (world_of (record { reading = reading; plan = plan; liars = r.liars; world = r.world }))
+    run_at None at = subst (λ (x : Option World). IsRun (unwrap_or x (start r.liars plan))) (sym at) (world_run plan r.liars declared)
+    run_at (Some w) at = subst (λ (x : Option World). IsRun (unwrap_or x (start r.liars plan))) (sym at) (subst (λ (x : Option World). IsRun (unwrap_or x (start r.liars r.plan))) at sound.is_run)
+
+-- the names that stand are the first of those that stand after a line
+
+extends_itself : (names : List Named) → Extends names names
+extends_itself names = ([], sym (append-nil names))
+
+extends_over : (a b c : List Named) → Extends a b → Extends b c → Extends a c
+extends_over a b c ab bc = (ab.0 ++ bc.0, bc.1 ∙ (ap (λ xs. xs ++ bc.0) ab.1 ∙ append_assoc a ab.0 bc.0))
+
+abbrev AnswerExtends : Reading → Answer → Type 0
+AnswerExtends known (passes reading) = Extends known.names reading.names
+AnswerExtends known (gives l reading) = Extends known.names reading.names
+AnswerExtends known (refuses why) = Unit {0}
+
+answer_extends : (reading : Reading) (r : Result (Option Line) SchedRefusal) → AnswerExtends reading (answer_to reading r)
+answer_extends reading (Err e) = tt
+answer_extends reading (Ok None) = extends_itself reading.names
+answer_extends reading (Ok (Some (line.Node me list validating))) = extends_itself reading.names
+answer_extends reading (Ok (Some (line.Name name id))) = (record { name = name; id = id } ∷ [], refl)
+answer_extends reading (Ok (Some (line.Event e))) = extends_itself reading.names
+
+reading_extends : (reading : Reading) (sent : ℕ) (bytes : List ℕ) → AnswerExtends reading (reading_of reading sent bytes)
+reading_extends reading sent bytes = answer_extends reading (bounded_line reading sent bytes)
+
+-- the lines of outcomes, each with the names and the line
+flat_map-made : (names : List _) (n : ℕ) (os : List Outcome) → outcome_lines names n os ≡ flat_map spoken_line (map (λ o. record { names = names; line = n; outcome = o }) os)
+flat_map-made names n [] = refl
+flat_map-made names n (o ∷ os) = ap (λ xs. outcome_line names n o ++ xs) (flat_map-made names n os)
+
+event_tells : (r : Replaying) (reading : Reading) (e : Event) → IsSound r → Extends r.reading.names reading.names → StepTells r (after r reading e)
+event_tells r reading e sound extends = record {
+  spoken = map (λ o. record { names = reading.names; line = reading.lines; outcome = o }) (outcomes (world_of r) e);
+  written = flat_map-made reading.names reading.lines (outcomes (world_of r) e);
+  reported = All-map (λ s. IsReported (after_event (world_of r) e) s.outcome) _ (outcomes (world_of r) e) (event_reported (world_of r) e);
+  named = All-map (λ s. Extends s.names reading.names) _ (outcomes (world_of r) e) (λ k d below. extends_itself reading.names);
+  extends = extends;
+  grows = stepped_grows (world_of r) (step_of (world_of r) e);
+  sound = record { declared = sound.declared; is_run = stepped_run (world_of r) _ (step_of (world_of r) e) refl sound.is_run };
+}
+
+line_tells : (r : Replaying) (reading : Reading) (l : Line) → IsSound r → Extends r.reading.names reading.names → Declares l → StepTells r (after_line r reading l)
+line_tells r reading (line.Node me list validating) sound extends declares =
+    quiet_tells r reading _ sound extends (All-append IsDeclared r.plan _ sound.declared (All-cons IsDeclared (record { me = me; list = list }) [] declares (All-nil IsDeclared))) r.world refl
+line_tells r reading (line.Name name id) sound extends declares = quiet_tells r reading r.plan sound extends sound.declared r.world refl
+line_tells r reading (line.Event e) sound extends declares = event_tells r reading e sound extends
+
+answer_tells : (r : Replaying) (a : Answer) → IsSound r → AnswerExtends r.reading a → AnswerDeclares a → StepTells r (after_answer r a)
+answer_tells r (passes reading) sound extends declares = quiet_tells r reading r.plan sound extends sound.declared r.world refl
+answer_tells r (gives l reading) sound extends declares = line_tells r reading l sound extends declares
+answer_tells r (refuses why) sound extends declares = tt
+
+step_tells : (limits : Limits) (left : ℕ) (r : Replaying) (l : TextLine) → IsSound r → StepTells r (step_at limits rules left r l)
+step_tells limits left r l sound =
+    cond_both (nat_lt limits.bytes (length l.bytes)) _ (step_within rules left r (content l)) (StepTells r) (λ _. tt)
+    (λ _. cond_both (nat_lt 0 left) (rules.step r (content l)) _ (StepTells r)
+    (λ _. answer_tells r _ sound (reading_extends r.reading (length (world_of r).sent) (content l)) (reading_declares r.reading (length (world_of r).sent) (content l))) (λ _. tt))
+
+-- THE WHOLE
+
+-- what is told from a state on: outcomes, and the lines at the end of the last state
+pub record Ends (r : Replaying) (told : Told) : Type 0 where
+  pub spoken : List Spoken
+  pub last : Replaying
+  pub written : told.text ≡ flat_map spoken_line spoken ++ (ending last).text
+  pub verdict : told.verdict ≡ (ending last).verdict
+  pub reported : All (λ s. IsReported (world_of last) s.outcome) spoken
+  pub named : All (λ s. Extends s.names last.reading.names) spoken
+  pub extends : Extends r.reading.names last.reading.names
+  pub grows : Grows (world_of r) (world_of last)
+  pub sound : IsSound last
+
+goes_on_ends : (r next : Replaying) (text : List ℕ) (told : Told) → Tells r next text → Ends next told → Ends r (after_text text told)
+goes_on_ends r next text told tells ends = record {
+  spoken = tells.spoken ++ ends.spoken;
+  last = ends.last;
+  written =
+      ap (λ t. t ++ told.text) tells.written
+      ∙ (ap (λ t. flat_map spoken_line tells.spoken ++ t) ends.written
+      ∙ (sym (append_assoc (flat_map spoken_line tells.spoken) (flat_map spoken_line ends.spoken) (ending ends.last).text)
+      ∙ ap (λ t. t ++ (ending ends.last).text) (sym (flat_map-append spoken_line tells.spoken ends.spoken))));
+  verdict = ends.verdict;
+  reported = All-append (λ s. IsReported (world_of ends.last) s.outcome) tells.spoken ends.spoken
+      (All-weaker (λ s. IsReported (world_of next) s.outcome) _ (λ s. still_reported (world_of next) (world_of ends.last) ends.grows s.outcome) tells.spoken tells.reported)
+      ends.reported;
+  named = All-append (λ s. Extends s.names ends.last.reading.names) tells.spoken ends.spoken
+      (All-weaker (λ s. Extends s.names next.reading.names) _ (λ s h. extends_over s.names next.reading.names ends.last.reading.names h ends.extends) tells.spoken tells.named)
+      ends.named;
+  extends = extends_over r.reading.names next.reading.names ends.last.reading.names tells.extends ends.extends;
+  grows = λ q h. ends.grows q (tells.grows q h);
+  sound = ends.sound;
+}
+
+told_from_ends : (limits : Limits) (left : ℕ) (r : Replaying) (ls : List TextLine) → IsSound r → (told_from limits rules left r ls).verdict ≢ IsRefused → Ends r (told_from limits rules left r ls)
+unfolding told_by
+told_from_ends limits left r [] sound good = record {
+  spoken = [];
+  last = r;
+  written = refl;
+  verdict = refl;
+  reported = All-nil (λ s. IsReported (world_of r) s.outcome);
+  named = All-nil (λ s. Extends s.names r.reading.names);
+  extends = extends_itself r.reading.names;
+  grows = λ q h. h;
+  sound = sound;
+}
+told_from_ends limits left r (l ∷ ls) sound good = by_step (λ (next : Replaying) sound_there good_there. told_from_ends limits (left - 1) next ls sound_there good_there) (step_at limits rules left r l) (step_tells limits left r l sound) good
+  where
+    by_step : ((next : Replaying) → IsSound next → (told_from limits rules (left - 1) next ls).verdict ≢ IsRefused → Ends next (told_from limits rules (left - 1) next ls)) →
+        (s : Step Replaying) → StepTells r s → (told_by (λ next. told_from limits rules (left - 1) next ls) s).verdict ≢ IsRefused → Ends r (told_by (λ next. told_from limits rules (left - 1) next ls) s)
+    by_step further (goes_on text next) tells good = goes_on_ends r next text (told_from limits rules (left - 1) next ls) tells (further next tells.sound good)
+    by_step further (refuses_line text) tells good = absurd (good refl)
+
+pub told_ends : (limits : Limits) (left : ℕ) (r : Replaying) (ls : List TextLine) → IsSound r → (told_from limits rules left r ls).verdict ≢ IsRefused → Ends r (told_from limits rules left r ls)
+told_ends = told_from_ends

@@ -1,0 +1,78 @@
+-- What a report says of forks: the headline, in the words of its lines.
+use Rattle.std.specs.Prelude.{◌≡◌, ℕ, ◌+◌, ◌-◌, nat_lt, List, [], ◌∷◌, ◌++◌, map, All, Contains, if◌then◌else◌}
+use Rattle.std.specs.Prelude.{Some, None}
+use Rattle.std.specs.declared.option.Option.{Option}
+use Rattle.std.specs.List.{flat_map}
+use Rattle.std.specs.Io.KnownBytes.{append_known}
+use Rattle.xl_base.specs.declared.ids.LedgerId.{LedgerId}
+use Rattle.xl_lists.specs.Lists.{TrustedList}
+use Rattle.xl_lists.specs.Quorums.{bound_of}
+use Rattle.xl_sched.specs.declared.named.Named.{Named}
+use Rattle.xl_world.specs.declared.outcome.Outcome.{Outcome}
+use Rattle.xl_world.specs.declared.outcome.Outcome.TheVariants.{Full}
+use Rattle.xl_world.specs.World.{World, up_from, all_numbers, list_in}
+use Rattle.xl_replay.specs.Texts.{outcome_line, short_line, forged_line}
+
+-- what is told of an event: the names that are declared by then, the line of the schedule, and the outcome
+pub record Spoken : Type 0 where
+  pub names : List Named
+  pub line : ℕ
+  pub outcome : Outcome
+
+abbrev pub spoken_line : Spoken → List ℕ
+spoken_line s = outcome_line s.names s.line s.outcome
+
+-- the one list begins with the other
+abbrev pub Extends : List Named → List Named → Type 0
+Extends names all = (more : List Named) × (all ≡ names ++ more)
+
+-- what is told of a pair whose quorums aren't enough
+pub record Short : Type 0 where
+  pub first : ℕ
+  pub second : ℕ
+  pub sum : ℕ
+  pub bound : ℕ
+
+abbrev pub short_text : Short → List ℕ
+short_text s = short_line s.first s.second s.sum s.bound
+
+abbrev pub short_pair : List ℕ → ℕ → TrustedList → ℕ → TrustedList → List Short
+short_pair liars i a j b =
+    if nat_lt (bound_of liars a b) (a.quorum + b.quorum) then [] else record { first = i; second = j; sum = a.quorum + b.quorum; bound = bound_of liars a b } ∷ []
+
+abbrev pub short_pair_with : List ℕ → ℕ → TrustedList → ℕ → Option TrustedList → List Short
+short_pair_with liars i a j None = []
+short_pair_with liars i a j (Some b) = short_pair liars i a j b
+
+abbrev pub short_pairs_of : World → ℕ → Option TrustedList → List Short
+short_pairs_of w i None = []
+short_pairs_of w i (Some a) = flat_map (λ j. short_pair_with w.liars i a j (list_in w j)) (up_from i (65 - i))
+
+-- the pairs of nodes that are short, by rising numbers
+abbrev pub short_pairs : World → List Short
+short_pairs w = flat_map (λ i. short_pairs_of w i (list_in w i)) all_numbers
+
+-- the pair of these two numbers
+abbrev pub IsPair : ℕ → ℕ → Short → Type 0
+IsPair i j s = (s.first ≡ i) × (s.second ≡ j)
+
+-- A report that no refused line cuts short is these lines. For each pair with no `short` line, where `forged` says 0, no two `full`
+-- lines of that pair share a sequence and stand for different ids. A line's token stands for an id by the names that were declared
+-- before it, which are the first of all names: a name stands for one id in the whole report.
+pub record IsReport (text : List ℕ) : Type 0 where
+  pub names : List Named
+  pub spoken : List Spoken
+  pub shorts : List Short
+  pub forged : ℕ
+  pub last : List ℕ
+  pub written : text ≡ flat_map spoken_line spoken ++ (flat_map short_text shorts ++ forged_line forged ++ last)
+  pub named : All (λ s. Extends s.names names) spoken
+  pub agree : (i j seq : ℕ) (a b : LedgerId) →
+      Contains (map (λ s. s.outcome) spoken) (Full i seq a) → Contains (map (λ s. s.outcome) spoken) (Full j seq b) →
+      forged ≡ 0 → All (λ s. ¬ IsPair i j s) shorts → All (λ s. ¬ IsPair j i s) shorts → a ≡ b
+
+-- a report that no refused line cuts short was written after what was there
+pub record AddsReport (before after : Option (List ℕ)) : Type 0 where
+  pub text : List ℕ
+  pub added : after ≡ append_known before text
+  pub report : IsReport text

@@ -1,0 +1,97 @@
+-- Each reporting node stands in the world under the list of its report, and its number is a member's.
+use Rattle.std.proofs.Common.{◌≡◌, ℕ, ◌≤◌, Bool, true, false, List, [], ◌∷◌, refl, ap, sym, ◌∙◌, Option, Some, None, subst}
+use Rattle.std.specs.Prelude.{◌==◌, All, map, find, option_map, is_some, slice_index_or}
+use Rattle.std.proofs.lemmas.Bool.{cond_both, cond-true, cond-false, eqb-true}
+use Rattle.std.proofs.lemmas.List.Elements.{All-head, All-tail}
+use Rattle.xl_lists.specs.Lists.{TrustedList}
+use Rattle.xl_lists.specs.Agreement.{Report as Reported}
+use Rattle.xl_core.specs.Node.{Event}
+use Rattle.xl_world.specs.declared.place.Place.{Place}
+use Rattle.xl_world.specs.declared.plan.PlanNode.{PlanNode}
+use Rattle.xl_world.specs.Keeper.{may_hold, after_save}
+use Rattle.xl_world.specs.World.{World, Step, Act, Again, Torn, place_at, put, acts, reopened, again, torn, asked_at, step, run, place_of, start, IsDeclared, AreDeclared, list_at, list_in, IsRun}
+use Rattle.xl_world.proofs.Lists.{HasLists, run_lists, start_lists}
+
+-- a place that is put is found where one of its number was, and nowhere else
+put_present : (j : ℕ) (q : Place) (ps : List Place) → is_some (place_at j (put q ps)) ≡ is_some (place_at j ps)
+put_present j q [] = refl
+put_present j q (y ∷ ys) =
+    cond_both (y.node.me == q.node.me) (q ∷ ys) (y ∷ put q ys) (λ zs. is_some (place_at j zs) ≡ is_some (place_at j (y ∷ ys)))
+    (λ same. cond_both (q.node.me == j) (Some q) (place_at j ys) (λ o. is_some o ≡ is_some (place_at j (y ∷ ys)))
+    (λ is. sym (ap is_some (cond-true (y.node.me == j) (Some y) _ (ap (λ (k : ℕ). k == j) (eqb-true _ _ same) ∙ is))))
+    (λ is_not. sym (ap is_some (cond-false (y.node.me == j) (Some y) _ (ap (λ (k : ℕ). k == j) (eqb-true _ _ same) ∙ is_not)))))
+    (λ _. cond_both (y.node.me == j) (Some y) (place_at j (put q ys)) (λ o. is_some o ≡ is_some (place_at j (y ∷ ys)))
+    (λ is. sym (ap is_some (cond-true (y.node.me == j) (Some y) _ is)))
+    (λ is_not. put_present j q ys ∙ sym (ap is_some (cond-false (y.node.me == j) (Some y) _ is_not))))
+
+-- the nodes that stand in a world stand in the other
+abbrev StandsSame : World → World → Type 0
+StandsSame w v = (j : ℕ) → is_some (place_at j v.places) ≡ is_some (place_at j w.places)
+
+acts_present : (w : World) (i : ℕ) (e : Event) (saved : Bool) (o : Option Place) → StandsSame w (acts w i e saved o)
+acts_present w i e saved None j = refl
+acts_present w i e saved (Some p) j = put_present j _ w.places
+
+again_present : (w : World) (i number : ℕ) (o : Option Place) → StandsSame w (again w i number o)
+again_present w i number None j = refl
+again_present w i number (Some p) j = cond_both (may_hold p.keeper number) (reopened w i p.node number) w (λ v. is_some (place_at j v.places) ≡ is_some (place_at j w.places)) (λ _. put_present j _ w.places) (λ _. refl)
+
+torn_present : (w : World) (i number : ℕ) (o : Option Place) (asked : Option ℕ) → StandsSame w (torn w i number o asked)
+torn_present w i number None asked j = refl
+torn_present w i number (Some p) None j = refl
+torn_present w i number (Some p) (Some s) j = cond_both (may_hold (after_save p.keeper (Some s) false) number) (reopened w i p.node number) w (λ v. is_some (place_at j v.places) ≡ is_some (place_at j w.places)) (λ _. put_present j _ w.places) (λ _. refl)
+
+step_present : (w : World) (s : Step) → StandsSame w (step w s)
+step_present w (Act i e saved) j = acts_present w i e saved (place_at i w.places) j
+step_present w (Again i number) j = again_present w i number (place_at i w.places) j
+step_present w (Torn i e number) j = torn_present w i number (place_at i w.places) (asked_at (place_at i w.places) e) j
+
+run_present : (w : World) (ss : List Step) → StandsSame w (run w ss)
+run_present w [] j = refl
+run_present w (s ∷ ss) j = run_present (step w s) ss j ∙ step_present w s j
+
+start_present : (i : ℕ) (plan : List PlanNode) → is_some (place_at i (map place_of plan)) ≡ is_some (list_at plan i)
+start_present i [] = refl
+start_present i (d ∷ ds) =
+    cond_both (d.me == i) (Some (place_of d)) (place_at i (map place_of ds)) (λ o. is_some o ≡ is_some (list_at (d ∷ ds) i))
+    (λ is. sym (ap (λ (o : Option PlanNode). is_some (option_map (λ x. x.list) o)) (cond-true (d.me == i) (Some d) _ is)))
+    (λ is_not. start_present i ds ∙ sym (ap (λ (o : Option PlanNode). is_some (option_map (λ x. x.list) o)) (cond-false (d.me == i) (Some d) _ is_not)))
+
+-- the number of a declared node is a member's
+pub record IsMember (i : ℕ) : Type 0 where
+  pub least : 1 ≤ i
+  pub greatest : i ≤ 64
+
+declared_member : (plan : List PlanNode) → AreDeclared plan → (i : ℕ) (a : TrustedList) → list_at plan i ≡ Some a → IsMember i
+declared_member [] each i a at = cc
+declared_member (d ∷ ds) each i a at =
+    let first = All-head IsDeclared d ds each in
+    cond_both (d.me == i) (Some d) (find (λ x. x.me == i) ds) (λ o. option_map (λ x. x.list) o ≡ Some a → IsMember i)
+    (λ is _. subst IsMember (eqb-true d.me i is) (record { least = first.least; greatest = first.greatest }))
+    (λ _ there. declared_member ds (All-tail IsDeclared d ds each) i a there)
+    at
+
+-- a node that stands in the world, and its list
+listed : (plan : List PlanNode) (w : World) → HasLists plan w → (i : ℕ) (a : TrustedList) (o : Option Place) → place_at i w.places ≡ o → is_some o ≡ true → list_at plan i ≡ Some a → option_map (λ p. p.node.list) o ≡ Some a
+listed plan w has i a None at there is = cc
+listed plan w has i a (Some p) at there is = sym (has.nodes i p at) ∙ is
+
+-- a reporting node is a member that stands in the world under the list of its report
+pub record IsReporter (w : World) (r : Reported) : Type 0 where
+  pub member : IsMember r.node
+  pub listed : list_in w r.node ≡ Some r.list
+
+run_reporters : (liars : List ℕ) (plan : List PlanNode) (steps : List Step) → AreDeclared plan → All (IsReporter (run (start liars plan) steps)) (run (start liars plan) steps).reports
+run_reporters liars plan steps each k d k_in =
+    let w : World = run (start liars plan) steps in
+    let r : Reported = slice_index_or w.reports k d in
+    let has : HasLists plan w = run_lists plan (start liars plan) steps (start_lists liars plan) in
+    let at : list_at plan r.node ≡ Some r.list = has.reports k d k_in in
+    record {
+      member = declared_member plan each r.node r.list at;
+      listed = listed plan w has r.node r.list (place_at r.node w.places) refl
+          (run_present (start liars plan) steps r.node ∙ (start_present r.node plan ∙ ap is_some at)) at;
+    }
+
+pub world_reporters : (w : World) → IsRun w → All (IsReporter w) w.reports
+world_reporters w is_run = subst (λ (u : World). All (IsReporter u) u.reports) (sym is_run.3) (run_reporters w.liars is_run.0 is_run.1 is_run.2)
