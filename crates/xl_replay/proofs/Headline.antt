@@ -21,9 +21,9 @@ use Rattle.xl_world.proofs.Lists.{world_agrees}
 use Rattle.xl_world.proofs.Reporters.{IsReporter, world_reporters}
 use Rattle.xl_replay.specs.Texts.{forged_line, agreement_line, end_lines, bad_line}
 use Rattle.xl_replay.specs.Replays.{Replaying, world_of, ending, verdict_of, at_first, limits, rules, report_of}
-use Rattle.xl_replay.specs.Headlines.{Spoken, spoken_line, short_text, short_pairs, IsPair, IsReport, AddsReport}
+use Rattle.xl_replay.specs.Headlines.{Spoken, spoken_line, short_text, short_pairs, IsPair, state_from, names_of, IsReport, AddsReport}
 use Rattle.xl_replay.proofs.Shorts.{short_lines-pairs, pair_enough}
-use Rattle.xl_replay.proofs.Telling.{IsReported, IsSound, Ends, told_ends}
+use Rattle.xl_replay.proofs.Telling.{IsReported, IsSound, Ends, told_from_ends}
 
 -- two reports of a world in which no frame was forged and whose pair isn't told to be short
 pair_agrees : (w : World) → IsRun w → (r q : Reported) → Contains w.reports r → Contains w.reports q → w.forged ≡ 0 → r.node ≤ q.node → All (λ s. ¬ IsPair r.node q.node s) (short_pairs w) → r.seq ≡ q.seq → r.id ≡ q.id
@@ -57,16 +57,15 @@ end_text r =
     (λ _ good. absurd (good refl))
     (λ _ _. ap (λ t. t ++ forged_line (world_of r).forged ++ agreement_line r.reading.names (first_fork (world_of r).reports)) (short_lines-pairs (world_of r)))
 
-ends_report : (r : Replaying) (told : Told) → Ends r told → told.verdict ≢ IsRefused → IsReport told.text
-ends_report r told ends good =
-    let w : World = world_of ends.last in
+ends_report : (r last : Replaying) (told : Told) → Ends r told last → told.verdict ≢ IsRefused → IsReport last.reading.names told.text
+ends_report r last told ends good =
+    let w : World = world_of last in
     record {
-      names = ends.last.reading.names;
       spoken = ends.spoken;
       shorts = short_pairs w;
       forged = w.forged;
-      last = agreement_line ends.last.reading.names (first_fork w.reports);
-      written = ends.written ∙ ap (λ t. flat_map spoken_line ends.spoken ++ t) (end_text ends.last (λ e. good (ends.verdict ∙ e)));
+      last = agreement_line last.reading.names (first_fork w.reports);
+      written = ends.written ∙ ap (λ t. flat_map spoken_line ends.spoken ++ t) (end_text last (λ e. good (ends.verdict ∙ e)));
       named = ends.named;
       agree = λ i j seq a b has_a has_b none forth back.
           outcomes_agree w ends.sound.is_run i j seq a b (told_reported w ends.spoken ends.reported _ has_a) (told_reported w ends.spoken ends.reported _ has_b) none forth back;
@@ -75,12 +74,12 @@ ends_report r told ends good =
 first_sound : IsSound at_first
 first_sound = record { declared = All-nil IsDeclared; is_run = ([], [], All-nil IsDeclared, refl) }
 
-whole_report : (bytes : List ℕ) → (report_of bytes).verdict ≢ IsRefused → IsReport (report_of bytes).text
-whole_report bytes good = ends_report at_first (report_of bytes) (told_ends limits limits.lines at_first (lines_of bytes) first_sound good) good
+whole_report : (bytes : List ℕ) → (report_of bytes).verdict ≢ IsRefused → IsReport (names_of bytes) (report_of bytes).text
+whole_report bytes good = ends_report at_first (state_from limits limits.lines at_first (lines_of bytes)) (report_of bytes) (told_from_ends limits limits.lines at_first (lines_of bytes) first_sound good) good
 
 -- a whole report that was written and isn't a refused line's is such lines
 pub adds_report : (first : Replaying) → first ≡ at_first → (left before after : Option (List ℕ)) (v told : Verdict) → v ≡ told → told ≢ IsRefused →
-    IfSome left (λ bytes. TellsAll before after v (told_of limits rules first bytes)) → IfSome left (λ bytes. AddsReport before after)
+    IfSome left (λ bytes. TellsAll before after v (told_of limits rules first bytes)) → IfSome left (λ bytes. AddsReport (names_of bytes) before after)
 adds_report first is None before after v told by good tells = tt
 adds_report first is (Some bytes) before after v told by good tells =
     let whole : TellsAll before after v (report_of bytes) = subst (λ (r : Replaying). TellsAll before after v (told_of limits rules r bytes)) is tells in

@@ -34,7 +34,7 @@ use Rattle.xl_world.proofs.Lists.{happens_keeps}
 use Rattle.xl_world.proofs.Steps.{stepped_run}
 use Rattle.xl_replay.specs.Texts.{outcome_line, outcome_lines}
 use Rattle.xl_replay.specs.Replays.{Replaying, world_of, silent, after, after_line, after_answer, ending, rules}
-use Rattle.xl_replay.specs.Headlines.{Spoken, spoken_line, Extends}
+use Rattle.xl_replay.specs.Headlines.{Spoken, spoken_line, Extends, state_after, state_from}
 use Rattle.xl_replay.proofs.Declaring.{Declares, AnswerDeclares, reading_declares}
 
 -- WHAT IS TOLD WAS REPORTED
@@ -221,9 +221,8 @@ step_tells limits left r l sound =
 -- THE WHOLE
 
 -- what is told from a state on: outcomes, and the lines at the end of the last state
-pub record Ends (r : Replaying) (told : Told) : Type 0 where
+pub record Ends (r : Replaying) (told : Told) (last : Replaying) : Type 0 where
   pub spoken : List Spoken
-  pub last : Replaying
   pub written : told.text ≡ flat_map spoken_line spoken ++ (ending last).text
   pub verdict : told.verdict ≡ (ending last).verdict
   pub reported : All (λ s. IsReported (world_of last) s.outcome) spoken
@@ -232,32 +231,30 @@ pub record Ends (r : Replaying) (told : Told) : Type 0 where
   pub grows : Grows (world_of r) (world_of last)
   pub sound : IsSound last
 
-goes_on_ends : (r next : Replaying) (text : List ℕ) (told : Told) → Tells r next text → Ends next told → Ends r (after_text text told)
-goes_on_ends r next text told tells ends = record {
+goes_on_ends : (r next : Replaying) (text : List ℕ) (told : Told) (last : Replaying) → Tells r next text → Ends next told last → Ends r (after_text text told) last
+goes_on_ends r next text told last tells ends = record {
   spoken = tells.spoken ++ ends.spoken;
-  last = ends.last;
   written =
       ap (λ t. t ++ told.text) tells.written
       ∙ (ap (λ t. flat_map spoken_line tells.spoken ++ t) ends.written
-      ∙ (sym (append_assoc (flat_map spoken_line tells.spoken) (flat_map spoken_line ends.spoken) (ending ends.last).text)
-      ∙ ap (λ t. t ++ (ending ends.last).text) (sym (flat_map-append spoken_line tells.spoken ends.spoken))));
+      ∙ (sym (append_assoc (flat_map spoken_line tells.spoken) (flat_map spoken_line ends.spoken) (ending last).text)
+      ∙ ap (λ t. t ++ (ending last).text) (sym (flat_map-append spoken_line tells.spoken ends.spoken))));
   verdict = ends.verdict;
-  reported = All-append (λ s. IsReported (world_of ends.last) s.outcome) tells.spoken ends.spoken
-      (All-weaker (λ s. IsReported (world_of next) s.outcome) _ (λ s. still_reported (world_of next) (world_of ends.last) ends.grows s.outcome) tells.spoken tells.reported)
+  reported = All-append (λ s. IsReported (world_of last) s.outcome) tells.spoken ends.spoken
+      (All-weaker (λ s. IsReported (world_of next) s.outcome) _ (λ s. still_reported (world_of next) (world_of last) ends.grows s.outcome) tells.spoken tells.reported)
       ends.reported;
-  named = All-append (λ s. Extends s.names ends.last.reading.names) tells.spoken ends.spoken
-      (All-weaker (λ s. Extends s.names next.reading.names) _ (λ s h. extends_over s.names next.reading.names ends.last.reading.names h ends.extends) tells.spoken tells.named)
+  named = All-append (λ s. Extends s.names last.reading.names) tells.spoken ends.spoken
+      (All-weaker (λ s. Extends s.names next.reading.names) _ (λ s h. extends_over s.names next.reading.names last.reading.names h ends.extends) tells.spoken tells.named)
       ends.named;
-  extends = extends_over r.reading.names next.reading.names ends.last.reading.names tells.extends ends.extends;
+  extends = extends_over r.reading.names next.reading.names last.reading.names tells.extends ends.extends;
   grows = λ q h. ends.grows q (tells.grows q h);
   sound = ends.sound;
 }
 
-told_from_ends : (limits : Limits) (left : ℕ) (r : Replaying) (ls : List TextLine) → IsSound r → (told_from limits rules left r ls).verdict ≢ IsRefused → Ends r (told_from limits rules left r ls)
+pub told_from_ends : (limits : Limits) (left : ℕ) (r : Replaying) (ls : List TextLine) → IsSound r → (told_from limits rules left r ls).verdict ≢ IsRefused → Ends r (told_from limits rules left r ls) (state_from limits left r ls)
 unfolding told_by
 told_from_ends limits left r [] sound good = record {
   spoken = [];
-  last = r;
   written = refl;
   verdict = refl;
   reported = All-nil (λ s. IsReported (world_of r) s.outcome);
@@ -268,10 +265,8 @@ told_from_ends limits left r [] sound good = record {
 }
 told_from_ends limits left r (l ∷ ls) sound good = by_step (λ (next : Replaying) sound_there good_there. told_from_ends limits (left - 1) next ls sound_there good_there) (step_at limits rules left r l) (step_tells limits left r l sound) good
   where
-    by_step : ((next : Replaying) → IsSound next → (told_from limits rules (left - 1) next ls).verdict ≢ IsRefused → Ends next (told_from limits rules (left - 1) next ls)) →
-        (s : Step Replaying) → StepTells r s → (told_by (λ next. told_from limits rules (left - 1) next ls) s).verdict ≢ IsRefused → Ends r (told_by (λ next. told_from limits rules (left - 1) next ls) s)
-    by_step further (goes_on text next) tells good = goes_on_ends r next text (told_from limits rules (left - 1) next ls) tells (further next tells.sound good)
+    by_step : ((next : Replaying) → IsSound next → (told_from limits rules (left - 1) next ls).verdict ≢ IsRefused → Ends next (told_from limits rules (left - 1) next ls) (state_from limits (left - 1) next ls)) →
+        (s : Step Replaying) → StepTells r s → (told_by (λ next. told_from limits rules (left - 1) next ls) s).verdict ≢ IsRefused →
+        Ends r (told_by (λ next. told_from limits rules (left - 1) next ls) s) (state_from limits (left - 1) (state_after r s) ls)
+    by_step further (goes_on text next) tells good = goes_on_ends r next text (told_from limits rules (left - 1) next ls) (state_from limits (left - 1) next ls) tells (further next tells.sound good)
     by_step further (refuses_line text) tells good = absurd (good refl)
-
-pub told_ends : (limits : Limits) (left : ℕ) (r : Replaying) (ls : List TextLine) → IsSound r → (told_from limits rules left r ls).verdict ≢ IsRefused → Ends r (told_from limits rules left r ls)
-told_ends = told_from_ends

@@ -8,9 +8,14 @@ use Rattle.xl_base.specs.declared.ids.LedgerId.{LedgerId}
 use Rattle.xl_lists.specs.Lists.{TrustedList}
 use Rattle.xl_lists.specs.Quorums.{bound_of}
 use Rattle.xl_sched.specs.declared.named.Named.{Named}
+use Rattle.xl_lines.specs.declared.limits.Limits.{Limits}
+use Rattle.xl_lines.specs.Lines.{Line as TextLine, lines_of}
+use Rattle.xl_lines.specs.Rules.{Step, goes_on, refuses}
+use Rattle.xl_lines.specs.Told.{step_at}
 use Rattle.xl_world.specs.declared.outcome.Outcome.{Outcome}
 use Rattle.xl_world.specs.declared.outcome.Outcome.TheVariants.{Full}
 use Rattle.xl_world.specs.World.{World, up_from, all_numbers, list_in}
+use Rattle.xl_replay.specs.Replays.{Replaying, rules, limits, at_first}
 use Rattle.xl_replay.specs.Texts.{outcome_line, short_line, forged_line}
 
 -- what is told of an event: the names that are declared by then, the line of the schedule, and the outcome
@@ -56,11 +61,24 @@ short_pairs w = flat_map (λ i. short_pairs_of w i (list_in w i)) all_numbers
 abbrev pub IsPair : ℕ → ℕ → Short → Type 0
 IsPair i j s = (s.first ≡ i) × (s.second ≡ j)
 
+-- the state after a line; a refused one changes nothing
+abbrev pub state_after : Replaying → Step Replaying → Replaying
+state_after r (goes_on text next) = next
+state_after r (refuses text) = r
+
+-- the state after these lines
+abbrev pub state_from : Limits → ℕ → Replaying → List TextLine → Replaying
+state_from within left r [] = r
+state_from within left r (line ∷ rest) = state_from within (left - 1) (state_after r (step_at within rules left r line)) rest
+
+-- the names that a schedule declares, `root` first
+abbrev pub names_of : List ℕ → List Named
+names_of bytes = (state_from limits limits.lines at_first (lines_of bytes)).reading.names
+
 -- A report that no refused line cuts short is these lines. For each pair with no `short` line, where `forged` says 0, no two `full`
--- lines of that pair share a sequence and stand for different ids. A line's token stands for an id by the names that were declared
--- before it, which are the first of all names: a name stands for one id in the whole report.
-pub record IsReport (text : List ℕ) : Type 0 where
-  pub names : List Named
+-- lines of that pair share a sequence and stand for different ids. A line's token stands for an id by those of the schedule's names
+-- that were declared before it.
+pub record IsReport (names : List Named) (text : List ℕ) : Type 0 where
   pub spoken : List Spoken
   pub shorts : List Short
   pub forged : ℕ
@@ -72,7 +90,7 @@ pub record IsReport (text : List ℕ) : Type 0 where
       forged ≡ 0 → All (λ s. ¬ IsPair i j s) shorts → All (λ s. ¬ IsPair j i s) shorts → a ≡ b
 
 -- a report that no refused line cuts short was written after what was there
-pub record AddsReport (before after : Option (List ℕ)) : Type 0 where
+pub record AddsReport (names : List Named) (before after : Option (List ℕ)) : Type 0 where
   pub text : List ℕ
   pub added : after ≡ append_known before text
-  pub report : IsReport text
+  pub report : IsReport names text
