@@ -1,0 +1,4 @@
+mod Counting
+mod Finding
+mod FreeLists
+mod Soundness
