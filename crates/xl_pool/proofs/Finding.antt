@@ -49,9 +49,9 @@ module _ {T : Type 0} where
       λ other differs. elim (cases_eq other.slot name.slot) [
         | inr elsewhere ↦ get-set_other pool new name.slot other elsewhere
         | inl same ↦
-          let older : name.generation ≢ other.generation = λ e. differs (same_name other name same (sym e)) in
-          let before : get pool other ≡ None = rw same (given_empty _ other.generation (ap (λ s. s.value) vacant.1)) in
-          get-set_same pool new name.slot other vacant.0 same ∙ given_other new other.generation older ∙ sym before
+            let older : name.generation ≢ other.generation = λ e. differs (same_name other name same (sym e)) in
+            let before : get pool other ≡ None = rw same (given_empty _ other.generation (ap (λ s. s.value) vacant.1)) in
+            get-set_same pool new name.slot other vacant.0 same ∙ given_other new other.generation older ∙ sym before
       ] in
       record { changed = get-set_same pool new name.slot name vacant.0 refl ∙ given_own new name.generation refl; others = others }
 
@@ -65,8 +65,8 @@ module _ {T : Type 0} where
       λ other differs. elim (cases_eq other.slot name.slot) [
         | inr elsewhere ↦ get-set_other pool new name.slot other elsewhere
         | inl same ↦
-          let older : generation_of pool name.slot ≢ other.generation = λ e. differs (same_name other name same (sym e ∙ own.0)) in
-          let before : get pool other ≡ None = rw same (given_other (slot_at pool name.slot) other.generation older) in
-          get-set_same pool new name.slot other within same ∙ given_empty new other.generation refl ∙ sym before
+            let older : generation_of pool name.slot ≢ other.generation = λ e. differs (same_name other name same (sym e ∙ own.0)) in
+            let before : get pool other ≡ None = rw same (given_other (slot_at pool name.slot) other.generation older) in
+            get-set_same pool new name.slot other within same ∙ given_empty new other.generation refl ∙ sym before
       ] in
       record { changed = get-set_same pool new name.slot name within refl ∙ given_empty new name.generation refl; others = others }

@@ -3,7 +3,7 @@ use Rattle.std.proofs.Common.{◌≡◌, ℕ, zero, suc, ◌+◌, ◌-◌, ◌<�
 use Rattle.std.proofs.lemmas.Bool.{true≢false}
 use Rattle.std.proofs.lemmas.List.{map-set, length-map, get_or-map, set-get_or}
 use Rattle.std.proofs.lemmas.Option.{slice_get_within, slice_get_read, get_or_from_slice_get}
-use Rattle.xl_pool.specs.Pools.{Slot, empty_slot, slot_at, get, live}
+use Rattle.xl_pool.specs.Pools.{Slot, empty_slot, slot_at, get, live, IsVacant}
 use Rattle.xl_pool.specs.Entries.{IsFreeList, value_of, next_of, link_of, seen, holding, freed, IsSound}
 use Rattle.xl_pool.specs.declared.entry.Entry.{Entry}
 use Rattle.xl_pool.specs.declared.entry.Content.{Content}
@@ -22,9 +22,9 @@ module _ {T : Type 0} where
   counts_held (Free next) some = absurd (true≢false (sym some))
   counts_held (Held value) some = refl
 
-  free_has_no_value : (content : Content T) (next : ℕ) → next_of content ≡ Some next → value_of content ≡ None
-  free_has_no_value (Free after) next free = refl
-  free_has_no_value (Held value) next free = absurd (cc)
+  free_has_no_value : (content : Content T) → IsSome (next_of content) → value_of content ≡ None
+  free_has_no_value (Free next) some = refl
+  free_has_no_value (Held value) some = absurd (true≢false (sym some))
 
   -- what a contract sees of a slot that is there
   pub seen_at : (entries : List (Entry T)) (slot : ℕ) (e : Entry T) → slice_get entries slot ≡ Some e → slot_at (map seen entries) slot ≡ seen e
@@ -44,28 +44,26 @@ module _ {T : Type 0} where
       let written : live (map seen (set entries slot new)) ≡ live (set (map seen entries) slot (seen new)) = ap live (map-set seen entries slot new) in
       ap (λ n. n + counts (value_of old.content)) written ∙ ap (λ n. live (set (map seen entries) slot (seen new)) + n) (sym read) ∙ counted
 
-  -- the first free slot, where there is one, is free
-  pub first_is_free : (entries : List (Entry T)) (count first : ℕ) (e : Entry T) → IsSound entries count first → slice_get entries first ≡ Some e → IsSome (next_of e.content)
+  -- the first free slot, where it is there, is free
+  first_is_free : (entries : List (Entry T)) (count first : ℕ) (e : Entry T) → IsSound entries count first → slice_get entries first ≡ Some e → IsSome (next_of e.content)
   first_is_free entries count first e sound found = by_count sound.frees sound.linked
     where
       by_count : (n : ℕ) → IsFreeList (map link_of entries) n first → IsSome (next_of e.content)
       by_count zero p = absurd (omega (arith, slice_get_within entries first e found, length-map entries link_of))
       by_count (suc n) p = let link = sym (link_at entries first e found) ∙ p.1 in rw link refl
 
-  -- the first free slot is there exactly where a slot is free
-  pub full_at_end : (entries : List (Entry T)) (count first : ℕ) → IsSound entries count first → length entries ≤ first → count ≡ length entries
-  full_at_end entries count first sound past = by_count sound.frees sound.total sound.linked
-    where
-      by_count : (n : ℕ) → count + n ≡ length entries → IsFreeList (map link_of entries) n first → count ≡ length entries
-      by_count zero total p = omega arith
-      by_count (suc n) total p = absurd (omega (arith, linked_within (map link_of entries) first p.0 p.1, length-map entries link_of))
+  -- a free slot, and its entry
+  pub record FreeEntry (entries : List (Entry T)) (slot : ℕ) (e : Entry T) : Type 0 where
+    pub stands : slice_get entries slot ≡ Some e
+    pub free : IsSome (next_of e.content)
+    pub vacant : IsVacant (map seen entries) (record { slot = slot; generation = e.generation })
 
-  pub room_before_end : (entries : List (Entry T)) (count first : ℕ) → IsSound entries count first → first < length entries → count < length entries
-  room_before_end entries count first sound within = by_count sound.frees sound.total sound.linked
-    where
-      by_count : (n : ℕ) → count + n ≡ length entries → IsFreeList (map link_of entries) n first → count < length entries
-      by_count zero total p = absurd (omega (arith, length-map entries link_of))
-      by_count (suc n) total p = omega arith
+  pub free_entry : (entries : List (Entry T)) (count first : ℕ) (e : Entry T) → IsSound entries count first → first < length entries → e ≡ get_or entries first e → FreeEntry entries first e
+  free_entry entries count first e sound within read =
+      let stands : slice_get entries first ≡ Some e = slice_get_read entries (length entries) first e refl within read in
+      let free = first_is_free entries count first e sound stands in
+      let empty : seen e ≡ record { generation = e.generation; value = None } = ap (λ v. record { generation = e.generation; value = v }) (free_has_no_value e.content free) in
+      record { stands = stands; free = free; vacant = (omega (arith, length-map entries seen), seen_at entries first e stands ∙ empty) }
 
   pub IsSound-held : (entries : List (Entry T)) (count first next : ℕ) (e : Entry T) (value : T) → IsSound entries count first → slice_get entries first ≡ Some e → next_of e.content ≡ Some next → IsSound (set entries first (holding value e)) (count + 1) next
   IsSound-held entries count first next e value sound found free = by_count sound.frees sound.total sound.linked
@@ -74,7 +72,7 @@ module _ {T : Type 0} where
       by_count zero total p = absurd (omega (arith, slice_get_within entries first e found, length-map entries link_of))
       by_count (suc n) total p =
           let one_more = live_after entries first e (holding value e) found in
-          let was_free : counts (value_of e.content) ≡ 0 = ap counts (free_has_no_value e.content next free) in
+          let was_free : counts (value_of e.content) ≡ 0 = ap counts (free_has_no_value e.content (ap is_some free)) in
           record {
             counted = omega (arith, sound.counted);
             frees = n;
@@ -96,6 +94,13 @@ module _ {T : Type 0} where
         linked = subst IsList (sym (map-set link_of entries slot (freed first e))) (with_first (map link_of entries) sound.frees first slot (omega (arith, length-map entries link_of)) (link_at entries slot e found ∙ held_leads_nowhere e.content held) sound.linked);
         fits = omega (arith, sound.fits, length-set entries slot (freed first e));
       }
+
+  -- one slot more has a value
+  pub one_more : (entries : List (Entry T)) (slot next : ℕ) (e : Entry T) (value : T) → slice_get entries slot ≡ Some e → next_of e.content ≡ Some next → live (map seen (set entries slot (holding value e))) ≡ live (map seen entries) + 1
+  one_more entries slot next e value found free =
+      let more = live_after entries slot e (holding value e) found in
+      let was_free : counts (value_of e.content) ≡ 0 = ap counts (free_has_no_value e.content (ap is_some free)) in
+      omega arith
 
   -- one slot fewer has a value
   pub one_fewer : (entries : List (Entry T)) (count first slot : ℕ) (e : Entry T) → IsSound entries count first → slice_get entries slot ≡ Some e → IsSome (value_of e.content) → live (map seen (set entries slot (freed first e))) + 1 ≡ live (map seen entries)

@@ -172,3 +172,6 @@ impl<T> Pool<T> {
         }
     }
 }
+
+#[cfg(test)]
+mod tests;

@@ -1,0 +1,50 @@
+use super::Pool;
+use crate::{Full, Name, Stale};
+use std::test::Fail;
+
+#[test]
+fn two_slots(rt: HostRuntime) -> Result<(), Fail> {
+    let mut pool = Pool::with_slots(rt.alloc(), 2)?;
+    let first = pool.take('a')?;
+    let second = pool.take('b')?;
+    assert_eq!(rt; pool.take('c'), Err(Full('c')));
+    assert_eq!(rt; pool.give(first), Ok('a'));
+    assert_eq!(rt; pool.give(first), Err(Stale(1)));
+    assert_eq!(rt; pool.get(first), None);
+    assert_eq!(rt; pool.get(second), Some(&'b'));
+    Ok(())
+}
+
+/// Takes a value for each slot, and gives all back, several times over.
+#[test]
+fn every_slot_again(rt: HostRuntime) -> Result<(), Fail> {
+    const SLOTS: u32 = 3;
+    let mut pool = Pool::with_slots(rt.alloc(), SLOTS)?;
+    for generation in 0..4 {
+        let mut names = Vec::new(rt.alloc());
+        for value in 0..SLOTS {
+            let name = pool.take(value)?;
+            assert_eq!(rt; name.generation, generation);
+            names.push(name)?;
+        }
+        assert_eq!(rt; (pool.live(), pool.take(9)), (SLOTS, Err(Full(9))));
+        for (value, name) in names.iter().enumerate() {
+            let value = value as u32;
+            if let Some(held) = pool.get_mut(*name) {
+                *held += 10;
+            }
+            assert_eq!(rt; pool.get(*name), Some(&(value + 10)));
+            assert_eq!(rt; pool.give(*name), Ok(value + 10));
+            assert_eq!(rt; pool.get(*name), None);
+        }
+        assert_eq!(rt; pool.live(), 0);
+    }
+    assert_eq!(rt;
+        pool.give(Name {
+            slot: SLOTS,
+            generation: 0
+        }),
+        Err(Stale(0))
+    );
+    Ok(())
+}
