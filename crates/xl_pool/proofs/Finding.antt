@@ -1,5 +1,5 @@
--- What names find after one slot was written.
-use Rattle.std.proofs.Common.{◌≡◌, ◌≢◌, ◌⊎◌, ℕ, ◌+◌, ◌%◌, ◌^◌, ◌<◌, ◌==◌, Bool, true, false, cond, List, length, get_or, set, Option, Some, None, IsSome, refl, sym, ap, ◌∙◌, inl, inr, arith}
+-- What names find after one slot was written, for this crate and its callers.
+use Rattle.std.proofs.Common.{◌≡◌, ◌≢◌, ◌⊎◌, ℕ, ◌+◌, ◌%◌, ◌^◌, ◌<◌, ◌==◌, Bool, true, false, cond, List, length, get_or, set, Option, Some, None, IsSome, refl, sym, ap, subst, ◌∙◌, inl, inr, arith}
 use Rattle.std.proofs.lemmas.Bool.{cases_eq, cond_both, true≢false}
 use Rattle.std.proofs.lemmas.List.{get_or-set_same, get_or-set_other, get_or_past}
 use Rattle.std.proofs.lemmas.Bool.Decides.{nat_tests}
@@ -35,38 +35,46 @@ module _ {T : Type 0} where
       let some = (of_found (slot_at pool name.slot) name.generation found).1 in
       grind (arith, get_or_past)
 
-  get-set_same : (pool : List (Slot T)) (new : Slot T) (slot : ℕ) (other : Name) → slot < length pool → other.slot ≡ slot → get (set pool slot new) other ≡ given new other.generation
-  get-set_same pool new slot other within same = ap (λ k. given (get_or (set pool slot new) k empty_slot) other.generation) same ∙ ap (λ s. given s other.generation) (get_or-set_same pool slot new empty_slot within)
-
-  get-set_other : (pool : List (Slot T)) (new : Slot T) (slot : ℕ) (other : Name) → other.slot ≢ slot → get (set pool slot new) other ≡ get pool other
-  get-set_other pool new slot other differs = ap (λ s. given s other.generation) (get_or-set_other pool slot other.slot new empty_slot differs)
-
-  -- an empty slot takes a value: its name finds it, and no other name finds another
-  pub Updates-with_value : (pool : List (Slot T)) (name : Name) (value : T) → IsVacant pool name → Updates pool (with_value pool name value) name (Some value)
-  Updates-with_value pool name value vacant =
-      let new : Slot T = record { generation = name.generation; value = Some value } in
+  -- a write at the slot of a name, after which the names of its other generations find what they found
+  Updates-set : (pool : List (Slot T)) (name : Name) (new : Slot T) → name.slot < length pool → ((g : ℕ) → name.generation ≢ g → given new g ≡ given (slot_at pool name.slot) g) → Updates pool (set pool name.slot new) name (given new name.generation)
+  Updates-set pool name new within alike =
+      let written = get_or-set_same pool name.slot new empty_slot within in
       let others : (other : Name) → other ≢ name → get (set pool name.slot new) other ≡ get pool other =
       λ other differs. elim (cases_eq other.slot name.slot) [
-        | inr elsewhere ↦ get-set_other pool new name.slot other elsewhere
+        | inr elsewhere ↦ ap (λ s. given s other.generation) (get_or-set_other pool name.slot other.slot new empty_slot elsewhere)
         | inl same ↦
             let older : name.generation ≢ other.generation = λ e. differs (same_name other name same (sym e)) in
-            let before : get pool other ≡ None = rw same (given_empty _ other.generation (ap (λ s. s.value) vacant.1)) in
-            get-set_same pool new name.slot other vacant.0 same ∙ given_other new other.generation older ∙ sym before
+            ap (λ k. given (get_or (set pool name.slot new) k empty_slot) other.generation) same
+            ∙ ap (λ s. given s other.generation) written
+            ∙ alike other.generation older
+            ∙ ap (λ k. given (slot_at pool k) other.generation) (sym same)
       ] in
-      record { changed = get-set_same pool new name.slot name vacant.0 refl ∙ given_own new name.generation refl; others = others }
+      record { changed = ap (λ s. given s name.generation) written; others = others }
 
-  -- a slot gives its value up: its name finds nothing, and every other name what it found
+  -- an empty slot's name finds nothing
+  pub vacant_finds_nothing : (pool : List (Slot T)) (name : Name) → IsVacant pool name → get pool name ≡ None
+  vacant_finds_nothing pool name vacant = given_empty _ name.generation (ap (λ s. s.value) vacant.1)
+
+  -- an empty slot takes a value
+  pub Updates-vacant : (pool : List (Slot T)) (name : Name) (value : T) → IsVacant pool name → Updates pool (with_value pool name value) name (Some value)
+  Updates-vacant pool name value vacant =
+      let new : Slot T = record { generation = name.generation; value = Some value } in
+      let empty : (slot_at pool name.slot).value ≡ None = ap (λ s. s.value) vacant.1 in
+      let alike : (g : ℕ) → name.generation ≢ g → given new g ≡ given (slot_at pool name.slot) g = λ g older. given_other new g older ∙ sym (given_empty _ g empty) in
+      subst (Updates pool (with_value pool name value) name) (given_own new name.generation refl) (Updates-set pool name new vacant.0 alike)
+
+  -- a slot's value is written anew
+  pub Updates-found : (pool : List (Slot T)) (name : Name) (value : T) → IsSome (get pool name) → Updates pool (with_value pool name value) name (Some value)
+  Updates-found pool name value found =
+      let own = of_found (slot_at pool name.slot) name.generation found in
+      let new : Slot T = record { generation = name.generation; value = Some value } in
+      let alike : (g : ℕ) → name.generation ≢ g → given new g ≡ given (slot_at pool name.slot) g = λ g older. given_other new g older ∙ sym (given_other _ g (λ e. older (sym own.0 ∙ e))) in
+      subst (Updates pool (with_value pool name value) name) (given_own new name.generation refl) (Updates-set pool name new (found_within pool name found) alike)
+
+  -- a slot gives its value up
   pub Updates-without_value : (pool : List (Slot T)) (name : Name) → IsSome (get pool name) → Updates pool (without_value pool name) name None
   Updates-without_value pool name found =
       let own = of_found (slot_at pool name.slot) name.generation found in
-      let within = found_within pool name found in
       let new : Slot T = record { generation = (name.generation + 1) % 2 ^ 32; value = None } in
-      let others : (other : Name) → other ≢ name → get (set pool name.slot new) other ≡ get pool other =
-      λ other differs. elim (cases_eq other.slot name.slot) [
-        | inr elsewhere ↦ get-set_other pool new name.slot other elsewhere
-        | inl same ↦
-            let older : generation_of pool name.slot ≢ other.generation = λ e. differs (same_name other name same (sym e ∙ own.0)) in
-            let before : get pool other ≡ None = rw same (given_other (slot_at pool name.slot) other.generation older) in
-            get-set_same pool new name.slot other within same ∙ given_empty new other.generation refl ∙ sym before
-      ] in
-      record { changed = get-set_same pool new name.slot name within refl ∙ given_empty new name.generation refl; others = others }
+      let alike : (g : ℕ) → name.generation ≢ g → given new g ≡ given (slot_at pool name.slot) g = λ g older. given_empty new g refl ∙ sym (given_other _ g (λ e. older (sym own.0 ∙ e))) in
+      subst (Updates pool (without_value pool name) name) (given_empty new name.generation refl) (Updates-set pool name new (found_within pool name found) alike)

@@ -1,4 +1,4 @@
-mod Counting
-mod Finding
+pub mod Counting
+pub mod Finding
 mod FreeLists
 mod Soundness

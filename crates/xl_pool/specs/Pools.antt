@@ -23,6 +23,7 @@ module _ {T : Type 0} where
   abbrev pub empty_slot : Slot T
   empty_slot = record { generation = 0; value = None }
 
+  -- the slot of a number
   abbrev pub slot_at : List (Slot T) → ℕ → Slot T
   slot_at pool slot = slice_index_or pool slot empty_slot
 

@@ -21,7 +21,7 @@ use xl_base::OutOfMemory;
 
 /// Values in a fixed number of slots, each under a name that the pool picks. No call after `with_slots` takes memory, and
 /// each takes a fixed number of steps.
-#[derive(Drop)]
+#[derive(Debug, Drop)]
 pub struct Pool<T> {
     entries: Vec<Entry<T>>,
     // How many slots have a value.
@@ -122,6 +122,7 @@ impl<T> Pool<T> {
 
         // the name is that of an empty slot, which has the value from now on, and all else stays
         ensures vacant { IfOk result (λ name. IsVacant self.old name) }
+        ensures fresh { IfOk result (λ name. get self.old name ≡ None) }
         ensures added { IfOk result (λ name. self.new ≡ with_value self.old name value) }
         ensures names { IfOk result (λ name. Updates self.old self.new name (Some value)) }
         ensures more { OnOk result (live self.new ≡ live self.old + 1) }

@@ -10,41 +10,35 @@ fn two_slots(rt: HostRuntime) -> Result<(), Fail> {
     assert_eq!(rt; pool.take('c'), Err(Full('c')));
     assert_eq!(rt; pool.give(first), Ok('a'));
     assert_eq!(rt; pool.give(first), Err(Stale(1)));
-    assert_eq!(rt; pool.get(first), None);
-    assert_eq!(rt; pool.get(second), Some(&'b'));
+    assert_eq!(rt; (pool.get(first), pool.get(second)), (None, Some(&'b')));
     Ok(())
 }
 
-/// Takes a value for each slot, and gives all back, several times over.
 #[test]
-fn every_slot_again(rt: HostRuntime) -> Result<(), Fail> {
+fn every_slot_again_and_again(rt: HostRuntime) -> Result<(), Fail> {
     const SLOTS: u32 = 3;
     let mut pool = Pool::with_slots(rt.alloc(), SLOTS)?;
     for generation in 0..4 {
         let mut names = Vec::new(rt.alloc());
         for value in 0..SLOTS {
-            let name = pool.take(value)?;
-            assert_eq!(rt; name.generation, generation);
-            names.push(name)?;
+            names.push(pool.take(value)?)?;
         }
         assert_eq!(rt; (pool.live(), pool.take(9)), (SLOTS, Err(Full(9))));
-        for (value, name) in names.iter().enumerate() {
-            let value = value as u32;
+        for (name, value) in names.iter().zip(0..SLOTS) {
+            assert_eq!(rt; name.generation, generation);
             if let Some(held) = pool.get_mut(*name) {
-                *held += 10;
+                *held = value + 10;
             }
             assert_eq!(rt; pool.get(*name), Some(&(value + 10)));
             assert_eq!(rt; pool.give(*name), Ok(value + 10));
-            assert_eq!(rt; pool.get(*name), None);
+            assert_eq!(rt; pool.give(*name), Err(Stale(generation + 1)));
         }
         assert_eq!(rt; pool.live(), 0);
     }
-    assert_eq!(rt;
-        pool.give(Name {
-            slot: SLOTS,
-            generation: 0
-        }),
-        Err(Stale(0))
-    );
+    let beyond = Name {
+        slot: SLOTS,
+        generation: 0,
+    };
+    assert_eq!(rt; pool.give(beyond), Err(Stale(0)));
     Ok(())
 }

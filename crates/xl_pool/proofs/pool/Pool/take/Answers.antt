@@ -1,7 +1,7 @@
 use Rattle.std.proofs.Common.{◌≡◌, ◌+◌, Some, None, map, refl, arith}
 use Rattle.std.proofs.lemmas.List.{map-set}
 use Rattle.xl_pool.specs.Entries.{seen}
-use Rattle.xl_pool.proofs.Finding.{Updates-with_value}
+use Rattle.xl_pool.proofs.Finding.{Updates-vacant, vacant_finds_nothing}
 use Rattle.xl_pool.proofs.Soundness.{free_entry, IsSound-held, one_more}
 use Rattle.xl_pool.proofs.pool.Pool.take.Goals as goal
 
@@ -20,11 +20,14 @@ returns-clause-vacant g c =
     let entry = free_entry _ _ _ _ c.self.invariant (omega (arith, c.in-Some.ensures.variant.0 refl, c.self.inside.entries.ok.0)) c.in-Some.ensures.value in
     rw (← c.self.view_is) entry.vacant
 
+pub returns-clause-fresh : goal.returns-clause-fresh
+returns-clause-fresh g c = vacant_finds_nothing _ _ (returns-clause-vacant g c)
+
 pub returns-clause-added : goal.returns-clause-added
 returns-clause-added g c = rw (← c.self.view_is, c.hold-self-inside.ensures.held, map-set) refl
 
 pub returns-clause-names : goal.returns-clause-names
-returns-clause-names g c = rw (returns-clause-added g c) (Updates-with_value _ _ c.args.value (returns-clause-vacant g c))
+returns-clause-names g c = rw (returns-clause-added g c) (Updates-vacant _ _ c.args.value (returns-clause-vacant g c))
 
 pub returns-clause-more : goal.returns-clause-more
 returns-clause-more g c =
