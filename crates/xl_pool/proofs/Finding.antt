@@ -1,9 +1,9 @@
 -- What names find after one slot was written, for this crate and its callers.
-use Rattle.std.proofs.Common.{◌≡◌, ◌≢◌, ◌⊎◌, ℕ, ◌+◌, ◌%◌, ◌^◌, ◌<◌, ◌==◌, Bool, true, false, cond, List, length, get_or, set, Option, Some, None, IsSome, refl, sym, ap, subst, ◌∙◌, inl, inr, arith}
+use Rattle.std.proofs.Common.{◌≡◌, ◌≢◌, ℕ, ◌+◌, ◌%◌, ◌^◌, ◌<◌, ◌==◌, cond, List, length, get_or, set, Option, Some, None, IsSome, refl, sym, ap, subst, ◌∙◌, inl, inr, arith}
 use Rattle.std.proofs.lemmas.Bool.{cases_eq, cond_both, true≢false}
 use Rattle.std.proofs.lemmas.List.{get_or-set_same, get_or-set_other, get_or_past}
 use Rattle.std.proofs.lemmas.Bool.Decides.{nat_tests}
-use Rattle.xl_pool.specs.Pools.{Slot, empty_slot, slot_at, generation_of, get, IsVacant, Updates, with_value, without_value}
+use Rattle.xl_pool.specs.Pools.{Slot, empty_slot, slot_at, get, IsVacant, Updates, with_value, without_value}
 use Rattle.xl_pool.specs.declared.name.Name.{Name}
 
 same_name : (a b : Name) → a.slot ≡ b.slot → a.generation ≡ b.generation → a ≡ b
@@ -16,6 +16,7 @@ module _ {T : Type 0} where
   abbrev pub given : Slot T → ℕ → Option T
   given slot generation = cond (slot.generation == generation) slot.value None
 
+  -- an empty slot gives nothing, another one its value to its own generation alone
   given_empty : (slot : Slot T) (generation : ℕ) → slot.value ≡ None → given slot generation ≡ None
   given_empty slot generation empty = cond_both (slot.generation == generation) slot.value None (λ v. v ≡ None) (λ _. empty) (λ _. refl)
 

@@ -1,9 +1,9 @@
 -- What each change of one slot leaves of the count and of the free list.
-use Rattle.std.proofs.Common.{◌≡◌, ℕ, zero, suc, ◌+◌, ◌-◌, ◌<◌, ◌≤◌, List, length, map, get_or, set, slice_get, cond, Option, Some, None, is_some, IsSome, true, false, refl, sym, ap, subst, ◌∙◌, arith, length-set}
+use Rattle.std.proofs.Common.{◌≡◌, ℕ, zero, suc, ◌+◌, ◌-◌, ◌<◌, List, length, map, get_or, set, slice_get, Option, Some, None, is_some, IsSome, refl, sym, ap, subst, ◌∙◌, arith, length-set}
 use Rattle.std.proofs.lemmas.Bool.{true≢false}
 use Rattle.std.proofs.lemmas.List.{map-set, length-map, get_or-map, set-get_or}
 use Rattle.std.proofs.lemmas.Option.{slice_get_within, slice_get_read, get_or_from_slice_get}
-use Rattle.xl_pool.specs.Pools.{Slot, empty_slot, slot_at, get, live, IsVacant}
+use Rattle.xl_pool.specs.Pools.{empty_slot, slot_at, get, live, IsVacant}
 use Rattle.xl_pool.specs.Entries.{IsFreeList, value_of, next_of, link_of, seen, holding, freed, IsSound}
 use Rattle.xl_pool.specs.declared.entry.Entry.{Entry}
 use Rattle.xl_pool.specs.declared.entry.Content.{Content}
@@ -11,9 +11,10 @@ use Rattle.xl_pool.specs.declared.entry.Content.TheVariants.{Free, Held}
 use Rattle.xl_pool.proofs.Counting.{counts, live-set}
 use Rattle.xl_pool.specs.declared.name.Name.{Name}
 use Rattle.xl_pool.proofs.Finding.{given, given_own, of_found, found_within}
-use Rattle.xl_pool.proofs.FreeLists.{linked_within, without_first, with_first}
+use Rattle.xl_pool.proofs.FreeLists.{without_first, with_first}
 
 module _ {T : Type 0} where
+  -- a slot with a value leads to no free one, and is counted
   held_leads_nowhere : (content : Content T) → IsSome (value_of content) → next_of content ≡ None
   held_leads_nowhere (Free next) some = absurd (true≢false (sym some))
   held_leads_nowhere (Held value) some = refl
@@ -22,21 +23,23 @@ module _ {T : Type 0} where
   counts_held (Free next) some = absurd (true≢false (sym some))
   counts_held (Held value) some = refl
 
+  -- a free slot has no value
   free_has_no_value : (content : Content T) → IsSome (next_of content) → value_of content ≡ None
   free_has_no_value (Free next) some = refl
   free_has_no_value (Held value) some = absurd (true≢false (sym some))
 
   -- what a contract sees of a slot that is there
-  pub seen_at : (entries : List (Entry T)) (slot : ℕ) (e : Entry T) → slice_get entries slot ≡ Some e → slot_at (map seen entries) slot ≡ seen e
+  seen_at : (entries : List (Entry T)) (slot : ℕ) (e : Entry T) → slice_get entries slot ≡ Some e → slot_at (map seen entries) slot ≡ seen e
   seen_at entries slot e found =
       get_or-map seen entries slot e empty_slot (slice_get_within entries slot e found) ∙ ap seen (get_or_from_slice_get entries slot e e found)
 
+  -- the link of a slot that is there
   link_at : (entries : List (Entry T)) (slot : ℕ) (e : Entry T) → slice_get entries slot ≡ Some e → get_or (map link_of entries) slot None ≡ link_of e
   link_at entries slot e found =
       get_or-map link_of entries slot e None (slice_get_within entries slot e found) ∙ ap link_of (get_or_from_slice_get entries slot e e found)
 
   -- how many slots have a value after one was written
-  pub live_after : (entries : List (Entry T)) (slot : ℕ) (old new : Entry T) → slice_get entries slot ≡ Some old → live (map seen (set entries slot new)) + counts (value_of old.content) ≡ live (map seen entries) + counts (value_of new.content)
+  live_after : (entries : List (Entry T)) (slot : ℕ) (old new : Entry T) → slice_get entries slot ≡ Some old → live (map seen (set entries slot new)) + counts (value_of old.content) ≡ live (map seen entries) + counts (value_of new.content)
   live_after entries slot old new found =
       let within = slice_get_within entries slot old found in
       let counted = live-set (map seen entries) slot (seen new) (omega (arith, length-map entries seen)) in
@@ -65,6 +68,7 @@ module _ {T : Type 0} where
       let empty : seen e ≡ record { generation = e.generation; value = None } = ap (λ v. record { generation = e.generation; value = v }) (free_has_no_value e.content free) in
       record { stands = stands; free = free; vacant = (omega (arith, length-map entries seen), seen_at entries first e stands ∙ empty) }
 
+  -- the first free slot takes a value, and the one after it is then the first
   pub IsSound-held : (entries : List (Entry T)) (count first next : ℕ) (e : Entry T) (value : T) → IsSound entries count first → slice_get entries first ≡ Some e → next_of e.content ≡ Some next → IsSound (set entries first (holding value e)) (count + 1) next
   IsSound-held entries count first next e value sound found free = by_count sound.frees sound.total sound.linked
     where
@@ -81,6 +85,7 @@ module _ {T : Type 0} where
             fits = omega (arith, sound.fits, length-set entries first (holding value e));
           }
 
+  -- a slot gives its value up, and is then the first free one
   pub IsSound-freed : (entries : List (Entry T)) (count first slot : ℕ) (e : Entry T) → IsSound entries count first → slice_get entries slot ≡ Some e → IsSome (value_of e.content) → IsSound (set entries slot (freed first e)) (count - 1) slot
   IsSound-freed entries count first slot e sound found held =
       let one_less = live_after entries slot e (freed first e) found in
@@ -109,6 +114,7 @@ module _ {T : Type 0} where
       let was_held = counts_held e.content held in
       omega arith
 
+  -- a value is written anew
   pub IsSound-rewritten : (entries : List (Entry T)) (count first slot : ℕ) (e : Entry T) (value : T) → IsSound entries count first → slice_get entries slot ≡ Some e → IsSome (value_of e.content) → IsSound (set entries slot (holding value e)) count first
   IsSound-rewritten entries count first slot e value sound found held =
       let as_many = live_after entries slot e (holding value e) found in

@@ -64,7 +64,7 @@ fn empty_entries<T>(alloc: Global, n: u32) -> Result<Vec<Entry<T>>, AllocError>
 impl<T> Pool<T> {
     ghost use Rattle.xl_pool.specs.Lends.{lends_get, lends_value};
 
-    /// A pool of n empty slots of generation 0.
+    /// A pool of n empty slots of generation 0, or `OutOfMemory`.
     pub fn with_slots(alloc: Global, n: u32) -> Result<Pool<T>, OutOfMemory>
         ensures empty { IfOk result (λ pool. pool ≡ replicate n empty_slot) }
     {

@@ -16,27 +16,29 @@ fn two_slots(rt: HostRuntime) -> Result<(), Fail> {
 
 #[test]
 fn every_slot_again_and_again(rt: HostRuntime) -> Result<(), Fail> {
-    const SLOTS: u32 = 3;
-    let mut pool = Pool::with_slots(rt.alloc(), SLOTS)?;
+    const VALUES: [char; 3] = ['a', 'b', 'c'];
+    let mut pool = Pool::with_slots(rt.alloc(), 3)?;
     for generation in 0..4 {
         let mut names = Vec::new(rt.alloc());
-        for value in 0..SLOTS {
+        for value in VALUES {
             names.push(pool.take(value)?)?;
         }
-        assert_eq!(rt; (pool.live(), pool.take(9)), (SLOTS, Err(Full(9))));
-        for (name, value) in names.iter().zip(0..SLOTS) {
-            assert_eq!(rt; name.generation, generation);
+        assert_eq!(rt; (pool.live(), pool.take('d')), (3, Err(Full('d'))));
+        for (name, value) in names.iter().zip(VALUES) {
+            assert_eq!(rt;
+                (name.generation, pool.get(*name)),
+                (generation, Some(&value))
+            );
             if let Some(held) = pool.get_mut(*name) {
-                *held = value + 10;
+                *held = 'z';
             }
-            assert_eq!(rt; pool.get(*name), Some(&(value + 10)));
-            assert_eq!(rt; pool.give(*name), Ok(value + 10));
+            assert_eq!(rt; pool.give(*name), Ok('z'));
             assert_eq!(rt; pool.give(*name), Err(Stale(generation + 1)));
         }
         assert_eq!(rt; pool.live(), 0);
     }
     let beyond = Name {
-        slot: SLOTS,
+        slot: 3,
         generation: 0,
     };
     assert_eq!(rt; pool.give(beyond), Err(Stale(0)));

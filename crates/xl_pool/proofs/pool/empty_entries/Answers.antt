@@ -1,4 +1,4 @@
-use Rattle.std.proofs.Common.{◌≡◌, map, arith, rules}
+use Rattle.std.proofs.Common.{◌≡◌, map, arith}
 use Rattle.std.proofs.lemmas.List.{length-map}
 use Rattle.xl_pool.specs.Entries.{link_of}
 use Rattle.xl_pool.proofs.FreeLists.{in_order}

@@ -1,7 +1,6 @@
-use Rattle.std.proofs.Common.{◌≡◌, ◌+◌, IsSome, Some, None, cond, is_some, map, refl, sym, ap, subst, ◌∙◌, arith, rules}
+use Rattle.std.proofs.Common.{IsSome, is_some, refl, sym, ap, ◌∙◌, arith}
 use Rattle.std.proofs.lemmas.List.{map-set}
-use Rattle.xl_pool.specs.Pools.{get, live, without_value}
-use Rattle.xl_pool.specs.Entries.{seen}
+use Rattle.xl_pool.specs.Pools.{get}
 use Rattle.xl_pool.proofs.Finding.{Updates-without_value}
 use Rattle.xl_pool.proofs.Soundness.{found_entry, IsSound-freed, one_fewer}
 use Rattle.xl_pool.proofs.pool.Pool.give.Goals as goal

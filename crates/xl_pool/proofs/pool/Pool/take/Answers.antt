@@ -1,6 +1,5 @@
-use Rattle.std.proofs.Common.{◌≡◌, ◌+◌, Some, None, map, refl, arith}
+use Rattle.std.proofs.Common.{refl, arith}
 use Rattle.std.proofs.lemmas.List.{map-set}
-use Rattle.xl_pool.specs.Entries.{seen}
 use Rattle.xl_pool.proofs.Finding.{Updates-vacant, vacant_finds_nothing}
 use Rattle.xl_pool.proofs.Soundness.{free_entry, IsSound-held, one_more}
 use Rattle.xl_pool.proofs.pool.Pool.take.Goals as goal

@@ -1,9 +1,5 @@
-use Rattle.std.proofs.Common.{◌≡◌, IsSome, Some, cond, refl, sym, ap, subst, ◌∙◌, arith}
-use Rattle.std.proofs.lemmas.List.{map-set, length-map}
-use Rattle.std.proofs.lemmas.Option.{slice_get_read}
-use Rattle.xl_pool.specs.Pools.{slot_at, get}
-use Rattle.xl_pool.specs.Entries.{seen}
-use Rattle.xl_pool.proofs.Finding.{of_found, found_within}
+use Rattle.std.proofs.Common.{refl, ◌∙◌}
+use Rattle.std.proofs.lemmas.List.{map-set}
 use Rattle.xl_pool.proofs.Soundness.{found_entry, IsSound-rewritten}
 use Rattle.xl_pool.proofs.pool.Pool.value_mut.Goals as goal
 
@@ -15,6 +11,6 @@ invariant_of-self-lent g c w =
 pub returns : goal.returns
 returns g c =
     let entry = found_entry _ c.args.name _ (rw (← c.self.view_is) at c.requires.live) c.index_mut-entry.ensures.value in (
-      (refl, λ w. rw (← c.self.view_is, map-set, ← entry.generation) refl),
+      (refl {a = c.value_mut.result.ghost_name}, λ w. rw (← c.self.view_is, map-set, ← entry.generation) refl),
       record { writes_back = tt; value = rw (← c.self.view_is) (entry.finds ∙ c.value_mut.ensures.value) },
     )
