@@ -1,9 +1,9 @@
 -- What each change of one slot leaves of the count and of the free list.
-use Rattle.std.proofs.Common.{◌≡◌, ℕ, zero, suc, ◌+◌, ◌-◌, ◌<◌, List, length, map, get_or, set, slice_get, Option, Some, None, is_some, IsSome, refl, sym, ap, subst, ◌∙◌, arith, length-set}
+use Rattle.std.proofs.Common.{◌≡◌, ℕ, zero, suc, ◌+◌, ◌-◌, ◌%◌, ◌^◌, ◌<◌, List, length, map, get_or, set, slice_get, Option, Some, None, is_some, IsSome, refl, sym, ap, subst, ◌∙◌, arith, length-set}
 use Rattle.std.proofs.lemmas.Bool.{true≢false}
 use Rattle.std.proofs.lemmas.List.{map-set, length-map, get_or-map, set-get_or}
 use Rattle.std.proofs.lemmas.Option.{slice_get_within, slice_get_read, get_or_from_slice_get}
-use Rattle.xl_pool.specs.Pools.{empty_slot, slot_at, get, live, IsVacant}
+use Rattle.xl_pool.specs.Pools.{empty_slot, slot_at, get, live, with_value, without_value, IsVacant}
 use Rattle.xl_pool.specs.Entries.{IsFreeList, value_of, next_of, link_of, seen, holding, freed, IsSound}
 use Rattle.xl_pool.specs.declared.entry.Entry.{Entry}
 use Rattle.xl_pool.specs.declared.entry.Content.{Content}
@@ -46,6 +46,15 @@ module _ {T : Type 0} where
       let read : counts (slot_at (map seen entries) slot).value ≡ counts (value_of old.content) = ap (λ s. counts s.value) (seen_at entries slot old found) in
       let written : live (map seen (set entries slot new)) ≡ live (set (map seen entries) slot (seen new)) = ap live (map-set seen entries slot new) in
       ap (λ n. n + counts (value_of old.content)) written ∙ ap (λ n. live (set (map seen entries) slot (seen new)) + n) (sym read) ∙ counted
+
+  -- what a contract sees of a slot that was written
+  pub seen_held : (entries : List (Entry T)) (name : Name) (e : Entry T) (value : T) → e.generation ≡ name.generation → map seen (set entries name.slot (holding value e)) ≡ with_value (map seen entries) name value
+  seen_held entries name e value own =
+      map-set seen entries name.slot (holding value e) ∙ ap (λ g. set (map seen entries) name.slot (record { generation = g; value = Some value })) own
+
+  pub seen_freed : (entries : List (Entry T)) (name : Name) (e : Entry T) (next : ℕ) → e.generation ≡ name.generation → map seen (set entries name.slot (freed next e)) ≡ without_value (map seen entries) name
+  seen_freed entries name e next own =
+      map-set seen entries name.slot (freed next e) ∙ ap (λ g. set (map seen entries) name.slot (record { generation = (g + 1) % 2 ^ 32; value = None })) own
 
   -- the first free slot, where it is there, is free
   first_is_free : (entries : List (Entry T)) (count first : ℕ) (e : Entry T) → IsSound entries count first → slice_get entries first ≡ Some e → IsSome (next_of e.content)

@@ -1,8 +1,7 @@
-use Rattle.std.proofs.Common.{IsSome, is_some, refl, sym, ap, ◌∙◌, arith}
-use Rattle.std.proofs.lemmas.List.{map-set}
+use Rattle.std.proofs.Common.{IsSome, is_some, sym, ap, ◌∙◌, arith}
 use Rattle.xl_pool.specs.Pools.{get}
 use Rattle.xl_pool.proofs.Finding.{Updates-without_value}
-use Rattle.xl_pool.proofs.Soundness.{found_entry, IsSound-freed, one_fewer}
+use Rattle.xl_pool.proofs.Soundness.{found_entry, seen_freed, IsSound-freed, one_fewer}
 use Rattle.xl_pool.proofs.pool.Pool.give.Goals as goal
 
 pub invariant_of-self : goal.invariant_of-self
@@ -15,7 +14,7 @@ pub returns-clause-removed : goal.returns-clause-removed
 returns-clause-removed g c =
     let found : IsSome (get c.args.self.now c.args.name) = ap is_some (sym c.get.ensures) ∙ grind arith in
     let entry = found_entry _ c.args.name _ (rw (← c.self.view_is) at found) c.index_mut.ensures.value in
-    rw (← c.self.view_is, c.free-value.ensures.freed, map-set, entry.generation) refl
+    rw (← c.self.view_is, c.free-value.ensures.freed) (seen_freed _ c.args.name c.index_mut.result.now _ entry.generation)
 
 pub returns-clause-names : goal.returns-clause-names
 returns-clause-names g c =

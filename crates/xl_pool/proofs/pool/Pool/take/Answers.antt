@@ -1,7 +1,6 @@
 use Rattle.std.proofs.Common.{refl, arith}
-use Rattle.std.proofs.lemmas.List.{map-set}
 use Rattle.xl_pool.proofs.Finding.{Updates-vacant, vacant_finds_nothing}
-use Rattle.xl_pool.proofs.Soundness.{free_entry, IsSound-held, one_more}
+use Rattle.xl_pool.proofs.Soundness.{free_entry, seen_held, IsSound-held, one_more}
 use Rattle.xl_pool.proofs.pool.Pool.take.Goals as goal
 
 pub hold-self-inside-requires : goal.hold-self-inside-requires
@@ -23,7 +22,7 @@ pub returns-clause-fresh : goal.returns-clause-fresh
 returns-clause-fresh g c = vacant_finds_nothing _ _ (returns-clause-vacant g c)
 
 pub returns-clause-added : goal.returns-clause-added
-returns-clause-added g c = rw (← c.self.view_is, c.hold-self-inside.ensures.held, map-set) refl
+returns-clause-added g c = rw (← c.self.view_is, c.hold-self-inside.ensures.held) (seen_held _ (record { slot = c.self.inside.free; generation = c.in-Some.entry.now.generation }) c.in-Some.entry.now c.args.value refl)
 
 pub returns-clause-names : goal.returns-clause-names
 returns-clause-names g c = rw (returns-clause-added g c) (Updates-vacant _ _ c.args.value (returns-clause-vacant g c))
