@@ -1,0 +1,4 @@
+pub mod Counting
+pub mod Finding
+mod FreeLists
+mod Soundness
