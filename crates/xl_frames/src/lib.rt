@@ -1,0 +1,37 @@
+//! What members say to each other, as bytes: frames are split off, read, written, and cut out of a stream.
+//!
+//! It stands on xl_base, on xl_wire, which has the validation, and on the kit's `byteorder`; only opening a feed takes
+//! memory. Its one contract: what is read is exactly what is spelled, each value has one spelling, and no spelling begins another.
+#![tactic(auto)]
+
+mod body;
+mod decoding;
+mod encoding;
+mod feed;
+mod fields;
+mod frame;
+mod ids;
+mod kinds;
+mod laws;
+mod names;
+mod proposal;
+mod putting;
+mod raw;
+mod refusal;
+mod splitting;
+
+pub use body::{Body, read_body};
+pub use decoding::{Decoded, decode};
+pub use encoding::encode;
+pub use feed::{Feed, Next};
+pub use frame::Frame;
+pub use ids::Ids;
+pub use laws::{cut_anywhere, one_spelling};
+pub use names::{SetId, TxId};
+pub use proposal::Proposal;
+pub use raw::Raw;
+pub use refusal::WireRefusal;
+pub use splitting::{Parted, split};
+
+#[cfg(test)]
+mod tests;
