@@ -21,8 +21,8 @@ use Rattle.xl_world.proofs.Lists.{world_agrees}
 use Rattle.xl_world.proofs.Reporters.{IsReporter, world_reporters}
 use Rattle.xl_replay.specs.Texts.{forged_line, agreement_line, end_lines, bad_line}
 use Rattle.xl_replay.specs.Replays.{Replaying, world_of, ending, verdict_of, at_first, limits, rules, report_of}
-use Rattle.xl_replay.specs.Headlines.{Spoken, spoken_line, short_text, short_pairs, IsPair, state_from, names_of, IsReport, AddsReport}
-use Rattle.xl_replay.proofs.Shorts.{short_lines-pairs, pair_enough}
+use Rattle.xl_replay.specs.Headlines.{Spoken, spoken_line, short_text, IsPair, state_from, names_of, IsReport, AddsReport}
+use Rattle.xl_replay.proofs.Shorts.{short_pairs, short_lines-pairs, pair_enough}
 use Rattle.xl_replay.proofs.Telling.{IsReported, IsSound, Ends, told_from_ends}
 
 -- two reports of a world in which no frame was forged and whose pair isn't told to be short

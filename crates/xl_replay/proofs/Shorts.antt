@@ -1,6 +1,6 @@
 -- The `short` lines are the pairs that are short, and a pair that isn't among them is enough.
 use Rattle.std.proofs.Common.{◌≡◌, ℕ, zero, suc, ◌+◌, ◌-◌, ◌<◌, ◌≤◌, List, [], ◌∷◌, ◌++◌, refl, arith, ap, sym, ◌∙◌, Option, Some, None, subst, inl, inr}
-use Rattle.std.specs.Prelude.{nat_lt, All}
+use Rattle.std.specs.Prelude.{nat_lt, All, if◌then◌else◌}
 use Rattle.std.specs.List.{flat_map}
 use Rattle.std.proofs.lemmas.Bool.{cond_both, ltb-true, cases_Bool, cases_lt, cond-false}
 use Rattle.std.proofs.lemmas.Grind.{flat_map-append}
@@ -10,7 +10,25 @@ use Rattle.xl_lists.specs.Lists.{TrustedList}
 use Rattle.xl_lists.specs.Quorums.{bound_of, Enough}
 use Rattle.xl_world.specs.World.{World, up_from, all_numbers, list_in}
 use Rattle.xl_replay.specs.Texts.{short_line, short_of, short_with, shorts_of, short_lines}
-use Rattle.xl_replay.specs.Headlines.{Short, short_text, short_pair, short_pair_with, short_pairs_of, short_pairs, IsPair}
+use Rattle.xl_replay.specs.Headlines.{Short, short_text, IsPair}
+
+-- THE PAIRS THAT ARE SHORT
+
+abbrev pub short_pair : List ℕ → ℕ → TrustedList → ℕ → TrustedList → List Short
+short_pair liars i a j b =
+    if nat_lt (bound_of liars a b) (a.quorum + b.quorum) then [] else record { first = i; second = j; sum = a.quorum + b.quorum; bound = bound_of liars a b } ∷ []
+
+abbrev pub short_pair_with : List ℕ → ℕ → TrustedList → ℕ → Option TrustedList → List Short
+short_pair_with liars i a j None = []
+short_pair_with liars i a j (Some b) = short_pair liars i a j b
+
+abbrev pub short_pairs_of : World → ℕ → Option TrustedList → List Short
+short_pairs_of w i None = []
+short_pairs_of w i (Some a) = flat_map (λ j. short_pair_with w.liars i a j (list_in w j)) (up_from i (65 - i))
+
+-- the pairs of nodes that are short, by rising numbers
+abbrev pub short_pairs : World → List Short
+short_pairs w = flat_map (λ i. short_pairs_of w i (list_in w i)) all_numbers
 
 -- TEXT
 

@@ -1,12 +1,9 @@
 -- What a report says of forks: the headline, in the words of its lines.
-use Rattle.std.specs.Prelude.{◌≡◌, ℕ, ◌+◌, ◌-◌, nat_lt, List, [], ◌∷◌, ◌++◌, map, All, Contains, if◌then◌else◌}
-use Rattle.std.specs.Prelude.{Some, None}
+use Rattle.std.specs.Prelude.{◌≡◌, ℕ, ◌-◌, List, [], ◌∷◌, ◌++◌, map, All, Contains}
 use Rattle.std.specs.declared.option.Option.{Option}
 use Rattle.std.specs.List.{flat_map}
 use Rattle.std.specs.Io.KnownBytes.{append_known}
 use Rattle.xl_base.specs.declared.ids.LedgerId.{LedgerId}
-use Rattle.xl_lists.specs.Lists.{TrustedList}
-use Rattle.xl_lists.specs.Quorums.{bound_of}
 use Rattle.xl_sched.specs.declared.named.Named.{Named}
 use Rattle.xl_lines.specs.declared.limits.Limits.{Limits}
 use Rattle.xl_lines.specs.Lines.{Line as TextLine, lines_of}
@@ -14,7 +11,6 @@ use Rattle.xl_lines.specs.Rules.{Step, goes_on, refuses}
 use Rattle.xl_lines.specs.Told.{step_at}
 use Rattle.xl_world.specs.declared.outcome.Outcome.{Outcome}
 use Rattle.xl_world.specs.declared.outcome.Outcome.TheVariants.{Full}
-use Rattle.xl_world.specs.World.{World, up_from, all_numbers, list_in}
 use Rattle.xl_replay.specs.Replays.{Replaying, rules, limits, at_first}
 use Rattle.xl_replay.specs.Texts.{outcome_line, short_line, forged_line}
 
@@ -40,22 +36,6 @@ pub record Short : Type 0 where
 
 abbrev pub short_text : Short → List ℕ
 short_text s = short_line s.first s.second s.sum s.bound
-
-abbrev pub short_pair : List ℕ → ℕ → TrustedList → ℕ → TrustedList → List Short
-short_pair liars i a j b =
-    if nat_lt (bound_of liars a b) (a.quorum + b.quorum) then [] else record { first = i; second = j; sum = a.quorum + b.quorum; bound = bound_of liars a b } ∷ []
-
-abbrev pub short_pair_with : List ℕ → ℕ → TrustedList → ℕ → Option TrustedList → List Short
-short_pair_with liars i a j None = []
-short_pair_with liars i a j (Some b) = short_pair liars i a j b
-
-abbrev pub short_pairs_of : World → ℕ → Option TrustedList → List Short
-short_pairs_of w i None = []
-short_pairs_of w i (Some a) = flat_map (λ j. short_pair_with w.liars i a j (list_in w j)) (up_from i (65 - i))
-
--- the pairs of nodes that are short, by rising numbers
-abbrev pub short_pairs : World → List Short
-short_pairs w = flat_map (λ i. short_pairs_of w i (list_in w i)) all_numbers
 
 -- the pair of these two numbers
 abbrev pub IsPair : ℕ → ℕ → Short → Type 0

@@ -28,8 +28,7 @@ pub fn replay<I: Source, O: Sink>(alloc: Global, input: &mut I, output: &mut O) 
     ensures refused { result ≡ Status.InputRefused → IfSome (I.left input.old) (λ bytes.
         TellsAll (O.held output.old) (O.held output.new) Verdict.Refused (report_of bytes)) }
     // Unless a line is refused, the whole text that was written is a report in which, where it says `forged 0`, no two `full` lines of
-    // a pair with no `short` line share a sequence and stand for different ids,
-    // by the names that the schedule declares.
+    // a pair with no `short` line share a sequence and stand for different ids, by the names that the schedule declares.
     ensures headline { IsTold result → result ≢ Status.InputRefused → IfSome (I.left input.old) (λ bytes.
         AddsReport (names_of bytes) (O.held output.old) (O.held output.new)) }
     // Unless a line is refused, the input was read to its end.
