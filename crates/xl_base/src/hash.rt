@@ -10,7 +10,8 @@ pub fn half512(bytes: &[u8]) -> [u8; 32]
     first_half(&Sha512::digest(bytes))
 }
 
-fn first_half(digest: &[u8; 64]) -> [u8; 32]
+/// The first 32 bytes of a SHA-512.
+pub(crate) fn first_half(digest: &[u8; 64]) -> [u8; 32]
     ensures { result ≡ take 32 digest.now }
 {
     let mut half = [0; 32];

@@ -1,0 +1,14 @@
+pub mod Codes
+pub mod Heads
+pub mod Kinds
+pub mod Raws
+pub mod Sets
+pub mod SetsRead
+pub mod Storing
+pub mod Bodies
+pub mod Frames
+pub mod Writing
+pub mod Feeding
+pub mod Offers
+pub mod Cuts
+pub mod Streams

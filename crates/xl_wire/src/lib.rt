@@ -1,8 +1,36 @@
-//! What members say to each other. So far that is the validation alone; the frames that carry it come later.
+//! What members say to each other, as bytes: frames are split off, read, written, and cut out of a stream.
 //!
-//! It stands on xl_base.
+//! It stands on xl_base and on the kit's `byteorder`; only opening a feed takes memory. Its one contract: what is read is exactly what is spelled, each value has one spelling, and no spelling begins another.
 #![tactic(auto)]
 
+mod body;
+mod decoding;
+mod encoding;
+mod feed;
+mod fields;
+mod frame;
+mod ids;
+mod kinds;
+mod laws;
+mod proposal;
+mod putting;
+mod raw;
+mod refusal;
+mod splitting;
 mod validation;
 
+pub use body::{Body, read_body};
+pub use decoding::{Decoded, decode};
+pub use encoding::encode;
+pub use feed::{Feed, Next};
+pub use frame::Frame;
+pub use ids::Ids;
+pub use laws::{cut_anywhere, one_spelling};
+pub use proposal::Proposal;
+pub use raw::Raw;
+pub use refusal::WireRefusal;
+pub use splitting::{Parted, split};
 pub use validation::Validation;
+
+#[cfg(test)]
+mod tests;

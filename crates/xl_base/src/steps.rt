@@ -1,0 +1,39 @@
+ghost use Rattle.std.specs.Prelude.{◌≡◌, ◌+◌, ◌-◌, ◌^◌, min};
+
+use std::marker::Model;
+
+/// A count of steps, which stops at the greatest `u64`.
+#[derive(Debug)]
+pub struct Steps {
+    taken: u64,
+}
+
+impl Model for Steps {
+    ghost use Rattle.std.specs.Prelude.{ℕ};
+
+    ghost Value = { ℕ };
+
+    ghost view = { λ a. a.taken };
+}
+
+impl Steps {
+    /// No steps.
+    pub fn new() -> Self
+        ensures { result ≡ 0 }
+    {
+        Steps { taken: 0 }
+    }
+
+    /// One step more.
+    pub fn tick(&mut self)
+        ensures { self.new ≡ min (self.old + 1) (2 ^ 64 - 1) }
+    {
+        self.taken = self.taken.saturating_add(1);
+    }
+
+    pub fn taken(&self) -> u64
+        ensures { result ≡ self.now }
+    {
+        self.taken
+    }
+}

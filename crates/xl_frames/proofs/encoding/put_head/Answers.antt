@@ -1,6 +1,0 @@
-use Rattle.std.proofs.Common.{arith}
-use Rattle.xl_frames.proofs.PutLaws.{puts_then}
-use Rattle.xl_frames.proofs.encoding.put_head.Goals as goal
-
-pub returns : goal.returns
-returns c = puts_then 0 4 _ _ _ _ _ c.put.ensures c.put_u16.ensures (omega arith)

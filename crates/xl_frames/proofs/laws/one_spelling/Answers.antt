@@ -1,6 +1,0 @@
-use Rattle.xl_frames.proofs.RawLaws.{one_raw}
-use Rattle.xl_frames.proofs.FrameLaws.{one_frame}
-use Rattle.xl_frames.proofs.laws.one_spelling.Goals as goal
-
-pub returns : goal.returns
-returns c = record { frames = one_frame; raws = one_raw }

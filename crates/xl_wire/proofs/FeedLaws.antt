@@ -1,0 +1,43 @@
+-- What is held, after a piece and after a frame.
+use Rattle.std.proofs.Common.{◌≡◌, ℕ, ◌+◌, ◌-◌, ◌≤◌, Bool, List, length, take, drop, sym, ap, ◌∙◌, arith}
+use Rattle.std.specs.List.{copy_within}
+use Rattle.std.proofs.lemmas.List.{take_at, take-take, drop-take, drop-drop, length-take, length-drop}
+use Rattle.xl_wire.specs.Feeding.{Fed, held_in, IsFed, offer_from, offer_of, after_split, after_next}
+use Rattle.xl_wire.specs.Feeding.Offer.{Frame}
+use Rattle.xl_wire.specs.Heads.{Split, split_of}
+use Rattle.xl_wire.specs.Heads.Split.{Whole}
+use Rattle.xl_wire.specs.Kinds.{span}
+use Rattle.xl_wire.specs.Raws.{RawFrame, SpellsRaw}
+use Rattle.xl_wire.proofs.RawLaws.{length-raw_bytes}
+
+-- the frame that is split off is there
+pub frame_there : (bytes : List ℕ) (f : RawFrame) → SpellsRaw f (take (span f.body) bytes) → span f.body ≤ length bytes
+frame_there bytes f s = omega (arith, length-take (span f.body) bytes, ap length s.spelling, length-raw_bytes f s.frame.tag)
+
+pub moved : (xs mid : List ℕ) (start end : ℕ) → start ≤ end → end ≤ length xs → mid ≡ copy_within xs start end 0 → take (end - start) mid ≡ held_in xs start end
+moved xs mid start end ordered within e =
+    ap (take (end - start)) e ∙ take_at (held_in xs start end) (drop (0 + (end - start)) xs) (end - start) (omega (arith, length-take (end - start) (drop start xs), length-drop start xs))
+
+-- what is held without its first bytes
+held_after : (xs : List ℕ) (start end n : ℕ) → start + n ≤ end → held_in xs (start + n) end ≡ drop n (held_in xs start end)
+held_after xs start end n inside =
+    let parts : end - start ≡ n + (end - (start + n)) = omega arith in
+    sym (ap (λ (j : ℕ). drop n (take j (drop start xs))) parts ∙ drop-take n (end - (start + n)) (drop start xs) ∙ ap (take (end - (start + n))) (drop-drop n start xs))
+
+abbrev pub fed_of : List ℕ → Bool → Fed
+fed_of held refused = record { held = held; refused = refused }
+
+-- a frame that is handed out
+pub frame_handed : (xs : List ℕ) (start end n : ℕ) (refused : Bool) (raw : RawFrame) (fed : Fed) → fed_of (held_in xs start end) refused ≡ fed → IsFed xs start end → split_of (held_in xs start end) ≡ Whole raw → n ≡ span raw.body → n ≤ length (held_in xs start end)
+    → (fed_of (held_in xs (start + n) end) refused ≡ after_next fed) × (Frame (take (start + n - start) (drop start xs)) ≡ offer_of fed)
+frame_handed xs start end n refused raw fed view ok split long there =
+    let held = held_in xs start end in
+    let inside : start + n ≤ end = omega (arith, there, ok.ordered, length-take (end - start) (drop start xs)) in
+    let left : held_in xs (start + n) end ≡ drop (span raw.body) held = held_after xs start end n inside ∙ ap (λ (k : ℕ). drop k held) long in
+    let after : after_next (fed_of held refused) ≡ fed_of (drop (span raw.body) held) refused = ap (λ (s : Split). after_split s (fed_of held refused)) split in
+    let offer : offer_of (fed_of held refused) ≡ Frame (take (span raw.body) held) = ap (λ (s : Split). offer_from s held) split in
+    let count : start + n - start ≡ span raw.body = omega (arith, long) in
+    let front : take (start + n - start) (drop start xs) ≡ take (span raw.body) held = ap (λ (k : ℕ). take k (drop start xs)) count ∙ sym (take-take (span raw.body) (end - start) (drop start xs) (omega (arith, inside, long))) in (
+      ap (λ (x : List ℕ). fed_of x refused) left ∙ sym after ∙ ap after_next view,
+      ap Frame front ∙ sym offer ∙ ap offer_of view,
+    )

@@ -1,0 +1,77 @@
+-- What bytes begin with: a refusal, as soon as they show it, or a frame, or less than one.
+use Rattle.std.specs.Prelude.{ℕ, zero, suc, ◌+◌, ◌-◌, ◌==◌, ◌&&◌, not, nat_lt, Bool, List, [], ◌∷◌, length, take, drop, slice_index, Option, Some, None, Result, Ok, Err, if◌then◌else◌}
+use Rattle.std.specs.Option.{option_or}
+use Rattle.byteorder.specs.Endian.{big_number}
+use Rattle.xl_wire.specs.declared.refusal.WireRefusal.{WireRefusal}
+use Rattle.xl_wire.specs.declared.refusal.WireRefusal.TheVariants.{Magic, Version, Kind, Length}
+use Rattle.xl_wire.specs.declared.splitting.Parted.{Parted}
+use Rattle.xl_wire.specs.declared.splitting.Parted.TheVariants as parted
+use Rattle.xl_wire.specs.Kinds.{is_kind, can_have}
+use Rattle.xl_wire.specs.Raws.{RawFrame, raw_frame}
+
+-- a cause, where it holds
+abbrev pub refused_if : Bool → WireRefusal → Option WireRefusal
+refused_if holds refusal = if holds then Some refusal else None
+
+-- the first cause that holds
+abbrev pub first_of : List (Option WireRefusal) → Option WireRefusal
+first_of [] = None
+first_of (cause ∷ causes) = option_or cause (first_of causes)
+
+-- a value, where nothing is refused
+abbrev pub unless_refused : {X : Type 0} → Option WireRefusal → X → Result X WireRefusal
+unless_refused (Some refusal) x = Err refusal
+unless_refused None x = Ok x
+
+-- the byte at this place is there, and isn't the wanted one
+abbrev pub differs : List ℕ → ℕ → ℕ → Bool
+differs bytes place wanted = nat_lt place (length bytes) && not (slice_index bytes place == wanted)
+
+abbrev pub kind_in : List ℕ → ℕ
+kind_in bytes = slice_index bytes 3
+
+abbrev pub length_in : List ℕ → ℕ
+length_in bytes = big_number 2 (drop 4 bytes)
+
+-- the first cause that the bytes show
+abbrev pub head_refusal : List ℕ → Option WireRefusal
+head_refusal bytes = first_of (
+    refused_if (differs bytes 0 0x58) (Magic 0)
+    ∷ refused_if (differs bytes 1 0x4C) (Magic 1)
+    ∷ refused_if (differs bytes 2 1) (Version (slice_index bytes 2))
+    ∷ refused_if (nat_lt 3 (length bytes) && not (is_kind (kind_in bytes))) (Kind (kind_in bytes))
+    ∷ refused_if (nat_lt 5 (length bytes) && not (can_have (kind_in bytes) (length_in bytes))) (Length (kind_in bytes) (length_in bytes))
+    ∷ [])
+
+-- how many bytes lack: of the length, and once that is there, of the frame
+abbrev pub lacking : List ℕ → ℕ
+lacking bytes = if nat_lt (length bytes) 6 then 6 - length bytes else 46 + length_in bytes - length bytes
+
+-- what the fields hold
+abbrev pub raw_in : List ℕ → RawFrame
+raw_in bytes = record {
+  kind = kind_in bytes;
+  from = big_number 4 (drop 6 bytes);
+  to = big_number 4 (drop 10 bytes);
+  body = take (length_in bytes) (drop 14 bytes);
+  tag = take 32 (drop (14 + length_in bytes) bytes);
+}
+
+-- the frame that the bytes begin with, how many bytes it lacks, or why there is none
+pub data Split : Type 0 where
+  Whole : RawFrame → Split
+  Need : ℕ → Split
+  Refused : WireRefusal → Split
+
+abbrev pub split_unless : Option WireRefusal → ℕ → RawFrame → Split
+split_unless (Some refusal) lack raw = Refused refusal
+split_unless None (suc lack) raw = Need (suc lack)
+split_unless None zero raw = Whole raw
+
+abbrev pub split_of : List ℕ → Split
+split_of bytes = split_unless (head_refusal bytes) (lacking bytes) (raw_in bytes)
+
+abbrev pub parts : Parted → Split
+parts (parted.Whole raw) = Whole (raw_frame raw)
+parts (parted.Need lack) = Need lack
+parts (parted.Refused refusal) = Refused refusal

@@ -1,0 +1,18 @@
+-- What a feed hands out, and how it is left.
+use Rattle.std.specs.Borrow.{MutBor, Fml}
+use Rattle.std.specs.Io.BufRead.{Rests}
+use Rattle.std.specs.Prelude.{◌≡◌}
+use Rattle.xl_wire.specs.declared.feed.Next.{Next}
+use Rattle.xl_wire.specs.declared.feed.Next.TheVariants as next
+use Rattle.xl_wire.specs.contracts.feed.Feed.{the_row}
+use Rattle.xl_wire.specs.Feeding.{Fed, Offer, after_next}
+use Rattle.xl_wire.specs.Feeding.Offer.{Frame, Need, Refused}
+
+abbrev pub offer : Next → Offer
+offer (next.Frame bytes) = Frame bytes.now
+offer (next.Need lack) = Need lack
+offer (next.Refused refusal) = Refused refusal
+
+-- once the frame is no longer used, the feed is as it is after this call
+abbrev pub GoesOn : MutBor Fed → Fml
+GoesOn feed = Rests the_row feed (λ new. new ≡ after_next feed.now)

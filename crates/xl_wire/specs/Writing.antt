@@ -1,0 +1,21 @@
+-- Writing: bytes that are put at a place, and how long a frame is.
+use Rattle.std.specs.Prelude.{◌≡◌, ℕ, ◌+◌, ◌*◌, ◌≤◌, List, ◌++◌, length, take, drop}
+use Rattle.xl_wire.specs.declared.body.Body.{Body}
+use Rattle.xl_wire.specs.declared.body.Body.TheVariants as bodies
+use Rattle.xl_wire.specs.declared.frame.Frame.{Frame}
+
+-- the bytes stand at this place in the new list, which is the old one elsewhere
+pub record Puts (at : ℕ) (bytes old new : List ℕ) : Type 0 where
+  pub fits : at + length bytes ≤ length old
+  pub is : new ≡ take at old ++ bytes ++ drop (at + length bytes) old
+
+-- how many bytes a body has, by its kind
+abbrev pub body_length : Body → ℕ
+body_length (bodies.Proposal proposal) = 76
+body_length (bodies.Validation validation) = 41
+body_length (bodies.Header header) = 118
+body_length (bodies.TxSet ids) = 2 + 32 * length ids
+body_length (bodies.Tx id) = 32
+
+abbrev pub frame_length : Frame → ℕ
+frame_length f = 46 + body_length f.body

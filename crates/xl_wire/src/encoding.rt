@@ -1,0 +1,121 @@
+ghost use Rattle.std.specs.Prelude.{◌≡◌, ◌^◌, ◌+◌, ◌*◌, ◌<◌, ◌≤◌, [], ◌∷◌, ◌++◌, length, take, drop};
+ghost use Rattle.byteorder.specs.Endian.{big_bytes};
+ghost use Rattle.xl_wire.specs.Bodies.{IsBody, IsProposal, IsValidation, IsTxSet, body_bytes, flags_of, kind_of, proposal_bytes, validation_bytes, set_bytes};
+ghost use Rattle.xl_wire.specs.Frames.{Spells};
+ghost use Rattle.xl_wire.specs.Writing.{Puts, body_length, frame_length};
+
+use crate::kinds::{HEADER, PROPOSAL, TX, TX_SET, VALIDATION};
+use crate::putting::{put, put_field, put_u16, put_u32};
+use crate::{Body, Frame, Ids, Proposal, Validation};
+
+/// Writes the frame's one spelling at the front of the room, answers its length, and leaves the rest.
+pub fn encode(frame: &Frame<'_>, room: &mut [u8]) -> usize
+    requires { frame_length frame.now ≤ length room.old }
+    ensures long { result ≡ frame_length frame.now }
+    ensures spelled { Spells frame.now (take result room.new) }
+    ensures rest { drop result room.new ≡ drop result room.old }
+{
+    let length = body_length(&frame.body);
+    put_head(room, kind_of(&frame.body), length as u16);
+    put_u32(room, 6, frame.from);
+    put_u32(room, 10, frame.to);
+    put_body(room, &frame.body);
+    put_field(room, 14 + length, &frame.tag);
+    46 + length
+}
+
+fn kind_of(body: &Body<'_>) -> u8
+    ensures { result ≡ kind_of body.now }
+{
+    match body {
+        Body::Proposal(_) => PROPOSAL,
+        Body::Validation(_) => VALIDATION,
+        Body::Header(_) => HEADER,
+        Body::TxSet(_) => TX_SET,
+        Body::Tx(_) => TX,
+    }
+}
+
+fn body_length(body: &Body<'_>) -> usize
+    ensures value { result ≡ body_length body.now }
+    ensures small { result ≤ 8194 }
+{
+    match body {
+        Body::Proposal(_) => 76,
+        Body::Validation(_) => 41,
+        Body::Header(_) => 118,
+        Body::TxSet(ids) => 2 + 32 * ids.len(),
+        Body::Tx(_) => 32,
+    }
+}
+
+/// The mark, the version, the kind, and the body's length.
+fn put_head(room: &mut [u8], kind: u8, body_length: u16)
+    requires { 6 ≤ length room.old }
+    ensures { Puts 0 ((0x58 ∷ 0x4C ∷ 1 ∷ kind ∷ []) ++ big_bytes 2 body_length) room.old room.new }
+{
+    put(room, 0, &[0x58, 0x4C, 1, kind]);
+    put_u16(room, 4, body_length);
+}
+
+fn put_body(room: &mut [u8], body: &Body<'_>)
+    requires { 14 + body_length body.now ≤ length room.old }
+    ensures puts { Puts 14 (body_bytes body.now) room.old room.new }
+    ensures fits { IsBody body.now }
+{
+    match body {
+        Body::Proposal(proposal) => put_proposal(room, proposal),
+        Body::Validation(validation) => put_validation(room, validation),
+        Body::Header(header) => put_header(room, header),
+        Body::TxSet(ids) => put_set(room, ids),
+        Body::Tx(id) => put_field(room, 14, &id.0),
+    }
+}
+
+fn put_proposal(room: &mut [u8], proposal: &Proposal)
+    requires { 14 + 76 ≤ length room.old }
+    ensures puts { Puts 14 (proposal_bytes proposal.now) room.old room.new }
+    ensures fits { IsProposal proposal.now }
+{
+    put_field(room, 14, &proposal.prev.0);
+    put_field(room, 46, &proposal.set.0);
+    put_u32(room, 78, proposal.pseq);
+    put_u32(room, 82, proposal.close);
+    put_u32(room, 86, proposal.time);
+}
+
+fn put_validation(room: &mut [u8], validation: &Validation)
+    requires { 14 + 41 ≤ length room.old }
+    ensures puts { Puts 14 (validation_bytes validation.now) room.old room.new }
+    ensures fits { IsValidation validation.now }
+{
+    put_field(room, 14, &validation.id.0);
+    put_u32(room, 46, validation.seq);
+    put_u32(room, 50, validation.signed);
+    put(room, 54, &[flags_of(validation.full)]);
+}
+
+fn flags_of(full: bool) -> u8
+    ensures { result ≡ flags_of full }
+{
+    if full { 1 } else { 0 }
+}
+
+fn put_header(room: &mut [u8], header: &[u8; 118])
+    requires { 14 + 118 ≤ length room.old }
+    ensures puts { Puts 14 header.now room.old room.new }
+    ensures fits { length header.now ≡ 118 }
+{
+    put(room, 14, header);
+}
+
+fn put_set(room: &mut [u8], ids: &Ids<'_>)
+    requires { 14 + (2 + 32 * length ids.now) ≤ length room.old }
+    ensures puts { Puts 14 (set_bytes ids.now) room.old room.new }
+    ensures fits { IsTxSet ids.now }
+{
+    put_u16(room, 14, ids.len() as u16);
+    for i in 0..ids.len() {
+        put_field(room, 16 + 32 * i, &ids.get(i).0);
+    }
+}

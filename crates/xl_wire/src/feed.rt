@@ -1,0 +1,125 @@
+ghost use Rattle.std.specs.Prelude.{◌≡◌, ◌+◌, ◌-◌, ◌≤◌, ◌++◌, [], false, length, take, drop, IfOk};
+ghost use Rattle.xl_wire.specs.Cuts.{IsCut};
+ghost use Rattle.xl_wire.specs.Feeding.{held_in, taken_of, after_push, offer_of};
+
+use crate::{Parted, WireRefusal, split};
+use std::alloc::Global;
+use std::marker::Model;
+use xl_base::OutOfMemory;
+
+/// The greatest length of a frame.
+const ROOM: usize = 8240;
+
+/// What a feed hands out.
+#[derive(Clone, Copy, Debug)]
+pub enum Next<'a> {
+    /// The bytes of the next whole frame.
+    Frame(&'a [u8]),
+    /// Less than a frame is held: so many bytes lack, first of the length and then of the frame.
+    Need(usize),
+    /// What is held begins no frame: Magic, Version, Kind or Length. No more is taken.
+    Refused(WireRefusal),
+}
+
+/// Cuts a stream that comes in pieces into frames. It holds at most the bytes of the greatest frame.
+#[derive(Debug, Drop)]
+pub struct Feed {
+    bytes: Vec<u8>,
+    start: usize,
+    end: usize,
+    refused: bool,
+}
+
+impl Model for Feed {
+    ghost use Rattle.xl_wire.specs.Feeding.{Fed, held_in, IsFed};
+
+    ghost Value = { Fed };
+
+    ghost view = { λ f. record { held = held_in f.bytes.items f.start f.end; refused = f.refused } };
+
+    ghost invariant = { λ f. IsFed f.bytes.items f.start f.end };
+}
+
+impl Feed {
+    ghost use Rattle.std.specs.Borrow.{sem};
+    ghost use Rattle.xl_wire.specs.Offers.{offer, GoesOn};
+
+    /// A feed that holds nothing. No later call takes memory.
+    pub fn open(alloc: Global) -> Result<Feed, OutOfMemory>
+        ensures { IfOk result (λ feed. feed ≡ record { held = []; refused = false }) }
+    {
+        Ok(Feed {
+            bytes: vec![in alloc; 0; ROOM]?,
+            start: 0,
+            end: 0,
+            refused: false,
+        })
+    }
+
+    /// Takes as many bytes of the piece as there is room for, and answers how many. After a refusal it takes none.
+    pub fn push(&mut self, piece: &[u8]) -> usize
+        ensures taken { result ≡ taken_of self.old piece.now }
+        ensures held { self.new ≡ after_push self.old piece.now }
+    {
+        if self.refused {
+            return 0;
+        }
+        let held = self.end - self.start;
+        let count = piece.len().min(ROOM - held);
+        add(&mut self.bytes, self.start, self.end, &piece[..count]);
+        self.start = 0;
+        self.end = held + count;
+        count
+    }
+
+    /// Hands out the next frame, once.
+    ///
+    /// After a refusal it answers the same.
+    pub fn next(&mut self) -> Next<'_>
+        ensures answer { offer result ≡ offer_of self.old }
+        ensures* after { sem 𝓛 (GoesOn self.entry) }
+    {
+        let start = self.start;
+        match first_cut(&self.bytes[start..self.end]) {
+            Cut::Frame(length) => {
+                self.start = start + length;
+                Next::Frame(&self.bytes[start..start + length])
+            }
+            Cut::Need(lack) => Next::Need(lack),
+            Cut::Refused(refusal) => {
+                self.refused = true;
+                Next::Refused(refusal)
+            }
+        }
+    }
+}
+
+/// Where bytes are cut.
+enum Cut {
+    /// After so many bytes, which are a frame.
+    Frame(usize),
+    Need(usize),
+    Refused(WireRefusal),
+}
+
+fn first_cut(bytes: &[u8]) -> Cut
+    ensures { IsCut result bytes.now }
+{
+    match split(bytes) {
+        Parted::Whole(raw) => Cut::Frame(raw.length),
+        Parted::Need(lack) => Cut::Need(lack),
+        Parted::Refused(refusal) => Cut::Refused(refusal),
+    }
+}
+
+/// Moves what lies between two places to the front, and the piece behind it.
+fn add(bytes: &mut [u8], start: usize, end: usize, piece: &[u8])
+    requires ordered { start ≤ end }
+    requires within { end ≤ length bytes.old }
+    requires fits { end - start + length piece.now ≤ length bytes.old }
+    ensures { take (end - start + length piece.now) bytes.new ≡ held_in bytes.old start end ++ piece.now }
+{
+    let held = end - start;
+    bytes.copy_within(start..end, 0);
+    bytes[held..held + piece.len()].copy_from_slice(piece);
+}
