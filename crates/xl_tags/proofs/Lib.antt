@@ -1,0 +1,4 @@
+pub mod PairKeyLaws
+pub mod RingLaws
+pub mod OpeningLaws
+pub mod SealingLaws

@@ -1,0 +1,8 @@
+use Rattle.std.proofs.Common.{ap, ◌∙◌}
+use Rattle.xl_wire.specs.Raws.{raw_frame}
+use Rattle.xl_tags.specs.Opening.{refusal_of}
+use Rattle.xl_tags.proofs.SealingLaws.{one_frame}
+use Rattle.xl_tags.proofs.opening.open.Goals as goal
+
+pub returns : goal.returns
+returns c = λ f spells. c.open_raw.ensures ∙ ap (refusal_of c.args.keys.now c.args.list.now.members) (one_frame (raw_frame c.whole.result) f c.args.frame.now c.whole.ensures spells)

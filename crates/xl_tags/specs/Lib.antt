@@ -1,0 +1,7 @@
+pub mod Macs
+pub mod PairKeys
+pub mod Rings
+pub mod Sealing
+pub mod Opening
+pub mod Codes
+pub mod Prepared

@@ -1,0 +1,127 @@
+ghost use Rattle.std.specs.Prelude.{◌≡◌, ◌≢◌, ℕ, None, Some, IsTrue, IsSome, is_some, ◌↔◌, option_copied, option_map};
+ghost use Rattle.xl_tags.specs.Macs.{mac};
+ghost use Rattle.xl_tags.specs.Rings.{key_of, with_key, no_keys, schedule_key, schedule_ring, IsRing};
+
+use crate::pair_key;
+use crate::prepared::Prepared;
+use std::array;
+use std::marker::Model;
+use xl_base::{GREATEST_NODE_NO, NodeNo};
+
+const MEMBERS: usize = 64;
+
+/// The keys that a member shares with others, one with each. No call takes memory.
+#[derive(Drop)]
+pub struct Keys {
+    me: NodeNo,
+    /// In the order of the members, from 1 on.
+    prepared: [Option<Prepared>; MEMBERS],
+}
+
+impl Model for Keys {
+    ghost use Rattle.xl_tags.specs.Rings.{Ring, IsRing};
+
+    ghost Value = { Ring };
+
+    ghost view = { λ k. record { me = k.me; keys = k.prepared } };
+
+    ghost invariant = { λ k. IsRing (record { me = k.me; keys = k.prepared }) };
+}
+
+impl Keys {
+    /// No keys yet.
+    pub fn new(me: NodeNo) -> Keys
+        ensures ring { result ≡ no_keys me }
+        ensures none { (member : ℕ) → key_of result member ≡ None }
+    {
+        Keys {
+            me,
+            prepared: array::repeat(None),
+        }
+    }
+
+    /// The keys that a schedule gives its member, one with each of the 63 others.
+    pub fn of_schedule(me: NodeNo) -> Keys
+        ensures ring { result ≡ schedule_ring me }
+        ensures keys { (member : ℕ) → key_of result member ≡ schedule_key me member }
+    {
+        let mut keys = Keys::new(me);
+        for number in 1..GREATEST_NODE_NO + 1 {
+            let member = NodeNo::new(number).unwrap();
+            if member != me {
+                keys.put(member, pair_key(me, member));
+            }
+        }
+        keys
+    }
+
+    /// Whose keys they are.
+    pub fn me(&self) -> NodeNo
+        ensures value { result ≡ self.now.me }
+        ensures ring { IsRing self.now }
+    {
+        self.me
+    }
+
+    /// Keeps the key of another member, in place of the one before.
+    pub fn put(&mut self, member: NodeNo, key: [u8; 32])
+        requires other { member ≢ self.old.me }
+        ensures keys { self.new ≡ with_key self.old member key }
+        ensures kept { key_of self.new member ≡ Some key }
+        ensures others { (other : ℕ) → other ≢ member → key_of self.new other ≡ key_of self.old other }
+    {
+        self.prepared[member.get() as usize - 1] = Some(Prepared::of(key));
+    }
+
+    /// Whether the member has a key.
+    pub fn has(&self, member: NodeNo) -> bool
+        ensures { IsTrue result ↔ IsSome (key_of self.now member) }
+    {
+        self.knows(member.get())
+    }
+
+    /// The member's key.
+    pub fn get(&self, member: NodeNo) -> Option<[u8; 32]>
+        ensures { result ≡ key_of self.now member }
+    {
+        Some(self.find(member.get())?.key())
+    }
+
+    /// Equal keys.
+    pub fn copy(&self) -> Keys
+        ensures { result ≡ self.now }
+    {
+        match self.prepared.clone() {
+            Ok(prepared) => Keys {
+                me: self.me,
+                prepared,
+            },
+            Err(_) => unreachable!(),
+        }
+    }
+
+    /// Whether the number has a key.
+    pub(crate) fn knows(&self, number: u32) -> bool
+        ensures { result ≡ is_some (key_of self.now number) }
+    {
+        self.find(number).is_some()
+    }
+
+    /// The tag of the bytes under the key of a number.
+    pub(crate) fn tag(&self, number: u32, bytes: &[u8]) -> [u8; 32]
+        requires { IsSome (key_of self.now number) }
+        ensures { option_map (λ key. mac key bytes.now) (key_of self.now number) ≡ Some result }
+    {
+        match self.find(number) {
+            Some(key) => key.tag(bytes),
+            None => unreachable!(),
+        }
+    }
+
+    fn find(&self, number: u32) -> Option<&Prepared>
+        ensures { option_copied result ≡ key_of self.now number }
+    {
+        let place = number.checked_sub(1)?;
+        self.prepared.get(place as usize)?.as_ref()
+    }
+}

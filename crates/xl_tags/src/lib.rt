@@ -1,0 +1,20 @@
+//! Tags: what a member signs its frames with, under a key that it shares with one other member.
+//!
+//! It stands on xl_base, xl_wire, xl_lists and the kit's `sha2`, and no call takes memory. Its one contract: a frame is
+//! opened exactly where it is for me, comes from another listed member, and carries the tag of our key.
+#![tactic(auto)]
+
+mod keys;
+mod macs;
+mod opening;
+mod pair_keys;
+mod prepared;
+mod refusal;
+mod sealing;
+
+pub use keys::Keys;
+pub use macs::hmac;
+pub use opening::{is_sealed, open, open_raw};
+pub use pair_keys::pair_key;
+pub use refusal::TagRefusal;
+pub use sealing::seal;

@@ -1,0 +1,75 @@
+ghost use Rattle.std.specs.Prelude.{◌≡◌, ◌≤◌, ◌==◌, ◌||◌, ◌↔◌, not, length, IsTrue, Some};
+ghost use Rattle.std.specs.Result.{result_err};
+ghost use Rattle.xl_lists.specs.Lists.{is_on};
+ghost use Rattle.xl_wire.specs.Raws.{RawFrame, SpellsRaw, raw_frame};
+ghost use Rattle.xl_tags.specs.Opening.{refusal_of, is_sealed, HasKeys};
+ghost use Rattle.xl_tags.specs.Sealing.{before_tag, tag_by, IsWhole};
+
+use crate::TagRefusal;
+use crate::keys::Keys;
+use crate::sealing::whole;
+use xl_base::NodeNo;
+use xl_lists::List;
+use xl_wire::Raw;
+
+/// Opens a whole frame: it is for me, comes from another listed member, and carries the tag under our key.
+///
+/// Refused as not for me, as a stranger's, or for its tag, in this order.
+pub fn open(keys: &Keys, list: &List, frame: &[u8]) -> Result<(), TagRefusal>
+    requires whole { IsWhole frame.now }
+    requires keyed { HasKeys keys.now list.now.members }
+    ensures { (f : RawFrame) → SpellsRaw f frame.now → result_err result ≡ refusal_of keys.now list.now.members f }
+{
+    open_raw(keys, list, &whole(frame), frame)
+}
+
+/// The same of a frame that was split off its bytes already.
+pub fn open_raw(keys: &Keys, list: &List, raw: &Raw<'_>, bytes: &[u8]) -> Result<(), TagRefusal>
+    requires whole { SpellsRaw (raw_frame raw.now) bytes.now }
+    requires keyed { HasKeys keys.now list.now.members }
+    ensures { result_err result ≡ refusal_of keys.now list.now.members (raw_frame raw.now) }
+{
+    if raw.to != keys.me().get() {
+        return Err(TagRefusal::NotForMe(raw.to));
+    }
+    if !is_another_member(keys, list, raw.from) {
+        return Err(TagRefusal::Stranger(raw.from));
+    }
+    let computed = keys.tag(raw.from, before_tag(bytes));
+    if computed != raw.tag {
+        return Err(TagRefusal::BadTag {
+            read: raw.tag,
+            computed,
+        });
+    }
+    Ok(())
+}
+
+/// Whether the number is that of a listed member other than me.
+fn is_another_member(keys: &Keys, list: &List, number: u32) -> bool
+    requires { HasKeys keys.now list.now.members }
+    ensures { result ≡ not (number == keys.now.me || not (is_on list.now.members number)) }
+{
+    let me = keys.me();
+    match NodeNo::new(number) {
+        Some(member) => member != me && list.has(member),
+        None => false,
+    }
+}
+
+/// All bytes of a frame but the 32 of its tag.
+fn before_tag(bytes: &[u8]) -> &[u8]
+    requires { 32 ≤ length bytes.now }
+    ensures { result.now ≡ before_tag bytes.now }
+{
+    &bytes[..bytes.len() - 32]
+}
+
+/// Whether the frame's sender has a key here, and the frame carries the tag under it. Whom it is for isn't asked.
+pub fn is_sealed(keys: &Keys, raw: &Raw<'_>, bytes: &[u8]) -> bool
+    requires { SpellsRaw (raw_frame raw.now) bytes.now }
+    ensures value { result ≡ is_sealed keys.now (raw_frame raw.now) }
+    ensures exact { IsTrue result ↔ (tag_by keys.now raw.now.from (raw_frame raw.now) ≡ Some raw.now.tag) }
+{
+    keys.knows(raw.from) && keys.tag(raw.from, before_tag(bytes)) == raw.tag
+}
