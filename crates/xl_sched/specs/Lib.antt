@@ -5,5 +5,6 @@ pub mod Numbers
 pub mod Names
 pub mod Places
 pub mod Members
+pub mod Lies
 pub mod Words
 pub mod Reading

@@ -1,5 +1,5 @@
 -- Members, and lists of them. Source: this project's schedule language.
-use Rattle.std.specs.Prelude.{ℕ, Bool, true, false, List, [], ◌∷◌, decimal, Result, Ok, Err, if◌then◌else◌, codes}
+use Rattle.std.specs.Prelude.{ℕ, Bool, true, false, ◌||◌, List, [], ◌∷◌, decimal, Result, Ok, Err, if◌then◌else◌, codes}
 use Rattle.std.specs.Str.{bytes_eq}
 use Rattle.xl_lists.specs.Lists.{TrustedList, list_of, is_on, code_of}
 use Rattle.xl_lists.specs.declared.refusal.ListRefusal.{ListRefusal}
@@ -19,11 +19,11 @@ declared_of nodes token = do
   member ← member_of token
   if is_on nodes member then Ok member else Err (Absent token)
 
--- a number that may still be declared
-abbrev pub new_member_of : List ℕ → List ℕ → Result ℕ SchedRefusal
-new_member_of nodes token = do
+-- a number that may still be declared, since it is neither an honest node's nor a liar's
+abbrev pub new_member_of : List ℕ → List ℕ → List ℕ → Result ℕ SchedRefusal
+new_member_of nodes liars token = do
   member ← member_of token
-  if is_on nodes member then Err (Twice token) else Ok member
+  if is_on nodes member || is_on liars member then Err (Twice token) else Ok member
 
 -- the number of each entry, or the first entry that is none
 abbrev pub numbers_of : List (List ℕ) → Result (List ℕ) SchedRefusal

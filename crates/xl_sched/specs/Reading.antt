@@ -13,7 +13,7 @@ use Rattle.xl_sched.specs.Words.{Reading, worded_line}
 
 -- before the first line
 abbrev pub opened : Reading
-opened = record { lines = 0; now = 1000; started = false; nodes = []; names = root ∷ [] }
+opened = record { lines = 0; now = 1000; started = false; nodes = []; liars = []; names = root ∷ [] }
 
 -- `xl-schedule 1`
 abbrev pub is_header : List (List ℕ) → Bool
@@ -64,6 +64,7 @@ counted reading = record reading { lines = reading.lines + 1 }
 -- what is known after a line
 abbrev pub after : Reading → Line → Reading
 after reading (line.Node me list validating) = record (counted reading) { nodes = reading.nodes ++ me ∷ [] }
+after reading (line.Liar me) = record (counted reading) { liars = reading.liars ++ me ∷ [] }
 after reading (line.Name name id) = record (counted reading) { names = reading.names ++ record { name = name; id = id } ∷ [] }
 after reading (line.Event event) = record (counted reading) { started = true }
 

@@ -3,12 +3,13 @@ use Rattle.std.specs.Prelude.{◌≡◌, ◌≤◌, ℕ, ◌+◌, Bool, true, fa
 use Rattle.std.specs.Str.{bytes_eq}
 use Rattle.xl_lists.specs.Lists.{is_on}
 use Rattle.xl_base.specs.declared.moments.TheConstants.{GREATEST_MILLIS}
-use Rattle.xl_sched.specs.declared.limits.TheConstants.{MOST_NAMES}
+use Rattle.xl_sched.specs.declared.limits.TheConstants.{MOST_NAMES, MOST_RAW_BYTES}
 use Rattle.xl_sched.specs.declared.named.Named.{Named}
 use Rattle.xl_sched.specs.declared.refusal.SchedRefusal.{SchedRefusal}
 use Rattle.xl_sched.specs.declared.refusal.SchedRefusal.TheVariants.{Limit, Word as IsNoWord, Count, Late}
 use Rattle.xl_sched.specs.declared.event.Event.{Event}
 use Rattle.xl_sched.specs.declared.event.Event.TheVariants as event
+use Rattle.xl_sched.specs.declared.lied.Lied.{Lied}
 use Rattle.xl_sched.specs.declared.line.Line.{Line}
 use Rattle.xl_sched.specs.declared.line.Line.TheVariants as line
 use Rattle.xl_sched.specs.declared.word.Word.{Word}
@@ -16,6 +17,7 @@ use Rattle.xl_sched.specs.declared.word.Word.TheVariants as word
 use Rattle.xl_sched.specs.Refusals.{◌>>=◌}
 use Rattle.xl_sched.specs.Numbers.{number_of, place_of}
 use Rattle.xl_sched.specs.Names.{id_of, id_named, new_name_of}
+use Rattle.xl_sched.specs.Lies.{said_of, may_say, lied_of, raw_of}
 use Rattle.xl_sched.specs.Members.{declared_of, new_member_of, members_of, trusted_of, validating_of, full_of}
 
 -- what a reader knows of the lines that it has read
@@ -28,6 +30,8 @@ pub record Reading : Type 0 where
   pub started : Bool
   -- the honest nodes in the order of their declaration
   pub nodes : List ℕ
+  -- the liars in the order of theirs
+  pub liars : List ℕ
   -- the names in the order of their declaration, `root` first
   pub names : List Named
 
@@ -39,6 +43,9 @@ word_of token =
     else if bytes_eq token (codes "issue") then Some word.Issue
     else if bytes_eq token (codes "deliver") then Some word.Deliver
     else if bytes_eq token (codes "restart") then Some word.Restart
+    else if bytes_eq token (codes "liar") then Some word.Liar
+    else if bytes_eq token (codes "lie") then Some word.Lie
+    else if bytes_eq token (codes "raw") then Some word.Raw
     else None
 
 -- so many tokens no line of the word has, the word counted
@@ -57,7 +64,7 @@ mode_of (Some token) = validating_of token
 -- the parts of a node's line from left to right, and then its list
 abbrev pub node_of : Reading → List ℕ → List ℕ → List ℕ → Result Bool SchedRefusal → Result Line SchedRefusal
 node_of reading number quorum members mode = do
-  me ← new_member_of reading.nodes number
+  me ← new_member_of reading.nodes reading.liars number
   least ← number_of quorum
   numbers ← members_of members
   validating ← mode
@@ -69,6 +76,13 @@ abbrev pub node_line : Reading → List (List ℕ) → Result Line SchedRefusal
 node_line reading (number ∷ quorum ∷ members ∷ []) = node_of reading number quorum members (mode_of None)
 node_line reading (number ∷ quorum ∷ members ∷ mode ∷ []) = node_of reading number quorum members (mode_of (Some mode))
 node_line reading arguments = miscounted arguments
+
+-- `liar i`
+abbrev pub liar_line : Reading → List (List ℕ) → Result Line SchedRefusal
+liar_line reading (number ∷ []) = do
+  liar ← new_member_of reading.nodes reading.liars number
+  Ok (line.Liar liar)
+liar_line reading arguments = miscounted arguments
 
 -- whether as many names are declared as may be, `root` not counted
 abbrev pub has_most_names : Reading → Bool
@@ -111,6 +125,29 @@ restart_event reading (number ∷ []) = do
   Ok (event.Restart reading.now node)
 restart_event reading arguments = miscounted arguments
 
+-- the parts of a lie's line from left to right
+abbrev pub lie_of : Reading → List ℕ → List ℕ → Result Lied SchedRefusal → Result Event SchedRefusal
+lie_of reading liar honest said = do
+  from ← declared_of reading.liars liar
+  to ← declared_of reading.nodes honest
+  what ← said
+  Ok (event.Lie reading.now from to what)
+
+-- `lie f t` and what is said
+abbrev pub lie_event : Reading → List (List ℕ) → Result Event SchedRefusal
+lie_event reading (liar ∷ honest ∷ word ∷ said) =
+    if may_say (said_of word) (length said) then lie_of reading liar honest (lied_of reading.names (said_of word) word said)
+    else miscounted (liar ∷ honest ∷ word ∷ said)
+lie_event reading arguments = miscounted arguments
+
+-- `raw t digits`
+abbrev pub raw_event : Reading → List (List ℕ) → Result Event SchedRefusal
+raw_event reading (honest ∷ digits ∷ []) = do
+  to ← declared_of reading.nodes honest
+  bytes ← raw_of digits
+  Ok (event.Raw reading.now to bytes)
+raw_event reading arguments = miscounted arguments
+
 abbrev pub event_line : Result Event SchedRefusal → Result Line SchedRefusal
 event_line result = do
   event ← result
@@ -123,6 +160,9 @@ line_of reading sent word.Name token arguments = name_line reading arguments
 line_of reading sent word.Issue token arguments = event_line (issue_event reading arguments)
 line_of reading sent word.Deliver token arguments = event_line (deliver_event reading sent arguments)
 line_of reading sent word.Restart token arguments = event_line (restart_event reading arguments)
+line_of reading sent word.Liar token arguments = unless_late reading token (liar_line reading arguments)
+line_of reading sent word.Lie token arguments = event_line (lie_event reading arguments)
+line_of reading sent word.Raw token arguments = event_line (raw_event reading arguments)
 
 abbrev pub line_if_word : Reading → ℕ → Option Word → List ℕ → List (List ℕ) → Result Line SchedRefusal
 line_if_word reading sent None token arguments = Err (IsNoWord token)
@@ -132,14 +172,23 @@ line_if_word reading sent (Some word) token arguments = line_of reading sent wor
 abbrev pub worded_line : Reading → ℕ → List ℕ → List (List ℕ) → Result Line SchedRefusal
 worded_line reading sent token arguments = line_if_word reading sent (word_of token) token arguments
 
--- an event of declared nodes and sent frames
+-- an event of declared nodes and liars, sent frames, and bytes of a frame's length
 abbrev pub IsFitEvent : Reading → ℕ → Event → Type 0
 IsFitEvent reading sent (event.Issue at node seq id full) = (at ≤ GREATEST_MILLIS) × (is_on reading.nodes node ≡ true)
 IsFitEvent reading sent (event.Deliver at place) = (at ≤ GREATEST_MILLIS) × (1 ≤ place) × (place ≤ sent)
 IsFitEvent reading sent (event.Restart at node) = (at ≤ GREATEST_MILLIS) × (is_on reading.nodes node ≡ true)
+IsFitEvent reading sent (event.Lie at from to what) =
+    (at ≤ GREATEST_MILLIS) × (is_on reading.liars from ≡ true) × (is_on reading.nodes to ≡ true)
+IsFitEvent reading sent (event.Raw at to bytes) =
+    (at ≤ GREATEST_MILLIS) × (is_on reading.nodes to ≡ true) × (1 ≤ length bytes) × (length bytes ≤ MOST_RAW_BYTES)
+
+-- a number that was declared neither as an honest node nor as a liar
+abbrev pub IsUndeclared : Reading → ℕ → Type 0
+IsUndeclared reading me = (is_on reading.nodes me ≡ false) × (is_on reading.liars me ≡ false)
 
 -- a line that declares nothing twice, or such an event
 abbrev pub IsFit : Reading → ℕ → Line → Type 0
-IsFit reading sent (line.Node me list validating) = is_on reading.nodes me ≡ false
+IsFit reading sent (line.Node me list validating) = IsUndeclared reading me
+IsFit reading sent (line.Liar me) = IsUndeclared reading me
 IsFit reading sent (line.Name name id) = id_named reading.names name ≡ None
 IsFit reading sent (line.Event event) = IsFitEvent reading sent event

@@ -1,7 +1,8 @@
-use xl_base::{LedgerId, Millis, NodeNo, Seq};
+use crate::lied::Lied;
+use xl_base::{Bytes, LedgerId, Millis, NodeNo, Seq};
 
 /// What happens in a schedule, at the moment that was in force.
-#[derive(Clone, Copy, Debug, PartialEq, Eq)]
+#[derive(Debug, Drop)]
 pub enum Event {
     /// A declared node issues its validation of a ledger.
     Issue {
@@ -20,5 +21,18 @@ pub enum Event {
     Restart {
         at: Millis,
         node: NodeNo,
+    },
+    /// A frame that a declared liar made up is handed to a declared node.
+    Lie {
+        at: Millis,
+        from: NodeNo,
+        to: NodeNo,
+        what: Lied,
+    },
+    /// Bytes, 1 to 8,240, are handed to a declared node.
+    Raw {
+        at: Millis,
+        to: NodeNo,
+        bytes: Bytes,
     },
 }

@@ -4,5 +4,8 @@ pub const MOST_LINES: u32 = 1_000_000;
 /// The most bytes of a line, without the byte that ends it.
 pub const MOST_BYTES: usize = 17_000;
 
+/// The most bytes of a frame, and so of raw ones.
+pub const MOST_RAW_BYTES: usize = 8_240;
+
 /// The most names that a schedule declares; `root` isn't counted.
 pub const MOST_NAMES: usize = 4_096;

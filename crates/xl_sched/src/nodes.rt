@@ -1,6 +1,6 @@
-ghost use Rattle.std.specs.Prelude.{◌≡◌, ◌++◌, ◌∷◌, [], true, false, IfOk, OnOk, OnErr};
+ghost use Rattle.std.specs.Prelude.{◌≡◌, ◌++◌, ◌∷◌, [], true, IfOk, OnOk, OnErr};
 ghost use Rattle.xl_lists.specs.Lists.{is_on};
-ghost use Rattle.xl_sched.specs.Members.{declared_of, new_member_of};
+ghost use Rattle.xl_sched.specs.Members.{declared_of};
 
 use crate::fault::{Cause, Fault};
 use crate::members::member;
@@ -8,7 +8,7 @@ use std::alloc::{AllocError, Global};
 use std::marker::Model;
 use xl_base::NodeNo;
 
-/// The declared nodes in the order of their declaration. Contracts see them as a list of numbers.
+/// Declared nodes, the honest ones or the liars, in the order of their declaration. Contracts see them as a list of numbers.
 #[derive(Debug, Drop)]
 pub struct Nodes {
     numbers: Vec<NodeNo>,
@@ -31,7 +31,7 @@ impl Nodes {
         }
     }
 
-    fn has(&self, node: NodeNo) -> bool
+    pub fn has(&self, node: NodeNo) -> bool
         ensures { result ≡ is_on self.now node }
     {
         self.numbers.iter().any(|number| node == *number)
@@ -47,19 +47,6 @@ impl Nodes {
             Ok(node)
         } else {
             Err(Fault::with_text(Cause::Absent, token))
-        }
-    }
-
-    /// A number that may still be declared.
-    pub fn undeclared<'a>(&self, token: &'a [u8]) -> Result<NodeNo, Fault<'a>>
-        ensures value { result ≡ new_member_of self.now token.now }
-        ensures new { IfOk result (λ node. is_on self.now node ≡ false) }
-    {
-        let node = member(token)?;
-        if self.has(node) {
-            Err(Fault::with_text(Cause::Twice, token))
-        } else {
-            Ok(node)
         }
     }
 

@@ -1,3 +1,4 @@
+mod lies;
 mod words;
 
 ghost use Rattle.std.specs.Prelude.{◌≡◌, ◌⊎◌, ℕ, ◌≤◌, ◌<◌, OnOk, OnErr, IfOk, IfErr, IfSome, option_copied};
@@ -25,6 +26,7 @@ pub struct Reader {
     moment: Millis,
     started: bool,
     nodes: Nodes,
+    liars: Nodes,
     names: Names,
     alloc: Global,
 }
@@ -42,6 +44,7 @@ impl Model for Reader {
       now = r.moment;
       started = r.started;
       nodes = r.nodes;
+      liars = r.liars;
       names = r.names;
     } };
 
@@ -54,7 +57,7 @@ impl Reader {
     ghost use Rattle.xl_sched.specs.Refusals.{GivenMemory};
     ghost use Rattle.xl_sched.specs.Reading.{opened, reading_of, refuses, answered, after, line_of_tokens, later_line};
 
-    /// A reader before the first line: no node is declared, and `root` stands for 32 zero bytes.
+    /// A reader before the first line: no node and no liar is declared, and `root` stands for 32 zero bytes.
     pub fn open(alloc: Global) -> Result<Reader, OutOfMemory>
         ensures { IfOk result (λ reader. reader ≡ opened) }
     {
@@ -63,6 +66,7 @@ impl Reader {
             moment: FIRST_MOMENT,
             started: false,
             nodes: Nodes::new(alloc),
+            liars: Nodes::new(alloc),
             names: Names::with_root(alloc)?,
             alloc,
         })
@@ -142,6 +146,7 @@ impl Reader {
     {
         match line {
             Line::Node { me, .. } => self.nodes.declare(*me)?,
+            Line::Liar(me) => self.liars.declare(*me)?,
             Line::Name { name, id } => self.names.declare(name.as_slice(), *id, self.alloc)?,
             Line::Event(_) => self.started = true,
         }

@@ -88,6 +88,20 @@ impl<'a> Tokens<'a> {
         Ok((self.take(), self.take(), self.take(), self.take()))
     }
 
+    /// The first three tokens that are left, and the others. Refused where there are fewer.
+    pub fn three_and_others(
+        mut self,
+    ) -> Result<(&'a [u8], &'a [u8], &'a [u8], Tokens<'a>), Fault<'a>>
+        ensures { MatchResult result
+            (λ three. self.entry ≡ three.0.now ∷ three.1.now ∷ three.2.now ∷ three.3)
+            (λ fault. (length self.entry < 3) × (fault ≡ Count (decimal (length self.entry + 1)))) }
+    {
+        if self.count() < 3 {
+            return Err(self.miscounted());
+        }
+        Ok((self.take(), self.take(), self.take(), self))
+    }
+
     /// The refusal of so many tokens, the word before them counted.
     pub fn miscounted(&self) -> Fault<'a>
         ensures { result ≡ Count (decimal (length self.now + 1)) }

@@ -9,6 +9,9 @@ pub enum Word {
     Issue,
     Deliver,
     Restart,
+    Liar,
+    Lie,
+    Raw,
 }
 
 impl Word {
@@ -26,6 +29,12 @@ impl Word {
             Some(Word::Deliver)
         } else if token == b"restart".as_slice() {
             Some(Word::Restart)
+        } else if token == b"liar".as_slice() {
+            Some(Word::Liar)
+        } else if token == b"lie".as_slice() {
+            Some(Word::Lie)
+        } else if token == b"raw".as_slice() {
+            Some(Word::Raw)
         } else {
             None
         }

@@ -32,6 +32,9 @@ impl Reader {
             Some(Word::Issue) => Ok(Line::Event(self.issue(arguments)?)),
             Some(Word::Deliver) => Ok(Line::Event(self.deliver(arguments, sent)?)),
             Some(Word::Restart) => Ok(Line::Event(self.restart(arguments)?)),
+            Some(Word::Liar) => self.liar_in_time(token, arguments),
+            Some(Word::Lie) => Ok(Line::Event(self.lie(arguments)?)),
+            Some(Word::Raw) => Ok(Line::Event(self.raw(arguments)?)),
         }
     }
 
@@ -72,7 +75,7 @@ impl Reader {
             (node_of self.now me.now quorum.now list.now (mode_of (option_copied mode.entry))) }
         ensures fit { IfOk result (λ line. (sent : ℕ) → IsFit self.now sent line) }
     {
-        let me = self.nodes.undeclared(me)?;
+        let me = self.undeclared(me)?;
         let quorum = number(quorum)?;
         let members = members(self.alloc, list)?;
         let validating = match mode {

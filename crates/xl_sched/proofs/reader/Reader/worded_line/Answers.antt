@@ -5,3 +5,9 @@ returns-in_ok-issue-in-Some-Issue-clause-fit c = c.in_ok-issue-in-Some-Issue.ens
 
 pub returns-in_ok-restart-in-Some-Restart-clause-fit : goal.returns-in_ok-restart-in-Some-Restart-clause-fit
 returns-in_ok-restart-in-Some-Restart-clause-fit c = c.in_ok-restart-in-Some-Restart.ensures.fit c.args.sent
+
+pub returns-in_ok-lie-in-Some-Lie-clause-fit : goal.returns-in_ok-lie-in-Some-Lie-clause-fit
+returns-in_ok-lie-in-Some-Lie-clause-fit c = c.in_ok-lie-in-Some-Lie.ensures.fit c.args.sent
+
+pub returns-in_ok-raw-in-Some-Raw-clause-fit : goal.returns-in_ok-raw-in-Some-Raw-clause-fit
+returns-in_ok-raw-in-Some-Raw-clause-fit c = c.in_ok-raw-in-Some-Raw.ensures.fit c.args.sent
