@@ -1,3 +1,4 @@
+pub mod Heard
 pub mod Counts
 pub mod Members
 pub mod Arising

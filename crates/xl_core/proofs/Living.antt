@@ -1,18 +1,22 @@
 -- What a node and the reports of its life so far keep, over every event.
-use Rattle.std.proofs.Common.{◌≡◌, ℕ, ◌+◌, ◌-◌, ◌<◌, ◌≤◌, Bool, true, false, List, [], ◌∷◌, ◌++◌, length, get_or, refl, arith, ap, sym, inl, inr, Option, Some, None, subst, append_assoc, length-append}
+use Rattle.std.proofs.Common.{◌≡◌, ℕ, ◌+◌, ◌-◌, ◌<◌, ◌≤◌, Bool, true, false, List, [], ◌∷◌, ◌++◌, length, get_or, refl, arith, ap, sym, inl, inr, Option, Some, None, Result, Ok, Err, subst, append_assoc, length-append}
 use Rattle.std.specs.Prelude.{◌⊎◌, All, IfSome, is_some, Contains, map, find, filter_map, option_map, option_to_list, count_by, nat_lt}
 use Rattle.std.specs.List.Sorted.{IsStrictlyIncreasing}
 use Rattle.std.proofs.lemmas.Bool.{cond_both, le-ltb}
 use Rattle.std.proofs.lemmas.List.{append-nil, get_or_append_left, get_or-append_right}
 use Rattle.std.proofs.lemmas.List.Elements.{All-append, All-cons, All-nil, All-weaker, All-map, Contains-push}
 use Rattle.xl_lists.specs.Lists.{TrustedList, IsValid}
+use Rattle.xl_tags.specs.Rings.{Ring}
 use Rattle.xl_wire.specs.declared.validation.Validation.{Validation}
 use Rattle.xl_validations.specs.declared.row.Row.{Row}
 use Rattle.xl_validations.specs.declared.refusal.ValRefusal.{ValRefusal}
 use Rattle.xl_validations.specs.Rows.{row_of, refusal_of, with_validation, at_member, empty_row}
 use Rattle.xl_core.specs.declared.report.Report.{Report}
-use Rattle.xl_core.specs.Node.{Node, Event, Issue, Comes, Reply, opened, happens, hears, issues, refusing, reporting, with_taken, take, arisen, arises_in, is_above, later, report_of, refusal_at, is_stranger}
-use Rattle.xl_core.specs.declared.refusal.Refusal.TheVariants.{Stranger, NotAfter}
+use Rattle.xl_core.specs.Node.{Node, Event, Issue, Frame, Reply, opened, happens, hears, issues, refusing, reporting, with_taken, take, arisen, arises_in, is_above, later, report_of, refusal_at, hearing}
+use Rattle.xl_core.specs.declared.refusal.Refusal.TheVariants.{NotAfter}
+use Rattle.xl_core.specs.declared.hearing.Spoken.{Spoken}
+use Rattle.xl_core.specs.declared.refusal.Refusal.{Refusal}
+use Rattle.xl_core.specs.Hearing.{heard}
 use Rattle.xl_core.specs.Rest.{IsAtRest, report_if}
 use Rattle.xl_core.specs.Lives.{Happening, node_after, reports_in}
 use Rattle.xl_core.proofs.Members.{nobody_changes, refused_stays, taken_changes}
@@ -156,15 +160,16 @@ heard_on : (list : TrustedList) (n : Node) (reports : List Report) (now from : �
 heard_on list n reports now from v None living = reported_on list n reports now from v None living
 heard_on list n reports now from v (Some why) living = unreported list n reports living
 
+hearing_on : (list : TrustedList) (n : Node) (reports : List Report) (now : ℕ) (said : Result Spoken Refusal) → IsLiving list n reports → GoesOn list reports (hearing n now said)
+hearing_on list n reports now (Ok said) living = heard_on list n reports now said.from said.validation (refusal_at n now said.from said.validation) living
+hearing_on list n reports now (Err why) living = unreported list n reports living
+
 pub happens_on : (list : TrustedList) (n : Node) (reports : List Report) (e : Event) (saved : Bool) → IsLiving list n reports → GoesOn list reports (happens n e saved)
 happens_on list n reports (Issue now seq id full) saved living =
     cond_both (nat_lt n.kept seq) (issues n now saved (record { id = id; seq = seq; signed = now; full = full })) (refusing n (NotAfter n.kept)) (GoesOn list reports)
     (λ _. issued_on list n reports now saved (record { id = id; seq = seq; signed = now; full = full }) living)
     (λ _. unreported list n reports living)
-happens_on list n reports (Comes now from v) saved living =
-    cond_both (is_stranger n from) (refusing n (Stranger from)) (hears n now from v (refusal_at n now from v)) (GoesOn list reports)
-    (λ _. unreported list n reports living)
-    (λ _. heard_on list n reports now from v (refusal_at n now from v) living)
+happens_on list n reports (Frame now bytes) saved living = hearing_on list n reports now (heard n.keys n.list.members bytes) living
 
 -- every life
 pub lives : (list : TrustedList) (n : Node) (reports : List Report) (life : List Happening) → IsLiving list n reports → IsLiving list (node_after n life) (reports ++ reports_in n life)
@@ -177,13 +182,13 @@ heads_opened : (members : List ℕ) → All IsHead (map empty_row members)
 heads_opened [] = All-nil IsHead
 heads_opened (m ∷ ms) = All-cons IsHead (empty_row m) (map empty_row ms) tt (heads_opened ms)
 
-pub living_from_opening : (me : ℕ) (list : TrustedList) (kept : ℕ) (life : List Happening) → IsValid list →
-    IsLiving list (node_after (opened me list kept) life) (reports_in (opened me list kept) life)
-living_from_opening me list kept life valid =
-    lives list (opened me list kept) [] life
+pub living_from_opening : (me : ℕ) (list : TrustedList) (keys : Ring) (kept : ℕ) (life : List Happening) → IsValid list →
+    IsLiving list (node_after (opened me list keys kept) life) (reports_in (opened me list keys kept) life)
+living_from_opening me list keys kept life valid =
+    lives list (opened me list keys kept) [] life
     (record {
       listed = refl;
-      rest = opened_at_rest me list kept valid;
+      rest = opened_at_rest me list keys kept valid;
       heads = heads_opened list.members;
       past = tt;
       told = tt;

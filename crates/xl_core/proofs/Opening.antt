@@ -3,6 +3,7 @@ use Rattle.std.proofs.Common.{◌≡◌, ℕ, List, [], ◌∷◌, refl, arith}
 use Rattle.std.specs.Prelude.{map}
 use Rattle.xl_base.specs.declared.ids.LedgerId.{LedgerId}
 use Rattle.xl_lists.specs.Lists.{TrustedList, IsValid}
+use Rattle.xl_tags.specs.Rings.{Ring}
 use Rattle.xl_lists.proofs.Counting.{count_by-cons}
 use Rattle.xl_validations.specs.Rows.{empty_row, is_full_of, count_full}
 use Rattle.xl_core.specs.Node.{opened}
@@ -13,8 +14,8 @@ none_counted : (members : List ℕ) (seq : ℕ) (id : LedgerId) → count_full s
 none_counted [] seq id = refl
 none_counted (m ∷ ms) seq id = omega (arith, count_by-cons (λ row. is_full_of seq id row.current) (empty_row m) (map empty_row ms), none_counted ms seq id)
 
-pub opened_at_rest : (me : ℕ) (list : TrustedList) (kept : ℕ) → IsValid list → IsAtRest (opened me list kept)
-opened_at_rest me list kept valid = record {
+pub opened_at_rest : (me : ℕ) (list : TrustedList) (keys : Ring) (kept : ℕ) → IsValid list → IsAtRest (opened me list keys kept)
+opened_at_rest me list keys kept valid = record {
   valid = valid;
   members = members_opened list.members;
   reported = λ seq id enough. absurd (omega (arith, enough, none_counted list.members seq id, valid.some, valid.majority));

@@ -1,5 +1,5 @@
 -- The law of reports: a report arises exactly where a quorum holds what wasn't reported, and sequences rise.
-use Rattle.std.proofs.Common.{◌≡◌, ℕ, ◌≤◌, Bool, true, false, List, [], ◌∷◌, ◌++◌, length, refl, arith, ap, sym, ◌∙◌, inl, inr, Option, Some, None, subst}
+use Rattle.std.proofs.Common.{◌≡◌, ℕ, ◌≤◌, Bool, true, false, List, [], ◌∷◌, ◌++◌, length, refl, arith, ap, sym, ◌∙◌, inl, inr, Option, Some, None, Result, Ok, Err, subst}
 use Rattle.std.specs.Prelude.{◌==◌, ◌&&◌, ◌||◌, ◌⊎◌, IfSome, Contains, find, filter_map, option_map, option_to_list, count_by, nat_lt, slice_index_or}
 use Rattle.std.proofs.lemmas.Option.{none-some, same_Some}
 use Rattle.std.proofs.lemmas.List.{length-map}
@@ -15,8 +15,11 @@ use Rattle.xl_validations.specs.declared.row.Row.{Row}
 use Rattle.xl_validations.specs.declared.refusal.ValRefusal.{ValRefusal}
 use Rattle.xl_validations.specs.Rows.{is_full_of, count_full}
 use Rattle.xl_core.specs.declared.report.Report.{Report}
-use Rattle.xl_core.specs.declared.refusal.Refusal.TheVariants.{Stranger, NotAfter}
-use Rattle.xl_core.specs.Node.{Node, Event, Issue, Comes, Reply, opened, happens, hears, issues, saving, refusing, reporting, with_taken, arises, is_above, report_of, refusal_at, is_stranger}
+use Rattle.xl_core.specs.declared.refusal.Refusal.TheVariants.{NotAfter}
+use Rattle.xl_core.specs.declared.refusal.Refusal.{Refusal}
+use Rattle.xl_core.specs.declared.hearing.Spoken.{Spoken}
+use Rattle.xl_core.specs.Hearing.{heard}
+use Rattle.xl_core.specs.Node.{Node, Event, Issue, Frame, Reply, opened, happens, hears, issues, saving, refusing, reporting, with_taken, arises, is_above, report_of, refusal_at, hearing}
 use Rattle.xl_core.specs.Lives.{node_after, reports_in, ReportsArise, ReportsRise}
 use Rattle.xl_core.proofs.Counts.{find_passes, names_it}
 use Rattle.xl_core.proofs.Arising.{parts_of, same_report}
@@ -54,17 +57,17 @@ heard_news : (n : Node) (now from : ℕ) (v : Validation) (o : Option ValRefusal
 heard_news n now from v None r is = reporting_news n (with_taken n now from v) None r refl refl is
 heard_news n now from v (Some why) r is = no_news n (hears n now from v (Some why)) r refl is
 
+hearing_news : (n : Node) (now : ℕ) (said : Result Spoken Refusal) (r : Report) → (hearing n now said).report ≡ Some r → IsNews n (hearing n now said) r
+hearing_news n now (Ok said) r is = heard_news n now said.from said.validation (refusal_at n now said.from said.validation) r is
+hearing_news n now (Err why) r is = no_news n (refusing n why) r refl is
+
 happens_news : (n : Node) (e : Event) (saved : Bool) (r : Report) → (happens n e saved).report ≡ Some r → IsNews n (happens n e saved) r
 happens_news n (Issue now seq id full) saved r is =
     cond_both (nat_lt n.kept seq) (issues n now saved (record { id = id; seq = seq; signed = now; full = full })) (refusing n (NotAfter n.kept)) (λ reply. reply.report ≡ Some r → IsNews n reply r)
     (λ _ e. issued_news n now saved (record { id = id; seq = seq; signed = now; full = full }) r e)
     (λ _ e. no_news n (refusing n (NotAfter n.kept)) r refl e)
     is
-happens_news n (Comes now from v) saved r is =
-    cond_both (is_stranger n from) (refusing n (Stranger from)) (hears n now from v (refusal_at n now from v)) (λ reply. reply.report ≡ Some r → IsNews n reply r)
-    (λ _ e. no_news n (refusing n (Stranger from)) r refl e)
-    (λ _ e. heard_news n now from v (refusal_at n now from v) r e)
-    is
+happens_news n (Frame now bytes) saved r is = hearing_news n now (heard n.keys n.list.members bytes) r is
 
 -- WHAT A QUORUM HOLDS NOW
 
@@ -98,10 +101,10 @@ in_one (Some x) r (k, within, is) =
 -- THE LAW
 
 pub reports_arise : ReportsArise
-reports_arise me list kept life next r valid =
-    let n : Node = node_after (opened me list kept) life in
-    let told : List Report = reports_in (opened me list kept) life in
-    let living : IsLiving list n told = living_from_opening me list kept life valid in (
+reports_arise me list keys kept life next r valid =
+    let n : Node = node_after (opened me list keys kept) life in
+    let told : List Report = reports_in (opened me list keys kept) life in
+    let living : IsLiving list n told = living_from_opening me list keys kept life valid in (
       λ is.
           let news = happens_news n next.event next.saved r is in (
             subst (λ (l : TrustedList). l.quorum ≤ count_full r.seq r.id (happens n next.event next.saved).node.rows) living.listed news.quorum,
@@ -136,4 +139,4 @@ reports_arise me list kept life next r valid =
     arises_now list reply told after r enough fresh = by_last list reply told after r enough fresh reply.node.last refl
 
 pub reports_rise : ReportsRise
-reports_rise me list kept life valid = (living_from_opening me list kept life valid).rising
+reports_rise me list keys kept life valid = (living_from_opening me list keys kept life valid).rising

@@ -1,5 +1,7 @@
-pub mod Node
 pub mod Refusals
+pub mod Hearing
+pub mod Sending
+pub mod Node
 pub mod Replies
 pub mod Rest
 pub mod Lives

@@ -1,8 +1,9 @@
--- A node's life: what happened since it opened, and what it reported.
+-- A node's life: what happened since it opened, and what it reported. Source: the paper's fully validated ledgers.
 use Rattle.std.specs.Prelude.{◌≡◌, ℕ, ◌≤◌, ◌↔◌, Bool, List, [], ◌∷◌, ◌++◌, map, option_to_list, Contains}
 use Rattle.std.specs.Prelude.{Some}
 use Rattle.std.specs.List.Sorted.{IsStrictlyIncreasing}
 use Rattle.xl_lists.specs.Lists.{TrustedList, IsValid}
+use Rattle.xl_tags.specs.Rings.{Ring}
 use Rattle.xl_validations.specs.Rows.{count_full}
 use Rattle.xl_core.specs.declared.report.Report.{Report}
 use Rattle.xl_core.specs.Node.{Node, Event, opened, happens}
@@ -26,13 +27,13 @@ reports_in n (h ∷ hs) = option_to_list (happens n h.event h.saved).report ++ r
 -- reported since the node opened.
 abbrev pub ReportsArise : Type 0
 ReportsArise =
-    (me : ℕ) (list : TrustedList) (kept : ℕ) (life : List Happening) (next : Happening) (r : Report) → IsValid list →
-    let n = node_after (opened me list kept) life in
+    (me : ℕ) (list : TrustedList) (keys : Ring) (kept : ℕ) (life : List Happening) (next : Happening) (r : Report) → IsValid list →
+    let n = node_after (opened me list keys kept) life in
     let reply = happens n next.event next.saved in
-    (reply.report ≡ Some r) ↔ ((list.quorum ≤ count_full r.seq r.id reply.node.rows) × ¬ Contains (reports_in (opened me list kept) life) r)
+    (reply.report ≡ Some r) ↔ ((list.quorum ≤ count_full r.seq r.id reply.node.rows) × ¬ Contains (reports_in (opened me list keys kept) life) r)
 
 -- The sequences of the reports of a life rise.
 abbrev pub ReportsRise : Type 0
 ReportsRise =
-    (me : ℕ) (list : TrustedList) (kept : ℕ) (life : List Happening) → IsValid list →
-    IsStrictlyIncreasing (map (λ r. r.seq) (reports_in (opened me list kept) life))
+    (me : ℕ) (list : TrustedList) (keys : Ring) (kept : ℕ) (life : List Happening) → IsValid list →
+    IsStrictlyIncreasing (map (λ r. r.seq) (reports_in (opened me list keys kept) life))

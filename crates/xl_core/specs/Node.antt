@@ -1,23 +1,28 @@
 -- One node: its rows, the last sequence that it saved, and what it reports as fully validated.
--- Source: the paper, and rippled's Consensus and Validations.
-use Rattle.std.specs.Prelude.{ℕ, ◌==◌, ◌&&◌, ◌||◌, Bool, true, false, not, List, map, filter_map, find, option_map, nat_lt, nat_le, if◌then◌else◌}
-use Rattle.std.specs.Prelude.{Some, None}
+-- Source: Chase and MacBrough, "Analysis of the XRP Ledger Consensus Protocol" (2018), and rippled's Consensus and Validations.
+use Rattle.std.specs.Prelude.{ℕ, ◌&&◌, Bool, true, false, List, map, filter_map, find, option_map, nat_lt, nat_le, if◌then◌else◌}
+use Rattle.std.specs.Prelude.{Some, None, Result, Ok, Err}
 use Rattle.std.specs.declared.option.Option.{Option}
 use Rattle.std.specs.Option.{is_none}
 use Rattle.xl_base.specs.declared.ids.LedgerId.{LedgerId}
-use Rattle.xl_lists.specs.Lists.{TrustedList, is_on}
+use Rattle.xl_lists.specs.Lists.{TrustedList}
+use Rattle.xl_tags.specs.Rings.{Ring}
 use Rattle.xl_wire.specs.declared.validation.Validation.{Validation}
 use Rattle.xl_validations.specs.declared.row.Row.{Row}
 use Rattle.xl_validations.specs.declared.refusal.ValRefusal.{ValRefusal}
 use Rattle.xl_validations.specs.Rows.{refusal, refusal_of, with_validation, at_member, count_full, empty_row}
 use Rattle.xl_core.specs.declared.report.Report.{Report}
 use Rattle.xl_core.specs.declared.refusal.Refusal.{Refusal}
-use Rattle.xl_core.specs.declared.refusal.Refusal.TheVariants.{Stranger, NotAfter}
+use Rattle.xl_core.specs.declared.refusal.Refusal.TheVariants.{NotAfter}
+use Rattle.xl_core.specs.declared.hearing.Spoken.{Spoken}
+use Rattle.xl_core.specs.Hearing.{heard}
 use Rattle.xl_core.specs.Refusals.{refusal_from}
 
 pub record Node : Type 0 where
   pub me : ℕ
   pub list : TrustedList
+  -- the keys that it shares with others
+  pub keys : Ring
   pub rows : List Row
   -- the last sequence that was saved
   pub kept : ℕ
@@ -28,8 +33,8 @@ pub record Node : Type 0 where
 pub data Event : Type 0 where
   -- it is asked to issue a validation
   Issue : (now seq : ℕ) (id : LedgerId) (full : Bool) → Event
-  -- a validation comes, sent by a number
-  Comes : (now from : ℕ) (validation : Validation) → Event
+  -- bytes come, whatever they are
+  Frame : (now : ℕ) (bytes : List ℕ) → Event
 
 -- what came of it: the node then, why it was refused, what it issued, and what it reports
 pub record Reply : Type 0 where
@@ -39,8 +44,8 @@ pub record Reply : Type 0 where
   pub report : Option Report
 
 -- a node opened with the number that its keeper holds
-abbrev pub opened : ℕ → TrustedList → ℕ → Node
-opened me list kept = record { me = me; list = list; rows = map empty_row list.members; kept = kept; last = None }
+abbrev pub opened : ℕ → TrustedList → Ring → ℕ → Node
+opened me list keys kept = record { me = me; list = list; keys = keys; rows = map empty_row list.members; kept = kept; last = None }
 
 -- whether a sequence is above the last report's
 abbrev pub is_above : Option Report → ℕ → Bool
@@ -87,7 +92,7 @@ saving n now v = with_taken (record n { kept = v.seq }) now n.me v
 -- the save that an event asks
 abbrev pub asks : Node → Event → Option ℕ
 asks n (Issue now seq id full) = if nat_lt n.kept seq then Some seq else None
-asks n (Comes now from v) = None
+asks n (Frame now bytes) = None
 
 -- a save that failed leaves the node as it was
 abbrev pub issues : Node → ℕ → Bool → Validation → Reply
@@ -103,8 +108,10 @@ hears n now from v (Some why) = refusing n (refusal_from why)
 abbrev pub refusal_at : Node → ℕ → ℕ → Validation → Option ValRefusal
 refusal_at n now from v = refusal_of n.rows from now v
 
-abbrev pub is_stranger : Node → ℕ → Bool
-is_stranger n from = from == n.me || not (is_on n.list.members from)
+-- what was heard goes to its sender's row
+abbrev pub hearing : Node → ℕ → Result Spoken Refusal → Reply
+hearing n now (Ok said) = hears n now said.from said.validation (refusal_at n now said.from said.validation)
+hearing n now (Err why) = refusing n why
 
 -- what came of an event, whose save was Ok or failed
 abbrev pub happens : Node → Event → Bool → Reply
@@ -112,5 +119,4 @@ happens n (Issue now seq id full) saved =
     if nat_lt n.kept seq
     then issues n now saved (record { id = id; seq = seq; signed = now; full = full })
     else refusing n (NotAfter n.kept)
-happens n (Comes now from v) saved =
-    if is_stranger n from then refusing n (Stranger from) else hears n now from v (refusal_at n now from v)
+happens n (Frame now bytes) saved = hearing n now (heard n.keys n.list.members bytes)

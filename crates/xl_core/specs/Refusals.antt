@@ -1,5 +1,7 @@
--- A refusal of the rows is one of the node's, and each has a number.
+-- A refusal of a part of the node is one of the node's, and each has a number. Source: this project's own formats.
 use Rattle.std.specs.Prelude.{ℕ}
+use Rattle.xl_wire.specs.Codes.{code_of as frame_code}
+use Rattle.xl_tags.specs.Codes.{code_of as tag_code}
 use Rattle.xl_validations.specs.declared.refusal.ValRefusal.{ValRefusal}
 use Rattle.xl_validations.specs.declared.refusal.ValRefusal.TheVariants as row
 use Rattle.xl_core.specs.declared.refusal.Refusal.{Refusal}
@@ -13,9 +15,13 @@ refusal_from (row.OldSeq largest) = node.OldSeq largest
 
 -- the number of each refusal
 abbrev pub code_of : Refusal → ℕ
-code_of (node.Stranger from) = 9
+code_of (node.Frame why) = frame_code why
+code_of (node.Tag why) = tag_code why
 code_of (node.Stale now signed) = 20
 code_of (node.Repeat id) = 21
 code_of (node.Conflict id) = 22
 code_of (node.OldSeq largest) = 23
 code_of (node.NotAfter kept) = 30
+code_of (node.Short lack) = 45
+code_of (node.Extra more) = 46
+code_of (node.NotBuilt kind) = 47

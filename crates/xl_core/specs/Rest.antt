@@ -1,5 +1,7 @@
--- What a node keeps between its events.
+-- What a node keeps between its events. Source: what the code of this crate relies on.
 use Rattle.std.specs.Prelude.{◌≡◌, ℕ, ◌≤◌, Bool, false, List, map, if◌then◌else◌}
+use Rattle.xl_tags.specs.Opening.{HasKeys}
+use Rattle.xl_tags.specs.Rings.{Ring}
 use Rattle.std.specs.Prelude.{Some, None}
 use Rattle.std.specs.declared.option.Option.{Option}
 use Rattle.xl_base.specs.declared.ids.LedgerId.{LedgerId}
@@ -20,6 +22,16 @@ pub record IsAtRest (n : Node) : Type 0 where
   pub members : map (λ row. row.member) n.rows ≡ n.list.members
   -- nothing is left to report
   pub reported : NothingArises n.list.quorum n.rows n.last
+
+-- the keys are its own, and it has one for each other member of its list
+pub record IsKeyed (me : ℕ) (members : List ℕ) (keys : Ring) : Type 0 where
+  pub own : keys.me ≡ me
+  pub listed : HasKeys keys members
+
+-- what the type keeps
+pub record IsReady (n : Node) : Type 0 where
+  pub rest : IsAtRest n
+  pub keyed : IsKeyed n.me n.list.members n.keys
 
 -- what a validation gives to report
 abbrev pub report_if : Bool → Validation → Option Report

@@ -1,9 +1,9 @@
-ghost use Rattle.std.specs.Prelude.{◌≡◌, ◌↔◌, ◌<◌, ◌≤◌, IfOk, IsOk, OnOk, OnErr, IsTrue, true, false, Some, Err, option_map};
+ghost use Rattle.std.specs.Prelude.{◌≡◌, ◌↔◌, ◌<◌, ◌≤◌, IfOk, IsOk, OnOk, OnErr, IsTrue, true, Some, Ok, Err, option_map};
 ghost use Rattle.std.specs.Result.{result_err};
 ghost use Rattle.xl_lists.specs.Lists.{is_on};
 ghost use Rattle.xl_core.specs.Node.{
   Issue,
-  Comes,
+  Frame,
   opened,
   happens,
   hears,
@@ -13,26 +13,31 @@ ghost use Rattle.xl_core.specs.Node.{
   arisen,
   arises_in,
   is_above,
-  is_stranger,
 };
-ghost use Rattle.xl_core.specs.declared.refusal.Refusal.TheVariants.{Stranger, NotAfter};
+ghost use Rattle.xl_core.specs.declared.refusal.Refusal.TheVariants.{NotAfter};
+ghost use Rattle.xl_core.specs.Hearing.{heard};
+ghost use Rattle.xl_core.specs.Sending.{sealed_bytes, has_spelling};
 ghost use Rattle.xl_core.specs.Refusals.{refusal_from};
-ghost use Rattle.xl_core.specs.Rest.{report_if};
+ghost use Rattle.xl_core.specs.Rest.{IsKeyed, report_if};
 ghost use Rattle.xl_core.specs.Replies.{issue_reply, hear_reply};
 
-use crate::{Issued, Refusal, Report};
+use crate::hearing::hear;
+use crate::sending::{VALIDATION_FRAME, sealed};
+use crate::{Issued, Refusal, Report, Spoken};
 use std::alloc::Global;
 use std::marker::Model;
 use xl_base::{LedgerId, NodeNo, OutOfMemory, Secs, Seq};
 use xl_lists::List;
+use xl_tags::Keys;
 use xl_validations::Rows;
 use xl_wire::Validation;
 
 /// A node. No call after `open` takes memory.
-#[derive(Debug, Drop)]
+#[derive(Drop)]
 pub struct Core {
     me: NodeNo,
     list: List,
+    keys: Keys,
     rows: Rows,
     /// The last sequence that was saved.
     kept: Seq,
@@ -42,13 +47,13 @@ pub struct Core {
 
 impl Model for Core {
     ghost use Rattle.xl_core.specs.Node.{Node};
-    ghost use Rattle.xl_core.specs.Rest.{IsAtRest};
+    ghost use Rattle.xl_core.specs.Rest.{IsReady};
 
     ghost Value = { Node };
 
-    ghost view = { λ a. record { me = a.me; list = a.list; rows = a.rows; kept = a.kept; last = a.last } };
+    ghost view = { λ a. record { me = a.me; list = a.list; keys = a.keys; rows = a.rows; kept = a.kept; last = a.last } };
 
-    ghost invariant = { λ a. IsAtRest (record { me = a.me; list = a.list; rows = a.rows; kept = a.kept; last = a.last }) };
+    ghost invariant = { λ a. IsReady (record { me = a.me; list = a.list; keys = a.keys; rows = a.rows; kept = a.kept; last = a.last }) };
 }
 
 /// Whether a sequence is above that of the last report.
@@ -76,14 +81,23 @@ fn report_by(rows: &Rows, quorum: u32, last: &Option<Report>, v: &Validation) ->
 }
 
 impl Core {
-    /// A node with a list and the number that its keeper holds: nothing is taken or reported yet.
-    pub fn open(alloc: Global, me: NodeNo, list: List, kept: Seq) -> Result<Core, OutOfMemory>
-        ensures { IfOk result (λ core. core ≡ opened me list kept) }
+    /// A node with a list, its keys, among them one for each other listed member, and the number that its keeper holds: nothing is
+    /// taken or reported yet.
+    pub fn open(
+        alloc: Global,
+        me: NodeNo,
+        list: List,
+        keys: Keys,
+        kept: Seq,
+    ) -> Result<Core, OutOfMemory>
+        requires keyed { IsKeyed me list.members keys }
+        ensures { IfOk result (λ core. core ≡ opened me list keys kept) }
     {
         let rows = Rows::open(alloc, &list)?;
         Ok(Core {
             me,
             list,
+            keys,
             rows,
             kept,
             last: None,
@@ -121,26 +135,28 @@ impl Core {
         Ok(Issued { validation, report })
     }
 
-    /// Hears a validation under a number, and tells what it gives to report.
+    /// Hears bytes that come, and tells what they give to report.
     ///
-    /// Refused as a stranger's, or as the sender's row refuses it: as stale, as a repeat, as a conflict, or as old, in this
-    /// order. The node then stays as it was.
-    pub fn hear(
-        &mut self,
-        now: Secs,
-        from: NodeNo,
-        validation: &Validation,
-    ) -> Result<Option<Report>, Refusal>
-        ensures exact { hear_reply result self.new ≡ happens self.old (Comes now from validation.now) true }
-        ensures stranger { (result ≡ Err (Stranger from)) ↔ IsTrue (is_stranger self.old from) }
-        ensures by_its_row { is_stranger self.old from ≡ false →
-            result_err result ≡ option_map refusal_from (refusal_at self.old now from validation.now) }
+    /// Refused where they are no frame, not whole or followed by more; where the frame isn't for the node, comes from a
+    /// stranger or carries another tag; where its body is none; or as the sender's row refuses the validation: as stale, as a
+    /// repeat, as a conflict, or as old, all in this order. The node then stays as it was.
+    pub fn frame(&mut self, now: Secs, bytes: &[u8]) -> Result<Option<Report>, Refusal>
+        ensures exact { hear_reply result self.new ≡ happens self.old (Frame now bytes.now) true }
+        ensures unheard { (why : Refusal) → heard self.old.keys self.old.list.members bytes.now ≡ Err why → result ≡ Err why }
+        ensures by_its_row { (said : Spoken) → heard self.old.keys self.old.list.members bytes.now ≡ Ok said →
+            result_err result ≡ option_map refusal_from (refusal_at self.old now said.from said.validation) }
         ensures unchanged { OnErr result (self.new ≡ self.old) }
     {
-        if from == self.me || !self.list.has(from) {
-            return Err(Refusal::Stranger(from));
-        }
-        self.take(now, from, validation)
+        let said = hear(&self.keys, &self.list, bytes)?;
+        self.take(now, said.from, &said.validation)
+    }
+
+    /// The frame of a validation for another member, sealed if the node has a key for it.
+    pub fn sealed(&self, to: NodeNo, validation: &Validation) -> [u8; VALIDATION_FRAME]
+        ensures bytes { result ≡ sealed_bytes self.now.keys self.now.me to validation.now }
+        ensures spelled { IsTrue (has_spelling self.now.me to validation.now) }
+    {
+        sealed(&self.keys, to, validation)
     }
 
     /// The own row takes what was issued, if the node stands on its list.
@@ -181,6 +197,14 @@ impl Core {
         ensures { result.now ≡ self.now.list }
     {
         &self.list
+    }
+
+    /// The keys that it shares with others.
+    pub fn keys(&self) -> &Keys
+        ensures value { result.now ≡ self.now.keys }
+        ensures keyed { IsKeyed self.now.me self.now.list.members self.now.keys }
+    {
+        &self.keys
     }
 
     /// The last sequence that was saved.

@@ -1,14 +1,24 @@
 ghost use Rattle.std.specs.Prelude.{◌≡◌};
 ghost use Rattle.xl_core.specs.Refusals.{refusal_from, code_of};
 
-use xl_base::{LedgerId, NodeNo, Secs, Seq};
+use xl_base::{LedgerId, Secs, Seq};
+use xl_tags::TagRefusal;
 use xl_validations::ValRefusal;
+use xl_wire::WireRefusal;
 
 /// Why a node refuses an event, with the values that show it. The node then stays as it was.
 #[derive(Clone, Copy, Debug, PartialEq, Eq)]
 pub enum Refusal {
-    /// The sender is the node itself, or isn't on its list.
-    Stranger(NodeNo),
+    /// The bytes begin no frame, or the frame's body is none.
+    Frame(WireRefusal),
+    /// The bytes end within a frame: so many lack.
+    Short(usize),
+    /// So many bytes follow the frame.
+    Extra(usize),
+    /// The frame isn't for the node, not from another listed member, or not sealed by their key.
+    Tag(TagRefusal),
+    /// Frames of this kind aren't heard yet.
+    NotBuilt(u8),
     /// The validation isn't current: the second now, and the second at which it was signed.
     Stale(Secs, Secs),
     /// The sender's row holds a validation of this sequence and this id.
@@ -34,18 +44,38 @@ impl From<ValRefusal> for Refusal {
     }
 }
 
+impl From<WireRefusal> for Refusal {
+    ghost from_gives = { λ why refusal. refusal ≡ Refusal.Frame why };
+
+    fn from(why: WireRefusal) -> Refusal {
+        Refusal::Frame(why)
+    }
+}
+
+impl From<TagRefusal> for Refusal {
+    ghost from_gives = { λ why refusal. refusal ≡ Refusal.Tag why };
+
+    fn from(why: TagRefusal) -> Refusal {
+        Refusal::Tag(why)
+    }
+}
+
 impl Refusal {
     /// The number of the refusal.
     pub fn code(&self) -> u32
         ensures { result ≡ code_of self.now }
     {
         match self {
-            Refusal::Stranger(_) => 9,
+            Refusal::Frame(why) => why.code(),
+            Refusal::Tag(why) => why.code(),
             Refusal::Stale(..) => 20,
             Refusal::Repeat(_) => 21,
             Refusal::Conflict(_) => 22,
             Refusal::OldSeq(_) => 23,
             Refusal::NotAfter(_) => 30,
+            Refusal::Short(_) => 45,
+            Refusal::Extra(_) => 46,
+            Refusal::NotBuilt(_) => 47,
         }
     }
 }

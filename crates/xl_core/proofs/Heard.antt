@@ -1,0 +1,96 @@
+-- What is known of bytes in which something is heard.
+use Rattle.std.proofs.Common.{◌≡◌, ℕ, ◌≤◌, Bool, true, false, List, length, refl, ap, sym, ◌∙◌, Option, Some, None, Result, Ok, Err}
+use Rattle.std.specs.Prelude.{◌==◌, ◌||◌, not, nat_lt, nat_le, unwrap_or}
+use Rattle.std.proofs.lemmas.Bool.{cond_both, le-leb, ltb-false}
+use Rattle.xl_lists.specs.Lists.{is_on}
+use Rattle.xl_wire.specs.declared.body.Body.{Body}
+use Rattle.xl_wire.specs.declared.body.Body.TheVariants as bodies
+use Rattle.xl_wire.specs.declared.refusal.WireRefusal.{WireRefusal}
+use Rattle.xl_wire.specs.Bodies.{body_of}
+use Rattle.xl_wire.specs.Heads.{Split, split_of}
+use Rattle.xl_wire.specs.Heads.Split.{Whole, Need, Refused}
+use Rattle.xl_wire.specs.Kinds.{span}
+use Rattle.xl_wire.specs.Raws.{RawFrame, raw_bytes}
+use Rattle.xl_tags.specs.Opening.{refusal_of, is_sealed}
+use Rattle.xl_tags.specs.Sealing.{tag_by}
+use Rattle.xl_tags.specs.Rings.{Ring}
+use Rattle.xl_tags.specs.declared.refusal.TagRefusal.{TagRefusal}
+use Rattle.xl_tags.specs.declared.refusal.TagRefusal.TheVariants.{NotForMe, Stranger, BadTag}
+use Rattle.xl_core.specs.declared.hearing.Spoken.{Spoken}
+use Rattle.xl_core.specs.declared.refusal.Refusal.{Refusal}
+use Rattle.xl_core.specs.declared.refusal.Refusal.TheVariants.{Frame, Tag, Short, Extra, NotBuilt}
+use Rattle.xl_core.specs.Hearing.{said_by, heard_body, heard_opened, heard_split, heard}
+
+-- it says something in a whole frame that the node opens
+pub record IsHeard (ring : Ring) (members bytes : List ℕ) (said : Spoken) : Type 0 where
+  pub frame : RawFrame
+  pub split : split_of bytes ≡ Whole frame
+  pub last : nat_le (length bytes) (span frame.body) ≡ true
+  pub for_me : (frame.to == ring.me) ≡ true
+  pub is_sealed : is_sealed ring frame ≡ true
+  pub body : body_of frame.kind frame.body ≡ Ok (bodies.Validation said.validation)
+  pub from : said.from ≡ frame.from
+
+said_parts : (kind from : ℕ) (body : Body) (said : Spoken) → said_by kind from body ≡ Ok said → (body ≡ bodies.Validation said.validation) × (said.from ≡ from)
+said_parts kind from (bodies.Validation v) said is = (ap (λ (r : Result Spoken Refusal). validation_in r) is, sym (ap (λ (r : Result Spoken Refusal). sender_in r) is))
+  where
+    validation_in : Result Spoken Refusal → Body
+    validation_in (Ok s) = bodies.Validation s.validation
+    validation_in (Err why) = bodies.Validation said.validation
+    sender_in : Result Spoken Refusal → ℕ
+    sender_in (Ok s) = s.from
+    sender_in (Err why) = from
+said_parts kind from (bodies.Proposal proposal) said is = cc
+said_parts kind from (bodies.Header header) said is = cc
+said_parts kind from (bodies.TxSet ids) said is = cc
+said_parts kind from (bodies.Tx id) said is = cc
+
+body_parts : (kind from : ℕ) (read : Result Body WireRefusal) (said : Spoken) → heard_body kind from read ≡ Ok said → (read ≡ Ok (bodies.Validation said.validation)) × (said.from ≡ from)
+body_parts kind from (Ok body) said is = let parts = said_parts kind from body said is in (ap (λ (b : Body). Ok b) parts.0, parts.1)
+body_parts kind from (Err why) said is = cc
+
+opened_parts : (f : RawFrame) (o : Option TagRefusal) (said : Spoken) → heard_opened f o ≡ Ok said → (o ≡ None) × (heard_body f.kind f.from (body_of f.kind f.body) ≡ Ok said)
+opened_parts f None said is = (refl, is)
+opened_parts f (Some why) said is = cc
+
+some_none : (why : TagRefusal) → Some why ≡ None → ⊥
+some_none why e = cc
+
+-- a frame that is opened is for the ring's member, and is sealed
+opens : (ring : Ring) (members : List ℕ) (f : RawFrame) → refusal_of ring members f ≡ None → ((f.to == ring.me) ≡ true) × (is_sealed ring f ≡ true)
+opens ring members f none = by_receiver (f.to == ring.me) none
+  where
+    by_tag : (b : Bool) → (if b then None else Some (BadTag f.tag (unwrap_or (tag_by ring f.from (raw_bytes f)) []))) ≡ None → b ≡ true
+    by_tag true e = refl
+    by_tag false e = absurd (some_none _ e)
+    by_sender : (b : Bool) → (if b then Some (Stranger f.from) else if is_sealed ring f then None else Some (BadTag f.tag (unwrap_or (tag_by ring f.from (raw_bytes f)) []))) ≡ None → is_sealed ring f ≡ true
+    by_sender true e = absurd (some_none _ e)
+    by_sender false e = by_tag (is_sealed ring f) e
+    by_receiver : (b : Bool) → (if not b then Some (NotForMe f.to) else if f.from == ring.me || not (is_on members f.from) then Some (Stranger f.from)
+        else if is_sealed ring f then None else Some (BadTag f.tag (unwrap_or (tag_by ring f.from (raw_bytes f)) []))) ≡ None → (b ≡ true) × (is_sealed ring f ≡ true)
+    by_receiver true e = (refl, by_sender (f.from == ring.me || not (is_on members f.from)) e)
+    by_receiver false e = absurd (some_none _ e)
+
+split_parts : (ring : Ring) (members bytes : List ℕ) (s : Split) (said : Spoken) → split_of bytes ≡ s → heard_split ring members (length bytes) s ≡ Ok said → IsHeard ring members bytes said
+split_parts ring members bytes (Refused why) said at is = cc
+split_parts ring members bytes (Need lack) said at is = cc
+split_parts ring members bytes (Whole f) said at is =
+    cond_both (nat_lt (span f.body) (length bytes)) (Err (Extra (length bytes - span f.body))) (heard_opened f (refusal_of ring members f)) (λ r. r ≡ Ok said → IsHeard ring members bytes said)
+    (λ _ e. cc)
+    (λ fits e.
+    let parts = opened_parts f (refusal_of ring members f) said e in
+    let open = opens ring members f parts.0 in
+    let body = body_parts f.kind f.from (body_of f.kind f.body) said parts.1 in
+    record {
+      frame = f;
+      split = at;
+      last = le-leb _ _ (ltb-false _ _ fits);
+      for_me = open.0;
+      is_sealed = open.1;
+      body = body.0;
+      from = body.1;
+    })
+    is
+
+pub heard_parts : (ring : Ring) (members bytes : List ℕ) (said : Spoken) → heard ring members bytes ≡ Ok said → IsHeard ring members bytes said
+heard_parts ring members bytes said is = split_parts ring members bytes (split_of bytes) said refl is

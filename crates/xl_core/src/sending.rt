@@ -1,0 +1,29 @@
+// The frame in which a node sends a validation.
+ghost use Rattle.std.specs.Prelude.{◌≡◌, IsTrue};
+ghost use Rattle.xl_core.specs.Sending.{sealed_bytes, has_spelling};
+
+use xl_base::NodeNo;
+use xl_tags::{Keys, seal};
+use xl_wire::{Body, Frame, Validation, encode};
+
+/// How many bytes a validation's frame has.
+pub const VALIDATION_FRAME: usize = 87;
+
+/// The frame of a validation for another member, sealed if there is a key for it.
+pub fn sealed(keys: &Keys, to: NodeNo, validation: &Validation) -> [u8; VALIDATION_FRAME]
+    ensures bytes { result ≡ sealed_bytes keys.now keys.now.me to validation.now }
+    ensures spelled { IsTrue (has_spelling keys.now.me to validation.now) }
+{
+    let mut bytes = [0; VALIDATION_FRAME];
+    let frame = Frame {
+        from: keys.me().get(),
+        to: to.get(),
+        body: Body::Validation(*validation),
+        tag: [0; 32],
+    };
+    encode(&frame, &mut bytes);
+    if keys.has(to) {
+        seal(keys, &mut bytes);
+    }
+    bytes
+}

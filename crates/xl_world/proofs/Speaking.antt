@@ -1,0 +1,93 @@
+-- What frames say: the frame of a validation says it, and so does what is heard in bytes.
+use Rattle.std.proofs.Common.{◌≡◌, ℕ, ◌+◌, ◌<◌, ◌^◌, Bool, true, false, List, [], ◌∷◌, ◌++◌, length, refl, arith, ap, sym, ◌∙◌, Option, Some, None, subst, Result, Ok}
+use Rattle.std.specs.Prelude.{◌==◌, ◌&&◌, not, nat_lt, All, IfSome, map, filter, option_map, unwrap_or, replicate}
+use Rattle.std.proofs.lemmas.Bool.{and_parts, cond_both, ltb-true, eqb-true}
+use Rattle.std.proofs.lemmas.List.{append-nil, length-append, length-replicate}
+use Rattle.std.proofs.lemmas.List.Elements.{All-nil, All-cons}
+use Rattle.byteorder.specs.Endian.{big_bytes}
+use Rattle.sha2.proofs.Facts256.{length-sha256}
+use Rattle.xl_lists.specs.Agreement.{Said}
+use Rattle.xl_wire.specs.declared.body.Body.{Body}
+use Rattle.xl_wire.specs.declared.body.Body.TheVariants as bodies
+use Rattle.xl_wire.specs.declared.refusal.WireRefusal.{WireRefusal}
+use Rattle.xl_wire.specs.declared.validation.Validation.{Validation}
+use Rattle.xl_wire.specs.Bodies.{body_of, validation_bytes, flags_of, IsValidation}
+use Rattle.xl_wire.specs.Heads.{Split, split_of}
+use Rattle.xl_wire.specs.Heads.Split.{Whole}
+use Rattle.xl_wire.specs.Kinds.{can_have}
+use Rattle.xl_wire.specs.Raws.{RawFrame, raw_bytes, IsRaw}
+use Rattle.xl_wire.proofs.BodyLaws.{body_again, spelled_lawful}
+use Rattle.xl_wire.proofs.RawLaws.{split_again}
+use Rattle.xl_tags.specs.Macs.{mac}
+use Rattle.xl_tags.specs.Rings.{Ring, key_of}
+use Rattle.xl_tags.specs.Sealing.{before_tag, tag_by, sealed}
+use Rattle.xl_core.specs.Node.{Node}
+use Rattle.xl_core.specs.declared.hearing.Spoken.{Spoken}
+use Rattle.xl_core.specs.Hearing.{heard}
+use Rattle.xl_core.specs.Sending.{validation_frame, sealed_bytes, has_spelling}
+use Rattle.xl_core.proofs.Heard.{IsHeard, heard_parts}
+use Rattle.xl_world.specs.declared.sent.Sent.{Sent}
+use Rattle.xl_world.specs.World.{said_by, said_in, said_in_body, said_in_split, FrameSays, frame_to, frames_for}
+
+-- a tag has 32 bytes, also where there is no key
+tag_long : (ring : Ring) (to : ℕ) (bytes : List ℕ) (o : Option (List ℕ)) → length (unwrap_or (option_map (λ key. mac key (before_tag bytes)) o) (replicate 32 0)) ≡ 32
+tag_long ring to bytes None = refl
+tag_long ring to bytes (Some key) = length-sha256 _
+
+-- what the fields of a frame hold
+pub record IsHeld (from to : ℕ) (v : Validation) : Type 0 where
+  pub from : from < 2 ^ 32
+  pub to : to < 2 ^ 32
+  pub validation : IsValidation v
+
+pub held : (from to : ℕ) (v : Validation) → has_spelling from to v ≡ true → IsHeld from to v
+held from to v h =
+    let a = and_parts (nat_lt from (2 ^ 32) && nat_lt to (2 ^ 32) && length v.id.0 == 32 && nat_lt v.seq (2 ^ 32)) _ h in
+    let b = and_parts (nat_lt from (2 ^ 32) && nat_lt to (2 ^ 32) && length v.id.0 == 32) _ a.0 in
+    let c = and_parts (nat_lt from (2 ^ 32) && nat_lt to (2 ^ 32)) _ b.0 in
+    let d = and_parts (nat_lt from (2 ^ 32)) _ c.0 in
+    record {
+      from = ltb-true from (2 ^ 32) d.0;
+      to = ltb-true to (2 ^ 32) d.1;
+      validation = record { id = eqb-true (length v.id.0) 32 c.1; seq = ltb-true v.seq (2 ^ 32) b.1; signed = ltb-true v.signed (2 ^ 32) a.1 };
+    }
+
+-- the sealed frame of a validation has its spelling
+sealed_raw : (ring : Ring) (from to : ℕ) (v : Validation) → IsHeld from to v → IsRaw (sealed ring (validation_frame from to v (replicate 32 0)))
+sealed_raw ring from to v fits = record {
+  lawful = spelled_lawful (bodies.Validation v) fits.validation;
+  from = fits.from;
+  to = fits.to;
+  tag = tag_long ring to (raw_bytes (validation_frame from to v (replicate 32 0))) (key_of ring to);
+}
+
+-- so it says the validation
+pub sealed_said : (ring : Ring) (from to : ℕ) (v : Validation) → has_spelling from to v ≡ true → said_in (sealed_bytes ring from to v) ≡ Some (said_by from v)
+sealed_said ring from to v h =
+    let fits = held from to v h in
+    let f : RawFrame = sealed ring (validation_frame from to v (replicate 32 0)) in
+    let whole : split_of (raw_bytes f) ≡ Whole f = ap split_of (sym (append-nil (raw_bytes f))) ∙ split_again f [] (sealed_raw ring from to v fits) in
+    ap said_in_split whole ∙ ap (said_in_body from) (body_again (bodies.Validation v) fits.validation)
+
+-- the frames of what is issued say it
+frames_each : (P : Said → Type 0) (n : Node) (v : Validation) → P (said_by n.me v) → (numbers : List ℕ) →
+    All (FrameSays P) (map (frame_to n v) (filter (λ to. not (to == n.me) && has_spelling n.me to v) numbers))
+frames_each P n v says [] = All-nil (FrameSays P)
+frames_each P n v says (to ∷ numbers) =
+    cond_both (not (to == n.me) && has_spelling n.me to v) (to ∷ filter (λ k. not (k == n.me) && has_spelling n.me k v) numbers) (filter (λ k. not (k == n.me) && has_spelling n.me k v) numbers)
+    (λ ks. All (FrameSays P) (map (frame_to n v) ks))
+    (λ e. All-cons (FrameSays P) (frame_to n v to) (map (frame_to n v) (filter (λ k. not (k == n.me) && has_spelling n.me k v) numbers))
+    (subst (λ o. IfSome o P) (sym (sealed_said n.keys n.me to v (and_parts (not (to == n.me)) _ e).1)) says)
+    (frames_each P n v says numbers))
+    (λ _. frames_each P n v says numbers)
+
+pub frames_say : (P : Said → Type 0) (numbers : List ℕ) (n : Node) (o : Option Validation) → IfSome o (λ v. P (said_by n.me v)) → All (FrameSays P) (frames_for numbers n o)
+frames_say P numbers n None h = All-nil (FrameSays P)
+frames_say P numbers n (Some v) h = frames_each P n v h numbers
+
+-- what is heard in bytes is what they say
+pub heard_said : (ring : Ring) (members bytes : List ℕ) (said : Spoken) → IsHeard ring members bytes said → said_in bytes ≡ Some (said_by said.from said.validation)
+heard_said ring members bytes said h =
+    ap said_in_split h.split
+    ∙ ap (said_in_body h.frame.from) h.body
+    ∙ ap (λ (m : ℕ). Some (said_by m said.validation)) (sym h.from)
