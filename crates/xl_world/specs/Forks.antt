@@ -1,4 +1,4 @@
--- Forks: two reports of one sequence that name different ledgers.
+-- Forks: two reports of one sequence that name different ledgers. Source: the paper's forks; which one is named is this profile's.
 use Rattle.std.specs.Prelude.{◌≡◌, ◌==◌, ◌&&◌, not, List, [], ◌∷◌, ◌++◌, find, option_map, All}
 use Rattle.std.specs.Prelude.{Some, None}
 use Rattle.std.specs.declared.option.Option.{Option}

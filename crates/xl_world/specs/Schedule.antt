@@ -1,10 +1,14 @@
--- What an event of a schedule is in a world, and what is told of it.
+-- What an event of a schedule is in a world, and what is told of it. Source: this project's schedule language.
 use Rattle.std.specs.Prelude.{ℕ, zero, suc, ◌/◌, true, List, [], ◌++◌, slice_get, option_map, option_to_list}
 use Rattle.std.specs.Prelude.{Some, None}
 use Rattle.std.specs.declared.option.Option.{Option}
 use Rattle.xl_sched.specs.declared.event.Event.{Event}
 use Rattle.xl_sched.specs.declared.event.Event.TheVariants as event
-use Rattle.xl_core.specs.Node.{Issue, Comes, Reply, happens}
+use Rattle.xl_sched.specs.declared.lied.Lied.{Lied}
+use Rattle.xl_sched.specs.declared.lied.Lied.TheVariants as lied
+use Rattle.xl_tags.specs.Rings.{schedule_ring}
+use Rattle.xl_core.specs.Node.{Issue, Frame, Reply, happens}
+use Rattle.xl_core.specs.Sending.{sealed_bytes}
 use Rattle.xl_world.specs.declared.outcome.Outcome.{Outcome}
 use Rattle.xl_world.specs.declared.outcome.Outcome.TheVariants.{Refused, Full}
 use Rattle.xl_world.specs.declared.place.Place.{Place}
@@ -13,7 +17,7 @@ use Rattle.xl_world.specs.World.{World, Step, Act, Again, Torn, place_at, step}
 
 -- a frame is delivered
 abbrev pub delivery : ℕ → Sent → Step
-delivery at f = Act f.to (Comes (at / 1000) f.from f.validation) true
+delivery at f = Act f.to (Frame (at / 1000) f.bytes) true
 
 -- the sent frame of a place, from 1 on
 abbrev pub frame_at : List Sent → ℕ → Option Sent
@@ -24,11 +28,17 @@ frame_at sent (suc k) = slice_get sent k
 abbrev pub restart : Place → Step
 restart p = Again p.node.me p.keeper.in_force
 
+-- the frame of a lie, sealed as its sender seals
+abbrev pub lied_bytes : ℕ → ℕ → Lied → List ℕ
+lied_bytes from to (lied.Validation v) = sealed_bytes (schedule_ring from) from to v
+
 -- the step that an event is, where there is one. Moments are in milliseconds
 abbrev pub step_of : World → Event → Option Step
 step_of w (event.Issue at node seq id full) = Some (Act node (Issue (at / 1000) seq id full) true)
 step_of w (event.Deliver at place) = option_map (delivery at) (frame_at w.sent place)
 step_of w (event.Restart at node) = option_map restart (place_at node w.places)
+step_of w (event.Lie at from to what) = Some (Act to (Frame (at / 1000) (lied_bytes from to what)) true)
+step_of w (event.Raw at to bytes) = Some (Act to (Frame (at / 1000) bytes) true)
 
 abbrev pub stepped : World → Option Step → World
 stepped w None = w
@@ -43,6 +53,8 @@ abbrev pub moment_of : Event → ℕ
 moment_of (event.Issue at node seq id full) = at
 moment_of (event.Deliver at place) = at
 moment_of (event.Restart at node) = at
+moment_of (event.Lie at from to what) = at
+moment_of (event.Raw at to bytes) = at
 
 -- what came of a step at a node
 abbrev pub reply_to : World → Step → Option Reply

@@ -1,10 +1,10 @@
--- How the definitions see the types of the code.
-use Rattle.std.specs.Prelude.{◌≡◌, ℕ, Bool, true, List, ◌++◌, map, option_map, option_to_list, not, ◌==◌, ◌&&◌, ◌||◌}
+-- How the definitions see the types of the code. Source: what the code of this crate keeps.
+use Rattle.std.specs.Prelude.{◌≡◌, ℕ, Bool, true, false, [], List, ◌++◌, map, option_map, option_to_list, not, ◌==◌, ◌&&◌, ◌||◌}
 use Rattle.std.specs.Prelude.{Some, None}
 use Rattle.std.specs.declared.option.Option.{Option}
 use Rattle.std.specs.List.{list_all}
 use Rattle.xl_lists.specs.Agreement.{same_id, Said, Report}
-use Rattle.xl_core.specs.Node.{Event, Issue, Comes, Reply, happens, opened}
+use Rattle.xl_core.specs.Node.{Event, Issue, Frame, Reply, happens, opened}
 use Rattle.xl_world.specs.declared.act.Answer.{Answer}
 use Rattle.xl_world.specs.declared.act.NodeEvent.{NodeEvent}
 use Rattle.xl_world.specs.declared.act.NodeEvent.TheVariants as event
@@ -16,7 +16,9 @@ use Rattle.xl_world.specs.declared.place.Saying.{Saying}
 use Rattle.xl_world.specs.declared.report.WorldReport.{WorldReport}
 use Rattle.xl_world.specs.Keeper.{holding}
 use Rattle.xl_world.specs.Forks as Forks
-use Rattle.xl_world.specs.World.{place_at, put, place_after, reported_by}
+use Rattle.xl_world.specs.World.{World, place_at, put, place_after, reported_by, is_forged, frames_for}
+use Rattle.xl_world.specs.declared.sent.Sent.{Sent}
+use Rattle.xl_wire.specs.declared.validation.Validation.{Validation}
 
 abbrev pub said_seen : Saying → Said
 said_seen s = record { member = s.member; seq = s.seq; id = s.id }
@@ -40,7 +42,7 @@ accords i j reports r = not (r.node == i) || list_all (λ q. agrees_at j (report
 
 abbrev pub event_seen : NodeEvent → Event
 event_seen (event.Issue now seq id full) = Issue now seq id full
-event_seen (event.Comes now from validation) = Comes now from validation
+event_seen (event.Frame now bytes) = Frame now bytes.now
 
 -- what a node's calls answered is this reply
 pub record IsAnswer (a : Answer) (r : Reply) : Type 0 where
@@ -70,9 +72,36 @@ AnswersAt i e places answer = Answers e (place_at i places) answer
 abbrev pub outcomes_told : ℕ → Answer → List Outcome
 outcomes_told i a = option_to_list (option_map (Refused i) a.refused) ++ option_to_list (option_map (λ r. Full i r.seq r.id) a.report)
 
+-- whether what comes to a place, where there is one, is forged
+abbrev pub forged_at : World → Event → Option Place → Bool
+forged_at w e None = false
+forged_at w e (Some p) = is_forged w p.node e
+
+-- the frames that the node of a place would send
+abbrev pub frames_from : List ℕ → Validation → Option Place → List Sent
+frames_from numbers v None = []
+frames_from numbers v (Some p) = frames_for numbers p.node (Some v)
+
+-- what is told of an answer, where there is one, and what it reports
+abbrev pub told_some : ℕ → Option Answer → List Outcome
+told_some i None = []
+told_some i (Some a) = outcomes_told i a
+
+abbrev pub reported_some : Option Answer → List Report
+reported_some None = []
+reported_some (Some a) = option_to_list (option_map report_seen a.report)
+
+-- what came of bytes at the node of a number: the places and the reports then, and what is told
+pub record HasHeard (to : ℕ) (e : Event) (told : List Outcome) (places places' : List Place) (reports reports' : List WorldReport) : Type 0 where
+  pub answer : Option Answer
+  pub answers : AnswersAt to e places answer
+  pub acted : places' ≡ acted_at to e places
+  pub reported : reports_seen reports' ≡ reports_seen reports ++ reported_some answer
+  pub tells : told ≡ told_some to answer
+
 -- a place whose node is opened anew
 abbrev pub restarted : Place → Place
-restarted p = record { node = opened p.node.me p.node.list p.keeper.in_force; keeper = holding p.keeper.in_force }
+restarted p = record { node = opened p.node.me p.node.list p.node.keys p.keeper.in_force; keeper = holding p.keeper.in_force }
 
 abbrev pub put_restarted : Option Place → List Place → List Place
 put_restarted None places = places

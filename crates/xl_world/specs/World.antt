@@ -1,17 +1,28 @@
 -- A network of honest nodes and liars, and its runs. Whatever was ever sent may be delivered never, once or often, at any later
 -- place: so runs have every loss, repetition and reordering.
--- Source: the paper's network; restarts and keepers by this profile.
-use Rattle.std.specs.Prelude.{◌≤◌, ◌≡◌, ℕ, ◌+◌, ◌==◌, ◌&&◌, ◌||◌, Bool, false, not, List, [], ◌∷◌, ◌++◌, zero, suc, map, filter, All, IfSome, option_map, option_to_list, find, if◌then◌else◌}
-use Rattle.std.specs.Prelude.{Some, None}
+-- Source: Chase and MacBrough, "Analysis of the XRP Ledger Consensus Protocol" (2018); restarts and keepers by this profile.
+use Rattle.std.specs.Prelude.{◌≤◌, ◌≡◌, ℕ, ◌+◌, ◌-◌, ◌^◌, ◌==◌, ◌&&◌, ◌||◌, nat_le, min, Bool, false, not, List, [], ◌∷◌, ◌++◌, zero, suc, length, map, filter, All, IfSome, option_map, option_to_list, find, if◌then◌else◌}
+use Rattle.std.specs.Prelude.{Some, None, Result, Ok, Err}
 use Rattle.std.specs.declared.option.Option.{Option}
 use Rattle.std.specs.List.{list_any}
+use Rattle.std.specs.Str.{bytes_eq}
 use Rattle.xl_lists.specs.Lists.{TrustedList, IsValid, is_on}
 use Rattle.xl_lists.specs.Quorums.{Enough}
-use Rattle.xl_lists.specs.Agreement.{same_id, Said, Report as Reported, with_said, Kept}
+use Rattle.xl_lists.specs.Agreement.{Said, Report as Reported, with_said, Kept}
+use Rattle.xl_wire.specs.declared.body.Body.{Body}
+use Rattle.xl_wire.specs.declared.body.Body.TheVariants as bodies
+use Rattle.xl_wire.specs.declared.refusal.WireRefusal.{WireRefusal}
 use Rattle.xl_wire.specs.declared.validation.Validation.{Validation}
+use Rattle.xl_wire.specs.Bodies.{body_of}
+use Rattle.xl_wire.specs.Heads.{Split, split_of}
+use Rattle.xl_wire.specs.Heads.Split.{Whole, Need, Refused}
+use Rattle.xl_wire.specs.Kinds.{span}
+use Rattle.xl_tags.specs.Opening.{is_sealed}
+use Rattle.xl_tags.specs.Rings.{Ring, schedule_ring}
 use Rattle.xl_validations.specs.declared.row.Row.{Row}
 use Rattle.xl_core.specs.declared.report.Report.{Report}
-use Rattle.xl_core.specs.Node.{Node, Event, Issue, Comes, Reply, happens, asks, opened}
+use Rattle.xl_core.specs.Node.{Node, Event, Issue, Frame, Reply, happens, asks, opened}
+use Rattle.xl_core.specs.Sending.{sealed_bytes, has_spelling}
 use Rattle.xl_world.specs.declared.sent.Sent.{Sent}
 use Rattle.xl_world.specs.declared.place.Keeper.{Keeper}
 use Rattle.xl_world.specs.declared.plan.PlanNode.{PlanNode}
@@ -29,7 +40,7 @@ pub record World : Type 0 where
   pub said : List Said
   -- every report of a node, under the list that was in force
   pub reports : List Reported
-  -- how many frames came that the named sender, no liar, had not sent
+  -- how many sealed frames came that no liar signed and nobody had sent; the count ends at the greatest `u64`
   pub forged : ℕ
 
 -- What may happen next: something at a node, whose save may fail; a node is opened again; or it stops in the event's save,
@@ -48,10 +59,14 @@ abbrev pub put : Place → List Place → List Place
 put p [] = []
 put p (x ∷ xs) = if x.node.me == p.node.me then p ∷ xs else x ∷ put p xs
 
--- a frame for each other declared number, rising
-abbrev pub frames_for : List ℕ → ℕ → Option Validation → List Sent
-frames_for numbers i None = []
-frames_for numbers i (Some v) = map (λ to. record { from = i; to = to; validation = v }) (filter (λ k. not (k == i)) numbers)
+-- the frame of a validation from one node to a number
+abbrev pub frame_to : Node → Validation → ℕ → Sent
+frame_to n v to = record { from = n.me; to = to; bytes = sealed_bytes n.keys n.me to v }
+
+-- a sealed frame for each other declared number, rising; what no fields hold can't be sent
+abbrev pub frames_for : List ℕ → Node → Option Validation → List Sent
+frames_for numbers n None = []
+frames_for numbers n (Some v) = map (frame_to n v) (filter (λ to. not (to == n.me) && has_spelling n.me to v) numbers)
 
 abbrev pub said_by : ℕ → Validation → Said
 said_by m v = record { member = m; seq = v.seq; id = v.id }
@@ -59,17 +74,26 @@ said_by m v = record { member = m; seq = v.seq; id = v.id }
 abbrev pub reported_by : Node → Report → Reported
 reported_by n r = record { node = n.me; list = n.list; seq = r.seq; id = r.id }
 
-abbrev pub same_validation : Validation → Validation → Bool
-same_validation u v = u.seq == v.seq && same_id u.id v.id
+-- whether these bytes were sent; they name their sender and their receiver
+abbrev pub was_sent : World → List ℕ → Bool
+was_sent w bytes = list_any (λ f. bytes_eq f.bytes bytes) w.sent
 
--- whether a frame with this validation was sent so
-abbrev pub was_sent : World → ℕ → ℕ → Validation → Bool
-was_sent w from to v = list_any (λ f. f.from == from && f.to == to && same_validation f.validation v) w.sent
+-- Whether the bytes are one whole frame to the owner of these keys, with the right tag of another member that is no liar, and
+-- nobody sent them. A number that isn't another member's has no key.
+abbrev pub forges : World → Ring → List ℕ → Split → Bool
+forges w keys bytes (Refused why) = false
+forges w keys bytes (Need lack) = false
+forges w keys bytes (Whole f) =
+    nat_le (length bytes) (span f.body) && f.to == keys.me && not (is_on w.liars f.from) && not (was_sent w bytes) && is_sealed keys f
 
--- whether what comes names a sender that is no liar and did not send it
-abbrev pub is_forged : World → ℕ → Event → Bool
-is_forged w i (Issue now seq id full) = false
-is_forged w i (Comes now from v) = not (from == i) && not (is_on w.liars from) && not (was_sent w from i v)
+-- whether what comes to a node is forged
+abbrev pub is_forged : World → Node → Event → Bool
+is_forged w n (Issue now seq id full) = false
+is_forged w n (Frame now bytes) = forges w n.keys bytes (split_of bytes)
+
+-- one more, up to where a count ends
+abbrev pub one_more : ℕ → ℕ
+one_more n = min (n + 1) (2 ^ 64 - 1)
 
 -- the world after what came of an event at a node, with its keeper then
 abbrev pub settled : World → ℕ → Bool → Reply → Keeper → World
@@ -77,15 +101,15 @@ settled w i forged r keeper = record {
   liars = w.liars;
   numbers = w.numbers;
   places = put (record { node = r.node; keeper = keeper }) w.places;
-  sent = w.sent ++ frames_for w.numbers i r.issued;
+  sent = w.sent ++ frames_for w.numbers r.node r.issued;
   said = with_said w.said (option_map (said_by i) r.issued);
   reports = w.reports ++ option_to_list (option_map (reported_by r.node) r.report);
-  forged = if forged then w.forged + 1 else w.forged;
+  forged = if forged then one_more w.forged else w.forged;
 }
 
 abbrev pub acts : World → ℕ → Event → Bool → Option Place → World
 acts w i event saved None = w
-acts w i event saved (Some p) = settled w i (is_forged w i event) (happens p.node event saved) (after_save p.keeper (asks p.node event) saved)
+acts w i event saved (Some p) = settled w i (is_forged w p.node event) (happens p.node event saved) (after_save p.keeper (asks p.node event) saved)
 
 -- the place of a node after an event
 abbrev pub place_after : Place → Event → Bool → Place
@@ -97,7 +121,7 @@ quiet n = record { node = n; refused = None; issued = None; report = None }
 
 -- the node opened again with this number, which its keeper then holds alone
 abbrev pub reopened : World → ℕ → Node → ℕ → World
-reopened w i n number = settled w i false (quiet (opened n.me n.list number)) (holding number)
+reopened w i n number = settled w i false (quiet (opened n.me n.list n.keys number)) (holding number)
 
 abbrev pub again : World → ℕ → ℕ → Option Place → World
 again w i number None = w
@@ -135,7 +159,7 @@ abbrev pub is_declared : List ℕ → List PlanNode → ℕ → Bool
 is_declared liars plan k = list_any (λ d. d.me == k) plan || is_on liars k
 
 abbrev pub place_of : PlanNode → Place
-place_of d = record { node = opened d.me d.list 0; keeper = holding 0 }
+place_of d = record { node = opened d.me d.list (schedule_ring d.me) 0; keeper = holding 0 }
 
 -- the network at the start
 abbrev pub start : List ℕ → List PlanNode → World
@@ -174,9 +198,27 @@ Holds w m k = (p : Place) × (place_at m w.places ≡ Some p) × MayHold p.keepe
 abbrev pub RowSays : (Said → Type 0) → Row → Type 0
 RowSays P row = IfSome row.current (λ v. P (said_by row.member v))
 
+-- what a body says under its sender's number, if it says anything
+abbrev pub said_in_body : ℕ → Result Body WireRefusal → Option Said
+said_in_body from (Ok (bodies.Validation v)) = Some (said_by from v)
+said_in_body from (Ok (bodies.Proposal proposal)) = None
+said_in_body from (Ok (bodies.Header header)) = None
+said_in_body from (Ok (bodies.TxSet ids)) = None
+said_in_body from (Ok (bodies.Tx id)) = None
+said_in_body from (Err why) = None
+
+abbrev pub said_in_split : Split → Option Said
+said_in_split (Whole f) = said_in_body f.from (body_of f.kind f.body)
+said_in_split (Need lack) = None
+said_in_split (Refused why) = None
+
+-- what the bytes of a frame say
+abbrev pub said_in : List ℕ → Option Said
+said_in bytes = said_in_split (split_of bytes)
+
 -- P holds of what a frame says
 abbrev pub FrameSays : (Said → Type 0) → Sent → Type 0
-FrameSays P f = P (said_by f.from f.validation)
+FrameSays P f = IfSome (said_in f.bytes) P
 
 -- P holds of each validation that stands at the node
 abbrev pub NodeSays : (Said → Type 0) → Node → Type 0

@@ -1,4 +1,4 @@
--- A world of the code, as the definitions see it.
+-- A world of the code, as the definitions see it. Source: what the code of this crate keeps.
 use Rattle.std.specs.Prelude.{map}
 use Rattle.xl_world.specs.declared.world.World.TheInside.{Inside}
 use Rattle.xl_world.specs.World.{World}

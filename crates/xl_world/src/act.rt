@@ -1,6 +1,6 @@
 // What an event does to one place, and what comes of it.
 ghost use Rattle.std.specs.Prelude.{◌≡◌, ◌==◌, true, Some, None, OnOk, OnErr, option_copied, option_map, position};
-ghost use Rattle.xl_core.specs.Node.{happens, Issue, Comes};
+ghost use Rattle.xl_core.specs.Node.{happens, Issue, Frame};
 ghost use Rattle.xl_world.specs.World.{reported_by, place_after, place_at};
 ghost use Rattle.xl_world.specs.Seen.{report_seen, event_seen, IsAnswer, acted_at, AnswersAt, restarted, restarted_at};
 
@@ -13,18 +13,17 @@ use xl_lists::List;
 use xl_wire::Validation;
 
 /// What may happen at a node.
-#[derive(Clone, Copy, Debug, PartialEq, Eq)]
-pub enum NodeEvent {
+#[derive(Clone, Copy, Debug)]
+pub enum NodeEvent<'a> {
     Issue {
         now: Secs,
         seq: Seq,
         id: LedgerId,
         full: bool,
     },
-    Comes {
+    Frame {
         now: Secs,
-        from: NodeNo,
-        validation: Validation,
+        bytes: &'a [u8],
     },
 }
 
@@ -83,12 +82,12 @@ fn issue(place: &mut Place, now: Secs, seq: Seq, id: LedgerId, full: bool) -> An
     }
 }
 
-/// A validation comes to a node.
-fn hear(place: &mut Place, now: Secs, from: NodeNo, validation: &Validation) -> Answer
-    ensures place { place.new ≡ place_after place.old (Comes now from validation.now) true }
-    ensures answer { IsAnswer result (happens place.old.node (Comes now from validation.now) true) }
+/// Bytes come to a node.
+fn hear(place: &mut Place, now: Secs, bytes: &[u8]) -> Answer
+    ensures place { place.new ≡ place_after place.old (Frame now bytes.now) true }
+    ensures answer { IsAnswer result (happens place.old.node (Frame now bytes.now) true) }
 {
-    match place.node.hear(now, from, validation) {
+    match place.node.frame(now, bytes) {
         Ok(report) => Answer {
             refused: None,
             issued: None,
@@ -99,17 +98,13 @@ fn hear(place: &mut Place, now: Secs, from: NodeNo, validation: &Validation) -> 
 }
 
 /// An event at a place.
-pub fn act(place: &mut Place, event: &NodeEvent) -> Answer
+pub fn act(place: &mut Place, event: &NodeEvent<'_>) -> Answer
     ensures place { place.new ≡ place_after place.old (event_seen event.now) true }
     ensures answer { IsAnswer result (happens place.old.node (event_seen event.now) true) }
 {
     match event {
         NodeEvent::Issue { now, seq, id, full } => issue(place, *now, *seq, *id, *full),
-        NodeEvent::Comes {
-            now,
-            from,
-            validation,
-        } => hear(place, *now, *from, validation),
+        NodeEvent::Frame { now, bytes } => hear(place, *now, bytes),
     }
 }
 
@@ -134,7 +129,7 @@ pub fn list_at(places: &[Place], i: NodeNo) -> Option<&List>
 }
 
 /// An event at the node of a number, where there is one.
-pub fn act_at(places: &mut [Place], i: NodeNo, event: &NodeEvent) -> Option<Answer>
+pub fn act_at(places: &mut [Place], i: NodeNo, event: &NodeEvent<'_>) -> Option<Answer>
     ensures places { places.new ≡ acted_at i (event_seen event.now) places.old }
     ensures answer { AnswersAt i (event_seen event.now) places.old result }
 {
@@ -153,7 +148,8 @@ fn restart(alloc: Global, place: &mut Place) -> Result<(), OutOfMemory>
     ensures err { OnErr result (place.new ≡ place.old) }
 {
     let seq = place.keeper.in_force;
-    place.node = Core::open(alloc, place.node.me(), place.node.list().copy(), seq)?;
+    let (me, list, keys) = (place.node.me(), place.node.list(), place.node.keys());
+    place.node = Core::open(alloc, me, list.copy(), keys.copy(), seq)?;
     place.keeper = Keeper::holding(seq);
     Ok(())
 }

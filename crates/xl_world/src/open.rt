@@ -9,13 +9,15 @@ use crate::{Plan, PlanNode};
 use std::alloc::Global;
 use xl_base::{GREATEST_NODE_NO, NodeNo, OutOfMemory};
 use xl_core::Core;
+use xl_tags::Keys;
 
 /// A node at its start, and its keeper.
 fn place(alloc: Global, node: &PlanNode) -> Result<Place, OutOfMemory>
     ensures { IfOk result (λ place. place ≡ place_of node.now) }
 {
+    let keys = Keys::of_schedule(node.me);
     Ok(Place {
-        node: Core::open(alloc, node.me, node.list.copy(), 0)?,
+        node: Core::open(alloc, node.me, node.list.copy(), keys, 0)?,
         keeper: Keeper::holding(0),
     })
 }

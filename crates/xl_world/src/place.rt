@@ -24,7 +24,7 @@ impl Keeper {
 }
 
 /// A node and its keeper.
-#[derive(Debug, Drop)]
+#[derive(Drop)]
 pub struct Place {
     pub node: Core,
     pub keeper: Keeper,

@@ -1,23 +1,93 @@
-ghost use Rattle.std.specs.Prelude.{◌≡◌};
+// What was sent: every frame of every node, as its bytes.
+ghost use Rattle.std.specs.Prelude.{◌≡◌, IfOk, IsTrue, Some, option_copied};
+ghost use Rattle.xl_core.specs.Sending.{has_spelling};
+ghost use Rattle.std.specs.List.{list_any};
+ghost use Rattle.std.specs.Str.{bytes_eq};
 ghost use Rattle.xl_world.specs.Schedule.{frame_at};
+ghost use Rattle.xl_world.specs.Seen.{frames_from};
+ghost use Rattle.xl_world.specs.World.{frame_to, frames_for, place_at};
 
-use xl_base::NodeNo;
+use crate::act::place_of;
+use crate::place::Place;
+use std::alloc::Global;
+use xl_base::{Bytes, NodeNo, OutOfMemory};
+use xl_core::Core;
 use xl_wire::Validation;
 
-/// A frame that a node has sent: a validation on its way to one receiver.
-#[derive(Clone, Copy, Debug, PartialEq, Eq)]
+/// A frame that a node has sent to one receiver.
+#[derive(Debug, Drop)]
 pub struct Sent {
     pub from: NodeNo,
     pub to: NodeNo,
-    pub validation: Validation,
+    pub bytes: Bytes,
 }
 
 /// The sent frame of a place, from 1 on.
-pub fn frame_at(sent: &[Sent], place: u64) -> Option<Sent>
-    ensures { result ≡ frame_at sent.now place }
+pub fn frame_at(sent: &[Sent], place: u64) -> Option<&Sent>
+    ensures { option_copied result ≡ frame_at sent.now place }
 {
-    match place.checked_sub(1) {
-        Some(before) => sent.get(before as usize).copied(),
-        None => None,
+    let before = place.checked_sub(1)?;
+    sent.get(before as usize)
+}
+
+/// Whether these bytes were sent.
+pub fn was_sent(sent: &[Sent], bytes: &[u8]) -> bool
+    ensures { result ≡ list_any (λ f. bytes_eq f.bytes bytes.now) sent.now }
+{
+    sent.iter().any(|frame| frame.bytes.as_slice() == bytes)
+}
+
+/// The frame of a validation from a node to a number.
+fn frame_to(
+    alloc: Global,
+    node: &Core,
+    to: NodeNo,
+    validation: &Validation,
+) -> Result<Sent, OutOfMemory>
+    ensures frame { IfOk result (λ frame. frame ≡ frame_to node.now validation.now to) }
+    ensures spelled { IsTrue (has_spelling node.now.me to validation.now) }
+{
+    let bytes = node.sealed(to, validation);
+    Ok(Sent {
+        from: node.me(),
+        to,
+        bytes: Bytes::from_vec(Vec::from_slice(alloc, &bytes)?),
+    })
+}
+
+/// A frame for each other declared number, rising.
+fn frames_for(
+    alloc: Global,
+    numbers: &[NodeNo],
+    node: &Core,
+    validation: &Validation,
+) -> Result<Vec<Sent>, OutOfMemory>
+    ensures { IfOk result (λ frames. frames.items ≡ frames_for numbers.now node.now (Some validation.now)) }
+{
+    let mut frames = Vec::with_capacity(alloc, numbers.len())?;
+    for &to in numbers {
+        if to != node.me() {
+            frames.push(frame_to(alloc, node, to, validation)?)?;
+        }
+    }
+    Ok(frames)
+}
+
+/// The frames that the node of a number would send, where there is one.
+pub fn frames_from(
+    alloc: Global,
+    numbers: &[NodeNo],
+    places: &[Place],
+    i: NodeNo,
+    validation: &Validation,
+) -> Result<Vec<Sent>, OutOfMemory>
+    ensures { IfOk result (λ frames. frames.items ≡ frames_from numbers.now validation.now (place_at i places.now)) }
+{
+    match place_of(places, i) {
+        Some(k) => {
+            let place = &places[k];
+            frames_for(alloc, numbers, &place.node, validation)
+        }
+        None => Ok(Vec::new(alloc)),
     }
 }

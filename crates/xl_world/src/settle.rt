@@ -1,7 +1,7 @@
 // What came of an event, taken into the lists of a world. The room was made before, so no call wants memory.
-ghost use Rattle.std.specs.Prelude.{◌≡◌, ◌+◌, ◌<◌, ◌≤◌, ◌++◌, Some, length, map, option_map, option_to_list, vec_len, vec_capacity};
+ghost use Rattle.std.specs.Prelude.{◌≡◌, ◌+◌, ◌<◌, ◌≤◌, ◌++◌, [], is_some, if◌then◌else◌, length, map, option_map, option_to_list, vec_len, vec_capacity};
 ghost use Rattle.xl_lists.specs.Agreement.{with_said};
-ghost use Rattle.xl_world.specs.World.{frames_for, said_by};
+ghost use Rattle.xl_world.specs.World.{said_by};
 ghost use Rattle.xl_world.specs.Seen.{outcomes_told, said_seen, report_seen, reports_seen};
 
 use crate::act::Answer;
@@ -22,34 +22,15 @@ fn push_some<T: Drop>(list: &mut Vec<T>, element: Option<T>)
     }
 }
 
-/// A frame for each other declared number, rising.
-fn send(sent: &mut Vec<Sent>, numbers: &[NodeNo], from: NodeNo, validation: &Validation)
-    requires { vec_len sent.old + length numbers.now ≤ vec_capacity sent.old }
-    ensures { sent.new.items ≡ sent.old.items ++ frames_for numbers.now from (Some validation.now) }
+/// The frames of what is issued are sent, if anything is.
+pub fn send_some(sent: &mut Vec<Sent>, frames: Vec<Sent>, issued: &Option<Validation>)
+    requires { vec_len sent.old + length frames.items ≤ vec_capacity sent.old }
+    ensures { sent.new.items ≡ sent.old.items ++ (if is_some issued.now then frames.items else []) }
 {
-    for &to in numbers {
-        if to != from {
-            let _ = sent.push(Sent {
-                from,
-                to,
-                validation: *validation,
-            });
+    if issued.is_some() {
+        for frame in frames {
+            let _ = sent.push(frame);
         }
-    }
-}
-
-/// The frames of what is issued, if anything is.
-pub fn send_some(
-    sent: &mut Vec<Sent>,
-    numbers: &[NodeNo],
-    from: NodeNo,
-    issued: &Option<Validation>,
-)
-    requires { vec_len sent.old + length numbers.now ≤ vec_capacity sent.old }
-    ensures { sent.new.items ≡ sent.old.items ++ frames_for numbers.now from issued.now }
-{
-    if let Some(validation) = issued {
-        send(sent, numbers, from, validation);
     }
 }
 

@@ -1,17 +1,24 @@
+ghost use Rattle.std.specs.Prelude.{◌≡◌, IfOk, OnErr};
+ghost use Rattle.xl_core.specs.Node.{Frame};
+ghost use Rattle.xl_world.specs.Seen.{HasHeard};
+
 use crate::act::{NodeEvent, act_at, list_at, restart_at};
 use crate::agreement::all_agree;
+use crate::forged::is_forged;
+use crate::lie::lied;
 use crate::place::{Place, Saying};
-use crate::sent::frame_at;
+use crate::sent::{frame_at, frames_from};
 use crate::settle::{report_some, say_some, send_some, tell};
 use crate::{Happened, Plan, Sent, WorldReport, open};
 use std::alloc::Global;
 use std::marker::Model;
-use xl_base::{Millis, NodeNo, OutOfMemory, secs_of};
+use xl_base::{LedgerId, Millis, NodeNo, OutOfMemory, Secs, Seq, secs_of};
 use xl_lists::List;
 use xl_sched::Event;
+use xl_wire::Validation;
 
 /// A world: the nodes, and all that they ever sent, said and reported.
-#[derive(Debug, Drop)]
+#[derive(Drop)]
 pub struct World {
     alloc: Global,
     liars: Vec<NodeNo>,
@@ -36,13 +43,14 @@ impl Model for World {
 }
 
 impl World {
-    ghost use Rattle.std.specs.Prelude.{◌≡◌, ◌≤◌, ◌↔◌, option_map, option_copied, Some, IsTrue, IfOk, OnOk, OnErr, true, false, map};
+    ghost use Rattle.std.specs.Prelude.{◌≡◌, ◌≤◌, ◌↔◌, option_map, option_copied, Some, IsTrue, IfOk, OnOk, OnErr, true};
     ghost use Rattle.xl_lists.specs.Lists.{TrustedList};
     ghost use Rattle.xl_lists.specs.Quorums.{Enough};
-    ghost use Rattle.xl_world.specs.World.{AgreeAt, Headline, list_in, start, step, Act, is_forged, place_at};
+    ghost use Rattle.xl_core.specs.Node.{Issue, Frame};
+    ghost use Rattle.xl_world.specs.World.{AgreeAt, Headline, list_in, start, step, Act, place_at};
     ghost use Rattle.xl_world.specs.Schedule.{told_of, reply_to, restart, stepped, moment_of, after_event, outcomes};
     ghost use Rattle.xl_base.specs.declared.moments.TheConstants.{GREATEST_MILLIS};
-    ghost use Rattle.xl_world.specs.Seen.{reports_seen, event_seen};
+    ghost use Rattle.xl_world.specs.Seen.{reports_seen};
 
     /// The world of a plan, at its start.
     pub fn open(alloc: Global, plan: &Plan) -> Result<World, OutOfMemory>
@@ -61,28 +69,35 @@ impl World {
         })
     }
 
-    /// An event at a node, and what is told of it. An `Err` changes nothing.
-    fn act(&mut self, node: NodeNo, event: &NodeEvent) -> Result<Happened, OutOfMemory>
-        requires { is_forged self.old node (event_seen event.now) ≡ false }
-        ensures world { OnOk result (self.new ≡ step self.old (Act node (event_seen event.now) true)) }
-        ensures told { IfOk result (λ told. told ≡ told_of node (reply_to self.old (Act node (event_seen event.now) true))) }
+    /// A node is asked to issue, and what it issues is sent. An `Err` changes nothing.
+    fn issue(&mut self, node: NodeNo, now: Secs, seq: Seq, id: LedgerId, full: bool) -> Result<Happened, OutOfMemory>
+        ensures world { OnOk result (self.new ≡ step self.old (Act node (Issue now seq id full) true)) }
+        ensures told { IfOk result (λ told. told ≡ told_of node (reply_to self.old (Act node (Issue now seq id full) true))) }
         ensures err { OnErr result (self.new ≡ self.old) }
     {
+        let validation = Validation {
+            id,
+            seq,
+            signed: now,
+            full,
+        };
         let mut outcomes = Vec::with_capacity(self.alloc, 2)?;
-        self.sent.reserve(self.numbers.len())?;
+        let frames = frames_from(self.alloc, &self.numbers, &self.places, node, &validation)?;
+        self.sent.reserve(frames.len())?;
         self.said.reserve(1)?;
         self.reports.reserve(1)?;
-        let Some(answer) = act_at(&mut self.places, node, event) else {
+        let event = NodeEvent::Issue { now, seq, id, full };
+        let Some(answer) = act_at(&mut self.places, node, &event) else {
             return Ok(Happened::from_vec(outcomes));
         };
         tell(&mut outcomes, node, &answer);
-        send_some(&mut self.sent, &self.numbers, node, &answer.issued);
+        send_some(&mut self.sent, frames, &answer.issued);
         say_some(&mut self.said, node, &answer.issued);
         report_some(&mut self.reports, answer.report);
         Ok(Happened::from_vec(outcomes))
     }
 
-    /// A sent frame is handed to its receiver; to a liar that does nothing.
+    /// A sent frame is handed to its receiver; to a liar that does nothing. It isn't forged, since it was sent.
     fn deliver(&mut self, at: Millis, place: u64) -> Result<Happened, OutOfMemory>
         requires { at ≤ GREATEST_MILLIS }
         ensures world { OnOk result (self.new ≡ after_event self.old (Event.Deliver at place)) }
@@ -92,12 +107,21 @@ impl World {
         let Some(frame) = frame_at(&self.sent, place) else {
             return Ok(Happened::nothing(self.alloc));
         };
-        let event = NodeEvent::Comes {
-            now: secs_of(at),
-            from: frame.from,
-            validation: frame.validation,
-        };
-        self.act(frame.to, &event)
+        hear_at(self.alloc, &mut self.places, &mut self.reports, frame.to, secs_of(at), frame.bytes.as_slice())
+    }
+
+    /// Bytes come to a node that no node may have sent. An `Err` changes nothing.
+    fn hear(&mut self, now: Secs, to: NodeNo, bytes: &[u8]) -> Result<Happened, OutOfMemory>
+        ensures world { OnOk result (self.new ≡ step self.old (Act to (Frame now bytes.now) true)) }
+        ensures told { IfOk result (λ told. told ≡ told_of to (reply_to self.old (Act to (Frame now bytes.now) true))) }
+        ensures err { OnErr result (self.new ≡ self.old) }
+    {
+        let forged = is_forged(&self.liars, &self.sent, &self.places, to, bytes);
+        let told = hear_at(self.alloc, &mut self.places, &mut self.reports, to, now, bytes)?;
+        if forged {
+            self.forged = self.forged.saturating_add(1);
+        }
+        Ok(told)
     }
 
     /// Opens a node anew with the number that its keeper holds.
@@ -116,22 +140,23 @@ impl World {
         ensures told { IfOk result (λ told. told ≡ outcomes self.old event.now) }
         ensures err { OnErr result (self.new ≡ self.old) }
     {
-        match *event {
+        match event {
             Event::Issue {
                 at,
                 node,
                 seq,
                 id,
                 full,
-            } => {
-                let now = secs_of(at);
-                self.act(node, &NodeEvent::Issue { now, seq, id, full })
-            }
-            Event::Deliver { at, place } => self.deliver(at, place),
+            } => self.issue(*node, secs_of(*at), *seq, *id, *full),
+            Event::Deliver { at, place } => self.deliver(*at, *place),
             Event::Restart { node, .. } => {
-                self.restart(node)?;
+                self.restart(*node)?;
                 Ok(Happened::nothing(self.alloc))
             }
+            Event::Lie { at, from, to, what } => {
+                self.hear(secs_of(*at), *to, &lied(*from, *to, what))
+            }
+            Event::Raw { at, to, bytes } => self.hear(secs_of(*at), *to, bytes.as_slice()),
         }
     }
 
@@ -163,7 +188,7 @@ impl World {
         &self.reports
     }
 
-    /// How many frames came whose named sender, no liar, had not sent them.
+    /// How many sealed frames came that no liar signed and nobody had sent; the count ends at the greatest `u64`.
     pub fn forged(&self) -> u64
         ensures { result ≡ self.now.forged }
     {
@@ -181,4 +206,29 @@ impl World {
     {
         all_agree(&self.reports, i, j)
     }
+}
+
+/// Bytes come to the node of a number, where there is one, and what it reports comes after the other reports.
+fn hear_at(
+    alloc: Global,
+    places: &mut Vec<Place>,
+    reports: &mut Vec<WorldReport>,
+    to: NodeNo,
+    now: Secs,
+    bytes: &[u8],
+) -> Result<Happened, OutOfMemory>
+    ensures heard { IfOk result (λ told.
+        HasHeard to (Frame now bytes.now) told places.old.items places.new.items reports.old.items reports.new.items) }
+    ensures err_places { OnErr result (places.new.items ≡ places.old.items) }
+    ensures err_reports { OnErr result (reports.new.items ≡ reports.old.items) }
+{
+    let mut outcomes = Vec::with_capacity(alloc, 2)?;
+    reports.reserve(1)?;
+    let event = NodeEvent::Frame { now, bytes };
+    let Some(answer) = act_at(places, to, &event) else {
+        return Ok(Happened::from_vec(outcomes));
+    };
+    tell(&mut outcomes, to, &answer);
+    report_some(reports, answer.report);
+    Ok(Happened::from_vec(outcomes))
 }
