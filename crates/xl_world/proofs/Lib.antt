@@ -1,3 +1,4 @@
+pub mod Speaking
 pub mod Settling
 pub mod NodeSteps
 pub mod Runs

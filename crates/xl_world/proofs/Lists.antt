@@ -1,5 +1,5 @@
 -- A node reports under the list that it was declared with.
-use Rattle.std.proofs.Common.{◌≡◌, ℕ, Bool, true, false, List, [], ◌∷◌, refl, ap, sym, ◌∙◌, inl, inr, Option, Some, None, subst}
+use Rattle.std.proofs.Common.{◌≡◌, ℕ, Bool, true, false, List, [], ◌∷◌, refl, ap, sym, ◌∙◌, inl, inr, Option, Some, None, Result, Ok, Err, subst}
 use Rattle.std.specs.Prelude.{◌==◌, All, map, option_map, option_to_list, nat_lt, slice_index_or}
 use Rattle.std.proofs.lemmas.Bool.{cond_both, cond-true, cond-false}
 use Rattle.std.proofs.lemmas.List.Elements.{All-append, All-nil, All-cons}
@@ -7,8 +7,11 @@ use Rattle.xl_lists.specs.Lists.{TrustedList}
 use Rattle.xl_lists.specs.Quorums.{Enough}
 use Rattle.xl_lists.specs.Agreement.{Report as Reported}
 use Rattle.xl_core.specs.declared.report.Report.{Report}
-use Rattle.xl_core.specs.declared.refusal.Refusal.TheVariants.{Stranger, NotAfter}
-use Rattle.xl_core.specs.Node.{Node, Event, Issue, Comes, Reply, issues, hears, refusing, refusal_at, is_stranger, happens, asks, opened}
+use Rattle.xl_core.specs.declared.refusal.Refusal.TheVariants.{NotAfter}
+use Rattle.xl_core.specs.declared.refusal.Refusal.{Refusal}
+use Rattle.xl_core.specs.declared.hearing.Spoken.{Spoken}
+use Rattle.xl_core.specs.Hearing.{heard}
+use Rattle.xl_core.specs.Node.{Node, Event, Issue, Frame, Reply, issues, hears, hearing, refusing, refusal_at, happens, asks, opened}
 use Rattle.xl_wire.specs.declared.validation.Validation.{Validation}
 use Rattle.xl_validations.specs.declared.refusal.ValRefusal.{ValRefusal}
 use Rattle.xl_world.specs.declared.place.Keeper.{Keeper}
@@ -55,19 +58,22 @@ hears_keep : (n : Node) (now from : ℕ) (v : Validation) (o : Option ValRefusal
 hears_keep n now from v None = (refl, refl)
 hears_keep n now from v (Some why) = (refl, refl)
 
+hearing_keeps : (n : Node) (now : ℕ) (said : Result Spoken Refusal) → KeepsList n (hearing n now said)
+hearing_keeps n now (Ok said) = hears_keep n now said.from said.validation (refusal_at n now said.from said.validation)
+hearing_keeps n now (Err why) = (refl, refl)
+
 pub happens_keeps : (n : Node) (e : Event) (saved : Bool) → KeepsList n (happens n e saved)
 happens_keeps n (Issue now seq id full) saved =
     cond_both (nat_lt n.kept seq) (issues n now saved _) (refusing n (NotAfter n.kept)) (KeepsList n) (λ _. issues_keep n now saved _) (λ _. (refl, refl))
-happens_keeps n (Comes now from v) saved =
-    cond_both (is_stranger n from) (refusing n (Stranger from)) (hears n now from v (refusal_at n now from v)) (KeepsList n) (λ _. (refl, refl)) (λ _. hears_keep n now from v (refusal_at n now from v))
+happens_keeps n (Frame now bytes) saved = hearing_keeps n now (heard n.keys n.list.members bytes)
 
 acts_lists : (plan : List PlanNode) (w : World) (i : ℕ) (e : Event) (saved : Bool) → HasLists plan w → (o : Option Place) → place_at i w.places ≡ o → HasLists plan (acts w i e saved o)
 acts_lists plan w i e saved has None at = has
 acts_lists plan w i e saved has (Some p) at =
-    settled_lists plan w i (is_forged w i e) p (happens p.node e saved) (after_save p.keeper (asks p.node e) saved) at (happens_keeps p.node e saved).0 (happens_keeps p.node e saved).1 has
+    settled_lists plan w i (is_forged w p.node e) p (happens p.node e saved) (after_save p.keeper (asks p.node e) saved) at (happens_keeps p.node e saved).0 (happens_keeps p.node e saved).1 has
 
 reopened_lists : (plan : List PlanNode) (w : World) (i number : ℕ) → HasLists plan w → (p : Place) → place_at i w.places ≡ Some p → HasLists plan (reopened w i p.node number)
-reopened_lists plan w i number has p at = settled_lists plan w i false p (quiet (opened p.node.me p.node.list number)) (holding number) at refl refl has
+reopened_lists plan w i number has p at = settled_lists plan w i false p (quiet (opened p.node.me p.node.list p.node.keys number)) (holding number) at refl refl has
 
 again_lists : (plan : List PlanNode) (w : World) (i number : ℕ) → HasLists plan w → (o : Option Place) → place_at i w.places ≡ o → HasLists plan (again w i number o)
 again_lists plan w i number has None at = has

@@ -1,6 +1,6 @@
 -- What each event at a node shows.
-use Rattle.std.proofs.Common.{◌≡◌, ℕ, ◌<◌, ◌≤◌, Bool, true, false, cond, List, [], ◌∷◌, refl, arith, ap, sym, ◌∙◌, inl, inr, Option, Some, None, subst}
-use Rattle.std.specs.Prelude.{◌==◌, ◌||◌, not, All, IfSome, map, find, filter_map, option_map, nat_lt, nat_le}
+use Rattle.std.proofs.Common.{◌≡◌, ℕ, ◌<◌, ◌≤◌, Bool, true, false, cond, List, [], ◌∷◌, refl, arith, ap, sym, ◌∙◌, inl, inr, Option, Some, None, Result, Ok, Err, subst}
+use Rattle.std.specs.Prelude.{◌==◌, All, IfSome, map, find, filter_map, option_map, nat_lt, nat_le}
 use Rattle.std.specs.Option.{is_none}
 use Rattle.std.proofs.lemmas.Bool.{and_parts, eqb-true, cond_both, ltb-true, leb-true}
 use Rattle.std.proofs.lemmas.List.Elements.{All-map, All-head, All-tail, All-cons}
@@ -11,8 +11,12 @@ use Rattle.xl_validations.specs.declared.row.Row.{Row}
 use Rattle.xl_validations.specs.declared.refusal.ValRefusal.{ValRefusal}
 use Rattle.xl_validations.specs.Rows.{refusal, with_validation, at_member, count_full, empty_row}
 use Rattle.xl_core.specs.declared.report.Report.{Report}
-use Rattle.xl_core.specs.declared.refusal.Refusal.TheVariants.{Stranger, NotAfter}
-use Rattle.xl_core.specs.Node.{Node, Event, Issue, Comes, Reply, take, with_taken, saving, arises, arisen, report_of, refusing, issues, hears, refusal_at, is_stranger, asks, happens, opened}
+use Rattle.xl_core.specs.declared.refusal.Refusal.TheVariants.{NotAfter}
+use Rattle.xl_core.specs.declared.refusal.Refusal.{Refusal}
+use Rattle.xl_core.specs.declared.hearing.Spoken.{Spoken}
+use Rattle.xl_core.specs.Hearing.{heard}
+use Rattle.xl_tags.specs.Rings.{Ring}
+use Rattle.xl_core.specs.Node.{Node, Event, Issue, Frame, Reply, take, with_taken, saving, arises, arisen, report_of, refusing, issues, hears, refusal_at, hearing, asks, happens, opened}
 use Rattle.xl_world.specs.declared.place.Keeper.{Keeper}
 use Rattle.xl_world.specs.Keeper.{MayHold, holding, after_save}
 use Rattle.xl_world.specs.declared.place.Place.{Place}
@@ -130,22 +134,24 @@ hears_steps p now from v None well = record {
   quorum = arisen_quorum (with_taken p.node now from v);
 }
 
+hearing_steps : (p : Place) (now : ℕ) (said : Result Spoken Refusal) → IsWell p → IsStep p (hearing p.node now said) p.keeper
+hearing_steps p now (Ok said) well = hears_steps p now said.from said.validation (refusal_at p.node now said.from said.validation) well
+hearing_steps p now (Err why) well = still p (refusing p.node why) refl refl refl well
+
 pub happens_steps : (p : Place) (e : Event) (saved : Bool) → IsWell p → IsStep p (happens p.node e saved) (after_save p.keeper (asks p.node e) saved)
 happens_steps p (Issue now seq id full) saved well = issue_steps p now _ (nat_lt p.node.kept seq) saved (λ e. ltb-true _ _ e) well
-happens_steps p (Comes now from v) saved well =
-    cond_both (is_stranger p.node from) (refusing p.node (Stranger from)) (hears p.node now from v (refusal_at p.node now from v)) (λ r. IsStep p r p.keeper)
-    (λ _. still p (refusing p.node (Stranger from)) refl refl refl well) (λ _. hears_steps p now from v (refusal_at p.node now from v) well)
+happens_steps p (Frame now bytes) saved well = hearing_steps p now (heard p.node.keys p.node.list.members bytes) well
 
 -- WHAT STANDS AT THE NODE
 
--- P holds of what came, unless it came under the node's own number
+-- P holds of what is heard
 abbrev pub HeardSays : (Said → Type 0) → Node → Event → Type 0
 HeardSays P n (Issue now seq id full) = Unit {0}
-HeardSays P n (Comes now from v) = (from == n.me) ≡ false → P (said_by from v)
+HeardSays P n (Frame now bytes) = (said : Spoken) → heard n.keys n.list.members bytes ≡ Ok said → P (said_by said.from said.validation)
 
 pub heard_weaker : (P Q : Said → Type 0) → ((x : Said) → P x → Q x) → (n : Node) (e : Event) → HeardSays P n e → HeardSays Q n e
-heard_weaker P Q h n (Issue now seq id full) heard = tt
-heard_weaker P Q h n (Comes now from v) heard = λ other. h (said_by from v) (heard other)
+heard_weaker P Q h n (Issue now seq id full) says = tt
+heard_weaker P Q h n (Frame now bytes) says = λ said is. h (said_by said.from said.validation) (says said is)
 
 issue_says : (P : Said → Type 0) (n : Node) (now : ℕ) (v : Validation) (b saved : Bool) → NodeSays P n →
     IfSome (cond b (issues n now saved v) (refusing n (NotAfter n.kept))).issued (λ u. P (said_by n.me u)) →
@@ -158,38 +164,35 @@ hears_says : (P : Said → Type 0) (n : Node) (now from : ℕ) (v : Validation) 
 hears_says P n now from v (Some why) says fair = record { node = says; issued = tt }
 hears_says P n now from v None says fair = record { node = rows_say P now from v fair n.rows says; issued = tt }
 
--- a number that is no stranger is not the node's own
-not_me : (me on : Bool) → (me || not on) ≡ false → me ≡ false
-not_me me on h = grind arith
+hearing_says : (P : Said → Type 0) (n : Node) (now : ℕ) (r : Result Spoken Refusal) → NodeSays P n → ((said : Spoken) → r ≡ Ok said → P (said_by said.from said.validation)) → ReplySays P n.me (hearing n now r)
+hearing_says P n now (Ok said) says fair = hears_says P n now said.from said.validation (refusal_at n now said.from said.validation) says (fair said refl)
+hearing_says P n now (Err why) says fair = record { node = says; issued = tt }
 
 -- what holds of what stands at the node, of what came and of what is issued holds of what stands there then
 pub happens_says : (P : Said → Type 0) (n : Node) (e : Event) (saved : Bool) → NodeSays P n → HeardSays P n e →
     IfSome (happens n e saved).issued (λ v. P (said_by n.me v)) → ReplySays P n.me (happens n e saved)
 happens_says P n (Issue now seq id full) saved says heard fair = issue_says P n now _ (nat_lt n.kept seq) saved says fair
-happens_says P n (Comes now from v) saved says heard fair =
-    cond_both (is_stranger n from) (refusing n (Stranger from)) (hears n now from v (refusal_at n now from v)) (ReplySays P n.me)
-    (λ _. record { node = says; issued = tt })
-    (λ e. hears_says P n now from v (refusal_at n now from v) says (heard (not_me (from == n.me) _ e)))
+happens_says P n (Frame now bytes) saved says fair issued = hearing_says P n now (heard n.keys n.list.members bytes) says fair
 
 -- a node that is opened has nothing
-pub opened_says : (P : Said → Type 0) (me : ℕ) (list : TrustedList) (kept : ℕ) → NodeSays P (opened me list kept)
-opened_says P me list kept = All-map (RowSays P) empty_row list.members (λ _ _ _. tt)
+pub opened_says : (P : Said → Type 0) (me : ℕ) (list : TrustedList) (keys : Ring) (kept : ℕ) → NodeSays P (opened me list keys kept)
+opened_says P me list keys kept = All-map (RowSays P) empty_row list.members (λ _ _ _. tt)
 
-pub opened_well : (me : ℕ) (list : TrustedList) (number : ℕ) → IsValid list → IsWell (record { node = opened me list number; keeper = holding number })
-opened_well me list number valid = record { members = members_opened list.members; valid = valid; in_force = refl }
+pub opened_well : (me : ℕ) (list : TrustedList) (keys : Ring) (number : ℕ) → IsValid list → IsWell (record { node = opened me list keys number; keeper = holding number })
+opened_well me list keys number valid = record { members = members_opened list.members; valid = valid; in_force = refl }
 
 -- a save is asked above the number that was kept
 pub asks_above : (n : Node) (e : Event) → IfSome (asks n e) (λ s. n.kept < s)
 asks_above n (Issue now seq id full) = cond_both (nat_lt n.kept seq) (Some seq) None (λ o. IfSome o (λ s. n.kept < s)) (λ e. ltb-true _ _ e) (λ _. tt)
-asks_above n (Comes now from v) = tt
+asks_above n (Frame now bytes) = tt
 
 -- a node opened again with a number that is not below its keeper's
 pub opened_steps : (p : Place) (number : ℕ) → IsWell p → (i : ℕ) × (i ≤ number) × MayHold p.keeper i →
-    IsStep p (quiet (opened p.node.me p.node.list number)) (holding number)
+    IsStep p (quiet (opened p.node.me p.node.list p.node.keys number)) (holding number)
 opened_steps p number well low = record {
   me = refl;
   list = refl;
-  well = opened_well p.node.me p.node.list number well.valid;
+  well = opened_well p.node.me p.node.list p.node.keys number well.valid;
   rises = λ j h. (low.0, omega (arith, held number j h, low.1), low.2);
   above = tt;
   saved = tt;

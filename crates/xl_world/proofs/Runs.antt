@@ -1,20 +1,30 @@
 -- Each step of an unforged run keeps what is kept, so reports agree.
-use Rattle.std.proofs.Common.{◌≡◌, ℕ, ◌+◌, ◌<◌, ◌≤◌, Bool, true, false, cond, List, [], ◌∷◌, ◌++◌, refl, arith, ap, sym, ◌∙◌, inl, inr, Option, Some, None, subst}
-use Rattle.std.specs.Prelude.{◌==◌, ◌&&◌, ◌⊎◌, All, IfSome, not, slice_index_or}
+use Rattle.std.proofs.Common.{◌≡◌, ℕ, ◌+◌, ◌<◌, ◌≤◌, Bool, true, false, cond, List, [], ◌∷◌, ◌++◌, length, refl, arith, ap, sym, ◌∙◌, inl, inr, Option, Some, None, Ok, subst}
+use Rattle.std.specs.Prelude.{◌==◌, ◌&&◌, ◌⊎◌, All, IfSome, nat_le, not, slice_index_or}
 use Rattle.std.specs.List.{list_any}
 use Rattle.std.proofs.lemmas.Bool.{and_parts, or_left, or_cases, eqb-true, cond_both}
 use Rattle.std.proofs.lemmas.List.Elements.{All-map, All-head, All-tail, All-nil}
 use Rattle.xl_base.specs.declared.ids.LedgerId.{LedgerId}
+use Rattle.std.proofs.lemmas.Slice.Eq.{bytes_eq-Decides}
 use Rattle.xl_lists.specs.Lists.{is_on}
+use Rattle.xl_wire.specs.Heads.{split_of}
+use Rattle.xl_wire.specs.Kinds.{span}
+use Rattle.xl_wire.specs.Raws.{RawFrame}
+use Rattle.xl_tags.specs.Opening.{is_sealed}
+use Rattle.xl_tags.specs.Rings.{schedule_ring}
+use Rattle.xl_core.specs.declared.hearing.Spoken.{Spoken}
+use Rattle.xl_core.specs.Hearing.{heard}
+use Rattle.xl_core.proofs.Heard.{IsHeard, heard_parts}
+use Rattle.xl_world.proofs.Speaking.{heard_said}
 use Rattle.xl_lists.specs.Agreement.{Said, IsGenuine, IsBacked, Agree}
 use Rattle.xl_lists.proofs.Agreement.{agreement_from_kept, vouches_still, same_id-true}
 use Rattle.xl_wire.specs.declared.validation.Validation.{Validation}
-use Rattle.xl_core.specs.Node.{Node, Event, Issue, Comes, Reply, asks, happens, opened}
+use Rattle.xl_core.specs.Node.{Node, Event, Issue, Frame, Reply, asks, happens, opened}
 use Rattle.xl_world.specs.declared.place.Keeper.{Keeper}
 use Rattle.xl_world.specs.Keeper.{MayHold, may_hold, is_asked, holding, after_save}
 use Rattle.xl_world.specs.declared.place.Place.{Place}
 use Rattle.xl_world.specs.declared.plan.PlanNode.{PlanNode}
-use Rattle.xl_world.specs.World.{World, Step, Act, Again, Torn, place_at, said_by, was_sent, is_forged, acts, reopened, quiet, again, torn, asked_at, step, run, place_of, start, AreDeclared, FrameSays, NodeSays, Stands, IsRun}
+use Rattle.xl_world.specs.World.{World, Step, Act, Again, Torn, place_at, said_by, said_in, was_sent, forges, is_forged, one_more, acts, reopened, quiet, again, torn, asked_at, step, run, place_of, start, AreDeclared, FrameSays, NodeSays, Stands, IsRun}
 use Rattle.xl_world.proofs.Settling.{IsWell, IsSound, ReplySays, GenuineThen, spoken, settled_sound, issued_genuine, node_weaker, at_its_number, some_same}
 use Rattle.xl_world.proofs.NodeSteps.{happens_steps, happens_says, HeardSays, heard_weaker, opened_says, opened_well, opened_steps, asks_above, failed_rises}
 
@@ -27,49 +37,54 @@ from_found p P R (x ∷ xs) found each then_ =
     elim (or_cases (p x) (list_any p xs) found)
     [ inl here ↦ then_ x here (All-head P x xs each) | inr there ↦ from_found p P R xs there (All-tail P x xs each) then_ ]
 
--- what is not forged comes from a liar or was sent
-unforged : (me liar sent : Bool) → (not me && not liar && not sent) ≡ false → me ≡ false → (liar ≡ true) ⊎ (sent ≡ true)
-unforged me liar sent h e = grind arith
-
-said_equal : (m k s t : ℕ) (a b : LedgerId) → m ≡ k → s ≡ t → a ≡ b → (let x : Said = record { member = m; seq = s; id = a } in x) ≡ record { member = k; seq = t; id = b }
-said_equal m k s t a b e f g = cc
+-- what is not forged, though it is a sealed frame to the node, comes from a liar or was sent
+unforged : (last mine liar sent right : Bool) → (last && mine && not liar && not sent && right) ≡ false → last ≡ true → mine ≡ true → right ≡ true → (liar ≡ true) ⊎ (sent ≡ true)
+unforged last mine liar sent right h a b c = grind arith
 
 -- what was sent says what comes
-sent_says : (P : Said → Type 0) (w : World) (from i : ℕ) (v : Validation) → All (FrameSays P) w.sent → was_sent w from i v ≡ true → P (said_by from v)
-sent_says P w from i v says sent =
+sent_says : (P : Said → Type 0) (w : World) (bytes : List ℕ) (x : Said) → All (FrameSays P) w.sent → was_sent w bytes ≡ true → said_in bytes ≡ Some x → P x
+sent_says P w bytes x says sent is =
     from_found _ (FrameSays P) _ w.sent sent says
     (λ f same says_f.
-    let outer = and_parts (f.from == from && f.to == i) _ same in
-    let named = eqb-true _ _ (and_parts (f.from == from) _ outer.0).0 in
-    let inner = and_parts (f.validation.seq == v.seq) _ outer.1 in
-    subst P (said_equal f.from from f.validation.seq v.seq f.validation.id v.id named (eqb-true _ _ inner.0) (same_id-true _ _ inner.1)) says_f)
+    let equal : f.bytes ≡ bytes = (bytes_eq-Decides f.bytes bytes).0 same in
+    subst (λ o. IfSome o P) (ap said_in equal ∙ is) says_f)
 
-heard_genuine : (w : World) (i : ℕ) (n : Node) → n.me ≡ i → Stands w (IsGenuine w.liars w.said) → (e : Event) → is_forged w i e ≡ false → HeardSays (IsGenuine w.liars w.said) n e
-heard_genuine w i n its stands (Issue now seq id full) fair = tt
-heard_genuine w i n its stands (Comes now from v) fair = λ other.
-    elim (unforged (from == i) (is_on w.liars from) (was_sent w from i v) fair (subst (λ (k : ℕ). (from == k) ≡ false) its other)) [
-      | inl liar ↦ or_left _ _ liar
-      | inr sent ↦ sent_says (IsGenuine w.liars w.said) w from i v stands.sent sent
+heard_unforged : (w : World) (n : Node) → Stands w (IsGenuine w.liars w.said) → (bytes : List ℕ) → forges w n.keys bytes (split_of bytes) ≡ false →
+    (said : Spoken) → IsHeard n.keys n.list.members bytes said → IsGenuine w.liars w.said (said_by said.from said.validation)
+heard_unforged w n stands bytes fair said heard =
+    let f : RawFrame = heard.frame in
+    elim (unforged (nat_le (length bytes) (span f.body)) (f.to == n.keys.me) (is_on w.liars f.from) (was_sent w bytes) (is_sealed n.keys f)
+    (ap (forges w n.keys bytes) (sym heard.split) ∙ fair) heard.last heard.for_me heard.is_sealed) [
+      | inl liar ↦ or_left _ _ (ap (is_on w.liars) heard.from ∙ liar)
+      | inr sent ↦ sent_says (IsGenuine w.liars w.said) w bytes (said_by said.from said.validation) stands.sent sent (heard_said n.keys n.list.members bytes said heard)
     ]
+
+heard_genuine : (w : World) (n : Node) → Stands w (IsGenuine w.liars w.said) → (e : Event) → is_forged w n e ≡ false → HeardSays (IsGenuine w.liars w.said) n e
+heard_genuine w n stands (Issue now seq id full) fair = tt
+heard_genuine w n stands (Frame now bytes) fair = λ said is. heard_unforged w n stands bytes fair said (heard_parts n.keys n.list.members bytes said is)
+
+-- one more is not none
+never_none : (k : ℕ) → one_more k ≡ 0 → ⊥
+never_none k h = omega (arith, h)
 
 -- THE STEPS
 
-act_sound : (w : World) (i : ℕ) (e : Event) (saved : Bool) → IsSound w → (o : Option Place) → place_at i w.places ≡ o → (acts w i e saved o).forged ≡ w.forged → IsSound (acts w i e saved o)
+act_sound : (w : World) (i : ℕ) (e : Event) (saved : Bool) → IsSound w → (o : Option Place) → place_at i w.places ≡ o → (acts w i e saved o).forged ≡ 0 → IsSound (acts w i e saved o)
 act_sound w i e saved sound None at same = sound
 act_sound w i e saved sound (Some p) at same =
     let its : p.node.me ≡ i = at_its_number i w.places p at in
     let r : Reply = happens p.node e saved in
     let still = λ (x : Said). vouches_still w.liars w.said (spoken i r.issued) x.member x.seq x.id in
-    settled_sound w i (is_forged w i e) p r (after_save p.keeper (asks p.node e) saved) at (happens_steps p e saved (sound.well i p at))
+    settled_sound w i (is_forged w p.node e) p r (after_save p.keeper (asks p.node e) saved) at (happens_steps p e saved (sound.well i p at))
     (subst (λ m. ReplySays (GenuineThen w i r) m r) its
     (happens_says (GenuineThen w i r) p.node e saved
     (node_weaker (IsGenuine w.liars w.said) (GenuineThen w i r) still p.node (sound.kept.genuine.places i p at))
-    (heard_weaker (IsGenuine w.liars w.said) (GenuineThen w i r) still p.node e (heard_genuine w i p.node its sound.kept.genuine e (not_forged (is_forged w i e) w.forged same)))
+    (heard_weaker (IsGenuine w.liars w.said) (GenuineThen w i r) still p.node e (heard_genuine w p.node sound.kept.genuine e (not_forged (is_forged w p.node e) w.forged same)))
     (subst (λ m. IfSome r.issued (λ v. GenuineThen w i r (said_by m v))) (sym its) (issued_genuine w.liars w.said i r.issued))))
     sound
   where
-    not_forged : (b : Bool) (k : ℕ) → cond b (k + 1) k ≡ k → b ≡ false
-    not_forged true k h = absurd (omega arith)
+    not_forged : (b : Bool) (k : ℕ) → cond b (one_more k) k ≡ 0 → b ≡ false
+    not_forged true k h = absurd (never_none k h)
     not_forged false k h = refl
 
 -- a test that passes says that the keeper may hold it
@@ -83,9 +98,9 @@ may_hold-true k n h = elim (or_cases (n == k.in_force) (is_asked k.asked n) h) [
 -- a node opened again with a number that is not below its keeper's
 reopened_sound : (w : World) (i number : ℕ) → IsSound w → (p : Place) → place_at i w.places ≡ Some p → (k : ℕ) × (k ≤ number) × MayHold p.keeper k → IsSound (reopened w i p.node number)
 reopened_sound w i number sound p at low =
-    settled_sound w i false p (quiet (opened p.node.me p.node.list number)) (holding number) at
+    settled_sound w i false p (quiet (opened p.node.me p.node.list p.node.keys number)) (holding number) at
     (opened_steps p number (sound.well i p at) low)
-    (record { node = opened_says (IsGenuine w.liars w.said) p.node.me p.node.list number; issued = tt }) sound
+    (record { node = opened_says (IsGenuine w.liars w.said) p.node.me p.node.list p.node.keys number; issued = tt }) sound
 
 again_sound : (w : World) (i number : ℕ) → IsSound w → (o : Option Place) → place_at i w.places ≡ o → IsSound (again w i number o)
 again_sound w i number sound None at = sound
@@ -105,30 +120,30 @@ torn_at : (w : World) (i number : ℕ) (e : Event) → IsSound w → (o : Option
 torn_at w i number e sound None at = sound
 torn_at w i number e sound (Some p) at = torn_sound w i number sound p at (asks p.node e) (asks_above p.node e)
 
-step_sound : (w : World) (s : Step) → (step w s).forged ≡ w.forged → IsSound w → IsSound (step w s)
+step_sound : (w : World) (s : Step) → (step w s).forged ≡ 0 → IsSound w → IsSound (step w s)
 step_sound w (Act i e saved) same sound = act_sound w i e saved sound (place_at i w.places) refl same
 step_sound w (Again i number) same sound = again_sound w i number sound (place_at i w.places) refl
 step_sound w (Torn i e number) same sound = torn_at w i number e sound (place_at i w.places) refl
 
 -- WHAT STAYS OVER A RUN
 
--- the liars stay, and the count of forged frames does not fall
+-- the liars stay, and where no frame was forged in the end none was at first
 pub record Stays (w v : World) : Type 0 where
   pub liars : v.liars ≡ w.liars
-  pub forged : w.forged ≤ v.forged
+  pub forged : v.forged ≡ 0 → w.forged ≡ 0
 
 acts_stays : (w : World) (i : ℕ) (e : Event) (saved : Bool) (o : Option Place) → Stays w (acts w i e saved o)
-acts_stays w i e saved None = record { liars = refl; forged = omega arith }
-acts_stays w i e saved (Some p) = record { liars = refl; forged = cond_both (is_forged w i e) (w.forged + 1) w.forged (λ k. w.forged ≤ k) (λ _. omega arith) (λ _. omega arith) }
+acts_stays w i e saved None = record { liars = refl; forged = λ h. h }
+acts_stays w i e saved (Some p) = record { liars = refl; forged = cond_both (is_forged w p.node e) (one_more w.forged) w.forged (λ k. k ≡ 0 → w.forged ≡ 0) (λ _ h. absurd (never_none w.forged h)) (λ _ h. h) }
 
 again_stays : (w : World) (i number : ℕ) (o : Option Place) → Stays w (again w i number o)
-again_stays w i number None = record { liars = refl; forged = omega arith }
+again_stays w i number None = record { liars = refl; forged = λ h. h }
 again_stays w i number (Some p) =
-    cond_both (may_hold p.keeper number) (reopened w i p.node number) w (Stays w) (λ _. record { liars = refl; forged = omega arith }) (λ _. record { liars = refl; forged = omega arith })
+    cond_both (may_hold p.keeper number) (reopened w i p.node number) w (Stays w) (λ _. record { liars = refl; forged = λ h. h }) (λ _. record { liars = refl; forged = λ h. h })
 
 torn_stays : (w : World) (i number : ℕ) (o : Option Place) (asked : Option ℕ) → Stays w (torn w i number o asked)
-torn_stays w i number None asked = record { liars = refl; forged = omega arith }
-torn_stays w i number (Some p) None = record { liars = refl; forged = omega arith }
+torn_stays w i number None asked = record { liars = refl; forged = λ h. h }
+torn_stays w i number (Some p) None = record { liars = refl; forged = λ h. h }
 torn_stays w i number (Some p) (Some s) = again_stays w i number (Some (record { node = p.node; keeper = after_save p.keeper (Some s) false }))
 
 pub step_stays : (w : World) (s : Step) → Stays w (step w s)
@@ -137,19 +152,16 @@ step_stays w (Again i number) = again_stays w i number (place_at i w.places)
 step_stays w (Torn i e number) = torn_stays w i number (place_at i w.places) (asked_at (place_at i w.places) e)
 
 pub run_stays : (w : World) (ss : List Step) → Stays w (run w ss)
-run_stays w [] = record { liars = refl; forged = omega arith }
+run_stays w [] = record { liars = refl; forged = λ h. h }
 run_stays w (s ∷ ss) =
     let first = step_stays w s in
     let rest = run_stays (step w s) ss in
-    record { liars = rest.liars ∙ first.liars; forged = omega (arith, first.forged, rest.forged) }
+    record { liars = rest.liars ∙ first.liars; forged = λ h. first.forged (rest.forged h) }
 
 -- each world of an unforged run is sound
-pub run_sound : (w : World) (ss : List Step) → (run w ss).forged ≡ w.forged → IsSound w → IsSound (run w ss)
+pub run_sound : (w : World) (ss : List Step) → (run w ss).forged ≡ 0 → IsSound w → IsSound (run w ss)
 run_sound w [] none sound = sound
-run_sound w (s ∷ ss) none sound =
-    let first = step_stays w s in
-    let rest = run_stays (step w s) ss in
-    run_sound (step w s) ss (omega (arith, first.forged, rest.forged)) (step_sound w s (omega (arith, first.forged, rest.forged)) sound)
+run_sound w (s ∷ ss) none sound = run_sound (step w s) ss none (step_sound w s ((run_stays (step w s) ss).forged none) sound)
 
 -- what holds of each place holds of the one of a number
 pub each_at : (P : Place → Type 0) (i : ℕ) (ps : List Place) (p : Place) → All P ps → place_at i ps ≡ Some p → P p
@@ -165,12 +177,12 @@ start_sound liars plan lists = record {
     once = λ m s a b said _. cc;
     genuine = record {
       places = λ i p h. each_at (λ x. NodeSays (IsGenuine liars []) x.node) i _ p
-          (All-map (λ x. NodeSays (IsGenuine liars []) x.node) place_of plan (λ k e _. let d : PlanNode = slice_index_or plan k e in opened_says (IsGenuine liars []) d.me d.list 0)) h;
+          (All-map (λ x. NodeSays (IsGenuine liars []) x.node) place_of plan (λ k e _. let d : PlanNode = slice_index_or plan k e in opened_says (IsGenuine liars []) d.me d.list (schedule_ring d.me) 0)) h;
       sent = All-nil (FrameSays (IsGenuine liars []));
     };
     backed = All-nil (IsBacked liars []);
   };
-  well = λ i p h. each_at IsWell i _ p (All-map IsWell place_of plan (λ k e in_plan. let d : PlanNode = slice_index_or plan k e in opened_well d.me d.list 0 (lists k e in_plan).list)) h;
+  well = λ i p h. each_at IsWell i _ p (All-map IsWell place_of plan (λ k e in_plan. let d : PlanNode = slice_index_or plan k e in opened_well d.me d.list (schedule_ring d.me) 0 (lists k e in_plan).list)) h;
 }
 
 -- reports agree, in each unforged run

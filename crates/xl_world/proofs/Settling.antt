@@ -1,6 +1,6 @@
 -- A world stays sound when an event at a node is settled, whatever the event was.
 use Rattle.std.proofs.Common.{◌≡◌, ℕ, ◌<◌, ◌≤◌, Bool, List, [], ◌∷◌, arith, ap, sym, ◌∙◌, inl, inr, Option, Some, None, subst}
-use Rattle.std.specs.Prelude.{◌==◌, ◌&&◌, ◌⊎◌, All, IsTrue, IfSome, map, filter, not, count_by, option_map, option_to_list}
+use Rattle.std.specs.Prelude.{◌==◌, ◌&&◌, ◌⊎◌, All, IsTrue, IfSome, map, count_by, option_map, option_to_list}
 use Rattle.std.proofs.lemmas.Bool.{and_parts, or_right, eqb-true, eqb-false, cond_both, cond-true, cond-false}
 use Rattle.std.proofs.lemmas.List.Elements.{All-append, All-weaker, All-nil, All-cons, All-map}
 use Rattle.xl_base.specs.declared.ids.LedgerId.{LedgerId}
@@ -16,7 +16,8 @@ use Rattle.xl_core.specs.Node.{Node, Reply}
 use Rattle.xl_world.specs.declared.place.Keeper.{Keeper}
 use Rattle.xl_world.specs.Keeper.{MayHold}
 use Rattle.xl_world.specs.declared.place.Place.{Place}
-use Rattle.xl_world.specs.World.{World, place_at, put, frames_for, said_by, reported_by, settled, Holds, RowSays, FrameSays, NodeSays, IsKept}
+use Rattle.xl_world.proofs.Speaking.{frames_say}
+use Rattle.xl_world.specs.World.{World, place_at, put, said_in, said_by, reported_by, settled, Holds, RowSays, FrameSays, NodeSays, IsKept}
 
 -- a node's rows are its list's, on which each member stands once, and the number that it kept is its keeper's
 pub record IsWell (p : Place) : Type 0 where
@@ -104,11 +105,6 @@ pub issued_genuine : (liars : List ℕ) (said : List Said) (i : ℕ) (o : Option
 issued_genuine liars said i None = tt
 issued_genuine liars said i (Some v) = or_right _ _ (now_said said (said_by i v))
 
--- the frames of what is issued say it
-frames_say : (P : Said → Type 0) (numbers : List ℕ) (i : ℕ) (o : Option Validation) → IfSome o (λ v. P (said_by i v)) → All (FrameSays P) (frames_for numbers i o)
-frames_say P numbers i None h = All-nil (FrameSays P)
-frames_say P numbers i (Some v) h = All-map (FrameSays P) _ (filter (λ k. not (k == i)) numbers) (λ _ _ _. h)
-
 -- the report of a node whose rows are genuine has its quorum
 report_backed : (liars : List ℕ) (said : List Said) (p : Place) → IsWell p → All (RowSays (IsGenuine liars said)) p.node.rows →
     (o : Option Report) → IfSome o (λ q. p.node.list.quorum ≤ count_full q.seq q.id p.node.rows) → All (IsBacked liars said) (option_to_list (option_map (reported_by p.node) o))
@@ -163,8 +159,8 @@ settled_sound w i forged p r k at steps says sound =
               | inr (_, there) ↦ node_weaker (IsGenuine w.liars w.said) (GenuineThen w i r) before x.node (sound.kept.genuine.places j x there)
             ];
             sent = All-append (FrameSays (GenuineThen w i r)) _ _
-                (All-weaker (FrameSays (IsGenuine w.liars w.said)) _ (λ f. before (said_by f.from f.validation)) w.sent sound.kept.genuine.sent)
-                (frames_say (GenuineThen w i r) w.numbers i r.issued says.issued);
+                (All-weaker (FrameSays (IsGenuine w.liars w.said)) _ (λ f. if_some _ _ before (said_in f.bytes)) w.sent sound.kept.genuine.sent)
+                (frames_say (GenuineThen w i r) w.numbers r.node r.issued (subst (λ m. IfSome r.issued (λ v. GenuineThen w i r (said_by m v))) its says.issued));
           });
       well = λ j x h. elim (put_cases j q w.places x h) [
         | inl (_, same) ↦ subst (λ (y : Place). IsWell y) (sym same) steps.well
