@@ -1,6 +1,6 @@
 -- A node's line declares a node: its number is a member's and its list is a list.
 use Rattle.std.proofs.Common.{◌≡◌, ℕ, ◌≤◌, Bool, true, false, cond, List, [], ◌∷◌, length, refl, arith, Option, Some, None, Result, Ok, Err}
-use Rattle.std.specs.Prelude.{◌==◌, ◌&&◌, not, nat_lt, nat_le, find, option_map, IfOk, IfSome}
+use Rattle.std.specs.Prelude.{◌==◌, ◌&&◌, ◌||◌, not, nat_lt, nat_le, find, option_map, IfOk, IfSome}
 use Rattle.std.specs.Option.{option_or}
 use Rattle.std.proofs.lemmas.Bool.{cond_both, and_parts, leb-true, ltb-true}
 use Rattle.std.proofs.lemmas.Bool.Decides.{nat_tests}
@@ -22,7 +22,7 @@ use Rattle.xl_sched.specs.Tokens.{tokens}
 use Rattle.xl_sched.specs.Numbers.{is_number, value_of, number_of}
 use Rattle.xl_sched.specs.Names.{new_name_of, id_of}
 use Rattle.xl_sched.specs.Members.{member_of, new_member_of, members_of, trusted_of, unless_refused}
-use Rattle.xl_sched.specs.Words.{Reading, mode_of, node_of, node_line, has_most_names, named_line, issue_event, deliver_event, restart_event, event_line, line_of, line_if_word, word_of, worded_line}
+use Rattle.xl_sched.specs.Words.{Reading, mode_of, node_of, node_line, liar_line, has_most_names, named_line, issue_event, deliver_event, restart_event, lie_event, raw_event, event_line, line_of, line_if_word, word_of, worded_line}
 use Rattle.xl_sched.specs.Reading.{Answer, passes, gives, refuses, is_header, header_line, is_comment, some_line, later_line, bounded_line, answer_to, reading_of}
 use Rattle.xl_world.specs.World.{IsDeclared}
 
@@ -91,15 +91,16 @@ member_in_range token =
     (λ e. let outer = and_parts (is_number token && nat_le 1 (value_of token)) _ e in record { least = leb-true _ _ (and_parts (is_number token) _ outer.0).1; greatest = leb-true _ _ outer.1 })
     (λ _. tt)
 
-new_in_range : (nodes token : List ℕ) (r : Result ℕ SchedRefusal) → IfOk r InRange → IfOk (r >>= (λ m. cond (is_on nodes m) (Err (Twice token)) (Ok m))) InRange
-new_in_range nodes token (Err e) range = tt
-new_in_range nodes token (Ok m) range = cond_both (is_on nodes m) (Err (Twice token)) (Ok m) (λ r. IfOk r InRange) (λ _. tt) (λ _. range)
+new_in_range : (nodes liars token : List ℕ) (r : Result ℕ SchedRefusal) → IfOk r InRange → IfOk (r >>= (λ m. cond (is_on nodes m || is_on liars m) (Err (Twice token)) (Ok m))) InRange
+new_in_range nodes liars token (Err e) range = tt
+new_in_range nodes liars token (Ok m) range = cond_both (is_on nodes m || is_on liars m) (Err (Twice token)) (Ok m) (λ r. IfOk r InRange) (λ _. tt) (λ _. range)
 
 -- LINES
 
 -- what a line declares is declared
 abbrev pub Declares : Line → Type 0
 Declares (line.Node me list validating) = IsDeclared (record { me = me; list = list })
+Declares (line.Liar me) = Unit {0}
 Declares (line.Name name id) = Unit {0}
 Declares (line.Event event) = Unit {0}
 
@@ -117,7 +118,7 @@ node_declares (Ok m) (Ok l) (Ok ns) (Ok v) range = declared_node m v (trusted_of
 
 node_of_declares : (reading : Reading) (number quorum members : List ℕ) (mode : Result Bool SchedRefusal) → IfOk (node_of reading number quorum members mode) Declares
 node_of_declares reading number quorum members mode =
-    node_declares (new_member_of reading.nodes number) (number_of quorum) (members_of members) mode (new_in_range reading.nodes number (member_of number) (member_in_range number))
+    node_declares (new_member_of reading.nodes reading.liars number) (number_of quorum) (members_of members) mode (new_in_range reading.nodes reading.liars number (member_of number) (member_in_range number))
 
 node_line_declares : (reading : Reading) (arguments : List (List ℕ)) → IfOk (node_line reading arguments) Declares
 node_line_declares reading [] = tt
@@ -126,6 +127,15 @@ node_line_declares reading (a ∷ b ∷ []) = tt
 node_line_declares reading (a ∷ b ∷ c ∷ []) = node_of_declares reading a b c (mode_of None)
 node_line_declares reading (a ∷ b ∷ c ∷ d ∷ []) = node_of_declares reading a b c (mode_of (Some d))
 node_line_declares reading (a ∷ b ∷ c ∷ d ∷ e ∷ rest) = tt
+
+liar_declares : (me : Result ℕ SchedRefusal) → IfOk (me >>= (λ m. Ok (line.Liar m))) Declares
+liar_declares (Err e) = tt
+liar_declares (Ok m) = tt
+
+liar_line_declares : (reading : Reading) (arguments : List (List ℕ)) → IfOk (liar_line reading arguments) Declares
+liar_line_declares reading [] = tt
+liar_line_declares reading (a ∷ []) = liar_declares (new_member_of reading.nodes reading.liars a)
+liar_line_declares reading (a ∷ b ∷ rest) = tt
 
 name_declares : (name : Result (List ℕ) SchedRefusal) (id : Result LedgerId SchedRefusal) → IfOk (name >>= (λ n. id >>= (λ i. Ok (line.Name n i)))) Declares
 name_declares (Err e) id = tt
@@ -145,11 +155,15 @@ event_declares (Ok event) = tt
 line_declares : (reading : Reading) (sent : ℕ) (w : Word) (token : List ℕ) (arguments : List (List ℕ)) → IfOk (line_of reading sent w token arguments) Declares
 line_declares reading sent word.Node token arguments =
     cond_both reading.started (Err (Late token)) (node_line reading arguments) (λ r. IfOk r Declares) (λ _. tt) (λ _. node_line_declares reading arguments)
+line_declares reading sent word.Liar token arguments =
+    cond_both reading.started (Err (Late token)) (liar_line reading arguments) (λ r. IfOk r Declares) (λ _. tt) (λ _. liar_line_declares reading arguments)
 line_declares reading sent word.Name token arguments =
     cond_both (has_most_names reading) _ (named_line reading arguments) (λ r. IfOk r Declares) (λ _. tt) (λ _. named_line_declares reading arguments)
 line_declares reading sent word.Issue token arguments = event_declares (issue_event reading arguments)
 line_declares reading sent word.Deliver token arguments = event_declares (deliver_event reading sent arguments)
 line_declares reading sent word.Restart token arguments = event_declares (restart_event reading arguments)
+line_declares reading sent word.Lie token arguments = event_declares (lie_event reading arguments)
+line_declares reading sent word.Raw token arguments = event_declares (raw_event reading arguments)
 
 word_declares : (reading : Reading) (sent : ℕ) (o : Option Word) (token : List ℕ) (arguments : List (List ℕ)) → IfOk (line_if_word reading sent o token arguments) Declares
 word_declares reading sent None token arguments = tt

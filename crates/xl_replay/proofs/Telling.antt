@@ -143,24 +143,24 @@ world_run plan liars declared = (plan, [], declared, refl)
 abbrev SameWorld : Replaying → Replaying → Type 0
 SameWorld r next = Grows (world_of r) (world_of next) × IsSound next
 
-quiet_tells : (r : Replaying) (reading : Reading) (plan : List PlanNode) → IsSound r → Extends r.reading.names reading.names → AreDeclared plan → (o : Option World) → r.world ≡ o → StepTells r (silent r reading plan)
-quiet_tells r reading plan sound extends declared o at = record {
+quiet_tells : (r : Replaying) (reading : Reading) (plan : List PlanNode) (liars : List ℕ) → IsSound r → Extends r.reading.names reading.names → AreDeclared plan → (o : Option World) → r.world ≡ o → StepTells r (silent r reading plan liars)
+quiet_tells r reading plan liars sound extends declared o at = record {
   spoken = [];
   written = refl;
-  reported = All-nil (λ s. IsReported (world_of (record { reading = reading; plan = plan; liars = r.liars; world = r.world })) s.outcome);
+  reported = All-nil (λ s. IsReported (world_of (record { reading = reading; plan = plan; liars = liars; world = r.world })) s.outcome);
   named = All-nil (λ s. Extends s.names reading.names);
   extends = extends;
   grows = grown o at;
   sound = record { declared = declared; is_run = run_at o at };
 }
   where
-    grown : (o : Option World) → r.world ≡ o → Grows (world_of r) (world_of (record { reading = reading; plan = plan; liars = r.liars; world = r.world }))
-    grown None at = subst (λ (x : Option World). Grows (unwrap_or x (start r.liars r.plan)) (unwrap_or x (start r.liars plan))) (sym at) (λ q h. h)
-    grown (Some w) at = subst (λ (x : Option World). Grows (unwrap_or x (start r.liars r.plan)) (unwrap_or x (start r.liars plan))) (sym at) (λ q h. h)
+    grown : (o : Option World) → r.world ≡ o → Grows (world_of r) (world_of (record { reading = reading; plan = plan; liars = liars; world = r.world }))
+    grown None at = subst (λ (x : Option World). Grows (unwrap_or x (start r.liars r.plan)) (unwrap_or x (start liars plan))) (sym at) (λ q h. h)
+    grown (Some w) at = subst (λ (x : Option World). Grows (unwrap_or x (start r.liars r.plan)) (unwrap_or x (start liars plan))) (sym at) (λ q h. h)
 
-    run_at : (o : Option World) → r.world ≡ o → IsRun (world_of (record { reading = reading; plan = plan; liars = r.liars; world = r.world }))
-    run_at None at = subst (λ (x : Option World). IsRun (unwrap_or x (start r.liars plan))) (sym at) (world_run plan r.liars declared)
-    run_at (Some w) at = subst (λ (x : Option World). IsRun (unwrap_or x (start r.liars plan))) (sym at) (subst (λ (x : Option World). IsRun (unwrap_or x (start r.liars r.plan))) at sound.is_run)
+    run_at : (o : Option World) → r.world ≡ o → IsRun (world_of (record { reading = reading; plan = plan; liars = liars; world = r.world }))
+    run_at None at = subst (λ (x : Option World). IsRun (unwrap_or x (start liars plan))) (sym at) (world_run plan liars declared)
+    run_at (Some w) at = subst (λ (x : Option World). IsRun (unwrap_or x (start liars plan))) (sym at) (subst (λ (x : Option World). IsRun (unwrap_or x (start r.liars r.plan))) at sound.is_run)
 
 -- the names that stand are the first of those that stand after a line
 
@@ -179,6 +179,7 @@ answer_extends : (reading : Reading) (r : Result (Option Line) SchedRefusal) →
 answer_extends reading (Err e) = tt
 answer_extends reading (Ok None) = extends_itself reading.names
 answer_extends reading (Ok (Some (line.Node me list validating))) = extends_itself reading.names
+answer_extends reading (Ok (Some (line.Liar me))) = extends_itself reading.names
 answer_extends reading (Ok (Some (line.Name name id))) = (record { name = name; id = id } ∷ [], refl)
 answer_extends reading (Ok (Some (line.Event e))) = extends_itself reading.names
 
@@ -203,12 +204,13 @@ event_tells r reading e sound extends = record {
 
 line_tells : (r : Replaying) (reading : Reading) (l : Line) → IsSound r → Extends r.reading.names reading.names → Declares l → StepTells r (after_line r reading l)
 line_tells r reading (line.Node me list validating) sound extends declares =
-    quiet_tells r reading _ sound extends (All-append IsDeclared r.plan _ sound.declared (All-cons IsDeclared (record { me = me; list = list }) [] declares (All-nil IsDeclared))) r.world refl
-line_tells r reading (line.Name name id) sound extends declares = quiet_tells r reading r.plan sound extends sound.declared r.world refl
+    quiet_tells r reading _ r.liars sound extends (All-append IsDeclared r.plan _ sound.declared (All-cons IsDeclared (record { me = me; list = list }) [] declares (All-nil IsDeclared))) r.world refl
+line_tells r reading (line.Liar me) sound extends declares = quiet_tells r reading r.plan _ sound extends sound.declared r.world refl
+line_tells r reading (line.Name name id) sound extends declares = quiet_tells r reading r.plan r.liars sound extends sound.declared r.world refl
 line_tells r reading (line.Event e) sound extends declares = event_tells r reading e sound extends
 
 answer_tells : (r : Replaying) (a : Answer) → IsSound r → AnswerExtends r.reading a → AnswerDeclares a → StepTells r (after_answer r a)
-answer_tells r (passes reading) sound extends declares = quiet_tells r reading r.plan sound extends sound.declared r.world refl
+answer_tells r (passes reading) sound extends declares = quiet_tells r reading r.plan r.liars sound extends sound.declared r.world refl
 answer_tells r (gives l reading) sound extends declares = line_tells r reading l sound extends declares
 answer_tells r (refuses why) sound extends declares = tt
 

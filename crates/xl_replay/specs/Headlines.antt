@@ -1,4 +1,5 @@
 -- What a report says of forks: the headline, in the words of its lines.
+-- Source: Chase and MacBrough, "Analysis of the XRP Ledger Consensus Protocol" (2018).
 use Rattle.std.specs.Prelude.{◌≡◌, ℕ, ◌-◌, List, [], ◌∷◌, ◌++◌, map, All, Contains}
 use Rattle.std.specs.declared.option.Option.{Option}
 use Rattle.std.specs.List.{flat_map}

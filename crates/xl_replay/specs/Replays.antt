@@ -1,4 +1,4 @@
--- What a replay writes about a schedule.
+-- What a replay writes about a schedule. Source: this project's own formats.
 use Rattle.std.specs.Prelude.{ℕ, ◌+◌, ◌==◌, List, [], ◌∷◌, ◌++◌, length, decimal, unwrap_or, if◌then◌else◌}
 use Rattle.std.specs.Prelude.{Some, None}
 use Rattle.std.specs.declared.option.Option.{Option}
@@ -35,8 +35,8 @@ abbrev pub world_of : Replaying → World
 world_of r = unwrap_or r.world (start r.liars r.plan)
 
 -- a line that tells nothing
-abbrev pub silent : Replaying → Reading → List PlanNode → Step Replaying
-silent r reading plan = goes_on [] (record { reading = reading; plan = plan; liars = r.liars; world = r.world })
+abbrev pub silent : Replaying → Reading → List PlanNode → List ℕ → Step Replaying
+silent r reading plan liars = goes_on [] (record { reading = reading; plan = plan; liars = liars; world = r.world })
 
 -- an event is a step of the world, and what came of it is told
 abbrev pub after : Replaying → Reading → Event → Step Replaying
@@ -45,13 +45,14 @@ after r reading e =
     (record { reading = reading; plan = r.plan; liars = r.liars; world = Some (after_event (world_of r) e) })
 
 abbrev pub after_line : Replaying → Reading → Line → Step Replaying
-after_line r reading (line.Node me list validating) = silent r reading (r.plan ++ record { me = me; list = list } ∷ [])
-after_line r reading (line.Name name id) = silent r reading r.plan
+after_line r reading (line.Node me list validating) = silent r reading (r.plan ++ record { me = me; list = list } ∷ []) r.liars
+after_line r reading (line.Liar me) = silent r reading r.plan (r.liars ++ me ∷ [])
+after_line r reading (line.Name name id) = silent r reading r.plan r.liars
 after_line r reading (line.Event e) = after r reading e
 
 -- what is told of a line as it was read
 abbrev pub after_answer : Replaying → Answer → Step Replaying
-after_answer r (passes reading) = silent r reading r.plan
+after_answer r (passes reading) = silent r reading r.plan r.liars
 after_answer r (gives line reading) = after_line r reading line
 after_answer r (refuses refusal) = refuses_line (bad_line (r.reading.lines + 1) refusal)
 

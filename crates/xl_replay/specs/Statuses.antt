@@ -1,4 +1,4 @@
--- The statuses of a replay.
+-- The statuses of a replay. Source: this project's own.
 use Rattle.xl_base.specs.declared.status.Status.{Status}
 use Rattle.xl_base.specs.declared.status.Status.TheVariants.{Done, Fork, WordsRefused, InputRefused, ReadFault, WriteFault, OutOfMemory, KeepFault, NetFault, StoreFull}
 

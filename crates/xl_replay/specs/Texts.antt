@@ -8,7 +8,11 @@ use Rattle.xl_base.specs.declared.ids.LedgerId.{LedgerId}
 use Rattle.xl_lists.specs.Lists.{TrustedList}
 use Rattle.xl_lists.specs.Quorums.{bound_of}
 use Rattle.xl_core.specs.declared.refusal.Refusal.{Refusal}
-use Rattle.xl_core.specs.declared.refusal.Refusal.TheVariants.{Stranger, Stale, Repeat, Conflict, OldSeq, NotAfter}
+use Rattle.xl_core.specs.declared.refusal.Refusal.TheVariants.{Frame, Short, Extra, Tag, NotBuilt, Stale, Repeat, Conflict, OldSeq, NotAfter}
+use Rattle.xl_tags.specs.declared.refusal.TagRefusal.{TagRefusal}
+use Rattle.xl_tags.specs.declared.refusal.TagRefusal.TheVariants.{NotForMe, Stranger, BadTag}
+use Rattle.xl_wire.specs.declared.refusal.WireRefusal.{WireRefusal}
+use Rattle.xl_wire.specs.declared.refusal.WireRefusal.TheVariants as wire
 use Rattle.xl_core.specs.Refusals.{code_of as refusal_code}
 use Rattle.xl_sched.specs.declared.named.Named.{Named}
 use Rattle.xl_sched.specs.declared.refusal.SchedRefusal.{SchedRefusal}
@@ -35,9 +39,29 @@ named_text (Some name) id = shown_token name
 abbrev pub id_text : List Named → LedgerId → List ℕ
 id_text names id = named_text (name_of names id) id
 
+-- the values of why bytes are no frame
+abbrev pub frame_values : WireRefusal → List ℕ
+frame_values (wire.Magic place) = decimal place
+frame_values (wire.Version version) = decimal version
+frame_values (wire.Kind kind) = decimal kind
+frame_values (wire.Length kind length) = decimal kind ++ space ++ decimal length
+frame_values (wire.Flags flags) = decimal flags
+frame_values (wire.Order place) = decimal place
+frame_values (wire.Count count) = decimal count
+
+-- the values of why a frame isn't opened; tags are 64 lower-case digits
+abbrev pub tag_values : TagRefusal → List ℕ
+tag_values (NotForMe to) = decimal to
+tag_values (Stranger from) = decimal from
+tag_values (BadTag read computed) = encode_lower read ++ space ++ encode_lower computed
+
 -- the values of a refusal, parted by spaces
 abbrev pub values_text : List Named → Refusal → List ℕ
-values_text names (Stranger from) = decimal from
+values_text names (Frame why) = frame_values why
+values_text names (Short lack) = decimal lack
+values_text names (Extra more) = decimal more
+values_text names (Tag why) = tag_values why
+values_text names (NotBuilt kind) = decimal kind
 values_text names (Stale now signed) = decimal now ++ space ++ decimal signed
 values_text names (Repeat id) = id_text names id
 values_text names (Conflict id) = id_text names id

@@ -11,8 +11,8 @@ use xl_lines::{Machine, Next, Overrun, Verdict};
 use xl_sched::{Event, Line, MOST_BYTES, MOST_LINES, Reader, SchedRefusal};
 use xl_world::{Plan, PlanNode, World, first_fork};
 
-/// A schedule so far: what was read, the nodes that are declared, and from the first event on the world.
-#[derive(Debug, Drop)]
+/// A schedule so far: what was read, the nodes and liars that are declared, and from the first event on the world.
+#[derive(Drop)]
 pub struct Replayer {
     alloc: Global,
     reader: Reader,
@@ -95,6 +95,10 @@ impl Replayer {
                     me: *me,
                     list: list.copy(),
                 })?;
+                Ok(())
+            }
+            Line::Liar(me) => {
+                self.plan.liars.push(*me)?;
                 Ok(())
             }
             Line::Name { .. } => Ok(()),

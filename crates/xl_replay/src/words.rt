@@ -1,13 +1,16 @@
 // Names, ids and values, added to a text.
 ghost use Rattle.std.specs.Prelude.{◌≡◌, ◌++◌, decimal, OnOk};
 ghost use Rattle.std.specs.String.{string_bytes};
-ghost use Rattle.xl_replay.specs.Texts.{id_text, values_text};
+ghost use Rattle.hex.specs.Hex.{encode_lower};
+ghost use Rattle.xl_replay.specs.Texts.{id_text, frame_values, tag_values, values_text};
 
 use std::alloc::Global;
 use std::fmt::Write;
 use xl_base::{LedgerId, OutOfMemory};
 use xl_core::Refusal;
 use xl_sched::{Reader, printed_token};
+use xl_tags::TagRefusal;
+use xl_wire::WireRefusal;
 
 /// An id, by the first declared name that stands for it, or in digits.
 pub fn push_id(
@@ -38,18 +41,62 @@ pub fn push_values(
     ensures { OnOk result (string_bytes text.new ≡ string_bytes text.old ++ values_text reader.now.names refusal.now) }
 {
     match refusal {
-        Refusal::Stranger(from) => push_number(text, from.get()),
+        Refusal::Frame(why) => push_frame_values(text, why),
+        Refusal::Short(number) | Refusal::Extra(number) => push_number(text, *number as u64),
+        Refusal::Tag(why) => push_tag_values(alloc, text, why),
+        Refusal::NotBuilt(kind) => push_number(text, u64::from(*kind)),
         Refusal::Stale(now, signed) => {
             write!(text, "{now} {signed}")?;
             Ok(())
         }
         Refusal::Repeat(id) | Refusal::Conflict(id) => push_id(alloc, text, reader, id),
-        Refusal::OldSeq(largest) => push_number(text, *largest),
-        Refusal::NotAfter(kept) => push_number(text, *kept),
+        Refusal::OldSeq(number) | Refusal::NotAfter(number) => push_number(text, u64::from(*number)),
     }
 }
 
-fn push_number(text: &mut String, number: u32) -> Result<(), OutOfMemory>
+/// The values of why bytes are no frame.
+fn push_frame_values(text: &mut String, why: &WireRefusal) -> Result<(), OutOfMemory>
+    ensures { OnOk result (string_bytes text.new ≡ string_bytes text.old ++ frame_values why.now) }
+{
+    match why {
+        WireRefusal::Magic(place) | WireRefusal::Order(place) => push_number(text, *place as u64),
+        WireRefusal::Version(byte) | WireRefusal::Kind(byte) | WireRefusal::Flags(byte) => {
+            push_number(text, u64::from(*byte))
+        }
+        WireRefusal::Length { kind, length } => {
+            write!(text, "{kind} {length}")?;
+            Ok(())
+        }
+        WireRefusal::Count(count) => push_number(text, u64::from(*count)),
+    }
+}
+
+/// The values of why a frame isn't opened.
+fn push_tag_values(alloc: Global, text: &mut String, why: &TagRefusal) -> Result<(), OutOfMemory>
+    ensures { OnOk result (string_bytes text.new ≡ string_bytes text.old ++ tag_values why.now) }
+{
+    match why {
+        TagRefusal::NotForMe(number) | TagRefusal::Stranger(number) => {
+            push_number(text, u64::from(*number))
+        }
+        TagRefusal::BadTag { read, computed } => {
+            push_tag(alloc, text, read)?;
+            text.push(' ')?;
+            push_tag(alloc, text, computed)
+        }
+    }
+}
+
+/// The digits of a tag.
+fn push_tag(alloc: Global, text: &mut String, tag: &[u8; 32]) -> Result<(), OutOfMemory>
+    ensures { OnOk result (string_bytes text.new ≡ string_bytes text.old ++ encode_lower tag.now) }
+{
+    let digits = hex::encode(alloc, tag.as_slice())?;
+    text.push_str(digits.as_str())?;
+    Ok(())
+}
+
+fn push_number(text: &mut String, number: u64) -> Result<(), OutOfMemory>
     ensures { OnOk result (string_bytes text.new ≡ string_bytes text.old ++ decimal number) }
 {
     write!(text, "{number}")?;
