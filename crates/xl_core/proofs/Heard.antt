@@ -1,7 +1,8 @@
 -- What is known of bytes in which something is heard.
-use Rattle.std.proofs.Common.{◌≡◌, ℕ, ◌≤◌, Bool, true, false, List, length, refl, ap, sym, ◌∙◌, Option, Some, None, Result, Ok, Err}
-use Rattle.std.specs.Prelude.{◌==◌, ◌||◌, not, nat_lt, nat_le, unwrap_or}
-use Rattle.std.proofs.lemmas.Bool.{cond_both, le-leb, ltb-false}
+use Rattle.std.proofs.Common.{◌≡◌, ℕ, ◌≤◌, Bool, true, false, List, [], ◌∷◌, length, refl, ap, sym, ◌∙◌, subst, inl, inr, Option, Some, None, Result, Ok, Err}
+use Rattle.std.specs.Prelude.{◌==◌, ◌||◌, ◌-◌, not, nat_lt, nat_le, unwrap_or, All, IfOk, IsSome, SomeIff, if◌then◌else◌}
+use Rattle.std.proofs.lemmas.Bool.{cond_both, le-leb, ltb-false, or_cases, eqb-true}
+use Rattle.std.proofs.lemmas.List.Elements.{All-head, All-tail}
 use Rattle.xl_lists.specs.Lists.{is_on}
 use Rattle.xl_wire.specs.declared.body.Body.{Body}
 use Rattle.xl_wire.specs.declared.body.Body.TheVariants as bodies
@@ -10,7 +11,7 @@ use Rattle.xl_wire.specs.Bodies.{body_of}
 use Rattle.xl_wire.specs.Heads.{Split, split_of}
 use Rattle.xl_wire.specs.Heads.Split.{Whole, Need, Refused}
 use Rattle.xl_wire.specs.Kinds.{span}
-use Rattle.xl_wire.specs.Raws.{RawFrame, raw_bytes}
+use Rattle.xl_wire.specs.Raws.{RawFrame}
 use Rattle.xl_tags.specs.Opening.{refusal_of, is_sealed}
 use Rattle.xl_tags.specs.Sealing.{tag_by}
 use Rattle.xl_tags.specs.Rings.{Ring}
@@ -27,6 +28,7 @@ pub record IsHeard (ring : Ring) (members bytes : List ℕ) (said : Spoken) : Ty
   pub split : split_of bytes ≡ Whole frame
   pub last : nat_le (length bytes) (span frame.body) ≡ true
   pub for_me : (frame.to == ring.me) ≡ true
+  pub listed : is_on members frame.from ≡ true
   pub is_sealed : is_sealed ring frame ≡ true
   pub body : body_of frame.kind frame.body ≡ Ok (bodies.Validation said.validation)
   pub from : said.from ≡ frame.from
@@ -37,6 +39,7 @@ said_parts kind from (bodies.Validation v) said is = (ap (λ (r : Result Spoken 
     validation_in : Result Spoken Refusal → Body
     validation_in (Ok s) = bodies.Validation s.validation
     validation_in (Err why) = bodies.Validation said.validation
+
     sender_in : Result Spoken Refusal → ℕ
     sender_in (Ok s) = s.from
     sender_in (Err why) = from
@@ -57,18 +60,21 @@ some_none : (why : TagRefusal) → Some why ≡ None → ⊥
 some_none why e = cc
 
 -- a frame that is opened is for the ring's member, and is sealed
-opens : (ring : Ring) (members : List ℕ) (f : RawFrame) → refusal_of ring members f ≡ None → ((f.to == ring.me) ≡ true) × (is_sealed ring f ≡ true)
+pub opens : (ring : Ring) (members : List ℕ) (f : RawFrame) → refusal_of ring members f ≡ None → ((f.to == ring.me) ≡ true) × (is_on members f.from ≡ true) × (is_sealed ring f ≡ true)
 opens ring members f none = by_receiver (f.to == ring.me) none
   where
-    by_tag : (b : Bool) → (if b then None else Some (BadTag f.tag (unwrap_or (tag_by ring f.from (raw_bytes f)) []))) ≡ None → b ≡ true
+    by_tag : (b : Bool) → (if b then None else Some (BadTag f.tag (unwrap_or (tag_by ring f.from f) []))) ≡ None → b ≡ true
     by_tag true e = refl
     by_tag false e = absurd (some_none _ e)
-    by_sender : (b : Bool) → (if b then Some (Stranger f.from) else if is_sealed ring f then None else Some (BadTag f.tag (unwrap_or (tag_by ring f.from (raw_bytes f)) []))) ≡ None → is_sealed ring f ≡ true
-    by_sender true e = absurd (some_none _ e)
-    by_sender false e = by_tag (is_sealed ring f) e
+
+    by_sender : (me on : Bool) → (if me || not on then Some (Stranger f.from) else if is_sealed ring f then None else Some (BadTag f.tag (unwrap_or (tag_by ring f.from f) []))) ≡ None → (on ≡ true) × (is_sealed ring f ≡ true)
+    by_sender true on e = absurd (some_none _ e)
+    by_sender false true e = (refl, by_tag (is_sealed ring f) e)
+    by_sender false false e = absurd (some_none _ e)
+
     by_receiver : (b : Bool) → (if not b then Some (NotForMe f.to) else if f.from == ring.me || not (is_on members f.from) then Some (Stranger f.from)
-        else if is_sealed ring f then None else Some (BadTag f.tag (unwrap_or (tag_by ring f.from (raw_bytes f)) []))) ≡ None → (b ≡ true) × (is_sealed ring f ≡ true)
-    by_receiver true e = (refl, by_sender (f.from == ring.me || not (is_on members f.from)) e)
+        else if is_sealed ring f then None else Some (BadTag f.tag (unwrap_or (tag_by ring f.from f) []))) ≡ None → (b ≡ true) × (is_on members f.from ≡ true) × (is_sealed ring f ≡ true)
+    by_receiver true e = let parts = by_sender (f.from == ring.me) (is_on members f.from) e in (refl, parts.0, parts.1)
     by_receiver false e = absurd (some_none _ e)
 
 split_parts : (ring : Ring) (members bytes : List ℕ) (s : Split) (said : Spoken) → split_of bytes ≡ s → heard_split ring members (length bytes) s ≡ Ok said → IsHeard ring members bytes said
@@ -79,14 +85,15 @@ split_parts ring members bytes (Whole f) said at is =
     (λ _ e. cc)
     (λ fits e.
     let parts = opened_parts f (refusal_of ring members f) said e in
-    let open = opens ring members f parts.0 in
+    let right = opens ring members f parts.0 in
     let body = body_parts f.kind f.from (body_of f.kind f.body) said parts.1 in
     record {
       frame = f;
       split = at;
       last = le-leb _ _ (ltb-false _ _ fits);
-      for_me = open.0;
-      is_sealed = open.1;
+      for_me = right.0;
+      listed = right.1;
+      is_sealed = right.2;
       body = body.0;
       from = body.1;
     })
@@ -94,3 +101,22 @@ split_parts ring members bytes (Whole f) said at is =
 
 pub heard_parts : (ring : Ring) (members bytes : List ℕ) (said : Spoken) → heard ring members bytes ≡ Ok said → IsHeard ring members bytes said
 heard_parts ring members bytes said is = split_parts ring members bytes (split_of bytes) said refl is
+
+-- a listed number is a member's
+pub on_in_range : (members : List ℕ) (m : ℕ) → All (λ k. (1 ≤ k) × (k ≤ 64)) members → is_on members m ≡ true → (1 ≤ m) × (m ≤ 64)
+on_in_range [] m each on = cc
+on_in_range (k ∷ members) m each on =
+    elim (or_cases (m == k) (is_on members m) on) [
+      | inl here ↦ subst (λ (x : ℕ). (1 ≤ x) × (x ≤ 64)) (sym (eqb-true m k here)) (All-head (λ x. (1 ≤ x) × (x ≤ 64)) k members each)
+      | inr there ↦ on_in_range members m (All-tail (λ x. (1 ≤ x) × (x ≤ 64)) k members each) there
+    ]
+
+pub some_then : (o : Option ℕ) (P : Type 0) (v : ℕ) → SomeIff o P v → P → IsSome o
+some_then None P v iff p = absurd (iff p)
+some_then (Some x) P v iff p = refl
+
+-- who is heard is listed
+pub heard_listed : (ring : Ring) (members bytes : List ℕ) (r : Result Spoken Refusal) → r ≡ heard ring members bytes → IfOk r (λ said. is_on members said.from ≡ true)
+heard_listed ring members bytes (Ok said) is =
+    let parts = heard_parts ring members bytes said (sym is) in ap (is_on members) parts.from ∙ parts.listed
+heard_listed ring members bytes (Err why) is = tt

@@ -1,4 +1,5 @@
 pub mod Heard
+pub mod SealingLaws
 pub mod Counts
 pub mod Members
 pub mod Arising

@@ -1,10 +1,12 @@
 // What a node makes of bytes, before any row is asked.
-ghost use Rattle.std.specs.Prelude.{◌≡◌, ℕ, List, IfOk, IsTrue, MatchResult, Err};
+ghost use Rattle.std.specs.Prelude.{◌≡◌, IfOk, IsTrue, length, take};
 ghost use Rattle.xl_lists.specs.Lists.{is_on};
-ghost use Rattle.xl_tags.specs.Opening.{HasKeys};
+ghost use Rattle.xl_tags.specs.Opening.{HasKeys, refusal_of};
+ghost use Rattle.xl_wire.specs.Bodies.{body_of};
+ghost use Rattle.xl_wire.specs.Heads.Split.{Whole};
+ghost use Rattle.xl_wire.specs.Kinds.{span};
 ghost use Rattle.xl_wire.specs.Raws.{SpellsRaw, raw_frame};
-ghost use Rattle.xl_core.specs.Hearing.{heard};
-ghost use Rattle.xl_tags.specs.Rings.{Ring};
+ghost use Rattle.xl_core.specs.Hearing.{heard, heard_split, heard_opened, heard_body};
 
 use crate::Refusal;
 use xl_base::NodeNo;
@@ -27,12 +29,34 @@ pub fn hear(keys: &Keys, list: &List, bytes: &[u8]) -> Result<Spoken, Refusal>
     ensures exact { result ≡ heard keys.now list.now.members bytes.now }
     ensures listed { IfOk result (λ said. IsTrue (is_on list.now.members said.from)) }
 {
-    let raw = whole(bytes)?;
-    open_raw(keys, list, &raw, bytes)?;
-    let from = sender(list, raw.from);
-    match read_body(&raw)? {
-        Body::Validation(validation) => Ok(Spoken { from, validation }),
-        _ => Err(Refusal::NotBuilt(raw.kind)),
+    match split(bytes) {
+        Parted::Whole(raw) => hear_frame(keys, list, &raw, bytes),
+        Parted::Need(lack) => Err(Refusal::Short(lack)),
+        Parted::Refused(why) => Err(Refusal::Frame(why)),
+    }
+}
+
+/// Hears the frame that the bytes begin with, if nothing follows it.
+fn hear_frame(keys: &Keys, list: &List, raw: &Raw<'_>, bytes: &[u8]) -> Result<Spoken, Refusal>
+    requires keyed { HasKeys keys.now list.now.members }
+    requires spelled { SpellsRaw (raw_frame raw.now) (take (span raw.now.body.now) bytes.now) }
+    ensures { result ≡ heard_split keys.now list.now.members (length bytes.now) (Whole (raw_frame raw.now)) }
+{
+    if raw.length < bytes.len() {
+        return Err(Refusal::Extra(bytes.len() - raw.length));
+    }
+    hear_whole(keys, list, raw, bytes)
+}
+
+/// Hears the frame that the bytes are.
+fn hear_whole(keys: &Keys, list: &List, raw: &Raw<'_>, bytes: &[u8]) -> Result<Spoken, Refusal>
+    requires keyed { HasKeys keys.now list.now.members }
+    requires whole { SpellsRaw (raw_frame raw.now) bytes.now }
+    ensures { result ≡ heard_opened (raw_frame raw.now) (refusal_of keys.now list.now.members (raw_frame raw.now)) }
+{
+    match open_raw(keys, list, raw, bytes) {
+        Ok(()) => read(raw, sender(list, raw.from)),
+        Err(why) => Err(Refusal::Tag(why)),
     }
 }
 
@@ -46,16 +70,14 @@ fn sender(list: &List, number: u32) -> NodeNo
     NodeNo::new(number).unwrap()
 }
 
-/// The frame that the bytes are, all of them.
-fn whole(bytes: &[u8]) -> Result<Raw<'_>, Refusal>
-    ensures { MatchResult result
-        (λ raw. SpellsRaw (raw_frame raw) bytes.now)
-        (λ why. (keys : Ring) (members : List ℕ) → heard keys members bytes.now ≡ Err why) }
+/// Reads what a frame says under its sender's number.
+fn read(raw: &Raw<'_>, from: NodeNo) -> Result<Spoken, Refusal>
+    requires { from ≡ raw.now.from }
+    ensures { result ≡ heard_body raw.now.kind from (body_of raw.now.kind raw.now.body.now) }
 {
-    match split(bytes) {
-        Parted::Whole(raw) if raw.length == bytes.len() => Ok(raw),
-        Parted::Whole(raw) => Err(Refusal::Extra(bytes.len() - raw.length)),
-        Parted::Need(lack) => Err(Refusal::Short(lack)),
-        Parted::Refused(why) => Err(Refusal::Frame(why)),
+    match read_body(raw) {
+        Ok(Body::Validation(validation)) => Ok(Spoken { from, validation }),
+        Ok(_) => Err(Refusal::NotBuilt(raw.kind)),
+        Err(why) => Err(Refusal::Frame(why)),
     }
 }

@@ -45,7 +45,9 @@ impl From<ValRefusal> for Refusal {
 }
 
 impl From<WireRefusal> for Refusal {
-    ghost from_gives = { λ why refusal. refusal ≡ Refusal.Frame why };
+    ghost use Rattle.xl_core.specs.declared.refusal.Refusal.TheVariants as node;
+
+    ghost from_gives = { λ why refusal. refusal ≡ node.Frame why };
 
     fn from(why: WireRefusal) -> Refusal {
         Refusal::Frame(why)
@@ -53,7 +55,9 @@ impl From<WireRefusal> for Refusal {
 }
 
 impl From<TagRefusal> for Refusal {
-    ghost from_gives = { λ why refusal. refusal ≡ Refusal.Tag why };
+    ghost use Rattle.xl_core.specs.declared.refusal.Refusal.TheVariants as node;
+
+    ghost from_gives = { λ why refusal. refusal ≡ node.Tag why };
 
     fn from(why: TagRefusal) -> Refusal {
         Refusal::Tag(why)

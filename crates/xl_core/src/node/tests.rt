@@ -85,7 +85,11 @@ fn refuses_validations_with_their_cause(rt: HostRuntime) -> Result<(), Fail> {
             signed,
             full: true,
         };
-        assert_eq!(rt; node.frame(1000, &frame(number, to, &v)?), answer, "{number} names {seq}");
+        assert_eq!(rt;
+            node.frame(1000, &frame(number, to, &v)?),
+            answer,
+            "{number} names {seq}"
+        );
     }
     Ok(())
 }
