@@ -1,13 +1,16 @@
 -- Which keys a ring has.
-use Rattle.std.proofs.Common.{◌≡◌, ℕ, ◌+◌, ◌-◌, ◌<◌, ◌≤◌, ◌==◌, true, List, length, map, replicate, get_or, Option, Some, None, refl, sym, ap, ◌∙◌, inl, inr, arith}
+use Rattle.std.proofs.Common.{◌≡◌, ◌≢◌, ℕ, ◌+◌, ◌-◌, ◌<◌, ◌≤◌, ◌==◌, true, List, length, map, replicate, get_or, Option, Some, None, IsSome, refl, sym, ap, ◌∙◌, inl, inr, arith}
 use Rattle.std.specs.Prelude.{◌||◌}
 use Rattle.std.specs.List.{range_with_len}
 use Rattle.std.specs.Array.{AllOfLen}
-use Rattle.std.proofs.lemmas.Bool.{cases_eq, cases_lt, cond_both, cond-true, or_right}
+use Rattle.std.proofs.lemmas.Bool.{cases_eq, cases_lt, cond_both, cond-true, cond-false, or_right}
 use Rattle.std.proofs.lemmas.Bool.Decides.{nat_tests}
 use Rattle.std.proofs.lemmas.List.{ext_get_or, get_or-replicate, length-replicate, get_or_past}
 use Rattle.std.proofs.lemmas.List.FromFn.{length-map-range_with_len, get_or-map-range_with_len}
-use Rattle.xl_lists.specs.Lists.{is_outside}
+use Rattle.std.specs.Prelude.{is_some}
+use Rattle.std.proofs.lemmas.List.Elements.{All-weaker}
+use Rattle.xl_lists.specs.Lists.{TrustedList, IsValid, is_outside}
+use Rattle.xl_tags.specs.Opening.{HasKeys}
 use Rattle.xl_tags.specs.Rings.{Ring, IsRing, key_of, no_keys, schedule_key, schedule_ring}
 use Rattle.xl_tags.specs.PairKeys.{pair_key_of}
 
@@ -86,3 +89,12 @@ filled_ring me ring filled =
     let within : i < 64 = omega (arith, filled.long) in
     ap (λ (k : ℕ). get_or ring.keys k None) (omega arith) ∙ sym (key_at ring (i + 1) (omega arith)) ∙ filled_keys me ring filled (i + 1) ∙ sym (get_or-map-range_with_len (schedule_key me) 1 64 i (i + 1) None within (omega arith))) in
     ap (λ (m : ℕ). record { me = m; keys = ring.keys }) filled.mine ∙ ap (λ (ks : List (Option (List ℕ))). record { me = me; keys = ks }) keys
+
+schedule_key-another : (me m : ℕ) → m ≢ me → 1 ≤ m → m ≤ 64 → schedule_key me m ≡ Some (pair_key_of me m)
+schedule_key-another me m other low high = cond-false (m == me || is_outside m) None (Some (pair_key_of me m)) (grind (arith, nat_tests))
+
+-- a ring with the key of each pair has one for each listed member but its own
+pub schedule_covers : (me : ℕ) (ring : Ring) (list : TrustedList) → ring.me ≡ me → ((m : ℕ) → key_of ring m ≡ schedule_key me m) → IsValid list → HasKeys ring list.members
+schedule_covers me ring list mine keys valid =
+    All-weaker (λ m. (1 ≤ m) × (m ≤ 64)) (λ m. m ≢ ring.me → IsSome (key_of ring m))
+    (λ m within other. ap is_some (keys m ∙ schedule_key-another me m (λ same. other (same ∙ sym mine)) within.0 within.1)) list.members valid.numbers

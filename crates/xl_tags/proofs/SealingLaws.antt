@@ -2,7 +2,7 @@
 use Rattle.std.proofs.Common.{◌≡◌, ℕ, ◌-◌, List, [], ◌++◌, length, take, Option, Some, refl, sym, ap, subst, ◌∙◌, arith}
 use Rattle.std.specs.Prelude.{unwrap_or}
 use Rattle.std.proofs.lemmas.List.{take_at, append-nil, length-append}
-use Rattle.xl_wire.specs.Raws.{RawFrame, raw_bytes, SpellsRaw}
+use Rattle.xl_wire.specs.Raws.{RawFrame, raw_bytes, IsRaw, SpellsRaw}
 use Rattle.xl_wire.proofs.RawLaws.{one_raw}
 use Rattle.xl_tags.specs.Rings.{Ring}
 use Rattle.xl_tags.specs.Sealing.{before_tag, tag_by, with_tag, sealed}
@@ -36,3 +36,9 @@ sealed_as ring f g tag old new s t e long is =
 -- the bytes before the tag stay
 pub before_tag-sealed : (tag old new : List ℕ) → length tag ≡ 32 → new ≡ before_tag old ++ tag → before_tag new ≡ before_tag old
 before_tag-sealed tag old new long is = ap before_tag is ∙ before_last (before_tag old) tag long
+
+-- another tag changes nothing before it
+pub before_tag-with_tag : (f : RawFrame) (tag : List ℕ) → IsRaw f → length tag ≡ 32 → before_tag (raw_bytes (with_tag f tag)) ≡ before_tag (raw_bytes f)
+before_tag-with_tag f tag ok long =
+    ap before_tag (sym (parted f tag)) ∙ before_last (raw_bytes (with_tag f [])) tag long
+    ∙ sym (before_last (raw_bytes (with_tag f [])) f.tag ok.tag) ∙ ap before_tag (parted f f.tag)
