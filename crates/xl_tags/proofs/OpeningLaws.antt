@@ -28,7 +28,8 @@ of_listed P (m ∷ members) n all on = elim (or_cases (n == m) (is_on members n)
 ]
 
 -- each listed member but me has a key
-pub has_key : (ring : Ring) (members : List ℕ) (n : ℕ) → HasKeys ring members → is_on members n ≡ true → n ≢ ring.me → IsSome (key_of ring n)
+pub has_key : (ring : Ring) (members : List ℕ) (n : ℕ) → HasKeys ring members → is_on members n ≡ true → n ≢ ring.me
+    → IsSome (key_of ring n)
 has_key ring members n keyed on other = of_listed (λ m. m ≢ ring.me → IsSome (key_of ring m)) members n (recursion_from_All (λ m. m ≢ ring.me → IsSome (key_of ring m)) members keyed) on other
 
 another : (same on : Bool) → not (same || not on) ≡ true → (same ≡ false) × (on ≡ true)
@@ -37,7 +38,8 @@ another false true e = (refl, refl)
 another false false e = absurd (true≢false (sym e))
 
 -- another listed member has a key
-pub another_has_key : (ring : Ring) (members : List ℕ) (n : ℕ) → HasKeys ring members → not (n == ring.me || not (is_on members n)) ≡ true → IsSome (key_of ring n)
+pub another_has_key : (ring : Ring) (members : List ℕ) (n : ℕ) → HasKeys ring members
+    → not (n == ring.me || not (is_on members n)) ≡ true → IsSome (key_of ring n)
 another_has_key ring members n keyed e =
     let both = another (n == ring.me) (is_on members n) e in
     has_key ring members n keyed both.1 (λ same. true≢false (sym (eq-eqb n ring.me same) ∙ both.0))
@@ -48,37 +50,45 @@ neither false true never = absurd (never refl refl)
 neither false false never = refl
 
 -- no number outside 1 to 64 is a listed member's
-pub none_outside : (ring : Ring) (members : List ℕ) (n : ℕ) → IsRing ring → HasKeys ring members → is_outside n ≡ true → false ≡ not (n == ring.me || not (is_on members n))
+pub none_outside : (ring : Ring) (members : List ℕ) (n : ℕ) → IsRing ring → HasKeys ring members → is_outside n ≡ true
+    → false ≡ not (n == ring.me || not (is_on members n))
 none_outside ring members n ok keyed out = neither (n == ring.me) (is_on members n) (λ other on.
     let some = has_key ring members n keyed on (λ same. true≢false (sym (eq-eqb n ring.me same) ∙ other)) in
     true≢false (sym (sym (ap is_some (key_of-outside ring n ok out)) ∙ some)))
 
 -- the tag of the bytes before the tag is the frame's under the key
-pub tag_is : (ring : Ring) (member : ℕ) (f : RawFrame) (bytes part tag : List ℕ) → SpellsRaw f bytes → part ≡ before_tag bytes → option_map (λ key. mac key part) (key_of ring member) ≡ Some tag → tag_by ring member f ≡ Some tag
+pub tag_is : (ring : Ring) (member : ℕ) (f : RawFrame) (bytes part tag : List ℕ) → SpellsRaw f bytes → part ≡ before_tag bytes
+    → option_map (λ key. mac key part) (key_of ring member) ≡ Some tag → tag_by ring member f ≡ Some tag
 tag_is ring member f bytes part tag spells is e = sym (ap (λ (p : List ℕ). option_map (λ key. mac key p) (key_of ring member)) (is ∙ ap before_tag spells.spelling)) ∙ e
 
 -- the test of the tag, once it is computed
-pub sealed_where : (ring : Ring) (f : RawFrame) (tag : List ℕ) (same : Bool) → tag_by ring f.from f ≡ Some tag → same ≡ bytes_eq tag f.tag → same ≡ is_sealed ring f
+pub sealed_where : (ring : Ring) (f : RawFrame) (tag : List ℕ) (same : Bool) → tag_by ring f.from f ≡ Some tag
+    → same ≡ bytes_eq tag f.tag → same ≡ is_sealed ring f
 sealed_where ring f tag same e t = t ∙ sym (ap (λ (o : Option (List ℕ)). option_map_or (λ x. bytes_eq x f.tag) o false) e)
 
-right_where : (o : Option (List ℕ)) (tag : List ℕ) (same : Bool) → same ≡ option_map_or (λ x. bytes_eq x tag) o false → (IsTrue same → o ≡ Some tag) × (o ≡ Some tag → IsTrue same)
+right_where : (o : Option (List ℕ)) (tag : List ℕ) (same : Bool) → same ≡ option_map_or (λ x. bytes_eq x tag) o false
+    → (IsTrue same → o ≡ Some tag) × (o ≡ Some tag → IsTrue same)
 right_where None tag same e = (λ t. absurd (true≢false (sym t ∙ e)), λ n. absurd cc)
 right_where (Some x) tag same e =
     let d = bytes_eq-Decides x tag in
     (λ t. ap Some (d.0 (sym e ∙ t)), λ s. let same_tag : x ≡ tag = cc in e ∙ d.1 same_tag)
 
-pub sealed_exactly : (ring : Ring) (f : RawFrame) (same : Bool) → same ≡ is_sealed ring f → (IsTrue same → tag_by ring f.from f ≡ Some f.tag) × (tag_by ring f.from f ≡ Some f.tag → IsTrue same)
+pub sealed_exactly : (ring : Ring) (f : RawFrame) (same : Bool) → same ≡ is_sealed ring f
+    → (IsTrue same → tag_by ring f.from f ≡ Some f.tag) × (tag_by ring f.from f ≡ Some f.tag → IsTrue same)
 sealed_exactly ring f same e = right_where (tag_by ring f.from f) f.tag same e
 
 -- what the tests of a refusal say, in their order
-passed : (to from on right : Bool) (a b c : TagRefusal) → (if not to then Some a else if from || not on then Some b else if right then None else Some c) ≡ None → (to ≡ true) × (from ≡ false) × (on ≡ true) × (right ≡ true)
+passed : (to from on right : Bool) (a b c : TagRefusal)
+    → (if not to then Some a else if from || not on then Some b else if right then None else Some c) ≡ None
+    → (to ≡ true) × (from ≡ false) × (on ≡ true) × (right ≡ true)
 passed true false true true a b c e = (refl, refl, refl, refl)
 passed true false true false a b c e = absurd cc
 passed true false false right a b c e = absurd cc
 passed true true on right a b c e = absurd cc
 passed false from on right a b c e = absurd cc
 
-pass : (to from on right : Bool) (a b c : TagRefusal) → to ≡ true → from ≡ false → on ≡ true → right ≡ true → (if not to then Some a else if from || not on then Some b else if right then None else Some c) ≡ None
+pass : (to from on right : Bool) (a b c : TagRefusal) → to ≡ true → from ≡ false → on ≡ true → right ≡ true
+    → (if not to then Some a else if from || not on then Some b else if right then None else Some c) ≡ None
 pass to from on right a b c p q r s = rw (p, q, r, s) refl
 
 differs : (m n : ℕ) → m ≢ n → (m == n) ≡ false

@@ -27,7 +27,8 @@ none_of P never None h = refl
 none_of P never (Some key) h = absurd (never key h)
 
 -- where no place has a key there are none
-pub all_none : (P : Option (List ℕ) → Type 0) → ((key : List ℕ) → P (Some key) → ⊥) → (me : ℕ) (keys : List (Option (List ℕ))) → AllOfLen P keys 64 → record { me = me; keys = keys } ≡ no_keys me
+pub all_none : (P : Option (List ℕ) → Type 0) → ((key : List ℕ) → P (Some key) → ⊥) → (me : ℕ) (keys : List (Option (List ℕ)))
+    → AllOfLen P keys 64 → record { me = me; keys = keys } ≡ no_keys me
 unfolding no_keys
 all_none P never me keys each =
     ap (λ (ks : List (Option (List ℕ))). record { me = me; keys = ks })
@@ -36,11 +37,13 @@ all_none P never me keys each =
 
 pub key_of-no_keys : (me member : ℕ) → key_of (no_keys me) member ≡ None
 unfolding no_keys
-key_of-no_keys me member = cond_both (member == 0) None (get_or (replicate 64 None) (member - 1) None) (λ k. k ≡ None) (λ _. refl) (λ _. at_none (member - 1))
+key_of-no_keys me member =
+    cond_both (member == 0) None (get_or (replicate 64 None) (member - 1) None) (λ k. k ≡ None) (λ _. refl) (λ _. at_none (member - 1))
 
 -- a member's key stands at its place
 pub key_at : (ring : Ring) (member : ℕ) → 1 ≤ member → key_of ring member ≡ get_or ring.keys (member - 1) None
-key_at ring member low = cond_both (member == 0) None (get_or ring.keys (member - 1) None) (λ k. k ≡ get_or ring.keys (member - 1) None) (λ yes. absurd (grind (arith, nat_tests))) (λ _. refl)
+key_at ring member low =
+    cond_both (member == 0) None (get_or ring.keys (member - 1) None) (λ k. k ≡ get_or ring.keys (member - 1) None) (λ yes. absurd (grind (arith, nat_tests))) (λ _. refl)
 
 -- 0 has no key
 pub key_of-zero : (ring : Ring) → key_of ring 0 ≡ None
@@ -94,7 +97,8 @@ schedule_key-another : (me m : ℕ) → m ≢ me → 1 ≤ m → m ≤ 64 → sc
 schedule_key-another me m other low high = cond-false (m == me || is_outside m) None (Some (pair_key_of me m)) (grind (arith, nat_tests))
 
 -- a ring with the key of each pair has one for each listed member but its own
-pub schedule_covers : (me : ℕ) (ring : Ring) (list : TrustedList) → ring.me ≡ me → ((m : ℕ) → key_of ring m ≡ schedule_key me m) → IsValid list → HasKeys ring list.members
+pub schedule_covers : (me : ℕ) (ring : Ring) (list : TrustedList) → ring.me ≡ me → ((m : ℕ) → key_of ring m ≡ schedule_key me m)
+    → IsValid list → HasKeys ring list.members
 schedule_covers me ring list mine keys valid =
     All-weaker (λ m. (1 ≤ m) × (m ≤ 64)) (λ m. m ≢ ring.me → IsSome (key_of ring m))
     (λ m within other. ap is_some (keys m ∙ schedule_key-another me m (λ same. other (same ∙ sym mine)) within.0 within.1)) list.members valid.numbers

@@ -1,4 +1,4 @@
--- Opened frames: whom they are for, who sent them, and whether the tag is right.
+-- Opened frames: whom they are for, who sent them, and whether the tag is right. Source: this project's own rules.
 use Rattle.std.specs.Prelude.{◌≡◌, ◌≢◌, ℕ, ◌==◌, ◌||◌, not, Bool, false, List, [], Option, Some, None, unwrap_or, bytes_eq, All, IsSome, IsTrue, if◌then◌else◌}
 use Rattle.std.specs.Option.{option_map_or}
 use Rattle.xl_lists.specs.Lists.{is_on}
