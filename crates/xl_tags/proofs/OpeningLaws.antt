@@ -1,18 +1,23 @@
 -- What the tests of an opened frame say of it.
-use Rattle.std.proofs.Common.{◌≡◌, ◌≢◌, ℕ, ◌==◌, Bool, true, false, not, List, [], ◌∷◌, Option, Some, None, IsSome, IsTrue, refl, sym, ap, subst, ◌∙◌, inl, inr}
-use Rattle.std.specs.Prelude.{◌||◌, is_some, option_map, bytes_eq}
+use Rattle.std.proofs.Common.{◌≡◌, ◌≢◌, ℕ, ◌==◌, Bool, true, false, not, List, [], ◌∷◌, Option, Some, None, IsSome, IsTrue, refl, sym, ap, subst, ◌∙◌, inl, inr, length}
+use Rattle.std.specs.Prelude.{if◌then◌else◌, ◌||◌, is_some, option_map, unwrap_or, bytes_eq}
 use Rattle.std.specs.List.{AllByRecursion}
 use Rattle.std.specs.Option.{option_map_or}
 use Rattle.std.proofs.lemmas.Bool.{or_cases, eqb-true, eq-eqb, true≢false}
+use Rattle.std.proofs.Common.{arith}
+use Rattle.std.proofs.lemmas.Bool.Decides.{nat_tests}
 use Rattle.std.proofs.lemmas.List.Elements.{recursion_from_All}
 use Rattle.std.proofs.lemmas.Slice.Eq.{bytes_eq-Decides}
 use Rattle.xl_lists.specs.Lists.{is_on, is_outside}
-use Rattle.xl_wire.specs.Raws.{RawFrame, SpellsRaw}
+use Rattle.xl_wire.specs.Raws.{RawFrame, SpellsRaw, raw_bytes}
 use Rattle.xl_tags.specs.Macs.{mac}
 use Rattle.xl_tags.specs.Rings.{Ring, IsRing, key_of}
-use Rattle.xl_tags.specs.Sealing.{before_tag, tag_by}
-use Rattle.xl_tags.specs.Opening.{HasKeys, is_sealed}
+use Rattle.xl_tags.specs.Sealing.{before_tag, tag_by, sealed}
+use Rattle.xl_tags.specs.Opening.{HasKeys, is_sealed, SealedOpens, OpensAlone}
+use Rattle.xl_tags.specs.declared.refusal.TagRefusal.{TagRefusal}
 use Rattle.xl_tags.proofs.RingLaws.{key_of-outside}
+use Rattle.xl_tags.proofs.SealingLaws.{before_tag-with_tag}
+use Rattle.sha2.proofs.Facts256.{length-sha256}
 
 -- what is said of each listed member holds of one
 of_listed : (P : ℕ → Type 0) (members : List ℕ) (n : ℕ) → AllByRecursion P members → is_on members n ≡ true → P n
@@ -23,7 +28,8 @@ of_listed P (m ∷ members) n all on = elim (or_cases (n == m) (is_on members n)
 ]
 
 -- each listed member but me has a key
-pub has_key : (ring : Ring) (members : List ℕ) (n : ℕ) → HasKeys ring members → is_on members n ≡ true → n ≢ ring.me → IsSome (key_of ring n)
+pub has_key : (ring : Ring) (members : List ℕ) (n : ℕ) → HasKeys ring members → is_on members n ≡ true → n ≢ ring.me
+    → IsSome (key_of ring n)
 has_key ring members n keyed on other = of_listed (λ m. m ≢ ring.me → IsSome (key_of ring m)) members n (recursion_from_All (λ m. m ≢ ring.me → IsSome (key_of ring m)) members keyed) on other
 
 another : (same on : Bool) → not (same || not on) ≡ true → (same ≡ false) × (on ≡ true)
@@ -32,7 +38,8 @@ another false true e = (refl, refl)
 another false false e = absurd (true≢false (sym e))
 
 -- another listed member has a key
-pub another_has_key : (ring : Ring) (members : List ℕ) (n : ℕ) → HasKeys ring members → not (n == ring.me || not (is_on members n)) ≡ true → IsSome (key_of ring n)
+pub another_has_key : (ring : Ring) (members : List ℕ) (n : ℕ) → HasKeys ring members
+    → not (n == ring.me || not (is_on members n)) ≡ true → IsSome (key_of ring n)
 another_has_key ring members n keyed e =
     let both = another (n == ring.me) (is_on members n) e in
     has_key ring members n keyed both.1 (λ same. true≢false (sym (eq-eqb n ring.me same) ∙ both.0))
@@ -43,24 +50,64 @@ neither false true never = absurd (never refl refl)
 neither false false never = refl
 
 -- no number outside 1 to 64 is a listed member's
-pub none_outside : (ring : Ring) (members : List ℕ) (n : ℕ) → IsRing ring → HasKeys ring members → is_outside n ≡ true → false ≡ not (n == ring.me || not (is_on members n))
+pub none_outside : (ring : Ring) (members : List ℕ) (n : ℕ) → IsRing ring → HasKeys ring members → is_outside n ≡ true
+    → false ≡ not (n == ring.me || not (is_on members n))
 none_outside ring members n ok keyed out = neither (n == ring.me) (is_on members n) (λ other on.
     let some = has_key ring members n keyed on (λ same. true≢false (sym (eq-eqb n ring.me same) ∙ other)) in
     true≢false (sym (sym (ap is_some (key_of-outside ring n ok out)) ∙ some)))
 
 -- the tag of the bytes before the tag is the frame's under the key
-pub tag_is : (ring : Ring) (member : ℕ) (f : RawFrame) (bytes part tag : List ℕ) → SpellsRaw f bytes → part ≡ before_tag bytes → option_map (λ key. mac key part) (key_of ring member) ≡ Some tag → tag_by ring member f ≡ Some tag
+pub tag_is : (ring : Ring) (member : ℕ) (f : RawFrame) (bytes part tag : List ℕ) → SpellsRaw f bytes → part ≡ before_tag bytes
+    → option_map (λ key. mac key part) (key_of ring member) ≡ Some tag → tag_by ring member f ≡ Some tag
 tag_is ring member f bytes part tag spells is e = sym (ap (λ (p : List ℕ). option_map (λ key. mac key p) (key_of ring member)) (is ∙ ap before_tag spells.spelling)) ∙ e
 
 -- the test of the tag, once it is computed
-pub sealed_where : (ring : Ring) (f : RawFrame) (tag : List ℕ) (same : Bool) → tag_by ring f.from f ≡ Some tag → same ≡ bytes_eq tag f.tag → same ≡ is_sealed ring f
+pub sealed_where : (ring : Ring) (f : RawFrame) (tag : List ℕ) (same : Bool) → tag_by ring f.from f ≡ Some tag
+    → same ≡ bytes_eq tag f.tag → same ≡ is_sealed ring f
 sealed_where ring f tag same e t = t ∙ sym (ap (λ (o : Option (List ℕ)). option_map_or (λ x. bytes_eq x f.tag) o false) e)
 
-right_where : (o : Option (List ℕ)) (tag : List ℕ) (same : Bool) → same ≡ option_map_or (λ x. bytes_eq x tag) o false → (IsTrue same → o ≡ Some tag) × (o ≡ Some tag → IsTrue same)
+right_where : (o : Option (List ℕ)) (tag : List ℕ) (same : Bool) → same ≡ option_map_or (λ x. bytes_eq x tag) o false
+    → (IsTrue same → o ≡ Some tag) × (o ≡ Some tag → IsTrue same)
 right_where None tag same e = (λ t. absurd (true≢false (sym t ∙ e)), λ n. absurd cc)
 right_where (Some x) tag same e =
     let d = bytes_eq-Decides x tag in
     (λ t. ap Some (d.0 (sym e ∙ t)), λ s. let same_tag : x ≡ tag = cc in e ∙ d.1 same_tag)
 
-pub sealed_exactly : (ring : Ring) (f : RawFrame) (same : Bool) → same ≡ is_sealed ring f → (IsTrue same → tag_by ring f.from f ≡ Some f.tag) × (tag_by ring f.from f ≡ Some f.tag → IsTrue same)
+pub sealed_exactly : (ring : Ring) (f : RawFrame) (same : Bool) → same ≡ is_sealed ring f
+    → (IsTrue same → tag_by ring f.from f ≡ Some f.tag) × (tag_by ring f.from f ≡ Some f.tag → IsTrue same)
 sealed_exactly ring f same e = right_where (tag_by ring f.from f) f.tag same e
+
+-- what the tests of a refusal say, in their order
+passed : (to from on right : Bool) (a b c : TagRefusal)
+    → (if not to then Some a else if from || not on then Some b else if right then None else Some c) ≡ None
+    → (to ≡ true) × (from ≡ false) × (on ≡ true) × (right ≡ true)
+passed true false true true a b c e = (refl, refl, refl, refl)
+passed true false true false a b c e = absurd cc
+passed true false false right a b c e = absurd cc
+passed true true on right a b c e = absurd cc
+passed false from on right a b c e = absurd cc
+
+pass : (to from on right : Bool) (a b c : TagRefusal) → to ≡ true → from ≡ false → on ≡ true → right ≡ true
+    → (if not to then Some a else if from || not on then Some b else if right then None else Some c) ≡ None
+pass to from on right a b c p q r s = rw (p, q, r, s) refl
+
+differs : (m n : ℕ) → m ≢ n → (m == n) ≡ false
+differs m n other = grind (arith, nat_tests)
+
+pub opens_alone : OpensAlone
+opens_alone ring members f e =
+    let p = passed (f.to == ring.me) (f.from == ring.me) (is_on members f.from) (is_sealed ring f) _ _ _ e in
+    (eqb-true f.to ring.me p.0, λ same. true≢false (sym (eq-eqb f.from ring.me same) ∙ p.1), p.2, (sealed_exactly ring f true (sym p.3)).0 refl)
+
+pub sealed_opens : SealedOpens
+sealed_opens ring other members key f ok from to apart on there here =
+    let computed = mac key (before_tag (raw_bytes f)) in
+    let own : tag_by ring f.to f ≡ Some computed = ap (λ (o : Option (List ℕ)). option_map (λ k. mac k (before_tag (raw_bytes f))) o) (ap (key_of ring) to ∙ there) in
+    let tag : (sealed ring f).tag ≡ computed = ap (λ (o : Option (List ℕ)). unwrap_or o f.tag) own in
+    let same : before_tag (raw_bytes (sealed ring f)) ≡ before_tag (raw_bytes f) = before_tag-with_tag f (sealed ring f).tag ok (ap length tag ∙ length-sha256 _) in
+    let right : tag_by other f.from (sealed ring f) ≡ Some (sealed ring f).tag =
+    ap (λ (o : Option (List ℕ)). option_map (λ k. mac k (before_tag (raw_bytes (sealed ring f)))) o) (ap (key_of other) from ∙ here)
+    ∙ ap (λ (x : List ℕ). Some (mac key x)) same ∙ ap Some (sym tag) in
+    pass (f.to == other.me) (f.from == other.me) (is_on members f.from) (is_sealed other (sealed ring f)) _ _ _
+    (eq-eqb f.to other.me to) (differs f.from other.me (λ e. apart (sym from ∙ e))) (ap (is_on members) from ∙ on)
+    ((sealed_exactly other (sealed ring f) (is_sealed other (sealed ring f)) refl).1 right)

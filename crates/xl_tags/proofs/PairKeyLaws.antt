@@ -6,7 +6,8 @@ use Rattle.sha2.specs.Sha256.{sha256}
 use Rattle.xl_tags.specs.PairKeys.{pair_key_of}
 
 -- the hash of the parts is the key
-pub pair_hashed : (a b lesser greater : ℕ) (low high : List ℕ) → lesser ≡ min a b → greater ≡ max a b → low ≡ to_be_bytes w32 lesser → high ≡ to_be_bytes w32 greater
+pub pair_hashed : (a b lesser greater : ℕ) (low high : List ℕ) → lesser ≡ min a b → greater ≡ max a b → low ≡ to_be_bytes w32 lesser
+    → high ≡ to_be_bytes w32 greater
     → sha256 (0x58 ∷ 0x4C ∷ 0x4B ∷ 0x59 ∷ (low ++ high)) ≡ pair_key_of a b
 pair_hashed a b lesser greater low high p q s t =
     ap (λ (x : List ℕ). sha256 (0x58 ∷ 0x4C ∷ 0x4B ∷ 0x59 ∷ (x ++ high))) (s ∙ ap (to_be_bytes w32) p)

@@ -1,13 +1,16 @@
 -- Which keys a ring has.
-use Rattle.std.proofs.Common.{◌≡◌, ℕ, ◌+◌, ◌-◌, ◌<◌, ◌≤◌, ◌==◌, true, List, length, map, replicate, get_or, Option, Some, None, refl, sym, ap, ◌∙◌, inl, inr, arith}
+use Rattle.std.proofs.Common.{◌≡◌, ◌≢◌, ℕ, ◌+◌, ◌-◌, ◌<◌, ◌≤◌, ◌==◌, true, List, length, map, replicate, get_or, Option, Some, None, IsSome, refl, sym, ap, ◌∙◌, inl, inr, arith}
 use Rattle.std.specs.Prelude.{◌||◌}
 use Rattle.std.specs.List.{range_with_len}
 use Rattle.std.specs.Array.{AllOfLen}
-use Rattle.std.proofs.lemmas.Bool.{cases_eq, cases_lt, cond_both, cond-true, or_right}
+use Rattle.std.proofs.lemmas.Bool.{cases_eq, cases_lt, cond_both, cond-true, cond-false, or_right}
 use Rattle.std.proofs.lemmas.Bool.Decides.{nat_tests}
 use Rattle.std.proofs.lemmas.List.{ext_get_or, get_or-replicate, length-replicate, get_or_past}
 use Rattle.std.proofs.lemmas.List.FromFn.{length-map-range_with_len, get_or-map-range_with_len}
-use Rattle.xl_lists.specs.Lists.{is_outside}
+use Rattle.std.specs.Prelude.{is_some}
+use Rattle.std.proofs.lemmas.List.Elements.{All-weaker}
+use Rattle.xl_lists.specs.Lists.{TrustedList, IsValid, is_outside}
+use Rattle.xl_tags.specs.Opening.{HasKeys}
 use Rattle.xl_tags.specs.Rings.{Ring, IsRing, key_of, no_keys, schedule_key, schedule_ring}
 use Rattle.xl_tags.specs.PairKeys.{pair_key_of}
 
@@ -24,7 +27,8 @@ none_of P never None h = refl
 none_of P never (Some key) h = absurd (never key h)
 
 -- where no place has a key there are none
-pub all_none : (P : Option (List ℕ) → Type 0) → ((key : List ℕ) → P (Some key) → ⊥) → (me : ℕ) (keys : List (Option (List ℕ))) → AllOfLen P keys 64 → record { me = me; keys = keys } ≡ no_keys me
+pub all_none : (P : Option (List ℕ) → Type 0) → ((key : List ℕ) → P (Some key) → ⊥) → (me : ℕ) (keys : List (Option (List ℕ)))
+    → AllOfLen P keys 64 → record { me = me; keys = keys } ≡ no_keys me
 unfolding no_keys
 all_none P never me keys each =
     ap (λ (ks : List (Option (List ℕ))). record { me = me; keys = ks })
@@ -33,11 +37,13 @@ all_none P never me keys each =
 
 pub key_of-no_keys : (me member : ℕ) → key_of (no_keys me) member ≡ None
 unfolding no_keys
-key_of-no_keys me member = cond_both (member == 0) None (get_or (replicate 64 None) (member - 1) None) (λ k. k ≡ None) (λ _. refl) (λ _. at_none (member - 1))
+key_of-no_keys me member =
+    cond_both (member == 0) None (get_or (replicate 64 None) (member - 1) None) (λ k. k ≡ None) (λ _. refl) (λ _. at_none (member - 1))
 
 -- a member's key stands at its place
 pub key_at : (ring : Ring) (member : ℕ) → 1 ≤ member → key_of ring member ≡ get_or ring.keys (member - 1) None
-key_at ring member low = cond_both (member == 0) None (get_or ring.keys (member - 1) None) (λ k. k ≡ get_or ring.keys (member - 1) None) (λ yes. absurd (grind (arith, nat_tests))) (λ _. refl)
+key_at ring member low =
+    cond_both (member == 0) None (get_or ring.keys (member - 1) None) (λ k. k ≡ get_or ring.keys (member - 1) None) (λ yes. absurd (grind (arith, nat_tests))) (λ _. refl)
 
 -- 0 has no key
 pub key_of-zero : (ring : Ring) → key_of ring 0 ≡ None
@@ -86,3 +92,13 @@ filled_ring me ring filled =
     let within : i < 64 = omega (arith, filled.long) in
     ap (λ (k : ℕ). get_or ring.keys k None) (omega arith) ∙ sym (key_at ring (i + 1) (omega arith)) ∙ filled_keys me ring filled (i + 1) ∙ sym (get_or-map-range_with_len (schedule_key me) 1 64 i (i + 1) None within (omega arith))) in
     ap (λ (m : ℕ). record { me = m; keys = ring.keys }) filled.mine ∙ ap (λ (ks : List (Option (List ℕ))). record { me = me; keys = ks }) keys
+
+schedule_key-another : (me m : ℕ) → m ≢ me → 1 ≤ m → m ≤ 64 → schedule_key me m ≡ Some (pair_key_of me m)
+schedule_key-another me m other low high = cond-false (m == me || is_outside m) None (Some (pair_key_of me m)) (grind (arith, nat_tests))
+
+-- a ring with the key of each pair has one for each listed member but its own
+pub schedule_covers : (me : ℕ) (ring : Ring) (list : TrustedList) → ring.me ≡ me → ((m : ℕ) → key_of ring m ≡ schedule_key me m)
+    → IsValid list → HasKeys ring list.members
+schedule_covers me ring list mine keys valid =
+    All-weaker (λ m. (1 ≤ m) × (m ≤ 64)) (λ m. m ≢ ring.me → IsSome (key_of ring m))
+    (λ m within other. ap is_some (keys m ∙ schedule_key-another me m (λ same. other (same ∙ sym mine)) within.0 within.1)) list.members valid.numbers

@@ -1,4 +1,4 @@
--- Rings of keys: whose they are, and which key each other member shares with it.
+-- Rings of keys: whose they are, and which key each other member shares with it. Source: this project's own.
 use Rattle.std.specs.Prelude.{◌≡◌, ℕ, ◌-◌, ◌==◌, ◌||◌, List, length, map, replicate, Option, Some, None, slice_index_or, slice_set, if◌then◌else◌}
 use Rattle.std.specs.List.{range_with_len}
 use Rattle.xl_lists.specs.Lists.{is_outside}

@@ -1,4 +1,4 @@
--- Sealed frames: the tag stands behind the bytes that it is of.
+-- Sealed frames: the tag stands behind the bytes that it is of. Source: this project's own layout.
 use Rattle.std.specs.Prelude.{◌≡◌, ℕ, ◌-◌, List, length, take, Option, option_map, unwrap_or, IsSome}
 use Rattle.xl_wire.specs.Raws.{RawFrame, raw_bytes, SpellsRaw}
 use Rattle.xl_tags.specs.Macs.{mac}

@@ -1,12 +1,15 @@
 ghost use Rattle.std.specs.Prelude.{◌≡◌, ◌≢◌, ℕ, None, Some, IsTrue, IsSome, is_some, ◌↔◌, option_copied, option_map};
 ghost use Rattle.xl_tags.specs.Macs.{mac};
+ghost use Rattle.xl_lists.specs.Lists.{TrustedList, IsValid};
+ghost use Rattle.xl_tags.specs.Opening.{HasKeys};
 ghost use Rattle.xl_tags.specs.Rings.{key_of, with_key, no_keys, schedule_key, schedule_ring, IsRing};
 
 use crate::pair_key;
 use crate::prepared::Prepared;
-use std::array;
 use std::marker::Model;
+use std::{array, fmt};
 use xl_base::{GREATEST_NODE_NO, NodeNo};
+use xl_lists::List;
 
 const MEMBERS: usize = 64;
 
@@ -44,6 +47,8 @@ impl Keys {
     pub fn of_schedule(me: NodeNo) -> Keys
         ensures ring { result ≡ schedule_ring me }
         ensures keys { (member : ℕ) → key_of result member ≡ schedule_key me member }
+        // Every list's members have theirs.
+        ensures listed { (list : TrustedList) → IsValid list → HasKeys result list.members }
     {
         let mut keys = Keys::new(me);
         for number in 1..GREATEST_NODE_NO + 1 {
@@ -78,6 +83,20 @@ impl Keys {
         ensures { IsTrue result ↔ IsSome (key_of self.now member) }
     {
         self.knows(member.get())
+    }
+
+    /// Whether each listed member but me has a key.
+    pub fn has_all(&self, list: &List) -> bool
+        ensures { IsTrue result ↔ HasKeys self.now list.now.members }
+    {
+        list.members().iter().all(|&member| self.is_met(member))
+    }
+
+    /// Whether the member is me or has a key.
+    fn is_met(&self, member: NodeNo) -> bool
+        ensures { IsTrue result ↔ (member ≢ self.now.me → IsSome (key_of self.now member)) }
+    {
+        member == self.me || self.has(member)
     }
 
     /// The member's key.
@@ -123,5 +142,12 @@ impl Keys {
     {
         let place = number.checked_sub(1)?;
         self.prepared.get(place as usize)?.as_ref()
+    }
+}
+
+/// Tells no key.
+impl fmt::Debug for Keys {
+    fn fmt<W: fmt::Write>(&self, f: &mut fmt::Formatter<W>) -> fmt::Result {
+        f.write_str("Keys { .. }")
     }
 }

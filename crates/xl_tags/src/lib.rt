@@ -5,6 +5,7 @@
 #![tactic(auto)]
 
 mod keys;
+mod law;
 mod macs;
 mod opening;
 mod pair_keys;
@@ -13,8 +14,12 @@ mod refusal;
 mod sealing;
 
 pub use keys::Keys;
+pub use law::sealed_opens;
 pub use macs::hmac;
 pub use opening::{is_sealed, open, open_raw};
 pub use pair_keys::pair_key;
 pub use refusal::TagRefusal;
 pub use sealing::seal;
+
+#[cfg(test)]
+mod tests;

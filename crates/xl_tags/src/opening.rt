@@ -1,13 +1,13 @@
-ghost use Rattle.std.specs.Prelude.{◌≡◌, ◌≤◌, ◌==◌, ◌||◌, ◌↔◌, not, length, IsTrue, Some};
+ghost use Rattle.std.specs.Prelude.{◌≡◌, ◌==◌, ◌||◌, ◌↔◌, not, IsTrue, Some};
 ghost use Rattle.std.specs.Result.{result_err};
 ghost use Rattle.xl_lists.specs.Lists.{is_on};
 ghost use Rattle.xl_wire.specs.Raws.{RawFrame, SpellsRaw, raw_frame};
 ghost use Rattle.xl_tags.specs.Opening.{refusal_of, is_sealed, HasKeys};
-ghost use Rattle.xl_tags.specs.Sealing.{before_tag, tag_by, IsWhole};
+ghost use Rattle.xl_tags.specs.Sealing.{tag_by, IsWhole};
 
 use crate::TagRefusal;
 use crate::keys::Keys;
-use crate::sealing::whole;
+use crate::sealing::{before_tag, whole};
 use xl_base::NodeNo;
 use xl_lists::List;
 use xl_wire::Raw;
@@ -55,14 +55,6 @@ fn is_another_member(keys: &Keys, list: &List, number: u32) -> bool
         Some(member) => member != me && list.has(member),
         None => false,
     }
-}
-
-/// All bytes of a frame but the 32 of its tag.
-fn before_tag(bytes: &[u8]) -> &[u8]
-    requires { 32 ≤ length bytes.now }
-    ensures { result.now ≡ before_tag bytes.now }
-{
-    &bytes[..bytes.len() - 32]
 }
 
 /// Whether the frame's sender has a key here, and the frame carries the tag under it. Whom it is for isn't asked.

@@ -12,9 +12,16 @@ pub fn seal(keys: &Keys, frame: &mut [u8])
     ensures kept { before_tag frame.new ≡ before_tag frame.old }
 {
     let to = whole(frame).to;
-    let end = frame.len() - 32;
-    let tag = keys.tag(to, &frame[..end]);
+    let tag = keys.tag(to, before_tag(frame));
     put_tag(frame, &tag);
+}
+
+/// All bytes of a frame but the 32 of its tag.
+pub(crate) fn before_tag(bytes: &[u8]) -> &[u8]
+    requires { 32 ≤ length bytes.now }
+    ensures { result.now ≡ before_tag bytes.now }
+{
+    &bytes[..bytes.len() - 32]
 }
 
 fn put_tag(frame: &mut [u8], tag: &[u8; 32])

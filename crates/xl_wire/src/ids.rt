@@ -6,8 +6,8 @@ ghost use Rattle.xl_wire.specs.SetsRead.{set_refusal};
 ghost use Rattle.xl_base.specs.Sets.{IsSet, comes_before};
 ghost use Rattle.xl_wire.specs.Sets.{first_fall, ids_in};
 
-use crate::fields::bytes_at;
 use crate::WireRefusal;
+use crate::fields::bytes_at;
 use byteorder::{BigEndian, ByteOrder};
 use std::marker::Model;
 use xl_base::TxId;
