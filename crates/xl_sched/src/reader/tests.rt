@@ -4,6 +4,7 @@ use crate::lied::Lied;
 use crate::line::Line;
 use crate::printed::printed_token;
 use crate::refusal::SchedRefusal;
+use std::alloc::Global;
 use std::test::Fail;
 use xl_base::LedgerId;
 use xl_wire::Validation;
@@ -197,90 +198,105 @@ fn declares_a_node(rt: HostRuntime) -> Result<(), Fail> {
     Ok(())
 }
 
-/// The event of a line, where two frames were sent.
-fn event_of(reader: &mut Reader, line: &str) -> Result<Option<Event>, SchedRefusal> {
-    match reader.read_line(line.as_bytes(), 2)? {
-        Some(Line::Event(event)) => Ok(Some(event)),
-        _ => Ok(None),
+/// A reader of these lines.
+fn reader_of(alloc: Global, lines: &str) -> Result<Reader, Fail> {
+    let mut reader = Reader::open(alloc)?;
+    read_all(&mut reader, lines)?;
+    Ok(reader)
+}
+
+fn is_issue(read: &Option<Line>) -> bool {
+    match read {
+        Some(
+            Line::Event(
+                Event::Issue {
+                    at: 1_000,
+                    node,
+                    seq,
+                    id,
+                    full,
+                },
+            ),
+        ) => { node.get() == 1 && *seq == u32::MAX && *id == LedgerId([0; 32]) && *full }
+        _ => false,
     }
 }
 
 #[test]
 fn reads_events(rt: HostRuntime) -> Result<(), Fail> {
-    let mut reader = Reader::open(rt.alloc())?;
-    read_all(&mut reader, "xl-schedule 1\nnode 1 1 1")?;
-    match event_of(&mut reader, "issue 1 4294967295 root full")? {
-        Some(
-            Event::Issue {
-                at,
-                node,
-                seq,
-                id,
-                full,
-            },
-        ) => {
-            assert_eq!(rt; at, 1_000);
-            assert_eq!(rt; node.get(), 1);
-            assert_eq!(rt; seq, u32::MAX);
-            assert_eq!(rt; id, LedgerId([0; 32]));
-            assert!(rt; full);
-        }
-        _ => assert!(rt; false, "no issue"),
-    }
-    match event_of(&mut reader, "deliver\t2 ")? {
-        Some(Event::Deliver { at, place }) => assert_eq!(rt; (at, place), (1_000, 2)),
-        _ => assert!(rt; false, "no delivery"),
-    }
-    match event_of(&mut reader, "restart 1")? {
-        Some(Event::Restart { at, node }) => assert_eq!(rt; (at, node.get()), (1_000, 1)),
-        _ => assert!(rt; false, "no restart"),
-    }
+    let mut reader = reader_of(rt.alloc(), LIES)?;
+    let issue = reader.read_line(b"issue 1 4294967295 root full", 2)?;
+    assert!(rt; is_issue(&issue));
+    let deliver = reader.read_line(b"deliver\t2 ", 2)?;
+    assert!(rt;
+        matches!(
+            &deliver,
+            Some(Line::Event(Event::Deliver {
+                at: 1_000,
+                place: 2
+            }))
+        )
+    );
+    let restart = reader.read_line(b"restart 1", 2)?;
+    assert!(rt;
+        matches!(&restart, Some(Line::Event(Event::Restart { at: 1_000, node })) if node.get() == 1)
+    );
     Ok(())
+}
+
+/// Whether liar 2 says to node 1 that root is ledger 7, by a partial validation of the last second.
+fn is_lie(read: &Option<Line>) -> bool {
+    let said = Validation {
+        id: LedgerId([0; 32]),
+        seq: 7,
+        signed: u32::MAX,
+        full: false,
+    };
+    match read {
+        Some(
+            Line::Event(
+                Event::Lie {
+                    at: 1_000,
+                    from,
+                    to,
+                    what: Lied::Validation(validation),
+                },
+            ),
+        ) => { from.get() == 2 && to.get() == 1 && *validation == said }
+        _ => false,
+    }
+}
+
+fn is_raw(read: &Option<Line>) -> bool {
+    match read {
+        Some(
+            Line::Event(
+                Event::Raw {
+                    at: 1_000,
+                    to,
+                    bytes,
+                },
+            ),
+        ) => { to.get() == 1 && bytes.as_slice() == [0x58, 0x4c, 1, 0xff].as_slice() }
+        _ => false,
+    }
 }
 
 #[test]
 fn reads_lies(rt: HostRuntime) -> Result<(), Fail> {
-    let mut reader = Reader::open(rt.alloc())?;
-    read_all(&mut reader, "xl-schedule 1\nnode 1 1 1")?;
-    match reader.read_line(b"liar 2", 0)? {
-        Some(Line::Liar(liar)) => assert_eq!(rt; liar.get(), 2),
-        _ => assert!(rt; false, "no liar"),
-    }
-    match event_of(&mut reader, "lie 2 1 validation 7 root 4294967295 partial")? {
-        Some(
-            Event::Lie {
-                at,
-                from,
-                to,
-                what: Lied::Validation(validation),
-            },
-        ) => {
-            let said = Validation {
-                id: LedgerId([0; 32]),
-                seq: 7,
-                signed: u32::MAX,
-                full: false,
-            };
-            assert_eq!(rt; at, 1_000);
-            assert_eq!(rt; (from.get(), to.get()), (2, 1));
-            assert_eq!(rt; validation, said);
-        }
-        _ => assert!(rt; false, "no lie"),
-    }
-    match event_of(&mut reader, "raw 1 584c01fF")? {
-        Some(Event::Raw { at, to, bytes }) => {
-            assert_eq!(rt; (at, to.get()), (1_000, 1));
-            assert_eq!(rt; bytes.as_slice(), [0x58, 0x4c, 1, 0xff].as_slice());
-        }
-        _ => assert!(rt; false, "no raw bytes"),
-    }
+    let mut reader = reader_of(rt.alloc(), "xl-schedule 1\nnode 1 1 1")?;
+    let liar = reader.read_line(b"liar 2", 0)?;
+    assert!(rt; matches!(&liar, Some(Line::Liar(liar)) if liar.get() == 2));
+    let lie = reader.read_line(b"lie 2 1 validation 7 root 4294967295 partial", 0)?;
+    assert!(rt; is_lie(&lie));
+    let raw = reader.read_line(b"raw 1 584c01fF", 0)?;
+    assert!(rt; is_raw(&raw));
     Ok(())
 }
 
 #[test]
 fn reads_raw_bytes_up_to_a_frame(rt: HostRuntime) -> Result<(), Fail> {
-    let mut reader = Reader::open(rt.alloc())?;
-    read_all(&mut reader, "xl-schedule 1\nnode 1 1 1")?;
+    let mut reader = reader_of(rt.alloc(), "xl-schedule 1\nnode 1 1 1")?;
     let mut line = Vec::from_slice(rt.alloc(), b"raw 1 ")?;
     for _ in 0..8_240 {
         line.extend_from_slice(b"00")?;
