@@ -1,4 +1,4 @@
--- A refusal before its token is copied.
+-- A refusal before its token is copied. Source: this project's schedule language.
 use Rattle.std.specs.Prelude.{ℕ, List, decimal}
 use Rattle.xl_sched.specs.declared.fault.Cause.{Cause}
 use Rattle.xl_sched.specs.declared.fault.Cause.TheVariants as cause

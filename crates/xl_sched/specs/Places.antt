@@ -1,4 +1,4 @@
--- Where names and ids were declared first.
+-- Where names and ids were declared first. Source: this project's schedule language, in which an id is printed by its first name.
 use Rattle.std.specs.Prelude.{◌≡◌, ℕ, Bool, List, Option, Some, None, cond, position}
 use Rattle.std.specs.Ordering.{nat_cmp}
 use Rattle.std.specs.Cmp.Lexicographic.{slice_cmp}

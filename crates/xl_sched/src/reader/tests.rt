@@ -1,13 +1,19 @@
 use super::Reader;
 use crate::event::Event;
+use crate::lied::Lied;
 use crate::line::Line;
 use crate::printed::printed_token;
 use crate::refusal::SchedRefusal;
+use std::alloc::Global;
 use std::test::Fail;
-use xl_base::{LedgerId, NodeNo};
+use xl_base::LedgerId;
+use xl_wire::Validation;
+
+/// The lines before a lie.
+const LIES: &str = "xl-schedule 1\nnode 1 1 1\nliar 2";
 
 /// Lines that are read, the line after them that is refused, and the refusal's number and printed token.
-const REFUSED: [(&str, &str, u32, &str); 33] = [
+const REFUSED: [(&str, &str, u32, &str); 57] = [
     ("", "xl-schedule 2", 33, "xl-schedule"),
     ("", "", 33, "-"),
     ("", "#comment xl-schedule 1", 33, "#comment"),
@@ -61,6 +67,35 @@ const REFUSED: [(&str, &str, u32, &str); 33] = [
         36,
         "a?345678901234567890123456789012",
     ),
+    ("xl-schedule 1", "liar", 37, "1"),
+    ("xl-schedule 1", "liar 65", 38, "65"),
+    ("xl-schedule 1\nliar 2", "liar 2", 41, "2"),
+    ("xl-schedule 1\nnode 1 1 1", "liar 1", 41, "1"),
+    ("xl-schedule 1\nliar 1", "node 1 1 1", 41, "1"),
+    ("xl-schedule 1\nnode 1 1 1\nrestart 1", "liar", 42, "liar"),
+    (LIES, "lie 2 1", 37, "3"),
+    (LIES, "lie 2 1 validation 1", 37, "5"),
+    (LIES, "lie 2 1 validation 1 root 1 full 1", 37, "9"),
+    (LIES, "lie 2 1 gossip 1 root", 37, "6"),
+    (LIES, "lie 2 1 gossip 1", 40, "gossip"),
+    (LIES, "lie 2 1 gossip 1 root 1 full 1", 40, "gossip"),
+    (LIES, "lie 3 1 gossip 1", 44, "3"),
+    (LIES, "lie 0 1 validation 1 root 1 full", 38, "0"),
+    (LIES, "lie 1 1 validation 1 root 1 full", 44, "1"),
+    (LIES, "lie 2 2 validation 1 root 1 full", 44, "2"),
+    (LIES, "lie 2 1 validation 1 x 1 full", 39, "x"),
+    (
+        LIES,
+        "lie 2 1 validation 1 root 4294967296 full",
+        38,
+        "4294967296",
+    ),
+    (LIES, "lie 2 1 validation 1 root 1 most", 40, "most"),
+    (LIES, "raw 1", 37, "2"),
+    (LIES, "raw 65 00", 38, "65"),
+    (LIES, "raw 2 00", 44, "2"),
+    (LIES, "raw 1 584c0", 39, "584c0"),
+    (LIES, "raw 1 5g", 39, "5g"),
 ];
 
 /// Reads lines that aren't refused.
@@ -163,39 +198,115 @@ fn declares_a_node(rt: HostRuntime) -> Result<(), Fail> {
     Ok(())
 }
 
-/// The event that a line of a schedule with node 1 and two sent frames is.
-fn event_of(reader: &mut Reader, line: &str) -> Result<Option<Event>, SchedRefusal> {
-    let read = reader.read_line(line.as_bytes(), 2)?;
-    match &read {
-        Some(Line::Event(event)) => Ok(Some(*event)),
-        _ => Ok(None),
+/// A reader of these lines.
+fn reader_of(alloc: Global, lines: &str) -> Result<Reader, Fail> {
+    let mut reader = Reader::open(alloc)?;
+    read_all(&mut reader, lines)?;
+    Ok(reader)
+}
+
+fn is_issue(read: &Option<Line>) -> bool {
+    match read {
+        Some(
+            Line::Event(
+                Event::Issue {
+                    at: 1_000,
+                    node,
+                    seq,
+                    id,
+                    full,
+                },
+            ),
+        ) => { node.get() == 1 && *seq == u32::MAX && *id == LedgerId([0; 32]) && *full }
+        _ => false,
     }
 }
 
 #[test]
 fn reads_events(rt: HostRuntime) -> Result<(), Fail> {
-    let mut reader = Reader::open(rt.alloc())?;
-    read_all(&mut reader, "xl-schedule 1\nnode 1 1 1")?;
-    let node = NodeNo::new(1).ok_or("no number")?;
-    let id = LedgerId([0; 32]);
-    let issue = Event::Issue {
-        at: 1_000,
-        node,
-        seq: u32::MAX,
-        id,
-        full: true,
-    };
-    assert_eq!(rt;
-        event_of(&mut reader, "issue 1 4294967295 root full")?,
-        Some(issue)
+    let mut reader = reader_of(rt.alloc(), LIES)?;
+    let issue = reader.read_line(b"issue 1 4294967295 root full", 2)?;
+    assert!(rt; is_issue(&issue));
+    let deliver = reader.read_line(b"deliver\t2 ", 2)?;
+    assert!(rt;
+        matches!(
+            &deliver,
+            Some(Line::Event(Event::Deliver {
+                at: 1_000,
+                place: 2
+            }))
+        )
     );
-    let deliver = Event::Deliver {
-        at: 1_000,
-        place: 2,
+    let restart = reader.read_line(b"restart 1", 2)?;
+    assert!(rt;
+        matches!(&restart, Some(Line::Event(Event::Restart { at: 1_000, node })) if node.get() == 1)
+    );
+    Ok(())
+}
+
+/// Whether liar 2 says to node 1 that root is ledger 7, by a partial validation of the last second.
+fn is_lie(read: &Option<Line>) -> bool {
+    let said = Validation {
+        id: LedgerId([0; 32]),
+        seq: 7,
+        signed: u32::MAX,
+        full: false,
     };
-    assert_eq!(rt; event_of(&mut reader, "deliver\t2 ")?, Some(deliver));
-    let restart = Event::Restart { at: 1_000, node };
-    assert_eq!(rt; event_of(&mut reader, "restart 1")?, Some(restart));
+    match read {
+        Some(
+            Line::Event(
+                Event::Lie {
+                    at: 1_000,
+                    from,
+                    to,
+                    what: Lied::Validation(validation),
+                },
+            ),
+        ) => { from.get() == 2 && to.get() == 1 && *validation == said }
+        _ => false,
+    }
+}
+
+fn is_raw(read: &Option<Line>) -> bool {
+    match read {
+        Some(
+            Line::Event(
+                Event::Raw {
+                    at: 1_000,
+                    to,
+                    bytes,
+                },
+            ),
+        ) => { to.get() == 1 && bytes.as_slice() == [0x58, 0x4c, 1, 0xff].as_slice() }
+        _ => false,
+    }
+}
+
+#[test]
+fn reads_lies(rt: HostRuntime) -> Result<(), Fail> {
+    let mut reader = reader_of(rt.alloc(), "xl-schedule 1\nnode 1 1 1")?;
+    let liar = reader.read_line(b"liar 2", 0)?;
+    assert!(rt; matches!(&liar, Some(Line::Liar(liar)) if liar.get() == 2));
+    let lie = reader.read_line(b"lie 2 1 validation 7 root 4294967295 partial", 0)?;
+    assert!(rt; is_lie(&lie));
+    let raw = reader.read_line(b"raw 1 584c01fF", 0)?;
+    assert!(rt; is_raw(&raw));
+    Ok(())
+}
+
+#[test]
+fn reads_raw_bytes_up_to_a_frame(rt: HostRuntime) -> Result<(), Fail> {
+    let mut reader = reader_of(rt.alloc(), "xl-schedule 1\nnode 1 1 1")?;
+    let mut line = Vec::from_slice(rt.alloc(), b"raw 1 ")?;
+    for _ in 0..8_240 {
+        line.extend_from_slice(b"00")?;
+    }
+    assert!(rt; reader.read_line(&line, 0)?.is_some());
+    line.extend_from_slice(b"00")?;
+    match reader.read_line(&line, 0) {
+        Err(refusal) => assert_eq!(rt; refusal.code(), 39),
+        Ok(_) => assert!(rt; false, "8,241 bytes are read"),
+    }
     Ok(())
 }
 
