@@ -2,3 +2,4 @@ pub mod PairKeyLaws
 pub mod RingLaws
 pub mod OpeningLaws
 pub mod SealingLaws
+pub mod MacLaws

@@ -38,23 +38,23 @@ from_found p P R (x ∷ xs) found each then_ =
     [ inl here ↦ then_ x here (All-head P x xs each) | inr there ↦ from_found p P R xs there (All-tail P x xs each) then_ ]
 
 -- what is not forged, though it is a sealed frame to the node, comes from a liar or was sent
-unforged : (last mine liar sent right : Bool) → (last && mine && not liar && not sent && right) ≡ false → last ≡ true → mine ≡ true → right ≡ true → (liar ≡ true) ⊎ (sent ≡ true)
+unforged : (last mine liar sent right : Bool) → (last && (mine && not liar && not sent && right)) ≡ false → last ≡ true → mine ≡ true → right ≡ true → (liar ≡ true) ⊎ (sent ≡ true)
 unforged last mine liar sent right h a b c = grind arith
 
 -- what was sent says what comes
-sent_says : (P : Said → Type 0) (w : World) (bytes : List ℕ) (x : Said) → All (FrameSays P) w.sent → was_sent w bytes ≡ true → said_in bytes ≡ Some x → P x
+sent_says : (P : Said → Type 0) (w : World) (bytes : List ℕ) (x : Said) → All (FrameSays P) w.sent → was_sent w.sent bytes ≡ true → said_in bytes ≡ Some x → P x
 sent_says P w bytes x says sent is =
     from_found _ (FrameSays P) _ w.sent sent says
     (λ f same says_f.
     let equal : f.bytes ≡ bytes = (bytes_eq-Decides f.bytes bytes).0 same in
     subst (λ o. IfSome o P) (ap said_in equal ∙ is) says_f)
 
-heard_unforged : (w : World) (n : Node) → Stands w (IsGenuine w.liars w.said) → (bytes : List ℕ) → forges w n.keys bytes (split_of bytes) ≡ false →
+heard_unforged : (w : World) (n : Node) → Stands w (IsGenuine w.liars w.said) → (bytes : List ℕ) → forges w.liars w.sent n.keys bytes (split_of bytes) ≡ false →
     (said : Spoken) → IsHeard n.keys n.list.members bytes said → IsGenuine w.liars w.said (said_by said.from said.validation)
 heard_unforged w n stands bytes fair said heard =
     let f : RawFrame = heard.frame in
-    elim (unforged (nat_le (length bytes) (span f.body)) (f.to == n.keys.me) (is_on w.liars f.from) (was_sent w bytes) (is_sealed n.keys f)
-    (ap (forges w n.keys bytes) (sym heard.split) ∙ fair) heard.last heard.for_me heard.is_sealed) [
+    elim (unforged (nat_le (length bytes) (span f.body)) (f.to == n.keys.me) (is_on w.liars f.from) (was_sent w.sent bytes) (is_sealed n.keys f)
+    (ap (forges w.liars w.sent n.keys bytes) (sym heard.split) ∙ fair) heard.last heard.for_me heard.is_sealed) [
       | inl liar ↦ or_left _ _ (ap (is_on w.liars) heard.from ∙ liar)
       | inr sent ↦ sent_says (IsGenuine w.liars w.said) w bytes (said_by said.from said.validation) stands.sent sent (heard_said n.keys n.list.members bytes said heard)
     ]

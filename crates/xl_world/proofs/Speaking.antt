@@ -4,8 +4,7 @@ use Rattle.std.specs.Prelude.{◌==◌, ◌&&◌, not, nat_lt, All, IfSome, map,
 use Rattle.std.proofs.lemmas.Bool.{and_parts, cond_both, ltb-true, eqb-true}
 use Rattle.std.proofs.lemmas.List.{append-nil, length-append, length-replicate}
 use Rattle.std.proofs.lemmas.List.Elements.{All-nil, All-cons}
-use Rattle.byteorder.specs.Endian.{big_bytes}
-use Rattle.sha2.proofs.Facts256.{length-sha256}
+use Rattle.xl_tags.proofs.MacLaws.{length-mac}
 use Rattle.xl_lists.specs.Agreement.{Said}
 use Rattle.xl_wire.specs.declared.body.Body.{Body}
 use Rattle.xl_wire.specs.declared.body.Body.TheVariants as bodies
@@ -20,7 +19,7 @@ use Rattle.xl_wire.proofs.BodyLaws.{body_again, spelled_lawful}
 use Rattle.xl_wire.proofs.RawLaws.{split_again}
 use Rattle.xl_tags.specs.Macs.{mac}
 use Rattle.xl_tags.specs.Rings.{Ring, key_of}
-use Rattle.xl_tags.specs.Sealing.{before_tag, tag_by, sealed}
+use Rattle.xl_tags.specs.Sealing.{before_tag, sealed}
 use Rattle.xl_core.specs.Node.{Node}
 use Rattle.xl_core.specs.declared.hearing.Spoken.{Spoken}
 use Rattle.xl_core.specs.Hearing.{heard}
@@ -30,9 +29,9 @@ use Rattle.xl_world.specs.declared.sent.Sent.{Sent}
 use Rattle.xl_world.specs.World.{said_by, said_in, said_in_body, said_in_split, FrameSays, frame_to, frames_for}
 
 -- a tag has 32 bytes, also where there is no key
-tag_long : (ring : Ring) (to : ℕ) (bytes : List ℕ) (o : Option (List ℕ)) → length (unwrap_or (option_map (λ key. mac key (before_tag bytes)) o) (replicate 32 0)) ≡ 32
-tag_long ring to bytes None = refl
-tag_long ring to bytes (Some key) = length-sha256 _
+tag_long : (bytes : List ℕ) (o : Option (List ℕ)) → length (unwrap_or (option_map (λ key. mac key (before_tag bytes)) o) (replicate 32 0)) ≡ 32
+tag_long bytes None = refl
+tag_long bytes (Some key) = length-mac key _
 
 -- what the fields of a frame hold
 pub record IsHeld (from to : ℕ) (v : Validation) : Type 0 where
@@ -58,7 +57,7 @@ sealed_raw ring from to v fits = record {
   lawful = spelled_lawful (bodies.Validation v) fits.validation;
   from = fits.from;
   to = fits.to;
-  tag = tag_long ring to (raw_bytes (validation_frame from to v (replicate 32 0))) (key_of ring to);
+  tag = tag_long (raw_bytes (validation_frame from to v (replicate 32 0))) (key_of ring to);
 }
 
 -- so it says the validation

@@ -106,7 +106,7 @@ hearing_quiet n now (Ok said) = hears_quiet (refusal_at n now said.from said.val
     hears_quiet (Some why) = refl
 
 heard_at : (w : World) (to now : ℕ) (bytes : List ℕ) (a : Option Answer) (forged : ℕ) (o : Option Place) → place_at to w.places ≡ o → Answers (Frame now bytes) o a →
-    forged ≡ (if forged_at w (Frame now bytes) o then one_more w.forged else w.forged) →
+    forged ≡ (if forged_at w.liars w.sent bytes o then one_more w.forged else w.forged) →
     with_lists w (put_acted (Frame now bytes) o w.places) w.sent w.said (w.reports ++ reported_some a) forged ≡ acts w to (Frame now bytes) true o
 heard_at w to now bytes None forged None at answers counted = same_lists w refl refl refl (append-nil w.reports) counted
 heard_at w to now bytes (Some a) forged None at answers counted = absurd answers
@@ -123,7 +123,7 @@ heard_at w to now bytes (Some a) forged (Some p) at is counted =
 -- the lists of the code, with what is heard, are the step's
 pub heard_step : (w : World) (to now : ℕ) (bytes : List ℕ) (a : Option Answer) (places : List Place) (reports : List Report) (forged : ℕ) →
     AnswersAt to (Frame now bytes) w.places a → places ≡ acted_at to (Frame now bytes) w.places → reports ≡ w.reports ++ reported_some a →
-    forged ≡ (if forged_at w (Frame now bytes) (place_at to w.places) then one_more w.forged else w.forged) →
+    forged ≡ (if forged_at w.liars w.sent bytes (place_at to w.places) then one_more w.forged else w.forged) →
     with_lists w places w.sent w.said reports forged ≡ step w (Act to (Frame now bytes) true)
 heard_step w to now bytes a places reports forged answers is_places is_reports counted =
     same_lists w is_places refl refl is_reports refl ∙ heard_at w to now bytes a forged (place_at to w.places) refl answers counted
@@ -179,23 +179,23 @@ told_heard w to e None answers = tells_nothing w to e (no_place w to e answers)
 told_heard w to e (Some a) answers = told_step w to e a answers
 
 -- bytes that were sent are not forged
-fair : (last mine liar right sent : Bool) → sent ≡ true → (last && mine && not liar && not sent && right) ≡ false
+fair : (last mine liar right sent : Bool) → sent ≡ true → (last && (mine && not liar && not sent && right)) ≡ false
 fair last mine liar right sent h = grind arith
 
-sent_fair : (w : World) (keys : Ring) (bytes : List ℕ) (s : Split) → was_sent w bytes ≡ true → forges w keys bytes s ≡ false
-sent_fair w keys bytes (NoFrame why) sent = refl
-sent_fair w keys bytes (Need lack) sent = refl
-sent_fair w keys bytes (Whole f) sent = fair (nat_le (length bytes) (span f.body)) (f.to == keys.me) (is_on w.liars f.from) (is_sealed keys f) (was_sent w bytes) sent
+sent_fair : (liars : List ℕ) (sent : List Sent) (keys : Ring) (bytes : List ℕ) (s : Split) → was_sent sent bytes ≡ true → forges liars sent keys bytes s ≡ false
+sent_fair liars sent keys bytes (NoFrame why) was = refl
+sent_fair liars sent keys bytes (Need lack) was = refl
+sent_fair liars sent keys bytes (Whole f) was = fair (nat_le (length bytes) (span f.body)) (f.to == keys.me) (is_on liars f.from) (is_sealed keys f) (was_sent sent bytes) was
 
-found_sent : (w : World) (f : Sent) (k : ℕ) → slice_get w.sent k ≡ Some f → was_sent w f.bytes ≡ true
-found_sent w f k at =
-    list_any_at _ w.sent k f (slice_get_within w.sent k f at)
-    (subst (λ (g : Sent). bytes_eq g.bytes f.bytes ≡ true) (sym (get_or_from_slice_get w.sent k f f at)) ((bytes_eq-Decides f.bytes f.bytes).1 refl))
+found_sent : (sent : List Sent) (f : Sent) (k : ℕ) → slice_get sent k ≡ Some f → was_sent sent f.bytes ≡ true
+found_sent sent f k at =
+    list_any_at _ sent k f (slice_get_within sent k f at)
+    (subst (λ (g : Sent). bytes_eq g.bytes f.bytes ≡ true) (sym (get_or_from_slice_get sent k f f at)) ((bytes_eq-Decides f.bytes f.bytes).1 refl))
 
-fair_at : (w : World) (now : ℕ) (bytes : List ℕ) (o : Option Place) → was_sent w bytes ≡ true → forged_at w (Frame now bytes) o ≡ false
-fair_at w now bytes None sent = refl
-fair_at w now bytes (Some p) sent = sent_fair w p.node.keys bytes (split_of bytes) sent
+fair_at : (liars : List ℕ) (sent : List Sent) (bytes : List ℕ) (o : Option Place) → was_sent sent bytes ≡ true → forged_at liars sent bytes o ≡ false
+fair_at liars sent bytes None was = refl
+fair_at liars sent bytes (Some p) was = sent_fair liars sent p.node.keys bytes (split_of bytes) was
 
-pub frame_fair : (w : World) (f : Sent) (now place : ℕ) (o : Option Place) → frame_at w.sent place ≡ Some f → forged_at w (Frame now f.bytes) o ≡ false
-frame_fair w f now zero o at = cc
-frame_fair w f now (suc k) o at = fair_at w now f.bytes o (found_sent w f k at)
+pub frame_fair : (liars : List ℕ) (sent : List Sent) (f : Sent) (place : ℕ) (o : Option Place) → frame_at sent place ≡ Some f → forged_at liars sent f.bytes o ≡ false
+frame_fair liars sent f zero o at = cc
+frame_fair liars sent f (suc k) o at = fair_at liars sent f.bytes o (found_sent sent f k at)

@@ -16,7 +16,8 @@ use Rattle.xl_world.specs.declared.place.Saying.{Saying}
 use Rattle.xl_world.specs.declared.report.WorldReport.{WorldReport}
 use Rattle.xl_world.specs.Keeper.{holding}
 use Rattle.xl_world.specs.Forks as Forks
-use Rattle.xl_world.specs.World.{World, place_at, put, place_after, reported_by, is_forged, frames_for}
+use Rattle.xl_world.specs.World.{place_at, put, place_after, reported_by, forges, frames_for}
+use Rattle.xl_wire.specs.Heads.{split_of}
 use Rattle.xl_world.specs.declared.sent.Sent.{Sent}
 use Rattle.xl_wire.specs.declared.validation.Validation.{Validation}
 
@@ -73,9 +74,9 @@ abbrev pub outcomes_told : ℕ → Answer → List Outcome
 outcomes_told i a = option_to_list (option_map (Refused i) a.refused) ++ option_to_list (option_map (λ r. Full i r.seq r.id) a.report)
 
 -- whether what comes to a place, where there is one, is forged
-abbrev pub forged_at : World → Event → Option Place → Bool
-forged_at w e None = false
-forged_at w e (Some p) = is_forged w p.node e
+abbrev pub forged_at : List ℕ → List Sent → List ℕ → Option Place → Bool
+forged_at liars sent bytes None = false
+forged_at liars sent bytes (Some p) = forges liars sent p.node.keys bytes (split_of bytes)
 
 -- the frames that the node of a place would send
 abbrev pub frames_from : List ℕ → Validation → Option Place → List Sent

@@ -17,6 +17,7 @@ use Rattle.xl_wire.specs.Bodies.{body_of}
 use Rattle.xl_wire.specs.Heads.{Split, split_of}
 use Rattle.xl_wire.specs.Heads.Split.{Whole, Need, Refused}
 use Rattle.xl_wire.specs.Kinds.{span}
+use Rattle.xl_wire.specs.Raws.{RawFrame}
 use Rattle.xl_tags.specs.Opening.{is_sealed}
 use Rattle.xl_tags.specs.Rings.{Ring, schedule_ring}
 use Rattle.xl_validations.specs.declared.row.Row.{Row}
@@ -75,21 +76,24 @@ abbrev pub reported_by : Node → Report → Reported
 reported_by n r = record { node = n.me; list = n.list; seq = r.seq; id = r.id }
 
 -- whether these bytes were sent; they name their sender and their receiver
-abbrev pub was_sent : World → List ℕ → Bool
-was_sent w bytes = list_any (λ f. bytes_eq f.bytes bytes) w.sent
+abbrev pub was_sent : List Sent → List ℕ → Bool
+was_sent sent bytes = list_any (λ f. bytes_eq f.bytes bytes) sent
 
--- Whether the bytes are one whole frame to the owner of these keys, with the right tag of another member that is no liar, and
--- nobody sent them. A number that isn't another member's has no key.
-abbrev pub forges : World → Ring → List ℕ → Split → Bool
-forges w keys bytes (Refused why) = false
-forges w keys bytes (Need lack) = false
-forges w keys bytes (Whole f) =
-    nat_le (length bytes) (span f.body) && f.to == keys.me && not (is_on w.liars f.from) && not (was_sent w bytes) && is_sealed keys f
+-- whether the frame is to the owner of these keys, with the right tag of another member that is no liar, and nobody sent its bytes;
+-- a number that isn't another member's has no key
+abbrev pub is_made_up : List ℕ → List Sent → Ring → List ℕ → RawFrame → Bool
+is_made_up liars sent keys bytes f = f.to == keys.me && not (is_on liars f.from) && not (was_sent sent bytes) && is_sealed keys f
+
+-- whether the bytes are one whole frame that is made up
+abbrev pub forges : List ℕ → List Sent → Ring → List ℕ → Split → Bool
+forges liars sent keys bytes (Refused why) = false
+forges liars sent keys bytes (Need lack) = false
+forges liars sent keys bytes (Whole f) = nat_le (length bytes) (span f.body) && is_made_up liars sent keys bytes f
 
 -- whether what comes to a node is forged
 abbrev pub is_forged : World → Node → Event → Bool
 is_forged w n (Issue now seq id full) = false
-is_forged w n (Frame now bytes) = forges w n.keys bytes (split_of bytes)
+is_forged w n (Frame now bytes) = forges w.liars w.sent n.keys bytes (split_of bytes)
 
 -- one more, up to where a count ends
 abbrev pub one_more : ℕ → ℕ

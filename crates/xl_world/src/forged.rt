@@ -1,13 +1,10 @@
 // Whether what comes is forged.
-ghost use Rattle.std.specs.Prelude.{◌≡◌, Some, ◌==◌};
-ghost use Rattle.std.specs.List.{list_any};
-ghost use Rattle.std.specs.Str.{bytes_eq};
+ghost use Rattle.std.specs.Prelude.{◌≡◌};
 ghost use Rattle.xl_lists.specs.Lists.{is_on};
 ghost use Rattle.xl_wire.specs.Heads.{split_of};
 ghost use Rattle.xl_wire.specs.Raws.{SpellsRaw, raw_frame};
-ghost use Rattle.xl_core.specs.Node.{Frame};
 ghost use Rattle.xl_world.specs.Seen.{forged_at};
-ghost use Rattle.xl_world.specs.World.{place_at, forges, World};
+ghost use Rattle.xl_world.specs.World.{place_at, forges, is_made_up};
 
 use crate::Sent;
 use crate::act::place_of;
@@ -15,7 +12,7 @@ use crate::place::Place;
 use crate::sent::was_sent;
 use xl_base::NodeNo;
 use xl_tags::{Keys, is_sealed};
-use xl_wire::{Parted, split};
+use xl_wire::{Parted, Raw, split};
 
 fn is_liar(liars: &[NodeNo], number: u32) -> bool
     ensures { result ≡ is_on liars.now number }
@@ -23,18 +20,24 @@ fn is_liar(liars: &[NodeNo], number: u32) -> bool
     liars.iter().any(|liar| number == liar.get())
 }
 
-/// Whether the bytes are one whole frame to the owner of the keys, from another member that is no liar, with the right tag, and
-/// nobody sent them.
+/// Whether the frame is to the owner of the keys, from another member that is no liar, with the right tag, and nobody sent it.
+fn is_made_up(liars: &[NodeNo], sent: &[Sent], keys: &Keys, raw: &Raw<'_>, bytes: &[u8]) -> bool
+    requires { SpellsRaw (raw_frame raw.now) bytes.now }
+    ensures { result ≡ is_made_up liars.now sent.now keys.now bytes.now (raw_frame raw.now) }
+{
+    raw.to == keys.me().get()
+        && !is_liar(liars, raw.from)
+        && !was_sent(sent, bytes)
+        && is_sealed(keys, raw, bytes)
+}
+
+/// Whether the bytes are one whole frame that is made up.
 fn forges(liars: &[NodeNo], sent: &[Sent], keys: &Keys, bytes: &[u8]) -> bool
-    ensures { (w : World) → w.liars ≡ liars.now → w.sent ≡ sent.now → result ≡ forges w keys.now bytes.now (split_of bytes.now) }
+    ensures { result ≡ forges liars.now sent.now keys.now bytes.now (split_of bytes.now) }
 {
     match split(bytes) {
         Parted::Whole(raw) => {
-            bytes.len() <= raw.length
-                && raw.to == keys.me().get()
-                && !is_liar(liars, raw.from)
-                && !was_sent(sent, bytes)
-                && is_sealed(keys, &raw, bytes)
+            bytes.len() <= raw.length && is_made_up(liars, sent, keys, &raw, bytes)
         }
         _ => false,
     }
@@ -48,8 +51,7 @@ pub fn is_forged(
     to: NodeNo,
     bytes: &[u8],
 ) -> bool
-    ensures { (w : World) (now : ℕ) → w.liars ≡ liars.now → w.sent ≡ sent.now →
-        result ≡ forged_at w (Frame now bytes.now) (place_at to places.now) }
+    ensures { result ≡ forged_at liars.now sent.now bytes.now (place_at to places.now) }
 {
     match place_of(places, to) {
         Some(k) => {

@@ -1,11 +1,9 @@
 // What was sent: every frame of every node, as its bytes.
 ghost use Rattle.std.specs.Prelude.{◌≡◌, IfOk, IsTrue, Some, option_copied};
 ghost use Rattle.xl_core.specs.Sending.{has_spelling};
-ghost use Rattle.std.specs.List.{list_any};
-ghost use Rattle.std.specs.Str.{bytes_eq};
 ghost use Rattle.xl_world.specs.Schedule.{frame_at};
 ghost use Rattle.xl_world.specs.Seen.{frames_from};
-ghost use Rattle.xl_world.specs.World.{frame_to, frames_for, place_at};
+ghost use Rattle.xl_world.specs.World.{was_sent, frame_to, frames_for, place_at};
 
 use crate::act::place_of;
 use crate::place::Place;
@@ -32,7 +30,7 @@ pub fn frame_at(sent: &[Sent], place: u64) -> Option<&Sent>
 
 /// Whether these bytes were sent.
 pub fn was_sent(sent: &[Sent], bytes: &[u8]) -> bool
-    ensures { result ≡ list_any (λ f. bytes_eq f.bytes bytes.now) sent.now }
+    ensures { result ≡ was_sent sent.now bytes.now }
 {
     sent.iter().any(|frame| frame.bytes.as_slice() == bytes)
 }

@@ -23,14 +23,12 @@ fn push_some<T: Drop>(list: &mut Vec<T>, element: Option<T>)
 }
 
 /// The frames of what is issued are sent, if anything is.
-pub fn send_some(sent: &mut Vec<Sent>, frames: Vec<Sent>, issued: &Option<Validation>)
-    requires { vec_len sent.old + length frames.items ≤ vec_capacity sent.old }
-    ensures { sent.new.items ≡ sent.old.items ++ (if is_some issued.now then frames.items else []) }
+pub fn send_some(sent: &mut Vec<Sent>, mut frames: Vec<Sent>, issued: &Option<Validation>)
+    requires { vec_len sent.old + vec_len frames.entry ≤ vec_capacity sent.old }
+    ensures { sent.new.items ≡ sent.old.items ++ (if is_some issued.now then frames.entry.items else []) }
 {
     if issued.is_some() {
-        for frame in frames {
-            let _ = sent.push(frame);
-        }
+        let _ = sent.append(&mut frames);
     }
 }
 
