@@ -12,3 +12,4 @@ pub mod Opposing
 pub mod Firsts
 pub mod Differing
 pub mod Reporters
+pub mod Forging

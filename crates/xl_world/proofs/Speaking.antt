@@ -35,8 +35,8 @@ tag_long bytes (Some key) = length-mac key _
 
 -- what the fields of a frame hold
 pub record IsHeld (from to : ℕ) (v : Validation) : Type 0 where
-  pub from : from < 2 ^ 32
-  pub to : to < 2 ^ 32
+  pub sender : from < 2 ^ 32
+  pub receiver : to < 2 ^ 32
   pub validation : IsValidation v
 
 pub held : (from to : ℕ) (v : Validation) → has_spelling from to v ≡ true → IsHeld from to v
@@ -46,8 +46,8 @@ held from to v h =
     let c = and_parts (nat_lt from (2 ^ 32) && nat_lt to (2 ^ 32)) _ b.0 in
     let d = and_parts (nat_lt from (2 ^ 32)) _ c.0 in
     record {
-      from = ltb-true from (2 ^ 32) d.0;
-      to = ltb-true to (2 ^ 32) d.1;
+      sender = ltb-true from (2 ^ 32) d.0;
+      receiver = ltb-true to (2 ^ 32) d.1;
       validation = record { id = eqb-true (length v.id.0) 32 c.1; seq = ltb-true v.seq (2 ^ 32) b.1; signed = ltb-true v.signed (2 ^ 32) a.1 };
     }
 
@@ -55,8 +55,8 @@ held from to v h =
 sealed_raw : (ring : Ring) (from to : ℕ) (v : Validation) → IsHeld from to v → IsRaw (sealed ring (validation_frame from to v (replicate 32 0)))
 sealed_raw ring from to v fits = record {
   lawful = spelled_lawful (bodies.Validation v) fits.validation;
-  from = fits.from;
-  to = fits.to;
+  from = fits.sender;
+  to = fits.receiver;
   tag = tag_long (raw_bytes (validation_frame from to v (replicate 32 0))) (key_of ring to);
 }
 

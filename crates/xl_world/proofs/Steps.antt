@@ -1,5 +1,5 @@
 -- What the code's changes are of the world.
-use Rattle.std.proofs.Common.{◌≡◌, ℕ, zero, suc, arith, Bool, true, false, cond, List, [], ◌++◌, length, refl, ap, sym, ◌∙◌, Option, Some, None, Result, Ok, Err, subst}
+use Rattle.std.proofs.Common.{◌≡◌, ℕ, zero, suc, ◌/◌, arith, Bool, true, false, cond, List, [], ◌++◌, length, refl, ap, sym, ◌∙◌, Option, Some, None, Result, Ok, Err, subst}
 use Rattle.std.specs.Prelude.{◌==◌, ◌&&◌, not, is_some, nat_lt, nat_le, option_map, option_to_list, slice_get, if◌then◌else◌}
 use Rattle.std.proofs.lemmas.Bool.{cond-true, or_left, eq-eqb}
 use Rattle.std.proofs.lemmas.List.Folds.{list_any_at}
@@ -33,7 +33,8 @@ use Rattle.xl_world.specs.Keeper.{may_hold}
 use Rattle.xl_world.specs.World.{World, Step, Act, IsRun, again, reopened, was_sent, forges, one_more, place_at, put, frames_for, said_by, reported_by, acts, step}
 use Rattle.xl_world.proofs.Settling.{at_its_number}
 use Rattle.xl_world.proofs.Runs.{run_more}
-use Rattle.xl_world.specs.Schedule.{frame_at, restart, stepped, told_of, reply_to}
+use Rattle.xl_sched.specs.declared.event.Event.TheVariants.{Deliver}
+use Rattle.xl_world.specs.Schedule.{frame_at, delivery, restart, stepped, after_event, told_of, reply_to, outcomes, outcomes_at}
 use Rattle.xl_world.specs.Seen.{restarted, put_restarted, restarted_at, report_seen, IsAnswer, put_acted, acted_at, Answers, AnswersAt, outcomes_told, frames_from, forged_at, told_some, reported_some}
 
 -- what a step changes of a world
@@ -199,3 +200,18 @@ fair_at liars sent bytes (Some p) was = sent_fair liars sent p.node.keys bytes (
 pub frame_fair : (liars : List ℕ) (sent : List Sent) (f : Sent) (place : ℕ) (o : Option Place) → frame_at sent place ≡ Some f → forged_at liars sent f.bytes o ≡ false
 frame_fair liars sent f zero o at = cc
 frame_fair liars sent f (suc k) o at = fair_at liars sent f.bytes o (found_sent sent f k at)
+
+-- DELIVERIES
+
+-- the bytes of the sent frame come to its receiver
+pub delivered : (w v : World) (at place secs : ℕ) (f : Sent) (bytes : List ℕ) → frame_at w.sent place ≡ Some f → secs ≡ at / 1000 → bytes ≡ f.bytes →
+    v ≡ step w (Act f.to (Frame secs bytes) true) → v ≡ after_event w (Deliver at place)
+delivered w v at place secs f bytes found is_now is_bytes is =
+    is ∙ (ap (λ (s : ℕ). step w (Act f.to (Frame s bytes) true)) is_now ∙ (ap (λ (b : List ℕ). step w (Act f.to (Frame (at / 1000) b) true)) is_bytes
+    ∙ ap (λ o. stepped w (option_map (delivery at) o)) (sym found)))
+
+pub delivered_told : (w : World) (at place secs : ℕ) (f : Sent) (bytes : List ℕ) (told : List Outcome) → frame_at w.sent place ≡ Some f → secs ≡ at / 1000 → bytes ≡ f.bytes →
+    told ≡ told_of f.to (reply_to w (Act f.to (Frame secs bytes) true)) → told ≡ outcomes w (Deliver at place)
+delivered_told w at place secs f bytes told found is_now is_bytes is =
+    is ∙ (ap (λ (s : ℕ). told_of f.to (reply_to w (Act f.to (Frame s bytes) true))) is_now ∙ (ap (λ (b : List ℕ). told_of f.to (reply_to w (Act f.to (Frame (at / 1000) b) true))) is_bytes
+    ∙ ap (λ o. outcomes_at w (option_map (delivery at) o)) (sym found)))

@@ -23,12 +23,12 @@ fn push_some<T: Drop>(list: &mut Vec<T>, element: Option<T>)
 }
 
 /// The frames of what is issued are sent, if anything is.
-pub fn send_some(sent: &mut Vec<Sent>, mut frames: Vec<Sent>, issued: &Option<Validation>)
-    requires { vec_len sent.old + vec_len frames.entry ≤ vec_capacity sent.old }
-    ensures { sent.new.items ≡ sent.old.items ++ (if is_some issued.now then frames.entry.items else []) }
+pub fn send_some(sent: &mut Vec<Sent>, frames: &mut Vec<Sent>, issued: &Option<Validation>)
+    requires { vec_len sent.old + vec_len frames.old ≤ vec_capacity sent.old }
+    ensures { sent.new.items ≡ sent.old.items ++ (if is_some issued.now then frames.old.items else []) }
 {
     if issued.is_some() {
-        let _ = sent.append(&mut frames);
+        let _ = sent.append(frames);
     }
 }
 

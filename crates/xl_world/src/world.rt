@@ -82,7 +82,7 @@ impl World {
             full,
         };
         let mut outcomes = Vec::with_capacity(self.alloc, 2)?;
-        let frames = frames_from(self.alloc, &self.numbers, &self.places, node, &validation)?;
+        let mut frames = frames_from(self.alloc, &self.numbers, &self.places, node, &validation)?;
         self.sent.reserve(frames.len())?;
         self.said.reserve(1)?;
         self.reports.reserve(1)?;
@@ -91,7 +91,7 @@ impl World {
             return Ok(Happened::from_vec(outcomes));
         };
         tell(&mut outcomes, node, &answer);
-        send_some(&mut self.sent, frames, &answer.issued);
+        send_some(&mut self.sent, &mut frames, &answer.issued);
         say_some(&mut self.said, node, &answer.issued);
         report_some(&mut self.reports, answer.report);
         Ok(Happened::from_vec(outcomes))
@@ -107,7 +107,15 @@ impl World {
         let Some(frame) = frame_at(&self.sent, place) else {
             return Ok(Happened::nothing(self.alloc));
         };
-        hear_at(self.alloc, &mut self.places, &mut self.reports, frame.to, secs_of(at), frame.bytes.as_slice())
+        let told = hear_at(
+            self.alloc,
+            &mut self.places,
+            &mut self.reports,
+            frame.to,
+            secs_of(at),
+            frame.bytes.as_slice(),
+        )?;
+        Ok(told)
     }
 
     /// Bytes come to a node that no node may have sent. An `Err` changes nothing.

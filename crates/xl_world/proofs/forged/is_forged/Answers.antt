@@ -1,0 +1,16 @@
+use Rattle.std.proofs.Common.{sym, ◌∙◌, ap}
+use Rattle.xl_wire.specs.Heads.{split_of}
+use Rattle.xl_world.specs.declared.place.Place.{Place}
+use Rattle.xl_world.specs.World.{forges}
+use Rattle.xl_world.specs.Seen.{forged_at}
+use Rattle.xl_world.proofs.Places.{found_there, none_there}
+use Rattle.xl_world.proofs.forged.is_forged.Goals as goal
+
+pub returns-in-Some : goal.returns-in-Some
+returns-in-Some c =
+    c.forges.ensures
+    ∙ (ap (λ k. forges c.args.liars.now c.args.sent.now k c.args.bytes.now (split_of c.args.bytes.now)) (c.keys.ensures.value ∙ ap (λ (p : Place). p.node.keys) c.index-places-k.is)
+    ∙ sym (ap (forged_at c.args.liars.now c.args.sent.now c.args.bytes.now) (found_there c.args.places.now c.args.to c.in-Some.k c.index-places-k.result (sym c.in-Some.ensures))))
+
+pub returns-in-None : goal.returns-in-None
+returns-in-None c = sym (ap (forged_at c.args.liars.now c.args.sent.now c.args.bytes.now) (none_there c.args.places.now c.args.to (sym c.in-None.ensures)))

@@ -1,0 +1,48 @@
+use Rattle.std.proofs.Common.{◌≡◌, ◌∙◌, ℕ, Bool, List, ap, sym}
+use Rattle.std.specs.Prelude.{if◌then◌else◌}
+use Rattle.std.proofs.lemmas.Bool.{cond-true, cond-false}
+use Rattle.xl_core.specs.Node.{Frame}
+use Rattle.xl_world.specs.declared.place.Place.{Place}
+use Rattle.xl_world.specs.declared.sent.Sent.{Sent}
+use Rattle.xl_world.specs.World.{World, Act, step, place_at, one_more}
+use Rattle.xl_world.specs.Worlds.{world_seen}
+use Rattle.xl_world.specs.Schedule.{told_of, reply_to}
+use Rattle.xl_world.specs.Seen.{HasHeard, forged_at}
+use Rattle.xl_world.proofs.Runs.{run_more}
+use Rattle.xl_world.proofs.Steps.{with_lists, heard_step, told_heard}
+use Rattle.xl_world.proofs.world.World.hear.Goals as goal
+use Rattle.xl_world.proofs.world.World.hear.Goals.{In_ok-told}
+
+-- whether what comes is forged
+abbrev forged : In_ok-told → Bool
+forged c = forged_at c.self.inside.liars.items c.self.inside.sent.items c.args.bytes.now (place_at c.args.to c.self.inside.places.items)
+
+tested : (c : In_ok-told) → c.is_forged-forged.result ≡ forged c
+tested c =
+    c.is_forged-forged.ensures
+    ∙ (ap (λ (liars : List ℕ). forged_at liars c.deref-2.result.now c.args.bytes.now (place_at c.args.to c.deref-3.result.now)) c.deref.ensures.value
+    ∙ (ap (λ (sent : List Sent). forged_at c.self.inside.liars.items sent c.args.bytes.now (place_at c.args.to c.deref-3.result.now)) c.deref-2.ensures.value
+    ∙ ap (λ (places : List Place). forged_at c.self.inside.liars.items c.self.inside.sent.items c.args.bytes.now (place_at c.args.to places)) c.deref-3.ensures.value))
+
+heard : (c : In_ok-told) →
+    HasHeard c.args.to (Frame c.args.now c.args.bytes.now) c.in_ok-told.told c.self.inside.places.items c.hear_at.new.places.items c.self.inside.reports.items c.hear_at.new.reports.items
+heard c = c.in_ok-told.ensures.heard
+
+-- the lists of the code are those of the step
+its_step : (c : In_ok-told) (count : ℕ) → count ≡ (if forged c then one_more c.self.inside.forged else c.self.inside.forged) →
+    world_seen (record { alloc = c.self.inside.alloc; liars = c.self.inside.liars; numbers = c.self.inside.numbers; places = c.hear_at.new.places; sent = c.self.inside.sent; said = c.self.inside.said; reports = c.hear_at.new.reports; forged = count })
+    ≡ step (world_seen c.self.inside) (Act c.args.to (Frame c.args.now c.args.bytes.now) true)
+its_step c count counted =
+    heard_step (world_seen c.self.inside) c.args.to c.args.now c.args.bytes.now (heard c).answer c.hear_at.new.places.items _ count (heard c).answers (heard c).acted (heard c).reported counted
+
+pub invariant_of-self-then-forged : goal.invariant_of-self-then-forged
+invariant_of-self-then-forged c =
+    let d = (goal.at.invariant_of-self-then-forged c).In_ok-told in
+    run_more (world_seen c.self.inside) _ (Act c.args.to (Frame c.args.now c.args.bytes.now) true)
+    (its_step d _ (c.saturating_add-self-inside.ensures ∙ sym (cond-true (forged d) _ _ (sym (tested d) ∙ c.if-forged.true)))) c.self.invariant
+
+pub invariant_of-self-else-forged : goal.invariant_of-self-else-forged
+invariant_of-self-else-forged c =
+    let d = (goal.at.invariant_of-self-else-forged c).In_ok-told in
+    run_more (world_seen c.self.inside) _ (Act c.args.to (Frame c.args.now c.args.bytes.now) true)
+    (its_step d _ (sym (cond-false (forged d) _ _ (sym (tested d) ∙ c.if-forged.false)))) c.self.invariant
