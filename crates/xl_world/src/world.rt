@@ -1,6 +1,7 @@
-ghost use Rattle.std.specs.Prelude.{◌≡◌, IfOk, OnErr};
+ghost use Rattle.std.specs.Prelude.{◌≡◌, IfOk, OnErr, if◌then◌else◌};
 ghost use Rattle.xl_core.specs.Node.{Frame};
 ghost use Rattle.xl_world.specs.Seen.{HasHeard};
+ghost use Rattle.xl_world.specs.World.{one_more};
 
 use crate::act::{NodeEvent, act_at, list_at, restart_at};
 use crate::agreement::all_agree;
@@ -70,7 +71,14 @@ impl World {
     }
 
     /// A node is asked to issue, and what it issues is sent. An `Err` changes nothing.
-    fn issue(&mut self, node: NodeNo, now: Secs, seq: Seq, id: LedgerId, full: bool) -> Result<Happened, OutOfMemory>
+    fn issue(
+        &mut self,
+        node: NodeNo,
+        now: Secs,
+        seq: Seq,
+        id: LedgerId,
+        full: bool,
+    ) -> Result<Happened, OutOfMemory>
         ensures world { OnOk result (self.new ≡ step self.old (Act node (Issue now seq id full) true)) }
         ensures told { IfOk result (λ told. told ≡ told_of node (reply_to self.old (Act node (Issue now seq id full) true))) }
         ensures err { OnErr result (self.new ≡ self.old) }
@@ -125,10 +133,15 @@ impl World {
         ensures err { OnErr result (self.new ≡ self.old) }
     {
         let forged = is_forged(&self.liars, &self.sent, &self.places, to, bytes);
-        let told = hear_at(self.alloc, &mut self.places, &mut self.reports, to, now, bytes)?;
-        if forged {
-            self.forged = self.forged.saturating_add(1);
-        }
+        let told = hear_at(
+            self.alloc,
+            &mut self.places,
+            &mut self.reports,
+            to,
+            now,
+            bytes,
+        )?;
+        self.forged = counted(self.forged, forged);
         Ok(told)
     }
 
@@ -213,6 +226,17 @@ impl World {
         ensures headline { Headline }
     {
         all_agree(&self.reports, i, j)
+    }
+}
+
+/// The count, with one more where something was forged.
+fn counted(count: u64, forged: bool) -> u64
+    ensures { result ≡ (if forged then one_more count else count) }
+{
+    if forged {
+        count.saturating_add(1)
+    } else {
+        count
     }
 }
 

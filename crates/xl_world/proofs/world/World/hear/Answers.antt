@@ -1,6 +1,5 @@
-use Rattle.std.proofs.Common.{◌≡◌, ◌∙◌, ℕ, Bool, List, ap, sym}
+use Rattle.std.proofs.Common.{◌≡◌, ◌∙◌, ℕ, Bool, List, true, ap, sym}
 use Rattle.std.specs.Prelude.{if◌then◌else◌}
-use Rattle.std.proofs.lemmas.Bool.{cond-true, cond-false}
 use Rattle.xl_core.specs.Node.{Frame}
 use Rattle.xl_world.specs.declared.place.Place.{Place}
 use Rattle.xl_world.specs.declared.sent.Sent.{Sent}
@@ -35,14 +34,24 @@ its_step : (c : In_ok-told) (count : ℕ) → count ≡ (if forged c then one_mo
 its_step c count counted =
     heard_step (world_seen c.self.inside) c.args.to c.args.now c.args.bytes.now (heard c).answer c.hear_at.new.places.items _ count (heard c).answers (heard c).acted (heard c).reported counted
 
-pub invariant_of-self-then-forged : goal.invariant_of-self-then-forged
-invariant_of-self-then-forged c =
-    let d = (goal.at.invariant_of-self-then-forged c).In_ok-told in
-    run_more (world_seen c.self.inside) _ (Act c.args.to (Frame c.args.now c.args.bytes.now) true)
-    (its_step d _ (c.saturating_add-self-inside.ensures ∙ sym (cond-true (forged d) _ _ (sym (tested d) ∙ c.if-forged.true)))) c.self.invariant
+-- the count, by what was tested
+counts : (c : In_ok-told) (count : ℕ) → count ≡ (if c.is_forged-forged.result then one_more c.self.inside.forged else c.self.inside.forged) →
+    count ≡ (if forged c then one_more c.self.inside.forged else c.self.inside.forged)
+counts c count is = is ∙ ap (λ (b : Bool). if b then one_more c.self.inside.forged else c.self.inside.forged) (tested c)
 
-pub invariant_of-self-else-forged : goal.invariant_of-self-else-forged
-invariant_of-self-else-forged c =
-    let d = (goal.at.invariant_of-self-else-forged c).In_ok-told in
-    run_more (world_seen c.self.inside) _ (Act c.args.to (Frame c.args.now c.args.bytes.now) true)
-    (its_step d _ (sym (cond-false (forged d) _ _ (sym (tested d) ∙ c.if-forged.false)))) c.self.invariant
+pub invariant_of-self-2 : goal.invariant_of-self-2
+invariant_of-self-2 c =
+    let d = (goal.at.invariant_of-self-2 c).In_ok-told in
+    run_more (world_seen c.self.inside) _ (Act c.args.to (Frame c.args.now c.args.bytes.now) true) (its_step d _ (counts d _ c.counted-self-inside.ensures)) c.self.invariant
+
+pub returns-clause-world : goal.returns-clause-world
+returns-clause-world c =
+    let d = (goal.at.returns-clause-world c).In_ok-told in
+    its_step d _ (counts d _ c.counted-self-inside.ensures) ∙ ap (λ (u : World). step u (Act c.args.to (Frame c.args.now c.args.bytes.now) true)) c.self.view_is
+
+pub returns-clause-told : goal.returns-clause-told
+returns-clause-told c =
+    let d = (goal.at.returns-clause-told c).In_ok-told in
+    let e = Frame c.args.now c.args.bytes.now in
+    (heard d).tells ∙ told_heard (world_seen c.self.inside) c.args.to e (heard d).answer (heard d).answers
+    ∙ ap (λ (u : World). told_of c.args.to (reply_to u (Act c.args.to e true))) c.self.view_is
