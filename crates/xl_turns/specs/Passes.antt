@@ -1,47 +1,49 @@
--- What the clauses of a store say.
-use Rattle.std.specs.Prelude.{◌≡◌, ℕ, ◌<◌, ◌++◌, List, [], ◌∷◌, length, Some, None}
-use mathlib.Core.List.{IsPrefix}
+-- What the lock's clauses say of passes and turns.
+use Rattle.std.specs.Prelude.{◌≡◌, ℕ, ◌<◌, List, [], ◌∷◌, length, None}
+use Rattle.xl_turns.specs.declared.view.Knowledge.{Knowledge}
 use Rattle.xl_turns.specs.declared.view.View.{View}
-use Rattle.xl_turns.specs.declared.view.Stage.TheVariants.{Idle}
+use Rattle.xl_turns.specs.declared.view.Stage.TheVariants.{Idle, Holds}
 use Rattle.xl_turns.specs.declared.pass.Pass.{Pass}
 use Rattle.xl_turns.specs.declared.pass.Turn.{Turn}
-use Rattle.xl_turns.specs.declared.store.Store.{Store}
-use Rattle.xl_turns.specs.declared.object.Entry.{Entry}
-use Rattle.xl_turns.specs.Rule.{spent, waiting, holding, served}
-use Rattle.xl_turns.specs.Runs.{Runs, IsLegal}
-use Rattle.xl_turns.specs.Calls.{Leads}
+use Rattle.xl_turns.specs.declared.lock.TicketLock.{TicketLock}
+use Rattle.xl_turns.specs.Views.{spent}
 
 module _ {E : Type 0} where
-  abbrev pub known : List (View E) → View E
-  known [] = spent
-  known (v ∷ vs) = v
+  -- the view of the pass's seat
+  abbrev pub view_of : List (View E) → View E
+  view_of [] = spent
+  view_of (v ∷ vs) = v
 
   -- what the pass knows
-  abbrev pub view : Pass E → View E
-  view p = known p.badge.views
-
-  -- the pass after a turn of its own, at the end of h and of one entry more
-  abbrev pub after_turn : View E → List E → E → View E
-  after_turn v h e = served (waiting v (length h)) (length h) (h ++ e ∷ [])
+  abbrev pub known : Pass E → Knowledge E
+  known pass = (view_of pass.badge.views).knows
 
 module _ {O E : Type 0} where
-  abbrev pub opening : {P : Type 0} → Store O E P → O
-  opening s = s.board.shared.key.object.value
+  -- what the pass knows in its turn
+  abbrev pub knows : Turn O E → Knowledge E
+  knows turn = turn.seat.me.0.knows
 
-  abbrev pub limit_of : {P : Type 0} → Store O E P → ℕ
-  limit_of s = s.limit
+  -- the object that the lock was opened with
+  abbrev pub opening : {P : Type 0} → TicketLock O E P → O
+  opening lock = lock.board.shared.key.object.value
 
-  -- it is a pass of this store, and has no turn
-  abbrev pub IsOf : {P : Type 0} → Store O E P → Pass E → Type 0
-  IsOf s p = (p.badge.table_id ≡ s.board.shared.table_id) × (p.badge.views ≡ known p.badge.views ∷ []) × ((known p.badge.views).stage ≡ Idle) × ((known p.badge.views).share ≡ p.share)
+  -- how many tickets it gives out in all
+  abbrev pub limit_of : {P : Type 0} → TicketLock O E P → ℕ
+  limit_of lock = lock.limit
 
-  -- it is a turn of this store's, the t-th, in which the journal h was found. The pass had the view v
-  abbrev pub HasTurn : {P : Type 0} → Store O E P → Pass E → Turn O E → View E → ℕ → List E → Type 0
-  HasTurn s p turn v t h = (turn.seat.table_id ≡ s.board.shared.table_id) × (turn.seat.me ≡ (holding (waiting v t) t h, (0, None) ∷ [])) × (v.share ≡ p.share)
+  -- it is a pass of this lock, and in no turn
+  abbrev pub IsPassOf : {P : Type 0} → TicketLock O E P → Pass E → Type 0
+  IsPassOf lock pass =
+      (pass.badge.table_id ≡ lock.board.shared.table_id)
+      × (pass.badge.views ≡ view_of pass.badge.views ∷ [])
+      × ((view_of pass.badge.views).stage ≡ Idle)
+      × ((view_of pass.badge.views).knows.share ≡ pass.share)
 
--- The call of v's pass stands at the end of a legal history that begins with all that v had seen. It answers there what the object answers, and w has seen it
-abbrev pub Called : {O A R : Type 0} → (O → A → O × R) → O → ℕ → View (Entry A R) → A → R → View (Entry A R) → Type 0
-Called {O} {A} {R} step start limit v ask answer w =
-    (h : List (Entry A R)) × (o : O)
-    × IsPrefix v.seen h × Runs (Leads step) start h o × ((step o ask).1 ≡ answer)
-    × (length h < limit) × IsLegal (Leads step) start w.seen × (w ≡ after_turn v h record { ask = ask; answer = Some answer })
+  -- it is a turn of this lock and pass, whose place is the end of the turn's journal
+  abbrev pub HasTurn : {P : Type 0} → TicketLock O E P → Pass E → Turn O E → Type 0
+  HasTurn lock pass turn =
+      (turn.seat.table_id ≡ lock.board.shared.table_id)
+      × (turn.seat.me.0.stage ≡ Holds (length turn.journal) turn.journal)
+      × (turn.seat.me.1 ≡ (0, None) ∷ [])
+      × (turn.seat.me.0.knows.share ≡ pass.share)
+      × (length turn.journal < lock.limit)

@@ -1,62 +1,43 @@
-//! What a seat at the table knows, and the rule of the table.
-use crate::history::History;
-use atomic_table::{Play, Seat, Shared, Table, TableRule};
-use std::alloc::Global;
 use std::collections::LinkedList;
-use std::marker::{Brand, PhantomData};
 use std::snapshot::Snapshot;
 
-/// Where a seat stands in its turn.
+/// What a pass knows. No value of it is made: contracts speak of it, and the code keeps none of it but the share.
+pub struct Knowledge<E> {
+    /// A beginning of the journal.
+    pub seen: LinkedList<E>,
+    /// The places of the pass's own entries in the journal, rising.
+    pub mine: LinkedList<u64>,
+    /// At least so many tickets were drawn.
+    pub drawn: u64,
+    /// Its share in the right to close the lock. All shares add up to 2^126.
+    pub share: u128,
+}
+
+/// Where a seat stands in its turn: it has no ticket, or one that is not served, or one that is, with the journal.
 pub enum Stage<E> {
     Idle,
     Waits(u64),
     Holds(u64, LinkedList<E>),
 }
 
-/// What the table was opened with.
-#[derive(Drop)]
-pub struct About<O> {
-    pub object: Snapshot<O>,
-    pub limit: u64,
-}
-
-/// What a seat knows. No value of it is made.
+/// What a seat of the table knows. No value of it is made.
 pub struct View<E> {
-    pub seen: LinkedList<E>,
-    /// What a joined seat had seen, until it is compared.
+    pub knows: Knowledge<E>,
+    /// What a seat that was joined to this one had seen, until it is compared.
     pub beside: LinkedList<E>,
-    pub mine: LinkedList<u64>,
-    pub drawn: u64,
-    pub share: u128,
     pub stage: Stage<E>,
 }
 
-/// What is locked: the object and its journal.
+/// What is locked: the object, and its journal, which `close` hands out.
 #[derive(Drop)]
 pub struct Held<O, E> {
     pub object: O,
     pub journal: LinkedList<E>,
 }
 
-pub struct Turns<P> {
-    history: PhantomData<P>,
+/// What the table was made with: the object as it was then, and how many tickets may be drawn.
+#[derive(Drop)]
+pub struct Opening<O> {
+    pub object: Snapshot<O>,
+    pub limit: u64,
 }
-
-impl<O, E, P: History<O, E>> TableRule<Option<Held<O, E>>, View<E>, About<O>> for Turns<P> {
-    ghost use Rattle.xl_turns.specs.Rule.{Ruled, fresh};
-
-    ghost holds = { λ key. Ruled P.leads key.object.value key.limit };
-
-    ghost first = { λ key. fresh };
-}
-
-/// A step whose caller's proof picks what it tells.
-impl<O, E> Play<Option<Held<O, E>>, View<E>> for Brand {
-    ghost then = { λ _ _ _ _. Unit {0} };
-}
-
-pub type Board<O, E, P> = Table<Option<Held<O, E>>, View<E>, About<O>, Turns<P>, Global>;
-
-pub type Top<O, E, P> = Shared<Option<Held<O, E>>, View<E>, About<O>, Turns<P>>;
-
-pub type Place<O, E> = Seat<Option<Held<O, E>>, View<E>>;
