@@ -1,4 +1,4 @@
-ghost use Rattle.std.specs.Prelude.{◌≡◌, ◌+◌, ◌%◌, ◌^◌, IfSome};
+ghost use Rattle.std.specs.Prelude.{◌≡◌, ◌+◌, ◌%◌, ◌<◌, ◌^◌, IfSome};
 ghost use Rattle.xl_turns.specs.Passes.{IsPassOf};
 
 use crate::calls::{Calls, Entry, NoTurn, Object};
@@ -85,11 +85,11 @@ fn add_in_threads<W: Threads + Wait + Sync>(
     let (left, right) = thread::join(
         rt,
         move || -> Option<(Token, Vec<u64>)>
-            requires { IsPassOf lock.now first }
+            requires { IsPassOf lock.now first × (0 < halvings) }
             ensures { IfSome result (λ done. IsPassOf lock.entry.now done.0) }
         { add_in_threads(rt, alloc, lock, first, turns, halvings - 1) },
         move || -> Option<(Token, Vec<u64>)>
-            requires { IsPassOf lock.now second }
+            requires { IsPassOf lock.now second × (0 < halvings) }
             ensures { IfSome result (λ done. IsPassOf lock.entry.now done.0) }
         { add_in_threads(rt, alloc, lock, second, turns, halvings - 1) },
     );
