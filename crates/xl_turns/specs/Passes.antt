@@ -6,6 +6,7 @@ use Rattle.xl_turns.specs.declared.view.Stage.TheVariants.{Idle, Holds}
 use Rattle.xl_turns.specs.declared.pass.Pass.{Pass}
 use Rattle.xl_turns.specs.declared.pass.Turn.{Turn}
 use Rattle.xl_turns.specs.declared.lock.TicketLock.{TicketLock}
+use Rattle.xl_turns.specs.Histories.{Runs}
 use Rattle.xl_turns.specs.Views.{spent}
 
 module _ {E : Type 0} where
@@ -47,3 +48,11 @@ module _ {O E : Type 0} where
       × (turn.seat.me.1 ≡ (0, None) ∷ [])
       × (turn.seat.me.0.knows.share ≡ pass.share)
       × (length turn.journal < lock.limit)
+
+  -- the page's one entry leads from the object that the turn found to the one that it has now
+  abbrev pub LeadsOn : (O → E → O → Type 0) → O → Turn O E → List E → Type 0
+  LeadsOn leads start turn page =
+      (found : O) × (entry : E)
+      × Runs leads start turn.journal found
+      × leads found entry turn.object
+      × (page ≡ entry ∷ [])

@@ -1,6 +1,6 @@
 -- The rule of the lock's table, in four parts. Source: the ticket lock (Mellor-Crummey and Scott, 1991); the parts on journal,
--- places and shares are own. Word 0 counts the drawn tickets, word 1 is the ticket that is served, and the one slot has the object with
--- its journal. The rule holds between any two steps of any threads.
+-- places and shares are own. Word 0 counts the drawn tickets, word 1 is the ticket that is served, and the one slot has the object
+-- with its journal. The rule holds between any two steps of any threads.
 use Rattle.std.specs.Prelude.{◌≡◌, ℕ, ◌+◌, ◌<◌, ◌≤◌, ◌⊎◌, List, [], ◌∷◌, length, Option, Some}
 use Rattle.std.specs.List.{sum_by}
 use mathlib.Core.Option.{some}
@@ -50,7 +50,9 @@ module _ {E : Type 0} where
     pub count : serving + sum_by tickets_of views ≡ ticket
     pub below : ticket ≤ limit
     pub behind : serving ≤ ticket
-    pub each : (j : ℕ) (v : View E) → get_elem? views j ≡ some v → (v.knows.drawn ≤ ticket) × InTurn holder ticket serving j v.stage
+    pub each : (j : ℕ) (v : View E)
+        → get_elem? views j ≡ some v
+        → (v.knows.drawn ≤ ticket) × InTurn holder ticket serving j v.stage
 
   -- what a seat has seen begins the one journal, and so does what it has beside
   abbrev pub HasSeen : List E → View E → Type 0
@@ -58,7 +60,10 @@ module _ {E : Type 0} where
 
   -- some seat has the object
   abbrev pub IsOut : ℕ → List (View E) → Type 0
-  IsOut serving views = (j : ℕ) × (v : View E) × (journal : List E) × (get_elem? views j ≡ some v) × (v.stage ≡ Holds serving journal)
+  IsOut serving views =
+      (j : ℕ) × (v : View E) × (journal : List E)
+      × (get_elem? views j ≡ some v)
+      × (v.stage ≡ Holds serving journal)
 
   -- Part 3. Each served place has one owner, in whose places it stands
   pub record PlacesOwned (serving : ℕ) (owner : ℕ → ℕ) (views : List (View E)) : Type 0 where
@@ -74,7 +79,11 @@ module _ {O E : Type 0} where
   module _ (leads : O → E → O → Type 0) (start : O) where
     -- the object is at home with the whole journal, whose entries lead to it
     abbrev pub AtHome : List E → List (maybe.Option (Slot O E)) → Type 0
-    AtHome log homes = (held : Held O E) × (get_elem? homes 0 ≡ some (some (Some held))) × (held.journal ≡ log) × Runs leads start log held.object
+    AtHome log homes =
+        (held : Held O E)
+        × (get_elem? homes 0 ≡ some (some (Some held)))
+        × (held.journal ≡ log)
+        × Runs leads start log held.object
 
     -- Part 2. There is one legal journal with an entry for each served ticket, and each seat has seen a beginning of it
     pub record OneJournal (serving : ℕ) (log : List E) (homes : List (maybe.Option (Slot O E))) (views : List (View E)) : Type 0 where

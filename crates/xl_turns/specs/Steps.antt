@@ -16,7 +16,11 @@ use Rattle.xl_turns.specs.Rule.{Slot}
 module _ {O E : Type 0} where
   -- the seat is one of this table, and no spent one
   abbrev pub IsAt : {P : Type 0} → Shared (Slot O E) (View E) (Opening O) P → Seat (Slot O E) (View E) → Type 0
-  IsAt top seat = (seat.table_id ≡ top.table_id) × (top.table_id.words ≡ 2) × (top.table_id.slots ≡ 1) × (0 < seat.me.0.knows.share)
+  IsAt top seat =
+      (seat.table_id ≡ top.table_id)
+      × (top.table_id.words ≡ 2)
+      × (top.table_id.slots ≡ 1)
+      × (0 < seat.me.0.knows.share)
 
   abbrev pub IsSameSeat : Seat (Slot O E) (View E) → Seat (Slot O E) (View E) → Type 0
   IsSameSeat old new = (new.table_id ≡ old.table_id) × (new.id ≡ old.id)
@@ -25,13 +29,38 @@ module _ {O E : Type 0} where
   abbrev pub Has : Seat (Slot O E) (View E) → ℕ → List E → Slot O E → Type 0
   Has seat t journal slot = (seat.me.0.stage ≡ Holds t journal) × (seat.me.1 ≡ (0, slot) ∷ [])
 
-  -- all that the seat had seen begins the journal, which has t entries, and they lead to the object
+  -- all that the view had seen begins the journal, which has t entries, and they lead to the object
   abbrev pub Finds : (O → E → O → Type 0) → O → View E → ℕ → Held O E → Type 0
-  Finds leads start v t held = (length held.journal ≡ t) × IsPrefix v.knows.seen held.journal × Runs leads start held.journal held.object
+  Finds leads start v t held =
+      (length held.journal ≡ t)
+      × IsPrefix v.knows.seen held.journal
+      × Runs leads start held.journal held.object
+
+  -- the seat has its turn t from here on, with what it finds
+  abbrev pub TakesTurn : (O → E → O → Type 0) → O → ℕ → Seat (Slot O E) (View E) → Seat (Slot O E) (View E) → Type 0
+  TakesTurn leads start t old new =
+      (held : Held O E)
+      × (new.me ≡ (holding old.me.0 t held.journal, (0, Some held) ∷ []))
+      × Finds leads start old.me.0 t held
 
   -- the journal has one entry more, and its entries lead to the object
   abbrev pub Grows : (O → E → O → Type 0) → O → List E → Held O E → Type 0
   Grows leads start journal held = (e : E) × (held.journal ≡ journal ++ e ∷ []) × Runs leads start held.journal held.object
+
+  -- the seat's slot has what its turn is to leave
+  abbrev pub MayEnd : (O → E → O → Type 0) → O → ℕ → Seat (Slot O E) (View E) → Type 0
+  MayEnd leads start limit seat =
+      (t : ℕ) × (journal : List E) × (held : Held O E)
+      × Has seat t journal (Some held)
+      × Grows leads start journal held
+      × (t < limit)
+
+  -- its turn is over, and it has seen the journal that it left
+  abbrev pub EndsTurn : Seat (Slot O E) (View E) → Seat (Slot O E) (View E) → Type 0
+  EndsTurn old new =
+      (t : ℕ) (journal : List E) (held : Held O E)
+      → Has old t journal (Some held)
+      → new.me ≡ (ended old.me.0 t held.journal, [])
 
   -- a load of the drawn tickets: there are n, not more than may be and not fewer than was known
   abbrev pub counted : ℕ → Step (Slot O E) → Me (Slot O E) (View E) → ℕ → Me (Slot O E) (View E) → Type 0
@@ -42,7 +71,8 @@ module _ {O E : Type 0} where
   drew limit st m n m' = (n ≡ st.first → m' ≡ (waiting m.0 n, m.1)) × (n ≢ st.first → counted limit st m n m')
 
   -- a load of the served ticket: it is the own one and the object is taken, or nothing changes
-  abbrev pub looked : (O → E → O → Type 0) → O → Step (Slot O E) → Me (Slot O E) (View E) → ℕ → Me (Slot O E) (View E) → Type 0
+  abbrev pub looked : (O → E → O → Type 0) → O
+      → Step (Slot O E) → Me (Slot O E) (View E) → ℕ → Me (Slot O E) (View E) → Type 0
   looked leads start st m n m' =
       (t : ℕ)
       → m.0.stage ≡ Waits t

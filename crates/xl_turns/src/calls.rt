@@ -1,7 +1,7 @@
-ghost use Rattle.std.specs.Prelude.{◌≡◌, ℕ, ◌<◌, ◌^◌, ◌++◌, [], ◌∷◌, length, Some, None, Err, IfOk};
+ghost use Rattle.std.specs.Prelude.{◌≡◌, ℕ, Some, None, Err, IfOk};
 ghost use Rattle.xl_turns.specs.Knowing.{with_drawn};
-ghost use Rattle.xl_turns.specs.Passes.{known, opening, limit_of, IsPassOf};
-ghost use Rattle.xl_turns.specs.Calls.{Called};
+ghost use Rattle.xl_turns.specs.Passes.{known, limit_of, IsPassOf};
+ghost use Rattle.xl_turns.specs.Calls.{page_of, Called};
 
 use crate::history::History;
 use crate::lock::TicketLock;
@@ -57,8 +57,9 @@ impl<O: Object<A, R> + Drop, A: Drop, R: Copy> TicketLock<O, Entry<A, R>, Calls<
     ) -> Result<R, NoTurn>
         requires pass { IsPassOf self.now pass.old }
         ensures pass { IsPassOf self.now pass.new }
-        ensures called { IfOk result (λ answer. Called O.step (opening self.now) (limit_of self.now) (known pass.old) ask answer (known pass.new)) }
-        ensures full { (n : ℕ) → result ≡ Err (NoTurn.Full n) → (n ≡ limit_of self.now) × (known pass.new ≡ with_drawn (known pass.old) n) }
+        ensures called { IfOk result (λ answer. Called O.step self.now pass.old ask answer pass.new) }
+        ensures full { (n : ℕ) → result ≡ Err (NoTurn.Full n) → n ≡ limit_of self.now }
+        ensures refused { (n : ℕ) → result ≡ Err (NoTurn.Full n) → known pass.new ≡ with_drawn (known pass.old) n }
         ensures memory { result ≡ Err NoTurn.OutOfMemory → known pass.new ≡ known pass.old }
     {
         let mut page = LinkedList::new(alloc);
@@ -78,9 +79,9 @@ impl<O: Object<A, R> + Drop, A: Drop, R: Copy> TicketLock<O, Entry<A, R>, Calls<
 
 /// Makes the call on the page, and writes the answer beside it.
 fn serve<O: Object<A, R>, A, R: Copy>(object: &mut O, page: &mut LinkedList<Entry<A, R>>) -> R
-    requires page { (ask : A) × (page.old ≡ record { ask = ask; answer = None } ∷ []) }
-    ensures called { (ask : A) → page.old ≡ record { ask = ask; answer = None } ∷ [] → (object.new, result) ≡ O.step object.old ask }
-    ensures page { (ask : A) → page.old ≡ record { ask = ask; answer = None } ∷ [] → page.new ≡ record { ask = ask; answer = Some result } ∷ [] }
+    requires page { (ask : A) × (page.old ≡ page_of ask None) }
+    ensures called { (ask : A) → page.old ≡ page_of ask None → (object.new, result) ≡ O.step object.old ask }
+    ensures page { (ask : A) → page.old ≡ page_of ask None → page.new ≡ page_of ask (Some result) }
 {
     let Some(entry) = page.front_mut() else {
         unreachable!()

@@ -1,8 +1,8 @@
-ghost use Rattle.std.specs.Prelude.{◌≡◌, ℕ, ◌<◌, ◌≤◌, ◌^◌, List, [], ◌∷◌, Some, None, MatchOption};
+ghost use Rattle.std.specs.Prelude.{◌≡◌, ◌<◌, ◌≤◌, ◌^◌, [], ◌∷◌, Some, None, IfSome, IfNone};
 ghost use Rattle.xl_turns.specs.declared.view.Held.{Held};
 ghost use Rattle.xl_turns.specs.declared.view.Stage.TheVariants.{Idle, Waits};
-ghost use Rattle.xl_turns.specs.Views.{counting, waiting, holding, ended};
-ghost use Rattle.xl_turns.specs.Steps.{IsAt, IsSameSeat, Has, Finds, Grows};
+ghost use Rattle.xl_turns.specs.Views.{counting, waiting};
+ghost use Rattle.xl_turns.specs.Steps.{IsAt, IsSameSeat, TakesTurn, MayEnd, EndsTurn};
 
 use crate::history::History;
 use crate::rule::{HELD, Place, SERVING, TICKET, Top};
@@ -24,7 +24,9 @@ pub(crate) fn draw<O, E, P: History<O, E>, R: Wait>(
     requires seat { IsAt top.now seat.old × (seat.old.me.0.stage ≡ Idle) }
     requires limit { limit ≡ top.now.key.limit }
     ensures same { IsSameSeat seat.old seat.new }
-    ensures drawn { MatchOption result (seat.new.me ≡ (counting seat.old.me.0 limit, seat.old.me.1)) (λ t. (t < limit) × (seat.old.me.0.knows.drawn ≤ t) × (seat.new.me ≡ (waiting seat.old.me.0 t, seat.old.me.1))) }
+    ensures drawn { IfSome result (λ t. seat.new.me ≡ (waiting seat.old.me.0 t, seat.old.me.1)) }
+    ensures range { IfSome result (λ t. (seat.old.me.0.knows.drawn ≤ t) × (t < limit)) }
+    ensures full { IfNone result (seat.new.me ≡ (counting seat.old.me.0 limit, seat.old.me.1)) }
 {
     let mut ticket = top.load::<Brand>(seat, TICKET);
     for _ in rt.forever() {
@@ -50,7 +52,7 @@ pub(crate) fn wait_for<O, E, P: History<O, E>, R: Wait>(
     requires seat { IsAt top.now seat.old × (seat.old.me.1 ≡ []) }
     requires ticket { seat.old.me.0.stage ≡ Waits ticket }
     ensures same { IsSameSeat seat.old seat.new }
-    ensures turn { (held : Held O E) × (seat.new.me ≡ (holding seat.old.me.0 ticket held.journal, (0, Some held) ∷ [])) × Finds P.leads top.now.key.object.value seat.old.me.0 ticket held }
+    ensures turn { TakesTurn P.leads top.now.key.object.value ticket seat.old seat.new }
 {
     spin(top, ticket);
     for _ in rt.forever() {
@@ -117,9 +119,9 @@ pub(crate) fn put<O: Drop, E: Drop, P: History<O, E>>(
 pub(crate) fn leave<O, E, P: History<O, E>>(top: &Top<O, E, P>, seat: &mut Place<O, E>)
     requires seat { IsAt top.now seat.old }
     requires limit { top.now.key.limit ≤ 2 ^ 62 }
-    requires turn { (t : ℕ) × (journal : List E) × (held : Held O E) × Has seat.old t journal (Some held) × Grows P.leads top.now.key.object.value journal held × (t < top.now.key.limit) }
+    requires turn { MayEnd P.leads top.now.key.object.value top.now.key.limit seat.old }
     ensures same { IsSameSeat seat.old seat.new }
-    ensures left { (t : ℕ) (journal : List E) (held : Held O E) → Has seat.old t journal (Some held) → seat.new.me ≡ (ended seat.old.me.0 t held.journal, []) }
+    ensures ended { EndsTurn seat.old seat.new }
 {
     let served = top.fetch_add::<Brand>(seat, SERVING, 1);
     if top.peek(TICKET) > served + 1 {

@@ -1,9 +1,9 @@
-ghost use Rattle.std.specs.Prelude.{◌≡◌, ℕ, ◌+◌, ◌<◌, ◌≤◌, ◌^◌, ◌++◌, [], ◌∷◌, length, IfOk, IfErr, OnErr};
+ghost use Rattle.std.specs.Prelude.{◌≡◌, ◌+◌, ◌<◌, ◌≤◌, ◌^◌, ◌++◌, length, IfOk, IfErr, OnErr};
 ghost use mathlib.Core.List.{IsPrefix};
 ghost use Rattle.xl_turns.specs.Histories.{Runs, IsLegal};
 ghost use Rattle.xl_turns.specs.Places.{all_below};
 ghost use Rattle.xl_turns.specs.Knowing.{newcomer, with_drawn, after_turn};
-ghost use Rattle.xl_turns.specs.Passes.{known, knows, opening, limit_of, IsPassOf, HasTurn};
+ghost use Rattle.xl_turns.specs.Passes.{known, knows, opening, limit_of, IsPassOf, HasTurn, LeadsOn};
 
 use super::TicketLock;
 use crate::history::History;
@@ -50,11 +50,13 @@ impl<O: Drop, E: Drop, P: History<O, E>> TicketLock<O, E, P> {
         ensures found { IfOk result (λ turn. Runs P.leads (opening self.now) turn.journal turn.object) }
 
         // its length is the ticket, below the limit, and no fewer tickets were drawn before it than the pass knew of
-        ensures place { IfOk result (λ turn. (length turn.journal < limit_of self.now) × ((known pass.old).drawn ≤ length turn.journal)) }
+        ensures limit { IfOk result (λ turn. length turn.journal < limit_of self.now) }
+        ensures drawn { IfOk result (λ turn. (known pass.old).drawn ≤ length turn.journal) }
         ensures known { IfOk result (λ turn. knows turn ≡ with_drawn (known pass.old) (length turn.journal + 1)) }
 
         ensures full { IfErr result (λ full. full.0 ≡ limit_of self.now) }
-        ensures refused { OnErr result (IsPassOf self.now pass.new × (known pass.new ≡ with_drawn (known pass.old) (limit_of self.now))) }
+        ensures pass { OnErr result (IsPassOf self.now pass.new) }
+        ensures refused { OnErr result (known pass.new ≡ with_drawn (known pass.old) (limit_of self.now)) }
     {
         let top = &self.board.shared;
         let badge = mem::replace(&mut pass.badge, Badge::blank());
@@ -81,7 +83,7 @@ impl<O: Drop, E: Drop, P: History<O, E>> TicketLock<O, E, P> {
     pub fn finish(&self, pass: &mut Pass<E>, turn: Turn<O, E>, page: LinkedList<E>)
         requires turn { HasTurn self.now pass.old turn }
         // the entry leads from the object that the turn found to the one that it leaves
-        requires leads { (found : O) × (entry : E) × Runs P.leads (opening self.now) turn.journal found × P.leads found entry turn.object × (page ≡ entry ∷ []) }
+        requires leads { LeadsOn P.leads (opening self.now) turn page }
         ensures pass { IsPassOf self.now pass.new }
         ensures legal { IsLegal P.leads (opening self.now) (known pass.new).seen }
         ensures known { known pass.new ≡ after_turn (knows turn) (length turn.journal) (turn.journal ++ page) }
