@@ -1,5 +1,5 @@
 -- A call of a sequential object, in a turn of its own.
-use Rattle.std.proofs.Common.{◌≡◌, ℕ, ◌+◌, ◌<◌, ◌≤◌, ◌++◌, List, [], ◌∷◌, length, Some, refl, sym, ap, ◌∙◌, subst}
+use Rattle.std.proofs.Common.{◌≡◌, ◌+◌, ◌<◌, ◌≤◌, ◌++◌, List, length, Some, sym, ap, ◌∙◌}
 use mathlib.Core.List.{IsPrefix}
 use Rattle.xl_turns.specs.declared.view.Knowledge.{Knowledge}
 use Rattle.xl_turns.specs.declared.pass.Pass.{Pass}
@@ -12,11 +12,13 @@ use Rattle.xl_turns.specs.Passes.{known, opening, limit_of}
 
 module _ {O A R : Type 0} (step : O → A → O × R) where
   -- the call leads from the object that the turn finds to the one that it leaves
-  pub leads_on : (before after : O) (ask : A) (answer : R) → (after, answer) ≡ step before ask → Leads step before record { ask = ask; answer = Some answer } after
+  pub leads_on : (before after : O) (ask : A) (answer : R) → (after, answer) ≡ step before ask
+      → Leads step before record { ask = ask; answer = Some answer } after
   leads_on before after ask answer does = (ap (λ (p : O × R). p.0) does, ap (λ (p : O × R). Some p.1) does)
 
   -- what the pass knew before the turn, in it, and after it
-  pub called : {P : Type 0} (lock : TicketLock O (Entry A R) P) (old new : Pass (Entry A R)) (before after : O) (ask : A) (answer : R) (earlier page : List (Entry A R)) (turn : Knowledge (Entry A R))
+  pub called : {P : Type 0} (lock : TicketLock O (Entry A R) P) (old new : Pass (Entry A R)) (before after : O) (ask : A) (answer : R)
+      (earlier page : List (Entry A R)) (turn : Knowledge (Entry A R))
       → (after, answer) ≡ step before ask
       → Runs (Leads step) (opening lock) earlier before
       → IsPrefix (known old).seen earlier

@@ -1,5 +1,5 @@
 -- Each kind of step keeps the rule, part by part: what the table's calls ask of the lock's steps.
-use Rattle.std.proofs.Common.{◌≡◌, ◌≢◌, ◌⊎◌, ℕ, zero, suc, ◌+◌, ◌%◌, ◌^◌, ◌<◌, ◌≤◌, eqb, List, [], ◌∷◌, ◌++◌, length, set, refl, sym, ap, ap₂, ◌∙◌, subst, ⊎_elim, arith, Some}
+use Rattle.std.proofs.Common.{◌≡◌, ◌≢◌, ℕ, ◌+◌, ◌%◌, ◌^◌, ◌<◌, ◌≤◌, eqb, List, [], ◌∷◌, ◌++◌, length, refl, sym, ap, ap₂, ◌∙◌, subst, ⊎_elim, arith, Some}
 use Rattle.std.specs.Prelude.{slice_index, slice_set}
 use mathlib.Core.Logic.{dite}
 use native.Mathlib.Decide.{ℕ_discrete}
@@ -47,12 +47,19 @@ module _ {O E : Type 0} (leads : O → E → O → Type 0) (start : O) (limit : 
   abbrev Goes : State S V → List ℕ → ℕ → ℕ → M → (ℕ → ℕ) → (ℕ → M → Type 0) → Type 0
   Goes s words word id me f tells =
       (w : V) × (a : Act S) × Valid s.homes me.1 a
-      × Kept record { words = slice_set words word (f (slice_index words word)); homes = homes_after s.homes me.1 a; views = slice_set s.views id w }
+      × Kept record {
+        words = slice_set words word (f (slice_index words word));
+        homes = homes_after s.homes me.1 a;
+        views =
+            slice_set s.views id w;
+      }
       × tells (slice_index words word) (w, carried_after me.1 a)
 
   -- a step that changes the view of one seat, and nothing in it that the rule speaks of but what was seen and counted
-  viewed : (s : State S V) (r : Kept s) (id : ℕ) (v w : V) → get_elem? s.views id ≡ some v → 0 < v.knows.share → w.knows.share ≡ v.knows.share → w.knows.mine ≡ v.knows.mine → w.stage ≡ v.stage
-      → w.knows.drawn ≤ r.ticket → IsPrefix w.knows.seen r.log → IsPrefix w.beside r.log → Kept record { words = r.ticket ∷ r.serving ∷ []; homes = s.homes; views = slice_set s.views id w }
+  viewed : (s : State S V) (r : Kept s) (id : ℕ) (v w : V) → get_elem? s.views id ≡ some v → 0 < v.knows.share
+      → w.knows.share ≡ v.knows.share → w.knows.mine ≡ v.knows.mine → w.stage ≡ v.stage
+      → w.knows.drawn ≤ r.ticket → IsPrefix w.knows.seen r.log → IsPrefix w.beside r.log
+      → Kept record { words = r.ticket ∷ r.serving ∷ []; homes = s.homes; views = slice_set s.views id w }
   viewed s r id v w at some_of share mine stage le seen beside = record {
     ticket = r.ticket;
     serving = r.serving;
@@ -60,14 +67,17 @@ module _ {O E : Type 0} (leads : O → E → O → Type 0) (start : O) (limit : 
     log = r.log;
     owner = r.owner;
     words = refl;
-    turns = turns_kept limit r.ticket r.serving r.holder s.views r.turns id v w at (ap tickets_at stage) (le, subst (InTurn r.holder r.ticket r.serving id) (sym stage) (r.turns.each id v at).1);
-    journal = journal_kept leads start r.serving r.log s.homes s.views r.journal id v w at (λ n h e. stage ∙ e) (seen, beside, subst (InHand r.log) (sym stage) (r.journal.each id v at).2);
+    turns = turns_kept limit r.ticket r.serving r.holder s.views r.turns id v w at (ap tickets_at stage)
+        (le, subst (InTurn r.holder r.ticket r.serving id) (sym stage) (r.turns.each id v at).1);
+    journal = journal_kept leads start r.serving r.log s.homes s.views r.journal id v w at (λ n h e. stage ∙ e)
+        (seen, beside, subst (InHand r.log) (sym stage) (r.journal.each id v at).2);
     places = places_kept r.serving r.owner s.views r.places id v w at mine;
     shares = shares_kept s.views r.shares id v w at some_of share;
   }
 
   -- load of the drawn tickets
-  pub counts : (slots id : ℕ) (me : M) → 0 < me.0.knows.share → Allows Kept slots id me 0 (λ n. n) (counted limit (step slots 0 0 0 none) me)
+  pub counts : (slots id : ℕ) (me : M) → 0 < me.0.knows.share
+      → Allows Kept slots id me 0 (λ n. n) (counted limit (step slots 0 0 0 none) me)
   counts slots id me some_of s r wide at fits =
       let told = counted {O = O} {E = E} limit (step slots 0 0 0 none) me in
       let seen = r.journal.each id me.0 at in
@@ -75,12 +85,14 @@ module _ {O E : Type 0} (leads : O → E → O → Type 0) (start : O) (limit : 
         counting me.0 r.ticket,
         keeps,
         tt,
-        viewed s r id me.0 (counting me.0 r.ticket) at some_of refl refl refl (let h : r.ticket ≤ r.ticket = omega arith in h) seen.0 seen.1,
+        viewed s r id me.0 (counting me.0 r.ticket) at some_of refl refl refl
+            (let h : r.ticket ≤ r.ticket = omega arith in h) seen.0 seen.1,
         (refl, r.turns.below, (r.turns.each id me.0 at).0),
       )
 
   -- load that compares what two joined seats had seen
-  pub compares : (slots id : ℕ) (me : M) → 0 < me.0.knows.share → Allows Kept slots id me 0 (λ n. n) (compared (step slots 0 0 0 none) me)
+  pub compares : (slots id : ℕ) (me : M) → 0 < me.0.knows.share
+      → Allows Kept slots id me 0 (λ n. n) (compared (step slots 0 0 0 none) me)
   compares slots id me some_of s r wide at fits =
       let told = compared {O = O} {E = E} (step slots 0 0 0 none) me in
       let seen = r.journal.each id me.0 at in
@@ -100,7 +112,9 @@ module _ {O E : Type 0} (leads : O → E → O → Type 0) (start : O) (limit : 
       let seen = r.journal.each id me.0 at in
       let t : ℕ = r.ticket in
       subst (λ words. Goes s words 0 id me (λ n. either (eqb n old) new n) told) (sym r.words)
-      (exchanged t old new (λ k. (w : V) × (a : Act S) × Valid s.homes me.1 a × Kept record { words = k ∷ r.serving ∷ []; homes = homes_after s.homes me.1 a; views = slice_set s.views id w } × told t (w, carried_after me.1 a))
+      (exchanged t old new (λ k. (w : V) × (a : Act S) × Valid s.homes me.1 a
+      × Kept record { words = k ∷ r.serving ∷ []; homes = homes_after s.homes me.1 a; views = slice_set s.views id w }
+      × told t (w, carried_after me.1 a))
       (λ (hit : t ≡ old). (
         waiting me.0 t,
         keeps,
@@ -113,7 +127,8 @@ module _ {O E : Type 0} (leads : O → E → O → Type 0) (start : O) (limit : 
           owner = r.owner;
           words = ap (λ (k : ℕ). k ∷ r.serving ∷ []) (next ∙ ap (λ (k : ℕ). k + 1) (sym hit));
           turns = turns_drawn limit t r.serving r.holder s.views r.turns id me.0 at idle (omega arith);
-          journal = journal_kept leads start r.serving r.log s.homes s.views r.journal id me.0 (waiting me.0 t) at (idle_stage me.0 (waiting me.0 t) idle) (seen.0, seen.1, tt);
+          journal = journal_kept leads start r.serving r.log s.homes s.views r.journal id me.0 (waiting me.0 t) at
+              (idle_stage me.0 (waiting me.0 t) idle) (seen.0, seen.1, tt);
           places = places_kept r.serving r.owner s.views r.places id me.0 (waiting me.0 t) at refl;
           shares = shares_kept s.views r.shares id me.0 (waiting me.0 t) at some_of refl;
         },
@@ -128,7 +143,8 @@ module _ {O E : Type 0} (leads : O → E → O → Type 0) (start : O) (limit : 
       )))
 
   -- load of the served ticket
-  pub looks : (slots id : ℕ) (me : M) (t : ℕ) → 0 < me.0.knows.share → me.0.stage ≡ Waits t → Allows Kept slots id me 1 (λ n. n) (looked leads start (step slots 1 0 0 none) me)
+  pub looks : (slots id : ℕ) (me : M) (t : ℕ) → 0 < me.0.knows.share → me.0.stage ≡ Waits t
+      → Allows Kept slots id me 1 (λ n. n) (looked leads start (step slots 1 0 0 none) me)
   looks slots id me t some_of waits s r wide at fits =
       let told = looked leads start (step slots 1 0 0 none) me in
       let seen = r.journal.each id me.0 at in
@@ -178,8 +194,10 @@ module _ {O E : Type 0} (leads : O → E → O → Type 0) (start : O) (limit : 
       )))
 
   -- fetch-and-add on the served ticket
-  pub leaves : (slots id : ℕ) (v : V) (t : ℕ) (journal : List E) (e : E) (held : Held O E) → 0 < v.knows.share → v.stage ≡ Holds t journal → held.journal ≡ journal ++ e ∷ [] → Runs leads start held.journal held.object
-      → limit < 2 ^ 63 → slots ≡ 1 → Allows Kept slots id (v, (0, Some held) ∷ []) 1 (λ n. (n + 1) % 2 ^ 64) (left (step slots 1 1 0 none) (v, (0, Some held) ∷ []))
+  pub leaves : (slots id : ℕ) (v : V) (t : ℕ) (journal : List E) (e : E) (held : Held O E) → 0 < v.knows.share
+      → v.stage ≡ Holds t journal → held.journal ≡ journal ++ e ∷ [] → Runs leads start held.journal held.object
+      → limit < 2 ^ 63 → slots ≡ 1 → Allows Kept slots id (v, (0, Some held) ∷ []) 1 (λ n. (n + 1) % 2 ^ 64)
+      (left (step slots 1 1 0 none) (v, (0, Some held) ∷ []))
   leaves slots id v t journal e held some_of holds more runs small one s r wide at fits =
       let me : M = (v, (0, Some held) ∷ []) in
       let told = left {O = O} {E = E} (step slots 1 1 0 none) me in
@@ -202,8 +220,10 @@ module _ {O E : Type 0} (leads : O → E → O → Type 0) (start : O) (limit : 
           log = held.journal;
           owner = put r.owner n id;
           words = ap (λ (k : ℕ). r.ticket ∷ k ∷ []) up;
-          turns = turns_ended limit r.ticket n r.holder s.views r.turns id v w at (ap tickets_at now) (ap r.holder mine.1 ∙ mine.0) lt le refl;
-          journal = journal_ended leads start n r.log s.homes s.views r.journal limit r.ticket r.holder r.turns id v journal e held at now more runs (omega arith);
+          turns = turns_ended limit r.ticket n r.holder s.views r.turns id v w at (ap tickets_at now)
+              (ap r.holder mine.1 ∙ mine.0) lt le refl;
+          journal = journal_ended leads start n r.log s.homes s.views r.journal limit r.ticket r.holder r.turns id v journal e held at
+              now more runs (omega arith);
           places = places_ended n r.owner s.views r.places id v w at refl;
           shares = shares_kept s.views r.shares id v w at some_of refl;
         },
@@ -270,17 +290,21 @@ module _ {O E : Type 0} (leads : O → E → O → Type 0) (start : O) (limit : 
     pub places : v.knows.mine ≡ all_below (length held.journal)
     pub limited : length held.journal ≤ limit
 
-  pub ends : (id : ℕ) (v : V) (words : List ℕ) (slots : List S) → Final (Seen Kept id v) words slots → v.knows.share ≡ whole → v.stage ≡ Idle → IsLast v slots
+  pub ends : (id : ℕ) (v : V) (words : List ℕ) (slots : List S) → Final (Seen Kept id v) words slots → v.knows.share ≡ whole
+      → v.stage ≡ Idle → IsLast v slots
   ends id v words slots final all idle =
       let s = final.0 in
       let r = final.1.0 in
       let at = final.1.1 in
       let log : List E = r.log in
-      let gone : (j : ℕ) (u : V) → ¬ (j ≡ id) → get_elem? s.views j ≡ some u → u ≡ spent = λ j u ne there. others_spent s.views r.shares id v at all j u ne there in
+      let gone : (j : ℕ) (u : V) → ¬ (j ≡ id) → get_elem? s.views j ≡ some u
+      → u ≡ spent = λ j u ne there. others_spent s.views r.shares id v at all j u ne there in
       let home : AtHome leads start log s.homes = ⊎_elim (λ (h : AtHome leads start log s.homes). h)
       (λ (o : IsOut r.serving s.views). dite (ℕ_discrete o.0 id)
-      (λ (e : o.0 ≡ id). let same : o.1 ≡ v = some-injective o.1 v (sym o.3 ∙ (ap (get_elem? s.views) e ∙ at)) in let differ : Idle ≡ Holds r.serving o.2 = sym idle ∙ (ap (λ (u : V). u.stage) (sym same) ∙ o.4) in absurd (cc))
-      (λ (ne : o.0 ≢ id). let same = gone o.0 o.1 ne o.3 in let differ : Idle ≡ Holds r.serving o.2 = ap (λ (u : V). u.stage) (sym same) ∙ o.4 in absurd (cc)))
+      (λ (e : o.0 ≡ id). let same : o.1 ≡ v = some-injective o.1 v (sym o.3 ∙ (ap (get_elem? s.views) e ∙ at)) in
+      let differ : Idle ≡ Holds r.serving o.2 = sym idle ∙ (ap (λ (u : V). u.stage) (sym same) ∙ o.4) in absurd (cc))
+      (λ (ne : o.0 ≢ id). let same = gone o.0 o.1 ne o.3 in let differ : Idle ≡ Holds r.serving o.2 = ap (λ (u : V). u.stage) (sym same)
+      ∙ o.4 in absurd (cc)))
       r.journal.place in
       let long : length home.0.journal ≡ r.serving = ap (length {A = E}) home.2 ∙ r.journal.long in
       record {
@@ -288,6 +312,7 @@ module _ {O E : Type 0} (leads : O → E → O → Type 0) (start : O) (limit : 
         home = final.4 0 (Some home.0) home.1;
         legal = subst (λ (l : List E). Runs leads start l home.0.object) (sym home.2) home.3;
         begins = subst (IsPrefix v.knows.seen) (sym home.2) (r.journal.each id v at).0;
-        places = places_whole r.serving r.owner s.views r.places id v at (λ j u ne there. ap (λ (x : V). x.knows.mine) (gone j u ne there)) ∙ ap all_below (sym long);
+        places = places_whole r.serving r.owner s.views r.places id v at
+            (λ j u ne there. ap (λ (x : V). x.knows.mine) (gone j u ne there)) ∙ ap all_below (sym long);
         limited = let b = r.turns.below in let h = r.turns.behind in omega (arith, long);
       }

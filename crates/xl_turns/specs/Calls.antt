@@ -1,5 +1,5 @@
 -- Calls of a sequential object, each in a turn of its own.
-use Rattle.std.specs.Prelude.{◌≡◌, ℕ, ◌+◌, ◌<◌, ◌≤◌, ◌++◌, List, [], ◌∷◌, length, Option, Some}
+use Rattle.std.specs.Prelude.{◌≡◌, ◌+◌, ◌<◌, ◌≤◌, ◌++◌, List, [], ◌∷◌, length, Option, Some}
 use mathlib.Core.List.{IsPrefix}
 use Rattle.xl_turns.specs.declared.pass.Pass.{Pass}
 use Rattle.xl_turns.specs.declared.lock.TicketLock.{TicketLock}

@@ -1,6 +1,5 @@
 -- What a seat of the table knows, and how each step changes it. No public clause cites this file.
 use Rattle.std.specs.Prelude.{ℕ, ◌+◌, List, []}
-use Rattle.xl_turns.specs.declared.view.Knowledge.{Knowledge}
 use Rattle.xl_turns.specs.declared.view.View.{View}
 use Rattle.xl_turns.specs.declared.view.Stage.TheVariants.{Idle, Waits, Holds}
 use Rattle.xl_turns.specs.Knowing.{newcomer, with_drawn, after_turn, first_part, second_part, joined, shorter}

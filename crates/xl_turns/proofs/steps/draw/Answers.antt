@@ -17,5 +17,6 @@ compare_exchange-found-requires g c =
       kept.0 ∙ at.0,
       omega (arith, at.1),
       draws g.P.History.leads top.key.object.value top.key.limit top.table_id.slots c.loop.seat.id c.loop.seat.me c.loop.ticket _
-          (subst (λ m. 0 < m.0.knows.share) (sym kept.2) at.3) (ap (λ m. m.0.stage) kept.2 ∙ c.requires.seat.1) refl (omega (arith, c.requires.limit)),
+          (subst (λ m. 0 < m.0.knows.share) (sym kept.2) at.3) (ap (λ m. m.0.stage) kept.2 ∙ c.requires.seat.1) refl
+          (omega (arith, c.requires.limit)),
     )

@@ -15,8 +15,10 @@ fetch_add-served-requires g c =
     let it = c.args.seat.now in (
       at.0,
       omega (arith, at.1),
-      subst (λ (k : List (ℕ × Slot g.row.O.Denot g.row.E.Denot)). Allows (Rule g.P.History.leads key.object.value key.limit) slots it.id (it.me.0, k) 1 (λ (n : ℕ). (n + 1) % 2 ^ 64) (left (step slots 1 1 0 none) (it.me.0, k))) (sym turn.3.1)
-          (leaves g.P.History.leads key.object.value key.limit slots it.id it.me.0 turn.0 turn.1 turn.4.0 turn.2 at.3 turn.3.0 turn.4.1 turn.4.2 (omega (arith, c.requires.limit)) at.2),
+      subst (λ (k : List (ℕ × Slot g.row.O.Denot g.row.E.Denot)). Allows (Rule g.P.History.leads key.object.value key.limit) slots it.id
+          (it.me.0, k) 1 (λ (n : ℕ). (n + 1) % 2 ^ 64) (left (step slots 1 1 0 none) (it.me.0, k))) (sym turn.3.1)
+          (leaves g.P.History.leads key.object.value key.limit slots it.id it.me.0 turn.0 turn.1 turn.4.0 turn.2 at.3 turn.3.0 turn.4.1
+          turn.4.2 (omega (arith, c.requires.limit)) at.2),
     )
 
 pub overflow_add-served : goal.overflow_add-served

@@ -1,4 +1,4 @@
-use Rattle.std.proofs.Common.{◌≡◌, ◌≤◌, ap, ◌∙◌, sym, subst, length, arith}
+use Rattle.std.proofs.Common.{◌≡◌, ap, ◌∙◌, sym, subst, length, arith}
 use mathlib.Core.List.{IsPrefix}
 use Rattle.xl_turns.specs.Histories.{Runs}
 use Rattle.xl_turns.specs.Places.{all_below}
@@ -12,7 +12,8 @@ unreachable-requires g c =
     let key = c.args.self.board.shared.key in
     let seat = c.into_seat-seat.result in
     let is = ap view_of c.into_seat-seat.ensures.2 in
-    let last = ends g.P.History.leads key.object.value key.limit seat.id seat.me.0 _ _ c.close_with-closed.ensures.values.2 (ap (λ v. v.knows.share) (sym is) ∙ c.requires.whole) (ap (λ v. v.stage) (sym is) ∙ c.requires.pass.2) in
+    let last = ends g.P.History.leads key.object.value key.limit seat.id seat.me.0 _ _ c.close_with-closed.ensures.values.2
+    (ap (λ v. v.knows.share) (sym is) ∙ c.requires.whole) (ap (λ v. v.stage) (sym is) ∙ c.requires.pass.2) in
     let e = sym last.home ∙ c.in-None.ensures.value in cc
 
 pub returns-clause-legal : goal.returns-clause-legal
@@ -20,7 +21,8 @@ returns-clause-legal g c =
     let key = c.args.self.board.shared.key in
     let seat = c.into_seat-seat.result in
     let is = ap view_of c.into_seat-seat.ensures.2 in
-    let last = ends g.P.History.leads key.object.value key.limit seat.id seat.me.0 _ _ c.close_with-closed.ensures.values.2 (ap (λ v. v.knows.share) (sym is) ∙ c.requires.whole) (ap (λ v. v.stage) (sym is) ∙ c.requires.pass.2) in
+    let last = ends g.P.History.leads key.object.value key.limit seat.id seat.me.0 _ _ c.close_with-closed.ensures.values.2
+    (ap (λ v. v.knows.share) (sym is) ∙ c.requires.whole) (ap (λ v. v.stage) (sym is) ∙ c.requires.pass.2) in
     let e = sym last.home ∙ c.in-Some.ensures.value in
     let same : last.held ≡ c.in-Some.held = cc in
     subst (λ (x : Held g.row.O.Denot g.row.E.Denot). Runs g.P.History.leads key.object.value x.journal x.object) same last.legal
@@ -30,17 +32,20 @@ returns-clause-begins g c =
     let key = c.args.self.board.shared.key in
     let seat = c.into_seat-seat.result in
     let is = ap view_of c.into_seat-seat.ensures.2 in
-    let last = ends g.P.History.leads key.object.value key.limit seat.id seat.me.0 _ _ c.close_with-closed.ensures.values.2 (ap (λ v. v.knows.share) (sym is) ∙ c.requires.whole) (ap (λ v. v.stage) (sym is) ∙ c.requires.pass.2) in
+    let last = ends g.P.History.leads key.object.value key.limit seat.id seat.me.0 _ _ c.close_with-closed.ensures.values.2
+    (ap (λ v. v.knows.share) (sym is) ∙ c.requires.whole) (ap (λ v. v.stage) (sym is) ∙ c.requires.pass.2) in
     let e = sym last.home ∙ c.in-Some.ensures.value in
     let same : last.held ≡ c.in-Some.held = cc in
-    subst (λ (x : Held g.row.O.Denot g.row.E.Denot). IsPrefix (view_of c.args.pass.badge.views).knows.seen x.journal) same (subst (λ v. IsPrefix v.knows.seen last.held.journal) (sym is) last.begins)
+    subst (λ (x : Held g.row.O.Denot g.row.E.Denot). IsPrefix (view_of c.args.pass.badge.views).knows.seen x.journal) same
+    (subst (λ v. IsPrefix v.knows.seen last.held.journal) (sym is) last.begins)
 
 pub returns-clause-places : goal.returns-clause-places
 returns-clause-places g c =
     let key = c.args.self.board.shared.key in
     let seat = c.into_seat-seat.result in
     let is = ap view_of c.into_seat-seat.ensures.2 in
-    let last = ends g.P.History.leads key.object.value key.limit seat.id seat.me.0 _ _ c.close_with-closed.ensures.values.2 (ap (λ v. v.knows.share) (sym is) ∙ c.requires.whole) (ap (λ v. v.stage) (sym is) ∙ c.requires.pass.2) in
+    let last = ends g.P.History.leads key.object.value key.limit seat.id seat.me.0 _ _ c.close_with-closed.ensures.values.2
+    (ap (λ v. v.knows.share) (sym is) ∙ c.requires.whole) (ap (λ v. v.stage) (sym is) ∙ c.requires.pass.2) in
     let e = sym last.home ∙ c.in-Some.ensures.value in
     let same : last.held ≡ c.in-Some.held = cc in
     ap (λ v. v.knows.mine) is ∙ last.places ∙ ap (λ (x : Held g.row.O.Denot g.row.E.Denot). all_below (length x.journal)) same
@@ -50,7 +55,8 @@ returns-clause-limit g c =
     let key = c.args.self.board.shared.key in
     let seat = c.into_seat-seat.result in
     let is = ap view_of c.into_seat-seat.ensures.2 in
-    let last = ends g.P.History.leads key.object.value key.limit seat.id seat.me.0 _ _ c.close_with-closed.ensures.values.2 (ap (λ v. v.knows.share) (sym is) ∙ c.requires.whole) (ap (λ v. v.stage) (sym is) ∙ c.requires.pass.2) in
+    let last = ends g.P.History.leads key.object.value key.limit seat.id seat.me.0 _ _ c.close_with-closed.ensures.values.2
+    (ap (λ v. v.knows.share) (sym is) ∙ c.requires.whole) (ap (λ v. v.stage) (sym is) ∙ c.requires.pass.2) in
     let e = sym last.home ∙ c.in-Some.ensures.value in
     let same : last.held ≡ c.in-Some.held = cc in
     let long = ap (λ (x : Held g.row.O.Denot g.row.E.Denot). length x.journal) same in
