@@ -1,6 +1,7 @@
 -- Each kind of step keeps the rule, part by part: what the table's calls ask of the lock's steps.
 use Rattle.std.proofs.Common.{◌≡◌, ◌≢◌, ℕ, ◌+◌, ◌%◌, ◌^◌, ◌<◌, ◌≤◌, eqb, List, [], ◌∷◌, ◌++◌, length, refl, sym, ap, ap₂, ◌∙◌, subst, ⊎_elim, arith, Some}
 use Rattle.std.specs.Prelude.{slice_index, slice_set}
+use Rattle.std.specs.List.{sum_by}
 use mathlib.Core.Logic.{dite}
 use native.Mathlib.Decide.{ℕ_discrete}
 use mathlib.Core.Option.{none, some, some-injective}
@@ -16,10 +17,10 @@ use Rattle.xl_turns.specs.Histories.{Runs}
 use Rattle.xl_turns.specs.Places.{all_below}
 use Rattle.xl_turns.specs.Knowing.{whole}
 use Rattle.xl_turns.specs.Views.{fresh, spent, counting, waiting, holding, ended, alone, parted, part_of, united}
-use Rattle.xl_turns.specs.Rule.{tickets_at, Slot, InTurn, InHand, Rule, AtHome, IsOut}
+use Rattle.xl_turns.specs.Rule.{tickets_at, tickets_of, Slot, InTurn, InHand, Rule, AtHome, IsOut}
 use Rattle.xl_turns.specs.Steps.{counted, drew, looked, left, compared}
 use Rattle.xl_turns.proofs.Prefixes.{prefix_shorter}
-use Rattle.xl_turns.proofs.Each.{put}
+use Rattle.xl_turns.proofs.Each.{put, sum_none}
 use Rattle.xl_turns.proofs.Merging.{redirect}
 use Rattle.xl_turns.proofs.TurnSteps.{turns_made, turns_kept, turns_split, turns_joined, turns_drawn, turns_taken, turns_ended}
 use Rattle.xl_turns.proofs.JournalSteps.{idle_stage, at_home, journal_made, journal_kept, journal_split, journal_joined, journal_taken, journal_ended}
@@ -281,7 +282,7 @@ module _ {O E : Type 0} (leads : O → E → O → Type 0) (start : O) (limit : 
     shares = shares_made;
   }
 
-  -- what the slot has once the whole share is in one hand
+  -- what the slot has once the whole share is in one hand. Each drawn ticket was served then
   pub record IsLast (v : V) (slots : List S) : Type 0 where
     pub held : Held O E
     pub home : get_elem? slots 0 ≡ some (Some held)
@@ -289,6 +290,7 @@ module _ {O E : Type 0} (leads : O → E → O → Type 0) (start : O) (limit : 
     pub begins : IsPrefix v.knows.seen held.journal
     pub places : v.knows.mine ≡ all_below (length held.journal)
     pub limited : length held.journal ≤ limit
+    pub drawn : v.knows.drawn ≤ length held.journal
 
   pub ends : (id : ℕ) (v : V) (words : List ℕ) (slots : List S) → Final (Seen Kept id v) words slots → v.knows.share ≡ whole
       → v.stage ≡ Idle → IsLast v slots
@@ -297,16 +299,20 @@ module _ {O E : Type 0} (leads : O → E → O → Type 0) (start : O) (limit : 
       let r = final.1.0 in
       let at = final.1.1 in
       let log : List E = r.log in
-      let gone : (j : ℕ) (u : V) → ¬ (j ≡ id) → get_elem? s.views j ≡ some u
-      → u ≡ spent = λ j u ne there. others_spent s.views r.shares id v at all j u ne there in
+      let gone : (j : ℕ) (u : V) → ¬ (j ≡ id) → get_elem? s.views j ≡ some u → u ≡ spent = λ j u ne there.
+      others_spent s.views r.shares id v at all j u ne there in
+      let resting : (j : ℕ) (u : V) → get_elem? s.views j ≡ some u → u.stage ≡ Idle = λ j u there. dite (ℕ_discrete j id)
+      (λ (e : j ≡ id). let same : u ≡ v = some-injective u v (sym there ∙ (ap (get_elem? s.views) e ∙ at)) in
+      ap (λ (x : V). x.stage) same ∙ idle)
+      (λ (ne : j ≢ id). ap (λ (x : V). x.stage) (gone j u ne there)) in
       let home : AtHome leads start log s.homes = ⊎_elim (λ (h : AtHome leads start log s.homes). h)
-      (λ (o : IsOut r.serving s.views). dite (ℕ_discrete o.0 id)
-      (λ (e : o.0 ≡ id). let same : o.1 ≡ v = some-injective o.1 v (sym o.3 ∙ (ap (get_elem? s.views) e ∙ at)) in
-      let differ : Idle ≡ Holds r.serving o.2 = sym idle ∙ (ap (λ (u : V). u.stage) (sym same) ∙ o.4) in absurd (cc))
-      (λ (ne : o.0 ≢ id). let same = gone o.0 o.1 ne o.3 in let differ : Idle ≡ Holds r.serving o.2 = ap (λ (u : V). u.stage) (sym same)
-      ∙ o.4 in absurd (cc)))
+      (λ (o : IsOut r.serving s.views). let differ : Idle ≡ Holds r.serving o.2 = sym (resting o.0 o.1 o.3) ∙ o.4 in absurd (cc))
       r.journal.place in
       let long : length home.0.journal ≡ r.serving = ap (length {A = E}) home.2 ∙ r.journal.long in
+      let served : sum_by tickets_of s.views ≡ 0 = sum_none tickets_of s.views (λ j u there. ap tickets_at (resting j u there)) in
+      let count : r.serving + sum_by tickets_of s.views ≡ r.ticket = r.turns.count in
+      let below : r.ticket ≤ limit = r.turns.below in
+      let drawn : v.knows.drawn ≤ r.ticket = (r.turns.each id v at).0 in
       record {
         held = home.0;
         home = final.4 0 (Some home.0) home.1;
@@ -314,5 +320,6 @@ module _ {O E : Type 0} (leads : O → E → O → Type 0) (start : O) (limit : 
         begins = subst (IsPrefix v.knows.seen) (sym home.2) (r.journal.each id v at).0;
         places = places_whole r.serving r.owner s.views r.places id v at
             (λ j u ne there. ap (λ (x : V). x.knows.mine) (gone j u ne there)) ∙ ap all_below (sym long);
-        limited = let b = r.turns.below in let h = r.turns.behind in omega (arith, long);
+        limited = omega (arith, long, count, served, below);
+        drawn = omega (arith, long, count, served, drawn);
       }

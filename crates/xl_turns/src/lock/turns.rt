@@ -100,7 +100,8 @@ impl<O: Drop, E: Drop, P: History<O, E>> TicketLock<O, E, P> {
         pass.badge = seat.into_badge();
     }
 
-    /// The object and its journal, from the last pass.
+    /// The object and its journal, from the last pass. Each drawn ticket has its entry there: where the pass knows that the
+    /// limit was drawn, the journal has as many entries.
     pub fn close(self, pass: Pass<E>) -> Held<O, E>
         requires pass { IsPassOf self pass }
         requires whole { (known pass).share ≡ 2 ^ 126 }
@@ -108,6 +109,7 @@ impl<O: Drop, E: Drop, P: History<O, E>> TicketLock<O, E, P> {
         ensures begins { IsPrefix (known pass).seen result.journal }
         ensures places { (known pass).mine ≡ all_below (length result.journal) }
         ensures limit { length result.journal ≤ limit_of self }
+        ensures drawn { (known pass).drawn ≤ length result.journal }
     {
         let Pass { badge, share: _ } = pass;
         let seat: Place<O, E> = badge.into_seat();

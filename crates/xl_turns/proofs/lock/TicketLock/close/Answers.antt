@@ -61,3 +61,16 @@ returns-clause-limit g c =
     let same : last.held ≡ c.in-Some.held = cc in
     let long = ap (λ (x : Held g.row.O.Denot g.row.E.Denot). length x.journal) same in
     omega (arith, long, last.limited, c.args.self.limited.0)
+
+pub returns-clause-drawn : goal.returns-clause-drawn
+returns-clause-drawn g c =
+    let key = c.args.self.board.shared.key in
+    let seat = c.into_seat-seat.result in
+    let is = ap view_of c.into_seat-seat.ensures.2 in
+    let last = ends g.P.History.leads key.object.value key.limit seat.id seat.me.0 _ _ c.close_with-closed.ensures.values.2
+    (ap (λ v. v.knows.share) (sym is) ∙ c.requires.whole) (ap (λ v. v.stage) (sym is) ∙ c.requires.pass.2) in
+    let e = sym last.home ∙ c.in-Some.ensures.value in
+    let same : last.held ≡ c.in-Some.held = cc in
+    let long = ap (λ (x : Held g.row.O.Denot g.row.E.Denot). length x.journal) same in
+    let known : (view_of c.args.pass.badge.views).knows.drawn ≡ seat.me.0.knows.drawn = ap (λ v. v.knows.drawn) is in
+    omega (arith, long, known, last.drawn)
