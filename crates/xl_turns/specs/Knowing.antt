@@ -1,4 +1,4 @@
--- What a pass knows, and how each call changes it. Source: the own design of this lock's tokens.
+-- What a pass knows, and how each call changes it. Source: own.
 use Rattle.std.specs.Prelude.{ℕ, ◌+◌, ◌-◌, ◌/◌, ◌^◌, ltb, max, List, [], ◌∷◌, ◌++◌, length, if◌then◌else◌}
 use Rattle.xl_turns.specs.declared.view.Knowledge.{Knowledge}
 use Rattle.xl_turns.specs.Places.{merge}

@@ -42,8 +42,8 @@ pub(crate) fn draw<O, E, P: History<O, E>, R: Wait>(
     unreachable!()
 }
 
-/// Waits until the ticket is served. While another one is, it sleeps until that word changes. Where it changes before the
-/// sleep, there is none.
+/// Waits until the ticket is served. While another one is, it sleeps until that word changes, and where it changes before
+/// the sleep, it doesn't sleep. No more turns end in between than threads wait, so the word's lower half tells a change.
 pub(crate) fn wait_for<O, E, P: History<O, E>, R: Wait>(
     rt: &R,
     top: &Top<O, E, P>,
