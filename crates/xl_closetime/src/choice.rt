@@ -1,5 +1,10 @@
 ghost use Rattle.std.specs.Prelude.{◌≡◌, ◌+◌, ◌≤◌, length, map, take, if◌then◌else◌};
-ghost use Rattle.xl_closetime.specs.Choices.{needed as needed_of, occurrences as occurrences_of, choose_close as choose_close_of, choice_among as choice_among_of};
+ghost use Rattle.xl_closetime.specs.Choices.{
+  needed as needed_of,
+  occurrences as occurrences_of,
+  choose_close as choose_close_of,
+  choice_among as choice_among_of,
+};
 ghost use Rattle.xl_closetime.specs.Rounding.{round_close as round_close_of};
 ghost use Rattle.xl_closetime.specs.Resolutions.{IsResolution};
 ghost use Rattle.xl_closetime.specs.Frequent.{beats, IsMostFrequent};

@@ -1,5 +1,10 @@
 ghost use Rattle.std.specs.Prelude.{◌≡◌};
-ghost use Rattle.xl_closetime.specs.Resolutions.{next_resolution as next_resolution_of, coarser as coarser_of, finer as finer_of, IsResolution};
+ghost use Rattle.xl_closetime.specs.Resolutions.{
+  next_resolution as next_resolution_of,
+  coarser as coarser_of,
+  finer as finer_of,
+  IsResolution,
+};
 
 use xl_base::Seq;
 
