@@ -1,4 +1,4 @@
-ghost use Rattle.std.specs.Prelude.{◌≡◌, [], IfOk};
+ghost use Rattle.std.specs.Prelude.{◌≡◌, IfOk};
 ghost use Rattle.xl_base.specs.Sets.{set_id_of, IsSet};
 ghost use Rattle.xl_disputes.specs.Disputes.{has};
 
