@@ -1,0 +1,4 @@
+pub mod Resolutions
+pub mod Rounding
+pub mod Choices
+pub mod Frequent

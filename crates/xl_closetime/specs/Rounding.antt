@@ -1,0 +1,14 @@
+-- Rounded close times. Source: classical rippled; the limit is this profile's.
+use Rattle.std.specs.Prelude.{ℕ, ◌+◌, ◌-◌, ◌/◌, ◌%◌, ◌==◌, min, max, if◌then◌else◌}
+
+-- no second is later
+abbrev pub last_second : ℕ
+last_second = 4294967295
+
+-- the nearest multiple of r, a half rounded up; 0 stays 0
+abbrev pub round_close : ℕ → ℕ → ℕ
+round_close t r = if t == 0 then 0 else min (t + r / 2 - (t + r / 2) % r) last_second
+
+-- the rounded time, but after the prior one; 0 stays 0
+abbrev pub effective : ℕ → ℕ → ℕ → ℕ
+effective t r prior = if t == 0 then 0 else min (max (t + r / 2 - (t + r / 2) % r) (prior + 1)) last_second

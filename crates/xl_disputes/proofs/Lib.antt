@@ -1,0 +1,2 @@
+pub mod RisingIds
+pub mod Ordered

@@ -1,0 +1,152 @@
+use crate::lowest::add_low;
+use crate::{Disputes, Votes, threshold};
+use std::test::Fail;
+use xl_base::{NodeNo, TxId, set_id};
+
+const T1: TxId = TxId([1; 32]);
+
+const T2: TxId = TxId([2; 32]);
+
+const T9: TxId = TxId([9; 32]);
+
+/// Percents of the previous round's time, and their thresholds.
+const THRESHOLDS: [(u64, u32); 9] = [
+    (0, 50),
+    (13, 50),
+    (49, 50),
+    (50, 65),
+    (84, 65),
+    (85, 70),
+    (199, 70),
+    (200, 95),
+    (u64::MAX, 95),
+];
+
+/// Yays, nays, ours, the percent, whether we propose, and our next vote.
+const VOTES: [(u32, u32, bool, u64, bool, bool); 12] = [
+    // Weights of 71, 66, 94 and 50.
+    (4, 2, true, 85, true, true),
+    (3, 2, true, 50, true, true),
+    (3, 2, true, 85, true, false),
+    (17, 1, true, 199, true, true),
+    (17, 1, true, 200, true, false),
+    (1, 2, true, 0, true, false),
+    // No other vote differs.
+    (0, 0, true, 200, true, true),
+    (0, 5, false, 0, true, false),
+    // The others alone decide where we don't propose.
+    (3, 2, false, 200, false, true),
+    (2, 2, true, 0, false, false),
+    (1, 0, false, 0, false, true),
+    (0, 1, true, 0, false, false),
+];
+
+fn member(number: u32) -> Result<NodeNo, Fail> {
+    Ok(NodeNo::new(number).ok_or("no member")?)
+}
+
+#[test]
+fn asks_for_more_as_time_passes(rt: HostRuntime) {
+    for (percent, weight) in THRESHOLDS {
+        assert_eq!(rt; threshold(percent), weight);
+    }
+    for (yays, nays, ours, percent, proposing, next) in VOTES {
+        let votes = Votes { yays, nays, ours };
+        assert_eq!(rt;
+            votes.next(percent, proposing),
+            next,
+            "{votes:?} at {percent}"
+        );
+    }
+}
+
+#[test]
+fn counts_positions_whose_sets_are_held(rt: HostRuntime) -> Result<(), Fail> {
+    let mut disputes = Disputes::open(rt.alloc())?;
+    assert_eq!(rt; disputes.votes_of(&T1), None);
+    disputes.own(&[T1])?;
+    for number in 2..=4 {
+        let id = disputes.hold(member(number)?, &[T1])?;
+        disputes.position(member(number)?, id);
+    }
+    let empty = disputes.hold(member(5)?, &[])?;
+    disputes.position(member(5)?, empty);
+    assert_eq!(rt; counts(&disputes, &T1), Some((3, 1)));
+    disputes.position(member(5)?, set_id(&[T1]));
+    assert_eq!(rt; counts(&disputes, &T1), Some((4, 0)));
+    disputes.leave(member(5)?);
+    assert_eq!(rt; counts(&disputes, &T1), Some((3, 0)));
+    disputes.position(member(6)?, set_id(&[T1, T2]));
+    assert_eq!(rt;
+        (counts(&disputes, &T1), counts(&disputes, &T2)),
+        (Some((3, 0)), None)
+    );
+    disputes.hold(member(6)?, &[T1, T2])?;
+    assert_eq!(rt;
+        (counts(&disputes, &T1), counts(&disputes, &T2)),
+        (Some((4, 0)), Some((1, 3)))
+    );
+    disputes.forget(member(6)?);
+    assert_eq!(rt;
+        (counts(&disputes, &T1), counts(&disputes, &T2)),
+        (Some((3, 0)), None)
+    );
+    disputes.clear();
+    assert_eq!(rt; counts(&disputes, &T1), Some((0, 0)));
+    Ok(())
+}
+
+/// The yays and nays on a transaction that our own set has or hasn't.
+fn counts(disputes: &Disputes, tx: &TxId) -> Option<(u32, u32)> {
+    let votes = disputes.votes_of(tx)?;
+    Some((votes.yays, votes.nays))
+}
+
+#[test]
+fn drops_what_most_positions_lack(rt: HostRuntime) -> Result<(), Fail> {
+    let mut disputes = Disputes::open(rt.alloc())?;
+    disputes.own(&[T9])?;
+    for number in 1..=2 {
+        let id = disputes.hold(member(number)?, &[T9])?;
+        disputes.position(member(number)?, id);
+    }
+    for number in 3..=6 {
+        let id = disputes.hold(member(number)?, &[])?;
+        disputes.position(member(number)?, id);
+    }
+    assert_eq!(rt;
+        disputes.votes_of(&T9),
+        Some(Votes {
+            yays: 2,
+            nays: 4,
+            ours: true
+        })
+    );
+    assert_eq!(rt; disputes.update(25, true), Ok(true));
+    assert!(rt; disputes.own_set().is_empty());
+    assert_eq!(rt; disputes.own_id(), set_id(&[]));
+    assert_eq!(rt; disputes.update(25, true), Ok(false));
+    Ok(())
+}
+
+fn id_of(number: u8, kind: u8) -> TxId {
+    let mut id = [0; 32];
+    id[0] = number;
+    id[1] = kind;
+    TxId(id)
+}
+
+#[test]
+fn keeps_the_256_lowest(rt: HostRuntime) -> Result<(), Fail> {
+    let mut ids = Vec::new(rt.alloc());
+    for kind in [1, 0, 1] {
+        for number in 0..=255 {
+            add_low(&mut ids, id_of(255 - number, kind))?;
+        }
+    }
+    assert_eq!(rt; ids.len(), 256);
+    for (place, id) in ids.iter().enumerate() {
+        assert_eq!(rt; *id, id_of((place / 2) as u8, (place % 2) as u8));
+    }
+    Ok(())
+}
