@@ -13,3 +13,4 @@ pub mod Firsts
 pub mod Differing
 pub mod Reporters
 pub mod Forging
+pub mod Indexing

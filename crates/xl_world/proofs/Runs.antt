@@ -31,7 +31,7 @@ use Rattle.xl_world.proofs.NodeSteps.{happens_steps, happens_says, HeardSays, he
 -- WHAT COMES UNFORGED
 
 -- what holds of each element holds of one that a test finds
-from_found : {X : Type 0} (p : X → Bool) (P : X → Type 0) (R : Type 0) (xs : List X) → list_any p xs ≡ true → All P xs → ((x : X) → p x ≡ true → P x → R) → R
+pub from_found : {X : Type 0} (p : X → Bool) (P : X → Type 0) (R : Type 0) (xs : List X) → list_any p xs ≡ true → All P xs → ((x : X) → p x ≡ true → P x → R) → R
 from_found p P R [] found each then_ = cc
 from_found p P R (x ∷ xs) found each then_ =
     elim (or_cases (p x) (list_any p xs) found)

@@ -3,4 +3,5 @@ pub mod World
 pub mod Schedule
 pub mod Forks
 pub mod Seen
+pub mod Indexes
 pub mod Worlds

@@ -1,7 +1,8 @@
 -- A world of the code, as the definitions see it. Source: what the code of this crate keeps.
 use Rattle.std.specs.Prelude.{map}
 use Rattle.xl_world.specs.declared.world.World.TheInside.{Inside}
-use Rattle.xl_world.specs.World.{World}
+use Rattle.xl_world.specs.Indexes.{IsIndex}
+use Rattle.xl_world.specs.World.{World, IsRun}
 use Rattle.xl_world.specs.Seen.{said_seen, reports_seen}
 
 abbrev pub world_seen : Inside → World
@@ -14,3 +15,8 @@ world_seen w = record {
   reports = reports_seen w.reports.items;
   forged = w.forged;
 }
+
+-- what the type keeps: the world is a run, and its index is one of what was sent
+pub record IsWhole (w : Inside) : Type 0 where
+  pub run : IsRun (world_seen w)
+  pub index : IsIndex w.index w.sent.items

@@ -3,13 +3,14 @@ ghost use Rattle.std.specs.Prelude.{◌≡◌};
 ghost use Rattle.xl_lists.specs.Lists.{is_on};
 ghost use Rattle.xl_wire.specs.Heads.{split_of};
 ghost use Rattle.xl_wire.specs.Raws.{SpellsRaw, raw_frame};
+ghost use Rattle.xl_world.specs.Indexes.{IsIndex};
 ghost use Rattle.xl_world.specs.Seen.{forged_at};
 ghost use Rattle.xl_world.specs.World.{place_at, forges, is_made_up};
 
 use crate::Sent;
 use crate::act::place_of;
+use crate::index::TagIndex;
 use crate::place::Place;
-use crate::sent::was_sent;
 use xl_base::NodeNo;
 use xl_tags::{Keys, is_sealed};
 use xl_wire::{Parted, Raw, split};
@@ -21,23 +22,34 @@ fn is_liar(liars: &[NodeNo], number: u32) -> bool
 }
 
 /// Whether the frame is to the owner of the keys, from another member that is no liar, with the right tag, and nobody sent it.
-fn is_made_up(liars: &[NodeNo], sent: &[Sent], keys: &Keys, raw: &Raw<'_>, bytes: &[u8]) -> bool
-    requires { SpellsRaw (raw_frame raw.now) bytes.now }
-    ensures { result ≡ is_made_up liars.now sent.now keys.now bytes.now (raw_frame raw.now) }
+fn is_made_up(
+    liars: &[NodeNo],
+    sent: &[Sent],
+    index: &mut TagIndex,
+    keys: &Keys,
+    raw: &Raw<'_>,
+    bytes: &[u8],
+) -> bool
+    requires spelled { SpellsRaw (raw_frame raw.now) bytes.now }
+    requires index { IsIndex index.old sent.now }
+    ensures index { IsIndex index.new sent.now }
+    ensures value { result ≡ is_made_up liars.now sent.now keys.now bytes.now (raw_frame raw.now) }
 {
     raw.to == keys.me().get()
         && !is_liar(liars, raw.from)
-        && !was_sent(sent, bytes)
+        && !index.has(sent, bytes)
         && is_sealed(keys, raw, bytes)
 }
 
 /// Whether the bytes are one whole frame that is made up.
-fn forges(liars: &[NodeNo], sent: &[Sent], keys: &Keys, bytes: &[u8]) -> bool
-    ensures { result ≡ forges liars.now sent.now keys.now bytes.now (split_of bytes.now) }
+fn forges(liars: &[NodeNo], sent: &[Sent], index: &mut TagIndex, keys: &Keys, bytes: &[u8]) -> bool
+    requires { IsIndex index.old sent.now }
+    ensures index { IsIndex index.new sent.now }
+    ensures value { result ≡ forges liars.now sent.now keys.now bytes.now (split_of bytes.now) }
 {
     match split(bytes) {
         Parted::Whole(raw) => {
-            bytes.len() <= raw.length && is_made_up(liars, sent, keys, &raw, bytes)
+            bytes.len() <= raw.length && is_made_up(liars, sent, index, keys, &raw, bytes)
         }
         _ => false,
     }
@@ -47,16 +59,19 @@ fn forges(liars: &[NodeNo], sent: &[Sent], keys: &Keys, bytes: &[u8]) -> bool
 pub fn is_forged(
     liars: &[NodeNo],
     sent: &[Sent],
+    index: &mut TagIndex,
     places: &[Place],
     to: NodeNo,
     bytes: &[u8],
 ) -> bool
-    ensures { result ≡ forged_at liars.now sent.now bytes.now (place_at to places.now) }
+    requires { IsIndex index.old sent.now }
+    ensures index { IsIndex index.new sent.now }
+    ensures value { result ≡ forged_at liars.now sent.now bytes.now (place_at to places.now) }
 {
     match place_of(places, to) {
         Some(k) => {
             let place = &places[k];
-            forges(liars, sent, place.node.keys(), bytes)
+            forges(liars, sent, index, place.node.keys(), bytes)
         }
         None => false,
     }

@@ -11,6 +11,7 @@ mod act;
 mod agreement;
 mod forged;
 mod fork;
+mod index;
 mod lie;
 mod open;
 mod outcome;

@@ -6,6 +6,7 @@ ghost use Rattle.xl_world.specs.World.{one_more};
 use crate::act::{NodeEvent, act_at, list_at, restart_at};
 use crate::agreement::all_agree;
 use crate::forged::is_forged;
+use crate::index::TagIndex;
 use crate::lie::lied;
 use crate::place::{Place, Saying};
 use crate::sent::{frame_at, frames_from};
@@ -26,21 +27,22 @@ pub struct World {
     numbers: Vec<NodeNo>,
     places: Vec<Place>,
     sent: Vec<Sent>,
+    index: TagIndex,
     said: Vec<Saying>,
     reports: Vec<WorldReport>,
     forged: u64,
 }
 
 impl Model for World {
-    ghost use Rattle.xl_world.specs.World.{World as TheWorld, IsRun};
+    ghost use Rattle.xl_world.specs.World.{World as TheWorld};
 
     ghost Value = { TheWorld };
 
-    ghost use Rattle.xl_world.specs.Worlds.{world_seen};
+    ghost use Rattle.xl_world.specs.Worlds.{world_seen, IsWhole};
 
     ghost view = { world_seen };
 
-    ghost invariant = { λ w. IsRun (world_seen w) };
+    ghost invariant = { λ w. IsWhole w };
 }
 
 impl World {
@@ -64,6 +66,7 @@ impl World {
             numbers: open::numbers(alloc, plan)?,
             places,
             sent: Vec::new(alloc),
+            index: TagIndex::new(alloc),
             said: Vec::new(alloc),
             reports: Vec::new(alloc),
             forged: 0,
@@ -132,7 +135,14 @@ impl World {
         ensures told { IfOk result (λ told. told ≡ told_of to (reply_to self.old (Act to (Frame now bytes.now) true))) }
         ensures err { OnErr result (self.new ≡ self.old) }
     {
-        let forged = is_forged(&self.liars, &self.sent, &self.places, to, bytes);
+        let forged = is_forged(
+            &self.liars,
+            &self.sent,
+            &mut self.index,
+            &self.places,
+            to,
+            bytes,
+        );
         let told = hear_at(
             self.alloc,
             &mut self.places,

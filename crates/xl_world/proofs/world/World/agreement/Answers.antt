@@ -12,7 +12,7 @@ returns-clause-exact c =
 
 pub returns-clause-enough : goal.returns-clause-enough
 returns-clause-enough c a b at_i at_j enough none =
-    let is_run : IsRun c.args.self.now = subst (λ (w : World). IsRun w) c.self.view_is c.self.invariant in
+    let is_run : IsRun c.args.self.now = subst (λ (w : World). IsRun w) c.self.view_is c.self.invariant.run in
     (subst (λ (w : World). IsTrue c.all_agree.result ↔ AgreeAt w.reports c.args.i c.args.j) c.self.view_is
     (answer_tells c.args.i c.args.j c.self.inside.reports.items c.deref.result.now c.all_agree.result c.all_agree.ensures c.deref.ensures.value)).1
     (world_agrees c.args.self.now is_run c.args.i c.args.j a b at_i at_j enough none)

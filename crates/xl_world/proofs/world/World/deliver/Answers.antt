@@ -23,7 +23,7 @@ heard c = c.in_ok-told.ensures.heard
 
 -- the lists of the code are those of the step: what was sent isn't forged
 its_step : (c : In_ok-told) →
-    world_seen (record { alloc = c.self.inside.alloc; liars = c.self.inside.liars; numbers = c.self.inside.numbers; places = c.hear_at.new.places; sent = c.self.inside.sent; said = c.self.inside.said; reports = c.hear_at.new.reports; forged = c.self.inside.forged })
+    world_seen (record { alloc = c.self.inside.alloc; liars = c.self.inside.liars; numbers = c.self.inside.numbers; places = c.hear_at.new.places; sent = c.self.inside.sent; index = c.self.inside.index; said = c.self.inside.said; reports = c.hear_at.new.reports; forged = c.self.inside.forged })
     ≡ step (world_seen c.self.inside) (Act c.in-Some.frame.now.to (Frame c.secs_of.result c.as_slice.result.now) true)
 its_step c =
     let o = place_at c.in-Some.frame.now.to c.self.inside.places.items in
@@ -36,7 +36,10 @@ its_step c =
 pub invariant_of-self-2 : goal.invariant_of-self-2
 invariant_of-self-2 c =
     let d = (goal.at.invariant_of-self-2 c).In_ok-told in
-    run_more (world_seen c.self.inside) _ (Act c.in-Some.frame.now.to (Frame c.secs_of.result c.as_slice.result.now) true) (its_step d) c.self.invariant
+    record {
+      run = run_more (world_seen c.self.inside) _ (Act c.in-Some.frame.now.to (Frame c.secs_of.result c.as_slice.result.now) true) (its_step d) c.self.invariant.run;
+      index = c.self.invariant.index;
+    }
 
 pub returns-clause-world : goal.returns-clause-world
 returns-clause-world c =

@@ -1,9 +1,10 @@
-use Rattle.std.proofs.Common.{◌≡◌, ◌∙◌, ℕ, Bool, List, true, ap, sym}
+use Rattle.std.proofs.Common.{◌≡◌, ◌∙◌, ℕ, Bool, List, true, ap, sym, subst}
 use Rattle.std.specs.Prelude.{if◌then◌else◌}
 use Rattle.xl_core.specs.Node.{Frame}
 use Rattle.xl_world.specs.declared.place.Place.{Place}
 use Rattle.xl_world.specs.declared.sent.Sent.{Sent}
 use Rattle.xl_world.specs.World.{World, Act, step, place_at, one_more}
+use Rattle.xl_world.specs.Indexes.{IsIndex}
 use Rattle.xl_world.specs.Worlds.{world_seen}
 use Rattle.xl_world.specs.Schedule.{told_of, reply_to}
 use Rattle.xl_world.specs.Seen.{HasHeard, forged_at}
@@ -18,7 +19,7 @@ forged c = forged_at c.self.inside.liars.items c.self.inside.sent.items c.args.b
 
 tested : (c : In_ok-told) → c.is_forged-forged.result ≡ forged c
 tested c =
-    c.is_forged-forged.ensures
+    c.is_forged-forged.ensures.value
     ∙ (ap (λ (liars : List ℕ). forged_at liars c.deref-2.result.now c.args.bytes.now (place_at c.args.to c.deref-3.result.now)) c.deref.ensures.value
     ∙ (ap (λ (sent : List Sent). forged_at c.self.inside.liars.items sent c.args.bytes.now (place_at c.args.to c.deref-3.result.now)) c.deref-2.ensures.value
     ∙ ap (λ (places : List Place). forged_at c.self.inside.liars.items c.self.inside.sent.items c.args.bytes.now (place_at c.args.to places)) c.deref-3.ensures.value))
@@ -29,7 +30,7 @@ heard c = c.in_ok-told.ensures.heard
 
 -- the lists of the code are those of the step
 its_step : (c : In_ok-told) (count : ℕ) → count ≡ (if forged c then one_more c.self.inside.forged else c.self.inside.forged) →
-    world_seen (record { alloc = c.self.inside.alloc; liars = c.self.inside.liars; numbers = c.self.inside.numbers; places = c.hear_at.new.places; sent = c.self.inside.sent; said = c.self.inside.said; reports = c.hear_at.new.reports; forged = count })
+    world_seen (record { alloc = c.self.inside.alloc; liars = c.self.inside.liars; numbers = c.self.inside.numbers; places = c.hear_at.new.places; sent = c.self.inside.sent; index = c.is_forged-forged.new.index; said = c.self.inside.said; reports = c.hear_at.new.reports; forged = count })
     ≡ step (world_seen c.self.inside) (Act c.args.to (Frame c.args.now c.args.bytes.now) true)
 its_step c count counted =
     heard_step (world_seen c.self.inside) c.args.to c.args.now c.args.bytes.now (heard c).answer c.hear_at.new.places.items _ count (heard c).answers (heard c).acted (heard c).reported counted
@@ -42,7 +43,10 @@ counts c count is = is ∙ ap (λ (b : Bool). if b then one_more c.self.inside.f
 pub invariant_of-self-2 : goal.invariant_of-self-2
 invariant_of-self-2 c =
     let d = (goal.at.invariant_of-self-2 c).In_ok-told in
-    run_more (world_seen c.self.inside) _ (Act c.args.to (Frame c.args.now c.args.bytes.now) true) (its_step d _ (counts d _ c.counted-self-inside.ensures)) c.self.invariant
+    record {
+      run = run_more (world_seen c.self.inside) _ (Act c.args.to (Frame c.args.now c.args.bytes.now) true) (its_step d _ (counts d _ c.counted-self-inside.ensures)) c.self.invariant.run;
+      index = subst (IsIndex c.is_forged-forged.new.index) c.deref-2.ensures.value c.is_forged-forged.ensures.index;
+    }
 
 pub returns-clause-world : goal.returns-clause-world
 returns-clause-world c =

@@ -12,7 +12,7 @@ use Rattle.xl_world.proofs.world.World.restart.Goals as goal
 use Rattle.xl_world.proofs.world.World.restart.Goals.{In_ok-restart_at}
 
 its_step : (c : In_ok-restart_at) →
-    world_seen (record { alloc = c.self.inside.alloc; liars = c.self.inside.liars; numbers = c.self.inside.numbers; places = with_items c.self.inside.places c.restart_at.new.places; sent = c.self.inside.sent; said = c.self.inside.said; reports = c.self.inside.reports; forged = c.self.inside.forged })
+    world_seen (record { alloc = c.self.inside.alloc; liars = c.self.inside.liars; numbers = c.self.inside.numbers; places = with_items c.self.inside.places c.restart_at.new.places; sent = c.self.inside.sent; index = c.self.inside.index; said = c.self.inside.said; reports = c.self.inside.reports; forged = c.self.inside.forged })
     ≡ stepped (world_seen c.self.inside) (option_map restart (place_at c.args.node c.self.inside.places.items))
 its_step c =
     restarts (world_seen c.self.inside) c.args.node _
@@ -21,7 +21,10 @@ its_step c =
 
 pub invariant_of-self-2 : goal.invariant_of-self-2
 invariant_of-self-2 c =
-    stepped_run (world_seen c.self.inside) _ (option_map restart (place_at c.args.node c.self.inside.places.items)) (its_step c) c.self.invariant
+    record {
+      run = stepped_run (world_seen c.self.inside) _ (option_map restart (place_at c.args.node c.self.inside.places.items)) (its_step c) c.self.invariant.run;
+      index = c.self.invariant.index;
+    }
 
 pub returns-clause-world : goal.returns-clause-world
 returns-clause-world c =

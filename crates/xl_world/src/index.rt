@@ -1,0 +1,117 @@
+// Whether bytes were sent, without a walk over all that was sent.
+ghost use Rattle.std.specs.Prelude.{◌≡◌, ◌+◌, ◌≤◌, ◌<◌, length, slice_get, true, false, IfSome, option_copied};
+ghost use Rattle.xl_world.specs.Indexes.{tag_in, IsIndex};
+ghost use Rattle.xl_world.specs.World.{was_sent};
+
+use crate::Sent;
+use crate::sent::was_sent;
+use std::alloc::Global;
+use std::collections::BTreeMap;
+
+/// Where each sent frame stands by its tag.
+///
+/// Frames are added when bytes are looked up, so that a schedule that hands in no bytes pays nothing. Where two frames have one tag,
+/// or memory is wanting, the index is given up, and all frames are looked at.
+#[derive(Drop)]
+pub struct TagIndex {
+    places: BTreeMap<[u8; 32], usize>,
+    /// How many of the first frames it has.
+    indexed: usize,
+    given_up: bool,
+}
+
+impl TagIndex {
+    pub fn new(alloc: Global) -> TagIndex
+        ensures none { result.indexed ≡ 0 }
+    {
+        TagIndex {
+            places: BTreeMap::new(alloc),
+            indexed: 0,
+            given_up: false,
+        }
+    }
+
+    /// Whether these bytes were sent.
+    pub fn has(&mut self, sent: &[Sent], bytes: &[u8]) -> bool
+        requires { IsIndex self.old sent.now }
+        ensures value { result ≡ was_sent sent.now bytes.now }
+        ensures index { IsIndex self.new sent.now }
+    {
+        self.extend(sent);
+        match tag_of(bytes) {
+            Some(tag) if !self.given_up => self.finds(sent, bytes, &tag),
+            _ => was_sent(sent, bytes),
+        }
+    }
+
+    /// Whether the frame of this tag is these bytes.
+    fn finds(&self, sent: &[Sent], bytes: &[u8], tag: &[u8; 32]) -> bool
+        requires index { IsIndex self.now sent.now }
+        requires kept { self.now.given_up ≡ false }
+        requires all { self.now.indexed ≡ length sent.now }
+        requires tag { tag.now ≡ tag_in bytes.now }
+        ensures { result ≡ was_sent sent.now bytes.now }
+    {
+        let Some(&place) = self.places.get(tag) else {
+            return false;
+        };
+        match sent_at(sent, place) {
+            Some(frame) => frame.bytes.as_slice() == bytes,
+            None => false,
+        }
+    }
+
+    /// Adds the frames that it hasn't, unless it is given up.
+    fn extend(&mut self, sent: &[Sent])
+        requires { IsIndex self.old sent.now }
+        ensures index { IsIndex self.new sent.now }
+        ensures all { self.new.given_up ≡ false → self.new.indexed ≡ length sent.now }
+    {
+        while !self.given_up && self.indexed < sent.len() {
+            self.add(sent);
+        }
+    }
+
+    /// Adds the next frame, or gives the index up.
+    fn add(&mut self, sent: &[Sent])
+        requires index { IsIndex self.old sent.now }
+        requires more { self.old.indexed < length sent.now }
+        requires kept { self.old.given_up ≡ false }
+        ensures index { IsIndex self.new sent.now }
+        ensures added { self.new.given_up ≡ false → self.new.indexed ≡ self.old.indexed + 1 }
+        ensures same { self.new.given_up ≡ true → self.new.indexed ≡ self.old.indexed }
+    {
+        let place = self.indexed;
+        let Some(tag) = tag_of(sent[place].bytes.as_slice()) else {
+            self.given_up = true;
+            return;
+        };
+        if self.places.contains_key(&tag) {
+            self.given_up = true;
+            return;
+        }
+        match self.places.insert(tag, place) {
+            Ok(_) => self.indexed = place + 1,
+            Err(_) => self.given_up = true,
+        }
+    }
+}
+
+/// The frame of a place, from 0 on.
+fn sent_at(sent: &[Sent], place: usize) -> Option<&Sent>
+    ensures { option_copied result ≡ slice_get sent.now place }
+{
+    sent.get(place)
+}
+
+/// The last 32 bytes, where there are so many.
+fn tag_of(bytes: &[u8]) -> Option<[u8; 32]>
+    ensures { IfSome result (λ tag. tag ≡ tag_in bytes.now) }
+{
+    if bytes.len() < 32 {
+        return None;
+    }
+    let mut tag = [0; 32];
+    tag.copy_from_slice(&bytes[bytes.len() - 32..]);
+    Some(tag)
+}
