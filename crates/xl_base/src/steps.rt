@@ -3,7 +3,7 @@ ghost use Rattle.std.specs.Prelude.{◌≡◌, ◌+◌, ◌-◌, ◌^◌, min};
 use std::marker::Model;
 
 /// A count of steps, which stops at the greatest `u64`.
-#[derive(Debug)]
+#[derive(Debug, Drop)]
 pub struct Steps {
     taken: u64,
 }
