@@ -1,4 +1,4 @@
-ghost use Rattle.std.specs.Prelude.{◌≡◌, ◌+◌, ◌-◌, ◌^◌, min};
+ghost use Rattle.std.specs.Prelude.{◌≡◌, ◌+◌, ◌-◌, ◌^◌, ◌≤◌, min};
 
 use std::marker::Model;
 
@@ -26,7 +26,8 @@ impl Steps {
 
     /// One step more.
     pub fn tick(&mut self)
-        ensures { self.new ≡ min (self.old + 1) (2 ^ 64 - 1) }
+        ensures count { self.new ≡ min (self.old + 1) (2 ^ 64 - 1) }
+        ensures later { self.old ≤ self.new }
     {
         self.taken = self.taken.saturating_add(1);
     }

@@ -1,12 +1,11 @@
 -- The laws of headers: each spelling is read as its header, and each 118 bytes spell the header that is read.
-use Rattle.std.proofs.Common.{◌≡◌, ℕ, zero, suc, ◌+◌, ◌^◌, ◌<◌, ◌≤◌, List, [], ◌∷◌, ◌++◌, length, get_or, slice_index, take, drop, refl, sym, ap, subst, ◌∙◌, append_assoc, arith, inl, inr}
+use Rattle.std.proofs.Common.{◌≡◌, ℕ, ◌+◌, ◌<◌, ◌≤◌, List, [], ◌∷◌, ◌++◌, length, get_or, slice_index, take, drop, refl, sym, ap, ◌∙◌, append_assoc, arith, inl, inr}
 use Rattle.std.specs.Int.{w32, w64, from_be_bytes}
 use Rattle.std.proofs.lemmas.Bool.{cases_lt}
-use Rattle.std.proofs.lemmas.List.{take-append-drop, drop-drop, take_at, take_all, drop_at, length-append, length-take, length-drop, get_or-drop, get_or-take, get_or_past, get_or-append_right}
+use Rattle.std.proofs.lemmas.List.{take-append-drop, drop-drop, take_at, take_all, drop_at, length-take, length-drop, get_or-drop, get_or-take, get_or_past}
 use Rattle.std.proofs.lemmas.Nat.{be_bytes_4, be_bytes_8}
 use Rattle.byteorder.specs.Endian.{big_bytes, big_number}
-use Rattle.byteorder.specs.Numbers.{big_from-lt, big_number-reads_back}
-use Rattle.xl_base.specs.declared.ids.LedgerId.{LedgerId}
+use Rattle.byteorder.specs.Numbers.{big_number-reads_back}
 use Rattle.xl_ledger.specs.declared.header.Header.{Header}
 use Rattle.xl_ledger.specs.Headers.{IsHeader, spelling}
 use Rattle.xl_ledger.specs.Reading.{header_in}
@@ -76,9 +75,9 @@ header_spelled bytes fits long =
     ∙ ap (λ (b : ℕ). slice_index bytes 116 ∷ b ∷ []) (get_or-drop 116 bytes 1 0) in
     let h = header_in bytes in
     eight (big_bytes 4 h.seq) (big_bytes 8 h.drops) h.parent.0 h.tx_hash h.account_hash (big_bytes 4 h.parent_close) (big_bytes 4 h.close) (h.resolution ∷ h.flags ∷ [])
-      (drop 4 bytes) (drop 12 bytes) (drop 44 bytes) (drop 76 bytes) (drop 108 bytes) (drop 112 bytes) (drop 116 bytes) bytes
-      (number_at_4 0 bytes fits (omega arith)) (number_at_8 4 bytes fits (omega arith)) (cut_at 12 32 bytes) (cut_at 44 32 bytes) (cut_at 76 32 bytes)
-      (number_at_4 108 bytes fits (omega arith)) (number_at_4 112 bytes fits (omega arith)) last
+    (drop 4 bytes) (drop 12 bytes) (drop 44 bytes) (drop 76 bytes) (drop 108 bytes) (drop 112 bytes) (drop 116 bytes) bytes
+    (number_at_4 0 bytes fits (omega arith)) (number_at_8 4 bytes fits (omega arith)) (cut_at 12 32 bytes) (cut_at 44 32 bytes) (cut_at 76 32 bytes)
+    (number_at_4 108 bytes fits (omega arith)) (number_at_4 112 bytes fits (omega arith)) last
 
 -- ---- what is spelled is read again
 
@@ -134,8 +133,8 @@ header_again h ok =
     let resolution : slice_index (spelling h) 116 ≡ h.resolution = sym (get_or-drop 116 (spelling h) 0 0) ∙ ap (λ (x : List ℕ). slice_index x 0) r8 in
     let flags : slice_index (spelling h) 117 ≡ h.flags = sym (get_or-drop 116 (spelling h) 1 0) ∙ ap (λ (x : List ℕ). slice_index x 1) r8 in
     let same : header_of (big_number 4 (spelling h)) (big_number 8 (drop 4 (spelling h))) (take 32 (drop 12 (spelling h))) (take 32 (drop 44 (spelling h))) (take 32 (drop 76 (spelling h)))
-        (big_number 4 (drop 108 (spelling h))) (big_number 4 (drop 112 (spelling h))) (slice_index (spelling h) 116) (slice_index (spelling h) 117)
-        ≡ header_of h.seq h.drops c d e h.parent_close h.close h.resolution h.flags = cc in
+    (big_number 4 (drop 108 (spelling h))) (big_number 4 (drop 112 (spelling h))) (slice_index (spelling h) 116) (slice_index (spelling h) 117)
+    ≡ header_of h.seq h.drops c d e h.parent_close h.close h.resolution h.flags = cc in
     same
 
 -- ---- writing, field by field
