@@ -1,15 +1,13 @@
 -- Votes for ledgers, and the branch that they prefer. Each definition is a count of votes over whole chains.
 -- Source: rippled's LedgerTrie; Chase and MacBrough, "Analysis of the XRP Ledger Consensus Protocol" (2018), on preferred branches.
 use Rattle.std.specs.Prelude.{ℕ, zero, suc, ◌+◌, ◌-◌, ◌<◌, ◌==◌, ◌&&◌, ◌||◌, not, nat_lt, Bool, false, List, [], ◌∷◌, length, filter, find, max, count_by, Option, Some, None, if◌then◌else◌, All}
+use Rattle.std.specs.declared.cmp.Ordering.{Ordering}
+use Rattle.std.specs.Ordering.{nat_cmp, ordering_then, is_gt}
+use Rattle.std.specs.Cmp.Lexicographic.{slice_cmp}
 use Rattle.std.specs.List.{list_any, list_all, range_with_len}
-use Rattle.xl_base.specs.Sets.{comes_before}
 use Rattle.xl_ledger.specs.declared.header.Header.{Header}
+use Rattle.xl_ledger.specs.declared.vote.Vote.{Vote}
 use Rattle.xl_ledger.specs.Chains.{id_at, seq_at, parent_of, chain}
-
--- a member's vote for a ledger
-pub record Vote : Type 0 where
-  pub member : ℕ
-  pub ledger : ℕ
 
 -- each vote is for a known ledger
 abbrev pub AreKnown : List Header → List Vote → Type 0
@@ -46,18 +44,17 @@ follows (Some parent) ledger = parent == ledger
 abbrev pub candidates : List Header → List Vote → ℕ → List ℕ
 candidates ledgers votes ledger = filter (λ c. follows (parent_of ledgers c) ledger && nat_lt 0 (branch_of ledgers votes c)) (range_with_len 0 (length ledgers))
 
-abbrev pub has_greater_id : List Header → ℕ → ℕ → Bool
-has_greater_id ledgers a b = comes_before (id_at ledgers b).0 (id_at ledgers a).0
+-- ids are compared byte by byte
+abbrev pub id_rank : List Header → ℕ → ℕ → Ordering
+id_rank ledgers a b = slice_cmp nat_cmp (id_at ledgers a).0 (id_at ledgers b).0
 
--- more votes, or as many and the greater id
-abbrev pub beats : List Header → List Vote → ℕ → ℕ → Bool
-beats ledgers votes a b =
-    nat_lt (branch_of ledgers votes b) (branch_of ledgers votes a)
-    || (branch_of ledgers votes b == branch_of ledgers votes a && has_greater_id ledgers a b)
+-- ledgers are compared by their votes, and then by their ids
+abbrev pub rank : List Header → List Vote → ℕ → ℕ → Ordering
+rank ledgers votes a b = ordering_then (nat_cmp (branch_of ledgers votes a) (branch_of ledgers votes b)) (id_rank ledgers a b)
 
--- the one that beats each other
+-- the one that ranks above each other
 abbrev pub best_of : List Header → List Vote → List ℕ → Option ℕ
-best_of ledgers votes some = find (λ c. list_all (λ d. d == c || beats ledgers votes c d) some) some
+best_of ledgers votes some = find (λ c. list_all (λ d. d == c || is_gt (rank ledgers votes c d)) some) some
 
 abbrev pub others : ℕ → List ℕ → List ℕ
 others best some = filter (λ c. not (c == best)) some
@@ -66,7 +63,7 @@ others best some = filter (λ c. not (c == best)) some
 abbrev pub margin : List Header → List Vote → ℕ → Option ℕ → ℕ
 margin ledgers votes best None = branch_of ledgers votes best
 margin ledgers votes best (Some second) =
-    branch_of ledgers votes best - branch_of ledgers votes second + (if has_greater_id ledgers best second then 1 else 0)
+    branch_of ledgers votes best - branch_of ledgers votes second + (if is_gt (id_rank ledgers best second) then 1 else 0)
 
 abbrev pub unless_too_few : List Header → List Vote → ℕ → ℕ → List ℕ → Option ℕ → Option ℕ
 unless_too_few ledgers votes largest ledger some None = None

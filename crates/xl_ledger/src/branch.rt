@@ -1,7 +1,8 @@
 ghost use Rattle.std.specs.Prelude.{◌≡◌, ◌+◌, ◌<◌, ◌≤◌, ◌++◌, ℕ, List, [], ◌∷◌, length, Option, IfSome, IfOk, IsTrue, IsFalse};
 ghost use Rattle.xl_ledger.specs.declared.header.Header.{Header};
 ghost use Rattle.xl_ledger.specs.Chains.{AreLedgers};
-ghost use Rattle.xl_ledger.specs.Votes.{Vote, has_voted, without, tip_of, branch_of, preferred_of};
+ghost use Rattle.xl_ledger.specs.declared.vote.Vote.{Vote};
+ghost use Rattle.xl_ledger.specs.Votes.{has_voted, without, tip_of, branch_of, preferred_of};
 ghost use Rattle.xl_ledger.specs.Walks.{GoesOn};
 
 use crate::{LedgerNo, Registry, Walk};
