@@ -5,5 +5,6 @@
 
 mod children;
 mod plain;
+mod preferring;
 
 pub use plain::Plain;

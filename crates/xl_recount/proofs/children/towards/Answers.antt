@@ -1,4 +1,4 @@
-use Rattle.std.proofs.Common.{◌≡◌, ◌≢◌, ℕ, List, suc, ◌+◌, slice_get, Some, sym, ap, subst, ◌∙◌, arith}
+use Rattle.std.proofs.Common.{◌≡◌, List, suc, ◌+◌, slice_get, Some, sym, ap, ◌∙◌, arith}
 use Rattle.xl_ledger.specs.declared.header.Header.{Header}
 use Rattle.xl_ledger.specs.Chains.{chain, seq_at}
 use Rattle.xl_ledger.proofs.Walking.{same_if}
