@@ -8,3 +8,6 @@ mod plain;
 mod preferring;
 
 pub use plain::Plain;
+
+#[cfg(test)]
+mod tests;

@@ -8,4 +8,4 @@ use Rattle.xl_recount.proofs.plain.PlainBranch.unvote.Goals as goal
 pub returns-clause-goes : goal.returns-clause-goes
 returns-clause-goes c =
     let hs = c.args._registry.now.headers in
-    subst (λ (x : List Vote). AreKnown hs x) (sym c.drop_votes_of.ensures.without) (All-filter (λ v. v.ledger < length hs) (λ v. not (v.member == c.args.member)) c.args.self.now.votes.items c.requires.goes)
+    subst (λ (x : List Vote). AreKnown hs x) (sym c.drop_votes_of.ensures.without) (All-filter (λ v. not (v.member == c.args.member)) (λ v. v.ledger < length hs) c.args.self.now.votes.items c.requires.goes)
