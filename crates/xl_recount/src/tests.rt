@@ -1,5 +1,4 @@
 use super::Plain;
-use std::alloc::Global;
 use std::test::Fail;
 use xl_base::{LedgerId, NodeNo};
 use xl_ledger::{Branch, Header, LedgerNo, Registry, id_of};
@@ -21,21 +20,6 @@ fn child(parent: LedgerId, seq: u32, mark: u8) -> Header {
 
 const ROOT: LedgerId = LedgerId([0; 32]);
 
-/// A form of a branch with the votes of members 1, 2, .. for these ledgers.
-fn voted<B: Branch + Drop>(
-    alloc: Global,
-    registry: &Registry,
-    ledgers: &[LedgerNo],
-) -> Result<B, Fail> {
-    let mut branch = B::open(alloc, 64)?;
-    let mut member = 1;
-    for ledger in ledgers {
-        branch.vote(registry, NodeNo::new(member).ok_or(member)?, *ledger);
-        member += 1;
-    }
-    Ok(branch)
-}
-
 #[test]
 fn prefers_by_margins(rt: HostRuntime) -> Result<(), Fail> {
     let mut registry = Registry::open(rt.alloc(), 8)?;
@@ -47,22 +31,27 @@ fn prefers_by_margins(rt: HostRuntime) -> Result<(), Fail> {
     let right = registry.add(&child(id_of(&a), 2, 4))?;
     let mut walk = registry.walk();
 
-    // No votes; one for each of two children; one for a ledger, and one for each of its two children.
-    let none = voted::<Plain>(rt.alloc(), &registry, &[])?;
-    assert_eq!(rt; none.preferred(&mut walk, 0), None);
-    let tied = voted::<Plain>(rt.alloc(), &registry, &[first, second])?;
+    let one = NodeNo::new(1).ok_or(1)?;
+    let two = NodeNo::new(2).ok_or(2)?;
+    let three = NodeNo::new(3).ok_or(3)?;
+
+    let mut tied = Plain::open(rt.alloc(), 2)?;
+    assert_eq!(rt; tied.preferred(&mut walk, 0), None);
+    tied.vote(&registry, one, first);
+    tied.vote(&registry, two, second);
     assert_eq!(rt; tied.preferred(&mut walk, 0), Some(greater));
     // Both are for an earlier sequence than the largest issued.
     assert_eq!(rt; tied.preferred(&mut walk, 2), Some(LedgerNo::root()));
-    let mut three = voted::<Plain>(rt.alloc(), &registry, &[first, left, right])?;
-    assert_eq!(rt; three.preferred(&mut walk, 0), Some(first));
-    assert_eq!(rt;
-        (three.branch(&registry, first), three.tip(&registry, first)),
-        (3, 1)
-    );
-    for member in [1, 3] {
-        three.unvote(&registry, NodeNo::new(member).ok_or(member)?);
-    }
-    assert_eq!(rt; three.preferred(&mut walk, 0), Some(left));
+
+    // One for a ledger, and one for each of its children.
+    let mut split = Plain::open(rt.alloc(), 3)?;
+    split.vote(&registry, one, first);
+    split.vote(&registry, two, left);
+    split.vote(&registry, three, right);
+    assert_eq!(rt; split.preferred(&mut walk, 0), Some(first));
+    assert_eq!(rt; (split.branch(&registry, first), split.tip(&registry, first)), (3, 1));
+    split.unvote(&registry, three);
+    split.unvote(&registry, one);
+    assert_eq!(rt; split.preferred(&mut walk, 0), Some(left));
     Ok(())
 }
