@@ -1,3 +1,5 @@
+ghost use Rattle.std.specs.Prelude.{◌≡◌};
+
 use super::*;
 use hex::FromHex;
 use std::test::Fail;
@@ -23,7 +25,9 @@ fn reads_writes_and_names_the_first_header(rt: HostRuntime) -> Result<(), Fail> 
 }
 
 /// A ledger that follows another.
-fn child(parent: LedgerId, seq: u32, mark: u8) -> Header {
+fn child(parent: LedgerId, seq: u32, mark: u8) -> Header
+    ensures { result.seq ≡ seq }
+{
     Header {
         seq,
         drops: 100_000_000_000_000_000,
