@@ -1,8 +1,8 @@
 -- The child that leads by its votes is the best candidate, and its margin is as the votes say.
-use Rattle.std.proofs.Common.{◌≡◌, ◌≢◌, ◌⊎◌, ℕ, zero, suc, ◌+◌, ◌-◌, ◌<◌, ◌≤◌, ◌==◌, ◌||◌, ◌&&◌, Bool, true, false, not, cond, List, [], ◌∷◌, ◌++◌, length, get_or, Option, Some, None, slice_get, refl, sym, ap, subst, ◌∙◌, arith, inl, inr}
+use Rattle.std.proofs.Common.{◌≡◌, ◌⊎◌, ℕ, zero, suc, ◌+◌, ◌-◌, ◌<◌, ◌≤◌, ◌==◌, ◌||◌, ◌&&◌, Bool, true, false, not, cond, List, [], ◌∷◌, length, Option, Some, None, slice_get, refl, sym, ap, subst, ◌∙◌, arith, inl, inr}
 use Rattle.std.specs.Ordering.{nat_cmp, ordering_then, is_gt}
-use Rattle.std.specs.Prelude.{IsTrue, IfSome, find, filter, nat_lt, All}
-use Rattle.std.specs.List.{list_any, list_all, range_with_len, AllByRecursion}
+use Rattle.std.specs.Prelude.{IfSome, nat_lt}
+use Rattle.std.specs.List.{list_all, range_with_len, AllByRecursion}
 use Rattle.std.proofs.lemmas.Bool.{eqb-true, eq-eqb}
 use Rattle.std.proofs.lemmas.Bool.Decides.{nat_tests}
 use Rattle.std.proofs.lemmas.List.Elements.{recursion_from_All}
@@ -14,9 +14,9 @@ use Rattle.xl_ledger.specs.Chains.{seq_at, parent_of, chain, AreLedgers}
 use Rattle.xl_ledger.specs.Votes.{AreKnown, follows, is_on_chain, branch_of, id_rank, rank, candidates, best_of, others, margin, uncommitted, unless_too_few, next_of, or_stay, prefer}
 use Rattle.xl_ledger.proofs.ChainLaws.{of_chain, length-chain}
 use Rattle.xl_ledger.proofs.Walking.{told_parent}
-use Rattle.xl_recount.specs.Children.{towards, children_of, votes_for, child_rank, IsOther, IsCounted, Leads, AreChildren, margin_of}
+use Rattle.xl_recount.specs.Children.{towards, children_of, votes_for, child_rank, IsOther, Leads, AreChildren, margin_of}
 use Rattle.xl_recount.proofs.Finding.{false_if, some_is, follows_is, follows_some, find_only, find_none, all_if, all_at, of_filter, in_filter, stands_if, any_if}
-use Rattle.xl_recount.proofs.Towards.{IsTowards, of_towards, counted, branch_of_child}
+use Rattle.xl_recount.proofs.Towards.{of_towards, counted, branch_of_child}
 use Rattle.xl_recount.proofs.Ranks.{gt_back}
 
 both_true : (a b : Bool) → a ≡ true → b ≡ true → (a && b) ≡ true

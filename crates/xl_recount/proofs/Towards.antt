@@ -1,22 +1,20 @@
 -- The child of a ledger on the chain of another.
-use Rattle.std.proofs.Common.{◌≡◌, ◌≢◌, ℕ, zero, suc, ◌+◌, ◌<◌, ◌≤◌, ◌==◌, Bool, true, false, cond, List, [], ◌∷◌, ◌++◌, length, map, Option, Some, None, slice_get, refl, sym, ap, subst, ◌∙◌, arith, inl, inr}
-use Rattle.std.specs.Prelude.{find, All, count_by}
-use Rattle.std.specs.List.{list_any, AllByRecursion}
-use Rattle.std.proofs.lemmas.Bool.{cases_lt, eqb-true, eq-eqb}
-use Rattle.std.proofs.lemmas.Bool.Decides.{nat_tests}
+use Rattle.std.proofs.Common.{◌≡◌, ◌≢◌, ℕ, zero, suc, ◌+◌, ◌<◌, ◌≤◌, Bool, true, false, cond, List, [], ◌∷◌, ◌++◌, length, Option, Some, None, slice_get, refl, sym, ap, subst, ◌∙◌, arith, inl, inr}
+use Rattle.std.specs.List.{AllByRecursion}
+use Rattle.std.proofs.lemmas.Bool.{cases_lt}
 use Rattle.std.proofs.lemmas.List.{length-append}
 use Rattle.std.proofs.lemmas.List.Sums.{sum_by-cons}
 use Rattle.std.proofs.lemmas.List.Elements.{recursion_from_All}
 use Rattle.std.proofs.lemmas.Option.{slice_get_within}
 use Rattle.xl_ledger.specs.declared.header.Header.{Header}
 use Rattle.xl_ledger.specs.declared.vote.Vote.{Vote}
-use Rattle.xl_ledger.specs.Chains.{seq_at, parent_of, above, lineage, chain, AreLedgers}
+use Rattle.xl_ledger.specs.Chains.{seq_at, parent_of, lineage, chain, AreLedgers}
 use Rattle.xl_ledger.specs.Votes.{AreKnown, follows, is_on_chain, branch_of}
 use Rattle.xl_ledger.proofs.Places.{slice_get-front, slice_get-seam}
-use Rattle.xl_ledger.proofs.ChainLaws.{parent_known, parent_of_known, above_is, HasParent, seq_of_root, length-lineage, length-chain, lineage_ends, IsAt, of_chain}
+use Rattle.xl_ledger.proofs.ChainLaws.{parent_known, parent_of_known, above_is, seq_of_root, length-lineage, length-chain, lineage_ends, of_chain}
 use Rattle.xl_ledger.proofs.Walking.{told_parent}
 use Rattle.xl_recount.specs.Children.{towards, children_of, votes_for}
-use Rattle.xl_recount.proofs.Finding.{false_if, some_is, follows_is, follows_some, find_is, find_none, find_found, Stands, stands_if, any_if}
+use Rattle.xl_recount.proofs.Finding.{false_if, some_is, follows_is, follows_some, find_is, find_none, find_found, stands_if, any_if}
 
 module _ (ls : List Header) (ok : AreLedgers ls) where
   -- what follows on a chain has what stands before it as its parent

@@ -1,12 +1,12 @@
 -- Children of a ledger, seen from the votes: each vote is for at most one of them, or for a ledger below it.
-use Rattle.std.specs.Prelude.{◌≡◌, ◌≢◌, ◌⊎◌, ℕ, ◌+◌, ◌-◌, ◌<◌, ◌||◌, ◌&&◌, ◌==◌, not, nat_lt, Bool, true, List, map, count_by, find, filter, length, IsTrue, IfSome, Option, Some, None, if◌then◌else◌}
+use Rattle.std.specs.Prelude.{◌≡◌, ◌≢◌, ◌⊎◌, ℕ, ◌+◌, ◌-◌, ◌<◌, List, map, count_by, find, length, IsTrue, IfSome, Option, Some, None, if◌then◌else◌}
 use Rattle.std.specs.List.{AllByRecursion}
 use Rattle.std.specs.declared.cmp.Ordering.{Ordering}
 use Rattle.std.specs.Ordering.{nat_cmp, ordering_then, is_gt}
 use Rattle.xl_ledger.specs.declared.header.Header.{Header}
 use Rattle.xl_ledger.specs.declared.vote.Vote.{Vote}
 use Rattle.xl_ledger.specs.Chains.{parent_of, chain}
-use Rattle.xl_ledger.specs.Votes.{follows, id_rank, others}
+use Rattle.xl_ledger.specs.Votes.{follows, id_rank}
 
 -- the child of a ledger that stands on the chain of another
 abbrev pub towards : List Header → ℕ → ℕ → Option ℕ

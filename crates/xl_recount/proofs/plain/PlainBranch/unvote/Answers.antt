@@ -1,5 +1,4 @@
 use Rattle.std.proofs.Common.{List, ◌<◌, ◌==◌, not, length, sym, subst}
-use Rattle.std.specs.Prelude.{All}
 use Rattle.std.proofs.lemmas.List.Elements.{All-filter}
 use Rattle.xl_ledger.specs.declared.vote.Vote.{Vote}
 use Rattle.xl_ledger.specs.Votes.{AreKnown}
