@@ -1,0 +1,23 @@
+use Rattle.byteorder.specs.Endian.{big_bytes}
+use Rattle.std.proofs.Common.{[], ◌∷◌, arith}
+use Rattle.xl_ledger.proofs.HeaderLaws.{fronts}
+use Rattle.xl_ledger.proofs.header.header_bytes.Goals as goal
+
+pub returns-clause-spelled : goal.returns-clause-spelled
+returns-clause-spelled c =
+    let h = c.args.h.now in
+    fronts (big_bytes 4 h.seq) (big_bytes 8 h.drops) h.parent.0 h.tx_hash h.account_hash (big_bytes 4 h.parent_close) (big_bytes 4 h.close) (h.resolution ∷ h.flags ∷ []) _ _ _ _ _ _ _ _
+    c.put_u32.ensures.puts c.put_u64.ensures.puts c.put_field.ensures.puts c.put_field-2.ensures.puts c.put_field-3.ensures.puts c.put_u32-2.ensures.puts c.put_u32-3.ensures.puts c.put_two.ensures.puts (omega arith)
+
+pub returns-clause-fits : goal.returns-clause-fits
+returns-clause-fits c = record {
+  seq = c.put_u32.ensures.below;
+  drops = c.put_u64.ensures.below;
+  parent = c.put_field.ensures.long;
+  tx_hash = c.put_field-2.ensures.long;
+  account_hash = c.put_field-3.ensures.long;
+  parent_close = c.put_u32-2.ensures.below;
+  close = c.put_u32-3.ensures.below;
+  resolution = c.put_two.ensures.first;
+  flags = c.put_two.ensures.second;
+}

@@ -1,0 +1,30 @@
+//! Ledgers as a node knows them: their headers, the chain of each, and what a branch that votes prefer is.
+//!
+//! Headers have one spelling and are named by its half hash. A registry takes a header where it follows a known ledger; so
+//! each ledger has a chain, the ledgers from the root to it. Chains are followed by a walk alone, which counts its steps.
+//!
+//! It stands on xl_base and the kit's `byteorder`; only opening a registry takes memory. Its one contract: what a registry
+//! and a walk answer is read from the list of headers, and a `Branch` prefers what counting its votes over whole chains does.
+#![tactic(auto)]
+
+mod branch;
+mod header;
+mod ledger;
+mod ledger_no;
+mod putting;
+mod refusal;
+mod registry;
+mod table;
+mod vote;
+mod walk;
+
+pub use branch::Branch;
+pub use header::{Header, build_next, header_bytes, id_of, read_header};
+pub use ledger_no::LedgerNo;
+pub use refusal::AddRefusal;
+pub use registry::{GREATEST_LIMIT, LEAST_LIMIT, Registry};
+pub use vote::Vote;
+pub use walk::Walk;
+
+#[cfg(test)]
+mod tests;

@@ -1,0 +1,205 @@
+ghost use Rattle.std.specs.Prelude.{◌≡◌, ◌↔◌, ◌+◌, ◌<◌, ◌≤◌, ◌++◌, [], ◌∷◌, length, None, Some, IsOk, IfOk, OnOk, OnErr};
+ghost use Rattle.xl_ledger.specs.Headers.{header_id};
+ghost use Rattle.xl_ledger.specs.Chains.{root_id, root_header, header_at, id_at, seq_at, place_of, parent_of, Joins, AreLedgers};
+ghost use Rattle.xl_ledger.specs.Registries.{only_root, with_header, parent_place, add_refusal, unless_refused};
+ghost use Rattle.xl_ledger.specs.Walks.{start_of};
+ghost use Rattle.xl_ledger.specs.declared.registry.TheConstants.{LEAST_LIMIT, GREATEST_LIMIT};
+
+use crate::ledger::Ledger;
+use crate::table::{bucket_of, empty_table, find};
+use crate::{AddRefusal, Header, LedgerNo, Walk, id_of};
+use std::alloc::Global;
+use std::marker::Model;
+use xl_base::{LedgerId, OutOfMemory, Seq};
+
+/// The least number of ledgers for which a registry may have room, the root among them.
+pub const LEAST_LIMIT: u32 = 2;
+
+/// The greatest.
+pub const GREATEST_LIMIT: u32 = 262_144;
+
+/// The ledgers that are known: the root, and each header whose parent was known when it came. No call after `open` takes
+/// memory.
+#[derive(Debug, Drop)]
+pub struct Registry {
+    limit: u32,
+    ledgers: Vec<Ledger>,
+    /// The last ledger of each bucket of ids.
+    table: Vec<Option<LedgerNo>>,
+}
+
+impl Model for Registry {
+    ghost use Rattle.xl_ledger.specs.Registries.{Ledgers};
+
+    ghost Value = { Ledgers };
+
+    ghost use Rattle.std.specs.Prelude.{vec_capacity};
+    ghost use Rattle.xl_ledger.specs.Tables.{headers_of, IsSound};
+
+    ghost view = { λ r. record { headers = headers_of r.ledgers.items; limit = r.limit } };
+
+    ghost invariant = { λ r. IsSound r.ledgers.items r.table.items r.limit (vec_capacity r.ledgers) };
+}
+
+impl Registry {
+    /// A registry that knows the root alone, with room for this many ledgers, or `OutOfMemory`.
+    pub fn open(alloc: Global, limit: u32) -> Result<Registry, OutOfMemory>
+        requires least { LEAST_LIMIT ≤ limit }
+        requires most { limit ≤ GREATEST_LIMIT }
+        ensures { IfOk result (λ registry. registry ≡ only_root limit) }
+    {
+        let mut ledgers = Vec::with_capacity(alloc, limit as usize)?;
+        let mut table = empty_table(alloc, limit)?;
+        let root = root();
+        let bucket = bucket_of(&root.id, table.len());
+        ledgers.push_reserved(root);
+        table[bucket] = Some(LedgerNo::root());
+        Ok(Registry {
+            limit,
+            ledgers,
+            table,
+        })
+    }
+
+    /// How many ledgers are known, the root among them.
+    pub fn len(&self) -> u32
+        ensures value { result ≡ length self.now.headers }
+        ensures limit { result ≤ self.now.limit }
+        ensures most { self.now.limit ≤ GREATEST_LIMIT }
+        ensures ledgers { AreLedgers self.now.headers }
+    {
+        self.ledgers.len() as u32
+    }
+
+    /// Adds the ledger of a header, and tells its place.
+    ///
+    /// Refused as known, as an orphan, for its sequence, or for want of room, in this order; the registry then stays.
+    pub fn add(&mut self, h: &Header) -> Result<LedgerNo, AddRefusal>
+        ensures exact { result ≡ unless_refused (add_refusal self.old h.now) (length self.old.headers) }
+        // It is added exactly where it joins the known ledgers and there is room.
+        ensures joins { IsOk result ↔ (Joins self.old.headers h.now × (length self.old.headers < self.old.limit)) }
+        ensures added { OnOk result (self.new ≡ with_header self.old h.now) }
+        ensures refused { OnErr result (self.new ≡ self.old) }
+    {
+        let id = id_of(h);
+        let parent = self.parent_for(h, &id)?;
+        Ok(self.push(h, id, parent))
+    }
+
+    /// The parent of a header that can be added.
+    fn parent_for(&self, h: &Header, id: &LedgerId) -> Result<LedgerNo, AddRefusal>
+        requires { id.now ≡ header_id h.now }
+        ensures { result ≡ unless_refused (add_refusal self.now h.now) (parent_place self.now.headers h.now) }
+    {
+        if self.find(id).is_some() {
+            return Err(AddRefusal::Known(*id));
+        }
+        let Some(parent) = self.find(&h.parent) else {
+            return Err(AddRefusal::Orphan(h.parent));
+        };
+        let parent_seq = self.seq_of(parent);
+        if u64::from(h.seq) != u64::from(parent_seq) + 1 {
+            return Err(AddRefusal::WrongSeq {
+                parent: parent_seq,
+                own: h.seq,
+            });
+        }
+        if self.limit <= self.len() {
+            return Err(AddRefusal::Full(self.limit));
+        }
+        Ok(parent)
+    }
+
+    fn push(&mut self, h: &Header, id: LedgerId, parent: LedgerNo) -> LedgerNo
+        requires id { id ≡ header_id h.now }
+        requires joins { Joins self.old.headers h.now }
+        requires follows { place_of self.old.headers h.now.parent ≡ Some parent }
+        requires room { length self.old.headers < self.old.limit }
+        ensures place { result ≡ length self.old.headers }
+        ensures added { self.new ≡ with_header self.old h.now }
+    {
+        let place = LedgerNo::at(self.ledgers.len() as u32);
+        let bucket = bucket_of(&id, self.table.len());
+        self.ledgers.push_reserved(Ledger {
+            header: *h,
+            id,
+            parent,
+            before: self.table[bucket],
+        });
+        self.table[bucket] = Some(place);
+        place
+    }
+
+    /// The ledger of an id, or None where none is known.
+    pub fn find(&self, id: &LedgerId) -> Option<LedgerNo>
+        ensures { result ≡ place_of self.now.headers id.now }
+    {
+        find(&self.ledgers, &self.table, id)
+    }
+
+    pub fn id_at(&self, ledger: LedgerNo) -> LedgerId
+        requires { ledger < length self.now.headers }
+        ensures { result ≡ id_at self.now.headers ledger }
+    {
+        self.ledgers[ledger.place()].id
+    }
+
+    pub fn seq_of(&self, ledger: LedgerNo) -> Seq
+        requires { ledger < length self.now.headers }
+        ensures value { result ≡ seq_at self.now.headers ledger }
+        ensures ledgers { AreLedgers self.now.headers }
+    {
+        self.ledgers[ledger.place()].header.seq
+    }
+
+    /// The one way along the chains, with no step taken.
+    pub fn walk(&self) -> Walk<'_>
+        ensures { result ≡ start_of self.now }
+    {
+        Walk::new(self)
+    }
+
+    pub(crate) fn header(&self, ledger: LedgerNo) -> &Header
+        requires { ledger < length self.now.headers }
+        ensures { result.now ≡ header_at self.now.headers ledger }
+    {
+        &self.ledgers[ledger.place()].header
+    }
+
+    /// The ledger that this one follows.
+    pub(crate) fn parent(&self, ledger: LedgerNo) -> LedgerNo
+        requires known { ledger < length self.now.headers }
+        requires added { 0 < ledger }
+        ensures value { parent_of self.now.headers ledger ≡ Some result }
+        ensures earlier { result < ledger }
+        ensures ledgers { AreLedgers self.now.headers }
+    {
+        self.ledgers[ledger.place()].parent
+    }
+}
+
+/// The root as it is stored, alone.
+fn root() -> Ledger
+    ensures header { result.header ≡ root_header }
+    ensures id { result.id ≡ root_id }
+    ensures before { result.before ≡ None }
+{
+    let id = LedgerId([0; 32]);
+    let header = Header {
+        seq: 0,
+        drops: 100_000_000_000_000_000,
+        parent: id,
+        tx_hash: [0; 32],
+        account_hash: [0; 32],
+        parent_close: 0,
+        close: 0,
+        resolution: 30,
+        flags: 0,
+    };
+    Ledger {
+        header,
+        id,
+        parent: LedgerNo::root(),
+        before: None,
+    }
+}

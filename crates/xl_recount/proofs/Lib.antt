@@ -1,0 +1,4 @@
+pub mod Finding
+pub mod Towards
+pub mod Ranks
+pub mod BestLaws
