@@ -104,6 +104,21 @@ const CHANGES: [(usize, u8, bool, u32); 6] = [
     (54, 8, true, 5),
 ];
 
+fn changed(mut frame: [u8; 87], place: usize, byte: u8) -> [u8; 87] {
+    if let Some(cell) = frame.get_mut(place) {
+        *cell = byte;
+    }
+    frame
+}
+
+/// The frame with the right tag over what it says now.
+fn resealed(frame: &[u8; 87], from: NodeNo, to: NodeNo) -> [u8; 87] {
+    let (said, _) = frame.split_at(55);
+    let mut sealed = *frame;
+    sealed[55..].copy_from_slice(&hmac(&pair_key(from, to), said));
+    sealed
+}
+
 #[test]
 fn tests_a_frame_in_order(rt: HostRuntime) -> Result<(), Fail> {
     let mut node = node_of_five(rt.alloc(), 0)?;
@@ -115,21 +130,18 @@ fn tests_a_frame_in_order(rt: HostRuntime) -> Result<(), Fail> {
     };
     let good = frame(1, 5, &v)?;
     let one = NodeNo::new(1).ok_or("no member")?;
-    for (place, byte, resealed, code) in CHANGES {
-        let mut bytes = good;
-        if let Some(cell) = bytes.get_mut(place) {
-            *cell = byte;
-        }
-        if resealed {
-            let tag = hmac(&pair_key(one, node.me()), &bytes[..55]);
-            bytes[55..].copy_from_slice(&tag);
+    for (place, byte, seals, code) in CHANGES {
+        let mut bytes = changed(good, place, byte);
+        if seals {
+            bytes = resealed(&bytes, one, node.me());
         }
         assert_eq!(rt; node.frame(1, &bytes).map_err(|why| why.code()), Err(code));
     }
     let mut longer = [0; 88];
     longer[..87].copy_from_slice(&good);
     assert_eq!(rt; node.frame(1, &longer), Err(Refusal::Extra(1)));
-    assert_eq!(rt; node.frame(1, &good[..86]), Err(Refusal::Short(1)));
+    let (shorter, _) = good.split_at(86);
+    assert_eq!(rt; node.frame(1, shorter), Err(Refusal::Short(1)));
     assert_eq!(rt; node.frame(1, &good), Ok(None));
     Ok(())
 }
