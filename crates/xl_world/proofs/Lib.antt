@@ -14,3 +14,4 @@ pub mod Differing
 pub mod Reporters
 pub mod Forging
 pub mod Indexing
+pub mod Lying
