@@ -1,3 +1,4 @@
 pub mod Faults
 pub mod Statuses
 pub mod Sets
+pub mod Ids

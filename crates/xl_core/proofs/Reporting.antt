@@ -5,9 +5,9 @@ use Rattle.std.proofs.lemmas.Option.{none-some, same_Some}
 use Rattle.std.proofs.lemmas.List.{length-map}
 use Rattle.std.proofs.lemmas.Bool.{and_parts, or_cases, cond_both, eqb-true, ltb-true, lt-ltb}
 use Rattle.std.proofs.lemmas.List.Elements.{All-contains, Contains-append_cases}
+use Rattle.xl_base.specs.Ids.{same_id}
 use Rattle.xl_base.specs.declared.ids.LedgerId.{LedgerId}
 use Rattle.xl_lists.specs.Lists.{TrustedList}
-use Rattle.xl_lists.specs.Agreement.{same_id}
 use Rattle.xl_lists.proofs.Agreement.{same_id-true}
 use Rattle.xl_lists.proofs.Counting.{quorums_meet}
 use Rattle.xl_wire.specs.declared.validation.Validation.{Validation}

@@ -6,9 +6,10 @@ use Rattle.std.proofs.lemmas.Bool.{cases_lt, eq-eqb}
 use Rattle.std.proofs.lemmas.Bool.Decides.{nat_tests}
 use Rattle.std.proofs.lemmas.List.{length-append, length-map, length-take, get_or-take, get_or-map}
 use Rattle.std.proofs.lemmas.List.Quantifiers.{position-Some}
+use Rattle.xl_base.specs.Ids.{same_id}
 use Rattle.xl_base.specs.declared.ids.LedgerId.{LedgerId}
 use Rattle.xl_ledger.specs.declared.header.Header.{Header}
-use Rattle.xl_ledger.specs.Headers.{same_id, header_id}
+use Rattle.xl_ledger.specs.Headers.{header_id}
 use Rattle.xl_ledger.specs.Chains.{root_id, root_header, ids, header_at, id_at, seq_at, place_of, parent_of, above, lineage, chain, last_common, common_of, AreLedgers}
 use Rattle.xl_ledger.proofs.Places.{position_is, none_at, slice_get-front, slice_get-seam}
 

@@ -6,9 +6,10 @@ use Rattle.std.proofs.lemmas.Bool.Decides.{nat_tests}
 use Rattle.std.proofs.lemmas.List.{length-append, map_push, get_or_append_left, take-append-le, take_at}
 use Rattle.std.proofs.lemmas.List.Quantifiers.{position-Some}
 use Rattle.std.proofs.Math.Seq.{get_or-append_seam}
+use Rattle.xl_base.specs.Ids.{same_id}
 use Rattle.xl_base.specs.declared.ids.LedgerId.{LedgerId}
 use Rattle.xl_ledger.specs.declared.header.Header.{Header}
-use Rattle.xl_ledger.specs.Headers.{same_id, header_id}
+use Rattle.xl_ledger.specs.Headers.{header_id}
 use Rattle.xl_ledger.specs.Chains.{root_id, root_header, ids, header_at, id_at, seq_at, place_of, parent_of, above, lineage, chain, Joins, AreLedgers}
 use Rattle.xl_ledger.proofs.Places.{position_is}
 use Rattle.xl_ledger.proofs.ChainLaws.{unless, length-ids, parent_known, parent_of_known, above_is, seq_of_root}

@@ -5,10 +5,10 @@ use Rattle.std.proofs.lemmas.Bool.Decides.{eqb_tells}
 use Rattle.std.proofs.lemmas.Slice.Eq.{bytes_eq-Decides}
 use Rattle.std.proofs.lemmas.List.{length-map}
 use Rattle.std.proofs.lemmas.Option.{slice_get_read, get_or_from_slice_get}
+use Rattle.xl_base.specs.Ids.{same_id}
 use Rattle.xl_base.specs.declared.ids.LedgerId.{LedgerId}
 use Rattle.xl_ledger.specs.declared.header.Header.{Header}
 use Rattle.xl_ledger.specs.declared.ledger.Ledger.{Ledger}
-use Rattle.xl_ledger.specs.Headers.{same_id}
 use Rattle.xl_ledger.specs.Chains.{root_id, ids, id_at, place_of}
 use Rattle.xl_ledger.specs.Tables.{bucket_of, last_in, headers_of, IsIndexed}
 use Rattle.xl_ledger.proofs.Places.{position_is, position_none}

@@ -2,9 +2,10 @@
 -- A ledger is named by its place in this order; the root is the first.
 -- Source: Chase and MacBrough, "Analysis of the XRP Ledger Consensus Protocol" (2018); rippled's ledgers and their ancestors.
 use Rattle.std.specs.Prelude.{◌≡◌, ℕ, zero, suc, ◌+◌, ◌<◌, ◌==◌, List, [], ◌∷◌, ◌++◌, length, map, take, replicate, position, slice_index_or, Option, Some, None, unwrap_or, if◌then◌else◌}
+use Rattle.xl_base.specs.Ids.{same_id}
 use Rattle.xl_base.specs.declared.ids.LedgerId.{LedgerId}
 use Rattle.xl_ledger.specs.declared.header.Header.{Header}
-use Rattle.xl_ledger.specs.Headers.{same_id, header_id}
+use Rattle.xl_ledger.specs.Headers.{header_id}
 
 -- the id of the root, which is no hash
 abbrev pub root_id : LedgerId

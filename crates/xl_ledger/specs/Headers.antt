@@ -1,16 +1,11 @@
 -- Headers of ledgers: the one spelling of each, its id, and the header of the ledger that follows.
 -- Source: rippled's LedgerHeader and its hash; the account hash of a built ledger is this profile's.
-use Rattle.std.specs.Prelude.{◌≡◌, ℕ, ◌+◌, ◌-◌, ◌^◌, ◌<◌, ◌==◌, Bool, List, [], ◌∷◌, ◌++◌, length, take, min, if◌then◌else◌}
-use Rattle.std.specs.Str.{bytes_eq}
+use Rattle.std.specs.Prelude.{◌≡◌, ℕ, ◌+◌, ◌-◌, ◌^◌, ◌<◌, ◌==◌, List, [], ◌∷◌, ◌++◌, length, take, min, if◌then◌else◌}
 use Rattle.byteorder.specs.Endian.{big_bytes}
 use Rattle.sha2.specs.Sha512.{sha512}
 use Rattle.xl_base.specs.declared.ids.LedgerId.{LedgerId}
 use Rattle.xl_base.specs.declared.ids.SetId.{SetId}
 use Rattle.xl_ledger.specs.declared.header.Header.{Header}
-
--- whether two ids have the same bytes
-abbrev pub same_id : LedgerId → LedgerId → Bool
-same_id a b = bytes_eq a.0 b.0
 
 -- the fields in their order, numbers with their highest byte first
 abbrev pub spelling : Header → List ℕ

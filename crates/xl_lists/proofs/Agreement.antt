@@ -4,10 +4,11 @@ use Rattle.std.specs.Prelude.{◌==◌, ◌&&◌, ◌||◌, ◌⊎◌, IsTrue, I
 use Rattle.std.proofs.lemmas.Bool.{and_from, eq-eqb, or_right, or_left, and_parts, or_cases, eqb-true}
 use Rattle.std.proofs.lemmas.List.Folds.{list_any-append}
 use Rattle.std.proofs.lemmas.Slice.Eq.{bytes_eq-Decides}
+use Rattle.xl_base.specs.Ids.{same_id}
 use Rattle.xl_base.specs.declared.ids.LedgerId.{LedgerId}
 use Rattle.xl_lists.specs.Lists.{is_on}
 use Rattle.xl_lists.specs.Quorums.{Enough}
-use Rattle.xl_lists.specs.Agreement.{same_id, Said, Report, has_said, with_said, vouches, IsGenuine, IsBacked, Kept, Agree, IsLawful}
+use Rattle.xl_lists.specs.Agreement.{Said, Report, has_said, with_said, vouches, IsGenuine, IsBacked, Kept, Agree, IsLawful}
 use Rattle.xl_lists.proofs.Counting.{quorums_share, count_weaker}
 use Rattle.std.proofs.lemmas.List.Elements.{All-append, All-weaker}
 

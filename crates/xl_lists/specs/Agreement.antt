@@ -2,14 +2,10 @@
 -- Source: the counting of quorums by Chase and MacBrough, "Analysis of the XRP Ledger Consensus Protocol" (2018), with liars and restarts.
 use Rattle.std.specs.Prelude.{◌≡◌, ℕ, ◌≤◌, ◌<◌, ◌==◌, ◌&&◌, ◌||◌, ◌++◌, Bool, List, [], ◌∷◌, Option, Some, None, count_by, nat_eq, All, IsTrue, IfSome}
 use Rattle.std.specs.List.{list_any, IsDistinct}
-use Rattle.std.specs.Str.{bytes_eq}
+use Rattle.xl_base.specs.Ids.{same_id}
 use Rattle.xl_base.specs.declared.ids.LedgerId.{LedgerId}
 use Rattle.xl_lists.specs.Lists.{TrustedList, is_on}
 use Rattle.xl_lists.specs.Quorums.{Enough}
-
--- whether two ids have the same bytes
-abbrev pub same_id : LedgerId → LedgerId → Bool
-same_id a b = bytes_eq a.0 b.0
 
 -- a member said that this ledger is the one of this sequence
 pub record Said : Type 0 where

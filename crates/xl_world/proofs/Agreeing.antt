@@ -5,7 +5,8 @@ use Rattle.std.specs.List.{list_all}
 use Rattle.std.proofs.lemmas.Bool.{or_cases, eqb-true, eq-eqb, cases_Bool, not-true, or_left, or_right}
 use Rattle.std.proofs.lemmas.List.Elements.{All-map, All-weaker, All-nil, All-cons, All-head, All-tail}
 use Rattle.std.proofs.lemmas.List.Sums.{AllPass-from_list_all, list_all-from_AllPass}
-use Rattle.xl_lists.specs.Agreement.{same_id, Report}
+use Rattle.xl_base.specs.Ids.{same_id}
+use Rattle.xl_lists.specs.Agreement.{Report}
 use Rattle.xl_lists.proofs.Agreement.{same_id-true, same_id_itself}
 use Rattle.xl_world.specs.declared.report.WorldReport.{WorldReport}
 use Rattle.xl_world.specs.Seen.{report_seen, agrees_at, accords}

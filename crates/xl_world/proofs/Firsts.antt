@@ -8,7 +8,8 @@ use Rattle.std.specs.declared.cmp.Ordering.TheVariants.{Less, Equal, Greater}
 use Rattle.std.proofs.Math.Seq.{drop-cons}
 use Rattle.std.proofs.lemmas.List.{map-append, take_more, drop_all}
 use Rattle.std.proofs.lemmas.Bool.{cond_both}
-use Rattle.xl_lists.specs.Agreement.{same_id, Report}
+use Rattle.xl_base.specs.Ids.{same_id}
+use Rattle.xl_lists.specs.Agreement.{Report}
 use Rattle.xl_world.specs.declared.report.WorldReport.{WorldReport}
 use Rattle.xl_world.specs.Forks.{first_fork, fork_after}
 use Rattle.xl_world.specs.Seen.{report_seen, reports_seen}

@@ -4,7 +4,8 @@ use Rattle.std.specs.Prelude.{Some, None}
 use Rattle.std.specs.declared.option.Option.{Option}
 use Rattle.std.specs.List.{Contains}
 use Rattle.std.specs.Option.{option_or}
-use Rattle.xl_lists.specs.Agreement.{same_id, Report}
+use Rattle.xl_base.specs.Ids.{same_id}
+use Rattle.xl_lists.specs.Agreement.{Report}
 
 pub record Fork : Type 0 where
   pub earlier : Report

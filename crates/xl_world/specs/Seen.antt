@@ -3,7 +3,8 @@ use Rattle.std.specs.Prelude.{◌≡◌, ℕ, Bool, true, false, [], List, ◌++
 use Rattle.std.specs.Prelude.{Some, None}
 use Rattle.std.specs.declared.option.Option.{Option}
 use Rattle.std.specs.List.{list_all}
-use Rattle.xl_lists.specs.Agreement.{same_id, Said, Report}
+use Rattle.xl_base.specs.Ids.{same_id}
+use Rattle.xl_lists.specs.Agreement.{Said, Report}
 use Rattle.xl_core.specs.Node.{Event, Issue, Frame, Reply, happens, opened}
 use Rattle.xl_world.specs.declared.act.Answer.{Answer}
 use Rattle.xl_world.specs.declared.act.NodeEvent.{NodeEvent}
