@@ -1,4 +1,4 @@
--- Counts of faults, of whatever can fail.
+-- Counts of faults, of whatever can fail. Source: this project's own.
 use Rattle.std.specs.Prelude.{ℕ, ◌+◌, ◌-◌, ◌^◌, ◌≤◌, min}
 
 -- the count has risen, or stands at the greatest `u64`, where a count ends

@@ -1,4 +1,4 @@
--- The exit statuses of the program.
+-- The exit statuses of the program. Source: this project's own; 0 for success is that of POSIX.
 use Rattle.std.specs.Prelude.{ℕ}
 use Rattle.xl_base.specs.declared.status.Status.{Status}
 use Rattle.xl_base.specs.declared.status.Status.TheVariants.{Done, Fork, WordsRefused, InputRefused, ReadFault, WriteFault, OutOfMemory, KeepFault, NetFault, StoreFull}

@@ -1,4 +1,4 @@
--- The time that occurs most often. No public clause cites this file.
+-- The time that occurs most often. Source: what the code of this crate relies on. No public clause cites this file.
 use Rattle.std.specs.Prelude.{◌≡◌, ℕ, ◌≤◌, ◌<◌, ◌==◌, ◌&&◌, ◌||◌, nat_lt, Bool, List, All, IsTrue}
 use Rattle.std.specs.List.{list_any}
 use Rattle.xl_closetime.specs.Choices.{occurrences}

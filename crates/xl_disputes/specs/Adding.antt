@@ -1,4 +1,5 @@
--- How ids are added to the lowest ones, one after the other. No public clause cites this file.
+-- How ids are added to the lowest ones, one after the other.
+-- Source: what the code of this crate relies on. No public clause cites this file.
 use Rattle.std.specs.Prelude.{Bool, true, List, [], ◌∷◌, take, fold}
 use Rattle.xl_base.specs.Sets.{is_below}
 use Rattle.xl_base.specs.declared.ids.TxId.{TxId}

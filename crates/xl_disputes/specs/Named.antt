@@ -1,4 +1,4 @@
--- A set that is kept beside its id. No public clause cites this file.
+-- A set that is kept beside its id. Source: what the code of this crate keeps. No public clause cites this file.
 use Rattle.std.specs.Prelude.{◌≡◌, List}
 use Rattle.xl_base.specs.Sets.{set_id_of, IsSet}
 use Rattle.xl_base.specs.declared.ids.TxId.{TxId}

@@ -1,4 +1,4 @@
--- The places of the members. No public clause cites this file.
+-- The places of the members. Source: what the code of this crate keeps. No public clause cites this file.
 use Rattle.std.specs.Prelude.{◌≡◌, List, length, Option}
 use Rattle.xl_base.specs.declared.ids.TxId.{TxId}
 use Rattle.xl_base.specs.declared.ids.SetId.{SetId}

@@ -1,4 +1,4 @@
--- Ids in rising order, each once, and the lowest of them.
+-- Ids in rising order, each once, and the lowest of them. Source: sorting by insertion, with each id once.
 use Rattle.std.specs.Prelude.{ℕ, List, [], ◌∷◌, take, fold, if◌then◌else◌}
 use Rattle.xl_base.specs.Sets.{is_below}
 use Rattle.xl_base.specs.declared.ids.TxId.{TxId}

@@ -1,4 +1,5 @@
 -- What sources and sinks in memory show: their content, their faults and their script.
+-- Source: this project's own, for tests of what reads and writes.
 use Rattle.std.specs.Prelude.{ℕ, List, Some, drop}
 use Rattle.std.specs.declared.option.Option.{Option}
 use Rattle.xl_io.specs.Scripts.{Script}

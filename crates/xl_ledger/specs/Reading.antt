@@ -1,4 +1,4 @@
--- How the fields of a header lie in its bytes.
+-- How the fields of a header lie in its bytes. Source: rippled's LedgerHeader.
 use Rattle.std.specs.Prelude.{ℕ, List, take, drop, slice_index}
 use Rattle.byteorder.specs.Endian.{big_number}
 use Rattle.xl_ledger.specs.declared.header.Header.{Header}

@@ -1,4 +1,5 @@
 -- How ledgers are stored, and found by their ids: each id has its bucket, and each ledger leads to the one before it there.
+-- Source: hash tables with chained buckets (Knuth, The Art of Computer Programming, section 6.4); the limits are this profile's.
 use Rattle.std.specs.Prelude.{◌≡◌, ℕ, zero, suc, ◌%◌, ◌<◌, ◌≤◌, ◌==◌, List, length, map, slice_get, slice_index_or, Option, Some, None, if◌then◌else◌}
 use Rattle.byteorder.specs.Endian.{big_number}
 use Rattle.xl_base.specs.declared.ids.LedgerId.{LedgerId}

@@ -1,4 +1,4 @@
--- Members as the bits of a number.
+-- Members as the bits of a number. Source: what the code of this crate keeps.
 use Rattle.std.specs.Prelude.{◌≡◌, ℕ, ◌-◌, ◌==◌, ◌&&◌, not, Bool, List}
 use Rattle.std.specs.Int.{bit_at}
 use Rattle.xl_lists.specs.Lists.{is_on}

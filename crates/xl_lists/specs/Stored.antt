@@ -1,4 +1,4 @@
--- How a list is stored.
+-- How a list is stored. Source: what the code of this crate keeps.
 use Rattle.std.specs.Prelude.{◌≡◌, ℕ, List, length, take}
 use Rattle.xl_lists.specs.Lists.{TrustedList, IsValid}
 use Rattle.xl_lists.specs.Marks.{AreMarked}

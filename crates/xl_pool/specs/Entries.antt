@@ -1,4 +1,5 @@
--- How a pool's slots lie in memory, with the list of the free ones inside them. No public clause cites this file.
+-- How a pool's slots lie in memory, with the list of the free ones inside them.
+-- Source: what the code of this crate keeps. No public clause cites this file.
 use Rattle.std.specs.Prelude.{◌≡◌, ℕ, zero, suc, ◌+◌, ◌%◌, ◌^◌, ◌<◌, List, map, length, Option, Some, None, slice_index_or}
 use Rattle.xl_pool.specs.Pools.{Slot, live}
 use Rattle.xl_pool.specs.declared.entry.Entry.{Entry}

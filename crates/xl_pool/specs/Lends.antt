@@ -1,4 +1,5 @@
 -- What a pool ends as, where a `&mut` to one of its values is returned.
+-- Source: Rust's mutable borrows, which leave what was last written through them.
 use Rattle.std.specs.Prelude.{Option, List}
 use Rattle.std.specs.Borrow.{Lends, LendsIf, Fml, RattleType, MutBor}
 use Rattle.xl_pool.specs.Pools.{Slot, with_value}

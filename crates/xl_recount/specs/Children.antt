@@ -1,4 +1,5 @@
 -- Children of a ledger, seen from the votes: each vote is for at most one of them, or for a ledger below it.
+-- Source: rippled's LedgerTrie, and its margin between the best child and the second.
 use Rattle.std.specs.Prelude.{◌≡◌, ◌≢◌, ◌⊎◌, ℕ, ◌+◌, ◌-◌, ◌<◌, List, map, count_by, find, length, IsTrue, IfSome, Option, Some, None, if◌then◌else◌}
 use Rattle.std.specs.List.{AllByRecursion}
 use Rattle.std.specs.declared.cmp.Ordering.{Ordering}

@@ -1,4 +1,4 @@
--- Votes stay votes for known ledgers as a header is added.
+-- Votes stay votes for known ledgers as a header is added. Source: what the code of this crate relies on.
 use Rattle.std.specs.Prelude.{List, [], ◌∷◌, ◌++◌}
 use Rattle.std.proofs.Common.{arith, length-append}
 use Rattle.xl_ledger.specs.declared.header.Header.{Header}

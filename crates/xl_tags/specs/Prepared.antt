@@ -1,4 +1,5 @@
--- What is kept of a key, so that its two pads are hashed once. No public clause cites this file.
+-- What is kept of a key, so that its two pads are hashed once.
+-- Source: RFC 2104, section 4. No public clause cites this file.
 use Rattle.std.specs.Prelude.{ℕ, List}
 use Rattle.sha2.specs.Hashers.{Holds256}
 use Rattle.xl_tags.specs.Macs.{padded, inner_pad, outer_pad}

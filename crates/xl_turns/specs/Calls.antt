@@ -1,4 +1,5 @@
 -- Calls of a sequential object, each in a turn of its own.
+-- Source: linearizability (Herlihy and Wing, 1990); what a pass knows of its calls is this project's own.
 use Rattle.std.specs.Prelude.{◌≡◌, ◌+◌, ◌<◌, ◌≤◌, ◌++◌, List, [], ◌∷◌, length, Option, Some}
 use mathlib.Core.List.{IsPrefix}
 use Rattle.xl_turns.specs.declared.pass.Pass.{Pass}

@@ -1,4 +1,4 @@
--- What the lock's clauses say of passes and turns.
+-- What the lock's clauses say of passes and turns. Source: this project's own.
 use Rattle.std.specs.Prelude.{◌≡◌, ℕ, ◌<◌, List, [], ◌∷◌, length, None}
 use Rattle.xl_turns.specs.declared.view.Knowledge.{Knowledge}
 use Rattle.xl_turns.specs.declared.view.View.{View}

@@ -1,4 +1,5 @@
--- What each step on the table's words tells the seat that makes it. No public clause cites this file.
+-- What each step on the table's words tells the seat that makes it.
+-- Source: what the code of this crate relies on. No public clause cites this file.
 use Rattle.std.specs.Prelude.{◌≡◌, ◌≢◌, ℕ, ◌<◌, ◌≤◌, List, [], ◌∷◌, ◌++◌, length, Some}
 use mathlib.Core.List.{IsPrefix}
 use Rattle.atomic_table.specs.Table.{Me, Step}

@@ -1,4 +1,4 @@
--- Where what is held is cut.
+-- Where what is held is cut. Source: what the code of this crate relies on.
 use Rattle.std.specs.Prelude.{◌≡◌, ℕ, ◌≤◌, List, length}
 use Rattle.xl_wire.specs.declared.feed.Cut.{Cut}
 use Rattle.xl_wire.specs.declared.feed.Cut.TheVariants as cut

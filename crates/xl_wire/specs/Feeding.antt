@@ -1,4 +1,5 @@
 -- Feeds: what is held of a stream that comes in pieces, and what is handed out of it.
+-- Source: this project's own; a feed has room for the greatest frame of its layout.
 use Rattle.std.specs.Prelude.{◌≡◌, ℕ, ◌-◌, ◌≤◌, min, Bool, true, List, ◌++◌, length, take, drop, if◌then◌else◌}
 use Rattle.xl_wire.specs.declared.refusal.WireRefusal.{WireRefusal}
 use Rattle.xl_wire.specs.Heads.{Split, split_of}

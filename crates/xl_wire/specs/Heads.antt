@@ -1,4 +1,5 @@
 -- What bytes begin with: a refusal, as soon as they show it, or a frame, or less than one.
+-- Source: this project's own layout, and the order in which its bytes are tested.
 use Rattle.std.specs.Prelude.{ℕ, zero, suc, ◌+◌, ◌-◌, ◌==◌, ◌&&◌, not, nat_lt, Bool, List, [], ◌∷◌, length, take, drop, slice_index, Option, Some, None, Result, Ok, Err, if◌then◌else◌}
 use Rattle.std.specs.Option.{option_or}
 use Rattle.byteorder.specs.Endian.{big_number}

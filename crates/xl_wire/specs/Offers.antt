@@ -1,4 +1,4 @@
--- What a feed hands out, and how it is left.
+-- What a feed hands out, and how it is left. Source: this project's own.
 use Rattle.std.specs.Borrow.{MutBor, Fml}
 use Rattle.std.specs.Io.BufRead.{Rests}
 use Rattle.std.specs.Prelude.{◌≡◌}

@@ -1,4 +1,4 @@
--- Why the body of a set is refused.
+-- Why the body of a set is refused. Source: this project's own layout.
 use Rattle.std.specs.Prelude.{ℕ, ◌+◌, ◌*◌, ◌==◌, List, length, drop, Option, Some, option_map, if◌then◌else◌}
 use Rattle.byteorder.specs.Endian.{big_number}
 use Rattle.xl_wire.specs.declared.refusal.WireRefusal.{WireRefusal}

@@ -1,4 +1,4 @@
--- Where the ids of a set lie.
+-- Where the ids of a set lie. Source: what the code of this crate keeps.
 use Rattle.std.specs.Prelude.{◌≡◌, ◌*◌, ◌/◌, List, length}
 use Rattle.xl_base.specs.declared.ids.TxId.{TxId}
 use Rattle.xl_wire.specs.declared.ids.Kept.{Kept}

@@ -1,4 +1,5 @@
 -- Whole streams: their frames, and what a feed takes and hands out of them in any pieces.
+-- Source: this project's own layout, in which no frame begins another.
 use Rattle.std.specs.Prelude.{◌≡◌, ℕ, ◌<◌, false, List, [], ◌∷◌, ◌++◌, take}
 use Rattle.std.specs.List.{flat_map, AllByRecursion}
 use Rattle.xl_wire.specs.Feeding.{Fed, taken_of, after_push, after_next}

@@ -1,4 +1,4 @@
--- Writing: bytes that are put at a place, and how long a frame is.
+-- Writing: bytes that are put at a place, and how long a frame is. Source: this project's own layout.
 use Rattle.std.specs.Prelude.{◌≡◌, ℕ, ◌+◌, ◌*◌, ◌≤◌, List, ◌++◌, length, take, drop}
 use Rattle.xl_wire.specs.declared.body.Body.{Body}
 use Rattle.xl_wire.specs.declared.body.Body.TheVariants as bodies
