@@ -3,3 +3,4 @@ pub mod RingLaws
 pub mod OpeningLaws
 pub mod SealingLaws
 pub mod MacLaws
+pub mod ComparingLaws

@@ -4,6 +4,7 @@
 //! opened exactly where it is for me, comes from another listed member, and carries the tag of our key.
 #![tactic(auto)]
 
+mod comparing;
 mod keys;
 mod law;
 mod macs;

@@ -6,6 +6,7 @@ ghost use Rattle.xl_tags.specs.Opening.{refusal_of, is_sealed, HasKeys};
 ghost use Rattle.xl_tags.specs.Sealing.{tag_by, IsWhole};
 
 use crate::TagRefusal;
+use crate::comparing::is_same_tag;
 use crate::keys::Keys;
 use crate::sealing::{before_tag, whole};
 use xl_base::NodeNo;
@@ -36,7 +37,7 @@ pub fn open_raw(keys: &Keys, list: &List, raw: &Raw<'_>, bytes: &[u8]) -> Result
         return Err(TagRefusal::Stranger(raw.from));
     }
     let computed = keys.tag(raw.from, before_tag(bytes));
-    if computed != raw.tag {
+    if !is_same_tag(&computed, &raw.tag) {
         return Err(TagRefusal::BadTag {
             read: raw.tag,
             computed,
@@ -63,5 +64,5 @@ pub fn is_sealed(keys: &Keys, raw: &Raw<'_>, bytes: &[u8]) -> bool
     ensures value { result ≡ is_sealed keys.now (raw_frame raw.now) }
     ensures exact { IsTrue result ↔ (tag_by keys.now raw.now.from (raw_frame raw.now) ≡ Some raw.now.tag) }
 {
-    keys.knows(raw.from) && keys.tag(raw.from, before_tag(bytes)) == raw.tag
+    keys.knows(raw.from) && is_same_tag(&keys.tag(raw.from, before_tag(bytes)), &raw.tag)
 }
