@@ -1,8 +1,7 @@
 -- What is known of bytes in which something is heard.
-use Rattle.std.proofs.Common.{◌≡◌, ℕ, ◌≤◌, Bool, true, false, List, [], ◌∷◌, length, refl, ap, sym, ◌∙◌, subst, inl, inr, Option, Some, None, Result, Ok, Err}
-use Rattle.std.specs.Prelude.{◌==◌, ◌||◌, ◌-◌, not, nat_lt, nat_le, unwrap_or, All, IfOk, IsSome, SomeIff, if◌then◌else◌}
-use Rattle.std.proofs.lemmas.Bool.{cond_both, le-leb, ltb-false, or_cases, eqb-true}
-use Rattle.std.proofs.lemmas.List.Elements.{All-head, All-tail}
+use Rattle.std.proofs.Common.{◌≡◌, ℕ, Bool, true, false, List, [], length, refl, ap, sym, ◌∙◌, Option, Some, None, Result, Ok, Err}
+use Rattle.std.specs.Prelude.{◌==◌, ◌||◌, ◌-◌, not, nat_lt, nat_le, unwrap_or, IfOk, if◌then◌else◌}
+use Rattle.std.proofs.lemmas.Bool.{cond_both, le-leb, ltb-false}
 use Rattle.xl_lists.specs.Lists.{is_on}
 use Rattle.xl_wire.specs.declared.body.Body.{Body}
 use Rattle.xl_wire.specs.declared.body.Body.TheVariants as bodies
@@ -101,19 +100,6 @@ split_parts ring members bytes (Whole f) said at is =
 
 pub heard_parts : (ring : Ring) (members bytes : List ℕ) (said : Spoken) → heard ring members bytes ≡ Ok said → IsHeard ring members bytes said
 heard_parts ring members bytes said is = split_parts ring members bytes (split_of bytes) said refl is
-
--- a listed number is a member's
-pub on_in_range : (members : List ℕ) (m : ℕ) → All (λ k. (1 ≤ k) × (k ≤ 64)) members → is_on members m ≡ true → (1 ≤ m) × (m ≤ 64)
-on_in_range [] m each on = cc
-on_in_range (k ∷ members) m each on =
-    elim (or_cases (m == k) (is_on members m) on) [
-      | inl here ↦ subst (λ (x : ℕ). (1 ≤ x) × (x ≤ 64)) (sym (eqb-true m k here)) (All-head (λ x. (1 ≤ x) × (x ≤ 64)) k members each)
-      | inr there ↦ on_in_range members m (All-tail (λ x. (1 ≤ x) × (x ≤ 64)) k members each) there
-    ]
-
-pub some_then : (o : Option ℕ) (P : Type 0) (v : ℕ) → SomeIff o P v → P → IsSome o
-some_then None P v iff p = absurd (iff p)
-some_then (Some x) P v iff p = refl
 
 -- who is heard is listed
 pub heard_listed : (ring : Ring) (members bytes : List ℕ) (r : Result Spoken Refusal) → r ≡ heard ring members bytes → IfOk r (λ said. is_on members said.from ≡ true)

@@ -55,19 +55,9 @@ fn hear_whole(keys: &Keys, list: &List, raw: &Raw<'_>, bytes: &[u8]) -> Result<S
     ensures { result ≡ heard_opened (raw_frame raw.now) (refusal_of keys.now list.now.members (raw_frame raw.now)) }
 {
     match open_raw(keys, list, raw, bytes) {
-        Ok(()) => read(raw, sender(list, raw.from)),
+        Ok(from) => read(raw, from),
         Err(why) => Err(Refusal::Tag(why)),
     }
-}
-
-/// The listed member of a number.
-fn sender(list: &List, number: u32) -> NodeNo
-    requires { IsTrue (is_on list.now.members number) }
-    ensures { result ≡ number }
-{
-    // What every list is: its members' numbers are members'.
-    let _ = list.quorum();
-    NodeNo::new(number).unwrap()
 }
 
 /// Reads what a frame says under its sender's number.

@@ -13,8 +13,9 @@ use Rattle.xl_wire.specs.Raws.{RawFrame, SpellsRaw, raw_bytes}
 use Rattle.xl_tags.specs.Macs.{mac}
 use Rattle.xl_tags.specs.Rings.{Ring, IsRing, key_of}
 use Rattle.xl_tags.specs.Sealing.{before_tag, tag_by, sealed}
-use Rattle.xl_tags.specs.Opening.{HasKeys, is_sealed, SealedOpens, OpensAlone}
+use Rattle.xl_tags.specs.Opening.{HasKeys, is_sealed, refusal_of, SealedOpens, OpensAlone}
 use Rattle.xl_tags.specs.declared.refusal.TagRefusal.{TagRefusal}
+use Rattle.xl_tags.specs.declared.refusal.TagRefusal.TheVariants.{BadTag}
 use Rattle.xl_tags.proofs.RingLaws.{key_of-outside}
 use Rattle.xl_tags.proofs.SealingLaws.{before_tag-with_tag}
 use Rattle.sha2.proofs.Facts256.{length-sha256}
@@ -90,6 +91,20 @@ passed false from on right a b c e = absurd cc
 pass : (to from on right : Bool) (a b c : TagRefusal) → to ≡ true → from ≡ false → on ≡ true → right ≡ true
     → (if not to then Some a else if from || not on then Some b else if right then None else Some c) ≡ None
 pass to from on right a b c p q r s = rw (p, q, r, s) refl
+
+past : (to from on right : Bool) (a b c : TagRefusal) → to ≡ true → from ≡ false → on ≡ true
+    → (if not to then Some a else if from || not on then Some b else if right then None else Some c) ≡ (if right then None else Some c)
+past to from on right a b c p q r = rw (p, q, r) refl
+
+-- a frame for the ring's member from another listed one is refused for its tag alone
+pub refused_by_tag : (ring : Ring) (members : List ℕ) (f : RawFrame) (tag : List ℕ) (same : Bool) → f.to ≡ ring.me
+    → true ≡ not (f.from == ring.me || not (is_on members f.from)) → tag_by ring f.from f ≡ Some tag → same ≡ bytes_eq tag f.tag
+    → refusal_of ring members f ≡ (if same then None else Some (BadTag f.tag tag))
+refused_by_tag ring members f tag same to other computed is =
+    let both = another (f.from == ring.me) (is_on members f.from) (sym other) in
+    past (f.to == ring.me) (f.from == ring.me) (is_on members f.from) (is_sealed ring f) _ _ _ (eq-eqb f.to ring.me to) both.0 both.1
+    ∙ ap (λ (right : Bool). if right then None else Some (BadTag f.tag (unwrap_or (tag_by ring f.from f) []))) (sym (sealed_where ring f tag same computed is))
+    ∙ ap (λ (o : Option (List ℕ)). if same then None else Some (BadTag f.tag (unwrap_or o []))) computed
 
 differs : (m n : ℕ) → m ≢ n → (m == n) ≡ false
 differs m n other = grind (arith, nat_tests)

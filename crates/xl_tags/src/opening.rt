@@ -1,4 +1,4 @@
-ghost use Rattle.std.specs.Prelude.{◌≡◌, ◌==◌, ◌||◌, ◌↔◌, not, IsTrue, Some};
+ghost use Rattle.std.specs.Prelude.{◌≡◌, ◌==◌, ◌||◌, ◌↔◌, not, is_some, IfOk, IfSome, IsTrue, Some};
 ghost use Rattle.std.specs.Result.{result_err};
 ghost use Rattle.xl_lists.specs.Lists.{is_on};
 ghost use Rattle.xl_wire.specs.Raws.{RawFrame, SpellsRaw, raw_frame};
@@ -21,21 +21,25 @@ pub fn open(keys: &Keys, list: &List, frame: &[u8]) -> Result<(), TagRefusal>
     requires keyed { HasKeys keys.now list.now.members }
     ensures { (f : RawFrame) → SpellsRaw f frame.now → result_err result ≡ refusal_of keys.now list.now.members f }
 {
-    open_raw(keys, list, &whole(frame), frame)
+    match open_raw(keys, list, &whole(frame), frame) {
+        Ok(_) => Ok(()),
+        Err(refusal) => Err(refusal),
+    }
 }
 
-/// The same of a frame that was split off its bytes already.
-pub fn open_raw(keys: &Keys, list: &List, raw: &Raw<'_>, bytes: &[u8]) -> Result<(), TagRefusal>
+/// The same of a frame that was split off its bytes already, and it tells who sent it.
+pub fn open_raw(keys: &Keys, list: &List, raw: &Raw<'_>, bytes: &[u8]) -> Result<NodeNo, TagRefusal>
     requires whole { SpellsRaw (raw_frame raw.now) bytes.now }
     requires keyed { HasKeys keys.now list.now.members }
-    ensures { result_err result ≡ refusal_of keys.now list.now.members (raw_frame raw.now) }
+    ensures refusal { result_err result ≡ refusal_of keys.now list.now.members (raw_frame raw.now) }
+    ensures sender { IfOk result (λ member. member ≡ raw.now.from) }
 {
     if raw.to != keys.me().get() {
         return Err(TagRefusal::NotForMe(raw.to));
     }
-    if !is_another_member(keys, list, raw.from) {
+    let Some(sender) = another_member(keys, list, raw.from) else {
         return Err(TagRefusal::Stranger(raw.from));
-    }
+    };
     let computed = keys.tag(raw.from, before_tag(bytes));
     if !is_same_tag(&computed, &raw.tag) {
         return Err(TagRefusal::BadTag {
@@ -43,19 +47,18 @@ pub fn open_raw(keys: &Keys, list: &List, raw: &Raw<'_>, bytes: &[u8]) -> Result
             computed,
         });
     }
-    Ok(())
+    Ok(sender)
 }
 
-/// Whether the number is that of a listed member other than me.
-fn is_another_member(keys: &Keys, list: &List, number: u32) -> bool
+/// The listed member other than me that has the number.
+fn another_member(keys: &Keys, list: &List, number: u32) -> Option<NodeNo>
     requires { HasKeys keys.now list.now.members }
-    ensures { result ≡ not (number == keys.now.me || not (is_on list.now.members number)) }
+    ensures listed { is_some result ≡ not (number == keys.now.me || not (is_on list.now.members number)) }
+    ensures number { IfSome result (λ member. member ≡ number) }
 {
     let me = keys.me();
-    match NodeNo::new(number) {
-        Some(member) => member != me && list.has(member),
-        None => false,
-    }
+    let member = NodeNo::new(number)?;
+    (member != me && list.has(member)).then_some(member)
 }
 
 /// Whether the frame's sender has a key here, and the frame carries the tag under it. Whom it is for isn't asked.
