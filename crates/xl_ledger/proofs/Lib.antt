@@ -5,3 +5,4 @@ pub mod TableLaws
 pub mod Growing
 pub mod Storing
 pub mod Walking
+pub mod Orders

@@ -1,6 +1,6 @@
 -- Votes for ledgers, and the branch that they prefer. Each definition is a count of votes over whole chains.
 -- Source: rippled's LedgerTrie; Chase and MacBrough, "Analysis of the XRP Ledger Consensus Protocol" (2018), on preferred branches.
-use Rattle.std.specs.Prelude.{ℕ, zero, suc, ◌+◌, ◌-◌, ◌<◌, ◌==◌, ◌&&◌, ◌||◌, not, nat_lt, Bool, false, List, [], ◌∷◌, length, filter, find, max, count_by, Option, Some, None, if◌then◌else◌, All}
+use Rattle.std.specs.Prelude.{◌≡◌, ℕ, zero, suc, ◌+◌, ◌-◌, ◌<◌, ◌==◌, ◌&&◌, ◌||◌, not, nat_lt, Bool, false, List, [], ◌∷◌, length, filter, find, max, count_by, Option, Some, None, if◌then◌else◌, All}
 use Rattle.std.specs.declared.cmp.Ordering.{Ordering}
 use Rattle.std.specs.Ordering.{nat_cmp, ordering_then, is_gt}
 use Rattle.std.specs.Cmp.Lexicographic.{slice_cmp}
@@ -19,6 +19,10 @@ has_voted votes member = list_any (λ v. v.member == member) votes
 -- the votes of all others
 abbrev pub without : List Vote → ℕ → List Vote
 without votes member = filter (λ v. not (v.member == member)) votes
+
+-- the same votes in whatever order: votes of each kind are as many
+abbrev pub AreSame : List Vote → List Vote → Type 0
+AreSame votes moved = (p : Vote → Bool) → count_by p votes ≡ count_by p moved
 
 -- how many votes are for this ledger
 abbrev pub tip_of : List Vote → ℕ → ℕ
@@ -87,3 +91,15 @@ prefer ledgers votes largest (suc n) ledger = or_stay ledger (next_of ledgers vo
 abbrev pub preferred_of : List Header → List Vote → ℕ → Option ℕ
 preferred_of ledgers [] largest = None
 preferred_of ledgers (v ∷ votes) largest = Some (prefer ledgers (v ∷ votes) largest (length ledgers) 0)
+
+-- The same votes in whatever order are as many for each ledger.
+abbrev pub TipsAreSame : Type 0
+TipsAreSame = (votes moved : List Vote) (ledger : ℕ) → AreSame votes moved → tip_of votes ledger ≡ tip_of moved ledger
+
+-- So they are for each ledger and those below it.
+abbrev pub BranchesAreSame : Type 0
+BranchesAreSame = (ledgers : List Header) (votes moved : List Vote) (ledger : ℕ) → AreSame votes moved → branch_of ledgers votes ledger ≡ branch_of ledgers moved ledger
+
+-- They prefer the same ledger.
+abbrev pub PreferredAreSame : Type 0
+PreferredAreSame = (ledgers : List Header) (votes moved : List Vote) (largest : ℕ) → AreSame votes moved → preferred_of ledgers votes largest ≡ preferred_of ledgers moved largest

@@ -9,6 +9,7 @@
 
 mod branch;
 mod header;
+mod law;
 mod ledger;
 mod ledger_no;
 mod putting;
@@ -20,6 +21,7 @@ mod walk;
 
 pub use branch::Branch;
 pub use header::{Header, build_next, header_bytes, id_of, read_header};
+pub use law::order_of_votes;
 pub use ledger_no::LedgerNo;
 pub use refusal::AddRefusal;
 pub use registry::{GREATEST_LIMIT, LEAST_LIMIT, Registry};
