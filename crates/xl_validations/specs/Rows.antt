@@ -56,6 +56,11 @@ abbrev pub unexpired : ℕ → Option Validation → Option Validation
 unexpired now None = None
 unexpired now (Some v) = if is_current now v then Some v else None
 
+-- whether it was removed then
+abbrev pub is_expired : ℕ → Option Validation → Bool
+is_expired now None = false
+is_expired now (Some v) = not (is_current now v)
+
 -- the row at a second: it keeps its greatest sequence
 abbrev pub row_at : ℕ → Row → Row
 row_at now row = record { member = row.member; largest = row.largest; current = unexpired now row.current }
@@ -68,6 +73,11 @@ is_full_of seq id (Some v) = v.full && v.seq == seq && same_id v.id id
 -- how many rows do
 abbrev pub count_full : ℕ → LedgerId → List Row → ℕ
 count_full seq id rows = count_by (λ row. is_full_of seq id row.current) rows
+
+-- whether the row's validation, full or partial, is of this sequence and id
+abbrev pub is_of : ℕ → LedgerId → Option Validation → Bool
+is_of seq id None = false
+is_of seq id (Some v) = v.seq == seq && same_id v.id id
 
 -- whether the row's validation, full or partial, names this id
 abbrev pub names : LedgerId → Option Validation → Bool

@@ -8,7 +8,9 @@ ghost use Rattle.xl_validations.specs.Rows.{
   refusal_by_largest,
   with_validation,
   row_at,
+  is_expired,
   is_full_of,
+  is_of,
   names,
 };
 
@@ -102,6 +104,16 @@ impl Row {
         }
     }
 
+    /// Whether the row's validation is no longer current at a second.
+    pub fn is_expired(&self, now: Secs) -> bool
+        ensures { result ≡ is_expired now self.now.current }
+    {
+        match &self.current {
+            Some(v) => !is_current_at(v, now),
+            None => false,
+        }
+    }
+
     /// Removes the validation if it is no longer current. The greatest sequence stays.
     pub fn expire(&mut self, now: Secs)
         ensures { self.new ≡ row_at now self.old }
@@ -115,6 +127,16 @@ impl Row {
     {
         match &self.current {
             Some(v) => v.full && v.seq == seq && v.id == *id,
+            None => false,
+        }
+    }
+
+    /// Whether the row's validation, full or partial, is of this sequence and id.
+    pub fn is_of(&self, seq: Seq, id: &LedgerId) -> bool
+        ensures { result ≡ is_of seq id.now self.now.current }
+    {
+        match &self.current {
+            Some(v) => v.seq == seq && v.id == *id,
             None => false,
         }
     }

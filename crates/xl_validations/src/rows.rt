@@ -88,6 +88,13 @@ impl Rows {
         Ok(Rows { rows })
     }
 
+    /// The rows.
+    pub fn as_slice(&self) -> &[Row]
+        ensures { result.now ≡ self.now }
+    {
+        &self.rows
+    }
+
     /// Whether the member has a row: it is on the list.
     pub fn has(&self, member: NodeNo) -> bool
         ensures { result ≡ is_some (row_of self.now member) }

@@ -1,0 +1,140 @@
+// The votes of rows, kept in a branch.
+ghost use Rattle.std.specs.Prelude.{◌≡◌, ◌<◌, List, length, map, take, IfSome, None};
+ghost use Rattle.xl_ledger.specs.declared.vote.Vote.{Vote};
+ghost use Rattle.xl_validations.specs.Rows.{row_at, unexpired};
+ghost use Rattle.xl_validations.specs.Votes.{ledger_named};
+ghost use Rattle.xl_validations.specs.Tallies.{IsTally, IsNewest, StandsBeside};
+
+use crate::Row;
+use xl_base::{NodeNo, Secs};
+use xl_ledger::{Branch, LedgerNo, Registry};
+use xl_wire::Validation;
+
+/// The known ledger that a validation names, where that has its sequence.
+pub(crate) fn ledger_named(registry: &Registry, v: &Option<Validation>) -> Option<LedgerNo>
+    ensures value { result ≡ ledger_named registry.now.headers v.now }
+    ensures known { IfSome result (λ ledger. ledger < length registry.now.headers) }
+{
+    let v = (*v)?;
+    let ledger = registry.find(&v.id)?;
+    if registry.seq_of(ledger) == v.seq {
+        Some(ledger)
+    } else {
+        None
+    }
+}
+
+/// Takes the vote of a member back, if it has one.
+fn take_back<B: Branch>(
+    branch: &mut B,
+    registry: &Registry,
+    member: NodeNo,
+    before: Option<LedgerNo>,
+)
+    requires goes { B.goes_with branch.old registry.now.headers }
+    requires beside { (others : List Vote) × StandsBeside (B.votes branch.old) others member before (B.room branch.old) }
+    ensures goes { B.goes_with branch.new registry.now.headers }
+    ensures room { B.room branch.new ≡ B.room branch.old }
+    ensures back { (others : List Vote) → StandsBeside (B.votes branch.old) others member before (B.room branch.old)
+        → StandsBeside (B.votes branch.new) others member None (B.room branch.new) }
+{
+    if before.is_some() {
+        branch.unvote(registry, member);
+    }
+}
+
+/// Takes a vote of a member that has none, if there is one.
+fn cast<B: Branch>(branch: &mut B, registry: &Registry, member: NodeNo, after: Option<LedgerNo>)
+    requires goes { B.goes_with branch.old registry.now.headers }
+    requires known { IfSome after (λ ledger. ledger < length registry.now.headers) }
+    requires beside { (others : List Vote) × StandsBeside (B.votes branch.old) others member None (B.room branch.old) }
+    ensures goes { B.goes_with branch.new registry.now.headers }
+    ensures room { B.room branch.new ≡ B.room branch.old }
+    ensures cast { (others : List Vote) → StandsBeside (B.votes branch.old) others member None (B.room branch.old)
+        → StandsBeside (B.votes branch.new) others member after (B.room branch.new) }
+{
+    if let Some(ledger) = after {
+        branch.vote(registry, member, ledger);
+    }
+}
+
+/// Turns the vote of a member, if it has one, into another, or into none.
+pub(crate) fn revote<B: Branch>(
+    branch: &mut B,
+    registry: &Registry,
+    member: NodeNo,
+    before: Option<LedgerNo>,
+    after: Option<LedgerNo>,
+)
+    requires goes { B.goes_with branch.old registry.now.headers }
+    requires known { IfSome after (λ ledger. ledger < length registry.now.headers) }
+    requires beside { (others : List Vote) × StandsBeside (B.votes branch.old) others member before (B.room branch.old) }
+    ensures goes { B.goes_with branch.new registry.now.headers }
+    ensures room { B.room branch.new ≡ B.room branch.old }
+    ensures turned { (others : List Vote) → StandsBeside (B.votes branch.old) others member before (B.room branch.old)
+        → StandsBeside (B.votes branch.new) others member after (B.room branch.new) }
+{
+    take_back(branch, registry, member, before);
+    cast(branch, registry, member, after);
+}
+
+/// Takes back the vote of a row whose validation is no longer current at a second.
+fn take_back_if_expired<B: Branch>(branch: &mut B, registry: &Registry, row: &Row, now: Secs)
+    requires goes { B.goes_with branch.old registry.now.headers }
+    requires beside { (others : List Vote) × StandsBeside (B.votes branch.old) others row.now.member (ledger_named registry.now.headers row.now.current) (B.room branch.old) }
+    ensures goes { B.goes_with branch.new registry.now.headers }
+    ensures room { B.room branch.new ≡ B.room branch.old }
+    ensures turned { (others : List Vote) → StandsBeside (B.votes branch.old) others row.now.member (ledger_named registry.now.headers row.now.current) (B.room branch.old)
+        → StandsBeside (B.votes branch.new) others row.now.member (ledger_named registry.now.headers (unexpired now row.now.current)) (B.room branch.new) }
+{
+    if row.is_expired(now) {
+        let before = ledger_named(registry, &row.current);
+        take_back(branch, registry, row.member, before);
+    }
+}
+
+/// Takes back the votes of the rows whose validations are no longer current at a second.
+pub(crate) fn take_back_expired<B: Branch>(
+    branch: &mut B,
+    registry: &Registry,
+    rows: &[Row],
+    now: Secs,
+)
+    requires tally { IsTally (B.goes_with branch.old) registry.now.headers rows.now (B.votes branch.old) (B.room branch.old) }
+    ensures tally { IsTally (B.goes_with branch.new) registry.now.headers (map (row_at now) rows.now) (B.votes branch.new) (B.room branch.new) }
+{
+    for row in rows {
+        take_back_if_expired(branch, registry, row, now);
+    }
+}
+
+/// Takes the vote of a row whose validation waited for a ledger.
+fn cast_if_for<B: Branch>(branch: &mut B, registry: &Registry, row: &Row, ledger: LedgerNo)
+    requires goes { B.goes_with branch.old registry.now.headers }
+    requires newest { IsNewest registry.now.headers ledger }
+    requires beside { (others : List Vote) × StandsBeside (B.votes branch.old) others row.now.member (ledger_named (take ledger registry.now.headers) row.now.current) (B.room branch.old) }
+    ensures goes { B.goes_with branch.new registry.now.headers }
+    ensures room { B.room branch.new ≡ B.room branch.old }
+    ensures turned { (others : List Vote) → StandsBeside (B.votes branch.old) others row.now.member (ledger_named (take ledger registry.now.headers) row.now.current) (B.room branch.old)
+        → StandsBeside (B.votes branch.new) others row.now.member (ledger_named registry.now.headers row.now.current) (B.room branch.new) }
+{
+    if row.is_of(registry.seq_of(ledger), &registry.id_at(ledger)) {
+        cast(branch, registry, row.member, Some(ledger));
+    }
+}
+
+/// Takes the votes of the rows whose validations waited for the ledger that was added last.
+pub(crate) fn cast_for<B: Branch>(
+    branch: &mut B,
+    registry: &Registry,
+    rows: &[Row],
+    ledger: LedgerNo,
+)
+    requires newest { IsNewest registry.now.headers ledger }
+    requires tally { IsTally (B.goes_with branch.old) (take ledger registry.now.headers) rows.now (B.votes branch.old) (B.room branch.old) }
+    ensures tally { IsTally (B.goes_with branch.new) registry.now.headers rows.now (B.votes branch.new) (B.room branch.new) }
+{
+    for row in rows {
+        cast_if_for(branch, registry, row, ledger);
+    }
+}
