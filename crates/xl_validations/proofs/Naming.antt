@@ -9,7 +9,8 @@ use Rattle.std.proofs.lemmas.List.Quantifiers.{position-Some}
 use Rattle.xl_base.specs.declared.ids.LedgerId.{LedgerId}
 use Rattle.xl_wire.specs.declared.validation.Validation.{Validation}
 use Rattle.xl_ledger.specs.declared.header.Header.{Header}
-use Rattle.xl_ledger.specs.Headers.{same_id, header_id}
+use Rattle.xl_base.specs.Ids.{same_id}
+use Rattle.xl_ledger.specs.Headers.{header_id}
 use Rattle.xl_ledger.specs.Chains.{root_id, root_header, ids, header_at, id_at, seq_at, place_of, Joins, AreLedgers}
 use Rattle.xl_ledger.proofs.Places.{position_is, position_none, none_at}
 use Rattle.xl_ledger.proofs.ChainLaws.{length-ids, id_at-take, header_at-take, id_of_added, earlier_differs}
