@@ -16,10 +16,33 @@ use Rattle.xl_tags.specs.Sealing.{tag_by}
 use Rattle.xl_tags.specs.Rings.{Ring}
 use Rattle.xl_tags.specs.declared.refusal.TagRefusal.{TagRefusal}
 use Rattle.xl_tags.specs.declared.refusal.TagRefusal.TheVariants.{NotForMe, Stranger, BadTag}
+use Rattle.xl_wire.specs.declared.validation.Validation.{Validation}
+use Rattle.xl_ledger.specs.declared.header.Header.{Header as LedgerHeader}
+use Rattle.xl_ledger.specs.Reading.{header_in}
 use Rattle.xl_core.specs.declared.hearing.Spoken.{Spoken}
+use Rattle.xl_core.specs.declared.hearing.Speech.{Speech}
+use Rattle.xl_core.specs.declared.hearing.Speech.TheVariants.{Vote, Header}
 use Rattle.xl_core.specs.declared.refusal.Refusal.{Refusal}
 use Rattle.xl_core.specs.declared.refusal.Refusal.TheVariants.{Frame, Tag, Short, Extra, NotBuilt}
 use Rattle.xl_core.specs.Hearing.{said_by, heard_body, heard_opened, heard_split, heard}
+
+abbrev sender_in : ℕ → Result Spoken Refusal → ℕ
+sender_in other (Ok s) = s.from
+sender_in other (Err why) = other
+
+abbrev what_in : Validation → Result Spoken Refusal → Speech
+what_in other (Ok s) = s.what
+what_in other (Err why) = Vote other
+
+abbrev body_in : Validation → Speech → Body
+body_in other (Vote v) = bodies.Validation v
+body_in other (Header h) = bodies.Validation other
+
+abbrev validation_in : Validation → Result Spoken Refusal → Body
+validation_in other r = body_in other (what_in other r)
+
+no_vote : (h : LedgerHeader) (v : Validation) → Header h ≡ Vote v → ⊥
+no_vote h v e = cc
 
 -- it says something in a whole frame that the node opens
 pub record IsHeard (ring : Ring) (members bytes : List ℕ) (said : Spoken) : Type 0 where
@@ -29,27 +52,31 @@ pub record IsHeard (ring : Ring) (members bytes : List ℕ) (said : Spoken) : Ty
   pub for_me : (frame.to == ring.me) ≡ true
   pub listed : is_on members frame.from ≡ true
   pub is_sealed : is_sealed ring frame ≡ true
-  pub body : body_of frame.kind frame.body ≡ Ok (bodies.Validation said.validation)
-  pub from : said.from ≡ frame.from
+  pub body : heard_body frame.kind frame.from (body_of frame.kind frame.body) ≡ Ok said
 
-said_parts : (kind from : ℕ) (body : Body) (said : Spoken) → said_by kind from body ≡ Ok said → (body ≡ bodies.Validation said.validation) × (said.from ≡ from)
-said_parts kind from (bodies.Validation v) said is = (ap (λ (r : Result Spoken Refusal). validation_in r) is, sym (ap (λ (r : Result Spoken Refusal). sender_in r) is))
-  where
-    validation_in : Result Spoken Refusal → Body
-    validation_in (Ok s) = bodies.Validation s.validation
-    validation_in (Err why) = bodies.Validation said.validation
+-- what is said is said by the sender
+said_from : (kind from : ℕ) (body : Body) (said : Spoken) → said_by kind from body ≡ Ok said → said.from ≡ from
+said_from kind from (bodies.Validation v) said is = ap (sender_in from) (sym is)
+said_from kind from (bodies.Header bytes) said is = ap (sender_in from) (sym is)
+said_from kind from (bodies.Proposal proposal) said is = cc
+said_from kind from (bodies.TxSet ids) said is = cc
+said_from kind from (bodies.Tx id) said is = cc
 
-    sender_in : Result Spoken Refusal → ℕ
-    sender_in (Ok s) = s.from
-    sender_in (Err why) = from
-said_parts kind from (bodies.Proposal proposal) said is = cc
-said_parts kind from (bodies.Header header) said is = cc
-said_parts kind from (bodies.TxSet ids) said is = cc
-said_parts kind from (bodies.Tx id) said is = cc
+pub body_from : (kind from : ℕ) (read : Result Body WireRefusal) (said : Spoken) → heard_body kind from read ≡ Ok said → said.from ≡ from
+body_from kind from (Ok body) said is = said_from kind from body said is
+body_from kind from (Err why) said is = cc
 
-body_parts : (kind from : ℕ) (read : Result Body WireRefusal) (said : Spoken) → heard_body kind from read ≡ Ok said → (read ≡ Ok (bodies.Validation said.validation)) × (said.from ≡ from)
-body_parts kind from (Ok body) said is = let parts = said_parts kind from body said is in (ap (λ (b : Body). Ok b) parts.0, parts.1)
-body_parts kind from (Err why) said is = cc
+-- a validation is said by a validation's body
+vote_in : (kind from m : ℕ) (v : Validation) (body : Body) → said_by kind from body ≡ Ok (record { from = m; what = Vote v }) → body ≡ bodies.Validation v
+vote_in kind from m v (bodies.Validation u) is = ap (λ (r : Result Spoken Refusal). validation_in v r) is
+vote_in kind from m v (bodies.Header bytes) is = absurd (no_vote (header_in bytes) v (ap (λ (r : Result Spoken Refusal). what_in v r) is))
+vote_in kind from m v (bodies.Proposal proposal) is = cc
+vote_in kind from m v (bodies.TxSet ids) is = cc
+vote_in kind from m v (bodies.Tx id) is = cc
+
+pub vote_body : (kind from m : ℕ) (v : Validation) (read : Result Body WireRefusal) → heard_body kind from read ≡ Ok (record { from = m; what = Vote v }) → read ≡ Ok (bodies.Validation v)
+vote_body kind from m v (Ok body) is = ap (λ (b : Body). Ok b) (vote_in kind from m v body is)
+vote_body kind from m v (Err why) is = cc
 
 opened_parts : (f : RawFrame) (o : Option TagRefusal) (said : Spoken) → heard_opened f o ≡ Ok said → (o ≡ None) × (heard_body f.kind f.from (body_of f.kind f.body) ≡ Ok said)
 opened_parts f None said is = (refl, is)
@@ -85,7 +112,6 @@ split_parts ring members bytes (Whole f) said at is =
     (λ fits e.
     let parts = opened_parts f (refusal_of ring members f) said e in
     let right = opens ring members f parts.0 in
-    let body = body_parts f.kind f.from (body_of f.kind f.body) said parts.1 in
     record {
       frame = f;
       split = at;
@@ -93,8 +119,7 @@ split_parts ring members bytes (Whole f) said at is =
       for_me = right.0;
       listed = right.1;
       is_sealed = right.2;
-      body = body.0;
-      from = body.1;
+      body = parts.1;
     })
     is
 
@@ -104,5 +129,20 @@ heard_parts ring members bytes said is = split_parts ring members bytes (split_o
 -- who is heard is listed
 pub heard_listed : (ring : Ring) (members bytes : List ℕ) (r : Result Spoken Refusal) → r ≡ heard ring members bytes → IfOk r (λ said. is_on members said.from ≡ true)
 heard_listed ring members bytes (Ok said) is =
-    let parts = heard_parts ring members bytes said (sym is) in ap (is_on members) parts.from ∙ parts.listed
+    let parts = heard_parts ring members bytes said (sym is) in
+    ap (is_on members) (body_from parts.frame.kind parts.frame.from (body_of parts.frame.kind parts.frame.body) said parts.body) ∙ parts.listed
 heard_listed ring members bytes (Err why) is = tt
+
+-- ---- headers
+
+abbrev header_of : LedgerHeader → Speech → LedgerHeader
+header_of other (Vote v) = other
+header_of other (Header h) = h
+
+abbrev header_told_in : LedgerHeader → Result Spoken Refusal → LedgerHeader
+header_told_in other (Ok s) = header_of other s.what
+header_told_in other (Err why) = other
+
+-- the header that is said is the one that is heard
+pub header_heard : (r : Result Spoken Refusal) (said : Spoken) (from : ℕ) (a h : LedgerHeader) → said.what ≡ Header a → Ok said ≡ r → r ≡ Ok (record { from = from; what = Header h }) → a ≡ h
+header_heard r said from a h what is heard = sym (ap (header_of a) what) ∙ ap (header_told_in a) (is ∙ heard)

@@ -1,4 +1,5 @@
 pub mod Heard
+pub mod Learning
 pub mod SealingLaws
 pub mod Counts
 pub mod Members

@@ -12,9 +12,14 @@ use Rattle.xl_validations.specs.declared.row.Row.{Row}
 use Rattle.xl_validations.specs.declared.refusal.ValRefusal.{ValRefusal}
 use Rattle.xl_validations.specs.Rows.{row_of, refusal_of, with_validation, at_member, empty_row}
 use Rattle.xl_core.specs.declared.report.Report.{Report}
-use Rattle.xl_core.specs.Node.{Node, Event, Issue, Frame, Reply, opened, happens, hears, issues, refusing, reporting, with_taken, take, arisen, arises_in, is_above, later, report_of, refusal_at, hearing}
+use Rattle.xl_core.specs.Node.{Node, Event, Issue, Frame, Reply, opened, happens, hears, issues, refusing, reporting, with_taken, take, arisen, arises_in, is_above, later, report_of, refusal_at, hearing, hearing_speech, learns}
 use Rattle.xl_core.specs.declared.refusal.Refusal.TheVariants.{NotAfter}
+use Rattle.xl_ledger.specs.declared.header.Header.{Header as LedgerHeader}
+use Rattle.xl_ledger.specs.declared.refusal.AddRefusal.{AddRefusal}
+use Rattle.xl_ledger.specs.Registries.{with_header, add_refusal}
 use Rattle.xl_core.specs.declared.hearing.Spoken.{Spoken}
+use Rattle.xl_core.specs.declared.hearing.Speech.{Speech}
+use Rattle.xl_core.specs.declared.hearing.Speech.TheVariants.{Vote, Header}
 use Rattle.xl_core.specs.declared.refusal.Refusal.{Refusal}
 use Rattle.xl_core.specs.Hearing.{heard}
 use Rattle.xl_core.specs.Rest.{IsAtRest, report_if}
@@ -160,8 +165,26 @@ heard_on : (list : TrustedList) (n : Node) (reports : List Report) (now from : �
 heard_on list n reports now from v None living = reported_on list n reports now from v None living
 heard_on list n reports now from v (Some why) living = unreported list n reports living
 
+-- a header changes no row
+learnt_on : (list : TrustedList) (n : Node) (reports : List Report) (h : LedgerHeader) (o : Option AddRefusal) → IsLiving list n reports → GoesOn list reports (learns n h o)
+learnt_on list n reports h None living = unreported list (record n { ledgers = with_header n.ledgers h }) reports
+    (record {
+      listed = living.listed;
+      rest = record { valid = living.rest.valid; members = living.rest.members; reported = living.rest.reported };
+      heads = living.heads;
+      past = living.past;
+      told = living.told;
+      below = living.below;
+      rising = living.rising;
+    })
+learnt_on list n reports h (Some why) living = unreported list n reports living
+
+speech_on : (list : TrustedList) (n : Node) (reports : List Report) (now from : ℕ) (what : Speech) → IsLiving list n reports → GoesOn list reports (hearing_speech n now from what)
+speech_on list n reports now from (Vote v) living = heard_on list n reports now from v (refusal_at n now from v) living
+speech_on list n reports now from (Header h) living = learnt_on list n reports h (add_refusal n.ledgers h) living
+
 hearing_on : (list : TrustedList) (n : Node) (reports : List Report) (now : ℕ) (said : Result Spoken Refusal) → IsLiving list n reports → GoesOn list reports (hearing n now said)
-hearing_on list n reports now (Ok said) living = heard_on list n reports now said.from said.validation (refusal_at n now said.from said.validation) living
+hearing_on list n reports now (Ok said) living = speech_on list n reports now said.from said.what living
 hearing_on list n reports now (Err why) living = unreported list n reports living
 
 pub happens_on : (list : TrustedList) (n : Node) (reports : List Report) (e : Event) (saved : Bool) → IsLiving list n reports → GoesOn list reports (happens n e saved)
@@ -182,13 +205,13 @@ heads_opened : (members : List ℕ) → All IsHead (map empty_row members)
 heads_opened [] = All-nil IsHead
 heads_opened (m ∷ ms) = All-cons IsHead (empty_row m) (map empty_row ms) tt (heads_opened ms)
 
-pub living_from_opening : (me : ℕ) (list : TrustedList) (keys : Ring) (kept : ℕ) (life : List Happening) → IsValid list →
-    IsLiving list (node_after (opened me list keys kept) life) (reports_in (opened me list keys kept) life)
-living_from_opening me list keys kept life valid =
-    lives list (opened me list keys kept) [] life
+pub living_from_opening : (me : ℕ) (list : TrustedList) (keys : Ring) (limit kept : ℕ) (life : List Happening) → IsValid list →
+    IsLiving list (node_after (opened me list keys limit kept) life) (reports_in (opened me list keys limit kept) life)
+living_from_opening me list keys limit kept life valid =
+    lives list (opened me list keys limit kept) [] life
     (record {
       listed = refl;
-      rest = opened_at_rest me list keys kept valid;
+      rest = opened_at_rest me list keys limit kept valid;
       heads = heads_opened list.members;
       past = tt;
       told = tt;

@@ -17,9 +17,14 @@ use Rattle.xl_validations.specs.Rows.{is_full_of, count_full}
 use Rattle.xl_core.specs.declared.report.Report.{Report}
 use Rattle.xl_core.specs.declared.refusal.Refusal.TheVariants.{NotAfter}
 use Rattle.xl_core.specs.declared.refusal.Refusal.{Refusal}
+use Rattle.xl_ledger.specs.declared.header.Header.{Header as LedgerHeader}
+use Rattle.xl_ledger.specs.declared.refusal.AddRefusal.{AddRefusal}
+use Rattle.xl_ledger.specs.Registries.{add_refusal}
 use Rattle.xl_core.specs.declared.hearing.Spoken.{Spoken}
+use Rattle.xl_core.specs.declared.hearing.Speech.{Speech}
+use Rattle.xl_core.specs.declared.hearing.Speech.TheVariants.{Vote, Header}
 use Rattle.xl_core.specs.Hearing.{heard}
-use Rattle.xl_core.specs.Node.{Node, Event, Issue, Frame, Reply, opened, happens, hears, issues, saving, refusing, reporting, with_taken, arises, is_above, report_of, refusal_at, hearing}
+use Rattle.xl_core.specs.Node.{Node, Event, Issue, Frame, Reply, opened, happens, hears, issues, saving, refusing, reporting, with_taken, arises, is_above, report_of, refusal_at, hearing, hearing_speech, learns}
 use Rattle.xl_core.specs.Lives.{node_after, reports_in, ReportsArise, ReportsRise}
 use Rattle.xl_core.proofs.Counts.{find_passes, names_it}
 use Rattle.xl_core.proofs.Arising.{parts_of, same_report}
@@ -57,8 +62,16 @@ heard_news : (n : Node) (now from : ℕ) (v : Validation) (o : Option ValRefusal
 heard_news n now from v None r is = reporting_news n (with_taken n now from v) None r refl refl is
 heard_news n now from v (Some why) r is = no_news n (hears n now from v (Some why)) r refl is
 
+learnt_news : (n : Node) (h : LedgerHeader) (o : Option AddRefusal) (r : Report) → (learns n h o).report ≡ Some r → IsNews n (learns n h o) r
+learnt_news n h None r is = no_news n (learns n h None) r refl is
+learnt_news n h (Some why) r is = no_news n (learns n h (Some why)) r refl is
+
+speech_news : (n : Node) (now from : ℕ) (what : Speech) (r : Report) → (hearing_speech n now from what).report ≡ Some r → IsNews n (hearing_speech n now from what) r
+speech_news n now from (Vote v) r is = heard_news n now from v (refusal_at n now from v) r is
+speech_news n now from (Header h) r is = learnt_news n h (add_refusal n.ledgers h) r is
+
 hearing_news : (n : Node) (now : ℕ) (said : Result Spoken Refusal) (r : Report) → (hearing n now said).report ≡ Some r → IsNews n (hearing n now said) r
-hearing_news n now (Ok said) r is = heard_news n now said.from said.validation (refusal_at n now said.from said.validation) r is
+hearing_news n now (Ok said) r is = speech_news n now said.from said.what r is
 hearing_news n now (Err why) r is = no_news n (refusing n why) r refl is
 
 happens_news : (n : Node) (e : Event) (saved : Bool) (r : Report) → (happens n e saved).report ≡ Some r → IsNews n (happens n e saved) r
@@ -101,10 +114,10 @@ in_one (Some x) r (k, within, is) =
 -- THE LAW
 
 pub reports_arise : ReportsArise
-reports_arise me list keys kept life next r valid =
-    let n : Node = node_after (opened me list keys kept) life in
-    let told : List Report = reports_in (opened me list keys kept) life in
-    let living : IsLiving list n told = living_from_opening me list keys kept life valid in (
+reports_arise me list keys limit kept life next r valid =
+    let n : Node = node_after (opened me list keys limit kept) life in
+    let told : List Report = reports_in (opened me list keys limit kept) life in
+    let living : IsLiving list n told = living_from_opening me list keys limit kept life valid in (
       λ is.
           let news = happens_news n next.event next.saved r is in (
             subst (λ (l : TrustedList). l.quorum ≤ count_full r.seq r.id (happens n next.event next.saved).node.rows) living.listed news.quorum,
@@ -139,4 +152,4 @@ reports_arise me list keys kept life next r valid =
     arises_now list reply told after r enough fresh = by_last list reply told after r enough fresh reply.node.last refl
 
 pub reports_rise : ReportsRise
-reports_rise me list keys kept life valid = (living_from_opening me list keys kept life valid).rising
+reports_rise me list keys limit kept life valid = (living_from_opening me list keys limit kept life valid).rising

@@ -11,7 +11,9 @@ use Rattle.xl_wire.proofs.FrameLaws.{spelled_raw}
 use Rattle.xl_tags.specs.Macs.{mac}
 use Rattle.xl_tags.specs.Rings.{Ring, key_of}
 use Rattle.xl_tags.specs.Sealing.{sealed, with_tag}
-use Rattle.xl_core.specs.Sending.{validation_frame}
+use Rattle.xl_ledger.specs.declared.header.Header.{Header}
+use Rattle.xl_ledger.specs.Headers.{spelling}
+use Rattle.xl_core.specs.Sending.{validation_frame, header_frame}
 
 -- what is written of it is its spelling
 pub encoded : (from to : ℕ) (v : Validation) (tag bytes : List ℕ) → Spells (record { from = from; to = to; body = bodies.Validation v; tag = tag }) bytes → SpellsRaw (validation_frame from to v tag) bytes
@@ -32,3 +34,13 @@ written from from' to to' n v tag bytes e f all s =
     subst (λ (m : ℕ). SpellsRaw (validation_frame m to' v tag) bytes) e
     (subst (λ (m : ℕ). SpellsRaw (validation_frame from m v tag) bytes) f
     (subst (SpellsRaw (validation_frame from to v tag)) (take_all n bytes all) (encoded from to v tag (take n bytes) s)))
+
+-- the same of a header
+pub written_header : (from from' to to' n : ℕ) (h : Header) (body tag bytes : List ℕ) → from ≡ from' → to ≡ to' → body ≡ spelling h → length bytes ≤ n →
+    Spells (record { from = from; to = to; body = bodies.Header body; tag = tag }) (take n bytes) → SpellsRaw (header_frame from' to' h tag) bytes
+written_header from from' to to' n h body tag bytes e f is all s =
+    subst (λ (m : ℕ). SpellsRaw (header_frame m to' h tag) bytes) e
+    (subst (λ (m : ℕ). SpellsRaw (header_frame from m h tag) bytes) f
+    (subst (λ (b : List ℕ). let raw : RawFrame = record { kind = 3; from = from; to = to; body = b; tag = tag } in SpellsRaw raw bytes) is
+    (subst (λ (bs : List ℕ). let raw : RawFrame = record { kind = 3; from = from; to = to; body = body; tag = tag } in SpellsRaw raw bs) (take_all n bytes all)
+    (record { frame = spelled_raw (record { from = from; to = to; body = bodies.Header body; tag = tag }) s.frame; spelling = s.spelling }))))

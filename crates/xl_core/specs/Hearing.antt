@@ -1,4 +1,4 @@
--- What a node makes of bytes that come: a validation and its sender, or a refusal. Source: the order of the tests is this profile's.
+-- What a node makes of bytes that come: a validation or a header, and its sender, or a refusal. Source: the order of the tests is this profile's.
 use Rattle.std.specs.Prelude.{ℕ, ◌-◌, nat_lt, List, length, Option, Some, None, Result, Ok, Err, if◌then◌else◌}
 use Rattle.xl_wire.specs.declared.body.Body.{Body}
 use Rattle.xl_wire.specs.declared.body.Body.TheVariants as bodies
@@ -11,15 +11,17 @@ use Rattle.xl_wire.specs.Raws.{RawFrame}
 use Rattle.xl_tags.specs.Opening.{refusal_of}
 use Rattle.xl_tags.specs.Rings.{Ring}
 use Rattle.xl_tags.specs.declared.refusal.TagRefusal.{TagRefusal}
+use Rattle.xl_ledger.specs.Reading.{header_in}
 use Rattle.xl_core.specs.declared.hearing.Spoken.{Spoken}
+use Rattle.xl_core.specs.declared.hearing.Speech.TheVariants.{Vote, Header}
 use Rattle.xl_core.specs.declared.refusal.Refusal.{Refusal}
 use Rattle.xl_core.specs.declared.refusal.Refusal.TheVariants.{Frame, Tag, Short, Extra, NotBuilt}
 
 -- what a body says under its sender's number; frames of the other kinds aren't heard yet
 abbrev pub said_by : ℕ → ℕ → Body → Result Spoken Refusal
-said_by kind from (bodies.Validation v) = Ok (record { from = from; validation = v })
+said_by kind from (bodies.Validation v) = Ok (record { from = from; what = Vote v })
 said_by kind from (bodies.Proposal proposal) = Err (NotBuilt kind)
-said_by kind from (bodies.Header header) = Err (NotBuilt kind)
+said_by kind from (bodies.Header bytes) = Ok (record { from = from; what = Header (header_in bytes) })
 said_by kind from (bodies.TxSet ids) = Err (NotBuilt kind)
 said_by kind from (bodies.Tx id) = Err (NotBuilt kind)
 

@@ -27,13 +27,13 @@ reports_in n (h ∷ hs) = option_to_list (happens n h.event h.saved).report ++ r
 -- reported since the node opened.
 abbrev pub ReportsArise : Type 0
 ReportsArise =
-    (me : ℕ) (list : TrustedList) (keys : Ring) (kept : ℕ) (life : List Happening) (next : Happening) (r : Report) → IsValid list →
-    let n = node_after (opened me list keys kept) life in
+    (me : ℕ) (list : TrustedList) (keys : Ring) (limit kept : ℕ) (life : List Happening) (next : Happening) (r : Report) → IsValid list →
+    let n = node_after (opened me list keys limit kept) life in
     let reply = happens n next.event next.saved in
-    (reply.report ≡ Some r) ↔ ((list.quorum ≤ count_full r.seq r.id reply.node.rows) × ¬ Contains (reports_in (opened me list keys kept) life) r)
+    (reply.report ≡ Some r) ↔ ((list.quorum ≤ count_full r.seq r.id reply.node.rows) × ¬ Contains (reports_in (opened me list keys limit kept) life) r)
 
 -- The sequences of the reports of a life rise.
 abbrev pub ReportsRise : Type 0
 ReportsRise =
-    (me : ℕ) (list : TrustedList) (keys : Ring) (kept : ℕ) (life : List Happening) → IsValid list →
-    IsStrictlyIncreasing (map (λ r. r.seq) (reports_in (opened me list keys kept) life))
+    (me : ℕ) (list : TrustedList) (keys : Ring) (limit kept : ℕ) (life : List Happening) → IsValid list →
+    IsStrictlyIncreasing (map (λ r. r.seq) (reports_in (opened me list keys limit kept) life))

@@ -1,4 +1,4 @@
--- One node: its rows, the last sequence that it saved, and what it reports as fully validated.
+-- One node: the ledgers that it knows, its rows, the last sequence that it saved, and what it reports as fully validated.
 -- Source: Chase and MacBrough, "Analysis of the XRP Ledger Consensus Protocol" (2018), and rippled's Consensus and Validations.
 use Rattle.std.specs.Prelude.{ℕ, ◌&&◌, Bool, true, false, List, map, filter_map, find, option_map, nat_lt, nat_le, if◌then◌else◌}
 use Rattle.std.specs.Prelude.{Some, None, Result, Ok, Err}
@@ -11,10 +11,18 @@ use Rattle.xl_wire.specs.declared.validation.Validation.{Validation}
 use Rattle.xl_validations.specs.declared.row.Row.{Row}
 use Rattle.xl_validations.specs.declared.refusal.ValRefusal.{ValRefusal}
 use Rattle.xl_validations.specs.Rows.{refusal, refusal_of, with_validation, at_member, count_full, empty_row}
+use Rattle.xl_validations.specs.Votes.{votes_of}
+use Rattle.xl_ledger.specs.declared.header.Header.{Header}
+use Rattle.xl_ledger.specs.declared.refusal.AddRefusal.{AddRefusal}
+use Rattle.xl_ledger.specs.Chains.{seq_at, id_at}
+use Rattle.xl_ledger.specs.Registries.{Ledgers, only_root, with_header, add_refusal}
+use Rattle.xl_ledger.specs.Votes.{preferred_of}
 use Rattle.xl_core.specs.declared.report.Report.{Report}
 use Rattle.xl_core.specs.declared.refusal.Refusal.{Refusal}
-use Rattle.xl_core.specs.declared.refusal.Refusal.TheVariants.{NotAfter}
+use Rattle.xl_core.specs.declared.refusal.Refusal.TheVariants.{NotAfter, Header as HeaderRefused}
 use Rattle.xl_core.specs.declared.hearing.Spoken.{Spoken}
+use Rattle.xl_core.specs.declared.hearing.Speech.{Speech}
+use Rattle.xl_core.specs.declared.hearing.Speech.TheVariants.{Vote, Header as Ledger}
 use Rattle.xl_core.specs.Hearing.{heard}
 use Rattle.xl_core.specs.Refusals.{refusal_from}
 
@@ -23,6 +31,7 @@ pub record Node : Type 0 where
   pub list : TrustedList
   -- the keys that it shares with others
   pub keys : Ring
+  pub ledgers : Ledgers
   pub rows : List Row
   -- the last sequence that was saved
   pub kept : ℕ
@@ -43,9 +52,9 @@ pub record Reply : Type 0 where
   pub issued : Option Validation
   pub report : Option Report
 
--- a node opened with the number that its keeper holds
-abbrev pub opened : ℕ → TrustedList → Ring → ℕ → Node
-opened me list keys kept = record { me = me; list = list; keys = keys; rows = map empty_row list.members; kept = kept; last = None }
+-- a node opened with room for so many ledgers, and with the number that its keeper holds
+abbrev pub opened : ℕ → TrustedList → Ring → ℕ → ℕ → Node
+opened me list keys limit kept = record { me = me; list = list; keys = keys; ledgers = only_root limit; rows = map empty_row list.members; kept = kept; last = None }
 
 -- whether a sequence is above the last report's
 abbrev pub is_above : Option Report → ℕ → Bool
@@ -108,9 +117,18 @@ hears n now from v (Some why) = refusing n (refusal_from why)
 abbrev pub refusal_at : Node → ℕ → ℕ → Validation → Option ValRefusal
 refusal_at n now from v = refusal_of n.rows from now v
 
--- what was heard goes to its sender's row
+-- a header is added to the known ledgers. Validations that waited for it are votes from then on
+abbrev pub learns : Node → Header → Option AddRefusal → Reply
+learns n h None = record { node = record n { ledgers = with_header n.ledgers h }; refused = None; issued = None; report = None }
+learns n h (Some why) = refusing n (HeaderRefused why)
+
+-- a validation goes to its sender's row, and a header to the ledgers
+abbrev pub hearing_speech : Node → ℕ → ℕ → Speech → Reply
+hearing_speech n now from (Vote v) = hears n now from v (refusal_at n now from v)
+hearing_speech n now from (Ledger h) = learns n h (add_refusal n.ledgers h)
+
 abbrev pub hearing : Node → ℕ → Result Spoken Refusal → Reply
-hearing n now (Ok said) = hears n now said.from said.validation (refusal_at n now said.from said.validation)
+hearing n now (Ok said) = hearing_speech n now said.from said.what
 hearing n now (Err why) = refusing n why
 
 -- what came of an event, whose save was Ok or failed
@@ -120,3 +138,10 @@ happens n (Issue now seq id full) saved =
     then issues n now saved (record { id = id; seq = seq; signed = now; full = full })
     else refusing n (NotAfter n.kept)
 happens n (Frame now bytes) saved = hearing n now (heard n.keys n.list.members bytes)
+
+abbrev pub report_at : List Header → ℕ → Report
+report_at ledgers ledger = record { seq = seq_at ledgers ledger; id = id_at ledgers ledger }
+
+-- the ledger that the votes prefer, if there is a vote. The largest sequence issued is the kept number
+abbrev pub preferred : Node → Option Report
+preferred n = option_map (report_at n.ledgers.headers) (preferred_of n.ledgers.headers (votes_of n.ledgers.headers n.rows) n.kept)

@@ -2,6 +2,7 @@
 use Rattle.std.specs.Prelude.{ℕ}
 use Rattle.xl_wire.specs.Codes.{code_of as frame_code}
 use Rattle.xl_tags.specs.Codes.{code_of as tag_code}
+use Rattle.xl_ledger.specs.Codes.{code_of as header_code}
 use Rattle.xl_validations.specs.declared.refusal.ValRefusal.{ValRefusal}
 use Rattle.xl_validations.specs.declared.refusal.ValRefusal.TheVariants as row
 use Rattle.xl_core.specs.declared.refusal.Refusal.{Refusal}
@@ -17,6 +18,7 @@ refusal_from (row.OldSeq largest) = node.OldSeq largest
 abbrev pub code_of : Refusal → ℕ
 code_of (node.Frame why) = frame_code why
 code_of (node.Tag why) = tag_code why
+code_of (node.Header why) = header_code why
 code_of (node.Stale now signed) = 20
 code_of (node.Repeat id) = 21
 code_of (node.Conflict id) = 22

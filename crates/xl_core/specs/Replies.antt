@@ -11,7 +11,7 @@ abbrev pub issue_reply : Result Issued Refusal → Node → Reply
 issue_reply (Ok done) n = record { node = n; refused = None; issued = Some done.validation; report = done.report }
 issue_reply (Err why) n = refusing n why
 
--- what a call that hands in a validation answers
+-- what a call that hands in bytes answers
 abbrev pub hear_reply : Result (Option Report) Refusal → Node → Reply
 hear_reply (Ok report) n = record { node = n; refused = None; issued = None; report = report }
 hear_reply (Err why) n = refusing n why

@@ -10,15 +10,23 @@ ghost use Rattle.xl_core.specs.Hearing.{heard, heard_split, heard_opened, heard_
 
 use crate::Refusal;
 use xl_base::NodeNo;
+use xl_ledger::{Header, read_header};
 use xl_lists::List;
 use xl_tags::{Keys, open_raw};
 use xl_wire::{Body, Parted, Raw, Validation, read_body, split};
 
-/// A validation, and the member that says it.
+/// What members say.
+#[derive(Clone, Copy, Debug, PartialEq, Eq)]
+pub enum Speech {
+    Vote(Validation),
+    Header(Header),
+}
+
+/// What a frame says, and the member that says it.
 #[derive(Clone, Copy, Debug, PartialEq, Eq)]
 pub struct Spoken {
     pub from: NodeNo,
-    pub validation: Validation,
+    pub what: Speech,
 }
 
 /// Reads the frame that the bytes are, opens it, and reads what it says.
@@ -66,7 +74,14 @@ fn read(raw: &Raw<'_>, from: NodeNo) -> Result<Spoken, Refusal>
     ensures { result ≡ heard_body raw.now.kind from (body_of raw.now.kind raw.now.body.now) }
 {
     match read_body(raw) {
-        Ok(Body::Validation(validation)) => Ok(Spoken { from, validation }),
+        Ok(Body::Validation(validation)) => Ok(Spoken {
+            from,
+            what: Speech::Vote(validation),
+        }),
+        Ok(Body::Header(bytes)) => Ok(Spoken {
+            from,
+            what: Speech::Header(read_header(&bytes)),
+        }),
         Ok(_) => Err(Refusal::NotBuilt(raw.kind)),
         Err(why) => Err(Refusal::Frame(why)),
     }

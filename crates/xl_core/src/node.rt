@@ -1,4 +1,4 @@
-ghost use Rattle.std.specs.Prelude.{◌≡◌, ◌↔◌, ◌<◌, ◌≤◌, IfOk, IsOk, OnOk, OnErr, IsTrue, true, Some, Ok, Err, option_map};
+ghost use Rattle.std.specs.Prelude.{◌≡◌, ◌↔◌, ◌<◌, ◌≤◌, IfOk, IsOk, OnOk, OnErr, IsTrue, true, Some, Ok, Err, ℕ, option_map};
 ghost use Rattle.std.specs.Result.{result_err};
 ghost use Rattle.xl_lists.specs.Lists.{is_on};
 ghost use Rattle.xl_core.specs.Node.{
@@ -13,8 +13,13 @@ ghost use Rattle.xl_core.specs.Node.{
   arisen,
   arises_in,
   is_above,
+  learns,
+  preferred,
 };
-ghost use Rattle.xl_core.specs.declared.refusal.Refusal.TheVariants.{NotAfter};
+ghost use Rattle.xl_core.specs.declared.refusal.Refusal.TheVariants.{NotAfter, Header as HeaderRefused};
+ghost use Rattle.xl_core.specs.declared.hearing.Speech.TheVariants as speech;
+ghost use Rattle.xl_ledger.specs.Registries.{add_refusal};
+ghost use Rattle.xl_ledger.specs.declared.registry.TheConstants.{LEAST_LIMIT, GREATEST_LIMIT};
 ghost use Rattle.xl_core.specs.Hearing.{heard};
 ghost use Rattle.xl_core.specs.Sending.{sealed_bytes, has_spelling};
 ghost use Rattle.xl_core.specs.Refusals.{refusal_from};
@@ -23,13 +28,15 @@ ghost use Rattle.xl_core.specs.Replies.{issue_reply, hear_reply};
 
 use crate::hearing::hear;
 use crate::sending::{VALIDATION_FRAME, sealed};
-use crate::{Issued, Refusal, Report, Spoken};
+use crate::{Issued, Refusal, Report, Speech};
 use std::alloc::Global;
 use std::marker::Model;
 use xl_base::{LedgerId, NodeNo, OutOfMemory, Secs, Seq};
+use xl_ledger::{Branch, Header, Registry};
 use xl_lists::List;
+use xl_recount::Plain;
 use xl_tags::Keys;
-use xl_validations::Rows;
+use xl_validations::Table;
 use xl_wire::Validation;
 
 /// A node. No call after `open` takes memory.
@@ -38,7 +45,8 @@ pub struct Core {
     me: NodeNo,
     list: List,
     keys: Keys,
-    rows: Rows,
+    registry: Registry,
+    table: Table<Plain>,
     /// The last sequence that was saved.
     kept: Seq,
     /// The last report since the node opened.
@@ -46,14 +54,25 @@ pub struct Core {
 }
 
 impl Model for Core {
+    ghost use Rattle.xl_validations.specs.Tallies.{IsTally};
     ghost use Rattle.xl_core.specs.Node.{Node};
     ghost use Rattle.xl_core.specs.Rest.{IsReady};
 
     ghost Value = { Node };
 
-    ghost view = { λ a. record { me = a.me; list = a.list; keys = a.keys; rows = a.rows; kept = a.kept; last = a.last } };
+    ghost view = { λ a. record {
+      me = a.me;
+      list = a.list;
+      keys = a.keys;
+      ledgers = a.registry;
+      rows = a.table.rows;
+      kept = a.kept;
+      last = a.last;
+    } };
 
-    ghost invariant = { λ a. IsReady (record { me = a.me; list = a.list; keys = a.keys; rows = a.rows; kept = a.kept; last = a.last }) };
+    ghost invariant = { λ a.
+        IsReady (record { me = a.me; list = a.list; keys = a.keys; ledgers = a.registry; rows = a.table.rows; kept = a.kept; last = a.last })
+        × IsTally (⟦<Plain as Branch>⟧.goes_with a.table.branch) a.registry.headers a.table.rows (⟦<Plain as Branch>⟧.votes a.table.branch) (⟦<Plain as Branch>⟧.room a.table.branch) };
 }
 
 /// Whether a sequence is above that of the last report.
@@ -67,10 +86,15 @@ fn is_above_last(last: &Option<Report>, seq: Seq) -> bool
 }
 
 /// What a validation just taken gives to report: it alone can have reached a quorum now.
-fn report_by(rows: &Rows, quorum: u32, last: &Option<Report>, v: &Validation) -> Option<Report>
-    ensures { result ≡ report_if (arises_in quorum rows.now last.now v.now) v.now }
+fn report_by(
+    table: &Table<Plain>,
+    quorum: u32,
+    last: &Option<Report>,
+    v: &Validation,
+) -> Option<Report>
+    ensures { result ≡ report_if (arises_in quorum table.now.rows last.now v.now) v.now }
 {
-    if quorum <= rows.count_full(v.seq, &v.id) && is_above_last(last, v.seq) {
+    if quorum <= table.count_full(v.seq, &v.id) && is_above_last(last, v.seq) {
         Some(Report {
             seq: v.seq,
             id: v.id,
@@ -81,24 +105,29 @@ fn report_by(rows: &Rows, quorum: u32, last: &Option<Report>, v: &Validation) ->
 }
 
 impl Core {
-    /// A node with a list, its keys, among them one for each other listed member, and the number that its keeper holds: nothing is
-    /// taken or reported yet.
+    /// A node with a list, its keys, among them one for each other listed member, room for so many ledgers, the root among
+    /// them, and the number that its keeper holds: it knows the root alone, and nothing is taken or reported yet.
     pub fn open(
         alloc: Global,
         me: NodeNo,
         list: List,
         keys: Keys,
+        limit: u32,
         kept: Seq,
     ) -> Result<Core, OutOfMemory>
         requires keyed { IsKeyed me list.members keys }
-        ensures { IfOk result (λ core. core ≡ opened me list keys kept) }
+        requires least { LEAST_LIMIT ≤ limit }
+        requires most { limit ≤ GREATEST_LIMIT }
+        ensures { IfOk result (λ core. core ≡ opened me list keys limit kept) }
     {
-        let rows = Rows::open(alloc, &list)?;
+        let registry = Registry::open(alloc, limit)?;
+        let table = Table::open(alloc, &list, me)?;
         Ok(Core {
             me,
             list,
             keys,
-            rows,
+            registry,
+            table,
             kept,
             last: None,
         })
@@ -138,17 +167,34 @@ impl Core {
     /// Hears bytes that come, and tells what they give to report.
     ///
     /// Refused where they are no frame, not whole or followed by more; where the frame isn't for the node, comes from a
-    /// stranger or carries another tag; where its body is none; or as the sender's row refuses the validation: as stale, as a
-    /// repeat, as a conflict, or as old, all in this order. The node then stays as it was.
+    /// stranger or carries another tag; where its body is none; and then as the sender's row refuses the validation: as stale,
+    /// as a repeat, as a conflict, or as old; or as the header isn't added: it is known, its parent isn't, its sequence isn't the
+    /// parent's plus one, or there is no room; all in this order. The node then stays as it was.
     pub fn frame(&mut self, now: Secs, bytes: &[u8]) -> Result<Option<Report>, Refusal>
         ensures exact { hear_reply result self.new ≡ happens self.old (Frame now bytes.now) true }
         ensures unheard { (why : Refusal) → heard self.old.keys self.old.list.members bytes.now ≡ Err why → result ≡ Err why }
-        ensures by_its_row { (said : Spoken) → heard self.old.keys self.old.list.members bytes.now ≡ Ok said →
-            result_err result ≡ option_map refusal_from (refusal_at self.old now said.from said.validation) }
+        ensures by_its_row { (from : ℕ) (v : Validation) → heard self.old.keys self.old.list.members bytes.now ≡ Ok (record { from = from; what = speech.Vote v }) →
+            result_err result ≡ option_map refusal_from (refusal_at self.old now from v) }
+        ensures by_its_parent { (from : ℕ) (h : Header) → heard self.old.keys self.old.list.members bytes.now ≡ Ok (record { from = from; what = speech.Header h }) →
+            result_err result ≡ option_map HeaderRefused (add_refusal self.old.ledgers h) }
         ensures unchanged { OnErr result (self.new ≡ self.old) }
     {
         let said = hear(&self.keys, &self.list, bytes)?;
-        self.take(now, said.from, &said.validation)
+        match said.what {
+            Speech::Vote(validation) => self.take(now, said.from, &validation),
+            Speech::Header(header) => self.learn(&header),
+        }
+    }
+
+    /// Adds a header to the known ledgers. Validations that waited for it are votes from then on, and nothing is reported.
+    fn learn(&mut self, h: &Header) -> Result<Option<Report>, Refusal>
+        ensures exact { hear_reply result self.new ≡ learns self.old h.now (add_refusal self.old.ledgers h.now) }
+        ensures refused { result_err result ≡ option_map HeaderRefused (add_refusal self.old.ledgers h.now) }
+        ensures unchanged { OnErr result (self.new ≡ self.old) }
+    {
+        let ledger = self.registry.add(h)?;
+        self.table.header_known(&self.registry, ledger);
+        Ok(None)
     }
 
     /// The frame of a validation for another member, sealed if the node has a key for it.
@@ -179,8 +225,8 @@ impl Core {
         ensures refused { result_err result ≡ option_map refusal_from (refusal_at self.old now from v.now) }
         ensures unchanged { OnErr result (self.new ≡ self.old) }
     {
-        self.rows.take(from, v, now)?;
-        let report = report_by(&self.rows, self.list.quorum(), &self.last, v);
+        self.table.take(&self.registry, from, v, now)?;
+        let report = report_by(&self.table, self.list.quorum(), &self.last, v);
         self.last = report.or(self.last);
         Ok(report)
     }
@@ -212,6 +258,19 @@ impl Core {
         ensures { result ≡ self.now.kept }
     {
         self.kept
+    }
+
+    /// The ledger that the members' votes prefer, or None exactly where there is no vote. The largest sequence issued counts as
+    /// the kept number.
+    pub fn preferred(&self) -> Option<Report>
+        ensures { result ≡ preferred self.now }
+    {
+        let mut walk = self.registry.walk();
+        let ledger = self.table.preferred(&mut walk, self.kept)?;
+        Some(Report {
+            seq: walk.seq_of(ledger),
+            id: walk.id_at(ledger),
+        })
     }
 
     /// The last report since the node opened.

@@ -2,6 +2,7 @@ ghost use Rattle.std.specs.Prelude.{◌≡◌};
 ghost use Rattle.xl_core.specs.Refusals.{refusal_from, code_of};
 
 use xl_base::{LedgerId, Secs, Seq};
+use xl_ledger::AddRefusal;
 use xl_tags::TagRefusal;
 use xl_validations::ValRefusal;
 use xl_wire::WireRefusal;
@@ -17,6 +18,8 @@ pub enum Refusal {
     Extra(usize),
     /// The frame isn't for the node, not from another listed member, or not sealed by their key.
     Tag(TagRefusal),
+    /// The header isn't added to the known ledgers.
+    Header(AddRefusal),
     /// Frames of this kind aren't heard yet.
     NotBuilt(u8),
     /// The validation isn't current: the second now, and the second at which it was signed.
@@ -64,6 +67,16 @@ impl From<TagRefusal> for Refusal {
     }
 }
 
+impl From<AddRefusal> for Refusal {
+    ghost use Rattle.xl_core.specs.declared.refusal.Refusal.TheVariants as node;
+
+    ghost from_gives = { λ why refusal. refusal ≡ node.Header why };
+
+    fn from(why: AddRefusal) -> Refusal {
+        Refusal::Header(why)
+    }
+}
+
 impl Refusal {
     /// The number of the refusal.
     pub fn code(&self) -> u32
@@ -72,6 +85,7 @@ impl Refusal {
         match self {
             Refusal::Frame(why) => why.code(),
             Refusal::Tag(why) => why.code(),
+            Refusal::Header(why) => why.code(),
             Refusal::Stale(..) => 20,
             Refusal::Repeat(_) => 21,
             Refusal::Conflict(_) => 22,

@@ -46,6 +46,7 @@ pub fn header_bytes(h: &Header) -> [u8; 118]
 
 /// The header of a spelling; each 118 bytes are one.
 pub fn read_header(bytes: &[u8; 118]) -> Header
+    ensures exact { result ≡ header_in bytes.now }
     // The bytes spell the header that is read.
     ensures spelled { spelling result ≡ bytes.now }
     // The bytes of a header are read as that header.

@@ -1,0 +1,19 @@
+use Rattle.std.proofs.Common.{◌≡◌, ◌∙◌, length, sym, subst, refl, List}
+use Rattle.xl_ledger.specs.declared.header.Header.{Header}
+use Rattle.xl_ledger.specs.Registries.{add_refusal}
+use Rattle.xl_core.specs.Node.{Node}
+use Rattle.xl_core.proofs.Learning.{place_if, is_newest, were_known, still_ready}
+use Rattle.xl_core.proofs.node.Core.learn.Goals as goal
+
+pub header_known-requires-clause-newest : goal.header_known-requires-clause-newest
+header_known-requires-clause-newest c =
+    let old = c.self.inside.registry in
+    is_newest old c.add.new.self c.args.h.now c.in_ok-ledger.ledger c.self.invariant.1.are (c.in_ok-ledger.ensures.joins.0 refl).0 c.in_ok-ledger.ensures.added
+    (place_if c.in_ok-ledger.ledger (length old.headers) (add_refusal old c.args.h.now) c.in_ok-ledger.ensures.exact)
+
+pub invariant_of-self-2 : goal.invariant_of-self-2
+invariant_of-self-2 c = (
+  still_ready (record { me = c.self.inside.me; list = c.self.inside.list; keys = c.self.inside.keys; ledgers = c.self.inside.registry; rows = c.self.inside.table.rows; kept = c.self.inside.kept; last = c.self.inside.last })
+  c.add.new.self c.header_known.new.self.rows c.header_known.ensures.rows c.self.invariant.0,
+  c.header_known.ensures.tally,
+)
