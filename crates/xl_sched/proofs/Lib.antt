@@ -3,3 +3,4 @@ pub mod NumberLemmas
 pub mod MemberLemmas
 pub mod PlaceLemmas
 pub mod NameLemmas
+pub mod LedgerLemmas

@@ -27,14 +27,21 @@ find-position p xs =
       | false ↦ λ e. slice_get-past xs (position_or_len p xs) (grind (arith, nat_tests))
     ] refl
 
+-- what stands there is found
+pub found_here : {X : Type 0} (p : X → Bool) (xs : List X) (place : ℕ) (x : X) → position p xs ≡ Some place → x ≡ get_or xs place x → find p xs ≡ Some x
+found_here p xs place x e here =
+    let within = position-Some p xs place x e in
+    find-position p xs ∙ ap (option_and_then (slice_get xs)) e ∙ slice_get-get_or xs place x within.0 ∙ ap (λ y. Some y) (sym here)
+
+pub found_nowhere : {X : Type 0} (p : X → Bool) (xs : List X) → position p xs ≡ None → find p xs ≡ None
+found_nowhere p xs e = find-position p xs ∙ ap (option_and_then (slice_get xs)) e
+
 -- what it gives is found
 pub found : {X A : Type 0} (f : X → A) (p : X → Bool) (xs : List X) (place : ℕ) (x : X) → position p xs ≡ Some place → x ≡ get_or xs place x → option_map f (find p xs) ≡ Some (f x)
-found f p xs place x e here =
-    let within = position-Some p xs place x e in
-    ap (option_map f) (find-position p xs ∙ ap (option_and_then (slice_get xs)) e ∙ slice_get-get_or xs place x within.0) ∙ ap (λ y. Some (f y)) (sym here)
+found f p xs place x e here = ap (option_map f) (found_here p xs place x e here)
 
 pub not_found : {X A : Type 0} (f : X → A) (p : X → Bool) (xs : List X) → position p xs ≡ None → option_map f (find p xs) ≡ None
-not_found f p xs e = ap (option_map f) (find-position p xs ∙ ap (option_and_then (slice_get xs)) e)
+not_found f p xs e = ap (option_map f) (found_nowhere p xs e)
 
 pushed_place : (n len : ℕ) (passes : Bool) → n ≤ len →
     cond (nat_lt (cond (eqb n len) (len + cond passes 0 1) n) (len + 1)) (Some (cond (eqb n len) (len + cond passes 0 1) n)) None ≡ with_place (cond (nat_lt n len) (Some n) None) passes len

@@ -3,6 +3,7 @@ pub mod Refusals
 pub mod Faults
 pub mod Numbers
 pub mod Names
+pub mod Ledgers
 pub mod Places
 pub mod Members
 pub mod Lies

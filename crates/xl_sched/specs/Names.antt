@@ -1,5 +1,5 @@
 -- Names that stand for ids. Source: this project's schedule language.
-use Rattle.std.specs.Prelude.{ℕ, Bool, false, ◌&&◌, ◌||◌, not, nat_le, List, [], ◌∷◌, length, find, replicate, codes, Option, option_map, is_some, Result, Ok, Err, if◌then◌else◌}
+use Rattle.std.specs.Prelude.{ℕ, Bool, false, ◌&&◌, ◌||◌, not, nat_le, List, [], ◌∷◌, length, find, codes, Option, None, option_map, is_some, Result, Ok, Err, if◌then◌else◌}
 use Rattle.std.specs.List.{list_all}
 use Rattle.std.specs.Char.{is_ascii_digit}
 use Rattle.std.specs.Option.{option_or, ok_or}
@@ -8,13 +8,14 @@ use Rattle.std.specs.Str.{bytes_eq}
 use Rattle.hex.specs.Hex.{decode_sized}
 use Rattle.xl_base.specs.Ids.{same_id}
 use Rattle.xl_base.specs.declared.ids.LedgerId.{LedgerId}
+use Rattle.xl_ledger.specs.Chains.{root_id}
 use Rattle.xl_sched.specs.declared.named.Named.{Named}
 use Rattle.xl_sched.specs.declared.refusal.SchedRefusal.{SchedRefusal}
 use Rattle.xl_sched.specs.declared.refusal.SchedRefusal.TheVariants.{Id, Twice}
 
 -- the name `root` stands for 32 zero bytes from the start
 abbrev pub root : Named
-root = record { name = codes "root"; id = record { 0 = replicate 32 0 } }
+root = record { name = codes "root"; id = root_id; header = None }
 
 -- a to z
 abbrev pub is_letter : ℕ → Bool

@@ -1,6 +1,7 @@
 -- What a reader answers to a line, and what it then knows. Source: this project's schedule language.
 use Rattle.std.specs.Prelude.{ℕ, ◌+◌, ◌==◌, ◌&&◌, Bool, true, false, nat_lt, List, [], ◌∷◌, ◌++◌, length, decimal, codes, Option, Some, None, Result, Ok, Err, if◌then◌else◌}
 use Rattle.std.specs.Str.{bytes_eq}
+use Rattle.xl_ledger.specs.Headers.{header_id}
 use Rattle.xl_sched.specs.declared.limits.TheConstants.{MOST_LINES, MOST_BYTES}
 use Rattle.xl_sched.specs.declared.refusal.SchedRefusal.{SchedRefusal}
 use Rattle.xl_sched.specs.declared.refusal.SchedRefusal.TheVariants.{Header, LongLine, Limit}
@@ -13,7 +14,7 @@ use Rattle.xl_sched.specs.Words.{Reading, worded_line}
 
 -- before the first line
 abbrev pub opened : Reading
-opened = record { lines = 0; now = 1000; started = false; nodes = []; liars = []; names = root ∷ [] }
+opened = record { lines = 0; now = 1000; started = false; limited = false; nodes = []; liars = []; names = root ∷ [] }
 
 -- `xl-schedule 1`
 abbrev pub is_header : List (List ℕ) → Bool
@@ -65,7 +66,9 @@ counted reading = record reading { lines = reading.lines + 1 }
 abbrev pub after : Reading → Line → Reading
 after reading (line.Node me list validating) = record (counted reading) { nodes = reading.nodes ++ me ∷ [] }
 after reading (line.Liar me) = record (counted reading) { liars = reading.liars ++ me ∷ [] }
-after reading (line.Name name id) = record (counted reading) { names = reading.names ++ record { name = name; id = id } ∷ [] }
+after reading (line.Name name id) = record (counted reading) { names = reading.names ++ record { name = name; id = id; header = None } ∷ [] }
+after reading (line.Limit limit) = record (counted reading) { limited = true }
+after reading (line.Ledger name parent header) = record (counted reading) { names = reading.names ++ record { name = name; id = header_id header; header = Some header } ∷ [] }
 after reading (line.Event event) = record (counted reading) { started = true }
 
 -- a line that was passed over or was the header, a line that says something, or a refusal; with what is known then

@@ -3,10 +3,11 @@ use Rattle.std.specs.Prelude.{◌≡◌, ◌≤◌, ℕ, ◌+◌, Bool, true, fa
 use Rattle.std.specs.Str.{bytes_eq}
 use Rattle.xl_lists.specs.Lists.{is_on}
 use Rattle.xl_base.specs.declared.moments.TheConstants.{GREATEST_MILLIS}
-use Rattle.xl_sched.specs.declared.limits.TheConstants.{MOST_NAMES, MOST_RAW_BYTES}
+use Rattle.xl_ledger.specs.declared.registry.TheConstants.{LEAST_LIMIT}
+use Rattle.xl_sched.specs.declared.limits.TheConstants.{MOST_LEDGERS, MOST_NAMES, MOST_RAW_BYTES}
 use Rattle.xl_sched.specs.declared.named.Named.{Named}
 use Rattle.xl_sched.specs.declared.refusal.SchedRefusal.{SchedRefusal}
-use Rattle.xl_sched.specs.declared.refusal.SchedRefusal.TheVariants.{Limit, Word as IsNoWord, Count, Late}
+use Rattle.xl_sched.specs.declared.refusal.SchedRefusal.TheVariants.{Limit, Word as IsNoWord, Count, Twice, Late}
 use Rattle.xl_sched.specs.declared.event.Event.{Event}
 use Rattle.xl_sched.specs.declared.event.Event.TheVariants as event
 use Rattle.xl_sched.specs.declared.lied.Lied.{Lied}
@@ -15,8 +16,9 @@ use Rattle.xl_sched.specs.declared.line.Line.TheVariants as line
 use Rattle.xl_sched.specs.declared.word.Word.{Word}
 use Rattle.xl_sched.specs.declared.word.Word.TheVariants as word
 use Rattle.xl_sched.specs.Refusals.{◌>>=◌}
-use Rattle.xl_sched.specs.Numbers.{number_of, place_of}
+use Rattle.xl_sched.specs.Numbers.{number_within, number_of, place_of}
 use Rattle.xl_sched.specs.Names.{id_of, id_named, new_name_of}
+use Rattle.xl_sched.specs.Ledgers.{parent_of, header_after}
 use Rattle.xl_sched.specs.Lies.{said_of, may_say, lied_of, raw_of}
 use Rattle.xl_sched.specs.Members.{declared_of, new_member_of, members_of, trusted_of, validating_of, full_of}
 
@@ -28,6 +30,8 @@ pub record Reading : Type 0 where
   pub now : ℕ
   -- whether an event was among them
   pub started : Bool
+  -- whether a line said how many ledgers a node may know
+  pub limited : Bool
   -- the honest nodes in the order of their declaration
   pub nodes : List ℕ
   -- the liars in the order of theirs
@@ -46,6 +50,9 @@ word_of token =
     else if bytes_eq token (codes "liar") then Some word.Liar
     else if bytes_eq token (codes "lie") then Some word.Lie
     else if bytes_eq token (codes "raw") then Some word.Raw
+    else if bytes_eq token (codes "limit") then Some word.Limit
+    else if bytes_eq token (codes "ledger") then Some word.Ledger
+    else if bytes_eq token (codes "prefer") then Some word.Prefer
     else None
 
 -- so many tokens no line of the word has, the word counted
@@ -55,6 +62,13 @@ miscounted arguments = Err (Count (decimal (length arguments + 1)))
 -- a declaration comes too late after the first event
 abbrev pub unless_late : Reading → List ℕ → Result Line SchedRefusal → Result Line SchedRefusal
 unless_late reading token line = if reading.started then Err (Late token) else line
+
+-- `limit n`
+abbrev pub limit_line : Reading → List (List ℕ) → Result Line SchedRefusal
+limit_line reading (number ∷ []) = do
+  limit ← number_within LEAST_LIMIT MOST_LEDGERS number
+  if reading.limited then Err (Twice number) else Ok (line.Limit limit)
+limit_line reading arguments = miscounted arguments
 
 -- a node validates, unless another mode is written
 abbrev pub mode_of : Option (List ℕ) → Result Bool SchedRefusal
@@ -101,6 +115,20 @@ abbrev pub name_line : Reading → List (List ℕ) → Result Line SchedRefusal
 name_line reading arguments =
     if has_most_names reading then Err (Limit (decimal MOST_NAMES)) else named_line reading arguments
 
+-- `ledger w p close`
+abbrev pub named_ledger_line : Reading → List (List ℕ) → Result Line SchedRefusal
+named_ledger_line reading (name ∷ parent ∷ close ∷ []) = do
+  fresh ← new_name_of reading.names name
+  above ← parent_of reading.names parent
+  closed ← number_of close
+  Ok (line.Ledger fresh parent (header_after above closed))
+named_ledger_line reading arguments = miscounted arguments
+
+-- the limit of names is tested before all else
+abbrev pub ledger_line : Reading → List (List ℕ) → Result Line SchedRefusal
+ledger_line reading arguments =
+    if has_most_names reading then Err (Limit (decimal MOST_NAMES)) else named_ledger_line reading arguments
+
 -- `issue i seq id full`, or `partial`
 abbrev pub issue_event : Reading → List (List ℕ) → Result Event SchedRefusal
 issue_event reading (number ∷ sequence ∷ id ∷ kind ∷ []) = do
@@ -124,6 +152,13 @@ restart_event reading (number ∷ []) = do
   node ← declared_of reading.nodes number
   Ok (event.Restart reading.now node)
 restart_event reading arguments = miscounted arguments
+
+-- `prefer i`
+abbrev pub prefer_event : Reading → List (List ℕ) → Result Event SchedRefusal
+prefer_event reading (number ∷ []) = do
+  node ← declared_of reading.nodes number
+  Ok (event.Prefer reading.now node)
+prefer_event reading arguments = miscounted arguments
 
 -- the parts of a lie's line from left to right
 abbrev pub lie_of : Reading → List ℕ → List ℕ → Result Lied SchedRefusal → Result Event SchedRefusal
@@ -163,6 +198,9 @@ line_of reading sent word.Restart token arguments = event_line (restart_event re
 line_of reading sent word.Liar token arguments = unless_late reading token (liar_line reading arguments)
 line_of reading sent word.Lie token arguments = event_line (lie_event reading arguments)
 line_of reading sent word.Raw token arguments = event_line (raw_event reading arguments)
+line_of reading sent word.Limit token arguments = unless_late reading token (limit_line reading arguments)
+line_of reading sent word.Ledger token arguments = ledger_line reading arguments
+line_of reading sent word.Prefer token arguments = event_line (prefer_event reading arguments)
 
 abbrev pub line_if_word : Reading → ℕ → Option Word → List ℕ → List (List ℕ) → Result Line SchedRefusal
 line_if_word reading sent None token arguments = Err (IsNoWord token)
@@ -181,14 +219,17 @@ IsFitEvent reading sent (event.Lie at from to what) =
     (at ≤ GREATEST_MILLIS) × (is_on reading.liars from ≡ true) × (is_on reading.nodes to ≡ true)
 IsFitEvent reading sent (event.Raw at to bytes) =
     (at ≤ GREATEST_MILLIS) × (is_on reading.nodes to ≡ true) × (1 ≤ length bytes) × (length bytes ≤ MOST_RAW_BYTES)
+IsFitEvent reading sent (event.Prefer at node) = (at ≤ GREATEST_MILLIS) × (is_on reading.nodes node ≡ true)
 
 -- a number that was declared neither as an honest node nor as a liar
 abbrev pub IsUndeclared : Reading → ℕ → Type 0
 IsUndeclared reading me = (is_on reading.nodes me ≡ false) × (is_on reading.liars me ≡ false)
 
--- a line that declares nothing twice, or such an event
+-- a line that declares nothing twice and no ledger above all that may be, or such an event
 abbrev pub IsFit : Reading → ℕ → Line → Type 0
 IsFit reading sent (line.Node me list validating) = IsUndeclared reading me
 IsFit reading sent (line.Liar me) = IsUndeclared reading me
 IsFit reading sent (line.Name name id) = id_named reading.names name ≡ None
+IsFit reading sent (line.Limit limit) = (LEAST_LIMIT ≤ limit) × (limit ≤ MOST_LEDGERS) × (reading.limited ≡ false)
+IsFit reading sent (line.Ledger name parent header) = (id_named reading.names name ≡ None) × (header.seq ≤ length reading.names + 1)
 IsFit reading sent (line.Event event) = IsFitEvent reading sent event

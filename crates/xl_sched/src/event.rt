@@ -35,4 +35,9 @@ pub enum Event {
         to: NodeNo,
         bytes: Bytes,
     },
+    /// The ledger that a declared node prefers is told.
+    Prefer {
+        at: Millis,
+        node: NodeNo,
+    },
 }

@@ -1,15 +1,16 @@
 //! The reader of schedules: a line of bytes becomes an event, a declaration, or a refusal with its cause.
 //!
 //! A schedule begins with the line `xl-schedule 1`. Its lines are tokens parted by spaces and tabs, and each begins with a
-//! word: `node`, `liar`, `name`, `issue`, `deliver`, `restart`, `lie` or `raw`. Empty lines and those that begin with `#` say
-//! nothing.
+//! word: `limit`, `node`, `liar`, `name`, `ledger`, `issue`, `deliver`, `restart`, `lie`, `raw` or `prefer`. Empty lines and
+//! those that begin with `#` say nothing.
 //!
-//! It stands on xl_base, xl_lists, xl_wire and the kit's `hex`. Its one contract: what `Reader::read_line` answers is the grammar,
+//! It stands on xl_base, xl_lists, xl_ledger, xl_wire and the kit's `hex`. Its one contract: what `Reader::read_line` answers is the grammar,
 //! and a refused line changes nothing.
 #![tactic(auto)]
 
 mod event;
 mod fault;
+mod ledger;
 mod lied;
 mod limits;
 mod line;
@@ -28,8 +29,9 @@ mod tokens;
 mod word;
 
 pub use event::Event;
+pub use ledger::Ledger;
 pub use lied::Lied;
-pub use limits::{MOST_BYTES, MOST_LINES, MOST_NAMES, MOST_RAW_BYTES};
+pub use limits::{MOST_BYTES, MOST_LEDGERS, MOST_LINES, MOST_NAMES, MOST_RAW_BYTES};
 pub use line::Line;
 pub use named::Named;
 pub use printed::printed_token;

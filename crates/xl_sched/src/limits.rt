@@ -7,5 +7,8 @@ pub const MOST_BYTES: usize = 17_000;
 /// The most bytes of a frame, and so of raw ones.
 pub const MOST_RAW_BYTES: usize = 8_240;
 
+/// The most ledgers that a schedule lets a node know, the root counted.
+pub const MOST_LEDGERS: u32 = 16_384;
+
 /// The most names that a schedule declares; `root` isn't counted.
 pub const MOST_NAMES: usize = 4_096;

@@ -1,10 +1,13 @@
 use crate::event::Event;
 use xl_base::{Bytes, LedgerId, NodeNo};
+use xl_ledger::Header;
 use xl_lists::List;
 
 /// What a line says, unless it is passed over.
 #[derive(Debug, Drop)]
 pub enum Line {
+    /// Each node may know so many ledgers, 2 to 16,384. No such line stood before.
+    Limit(u32),
     /// An honest node is declared, which was declared neither as one nor as a liar.
     Node {
         me: NodeNo,
@@ -17,6 +20,12 @@ pub enum Line {
     Name {
         name: Bytes,
         id: LedgerId,
+    },
+    /// A name stands for a ledger with this header from here on, and for its id. It stood for none before.
+    Ledger {
+        name: Bytes,
+        parent: Bytes,
+        header: Header,
     },
     /// Something happens.
     Event(Event),

@@ -1,15 +1,17 @@
-ghost use Rattle.std.specs.Prelude.{◌≡◌, ◌++◌, ◌∷◌, ◌||◌, [], length, None, Ok, Err, OnOk, OnErr, IfOk, MatchResult, option_copied};
+ghost use Rattle.std.specs.Prelude.{◌≡◌, ◌+◌, ◌≤◌, ◌++◌, ◌∷◌, ◌||◌, [], length, find, Some, None, Ok, Err, IfSome, OnOk, OnErr, IfOk, MatchResult, option_copied};
 ghost use Rattle.std.specs.List.{list_all};
 ghost use Rattle.std.specs.Char.{is_ascii_digit};
 ghost use Rattle.xl_sched.specs.Names.{id_written, is_name, is_letter};
 
 use crate::fault::{Cause, Fault};
+use crate::ledger::Ledger;
 use crate::named::Named;
 use crate::places::Places;
 use hex::FromHex;
 use std::alloc::Global;
 use std::marker::Model;
 use xl_base::{Bytes, LedgerId, OutOfMemory};
+use xl_ledger::{Header, id_of};
 
 /// The names in the order of their declaration, `root` first. Contracts see them as a list.
 #[derive(Debug, Drop)]
@@ -19,19 +21,24 @@ pub struct Names {
 }
 
 impl Model for Names {
-    ghost use Rattle.std.specs.Prelude.{List};
+    ghost use Rattle.std.specs.Prelude.{List, length};
     ghost use Rattle.xl_sched.specs.declared.named.Named.{Named};
     ghost use Rattle.xl_sched.specs.Places.{AreFirst};
+    ghost use Rattle.xl_sched.specs.Ledgers.{AreUpTo};
 
     ghost Value = { List Named };
 
     ghost view = { λ names. names.declared.items };
 
-    ghost invariant = { λ names. AreFirst names.places names.declared.items };
+    ghost invariant = { λ names.
+        AreFirst names.places names.declared.items × AreUpTo (length names.declared.items) names.declared.items };
 }
 
 impl Names {
+    ghost use Rattle.std.specs.Str.{bytes_eq};
+    ghost use Rattle.xl_ledger.specs.Headers.{header_id};
     ghost use Rattle.xl_sched.specs.Names.{root, name_of, id_named, id_of, new_name_of};
+    ghost use Rattle.xl_sched.specs.Ledgers.{ledger_named, ledger_of, parent_of};
 
     /// `root` alone.
     pub fn with_root(alloc: Global) -> Result<Names, OutOfMemory>
@@ -69,11 +76,50 @@ impl Names {
             .ok_or(Fault::with_text(Cause::Id, token))
     }
 
+    /// A ledger that another may follow: one that is named, or the root.
+    pub fn parent<'a>(&self, token: &'a [u8]) -> Result<Ledger, Fault<'a>>
+        ensures value { result ≡ parent_of self.now token.now }
+        ensures low { IfOk result (λ ledger. ledger.header.seq ≤ length self.now) }
+    {
+        if token == b"root".as_slice() {
+            Ok(Ledger::root())
+        } else {
+            self.ledger(token)
+        }
+    }
+
+    /// A ledger, by its name. A name that was declared by an id is none.
+    pub fn ledger<'a>(&self, token: &'a [u8]) -> Result<Ledger, Fault<'a>>
+        ensures value { result ≡ ledger_of self.now token.now }
+        ensures low { IfOk result (λ ledger. ledger.header.seq ≤ length self.now) }
+    {
+        self.ledger_named(token)
+            .ok_or(Fault::with_text(Cause::Id, token))
+    }
+
+    fn ledger_named(&self, name: &[u8]) -> Option<Ledger>
+        ensures value { result ≡ ledger_named self.now name.now }
+        ensures low { IfSome result (λ ledger. ledger.header.seq ≤ length self.now) }
+    {
+        let named = self.named(name)?;
+        Some(Ledger {
+            id: named.id,
+            header: named.header?,
+        })
+    }
+
     fn id_named(&self, name: &[u8]) -> Option<LedgerId>
         ensures { result ≡ id_named self.now name.now }
     {
+        Some(self.named(name)?.id)
+    }
+
+    fn named(&self, name: &[u8]) -> Option<&Named>
+        ensures value { option_copied result ≡ find (λ n. bytes_eq name.now n.name) self.now }
+        ensures low { IfSome result (λ named. IfSome named.now.header (λ header. header.seq ≤ length self.now)) }
+    {
         let place = self.places.of_name(name)?;
-        Some(self.declared[place].id)
+        Some(&self.declared[place])
     }
 
     /// A name that may still be declared.
@@ -92,9 +138,41 @@ impl Names {
         Ok(token)
     }
 
+    /// Declares a name for an id.
     pub fn declare(&mut self, name: &[u8], id: LedgerId, alloc: Global) -> Result<(), OutOfMemory>
         requires { id_named self.old name.now ≡ None }
-        ensures declared { OnOk result (self.new ≡ self.old ++ record { name = name.now; id = id } ∷ []) }
+        ensures declared { OnOk result (self.new ≡ self.old ++ record { name = name.now; id = id; header = None } ∷ []) }
+        ensures kept { OnErr result (self.new ≡ self.old) }
+    {
+        self.put(name, id, None, alloc)
+    }
+
+    /// Declares a name for a ledger.
+    pub fn declare_ledger(
+        &mut self,
+        name: &[u8],
+        header: &Header,
+        alloc: Global,
+    ) -> Result<(), OutOfMemory>
+        requires new { id_named self.old name.now ≡ None }
+        requires low { header.now.seq ≤ length self.old + 1 }
+        ensures declared { OnOk result (self.new ≡
+            self.old ++ record { name = name.now; id = header_id header.now; header = Some header.now } ∷ []) }
+        ensures kept { OnErr result (self.new ≡ self.old) }
+    {
+        self.put(name, id_of(header), Some(*header), alloc)
+    }
+
+    fn put(
+        &mut self,
+        name: &[u8],
+        id: LedgerId,
+        header: Option<Header>,
+        alloc: Global,
+    ) -> Result<(), OutOfMemory>
+        requires new { id_named self.old name.now ≡ None }
+        requires low { IfSome header (λ h. h.seq ≤ length self.old + 1) }
+        ensures declared { OnOk result (self.new ≡ self.old ++ record { name = name.now; id = id; header = header } ∷ []) }
         ensures kept { OnErr result (self.new ≡ self.old) }
     {
         let place = self.declared.len();
@@ -102,6 +180,7 @@ impl Names {
         self.declared.push(Named {
             name: Bytes::from_vec(copy),
             id,
+            header,
         })?;
         match self.places.insert(name, &id, place, alloc) {
             Ok(()) => Ok(()),

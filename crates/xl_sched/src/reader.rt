@@ -1,3 +1,4 @@
+mod ledgers;
 mod lies;
 mod words;
 
@@ -25,6 +26,7 @@ pub struct Reader {
     lines: u32,
     moment: Millis,
     started: bool,
+    limited: bool,
     nodes: Nodes,
     liars: Nodes,
     names: Names,
@@ -43,6 +45,7 @@ impl Model for Reader {
       lines = r.lines;
       now = r.moment;
       started = r.started;
+      limited = r.limited;
       nodes = r.nodes;
       liars = r.liars;
       names = r.names;
@@ -65,6 +68,7 @@ impl Reader {
             lines: 0,
             moment: FIRST_MOMENT,
             started: false,
+            limited: false,
             nodes: Nodes::new(alloc),
             liars: Nodes::new(alloc),
             names: Names::with_root(alloc)?,
@@ -148,6 +152,11 @@ impl Reader {
             Line::Node { me, .. } => self.nodes.declare(*me)?,
             Line::Liar(me) => self.liars.declare(*me)?,
             Line::Name { name, id } => self.names.declare(name.as_slice(), *id, self.alloc)?,
+            Line::Limit(_) => self.limited = true,
+            Line::Ledger { name, header, .. } => {
+                self.names
+                    .declare_ledger(name.as_slice(), header, self.alloc)?
+            }
             Line::Event(_) => self.started = true,
         }
         self.lines += 1;

@@ -19,11 +19,11 @@ pub enum SchedRefusal {
     Count(Bytes),
     /// A number is asked, and the token is none, or out of range.
     Number(Bytes),
-    /// An id, a new name or the digits of bytes are asked, and the token is none.
+    /// An id, a new name, the name of a ledger or the digits of bytes are asked, and the token is none.
     Id(Bytes),
     /// One of a few words is asked, and the token is another.
     Choice(Bytes),
-    /// The token is a number or a name that was declared before, a number as a node or as a liar.
+    /// The token is a number or a name that was declared before, a number as a node or as a liar; or a second limit.
     Twice(Bytes),
     /// The token is the word of a declaration, and an event stood before it.
     Late(Bytes),

@@ -5,6 +5,7 @@ ghost use Rattle.xl_sched.specs.Lies.{said_of, may_say};
 #[derive(Clone, Copy, Debug, PartialEq, Eq)]
 pub enum Said {
     Validation,
+    Header,
 }
 
 impl Said {
@@ -14,6 +15,8 @@ impl Said {
     {
         if token == b"validation".as_slice() {
             Some(Said::Validation)
+        } else if token == b"header".as_slice() {
+            Some(Said::Header)
         } else {
             None
         }
@@ -26,6 +29,7 @@ pub fn may_say(said: Option<Said>, count: usize) -> bool
 {
     match said {
         Some(Said::Validation) => count == 4,
+        Some(Said::Header) => count == 1,
         None => count == 1 || count == 4 || count == 5,
     }
 }

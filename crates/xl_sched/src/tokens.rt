@@ -76,6 +76,18 @@ impl<'a> Tokens<'a> {
         Ok((self.take(), self.take()))
     }
 
+    /// The three tokens that are left. Refused for another count.
+    pub fn three(mut self) -> Result<(&'a [u8], &'a [u8], &'a [u8]), Fault<'a>>
+        ensures { MatchResult result
+            (λ three. self.entry ≡ three.0.now ∷ three.1.now ∷ three.2.now ∷ [])
+            (λ fault. (length self.entry ≢ 3) × (fault ≡ Count (decimal (length self.entry + 1)))) }
+    {
+        if self.count() != 3 {
+            return Err(self.miscounted());
+        }
+        Ok((self.take(), self.take(), self.take()))
+    }
+
     /// The four tokens that are left. Refused for another count.
     pub fn four(mut self) -> Result<(&'a [u8], &'a [u8], &'a [u8], &'a [u8]), Fault<'a>>
         ensures { MatchResult result

@@ -12,6 +12,9 @@ pub enum Word {
     Liar,
     Lie,
     Raw,
+    Limit,
+    Ledger,
+    Prefer,
 }
 
 impl Word {
@@ -35,6 +38,12 @@ impl Word {
             Some(Word::Lie)
         } else if token == b"raw".as_slice() {
             Some(Word::Raw)
+        } else if token == b"limit".as_slice() {
+            Some(Word::Limit)
+        } else if token == b"ledger".as_slice() {
+            Some(Word::Ledger)
+        } else if token == b"prefer".as_slice() {
+            Some(Word::Prefer)
         } else {
             None
         }

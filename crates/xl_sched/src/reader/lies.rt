@@ -10,13 +10,13 @@ use crate::raw::raw;
 use crate::reader::Reader;
 use crate::said::{Said, may_say};
 use crate::tokens::Tokens;
-use xl_base::NodeNo;
+use xl_base::{Bytes, NodeNo};
 use xl_wire::Validation;
 
 impl Reader {
     ghost use Rattle.xl_sched.specs.Refusals.{GivenMemory};
     ghost use Rattle.xl_sched.specs.Members.{new_member_of};
-    ghost use Rattle.xl_sched.specs.Lies.{may_say, lied_of};
+    ghost use Rattle.xl_sched.specs.Lies.{may_say, lied_of, validation_of, header_lie};
     ghost use Rattle.xl_sched.specs.Words.{unless_late, liar_line, lie_event, raw_event, IsFit, IsFitEvent, IsUndeclared};
 
     /// A number that may still be declared.
@@ -57,7 +57,7 @@ impl Reader {
 
     /// `lie f t` and what is said.
     pub(super) fn lie<'a>(&self, arguments: Tokens<'a>) -> Result<Event, Fault<'a>>
-        ensures value { result ≡ lie_event self.now arguments.entry }
+        ensures value { GivenMemory result (lie_event self.now arguments.entry) }
         ensures fit { IfOk result (λ event. (sent : ℕ) → IsFitEvent self.now sent event) }
     {
         let (liar, honest, word, arguments) = arguments.three_and_others()?;
@@ -73,7 +73,7 @@ impl Reader {
         })
     }
 
-    /// `validation seq id signed full`, or `partial`. Refused for another word.
+    /// What a lie of this word says. Refused for another word.
     fn lied<'a>(
         &self,
         said: Option<Said>,
@@ -81,20 +81,46 @@ impl Reader {
         arguments: Tokens<'a>,
     ) -> Result<Lied, Fault<'a>>
         requires { may_say said (length arguments) ≡ true }
-        ensures { result ≡ lied_of self.now.names said word.now arguments.entry }
+        ensures { GivenMemory result (lied_of self.now.names said word.now arguments.entry) }
     {
         match said {
             Some(Said::Validation) => {
                 let (seq, id, signed, kind) = arguments.four()?;
-                Ok(Lied::Validation(Validation {
-                    seq: number(seq)?,
-                    id: self.names.id(id)?,
-                    signed: number(signed)?,
-                    full: full(kind)?,
-                }))
+                self.validation(seq, id, signed, kind)
             }
+            Some(Said::Header) => self.header(arguments.one()?),
             None => Err(Fault::with_text(Cause::Choice, word)),
         }
+    }
+
+    /// `validation seq id signed full`, or `partial`.
+    fn validation<'a>(
+        &self,
+        seq: &'a [u8],
+        id: &'a [u8],
+        signed: &'a [u8],
+        kind: &'a [u8],
+    ) -> Result<Lied, Fault<'a>>
+        ensures { result ≡ validation_of self.now.names seq.now id.now signed.now kind.now }
+    {
+        Ok(Lied::Validation(Validation {
+            seq: number(seq)?,
+            id: self.names.id(id)?,
+            signed: number(signed)?,
+            full: full(kind)?,
+        }))
+    }
+
+    /// `header w`.
+    fn header<'a>(&self, name: &'a [u8]) -> Result<Lied, Fault<'a>>
+        ensures { GivenMemory result (header_lie self.now.names name.now) }
+    {
+        let ledger = self.names.ledger(name)?;
+        let name = Vec::from_slice(self.alloc, name)?;
+        Ok(Lied::Header {
+            name: Bytes::from_vec(name),
+            header: ledger.header,
+        })
     }
 
     /// `raw t digits`.

@@ -7,6 +7,7 @@ use crate::refusal::SchedRefusal;
 use std::alloc::Global;
 use std::test::Fail;
 use xl_base::LedgerId;
+use xl_ledger::{Header, id_of};
 use xl_wire::Validation;
 
 /// The lines before a lie.
@@ -103,6 +104,50 @@ const REFUSED_LIES: [Refused; 24] = [
     (LIES, "raw 1 5g", 39, "5g"),
 ];
 
+/// The lines before a ledger: a name of each kind, a node and a liar.
+const LEDGERS: &str = "xl-schedule 1\nnode 1 1 1\nliar 2\nledger a root 60\nname b a\nname c root";
+
+const REFUSED_LEDGERS: [Refused; 33] = [
+    ("xl-schedule 1", "limit", 37, "1"),
+    ("xl-schedule 1", "limit 2 3", 37, "3"),
+    ("xl-schedule 1", "limit 1", 38, "1"),
+    ("xl-schedule 1", "limit 16385", 38, "16385"),
+    ("xl-schedule 1", "limit 02", 38, "02"),
+    ("xl-schedule 1\nlimit 2", "limit 16384", 41, "16384"),
+    ("xl-schedule 1\nlimit 2", "limit 1", 38, "1"),
+    ("xl-schedule 1\nnode 1 1 1\nprefer 1", "limit", 42, "limit"),
+    (LEDGERS, "ledger", 37, "1"),
+    (LEDGERS, "ledger d a", 37, "3"),
+    (LEDGERS, "ledger d a 1 2", 37, "5"),
+    (LEDGERS, "ledger D a 1", 39, "D"),
+    (LEDGERS, "ledger a a 1", 41, "a"),
+    (LEDGERS, "ledger b b x", 41, "b"),
+    (LEDGERS, "ledger root root 1", 41, "root"),
+    (LEDGERS, "ledger d b 1", 39, "b"),
+    (LEDGERS, "ledger d c x", 39, "c"),
+    (LEDGERS, "ledger d d 1", 39, "d"),
+    (
+        LEDGERS,
+        "ledger d 0000000000000000000000000000000000000000000000000000000000000000 1",
+        39,
+        "00000000000000000000000000000000",
+    ),
+    (LEDGERS, "ledger d a 4294967296", 38, "4294967296"),
+    (LEDGERS, "ledger d a -", 38, "-"),
+    (LEDGERS, "name a root", 41, "a"),
+    (LEDGERS, "prefer", 37, "1"),
+    (LEDGERS, "prefer 1 1", 37, "3"),
+    (LEDGERS, "prefer 65", 38, "65"),
+    (LEDGERS, "prefer 2", 44, "2"),
+    (LEDGERS, "lie 2 1 header", 37, "4"),
+    (LEDGERS, "lie 2 1 header a 1 1 1", 37, "8"),
+    (LEDGERS, "lie 2 1 header root", 39, "root"),
+    (LEDGERS, "lie 2 1 header b", 39, "b"),
+    (LEDGERS, "lie 2 1 header d", 39, "d"),
+    (LEDGERS, "lie 1 1 header b", 44, "1"),
+    (LEDGERS, "lie 0 1 header b", 38, "0"),
+];
+
 /// Reads lines that aren't refused.
 fn read_all(reader: &mut Reader, lines: &str) -> Result<(), SchedRefusal> {
     for line in lines.split('\n') {
@@ -141,6 +186,33 @@ fn refuses_with_number_and_token(rt: HostRuntime) -> Result<(), Fail> {
 fn refuses_lies(rt: HostRuntime) -> Result<(), Fail> {
     for row in REFUSED_LIES {
         assert!(rt; is_refused(rt.alloc(), row)?, "{}", row.1);
+    }
+    Ok(())
+}
+
+#[test]
+fn refuses_ledgers(rt: HostRuntime) -> Result<(), Fail> {
+    for row in REFUSED_LEDGERS {
+        assert!(rt; is_refused(rt.alloc(), row)?, "{}", row.1);
+    }
+    Ok(())
+}
+
+#[test]
+fn refuses_a_name_too_many(rt: HostRuntime) -> Result<(), Fail> {
+    let mut reader = reader_of(rt.alloc(), "xl-schedule 1\nledger a root 1")?;
+    for number in 1..4_096 {
+        let line = format!(in rt.alloc(); "name n{number} a")?;
+        reader.read_line(line.as_bytes(), 0)?;
+    }
+    for line in ["ledger", "name", "ledger a a x"] {
+        match reader.read_line(line.as_bytes(), 0) {
+            Err(refusal) => {
+                assert_eq!(rt; refusal.code(), 35);
+                assert_eq!(rt; refusal.token(), b"4096".as_slice());
+            }
+            Ok(_) => assert!(rt; false, "4,097 names are declared"),
+        }
     }
     Ok(())
 }
@@ -189,6 +261,80 @@ fn declares_names(rt: HostRuntime) -> Result<(), Fail> {
     assert!(rt; is_printed_as(&reader, &LedgerId([0; 32]), b"root"));
     assert!(rt; reader.name_of(&LedgerId([2; 32])).is_none());
     assert_eq!(rt; reader.lines(), 6);
+    Ok(())
+}
+
+/// The header of a ledger that follows the root, the ledger of 32 zero bytes.
+fn first_header() -> Header {
+    Header {
+        seq: 1,
+        drops: 100_000_000_000_000_000,
+        parent: LedgerId([0; 32]),
+        tx_hash: [0; 32],
+        account_hash: [0; 32],
+        parent_close: 0,
+        close: 60,
+        resolution: 30,
+        flags: 0,
+    }
+}
+
+/// Whether the line says that the name is a ledger with this parent and header.
+fn is_ledger(read: &Option<Line>, ledger: &[u8], above: &[u8], says: &Header) -> bool {
+    match read {
+        Some(
+            Line::Ledger {
+                name,
+                parent,
+                header,
+            },
+        ) => { name.as_slice() == ledger && parent.as_slice() == above && *header == *says }
+        _ => false,
+    }
+}
+
+#[test]
+fn declares_ledgers(rt: HostRuntime) -> Result<(), Fail> {
+    let mut reader = reader_of(rt.alloc(), "xl-schedule 1\nnode 1 1 1\nissue 1 1 root full")?;
+    let first = first_header();
+    let read = reader.read_line(b"ledger a root 60", 0)?;
+    assert!(rt; is_ledger(&read, b"a", b"root", &first));
+    let second = Header {
+        seq: 2,
+        parent: id_of(&first),
+        parent_close: 60,
+        close: u32::MAX,
+        ..first
+    };
+    let read = reader.read_line(b"ledger b a 4294967295", 0)?;
+    assert!(rt; is_ledger(&read, b"b", b"a", &second));
+    assert!(rt; is_printed_as(&reader, &id_of(&first), b"a"));
+    assert!(rt; is_printed_as(&reader, &id_of(&second), b"b"));
+    Ok(())
+}
+
+#[test]
+fn a_ledger_stands_for_its_id(rt: HostRuntime) -> Result<(), Fail> {
+    let mut reader = reader_of(rt.alloc(), LEDGERS)?;
+    let issue = reader.read_line(b"issue 1 1 a partial", 0)?;
+    match &issue {
+        Some(Line::Event(Event::Issue { id, full, .. })) => {
+            assert!(rt; *id == id_of(&first_header()));
+            assert!(rt; !*full);
+        }
+        _ => assert!(rt; false, "no issue"),
+    }
+    Ok(())
+}
+
+#[test]
+fn takes_a_limit(rt: HostRuntime) -> Result<(), Fail> {
+    let mut reader = reader_of(rt.alloc(), "xl-schedule 1")?;
+    let limit = reader.read_line(b"limit 16384", 0)?;
+    assert!(rt; matches!(&limit, Some(Line::Limit(16_384))));
+    let mut reader = reader_of(rt.alloc(), "xl-schedule 1\nnode 1 1 1\nliar 2")?;
+    let limit = reader.read_line(b"limit 2", 0)?;
+    assert!(rt; matches!(&limit, Some(Line::Limit(2))));
     Ok(())
 }
 
@@ -258,6 +404,10 @@ fn reads_events(rt: HostRuntime) -> Result<(), Fail> {
     assert!(rt;
         matches!(&restart, Some(Line::Event(Event::Restart { at: 1_000, node })) if node.get() == 1)
     );
+    let prefer = reader.read_line(b"prefer 1", 2)?;
+    assert!(rt;
+        matches!(&prefer, Some(Line::Event(Event::Prefer { at: 1_000, node })) if node.get() == 1)
+    );
     Ok(())
 }
 
@@ -280,6 +430,23 @@ fn is_lie(read: &Option<Line>) -> bool {
                 },
             ),
         ) => { from.get() == 2 && to.get() == 1 && *validation == said }
+        _ => false,
+    }
+}
+
+/// Whether liar 2 says to node 1 that the ledger of this name has this header.
+fn is_header_lie(read: &Option<Line>, ledger: &[u8], says: &Header) -> bool {
+    match read {
+        Some(
+            Line::Event(
+                Event::Lie {
+                    at: 1_000,
+                    from,
+                    to,
+                    what: Lied::Header { name, header },
+                },
+            ),
+        ) => { from.get() == 2 && to.get() == 1 && name.as_slice() == ledger && *header == *says }
         _ => false,
     }
 }
@@ -308,6 +475,14 @@ fn reads_lies(rt: HostRuntime) -> Result<(), Fail> {
     assert!(rt; is_lie(&lie));
     let raw = reader.read_line(b"raw 1 584c01fF", 0)?;
     assert!(rt; is_raw(&raw));
+    Ok(())
+}
+
+#[test]
+fn reads_a_lie_of_a_header(rt: HostRuntime) -> Result<(), Fail> {
+    let mut reader = reader_of(rt.alloc(), LEDGERS)?;
+    let lie = reader.read_line(b"lie 2 1 header a", 0)?;
+    assert!(rt; is_header_lie(&lie, b"a", &first_header()));
     Ok(())
 }
 

@@ -35,6 +35,9 @@ impl Reader {
             Some(Word::Liar) => self.liar_in_time(token, arguments),
             Some(Word::Lie) => Ok(Line::Event(self.lie(arguments)?)),
             Some(Word::Raw) => Ok(Line::Event(self.raw(arguments)?)),
+            Some(Word::Limit) => self.limit_in_time(token, arguments),
+            Some(Word::Ledger) => self.ledger(arguments),
+            Some(Word::Prefer) => Ok(Line::Event(self.prefer(arguments)?)),
         }
     }
 

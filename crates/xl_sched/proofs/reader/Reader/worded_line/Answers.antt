@@ -11,3 +11,6 @@ returns-in_ok-lie-in-Some-Lie-clause-fit c = c.in_ok-lie-in-Some-Lie.ensures.fit
 
 pub returns-in_ok-raw-in-Some-Raw-clause-fit : goal.returns-in_ok-raw-in-Some-Raw-clause-fit
 returns-in_ok-raw-in-Some-Raw-clause-fit c = c.in_ok-raw-in-Some-Raw.ensures.fit c.args.sent
+
+pub returns-in_ok-prefer-in-Some-Prefer-clause-fit : goal.returns-in_ok-prefer-in-Some-Prefer-clause-fit
+returns-in_ok-prefer-in-Some-Prefer-clause-fit c = c.in_ok-prefer-in-Some-Prefer.ensures.fit c.args.sent
