@@ -2,3 +2,5 @@ pub mod Scripts
 pub mod Memory
 pub mod Sources
 pub mod Sinks
+pub mod Keepers
+pub mod Saves

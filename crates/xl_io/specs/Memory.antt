@@ -1,8 +1,13 @@
--- What sources and sinks in memory show: their content, their faults and their script.
+-- What sources, sinks and keepers in memory show: their content, their faults and their script.
 -- Source: this project's own, for tests of what reads and writes.
-use Rattle.std.specs.Prelude.{ℕ, List, Some, drop}
+use Rattle.std.specs.Prelude.{ℕ, List, Some, None, drop, option_map, if◌then◌else◌}
 use Rattle.std.specs.declared.option.Option.{Option}
 use Rattle.xl_io.specs.Scripts.{Script}
+use Rattle.xl_io.specs.Keepers.{Held, holding}
+use Rattle.xl_io.specs.Saves.{SaveList}
+use Rattle.xl_io.specs.declared.keeper.memory.PlainKeeper.{PlainKeeper}
+use Rattle.xl_io.specs.declared.keeper.memory.MemKeeper.{MemKeeper}
+use Rattle.xl_io.specs.declared.keeper.memory.FailedSave.{FailedSave}
 use Rattle.xl_io.specs.declared.source.memory.MemSource.{MemSource}
 use Rattle.xl_io.specs.declared.sink.memory.MemSink.{MemSink}
 
@@ -25,3 +30,40 @@ write_faults sink = sink.failures.count
 
 abbrev pub write_script : MemSink → Script
 write_script sink = record { failing = sink.failures.failing.items; calls = sink.failures.calls }
+
+-- the one number that a keeper which never fails holds
+abbrev pub plain_held : PlainKeeper → Option Held
+plain_held keeper = Some (holding keeper.seq)
+
+abbrev pub plain_saves : PlainKeeper → SaveList
+plain_saves keeper = keeper.saves
+
+-- the number that the last save with Ok, or the last load, left in force
+abbrev pub in_force : MemKeeper → ℕ
+in_force keeper = keeper.in_force
+
+-- the numbers that a stop may leave
+abbrev pub numbers_held : MemKeeper → Option Held
+numbers_held keeper = Some (record { in_force = keeper.in_force; asked = option_map (λ save. save.seq) keeper.failed })
+
+-- of the number in force and of a failed save, the number that was written last
+abbrev pub last_written : ℕ → Option FailedSave → ℕ
+last_written in_force None = in_force
+last_written in_force (Some save) = if save.written then save.seq else in_force
+
+-- the number that the next load answers
+abbrev pub next_load : MemKeeper → ℕ
+next_load keeper = last_written keeper.in_force keeper.failed
+
+abbrev pub list_of_saves : MemKeeper → SaveList
+list_of_saves keeper = keeper.saves
+
+abbrev pub keeper_faults : MemKeeper → ℕ
+keeper_faults keeper = keeper.failures.count
+
+abbrev pub fault_script : MemKeeper → Script
+fault_script keeper = record { failing = keeper.failures.failing.items; calls = keeper.failures.calls }
+
+-- the calls that leave the asked number, of those that are saves and fail
+abbrev pub written_script : MemKeeper → Script
+written_script keeper = record { failing = keeper.written.items; calls = keeper.failures.calls }

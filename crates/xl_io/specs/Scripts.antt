@@ -1,4 +1,4 @@
--- Which calls of a source or a sink in memory fail. Source: this project's own, for tests of what reads and writes.
+-- Which calls of a source, a sink or a keeper in memory fail. Source: this project's own, for tests of what reads and writes.
 use Rattle.std.specs.Prelude.{ℕ, ◌+◌, ◌-◌, ◌^◌, ◌==◌, min, Bool, List}
 use Rattle.std.specs.List.{list_any}
 

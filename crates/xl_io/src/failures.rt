@@ -24,6 +24,20 @@ impl Failures {
         }
     }
 
+    /// The number of the last call, 0 where there was none.
+    pub fn calls(&self) -> u64
+        ensures { result ≡ self.now.calls }
+    {
+        self.calls
+    }
+
+    /// How many faults there were.
+    pub fn count(&self) -> u64
+        ensures { result ≡ self.now.count }
+    {
+        self.count
+    }
+
     /// Counts a call, and says whether it is to fail. A call that is to fail is a fault.
     pub fn next_fails(&mut self) -> bool
         ensures fails { result ≡ is_listed (record { failing = self.new.failing.items; calls = self.new.calls }) }

@@ -56,5 +56,44 @@ fn plain_forms_never_fail(rt: HostRuntime) -> Result<(), Fail> {
         assert!(rt; source.read(&mut room) == piece);
     }
     assert!(rt; write_all(&mut Discard, &room) == Ok(()));
+
+    let mut keeper = PlainKeeper::new(rt.alloc(), 2)?;
+    for seq in [3, 1] {
+        assert!(rt; keeper.save(seq) == Ok(()));
+        assert!(rt; keeper.load() == Ok(seq));
+    }
+    assert_eq!(rt; keeper.faults(), 0);
+    assert!(rt; keeper.saves() == Some([3, 1].as_slice()));
+    Ok(())
+}
+
+#[test]
+fn a_failed_save_leaves_what_the_script_says(rt: HostRuntime) -> Result<(), Fail> {
+    let alloc = rt.alloc();
+    let mut keeper = MemKeeper::new(alloc, 3, [4, 6].to_vec(alloc)?, [6].to_vec(alloc)?)?;
+    assert!(rt; keeper.load() == Ok(0));
+    for (seq, saved, loaded) in [(5, Ok(()), 5), (7, Err(Failed), 5), (8, Err(Failed), 8)] {
+        assert!(rt; keeper.save(seq) == saved);
+        assert!(rt; keeper.load() == Ok(loaded));
+    }
+    assert_eq!(rt; keeper.faults(), 2);
+    assert!(rt; keeper.saves() == Some([5, 7, 8].as_slice()));
+    assert!(rt; keeper.save(9) == Ok(()));
+    assert!(rt; keeper.saves().is_none());
+    Ok(())
+}
+
+#[test]
+fn the_last_save_decides_what_is_loaded(rt: HostRuntime) -> Result<(), Fail> {
+    let alloc = rt.alloc();
+    let failing = [2, 3, 4].to_vec(alloc)?;
+    let mut keeper = MemKeeper::new(alloc, 0, failing, [2].to_vec(alloc)?)?;
+    for (seq, saved) in [(5, Ok(())), (6, Err(Failed)), (7, Err(Failed))] {
+        assert!(rt; keeper.save(seq) == saved);
+    }
+    for loaded in [Err(Failed), Ok(5), Ok(5)] {
+        assert!(rt; keeper.load() == loaded);
+    }
+    assert_eq!(rt; keeper.faults(), 3);
     Ok(())
 }

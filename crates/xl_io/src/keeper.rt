@@ -1,0 +1,42 @@
+ghost use Rattle.std.specs.Prelude.{◌≡◌, ℕ, ◌≤◌, List, Some, option_map, is_ok, IfSome, IfOk, OnErr};
+ghost use Rattle.std.specs.declared.option.Option.{Option};
+ghost use Rattle.xl_base.specs.Faults.{Rose};
+ghost use Rattle.xl_io.specs.Keepers.{Held, MayHold, holding, after_save, AddsSave};
+
+pub mod memory;
+mod saves;
+
+use crate::Failed;
+use xl_base::Seq;
+
+/// Where a node keeps the last sequence that it issued, so that it outlives a stop. One that never saved loads 0.
+pub trait Keeper {
+    /// The numbers that a stop at this moment may leave, where they are told.
+    ghost held: { Self → Option Held };
+
+    /// All numbers that were asked to be saved, first to last, where they are told.
+    ghost saves: { Self → Option (List ℕ) };
+
+    /// How often a call has failed, up to the greatest `u64`.
+    ghost faults: { Self → ℕ };
+
+    /// Answers a number that it may hold, and holds that one alone from then on. `Failed` leaves it.
+    fn load(&mut self) -> Result<Seq, Failed>
+        ensures loaded { IfOk result (λ seq. IfSome (held self.old) (λ held. MayHold held seq)) }
+        ensures alone { IfOk result (λ seq. held self.new ≡ option_map (λ _. holding seq) (held self.old)) }
+        ensures left { OnErr result (held self.new ≡ held self.old) }
+        ensures saves { saves self.new ≡ saves self.old }
+        ensures later { faults self.old ≤ faults self.new }
+        ensures failed { OnErr result (Rose (faults self.old) (faults self.new)) };
+
+    /// Holds the number alone from then on. After `Failed` it holds the one in force, and may hold this one.
+    fn save(&mut self, seq: Seq) -> Result<(), Failed>
+        ensures held { held self.new ≡ option_map (λ held. after_save held (Some seq) (is_ok result)) (held self.old) }
+        ensures saves { AddsSave (saves self.old) (saves self.new) seq }
+        ensures later { faults self.old ≤ faults self.new }
+        ensures failed { OnErr result (Rose (faults self.old) (faults self.new)) };
+
+    /// How often a call has failed, up to the greatest `u64`.
+    fn faults(&self) -> u64
+        ensures { result ≡ faults self.now };
+}

@@ -1,0 +1,213 @@
+ghost use Rattle.std.specs.Prelude.{◌≡◌, ◌≤◌, Some, IfOk, option_map};
+ghost use Rattle.xl_io.specs.Keepers.{holding};
+ghost use Rattle.xl_io.specs.Saves.{no_saves};
+
+use super::saves::Saves;
+use crate::failures::Failures;
+use crate::{Failed, Keeper};
+use std::alloc::Global;
+use xl_base::{OutOfMemory, Seq};
+
+/// A keeper in memory that never fails: its count of faults is 0. It tells its saves while there is room for them.
+#[derive(Drop)]
+pub struct PlainKeeper {
+    seq: Seq,
+    saves: Saves,
+}
+
+impl PlainKeeper {
+    ghost use Rattle.xl_io.specs.Memory.{plain_saves};
+
+    /// A keeper that never saved, with room to tell so many saves.
+    pub fn new(alloc: Global, room: usize) -> Result<Self, OutOfMemory>
+        ensures held { IfOk result (λ keeper. ⟦<PlainKeeper as Keeper>⟧.held keeper ≡ Some (holding 0)) }
+        ensures saves { IfOk result (λ keeper. plain_saves keeper ≡ no_saves room) }
+    {
+        Ok(PlainKeeper {
+            seq: 0,
+            saves: Saves::with_room(alloc, room)?,
+        })
+    }
+
+    /// All numbers that were asked to be saved, where they are told.
+    pub fn saves(&self) -> Option<&[Seq]>
+        ensures { option_map (λ seqs. seqs.now) result ≡ ⟦<PlainKeeper as Keeper>⟧.saves self.now }
+    {
+        self.saves.told()
+    }
+}
+
+impl Keeper for PlainKeeper {
+    ghost use Rattle.std.specs.Prelude.{IsOk};
+    ghost use Rattle.xl_io.specs.Memory.{plain_held, plain_saves};
+    ghost use Rattle.xl_io.specs.Saves.{with_save};
+
+    ghost held = { plain_held };
+
+    ghost saves = { λ keeper. (plain_saves keeper).told };
+
+    ghost faults = { λ _. 0 };
+
+    fn load(&mut self) -> Result<Seq, Failed> {
+        Ok(self.seq)
+    }
+
+    fn save(&mut self, seq: Seq) -> Result<(), Failed>
+        ensures ok { IsOk result }
+        ensures held { plain_held self.new ≡ Some (holding seq) }
+        ensures list { plain_saves self.new ≡ with_save (plain_saves self.old) seq }
+    {
+        self.saves.push(seq);
+        self.seq = seq;
+        Ok(())
+    }
+
+    fn faults(&self) -> u64 {
+        0
+    }
+}
+
+/// A save that failed: the number that was asked, and whether it was written all the same.
+#[derive(Clone, Copy, Debug, PartialEq, Eq)]
+struct FailedSave {
+    seq: Seq,
+    written: bool,
+}
+
+/// A keeper in memory, and the calls that are to fail. It tells its saves while there is room for them.
+#[derive(Drop)]
+pub struct MemKeeper {
+    in_force: Seq,
+    failed: Option<FailedSave>,
+    saves: Saves,
+    failures: Failures,
+    written: Vec<u64>,
+}
+
+impl MemKeeper {
+    ghost use Rattle.xl_io.specs.Memory.{fault_script, list_of_saves, next_load, written_script};
+    ghost use Rattle.xl_io.specs.Scripts.{script_of};
+
+    /// A keeper that never saved, with room to tell so many saves.
+    ///
+    /// The calls whose numbers, from 1, are listed as failing fail. A save that fails leaves the number in force for the
+    /// next load, or the one that was asked if it is listed as written too.
+    pub fn new(
+        alloc: Global,
+        room: usize,
+        failing: Vec<u64>,
+        written: Vec<u64>,
+    ) -> Result<Self, OutOfMemory>
+        ensures held { IfOk result (λ keeper. ⟦<MemKeeper as Keeper>⟧.held keeper ≡ Some (holding 0)) }
+        ensures next { IfOk result (λ keeper. next_load keeper ≡ 0) }
+        ensures saves { IfOk result (λ keeper. list_of_saves keeper ≡ no_saves room) }
+        ensures faults { IfOk result (λ keeper. ⟦<MemKeeper as Keeper>⟧.faults keeper ≡ 0) }
+        ensures failing { IfOk result (λ keeper. fault_script keeper ≡ script_of failing.items) }
+        ensures written { IfOk result (λ keeper. written_script keeper ≡ script_of written.items) }
+    {
+        Ok(MemKeeper {
+            in_force: 0,
+            failed: None,
+            saves: Saves::with_room(alloc, room)?,
+            failures: Failures::new(failing),
+            written,
+        })
+    }
+
+    /// All numbers that were asked to be saved, where they are told.
+    pub fn saves(&self) -> Option<&[Seq]>
+        ensures { option_map (λ seqs. seqs.now) result ≡ ⟦<MemKeeper as Keeper>⟧.saves self.now }
+    {
+        self.saves.told()
+    }
+
+    /// The number that the next load answers.
+    fn next_load(&self) -> Seq
+        ensures { result ≡ next_load self.now }
+    {
+        match self.failed {
+            Some(save) if save.written => save.seq,
+            _ => self.in_force,
+        }
+    }
+
+    /// Holds the number alone.
+    fn hold(&mut self, seq: Seq)
+        ensures { self.new ≡ record self.old { in_force = seq; failed = None } }
+    {
+        self.in_force = seq;
+        self.failed = None;
+    }
+}
+
+impl Keeper for MemKeeper {
+    ghost use Rattle.std.specs.Prelude.{◌↔◌, ◌||◌, is_ok, IfSome, IsErr, IsTrue, OnErr, if◌then◌else◌};
+    ghost use Rattle.xl_base.specs.Faults.{Rose};
+    ghost use Rattle.xl_io.specs.Keepers.{after_save, AddsSave, MayHold};
+    ghost use Rattle.xl_io.specs.Memory.{
+      fault_script,
+      in_force,
+      keeper_faults,
+      list_of_saves,
+      next_load,
+      numbers_held,
+      written_script,
+    };
+    ghost use Rattle.xl_io.specs.Saves.{with_save};
+    ghost use Rattle.xl_io.specs.Scripts.{called, is_listed, next_fails};
+
+    ghost held = { numbers_held };
+
+    ghost saves = { λ keeper. (list_of_saves keeper).told };
+
+    ghost faults = { keeper_faults };
+
+    fn load(&mut self) -> Result<Seq, Failed>
+        ensures loaded { IfOk result (λ seq. IfSome (numbers_held self.old) (λ held. MayHold held seq)) }
+        ensures alone { IfOk result (λ seq. numbers_held self.new ≡ option_map (λ _. holding seq) (numbers_held self.old)) }
+        ensures left { OnErr result (numbers_held self.new ≡ numbers_held self.old) }
+        ensures later { keeper_faults self.old ≤ keeper_faults self.new }
+        ensures failed { OnErr result (Rose (keeper_faults self.old) (keeper_faults self.new)) }
+
+        // What the script makes of it.
+        ensures answer { IfOk result (λ seq. seq ≡ next_load self.old) }
+        ensures next { next_load self.new ≡ next_load self.old }
+        ensures list { list_of_saves self.new ≡ list_of_saves self.old }
+        ensures failing { fault_script self.new ≡ called (fault_script self.old) }
+        ensures written { written_script self.new ≡ called (written_script self.old) }
+        ensures scripted { IsErr result ↔ IsTrue (next_fails (fault_script self.old)) }
+    {
+        if self.failures.next_fails() {
+            return Err(Failed);
+        }
+        let loaded = self.next_load();
+        self.hold(loaded);
+        Ok(loaded)
+    }
+
+    fn save(&mut self, seq: Seq) -> Result<(), Failed>
+        ensures held { numbers_held self.new ≡ option_map (λ held. after_save held (Some seq) (is_ok result)) (numbers_held self.old) }
+        ensures later { keeper_faults self.old ≤ keeper_faults self.new }
+        ensures failed { OnErr result (Rose (keeper_faults self.old) (keeper_faults self.new)) }
+
+        // What the script makes of it.
+        ensures next { next_load self.new ≡ (if is_ok result || is_listed (called (written_script self.old)) then seq else in_force self.old) }
+        ensures list { list_of_saves self.new ≡ with_save (list_of_saves self.old) seq }
+        ensures failing { fault_script self.new ≡ called (fault_script self.old) }
+        ensures written { written_script self.new ≡ called (written_script self.old) }
+        ensures scripted { IsErr result ↔ IsTrue (next_fails (fault_script self.old)) }
+    {
+        self.saves.push(seq);
+        if self.failures.next_fails() {
+            let written = self.written.contains(&self.failures.calls());
+            self.failed = Some(FailedSave { seq, written });
+            return Err(Failed);
+        }
+        self.hold(seq);
+        Ok(())
+    }
+
+    fn faults(&self) -> u64 {
+        self.failures.count()
+    }
+}

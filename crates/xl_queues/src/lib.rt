@@ -1,0 +1,13 @@
+//! Queues of a fixed length for what waits to be sent or to be read: a push into a full one drops the oldest item and
+//! counts it, so that whoever pushes never waits and takes no memory.
+//!
+//! It stands on xl_base and the kit's `circular_buffer`. Its one contract: what was pushed and is neither held nor taken
+//! was counted as lost.
+#![tactic(auto)]
+
+mod queue;
+
+pub use queue::Queue;
+
+#[cfg(test)]
+mod tests;
