@@ -253,6 +253,15 @@ impl Core {
         &self.keys
     }
 
+    /// How many ledgers it may know, the root among them.
+    pub fn limit(&self) -> u32
+        ensures value { result ≡ self.now.ledgers.limit }
+        ensures least { LEAST_LIMIT ≤ result }
+        ensures most { result ≤ GREATEST_LIMIT }
+    {
+        self.registry.limit()
+    }
+
     /// The last sequence that was saved.
     pub fn kept(&self) -> Seq
         ensures { result ≡ self.now.kept }

@@ -71,6 +71,15 @@ impl Registry {
         self.ledgers.len() as u32
     }
 
+    /// How many ledgers there may be, the root among them.
+    pub fn limit(&self) -> u32
+        ensures value { result ≡ self.now.limit }
+        ensures least { LEAST_LIMIT ≤ result }
+        ensures most { result ≤ GREATEST_LIMIT }
+    {
+        self.limit
+    }
+
     /// Adds the ledger of a header, and tells its place.
     ///
     /// Refused as known, as an orphan, for its sequence, or for want of room, in this order; the registry then stays.

@@ -9,9 +9,14 @@ use Rattle.xl_lists.specs.Agreement.{Report as Reported}
 use Rattle.xl_core.specs.declared.report.Report.{Report}
 use Rattle.xl_core.specs.declared.refusal.Refusal.TheVariants.{NotAfter}
 use Rattle.xl_core.specs.declared.refusal.Refusal.{Refusal}
+use Rattle.xl_ledger.specs.declared.header.Header.{Header}
+use Rattle.xl_ledger.specs.declared.refusal.AddRefusal.{AddRefusal}
+use Rattle.xl_ledger.specs.Registries.{add_refusal}
 use Rattle.xl_core.specs.declared.hearing.Spoken.{Spoken}
+use Rattle.xl_core.specs.declared.hearing.Speech.{Speech}
+use Rattle.xl_core.specs.declared.hearing.Speech.TheVariants.{Vote, Header as Ledger}
 use Rattle.xl_core.specs.Hearing.{heard}
-use Rattle.xl_core.specs.Node.{Node, Event, Issue, Frame, Reply, issues, hears, hearing, refusing, refusal_at, happens, asks, opened}
+use Rattle.xl_core.specs.Node.{Node, Event, Issue, Frame, Reply, issues, hears, learns, hearing_speech, hearing, refusing, refusal_at, happens, asks, opened}
 use Rattle.xl_wire.specs.declared.validation.Validation.{Validation}
 use Rattle.xl_validations.specs.declared.refusal.ValRefusal.{ValRefusal}
 use Rattle.xl_world.specs.declared.place.Keeper.{Keeper}
@@ -58,8 +63,16 @@ hears_keep : (n : Node) (now from : ℕ) (v : Validation) (o : Option ValRefusal
 hears_keep n now from v None = (refl, refl)
 hears_keep n now from v (Some why) = (refl, refl)
 
+learns_keep : (n : Node) (h : Header) (o : Option AddRefusal) → KeepsList n (learns n h o)
+learns_keep n h None = (refl, refl)
+learns_keep n h (Some why) = (refl, refl)
+
+speech_keeps : (n : Node) (now from : ℕ) (what : Speech) → KeepsList n (hearing_speech n now from what)
+speech_keeps n now from (Vote v) = hears_keep n now from v (refusal_at n now from v)
+speech_keeps n now from (Ledger h) = learns_keep n h (add_refusal n.ledgers h)
+
 hearing_keeps : (n : Node) (now : ℕ) (said : Result Spoken Refusal) → KeepsList n (hearing n now said)
-hearing_keeps n now (Ok said) = hears_keep n now said.from said.validation (refusal_at n now said.from said.validation)
+hearing_keeps n now (Ok said) = speech_keeps n now said.from said.what
 hearing_keeps n now (Err why) = (refl, refl)
 
 pub happens_keeps : (n : Node) (e : Event) (saved : Bool) → KeepsList n (happens n e saved)
@@ -73,7 +86,7 @@ acts_lists plan w i e saved has (Some p) at =
     settled_lists plan w i (is_forged w p.node e) p (happens p.node e saved) (after_save p.keeper (asks p.node e) saved) at (happens_keeps p.node e saved).0 (happens_keeps p.node e saved).1 has
 
 reopened_lists : (plan : List PlanNode) (w : World) (i number : ℕ) → HasLists plan w → (p : Place) → place_at i w.places ≡ Some p → HasLists plan (reopened w i p.node number)
-reopened_lists plan w i number has p at = settled_lists plan w i false p (quiet (opened p.node.me p.node.list p.node.keys number)) (holding number) at refl refl has
+reopened_lists plan w i number has p at = settled_lists plan w i false p (quiet (opened p.node.me p.node.list p.node.keys p.node.ledgers.limit number)) (holding number) at refl refl has
 
 again_lists : (plan : List PlanNode) (w : World) (i number : ℕ) → HasLists plan w → (o : Option Place) → place_at i w.places ≡ o → HasLists plan (again w i number o)
 again_lists plan w i number has None at = has
@@ -96,16 +109,16 @@ run_lists plan w [] has = has
 run_lists plan w (s ∷ ss) has = run_lists plan (step w s) ss (step_lists plan w s has)
 
 -- the nodes that are opened have the lists that are declared
-opened_under : (plan : List PlanNode) (i : ℕ) (p : Place) → place_at i (map place_of plan) ≡ Some p → list_at plan i ≡ Some p.node.list
-opened_under [] i p h = cc
-opened_under (d ∷ ds) i p h =
-    cond_both (d.me == i) (Some (place_of d)) (place_at i (map place_of ds)) (λ o. o ≡ Some p → list_at (d ∷ ds) i ≡ Some p.node.list)
+opened_under : (limit : ℕ) (plan : List PlanNode) (i : ℕ) (p : Place) → place_at i (map (place_of limit) plan) ≡ Some p → list_at plan i ≡ Some p.node.list
+opened_under limit [] i p h = cc
+opened_under limit (d ∷ ds) i p h =
+    cond_both (d.me == i) (Some (place_of limit d)) (place_at i (map (place_of limit) ds)) (λ o. o ≡ Some p → list_at (d ∷ ds) i ≡ Some p.node.list)
     (λ is here. ap (option_map (λ x. x.list)) (cond-true (d.me == i) (Some d) _ is) ∙ ap (λ (x : Place). Some x.node.list) (sym (some_same _ p here)))
-    (λ is_not there. ap (option_map (λ x. x.list)) (cond-false (d.me == i) (Some d) _ is_not) ∙ opened_under ds i p there)
+    (λ is_not there. ap (option_map (λ x. x.list)) (cond-false (d.me == i) (Some d) _ is_not) ∙ opened_under limit ds i p there)
     h
 
-pub start_lists : (liars : List ℕ) (plan : List PlanNode) → HasLists plan (start liars plan)
-start_lists liars plan = record { nodes = opened_under plan; reports = All-nil (λ r. list_at plan r.node ≡ Some r.list) }
+pub start_lists : (limit : ℕ) (liars : List ℕ) (plan : List PlanNode) → HasLists plan (start limit liars plan)
+start_lists limit liars plan = record { nodes = opened_under limit plan; reports = All-nil (λ r. list_at plan r.node ≡ Some r.list) }
 
 some_list : (a b : TrustedList) → Some a ≡ Some b → a ≡ b
 some_list a b e = cc
@@ -115,14 +128,14 @@ its_list : (plan : List PlanNode) (i : ℕ) (a : TrustedList) (r : Reported) →
 its_list plan i a r at_i of_i under = some_list a r.list (sym at_i ∙ (ap (list_at plan) (sym of_i) ∙ under))
 
 pub headline : Headline
-headline liars plan steps i j a b lists at_i at_j enough none k d k_in l e l_in of_i of_j same_seq =
-    let reports = (run (start liars plan) steps).reports in
-    let has = (run_lists plan (start liars plan) steps (start_lists liars plan)).reports in
+headline limit liars plan steps i j a b lists at_i at_j enough none k d k_in l e l_in of_i of_j same_seq =
+    let reports = (run (start limit liars plan) steps).reports in
+    let has = (run_lists plan (start limit liars plan) steps (start_lists limit liars plan)).reports in
     let r : Reported = slice_index_or reports k d in
     let q : Reported = slice_index_or reports l e in
     let mine : a ≡ r.list = its_list plan i a r at_i of_i (has k d k_in) in
     let theirs : b ≡ q.list = its_list plan j b q at_j of_j (has l e l_in) in
-    agreement liars plan steps lists none k d k_in l e l_in (subst (λ x. Enough liars r.list x) theirs (subst (λ x. Enough liars x b) mine enough)) same_seq
+    agreement limit liars plan steps lists none k d k_in l e l_in (subst (λ x. Enough liars r.list x) theirs (subst (λ x. Enough liars x b) mine enough)) same_seq
 
 -- a number's list in the world is the declared one
 declared_as : (plan : List PlanNode) (w : World) (i : ℕ) (a : TrustedList) (o : Option Place) → place_at i w.places ≡ o → HasLists plan w → option_map (λ p. p.node.list) o ≡ Some a → list_at plan i ≡ Some a
@@ -130,16 +143,16 @@ declared_as plan w i a None at has is = cc
 declared_as plan w i a (Some p) at has is = has.nodes i p at ∙ is
 
 -- so the reports of a world that is a run agree, where no frame was forged
-run_agrees : (liars : List ℕ) (plan : List PlanNode) (steps : List Step) (i j : ℕ) (a b : TrustedList) → AreDeclared plan →
-    list_in (run (start liars plan) steps) i ≡ Some a → list_in (run (start liars plan) steps) j ≡ Some b → Enough liars a b →
-    (run (start liars plan) steps).forged ≡ 0 → AgreeAt (run (start liars plan) steps).reports i j
-run_agrees liars plan steps i j a b lists at_i at_j enough none =
-    let w : World = run (start liars plan) steps in
-    let has : HasLists plan w = run_lists plan (start liars plan) steps (start_lists liars plan) in
-    headline liars plan steps i j a b lists (declared_as plan w i a (place_at i w.places) refl has at_i) (declared_as plan w j b (place_at j w.places) refl has at_j) enough none
+run_agrees : (limit : ℕ) (liars : List ℕ) (plan : List PlanNode) (steps : List Step) (i j : ℕ) (a b : TrustedList) → AreDeclared plan →
+    list_in (run (start limit liars plan) steps) i ≡ Some a → list_in (run (start limit liars plan) steps) j ≡ Some b → Enough liars a b →
+    (run (start limit liars plan) steps).forged ≡ 0 → AgreeAt (run (start limit liars plan) steps).reports i j
+run_agrees limit liars plan steps i j a b lists at_i at_j enough none =
+    let w : World = run (start limit liars plan) steps in
+    let has : HasLists plan w = run_lists plan (start limit liars plan) steps (start_lists limit liars plan) in
+    headline limit liars plan steps i j a b lists (declared_as plan w i a (place_at i w.places) refl has at_i) (declared_as plan w j b (place_at j w.places) refl has at_j) enough none
 
 pub world_agrees : (w : World) → IsRun w → (i j : ℕ) (a b : TrustedList) → list_in w i ≡ Some a → list_in w j ≡ Some b → Enough w.liars a b → w.forged ≡ 0 → AgreeAt w.reports i j
 world_agrees w is_run i j a b at_i at_j enough none =
-    let is = is_run.3 in
+    let is = is_run.4 in
     subst (λ (u : World). AgreeAt u.reports i j) (sym is)
-    (run_agrees w.liars is_run.0 is_run.1 i j a b is_run.2 (subst (λ (u : World). list_in u i ≡ Some a) is at_i) (subst (λ (u : World). list_in u j ≡ Some b) is at_j) enough (subst (λ (u : World). u.forged ≡ 0) is none))
+    (run_agrees is_run.0 w.liars is_run.1 is_run.2 i j a b is_run.3 (subst (λ (u : World). list_in u i ≡ Some a) is at_i) (subst (λ (u : World). list_in u j ≡ Some b) is at_j) enough (subst (λ (u : World). u.forged ≡ 0) is none))

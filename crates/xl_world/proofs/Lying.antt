@@ -12,7 +12,8 @@ use Rattle.xl_tags.specs.PairKeys.{pair_key_of}
 use Rattle.xl_tags.specs.Rings.{Ring, key_of, no_keys, schedule_key, schedule_ring}
 use Rattle.xl_tags.specs.Sealing.{before_tag, with_tag}
 use Rattle.xl_tags.proofs.RingLaws.{key_at}
-use Rattle.xl_core.specs.Sending.{sealed_bytes, validation_frame}
+use Rattle.xl_ledger.specs.declared.header.Header.{Header}
+use Rattle.xl_core.specs.Sending.{sealed_bytes, validation_frame, sealed_header_bytes, header_frame}
 
 pub me_of_none : (me : ℕ) → (no_keys me).me ≡ me
 unfolding no_keys
@@ -36,4 +37,9 @@ key_of_own from to low high same =
 pub by_one_key : (a b : Ring) (from to : ℕ) (v : Validation) → key_of a to ≡ key_of b to → sealed_bytes a from to v ≡ sealed_bytes b from to v
 by_one_key a b from to v same =
     let f = validation_frame from to v (replicate 32 0) in
+    ap (λ (k : Option (List ℕ)). raw_bytes (with_tag f (unwrap_or (option_map (λ key. mac key (before_tag (raw_bytes f))) k) f.tag))) same
+
+pub header_by_one_key : (a b : Ring) (from to : ℕ) (h : Header) → key_of a to ≡ key_of b to → sealed_header_bytes a from to h ≡ sealed_header_bytes b from to h
+header_by_one_key a b from to h same =
+    let f = header_frame from to h (replicate 32 0) in
     ap (λ (k : Option (List ℕ)). raw_bytes (with_tag f (unwrap_or (option_map (λ key. mac key (before_tag (raw_bytes f))) k) f.tag))) same

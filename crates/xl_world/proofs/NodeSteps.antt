@@ -13,10 +13,15 @@ use Rattle.xl_validations.specs.Rows.{refusal, with_validation, at_member, count
 use Rattle.xl_core.specs.declared.report.Report.{Report}
 use Rattle.xl_core.specs.declared.refusal.Refusal.TheVariants.{NotAfter}
 use Rattle.xl_core.specs.declared.refusal.Refusal.{Refusal}
+use Rattle.xl_ledger.specs.declared.header.Header.{Header}
+use Rattle.xl_ledger.specs.declared.refusal.AddRefusal.{AddRefusal}
+use Rattle.xl_ledger.specs.Registries.{add_refusal}
 use Rattle.xl_core.specs.declared.hearing.Spoken.{Spoken}
+use Rattle.xl_core.specs.declared.hearing.Speech.{Speech}
+use Rattle.xl_core.specs.declared.hearing.Speech.TheVariants.{Vote, Header as Ledger}
 use Rattle.xl_core.specs.Hearing.{heard}
 use Rattle.xl_tags.specs.Rings.{Ring}
-use Rattle.xl_core.specs.Node.{Node, Event, Issue, Frame, Reply, take, with_taken, saving, arises, arisen, report_of, refusing, issues, hears, refusal_at, hearing, asks, happens, opened}
+use Rattle.xl_core.specs.Node.{Node, Event, Issue, Frame, Reply, take, with_taken, saving, arises, arisen, report_of, refusing, issues, hears, learns, refusal_at, hearing_speech, hearing, asks, happens, opened}
 use Rattle.xl_world.specs.declared.place.Keeper.{Keeper}
 use Rattle.xl_world.specs.Keeper.{MayHold, holding, after_save}
 use Rattle.xl_world.specs.declared.place.Place.{Place}
@@ -134,8 +139,25 @@ hears_steps p now from v None well = record {
   quorum = arisen_quorum (with_taken p.node now from v);
 }
 
+-- a header changes no row and no number
+learns_steps : (p : Place) (h : Header) (o : Option AddRefusal) → IsWell p → IsStep p (learns p.node h o) p.keeper
+learns_steps p h (Some why) well = still p (learns p.node h (Some why)) refl refl refl well
+learns_steps p h None well = record {
+  me = refl;
+  list = refl;
+  well = record { members = well.members; valid = well.valid; in_force = well.in_force };
+  rises = λ j k. (j, omega arith, k);
+  above = tt;
+  saved = tt;
+  quorum = tt;
+}
+
+speech_steps : (p : Place) (now from : ℕ) (what : Speech) → IsWell p → IsStep p (hearing_speech p.node now from what) p.keeper
+speech_steps p now from (Vote v) well = hears_steps p now from v (refusal_at p.node now from v) well
+speech_steps p now from (Ledger h) well = learns_steps p h (add_refusal p.node.ledgers h) well
+
 hearing_steps : (p : Place) (now : ℕ) (said : Result Spoken Refusal) → IsWell p → IsStep p (hearing p.node now said) p.keeper
-hearing_steps p now (Ok said) well = hears_steps p now said.from said.validation (refusal_at p.node now said.from said.validation) well
+hearing_steps p now (Ok said) well = speech_steps p now said.from said.what well
 hearing_steps p now (Err why) well = still p (refusing p.node why) refl refl refl well
 
 pub happens_steps : (p : Place) (e : Event) (saved : Bool) → IsWell p → IsStep p (happens p.node e saved) (after_save p.keeper (asks p.node e) saved)
@@ -147,11 +169,11 @@ happens_steps p (Frame now bytes) saved well = hearing_steps p now (heard p.node
 -- P holds of what is heard
 abbrev pub HeardSays : (Said → Type 0) → Node → Event → Type 0
 HeardSays P n (Issue now seq id full) = Unit {0}
-HeardSays P n (Frame now bytes) = (said : Spoken) → heard n.keys n.list.members bytes ≡ Ok said → P (said_by said.from said.validation)
+HeardSays P n (Frame now bytes) = (from : ℕ) (v : Validation) → heard n.keys n.list.members bytes ≡ Ok (record { from = from; what = Vote v }) → P (said_by from v)
 
 pub heard_weaker : (P Q : Said → Type 0) → ((x : Said) → P x → Q x) → (n : Node) (e : Event) → HeardSays P n e → HeardSays Q n e
 heard_weaker P Q h n (Issue now seq id full) says = tt
-heard_weaker P Q h n (Frame now bytes) says = λ said is. h (said_by said.from said.validation) (says said is)
+heard_weaker P Q h n (Frame now bytes) says = λ from v is. h (said_by from v) (says from v is)
 
 issue_says : (P : Said → Type 0) (n : Node) (now : ℕ) (v : Validation) (b saved : Bool) → NodeSays P n →
     IfSome (cond b (issues n now saved v) (refusing n (NotAfter n.kept))).issued (λ u. P (said_by n.me u)) →
@@ -164,8 +186,16 @@ hears_says : (P : Said → Type 0) (n : Node) (now from : ℕ) (v : Validation) 
 hears_says P n now from v (Some why) says fair = record { node = says; issued = tt }
 hears_says P n now from v None says fair = record { node = rows_say P now from v fair n.rows says; issued = tt }
 
-hearing_says : (P : Said → Type 0) (n : Node) (now : ℕ) (r : Result Spoken Refusal) → NodeSays P n → ((said : Spoken) → r ≡ Ok said → P (said_by said.from said.validation)) → ReplySays P n.me (hearing n now r)
-hearing_says P n now (Ok said) says fair = hears_says P n now said.from said.validation (refusal_at n now said.from said.validation) says (fair said refl)
+learns_says : (P : Said → Type 0) (n : Node) (h : Header) (o : Option AddRefusal) → NodeSays P n → ReplySays P n.me (learns n h o)
+learns_says P n h None says = record { node = says; issued = tt }
+learns_says P n h (Some why) says = record { node = says; issued = tt }
+
+speech_says : (P : Said → Type 0) (n : Node) (now from : ℕ) (what : Speech) → NodeSays P n → ((v : Validation) → what ≡ Vote v → P (said_by from v)) → ReplySays P n.me (hearing_speech n now from what)
+speech_says P n now from (Vote v) says fair = hears_says P n now from v (refusal_at n now from v) says (fair v refl)
+speech_says P n now from (Ledger h) says fair = learns_says P n h (add_refusal n.ledgers h) says
+
+hearing_says : (P : Said → Type 0) (n : Node) (now : ℕ) (r : Result Spoken Refusal) → NodeSays P n → ((from : ℕ) (v : Validation) → r ≡ Ok (record { from = from; what = Vote v }) → P (said_by from v)) → ReplySays P n.me (hearing n now r)
+hearing_says P n now (Ok said) says fair = speech_says P n now said.from said.what says (λ v is. fair said.from v (ap (λ (w : Speech). let r : Result Spoken Refusal = Ok (record { from = said.from; what = w }) in r) is))
 hearing_says P n now (Err why) says fair = record { node = says; issued = tt }
 
 -- what holds of what stands at the node, of what came and of what is issued holds of what stands there then
@@ -175,11 +205,11 @@ happens_says P n (Issue now seq id full) saved says heard fair = issue_says P n 
 happens_says P n (Frame now bytes) saved says fair issued = hearing_says P n now (heard n.keys n.list.members bytes) says fair
 
 -- a node that is opened has nothing
-pub opened_says : (P : Said → Type 0) (me : ℕ) (list : TrustedList) (keys : Ring) (kept : ℕ) → NodeSays P (opened me list keys kept)
-opened_says P me list keys kept = All-map (RowSays P) empty_row list.members (λ _ _ _. tt)
+pub opened_says : (P : Said → Type 0) (me : ℕ) (list : TrustedList) (keys : Ring) (limit kept : ℕ) → NodeSays P (opened me list keys limit kept)
+opened_says P me list keys limit kept = All-map (RowSays P) empty_row list.members (λ _ _ _. tt)
 
-pub opened_well : (me : ℕ) (list : TrustedList) (keys : Ring) (number : ℕ) → IsValid list → IsWell (record { node = opened me list keys number; keeper = holding number })
-opened_well me list keys number valid = record { members = members_opened list.members; valid = valid; in_force = refl }
+pub opened_well : (me : ℕ) (list : TrustedList) (keys : Ring) (limit number : ℕ) → IsValid list → IsWell (record { node = opened me list keys limit number; keeper = holding number })
+opened_well me list keys limit number valid = record { members = members_opened list.members; valid = valid; in_force = refl }
 
 -- a save is asked above the number that was kept
 pub asks_above : (n : Node) (e : Event) → IfSome (asks n e) (λ s. n.kept < s)
@@ -188,11 +218,11 @@ asks_above n (Frame now bytes) = tt
 
 -- a node opened again with a number that is not below its keeper's
 pub opened_steps : (p : Place) (number : ℕ) → IsWell p → (i : ℕ) × (i ≤ number) × MayHold p.keeper i →
-    IsStep p (quiet (opened p.node.me p.node.list p.node.keys number)) (holding number)
+    IsStep p (quiet (opened p.node.me p.node.list p.node.keys p.node.ledgers.limit number)) (holding number)
 opened_steps p number well low = record {
   me = refl;
   list = refl;
-  well = opened_well p.node.me p.node.list p.node.keys number well.valid;
+  well = opened_well p.node.me p.node.list p.node.keys p.node.ledgers.limit number well.valid;
   rises = λ j h. (low.0, omega (arith, held number j h, low.1), low.2);
   above = tt;
   saved = tt;

@@ -50,12 +50,12 @@ run_present : (w : World) (ss : List Step) → StandsSame w (run w ss)
 run_present w [] j = refl
 run_present w (s ∷ ss) j = run_present (step w s) ss j ∙ step_present w s j
 
-start_present : (i : ℕ) (plan : List PlanNode) → is_some (place_at i (map place_of plan)) ≡ is_some (list_at plan i)
-start_present i [] = refl
-start_present i (d ∷ ds) =
-    cond_both (d.me == i) (Some (place_of d)) (place_at i (map place_of ds)) (λ o. is_some o ≡ is_some (list_at (d ∷ ds) i))
+start_present : (limit i : ℕ) (plan : List PlanNode) → is_some (place_at i (map (place_of limit) plan)) ≡ is_some (list_at plan i)
+start_present limit i [] = refl
+start_present limit i (d ∷ ds) =
+    cond_both (d.me == i) (Some (place_of limit d)) (place_at i (map (place_of limit) ds)) (λ o. is_some o ≡ is_some (list_at (d ∷ ds) i))
     (λ is. sym (ap (λ (o : Option PlanNode). is_some (option_map (λ x. x.list) o)) (cond-true (d.me == i) (Some d) _ is)))
-    (λ is_not. start_present i ds ∙ sym (ap (λ (o : Option PlanNode). is_some (option_map (λ x. x.list) o)) (cond-false (d.me == i) (Some d) _ is_not)))
+    (λ is_not. start_present limit i ds ∙ sym (ap (λ (o : Option PlanNode). is_some (option_map (λ x. x.list) o)) (cond-false (d.me == i) (Some d) _ is_not)))
 
 -- the number of a declared node is a member's
 pub record IsMember (i : ℕ) : Type 0 where
@@ -81,17 +81,17 @@ pub record IsReporter (w : World) (r : Reported) : Type 0 where
   pub member : IsMember r.node
   pub listed : list_in w r.node ≡ Some r.list
 
-run_reporters : (liars : List ℕ) (plan : List PlanNode) (steps : List Step) → AreDeclared plan → All (IsReporter (run (start liars plan) steps)) (run (start liars plan) steps).reports
-run_reporters liars plan steps each k d k_in =
-    let w : World = run (start liars plan) steps in
+run_reporters : (limit : ℕ) (liars : List ℕ) (plan : List PlanNode) (steps : List Step) → AreDeclared plan → All (IsReporter (run (start limit liars plan) steps)) (run (start limit liars plan) steps).reports
+run_reporters limit liars plan steps each k d k_in =
+    let w : World = run (start limit liars plan) steps in
     let r : Reported = slice_index_or w.reports k d in
-    let has : HasLists plan w = run_lists plan (start liars plan) steps (start_lists liars plan) in
+    let has : HasLists plan w = run_lists plan (start limit liars plan) steps (start_lists limit liars plan) in
     let at : list_at plan r.node ≡ Some r.list = has.reports k d k_in in
     record {
       member = declared_member plan each r.node r.list at;
       listed = listed plan w has r.node r.list (place_at r.node w.places) refl
-          (run_present (start liars plan) steps r.node ∙ (start_present r.node plan ∙ ap is_some at)) at;
+          (run_present (start limit liars plan) steps r.node ∙ (start_present limit r.node plan ∙ ap is_some at)) at;
     }
 
 pub world_reporters : (w : World) → IsRun w → All (IsReporter w) w.reports
-world_reporters w is_run = subst (λ (u : World). All (IsReporter u) u.reports) (sym is_run.3) (run_reporters w.liars is_run.0 is_run.1 is_run.2)
+world_reporters w is_run = subst (λ (u : World). All (IsReporter u) u.reports) (sym is_run.4) (run_reporters is_run.0 w.liars is_run.1 is_run.2 is_run.3)

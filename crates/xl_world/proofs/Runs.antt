@@ -1,6 +1,6 @@
 -- Each step of an unforged run keeps what is kept, so reports agree.
 use Rattle.std.proofs.Common.{◌≡◌, ℕ, ◌+◌, ◌<◌, ◌≤◌, Bool, true, false, cond, List, [], ◌∷◌, ◌++◌, length, refl, arith, ap, sym, ◌∙◌, inl, inr, Option, Some, None, Ok, subst}
-use Rattle.std.specs.Prelude.{◌==◌, ◌&&◌, ◌⊎◌, All, IfSome, nat_le, not, slice_index_or}
+use Rattle.std.specs.Prelude.{◌==◌, ◌&&◌, ◌⊎◌, All, IfSome, nat_le, not, slice_index_or, map, filter}
 use Rattle.std.specs.List.{list_any}
 use Rattle.std.proofs.lemmas.Bool.{and_parts, or_left, or_cases, eqb-true, cond_both}
 use Rattle.std.proofs.lemmas.List.Elements.{All-map, All-head, All-tail, All-nil}
@@ -12,11 +12,14 @@ use Rattle.xl_wire.specs.Kinds.{span}
 use Rattle.xl_wire.specs.Raws.{RawFrame}
 use Rattle.xl_tags.specs.Opening.{is_sealed}
 use Rattle.xl_tags.specs.Rings.{schedule_ring}
+use Rattle.xl_wire.specs.Bodies.{body_of}
 use Rattle.xl_core.specs.declared.hearing.Spoken.{Spoken}
+use Rattle.xl_core.specs.declared.hearing.Speech.TheVariants.{Vote}
 use Rattle.xl_core.specs.Hearing.{heard}
-use Rattle.xl_core.proofs.Heard.{IsHeard, heard_parts}
+use Rattle.xl_core.proofs.Heard.{IsHeard, heard_parts, body_from}
 use Rattle.xl_world.proofs.Speaking.{heard_said}
-use Rattle.xl_lists.specs.Agreement.{Said, IsGenuine, IsBacked, Agree}
+use Rattle.xl_world.specs.declared.sent.Sent.{Sent}
+use Rattle.xl_lists.specs.Agreement.{Said, Report as Reported, IsGenuine, IsBacked, Agree}
 use Rattle.xl_lists.proofs.Agreement.{agreement_from_kept, vouches_still, same_id-true}
 use Rattle.xl_wire.specs.declared.validation.Validation.{Validation}
 use Rattle.xl_core.specs.Node.{Node, Event, Issue, Frame, Reply, asks, happens, opened}
@@ -24,7 +27,7 @@ use Rattle.xl_world.specs.declared.place.Keeper.{Keeper}
 use Rattle.xl_world.specs.Keeper.{MayHold, may_hold, is_asked, holding, after_save}
 use Rattle.xl_world.specs.declared.place.Place.{Place}
 use Rattle.xl_world.specs.declared.plan.PlanNode.{PlanNode}
-use Rattle.xl_world.specs.World.{World, Step, Act, Again, Torn, place_at, said_by, said_in, was_sent, forges, is_forged, one_more, acts, reopened, quiet, again, torn, asked_at, step, run, place_of, start, AreDeclared, FrameSays, NodeSays, Stands, IsRun}
+use Rattle.xl_world.specs.World.{World, Step, Act, Again, Torn, place_at, said_by, said_in, was_sent, forges, is_forged, one_more, acts, reopened, quiet, again, torn, asked_at, step, run, place_of, start, is_declared, all_numbers, AreDeclared, FrameSays, NodeSays, Stands, IsRun}
 use Rattle.xl_world.proofs.Settling.{IsWell, IsSound, ReplySays, GenuineThen, spoken, settled_sound, issued_genuine, node_weaker, at_its_number, some_same}
 use Rattle.xl_world.proofs.NodeSteps.{happens_steps, happens_says, HeardSays, heard_weaker, opened_says, opened_well, opened_steps, asks_above, failed_rises}
 
@@ -50,18 +53,18 @@ sent_says P w bytes x says sent is =
     subst (λ o. IfSome o P) (ap said_in equal ∙ is) says_f)
 
 heard_unforged : (w : World) (n : Node) → Stands w (IsGenuine w.liars w.said) → (bytes : List ℕ) → forges w.liars w.sent n.keys bytes (split_of bytes) ≡ false →
-    (said : Spoken) → IsHeard n.keys n.list.members bytes said → IsGenuine w.liars w.said (said_by said.from said.validation)
-heard_unforged w n stands bytes fair said heard =
+    (from : ℕ) (v : Validation) → IsHeard n.keys n.list.members bytes (record { from = from; what = Vote v }) → IsGenuine w.liars w.said (said_by from v)
+heard_unforged w n stands bytes fair from v heard =
     let f : RawFrame = heard.frame in
     elim (unforged (nat_le (length bytes) (span f.body)) (f.to == n.keys.me) (is_on w.liars f.from) (was_sent w.sent bytes) (is_sealed n.keys f)
     (ap (forges w.liars w.sent n.keys bytes) (sym heard.split) ∙ fair) heard.last heard.for_me heard.is_sealed) [
-      | inl liar ↦ or_left _ _ (ap (is_on w.liars) heard.from ∙ liar)
-      | inr sent ↦ sent_says (IsGenuine w.liars w.said) w bytes (said_by said.from said.validation) stands.sent sent (heard_said n.keys n.list.members bytes said heard)
+      | inl liar ↦ or_left _ _ (ap (is_on w.liars) (body_from f.kind f.from (body_of f.kind f.body) (record { from = from; what = Vote v }) heard.body) ∙ liar)
+      | inr sent ↦ sent_says (IsGenuine w.liars w.said) w bytes (said_by from v) stands.sent sent (heard_said n.keys n.list.members bytes from v heard)
     ]
 
 heard_genuine : (w : World) (n : Node) → Stands w (IsGenuine w.liars w.said) → (e : Event) → is_forged w n e ≡ false → HeardSays (IsGenuine w.liars w.said) n e
 heard_genuine w n stands (Issue now seq id full) fair = tt
-heard_genuine w n stands (Frame now bytes) fair = λ said is. heard_unforged w n stands bytes fair said (heard_parts n.keys n.list.members bytes said is)
+heard_genuine w n stands (Frame now bytes) fair = λ from v is. heard_unforged w n stands bytes fair from v (heard_parts n.keys n.list.members bytes (record { from = from; what = Vote v }) is)
 
 -- one more is not none
 never_none : (k : ℕ) → one_more k ≡ 0 → ⊥
@@ -98,9 +101,9 @@ may_hold-true k n h = elim (or_cases (n == k.in_force) (is_asked k.asked n) h) [
 -- a node opened again with a number that is not below its keeper's
 reopened_sound : (w : World) (i number : ℕ) → IsSound w → (p : Place) → place_at i w.places ≡ Some p → (k : ℕ) × (k ≤ number) × MayHold p.keeper k → IsSound (reopened w i p.node number)
 reopened_sound w i number sound p at low =
-    settled_sound w i false p (quiet (opened p.node.me p.node.list p.node.keys number)) (holding number) at
+    settled_sound w i false p (quiet (opened p.node.me p.node.list p.node.keys p.node.ledgers.limit number)) (holding number) at
     (opened_steps p number (sound.well i p at) low)
-    (record { node = opened_says (IsGenuine w.liars w.said) p.node.me p.node.list p.node.keys number; issued = tt }) sound
+    (record { node = opened_says (IsGenuine w.liars w.said) p.node.me p.node.list p.node.keys p.node.ledgers.limit number; issued = tt }) sound
 
 again_sound : (w : World) (i number : ℕ) → IsSound w → (o : Option Place) → place_at i w.places ≡ o → IsSound (again w i number o)
 again_sound w i number sound None at = sound
@@ -170,26 +173,26 @@ each_at P i (x ∷ xs) p each h =
     cond_both (x.node.me == i) (Some x) (place_at i xs) (λ o. o ≡ Some p → P p)
     (λ _ here. subst P (sym (some_same x p here)) (All-head P x xs each)) (λ _ there. each_at P i xs p (All-tail P x xs each) there) h
 
-pub start_sound : (liars : List ℕ) (plan : List PlanNode) → AreDeclared plan → IsSound (start liars plan)
-start_sound liars plan lists = record {
+pub start_sound : (limit : ℕ) (liars : List ℕ) (plan : List PlanNode) → AreDeclared plan → IsSound (start limit liars plan)
+start_sound limit liars plan lists = record {
   kept = record {
     saved = λ m s n id said _. cc;
     once = λ m s a b said _. cc;
     genuine = record {
       places = λ i p h. each_at (λ x. NodeSays (IsGenuine liars []) x.node) i _ p
-          (All-map (λ x. NodeSays (IsGenuine liars []) x.node) place_of plan (λ k e _. let d : PlanNode = slice_index_or plan k e in opened_says (IsGenuine liars []) d.me d.list (schedule_ring d.me) 0)) h;
+          (All-map (λ x. NodeSays (IsGenuine liars []) x.node) (place_of limit) plan (λ k e _. let d : PlanNode = slice_index_or plan k e in opened_says (IsGenuine liars []) d.me d.list (schedule_ring d.me) limit 0)) h;
       sent = All-nil (FrameSays (IsGenuine liars []));
     };
     backed = All-nil (IsBacked liars []);
   };
-  well = λ i p h. each_at IsWell i _ p (All-map IsWell place_of plan (λ k e in_plan. let d : PlanNode = slice_index_or plan k e in opened_well d.me d.list (schedule_ring d.me) 0 (lists k e in_plan).list)) h;
+  well = λ i p h. each_at IsWell i _ p (All-map IsWell (place_of limit) plan (λ k e in_plan. let d : PlanNode = slice_index_or plan k e in opened_well d.me d.list (schedule_ring d.me) limit 0 (lists k e in_plan).list)) h;
 }
 
 -- reports agree, in each unforged run
-pub agreement : (liars : List ℕ) (plan : List PlanNode) (steps : List Step) → AreDeclared plan → (run (start liars plan) steps).forged ≡ 0 → Agree liars (run (start liars plan) steps).reports
-agreement liars plan steps lists none =
-    subst (λ ls. Agree ls (run (start liars plan) steps).reports) (run_stays (start liars plan) steps).liars
-    (agreement_from_kept (run_sound (start liars plan) steps none (start_sound liars plan lists)).kept)
+pub agreement : (limit : ℕ) (liars : List ℕ) (plan : List PlanNode) (steps : List Step) → AreDeclared plan → (run (start limit liars plan) steps).forged ≡ 0 → Agree liars (run (start limit liars plan) steps).reports
+agreement limit liars plan steps lists none =
+    subst (λ ls. Agree ls (run (start limit liars plan) steps).reports) (run_stays (start limit liars plan) steps).liars
+    (agreement_from_kept (run_sound (start limit liars plan) steps none (start_sound limit liars plan lists)).kept)
 
 -- RUNS GO ON
 
@@ -200,6 +203,23 @@ run-append w (r ∷ rs) s = run-append (step w r) rs s
 -- a run and a step more
 pub run_more : (w v : World) (s : Step) → v ≡ step w s → IsRun w → IsRun v
 run_more w v s is run_w =
-    let e : run (start w.liars run_w.0) (run_w.1 ++ s ∷ []) ≡ v = run-append (start w.liars run_w.0) run_w.1 s ∙ (ap (λ (u : World). step u s) (sym run_w.3) ∙ sym is) in
+    let e : run (start run_w.0 w.liars run_w.1) (run_w.2 ++ s ∷ []) ≡ v = run-append (start run_w.0 w.liars run_w.1) run_w.2 s ∙ (ap (λ (u : World). step u s) (sym run_w.4) ∙ sym is) in
     let same : w.liars ≡ v.liars = sym (step_stays w s).liars ∙ ap (λ (u : World). u.liars) (sym is) in
-    (run_w.0, (run_w.1 ++ s ∷ []), run_w.2, sym (subst (λ ls. run (start ls run_w.0) (run_w.1 ++ s ∷ []) ≡ v) same e))
+    (run_w.0, run_w.1, (run_w.2 ++ s ∷ []), run_w.3, sym (subst (λ ls. run (start run_w.0 ls run_w.1) (run_w.2 ++ s ∷ []) ≡ v) same e))
+
+-- a world that has just been opened is one
+pub opened_run : (limit : ℕ) (liars declared : List ℕ) (plan : List PlanNode) (numbers : List ℕ) (places : List Place) (sent : List Sent) (said : List Said) (reports : List Reported) →
+    liars ≡ declared → numbers ≡ filter (is_declared declared plan) all_numbers → places ≡ map (place_of limit) plan → sent ≡ [] → said ≡ [] → reports ≡ [] → AreDeclared plan →
+    IsRun (record { liars = liars; numbers = numbers; places = places; sent = sent; said = said; reports = reports; forged = 0 })
+opened_run limit liars declared plan numbers places sent said reports same is_numbers is_places is_sent is_said is_reports are =
+    let its : numbers ≡ filter (is_declared liars plan) all_numbers = is_numbers ∙ ap (λ (ls : List ℕ). filter (is_declared ls plan) all_numbers) (sym same) in
+    let world = λ (n : List ℕ) (p : List Place) (f : List Sent) (s : List Said) (r : List Reported). let w : World = record { liars = liars; numbers = n; places = p; sent = f; said = s; reports = r; forged = 0 } in w in (
+      limit,
+      plan,
+      [],
+      are,
+      ap (λ n. world n places sent said reports) its ∙ (ap (λ p. world (filter (is_declared liars plan) all_numbers) p sent said reports) is_places
+          ∙ (ap (λ f. world (filter (is_declared liars plan) all_numbers) (map (place_of limit) plan) f said reports) is_sent
+          ∙ (ap (λ s. world (filter (is_declared liars plan) all_numbers) (map (place_of limit) plan) [] s reports) is_said
+          ∙ ap (λ r. world (filter (is_declared liars plan) all_numbers) (map (place_of limit) plan) [] [] r) is_reports))),
+    )

@@ -24,7 +24,8 @@ use Rattle.xl_core.specs.Node.{Node}
 use Rattle.xl_core.specs.declared.hearing.Spoken.{Spoken}
 use Rattle.xl_core.specs.Hearing.{heard}
 use Rattle.xl_core.specs.Sending.{validation_frame, sealed_bytes, has_spelling}
-use Rattle.xl_core.proofs.Heard.{IsHeard, heard_parts}
+use Rattle.xl_core.proofs.Heard.{IsHeard, body_from, vote_body}
+use Rattle.xl_core.specs.declared.hearing.Speech.TheVariants.{Vote}
 use Rattle.xl_world.specs.declared.sent.Sent.{Sent}
 use Rattle.xl_world.specs.World.{said_by, said_in, said_in_body, said_in_split, FrameSays, frame_to, frames_for}
 
@@ -85,8 +86,8 @@ frames_say P numbers n None h = All-nil (FrameSays P)
 frames_say P numbers n (Some v) h = frames_each P n v h numbers
 
 -- what is heard in bytes is what they say
-pub heard_said : (ring : Ring) (members bytes : List ℕ) (said : Spoken) → IsHeard ring members bytes said → said_in bytes ≡ Some (said_by said.from said.validation)
-heard_said ring members bytes said h =
+pub heard_said : (ring : Ring) (members bytes : List ℕ) (from : ℕ) (v : Validation) → IsHeard ring members bytes (record { from = from; what = Vote v }) → said_in bytes ≡ Some (said_by from v)
+heard_said ring members bytes from v h =
     ap said_in_split h.split
-    ∙ ap (said_in_body h.frame.from) h.body
-    ∙ ap (λ (m : ℕ). Some (said_by m said.validation)) (sym h.from)
+    ∙ ap (said_in_body h.frame.from) (vote_body h.frame.kind h.frame.from from v (body_of h.frame.kind h.frame.body) h.body)
+    ∙ ap (λ (m : ℕ). Some (said_by m v)) (sym (body_from h.frame.kind h.frame.from (body_of h.frame.kind h.frame.body) (record { from = from; what = Vote v }) h.body))

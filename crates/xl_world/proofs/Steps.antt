@@ -18,11 +18,16 @@ use Rattle.xl_wire.specs.Kinds.{span}
 use Rattle.xl_tags.specs.Opening.{is_sealed}
 use Rattle.xl_tags.specs.Rings.{Ring}
 use Rattle.xl_validations.specs.declared.refusal.ValRefusal.{ValRefusal}
+use Rattle.xl_ledger.specs.declared.header.Header.{Header}
+use Rattle.xl_ledger.specs.declared.refusal.AddRefusal.{AddRefusal}
+use Rattle.xl_ledger.specs.Registries.{add_refusal}
 use Rattle.xl_core.specs.declared.hearing.Spoken.{Spoken}
+use Rattle.xl_core.specs.declared.hearing.Speech.{Speech}
+use Rattle.xl_core.specs.declared.hearing.Speech.TheVariants.{Vote, Header as Ledger}
 use Rattle.xl_core.specs.declared.refusal.Refusal.{Refusal}
 use Rattle.xl_core.specs.declared.refusal.Refusal.TheVariants.{NotAfter}
 use Rattle.xl_core.specs.Hearing.{heard}
-use Rattle.xl_core.specs.Node.{Node, Event, Issue, Frame, Reply, happens, hears, hearing, issues, refusing, refusal_at}
+use Rattle.xl_core.specs.Node.{Node, Event, Issue, Frame, Reply, happens, hears, learns, hearing_speech, hearing, issues, refusing, refusal_at}
 use Rattle.xl_world.specs.declared.act.Answer.{Answer}
 use Rattle.xl_world.specs.declared.outcome.Outcome.{Outcome}
 use Rattle.xl_world.specs.declared.outcome.Outcome.TheVariants.{Refused, Full}
@@ -98,13 +103,21 @@ issued_nothing w i now seq id full places answers is =
 -- WHAT IS HEARD
 
 -- nothing is issued
+hears_quiet : (n : Node) (now from : ℕ) (v : Validation) (o : Option ValRefusal) → (hears n now from v o).issued ≡ None
+hears_quiet n now from v None = refl
+hears_quiet n now from v (Some why) = refl
+
+learns_quiet : (n : Node) (h : Header) (o : Option AddRefusal) → (learns n h o).issued ≡ None
+learns_quiet n h None = refl
+learns_quiet n h (Some why) = refl
+
+speech_quiet : (n : Node) (now from : ℕ) (what : Speech) → (hearing_speech n now from what).issued ≡ None
+speech_quiet n now from (Vote v) = hears_quiet n now from v (refusal_at n now from v)
+speech_quiet n now from (Ledger h) = learns_quiet n h (add_refusal n.ledgers h)
+
 hearing_quiet : (n : Node) (now : ℕ) (said : Result Spoken Refusal) → (hearing n now said).issued ≡ None
 hearing_quiet n now (Err why) = refl
-hearing_quiet n now (Ok said) = hears_quiet (refusal_at n now said.from said.validation)
-  where
-    hears_quiet : (o : Option ValRefusal) → (hears n now said.from said.validation o).issued ≡ None
-    hears_quiet None = refl
-    hears_quiet (Some why) = refl
+hearing_quiet n now (Ok said) = speech_quiet n now said.from said.what
 
 heard_at : (w : World) (to now : ℕ) (bytes : List ℕ) (a : Option Answer) (forged : ℕ) (o : Option Place) → place_at to w.places ≡ o → Answers (Frame now bytes) o a →
     forged ≡ (if forged_at w.liars w.sent bytes o then one_more w.forged else w.forged) →

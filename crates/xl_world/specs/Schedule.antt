@@ -7,10 +7,10 @@ use Rattle.xl_sched.specs.declared.event.Event.TheVariants as event
 use Rattle.xl_sched.specs.declared.lied.Lied.{Lied}
 use Rattle.xl_sched.specs.declared.lied.Lied.TheVariants as lied
 use Rattle.xl_tags.specs.Rings.{schedule_ring}
-use Rattle.xl_core.specs.Node.{Issue, Frame, Reply, happens}
-use Rattle.xl_core.specs.Sending.{sealed_bytes}
+use Rattle.xl_core.specs.Node.{Issue, Frame, Reply, happens, preferred}
+use Rattle.xl_core.specs.Sending.{sealed_bytes, sealed_header_bytes}
 use Rattle.xl_world.specs.declared.outcome.Outcome.{Outcome}
-use Rattle.xl_world.specs.declared.outcome.Outcome.TheVariants.{Refused, Full}
+use Rattle.xl_world.specs.declared.outcome.Outcome.TheVariants.{Refused, Full, Preferred}
 use Rattle.xl_world.specs.declared.place.Place.{Place}
 use Rattle.xl_world.specs.declared.sent.Sent.{Sent}
 use Rattle.xl_world.specs.World.{World, Step, Act, Again, Torn, place_at, step}
@@ -31,6 +31,7 @@ restart p = Again p.node.me p.keeper.in_force
 -- the frame of a lie, sealed as its sender seals
 abbrev pub lied_bytes : ℕ → ℕ → Lied → List ℕ
 lied_bytes from to (lied.Validation v) = sealed_bytes (schedule_ring from) from to v
+lied_bytes from to (lied.Header name h) = sealed_header_bytes (schedule_ring from) from to h
 
 -- the step that an event is, where there is one. Moments are in milliseconds
 abbrev pub step_of : World → Event → Option Step
@@ -39,6 +40,7 @@ step_of w (event.Deliver at place) = option_map (delivery at) (frame_at w.sent p
 step_of w (event.Restart at node) = option_map restart (place_at node w.places)
 step_of w (event.Lie at from to what) = Some (Act to (Frame (at / 1000) (lied_bytes from to what)) true)
 step_of w (event.Raw at to bytes) = Some (Act to (Frame (at / 1000) bytes) true)
+step_of w (event.Prefer at node) = None
 
 abbrev pub stepped : World → Option Step → World
 stepped w None = w
@@ -55,6 +57,7 @@ moment_of (event.Deliver at place) = at
 moment_of (event.Restart at node) = at
 moment_of (event.Lie at from to what) = at
 moment_of (event.Raw at to bytes) = at
+moment_of (event.Prefer at node) = at
 
 -- what came of a step at a node
 abbrev pub reply_to : World → Step → Option Reply
@@ -80,6 +83,15 @@ abbrev pub outcomes_at : World → Option Step → List Outcome
 outcomes_at w None = []
 outcomes_at w (Some s) = told_of (node_of s) (reply_to w s)
 
--- what is told of an event
+-- the ledger that the node of a number prefers, where there is such a node
+abbrev pub preference : ℕ → Option Place → List Outcome
+preference i place = option_to_list (option_map (λ p. Preferred i (preferred p.node)) place)
+
+-- what is told of an event: of its step, or of what is asked
 abbrev pub outcomes : World → Event → List Outcome
-outcomes w e = outcomes_at w (step_of w e)
+outcomes w (event.Issue at node seq id full) = outcomes_at w (step_of w (event.Issue at node seq id full))
+outcomes w (event.Deliver at place) = outcomes_at w (step_of w (event.Deliver at place))
+outcomes w (event.Restart at node) = outcomes_at w (step_of w (event.Restart at node))
+outcomes w (event.Lie at from to what) = outcomes_at w (step_of w (event.Lie at from to what))
+outcomes w (event.Raw at to bytes) = outcomes_at w (step_of w (event.Raw at to bytes))
+outcomes w (event.Prefer at node) = preference node (place_at node w.places)

@@ -103,7 +103,7 @@ pub record HasHeard (to : ℕ) (e : Event) (told : List Outcome) (places places'
 
 -- a place whose node is opened anew
 abbrev pub restarted : Place → Place
-restarted p = record { node = opened p.node.me p.node.list p.node.keys p.keeper.in_force; keeper = holding p.keeper.in_force }
+restarted p = record { node = opened p.node.me p.node.list p.node.keys p.node.ledgers.limit p.keeper.in_force; keeper = holding p.keeper.in_force }
 
 abbrev pub put_restarted : Option Place → List Place → List Place
 put_restarted None places = places

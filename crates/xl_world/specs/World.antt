@@ -125,7 +125,7 @@ quiet n = record { node = n; refused = None; issued = None; report = None }
 
 -- the node opened again with this number, which its keeper then holds alone
 abbrev pub reopened : World → ℕ → Node → ℕ → World
-reopened w i n number = settled w i false (quiet (opened n.me n.list n.keys number)) (holding number)
+reopened w i n number = settled w i false (quiet (opened n.me n.list n.keys n.ledgers.limit number)) (holding number)
 
 abbrev pub again : World → ℕ → ℕ → Option Place → World
 again w i number None = w
@@ -162,15 +162,16 @@ all_numbers = up_from 1 64
 abbrev pub is_declared : List ℕ → List PlanNode → ℕ → Bool
 is_declared liars plan k = list_any (λ d. d.me == k) plan || is_on liars k
 
-abbrev pub place_of : PlanNode → Place
-place_of d = record { node = opened d.me d.list (schedule_ring d.me) 0; keeper = holding 0 }
+-- a node with room for so many ledgers, and its keeper
+abbrev pub place_of : ℕ → PlanNode → Place
+place_of limit d = record { node = opened d.me d.list (schedule_ring d.me) limit 0; keeper = holding 0 }
 
 -- the network at the start
-abbrev pub start : List ℕ → List PlanNode → World
-start liars plan = record {
+abbrev pub start : ℕ → List ℕ → List PlanNode → World
+start limit liars plan = record {
   liars = liars;
   numbers = filter (is_declared liars plan) all_numbers;
-  places = map place_of plan;
+  places = map (place_of limit) plan;
   sent = [];
   said = [];
   reports = [];
@@ -245,10 +246,10 @@ AgreeAt reports i j = All (λ r. All (λ q. r.node ≡ i → q.node ≡ j → r.
 -- if their quorums together exceed the sum of both lists' sizes, minus the overlap, plus the liars in the overlap.
 abbrev pub Headline : Type 0
 Headline =
-    (liars : List ℕ) (plan : List PlanNode) (steps : List Step) (i j : ℕ) (a b : TrustedList) →
+    (limit : ℕ) (liars : List ℕ) (plan : List PlanNode) (steps : List Step) (i j : ℕ) (a b : TrustedList) →
     AreDeclared plan → list_at plan i ≡ Some a → list_at plan j ≡ Some b → Enough liars a b →
-    (run (start liars plan) steps).forged ≡ 0 → AgreeAt (run (start liars plan) steps).reports i j
+    (run (start limit liars plan) steps).forged ≡ 0 → AgreeAt (run (start limit liars plan) steps).reports i j
 
 -- the world comes from a declared one by steps
 abbrev pub IsRun : World → Type 0
-IsRun w = (plan : List PlanNode) × (steps : List Step) × AreDeclared plan × (w ≡ run (start w.liars plan) steps)
+IsRun w = (limit : ℕ) × (plan : List PlanNode) × (steps : List Step) × AreDeclared plan × (w ≡ run (start limit w.liars plan) steps)

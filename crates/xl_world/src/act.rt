@@ -1,11 +1,12 @@
 // What an event does to one place, and what comes of it.
 ghost use Rattle.std.specs.Prelude.{◌≡◌, ◌==◌, true, Some, None, OnOk, OnErr, option_copied, option_map, position};
-ghost use Rattle.xl_core.specs.Node.{happens, Issue, Frame};
+ghost use Rattle.xl_core.specs.Node.{happens, preferred, Issue, Frame};
+ghost use Rattle.xl_world.specs.declared.outcome.Outcome.TheVariants.{Preferred};
 ghost use Rattle.xl_world.specs.World.{reported_by, place_after, place_at};
 ghost use Rattle.xl_world.specs.Seen.{report_seen, event_seen, IsAnswer, acted_at, AnswersAt, restarted, restarted_at};
 
-use crate::WorldReport;
 use crate::place::{Keeper, Place};
+use crate::{Outcome, WorldReport};
 use std::alloc::Global;
 use xl_base::{LedgerId, NodeNo, OutOfMemory, Secs, Seq};
 use xl_core::{Core, Refusal, Report};
@@ -128,6 +129,22 @@ pub fn list_at(places: &[Place], i: NodeNo) -> Option<&List>
     }
 }
 
+/// The ledger that the node of a number prefers, where there is such a node.
+pub fn preferred_at(places: &[Place], i: NodeNo) -> Option<Outcome>
+    ensures { result ≡ option_map (λ p. Preferred i (preferred p.node)) (place_at i places.now) }
+{
+    match place_of(places, i) {
+        Some(k) => {
+            let place = &places[k];
+            Some(Outcome::Preferred {
+                node: i,
+                at: place.node.preferred(),
+            })
+        }
+        None => None,
+    }
+}
+
 /// An event at the node of a number, where there is one.
 pub fn act_at(places: &mut [Place], i: NodeNo, event: &NodeEvent<'_>) -> Option<Answer>
     ensures places { places.new ≡ acted_at i (event_seen event.now) places.old }
@@ -149,7 +166,8 @@ fn restart(alloc: Global, place: &mut Place) -> Result<(), OutOfMemory>
 {
     let seq = place.keeper.in_force;
     let (me, list, keys) = (place.node.me(), place.node.list(), place.node.keys());
-    place.node = Core::open(alloc, me, list.copy(), keys.copy(), seq)?;
+    let limit = place.node.limit();
+    place.node = Core::open(alloc, me, list.copy(), keys.copy(), limit, seq)?;
     place.keeper = Keeper::holding(seq);
     Ok(())
 }

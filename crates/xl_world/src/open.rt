@@ -1,6 +1,7 @@
 // A world at its start.
 ghost use Rattle.std.specs.Prelude.{◌≡◌, ◌++◌, option_to_list, ◌≤◌, ◌||◌, ◌==◌, IfOk, OnOk, Some, None, map, filter, All, if◌then◌else◌};
 ghost use Rattle.std.specs.List.{list_any};
+ghost use Rattle.xl_ledger.specs.declared.registry.TheConstants.{LEAST_LIMIT, GREATEST_LIMIT};
 ghost use Rattle.xl_lists.specs.Lists.{is_on};
 ghost use Rattle.xl_world.specs.World.{place_of, is_declared, all_numbers, AreDeclared};
 
@@ -11,27 +12,31 @@ use xl_base::{GREATEST_NODE_NO, NodeNo, OutOfMemory};
 use xl_core::Core;
 use xl_tags::Keys;
 
-/// A node at its start, and its keeper.
-fn place(alloc: Global, node: &PlanNode) -> Result<Place, OutOfMemory>
-    ensures { IfOk result (λ place. place ≡ place_of node.now) }
+/// A node at its start, with room for so many ledgers, and its keeper.
+fn place(alloc: Global, limit: u32, node: &PlanNode) -> Result<Place, OutOfMemory>
+    requires least { LEAST_LIMIT ≤ limit }
+    requires most { limit ≤ GREATEST_LIMIT }
+    ensures { IfOk result (λ place. place ≡ place_of limit node.now) }
 {
     let keys = Keys::of_schedule(node.me);
     Ok(Place {
-        node: Core::open(alloc, node.me, node.list.copy(), keys, 0)?,
+        node: Core::open(alloc, node.me, node.list.copy(), keys, limit, 0)?,
         keeper: Keeper::holding(0),
     })
 }
 
 /// The nodes at their start.
-pub fn places(alloc: Global, nodes: &[PlanNode]) -> Result<Vec<Place>, OutOfMemory>
-    ensures opened { IfOk result (λ places. places.items ≡ map place_of nodes.now) }
+pub fn places(alloc: Global, limit: u32, nodes: &[PlanNode]) -> Result<Vec<Place>, OutOfMemory>
+    requires least { LEAST_LIMIT ≤ limit }
+    requires most { limit ≤ GREATEST_LIMIT }
+    ensures opened { IfOk result (λ places. places.items ≡ map (place_of limit) nodes.now) }
     ensures declared { OnOk result (AreDeclared nodes.now) }
 {
     let mut places = Vec::with_capacity(alloc, nodes.len())?;
     for node in nodes {
         // What every member number and every list is, of this node.
         let _ = (node.me.get(), node.list.quorum());
-        places.push(place(alloc, node)?)?;
+        places.push(place(alloc, limit, node)?)?;
     }
     Ok(places)
 }

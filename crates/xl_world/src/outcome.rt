@@ -3,7 +3,7 @@ ghost use Rattle.std.specs.Prelude.{◌≡◌, []};
 use std::alloc::Global;
 use std::marker::Model;
 use xl_base::{LedgerId, NodeNo, Seq};
-use xl_core::Refusal;
+use xl_core::{Refusal, Report};
 
 /// What is told of an event.
 #[derive(Clone, Copy, Debug, PartialEq, Eq)]
@@ -18,6 +18,11 @@ pub enum Outcome {
         node: NodeNo,
         seq: Seq,
         id: LedgerId,
+    },
+    /// The ledger that the node prefers, if there is a vote.
+    Preferred {
+        node: NodeNo,
+        at: Option<Report>,
     },
 }
 

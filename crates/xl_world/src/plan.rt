@@ -8,9 +8,11 @@ pub struct PlanNode {
     pub list: List,
 }
 
-/// Who is in the world: the honest nodes, in the order in which they are declared, and the liars.
+/// Who is in the world: the honest nodes, in the order in which they are declared, and the liars. Each node may know so many
+/// ledgers, the root among them: 2 to 262,144.
 #[derive(Debug, Drop)]
 pub struct Plan {
     pub nodes: Vec<PlanNode>,
     pub liars: Vec<NodeNo>,
+    pub limit: u32,
 }

@@ -3,11 +3,11 @@ ghost use Rattle.xl_core.specs.Node.{Frame};
 ghost use Rattle.xl_world.specs.Seen.{HasHeard};
 ghost use Rattle.xl_world.specs.World.{one_more};
 
-use crate::act::{NodeEvent, act_at, list_at, restart_at};
+use crate::act::{NodeEvent, act_at, list_at, preferred_at, restart_at};
 use crate::agreement::all_agree;
 use crate::forged::is_forged;
 use crate::index::TagIndex;
-use crate::lie::lied;
+use crate::lie::{lied_header, lied_validation};
 use crate::place::{Place, Saying};
 use crate::sent::{frame_at, frames_from};
 use crate::settle::{report_some, say_some, send_some, tell};
@@ -16,7 +16,7 @@ use std::alloc::Global;
 use std::marker::Model;
 use xl_base::{LedgerId, Millis, NodeNo, OutOfMemory, Secs, Seq, secs_of};
 use xl_lists::List;
-use xl_sched::Event;
+use xl_sched::{Event, Lied};
 use xl_wire::Validation;
 
 /// A world: the nodes, and all that they ever sent, said and reported.
@@ -47,19 +47,22 @@ impl Model for World {
 
 impl World {
     ghost use Rattle.std.specs.Prelude.{◌≡◌, ◌≤◌, ◌↔◌, option_map, option_copied, Some, IsTrue, IfOk, OnOk, OnErr, true};
+    ghost use Rattle.xl_ledger.specs.declared.registry.TheConstants.{LEAST_LIMIT, GREATEST_LIMIT};
     ghost use Rattle.xl_lists.specs.Lists.{TrustedList};
     ghost use Rattle.xl_lists.specs.Quorums.{Enough};
     ghost use Rattle.xl_core.specs.Node.{Issue, Frame};
     ghost use Rattle.xl_world.specs.World.{AgreeAt, Headline, list_in, start, step, Act, place_at};
-    ghost use Rattle.xl_world.specs.Schedule.{told_of, reply_to, restart, stepped, moment_of, after_event, outcomes};
+    ghost use Rattle.xl_world.specs.Schedule.{told_of, reply_to, restart, stepped, moment_of, after_event, outcomes, preference, lied_bytes};
     ghost use Rattle.xl_base.specs.declared.moments.TheConstants.{GREATEST_MILLIS};
     ghost use Rattle.xl_world.specs.Seen.{reports_seen};
 
     /// The world of a plan, at its start.
     pub fn open(alloc: Global, plan: &Plan) -> Result<World, OutOfMemory>
-        ensures { IfOk result (λ world. world ≡ start plan.now.liars.items plan.now.nodes.items) }
+        requires least { LEAST_LIMIT ≤ plan.now.limit }
+        requires most { plan.now.limit ≤ GREATEST_LIMIT }
+        ensures { IfOk result (λ world. world ≡ start plan.now.limit plan.now.liars.items plan.now.nodes.items) }
     {
-        let places = open::places(alloc, &plan.nodes)?;
+        let places = open::places(alloc, plan.limit, &plan.nodes)?;
         Ok(World {
             alloc,
             liars: Vec::from_slice(alloc, &plan.liars)?,
@@ -155,6 +158,37 @@ impl World {
         Ok(told)
     }
 
+    /// What a liar says comes to a node. An `Err` changes nothing.
+    fn lie(
+        &mut self,
+        now: Secs,
+        from: NodeNo,
+        to: NodeNo,
+        what: &Lied,
+    ) -> Result<Happened, OutOfMemory>
+        ensures world { OnOk result (self.new ≡ step self.old (Act to (Frame now (lied_bytes from to what.now)) true)) }
+        ensures told { IfOk result (λ told. told ≡ told_of to (reply_to self.old (Act to (Frame now (lied_bytes from to what.now)) true))) }
+        ensures err { OnErr result (self.new ≡ self.old) }
+    {
+        match what {
+            Lied::Validation(validation) => {
+                self.hear(now, to, &lied_validation(from, to, validation))
+            }
+            Lied::Header { header, .. } => self.hear(now, to, &lied_header(from, to, header)),
+        }
+    }
+
+    /// The ledger that the node of a number prefers.
+    fn prefer(&self, node: NodeNo) -> Result<Happened, OutOfMemory>
+        ensures { IfOk result (λ told. told ≡ preference node (place_at node self.now.places)) }
+    {
+        let mut outcomes = Vec::with_capacity(self.alloc, 1)?;
+        if let Some(outcome) = preferred_at(&self.places, node) {
+            outcomes.push_reserved(outcome);
+        }
+        Ok(Happened::from_vec(outcomes))
+    }
+
     /// Opens a node anew with the number that its keeper holds.
     fn restart(&mut self, node: NodeNo) -> Result<(), OutOfMemory>
         ensures world { OnOk result (self.new ≡ stepped self.old (option_map restart (place_at node self.old.places))) }
@@ -184,10 +218,9 @@ impl World {
                 self.restart(*node)?;
                 Ok(Happened::nothing(self.alloc))
             }
-            Event::Lie { at, from, to, what } => {
-                self.hear(secs_of(*at), *to, &lied(*from, *to, what))
-            }
+            Event::Lie { at, from, to, what } => self.lie(secs_of(*at), *from, *to, what),
             Event::Raw { at, to, bytes } => self.hear(secs_of(*at), *to, bytes.as_slice()),
+            Event::Prefer { node, .. } => self.prefer(*node),
         }
     }
 

@@ -1,0 +1,15 @@
+use Rattle.std.proofs.Common.{◌≡◌, sym, ◌∙◌, ap, Some}
+use Rattle.std.specs.Prelude.{option_map}
+use Rattle.xl_core.specs.Node.{preferred}
+use Rattle.xl_world.specs.declared.outcome.Outcome.TheVariants.{Preferred}
+use Rattle.xl_world.specs.declared.place.Place.{Place}
+use Rattle.xl_world.proofs.Places.{found_there, none_there}
+use Rattle.xl_world.proofs.act.preferred_at.Goals as goal
+
+pub returns-in-Some : goal.returns-in-Some
+returns-in-Some c =
+    ap (λ r. Some (Preferred c.args.i r)) (c.preferred.ensures ∙ ap (λ (p : Place). preferred p.node) c.index-places-k.is)
+    ∙ sym (ap (option_map (λ p. Preferred c.args.i (preferred p.node))) (found_there c.args.places.now c.args.i c.in-Some.k c.index-places-k.result (sym c.in-Some.ensures)))
+
+pub returns-in-None : goal.returns-in-None
+returns-in-None c = sym (ap (option_map (λ p. Preferred c.args.i (preferred p.node))) (none_there c.args.places.now c.args.i (sym c.in-None.ensures)))
