@@ -1,13 +1,17 @@
-ghost use Rattle.std.specs.Prelude.{◌≤◌, IfOk};
+ghost use Rattle.std.specs.Prelude.{◌≡◌, ◌≤◌, IfOk};
 ghost use Rattle.xl_base.specs.declared.moments.TheConstants.{GREATEST_MILLIS};
 ghost use Rattle.xl_world.specs.Schedule.{moment_of};
 
 use super::*;
 use std::alloc::Global;
 use std::test::Fail;
-use xl_base::{LedgerId, NodeNo, Seq};
+use xl_base::{Bytes, LedgerId, NodeNo, Seq};
+use xl_core::{Report, sealed};
+use xl_ledger::{Header, id_of};
 use xl_lists::List;
-use xl_sched::Event;
+use xl_sched::{Event, Lied};
+use xl_tags::Keys;
+use xl_wire::Validation;
 
 const X: LedgerId = LedgerId([0x11; 32]);
 
@@ -75,7 +79,9 @@ fn number(n: u32) -> Result<NodeNo, Fail> {
     Ok(NodeNo::new(n).ok_or("no number of a member")?)
 }
 
-fn plan(alloc: Global, schedule: &Schedule) -> Result<Plan, Fail> {
+fn plan(alloc: Global, schedule: &Schedule) -> Result<Plan, Fail>
+    ensures { IfOk result (λ plan. plan.limit ≡ 1024) }
+{
     let mut nodes = Vec::new(alloc);
     for (me, quorum, members) in schedule.nodes {
         nodes.push(PlanNode {
@@ -86,6 +92,7 @@ fn plan(alloc: Global, schedule: &Schedule) -> Result<Plan, Fail> {
     Ok(Plan {
         nodes,
         liars: Vec::new(alloc),
+        limit: 1024,
     })
 }
 
@@ -108,7 +115,7 @@ fn event(happens: Happens) -> Result<Event, Fail>
 fn told(outcome: &Outcome) -> Option<Reported> {
     match *outcome {
         Outcome::Full { node, seq, id } => Some((node.get(), seq, id)),
-        Outcome::Refused { .. } => None,
+        Outcome::Refused { .. } | Outcome::Preferred { .. } => None,
     }
 }
 
@@ -142,6 +149,111 @@ fn schedules_agree_or_fork(rt: HostRuntime) -> Result<(), Fail> {
             assert_eq!(rt; world.agreement(number(i)?, number(j)?), agree);
         }
         assert_eq!(rt; world.forged(), 0);
+    }
+    Ok(())
+}
+
+/// The first ledger after the root.
+const FIRST: Header = Header {
+    seq: 1,
+    drops: 100_000_000_000_000_000,
+    parent: LedgerId([0; 32]),
+    tx_hash: [0; 32],
+    account_hash: [0; 32],
+    parent_close: 0,
+    close: 30,
+    resolution: 30,
+    flags: 0,
+};
+
+/// Node 1 hears liar 2 and member 3, and two of them are a quorum.
+fn with_a_liar(alloc: Global) -> Result<World, Fail> {
+    let mut nodes = Vec::new(alloc);
+    nodes.push(PlanNode {
+        me: number(1)?,
+        list: List::new(&[2, 3], 2)?,
+    })?;
+    let mut liars = Vec::new(alloc);
+    liars.push(number(2)?)?;
+    Ok(World::open(
+        alloc,
+        &Plan {
+            nodes,
+            liars,
+            limit: 2,
+        },
+    )?)
+}
+
+/// What liar 2 says to node 1 at the first moment.
+fn lie(world: &mut World, what: Lied) -> Result<Happened, Fail> {
+    let (from, to) = (number(2)?, number(1)?);
+    Ok(world.event(&Event::Lie {
+        at: 1_000,
+        from,
+        to,
+        what,
+    })?)
+}
+
+fn preferred(world: &mut World) -> Result<Option<Report>, Fail> {
+    let node = number(1)?;
+    let told = world.event(&Event::Prefer { at: 1_000, node })?;
+    match told.as_slice() {
+        [Outcome::Preferred { at, .. }] => Ok(*at),
+        _ => Err("no answer")?,
+    }
+}
+
+#[test]
+fn a_validation_waits_for_a_liars_header(rt: HostRuntime) -> Result<(), Fail> {
+    let alloc = rt.alloc();
+    let mut world = with_a_liar(alloc)?;
+    let id = id_of(&FIRST);
+    let validation = Validation {
+        id,
+        seq: 1,
+        signed: 1,
+        full: true,
+    };
+    assert!(rt;
+        lie(&mut world, Lied::Validation(validation))?
+            .as_slice()
+            .is_empty()
+    );
+    assert_eq!(rt; preferred(&mut world)?, None);
+    for refusals in [0, 1] {
+        let header = Lied::Header {
+            name: Bytes::from_vec(b"a".to_vec(alloc)?),
+            header: FIRST,
+        };
+        assert_eq!(rt; lie(&mut world, header)?.as_slice().len(), refusals);
+        assert_eq!(rt; preferred(&mut world)?, Some(Report { seq: 1, id }));
+    }
+    assert_eq!(rt; world.forged(), 0);
+    Ok(())
+}
+
+#[test]
+fn a_sealed_frame_that_nobody_sent_is_forged(rt: HostRuntime) -> Result<(), Fail> {
+    let alloc = rt.alloc();
+    let mut world = with_a_liar(alloc)?;
+    let to = number(1)?;
+    let validation = Validation {
+        id: X,
+        seq: 1,
+        signed: 1,
+        full: true,
+    };
+    for (from, forged) in [(2, 0), (3, 1), (3, 2)] {
+        let keys = Keys::of_schedule(number(from)?);
+        let bytes = Bytes::from_vec(sealed(&keys, to, &validation).to_vec(alloc)?);
+        world.event(&Event::Raw {
+            at: 1_000,
+            to,
+            bytes,
+        })?;
+        assert_eq!(rt; world.forged(), forged, "{from}");
     }
     Ok(())
 }
