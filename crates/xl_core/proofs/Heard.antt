@@ -23,7 +23,7 @@ use Rattle.xl_core.specs.declared.hearing.Spoken.{Spoken}
 use Rattle.xl_core.specs.declared.hearing.Speech.{Speech}
 use Rattle.xl_core.specs.declared.hearing.Speech.TheVariants.{Vote, Header}
 use Rattle.xl_core.specs.declared.refusal.Refusal.{Refusal}
-use Rattle.xl_core.specs.declared.refusal.Refusal.TheVariants.{Frame, Tag, Short, Extra, NotBuilt}
+use Rattle.xl_core.specs.declared.refusal.Refusal.TheVariants.{Extra}
 use Rattle.xl_core.specs.Hearing.{said_by, heard_body, heard_opened, heard_split, heard}
 
 abbrev sender_in : ℕ → Result Spoken Refusal → ℕ

@@ -3,12 +3,10 @@ use Rattle.std.proofs.Common.{◌≡◌, ℕ, ◌≤◌, List, length, take, ref
 use Rattle.std.proofs.lemmas.List.{take_all}
 use Rattle.std.specs.Prelude.{option_map, unwrap_or, IsSome}
 use Rattle.xl_wire.specs.declared.body.Body.TheVariants as bodies
-use Rattle.xl_wire.specs.declared.frame.Frame.{Frame}
 use Rattle.xl_wire.specs.declared.validation.Validation.{Validation}
 use Rattle.xl_wire.specs.Frames.{Spells}
 use Rattle.xl_wire.specs.Raws.{RawFrame, SpellsRaw}
 use Rattle.xl_wire.proofs.FrameLaws.{spelled_raw}
-use Rattle.xl_tags.specs.Macs.{mac}
 use Rattle.xl_tags.specs.Rings.{Ring, key_of}
 use Rattle.xl_tags.specs.Sealing.{sealed, with_tag}
 use Rattle.xl_ledger.specs.declared.header.Header.{Header}

@@ -1,8 +1,14 @@
+mod ledgers;
+
 use super::Core;
 use crate::{Refusal, Report};
+use Happens::{Known, Says};
+use ledgers::Name::{A, B, C, D, E, F, Root};
+use ledgers::{Name, child};
 use std::alloc::Global;
 use std::test::Fail;
 use xl_base::{LedgerId, NodeNo, Seq};
+use xl_ledger::{AddRefusal, Header};
 use xl_lists::List;
 use xl_tags::{Keys, TagRefusal, hmac, pair_key};
 use xl_wire::{Validation, WireRefusal};
@@ -11,11 +17,23 @@ const X: LedgerId = LedgerId([1; 32]);
 
 const Y: LedgerId = LedgerId([2; 32]);
 
+/// Room for the root and five more ledgers.
+const LIMIT: u32 = 6;
+
 /// Node 5 of the members 1 to 5, of whom 4 are a quorum.
 fn node_of_five(alloc: Global, kept: Seq) -> Result<Core, Fail> {
     let list = List::new(&[1, 2, 3, 4, 5], 4)?;
     let me = NodeNo::new(5).ok_or("no member")?;
-    Ok(Core::open(alloc, me, list, Keys::of_schedule(me), kept)?)
+    let keys = Keys::of_schedule(me);
+    Ok(Core::open(alloc, me, list, keys, LIMIT, kept)?)
+}
+
+/// Node 1, which isn't one of the members 2 to 6 that it hears.
+fn node_outside(alloc: Global, kept: Seq) -> Result<Core, Fail> {
+    let list = List::new(&[2, 3, 4, 5, 6], 3)?;
+    let me = NodeNo::new(1).ok_or("no member")?;
+    let keys = Keys::of_schedule(me);
+    Ok(Core::open(alloc, me, list, keys, LIMIT, kept)?)
 }
 
 /// The frame of a validation that a number sends to another.
@@ -25,12 +43,20 @@ fn frame(number: u32, to: u32, v: &Validation) -> Result<[u8; 87], Fail> {
     Ok(crate::sealed(&Keys::of_schedule(from), to, v))
 }
 
+/// The frame of a header that a number sends to another.
+fn header_frame(number: u32, to: u32, h: &Header) -> Result<[u8; 164], Fail> {
+    let from = NodeNo::new(number).ok_or("no member")?;
+    let to = NodeNo::new(to).ok_or("no member")?;
+    Ok(crate::sealed_header(&Keys::of_schedule(from), to, h))
+}
+
 /// Tells the node a validation under a number, or has it issue its own.
 fn tell(node: &mut Core, number: u32, v: &Validation) -> Result<Option<Report>, Fail> {
-    if number == node.me().get() {
+    let me = node.me().get();
+    if number == me {
         Ok(node.issue(v.signed, v.seq, v.id, v.full)?.report)
     } else {
-        Ok(node.frame(v.signed, &frame(number, 5, v)?)?)
+        Ok(node.frame(v.signed, &frame(number, me, v)?)?)
     }
 }
 
@@ -146,11 +172,179 @@ fn tests_a_frame_in_order(rt: HostRuntime) -> Result<(), Fail> {
     Ok(())
 }
 
+fn not_added(why: AddRefusal) -> Result<Option<Report>, Refusal> {
+    Err(Refusal::Header(why))
+}
+
+/// The answer to a header that a number sends to another: the frame is opened first, and then the header has to follow a known
+/// ledger.
+#[test]
+fn takes_headers_that_follow(rt: HostRuntime) -> Result<(), Fail> {
+    let mut node = node_of_five(rt.alloc(), 0)?;
+    let stranger = Err(Refusal::Tag(TagRefusal::Stranger(6)));
+    let gap = AddRefusal::WrongSeq { parent: 1, own: 3 };
+    let no_child = AddRefusal::WrongSeq { parent: 0, own: 0 };
+    for (number, to, header, answer) in [
+        (6, 5, A.header(), stranger),
+        (1, 4, A.header(), Err(Refusal::Tag(TagRefusal::NotForMe(4)))),
+        (1, 5, B.header(), not_added(AddRefusal::Orphan(A.id()))),
+        (1, 5, A.header(), Ok(None)),
+        (2, 5, A.header(), not_added(AddRefusal::Known(A.id()))),
+        (6, 5, A.header(), stranger),
+        (1, 5, child(A.id(), 3, 2), not_added(gap)),
+        (1, 5, Root.header(), not_added(no_child)),
+        (2, 5, B.header(), Ok(None)),
+    ] {
+        assert_eq!(rt;
+            node.frame(1, &header_frame(number, to, &header)?),
+            answer,
+            "{number} sends {header:?}"
+        );
+    }
+    Ok(())
+}
+
+/// Once there is no room, the other causes are still told first.
+#[test]
+fn takes_headers_while_there_is_room(rt: HostRuntime) -> Result<(), Fail> {
+    let mut node = node_of_five(rt.alloc(), 0)?;
+    let twin = AddRefusal::WrongSeq { parent: 4, own: 4 };
+    for (header, answer) in [
+        (A.header(), Ok(None)),
+        (B.header(), Ok(None)),
+        (C.header(), Ok(None)),
+        (D.header(), Ok(None)),
+        (E.header(), Ok(None)),
+        (F.header(), not_added(AddRefusal::Full(6))),
+        (child(E.id(), 5, 0), not_added(AddRefusal::Full(6))),
+        (A.header(), not_added(AddRefusal::Known(A.id()))),
+        (child(F.id(), 2, 0), not_added(AddRefusal::Orphan(F.id()))),
+        (child(E.id(), 4, 0), not_added(twin)),
+    ] {
+        assert_eq!(rt;
+            node.frame(1, &header_frame(1, 5, &header)?),
+            answer,
+            "{header:?}"
+        );
+    }
+    Ok(())
+}
+
+/// What happens at a node.
+#[derive(Clone, Copy, Debug)]
+enum Happens {
+    /// A member says that a ledger is of a sequence.
+    Says(u32, Name, Seq),
+    /// The header of a ledger comes.
+    Known(Name),
+}
+
+/// Tells the node what happens. Nothing is to be reported of it, since all validations are partial.
+fn happen(node: &mut Core, happens: Happens) -> Result<(), Fail> {
+    match happens {
+        Says(number, name, seq) => {
+            let v = Validation {
+                id: name.id(),
+                seq,
+                signed: 1,
+                full: false,
+            };
+            tell(node, number, &v)?;
+        }
+        Known(name) => {
+            let frame = header_frame(2, node.me().get(), &name.header())?;
+            node.frame(1, &frame)?;
+        }
+    }
+    Ok(())
+}
+
+/// What happens at node 5, and the ledger that it prefers then.
+const STORY: [(Happens, Option<Name>); 11] = [
+    // A validation waits for its header, and then it is a vote; but not where the ledger is of another sequence.
+    (Says(1, A, 1), None),
+    (Says(2, A, 2), None),
+    (Known(A), Some(A)),
+    (Says(3, B, 2), Some(A)),
+    // The vote for B isn't more than the one that is uncommitted, which is for A. Two votes are more.
+    (Known(B), Some(A)),
+    (Says(4, B, 2), Some(B)),
+    // The node has said something of sequence 3 itself, so that all three votes are uncommitted.
+    (Says(5, C, 3), Some(Root)),
+    // What it said is a vote too: four go on to A, but the three for B and C go no further.
+    (Known(C), Some(A)),
+    // Now two are uncommitted. They hold two votes for C back, and then one is, and doesn't hold three back.
+    (Says(1, C, 3), Some(B)),
+    (Says(3, C, 3), Some(C)),
+    (Known(F), Some(C)),
+];
+
+#[test]
+fn prefers_what_votes_name(rt: HostRuntime) -> Result<(), Fail> {
+    let mut node = node_of_five(rt.alloc(), 0)?;
+    for (happens, preferred) in STORY {
+        happen(&mut node, happens)?;
+        let preferred = preferred.map(|name| name.told());
+        assert_eq!(rt; node.preferred(), preferred, "{happens:?}");
+    }
+    Ok(())
+}
+
+/// Members name the ledgers of the branch to E, and one of them leaves it for C.
+const ALONG: [Happens; 10] = [
+    Known(A),
+    Known(B),
+    Known(C),
+    Known(D),
+    Known(E),
+    Says(2, B, 2),
+    Says(3, C, 3),
+    Says(4, D, 3),
+    Says(5, D, 3),
+    Says(6, E, 4),
+];
+
+/// The node outside, opened with a kept number, once it has heard these.
+fn node_along(alloc: Global, kept: Seq) -> Result<Core, Fail> {
+    let mut node = node_outside(alloc, kept)?;
+    for happens in ALONG {
+        happen(&mut node, happens)?;
+    }
+    Ok(node)
+}
+
+/// What the node itself says is no vote here. The later its kept number, the more votes are uncommitted.
+#[test]
+fn the_kept_number_holds_the_walk_back(rt: HostRuntime) -> Result<(), Fail> {
+    for (kept, before, issued, after) in [
+        (0, D, 3, D),
+        (0, D, 4, B),
+        (0, D, 5, Root),
+        (3, D, 4, B),
+        (3, D, 5, Root),
+        (4, B, 5, Root),
+        (5, Root, 6, Root),
+    ] {
+        let mut node = node_along(rt.alloc(), kept)?;
+        assert_eq!(rt; node.preferred(), Some(before.told()), "kept {kept}");
+        node.issue(1, issued, E.id(), false)?;
+        assert_eq!(rt; node.preferred(), Some(after.told()), "issued {issued}");
+    }
+    Ok(())
+}
+
 #[test]
 fn numbers_its_refusals(rt: HostRuntime) {
     for (refusal, code) in [
         (Refusal::Frame(WireRefusal::Magic(0)), 1),
         (Refusal::Tag(TagRefusal::Stranger(6)), 9),
+        (Refusal::Header(AddRefusal::Known(X)), 16),
+        (Refusal::Header(AddRefusal::Orphan(X)), 17),
+        (
+            Refusal::Header(AddRefusal::WrongSeq { parent: 0, own: 5 }),
+            18,
+        ),
+        (Refusal::Header(AddRefusal::Full(2)), 19),
         (Refusal::Stale(1000, 820), 20),
         (Refusal::Repeat(X), 21),
         (Refusal::Conflict(X), 22),

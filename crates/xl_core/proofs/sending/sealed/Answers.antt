@@ -1,7 +1,6 @@
-use Rattle.std.proofs.Common.{◌≡◌, ◌≤◌, false, true, length, refl, sym, ap, ◌∙◌, arith}
+use Rattle.std.proofs.Common.{◌≡◌, false, true, refl, sym, ap, ◌∙◌, arith}
 use Rattle.std.specs.Prelude.{replicate}
 use Rattle.xl_wire.specs.Raws.{RawFrame, SpellsRaw, raw_bytes}
-use Rattle.xl_tags.specs.Sealing.{sealed}
 use Rattle.xl_core.specs.Sending.{validation_frame}
 use Rattle.xl_core.proofs.SealingLaws.{written, unsealed}
 use Rattle.xl_core.proofs.sending.sealed.Goals as goal

@@ -1,8 +1,6 @@
-use Rattle.std.proofs.Common.{◌≡◌, ◌∙◌, length, sym, subst, refl, List}
-use Rattle.xl_ledger.specs.declared.header.Header.{Header}
+use Rattle.std.proofs.Common.{length, refl}
 use Rattle.xl_ledger.specs.Registries.{add_refusal}
-use Rattle.xl_core.specs.Node.{Node}
-use Rattle.xl_core.proofs.Learning.{place_if, is_newest, were_known, still_ready}
+use Rattle.xl_core.proofs.Learning.{place_if, is_newest, still_ready}
 use Rattle.xl_core.proofs.node.Core.learn.Goals as goal
 
 pub header_known-requires-clause-newest : goal.header_known-requires-clause-newest
@@ -14,6 +12,6 @@ header_known-requires-clause-newest c =
 pub invariant_of-self-2 : goal.invariant_of-self-2
 invariant_of-self-2 c = (
   still_ready (record { me = c.self.inside.me; list = c.self.inside.list; keys = c.self.inside.keys; ledgers = c.self.inside.registry; rows = c.self.inside.table.rows; kept = c.self.inside.kept; last = c.self.inside.last })
-  c.add.new.self c.header_known.new.self.rows c.header_known.ensures.rows c.self.invariant.0,
+      c.add.new.self c.header_known.new.self.rows c.header_known.ensures.rows c.self.invariant.0,
   c.header_known.ensures.tally,
 )

@@ -1,5 +1,4 @@
 use Rattle.std.proofs.Common.{List, None, sym, subst}
-use Rattle.xl_ledger.specs.declared.header.Header.{Header}
 use Rattle.xl_ledger.specs.Registries.{Ledgers, only_root}
 use Rattle.xl_ledger.specs.Chains.{AreLedgers}
 use Rattle.xl_ledger.proofs.Storing.{root_known}
@@ -7,13 +6,11 @@ use Rattle.xl_validations.specs.declared.row.Row.{Row}
 use Rattle.xl_core.specs.Node.{Node}
 use Rattle.xl_core.specs.Rest.{IsAtRest}
 use Rattle.xl_core.proofs.Opening.{opened_at_rest}
-use Rattle.xl_core.proofs.Learning.{still_ready}
 use Rattle.xl_core.proofs.node.Core.open.Goals as goal
 
 pub invariant_of-result : goal.invariant_of-result
 invariant_of-result c =
-    let known : AreLedgers c.in_ok-registry.registry.headers = subst (λ (r : Ledgers). AreLedgers r.headers) (sym c.in_ok-registry.ensures) root_known in
-    (
+    let known : AreLedgers c.in_ok-registry.registry.headers = subst (λ (r : Ledgers). AreLedgers r.headers) (sym c.in_ok-registry.ensures) root_known in (
       record {
         keyed = c.requires.keyed;
         rest = subst (λ (ledgers : Ledgers). let n : Node = record { me = c.args.me; list = c.args.list; keys = c.args.keys; ledgers = ledgers; rows = c.in_ok-table.table.rows; kept = c.args.kept; last = None } in IsAtRest n) (sym c.in_ok-registry.ensures)

@@ -14,14 +14,17 @@ take-requires c = record {
 }
 
 pub invariant_of-self-2 : goal.invariant_of-self-2
-invariant_of-self-2 c = (record {
-  keyed = c.self.invariant.0.keyed;
-  rest = rest_when_taken (record { me = c.self.inside.me; list = c.self.inside.list; keys = c.self.inside.keys; ledgers = c.self.inside.registry; rows = c.self.inside.table.rows; kept = c.self.inside.kept; last = c.self.inside.last })
-      c.args.from c.args.v.now c.take.new.self.rows c.report_by-report.result c.or-self-inside.result c.self.invariant.0.rest
-      c.in_ok-take.ensures.taken
-      (c.report_by-report.ensures ∙ ap (λ q. report_if (arises_in q c.take.new.self.rows c.self.inside.last c.args.v.now) c.args.v.now) c.quorum.ensures.value)
-      c.or-self-inside.ensures;
-}, c.take.ensures.tally)
+invariant_of-self-2 c = (
+  record {
+    keyed = c.self.invariant.0.keyed;
+    rest = rest_when_taken (record { me = c.self.inside.me; list = c.self.inside.list; keys = c.self.inside.keys; ledgers = c.self.inside.registry; rows = c.self.inside.table.rows; kept = c.self.inside.kept; last = c.self.inside.last })
+        c.args.from c.args.v.now c.take.new.self.rows c.report_by-report.result c.or-self-inside.result c.self.invariant.0.rest
+        c.in_ok-take.ensures.taken
+        (c.report_by-report.ensures ∙ ap (λ q. report_if (arises_in q c.take.new.self.rows c.self.inside.last c.args.v.now) c.args.v.now) c.quorum.ensures.value)
+        c.or-self-inside.ensures;
+  },
+  c.take.ensures.tally,
+)
 
 pub returns-clause-exact : goal.returns-clause-exact
 returns-clause-exact c =

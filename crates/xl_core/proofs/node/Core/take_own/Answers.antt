@@ -2,7 +2,7 @@ use Rattle.std.proofs.Common.{◌≡◌, ◌∙◌, ap, sym, subst}
 use Rattle.std.specs.Prelude.{false}
 use Rattle.xl_lists.specs.Lists.{is_on}
 use Rattle.xl_core.specs.Node.{Node, hears, refusal_at}
-use Rattle.xl_core.specs.Rest.{IsAtRest, IsReady}
+use Rattle.xl_core.specs.Rest.{IsReady}
 use Rattle.xl_core.proofs.Answered.{own_taken, own_not_listed}
 use Rattle.xl_core.proofs.node.Core.take_own.Goals as goal
 
