@@ -1,5 +1,5 @@
 -- Ledgers that names stand for. Source: this project's schedule language.
-use Rattle.std.specs.Prelude.{ℕ, ◌+◌, ◌≤◌, List, length, find, codes, Option, IfSome, option_map, Result, Ok, Err, if◌then◌else◌}
+use Rattle.std.specs.Prelude.{ℕ, ◌+◌, ◌≤◌, List, find, codes, Option, IfSome, option_map, Result, Ok, if◌then◌else◌}
 use Rattle.std.specs.List.{All}
 use Rattle.std.specs.Option.{option_and_then, ok_or}
 use Rattle.std.specs.Str.{bytes_eq}

@@ -1,6 +1,5 @@
 use Rattle.std.proofs.Common.{◌≤◌, IfSome}
 use Rattle.std.proofs.lemmas.List.Elements.{All-nil}
-use Rattle.xl_sched.specs.declared.named.Named.{Named}
 use Rattle.xl_sched.proofs.NameLemmas.{AreFirst-none}
 use Rattle.xl_sched.proofs.names.Names.with_root.Goals as goal
 
