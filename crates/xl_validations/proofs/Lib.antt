@@ -6,3 +6,4 @@ pub mod Turning
 pub mod Naming
 pub mod Choosing
 pub mod Tallying
+pub mod Knowing

@@ -175,3 +175,6 @@ fn goes_elsewhere(walk: &mut Walk<'_>, current: LedgerNo, preferred: LedgerNo) -
         walk.ancestor(current, preferred_seq) != preferred
     }
 }
+
+#[cfg(test)]
+mod tests;
