@@ -6,7 +6,7 @@ use Rattle.std.proofs.lemmas.List.Quantifiers.{position-Some}
 use Rattle.xl_base.specs.declared.ids.LedgerId.{LedgerId}
 use Rattle.xl_ledger.specs.declared.header.Header.{Header}
 use Rattle.xl_ledger.specs.declared.refusal.AddRefusal.{AddRefusal}
-use Rattle.xl_ledger.specs.Headers.{same_id}
+use Rattle.xl_base.specs.Ids.{same_id}
 use Rattle.xl_ledger.specs.Chains.{ids, root_id, place_of, Joins, AreLedgers}
 use Rattle.xl_ledger.specs.Registries.{unless_refused}
 use Rattle.xl_ledger.proofs.ChainLaws.{length-ids}
