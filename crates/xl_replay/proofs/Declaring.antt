@@ -8,10 +8,12 @@ use Rattle.xl_lists.specs.declared.refusal.ListRefusal.{ListRefusal}
 use Rattle.xl_lists.specs.declared.refusal.ListRefusal.TheVariants.{Empty, TooMany, OutOfRange, Repeated, Quorum}
 use Rattle.xl_lists.specs.Lists.{TrustedList, IsValid, is_on, is_outside, repeated_after, is_quorum, refused_if, refusal_of, unless_refused as list_unless, list_of}
 use Rattle.xl_lists.proofs.Refusing.{distinct, all_in_range}
+use Rattle.xl_ledger.specs.declared.registry.TheConstants.{LEAST_LIMIT}
 use Rattle.xl_sched.specs.declared.event.Event.{Event}
 use Rattle.xl_sched.specs.declared.refusal.SchedRefusal.{SchedRefusal}
 use Rattle.xl_sched.specs.declared.refusal.SchedRefusal.TheVariants.{Twice, Late}
-use Rattle.xl_sched.specs.declared.limits.TheConstants.{MOST_LINES, MOST_BYTES}
+use Rattle.xl_sched.specs.declared.limits.TheConstants.{MOST_LINES, MOST_BYTES, MOST_LEDGERS}
+use Rattle.xl_sched.specs.declared.ledger.Ledger.{Ledger}
 use Rattle.xl_sched.specs.declared.line.Line.{Line}
 use Rattle.xl_sched.specs.declared.line.Line.TheVariants as line
 use Rattle.xl_sched.specs.declared.word.Word.{Word}
@@ -19,10 +21,11 @@ use Rattle.xl_sched.specs.declared.word.Word.TheVariants as word
 use Rattle.xl_base.specs.declared.ids.LedgerId.{LedgerId}
 use Rattle.xl_sched.specs.Refusals.{◌>>=◌}
 use Rattle.xl_sched.specs.Tokens.{tokens}
-use Rattle.xl_sched.specs.Numbers.{is_number, value_of, number_of}
+use Rattle.xl_sched.specs.Numbers.{is_number, value_of, number_within, number_of}
 use Rattle.xl_sched.specs.Names.{new_name_of, id_of}
+use Rattle.xl_sched.specs.Ledgers.{parent_of, header_after}
 use Rattle.xl_sched.specs.Members.{member_of, new_member_of, members_of, trusted_of, unless_refused}
-use Rattle.xl_sched.specs.Words.{Reading, mode_of, node_of, node_line, liar_line, has_most_names, named_line, issue_event, deliver_event, restart_event, lie_event, raw_event, event_line, line_of, line_if_word, word_of, worded_line}
+use Rattle.xl_sched.specs.Words.{Reading, mode_of, node_of, node_line, liar_line, has_most_names, named_line, named_ledger_line, limit_line, issue_event, deliver_event, restart_event, lie_event, raw_event, prefer_event, event_line, line_of, line_if_word, word_of, worded_line}
 use Rattle.xl_sched.specs.Reading.{Answer, passes, gives, refuses, is_header, header_line, is_comment, some_line, later_line, bounded_line, answer_to, reading_of}
 use Rattle.xl_world.specs.World.{IsDeclared}
 
@@ -99,9 +102,11 @@ new_in_range nodes liars token (Ok m) range = cond_both (is_on nodes m || is_on 
 
 -- what a line declares is declared
 abbrev pub Declares : Line → Type 0
+Declares (line.Limit limit) = Unit {0}
 Declares (line.Node me list validating) = IsDeclared (record { me = me; list = list })
 Declares (line.Liar me) = Unit {0}
 Declares (line.Name name id) = Unit {0}
+Declares (line.Ledger name parent header) = Unit {0}
 Declares (line.Event event) = Unit {0}
 
 declared_node : (me : ℕ) (validating : Bool) (r : Result TrustedList SchedRefusal) → InRange me → IfOk r IsValid → IfOk (r >>= (λ list. Ok (line.Node me list validating))) Declares
@@ -148,6 +153,29 @@ named_line_declares reading (a ∷ []) = tt
 named_line_declares reading (a ∷ b ∷ []) = name_declares (new_name_of reading.names a) (id_of reading.names b)
 named_line_declares reading (a ∷ b ∷ c ∷ rest) = tt
 
+ledger_declares : (name : Result (List ℕ) SchedRefusal) (above : Result Ledger SchedRefusal) (close : Result ℕ SchedRefusal) (parent : List ℕ) →
+    IfOk (name >>= (λ n. above >>= (λ a. close >>= (λ c. Ok (line.Ledger n parent (header_after a c)))))) Declares
+ledger_declares (Err e) above close parent = tt
+ledger_declares (Ok n) (Err e) close parent = tt
+ledger_declares (Ok n) (Ok a) (Err e) parent = tt
+ledger_declares (Ok n) (Ok a) (Ok c) parent = tt
+
+ledger_line_declares : (reading : Reading) (arguments : List (List ℕ)) → IfOk (named_ledger_line reading arguments) Declares
+ledger_line_declares reading [] = tt
+ledger_line_declares reading (a ∷ []) = tt
+ledger_line_declares reading (a ∷ b ∷ []) = tt
+ledger_line_declares reading (a ∷ b ∷ c ∷ []) = ledger_declares (new_name_of reading.names a) (parent_of reading.names b) (number_of c) b
+ledger_line_declares reading (a ∷ b ∷ c ∷ d ∷ rest) = tt
+
+limit_declares : (limited : Bool) (token : List ℕ) (limit : Result ℕ SchedRefusal) → IfOk (limit >>= (λ n. cond limited (Err (Twice token)) (Ok (line.Limit n)))) Declares
+limit_declares limited token (Err e) = tt
+limit_declares limited token (Ok n) = cond_both limited (Err (Twice token)) (Ok (line.Limit n)) (λ r. IfOk r Declares) (λ _. tt) (λ _. tt)
+
+limit_line_declares : (reading : Reading) (arguments : List (List ℕ)) → IfOk (limit_line reading arguments) Declares
+limit_line_declares reading [] = tt
+limit_line_declares reading (a ∷ []) = limit_declares reading.limited a (number_within LEAST_LIMIT MOST_LEDGERS a)
+limit_line_declares reading (a ∷ b ∷ rest) = tt
+
 event_declares : (r : Result Event SchedRefusal) → IfOk (event_line r) Declares
 event_declares (Err e) = tt
 event_declares (Ok event) = tt
@@ -157,13 +185,18 @@ line_declares reading sent word.Node token arguments =
     cond_both reading.started (Err (Late token)) (node_line reading arguments) (λ r. IfOk r Declares) (λ _. tt) (λ _. node_line_declares reading arguments)
 line_declares reading sent word.Liar token arguments =
     cond_both reading.started (Err (Late token)) (liar_line reading arguments) (λ r. IfOk r Declares) (λ _. tt) (λ _. liar_line_declares reading arguments)
+line_declares reading sent word.Limit token arguments =
+    cond_both reading.started (Err (Late token)) (limit_line reading arguments) (λ r. IfOk r Declares) (λ _. tt) (λ _. limit_line_declares reading arguments)
 line_declares reading sent word.Name token arguments =
     cond_both (has_most_names reading) _ (named_line reading arguments) (λ r. IfOk r Declares) (λ _. tt) (λ _. named_line_declares reading arguments)
+line_declares reading sent word.Ledger token arguments =
+    cond_both (has_most_names reading) _ (named_ledger_line reading arguments) (λ r. IfOk r Declares) (λ _. tt) (λ _. ledger_line_declares reading arguments)
 line_declares reading sent word.Issue token arguments = event_declares (issue_event reading arguments)
 line_declares reading sent word.Deliver token arguments = event_declares (deliver_event reading sent arguments)
 line_declares reading sent word.Restart token arguments = event_declares (restart_event reading arguments)
 line_declares reading sent word.Lie token arguments = event_declares (lie_event reading arguments)
 line_declares reading sent word.Raw token arguments = event_declares (raw_event reading arguments)
+line_declares reading sent word.Prefer token arguments = event_declares (prefer_event reading arguments)
 
 word_declares : (reading : Reading) (sent : ℕ) (o : Option Word) (token : List ℕ) (arguments : List (List ℕ)) → IfOk (line_if_word reading sent o token arguments) Declares
 word_declares reading sent None token arguments = tt

@@ -19,6 +19,7 @@ use Rattle.xl_world.specs.Forks.{first_fork}
 use Rattle.xl_world.specs.World.{World, IsDeclared, IsRun, AgreeAt}
 use Rattle.xl_world.proofs.Lists.{world_agrees}
 use Rattle.xl_world.proofs.Reporters.{IsReporter, world_reporters}
+use Rattle.xl_replay.specs.declared.replayer.TheConstants.{DEFAULT_LIMIT}
 use Rattle.xl_replay.specs.Texts.{forged_line, agreement_line, end_lines, bad_line}
 use Rattle.xl_replay.specs.Replays.{Replaying, world_of, ending, verdict_of, at_first, limits, rules, report_of}
 use Rattle.xl_replay.specs.Headlines.{Spoken, spoken_line, short_text, IsPair, state_from, names_of, IsReport, AddsReport}
@@ -72,7 +73,7 @@ ends_report r last told ends good =
     }
 
 first_sound : IsSound at_first
-first_sound = record { declared = All-nil IsDeclared; is_run = ([], [], All-nil IsDeclared, refl) }
+first_sound = record { declared = All-nil IsDeclared; is_run = (DEFAULT_LIMIT, [], [], All-nil IsDeclared, refl) }
 
 whole_report : (bytes : List ℕ) → (report_of bytes).verdict ≢ IsRefused → IsReport (names_of bytes) (report_of bytes).text
 whole_report bytes good = ends_report at_first (state_from limits limits.lines at_first (lines_of bytes)) (report_of bytes) (told_from_ends limits limits.lines at_first (lines_of bytes) first_sound good) good

@@ -14,8 +14,10 @@ use Rattle.xl_lines.specs.Lines.{Line as TextLine, content}
 use Rattle.xl_lines.specs.Rules.{Step, goes_on, refuses as refuses_line, Told}
 use Rattle.xl_lines.specs.Told.{after as after_text, told_by, step_within, step_at, told_from}
 use Rattle.xl_core.specs.declared.report.Report.{Report}
-use Rattle.xl_core.specs.Node.{Node, Event as NodeEvent, Reply, happens}
+use Rattle.xl_core.specs.Node.{Node, Event as NodeEvent, Reply, happens, preferred}
+use Rattle.xl_ledger.specs.Headers.{header_id}
 use Rattle.xl_sched.specs.declared.event.Event.{Event}
+use Rattle.xl_sched.specs.declared.event.Event.TheVariants as event
 use Rattle.xl_sched.specs.declared.line.Line.{Line}
 use Rattle.xl_sched.specs.declared.named.Named.{Named}
 use Rattle.xl_sched.specs.declared.refusal.SchedRefusal.{SchedRefusal}
@@ -23,12 +25,12 @@ use Rattle.xl_sched.specs.declared.line.Line.TheVariants as line
 use Rattle.xl_sched.specs.Words.{Reading}
 use Rattle.xl_sched.specs.Reading.{Answer, passes, gives, refuses, answer_to, bounded_line, reading_of}
 use Rattle.xl_world.specs.declared.outcome.Outcome.{Outcome}
-use Rattle.xl_world.specs.declared.outcome.Outcome.TheVariants.{Refused, Full}
+use Rattle.xl_world.specs.declared.outcome.Outcome.TheVariants.{Refused, Full, Preferred}
 use Rattle.xl_world.specs.declared.place.Place.{Place}
 use Rattle.xl_world.specs.declared.plan.PlanNode.{PlanNode}
 use Rattle.xl_world.specs.Keeper.{may_hold, after_save}
 use Rattle.xl_world.specs.World.{World, Step as WorldStep, Act, Again, Torn, place_at, reported_by, acts, reopened, again, torn, asked_at, step, start, IsDeclared, AreDeclared, IsRun}
-use Rattle.xl_world.specs.Schedule.{step_of, stepped, after_event, reply_to, told_of as told_at, node_of, outcomes_at, outcomes}
+use Rattle.xl_world.specs.Schedule.{step_of, stepped, after_event, reply_to, told_of as told_at, node_of, outcomes_at, preference, outcomes}
 use Rattle.xl_world.proofs.Settling.{at_its_number}
 use Rattle.xl_world.proofs.Lists.{happens_keeps}
 use Rattle.xl_world.proofs.Steps.{stepped_run}
@@ -43,6 +45,7 @@ use Rattle.xl_replay.proofs.Declaring.{Declares, AnswerDeclares, reading_declare
 abbrev pub IsReported : World → Outcome → Type 0
 IsReported w (Refused node refusal) = Unit {0}
 IsReported w (Full node seq id) = (list : TrustedList) × Contains w.reports (record { node = node; list = list; seq = seq; id = id })
+IsReported w (Preferred node ledger) = Unit {0}
 
 -- the reports of the one world are among those of the other
 abbrev pub Grows : World → World → Type 0
@@ -51,6 +54,7 @@ Grows w v = (r : Reported) → Contains w.reports r → Contains v.reports r
 still_reported : (w v : World) → Grows w v → (o : Outcome) → IsReported w o → IsReported v o
 still_reported w v grows (Refused node refusal) h = tt
 still_reported w v grows (Full node seq id) h = (h.0, grows _ h.1)
+still_reported w v grows (Preferred node ledger) h = tt
 
 settled_grows : (w v : World) (more : List Reported) → v.reports ≡ w.reports ++ more → Grows w v
 settled_grows w v more is r h = subst (λ rs. Contains rs r) (sym is) (Contains-append_left w.reports more r h)
@@ -112,8 +116,18 @@ stepped_reported : (w : World) (o : Option WorldStep) → All (IsReported (stepp
 stepped_reported w None = All-nil (IsReported w)
 stepped_reported w (Some s) = step_reported w s
 
+-- what a node prefers is no report
+preference_reported : (w : World) (i : ℕ) (o : Option Place) → All (IsReported w) (preference i o)
+preference_reported w i None = All-nil (IsReported w)
+preference_reported w i (Some p) = All-cons (IsReported w) (Preferred i (preferred p.node)) [] tt (All-nil (IsReported w))
+
 event_reported : (w : World) (e : Event) → All (IsReported (after_event w e)) (outcomes w e)
-event_reported w e = stepped_reported w (step_of w e)
+event_reported w (event.Issue at node seq id full) = stepped_reported w (step_of w (event.Issue at node seq id full))
+event_reported w (event.Deliver at place) = stepped_reported w (step_of w (event.Deliver at place))
+event_reported w (event.Restart at node) = stepped_reported w (step_of w (event.Restart at node))
+event_reported w (event.Lie at from to what) = stepped_reported w (step_of w (event.Lie at from to what))
+event_reported w (event.Raw at to bytes) = stepped_reported w (step_of w (event.Raw at to bytes))
+event_reported w (event.Prefer at node) = preference_reported w node (place_at node w.places)
 
 -- STEP BY STEP
 
@@ -137,30 +151,30 @@ StepTells r (goes_on text next) = Tells r next text
 StepTells r (refuses_line text) = Unit {0}
 
 -- a plan's own world is a run of no steps
-world_run : (plan : List PlanNode) (liars : List ℕ) → AreDeclared plan → IsRun (start liars plan)
-world_run plan liars declared = (plan, [], declared, refl)
+world_run : (limit : ℕ) (plan : List PlanNode) (liars : List ℕ) → AreDeclared plan → IsRun (start limit liars plan)
+world_run limit plan liars declared = (limit, plan, [], declared, refl)
 
 abbrev SameWorld : Replaying → Replaying → Type 0
 SameWorld r next = Grows (world_of r) (world_of next) × IsSound next
 
-quiet_tells : (r : Replaying) (reading : Reading) (plan : List PlanNode) (liars : List ℕ) → IsSound r → Extends r.reading.names reading.names → AreDeclared plan → (o : Option World) → r.world ≡ o → StepTells r (silent r reading plan liars)
-quiet_tells r reading plan liars sound extends declared o at = record {
+quiet_tells : (r : Replaying) (reading : Reading) (limit : ℕ) (plan : List PlanNode) (liars : List ℕ) → IsSound r → Extends r.reading.names reading.names → AreDeclared plan → (o : Option World) → r.world ≡ o → StepTells r (silent r reading limit plan liars)
+quiet_tells r reading limit plan liars sound extends declared o at = record {
   spoken = [];
   written = refl;
-  reported = All-nil (λ s. IsReported (world_of (record { reading = reading; plan = plan; liars = liars; world = r.world })) s.outcome);
+  reported = All-nil (λ s. IsReported (world_of (record { reading = reading; limit = limit; plan = plan; liars = liars; world = r.world })) s.outcome);
   named = All-nil (λ s. Extends s.names reading.names);
   extends = extends;
   grows = grown o at;
   sound = record { declared = declared; is_run = run_at o at };
 }
   where
-    grown : (o : Option World) → r.world ≡ o → Grows (world_of r) (world_of (record { reading = reading; plan = plan; liars = liars; world = r.world }))
-    grown None at = subst (λ (x : Option World). Grows (unwrap_or x (start r.liars r.plan)) (unwrap_or x (start liars plan))) (sym at) (λ q h. h)
-    grown (Some w) at = subst (λ (x : Option World). Grows (unwrap_or x (start r.liars r.plan)) (unwrap_or x (start liars plan))) (sym at) (λ q h. h)
+    grown : (o : Option World) → r.world ≡ o → Grows (world_of r) (world_of (record { reading = reading; limit = limit; plan = plan; liars = liars; world = r.world }))
+    grown None at = subst (λ (x : Option World). Grows (unwrap_or x (start r.limit r.liars r.plan)) (unwrap_or x (start limit liars plan))) (sym at) (λ q h. h)
+    grown (Some w) at = subst (λ (x : Option World). Grows (unwrap_or x (start r.limit r.liars r.plan)) (unwrap_or x (start limit liars plan))) (sym at) (λ q h. h)
 
-    run_at : (o : Option World) → r.world ≡ o → IsRun (world_of (record { reading = reading; plan = plan; liars = liars; world = r.world }))
-    run_at None at = subst (λ (x : Option World). IsRun (unwrap_or x (start liars plan))) (sym at) (world_run plan liars declared)
-    run_at (Some w) at = subst (λ (x : Option World). IsRun (unwrap_or x (start liars plan))) (sym at) (subst (λ (x : Option World). IsRun (unwrap_or x (start r.liars r.plan))) at sound.is_run)
+    run_at : (o : Option World) → r.world ≡ o → IsRun (world_of (record { reading = reading; limit = limit; plan = plan; liars = liars; world = r.world }))
+    run_at None at = subst (λ (x : Option World). IsRun (unwrap_or x (start limit liars plan))) (sym at) (world_run limit plan liars declared)
+    run_at (Some w) at = subst (λ (x : Option World). IsRun (unwrap_or x (start limit liars plan))) (sym at) (subst (λ (x : Option World). IsRun (unwrap_or x (start r.limit r.liars r.plan))) at sound.is_run)
 
 -- the names that stand are the first of those that stand after a line
 
@@ -178,9 +192,11 @@ AnswerExtends known (refuses why) = Unit {0}
 answer_extends : (reading : Reading) (r : Result (Option Line) SchedRefusal) → AnswerExtends reading (answer_to reading r)
 answer_extends reading (Err e) = tt
 answer_extends reading (Ok None) = extends_itself reading.names
+answer_extends reading (Ok (Some (line.Limit limit))) = extends_itself reading.names
 answer_extends reading (Ok (Some (line.Node me list validating))) = extends_itself reading.names
 answer_extends reading (Ok (Some (line.Liar me))) = extends_itself reading.names
-answer_extends reading (Ok (Some (line.Name name id))) = (record { name = name; id = id } ∷ [], refl)
+answer_extends reading (Ok (Some (line.Name name id))) = (record { name = name; id = id; header = None } ∷ [], refl)
+answer_extends reading (Ok (Some (line.Ledger name parent header))) = (record { name = name; id = header_id header; header = Some header } ∷ [], refl)
 answer_extends reading (Ok (Some (line.Event e))) = extends_itself reading.names
 
 reading_extends : (reading : Reading) (sent : ℕ) (bytes : List ℕ) → AnswerExtends reading (reading_of reading sent bytes)
@@ -203,14 +219,16 @@ event_tells r reading e sound extends = record {
 }
 
 line_tells : (r : Replaying) (reading : Reading) (l : Line) → IsSound r → Extends r.reading.names reading.names → Declares l → StepTells r (after_line r reading l)
+line_tells r reading (line.Limit limit) sound extends declares = quiet_tells r reading limit r.plan r.liars sound extends sound.declared r.world refl
 line_tells r reading (line.Node me list validating) sound extends declares =
-    quiet_tells r reading _ r.liars sound extends (All-append IsDeclared r.plan _ sound.declared (All-cons IsDeclared (record { me = me; list = list }) [] declares (All-nil IsDeclared))) r.world refl
-line_tells r reading (line.Liar me) sound extends declares = quiet_tells r reading r.plan _ sound extends sound.declared r.world refl
-line_tells r reading (line.Name name id) sound extends declares = quiet_tells r reading r.plan r.liars sound extends sound.declared r.world refl
+    quiet_tells r reading r.limit _ r.liars sound extends (All-append IsDeclared r.plan _ sound.declared (All-cons IsDeclared (record { me = me; list = list }) [] declares (All-nil IsDeclared))) r.world refl
+line_tells r reading (line.Liar me) sound extends declares = quiet_tells r reading r.limit r.plan _ sound extends sound.declared r.world refl
+line_tells r reading (line.Name name id) sound extends declares = quiet_tells r reading r.limit r.plan r.liars sound extends sound.declared r.world refl
+line_tells r reading (line.Ledger name parent header) sound extends declares = quiet_tells r reading r.limit r.plan r.liars sound extends sound.declared r.world refl
 line_tells r reading (line.Event e) sound extends declares = event_tells r reading e sound extends
 
 answer_tells : (r : Replaying) (a : Answer) → IsSound r → AnswerExtends r.reading a → AnswerDeclares a → StepTells r (after_answer r a)
-answer_tells r (passes reading) sound extends declares = quiet_tells r reading r.plan r.liars sound extends sound.declared r.world refl
+answer_tells r (passes reading) sound extends declares = quiet_tells r reading r.limit r.plan r.liars sound extends sound.declared r.world refl
 answer_tells r (gives l reading) sound extends declares = line_tells r reading l sound extends declares
 answer_tells r (refuses why) sound extends declares = tt
 

@@ -21,38 +21,43 @@ use Rattle.xl_world.specs.declared.plan.PlanNode.{PlanNode}
 use Rattle.xl_world.specs.Forks.{Fork, first_fork}
 use Rattle.xl_world.specs.Schedule.{after_event, outcomes}
 use Rattle.xl_world.specs.World.{World, start}
+use Rattle.xl_replay.specs.declared.replayer.TheConstants.{DEFAULT_LIMIT}
 use Rattle.xl_replay.specs.Texts.{outcome_lines, bad_line, end_lines}
 
--- what is known of a schedule so far: what was read, the nodes that are declared, and from the first event on the world
+-- what is known of a schedule so far: what was read, how many ledgers each node may know, the nodes and liars that are declared,
+-- and from the first event on the world
 pub record Replaying : Type 0 where
   pub reading : Reading
+  pub limit : ℕ
   pub plan : List PlanNode
   pub liars : List ℕ
   pub world : Option World
 
 -- the world so far; before the first event it is the one of the plan
 abbrev pub world_of : Replaying → World
-world_of r = unwrap_or r.world (start r.liars r.plan)
+world_of r = unwrap_or r.world (start r.limit r.liars r.plan)
 
 -- a line that tells nothing
-abbrev pub silent : Replaying → Reading → List PlanNode → List ℕ → Step Replaying
-silent r reading plan liars = goes_on [] (record { reading = reading; plan = plan; liars = liars; world = r.world })
+abbrev pub silent : Replaying → Reading → ℕ → List PlanNode → List ℕ → Step Replaying
+silent r reading limit plan liars = goes_on [] (record { reading = reading; limit = limit; plan = plan; liars = liars; world = r.world })
 
 -- an event is a step of the world, and what came of it is told
 abbrev pub after : Replaying → Reading → Event → Step Replaying
 after r reading e =
     goes_on (outcome_lines reading.names reading.lines (outcomes (world_of r) e))
-    (record { reading = reading; plan = r.plan; liars = r.liars; world = Some (after_event (world_of r) e) })
+    (record { reading = reading; limit = r.limit; plan = r.plan; liars = r.liars; world = Some (after_event (world_of r) e) })
 
 abbrev pub after_line : Replaying → Reading → Line → Step Replaying
-after_line r reading (line.Node me list validating) = silent r reading (r.plan ++ record { me = me; list = list } ∷ []) r.liars
-after_line r reading (line.Liar me) = silent r reading r.plan (r.liars ++ me ∷ [])
-after_line r reading (line.Name name id) = silent r reading r.plan r.liars
+after_line r reading (line.Limit limit) = silent r reading limit r.plan r.liars
+after_line r reading (line.Node me list validating) = silent r reading r.limit (r.plan ++ record { me = me; list = list } ∷ []) r.liars
+after_line r reading (line.Liar me) = silent r reading r.limit r.plan (r.liars ++ me ∷ [])
+after_line r reading (line.Name name id) = silent r reading r.limit r.plan r.liars
+after_line r reading (line.Ledger name parent header) = silent r reading r.limit r.plan r.liars
 after_line r reading (line.Event e) = after r reading e
 
 -- what is told of a line as it was read
 abbrev pub after_answer : Replaying → Answer → Step Replaying
-after_answer r (passes reading) = silent r reading r.plan r.liars
+after_answer r (passes reading) = silent r reading r.limit r.plan r.liars
 after_answer r (gives line reading) = after_line r reading line
 after_answer r (refuses refusal) = refuses_line (bad_line (r.reading.lines + 1) refusal)
 
@@ -83,7 +88,7 @@ limits = record { lines = MOST_LINES; bytes = MOST_BYTES }
 
 -- before the first line
 abbrev pub at_first : Replaying
-at_first = record { reading = opened; plan = []; liars = []; world = None }
+at_first = record { reading = opened; limit = DEFAULT_LIMIT; plan = []; liars = []; world = None }
 
 -- what is told about a schedule: the report, and what it says
 abbrev pub report_of : List ℕ → Told

@@ -8,7 +8,10 @@ use Rattle.xl_base.specs.declared.ids.LedgerId.{LedgerId}
 use Rattle.xl_lists.specs.Lists.{TrustedList}
 use Rattle.xl_lists.specs.Quorums.{bound_of}
 use Rattle.xl_core.specs.declared.refusal.Refusal.{Refusal}
-use Rattle.xl_core.specs.declared.refusal.Refusal.TheVariants.{Frame, Short, Extra, Tag, NotBuilt, Stale, Repeat, Conflict, OldSeq, NotAfter}
+use Rattle.xl_core.specs.declared.refusal.Refusal.TheVariants.{Frame, Short, Extra, Tag, Header, NotBuilt, Stale, Repeat, Conflict, OldSeq, NotAfter}
+use Rattle.xl_core.specs.declared.report.Report.{Report}
+use Rattle.xl_ledger.specs.declared.refusal.AddRefusal.{AddRefusal}
+use Rattle.xl_ledger.specs.declared.refusal.AddRefusal.TheVariants as header
 use Rattle.xl_tags.specs.declared.refusal.TagRefusal.{TagRefusal}
 use Rattle.xl_tags.specs.declared.refusal.TagRefusal.TheVariants.{NotForMe, Stranger, BadTag}
 use Rattle.xl_wire.specs.declared.refusal.WireRefusal.{WireRefusal}
@@ -20,7 +23,7 @@ use Rattle.xl_sched.specs.Names.{name_of}
 use Rattle.xl_sched.specs.Refusals.{code_of, token_of}
 use Rattle.xl_sched.specs.Tokens.{shown_token}
 use Rattle.xl_world.specs.declared.outcome.Outcome.{Outcome}
-use Rattle.xl_world.specs.declared.outcome.Outcome.TheVariants.{Refused, Full}
+use Rattle.xl_world.specs.declared.outcome.Outcome.TheVariants.{Refused, Full, Preferred}
 use Rattle.xl_world.specs.Forks.{Fork, first_fork}
 use Rattle.xl_world.specs.World.{World, up_from, all_numbers, list_in}
 
@@ -55,12 +58,20 @@ tag_values (NotForMe to) = decimal to
 tag_values (Stranger from) = decimal from
 tag_values (BadTag read computed) = encode_lower read ++ space ++ encode_lower computed
 
+-- the values of why a header isn't added; of a wrong sequence the parent's comes first
+abbrev pub header_values : List Named → AddRefusal → List ℕ
+header_values names (header.Known id) = id_text names id
+header_values names (header.Orphan parent) = id_text names parent
+header_values names (header.WrongSeq parent own) = decimal parent ++ space ++ decimal own
+header_values names (header.Full limit) = decimal limit
+
 -- the values of a refusal, parted by spaces
 abbrev pub values_text : List Named → Refusal → List ℕ
 values_text names (Frame why) = frame_values why
 values_text names (Short lack) = decimal lack
 values_text names (Extra more) = decimal more
 values_text names (Tag why) = tag_values why
+values_text names (Header why) = header_values names why
 values_text names (NotBuilt kind) = decimal kind
 values_text names (Stale now signed) = decimal now ++ space ++ decimal signed
 values_text names (Repeat id) = id_text names id
@@ -68,11 +79,17 @@ values_text names (Conflict id) = id_text names id
 values_text names (OldSeq largest) = decimal largest
 values_text names (NotAfter kept) = decimal kept
 
+-- the ledger that is preferred, where one is
+abbrev pub preferred_text : List Named → Option Report → List ℕ
+preferred_text names None = codes "none"
+preferred_text names (Some ledger) = decimal ledger.seq ++ space ++ id_text names ledger.id
+
 -- what is told of the event in line n of the schedule
 abbrev pub outcome_line : List Named → ℕ → Outcome → List ℕ
 outcome_line names n (Refused node refusal) =
     codes "refused " ++ decimal n ++ space ++ decimal node ++ space ++ decimal (refusal_code refusal) ++ space ++ values_text names refusal ++ newline
 outcome_line names n (Full node seq id) = codes "full " ++ decimal node ++ space ++ decimal seq ++ space ++ id_text names id ++ newline
+outcome_line names n (Preferred node ledger) = codes "preferred " ++ decimal node ++ space ++ preferred_text names ledger ++ newline
 
 abbrev pub outcome_lines : List Named → ℕ → List Outcome → List ℕ
 outcome_lines names n outcomes = flat_map (outcome_line names n) outcomes

@@ -14,3 +14,6 @@ mod replayer;
 mod words;
 
 pub use command::replay;
+
+#[cfg(test)]
+mod tests;

@@ -7,7 +7,7 @@ use crate::words::{push_id, push_values};
 use std::alloc::Global;
 use std::fmt::Write;
 use xl_base::{LedgerId, NodeNo, OutOfMemory, Seq};
-use xl_core::Refusal;
+use xl_core::{Refusal, Report};
 use xl_sched::{Reader, SchedRefusal, printed_token};
 use xl_world::Outcome;
 
@@ -47,6 +47,28 @@ fn push_full(
     Ok(())
 }
 
+/// The ledger that a node prefers, where there is one.
+fn push_preferred(
+    alloc: Global,
+    text: &mut String,
+    reader: &Reader,
+    line: u64,
+    node: NodeNo,
+    ledger: &Option<Report>,
+) -> Result<(), OutOfMemory>
+    ensures { OnOk result (string_bytes text.new ≡ string_bytes text.old ++ outcome_line reader.now.names line (Outcome.Preferred node ledger.now)) }
+{
+    let number = node.get();
+    let Some(Report { seq, id }) = ledger else {
+        writeln!(text, "preferred {number} none")?;
+        return Ok(());
+    };
+    write!(text, "preferred {number} {seq} ")?;
+    push_id(alloc, text, reader, id)?;
+    text.push('\n')?;
+    Ok(())
+}
+
 fn push_outcome(
     alloc: Global,
     text: &mut String,
@@ -61,6 +83,7 @@ fn push_outcome(
             alloc, text, reader, line, *node, refusal,
         ),
         Outcome::Full { node, seq, id } => push_full(alloc, text, reader, line, *node, *seq, id),
+        Outcome::Preferred { node, at } => push_preferred(alloc, text, reader, line, *node, at),
     }
 }
 

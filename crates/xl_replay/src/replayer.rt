@@ -1,5 +1,7 @@
 // The machine of `xl replay`.
-ghost use Rattle.std.specs.Prelude.{◌≡◌, ◌+◌, [], IfOk, decimal};
+ghost use Rattle.std.specs.Prelude.{◌≡◌, ◌≤◌, ◌+◌, [], IfOk, decimal};
+ghost use Rattle.xl_ledger.specs.declared.registry.TheConstants.{LEAST_LIMIT};
+ghost use Rattle.xl_sched.specs.declared.limits.TheConstants.{MOST_LEDGERS};
 ghost use Rattle.xl_replay.specs.Replays.{at_first, beyond};
 ghost use Rattle.xl_replay.specs.Texts.{bad_line};
 
@@ -11,13 +13,18 @@ use xl_lines::{Machine, Next, Overrun, Verdict};
 use xl_sched::{Event, Line, MOST_BYTES, MOST_LINES, Reader, SchedRefusal};
 use xl_world::{Plan, PlanNode, World, first_fork};
 
-/// A schedule so far: what was read, the nodes and liars that are declared, and from the first event on the world.
+/// How many ledgers each node may know where no `limit` line says it.
+const DEFAULT_LIMIT: u32 = 1_024;
+
+/// A schedule so far: what was read, the limit, nodes and liars that are declared, and from the first event on the world.
 #[derive(Drop)]
 pub struct Replayer {
     alloc: Global,
     reader: Reader,
     plan: Plan,
     world: Option<World>,
+    ghost least: { LEAST_LIMIT ≤ plan.limit },
+    ghost most: { plan.limit ≤ MOST_LEDGERS },
 }
 
 impl Replayer {
@@ -26,7 +33,7 @@ impl Replayer {
     ghost use Rattle.xl_lines.specs.Rules.{goes_on};
     ghost use Rattle.xl_world.specs.Schedule.{moment_of};
     ghost use Rattle.xl_replay.specs.Replays.{after, after_line, world_of};
-    ghost use Rattle.xl_replay.specs.Replayers.{state_of, IsTimely};
+    ghost use Rattle.xl_replay.specs.Replayers.{state_of, IsInRange};
 
     /// Before the first line.
     pub fn new(alloc: Global) -> Result<Replayer, OutOfMemory>
@@ -38,6 +45,7 @@ impl Replayer {
             plan: Plan {
                 nodes: Vec::new(alloc),
                 liars: Vec::new(alloc),
+                limit: DEFAULT_LIMIT,
             },
             world: None,
         })
@@ -85,11 +93,15 @@ impl Replayer {
 
     /// What a line says is taken in.
     fn take(&mut self, line: &Line, text: &mut String) -> Result<(), OutOfMemory>
-        requires timely { IsTimely line.now }
+        requires in_range { IsInRange line.now }
         requires empty { string_bytes text.old ≡ [] }
         ensures { OnOk result (goes_on (string_bytes text.new) (state_of self.new) ≡ after_line (state_of self.old) self.old.reader line.now) }
     {
         match line {
+            Line::Limit(limit) => {
+                self.plan.limit = *limit;
+                Ok(())
+            }
             Line::Node { me, list, .. } => {
                 self.plan.nodes.push(PlanNode {
                     me: *me,
@@ -101,7 +113,7 @@ impl Replayer {
                 self.plan.liars.push(*me)?;
                 Ok(())
             }
-            Line::Name { .. } => Ok(()),
+            Line::Name { .. } | Line::Ledger { .. } => Ok(()),
             Line::Event(event) => self.happen(event, text),
         }
     }

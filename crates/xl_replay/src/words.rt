@@ -2,12 +2,13 @@
 ghost use Rattle.std.specs.Prelude.{◌≡◌, ◌++◌, decimal, OnOk};
 ghost use Rattle.std.specs.String.{string_bytes};
 ghost use Rattle.hex.specs.Hex.{encode_lower};
-ghost use Rattle.xl_replay.specs.Texts.{id_text, frame_values, tag_values, values_text};
+ghost use Rattle.xl_replay.specs.Texts.{id_text, frame_values, tag_values, header_values, values_text};
 
 use std::alloc::Global;
 use std::fmt::Write;
 use xl_base::{LedgerId, OutOfMemory};
 use xl_core::Refusal;
+use xl_ledger::AddRefusal;
 use xl_sched::{Reader, printed_token};
 use xl_tags::TagRefusal;
 use xl_wire::WireRefusal;
@@ -44,6 +45,7 @@ pub fn push_values(
         Refusal::Frame(why) => push_frame_values(text, why),
         Refusal::Short(number) | Refusal::Extra(number) => push_number(text, *number as u64),
         Refusal::Tag(why) => push_tag_values(alloc, text, why),
+        Refusal::Header(why) => push_header_values(alloc, text, reader, why),
         Refusal::NotBuilt(kind) => push_number(text, u64::from(*kind)),
         Refusal::Stale(now, signed) => {
             write!(text, "{now} {signed}")?;
@@ -87,6 +89,25 @@ fn push_tag_values(alloc: Global, text: &mut String, why: &TagRefusal) -> Result
             text.push(' ')?;
             push_tag(alloc, text, computed)
         }
+    }
+}
+
+/// The values of why a header isn't added.
+fn push_header_values(
+    alloc: Global,
+    text: &mut String,
+    reader: &Reader,
+    why: &AddRefusal,
+) -> Result<(), OutOfMemory>
+    ensures { OnOk result (string_bytes text.new ≡ string_bytes text.old ++ header_values reader.now.names why.now) }
+{
+    match why {
+        AddRefusal::Known(id) | AddRefusal::Orphan(id) => push_id(alloc, text, reader, id),
+        AddRefusal::WrongSeq { parent, own } => {
+            write!(text, "{parent} {own}")?;
+            Ok(())
+        }
+        AddRefusal::Full(limit) => push_number(text, u64::from(*limit)),
     }
 }
 
