@@ -1,4 +1,4 @@
-ghost use Rattle.std.specs.Prelude.{◌≡◌, ℕ, ◌≤◌, List, Some, option_map, is_ok, IfSome, IfOk, OnErr};
+ghost use Rattle.std.specs.Prelude.{◌≡◌, ℕ, ◌≤◌, Bool, List, Some, option_map, is_ok, IfSome, IfOk, OnErr};
 ghost use Rattle.std.specs.declared.option.Option.{Option};
 ghost use Rattle.xl_base.specs.Faults.{Rose};
 ghost use Rattle.xl_io.specs.Keepers.{Held, MayHold, holding, after_save, AddsSave};
@@ -20,6 +20,9 @@ pub trait Keeper {
     /// How often a call has failed, up to the greatest `u64`.
     ghost faults: { Self → ℕ };
 
+    /// What a save leaves beside that, by whether it was answered with Ok: a keeper whose answers are known says it here.
+    ghost save_gives: { Self → ℕ → Bool → Self → Type 0 } = { λ _ _ _ _. Unit {0} };
+
     /// Answers a number that it may hold, and holds that one alone from then on. `Failed` leaves it.
     fn load(&mut self) -> Result<Seq, Failed>
         ensures loaded { IfOk result (λ seq. IfSome (held self.old) (λ held. MayHold held seq)) }
@@ -33,6 +36,7 @@ pub trait Keeper {
     fn save(&mut self, seq: Seq) -> Result<(), Failed>
         ensures held { held self.new ≡ option_map (λ held. after_save held (Some seq) (is_ok result)) (held self.old) }
         ensures saves { AddsSave (saves self.old) (saves self.new) seq }
+        ensures gives { save_gives self.old seq (is_ok result) self.new }
         ensures later { faults self.old ≤ faults self.new }
         ensures failed { OnErr result (Rose (faults self.old) (faults self.new)) };
 
