@@ -23,4 +23,5 @@ still_ready n ledgers rows same ready =
     (record {
       rest = record { valid = ready.rest.valid; members = ready.rest.members; reported = ready.rest.reported };
       keyed = record { own = ready.keyed.own; listed = ready.keyed.listed };
+      time = ready.time;
     })

@@ -7,5 +7,6 @@ pub mod Arising
 pub mod Answered
 pub mod Opening
 pub mod Passing
+pub mod Expiring
 pub mod Living
 pub mod Reporting

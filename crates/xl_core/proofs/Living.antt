@@ -1,5 +1,5 @@
 -- What a node and the reports of its life so far keep, over every event.
-use Rattle.std.proofs.Common.{◌≡◌, ℕ, ◌+◌, ◌-◌, ◌<◌, ◌≤◌, Bool, true, false, List, [], ◌∷◌, ◌++◌, length, get_or, refl, arith, ap, sym, inl, inr, Option, Some, None, Result, Ok, Err, subst, append_assoc, length-append}
+use Rattle.std.proofs.Common.{◌≡◌, ℕ, ◌+◌, ◌-◌, ◌<◌, ◌≤◌, false, List, [], ◌∷◌, ◌++◌, length, get_or, refl, arith, ap, sym, inl, inr, Option, Some, None, Result, Ok, Err, subst, append_assoc, length-append}
 use Rattle.std.specs.Prelude.{◌⊎◌, All, IfSome, is_some, Contains, map, find, filter_map, option_map, option_to_list, count_by, nat_lt}
 use Rattle.std.specs.List.Sorted.{IsStrictlyIncreasing}
 use Rattle.std.proofs.lemmas.Bool.{cond_both, le-ltb}
@@ -12,7 +12,8 @@ use Rattle.xl_validations.specs.declared.row.Row.{Row}
 use Rattle.xl_validations.specs.declared.refusal.ValRefusal.{ValRefusal}
 use Rattle.xl_validations.specs.Rows.{row_of, refusal_of, with_validation, at_member, empty_row}
 use Rattle.xl_core.specs.declared.report.Report.{Report}
-use Rattle.xl_core.specs.Node.{Node, Event, Issue, Frame, Reply, opened, happens, hears, issues, refusing, reporting, with_taken, take, arisen, arises_in, is_above, later, report_of, refusal_at, hearing, hearing_speech, learns}
+use Rattle.xl_core.specs.Node.{Node, Event, Issue, Frame, Reply, Save, issues_unless, opened, happens, hears, issues, refusing, reporting, with_taken, take, arisen, arises_in, is_above, later, report_of, refusal_at, hearing, hearing_speech, learns, at_moment, second_of, own_validation}
+use Rattle.xl_core.specs.Node.Save.{Kept, Failed}
 use Rattle.xl_core.specs.declared.refusal.Refusal.TheVariants.{NotAfter}
 use Rattle.xl_ledger.specs.declared.header.Header.{Header as LedgerHeader}
 use Rattle.xl_ledger.specs.declared.refusal.AddRefusal.{AddRefusal}
@@ -24,6 +25,7 @@ use Rattle.xl_core.specs.declared.refusal.Refusal.{Refusal}
 use Rattle.xl_core.specs.Hearing.{heard}
 use Rattle.xl_core.specs.Rest.{IsAtRest, report_if}
 use Rattle.xl_core.specs.Lives.{Happening, node_after, reports_in}
+use Rattle.xl_core.proofs.Expiring.{rest_then, heads_at, last_past}
 use Rattle.xl_core.proofs.Members.{nobody_changes, refused_stays, taken_changes}
 use Rattle.xl_core.proofs.Arising.{parts_of, under, arisen_by}
 use Rattle.xl_core.proofs.Answered.{rest_when_taken, stays, or_later}
@@ -157,9 +159,23 @@ reported_on list n reports now from v issued living = by_row list n reports now 
 abbrev GoesOn : TrustedList → List Report → Reply → Type 0
 GoesOn list reports r = IsLiving list r.node (reports ++ option_to_list r.report)
 
-issued_on : (list : TrustedList) (n : Node) (reports : List Report) (now : ℕ) (saved : Bool) (v : Validation) → IsLiving list n reports → GoesOn list reports (issues n now saved v)
-issued_on list n reports now true v living = reported_on list (record n { kept = v.seq }) reports now n.me v (Some v) (any_kept list n reports v.seq living)
-issued_on list n reports now false v living = unreported list n reports living
+issued_on : (list : TrustedList) (n : Node) (reports : List Report) (now : ℕ) (save : Save) (v : Validation) → IsLiving list n reports → GoesOn list reports (issues n now save v)
+issued_on list n reports now Kept v living = reported_on list (record n { kept = v.seq }) reports now n.me v (Some v) (any_kept list n reports v.seq living)
+issued_on list n reports now (Failed count) v living =
+    unreported list (record n { off = Some v.seq }) reports
+    (record {
+      listed = living.listed;
+      rest = record { valid = living.rest.valid; members = living.rest.members; reported = living.rest.reported };
+      heads = living.heads;
+      past = living.past;
+      told = living.told;
+      below = living.below;
+      rising = living.rising;
+    })
+
+issued_unless : (list : TrustedList) (n : Node) (reports : List Report) (off : Option ℕ) (save : Save) (v : Validation) → IsLiving list n reports → GoesOn list reports (issues_unless n off save v)
+issued_unless list n reports None save v living = issued_on list n reports (second_of n) save v living
+issued_unless list n reports (Some failed) save v living = unreported list n reports living
 
 heard_on : (list : TrustedList) (n : Node) (reports : List Report) (now from : ℕ) (v : Validation) (o : Option ValRefusal) → IsLiving list n reports → GoesOn list reports (hears n now from v o)
 heard_on list n reports now from v None living = reported_on list n reports now from v None living
@@ -187,31 +203,46 @@ hearing_on : (list : TrustedList) (n : Node) (reports : List Report) (now : ℕ)
 hearing_on list n reports now (Ok said) living = speech_on list n reports now said.from said.what living
 hearing_on list n reports now (Err why) living = unreported list n reports living
 
-pub happens_on : (list : TrustedList) (n : Node) (reports : List Report) (e : Event) (saved : Bool) → IsLiving list n reports → GoesOn list reports (happens n e saved)
-happens_on list n reports (Issue now seq id full) saved living =
-    cond_both (nat_lt n.kept seq) (issues n now saved (record { id = id; seq = seq; signed = now; full = full })) (refusing n (NotAfter n.kept)) (GoesOn list reports)
-    (λ _. issued_on list n reports now saved (record { id = id; seq = seq; signed = now; full = full }) living)
-    (λ _. unreported list n reports living)
-happens_on list n reports (Frame now bytes) saved living = hearing_on list n reports now (heard n.keys n.list.members bytes) living
+-- the time is set, and rows expire
+living_then : (now : ℕ) (list : TrustedList) (n : Node) (reports : List Report) → IsLiving list n reports → IsLiving list (at_moment now n) reports
+living_then now list n reports living = record {
+  listed = living.listed;
+  rest = rest_then now n living.rest;
+  heads = heads_at now n living.heads;
+  past = last_past n.list.quorum (second_of (at_moment now n)) n.rows n.last living.past;
+  told = living.told;
+  below = living.below;
+  rising = living.rising;
+}
+
+pub happens_on : (list : TrustedList) (n : Node) (reports : List Report) (e : Event) (save : Save) → IsLiving list n reports → GoesOn list reports (happens n e save)
+happens_on list n reports (Issue now seq id full) save living =
+    let m : Node = at_moment now n in
+    let moved : IsLiving list m reports = living_then now list n reports living in
+    cond_both (nat_lt m.kept seq) (issues_unless m m.off save (own_validation m seq id full)) (refusing m (NotAfter m.kept)) (GoesOn list reports)
+    (λ _. issued_unless list m reports m.off save (own_validation m seq id full) moved)
+    (λ _. unreported list m reports moved)
+happens_on list n reports (Frame now bytes) save living =
+    hearing_on list (at_moment now n) reports (second_of (at_moment now n)) (heard n.keys n.list.members bytes) (living_then now list n reports living)
 
 -- every life
 pub lives : (list : TrustedList) (n : Node) (reports : List Report) (life : List Happening) → IsLiving list n reports → IsLiving list (node_after n life) (reports ++ reports_in n life)
 lives list n reports [] living = unreported list n reports living
 lives list n reports (h ∷ hs) living =
-    subst (IsLiving list (node_after (happens n h.event h.saved).node hs)) (append_assoc reports (option_to_list (happens n h.event h.saved).report) (reports_in (happens n h.event h.saved).node hs))
-    (lives list (happens n h.event h.saved).node (reports ++ option_to_list (happens n h.event h.saved).report) hs (happens_on list n reports h.event h.saved living))
+    subst (IsLiving list (node_after (happens n h.event h.save).node hs)) (append_assoc reports (option_to_list (happens n h.event h.save).report) (reports_in (happens n h.event h.save).node hs))
+    (lives list (happens n h.event h.save).node (reports ++ option_to_list (happens n h.event h.save).report) hs (happens_on list n reports h.event h.save living))
 
 heads_opened : (members : List ℕ) → All IsHead (map empty_row members)
 heads_opened [] = All-nil IsHead
 heads_opened (m ∷ ms) = All-cons IsHead (empty_row m) (map empty_row ms) tt (heads_opened ms)
 
-pub living_from_opening : (me : ℕ) (list : TrustedList) (keys : Ring) (limit kept : ℕ) (life : List Happening) → IsValid list →
-    IsLiving list (node_after (opened me list keys limit kept) life) (reports_in (opened me list keys limit kept) life)
-living_from_opening me list keys limit kept life valid =
-    lives list (opened me list keys limit kept) [] life
+pub living_from_opening : (me : ℕ) (list : TrustedList) (keys : Ring) (limit now kept : ℕ) (life : List Happening) → IsValid list →
+    IsLiving list (node_after (opened me list keys limit now kept) life) (reports_in (opened me list keys limit now kept) life)
+living_from_opening me list keys limit now kept life valid =
+    lives list (opened me list keys limit now kept) [] life
     (record {
       listed = refl;
-      rest = opened_at_rest me list keys limit kept valid;
+      rest = opened_at_rest me list keys limit now kept valid;
       heads = heads_opened list.members;
       past = tt;
       told = tt;

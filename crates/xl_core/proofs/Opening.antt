@@ -14,8 +14,8 @@ none_counted : (members : List ℕ) (seq : ℕ) (id : LedgerId) → count_full s
 none_counted [] seq id = refl
 none_counted (m ∷ ms) seq id = omega (arith, count_by-cons (λ row. is_full_of seq id row.current) (empty_row m) (map empty_row ms), none_counted ms seq id)
 
-pub opened_at_rest : (me : ℕ) (list : TrustedList) (keys : Ring) (limit kept : ℕ) → IsValid list → IsAtRest (opened me list keys limit kept)
-opened_at_rest me list keys limit kept valid = record {
+pub opened_at_rest : (me : ℕ) (list : TrustedList) (keys : Ring) (limit now kept : ℕ) → IsValid list → IsAtRest (opened me list keys limit now kept)
+opened_at_rest me list keys limit now kept valid = record {
   valid = valid;
   members = members_opened list.members;
   reported = λ seq id enough. absurd (omega (arith, enough, none_counted list.members seq id, valid.some, valid.majority));

@@ -1,5 +1,5 @@
 -- The law of reports: a report arises exactly where a quorum holds what wasn't reported, and sequences rise.
-use Rattle.std.proofs.Common.{◌≡◌, ℕ, ◌≤◌, Bool, true, false, List, [], ◌∷◌, ◌++◌, length, refl, arith, ap, sym, ◌∙◌, inl, inr, Option, Some, None, Result, Ok, Err, subst}
+use Rattle.std.proofs.Common.{◌≡◌, ℕ, ◌≤◌, true, false, List, [], ◌∷◌, ◌++◌, length, refl, arith, ap, sym, ◌∙◌, inl, inr, Option, Some, None, Result, Ok, Err, subst}
 use Rattle.std.specs.Prelude.{◌==◌, ◌&&◌, ◌||◌, ◌⊎◌, IfSome, Contains, find, filter_map, option_map, option_to_list, count_by, nat_lt, slice_index_or}
 use Rattle.std.proofs.lemmas.Option.{none-some, same_Some}
 use Rattle.std.proofs.lemmas.List.{length-map}
@@ -15,6 +15,7 @@ use Rattle.xl_validations.specs.declared.row.Row.{Row}
 use Rattle.xl_validations.specs.declared.refusal.ValRefusal.{ValRefusal}
 use Rattle.xl_validations.specs.Rows.{is_full_of, count_full}
 use Rattle.xl_core.specs.declared.report.Report.{Report}
+use Rattle.xl_core.specs.Node.Save.{Kept, Failed}
 use Rattle.xl_core.specs.declared.refusal.Refusal.TheVariants.{NotAfter}
 use Rattle.xl_core.specs.declared.refusal.Refusal.{Refusal}
 use Rattle.xl_ledger.specs.declared.header.Header.{Header as LedgerHeader}
@@ -24,7 +25,7 @@ use Rattle.xl_core.specs.declared.hearing.Spoken.{Spoken}
 use Rattle.xl_core.specs.declared.hearing.Speech.{Speech}
 use Rattle.xl_core.specs.declared.hearing.Speech.TheVariants.{Vote, Header}
 use Rattle.xl_core.specs.Hearing.{heard}
-use Rattle.xl_core.specs.Node.{Node, Event, Issue, Frame, Reply, opened, happens, hears, issues, saving, refusing, reporting, with_taken, arises, is_above, report_of, refusal_at, hearing, hearing_speech, learns}
+use Rattle.xl_core.specs.Node.{Node, Event, Issue, Frame, Reply, Save, issues_unless, opened, happens, hears, issues, saving, refusing, reporting, with_taken, arises, is_above, report_of, refusal_at, hearing, hearing_speech, learns, at_moment, second_of, own_validation}
 use Rattle.xl_core.specs.Lives.{node_after, reports_in, ReportsArise, ReportsRise}
 use Rattle.xl_core.proofs.Counts.{find_passes, names_it}
 use Rattle.xl_core.proofs.Arising.{parts_of, same_report}
@@ -54,9 +55,13 @@ reporting_news n m issued r same_list same_last is =
       above = subst (λ o. is_above o r.seq ≡ true) same_last parts.1;
     }
 
-issued_news : (n : Node) (now : ℕ) (saved : Bool) (v : Validation) (r : Report) → (issues n now saved v).report ≡ Some r → IsNews n (issues n now saved v) r
-issued_news n now true v r is = reporting_news n (saving n now v) (Some v) r refl refl is
-issued_news n now false v r is = no_news n (issues n now false v) r refl is
+issued_news : (n : Node) (now : ℕ) (save : Save) (v : Validation) (r : Report) → (issues n now save v).report ≡ Some r → IsNews n (issues n now save v) r
+issued_news n now Kept v r is = reporting_news n (saving n now v) (Some v) r refl refl is
+issued_news n now (Failed count) v r is = no_news n (issues n now (Failed count) v) r refl is
+
+unless_news : (n : Node) (off : Option ℕ) (save : Save) (v : Validation) (r : Report) → (issues_unless n off save v).report ≡ Some r → IsNews n (issues_unless n off save v) r
+unless_news n None save v r is = issued_news n (second_of n) save v r is
+unless_news n (Some failed) save v r is = no_news n (issues_unless n (Some failed) save v) r refl is
 
 heard_news : (n : Node) (now from : ℕ) (v : Validation) (o : Option ValRefusal) (r : Report) → (hears n now from v o).report ≡ Some r → IsNews n (hears n now from v o) r
 heard_news n now from v None r is = reporting_news n (with_taken n now from v) None r refl refl is
@@ -74,13 +79,14 @@ hearing_news : (n : Node) (now : ℕ) (said : Result Spoken Refusal) (r : Report
 hearing_news n now (Ok said) r is = speech_news n now said.from said.what r is
 hearing_news n now (Err why) r is = no_news n (refusing n why) r refl is
 
-happens_news : (n : Node) (e : Event) (saved : Bool) (r : Report) → (happens n e saved).report ≡ Some r → IsNews n (happens n e saved) r
-happens_news n (Issue now seq id full) saved r is =
-    cond_both (nat_lt n.kept seq) (issues n now saved (record { id = id; seq = seq; signed = now; full = full })) (refusing n (NotAfter n.kept)) (λ reply. reply.report ≡ Some r → IsNews n reply r)
-    (λ _ e. issued_news n now saved (record { id = id; seq = seq; signed = now; full = full }) r e)
-    (λ _ e. no_news n (refusing n (NotAfter n.kept)) r refl e)
+happens_news : (n : Node) (e : Event) (save : Save) (r : Report) → (happens n e save).report ≡ Some r → IsNews n (happens n e save) r
+happens_news n (Issue now seq id full) save r is =
+    let m : Node = at_moment now n in
+    cond_both (nat_lt m.kept seq) (issues_unless m m.off save (own_validation m seq id full)) (refusing m (NotAfter m.kept)) (λ reply. reply.report ≡ Some r → IsNews n reply r)
+    (λ _ e. let news = unless_news m m.off save (own_validation m seq id full) r e in record { quorum = news.quorum; above = news.above })
+    (λ _ e. no_news n (refusing m (NotAfter m.kept)) r refl e)
     is
-happens_news n (Frame now bytes) saved r is = hearing_news n now (heard n.keys n.list.members bytes) r is
+happens_news n (Frame now bytes) save r is = let news = hearing_news (at_moment now n) (second_of (at_moment now n)) (heard n.keys n.list.members bytes) r is in record { quorum = news.quorum; above = news.above }
 
 -- WHAT A QUORUM HOLDS NOW
 
@@ -114,16 +120,16 @@ in_one (Some x) r (k, within, is) =
 -- THE LAW
 
 pub reports_arise : ReportsArise
-reports_arise me list keys limit kept life next r valid =
-    let n : Node = node_after (opened me list keys limit kept) life in
-    let told : List Report = reports_in (opened me list keys limit kept) life in
-    let living : IsLiving list n told = living_from_opening me list keys limit kept life valid in (
+reports_arise me list keys limit now kept life next r valid =
+    let n : Node = node_after (opened me list keys limit now kept) life in
+    let told : List Report = reports_in (opened me list keys limit now kept) life in
+    let living : IsLiving list n told = living_from_opening me list keys limit now kept life valid in (
       λ is.
-          let news = happens_news n next.event next.saved r is in (
-            subst (λ (l : TrustedList). l.quorum ≤ count_full r.seq r.id (happens n next.event next.saved).node.rows) living.listed news.quorum,
+          let news = happens_news n next.event next.save r is in (
+            subst (λ (l : TrustedList). l.quorum ≤ count_full r.seq r.id (happens n next.event next.save).node.rows) living.listed news.quorum,
             λ before. let never : true ≡ false = sym news.above ∙ All-contains (λ x. is_above n.last x.seq ≡ false) told r living.below before in cc,
           ),
-      λ (enough, fresh). arises_now list (happens n next.event next.saved) told (happens_on list n told next.event next.saved living) r enough fresh,
+      λ (enough, fresh). arises_now list (happens n next.event next.save) told (happens_on list n told next.event next.save living) r enough fresh,
     )
   where
     by_last : (list : TrustedList) (reply : Reply) (told : List Report) → IsLiving list reply.node (told ++ option_to_list reply.report) → (r : Report) → list.quorum ≤ count_full r.seq r.id reply.node.rows →
@@ -152,4 +158,4 @@ reports_arise me list keys limit kept life next r valid =
     arises_now list reply told after r enough fresh = by_last list reply told after r enough fresh reply.node.last refl
 
 pub reports_rise : ReportsRise
-reports_rise me list keys limit kept life valid = (living_from_opening me list keys limit kept life valid).rising
+reports_rise me list keys limit now kept life valid = (living_from_opening me list keys limit now kept life valid).rising

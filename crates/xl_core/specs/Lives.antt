@@ -1,39 +1,39 @@
 -- A node's life: what happened since it opened, and what it reported. Source: the paper's fully validated ledgers.
-use Rattle.std.specs.Prelude.{◌≡◌, ℕ, ◌≤◌, ◌↔◌, Bool, List, [], ◌∷◌, ◌++◌, map, option_to_list, Contains}
+use Rattle.std.specs.Prelude.{◌≡◌, ℕ, ◌≤◌, ◌↔◌, List, [], ◌∷◌, ◌++◌, map, option_to_list, Contains}
 use Rattle.std.specs.Prelude.{Some}
 use Rattle.std.specs.List.Sorted.{IsStrictlyIncreasing}
 use Rattle.xl_lists.specs.Lists.{TrustedList, IsValid}
 use Rattle.xl_tags.specs.Rings.{Ring}
 use Rattle.xl_validations.specs.Rows.{count_full}
 use Rattle.xl_core.specs.declared.report.Report.{Report}
-use Rattle.xl_core.specs.Node.{Node, Event, opened, happens}
+use Rattle.xl_core.specs.Node.{Node, Event, Save, opened, happens}
 
--- an event, and whether its save was Ok
+-- an event, and how its save was answered
 pub record Happening : Type 0 where
   pub event : Event
-  pub saved : Bool
+  pub save : Save
 
 -- the node after these happenings, the first of them first
 abbrev pub node_after : Node → List Happening → Node
 node_after n [] = n
-node_after n (h ∷ hs) = node_after (happens n h.event h.saved).node hs
+node_after n (h ∷ hs) = node_after (happens n h.event h.save).node hs
 
 -- what it reported in them
 abbrev pub reports_in : Node → List Happening → List Report
 reports_in n [] = []
-reports_in n (h ∷ hs) = option_to_list (happens n h.event h.saved).report ++ reports_in (happens n h.event h.saved).node hs
+reports_in n (h ∷ hs) = option_to_list (happens n h.event h.save).report ++ reports_in (happens n h.event h.save).node hs
 
 -- A report arises exactly in the event after which a quorum of the list's current full validations name it, where it wasn't
 -- reported since the node opened.
 abbrev pub ReportsArise : Type 0
 ReportsArise =
-    (me : ℕ) (list : TrustedList) (keys : Ring) (limit kept : ℕ) (life : List Happening) (next : Happening) (r : Report) → IsValid list →
-    let n = node_after (opened me list keys limit kept) life in
-    let reply = happens n next.event next.saved in
-    (reply.report ≡ Some r) ↔ ((list.quorum ≤ count_full r.seq r.id reply.node.rows) × ¬ Contains (reports_in (opened me list keys limit kept) life) r)
+    (me : ℕ) (list : TrustedList) (keys : Ring) (limit now kept : ℕ) (life : List Happening) (next : Happening) (r : Report) → IsValid list →
+    let n = node_after (opened me list keys limit now kept) life in
+    let reply = happens n next.event next.save in
+    (reply.report ≡ Some r) ↔ ((list.quorum ≤ count_full r.seq r.id reply.node.rows) × ¬ Contains (reports_in (opened me list keys limit now kept) life) r)
 
 -- The sequences of the reports of a life rise.
 abbrev pub ReportsRise : Type 0
 ReportsRise =
-    (me : ℕ) (list : TrustedList) (keys : Ring) (limit kept : ℕ) (life : List Happening) → IsValid list →
-    IsStrictlyIncreasing (map (λ r. r.seq) (reports_in (opened me list keys limit kept) life))
+    (me : ℕ) (list : TrustedList) (keys : Ring) (limit now kept : ℕ) (life : List Happening) → IsValid list →
+    IsStrictlyIncreasing (map (λ r. r.seq) (reports_in (opened me list keys limit now kept) life))

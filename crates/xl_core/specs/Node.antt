@@ -1,6 +1,6 @@
 -- One node: the ledgers that it knows, its rows, the last sequence that it saved, and what it reports as fully validated.
 -- Source: Chase and MacBrough, "Analysis of the XRP Ledger Consensus Protocol" (2018), and rippled's Consensus and Validations.
-use Rattle.std.specs.Prelude.{ℕ, ◌&&◌, Bool, true, false, List, map, filter_map, find, option_map, nat_lt, nat_le, if◌then◌else◌}
+use Rattle.std.specs.Prelude.{ℕ, ◌/◌, ◌&&◌, max, Bool, true, false, List, map, filter_map, find, option_map, nat_lt, nat_le, if◌then◌else◌}
 use Rattle.std.specs.Prelude.{Some, None, Result, Ok, Err}
 use Rattle.std.specs.declared.option.Option.{Option}
 use Rattle.std.specs.Option.{is_none}
@@ -10,7 +10,7 @@ use Rattle.xl_tags.specs.Rings.{Ring}
 use Rattle.xl_wire.specs.declared.validation.Validation.{Validation}
 use Rattle.xl_validations.specs.declared.row.Row.{Row}
 use Rattle.xl_validations.specs.declared.refusal.ValRefusal.{ValRefusal}
-use Rattle.xl_validations.specs.Rows.{refusal, refusal_of, with_validation, at_member, count_full, empty_row}
+use Rattle.xl_validations.specs.Rows.{refusal, refusal_of, with_validation, at_member, count_full, empty_row, row_at}
 use Rattle.xl_validations.specs.Votes.{votes_of}
 use Rattle.xl_ledger.specs.declared.header.Header.{Header}
 use Rattle.xl_ledger.specs.declared.refusal.AddRefusal.{AddRefusal}
@@ -19,7 +19,7 @@ use Rattle.xl_ledger.specs.Registries.{Ledgers, only_root, with_header, add_refu
 use Rattle.xl_ledger.specs.Votes.{preferred_of}
 use Rattle.xl_core.specs.declared.report.Report.{Report}
 use Rattle.xl_core.specs.declared.refusal.Refusal.{Refusal}
-use Rattle.xl_core.specs.declared.refusal.Refusal.TheVariants.{NotAfter, Header as HeaderRefused}
+use Rattle.xl_core.specs.declared.refusal.Refusal.TheVariants.{NotAfter, IssuingOff, KeepFault, Header as HeaderRefused}
 use Rattle.xl_core.specs.declared.hearing.Spoken.{Spoken}
 use Rattle.xl_core.specs.declared.hearing.Speech.{Speech}
 use Rattle.xl_core.specs.declared.hearing.Speech.TheVariants.{Vote, Header as Ledger}
@@ -31,14 +31,18 @@ pub record Node : Type 0 where
   pub list : TrustedList
   -- the keys that it shares with others
   pub keys : Ring
+  -- the greatest moment since it opened, in milliseconds; at least 1,000
+  pub time : ℕ
   pub ledgers : Ledgers
   pub rows : List Row
   -- the last sequence that was saved
   pub kept : ℕ
+  -- the sequence whose save failed since the node opened: it issues nothing then
+  pub off : Option ℕ
   -- the last report since the node opened
   pub last : Option Report
 
--- What may happen at a node. Moments are in seconds.
+-- What may happen at a node, each at a moment in milliseconds.
 pub data Event : Type 0 where
   -- it is asked to issue a validation
   Issue : (now seq : ℕ) (id : LedgerId) (full : Bool) → Event
@@ -52,9 +56,17 @@ pub record Reply : Type 0 where
   pub issued : Option Validation
   pub report : Option Report
 
--- a node opened with room for so many ledgers, and with the number that its keeper holds
-abbrev pub opened : ℕ → TrustedList → Ring → ℕ → ℕ → Node
-opened me list keys limit kept = record { me = me; list = list; keys = keys; ledgers = only_root limit; rows = map empty_row list.members; kept = kept; last = None }
+-- a node opened with room for so many ledgers, at a moment, and with the number that its keeper holds
+abbrev pub opened : ℕ → TrustedList → Ring → ℕ → ℕ → ℕ → Node
+opened me list keys limit now kept = record { me = me; list = list; keys = keys; time = max 1000 now; ledgers = only_root limit; rows = map empty_row list.members; kept = kept; off = None; last = None }
+
+-- the second of its time
+abbrev pub second_of : Node → ℕ
+second_of n = n.time / 1000
+
+-- the node at a moment: its time never goes back, and validations that are no longer current are removed
+abbrev pub at_moment : ℕ → Node → Node
+at_moment now n = record n { time = max n.time now; rows = map (row_at (max n.time now / 1000)) n.rows }
 
 -- whether a sequence is above the last report's
 abbrev pub is_above : Option Report → ℕ → Bool
@@ -98,15 +110,33 @@ with_taken n now from v = record n { rows = at_member from (take now v) n.rows }
 abbrev pub saving : Node → ℕ → Validation → Node
 saving n now v = with_taken (record n { kept = v.seq }) now n.me v
 
+-- how the save that an event asks is answered: with Ok, or with Failed, the keeper's count of faults being this then
+pub data Save : Type 0 where
+  Kept : Save
+  Failed : (count : ℕ) → Save
+
+abbrev pub is_kept : Save → Bool
+is_kept Kept = true
+is_kept (Failed count) = false
+
+-- nothing is asked after a save that failed
+abbrev pub unless_off : Option ℕ → ℕ → Option ℕ
+unless_off None seq = Some seq
+unless_off (Some failed) seq = None
+
 -- the save that an event asks
 abbrev pub asks : Node → Event → Option ℕ
-asks n (Issue now seq id full) = if nat_lt n.kept seq then Some seq else None
+asks n (Issue now seq id full) = if nat_lt n.kept seq then unless_off n.off seq else None
 asks n (Frame now bytes) = None
 
--- a save that failed leaves the node as it was
-abbrev pub issues : Node → ℕ → Bool → Validation → Reply
-issues n now true v = reporting (saving n now v) (Some v)
-issues n now false v = record { node = n; refused = None; issued = None; report = None }
+-- after a save that failed the node issues nothing more
+abbrev pub issues : Node → ℕ → Save → Validation → Reply
+issues n now Kept v = reporting (saving n now v) (Some v)
+issues n now (Failed count) v = refusing (record n { off = Some v.seq }) (KeepFault count)
+
+abbrev pub issues_unless : Node → Option ℕ → Save → Validation → Reply
+issues_unless n None save v = issues n (second_of n) save v
+issues_unless n (Some failed) save v = refusing n (IssuingOff failed)
 
 -- a member's row answers
 abbrev pub hears : Node → ℕ → ℕ → Validation → Option ValRefusal → Reply
@@ -131,13 +161,16 @@ abbrev pub hearing : Node → ℕ → Result Spoken Refusal → Reply
 hearing n now (Ok said) = hearing_speech n now said.from said.what
 hearing n now (Err why) = refusing n why
 
--- what came of an event, whose save was Ok or failed
-abbrev pub happens : Node → Event → Bool → Reply
-happens n (Issue now seq id full) saved =
-    if nat_lt n.kept seq
-    then issues n now saved (record { id = id; seq = seq; signed = now; full = full })
-    else refusing n (NotAfter n.kept)
-happens n (Frame now bytes) saved = hearing n now (heard n.keys n.list.members bytes)
+abbrev pub own_validation : Node → ℕ → LedgerId → Bool → Validation
+own_validation n seq id full = record { id = id; seq = seq; signed = second_of n; full = full }
+
+abbrev pub issuing : Node → ℕ → LedgerId → Bool → Save → Reply
+issuing n seq id full save = if nat_lt n.kept seq then issues_unless n n.off save (own_validation n seq id full) else refusing n (NotAfter n.kept)
+
+-- what came of an event, whose save was answered so: first the time is set, and rows expire
+abbrev pub happens : Node → Event → Save → Reply
+happens n (Issue now seq id full) save = issuing (at_moment now n) seq id full save
+happens n (Frame now bytes) save = hearing (at_moment now n) (second_of (at_moment now n)) (heard n.keys n.list.members bytes)
 
 abbrev pub report_at : List Header → ℕ → Report
 report_at ledgers ledger = record { seq = seq_at ledgers ledger; id = id_at ledgers ledger }

@@ -4,7 +4,9 @@ use Rattle.std.specs.declared.option.Option.{Option}
 use Rattle.xl_core.specs.declared.report.Report.{Report}
 use Rattle.xl_core.specs.declared.report.Issued.{Issued}
 use Rattle.xl_core.specs.declared.refusal.Refusal.{Refusal}
-use Rattle.xl_core.specs.Node.{Node, Reply, refusing}
+use Rattle.xl_core.specs.declared.refusal.Refusal.TheVariants as node
+use Rattle.xl_core.specs.Node.{Node, Reply, Save, refusing}
+use Rattle.xl_core.specs.Node.Save.{Kept, Failed}
 
 -- what a call that issues answers, with the node that it leaves
 abbrev pub issue_reply : Result Issued Refusal → Node → Reply
@@ -15,3 +17,23 @@ issue_reply (Err why) n = refusing n why
 abbrev pub hear_reply : Result (Option Report) Refusal → Node → Reply
 hear_reply (Ok report) n = record { node = n; refused = None; issued = None; report = report }
 hear_reply (Err why) n = refusing n why
+
+-- how the save was answered, as the refusal tells it
+abbrev pub save_of : Refusal → Save
+save_of (node.KeepFault count) = Failed count
+save_of (node.Frame why) = Kept
+save_of (node.Short lack) = Kept
+save_of (node.Extra more) = Kept
+save_of (node.Tag why) = Kept
+save_of (node.Header why) = Kept
+save_of (node.NotBuilt kind) = Kept
+save_of (node.Stale now signed) = Kept
+save_of (node.Repeat id) = Kept
+save_of (node.Conflict id) = Kept
+save_of (node.OldSeq largest) = Kept
+save_of (node.NotAfter kept) = Kept
+save_of (node.IssuingOff failed) = Kept
+
+abbrev pub save_in : {X : Type 0} → Result X Refusal → Save
+save_in (Ok done) = Kept
+save_in (Err why) = save_of why

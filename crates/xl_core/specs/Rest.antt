@@ -5,6 +5,7 @@ use Rattle.xl_tags.specs.Rings.{Ring}
 use Rattle.std.specs.Prelude.{Some, None}
 use Rattle.std.specs.declared.option.Option.{Option}
 use Rattle.xl_base.specs.declared.ids.LedgerId.{LedgerId}
+use Rattle.xl_base.specs.declared.moments.TheConstants.{GREATEST_MILLIS}
 use Rattle.xl_lists.specs.Lists.{IsValid}
 use Rattle.xl_wire.specs.declared.validation.Validation.{Validation}
 use Rattle.xl_validations.specs.declared.row.Row.{Row}
@@ -32,6 +33,7 @@ pub record IsKeyed (me : ℕ) (members : List ℕ) (keys : Ring) : Type 0 where
 pub record IsReady (n : Node) : Type 0 where
   pub rest : IsAtRest n
   pub keyed : IsKeyed n.me n.list.members n.keys
+  pub time : n.time ≤ GREATEST_MILLIS
 
 -- what a validation gives to report
 abbrev pub report_if : Bool → Validation → Option Report

@@ -1,10 +1,13 @@
 ghost use Rattle.std.specs.Prelude.{◌≡◌, ◌↔◌, ◌<◌, ◌≤◌, IfOk, IsOk, OnOk, OnErr, IsTrue, true, Some, Ok, Err, ℕ, option_map};
 ghost use Rattle.std.specs.Result.{result_err};
+ghost use Rattle.xl_base.specs.declared.moments.TheConstants.{GREATEST_MILLIS};
 ghost use Rattle.xl_lists.specs.Lists.{is_on};
 ghost use Rattle.xl_core.specs.Node.{
   Issue,
   Frame,
   opened,
+  at_moment,
+  second_of,
   happens,
   hears,
   refusal_at,
@@ -15,8 +18,12 @@ ghost use Rattle.xl_core.specs.Node.{
   is_above,
   learns,
   preferred,
+  asks,
+  is_kept,
+  issues,
+  own_validation,
 };
-ghost use Rattle.xl_core.specs.declared.refusal.Refusal.TheVariants.{NotAfter, Header as HeaderRefused};
+ghost use Rattle.xl_core.specs.declared.refusal.Refusal.TheVariants.{NotAfter, IssuingOff, KeepFault, Header as HeaderRefused};
 ghost use Rattle.xl_core.specs.declared.hearing.Speech.TheVariants as speech;
 ghost use Rattle.xl_ledger.specs.Registries.{add_refusal};
 ghost use Rattle.xl_ledger.specs.declared.registry.TheConstants.{LEAST_LIMIT, GREATEST_LIMIT};
@@ -24,14 +31,19 @@ ghost use Rattle.xl_core.specs.Hearing.{heard};
 ghost use Rattle.xl_core.specs.Sending.{sealed_bytes, has_spelling};
 ghost use Rattle.xl_core.specs.Refusals.{refusal_from};
 ghost use Rattle.xl_core.specs.Rest.{IsKeyed, report_if};
-ghost use Rattle.xl_core.specs.Replies.{issue_reply, hear_reply};
+ghost use Rattle.xl_core.specs.Replies.{issue_reply, hear_reply, save_in};
+ghost use Rattle.xl_core.specs.Node.Save.{Kept};
+ghost use Rattle.xl_core.specs.Keeping.{AsksSave, Saves};
+ghost use Rattle.xl_base.specs.Faults.{Rose};
+ghost use Rattle.xl_io.specs.Keepers.{after_save};
 
 use crate::hearing::hear;
 use crate::sending::{VALIDATION_FRAME, sealed};
 use crate::{Issued, Refusal, Report, Speech};
 use std::alloc::Global;
 use std::marker::Model;
-use xl_base::{LedgerId, NodeNo, OutOfMemory, Secs, Seq};
+use xl_base::{LedgerId, Millis, NodeNo, OutOfMemory, Secs, Seq, secs_of};
+use xl_io::Keeper;
 use xl_ledger::{Branch, Header, Registry};
 use xl_lists::List;
 use xl_recount::Plain;
@@ -39,16 +51,23 @@ use xl_tags::Keys;
 use xl_validations::Table;
 use xl_wire::Validation;
 
+/// A node's time is never before its first second.
+const LEAST_TIME: Millis = 1_000;
+
 /// A node. No call after `open` takes memory.
 #[derive(Drop)]
 pub struct Core {
     me: NodeNo,
     list: List,
     keys: Keys,
+    /// The greatest moment since it opened.
+    time: Millis,
     registry: Registry,
     table: Table<Plain>,
     /// The last sequence that was saved.
     kept: Seq,
+    /// The sequence whose save failed since the node opened.
+    off: Option<Seq>,
     /// The last report since the node opened.
     last: Option<Report>,
 }
@@ -64,14 +83,16 @@ impl Model for Core {
       me = a.me;
       list = a.list;
       keys = a.keys;
+      time = a.time;
       ledgers = a.registry;
       rows = a.table.rows;
       kept = a.kept;
+      off = a.off;
       last = a.last;
     } };
 
     ghost invariant = { λ a.
-        IsReady (record { me = a.me; list = a.list; keys = a.keys; ledgers = a.registry; rows = a.table.rows; kept = a.kept; last = a.last })
+        IsReady (record { me = a.me; list = a.list; keys = a.keys; time = a.time; ledgers = a.registry; rows = a.table.rows; kept = a.kept; off = a.off; last = a.last })
         × IsTally (⟦<Plain as Branch>⟧.goes_with a.table.branch) a.registry.headers a.table.rows (⟦<Plain as Branch>⟧.votes a.table.branch) (⟦<Plain as Branch>⟧.room a.table.branch) };
 }
 
@@ -113,12 +134,14 @@ impl Core {
         list: List,
         keys: Keys,
         limit: u32,
+        now: Millis,
         kept: Seq,
     ) -> Result<Core, OutOfMemory>
         requires keyed { IsKeyed me list.members keys }
         requires least { LEAST_LIMIT ≤ limit }
         requires most { limit ≤ GREATEST_LIMIT }
-        ensures { IfOk result (λ core. core ≡ opened me list keys limit kept) }
+        requires moment { now ≤ GREATEST_MILLIS }
+        ensures { IfOk result (λ core. core ≡ opened me list keys limit now kept) }
     {
         let registry = Registry::open(alloc, limit)?;
         let table = Table::open(alloc, &list, me)?;
@@ -126,42 +149,76 @@ impl Core {
             me,
             list,
             keys,
+            time: now.max(LEAST_TIME),
             registry,
             table,
             kept,
+            off: None,
             last: None,
         })
     }
 
-    /// Saves a sequence and issues its validation, signed now.
+    /// Sets the time, which never goes back, and removes the validations that are no longer current.
+    fn advance(&mut self, now: Millis)
+        requires { now ≤ GREATEST_MILLIS }
+        ensures { self.new ≡ at_moment now self.old }
+    {
+        self.time = self.time.max(now);
+        self.table.expire(&self.registry, secs_of(self.time));
+    }
+
+    /// Saves a sequence and issues its validation, signed in the second of the node's time. Only after the save does the
+    /// node's own row take the validation, if the node stands on its list; that may give a report.
     ///
-    /// Refused as not after the last saved sequence; the node then stays as it was. The node's own row takes the validation,
-    /// if the node stands on its list, and may give a report.
-    pub fn issue(
+    /// First the time is set, and rows expire. Refused as not after the last saved sequence; for a save that failed since
+    /// the node opened; or because the save fails now, in this order. After a save that failed the node issues nothing until
+    /// it is opened anew, and the keeper may hold the former number or the asked one.
+    pub fn issue<K: Keeper>(
         &mut self,
-        now: Secs,
+        now: Millis,
         seq: Seq,
         id: LedgerId,
         full: bool,
+        keeper: &mut K,
     ) -> Result<Issued, Refusal>
-        ensures exact { issue_reply result self.new ≡ happens self.old (Issue now seq id full) true }
+        requires moment { now ≤ GREATEST_MILLIS }
+        ensures exact { issue_reply result self.new ≡ happens self.old (Issue now seq id full) (save_in result) }
         ensures not_after { (result ≡ Err (NotAfter self.old.kept)) ↔ (seq ≤ self.old.kept) }
-        ensures otherwise_issued { self.old.kept < seq → IsOk result }
-        ensures saved { OnOk result (self.new.kept ≡ seq) }
-        ensures unchanged { OnErr result (self.new ≡ self.old) }
+        ensures off { (failed : ℕ) → (result ≡ Err (IssuingOff failed)) ↔ ((self.old.kept < seq) × (self.old.off ≡ Some failed)) }
+        ensures fault { (count : ℕ) → result ≡ Err (KeepFault count) → Rose (K.faults keeper.old) (K.faults keeper.new) × (count ≡ K.faults keeper.new) }
+        // At most one save is asked, of a number above the kept one.
+        ensures held { K.held keeper.new ≡ option_map (λ held. after_save held (asks self.old (Issue now seq id full)) (is_kept (save_in result))) (K.held keeper.old) }
+        ensures saves { AsksSave (asks self.old (Issue now seq id full)) (K.saves keeper.old) (K.saves keeper.new) }
+        ensures keeper { Saves K.save_gives (asks self.old (Issue now seq id full)) (is_kept (save_in result)) keeper.old keeper.new }
+        ensures later { K.faults keeper.old ≤ K.faults keeper.new }
     {
+        self.advance(now);
         if seq <= self.kept {
             return Err(Refusal::NotAfter(self.kept));
         }
+        if let Some(failed) = self.off {
+            return Err(Refusal::IssuingOff(failed));
+        }
+        if keeper.save(seq).is_err() {
+            self.off = Some(seq);
+            return Err(Refusal::KeepFault(keeper.faults()));
+        }
+        Ok(self.issue_saved(seq, id, full))
+    }
+
+    /// Issues the validation of a sequence that was saved.
+    fn issue_saved(&mut self, seq: Seq, id: LedgerId, full: bool) -> Issued
+        ensures { issue_reply (Ok result) self.new ≡ issues self.old (second_of self.old) Kept (own_validation self.old seq id full) }
+    {
         let validation = Validation {
             id,
             seq,
-            signed: now,
+            signed: secs_of(self.time),
             full,
         };
         self.kept = seq;
-        let report = self.take_own(now, &validation);
-        Ok(Issued { validation, report })
+        let report = self.take_own(validation.signed, &validation);
+        Issued { validation, report }
     }
 
     /// Hears bytes that come, and tells what they give to report.
@@ -169,19 +226,21 @@ impl Core {
     /// Refused where they are no frame, not whole or followed by more; where the frame isn't for the node, comes from a
     /// stranger or carries another tag; where its body is none; and then as the sender's row refuses the validation: as stale,
     /// as a repeat, as a conflict, or as old; or as the header isn't added: it is known, its parent isn't, its sequence isn't the
-    /// parent's plus one, or there is no room; all in this order. The node then stays as it was.
-    pub fn frame(&mut self, now: Secs, bytes: &[u8]) -> Result<Option<Report>, Refusal>
-        ensures exact { hear_reply result self.new ≡ happens self.old (Frame now bytes.now) true }
+    /// parent's plus one, or there is no room; all in this order. First the time is set, and rows expire; nothing else changes then.
+    pub fn frame(&mut self, now: Millis, bytes: &[u8]) -> Result<Option<Report>, Refusal>
+        requires moment { now ≤ GREATEST_MILLIS }
+        ensures exact { hear_reply result self.new ≡ happens self.old (Frame now bytes.now) Kept }
         ensures unheard { (why : Refusal) → heard self.old.keys self.old.list.members bytes.now ≡ Err why → result ≡ Err why }
         ensures by_its_row { (from : ℕ) (v : Validation) → heard self.old.keys self.old.list.members bytes.now ≡ Ok (record { from = from; what = speech.Vote v }) →
-            result_err result ≡ option_map refusal_from (refusal_at self.old now from v) }
+            result_err result ≡ option_map refusal_from (refusal_at (at_moment now self.old) (second_of (at_moment now self.old)) from v) }
         ensures by_its_parent { (from : ℕ) (h : Header) → heard self.old.keys self.old.list.members bytes.now ≡ Ok (record { from = from; what = speech.Header h }) →
             result_err result ≡ option_map HeaderRefused (add_refusal self.old.ledgers h) }
-        ensures unchanged { OnErr result (self.new ≡ self.old) }
+        ensures unchanged { OnErr result (self.new ≡ at_moment now self.old) }
     {
+        self.advance(now);
         let said = hear(&self.keys, &self.list, bytes)?;
         match said.what {
-            Speech::Vote(validation) => self.take(now, said.from, &validation),
+            Speech::Vote(validation) => self.take(secs_of(self.time), said.from, &validation),
             Speech::Header(header) => self.learn(&header),
         }
     }
@@ -195,6 +254,19 @@ impl Core {
         let ledger = self.registry.add(h)?;
         self.table.header_known(&self.registry, ledger);
         Ok(None)
+    }
+
+    /// The validation that it would issue at a moment.
+    pub fn own_validation(&self, now: Millis, seq: Seq, id: LedgerId, full: bool) -> Validation
+        requires { now ≤ GREATEST_MILLIS }
+        ensures { result ≡ own_validation (at_moment now self.now) seq id full }
+    {
+        Validation {
+            id,
+            seq,
+            signed: secs_of(self.time.max(now)),
+            full,
+        }
     }
 
     /// The frame of a validation for another member, sealed if the node has a key for it.
@@ -253,6 +325,14 @@ impl Core {
         &self.keys
     }
 
+    /// The greatest moment since it opened, in milliseconds; at least 1,000.
+    pub fn time(&self) -> Millis
+        ensures value { result ≡ self.now.time }
+        ensures most { result ≤ GREATEST_MILLIS }
+    {
+        self.time
+    }
+
     /// How many ledgers it may know, the root among them.
     pub fn limit(&self) -> u32
         ensures value { result ≡ self.now.ledgers.limit }
@@ -280,6 +360,13 @@ impl Core {
             seq: walk.seq_of(ledger),
             id: walk.id_at(ledger),
         })
+    }
+
+    /// The sequence whose save failed since the node opened, if one did.
+    pub fn failed_save(&self) -> Option<Seq>
+        ensures { result ≡ self.now.off }
+    {
+        self.off
     }
 
     /// The last report since the node opened.

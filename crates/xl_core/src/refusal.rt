@@ -7,7 +7,8 @@ use xl_tags::TagRefusal;
 use xl_validations::ValRefusal;
 use xl_wire::WireRefusal;
 
-/// Why a node refuses an event, with the values that show it. The node then stays as it was.
+/// Why a node refuses an event, with the values that show it. Only its time has gone on then, and what expires by it; but a
+/// save that failed is remembered.
 #[derive(Clone, Copy, Debug, PartialEq, Eq)]
 pub enum Refusal {
     /// The bytes begin no frame, or the frame's body is none.
@@ -32,6 +33,10 @@ pub enum Refusal {
     OldSeq(Seq),
     /// The sequence to be issued is at most the last one that was saved, which is given.
     NotAfter(Seq),
+    /// The save of this sequence failed since the node opened: it issues nothing then.
+    IssuingOff(Seq),
+    /// The save failed in this call; the keeper's count of faults then is given.
+    KeepFault(u64),
 }
 
 impl From<ValRefusal> for Refusal {
@@ -91,6 +96,8 @@ impl Refusal {
             Refusal::Conflict(_) => 22,
             Refusal::OldSeq(_) => 23,
             Refusal::NotAfter(_) => 30,
+            Refusal::IssuingOff(_) => 31,
+            Refusal::KeepFault(_) => 32,
             Refusal::Short(_) => 45,
             Refusal::Extra(_) => 46,
             Refusal::NotBuilt(_) => 47,

@@ -1,3 +1,6 @@
+ghost use Rattle.std.specs.Prelude.{◌≤◌};
+ghost use Rattle.xl_base.specs.declared.moments.TheConstants.{GREATEST_MILLIS};
+
 mod ledgers;
 
 use super::Core;
@@ -7,7 +10,8 @@ use ledgers::Name::{A, B, C, D, E, F, Root};
 use ledgers::{Name, child};
 use std::alloc::Global;
 use std::test::Fail;
-use xl_base::{LedgerId, NodeNo, Seq};
+use xl_base::{GREATEST_MILLIS, LedgerId, Millis, NodeNo, Secs, Seq};
+use xl_io::{MemKeeper, PlainKeeper};
 use xl_ledger::{AddRefusal, Header};
 use xl_lists::List;
 use xl_tags::{Keys, TagRefusal, hmac, pair_key};
@@ -25,7 +29,7 @@ fn node_of_five(alloc: Global, kept: Seq) -> Result<Core, Fail> {
     let list = List::new(&[1, 2, 3, 4, 5], 4)?;
     let me = NodeNo::new(5).ok_or("no member")?;
     let keys = Keys::of_schedule(me);
-    Ok(Core::open(alloc, me, list, keys, LIMIT, kept)?)
+    Ok(Core::open(alloc, me, list, keys, LIMIT, 1_000, kept)?)
 }
 
 /// Node 1, which isn't one of the members 2 to 6 that it hears.
@@ -33,7 +37,14 @@ fn node_outside(alloc: Global, kept: Seq) -> Result<Core, Fail> {
     let list = List::new(&[2, 3, 4, 5, 6], 3)?;
     let me = NodeNo::new(1).ok_or("no member")?;
     let keys = Keys::of_schedule(me);
-    Ok(Core::open(alloc, me, list, keys, LIMIT, kept)?)
+    Ok(Core::open(alloc, me, list, keys, LIMIT, 1_000, kept)?)
+}
+
+/// The moment at which a second begins.
+fn moment(second: Secs) -> Millis
+    ensures { result ≤ GREATEST_MILLIS }
+{
+    (u64::from(second) * 1_000).min(GREATEST_MILLIS)
 }
 
 /// The frame of a validation that a number sends to another.
@@ -51,12 +62,18 @@ fn header_frame(number: u32, to: u32, h: &Header) -> Result<[u8; 164], Fail> {
 }
 
 /// Tells the node a validation under a number, or has it issue its own.
-fn tell(node: &mut Core, number: u32, v: &Validation) -> Result<Option<Report>, Fail> {
+fn tell(
+    node: &mut Core,
+    keeper: &mut PlainKeeper,
+    number: u32,
+    v: &Validation,
+) -> Result<Option<Report>, Fail> {
     let me = node.me().get();
+    let now = moment(v.signed);
     if number == me {
-        Ok(node.issue(v.signed, v.seq, v.id, v.full)?.report)
+        Ok(node.issue(now, v.seq, v.id, v.full, keeper)?.report)
     } else {
-        Ok(node.frame(v.signed, &frame(number, me, v)?)?)
+        Ok(node.frame(now, &frame(number, me, v)?)?)
     }
 }
 
@@ -65,6 +82,7 @@ fn tell(node: &mut Core, number: u32, v: &Validation) -> Result<Option<Report>, 
 #[test]
 fn reports_what_a_quorum_names(rt: HostRuntime) -> Result<(), Fail> {
     let mut node = node_of_five(rt.alloc(), 0)?;
+    let mut keeper = PlainKeeper::new(rt.alloc(), 3)?;
     for (number, seq, id, full, reports) in [
         (1, 1, X, true, false),
         (2, 1, X, true, false),
@@ -83,19 +101,19 @@ fn reports_what_a_quorum_names(rt: HostRuntime) -> Result<(), Fail> {
             signed: 1,
             full,
         };
-        let report = tell(&mut node, number, &v)?;
+        let report = tell(&mut node, &mut keeper, number, &v)?;
         let wanted = reports.then_some(Report { seq, id });
         assert_eq!(rt; report, wanted, "{number} names {seq}");
     }
     assert_eq!(rt; node.last_report(), Some(Report { seq: 7, id: Y }));
     assert_eq!(rt; (node.kept(), node.list().len()), (7, 5));
+    assert_eq!(rt; keeper.saves(), Some(&[1, 7][..]));
     Ok(())
 }
 
 #[test]
 fn refuses_validations_with_their_cause(rt: HostRuntime) -> Result<(), Fail> {
     let mut node = node_of_five(rt.alloc(), 7)?;
-    assert_eq!(rt; node.issue(1000, 7, X, true), Err(Refusal::NotAfter(7)));
     for (number, to, seq, id, signed, answer) in [
         (1, 5, 2, X, 1000, Ok(None)),
         (1, 4, 3, X, 1000, Err(Refusal::Tag(TagRefusal::NotForMe(4)))),
@@ -112,7 +130,7 @@ fn refuses_validations_with_their_cause(rt: HostRuntime) -> Result<(), Fail> {
             full: true,
         };
         assert_eq!(rt;
-            node.frame(1000, &frame(number, to, &v)?),
+            node.frame(1_000_000, &frame(number, to, &v)?),
             answer,
             "{number} names {seq}"
         );
@@ -161,14 +179,17 @@ fn tests_a_frame_in_order(rt: HostRuntime) -> Result<(), Fail> {
         if seals {
             bytes = resealed(&bytes, one, node.me());
         }
-        assert_eq!(rt; node.frame(1, &bytes).map_err(|why| why.code()), Err(code));
+        assert_eq!(rt;
+            node.frame(1_000, &bytes).map_err(|why| why.code()),
+            Err(code)
+        );
     }
     let mut longer = [0; 88];
     longer[..87].copy_from_slice(&good);
-    assert_eq!(rt; node.frame(1, &longer), Err(Refusal::Extra(1)));
+    assert_eq!(rt; node.frame(1_000, &longer), Err(Refusal::Extra(1)));
     let (shorter, _) = good.split_at(86);
-    assert_eq!(rt; node.frame(1, shorter), Err(Refusal::Short(1)));
-    assert_eq!(rt; node.frame(1, &good), Ok(None));
+    assert_eq!(rt; node.frame(1_000, shorter), Err(Refusal::Short(1)));
+    assert_eq!(rt; node.frame(1_000, &good), Ok(None));
     Ok(())
 }
 
@@ -196,7 +217,7 @@ fn takes_headers_that_follow(rt: HostRuntime) -> Result<(), Fail> {
         (2, 5, B.header(), Ok(None)),
     ] {
         assert_eq!(rt;
-            node.frame(1, &header_frame(number, to, &header)?),
+            node.frame(1_000, &header_frame(number, to, &header)?),
             answer,
             "{number} sends {header:?}"
         );
@@ -222,7 +243,7 @@ fn takes_headers_while_there_is_room(rt: HostRuntime) -> Result<(), Fail> {
         (child(E.id(), 4, 0), not_added(twin)),
     ] {
         assert_eq!(rt;
-            node.frame(1, &header_frame(1, 5, &header)?),
+            node.frame(1_000, &header_frame(1, 5, &header)?),
             answer,
             "{header:?}"
         );
@@ -240,7 +261,7 @@ enum Happens {
 }
 
 /// Tells the node what happens. Nothing is to be reported of it, since all validations are partial.
-fn happen(node: &mut Core, happens: Happens) -> Result<(), Fail> {
+fn happen(node: &mut Core, keeper: &mut PlainKeeper, happens: Happens) -> Result<(), Fail> {
     match happens {
         Says(number, name, seq) => {
             let v = Validation {
@@ -249,11 +270,11 @@ fn happen(node: &mut Core, happens: Happens) -> Result<(), Fail> {
                 signed: 1,
                 full: false,
             };
-            tell(node, number, &v)?;
+            tell(node, keeper, number, &v)?;
         }
         Known(name) => {
             let frame = header_frame(2, node.me().get(), &name.header())?;
-            node.frame(1, &frame)?;
+            node.frame(1_000, &frame)?;
         }
     }
     Ok(())
@@ -282,8 +303,9 @@ const STORY: [(Happens, Option<Name>); 11] = [
 #[test]
 fn prefers_what_votes_name(rt: HostRuntime) -> Result<(), Fail> {
     let mut node = node_of_five(rt.alloc(), 0)?;
+    let mut keeper = PlainKeeper::new(rt.alloc(), 1)?;
     for (happens, preferred) in STORY {
-        happen(&mut node, happens)?;
+        happen(&mut node, &mut keeper, happens)?;
         let preferred = preferred.map(|name| name.told());
         assert_eq!(rt; node.preferred(), preferred, "{happens:?}");
     }
@@ -305,10 +327,10 @@ const ALONG: [Happens; 10] = [
 ];
 
 /// The node outside, opened with a kept number, once it has heard these.
-fn node_along(alloc: Global, kept: Seq) -> Result<Core, Fail> {
+fn node_along(alloc: Global, keeper: &mut PlainKeeper, kept: Seq) -> Result<Core, Fail> {
     let mut node = node_outside(alloc, kept)?;
     for happens in ALONG {
-        happen(&mut node, happens)?;
+        happen(&mut node, keeper, happens)?;
     }
     Ok(node)
 }
@@ -325,11 +347,63 @@ fn the_kept_number_holds_the_walk_back(rt: HostRuntime) -> Result<(), Fail> {
         (4, B, 5, Root),
         (5, Root, 6, Root),
     ] {
-        let mut node = node_along(rt.alloc(), kept)?;
+        let mut keeper = PlainKeeper::new(rt.alloc(), 1)?;
+        let mut node = node_along(rt.alloc(), &mut keeper, kept)?;
         assert_eq!(rt; node.preferred(), Some(before.told()), "kept {kept}");
-        node.issue(1, issued, E.id(), false)?;
+        node.issue(1_000, issued, E.id(), false, &mut keeper)?;
         assert_eq!(rt; node.preferred(), Some(after.told()), "issued {issued}");
     }
+    Ok(())
+}
+
+/// After a save that failed nothing is issued, whatever the keeper was left with, but what comes is heard.
+#[test]
+fn issues_nothing_after_a_failed_save(rt: HostRuntime) -> Result<(), Fail> {
+    let mut node = node_of_five(rt.alloc(), 3)?;
+    let alloc = rt.alloc();
+    let mut keeper = MemKeeper::new(alloc, 4, [2].to_vec(alloc)?, [2].to_vec(alloc)?)?;
+    for (seq, answer) in [
+        (3, Err(Refusal::NotAfter(3))),
+        (4, Ok(4)),
+        (4, Err(Refusal::NotAfter(4))),
+        (6, Err(Refusal::KeepFault(1))),
+        (4, Err(Refusal::NotAfter(4))),
+        (5, Err(Refusal::IssuingOff(6))),
+        (7, Err(Refusal::IssuingOff(6))),
+    ] {
+        let issued = node.issue(2_000, seq, X, true, &mut keeper);
+        assert_eq!(rt; issued.map(|issued| issued.validation.seq), answer, "{seq}");
+    }
+    assert_eq!(rt; (node.kept(), node.failed_save()), (4, Some(6)));
+    assert_eq!(rt; keeper.saves(), Some(&[4, 6][..]));
+    Ok(())
+}
+
+/// Time doesn't go back, and a validation is signed in its second. After 180 seconds a row expires by it, but for the greatest
+/// sequence.
+#[test]
+fn time_goes_on_and_rows_expire(rt: HostRuntime) -> Result<(), Fail> {
+    let mut node = node_of_five(rt.alloc(), 0)?;
+    let mut keeper = PlainKeeper::new(rt.alloc(), 1)?;
+    for (now, seq, signed, answer) in [
+        (5, 4, 5, Ok(None)),
+        (4, 4, 5, Err(Refusal::Repeat(X))),
+        (184, 4, 184, Err(Refusal::Repeat(X))),
+        (185, 4, 185, Err(Refusal::OldSeq(4))),
+        (999, 4, 999, Err(Refusal::OldSeq(4))),
+        (184, 5, 999, Ok(None)),
+    ] {
+        let v = Validation {
+            id: X,
+            seq,
+            signed,
+            full: true,
+        };
+        let heard = node.frame(moment(now), &frame(1, 5, &v)?);
+        assert_eq!(rt; heard, answer, "{now}");
+    }
+    let issued = node.issue(2_000, 1, X, true, &mut keeper)?;
+    assert_eq!(rt; (node.time(), issued.validation.signed), (999_000, 999));
     Ok(())
 }
 
@@ -350,6 +424,8 @@ fn numbers_its_refusals(rt: HostRuntime) {
         (Refusal::Conflict(X), 22),
         (Refusal::OldSeq(2), 23),
         (Refusal::NotAfter(7), 30),
+        (Refusal::IssuingOff(8), 31),
+        (Refusal::KeepFault(1), 32),
         (Refusal::Short(1), 45),
         (Refusal::Extra(1), 46),
         (Refusal::NotBuilt(5), 47),

@@ -11,6 +11,7 @@ use Rattle.xl_core.proofs.node.Core.frame.Goals as goal
 pub returns-in-Header-clause-by_its_parent : goal.returns-in-Header-clause-by_its_parent
 returns-in-Header-clause-by_its_parent c = λ from h is.
     let n : Node = c.args.self.now in
-    let exact = subst (λ (m : Node). Ok c.in_ok-said.said ≡ heard m.keys m.list.members c.args.bytes.now) c.self.view_is c.in_ok-said.ensures.exact in
+    let exact = subst (λ (m : Node). Ok c.in_ok-said.said ≡ heard m.keys m.list.members c.args.bytes.now) (c.self.view_is ∙ c.advance.ensures) c.in_ok-said.ensures.exact in
     c.learn.ensures.refused
+    ∙ ap (λ (m : Node). option_map HeaderRefused (add_refusal m.ledgers c.in-Header.header)) c.advance.ensures
     ∙ ap (λ (x : Header). option_map HeaderRefused (add_refusal n.ledgers x)) (header_heard (heard n.keys n.list.members c.args.bytes.now) c.in_ok-said.said from c.in-Header.header h c.in-Header.is exact is)

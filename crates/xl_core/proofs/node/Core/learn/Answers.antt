@@ -12,7 +12,7 @@ header_known-requires-clause-newest c =
 
 pub invariant_of-self-2 : goal.invariant_of-self-2
 invariant_of-self-2 c = (
-  still_ready (record { me = c.self.inside.me; list = c.self.inside.list; keys = c.self.inside.keys; ledgers = c.self.inside.registry; rows = c.self.inside.table.rows; kept = c.self.inside.kept; last = c.self.inside.last })
+  still_ready (record { me = c.self.inside.me; list = c.self.inside.list; keys = c.self.inside.keys; time = c.self.inside.time; ledgers = c.self.inside.registry; rows = c.self.inside.table.rows; kept = c.self.inside.kept; off = c.self.inside.off; last = c.self.inside.last })
       c.add.new.self c.header_known.new.self.rows c.header_known.ensures.rows c.self.invariant.0,
   c.header_known.ensures.tally,
 )

@@ -8,7 +8,7 @@ use Rattle.xl_core.proofs.node.Core.take.Goals as goal
 
 pub take-requires : goal.take-requires
 take-requires c = record {
-  listed = has_row (record { me = c.self.inside.me; list = c.self.inside.list; keys = c.self.inside.keys; ledgers = c.self.inside.registry; rows = c.self.inside.table.rows; kept = c.self.inside.kept; last = c.self.inside.last }) c.args.from c.self.invariant.0.rest
+  listed = has_row (record { me = c.self.inside.me; list = c.self.inside.list; keys = c.self.inside.keys; time = c.self.inside.time; ledgers = c.self.inside.registry; rows = c.self.inside.table.rows; kept = c.self.inside.kept; off = c.self.inside.off; last = c.self.inside.last }) c.args.from c.self.invariant.0.rest
       (subst (λ (n : Node). is_on n.list.members c.args.from ≡ true) (sym c.self.view_is) c.requires.listed);
   tally = c.self.invariant.1;
 }
@@ -17,7 +17,8 @@ pub invariant_of-self-2 : goal.invariant_of-self-2
 invariant_of-self-2 c = (
   record {
     keyed = c.self.invariant.0.keyed;
-    rest = rest_when_taken (record { me = c.self.inside.me; list = c.self.inside.list; keys = c.self.inside.keys; ledgers = c.self.inside.registry; rows = c.self.inside.table.rows; kept = c.self.inside.kept; last = c.self.inside.last })
+    time = c.self.invariant.0.time;
+    rest = rest_when_taken (record { me = c.self.inside.me; list = c.self.inside.list; keys = c.self.inside.keys; time = c.self.inside.time; ledgers = c.self.inside.registry; rows = c.self.inside.table.rows; kept = c.self.inside.kept; off = c.self.inside.off; last = c.self.inside.last })
         c.args.from c.args.v.now c.take.new.self.rows c.report_by-report.result c.or-self-inside.result c.self.invariant.0.rest
         c.in_ok-take.ensures.taken
         (c.report_by-report.ensures ∙ ap (λ q. report_if (arises_in q c.take.new.self.rows c.self.inside.last c.args.v.now) c.args.v.now) c.quorum.ensures.value)
@@ -28,7 +29,7 @@ invariant_of-self-2 c = (
 
 pub returns-clause-exact : goal.returns-clause-exact
 returns-clause-exact c =
-    let n : Node = record { me = c.self.inside.me; list = c.self.inside.list; keys = c.self.inside.keys; ledgers = c.self.inside.registry; rows = c.self.inside.table.rows; kept = c.self.inside.kept; last = c.self.inside.last } in
+    let n : Node = record { me = c.self.inside.me; list = c.self.inside.list; keys = c.self.inside.keys; time = c.self.inside.time; ledgers = c.self.inside.registry; rows = c.self.inside.table.rows; kept = c.self.inside.kept; off = c.self.inside.off; last = c.self.inside.last } in
     answer_when_taken n c.args.now c.args.from c.args.v.now c.take.new.self.rows c.report_by-report.result c.or-self-inside.result c.self.invariant.0.rest
     (subst (λ (m : Node). is_on m.list.members c.args.from ≡ true) (sym c.self.view_is) c.requires.listed)
     c.in_ok-take.ensures.answer
