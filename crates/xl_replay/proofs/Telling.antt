@@ -1,5 +1,5 @@
 -- A report is the lines of its outcomes and those at its end, and what it reports was reported in its world.
-use Rattle.std.proofs.Common.{◌≡◌, ◌≢◌, ℕ, ◌-◌, Bool, false, List, [], ◌∷◌, ◌++◌, length, refl, ap, sym, ◌∙◌, append_assoc, Option, Some, None, Result, Ok, Err, subst}
+use Rattle.std.proofs.Common.{◌≡◌, ◌≢◌, ℕ, ◌-◌, List, [], ◌∷◌, ◌++◌, length, refl, ap, sym, ◌∙◌, append_assoc, Option, Some, None, Result, Ok, Err, subst}
 use Rattle.std.specs.Prelude.{nat_lt, All, Contains, map, option_map, option_to_list, unwrap_or}
 use Rattle.std.specs.List.{flat_map}
 use Rattle.std.proofs.lemmas.Bool.{cond_both}
@@ -28,8 +28,9 @@ use Rattle.xl_world.specs.declared.outcome.Outcome.{Outcome}
 use Rattle.xl_world.specs.declared.outcome.Outcome.TheVariants.{Refused, Full, Preferred}
 use Rattle.xl_world.specs.declared.place.Place.{Place}
 use Rattle.xl_world.specs.declared.plan.PlanNode.{PlanNode}
-use Rattle.xl_world.specs.Keeper.{may_hold, after_save}
-use Rattle.xl_world.specs.World.{World, Step as WorldStep, Act, Again, Torn, place_at, reported_by, acts, reopened, again, torn, asked_at, step, start, IsDeclared, AreDeclared, IsRun}
+use Rattle.xl_world.specs.declared.place.Fate.{Fate}
+use Rattle.xl_world.specs.Keeper.{may_hold, answer_of}
+use Rattle.xl_world.specs.World.{World, Step as WorldStep, Act, Again, Torn, place_at, reported_by, acts, reopened, again, torn, asked_at, moment_in, step, start, IsDeclared, AreDeclared, IsRun}
 use Rattle.xl_world.specs.Schedule.{step_of, stepped, after_event, reply_to, told_of as told_at, node_of, outcomes_at, preference, outcomes}
 use Rattle.xl_world.proofs.Settling.{at_its_number}
 use Rattle.xl_world.proofs.Lists.{happens_keeps}
@@ -59,23 +60,25 @@ still_reported w v grows (Preferred node ledger) h = tt
 settled_grows : (w v : World) (more : List Reported) → v.reports ≡ w.reports ++ more → Grows w v
 settled_grows w v more is r h = subst (λ rs. Contains rs r) (sym is) (Contains-append_left w.reports more r h)
 
-acts_grows : (w : World) (i : ℕ) (e : NodeEvent) (saved : Bool) (o : Option Place) → Grows w (acts w i e saved o)
-acts_grows w i e saved None = λ r h. h
-acts_grows w i e saved (Some p) = settled_grows w (acts w i e saved (Some p)) (option_to_list (option_map (reported_by (happens p.node e saved).node) (happens p.node e saved).report)) refl
+acts_grows : (w : World) (i : ℕ) (e : NodeEvent) (fate : Fate) (o : Option Place) → Grows w (acts w i e fate o)
+acts_grows w i e fate None = λ r h. h
+acts_grows w i e fate (Some p) =
+    let r : Reply = happens p.node e (answer_of p.keeper fate) in
+    settled_grows w (acts w i e fate (Some p)) (option_to_list (option_map (reported_by r.node) r.report)) refl
 
-again_grows : (w : World) (i number : ℕ) (o : Option Place) → Grows w (again w i number o)
-again_grows w i number None = λ r h. h
-again_grows w i number (Some p) = cond_both (may_hold p.keeper number) (reopened w i p.node number) w (Grows w) (λ _. settled_grows w (reopened w i p.node number) [] refl) (λ _ r h. h)
+again_grows : (w : World) (i now number : ℕ) (o : Option Place) → Grows w (again w i now number o)
+again_grows w i now number None = λ r h. h
+again_grows w i now number (Some p) = cond_both (may_hold p.keeper number) (reopened w i p now number) w (Grows w) (λ _. settled_grows w (reopened w i p now number) [] refl) (λ _ r h. h)
 
-torn_grows : (w : World) (i number : ℕ) (o : Option Place) (asked : Option ℕ) → Grows w (torn w i number o asked)
-torn_grows w i number None asked = λ r h. h
-torn_grows w i number (Some p) None = λ r h. h
-torn_grows w i number (Some p) (Some s) = cond_both (may_hold (after_save p.keeper (Some s) false) number) (reopened w i p.node number) w (Grows w) (λ _. settled_grows w (reopened w i p.node number) [] refl) (λ _ r h. h)
+torn_grows : (w : World) (i now number : ℕ) (o : Option Place) (asked : Option ℕ) → Grows w (torn w i now number o asked)
+torn_grows w i now number None asked = λ r h. h
+torn_grows w i now number (Some p) None = λ r h. h
+torn_grows w i now number (Some p) (Some s) = again_grows w i now number (Some (record { node = p.node; keeper = record p.keeper { asked = Some s } }))
 
 step_grows : (w : World) (s : WorldStep) → Grows w (step w s)
-step_grows w (Act i e saved) = acts_grows w i e saved (place_at i w.places)
-step_grows w (Again i number) = again_grows w i number (place_at i w.places)
-step_grows w (Torn i e number) = torn_grows w i number (place_at i w.places) (asked_at (place_at i w.places) e)
+step_grows w (Act i e fate) = acts_grows w i e fate (place_at i w.places)
+step_grows w (Again i now number) = again_grows w i now number (place_at i w.places)
+step_grows w (Torn i e number) = torn_grows w i (moment_in e) number (place_at i w.places) (asked_at (place_at i w.places) e)
 
 stepped_grows : (w : World) (o : Option WorldStep) → Grows w (stepped w o)
 stepped_grows w None = λ r h. h
@@ -99,17 +102,18 @@ full_reported w i n its (Some q) v is =
     )
     (All-nil (IsReported v))
 
-act_reported : (w : World) (i : ℕ) (e : NodeEvent) (saved : Bool) (o : Option Place) → place_at i w.places ≡ o → All (IsReported (acts w i e saved o)) (told_at i (option_map (λ p. happens p.node e saved) o))
-act_reported w i e saved None at = All-nil (IsReported w)
-act_reported w i e saved (Some p) at =
-    let r : Reply = happens p.node e saved in
-    let v : World = acts w i e saved (Some p) in
+act_reported : (w : World) (i : ℕ) (e : NodeEvent) (fate : Fate) (o : Option Place) → place_at i w.places ≡ o →
+    All (IsReported (acts w i e fate o)) (told_at i (option_map (λ p. happens p.node e (answer_of p.keeper fate)) o))
+act_reported w i e fate None at = All-nil (IsReported w)
+act_reported w i e fate (Some p) at =
+    let r : Reply = happens p.node e (answer_of p.keeper fate) in
+    let v : World = acts w i e fate (Some p) in
     All-append (IsReported v) _ _ (refused_reported v i r)
-    (full_reported w i r.node ((happens_keeps p.node e saved).0 ∙ at_its_number i w.places p at) r.report v refl)
+    (full_reported w i r.node ((happens_keeps p.node e (answer_of p.keeper fate)).0 ∙ at_its_number i w.places p at) r.report v refl)
 
 step_reported : (w : World) (s : WorldStep) → All (IsReported (step w s)) (told_at (node_of s) (reply_to w s))
-step_reported w (Act i e saved) = act_reported w i e saved (place_at i w.places) refl
-step_reported w (Again i number) = All-nil (IsReported (step w (Again i number)))
+step_reported w (Act i e fate) = act_reported w i e fate (place_at i w.places) refl
+step_reported w (Again i now number) = All-nil (IsReported (step w (Again i now number)))
 step_reported w (Torn i e number) = All-nil (IsReported (step w (Torn i e number)))
 
 stepped_reported : (w : World) (o : Option WorldStep) → All (IsReported (stepped w o)) (outcomes_at w o)

@@ -8,7 +8,7 @@ use Rattle.xl_base.specs.declared.ids.LedgerId.{LedgerId}
 use Rattle.xl_lists.specs.Lists.{TrustedList}
 use Rattle.xl_lists.specs.Quorums.{bound_of}
 use Rattle.xl_core.specs.declared.refusal.Refusal.{Refusal}
-use Rattle.xl_core.specs.declared.refusal.Refusal.TheVariants.{Frame, Short, Extra, Tag, Header, NotBuilt, Stale, Repeat, Conflict, OldSeq, NotAfter}
+use Rattle.xl_core.specs.declared.refusal.Refusal.TheVariants.{Frame, Short, Extra, Tag, Header, NotBuilt, Stale, Repeat, Conflict, OldSeq, NotAfter, IssuingOff, KeepFault}
 use Rattle.xl_core.specs.declared.report.Report.{Report}
 use Rattle.xl_ledger.specs.declared.refusal.AddRefusal.{AddRefusal}
 use Rattle.xl_ledger.specs.declared.refusal.AddRefusal.TheVariants as header
@@ -78,6 +78,8 @@ values_text names (Repeat id) = id_text names id
 values_text names (Conflict id) = id_text names id
 values_text names (OldSeq largest) = decimal largest
 values_text names (NotAfter kept) = decimal kept
+values_text names (IssuingOff failed) = decimal failed
+values_text names (KeepFault count) = decimal count
 
 -- the ledger that is preferred, where one is
 abbrev pub preferred_text : List Named → Option Report → List ℕ

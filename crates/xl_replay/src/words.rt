@@ -52,10 +52,10 @@ pub fn push_values(
             Ok(())
         }
         Refusal::Repeat(id) | Refusal::Conflict(id) => push_id(alloc, text, reader, id),
-        Refusal::OldSeq(number) | Refusal::NotAfter(number) => push_number(
-            text,
-            u64::from(*number),
-        ),
+        Refusal::OldSeq(number) | Refusal::NotAfter(number) | Refusal::IssuingOff(number) => {
+            push_number(text, u64::from(*number))
+        }
+        Refusal::KeepFault(count) => push_number(text, *count),
     }
 }
 

@@ -16,14 +16,16 @@ use Rattle.xl_core.specs.declared.hearing.Spoken.{Spoken}
 use Rattle.xl_core.specs.declared.hearing.Speech.{Speech}
 use Rattle.xl_core.specs.declared.hearing.Speech.TheVariants.{Vote, Header as Ledger}
 use Rattle.xl_core.specs.Hearing.{heard}
-use Rattle.xl_core.specs.Node.{Node, Event, Issue, Frame, Reply, issues, hears, learns, hearing_speech, hearing, refusing, refusal_at, happens, asks, opened}
+use Rattle.xl_core.specs.Node.{Node, Event, Issue, Frame, Reply, Save, at_moment, second_of, own_validation, issues_unless, issues, hears, learns, hearing_speech, hearing, refusing, refusal_at, happens, asks}
 use Rattle.xl_wire.specs.declared.validation.Validation.{Validation}
 use Rattle.xl_validations.specs.declared.refusal.ValRefusal.{ValRefusal}
 use Rattle.xl_world.specs.declared.place.Keeper.{Keeper}
-use Rattle.xl_world.specs.Keeper.{may_hold, holding, after_save}
+use Rattle.xl_world.specs.declared.place.Fate.{Fate}
+use Rattle.xl_core.specs.Node.Save.{Kept, Failed}
+use Rattle.xl_world.specs.Keeper.{may_hold, restored, answer_of, after_save}
 use Rattle.xl_world.specs.declared.place.Place.{Place}
 use Rattle.xl_world.specs.declared.plan.PlanNode.{PlanNode}
-use Rattle.xl_world.specs.World.{World, Step, Act, Again, Torn, place_at, list_in, reported_by, is_forged, settled, acts, quiet, reopened, again, torn, asked_at, step, run, place_of, start, AreDeclared, list_at, AgreeAt, IsRun, Headline}
+use Rattle.xl_world.specs.World.{World, Step, Act, Again, Torn, place_at, list_in, reported_by, is_forged, settled, acts, quiet, place_again, moment_in, reopened, again, torn, asked_at, step, run, place_of, start, AreDeclared, list_at, AgreeAt, IsRun, Headline}
 use Rattle.xl_world.proofs.Settling.{put_cases, at_its_number, some_same}
 use Rattle.xl_world.proofs.Runs.{agreement}
 
@@ -55,9 +57,13 @@ settled_lists plan w i forged p r k at same_me same_list has =
 abbrev pub KeepsList : Node → Reply → Type 0
 KeepsList n r = (r.node.me ≡ n.me) × (r.node.list ≡ n.list)
 
-issues_keep : (n : Node) (now : ℕ) (saved : Bool) (v : Validation) → KeepsList n (issues n now saved v)
-issues_keep n now true v = (refl, refl)
-issues_keep n now false v = (refl, refl)
+issues_keep : (n : Node) (now : ℕ) (save : Save) (v : Validation) → KeepsList n (issues n now save v)
+issues_keep n now Kept v = (refl, refl)
+issues_keep n now (Failed count) v = (refl, refl)
+
+unless_keep : (n : Node) (off : Option ℕ) (save : Save) (v : Validation) → KeepsList n (issues_unless n off save v)
+unless_keep n None save v = issues_keep n (second_of n) save v
+unless_keep n (Some failed) save v = (refl, refl)
 
 hears_keep : (n : Node) (now from : ℕ) (v : Validation) (o : Option ValRefusal) → KeepsList n (hears n now from v o)
 hears_keep n now from v None = (refl, refl)
@@ -75,34 +81,37 @@ hearing_keeps : (n : Node) (now : ℕ) (said : Result Spoken Refusal) → KeepsL
 hearing_keeps n now (Ok said) = speech_keeps n now said.from said.what
 hearing_keeps n now (Err why) = (refl, refl)
 
-pub happens_keeps : (n : Node) (e : Event) (saved : Bool) → KeepsList n (happens n e saved)
-happens_keeps n (Issue now seq id full) saved =
-    cond_both (nat_lt n.kept seq) (issues n now saved _) (refusing n (NotAfter n.kept)) (KeepsList n) (λ _. issues_keep n now saved _) (λ _. (refl, refl))
-happens_keeps n (Frame now bytes) saved = hearing_keeps n now (heard n.keys n.list.members bytes)
+pub happens_keeps : (n : Node) (e : Event) (save : Save) → KeepsList n (happens n e save)
+happens_keeps n (Issue now seq id full) save =
+    let m : Node = at_moment now n in
+    cond_both (nat_lt m.kept seq) (issues_unless m m.off save (own_validation m seq id full)) (refusing m (NotAfter m.kept)) (KeepsList n) (λ _. unless_keep m m.off save (own_validation m seq id full)) (λ _. (refl, refl))
+happens_keeps n (Frame now bytes) save = hearing_keeps (at_moment now n) (second_of (at_moment now n)) (heard n.keys n.list.members bytes)
 
-acts_lists : (plan : List PlanNode) (w : World) (i : ℕ) (e : Event) (saved : Bool) → HasLists plan w → (o : Option Place) → place_at i w.places ≡ o → HasLists plan (acts w i e saved o)
-acts_lists plan w i e saved has None at = has
-acts_lists plan w i e saved has (Some p) at =
-    settled_lists plan w i (is_forged w p.node e) p (happens p.node e saved) (after_save p.keeper (asks p.node e) saved) at (happens_keeps p.node e saved).0 (happens_keeps p.node e saved).1 has
+acts_lists : (plan : List PlanNode) (w : World) (i : ℕ) (e : Event) (fate : Fate) → HasLists plan w → (o : Option Place) → place_at i w.places ≡ o → HasLists plan (acts w i e fate o)
+acts_lists plan w i e fate has None at = has
+acts_lists plan w i e fate has (Some p) at =
+    let keeps = happens_keeps p.node e (answer_of p.keeper fate) in
+    settled_lists plan w i (is_forged w p.node e) p (happens p.node e (answer_of p.keeper fate)) (after_save p.keeper (asks p.node e) fate) at keeps.0 keeps.1 has
 
-reopened_lists : (plan : List PlanNode) (w : World) (i number : ℕ) → HasLists plan w → (p : Place) → place_at i w.places ≡ Some p → HasLists plan (reopened w i p.node number)
-reopened_lists plan w i number has p at = settled_lists plan w i false p (quiet (opened p.node.me p.node.list p.node.keys p.node.ledgers.limit number)) (holding number) at refl refl has
+reopened_lists : (plan : List PlanNode) (w : World) (i now number : ℕ) → HasLists plan w → (p : Place) → place_at i w.places ≡ Some p → (k : Keeper) → HasLists plan (reopened w i (record { node = p.node; keeper = k }) now number)
+reopened_lists plan w i now number has p at k = settled_lists plan w i false p (quiet (place_again p now number).node) (restored k number) at refl refl has
 
-again_lists : (plan : List PlanNode) (w : World) (i number : ℕ) → HasLists plan w → (o : Option Place) → place_at i w.places ≡ o → HasLists plan (again w i number o)
-again_lists plan w i number has None at = has
-again_lists plan w i number has (Some p) at =
-    cond_both (may_hold p.keeper number) (reopened w i p.node number) w (HasLists plan) (λ _. reopened_lists plan w i number has p at) (λ _. has)
+again_lists : (plan : List PlanNode) (w : World) (i now number : ℕ) → HasLists plan w → (o : Option Place) → place_at i w.places ≡ o → HasLists plan (again w i now number o)
+again_lists plan w i now number has None at = has
+again_lists plan w i now number has (Some p) at =
+    cond_both (may_hold p.keeper number) (reopened w i p now number) w (HasLists plan) (λ _. reopened_lists plan w i now number has p at p.keeper) (λ _. has)
 
-torn_lists : (plan : List PlanNode) (w : World) (i number : ℕ) → HasLists plan w → (o : Option Place) → place_at i w.places ≡ o → (asked : Option ℕ) → HasLists plan (torn w i number o asked)
-torn_lists plan w i number has None at asked = has
-torn_lists plan w i number has (Some p) at None = has
-torn_lists plan w i number has (Some p) at (Some s) =
-    cond_both (may_hold (after_save p.keeper (Some s) false) number) (reopened w i p.node number) w (HasLists plan) (λ _. reopened_lists plan w i number has p at) (λ _. has)
+torn_lists : (plan : List PlanNode) (w : World) (i now number : ℕ) → HasLists plan w → (o : Option Place) → place_at i w.places ≡ o → (asked : Option ℕ) → HasLists plan (torn w i now number o asked)
+torn_lists plan w i now number has None at asked = has
+torn_lists plan w i now number has (Some p) at None = has
+torn_lists plan w i now number has (Some p) at (Some s) =
+    let k : Keeper = record p.keeper { asked = Some s } in
+    cond_both (may_hold k number) (reopened w i (record { node = p.node; keeper = k }) now number) w (HasLists plan) (λ _. reopened_lists plan w i now number has p at k) (λ _. has)
 
 step_lists : (plan : List PlanNode) (w : World) (s : Step) → HasLists plan w → HasLists plan (step w s)
-step_lists plan w (Act i e saved) has = acts_lists plan w i e saved has (place_at i w.places) refl
-step_lists plan w (Again i number) has = again_lists plan w i number has (place_at i w.places) refl
-step_lists plan w (Torn i e number) has = torn_lists plan w i number has (place_at i w.places) refl (asked_at (place_at i w.places) e)
+step_lists plan w (Act i e fate) has = acts_lists plan w i e fate has (place_at i w.places) refl
+step_lists plan w (Again i now number) has = again_lists plan w i now number has (place_at i w.places) refl
+step_lists plan w (Torn i e number) has = torn_lists plan w i (moment_in e) number has (place_at i w.places) refl (asked_at (place_at i w.places) e)
 
 pub run_lists : (plan : List PlanNode) (w : World) (ss : List Step) → HasLists plan w → HasLists plan (run w ss)
 run_lists plan w [] has = has

@@ -1,6 +1,6 @@
 -- What each event at a node shows.
-use Rattle.std.proofs.Common.{◌≡◌, ℕ, ◌<◌, ◌≤◌, Bool, true, false, cond, List, [], ◌∷◌, refl, arith, ap, sym, ◌∙◌, inl, inr, Option, Some, None, Result, Ok, Err, subst}
-use Rattle.std.specs.Prelude.{◌==◌, All, IfSome, map, find, filter_map, option_map, nat_lt, nat_le}
+use Rattle.std.proofs.Common.{◌≡◌, ℕ, ◌<◌, ◌≤◌, ◌/◌, Bool, true, false, cond, List, [], ◌∷◌, refl, arith, ap, sym, ◌∙◌, inl, inr, Option, Some, None, Result, Ok, Err, subst}
+use Rattle.std.specs.Prelude.{◌==◌, max, All, IfSome, map, find, filter_map, option_map, nat_lt, nat_le}
 use Rattle.std.specs.Option.{is_none}
 use Rattle.std.proofs.lemmas.Bool.{and_parts, eqb-true, cond_both, ltb-true, leb-true}
 use Rattle.std.proofs.lemmas.List.Elements.{All-map, All-head, All-tail, All-cons}
@@ -9,9 +9,9 @@ use Rattle.xl_lists.specs.Agreement.{Said}
 use Rattle.xl_wire.specs.declared.validation.Validation.{Validation}
 use Rattle.xl_validations.specs.declared.row.Row.{Row}
 use Rattle.xl_validations.specs.declared.refusal.ValRefusal.{ValRefusal}
-use Rattle.xl_validations.specs.Rows.{refusal, with_validation, at_member, count_full, empty_row}
+use Rattle.xl_validations.specs.Rows.{is_current, unexpired, row_at, refusal, with_validation, at_member, count_full, empty_row}
 use Rattle.xl_core.specs.declared.report.Report.{Report}
-use Rattle.xl_core.specs.declared.refusal.Refusal.TheVariants.{NotAfter}
+use Rattle.xl_core.specs.declared.refusal.Refusal.TheVariants.{NotAfter, IssuingOff, KeepFault}
 use Rattle.xl_core.specs.declared.refusal.Refusal.{Refusal}
 use Rattle.xl_ledger.specs.declared.header.Header.{Header}
 use Rattle.xl_ledger.specs.declared.refusal.AddRefusal.{AddRefusal}
@@ -21,11 +21,15 @@ use Rattle.xl_core.specs.declared.hearing.Speech.{Speech}
 use Rattle.xl_core.specs.declared.hearing.Speech.TheVariants.{Vote, Header as Ledger}
 use Rattle.xl_core.specs.Hearing.{heard}
 use Rattle.xl_tags.specs.Rings.{Ring}
-use Rattle.xl_core.specs.Node.{Node, Event, Issue, Frame, Reply, take, with_taken, saving, arises, arisen, report_of, refusing, issues, hears, learns, refusal_at, hearing_speech, hearing, asks, happens, opened}
+use Rattle.xl_core.specs.Node.{Node, Event, Issue, Frame, Reply, Save, at_moment, second_of, own_validation, issues_unless, unless_off, take, with_taken, saving, arises, arisen, report_of, refusing, hears, learns, refusal_at, hearing_speech, hearing, asks, happens, opened}
 use Rattle.xl_world.specs.declared.place.Keeper.{Keeper}
-use Rattle.xl_world.specs.Keeper.{MayHold, holding, after_save}
+use Rattle.xl_world.specs.declared.place.Fate.{Fate}
+use Rattle.xl_world.specs.declared.place.Fate.TheVariants.{Kept, Unwritten, Written}
+use Rattle.xl_world.specs.Keeper.{MayHold, one_more, restored, answer_of, after_failed, after_save}
+use Rattle.xl_validations.proofs.Turning.{members_then}
+use Rattle.xl_core.specs.Node.Save.{Kept as AnsweredOk, Failed as AnsweredFailed}
 use Rattle.xl_world.specs.declared.place.Place.{Place}
-use Rattle.xl_world.specs.World.{said_by, RowSays, NodeSays, quiet}
+use Rattle.xl_world.specs.World.{said_by, RowSays, NodeSays, quiet, place_again}
 use Rattle.xl_world.proofs.Settling.{IsWell, IsStep, ReplySays, if_some}
 
 -- ROWS
@@ -62,12 +66,12 @@ members_opened (m ∷ ms) = cons_same refl (members_opened ms)
 
 -- THE KEEPER
 
-held : (n j : ℕ) → MayHold (holding n) j → j ≡ n
-held n j (inl e) = e
-held n j (inr e) = cc
+held : (k : Keeper) (n j : ℕ) → MayHold (restored k n) j → j ≡ n
+held k n j (inl e) = e
+held k n j (inr e) = cc
 
 -- after a save that failed the keeper holds the number in force, or the asked one
-pub failed_rises : (k : Keeper) (s j : ℕ) → k.in_force < s → MayHold (after_save k (Some s) false) j → (i : ℕ) × (i ≤ j) × MayHold k i
+pub failed_rises : (k : Keeper) (s j : ℕ) → k.in_force < s → MayHold (record k { asked = Some s }) j → (i : ℕ) × (i ≤ j) × MayHold k i
 failed_rises k s j above (inl e) = (j, omega arith, inl e)
 failed_rises k s j above (inr e) = (k.in_force, omega (arith, some_number s j e), inl refl)
   where
@@ -104,28 +108,35 @@ arisen_quorum n =
     (if_some (λ v. arises n v ≡ true) _ (λ v e. leb-true _ _ (and_parts (nat_le n.list.quorum (count_full v.seq v.id n.rows)) _ e).0)
     _ (find_passes (arises n) (filter_map (λ row. row.current) n.rows)))
 
--- an issue, by whether its sequence is above the kept one and whether its save is Ok
-issue_steps : (p : Place) (now : ℕ) (v : Validation) (b saved : Bool) → (b ≡ true → p.node.kept < v.seq) → IsWell p →
-    IsStep p (cond b (issues p.node now saved v) (refusing p.node (NotAfter p.node.kept))) (after_save p.keeper (cond b (Some v.seq) None) saved)
-issue_steps p now v true true above well = record {
-  me = refl;
-  list = refl;
-  well = record { members = members_taken now p.node.me v p.node.rows ∙ well.members; valid = well.valid; in_force = refl };
-  rises = λ j h. (p.keeper.in_force, omega (arith, held v.seq j h, above refl, well.in_force), inl refl);
-  above = (p.keeper.in_force, omega (arith, above refl, well.in_force), inl refl);
-  saved = λ j h. omega (arith, held v.seq j h);
-  quorum = arisen_quorum (saving p.node now v);
-}
-issue_steps p now v true false above well = record {
+-- after a save that failed
+failed_steps : (p : Place) (v : Validation) (count : ℕ) (written : Bool) → p.node.kept < v.seq → IsWell p →
+    IsStep p (refusing (record p.node { off = Some v.seq }) (KeepFault count)) (after_failed p.keeper v.seq written)
+failed_steps p v count written above well = record {
   me = refl;
   list = refl;
   well = record { members = well.members; valid = well.valid; in_force = well.in_force };
-  rises = λ j h. failed_rises p.keeper v.seq j (omega (arith, above refl, well.in_force)) h;
+  rises = λ j h. failed_rises p.keeper v.seq j (omega (arith, above, well.in_force)) h;
   above = tt;
   saved = tt;
   quorum = tt;
 }
-issue_steps p now v false saved above well = still p (refusing p.node (NotAfter p.node.kept)) refl refl refl well
+
+-- an issue, by whether its sequence is above the kept one, whether a save failed before, and the fate of its own
+issue_steps : (p : Place) (v : Validation) (b : Bool) (off : Option ℕ) (fate : Fate) → (b ≡ true → p.node.kept < v.seq) → IsWell p →
+    IsStep p (cond b (issues_unless p.node off (answer_of p.keeper fate) v) (refusing p.node (NotAfter p.node.kept))) (after_save p.keeper (cond b (unless_off off v.seq) None) fate)
+issue_steps p v true None Kept above well = record {
+  me = refl;
+  list = refl;
+  well = record { members = members_taken (second_of p.node) p.node.me v p.node.rows ∙ well.members; valid = well.valid; in_force = refl };
+  rises = λ j h. (p.keeper.in_force, omega (arith, held p.keeper v.seq j h, above refl, well.in_force), inl refl);
+  above = (p.keeper.in_force, omega (arith, above refl, well.in_force), inl refl);
+  saved = λ j h. omega (arith, held p.keeper v.seq j h);
+  quorum = arisen_quorum (saving p.node (second_of p.node) v);
+}
+issue_steps p v true None Unwritten above well = failed_steps p v (one_more p.keeper.faults) false (above refl) well
+issue_steps p v true None Written above well = failed_steps p v (one_more p.keeper.faults) true (above refl) well
+issue_steps p v true (Some failed) fate above well = still p (refusing p.node (IssuingOff failed)) refl refl refl well
+issue_steps p v false off fate above well = still p (refusing p.node (NotAfter p.node.kept)) refl refl refl well
 
 hears_steps : (p : Place) (now from : ℕ) (v : Validation) (o : Option ValRefusal) → IsWell p → IsStep p (hears p.node now from v o) p.keeper
 hears_steps p now from v (Some why) well = still p (hears p.node now from v (Some why)) refl refl refl well
@@ -160,9 +171,22 @@ hearing_steps : (p : Place) (now : ℕ) (said : Result Spoken Refusal) → IsWel
 hearing_steps p now (Ok said) well = speech_steps p now said.from said.what well
 hearing_steps p now (Err why) well = still p (refusing p.node why) refl refl refl well
 
-pub happens_steps : (p : Place) (e : Event) (saved : Bool) → IsWell p → IsStep p (happens p.node e saved) (after_save p.keeper (asks p.node e) saved)
-happens_steps p (Issue now seq id full) saved well = issue_steps p now _ (nat_lt p.node.kept seq) saved (λ e. ltb-true _ _ e) well
-happens_steps p (Frame now bytes) saved well = hearing_steps p now (heard p.node.keys p.node.list.members bytes) well
+-- the place at a moment: its time is set, and rows expire
+abbrev moved : ℕ → Place → Place
+moved now p = record { node = at_moment now p.node; keeper = p.keeper }
+
+well_then : (now : ℕ) (p : Place) → IsWell p → IsWell (moved now p)
+well_then now p well = record { members = members_then (max p.node.time now / 1000) p.node.rows ∙ well.members; valid = well.valid; in_force = well.in_force }
+
+from_moved : (now : ℕ) (p : Place) (r : Reply) (k : Keeper) → IsStep (moved now p) r k → IsStep p r k
+from_moved now p r k s = record { me = s.me; list = s.list; well = s.well; rises = s.rises; above = s.above; saved = s.saved; quorum = s.quorum }
+
+pub happens_steps : (p : Place) (e : Event) (fate : Fate) → IsWell p → IsStep p (happens p.node e (answer_of p.keeper fate)) (after_save p.keeper (asks p.node e) fate)
+happens_steps p (Issue now seq id full) fate well =
+    let m : Node = at_moment now p.node in
+    from_moved now p _ _ (issue_steps (moved now p) (own_validation m seq id full) (nat_lt m.kept seq) m.off fate (λ e. ltb-true _ _ e) (well_then now p well))
+happens_steps p (Frame now bytes) fate well =
+    from_moved now p _ _ (hearing_steps (moved now p) (second_of (at_moment now p.node)) (heard p.node.keys p.node.list.members bytes) (well_then now p well))
 
 -- WHAT STANDS AT THE NODE
 
@@ -175,12 +199,13 @@ pub heard_weaker : (P Q : Said → Type 0) → ((x : Said) → P x → Q x) → 
 heard_weaker P Q h n (Issue now seq id full) says = tt
 heard_weaker P Q h n (Frame now bytes) says = λ from v is. h (said_by from v) (says from v is)
 
-issue_says : (P : Said → Type 0) (n : Node) (now : ℕ) (v : Validation) (b saved : Bool) → NodeSays P n →
-    IfSome (cond b (issues n now saved v) (refusing n (NotAfter n.kept))).issued (λ u. P (said_by n.me u)) →
-    ReplySays P n.me (cond b (issues n now saved v) (refusing n (NotAfter n.kept)))
-issue_says P n now v true true says fair = record { node = rows_say P now n.me v fair n.rows says; issued = fair }
-issue_says P n now v true false says fair = record { node = says; issued = tt }
-issue_says P n now v false saved says fair = record { node = says; issued = tt }
+issue_says : (P : Said → Type 0) (n : Node) (v : Validation) (b : Bool) (off : Option ℕ) (save : Save) → NodeSays P n →
+    IfSome (cond b (issues_unless n off save v) (refusing n (NotAfter n.kept))).issued (λ u. P (said_by n.me u)) →
+    ReplySays P n.me (cond b (issues_unless n off save v) (refusing n (NotAfter n.kept)))
+issue_says P n v true None AnsweredOk says fair = record { node = rows_say P (second_of n) n.me v fair n.rows says; issued = fair }
+issue_says P n v true None (AnsweredFailed count) says fair = record { node = says; issued = tt }
+issue_says P n v true (Some failed) save says fair = record { node = says; issued = tt }
+issue_says P n v false off save says fair = record { node = says; issued = tt }
 
 hears_says : (P : Said → Type 0) (n : Node) (now from : ℕ) (v : Validation) (o : Option ValRefusal) → NodeSays P n → P (said_by from v) → ReplySays P n.me (hears n now from v o)
 hears_says P n now from v (Some why) says fair = record { node = says; issued = tt }
@@ -198,32 +223,51 @@ hearing_says : (P : Said → Type 0) (n : Node) (now : ℕ) (r : Result Spoken R
 hearing_says P n now (Ok said) says fair = speech_says P n now said.from said.what says (λ v is. fair said.from v (ap (λ (w : Speech). let r : Result Spoken Refusal = Ok (record { from = said.from; what = w }) in r) is))
 hearing_says P n now (Err why) says fair = record { node = says; issued = tt }
 
+-- rows that expire say no more
+rows_then : (P : Said → Type 0) (now : ℕ) (rows : List Row) → All (RowSays P) rows → All (RowSays P) (map (row_at now) rows)
+rows_then P now [] says = says
+rows_then P now (row ∷ rows) says =
+    All-cons (RowSays P) (row_at now row) (map (row_at now) rows) (row_then row.current (All-head (RowSays P) row rows says)) (rows_then P now rows (All-tail (RowSays P) row rows says))
+  where
+    row_then : (o : Option Validation) → IfSome o (λ v. P (said_by row.member v)) → IfSome (unexpired now o) (λ v. P (said_by row.member v))
+    row_then None h = tt
+    row_then (Some v) h = cond_both (is_current now v) (Some v) None (λ o. IfSome o (λ u. P (said_by row.member u))) (λ _. h) (λ _. tt)
+
+says_then : (P : Said → Type 0) (now : ℕ) (n : Node) → NodeSays P n → NodeSays P (at_moment now n)
+says_then P now n says = rows_then P (max n.time now / 1000) n.rows says
+
 -- what holds of what stands at the node, of what came and of what is issued holds of what stands there then
-pub happens_says : (P : Said → Type 0) (n : Node) (e : Event) (saved : Bool) → NodeSays P n → HeardSays P n e →
-    IfSome (happens n e saved).issued (λ v. P (said_by n.me v)) → ReplySays P n.me (happens n e saved)
-happens_says P n (Issue now seq id full) saved says heard fair = issue_says P n now _ (nat_lt n.kept seq) saved says fair
-happens_says P n (Frame now bytes) saved says fair issued = hearing_says P n now (heard n.keys n.list.members bytes) says fair
+pub happens_says : (P : Said → Type 0) (n : Node) (e : Event) (save : Save) → NodeSays P n → HeardSays P n e →
+    IfSome (happens n e save).issued (λ v. P (said_by n.me v)) → ReplySays P n.me (happens n e save)
+happens_says P n (Issue now seq id full) save says heard fair =
+    let m : Node = at_moment now n in issue_says P m (own_validation m seq id full) (nat_lt m.kept seq) m.off save (says_then P now n says) fair
+happens_says P n (Frame now bytes) save says fair issued =
+    hearing_says P (at_moment now n) (second_of (at_moment now n)) (heard n.keys n.list.members bytes) (says_then P now n says) fair
 
 -- a node that is opened has nothing
-pub opened_says : (P : Said → Type 0) (me : ℕ) (list : TrustedList) (keys : Ring) (limit kept : ℕ) → NodeSays P (opened me list keys limit kept)
-opened_says P me list keys limit kept = All-map (RowSays P) empty_row list.members (λ _ _ _. tt)
+pub opened_says : (P : Said → Type 0) (me : ℕ) (list : TrustedList) (keys : Ring) (limit now kept : ℕ) → NodeSays P (opened me list keys limit now kept)
+opened_says P me list keys limit now kept = All-map (RowSays P) empty_row list.members (λ _ _ _. tt)
 
-pub opened_well : (me : ℕ) (list : TrustedList) (keys : Ring) (limit number : ℕ) → IsValid list → IsWell (record { node = opened me list keys limit number; keeper = holding number })
-opened_well me list keys limit number valid = record { members = members_opened list.members; valid = valid; in_force = refl }
+pub opened_well : (me : ℕ) (list : TrustedList) (keys : Ring) (limit now number : ℕ) (k : Keeper) → IsValid list → k.in_force ≡ number → IsWell (record { node = opened me list keys limit now number; keeper = k })
+opened_well me list keys limit now number k valid same = record { members = members_opened list.members; valid = valid; in_force = sym same }
 
 -- a save is asked above the number that was kept
 pub asks_above : (n : Node) (e : Event) → IfSome (asks n e) (λ s. n.kept < s)
-asks_above n (Issue now seq id full) = cond_both (nat_lt n.kept seq) (Some seq) None (λ o. IfSome o (λ s. n.kept < s)) (λ e. ltb-true _ _ e) (λ _. tt)
+asks_above n (Issue now seq id full) = cond_both (nat_lt n.kept seq) (unless_off n.off seq) None (λ o. IfSome o (λ s. n.kept < s)) (λ e. unless_above n.off (ltb-true _ _ e)) (λ _. tt)
+  where
+    unless_above : (off : Option ℕ) → n.kept < seq → IfSome (unless_off off seq) (λ s. n.kept < s)
+    unless_above None lt = lt
+    unless_above (Some failed) lt = tt
 asks_above n (Frame now bytes) = tt
 
 -- a node opened again with a number that is not below its keeper's
-pub opened_steps : (p : Place) (number : ℕ) → IsWell p → (i : ℕ) × (i ≤ number) × MayHold p.keeper i →
-    IsStep p (quiet (opened p.node.me p.node.list p.node.keys p.node.ledgers.limit number)) (holding number)
-opened_steps p number well low = record {
+pub opened_steps : (p : Place) (now number : ℕ) → IsWell p → (i : ℕ) × (i ≤ number) × MayHold p.keeper i →
+    IsStep p (quiet (place_again p now number).node) (restored p.keeper number)
+opened_steps p now number well low = record {
   me = refl;
   list = refl;
-  well = opened_well p.node.me p.node.list p.node.keys p.node.ledgers.limit number well.valid;
-  rises = λ j h. (low.0, omega (arith, held number j h, low.1), low.2);
+  well = opened_well p.node.me p.node.list p.node.keys p.node.ledgers.limit now number (restored p.keeper number) well.valid refl;
+  rises = λ j h. (low.0, omega (arith, held p.keeper number j h, low.1), low.2);
   above = tt;
   saved = tt;
   quorum = tt;

@@ -9,6 +9,8 @@ use Rattle.std.proofs.lemmas.Bool.{eqb-true, lt-ltb, cases_lt, cond-true, cond-f
 use Rattle.xl_core.specs.Node.{Event, happens}
 use Rattle.xl_world.specs.declared.act.Answer.{Answer}
 use Rattle.xl_world.specs.declared.place.Place.{Place}
+use Rattle.xl_world.specs.declared.place.Fate.{Fate}
+use Rattle.xl_world.specs.Keeper.{answer_of}
 use Rattle.xl_world.specs.World.{place_at, put, place_after}
 use Rattle.xl_world.specs.Seen.{IsAnswer, put_acted, acted_at, Answers, AnswersAt, restarted, put_restarted, restarted_at}
 use Rattle.xl_world.proofs.Lists.{happens_keeps}
@@ -59,28 +61,28 @@ pub none_there : (xs : List Place) (i : ℕ) → position (λ p. p.node.me == i)
 none_there xs i none = nowhere xs i (none_found xs i none)
 
 -- an event at the place that is found
-pub acted_there : (xs : List Place) (i k : ℕ) (e : Event) (d y : Place) → position (λ p. p.node.me == i) xs ≡ Some k → y ≡ place_after (get_or xs k d) e true → set xs k y ≡ acted_at i e xs
-acted_there xs i k e d y found is =
-    put_found xs i k d y found (ap (λ (p : Place). p.node.me) is ∙ (happens_keeps (get_or xs k d).node e true).0)
-    ∙ (ap (λ (p : Place). put p xs) is ∙ ap (λ o. put_acted e o xs) (sym (found_there xs i k d found)))
+pub acted_there : (xs : List Place) (i k : ℕ) (e : Event) (fate : Fate) (d y : Place) → position (λ p. p.node.me == i) xs ≡ Some k → y ≡ place_after (get_or xs k d) e fate → set xs k y ≡ acted_at i e fate xs
+acted_there xs i k e fate d y found is =
+    put_found xs i k d y found (ap (λ (p : Place). p.node.me) is ∙ (happens_keeps (get_or xs k d).node e (answer_of (get_or xs k d).keeper fate)).0)
+    ∙ (ap (λ (p : Place). put p xs) is ∙ ap (λ o. put_acted e fate o xs) (sym (found_there xs i k d found)))
 
-pub acted_nowhere : (xs : List Place) (i : ℕ) (e : Event) → position (λ p. p.node.me == i) xs ≡ None → xs ≡ acted_at i e xs
-acted_nowhere xs i e none = ap (λ o. put_acted e o xs) (sym (none_there xs i none))
+pub acted_nowhere : (xs : List Place) (i : ℕ) (e : Event) (fate : Fate) → position (λ p. p.node.me == i) xs ≡ None → xs ≡ acted_at i e fate xs
+acted_nowhere xs i e fate none = ap (λ o. put_acted e fate o xs) (sym (none_there xs i none))
 
-pub answered_there : (xs : List Place) (i k : ℕ) (e : Event) (d : Place) (a : Answer) → position (λ p. p.node.me == i) xs ≡ Some k → IsAnswer a (happens (get_or xs k d).node e true) → AnswersAt i e xs (Some a)
-answered_there xs i k e d a found is = subst (λ o. Answers e o (Some a)) (sym (found_there xs i k d found)) is
+pub answered_there : (xs : List Place) (i k : ℕ) (e : Event) (fate : Fate) (d : Place) (a : Answer) → position (λ p. p.node.me == i) xs ≡ Some k → IsAnswer a (happens (get_or xs k d).node e (answer_of (get_or xs k d).keeper fate)) → AnswersAt i e fate xs (Some a)
+answered_there xs i k e fate d a found is = subst (λ o. Answers e fate o (Some a)) (sym (found_there xs i k d found)) is
 
-pub answered_nowhere : (xs : List Place) (i : ℕ) (e : Event) → position (λ p. p.node.me == i) xs ≡ None → AnswersAt i e xs None
-answered_nowhere xs i e none = subst (λ o. Answers e o None) (sym (none_there xs i none)) tt
+pub answered_nowhere : (xs : List Place) (i : ℕ) (e : Event) (fate : Fate) → position (λ p. p.node.me == i) xs ≡ None → AnswersAt i e fate xs None
+answered_nowhere xs i e fate none = subst (λ o. Answers e fate o None) (sym (none_there xs i none)) tt
 
 -- a restart at the place that is found
-pub restarted_there : (xs : List Place) (i k : ℕ) (d y : Place) → position (λ p. p.node.me == i) xs ≡ Some k → y ≡ restarted (get_or xs k d) → set xs k y ≡ restarted_at i xs
-restarted_there xs i k d y found is =
+pub restarted_there : (xs : List Place) (i now k : ℕ) (d y : Place) → position (λ p. p.node.me == i) xs ≡ Some k → y ≡ restarted now (get_or xs k d) → set xs k y ≡ restarted_at i now xs
+restarted_there xs i now k d y found is =
     put_found xs i k d y found (ap (λ (p : Place). p.node.me) is)
-    ∙ (ap (λ (p : Place). put p xs) is ∙ ap (λ o. put_restarted o xs) (sym (found_there xs i k d found)))
+    ∙ (ap (λ (p : Place). put p xs) is ∙ ap (λ o. put_restarted now o xs) (sym (found_there xs i k d found)))
 
-pub restarted_nowhere : (xs : List Place) (i : ℕ) → position (λ p. p.node.me == i) xs ≡ None → xs ≡ restarted_at i xs
-restarted_nowhere xs i none = ap (λ o. put_restarted o xs) (sym (none_there xs i none))
+pub restarted_nowhere : (xs : List Place) (i now : ℕ) → position (λ p. p.node.me == i) xs ≡ None → xs ≡ restarted_at i now xs
+restarted_nowhere xs i now none = ap (λ o. put_restarted now o xs) (sym (none_there xs i none))
 
 -- nothing changes
 set_same : (xs : List Place) (k : ℕ) (d y : Place) → k < length xs → y ≡ get_or xs k d → set xs k y ≡ xs

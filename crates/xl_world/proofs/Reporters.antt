@@ -1,5 +1,5 @@
 -- Each reporting node stands in the world under the list of its report, and its number is a member's.
-use Rattle.std.proofs.Common.{◌≡◌, ℕ, ◌≤◌, Bool, true, false, List, [], ◌∷◌, refl, ap, sym, ◌∙◌, Option, Some, None, subst}
+use Rattle.std.proofs.Common.{◌≡◌, ℕ, ◌≤◌, true, false, List, [], ◌∷◌, refl, ap, sym, ◌∙◌, Option, Some, None, subst}
 use Rattle.std.specs.Prelude.{◌==◌, All, map, find, option_map, is_some, slice_index_or}
 use Rattle.std.proofs.lemmas.Bool.{cond_both, cond-true, cond-false, eqb-true}
 use Rattle.std.proofs.lemmas.List.Elements.{All-head, All-tail}
@@ -8,8 +8,9 @@ use Rattle.xl_lists.specs.Agreement.{Report as Reported}
 use Rattle.xl_core.specs.Node.{Event}
 use Rattle.xl_world.specs.declared.place.Place.{Place}
 use Rattle.xl_world.specs.declared.plan.PlanNode.{PlanNode}
-use Rattle.xl_world.specs.Keeper.{may_hold, after_save}
-use Rattle.xl_world.specs.World.{World, Step, Act, Again, Torn, place_at, put, acts, reopened, again, torn, asked_at, step, run, place_of, start, IsDeclared, AreDeclared, list_at, list_in, IsRun}
+use Rattle.xl_world.specs.declared.place.Fate.{Fate}
+use Rattle.xl_world.specs.Keeper.{may_hold}
+use Rattle.xl_world.specs.World.{World, Step, Act, Again, Torn, place_at, put, acts, moment_in, reopened, again, torn, asked_at, step, run, place_of, start, IsDeclared, AreDeclared, list_at, list_in, IsRun}
 use Rattle.xl_world.proofs.Lists.{HasLists, run_lists, start_lists}
 
 -- a place that is put is found where one of its number was, and nowhere else
@@ -28,23 +29,23 @@ put_present j q (y ∷ ys) =
 abbrev StandsSame : World → World → Type 0
 StandsSame w v = (j : ℕ) → is_some (place_at j v.places) ≡ is_some (place_at j w.places)
 
-acts_present : (w : World) (i : ℕ) (e : Event) (saved : Bool) (o : Option Place) → StandsSame w (acts w i e saved o)
-acts_present w i e saved None j = refl
-acts_present w i e saved (Some p) j = put_present j _ w.places
+acts_present : (w : World) (i : ℕ) (e : Event) (fate : Fate) (o : Option Place) → StandsSame w (acts w i e fate o)
+acts_present w i e fate None j = refl
+acts_present w i e fate (Some p) j = put_present j _ w.places
 
-again_present : (w : World) (i number : ℕ) (o : Option Place) → StandsSame w (again w i number o)
-again_present w i number None j = refl
-again_present w i number (Some p) j = cond_both (may_hold p.keeper number) (reopened w i p.node number) w (λ v. is_some (place_at j v.places) ≡ is_some (place_at j w.places)) (λ _. put_present j _ w.places) (λ _. refl)
+again_present : (w : World) (i now number : ℕ) (o : Option Place) → StandsSame w (again w i now number o)
+again_present w i now number None j = refl
+again_present w i now number (Some p) j = cond_both (may_hold p.keeper number) (reopened w i p now number) w (λ v. is_some (place_at j v.places) ≡ is_some (place_at j w.places)) (λ _. put_present j _ w.places) (λ _. refl)
 
-torn_present : (w : World) (i number : ℕ) (o : Option Place) (asked : Option ℕ) → StandsSame w (torn w i number o asked)
-torn_present w i number None asked j = refl
-torn_present w i number (Some p) None j = refl
-torn_present w i number (Some p) (Some s) j = cond_both (may_hold (after_save p.keeper (Some s) false) number) (reopened w i p.node number) w (λ v. is_some (place_at j v.places) ≡ is_some (place_at j w.places)) (λ _. put_present j _ w.places) (λ _. refl)
+torn_present : (w : World) (i now number : ℕ) (o : Option Place) (asked : Option ℕ) → StandsSame w (torn w i now number o asked)
+torn_present w i now number None asked j = refl
+torn_present w i now number (Some p) None j = refl
+torn_present w i now number (Some p) (Some s) j = again_present w i now number (Some (record { node = p.node; keeper = record p.keeper { asked = Some s } })) j
 
 step_present : (w : World) (s : Step) → StandsSame w (step w s)
-step_present w (Act i e saved) j = acts_present w i e saved (place_at i w.places) j
-step_present w (Again i number) j = again_present w i number (place_at i w.places) j
-step_present w (Torn i e number) j = torn_present w i number (place_at i w.places) (asked_at (place_at i w.places) e) j
+step_present w (Act i e fate) j = acts_present w i e fate (place_at i w.places) j
+step_present w (Again i now number) j = again_present w i now number (place_at i w.places) j
+step_present w (Torn i e number) j = torn_present w i (moment_in e) number (place_at i w.places) (asked_at (place_at i w.places) e) j
 
 run_present : (w : World) (ss : List Step) → StandsSame w (run w ss)
 run_present w [] j = refl

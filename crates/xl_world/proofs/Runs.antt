@@ -1,10 +1,9 @@
 -- Each step of an unforged run keeps what is kept, so reports agree.
-use Rattle.std.proofs.Common.{◌≡◌, ℕ, ◌+◌, ◌<◌, ◌≤◌, Bool, true, false, cond, List, [], ◌∷◌, ◌++◌, length, refl, arith, ap, sym, ◌∙◌, inl, inr, Option, Some, None, Ok, subst}
+use Rattle.std.proofs.Common.{◌≡◌, ℕ, ◌+◌, ◌<◌, ◌≤◌, Bool, true, false, cond, List, [], ◌∷◌, ◌++◌, length, refl, arith, ap, sym, ◌∙◌, inl, inr, Option, Some, None, subst}
 use Rattle.std.specs.Prelude.{◌==◌, ◌&&◌, ◌⊎◌, All, IfSome, nat_le, not, slice_index_or, map, filter}
 use Rattle.std.specs.List.{list_any}
-use Rattle.std.proofs.lemmas.Bool.{and_parts, or_left, or_cases, eqb-true, cond_both}
+use Rattle.std.proofs.lemmas.Bool.{or_left, or_cases, eqb-true, cond_both}
 use Rattle.std.proofs.lemmas.List.Elements.{All-map, All-head, All-tail, All-nil}
-use Rattle.xl_base.specs.declared.ids.LedgerId.{LedgerId}
 use Rattle.std.proofs.lemmas.Slice.Eq.{bytes_eq-Decides}
 use Rattle.xl_lists.specs.Lists.{is_on}
 use Rattle.xl_wire.specs.Heads.{split_of}
@@ -13,21 +12,21 @@ use Rattle.xl_wire.specs.Raws.{RawFrame}
 use Rattle.xl_tags.specs.Opening.{is_sealed}
 use Rattle.xl_tags.specs.Rings.{schedule_ring}
 use Rattle.xl_wire.specs.Bodies.{body_of}
-use Rattle.xl_core.specs.declared.hearing.Spoken.{Spoken}
 use Rattle.xl_core.specs.declared.hearing.Speech.TheVariants.{Vote}
 use Rattle.xl_core.specs.Hearing.{heard}
 use Rattle.xl_core.proofs.Heard.{IsHeard, heard_parts, body_from}
 use Rattle.xl_world.proofs.Speaking.{heard_said}
 use Rattle.xl_world.specs.declared.sent.Sent.{Sent}
 use Rattle.xl_lists.specs.Agreement.{Said, Report as Reported, IsGenuine, IsBacked, Agree}
-use Rattle.xl_lists.proofs.Agreement.{agreement_from_kept, vouches_still, same_id-true}
+use Rattle.xl_lists.proofs.Agreement.{agreement_from_kept, vouches_still}
 use Rattle.xl_wire.specs.declared.validation.Validation.{Validation}
-use Rattle.xl_core.specs.Node.{Node, Event, Issue, Frame, Reply, asks, happens, opened}
+use Rattle.xl_core.specs.Node.{Node, Event, Issue, Frame, Reply, Save, asks, happens}
 use Rattle.xl_world.specs.declared.place.Keeper.{Keeper}
-use Rattle.xl_world.specs.Keeper.{MayHold, may_hold, is_asked, holding, after_save}
+use Rattle.xl_world.specs.declared.place.Fate.{Fate}
+use Rattle.xl_world.specs.Keeper.{MayHold, one_more, may_hold, is_asked, holding, restored, answer_of, after_save}
 use Rattle.xl_world.specs.declared.place.Place.{Place}
 use Rattle.xl_world.specs.declared.plan.PlanNode.{PlanNode}
-use Rattle.xl_world.specs.World.{World, Step, Act, Again, Torn, place_at, said_by, said_in, was_sent, forges, is_forged, one_more, acts, reopened, quiet, again, torn, asked_at, step, run, place_of, start, is_declared, all_numbers, AreDeclared, FrameSays, NodeSays, Stands, IsRun}
+use Rattle.xl_world.specs.World.{World, Step, Act, Again, Torn, place_at, said_by, said_in, was_sent, forges, is_forged, acts, reopened, quiet, place_again, moment_in, again, torn, asked_at, step, run, place_of, start, is_declared, all_numbers, AreDeclared, FrameSays, NodeSays, Stands, IsRun}
 use Rattle.xl_world.proofs.Settling.{IsWell, IsSound, ReplySays, GenuineThen, spoken, settled_sound, issued_genuine, node_weaker, at_its_number, some_same}
 use Rattle.xl_world.proofs.NodeSteps.{happens_steps, happens_says, HeardSays, heard_weaker, opened_says, opened_well, opened_steps, asks_above, failed_rises}
 
@@ -72,15 +71,16 @@ never_none k h = omega (arith, h)
 
 -- THE STEPS
 
-act_sound : (w : World) (i : ℕ) (e : Event) (saved : Bool) → IsSound w → (o : Option Place) → place_at i w.places ≡ o → (acts w i e saved o).forged ≡ 0 → IsSound (acts w i e saved o)
-act_sound w i e saved sound None at same = sound
-act_sound w i e saved sound (Some p) at same =
+act_sound : (w : World) (i : ℕ) (e : Event) (fate : Fate) → IsSound w → (o : Option Place) → place_at i w.places ≡ o → (acts w i e fate o).forged ≡ 0 → IsSound (acts w i e fate o)
+act_sound w i e fate sound None at same = sound
+act_sound w i e fate sound (Some p) at same =
     let its : p.node.me ≡ i = at_its_number i w.places p at in
-    let r : Reply = happens p.node e saved in
+    let save : Save = answer_of p.keeper fate in
+    let r : Reply = happens p.node e save in
     let still = λ (x : Said). vouches_still w.liars w.said (spoken i r.issued) x.member x.seq x.id in
-    settled_sound w i (is_forged w p.node e) p r (after_save p.keeper (asks p.node e) saved) at (happens_steps p e saved (sound.well i p at))
+    settled_sound w i (is_forged w p.node e) p r (after_save p.keeper (asks p.node e) fate) at (happens_steps p e fate (sound.well i p at))
     (subst (λ m. ReplySays (GenuineThen w i r) m r) its
-    (happens_says (GenuineThen w i r) p.node e saved
+    (happens_says (GenuineThen w i r) p.node e save
     (node_weaker (IsGenuine w.liars w.said) (GenuineThen w i r) still p.node (sound.kept.genuine.places i p at))
     (heard_weaker (IsGenuine w.liars w.said) (GenuineThen w i r) still p.node e (heard_genuine w p.node sound.kept.genuine e (not_forged (is_forged w p.node e) w.forged same)))
     (subst (λ m. IfSome r.issued (λ v. GenuineThen w i r (said_by m v))) (sym its) (issued_genuine w.liars w.said i r.issued))))
@@ -99,34 +99,35 @@ may_hold-true : (k : Keeper) (n : ℕ) → may_hold k n ≡ true → MayHold k n
 may_hold-true k n h = elim (or_cases (n == k.in_force) (is_asked k.asked n) h) [ inl e ↦ inl (eqb-true n k.in_force e) | inr e ↦ inr (asked_holds n k.asked e) ]
 
 -- a node opened again with a number that is not below its keeper's
-reopened_sound : (w : World) (i number : ℕ) → IsSound w → (p : Place) → place_at i w.places ≡ Some p → (k : ℕ) × (k ≤ number) × MayHold p.keeper k → IsSound (reopened w i p.node number)
-reopened_sound w i number sound p at low =
-    settled_sound w i false p (quiet (opened p.node.me p.node.list p.node.keys p.node.ledgers.limit number)) (holding number) at
-    (opened_steps p number (sound.well i p at) low)
-    (record { node = opened_says (IsGenuine w.liars w.said) p.node.me p.node.list p.node.keys p.node.ledgers.limit number; issued = tt }) sound
+reopened_sound : (w : World) (i now number : ℕ) → IsSound w → (p : Place) → place_at i w.places ≡ Some p → (k : ℕ) × (k ≤ number) × MayHold p.keeper k → (asked : Option ℕ) →
+    IsSound (reopened w i (record { node = p.node; keeper = record p.keeper { asked = asked } }) now number)
+reopened_sound w i now number sound p at low asked =
+    settled_sound w i false p (quiet (place_again p now number).node) (restored p.keeper number) at
+    (opened_steps p now number (sound.well i p at) low)
+    (record { node = opened_says (IsGenuine w.liars w.said) p.node.me p.node.list p.node.keys p.node.ledgers.limit now number; issued = tt }) sound
 
-again_sound : (w : World) (i number : ℕ) → IsSound w → (o : Option Place) → place_at i w.places ≡ o → IsSound (again w i number o)
-again_sound w i number sound None at = sound
-again_sound w i number sound (Some p) at =
-    cond_both (may_hold p.keeper number) (reopened w i p.node number) w IsSound
-    (λ e. reopened_sound w i number sound p at (number, omega arith, may_hold-true p.keeper number e)) (λ _. sound)
+again_sound : (w : World) (i now number : ℕ) → IsSound w → (o : Option Place) → place_at i w.places ≡ o → IsSound (again w i now number o)
+again_sound w i now number sound None at = sound
+again_sound w i now number sound (Some p) at =
+    cond_both (may_hold p.keeper number) (reopened w i p now number) w IsSound
+    (λ e. reopened_sound w i now number sound p at (number, omega arith, may_hold-true p.keeper number e) p.keeper.asked) (λ _. sound)
 
-torn_sound : (w : World) (i number : ℕ) → IsSound w → (p : Place) → place_at i w.places ≡ Some p → (asked : Option ℕ) → IfSome asked (λ s. p.node.kept < s) → IsSound (torn w i number (Some p) asked)
-torn_sound w i number sound p at None above = sound
-torn_sound w i number sound p at (Some s) above =
-    cond_both (may_hold (after_save p.keeper (Some s) false) number) (reopened w i p.node number) w IsSound
-    (λ e. reopened_sound w i number sound p at
-    (failed_rises p.keeper s number (omega (arith, above, (sound.well i p at).in_force)) (may_hold-true (after_save p.keeper (Some s) false) number e)))
+torn_sound : (w : World) (i now number : ℕ) → IsSound w → (p : Place) → place_at i w.places ≡ Some p → (asked : Option ℕ) → IfSome asked (λ s. p.node.kept < s) → IsSound (torn w i now number (Some p) asked)
+torn_sound w i now number sound p at None above = sound
+torn_sound w i now number sound p at (Some s) above =
+    let k : Keeper = record p.keeper { asked = Some s } in
+    cond_both (may_hold k number) (reopened w i (record { node = p.node; keeper = k }) now number) w IsSound
+    (λ e. reopened_sound w i now number sound p at (failed_rises p.keeper s number (omega (arith, above, (sound.well i p at).in_force)) (may_hold-true k number e)) (Some s))
     (λ _. sound)
 
-torn_at : (w : World) (i number : ℕ) (e : Event) → IsSound w → (o : Option Place) → place_at i w.places ≡ o → IsSound (torn w i number o (asked_at o e))
-torn_at w i number e sound None at = sound
-torn_at w i number e sound (Some p) at = torn_sound w i number sound p at (asks p.node e) (asks_above p.node e)
+torn_at : (w : World) (i now number : ℕ) (e : Event) → IsSound w → (o : Option Place) → place_at i w.places ≡ o → IsSound (torn w i now number o (asked_at o e))
+torn_at w i now number e sound None at = sound
+torn_at w i now number e sound (Some p) at = torn_sound w i now number sound p at (asks p.node e) (asks_above p.node e)
 
 step_sound : (w : World) (s : Step) → (step w s).forged ≡ 0 → IsSound w → IsSound (step w s)
-step_sound w (Act i e saved) same sound = act_sound w i e saved sound (place_at i w.places) refl same
-step_sound w (Again i number) same sound = again_sound w i number sound (place_at i w.places) refl
-step_sound w (Torn i e number) same sound = torn_at w i number e sound (place_at i w.places) refl
+step_sound w (Act i e fate) same sound = act_sound w i e fate sound (place_at i w.places) refl same
+step_sound w (Again i now number) same sound = again_sound w i now number sound (place_at i w.places) refl
+step_sound w (Torn i e number) same sound = torn_at w i (moment_in e) number e sound (place_at i w.places) refl
 
 -- WHAT STAYS OVER A RUN
 
@@ -135,24 +136,24 @@ pub record Stays (w v : World) : Type 0 where
   pub liars : v.liars ≡ w.liars
   pub forged : v.forged ≡ 0 → w.forged ≡ 0
 
-acts_stays : (w : World) (i : ℕ) (e : Event) (saved : Bool) (o : Option Place) → Stays w (acts w i e saved o)
-acts_stays w i e saved None = record { liars = refl; forged = λ h. h }
-acts_stays w i e saved (Some p) = record { liars = refl; forged = cond_both (is_forged w p.node e) (one_more w.forged) w.forged (λ k. k ≡ 0 → w.forged ≡ 0) (λ _ h. absurd (never_none w.forged h)) (λ _ h. h) }
+acts_stays : (w : World) (i : ℕ) (e : Event) (fate : Fate) (o : Option Place) → Stays w (acts w i e fate o)
+acts_stays w i e fate None = record { liars = refl; forged = λ h. h }
+acts_stays w i e fate (Some p) = record { liars = refl; forged = cond_both (is_forged w p.node e) (one_more w.forged) w.forged (λ k. k ≡ 0 → w.forged ≡ 0) (λ _ h. absurd (never_none w.forged h)) (λ _ h. h) }
 
-again_stays : (w : World) (i number : ℕ) (o : Option Place) → Stays w (again w i number o)
-again_stays w i number None = record { liars = refl; forged = λ h. h }
-again_stays w i number (Some p) =
-    cond_both (may_hold p.keeper number) (reopened w i p.node number) w (Stays w) (λ _. record { liars = refl; forged = λ h. h }) (λ _. record { liars = refl; forged = λ h. h })
+again_stays : (w : World) (i now number : ℕ) (o : Option Place) → Stays w (again w i now number o)
+again_stays w i now number None = record { liars = refl; forged = λ h. h }
+again_stays w i now number (Some p) =
+    cond_both (may_hold p.keeper number) (reopened w i p now number) w (Stays w) (λ _. record { liars = refl; forged = λ h. h }) (λ _. record { liars = refl; forged = λ h. h })
 
-torn_stays : (w : World) (i number : ℕ) (o : Option Place) (asked : Option ℕ) → Stays w (torn w i number o asked)
-torn_stays w i number None asked = record { liars = refl; forged = λ h. h }
-torn_stays w i number (Some p) None = record { liars = refl; forged = λ h. h }
-torn_stays w i number (Some p) (Some s) = again_stays w i number (Some (record { node = p.node; keeper = after_save p.keeper (Some s) false }))
+torn_stays : (w : World) (i now number : ℕ) (o : Option Place) (asked : Option ℕ) → Stays w (torn w i now number o asked)
+torn_stays w i now number None asked = record { liars = refl; forged = λ h. h }
+torn_stays w i now number (Some p) None = record { liars = refl; forged = λ h. h }
+torn_stays w i now number (Some p) (Some s) = again_stays w i now number (Some (record { node = p.node; keeper = record p.keeper { asked = Some s } }))
 
 pub step_stays : (w : World) (s : Step) → Stays w (step w s)
-step_stays w (Act i e saved) = acts_stays w i e saved (place_at i w.places)
-step_stays w (Again i number) = again_stays w i number (place_at i w.places)
-step_stays w (Torn i e number) = torn_stays w i number (place_at i w.places) (asked_at (place_at i w.places) e)
+step_stays w (Act i e fate) = acts_stays w i e fate (place_at i w.places)
+step_stays w (Again i now number) = again_stays w i now number (place_at i w.places)
+step_stays w (Torn i e number) = torn_stays w i (moment_in e) number (place_at i w.places) (asked_at (place_at i w.places) e)
 
 pub run_stays : (w : World) (ss : List Step) → Stays w (run w ss)
 run_stays w [] = record { liars = refl; forged = λ h. h }
@@ -180,12 +181,12 @@ start_sound limit liars plan lists = record {
     once = λ m s a b said _. cc;
     genuine = record {
       places = λ i p h. each_at (λ x. NodeSays (IsGenuine liars []) x.node) i _ p
-          (All-map (λ x. NodeSays (IsGenuine liars []) x.node) (place_of limit) plan (λ k e _. let d : PlanNode = slice_index_or plan k e in opened_says (IsGenuine liars []) d.me d.list (schedule_ring d.me) limit 0)) h;
+          (All-map (λ x. NodeSays (IsGenuine liars []) x.node) (place_of limit) plan (λ k e _. let d : PlanNode = slice_index_or plan k e in opened_says (IsGenuine liars []) d.me d.list (schedule_ring d.me) limit 1000 0)) h;
       sent = All-nil (FrameSays (IsGenuine liars []));
     };
     backed = All-nil (IsBacked liars []);
   };
-  well = λ i p h. each_at IsWell i _ p (All-map IsWell (place_of limit) plan (λ k e in_plan. let d : PlanNode = slice_index_or plan k e in opened_well d.me d.list (schedule_ring d.me) limit 0 (lists k e in_plan).list)) h;
+  well = λ i p h. each_at IsWell i _ p (All-map IsWell (place_of limit) plan (λ k e in_plan. let d : PlanNode = slice_index_or plan k e in opened_well d.me d.list (schedule_ring d.me) limit 1000 0 (holding 0) (lists k e in_plan).list refl)) h;
 }
 
 -- reports agree, in each unforged run

@@ -1,9 +1,17 @@
--- What outlives a stop of a node: the number in force, and after a save that failed the one that was asked.
--- Source: this profile, by which a stop in a save may leave either number.
-use Rattle.std.specs.Prelude.{◌≡◌, ℕ, ◌==◌, ◌||◌, Bool, true, false, ◌⊎◌}
+-- What outlives a stop of a node: the number in force, and after a save that failed the one that was asked, and whether that was
+-- written all the same. Source: this profile, by which a stop in a save may leave either number.
+use Rattle.std.specs.Prelude.{◌≡◌, ℕ, ◌+◌, ◌-◌, ◌^◌, ◌==◌, ◌||◌, min, Bool, true, false, ◌⊎◌, unwrap_or, if◌then◌else◌}
 use Rattle.std.specs.Prelude.{Some, None}
 use Rattle.std.specs.declared.option.Option.{Option}
+use Rattle.xl_core.specs.Node.{Save}
+use Rattle.xl_core.specs.Node.Save.{Kept as AnsweredOk, Failed as AnsweredFailed}
 use Rattle.xl_world.specs.declared.place.Keeper.{Keeper}
+use Rattle.xl_world.specs.declared.place.Fate.{Fate}
+use Rattle.xl_world.specs.declared.place.Fate.TheVariants.{Kept, Unwritten, Written}
+
+-- one more, up to where a count ends
+abbrev pub one_more : ℕ → ℕ
+one_more n = min (n + 1) (2 ^ 64 - 1)
 
 -- a stop at this moment may leave this number
 abbrev pub MayHold : Keeper → ℕ → Type 0
@@ -17,11 +25,36 @@ is_asked (Some s) n = s == n
 abbrev pub may_hold : Keeper → ℕ → Bool
 may_hold k n = n == k.in_force || is_asked k.asked n
 
+-- a keeper that holds this number alone
 abbrev pub holding : ℕ → Keeper
-holding n = record { in_force = n; asked = None }
+holding n = record { in_force = n; asked = None; written = false; faults = 0 }
 
--- the keeper after an event that asks this save, or none, and whether it was saved
-abbrev pub after_save : Keeper → Option ℕ → Bool → Keeper
-after_save k None saved = k
-after_save k (Some s) true = holding s
-after_save k (Some s) false = record { in_force = k.in_force; asked = Some s }
+-- the keeper when its node is opened again with this number
+abbrev pub restored : Keeper → ℕ → Keeper
+restored k n = record k { in_force = n; asked = None; written = false }
+
+-- how a save is answered that meets this fate
+abbrev pub answer_of : Keeper → Fate → Save
+answer_of k Kept = AnsweredOk
+answer_of k Unwritten = AnsweredFailed (one_more k.faults)
+answer_of k Written = AnsweredFailed (one_more k.faults)
+
+abbrev pub after_failed : Keeper → ℕ → Bool → Keeper
+after_failed k s written = record k { asked = Some s; written = written; faults = one_more k.faults }
+
+-- the keeper after an event that asks this save, or none
+abbrev pub after_save : Keeper → Option ℕ → Fate → Keeper
+after_save k None fate = k
+after_save k (Some s) Kept = restored k s
+after_save k (Some s) Unwritten = after_failed k s false
+after_save k (Some s) Written = after_failed k s true
+
+-- whether a save that meets this fate is answered with Ok
+abbrev pub answers_ok : Fate → Bool
+answers_ok Kept = true
+answers_ok Unwritten = false
+answers_ok Written = false
+
+-- the number that a restart finds
+abbrev pub found : Keeper → ℕ
+found k = if k.written then unwrap_or k.asked k.in_force else k.in_force

@@ -1,7 +1,7 @@
 -- A network of honest nodes and liars, and its runs. Whatever was ever sent may be delivered never, once or often, at any later
 -- place: so runs have every loss, repetition and reordering.
 -- Source: Chase and MacBrough, "Analysis of the XRP Ledger Consensus Protocol" (2018); restarts and keepers by this profile.
-use Rattle.std.specs.Prelude.{◌≤◌, ◌≡◌, ℕ, ◌+◌, ◌-◌, ◌^◌, ◌==◌, ◌&&◌, ◌||◌, nat_le, min, Bool, false, not, List, [], ◌∷◌, ◌++◌, zero, suc, length, map, filter, All, IfSome, option_map, option_to_list, find, if◌then◌else◌}
+use Rattle.std.specs.Prelude.{◌≤◌, ◌≡◌, ℕ, ◌+◌, ◌==◌, ◌&&◌, ◌||◌, nat_le, Bool, false, not, List, [], ◌∷◌, ◌++◌, zero, suc, length, map, filter, All, IfSome, option_map, option_to_list, find, if◌then◌else◌}
 use Rattle.std.specs.Prelude.{Some, None, Result, Ok, Err}
 use Rattle.std.specs.declared.option.Option.{Option}
 use Rattle.std.specs.List.{list_any}
@@ -28,7 +28,8 @@ use Rattle.xl_world.specs.declared.sent.Sent.{Sent}
 use Rattle.xl_world.specs.declared.place.Keeper.{Keeper}
 use Rattle.xl_world.specs.declared.plan.PlanNode.{PlanNode}
 use Rattle.xl_world.specs.declared.place.Place.{Place}
-use Rattle.xl_world.specs.Keeper.{MayHold, holding, after_save, may_hold}
+use Rattle.xl_world.specs.declared.place.Fate.{Fate}
+use Rattle.xl_world.specs.Keeper.{MayHold, one_more, holding, restored, answer_of, after_save, may_hold}
 
 pub record World : Type 0 where
   pub liars : List ℕ
@@ -44,11 +45,11 @@ pub record World : Type 0 where
   -- how many sealed frames came that no liar signed and nobody had sent; the count ends at the greatest `u64`
   pub forged : ℕ
 
--- What may happen next: something at a node, whose save may fail; a node is opened again; or it stops in the event's save,
--- and is opened again with what that leaves.
+-- What may happen next: something at a node, whose save meets some fate; a node is opened again at a moment; or it stops in the
+-- event's save, and is opened again with what that leaves.
 pub data Step : Type 0 where
-  Act : (i : ℕ) (event : Event) (saved : Bool) → Step
-  Again : (i number : ℕ) → Step
+  Act : (i : ℕ) (event : Event) (fate : Fate) → Step
+  Again : (i now number : ℕ) → Step
   Torn : (i : ℕ) (event : Event) (number : ℕ) → Step
 
 -- the place of a number
@@ -95,10 +96,6 @@ abbrev pub is_forged : World → Node → Event → Bool
 is_forged w n (Issue now seq id full) = false
 is_forged w n (Frame now bytes) = forges w.liars w.sent n.keys bytes (split_of bytes)
 
--- one more, up to where a count ends
-abbrev pub one_more : ℕ → ℕ
-one_more n = min (n + 1) (2 ^ 64 - 1)
-
 -- the world after what came of an event at a node, with its keeper then
 abbrev pub settled : World → ℕ → Bool → Reply → Keeper → World
 settled w i forged r keeper = record {
@@ -111,40 +108,48 @@ settled w i forged r keeper = record {
   forged = if forged then one_more w.forged else w.forged;
 }
 
-abbrev pub acts : World → ℕ → Event → Bool → Option Place → World
-acts w i event saved None = w
-acts w i event saved (Some p) = settled w i (is_forged w p.node event) (happens p.node event saved) (after_save p.keeper (asks p.node event) saved)
+abbrev pub acts : World → ℕ → Event → Fate → Option Place → World
+acts w i event fate None = w
+acts w i event fate (Some p) = settled w i (is_forged w p.node event) (happens p.node event (answer_of p.keeper fate)) (after_save p.keeper (asks p.node event) fate)
 
 -- the place of a node after an event
-abbrev pub place_after : Place → Event → Bool → Place
-place_after p event saved = record { node = (happens p.node event saved).node; keeper = after_save p.keeper (asks p.node event) saved }
+abbrev pub place_after : Place → Event → Fate → Place
+place_after p event fate = record { node = (happens p.node event (answer_of p.keeper fate)).node; keeper = after_save p.keeper (asks p.node event) fate }
 
 -- a node that is opened says and reports nothing
 abbrev pub quiet : Node → Reply
 quiet n = record { node = n; refused = None; issued = None; report = None }
 
--- the node opened again with this number, which its keeper then holds alone
-abbrev pub reopened : World → ℕ → Node → ℕ → World
-reopened w i n number = settled w i false (quiet (opened n.me n.list n.keys n.ledgers.limit number)) (holding number)
+-- the place opened again with this number, which its keeper then holds alone
+abbrev pub place_again : Place → ℕ → ℕ → Place
+place_again p now number = record { node = opened p.node.me p.node.list p.node.keys p.node.ledgers.limit now number; keeper = restored p.keeper number }
 
-abbrev pub again : World → ℕ → ℕ → Option Place → World
-again w i number None = w
-again w i number (Some p) = if may_hold p.keeper number then reopened w i p.node number else w
+abbrev pub reopened : World → ℕ → Place → ℕ → ℕ → World
+reopened w i p now number = settled w i false (quiet (place_again p now number).node) (restored p.keeper number)
+
+abbrev pub again : World → ℕ → ℕ → ℕ → Option Place → World
+again w i now number None = w
+again w i now number (Some p) = if may_hold p.keeper number then reopened w i p now number else w
 
 -- only an event that asks a save can be torn
-abbrev pub torn : World → ℕ → ℕ → Option Place → Option ℕ → World
-torn w i number None asked = w
-torn w i number (Some p) None = w
-torn w i number (Some p) (Some s) = again w i number (Some (record { node = p.node; keeper = after_save p.keeper (Some s) false }))
+abbrev pub torn : World → ℕ → ℕ → ℕ → Option Place → Option ℕ → World
+torn w i now number None asked = w
+torn w i now number (Some p) None = w
+torn w i now number (Some p) (Some s) = again w i now number (Some (record { node = p.node; keeper = record p.keeper { asked = Some s } }))
+
+-- the moment of an event at a node
+abbrev pub moment_in : Event → ℕ
+moment_in (Issue now seq id full) = now
+moment_in (Frame now bytes) = now
 
 abbrev pub asked_at : Option Place → Event → Option ℕ
 asked_at None event = None
 asked_at (Some p) event = asks p.node event
 
 abbrev pub step : World → Step → World
-step w (Act i event saved) = acts w i event saved (place_at i w.places)
-step w (Again i number) = again w i number (place_at i w.places)
-step w (Torn i event number) = torn w i number (place_at i w.places) (asked_at (place_at i w.places) event)
+step w (Act i event fate) = acts w i event fate (place_at i w.places)
+step w (Again i now number) = again w i now number (place_at i w.places)
+step w (Torn i event number) = torn w i (moment_in event) number (place_at i w.places) (asked_at (place_at i w.places) event)
 
 abbrev pub run : World → List Step → World
 run w [] = w
@@ -164,7 +169,7 @@ is_declared liars plan k = list_any (λ d. d.me == k) plan || is_on liars k
 
 -- a node with room for so many ledgers, and its keeper
 abbrev pub place_of : ℕ → PlanNode → Place
-place_of limit d = record { node = opened d.me d.list (schedule_ring d.me) limit 0; keeper = holding 0 }
+place_of limit d = record { node = opened d.me d.list (schedule_ring d.me) limit 1000 0; keeper = holding 0 }
 
 -- the network at the start
 abbrev pub start : ℕ → List ℕ → List PlanNode → World

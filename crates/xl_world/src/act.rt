@@ -1,31 +1,38 @@
 // What an event does to one place, and what comes of it.
-ghost use Rattle.std.specs.Prelude.{◌≡◌, ◌==◌, true, Some, None, OnOk, OnErr, option_copied, option_map, position};
+ghost use Rattle.std.specs.Prelude.{◌≡◌, ◌≤◌, ◌==◌, Some, None, OnOk, OnErr, option_copied, option_map, position};
 ghost use Rattle.xl_core.specs.Node.{happens, preferred, Issue, Frame};
+ghost use Rattle.xl_base.specs.declared.moments.TheConstants.{GREATEST_MILLIS};
+ghost use Rattle.xl_core.specs.Node.Save.{Kept as AnsweredOk};
+ghost use Rattle.xl_core.specs.Replies.{issue_reply};
+ghost use Rattle.xl_world.specs.declared.place.Fate.TheVariants.{Kept};
+ghost use Rattle.xl_world.specs.Keeper.{answer_of};
 ghost use Rattle.xl_world.specs.declared.outcome.Outcome.TheVariants.{Preferred};
-ghost use Rattle.xl_world.specs.World.{reported_by, place_after, place_at};
-ghost use Rattle.xl_world.specs.Seen.{report_seen, event_seen, IsAnswer, acted_at, AnswersAt, restarted, restarted_at};
+ghost use Rattle.xl_world.specs.World.{reported_by, moment_in, place_after, place_at};
+ghost use Rattle.xl_world.specs.Seen.{report_seen, issue_seen, event_seen, IsAnswer, acted_at, AnswersAt, restarted, restarted_at};
 
-use crate::place::{Keeper, Place};
+use crate::place::{Fate, Place};
+use crate::saving::Fated;
 use crate::{Outcome, WorldReport};
 use std::alloc::Global;
-use xl_base::{LedgerId, NodeNo, OutOfMemory, Secs, Seq};
-use xl_core::{Core, Refusal, Report};
+use xl_base::{LedgerId, Millis, NodeNo, OutOfMemory, Seq};
+use xl_core::{Core, Issued, Refusal, Report};
 use xl_lists::List;
 use xl_wire::Validation;
+
+/// The ledger of a sequence that a node is asked to issue its validation of.
+#[derive(Clone, Copy, Debug)]
+pub struct Asked {
+    pub moment: Millis,
+    pub seq: Seq,
+    pub id: LedgerId,
+    pub full: bool,
+}
 
 /// What may happen at a node.
 #[derive(Clone, Copy, Debug)]
 pub enum NodeEvent<'a> {
-    Issue {
-        now: Secs,
-        seq: Seq,
-        id: LedgerId,
-        full: bool,
-    },
-    Frame {
-        now: Secs,
-        bytes: &'a [u8],
-    },
+    Issue(Asked),
+    Frame { now: Millis, bytes: &'a [u8] },
 }
 
 /// What came of an event at a node.
@@ -65,28 +72,46 @@ fn report_under(node: &Core, report: Option<Report>) -> Option<WorldReport>
     }
 }
 
-/// A node is asked to issue: its keeper holds the sequence before anything is said.
-fn issue(place: &mut Place, now: Secs, seq: Seq, id: LedgerId, full: bool) -> Answer
-    ensures place { place.new ≡ place_after place.old (Issue now seq id full) true }
-    ensures answer { IsAnswer result (happens place.old.node (Issue now seq id full) true) }
+/// What came of a node's issue.
+fn issued(node: &Core, outcome: Result<Issued, Refusal>) -> Answer
+    ensures { IsAnswer result (issue_reply outcome node.now) }
 {
-    match place.node.issue(now, seq, id, full) {
-        Ok(issued) => {
-            place.keeper = Keeper::holding(seq);
-            Answer {
-                refused: None,
-                issued: Some(issued.validation),
-                report: report_under(&place.node, issued.report),
-            }
-        }
+    match outcome {
+        Ok(issued) => Answer {
+            refused: None,
+            issued: Some(issued.validation),
+            report: report_under(node, issued.report),
+        },
         Err(refusal) => Answer::refusing(refusal),
     }
 }
 
+/// A node is asked to issue: its keeper holds the sequence before anything is said.
+fn issue(place: &mut Place, asked: &Asked, fate: Fate) -> Answer
+    requires { asked.now.moment ≤ GREATEST_MILLIS }
+    ensures place { place.new ≡ place_after place.old (issue_seen asked.now) fate }
+    ensures answer { IsAnswer result (happens place.old.node (issue_seen asked.now) (answer_of place.old.keeper fate)) }
+{
+    let Asked {
+        moment,
+        seq,
+        id,
+        full,
+    } = *asked;
+    let mut fated = Fated {
+        keeper: place.keeper,
+        fate,
+    };
+    let outcome = place.node.issue(moment, seq, id, full, &mut fated);
+    place.keeper = fated.keeper;
+    issued(&place.node, outcome)
+}
+
 /// Bytes come to a node.
-fn hear(place: &mut Place, now: Secs, bytes: &[u8]) -> Answer
-    ensures place { place.new ≡ place_after place.old (Frame now bytes.now) true }
-    ensures answer { IsAnswer result (happens place.old.node (Frame now bytes.now) true) }
+fn hear(place: &mut Place, now: Millis, bytes: &[u8]) -> Answer
+    requires { now ≤ GREATEST_MILLIS }
+    ensures place { place.new ≡ place_after place.old (Frame now bytes.now) Kept }
+    ensures answer { IsAnswer result (happens place.old.node (Frame now bytes.now) AnsweredOk) }
 {
     match place.node.frame(now, bytes) {
         Ok(report) => Answer {
@@ -98,13 +123,14 @@ fn hear(place: &mut Place, now: Secs, bytes: &[u8]) -> Answer
     }
 }
 
-/// An event at a place.
-pub fn act(place: &mut Place, event: &NodeEvent<'_>) -> Answer
-    ensures place { place.new ≡ place_after place.old (event_seen event.now) true }
-    ensures answer { IsAnswer result (happens place.old.node (event_seen event.now) true) }
+/// An event at a place, whose save meets a fate.
+pub fn act(place: &mut Place, event: &NodeEvent<'_>, fate: Fate) -> Answer
+    requires { moment_in (event_seen event.now) ≤ GREATEST_MILLIS }
+    ensures place { place.new ≡ place_after place.old (event_seen event.now) fate }
+    ensures answer { IsAnswer result (happens place.old.node (event_seen event.now) (answer_of place.old.keeper fate)) }
 {
     match event {
-        NodeEvent::Issue { now, seq, id, full } => issue(place, *now, *seq, *id, *full),
+        NodeEvent::Issue(asked) => issue(place, asked, fate),
         NodeEvent::Frame { now, bytes } => hear(place, *now, bytes),
     }
 }
@@ -146,41 +172,49 @@ pub fn preferred_at(places: &[Place], i: NodeNo) -> Option<Outcome>
 }
 
 /// An event at the node of a number, where there is one.
-pub fn act_at(places: &mut [Place], i: NodeNo, event: &NodeEvent<'_>) -> Option<Answer>
-    ensures places { places.new ≡ acted_at i (event_seen event.now) places.old }
-    ensures answer { AnswersAt i (event_seen event.now) places.old result }
+pub fn act_at(places: &mut [Place], i: NodeNo, event: &NodeEvent<'_>, fate: Fate) -> Option<Answer>
+    requires { moment_in (event_seen event.now) ≤ GREATEST_MILLIS }
+    ensures places { places.new ≡ acted_at i (event_seen event.now) fate places.old }
+    ensures answer { AnswersAt i (event_seen event.now) fate places.old result }
 {
     match place_of(places, i) {
         Some(k) => {
             let place = &mut places[k];
-            Some(act(place, event))
+            Some(act(place, event, fate))
         }
         None => None,
     }
 }
 
 /// Opens a node anew with the number that its keeper holds. An `Err` changes nothing.
-fn restart(alloc: Global, place: &mut Place) -> Result<(), OutOfMemory>
-    ensures ok { OnOk result (place.new ≡ restarted place.old) }
+fn restart(alloc: Global, place: &mut Place, now: Millis) -> Result<(), OutOfMemory>
+    requires { now ≤ GREATEST_MILLIS }
+    ensures ok { OnOk result (place.new ≡ restarted now place.old) }
     ensures err { OnErr result (place.new ≡ place.old) }
 {
-    let seq = place.keeper.in_force;
+    let seq = place.keeper.found();
     let (me, list, keys) = (place.node.me(), place.node.list(), place.node.keys());
     let limit = place.node.limit();
-    place.node = Core::open(alloc, me, list.copy(), keys.copy(), limit, seq)?;
-    place.keeper = Keeper::holding(seq);
+    place.node = Core::open(alloc, me, list.copy(), keys.copy(), limit, now, seq)?;
+    place.keeper = place.keeper.restored(seq);
     Ok(())
 }
 
 /// Opens the node of a number anew, where there is one. An `Err` changes nothing.
-pub fn restart_at(alloc: Global, places: &mut [Place], i: NodeNo) -> Result<(), OutOfMemory>
-    ensures ok { OnOk result (places.new ≡ restarted_at i places.old) }
+pub fn restart_at(
+    alloc: Global,
+    places: &mut [Place],
+    i: NodeNo,
+    now: Millis,
+) -> Result<(), OutOfMemory>
+    requires { now ≤ GREATEST_MILLIS }
+    ensures ok { OnOk result (places.new ≡ restarted_at i now places.old) }
     ensures err { OnErr result (places.new ≡ places.old) }
 {
     match place_of(places, i) {
         Some(k) => {
             let place = &mut places[k];
-            restart(alloc, place)
+            restart(alloc, place, now)
         }
         None => Ok(()),
     }

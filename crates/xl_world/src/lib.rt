@@ -18,6 +18,7 @@ mod outcome;
 mod place;
 mod plan;
 mod report;
+mod saving;
 mod sent;
 mod settle;
 mod world;

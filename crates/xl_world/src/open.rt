@@ -8,9 +8,12 @@ ghost use Rattle.xl_world.specs.World.{place_of, is_declared, all_numbers, AreDe
 use crate::place::{Keeper, Place};
 use crate::{Plan, PlanNode};
 use std::alloc::Global;
-use xl_base::{GREATEST_NODE_NO, NodeNo, OutOfMemory};
+use xl_base::{GREATEST_NODE_NO, Millis, NodeNo, OutOfMemory};
 use xl_core::Core;
 use xl_tags::Keys;
+
+/// The moment at which nodes are opened.
+const FIRST_MOMENT: Millis = 1_000;
 
 /// A node at its start, with room for so many ledgers, and its keeper.
 fn place(alloc: Global, limit: u32, node: &PlanNode) -> Result<Place, OutOfMemory>
@@ -20,7 +23,15 @@ fn place(alloc: Global, limit: u32, node: &PlanNode) -> Result<Place, OutOfMemor
 {
     let keys = Keys::of_schedule(node.me);
     Ok(Place {
-        node: Core::open(alloc, node.me, node.list.copy(), keys, limit, 0)?,
+        node: Core::open(
+            alloc,
+            node.me,
+            node.list.copy(),
+            keys,
+            limit,
+            FIRST_MOMENT,
+            0,
+        )?,
         keeper: Keeper::holding(0),
     })
 }

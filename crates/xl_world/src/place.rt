@@ -2,16 +2,30 @@ use xl_base::{LedgerId, NodeNo, Seq};
 use xl_core::Core;
 use xl_wire::Validation;
 
-/// What outlives a stop of a node: the number in force, and after a save that failed the one that was asked.
+/// How a save is answered, and what it leaves.
+#[derive(Clone, Copy, Debug, PartialEq, Eq)]
+pub enum Fate {
+    /// With Ok.
+    Kept,
+    /// With Failed; the former number stays.
+    Unwritten,
+    /// With Failed, though the number was written.
+    Written,
+}
+
+/// What outlives a stop of a node: the number in force; after a save that failed the one that was asked, and whether it was
+/// written all the same; and how often a save has failed, up to the greatest `u64`.
 #[derive(Clone, Copy, Debug, PartialEq, Eq)]
 pub struct Keeper {
     pub in_force: Seq,
     pub asked: Option<Seq>,
+    pub written: bool,
+    pub faults: u64,
 }
 
 impl Keeper {
-    ghost use Rattle.std.specs.Prelude.{◌≡◌};
-    ghost use Rattle.xl_world.specs.Keeper.{holding};
+    ghost use Rattle.std.specs.Prelude.{◌≡◌, ◌≤◌};
+    ghost use Rattle.xl_world.specs.Keeper.{holding, restored, after_failed, found};
 
     pub fn holding(seq: Seq) -> Keeper
         ensures { result ≡ holding seq }
@@ -19,6 +33,44 @@ impl Keeper {
         Keeper {
             in_force: seq,
             asked: None,
+            written: false,
+            faults: 0,
+        }
+    }
+
+    /// The keeper when its node is opened again with this number.
+    pub fn restored(&self, seq: Seq) -> Keeper
+        ensures { result ≡ restored self.now seq }
+    {
+        Keeper {
+            in_force: seq,
+            asked: None,
+            written: false,
+            ..*self
+        }
+    }
+
+    /// The keeper after a save that failed.
+    pub fn after_failed(&self, seq: Seq, written: bool) -> Keeper
+        ensures value { result ≡ after_failed self.now seq written }
+        ensures later { self.now.faults ≤ result.faults }
+    {
+        Keeper {
+            asked: Some(seq),
+            written,
+            faults: self.faults.saturating_add(1),
+            ..*self
+        }
+    }
+
+    /// The number that a restart finds.
+    pub fn found(&self) -> Seq
+        ensures { result ≡ found self.now }
+    {
+        if self.written {
+            self.asked.unwrap_or(self.in_force)
+        } else {
+            self.in_force
         }
     }
 }

@@ -1,11 +1,12 @@
 // What was sent: every frame of every node, as its bytes.
-ghost use Rattle.std.specs.Prelude.{◌≡◌, IfOk, IsTrue, Some, option_copied};
+ghost use Rattle.std.specs.Prelude.{◌≡◌, ◌≤◌, IfOk, IsTrue, Some, option_copied};
+ghost use Rattle.xl_base.specs.declared.moments.TheConstants.{GREATEST_MILLIS};
 ghost use Rattle.xl_core.specs.Sending.{has_spelling};
 ghost use Rattle.xl_world.specs.Schedule.{frame_at};
 ghost use Rattle.xl_world.specs.Seen.{frames_from};
 ghost use Rattle.xl_world.specs.World.{was_sent, frame_to, frames_for, place_at};
 
-use crate::act::place_of;
+use crate::act::{Asked, place_of};
 use crate::place::Place;
 use std::alloc::Global;
 use xl_base::{Bytes, NodeNo, OutOfMemory};
@@ -71,20 +72,24 @@ fn frames_for(
     Ok(frames)
 }
 
-/// The frames that the node of a number would send, where there is one.
+/// The frames that the node of a number would send of what it is asked to issue, where there is one.
 pub fn frames_from(
     alloc: Global,
     numbers: &[NodeNo],
     places: &[Place],
     i: NodeNo,
-    validation: &Validation,
+    asked: &Asked,
 ) -> Result<Vec<Sent>, OutOfMemory>
-    ensures { IfOk result (λ frames. frames.items ≡ frames_from numbers.now validation.now (place_at i places.now)) }
+    requires { asked.now.moment ≤ GREATEST_MILLIS }
+    ensures { IfOk result (λ frames. frames.items ≡ frames_from numbers.now asked.now.moment asked.now.seq asked.now.id asked.now.full (place_at i places.now)) }
 {
     match place_of(places, i) {
         Some(k) => {
             let place = &places[k];
-            frames_for(alloc, numbers, &place.node, validation)
+            let validation = place
+                .node
+                .own_validation(asked.moment, asked.seq, asked.id, asked.full);
+            frames_for(alloc, numbers, &place.node, &validation)
         }
         None => Ok(Vec::new(alloc)),
     }

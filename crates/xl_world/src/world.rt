@@ -1,23 +1,23 @@
-ghost use Rattle.std.specs.Prelude.{◌≡◌, IfOk, OnErr, if◌then◌else◌};
+ghost use Rattle.std.specs.Prelude.{◌≡◌, ◌≤◌, IfOk, OnErr, if◌then◌else◌};
+ghost use Rattle.xl_base.specs.declared.moments.TheConstants.{GREATEST_MILLIS};
 ghost use Rattle.xl_core.specs.Node.{Frame};
 ghost use Rattle.xl_world.specs.Seen.{HasHeard};
-ghost use Rattle.xl_world.specs.World.{one_more};
+ghost use Rattle.xl_world.specs.Keeper.{one_more};
 
-use crate::act::{NodeEvent, act_at, list_at, preferred_at, restart_at};
+use crate::act::{Asked, NodeEvent, act_at, list_at, preferred_at, restart_at};
 use crate::agreement::all_agree;
 use crate::forged::is_forged;
 use crate::index::TagIndex;
 use crate::lie::{lied_header, lied_validation};
-use crate::place::{Place, Saying};
+use crate::place::{Fate, Place, Saying};
 use crate::sent::{frame_at, frames_from};
 use crate::settle::{report_some, say_some, send_some, tell};
 use crate::{Happened, Plan, Sent, WorldReport, open};
 use std::alloc::Global;
 use std::marker::Model;
-use xl_base::{LedgerId, Millis, NodeNo, OutOfMemory, Secs, Seq, secs_of};
+use xl_base::{Millis, NodeNo, OutOfMemory};
 use xl_lists::List;
 use xl_sched::{Event, Lied};
-use xl_wire::Validation;
 
 /// A world: the nodes, and all that they ever sent, said and reported.
 #[derive(Drop)]
@@ -46,15 +46,16 @@ impl Model for World {
 }
 
 impl World {
-    ghost use Rattle.std.specs.Prelude.{◌≡◌, ◌≤◌, ◌↔◌, option_map, option_copied, Some, IsTrue, IfOk, OnOk, OnErr, true};
+    ghost use Rattle.std.specs.Prelude.{◌≡◌, ◌≤◌, ◌↔◌, option_map, option_copied, Some, IsTrue, IfOk, OnOk, OnErr};
     ghost use Rattle.xl_ledger.specs.declared.registry.TheConstants.{LEAST_LIMIT, GREATEST_LIMIT};
     ghost use Rattle.xl_lists.specs.Lists.{TrustedList};
     ghost use Rattle.xl_lists.specs.Quorums.{Enough};
-    ghost use Rattle.xl_core.specs.Node.{Issue, Frame};
+    ghost use Rattle.xl_core.specs.Node.{Frame};
     ghost use Rattle.xl_world.specs.World.{AgreeAt, Headline, list_in, start, step, Act, place_at};
     ghost use Rattle.xl_world.specs.Schedule.{told_of, reply_to, restart, stepped, moment_of, after_event, outcomes, preference, lied_bytes};
     ghost use Rattle.xl_base.specs.declared.moments.TheConstants.{GREATEST_MILLIS};
-    ghost use Rattle.xl_world.specs.Seen.{reports_seen};
+    ghost use Rattle.xl_world.specs.Seen.{issue_seen, reports_seen};
+    ghost use Rattle.xl_world.specs.declared.place.Fate.TheVariants.{Kept};
 
     /// The world of a plan, at its start.
     pub fn open(alloc: Global, plan: &Plan) -> Result<World, OutOfMemory>
@@ -77,31 +78,19 @@ impl World {
     }
 
     /// A node is asked to issue, and what it issues is sent. An `Err` changes nothing.
-    fn issue(
-        &mut self,
-        node: NodeNo,
-        now: Secs,
-        seq: Seq,
-        id: LedgerId,
-        full: bool,
-    ) -> Result<Happened, OutOfMemory>
-        ensures world { OnOk result (self.new ≡ step self.old (Act node (Issue now seq id full) true)) }
-        ensures told { IfOk result (λ told. told ≡ told_of node (reply_to self.old (Act node (Issue now seq id full) true))) }
+    fn issue(&mut self, node: NodeNo, asked: &Asked, fate: Fate) -> Result<Happened, OutOfMemory>
+        requires { asked.now.moment ≤ GREATEST_MILLIS }
+        ensures world { OnOk result (self.new ≡ step self.old (Act node (issue_seen asked.now) fate)) }
+        ensures told { IfOk result (λ told. told ≡ told_of node (reply_to self.old (Act node (issue_seen asked.now) fate))) }
         ensures err { OnErr result (self.new ≡ self.old) }
     {
-        let validation = Validation {
-            id,
-            seq,
-            signed: now,
-            full,
-        };
         let mut outcomes = Vec::with_capacity(self.alloc, 2)?;
-        let mut frames = frames_from(self.alloc, &self.numbers, &self.places, node, &validation)?;
+        let mut frames = frames_from(self.alloc, &self.numbers, &self.places, node, asked)?;
         self.sent.reserve(frames.len())?;
         self.said.reserve(1)?;
         self.reports.reserve(1)?;
-        let event = NodeEvent::Issue { now, seq, id, full };
-        let Some(answer) = act_at(&mut self.places, node, &event) else {
+        let event = NodeEvent::Issue(*asked);
+        let Some(answer) = act_at(&mut self.places, node, &event, fate) else {
             return Ok(Happened::from_vec(outcomes));
         };
         tell(&mut outcomes, node, &answer);
@@ -126,16 +115,17 @@ impl World {
             &mut self.places,
             &mut self.reports,
             frame.to,
-            secs_of(at),
+            at,
             frame.bytes.as_slice(),
         )?;
         Ok(told)
     }
 
     /// Bytes come to a node that no node may have sent. An `Err` changes nothing.
-    fn hear(&mut self, now: Secs, to: NodeNo, bytes: &[u8]) -> Result<Happened, OutOfMemory>
-        ensures world { OnOk result (self.new ≡ step self.old (Act to (Frame now bytes.now) true)) }
-        ensures told { IfOk result (λ told. told ≡ told_of to (reply_to self.old (Act to (Frame now bytes.now) true))) }
+    fn hear(&mut self, now: Millis, to: NodeNo, bytes: &[u8]) -> Result<Happened, OutOfMemory>
+        requires { now ≤ GREATEST_MILLIS }
+        ensures world { OnOk result (self.new ≡ step self.old (Act to (Frame now bytes.now) Kept)) }
+        ensures told { IfOk result (λ told. told ≡ told_of to (reply_to self.old (Act to (Frame now bytes.now) Kept))) }
         ensures err { OnErr result (self.new ≡ self.old) }
     {
         let forged = is_forged(
@@ -161,13 +151,14 @@ impl World {
     /// What a liar says comes to a node. An `Err` changes nothing.
     fn lie(
         &mut self,
-        now: Secs,
+        now: Millis,
         from: NodeNo,
         to: NodeNo,
         what: &Lied,
     ) -> Result<Happened, OutOfMemory>
-        ensures world { OnOk result (self.new ≡ step self.old (Act to (Frame now (lied_bytes from to what.now)) true)) }
-        ensures told { IfOk result (λ told. told ≡ told_of to (reply_to self.old (Act to (Frame now (lied_bytes from to what.now)) true))) }
+        requires { now ≤ GREATEST_MILLIS }
+        ensures world { OnOk result (self.new ≡ step self.old (Act to (Frame now (lied_bytes from to what.now)) Kept)) }
+        ensures told { IfOk result (λ told. told ≡ told_of to (reply_to self.old (Act to (Frame now (lied_bytes from to what.now)) Kept))) }
         ensures err { OnErr result (self.new ≡ self.old) }
     {
         match what {
@@ -190,11 +181,12 @@ impl World {
     }
 
     /// Opens a node anew with the number that its keeper holds.
-    fn restart(&mut self, node: NodeNo) -> Result<(), OutOfMemory>
-        ensures world { OnOk result (self.new ≡ stepped self.old (option_map restart (place_at node self.old.places))) }
+    fn restart(&mut self, at: Millis, node: NodeNo) -> Result<(), OutOfMemory>
+        requires { at ≤ GREATEST_MILLIS }
+        ensures world { OnOk result (self.new ≡ stepped self.old (option_map (restart at) (place_at node self.old.places))) }
         ensures err { OnErr result (self.new ≡ self.old) }
     {
-        restart_at(self.alloc, &mut self.places, node)?;
+        restart_at(self.alloc, &mut self.places, node, at)?;
         Ok(())
     }
 
@@ -212,14 +204,23 @@ impl World {
                 seq,
                 id,
                 full,
-            } => self.issue(*node, secs_of(*at), *seq, *id, *full),
+            } => self.issue(
+                *node,
+                &Asked {
+                    moment: *at,
+                    seq: *seq,
+                    id: *id,
+                    full: *full,
+                },
+                Fate::Kept,
+            ),
             Event::Deliver { at, place } => self.deliver(*at, *place),
-            Event::Restart { node, .. } => {
-                self.restart(*node)?;
+            Event::Restart { at, node } => {
+                self.restart(*at, *node)?;
                 Ok(Happened::nothing(self.alloc))
             }
-            Event::Lie { at, from, to, what } => self.lie(secs_of(*at), *from, *to, what),
-            Event::Raw { at, to, bytes } => self.hear(secs_of(*at), *to, bytes.as_slice()),
+            Event::Lie { at, from, to, what } => self.lie(*at, *from, *to, what),
+            Event::Raw { at, to, bytes } => self.hear(*at, *to, bytes.as_slice()),
             Event::Prefer { node, .. } => self.prefer(*node),
         }
     }
@@ -289,9 +290,10 @@ fn hear_at(
     places: &mut Vec<Place>,
     reports: &mut Vec<WorldReport>,
     to: NodeNo,
-    now: Secs,
+    now: Millis,
     bytes: &[u8],
 ) -> Result<Happened, OutOfMemory>
+    requires { now ≤ GREATEST_MILLIS }
     ensures heard { IfOk result (λ told.
         HasHeard to (Frame now bytes.now) told places.old.items places.new.items reports.old.items reports.new.items) }
     ensures err_places { OnErr result (places.new.items ≡ places.old.items) }
@@ -300,7 +302,7 @@ fn hear_at(
     let mut outcomes = Vec::with_capacity(alloc, 2)?;
     reports.reserve(1)?;
     let event = NodeEvent::Frame { now, bytes };
-    let Some(answer) = act_at(places, to, &event) else {
+    let Some(answer) = act_at(places, to, &event, Fate::Kept) else {
         return Ok(Happened::from_vec(outcomes));
     };
     tell(&mut outcomes, to, &answer);

@@ -1,11 +1,11 @@
-use Rattle.std.proofs.Common.{◌≡◌, ◌∙◌, ℕ, List, Some, true, ap, sym}
-use Rattle.std.specs.Prelude.{if◌then◌else◌}
+use Rattle.std.proofs.Common.{◌≡◌, ◌∙◌, ℕ, List, Some, ap, sym}
 use Rattle.std.proofs.lemmas.Bool.{cond-false}
 use Rattle.xl_core.specs.Node.{Frame}
 use Rattle.xl_world.specs.declared.sent.Sent.{Sent}
 use Rattle.xl_world.specs.World.{World, Act, step, place_at}
+use Rattle.xl_world.specs.declared.place.Fate.TheVariants.{Kept}
 use Rattle.xl_world.specs.Worlds.{world_seen}
-use Rattle.xl_world.specs.Schedule.{frame_at, after_event, outcomes, told_of, reply_to}
+use Rattle.xl_world.specs.Schedule.{frame_at, after_event, outcomes}
 use Rattle.xl_world.specs.Seen.{HasHeard, forged_at}
 use Rattle.xl_sched.specs.declared.event.Event.TheVariants.{Deliver}
 use Rattle.xl_world.proofs.Runs.{run_more}
@@ -18,16 +18,16 @@ found : (c : In_ok-told) → frame_at c.self.inside.sent.items c.args.place ≡ 
 found c = ap (λ (fs : List Sent). frame_at fs c.args.place) (sym c.deref.ensures.value) ∙ sym c.in-Some.ensures
 
 heard : (c : In_ok-told) →
-    HasHeard c.in-Some.frame.now.to (Frame c.secs_of.result c.as_slice.result.now) c.in_ok-told.told c.self.inside.places.items c.hear_at.new.places.items c.self.inside.reports.items c.hear_at.new.reports.items
+    HasHeard c.in-Some.frame.now.to (Frame c.args.at c.as_slice.result.now) c.in_ok-told.told c.self.inside.places.items c.hear_at.new.places.items c.self.inside.reports.items c.hear_at.new.reports.items
 heard c = c.in_ok-told.ensures.heard
 
 -- the lists of the code are those of the step: what was sent isn't forged
 its_step : (c : In_ok-told) →
     world_seen (record { alloc = c.self.inside.alloc; liars = c.self.inside.liars; numbers = c.self.inside.numbers; places = c.hear_at.new.places; sent = c.self.inside.sent; index = c.self.inside.index; said = c.self.inside.said; reports = c.hear_at.new.reports; forged = c.self.inside.forged })
-    ≡ step (world_seen c.self.inside) (Act c.in-Some.frame.now.to (Frame c.secs_of.result c.as_slice.result.now) true)
+    ≡ step (world_seen c.self.inside) (Act c.in-Some.frame.now.to (Frame c.args.at c.as_slice.result.now) Kept)
 its_step c =
     let o = place_at c.in-Some.frame.now.to c.self.inside.places.items in
-    heard_step (world_seen c.self.inside) c.in-Some.frame.now.to c.secs_of.result c.as_slice.result.now (heard c).answer c.hear_at.new.places.items _ c.self.inside.forged
+    heard_step (world_seen c.self.inside) c.in-Some.frame.now.to c.args.at c.as_slice.result.now (heard c).answer c.hear_at.new.places.items _ c.self.inside.forged
     (heard c).answers (heard c).acted (heard c).reported
     (sym (cond-false (forged_at c.self.inside.liars.items c.self.inside.sent.items c.as_slice.result.now o) _ _
     (ap (λ (bytes : List ℕ). forged_at c.self.inside.liars.items c.self.inside.sent.items bytes o) c.as_slice.ensures
@@ -37,20 +37,20 @@ pub invariant_of-self-2 : goal.invariant_of-self-2
 invariant_of-self-2 c =
     let d = (goal.at.invariant_of-self-2 c).In_ok-told in
     record {
-      run = run_more (world_seen c.self.inside) _ (Act c.in-Some.frame.now.to (Frame c.secs_of.result c.as_slice.result.now) true) (its_step d) c.self.invariant.run;
+      run = run_more (world_seen c.self.inside) _ (Act c.in-Some.frame.now.to (Frame c.args.at c.as_slice.result.now) Kept) (its_step d) c.self.invariant.run;
       index = c.self.invariant.index;
     }
 
 pub returns-clause-world : goal.returns-clause-world
 returns-clause-world c =
     let d = (goal.at.returns-clause-world c).In_ok-told in
-    delivered (world_seen c.self.inside) _ c.args.at c.args.place c.secs_of.result c.in-Some.frame.now c.as_slice.result.now (found d) c.secs_of.ensures c.as_slice.ensures (its_step d)
+    delivered (world_seen c.self.inside) _ c.args.at c.args.place c.in-Some.frame.now c.as_slice.result.now (found d) c.as_slice.ensures (its_step d)
     ∙ ap (λ (u : World). after_event u (Deliver c.args.at c.args.place)) c.self.view_is
 
 pub returns-clause-told : goal.returns-clause-told
 returns-clause-told c =
     let d = (goal.at.returns-clause-told c).In_ok-told in
-    let e = Frame c.secs_of.result c.as_slice.result.now in
-    delivered_told (world_seen c.self.inside) c.args.at c.args.place c.secs_of.result c.in-Some.frame.now c.as_slice.result.now c.in_ok-told.told (found d) c.secs_of.ensures c.as_slice.ensures
+    let e = Frame c.args.at c.as_slice.result.now in
+    delivered_told (world_seen c.self.inside) c.args.at c.args.place c.in-Some.frame.now c.as_slice.result.now c.in_ok-told.told (found d) c.as_slice.ensures
     ((heard d).tells ∙ told_heard (world_seen c.self.inside) c.in-Some.frame.now.to e (heard d).answer (heard d).answers)
     ∙ ap (λ (u : World). outcomes u (Deliver c.args.at c.args.place)) c.self.view_is

@@ -1,15 +1,17 @@
-use Rattle.std.proofs.Common.{◌≡◌, ◌∙◌, ℕ, Bool, List, true, ap, sym, subst}
+use Rattle.std.proofs.Common.{◌≡◌, ◌∙◌, ℕ, Bool, List, ap, subst}
 use Rattle.std.specs.Prelude.{if◌then◌else◌}
 use Rattle.xl_core.specs.Node.{Frame}
 use Rattle.xl_world.specs.declared.place.Place.{Place}
 use Rattle.xl_world.specs.declared.sent.Sent.{Sent}
-use Rattle.xl_world.specs.World.{World, Act, step, place_at, one_more}
+use Rattle.xl_world.specs.World.{World, Act, step, place_at}
+use Rattle.xl_world.specs.declared.place.Fate.TheVariants.{Kept}
+use Rattle.xl_world.specs.Keeper.{one_more}
 use Rattle.xl_world.specs.Indexes.{IsIndex}
 use Rattle.xl_world.specs.Worlds.{world_seen}
 use Rattle.xl_world.specs.Schedule.{told_of, reply_to}
 use Rattle.xl_world.specs.Seen.{HasHeard, forged_at}
 use Rattle.xl_world.proofs.Runs.{run_more}
-use Rattle.xl_world.proofs.Steps.{with_lists, heard_step, told_heard}
+use Rattle.xl_world.proofs.Steps.{heard_step, told_heard}
 use Rattle.xl_world.proofs.world.World.hear.Goals as goal
 use Rattle.xl_world.proofs.world.World.hear.Goals.{In_ok-told}
 
@@ -31,7 +33,7 @@ heard c = c.in_ok-told.ensures.heard
 -- the lists of the code are those of the step
 its_step : (c : In_ok-told) (count : ℕ) → count ≡ (if forged c then one_more c.self.inside.forged else c.self.inside.forged) →
     world_seen (record { alloc = c.self.inside.alloc; liars = c.self.inside.liars; numbers = c.self.inside.numbers; places = c.hear_at.new.places; sent = c.self.inside.sent; index = c.is_forged-forged.new.index; said = c.self.inside.said; reports = c.hear_at.new.reports; forged = count })
-    ≡ step (world_seen c.self.inside) (Act c.args.to (Frame c.args.now c.args.bytes.now) true)
+    ≡ step (world_seen c.self.inside) (Act c.args.to (Frame c.args.now c.args.bytes.now) Kept)
 its_step c count counted =
     heard_step (world_seen c.self.inside) c.args.to c.args.now c.args.bytes.now (heard c).answer c.hear_at.new.places.items _ count (heard c).answers (heard c).acted (heard c).reported counted
 
@@ -44,18 +46,18 @@ pub invariant_of-self-2 : goal.invariant_of-self-2
 invariant_of-self-2 c =
     let d = (goal.at.invariant_of-self-2 c).In_ok-told in
     record {
-      run = run_more (world_seen c.self.inside) _ (Act c.args.to (Frame c.args.now c.args.bytes.now) true) (its_step d _ (counts d _ c.counted-self-inside.ensures)) c.self.invariant.run;
+      run = run_more (world_seen c.self.inside) _ (Act c.args.to (Frame c.args.now c.args.bytes.now) Kept) (its_step d _ (counts d _ c.counted-self-inside.ensures)) c.self.invariant.run;
       index = subst (IsIndex c.is_forged-forged.new.index) c.deref-2.ensures.value c.is_forged-forged.ensures.index;
     }
 
 pub returns-clause-world : goal.returns-clause-world
 returns-clause-world c =
     let d = (goal.at.returns-clause-world c).In_ok-told in
-    its_step d _ (counts d _ c.counted-self-inside.ensures) ∙ ap (λ (u : World). step u (Act c.args.to (Frame c.args.now c.args.bytes.now) true)) c.self.view_is
+    its_step d _ (counts d _ c.counted-self-inside.ensures) ∙ ap (λ (u : World). step u (Act c.args.to (Frame c.args.now c.args.bytes.now) Kept)) c.self.view_is
 
 pub returns-clause-told : goal.returns-clause-told
 returns-clause-told c =
     let d = (goal.at.returns-clause-told c).In_ok-told in
     let e = Frame c.args.now c.args.bytes.now in
     (heard d).tells ∙ told_heard (world_seen c.self.inside) c.args.to e (heard d).answer (heard d).answers
-    ∙ ap (λ (u : World). told_of c.args.to (reply_to u (Act c.args.to e true))) c.self.view_is
+    ∙ ap (λ (u : World). told_of c.args.to (reply_to u (Act c.args.to e Kept))) c.self.view_is
