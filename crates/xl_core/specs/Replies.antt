@@ -1,4 +1,4 @@
--- The answers of a node's calls, as replies.
+-- The answers of a node's calls, as replies. Source: this project's own, by which a call answers what the node's step replies.
 use Rattle.std.specs.Prelude.{Result, Ok, Err, Some, None}
 use Rattle.std.specs.declared.option.Option.{Option}
 use Rattle.xl_core.specs.declared.report.Report.{Report}

@@ -1,4 +1,4 @@
--- The saves that a keeper in memory tells, in room that was taken when it was made.
+-- The saves that a keeper in memory tells, in room that was taken when it was made. Source: this project's own, for tests of what saves.
 use Rattle.std.specs.Prelude.{ℕ, ◌-◌, ◌==◌, List, [], ◌∷◌, Option, Some, None, if◌then◌else◌}
 use Rattle.std.specs.Io.KnownBytes.{append_known}
 

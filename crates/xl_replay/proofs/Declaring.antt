@@ -19,13 +19,14 @@ use Rattle.xl_sched.specs.declared.line.Line.TheVariants as line
 use Rattle.xl_sched.specs.declared.word.Word.{Word}
 use Rattle.xl_sched.specs.declared.word.Word.TheVariants as word
 use Rattle.xl_base.specs.declared.ids.LedgerId.{LedgerId}
+use Rattle.xl_base.specs.declared.moments.TheConstants.{GREATEST_MILLIS}
 use Rattle.xl_sched.specs.Refusals.{◌>>=◌}
 use Rattle.xl_sched.specs.Tokens.{tokens}
 use Rattle.xl_sched.specs.Numbers.{is_number, value_of, number_within, number_of}
 use Rattle.xl_sched.specs.Names.{new_name_of, id_of}
 use Rattle.xl_sched.specs.Ledgers.{parent_of, header_after}
 use Rattle.xl_sched.specs.Members.{member_of, new_member_of, members_of, trusted_of, unless_refused}
-use Rattle.xl_sched.specs.Words.{Reading, mode_of, node_of, node_line, liar_line, has_most_names, named_line, named_ledger_line, limit_line, issue_event, deliver_event, restart_event, lie_event, raw_event, prefer_event, event_line, line_of, line_if_word, word_of, worded_line}
+use Rattle.xl_sched.specs.Words.{Reading, mode_of, node_of, node_line, liar_line, has_most_names, named_line, named_ledger_line, limit_line, at_line, issue_event, deliver_event, all_event, drop_event, restart_event, cut_event, fail_event, lie_event, raw_event, prefer_event, event_line, line_of, line_if_word, word_of, worded_line}
 use Rattle.xl_sched.specs.Reading.{Answer, passes, gives, refuses, is_header, header_line, is_comment, some_line, later_line, bounded_line, answer_to, reading_of}
 use Rattle.xl_world.specs.World.{IsDeclared}
 
@@ -103,10 +104,11 @@ new_in_range nodes liars token (Ok m) range = cond_both (is_on nodes m || is_on 
 -- what a line declares is declared
 abbrev pub Declares : Line → Type 0
 Declares (line.Limit limit) = Unit {0}
-Declares (line.Node me list validating) = IsDeclared (record { me = me; list = list })
+Declares (line.Node me list validating) = IsDeclared (record { me = me; list = list; moment = 0 })
 Declares (line.Liar me) = Unit {0}
 Declares (line.Name name id) = Unit {0}
 Declares (line.Ledger name parent header) = Unit {0}
+Declares (line.At at) = Unit {0}
 Declares (line.Event event) = Unit {0}
 
 declared_node : (me : ℕ) (validating : Bool) (r : Result TrustedList SchedRefusal) → InRange me → IfOk r IsValid → IfOk (r >>= (λ list. Ok (line.Node me list validating))) Declares
@@ -176,6 +178,15 @@ limit_line_declares reading [] = tt
 limit_line_declares reading (a ∷ []) = limit_declares reading.limited a (number_within LEAST_LIMIT MOST_LEDGERS a)
 limit_line_declares reading (a ∷ b ∷ rest) = tt
 
+at_declares : (at : Result ℕ SchedRefusal) → IfOk (at >>= (λ m. Ok (line.At m))) Declares
+at_declares (Err e) = tt
+at_declares (Ok at) = tt
+
+at_line_declares : (arguments : List (List ℕ)) → IfOk (at_line arguments) Declares
+at_line_declares [] = tt
+at_line_declares (a ∷ []) = at_declares (number_within 0 GREATEST_MILLIS a)
+at_line_declares (a ∷ b ∷ rest) = tt
+
 event_declares : (r : Result Event SchedRefusal) → IfOk (event_line r) Declares
 event_declares (Err e) = tt
 event_declares (Ok event) = tt
@@ -197,6 +208,11 @@ line_declares reading sent word.Restart token arguments = event_declares (restar
 line_declares reading sent word.Lie token arguments = event_declares (lie_event reading arguments)
 line_declares reading sent word.Raw token arguments = event_declares (raw_event reading arguments)
 line_declares reading sent word.Prefer token arguments = event_declares (prefer_event reading arguments)
+line_declares reading sent word.At token arguments = at_line_declares arguments
+line_declares reading sent word.All token arguments = event_declares (all_event reading arguments)
+line_declares reading sent word.Drop token arguments = event_declares (drop_event reading arguments)
+line_declares reading sent word.Cut token arguments = event_declares (cut_event reading arguments)
+line_declares reading sent word.Fail token arguments = event_declares (fail_event reading arguments)
 
 word_declares : (reading : Reading) (sent : ℕ) (o : Option Word) (token : List ℕ) (arguments : List (List ℕ)) → IfOk (line_if_word reading sent o token arguments) Declares
 word_declares reading sent None token arguments = tt

@@ -30,11 +30,11 @@ use Rattle.xl_world.specs.declared.place.Place.{Place}
 use Rattle.xl_world.specs.declared.plan.PlanNode.{PlanNode}
 use Rattle.xl_world.specs.declared.place.Fate.{Fate}
 use Rattle.xl_world.specs.Keeper.{may_hold, answer_of}
-use Rattle.xl_world.specs.World.{World, Step as WorldStep, Act, Again, Torn, place_at, reported_by, acts, reopened, again, torn, asked_at, moment_in, step, start, IsDeclared, AreDeclared, IsRun}
-use Rattle.xl_world.specs.Schedule.{step_of, stepped, after_event, reply_to, told_of as told_at, node_of, outcomes_at, preference, outcomes}
+use Rattle.xl_world.specs.World.{World, Step as WorldStep, Act, Again, Torn, Mark, place_at, reported_by, acts, reopened, again, torn, asked_at, moment_in, step, run, start, IsDeclared, AreDeclared, IsRun}
+use Rattle.xl_world.specs.Schedule.{steps_of, after_event, told_of as told_at, told_by as told_by_step, told_in, preference, outcomes}
 use Rattle.xl_world.proofs.Settling.{at_its_number}
 use Rattle.xl_world.proofs.Lists.{happens_keeps}
-use Rattle.xl_world.proofs.Steps.{stepped_run}
+use Rattle.xl_world.proofs.Runs.{run_on}
 use Rattle.xl_replay.specs.Texts.{outcome_line, outcome_lines}
 use Rattle.xl_replay.specs.Replays.{Replaying, world_of, silent, after, after_line, after_answer, ending, rules}
 use Rattle.xl_replay.specs.Headlines.{Spoken, spoken_line, Extends, state_after, state_from}
@@ -79,10 +79,11 @@ step_grows : (w : World) (s : WorldStep) → Grows w (step w s)
 step_grows w (Act i e fate) = acts_grows w i e fate (place_at i w.places)
 step_grows w (Again i now number) = again_grows w i now number (place_at i w.places)
 step_grows w (Torn i e number) = torn_grows w i (moment_in e) number (place_at i w.places) (asked_at (place_at i w.places) e)
+step_grows w Mark = λ r h. h
 
-stepped_grows : (w : World) (o : Option WorldStep) → Grows w (stepped w o)
-stepped_grows w None = λ r h. h
-stepped_grows w (Some s) = step_grows w s
+run_grows : (w : World) (ss : List WorldStep) → Grows w (run w ss)
+run_grows w [] = λ r h. h
+run_grows w (s ∷ ss) = λ r h. run_grows (step w s) ss r (step_grows w s r h)
 
 refused_reported : (v : World) (i : ℕ) (r : Reply) → All (IsReported v) (option_to_list (option_map (Refused i) r.refused))
 refused_reported v i r = refused_at r.refused
@@ -111,14 +112,18 @@ act_reported w i e fate (Some p) at =
     All-append (IsReported v) _ _ (refused_reported v i r)
     (full_reported w i r.node ((happens_keeps p.node e (answer_of p.keeper fate)).0 ∙ at_its_number i w.places p at) r.report v refl)
 
-step_reported : (w : World) (s : WorldStep) → All (IsReported (step w s)) (told_at (node_of s) (reply_to w s))
+step_reported : (w : World) (s : WorldStep) → All (IsReported (step w s)) (told_by_step w s)
 step_reported w (Act i e fate) = act_reported w i e fate (place_at i w.places) refl
 step_reported w (Again i now number) = All-nil (IsReported (step w (Again i now number)))
 step_reported w (Torn i e number) = All-nil (IsReported (step w (Torn i e number)))
+step_reported w Mark = All-nil (IsReported (step w Mark))
 
-stepped_reported : (w : World) (o : Option WorldStep) → All (IsReported (stepped w o)) (outcomes_at w o)
-stepped_reported w None = All-nil (IsReported w)
-stepped_reported w (Some s) = step_reported w s
+run_reported : (w : World) (ss : List WorldStep) → All (IsReported (run w ss)) (told_in w ss)
+run_reported w [] = All-nil (IsReported w)
+run_reported w (s ∷ ss) =
+    All-append (IsReported (run (step w s) ss)) (told_by_step w s) (told_in (step w s) ss)
+    (All-weaker (IsReported (step w s)) (IsReported (run (step w s) ss)) (still_reported (step w s) (run (step w s) ss) (run_grows (step w s) ss)) (told_by_step w s) (step_reported w s))
+    (run_reported (step w s) ss)
 
 -- what a node prefers is no report
 preference_reported : (w : World) (i : ℕ) (o : Option Place) → All (IsReported w) (preference i o)
@@ -126,11 +131,15 @@ preference_reported w i None = All-nil (IsReported w)
 preference_reported w i (Some p) = All-cons (IsReported w) (Preferred i (preferred p.node)) [] tt (All-nil (IsReported w))
 
 event_reported : (w : World) (e : Event) → All (IsReported (after_event w e)) (outcomes w e)
-event_reported w (event.Issue at node seq id full) = stepped_reported w (step_of w (event.Issue at node seq id full))
-event_reported w (event.Deliver at place) = stepped_reported w (step_of w (event.Deliver at place))
-event_reported w (event.Restart at node) = stepped_reported w (step_of w (event.Restart at node))
-event_reported w (event.Lie at from to what) = stepped_reported w (step_of w (event.Lie at from to what))
-event_reported w (event.Raw at to bytes) = stepped_reported w (step_of w (event.Raw at to bytes))
+event_reported w (event.Issue at node seq id full) = run_reported w (steps_of w (event.Issue at node seq id full))
+event_reported w (event.Deliver at place) = run_reported w (steps_of w (event.Deliver at place))
+event_reported w (event.All at) = run_reported w (steps_of w (event.All at))
+event_reported w (event.Drop at) = run_reported w (steps_of w (event.Drop at))
+event_reported w (event.Restart at node) = run_reported w (steps_of w (event.Restart at node))
+event_reported w (event.Cut at new ask) = run_reported w (steps_of w (event.Cut at new ask))
+event_reported w (event.Fail at new ask) = run_reported w (steps_of w (event.Fail at new ask))
+event_reported w (event.Lie at from to what) = run_reported w (steps_of w (event.Lie at from to what))
+event_reported w (event.Raw at to bytes) = run_reported w (steps_of w (event.Raw at to bytes))
 event_reported w (event.Prefer at node) = preference_reported w node (place_at node w.places)
 
 -- STEP BY STEP
@@ -201,6 +210,7 @@ answer_extends reading (Ok (Some (line.Node me list validating))) = extends_itse
 answer_extends reading (Ok (Some (line.Liar me))) = extends_itself reading.names
 answer_extends reading (Ok (Some (line.Name name id))) = (record { name = name; id = id; header = None } ∷ [], refl)
 answer_extends reading (Ok (Some (line.Ledger name parent header))) = (record { name = name; id = header_id header; header = Some header } ∷ [], refl)
+answer_extends reading (Ok (Some (line.At at))) = extends_itself reading.names
 answer_extends reading (Ok (Some (line.Event e))) = extends_itself reading.names
 
 reading_extends : (reading : Reading) (sent : ℕ) (bytes : List ℕ) → AnswerExtends reading (reading_of reading sent bytes)
@@ -218,17 +228,18 @@ event_tells r reading e sound extends = record {
   reported = All-map (λ s. IsReported (after_event (world_of r) e) s.outcome) _ (outcomes (world_of r) e) (event_reported (world_of r) e);
   named = All-map (λ s. Extends s.names reading.names) _ (outcomes (world_of r) e) (λ k d below. extends_itself reading.names);
   extends = extends;
-  grows = stepped_grows (world_of r) (step_of (world_of r) e);
-  sound = record { declared = sound.declared; is_run = stepped_run (world_of r) _ (step_of (world_of r) e) refl sound.is_run };
+  grows = run_grows (world_of r) (steps_of (world_of r) e);
+  sound = record { declared = sound.declared; is_run = run_on (world_of r) _ (steps_of (world_of r) e) refl sound.is_run };
 }
 
 line_tells : (r : Replaying) (reading : Reading) (l : Line) → IsSound r → Extends r.reading.names reading.names → Declares l → StepTells r (after_line r reading l)
 line_tells r reading (line.Limit limit) sound extends declares = quiet_tells r reading limit r.plan r.liars sound extends sound.declared r.world refl
 line_tells r reading (line.Node me list validating) sound extends declares =
-    quiet_tells r reading r.limit _ r.liars sound extends (All-append IsDeclared r.plan _ sound.declared (All-cons IsDeclared (record { me = me; list = list }) [] declares (All-nil IsDeclared))) r.world refl
+    quiet_tells r reading r.limit _ r.liars sound extends (All-append IsDeclared r.plan _ sound.declared (All-cons IsDeclared (record { me = me; list = list; moment = reading.now }) [] (record { least = declares.least; greatest = declares.greatest; list = declares.list }) (All-nil IsDeclared))) r.world refl
 line_tells r reading (line.Liar me) sound extends declares = quiet_tells r reading r.limit r.plan _ sound extends sound.declared r.world refl
 line_tells r reading (line.Name name id) sound extends declares = quiet_tells r reading r.limit r.plan r.liars sound extends sound.declared r.world refl
 line_tells r reading (line.Ledger name parent header) sound extends declares = quiet_tells r reading r.limit r.plan r.liars sound extends sound.declared r.world refl
+line_tells r reading (line.At at) sound extends declares = quiet_tells r reading r.limit r.plan r.liars sound extends sound.declared r.world refl
 line_tells r reading (line.Event e) sound extends declares = event_tells r reading e sound extends
 
 answer_tells : (r : Replaying) (a : Answer) → IsSound r → AnswerExtends r.reading a → AnswerDeclares a → StepTells r (after_answer r a)

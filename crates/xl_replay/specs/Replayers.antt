@@ -19,4 +19,5 @@ IsInRange (line.Node me list validating) = Unit {0}
 IsInRange (line.Liar me) = Unit {0}
 IsInRange (line.Name name id) = Unit {0}
 IsInRange (line.Ledger name parent header) = Unit {0}
+IsInRange (line.At at) = Unit {0}
 IsInRange (line.Event event) = moment_of event ≤ GREATEST_MILLIS

@@ -2,6 +2,7 @@
 ghost use Rattle.std.specs.Prelude.{◌≡◌, ◌≤◌, ◌+◌, [], IfOk, decimal};
 ghost use Rattle.xl_ledger.specs.declared.registry.TheConstants.{LEAST_LIMIT};
 ghost use Rattle.xl_sched.specs.declared.limits.TheConstants.{MOST_LEDGERS};
+ghost use Rattle.xl_world.specs.World.{AreTimely};
 ghost use Rattle.xl_replay.specs.Replays.{at_first, beyond};
 ghost use Rattle.xl_replay.specs.Texts.{bad_line};
 
@@ -25,6 +26,7 @@ pub struct Replayer {
     world: Option<World>,
     ghost least: { LEAST_LIMIT ≤ plan.limit },
     ghost most: { plan.limit ≤ MOST_LEDGERS },
+    ghost moments: { AreTimely plan.nodes.items },
 }
 
 impl Replayer {
@@ -106,6 +108,7 @@ impl Replayer {
                 self.plan.nodes.push(PlanNode {
                     me: *me,
                     list: list.copy(),
+                    moment: self.reader.moment(),
                 })?;
                 Ok(())
             }
@@ -113,7 +116,7 @@ impl Replayer {
                 self.plan.liars.push(*me)?;
                 Ok(())
             }
-            Line::Name { .. } | Line::Ledger { .. } => Ok(()),
+            Line::Name { .. } | Line::Ledger { .. } | Line::At(_) => Ok(()),
             Line::Event(event) => self.happen(event, text),
         }
     }

@@ -7,5 +7,6 @@ pub mod Ledgers
 pub mod Places
 pub mod Members
 pub mod Lies
+pub mod Asks
 pub mod Words
 pub mod Reading

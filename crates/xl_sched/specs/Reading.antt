@@ -69,6 +69,7 @@ after reading (line.Liar me) = record (counted reading) { liars = reading.liars 
 after reading (line.Name name id) = record (counted reading) { names = reading.names ++ record { name = name; id = id; header = None } ∷ [] }
 after reading (line.Limit limit) = record (counted reading) { limited = true }
 after reading (line.Ledger name parent header) = record (counted reading) { names = reading.names ++ record { name = name; id = header_id header; header = Some header } ∷ [] }
+after reading (line.At at) = record (counted reading) { now = at }
 after reading (line.Event event) = record (counted reading) { started = true }
 
 -- a line that was passed over or was the header, a line that says something, or a refusal; with what is known then

@@ -1,5 +1,6 @@
 -- The lines of a schedule, word by word. Source: this project's schedule language.
 use Rattle.std.specs.Prelude.{◌≡◌, ◌≤◌, ℕ, ◌+◌, Bool, true, false, nat_lt, List, [], ◌∷◌, length, decimal, codes, Option, Some, None, Result, Ok, Err, if◌then◌else◌}
+use Rattle.std.specs.Option.{option_or}
 use Rattle.std.specs.Str.{bytes_eq}
 use Rattle.xl_lists.specs.Lists.{is_on}
 use Rattle.xl_base.specs.declared.moments.TheConstants.{GREATEST_MILLIS}
@@ -8,6 +9,8 @@ use Rattle.xl_sched.specs.declared.limits.TheConstants.{MOST_LEDGERS, MOST_NAMES
 use Rattle.xl_sched.specs.declared.named.Named.{Named}
 use Rattle.xl_sched.specs.declared.refusal.SchedRefusal.{SchedRefusal}
 use Rattle.xl_sched.specs.declared.refusal.SchedRefusal.TheVariants.{Limit, Word as IsNoWord, Count, Twice, Late}
+use Rattle.xl_sched.specs.declared.ask.Ask.{Ask}
+use Rattle.xl_sched.specs.declared.ask.Ask.TheVariants as ask
 use Rattle.xl_sched.specs.declared.event.Event.{Event}
 use Rattle.xl_sched.specs.declared.event.Event.TheVariants as event
 use Rattle.xl_sched.specs.declared.lied.Lied.{Lied}
@@ -20,6 +23,7 @@ use Rattle.xl_sched.specs.Numbers.{number_within, number_of, place_of}
 use Rattle.xl_sched.specs.Names.{id_of, id_named, new_name_of}
 use Rattle.xl_sched.specs.Ledgers.{parent_of, header_after}
 use Rattle.xl_sched.specs.Lies.{said_of, may_say, lied_of, raw_of}
+use Rattle.xl_sched.specs.Asks.{asked_of, may_ask, new_of, ask_of}
 use Rattle.xl_sched.specs.Members.{declared_of, new_member_of, members_of, trusted_of, validating_of, full_of}
 
 -- what a reader knows of the lines that it has read
@@ -39,21 +43,35 @@ pub record Reading : Type 0 where
   -- the names in the order of their declaration, `root` first
   pub names : List Named
 
--- the word that a line begins with
-abbrev pub word_of : List ℕ → Option Word
-word_of token =
-    if bytes_eq token (codes "node") then Some word.Node
-    else if bytes_eq token (codes "name") then Some word.Name
-    else if bytes_eq token (codes "issue") then Some word.Issue
-    else if bytes_eq token (codes "deliver") then Some word.Deliver
-    else if bytes_eq token (codes "restart") then Some word.Restart
+-- the word of a line at which nothing happens
+abbrev pub setting_word : List ℕ → Option Word
+setting_word token =
+    if bytes_eq token (codes "limit") then Some word.Limit
+    else if bytes_eq token (codes "node") then Some word.Node
     else if bytes_eq token (codes "liar") then Some word.Liar
+    else if bytes_eq token (codes "at") then Some word.At
+    else if bytes_eq token (codes "name") then Some word.Name
+    else if bytes_eq token (codes "ledger") then Some word.Ledger
+    else None
+
+-- the word of an event's line
+abbrev pub event_word : List ℕ → Option Word
+event_word token =
+    if bytes_eq token (codes "issue") then Some word.Issue
+    else if bytes_eq token (codes "deliver") then Some word.Deliver
+    else if bytes_eq token (codes "all") then Some word.All
+    else if bytes_eq token (codes "drop") then Some word.Drop
+    else if bytes_eq token (codes "restart") then Some word.Restart
+    else if bytes_eq token (codes "cut") then Some word.Cut
+    else if bytes_eq token (codes "fail") then Some word.Fail
     else if bytes_eq token (codes "lie") then Some word.Lie
     else if bytes_eq token (codes "raw") then Some word.Raw
-    else if bytes_eq token (codes "limit") then Some word.Limit
-    else if bytes_eq token (codes "ledger") then Some word.Ledger
     else if bytes_eq token (codes "prefer") then Some word.Prefer
     else None
+
+-- the word that a line begins with
+abbrev pub word_of : List ℕ → Option Word
+word_of token = option_or (setting_word token) (event_word token)
 
 -- so many tokens no line of the word has, the word counted
 abbrev pub miscounted : {A : Type 0} → List (List ℕ) → Result A SchedRefusal
@@ -129,6 +147,13 @@ abbrev pub ledger_line : Reading → List (List ℕ) → Result Line SchedRefusa
 ledger_line reading arguments =
     if has_most_names reading then Err (Limit (decimal MOST_NAMES)) else named_ledger_line reading arguments
 
+-- `at ms`
+abbrev pub at_line : List (List ℕ) → Result Line SchedRefusal
+at_line (moment ∷ []) = do
+  at ← number_within 0 GREATEST_MILLIS moment
+  Ok (line.At at)
+at_line arguments = miscounted arguments
+
 -- `issue i seq id full`, or `partial`
 abbrev pub issue_event : Reading → List (List ℕ) → Result Event SchedRefusal
 issue_event reading (number ∷ sequence ∷ id ∷ kind ∷ []) = do
@@ -152,6 +177,42 @@ restart_event reading (number ∷ []) = do
   node ← declared_of reading.nodes number
   Ok (event.Restart reading.now node)
 restart_event reading arguments = miscounted arguments
+
+-- `all`
+abbrev pub all_event : Reading → List (List ℕ) → Result Event SchedRefusal
+all_event reading [] = Ok (event.All reading.now)
+all_event reading arguments = miscounted arguments
+
+-- `drop`
+abbrev pub drop_event : Reading → List (List ℕ) → Result Event SchedRefusal
+drop_event reading [] = Ok (event.Drop reading.now)
+drop_event reading arguments = miscounted arguments
+
+-- a number that the keeper then holds, and what is asked, from left to right
+abbrev pub held_of : List ℕ → Result Ask SchedRefusal → Result (Bool × Ask) SchedRefusal
+held_of held asked = do
+  new ← new_of held
+  what ← asked
+  Ok (new, what)
+
+-- `old E` and `new E`, E being what is asked
+abbrev pub disturbed_of : Reading → List (List ℕ) → Result (Bool × Ask) SchedRefusal
+disturbed_of reading (held ∷ word ∷ asked) =
+    if may_ask (asked_of word) (length asked) then held_of held (ask_of reading.nodes reading.names (asked_of word) word asked)
+    else miscounted (held ∷ word ∷ asked)
+disturbed_of reading arguments = miscounted arguments
+
+-- `cut old E`, and `cut new E`
+abbrev pub cut_event : Reading → List (List ℕ) → Result Event SchedRefusal
+cut_event reading arguments = do
+  save ← disturbed_of reading arguments
+  Ok (event.Cut reading.now save.0 save.1)
+
+-- `fail old E`, and `fail new E`
+abbrev pub fail_event : Reading → List (List ℕ) → Result Event SchedRefusal
+fail_event reading arguments = do
+  save ← disturbed_of reading arguments
+  Ok (event.Fail reading.now save.0 save.1)
 
 -- `prefer i`
 abbrev pub prefer_event : Reading → List (List ℕ) → Result Event SchedRefusal
@@ -201,6 +262,11 @@ line_of reading sent word.Raw token arguments = event_line (raw_event reading ar
 line_of reading sent word.Limit token arguments = unless_late reading token (limit_line reading arguments)
 line_of reading sent word.Ledger token arguments = ledger_line reading arguments
 line_of reading sent word.Prefer token arguments = event_line (prefer_event reading arguments)
+line_of reading sent word.At token arguments = at_line arguments
+line_of reading sent word.All token arguments = event_line (all_event reading arguments)
+line_of reading sent word.Drop token arguments = event_line (drop_event reading arguments)
+line_of reading sent word.Cut token arguments = event_line (cut_event reading arguments)
+line_of reading sent word.Fail token arguments = event_line (fail_event reading arguments)
 
 abbrev pub line_if_word : Reading → ℕ → Option Word → List ℕ → List (List ℕ) → Result Line SchedRefusal
 line_if_word reading sent None token arguments = Err (IsNoWord token)
@@ -209,6 +275,10 @@ line_if_word reading sent (Some word) token arguments = line_of reading sent wor
 -- the line that begins with this token
 abbrev pub worded_line : Reading → ℕ → List ℕ → List (List ℕ) → Result Line SchedRefusal
 worded_line reading sent token arguments = line_if_word reading sent (word_of token) token arguments
+
+-- what is asked of a declared node
+abbrev pub IsFitAsk : Reading → Ask → Type 0
+IsFitAsk reading (ask.Issue node seq id full) = is_on reading.nodes node ≡ true
 
 -- an event of declared nodes and liars, sent frames, and bytes of a frame's length
 abbrev pub IsFitEvent : Reading → ℕ → Event → Type 0
@@ -220,6 +290,10 @@ IsFitEvent reading sent (event.Lie at from to what) =
 IsFitEvent reading sent (event.Raw at to bytes) =
     (at ≤ GREATEST_MILLIS) × (is_on reading.nodes to ≡ true) × (1 ≤ length bytes) × (length bytes ≤ MOST_RAW_BYTES)
 IsFitEvent reading sent (event.Prefer at node) = (at ≤ GREATEST_MILLIS) × (is_on reading.nodes node ≡ true)
+IsFitEvent reading sent (event.All at) = at ≤ GREATEST_MILLIS
+IsFitEvent reading sent (event.Drop at) = at ≤ GREATEST_MILLIS
+IsFitEvent reading sent (event.Cut at new ask) = (at ≤ GREATEST_MILLIS) × IsFitAsk reading ask
+IsFitEvent reading sent (event.Fail at new ask) = (at ≤ GREATEST_MILLIS) × IsFitAsk reading ask
 
 -- a number that was declared neither as an honest node nor as a liar
 abbrev pub IsUndeclared : Reading → ℕ → Type 0
@@ -232,4 +306,5 @@ IsFit reading sent (line.Liar me) = IsUndeclared reading me
 IsFit reading sent (line.Name name id) = id_named reading.names name ≡ None
 IsFit reading sent (line.Limit limit) = (LEAST_LIMIT ≤ limit) × (limit ≤ MOST_LEDGERS) × (reading.limited ≡ false)
 IsFit reading sent (line.Ledger name parent header) = (id_named reading.names name ≡ None) × (header.seq ≤ length reading.names + 1)
+IsFit reading sent (line.At at) = at ≤ GREATEST_MILLIS
 IsFit reading sent (line.Event event) = IsFitEvent reading sent event

@@ -1,5 +1,5 @@
 use crate::event::Event;
-use xl_base::{Bytes, LedgerId, NodeNo};
+use xl_base::{Bytes, LedgerId, Millis, NodeNo};
 use xl_ledger::Header;
 use xl_lists::List;
 
@@ -27,6 +27,8 @@ pub enum Line {
         parent: Bytes,
         header: Header,
     },
+    /// This is the moment in force from here on. It may be an earlier one than before.
+    At(Millis),
     /// Something happens.
     Event(Event),
 }

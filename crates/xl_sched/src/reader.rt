@@ -1,3 +1,4 @@
+mod keeping;
 mod ledgers;
 mod lies;
 mod words;
@@ -55,6 +56,7 @@ impl Model for Reader {
 }
 
 impl Reader {
+    ghost use Rattle.xl_base.specs.declared.moments.TheConstants.{GREATEST_MILLIS};
     ghost use Rattle.xl_sched.specs.Words.{IsFit};
     ghost use Rattle.xl_sched.specs.Names.{name_of};
     ghost use Rattle.xl_sched.specs.Refusals.{GivenMemory};
@@ -74,6 +76,14 @@ impl Reader {
             names: Names::with_root(alloc)?,
             alloc,
         })
+    }
+
+    /// The moment in force, in milliseconds.
+    pub fn moment(&self) -> Millis
+        ensures value { result ≡ self.now.now }
+        ensures most { result ≤ GREATEST_MILLIS }
+    {
+        self.moment
     }
 
     /// Reads the next line, without the byte that ends it, where so many frames were sent so far. None comes exactly for
@@ -157,6 +167,7 @@ impl Reader {
                 self.names
                     .declare_ledger(name.as_slice(), header, self.alloc)?
             }
+            Line::At(moment) => self.moment = *moment,
             Line::Event(_) => self.started = true,
         }
         self.lines += 1;

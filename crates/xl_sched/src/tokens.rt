@@ -52,6 +52,18 @@ impl<'a> Tokens<'a> {
         self.next().unwrap()
     }
 
+    /// That no token is left. Refused for another count.
+    pub fn none(mut self) -> Result<(), Fault<'a>>
+        ensures { MatchResult result
+            (λ _. self.entry ≡ [])
+            (λ fault. (length self.entry ≢ 0) × (fault ≡ Count (decimal (length self.entry + 1)))) }
+    {
+        if self.count() != 0 {
+            return Err(self.miscounted());
+        }
+        Ok(())
+    }
+
     /// The one token that is left. Refused for another count.
     pub fn one(mut self) -> Result<&'a [u8], Fault<'a>>
         ensures { MatchResult result
@@ -98,6 +110,18 @@ impl<'a> Tokens<'a> {
             return Err(self.miscounted());
         }
         Ok((self.take(), self.take(), self.take(), self.take()))
+    }
+
+    /// The first two tokens that are left, and the others. Refused where there are fewer.
+    pub fn two_and_others(mut self) -> Result<(&'a [u8], &'a [u8], Tokens<'a>), Fault<'a>>
+        ensures { MatchResult result
+            (λ two. self.entry ≡ two.0.now ∷ two.1.now ∷ two.2)
+            (λ fault. (length self.entry < 2) × (fault ≡ Count (decimal (length self.entry + 1)))) }
+    {
+        if self.count() < 2 {
+            return Err(self.miscounted());
+        }
+        Ok((self.take(), self.take(), self))
     }
 
     /// The first three tokens that are left, and the others. Refused where there are fewer.

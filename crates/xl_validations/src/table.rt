@@ -150,6 +150,7 @@ impl<B: Branch> Table<B> {
         requires known { current < length walk.old.ledgers.headers }
         requires tally { IsTally (B.goes_with self.now.branch) walk.old.ledgers.headers self.now.rows (B.votes self.now.branch) (B.room self.now.branch) }
         ensures value { result ≡ choose walk.old.ledgers.headers self.now.rows current largest }
+        ensures known { result < length walk.old.ledgers.headers }
         ensures goes_on { GoesOn walk.old walk.new }
     {
         match self.preferred(walk, largest) {

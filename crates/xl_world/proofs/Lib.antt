@@ -8,6 +8,8 @@ pub mod Numbers
 pub mod Each
 pub mod Places
 pub mod Steps
+pub mod Reopening
+pub mod Delivering
 pub mod Opposing
 pub mod Firsts
 pub mod Differing

@@ -25,7 +25,7 @@ use Rattle.xl_core.specs.Node.Save.{Kept, Failed}
 use Rattle.xl_world.specs.Keeper.{may_hold, restored, answer_of, after_save}
 use Rattle.xl_world.specs.declared.place.Place.{Place}
 use Rattle.xl_world.specs.declared.plan.PlanNode.{PlanNode}
-use Rattle.xl_world.specs.World.{World, Step, Act, Again, Torn, place_at, list_in, reported_by, is_forged, settled, acts, quiet, place_again, moment_in, reopened, again, torn, asked_at, step, run, place_of, start, AreDeclared, list_at, AgreeAt, IsRun, Headline}
+use Rattle.xl_world.specs.World.{World, Step, Act, Again, Torn, Mark, place_at, list_in, reported_by, is_forged, settled, acts, quiet, place_again, moment_in, reopened, again, torn, asked_at, step, run, place_of, start, AreDeclared, list_at, AgreeAt, IsRun, Headline}
 use Rattle.xl_world.proofs.Settling.{put_cases, at_its_number, some_same}
 use Rattle.xl_world.proofs.Runs.{agreement}
 
@@ -53,25 +53,25 @@ settled_lists plan w i forged p r k at same_me same_list has =
           (reported_under plan r.node (subst (λ m. list_at plan m ≡ Some r.node.list) (sym its) under) r.report);
     }
 
--- a node keeps its number and its list
+-- a node keeps its number, its list, its keys and its room
 abbrev pub KeepsList : Node → Reply → Type 0
-KeepsList n r = (r.node.me ≡ n.me) × (r.node.list ≡ n.list)
+KeepsList n r = (r.node.me ≡ n.me) × (r.node.list ≡ n.list) × (r.node.keys ≡ n.keys) × (r.node.ledgers.limit ≡ n.ledgers.limit)
 
 issues_keep : (n : Node) (now : ℕ) (save : Save) (v : Validation) → KeepsList n (issues n now save v)
-issues_keep n now Kept v = (refl, refl)
-issues_keep n now (Failed count) v = (refl, refl)
+issues_keep n now Kept v = (refl, refl, refl, refl)
+issues_keep n now (Failed count) v = (refl, refl, refl, refl)
 
 unless_keep : (n : Node) (off : Option ℕ) (save : Save) (v : Validation) → KeepsList n (issues_unless n off save v)
 unless_keep n None save v = issues_keep n (second_of n) save v
-unless_keep n (Some failed) save v = (refl, refl)
+unless_keep n (Some failed) save v = (refl, refl, refl, refl)
 
 hears_keep : (n : Node) (now from : ℕ) (v : Validation) (o : Option ValRefusal) → KeepsList n (hears n now from v o)
-hears_keep n now from v None = (refl, refl)
-hears_keep n now from v (Some why) = (refl, refl)
+hears_keep n now from v None = (refl, refl, refl, refl)
+hears_keep n now from v (Some why) = (refl, refl, refl, refl)
 
 learns_keep : (n : Node) (h : Header) (o : Option AddRefusal) → KeepsList n (learns n h o)
-learns_keep n h None = (refl, refl)
-learns_keep n h (Some why) = (refl, refl)
+learns_keep n h None = (refl, refl, refl, refl)
+learns_keep n h (Some why) = (refl, refl, refl, refl)
 
 speech_keeps : (n : Node) (now from : ℕ) (what : Speech) → KeepsList n (hearing_speech n now from what)
 speech_keeps n now from (Vote v) = hears_keep n now from v (refusal_at n now from v)
@@ -79,12 +79,12 @@ speech_keeps n now from (Ledger h) = learns_keep n h (add_refusal n.ledgers h)
 
 hearing_keeps : (n : Node) (now : ℕ) (said : Result Spoken Refusal) → KeepsList n (hearing n now said)
 hearing_keeps n now (Ok said) = speech_keeps n now said.from said.what
-hearing_keeps n now (Err why) = (refl, refl)
+hearing_keeps n now (Err why) = (refl, refl, refl, refl)
 
 pub happens_keeps : (n : Node) (e : Event) (save : Save) → KeepsList n (happens n e save)
 happens_keeps n (Issue now seq id full) save =
     let m : Node = at_moment now n in
-    cond_both (nat_lt m.kept seq) (issues_unless m m.off save (own_validation m seq id full)) (refusing m (NotAfter m.kept)) (KeepsList n) (λ _. unless_keep m m.off save (own_validation m seq id full)) (λ _. (refl, refl))
+    cond_both (nat_lt m.kept seq) (issues_unless m m.off save (own_validation m seq id full)) (refusing m (NotAfter m.kept)) (KeepsList n) (λ _. unless_keep m m.off save (own_validation m seq id full)) (λ _. (refl, refl, refl, refl))
 happens_keeps n (Frame now bytes) save = hearing_keeps (at_moment now n) (second_of (at_moment now n)) (heard n.keys n.list.members bytes)
 
 acts_lists : (plan : List PlanNode) (w : World) (i : ℕ) (e : Event) (fate : Fate) → HasLists plan w → (o : Option Place) → place_at i w.places ≡ o → HasLists plan (acts w i e fate o)
@@ -112,6 +112,7 @@ step_lists : (plan : List PlanNode) (w : World) (s : Step) → HasLists plan w �
 step_lists plan w (Act i e fate) has = acts_lists plan w i e fate has (place_at i w.places) refl
 step_lists plan w (Again i now number) has = again_lists plan w i now number has (place_at i w.places) refl
 step_lists plan w (Torn i e number) has = torn_lists plan w i (moment_in e) number has (place_at i w.places) refl (asked_at (place_at i w.places) e)
+step_lists plan w Mark has = record { nodes = has.nodes; reports = has.reports }
 
 pub run_lists : (plan : List PlanNode) (w : World) (ss : List Step) → HasLists plan w → HasLists plan (run w ss)
 run_lists plan w [] has = has

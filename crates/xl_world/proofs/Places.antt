@@ -1,18 +1,18 @@
 -- The place that the code finds is the place of its number.
 use Rattle.std.proofs.Common.{◌≡◌, ℕ, zero, suc, ◌<◌, true, false, List, [], ◌∷◌, length, get_or, set, refl, arith, ap, sym, ◌∙◌, Some, None, Result, Ok, Err}
-use Rattle.std.specs.Prelude.{◌==◌, position, nat_lt, OnOk, OnErr}
+use Rattle.std.specs.Prelude.{◌==◌, position, nat_lt, OnOk}
 use Rattle.std.specs.List.{position_or_len}
 use Rattle.std.proofs.Common.{inl, inr, subst}
 use Rattle.std.proofs.lemmas.List.Sums.{fails_before_first}
 use Rattle.std.proofs.lemmas.List.Quantifiers.{position-Some}
-use Rattle.std.proofs.lemmas.Bool.{eqb-true, lt-ltb, cases_lt, cond-true, cond-false}
+use Rattle.std.proofs.lemmas.Bool.{eqb-true, lt-ltb, cases_lt, cond_both, cond-true, cond-false}
 use Rattle.xl_core.specs.Node.{Event, happens}
 use Rattle.xl_world.specs.declared.act.Answer.{Answer}
 use Rattle.xl_world.specs.declared.place.Place.{Place}
 use Rattle.xl_world.specs.declared.place.Fate.{Fate}
 use Rattle.xl_world.specs.Keeper.{answer_of}
 use Rattle.xl_world.specs.World.{place_at, put, place_after}
-use Rattle.xl_world.specs.Seen.{IsAnswer, put_acted, acted_at, Answers, AnswersAt, restarted, put_restarted, restarted_at}
+use Rattle.xl_world.specs.Seen.{IsAnswer, put_acted, acted_at, Answers, AnswersAt}
 use Rattle.xl_world.proofs.Lists.{happens_keeps}
 
 cons_same : {X : Type 0} (x y : X) (xs ys : List X) → x ≡ y → xs ≡ ys → x ∷ xs ≡ y ∷ ys
@@ -75,28 +75,22 @@ answered_there xs i k e fate d a found is = subst (λ o. Answers e fate o (Some 
 pub answered_nowhere : (xs : List Place) (i : ℕ) (e : Event) (fate : Fate) → position (λ p. p.node.me == i) xs ≡ None → AnswersAt i e fate xs None
 answered_nowhere xs i e fate none = subst (λ o. Answers e fate o None) (sym (none_there xs i none)) tt
 
--- a restart at the place that is found
-pub restarted_there : (xs : List Place) (i now k : ℕ) (d y : Place) → position (λ p. p.node.me == i) xs ≡ Some k → y ≡ restarted now (get_or xs k d) → set xs k y ≡ restarted_at i now xs
-restarted_there xs i now k d y found is =
-    put_found xs i k d y found (ap (λ (p : Place). p.node.me) is)
-    ∙ (ap (λ (p : Place). put p xs) is ∙ ap (λ o. put_restarted now o xs) (sym (found_there xs i k d found)))
+-- a place comes in place of the one of its number
+pub put_nowhere : (x : Place) (ps : List Place) → place_at x.node.me ps ≡ None → put x ps ≡ ps
+put_nowhere x [] none = refl
+put_nowhere x (y ∷ ys) none =
+    cond_both (y.node.me == x.node.me) (Some y) (place_at x.node.me ys) (λ o. o ≡ None → put x (y ∷ ys) ≡ y ∷ ys)
+    (λ _ here. cc)
+    (λ other there. cond-false (y.node.me == x.node.me) _ _ other ∙ cons_same _ _ _ _ refl (put_nowhere x ys there))
+    none
 
-pub restarted_nowhere : (xs : List Place) (i now : ℕ) → position (λ p. p.node.me == i) xs ≡ None → xs ≡ restarted_at i now xs
-restarted_nowhere xs i now none = ap (λ o. put_restarted now o xs) (sym (none_there xs i none))
+pub put_its : (xs : List Place) (k : ℕ) (d y : Place) → position (λ p. p.node.me == y.node.me) xs ≡ Some k → set xs k y ≡ put y xs
+put_its xs k d y found = let at = position-Some (λ p. p.node.me == y.node.me) xs k d found in put_there xs y.node.me k d y at.0 at.1 (λ j h. at.2 j h) refl
 
--- nothing changes
-set_same : (xs : List Place) (k : ℕ) (d y : Place) → k < length xs → y ≡ get_or xs k d → set xs k y ≡ xs
-set_same [] k d y k_in is = absurd (omega arith)
-set_same (x ∷ xs) zero d y k_in is = cons_same _ _ _ _ is refl
-set_same (x ∷ xs) (suc k) d y k_in is = cons_same _ _ _ _ refl (set_same xs k d y (omega arith) is)
-
-pub same_there : (xs : List Place) (i k : ℕ) (d y : Place) → position (λ p. p.node.me == i) xs ≡ Some k → y ≡ get_or xs k d → set xs k y ≡ xs
-same_there xs i k d y found is = set_same xs k d y (position-Some (λ p. p.node.me == i) xs k d found).0 is
+-- and where there is none of its number, nothing changes
+pub put_none : (xs : List Place) (y : Place) → position (λ p. p.node.me == y.node.me) xs ≡ None → put y xs ≡ xs
+put_none xs y none = put_nowhere y xs (none_there xs y.node.me none)
 
 pub on_ok : {X E : Type 0} (P Q : Type 0) (r : Result X E) → OnOk r P → (P → Q) → OnOk r Q
 on_ok P Q (Ok x) p h = h p
 on_ok P Q (Err e) p h = tt
-
-pub on_err : {X E : Type 0} (P Q : Type 0) (r : Result X E) → OnErr r P → (P → Q) → OnErr r Q
-on_err P Q (Ok x) p h = tt
-on_err P Q (Err e) p h = h p

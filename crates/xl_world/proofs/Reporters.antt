@@ -10,7 +10,7 @@ use Rattle.xl_world.specs.declared.place.Place.{Place}
 use Rattle.xl_world.specs.declared.plan.PlanNode.{PlanNode}
 use Rattle.xl_world.specs.declared.place.Fate.{Fate}
 use Rattle.xl_world.specs.Keeper.{may_hold}
-use Rattle.xl_world.specs.World.{World, Step, Act, Again, Torn, place_at, put, acts, moment_in, reopened, again, torn, asked_at, step, run, place_of, start, IsDeclared, AreDeclared, list_at, list_in, IsRun}
+use Rattle.xl_world.specs.World.{World, Step, Act, Again, Torn, Mark, place_at, put, acts, moment_in, reopened, again, torn, asked_at, step, run, place_of, start, IsDeclared, AreDeclared, list_at, list_in, IsRun}
 use Rattle.xl_world.proofs.Lists.{HasLists, run_lists, start_lists}
 
 -- a place that is put is found where one of its number was, and nowhere else
@@ -46,6 +46,7 @@ step_present : (w : World) (s : Step) → StandsSame w (step w s)
 step_present w (Act i e fate) j = acts_present w i e fate (place_at i w.places) j
 step_present w (Again i now number) j = again_present w i now number (place_at i w.places) j
 step_present w (Torn i e number) j = torn_present w i (moment_in e) number (place_at i w.places) (asked_at (place_at i w.places) e) j
+step_present w Mark j = refl
 
 run_present : (w : World) (ss : List Step) → StandsSame w (run w ss)
 run_present w [] j = refl

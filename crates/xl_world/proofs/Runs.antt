@@ -26,7 +26,7 @@ use Rattle.xl_world.specs.declared.place.Fate.{Fate}
 use Rattle.xl_world.specs.Keeper.{MayHold, one_more, may_hold, is_asked, holding, restored, answer_of, after_save}
 use Rattle.xl_world.specs.declared.place.Place.{Place}
 use Rattle.xl_world.specs.declared.plan.PlanNode.{PlanNode}
-use Rattle.xl_world.specs.World.{World, Step, Act, Again, Torn, place_at, said_by, said_in, was_sent, forges, is_forged, acts, reopened, quiet, place_again, moment_in, again, torn, asked_at, step, run, place_of, start, is_declared, all_numbers, AreDeclared, FrameSays, NodeSays, Stands, IsRun}
+use Rattle.xl_world.specs.World.{World, Step, Act, Again, Torn, Mark, marked, place_at, said_by, said_in, was_sent, forges, is_forged, acts, reopened, quiet, place_again, moment_in, again, torn, asked_at, step, run, place_of, start, is_declared, all_numbers, AreDeclared, FrameSays, NodeSays, Stands, IsRun}
 use Rattle.xl_world.proofs.Settling.{IsWell, IsSound, ReplySays, GenuineThen, spoken, settled_sound, issued_genuine, node_weaker, at_its_number, some_same}
 use Rattle.xl_world.proofs.NodeSteps.{happens_steps, happens_says, HeardSays, heard_weaker, opened_says, opened_well, opened_steps, asks_above, failed_rises}
 
@@ -124,10 +124,23 @@ torn_at : (w : World) (i now number : ℕ) (e : Event) → IsSound w → (o : Op
 torn_at w i now number e sound None at = sound
 torn_at w i now number e sound (Some p) at = torn_sound w i now number sound p at (asks p.node e) (asks_above p.node e)
 
+-- where the mark stands says nothing
+marked_sound : (w : World) → IsSound w → IsSound (marked w)
+marked_sound w sound = record {
+  kept = record {
+    saved = sound.kept.saved;
+    once = sound.kept.once;
+    genuine = record { places = sound.kept.genuine.places; sent = sound.kept.genuine.sent };
+    backed = sound.kept.backed;
+  };
+  well = sound.well;
+}
+
 step_sound : (w : World) (s : Step) → (step w s).forged ≡ 0 → IsSound w → IsSound (step w s)
 step_sound w (Act i e fate) same sound = act_sound w i e fate sound (place_at i w.places) refl same
 step_sound w (Again i now number) same sound = again_sound w i now number sound (place_at i w.places) refl
 step_sound w (Torn i e number) same sound = torn_at w i (moment_in e) number e sound (place_at i w.places) refl
+step_sound w Mark same sound = marked_sound w sound
 
 -- WHAT STAYS OVER A RUN
 
@@ -154,6 +167,7 @@ pub step_stays : (w : World) (s : Step) → Stays w (step w s)
 step_stays w (Act i e fate) = acts_stays w i e fate (place_at i w.places)
 step_stays w (Again i now number) = again_stays w i now number (place_at i w.places)
 step_stays w (Torn i e number) = torn_stays w i (moment_in e) number (place_at i w.places) (asked_at (place_at i w.places) e)
+step_stays w Mark = record { liars = refl; forged = λ h. h }
 
 pub run_stays : (w : World) (ss : List Step) → Stays w (run w ss)
 run_stays w [] = record { liars = refl; forged = λ h. h }
@@ -181,12 +195,12 @@ start_sound limit liars plan lists = record {
     once = λ m s a b said _. cc;
     genuine = record {
       places = λ i p h. each_at (λ x. NodeSays (IsGenuine liars []) x.node) i _ p
-          (All-map (λ x. NodeSays (IsGenuine liars []) x.node) (place_of limit) plan (λ k e _. let d : PlanNode = slice_index_or plan k e in opened_says (IsGenuine liars []) d.me d.list (schedule_ring d.me) limit 1000 0)) h;
+          (All-map (λ x. NodeSays (IsGenuine liars []) x.node) (place_of limit) plan (λ k e _. let d : PlanNode = slice_index_or plan k e in opened_says (IsGenuine liars []) d.me d.list (schedule_ring d.me) limit d.moment 0)) h;
       sent = All-nil (FrameSays (IsGenuine liars []));
     };
     backed = All-nil (IsBacked liars []);
   };
-  well = λ i p h. each_at IsWell i _ p (All-map IsWell (place_of limit) plan (λ k e in_plan. let d : PlanNode = slice_index_or plan k e in opened_well d.me d.list (schedule_ring d.me) limit 1000 0 (holding 0) (lists k e in_plan).list refl)) h;
+  well = λ i p h. each_at IsWell i _ p (All-map IsWell (place_of limit) plan (λ k e in_plan. let d : PlanNode = slice_index_or plan k e in opened_well d.me d.list (schedule_ring d.me) limit d.moment 0 (holding 0) (lists k e in_plan).list refl)) h;
 }
 
 -- reports agree, in each unforged run
@@ -197,7 +211,7 @@ agreement limit liars plan steps lists none =
 
 -- RUNS GO ON
 
-run-append : (w : World) (ss : List Step) (s : Step) → run w (ss ++ s ∷ []) ≡ step (run w ss) s
+pub run-append : (w : World) (ss : List Step) (s : Step) → run w (ss ++ s ∷ []) ≡ step (run w ss) s
 run-append w [] s = refl
 run-append w (r ∷ rs) s = run-append (step w r) rs s
 
@@ -208,13 +222,18 @@ run_more w v s is run_w =
     let same : w.liars ≡ v.liars = sym (step_stays w s).liars ∙ ap (λ (u : World). u.liars) (sym is) in
     (run_w.0, run_w.1, (run_w.2 ++ s ∷ []), run_w.3, sym (subst (λ ls. run (start run_w.0 ls run_w.1) (run_w.2 ++ s ∷ []) ≡ v) same e))
 
+-- a run and more steps
+pub run_on : (w v : World) (ss : List Step) → v ≡ run w ss → IsRun w → IsRun v
+run_on w v [] is run_w = subst (λ (u : World). IsRun u) (sym is) run_w
+run_on w v (s ∷ ss) is run_w = run_on (step w s) v ss is (run_more w (step w s) s refl run_w)
+
 -- a world that has just been opened is one
 pub opened_run : (limit : ℕ) (liars declared : List ℕ) (plan : List PlanNode) (numbers : List ℕ) (places : List Place) (sent : List Sent) (said : List Said) (reports : List Reported) →
     liars ≡ declared → numbers ≡ filter (is_declared declared plan) all_numbers → places ≡ map (place_of limit) plan → sent ≡ [] → said ≡ [] → reports ≡ [] → AreDeclared plan →
-    IsRun (record { liars = liars; numbers = numbers; places = places; sent = sent; said = said; reports = reports; forged = 0 })
+    IsRun (record { liars = liars; numbers = numbers; places = places; sent = sent; mark = 0; said = said; reports = reports; forged = 0 })
 opened_run limit liars declared plan numbers places sent said reports same is_numbers is_places is_sent is_said is_reports are =
     let its : numbers ≡ filter (is_declared liars plan) all_numbers = is_numbers ∙ ap (λ (ls : List ℕ). filter (is_declared ls plan) all_numbers) (sym same) in
-    let world = λ (n : List ℕ) (p : List Place) (f : List Sent) (s : List Said) (r : List Reported). let w : World = record { liars = liars; numbers = n; places = p; sent = f; said = s; reports = r; forged = 0 } in w in (
+    let world = λ (n : List ℕ) (p : List Place) (f : List Sent) (s : List Said) (r : List Reported). let w : World = record { liars = liars; numbers = n; places = p; sent = f; mark = 0; said = s; reports = r; forged = 0 } in w in (
       limit,
       plan,
       [],

@@ -1,10 +1,11 @@
 -- What the code's changes are of the world.
-use Rattle.std.proofs.Common.{◌≡◌, ℕ, zero, suc, arith, Bool, true, false, cond, List, [], ◌++◌, length, refl, ap, sym, ◌∙◌, Option, Some, None, Result, Ok, Err, subst}
-use Rattle.std.specs.Prelude.{◌==◌, ◌&&◌, ◌||◌, not, is_some, nat_lt, nat_le, option_map, option_to_list, slice_get, if◌then◌else◌, map, unwrap_or, filter}
-use Rattle.std.proofs.lemmas.Bool.{cond-true, or_left, or_right, eq-eqb}
+use Rattle.std.proofs.Common.{◌≡◌, ℕ, zero, suc, arith, Bool, true, false, cond, List, [], ◌∷◌, ◌++◌, length, refl, ap, sym, ◌∙◌, Option, Some, None, Result, Ok, Err, subst}
+use Rattle.std.specs.Prelude.{◌==◌, ◌&&◌, ◌||◌, not, All, is_some, nat_lt, nat_le, option_map, option_to_list, slice_get, if◌then◌else◌, map, unwrap_or, filter}
+use Rattle.std.proofs.lemmas.Bool.{cond-true, cond-false, cond_both, or_left, or_right, eq-eqb}
 use Rattle.std.proofs.lemmas.List.Folds.{list_any_at}
 use Rattle.std.proofs.lemmas.Option.{slice_get_within, get_or_from_slice_get}
-use Rattle.std.proofs.lemmas.List.{append-nil}
+use Rattle.std.proofs.lemmas.List.{append-nil, append_assoc}
+use Rattle.std.proofs.lemmas.List.Elements.{All-head, All-tail}
 use Rattle.xl_lists.specs.Agreement.{Said, Report, with_said}
 use Rattle.xl_wire.specs.declared.validation.Validation.{Validation}
 use Rattle.xl_core.specs.declared.report.Report.{Report as NodeReport}
@@ -40,19 +41,22 @@ use Rattle.xl_world.specs.declared.place.Fate.TheVariants.{Kept}
 use Rattle.xl_world.specs.Keeper.{may_hold, is_asked, answer_of, found, one_more}
 use Rattle.xl_core.specs.Node.Save.{Kept as AnsweredOk, Failed as AnsweredFailed}
 use Rattle.xl_core.specs.Sending.{sealed_bytes, has_spelling}
-use Rattle.xl_world.specs.World.{World, Step, Act, IsRun, again, reopened, was_sent, forges, place_at, put, frames_for, said_by, reported_by, acts, step}
-use Rattle.xl_world.proofs.Settling.{at_its_number}
-use Rattle.xl_world.proofs.Runs.{run_more}
+use Rattle.xl_world.specs.World.{World, Step, Act, Mark, again, reopened, place_again, was_sent, forges, place_at, put, frames_for, said_by, reported_by, acts, step, run}
+use Rattle.xl_world.proofs.Settling.{at_its_number, some_same}
 use Rattle.xl_sched.specs.declared.event.Event.TheVariants.{Deliver}
-use Rattle.xl_world.specs.Schedule.{frame_at, delivery, restart, stepped, after_event, told_of, reply_to, outcomes, outcomes_at}
-use Rattle.xl_world.specs.Seen.{restarted, put_restarted, restarted_at, report_seen, IsAnswer, put_acted, acted_at, Answers, AnswersAt, outcomes_told, frames_from, forged_at, told_some, reported_some}
+use Rattle.xl_world.specs.Schedule.{frame_at, delivery, restart, after_event, told_of, reply_to, told_by, told_in, outcomes}
+use Rattle.xl_world.specs.Seen.{restarted, report_seen, put_acted, acted_at, Answers, AnswersAt, outcomes_told, frames_from, forged_at, reply_in, reported_in}
 
 -- what a step changes of a world
 abbrev pub with_lists : World → List Place → List Sent → List Said → List Report → ℕ → World
 with_lists w places sent said reports forged =
-    record { liars = w.liars; numbers = w.numbers; places = places; sent = sent; said = said; reports = reports; forged = forged }
+    record { liars = w.liars; numbers = w.numbers; places = places; sent = sent; mark = w.mark; said = said; reports = reports; forged = forged }
 
-same_lists : (w : World) {p p' : List Place} {f f' : List Sent} {s s' : List Said} {r r' : List Report} {n n' : ℕ} → p ≡ p' → f ≡ f' → s ≡ s' → r ≡ r' → n ≡ n' → with_lists w p f s r n ≡ with_lists w p' f' s' r' n'
+-- the world with its mark here
+abbrev pub with_mark : World → ℕ → World
+with_mark w mark = record { liars = w.liars; numbers = w.numbers; places = w.places; sent = w.sent; mark = mark; said = w.said; reports = w.reports; forged = w.forged }
+
+pub same_lists : (w : World) {p p' : List Place} {f f' : List Sent} {s s' : List Said} {r r' : List Report} {n n' : ℕ} → p ≡ p' → f ≡ f' → s ≡ s' → r ≡ r' → n ≡ n' → with_lists w p f s r n ≡ with_lists w p' f' s' r' n'
 same_lists w {p} {p'} {f} {f'} {s} {s'} {r} {r'} {n} {n'} a b c d e =
     ap (λ (x : List Place). with_lists w x f s r n) a ∙ (ap (λ (x : List Sent). with_lists w p' x s r n) b ∙ (ap (λ (x : List Said). with_lists w p' f' x r n) c
     ∙ (ap (λ (x : List Report). with_lists w p' f' s' x n) d ∙ ap (λ (x : ℕ). with_lists w p' f' s' r' x) e)))
@@ -137,28 +141,25 @@ hearing_quiet : (n : Node) (now : ℕ) (said : Result Spoken Refusal) → (heari
 hearing_quiet n now (Err why) = refl
 hearing_quiet n now (Ok said) = speech_quiet n now said.from said.what
 
-heard_at : (w : World) (to now : ℕ) (bytes : List ℕ) (a : Option Answer) (forged : ℕ) (o : Option Place) → place_at to w.places ≡ o → Answers (Frame now bytes) Kept o a →
-    forged ≡ (if forged_at w.liars w.sent bytes o then one_more w.forged else w.forged) →
-    with_lists w (put_acted (Frame now bytes) Kept o w.places) w.sent w.said (w.reports ++ reported_some a) forged ≡ acts w to (Frame now bytes) Kept o
-heard_at w to now bytes None forged None at answers counted = same_lists w refl refl refl (append-nil w.reports) counted
-heard_at w to now bytes (Some a) forged None at answers counted = absurd answers
-heard_at w to now bytes None forged (Some p) at answers counted = absurd answers
-heard_at w to now bytes (Some a) forged (Some p) at is counted =
+heard_at : (w : World) (to now : ℕ) (bytes : List ℕ) (forged : ℕ) (o : Option Place) → forged ≡ (if forged_at w.liars w.sent bytes o then one_more w.forged else w.forged) →
+    with_lists w (put_acted (Frame now bytes) Kept o w.places) w.sent w.said (w.reports ++ reported_in (option_map (λ p. happens p.node (Frame now bytes) (answer_of p.keeper Kept)) o)) forged ≡ acts w to (Frame now bytes) Kept o
+heard_at w to now bytes forged None counted = same_lists w refl refl refl (append-nil w.reports) counted
+heard_at w to now bytes forged (Some p) counted =
     let r : Reply = happens p.node (Frame now bytes) AnsweredOk in
     let quiet : r.issued ≡ None = hearing_quiet (at_moment now p.node) (second_of (at_moment now p.node)) (heard p.node.keys p.node.list.members bytes) in
     same_lists w refl
     (sym (append-nil w.sent) ∙ ap (λ (o : Option Validation). w.sent ++ frames_for w.numbers r.node o) (sym quiet))
     (ap (λ (o : Option Validation). with_said w.said (option_map (said_by to) o)) (sym quiet))
-    (ap (λ (o : Option Report). w.reports ++ option_to_list o) is.report)
+    refl
     counted
 
--- the lists of the code, with what is heard, are the step's
-pub heard_step : (w : World) (to now : ℕ) (bytes : List ℕ) (a : Option Answer) (places : List Place) (reports : List Report) (forged : ℕ) →
-    AnswersAt to (Frame now bytes) Kept w.places a → places ≡ acted_at to (Frame now bytes) Kept w.places → reports ≡ w.reports ++ reported_some a →
+-- what is heard is a step
+pub heard_step : (w : World) (to now : ℕ) (bytes : List ℕ) (places : List Place) (reports : List Report) (forged : ℕ) →
+    places ≡ acted_at to (Frame now bytes) Kept w.places → reports ≡ w.reports ++ reported_in (reply_in to (Frame now bytes) w.places) →
     forged ≡ (if forged_at w.liars w.sent bytes (place_at to w.places) then one_more w.forged else w.forged) →
     with_lists w places w.sent w.said reports forged ≡ step w (Act to (Frame now bytes) Kept)
-heard_step w to now bytes a places reports forged answers is_places is_reports counted =
-    same_lists w is_places refl refl is_reports refl ∙ heard_at w to now bytes a forged (place_at to w.places) refl answers counted
+heard_step w to now bytes places reports forged is_places is_reports counted =
+    same_lists w is_places refl refl is_reports refl ∙ heard_at w to now bytes forged (place_at to w.places) counted
 
 -- what is told of an answer is what is told of its reply
 full_told : (i : ℕ) (n : Node) (a : Option WorldReport) (r : Option NodeReport) → option_map report_seen a ≡ option_map (reported_by n) r → option_map (λ w. Full i w.seq w.id) a ≡ option_map (λ q. Full i q.seq q.id) r
@@ -167,57 +168,32 @@ full_told i n None (Some q) is = cc
 full_told i n (Some w) None is = cc
 full_told i n (Some w) (Some q) is = ap (option_map (λ (x : Report). Full i x.seq x.id)) is
 
-pub tells : (w : World) (i : ℕ) (e : Event) (fate : Fate) (p : Place) (a : Answer) → place_at i w.places ≡ Some p → IsAnswer a (happens p.node e (answer_of p.keeper fate)) → outcomes_told i a ≡ told_of i (reply_to w (Act i e fate))
-tells w i e fate p a at is =
+tells_at : (i : ℕ) (e : Event) (fate : Fate) (a : Answer) (o : Option Place) → Answers e fate o (Some a) → outcomes_told i a ≡ told_of i (option_map (λ p. happens p.node e (answer_of p.keeper fate)) o)
+tells_at i e fate a None answers = absurd answers
+tells_at i e fate a (Some p) is =
     let r : Reply = happens p.node e (answer_of p.keeper fate) in
     ap (λ o. option_to_list (option_map (Refused i) o) ++ option_to_list (option_map (λ q. Full i q.seq q.id) a.report)) is.refused
-    ∙ (ap (λ (o : Option Outcome). option_to_list (option_map (Refused i) r.refused) ++ option_to_list o) (full_told i r.node a.report r.report is.report)
-    ∙ ap (λ o. told_of i (option_map (λ q. happens q.node e (answer_of q.keeper fate)) o)) (sym at))
-
-pub tells_nothing : (w : World) (i : ℕ) (e : Event) (fate : Fate) → place_at i w.places ≡ None → [] ≡ told_of i (reply_to w (Act i e fate))
-tells_nothing w i e fate none = ap (λ o. told_of i (option_map (λ q. happens q.node e (answer_of q.keeper fate)) o)) (sym none)
-
-tells_at : (w : World) (i : ℕ) (e : Event) (fate : Fate) (a : Answer) (o : Option Place) → place_at i w.places ≡ o → Answers e fate o (Some a) → outcomes_told i a ≡ told_of i (reply_to w (Act i e fate))
-tells_at w i e fate a None at answers = absurd answers
-tells_at w i e fate a (Some p) at answers = tells w i e fate p a at answers
+    ∙ ap (λ (o : Option Outcome). option_to_list (option_map (Refused i) r.refused) ++ option_to_list o) (full_told i r.node a.report r.report is.report)
 
 pub told_step : (w : World) (i : ℕ) (e : Event) (fate : Fate) (a : Answer) → AnswersAt i e fate w.places (Some a) → outcomes_told i a ≡ told_of i (reply_to w (Act i e fate))
-told_step w i e fate a answers = tells_at w i e fate a (place_at i w.places) refl answers
+told_step w i e fate a answers = tells_at i e fate a (place_at i w.places) answers
 
--- a restart finds a number that the keeper may hold
-found_held : (k : Keeper) → may_hold k (found k) ≡ true
-found_held k = by_written k.written k.asked
-  where
-    by_written : (written : Bool) (asked : Option ℕ) → (let n : ℕ = if written then unwrap_or asked k.in_force else k.in_force in (n == k.in_force || is_asked asked n) ≡ true)
-    by_written true None = or_left _ _ (eq-eqb k.in_force k.in_force refl)
-    by_written true (Some s) = or_right (s == k.in_force) (s == s) (eq-eqb s s refl)
-    by_written false asked = or_left _ _ (eq-eqb k.in_force k.in_force refl)
+-- and of what comes to a node
+pub told_there : (i : ℕ) (e : Event) (a : Answer) (ps : List Place) → AnswersAt i e Kept ps (Some a) → outcomes_told i a ≡ told_of i (reply_in i e ps)
+told_there i e a ps answers = tells_at i e Kept a (place_at i ps) answers
 
--- a restart is the step that opens the node with the number that it finds
-reopens : (w : World) (now : ℕ) (p : Place) → place_at p.node.me w.places ≡ Some p → with_lists w (put (restarted now p) w.places) w.sent w.said w.reports w.forged ≡ step w (restart now p)
-reopens w now p at =
-    same_lists w refl (sym (append-nil w.sent)) refl (sym (append-nil w.reports)) refl
-    ∙ (sym (cond-true (may_hold p.keeper (found p.keeper)) (reopened w p.node.me p now (found p.keeper)) w (found_held p.keeper))
-    ∙ ap (λ o. again w p.node.me now (found p.keeper) o) (sym at))
+pub told_nowhere : (i : ℕ) (e : Event) (ps : List Place) → AnswersAt i e Kept ps None → told_of i (reply_in i e ps) ≡ []
+told_nowhere i e ps answers = ap (λ o. told_of i (option_map (λ p. happens p.node e (answer_of p.keeper Kept)) o)) (nothing_at e Kept (place_at i ps) answers)
 
-restarts_at : (w : World) (i now : ℕ) (o : Option Place) → place_at i w.places ≡ o → with_lists w (put_restarted now o w.places) w.sent w.said w.reports w.forged ≡ stepped w (option_map (restart now) o)
-restarts_at w i now None at = refl
-restarts_at w i now (Some p) at =
-    let its : p.node.me ≡ i = at_its_number i w.places p at in
-    reopens w now p (subst (λ (k : ℕ). place_at k w.places ≡ Some p) (sym its) at)
+reports_at : (e : Event) (a : Answer) (o : Option Place) → Answers e Kept o (Some a) → option_to_list (option_map report_seen a.report) ≡ reported_in (option_map (λ p. happens p.node e (answer_of p.keeper Kept)) o)
+reports_at e a None answers = absurd answers
+reports_at e a (Some p) is = ap option_to_list is.report
 
-pub restarts : (w : World) (i now : ℕ) (places : List Place) → places ≡ restarted_at i now w.places → with_lists w places w.sent w.said w.reports w.forged ≡ stepped w (option_map (restart now) (place_at i w.places))
-restarts w i now places is = ap (λ (ps : List Place). with_lists w ps w.sent w.said w.reports w.forged) is ∙ restarts_at w i now (place_at i w.places) refl
+pub reports_there : (i : ℕ) (e : Event) (a : Answer) (ps : List Place) → AnswersAt i e Kept ps (Some a) → option_to_list (option_map report_seen a.report) ≡ reported_in (reply_in i e ps)
+reports_there i e a ps answers = reports_at e a (place_at i ps) answers
 
--- a world that may have made a step is a run
-pub stepped_run : (w v : World) (o : Option Step) → v ≡ stepped w o → IsRun w → IsRun v
-stepped_run w v None is run_w = subst (λ (u : World). IsRun u) (sym is) run_w
-stepped_run w v (Some s) is run_w = run_more w v s is run_w
-
--- what is told of an answer, where there is one, is what is told of the step
-pub told_heard : (w : World) (to : ℕ) (e : Event) (a : Option Answer) → AnswersAt to e Kept w.places a → told_some to a ≡ told_of to (reply_to w (Act to e Kept))
-told_heard w to e None answers = tells_nothing w to e Kept (no_place w to e Kept answers)
-told_heard w to e (Some a) answers = told_step w to e Kept a answers
+pub reports_nowhere : (i : ℕ) (e : Event) (ps : List Place) → AnswersAt i e Kept ps None → reported_in (reply_in i e ps) ≡ []
+reports_nowhere i e ps answers = ap (λ o. reported_in (option_map (λ p. happens p.node e (answer_of p.keeper Kept)) o)) (nothing_at e Kept (place_at i ps) answers)
 
 -- bytes that were sent are not forged
 fair : (last mine liar right sent : Bool) → sent ≡ true → (last && (mine && not liar && not sent && right)) ≡ false
@@ -233,7 +209,7 @@ found_sent sent f k at =
     list_any_at _ sent k f (slice_get_within sent k f at)
     (subst (λ (g : Sent). bytes_eq g.bytes f.bytes ≡ true) (sym (get_or_from_slice_get sent k f f at)) ((bytes_eq-Decides f.bytes f.bytes).1 refl))
 
-fair_at : (liars : List ℕ) (sent : List Sent) (bytes : List ℕ) (o : Option Place) → was_sent sent bytes ≡ true → forged_at liars sent bytes o ≡ false
+pub fair_at : (liars : List ℕ) (sent : List Sent) (bytes : List ℕ) (o : Option Place) → was_sent sent bytes ≡ true → forged_at liars sent bytes o ≡ false
 fair_at liars sent bytes None was = refl
 fair_at liars sent bytes (Some p) was = sent_fair liars sent p.node.keys bytes (split_of bytes) was
 
@@ -241,15 +217,6 @@ pub frame_fair : (liars : List ℕ) (sent : List Sent) (f : Sent) (place : ℕ) 
 frame_fair liars sent f zero o at = cc
 frame_fair liars sent f (suc k) o at = fair_at liars sent f.bytes o (found_sent sent f k at)
 
--- DELIVERIES
-
--- the bytes of the sent frame come to its receiver
-pub delivered : (w v : World) (at place : ℕ) (f : Sent) (bytes : List ℕ) → frame_at w.sent place ≡ Some f → bytes ≡ f.bytes →
-    v ≡ step w (Act f.to (Frame at bytes) Kept) → v ≡ after_event w (Deliver at place)
-delivered w v at place f bytes found is_bytes is =
-    is ∙ (ap (λ (b : List ℕ). step w (Act f.to (Frame at b) Kept)) is_bytes ∙ ap (λ o. stepped w (option_map (delivery at) o)) (sym found))
-
-pub delivered_told : (w : World) (at place : ℕ) (f : Sent) (bytes : List ℕ) (told : List Outcome) → frame_at w.sent place ≡ Some f → bytes ≡ f.bytes →
-    told ≡ told_of f.to (reply_to w (Act f.to (Frame at bytes) Kept)) → told ≡ outcomes w (Deliver at place)
-delivered_told w at place f bytes told found is_bytes is =
-    is ∙ (ap (λ (b : List ℕ). told_of f.to (reply_to w (Act f.to (Frame at b) Kept))) is_bytes ∙ ap (λ o. outcomes_at w (option_map (delivery at) o)) (sym found))
+-- what is told of one step
+pub told_once : (w : World) (s : Step) → told_by w s ≡ told_in w (s ∷ [])
+told_once w s = sym (append-nil (told_by w s))

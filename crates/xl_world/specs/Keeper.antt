@@ -58,3 +58,8 @@ answers_ok Written = false
 -- the number that a restart finds
 abbrev pub found : Keeper → ℕ
 found k = if k.written then unwrap_or k.asked k.in_force else k.in_force
+
+-- the number that is left by a cut in a save of this number, new or not; in no save it is the one that a restart finds
+abbrev pub left_by : Keeper → Bool → Option ℕ → ℕ
+left_by k new None = found k
+left_by k new (Some s) = if new then s else k.in_force

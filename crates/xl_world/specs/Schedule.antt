@@ -1,21 +1,24 @@
 -- What an event of a schedule is in a world, and what is told of it. Source: this project's schedule language.
-use Rattle.std.specs.Prelude.{ℕ, zero, suc, List, [], ◌++◌, slice_get, option_map, option_to_list}
+use Rattle.std.specs.Prelude.{ℕ, zero, suc, Bool, List, [], ◌∷◌, ◌++◌, drop, map, slice_get, option_map, option_to_list, if◌then◌else◌}
 use Rattle.std.specs.Prelude.{Some, None}
 use Rattle.std.specs.declared.option.Option.{Option}
+use Rattle.xl_sched.specs.declared.ask.Ask.{Ask}
+use Rattle.xl_sched.specs.declared.ask.Ask.TheVariants as ask
 use Rattle.xl_sched.specs.declared.event.Event.{Event}
 use Rattle.xl_sched.specs.declared.event.Event.TheVariants as event
 use Rattle.xl_sched.specs.declared.lied.Lied.{Lied}
 use Rattle.xl_sched.specs.declared.lied.Lied.TheVariants as lied
 use Rattle.xl_tags.specs.Rings.{schedule_ring}
-use Rattle.xl_core.specs.Node.{Issue, Frame, Reply, happens, preferred}
+use Rattle.xl_core.specs.Node.{Event as NodeEvent, Issue, Frame, Reply, asks, happens, preferred}
 use Rattle.xl_core.specs.Sending.{sealed_bytes, sealed_header_bytes}
 use Rattle.xl_world.specs.declared.outcome.Outcome.{Outcome}
 use Rattle.xl_world.specs.declared.outcome.Outcome.TheVariants.{Refused, Full, Preferred}
-use Rattle.xl_world.specs.declared.place.Fate.TheVariants.{Kept}
+use Rattle.xl_world.specs.declared.place.Fate.{Fate}
+use Rattle.xl_world.specs.declared.place.Fate.TheVariants.{Kept, Unwritten, Written}
 use Rattle.xl_world.specs.declared.place.Place.{Place}
-use Rattle.xl_world.specs.Keeper.{answer_of, found}
+use Rattle.xl_world.specs.Keeper.{answer_of, found, left_by}
 use Rattle.xl_world.specs.declared.sent.Sent.{Sent}
-use Rattle.xl_world.specs.World.{World, Step, Act, Again, Torn, place_at, step}
+use Rattle.xl_world.specs.World.{World, Step, Act, Again, Torn, Mark, place_at, step, run}
 
 -- a frame is delivered
 abbrev pub delivery : ℕ → Sent → Step
@@ -35,28 +38,54 @@ abbrev pub lied_bytes : ℕ → ℕ → Lied → List ℕ
 lied_bytes from to (lied.Validation v) = sealed_bytes (schedule_ring from) from to v
 lied_bytes from to (lied.Header name h) = sealed_header_bytes (schedule_ring from) from to h
 
--- the step that an event is, where there is one
-abbrev pub step_of : World → Event → Option Step
-step_of w (event.Issue at node seq id full) = Some (Act node (Issue at seq id full) Kept)
-step_of w (event.Deliver at place) = option_map (delivery at) (frame_at w.sent place)
-step_of w (event.Restart at node) = option_map (restart at) (place_at node w.places)
-step_of w (event.Lie at from to what) = Some (Act to (Frame at (lied_bytes from to what)) Kept)
-step_of w (event.Raw at to bytes) = Some (Act to (Frame at bytes) Kept)
-step_of w (event.Prefer at node) = None
+-- the node that is asked
+abbrev pub node_asked : Ask → ℕ
+node_asked (ask.Issue node seq id full) = node
 
-abbrev pub stepped : World → Option Step → World
-stepped w None = w
-stepped w (Some s) = step w s
+-- and what it is asked to do, at a moment
+abbrev pub event_asked : ℕ → Ask → NodeEvent
+event_asked at (ask.Issue node seq id full) = Issue at seq id full
+
+-- how a save fails that leaves the new number, or the old one
+abbrev pub failing : Bool → Fate
+failing new = if new then Written else Unwritten
+
+-- an event whose save is cut off stops there, and leaves the new number or the old one. One that asks no save comes to its end, and
+-- then the node is opened anew
+abbrev pub cut_short : ℕ → Bool → ℕ → NodeEvent → Place → Option ℕ → List Step
+cut_short at new i e p None = Act i e Kept ∷ Again i at (left_by p.keeper new None) ∷ []
+cut_short at new i e p (Some s) = Torn i e (left_by p.keeper new (Some s)) ∷ []
+
+abbrev pub cut_at : ℕ → Bool → ℕ → NodeEvent → Option Place → List Step
+cut_at at new i e None = []
+cut_at at new i e (Some p) = cut_short at new i e p (asks p.node e)
+
+-- the steps that an event is
+abbrev pub steps_of : World → Event → List Step
+steps_of w (event.Issue at node seq id full) = Act node (Issue at seq id full) Kept ∷ []
+steps_of w (event.Deliver at place) = option_to_list (option_map (delivery at) (frame_at w.sent place))
+steps_of w (event.All at) = map (delivery at) (drop w.mark w.sent) ++ Mark ∷ []
+steps_of w (event.Drop at) = Mark ∷ []
+steps_of w (event.Restart at node) = option_to_list (option_map (restart at) (place_at node w.places))
+steps_of w (event.Cut at new what) = cut_at at new (node_asked what) (event_asked at what) (place_at (node_asked what) w.places)
+steps_of w (event.Fail at new what) = Act (node_asked what) (event_asked at what) (failing new) ∷ []
+steps_of w (event.Lie at from to what) = Act to (Frame at (lied_bytes from to what)) Kept ∷ []
+steps_of w (event.Raw at to bytes) = Act to (Frame at bytes) Kept ∷ []
+steps_of w (event.Prefer at node) = []
 
 -- the world after an event
 abbrev pub after_event : World → Event → World
-after_event w e = stepped w (step_of w e)
+after_event w e = run w (steps_of w e)
 
 -- the moment of an event
 abbrev pub moment_of : Event → ℕ
 moment_of (event.Issue at node seq id full) = at
 moment_of (event.Deliver at place) = at
+moment_of (event.All at) = at
+moment_of (event.Drop at) = at
 moment_of (event.Restart at node) = at
+moment_of (event.Cut at new what) = at
+moment_of (event.Fail at new what) = at
 moment_of (event.Lie at from to what) = at
 moment_of (event.Raw at to bytes) = at
 moment_of (event.Prefer at node) = at
@@ -66,6 +95,7 @@ abbrev pub reply_to : World → Step → Option Reply
 reply_to w (Act i event fate) = option_map (λ p. happens p.node event (answer_of p.keeper fate)) (place_at i w.places)
 reply_to w (Again i now number) = None
 reply_to w (Torn i event number) = None
+reply_to w Mark = None
 
 -- what is told of a reply: that it refused, and what it reports
 abbrev pub outcomes_of : ℕ → Reply → List Outcome
@@ -75,25 +105,31 @@ abbrev pub told_of : ℕ → Option Reply → List Outcome
 told_of i None = []
 told_of i (Some r) = outcomes_of i r
 
--- the number of the node at which a step happens
-abbrev pub node_of : Step → ℕ
-node_of (Act i event fate) = i
-node_of (Again i now number) = i
-node_of (Torn i event number) = i
+-- what is told of a step: of one that is torn nothing is
+abbrev pub told_by : World → Step → List Outcome
+told_by w (Act i event fate) = told_of i (reply_to w (Act i event fate))
+told_by w (Again i now number) = []
+told_by w (Torn i event number) = []
+told_by w Mark = []
 
-abbrev pub outcomes_at : World → Option Step → List Outcome
-outcomes_at w None = []
-outcomes_at w (Some s) = told_of (node_of s) (reply_to w s)
+-- what is told of steps, one after the other
+abbrev pub told_in : World → List Step → List Outcome
+told_in w [] = []
+told_in w (s ∷ ss) = told_by w s ++ told_in (step w s) ss
 
 -- the ledger that the node of a number prefers, where there is such a node
 abbrev pub preference : ℕ → Option Place → List Outcome
 preference i place = option_to_list (option_map (λ p. Preferred i (preferred p.node)) place)
 
--- what is told of an event: of its step, or of what is asked
+-- what is told of an event: of its steps, or of what is asked
 abbrev pub outcomes : World → Event → List Outcome
-outcomes w (event.Issue at node seq id full) = outcomes_at w (step_of w (event.Issue at node seq id full))
-outcomes w (event.Deliver at place) = outcomes_at w (step_of w (event.Deliver at place))
-outcomes w (event.Restart at node) = outcomes_at w (step_of w (event.Restart at node))
-outcomes w (event.Lie at from to what) = outcomes_at w (step_of w (event.Lie at from to what))
-outcomes w (event.Raw at to bytes) = outcomes_at w (step_of w (event.Raw at to bytes))
+outcomes w (event.Issue at node seq id full) = told_in w (steps_of w (event.Issue at node seq id full))
+outcomes w (event.Deliver at place) = told_in w (steps_of w (event.Deliver at place))
+outcomes w (event.All at) = told_in w (steps_of w (event.All at))
+outcomes w (event.Drop at) = told_in w (steps_of w (event.Drop at))
+outcomes w (event.Restart at node) = told_in w (steps_of w (event.Restart at node))
+outcomes w (event.Cut at new what) = told_in w (steps_of w (event.Cut at new what))
+outcomes w (event.Fail at new what) = told_in w (steps_of w (event.Fail at new what))
+outcomes w (event.Lie at from to what) = told_in w (steps_of w (event.Lie at from to what))
+outcomes w (event.Raw at to bytes) = told_in w (steps_of w (event.Raw at to bytes))
 outcomes w (event.Prefer at node) = preference node (place_at node w.places)

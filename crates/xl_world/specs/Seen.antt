@@ -1,5 +1,5 @@
 -- How the definitions see the types of the code. Source: what the code of this crate keeps.
-use Rattle.std.specs.Prelude.{◌≡◌, ℕ, Bool, false, [], List, ◌++◌, map, option_map, option_to_list, not, ◌==◌, ◌&&◌, ◌||◌}
+use Rattle.std.specs.Prelude.{◌≡◌, ℕ, Bool, false, [], ◌∷◌, List, ◌++◌, map, is_some, option_map, option_to_list, not, ◌==◌, ◌&&◌, ◌||◌}
 use Rattle.std.specs.Prelude.{Some, None}
 use Rattle.std.specs.declared.option.Option.{Option}
 use Rattle.std.specs.List.{list_all}
@@ -11,6 +11,7 @@ use Rattle.xl_world.specs.declared.act.Answer.{Answer}
 use Rattle.xl_world.specs.declared.act.Asked.{Asked}
 use Rattle.xl_world.specs.declared.act.NodeEvent.{NodeEvent}
 use Rattle.xl_world.specs.declared.act.NodeEvent.TheVariants as event
+use Rattle.xl_world.specs.declared.anew.Cut.{Cut}
 use Rattle.xl_world.specs.declared.fork.Fork.{Fork}
 use Rattle.xl_world.specs.declared.outcome.Outcome.{Outcome}
 use Rattle.xl_world.specs.declared.outcome.Outcome.TheVariants.{Refused, Full}
@@ -18,10 +19,11 @@ use Rattle.xl_world.specs.declared.place.Place.{Place}
 use Rattle.xl_world.specs.declared.place.Saying.{Saying}
 use Rattle.xl_world.specs.declared.report.WorldReport.{WorldReport}
 use Rattle.xl_world.specs.declared.place.Fate.{Fate}
-use Rattle.xl_world.specs.Keeper.{answer_of, found}
+use Rattle.xl_world.specs.Keeper.{answer_of, found, left_by}
 use Rattle.xl_world.specs.Forks as Forks
 use Rattle.xl_world.specs.declared.place.Fate.TheVariants.{Kept}
-use Rattle.xl_world.specs.World.{place_at, put, place_after, place_again, reported_by, forges, frames_for}
+use Rattle.xl_world.specs.Schedule.{told_of}
+use Rattle.xl_world.specs.World.{World, Step, place_at, put, place_after, place_again, reported_by, forges, frames_for, step}
 use Rattle.xl_wire.specs.Heads.{split_of}
 use Rattle.xl_world.specs.declared.sent.Sent.{Sent}
 
@@ -99,22 +101,58 @@ abbrev pub reported_some : Option Answer → List Report
 reported_some None = []
 reported_some (Some a) = option_to_list (option_map report_seen a.report)
 
--- what came of bytes at the node of a number: the places and the reports then, and what is told
-pub record HasHeard (to : ℕ) (e : Event) (told : List Outcome) (places places' : List Place) (reports reports' : List WorldReport) : Type 0 where
-  pub answer : Option Answer
-  pub answers : AnswersAt to e Kept places answer
-  pub acted : places' ≡ acted_at to e Kept places
-  pub reported : reports_seen reports' ≡ reports_seen reports ++ reported_some answer
-  pub tells : told ≡ told_some to answer
+-- what the node of a number replies to what comes to it, where there is one
+abbrev pub reply_in : ℕ → Event → List Place → Option Reply
+reply_in i e places = option_map (λ p. happens p.node e (answer_of p.keeper Kept)) (place_at i places)
+
+-- and what it reports
+abbrev pub reported_in : Option Reply → List Report
+reported_in None = []
+reported_in (Some r) = option_to_list (option_map (reported_by r.node) r.report)
+
+-- the places, the reports and what is told, while frames come
+pub record Hearing : Type 0 where
+  pub places : List Place
+  pub reports : List Report
+  pub told : List Outcome
+
+abbrev pub hearing_seen : List Place → List WorldReport → List Outcome → Hearing
+hearing_seen places reports told = record { places = places; reports = reports_seen reports; told = told }
+
+-- bytes come to the node of a number
+abbrev pub heard_one : ℕ → ℕ → List ℕ → Hearing → Hearing
+heard_one to at bytes h = record {
+  places = acted_at to (Frame at bytes) Kept h.places;
+  reports = h.reports ++ reported_in (reply_in to (Frame at bytes) h.places);
+  told = h.told ++ told_of to (reply_in to (Frame at bytes) h.places);
+}
+
+-- sent frames come to their receivers
+abbrev pub heard_all : ℕ → List Sent → Hearing → Hearing
+heard_all at [] h = h
+heard_all at (f ∷ fs) h = heard_all at fs (heard_one f.to at f.bytes h)
 
 -- a place whose node is opened anew with the number that a restart finds
 abbrev pub restarted : ℕ → Place → Place
 restarted now p = place_again p now (found p.keeper)
 
-abbrev pub put_restarted : ℕ → Option Place → List Place → List Place
-put_restarted now None places = places
-put_restarted now (Some p) places = put (restarted now p) places
+-- a place as a cut leaves it: where the event asks a save, it was torn in it
+abbrev pub cut_seen : ℕ → Bool → Place → Option ℕ → Cut
+cut_seen at new p asked = record { place = place_again p at (left_by p.keeper new asked); torn = is_some asked }
 
--- the places when the node of a number is opened anew
-abbrev pub restarted_at : ℕ → ℕ → List Place → List Place
-restarted_at i now places = put_restarted now (place_at i places) places
+-- the world with this place in place of the one of its number
+abbrev pub with_place : World → Place → World
+with_place w p = record {
+  liars = w.liars;
+  numbers = w.numbers;
+  places = put p w.places;
+  sent = w.sent;
+  mark = w.mark;
+  said = w.said;
+  reports = w.reports;
+  forged = w.forged;
+}
+
+-- that is the world after one step
+abbrev pub Steps : World → Place → Type 0
+Steps w p = (s : Step) × (with_place w p ≡ step w s)

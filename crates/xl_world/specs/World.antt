@@ -6,6 +6,7 @@ use Rattle.std.specs.Prelude.{Some, None, Result, Ok, Err}
 use Rattle.std.specs.declared.option.Option.{Option}
 use Rattle.std.specs.List.{list_any}
 use Rattle.std.specs.Str.{bytes_eq}
+use Rattle.xl_base.specs.declared.moments.TheConstants.{GREATEST_MILLIS}
 use Rattle.xl_lists.specs.Lists.{TrustedList, IsValid, is_on}
 use Rattle.xl_lists.specs.Quorums.{Enough}
 use Rattle.xl_lists.specs.Agreement.{Said, Report as Reported, with_said, Kept}
@@ -38,6 +39,8 @@ pub record World : Type 0 where
   pub places : List Place
   -- every frame that a node ever sent
   pub sent : List Sent
+  -- how many of them stand before the mark
+  pub mark : ℕ
   -- every validation that a node ever issued
   pub said : List Said
   -- every report of a node, under the list that was in force
@@ -45,12 +48,13 @@ pub record World : Type 0 where
   -- how many sealed frames came that no liar signed and nobody had sent; the count ends at the greatest `u64`
   pub forged : ℕ
 
--- What may happen next: something at a node, whose save meets some fate; a node is opened again at a moment; or it stops in the
--- event's save, and is opened again with what that leaves.
+-- What may happen next: something at a node, whose save meets some fate; a node is opened again at a moment; it stops in the
+-- event's save, and is opened again with what that leaves; or the mark moves to the end of what was sent.
 pub data Step : Type 0 where
   Act : (i : ℕ) (event : Event) (fate : Fate) → Step
   Again : (i now number : ℕ) → Step
   Torn : (i : ℕ) (event : Event) (number : ℕ) → Step
+  Mark : Step
 
 -- the place of a number
 abbrev pub place_at : ℕ → List Place → Option Place
@@ -103,6 +107,7 @@ settled w i forged r keeper = record {
   numbers = w.numbers;
   places = put (record { node = r.node; keeper = keeper }) w.places;
   sent = w.sent ++ frames_for w.numbers r.node r.issued;
+  mark = w.mark;
   said = with_said w.said (option_map (said_by i) r.issued);
   reports = w.reports ++ option_to_list (option_map (reported_by r.node) r.report);
   forged = if forged then one_more w.forged else w.forged;
@@ -146,10 +151,24 @@ abbrev pub asked_at : Option Place → Event → Option ℕ
 asked_at None event = None
 asked_at (Some p) event = asks p.node event
 
+-- all that was sent stands before the mark
+abbrev pub marked : World → World
+marked w = record {
+  liars = w.liars;
+  numbers = w.numbers;
+  places = w.places;
+  sent = w.sent;
+  mark = length w.sent;
+  said = w.said;
+  reports = w.reports;
+  forged = w.forged;
+}
+
 abbrev pub step : World → Step → World
 step w (Act i event fate) = acts w i event fate (place_at i w.places)
 step w (Again i now number) = again w i now number (place_at i w.places)
 step w (Torn i event number) = torn w i (moment_in event) number (place_at i w.places) (asked_at (place_at i w.places) event)
+step w Mark = marked w
 
 abbrev pub run : World → List Step → World
 run w [] = w
@@ -169,7 +188,7 @@ is_declared liars plan k = list_any (λ d. d.me == k) plan || is_on liars k
 
 -- a node with room for so many ledgers, and its keeper
 abbrev pub place_of : ℕ → PlanNode → Place
-place_of limit d = record { node = opened d.me d.list (schedule_ring d.me) limit 1000 0; keeper = holding 0 }
+place_of limit d = record { node = opened d.me d.list (schedule_ring d.me) limit d.moment 0; keeper = holding 0 }
 
 -- the network at the start
 abbrev pub start : ℕ → List ℕ → List PlanNode → World
@@ -178,6 +197,7 @@ start limit liars plan = record {
   numbers = filter (is_declared liars plan) all_numbers;
   places = map (place_of limit) plan;
   sent = [];
+  mark = 0;
   said = [];
   reports = [];
   forged = 0;
@@ -191,6 +211,10 @@ pub record IsDeclared (d : PlanNode) : Type 0 where
 
 abbrev pub AreDeclared : List PlanNode → Type 0
 AreDeclared plan = All IsDeclared plan
+
+-- each node is opened at a moment that there may be
+abbrev pub AreTimely : List PlanNode → Type 0
+AreTimely plan = All (λ d. d.moment ≤ GREATEST_MILLIS) plan
 
 -- the list that a number is declared with
 abbrev pub list_at : List PlanNode → ℕ → Option TrustedList

@@ -1,5 +1,5 @@
 -- A world of the code, as the definitions see it. Source: what the code of this crate keeps.
-use Rattle.std.specs.Prelude.{map}
+use Rattle.std.specs.Prelude.{◌≤◌, length, map}
 use Rattle.xl_world.specs.declared.world.World.TheInside.{Inside}
 use Rattle.xl_world.specs.Indexes.{IsIndex}
 use Rattle.xl_world.specs.World.{World, IsRun}
@@ -11,12 +11,14 @@ world_seen w = record {
   numbers = w.numbers.items;
   places = w.places.items;
   sent = w.sent.items;
+  mark = w.mark;
   said = map said_seen w.said.items;
   reports = reports_seen w.reports.items;
   forged = w.forged;
 }
 
--- what the type keeps: the world is a run, and its index is one of what was sent
+-- what the type keeps: the world is a run, its index is one of what was sent, and its mark stands in that
 pub record IsWhole (w : Inside) : Type 0 where
   pub run : IsRun (world_seen w)
   pub index : IsIndex w.index w.sent.items
+  pub mark : w.mark ≤ length w.sent.items

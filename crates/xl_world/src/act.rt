@@ -1,5 +1,5 @@
 // What an event does to one place, and what comes of it.
-ghost use Rattle.std.specs.Prelude.{◌≡◌, ◌≤◌, ◌==◌, Some, None, OnOk, OnErr, option_copied, option_map, position};
+ghost use Rattle.std.specs.Prelude.{◌≡◌, ◌≤◌, ◌==◌, Some, None, option_copied, option_map, position};
 ghost use Rattle.xl_core.specs.Node.{happens, preferred, Issue, Frame};
 ghost use Rattle.xl_base.specs.declared.moments.TheConstants.{GREATEST_MILLIS};
 ghost use Rattle.xl_core.specs.Node.Save.{Kept as AnsweredOk};
@@ -8,13 +8,12 @@ ghost use Rattle.xl_world.specs.declared.place.Fate.TheVariants.{Kept};
 ghost use Rattle.xl_world.specs.Keeper.{answer_of};
 ghost use Rattle.xl_world.specs.declared.outcome.Outcome.TheVariants.{Preferred};
 ghost use Rattle.xl_world.specs.World.{reported_by, moment_in, place_after, place_at};
-ghost use Rattle.xl_world.specs.Seen.{report_seen, issue_seen, event_seen, IsAnswer, acted_at, AnswersAt, restarted, restarted_at};
+ghost use Rattle.xl_world.specs.Seen.{report_seen, issue_seen, event_seen, IsAnswer, acted_at, AnswersAt};
 
 use crate::place::{Fate, Place};
 use crate::saving::Fated;
 use crate::{Outcome, WorldReport};
-use std::alloc::Global;
-use xl_base::{LedgerId, Millis, NodeNo, OutOfMemory, Seq};
+use xl_base::{LedgerId, Millis, NodeNo, Seq};
 use xl_core::{Core, Issued, Refusal, Report};
 use xl_lists::List;
 use xl_wire::Validation;
@@ -183,39 +182,5 @@ pub fn act_at(places: &mut [Place], i: NodeNo, event: &NodeEvent<'_>, fate: Fate
             Some(act(place, event, fate))
         }
         None => None,
-    }
-}
-
-/// Opens a node anew with the number that its keeper holds. An `Err` changes nothing.
-fn restart(alloc: Global, place: &mut Place, now: Millis) -> Result<(), OutOfMemory>
-    requires { now ≤ GREATEST_MILLIS }
-    ensures ok { OnOk result (place.new ≡ restarted now place.old) }
-    ensures err { OnErr result (place.new ≡ place.old) }
-{
-    let seq = place.keeper.found();
-    let (me, list, keys) = (place.node.me(), place.node.list(), place.node.keys());
-    let limit = place.node.limit();
-    place.node = Core::open(alloc, me, list.copy(), keys.copy(), limit, now, seq)?;
-    place.keeper = place.keeper.restored(seq);
-    Ok(())
-}
-
-/// Opens the node of a number anew, where there is one. An `Err` changes nothing.
-pub fn restart_at(
-    alloc: Global,
-    places: &mut [Place],
-    i: NodeNo,
-    now: Millis,
-) -> Result<(), OutOfMemory>
-    requires { now ≤ GREATEST_MILLIS }
-    ensures ok { OnOk result (places.new ≡ restarted_at i now places.old) }
-    ensures err { OnErr result (places.new ≡ places.old) }
-{
-    match place_of(places, i) {
-        Some(k) => {
-            let place = &mut places[k];
-            restart(alloc, place, now)
-        }
-        None => Ok(()),
     }
 }

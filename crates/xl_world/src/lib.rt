@@ -9,8 +9,10 @@
 
 mod act;
 mod agreement;
+mod anew;
 mod forged;
 mod fork;
+mod hearing;
 mod index;
 mod lie;
 mod open;

@@ -3,22 +3,21 @@ ghost use Rattle.std.specs.Prelude.{◌≡◌, ◌++◌, option_to_list, ◌≤�
 ghost use Rattle.std.specs.List.{list_any};
 ghost use Rattle.xl_ledger.specs.declared.registry.TheConstants.{LEAST_LIMIT, GREATEST_LIMIT};
 ghost use Rattle.xl_lists.specs.Lists.{is_on};
-ghost use Rattle.xl_world.specs.World.{place_of, is_declared, all_numbers, AreDeclared};
+ghost use Rattle.xl_base.specs.declared.moments.TheConstants.{GREATEST_MILLIS};
+ghost use Rattle.xl_world.specs.World.{place_of, is_declared, all_numbers, AreDeclared, AreTimely};
 
 use crate::place::{Keeper, Place};
 use crate::{Plan, PlanNode};
 use std::alloc::Global;
-use xl_base::{GREATEST_NODE_NO, Millis, NodeNo, OutOfMemory};
+use xl_base::{GREATEST_NODE_NO, NodeNo, OutOfMemory};
 use xl_core::Core;
 use xl_tags::Keys;
-
-/// The moment at which nodes are opened.
-const FIRST_MOMENT: Millis = 1_000;
 
 /// A node at its start, with room for so many ledgers, and its keeper.
 fn place(alloc: Global, limit: u32, node: &PlanNode) -> Result<Place, OutOfMemory>
     requires least { LEAST_LIMIT ≤ limit }
     requires most { limit ≤ GREATEST_LIMIT }
+    requires moment { node.now.moment ≤ GREATEST_MILLIS }
     ensures { IfOk result (λ place. place ≡ place_of limit node.now) }
 {
     let keys = Keys::of_schedule(node.me);
@@ -29,7 +28,7 @@ fn place(alloc: Global, limit: u32, node: &PlanNode) -> Result<Place, OutOfMemor
             node.list.copy(),
             keys,
             limit,
-            FIRST_MOMENT,
+            node.moment,
             0,
         )?,
         keeper: Keeper::holding(0),
@@ -40,6 +39,7 @@ fn place(alloc: Global, limit: u32, node: &PlanNode) -> Result<Place, OutOfMemor
 pub fn places(alloc: Global, limit: u32, nodes: &[PlanNode]) -> Result<Vec<Place>, OutOfMemory>
     requires least { LEAST_LIMIT ≤ limit }
     requires most { limit ≤ GREATEST_LIMIT }
+    requires moments { AreTimely nodes.now }
     ensures opened { IfOk result (λ places. places.items ≡ map (place_of limit) nodes.now) }
     ensures declared { OnOk result (AreDeclared nodes.now) }
 {

@@ -25,7 +25,7 @@ pub struct Keeper {
 
 impl Keeper {
     ghost use Rattle.std.specs.Prelude.{◌≡◌, ◌≤◌};
-    ghost use Rattle.xl_world.specs.Keeper.{holding, restored, after_failed, found};
+    ghost use Rattle.xl_world.specs.Keeper.{holding, restored, after_failed, found, left_by};
 
     pub fn holding(seq: Seq) -> Keeper
         ensures { result ≡ holding seq }
@@ -60,6 +60,17 @@ impl Keeper {
             written,
             faults: self.faults.saturating_add(1),
             ..*self
+        }
+    }
+
+    /// The number that is left by a cut in a save of this number, the new one or not; in no save it is the one that a restart finds.
+    pub fn left_by(&self, new: bool, saved: Option<Seq>) -> Seq
+        ensures { result ≡ left_by self.now new saved }
+    {
+        match saved {
+            Some(seq) if new => seq,
+            Some(_) => self.in_force,
+            None => self.found(),
         }
     }
 

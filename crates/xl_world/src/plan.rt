@@ -1,4 +1,4 @@
-use xl_base::NodeNo;
+use xl_base::{Millis, NodeNo};
 use xl_lists::List;
 
 /// An honest node as it is declared.
@@ -6,6 +6,8 @@ use xl_lists::List;
 pub struct PlanNode {
     pub me: NodeNo,
     pub list: List,
+    /// The moment at which it is opened, in milliseconds.
+    pub moment: Millis,
 }
 
 /// Who is in the world: the honest nodes, in the order in which they are declared, and the liars. Each node may know so many

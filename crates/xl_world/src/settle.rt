@@ -45,7 +45,9 @@ pub fn say_some(said: &mut Vec<Saying>, member: NodeNo, issued: &Option<Validati
 /// A report, if there is one, comes after the others.
 pub fn report_some(reports: &mut Vec<WorldReport>, report: Option<WorldReport>)
     requires { vec_len reports.old < vec_capacity reports.old }
-    ensures { reports_seen reports.new.items ≡ reports_seen reports.old.items ++ option_to_list (option_map report_seen report) }
+    ensures items { reports_seen reports.new.items ≡ reports_seen reports.old.items ++ option_to_list (option_map report_seen report) }
+    ensures len { vec_len reports.new ≤ vec_len reports.old + 1 }
+    ensures capacity { vec_capacity reports.old ≤ vec_capacity reports.new }
 {
     if let Some(report) = report {
         let _ = reports.push(report);
@@ -55,7 +57,9 @@ pub fn report_some(reports: &mut Vec<WorldReport>, report: Option<WorldReport>)
 /// What is told of an answer.
 pub fn tell(outcomes: &mut Vec<Outcome>, node: NodeNo, answer: &Answer)
     requires { vec_len outcomes.old + 2 ≤ vec_capacity outcomes.old }
-    ensures { outcomes.new.items ≡ outcomes.old.items ++ outcomes_told node answer.now }
+    ensures items { outcomes.new.items ≡ outcomes.old.items ++ outcomes_told node answer.now }
+    ensures len { vec_len outcomes.new ≤ vec_len outcomes.old + 2 }
+    ensures capacity { vec_capacity outcomes.old ≤ vec_capacity outcomes.new }
 {
     let refused = answer
         .refused

@@ -1,6 +1,7 @@
-ghost use Rattle.std.specs.Prelude.{◌≡◌, ◌≤◌, IfOk};
+ghost use Rattle.std.specs.Prelude.{◌≡◌, ◌≤◌, IfOk, OnOk};
 ghost use Rattle.xl_base.specs.declared.moments.TheConstants.{GREATEST_MILLIS};
 ghost use Rattle.xl_world.specs.Schedule.{moment_of};
+ghost use Rattle.xl_world.specs.World.{AreTimely};
 
 use super::*;
 use std::alloc::Global;
@@ -9,7 +10,7 @@ use xl_base::{Bytes, LedgerId, NodeNo, Seq};
 use xl_core::{Report, sealed};
 use xl_ledger::{Header, id_of};
 use xl_lists::List;
-use xl_sched::{Event, Lied};
+use xl_sched::{Ask, Event, Lied};
 use xl_tags::Keys;
 use xl_wire::Validation;
 
@@ -79,15 +80,31 @@ fn number(n: u32) -> Result<NodeNo, Fail> {
     Ok(NodeNo::new(n).ok_or("no number of a member")?)
 }
 
+/// Declares a node with its number, its quorum and its list.
+fn declare(
+    nodes: &mut Vec<PlanNode>,
+    me: u32,
+    quorum: u32,
+    members: &[u32],
+) -> Result<(), Fail>
+    requires { AreTimely nodes.old.items }
+    ensures { OnOk result (AreTimely nodes.new.items) }
+{
+    nodes.push(PlanNode {
+        me: number(me)?,
+        list: List::new(members, quorum)?,
+        moment: 1_000,
+    })?;
+    Ok(())
+}
+
 fn plan(alloc: Global, schedule: &Schedule) -> Result<Plan, Fail>
-    ensures { IfOk result (λ plan. plan.limit ≡ 1024) }
+    ensures limit { IfOk result (λ plan. plan.limit ≡ 1024) }
+    ensures timely { IfOk result (λ plan. AreTimely plan.nodes.items) }
 {
     let mut nodes = Vec::new(alloc);
-    for (me, quorum, members) in schedule.nodes {
-        nodes.push(PlanNode {
-            me: number(*me)?,
-            list: List::new(members, *quorum)?,
-        })?;
+    for node in schedule.nodes {
+        declare(&mut nodes, node.0, node.1, node.2)?;
     }
     Ok(Plan {
         nodes,
@@ -169,10 +186,7 @@ const FIRST: Header = Header {
 /// Node 1 hears liar 2 and member 3, and two of them are a quorum.
 fn with_a_liar(alloc: Global) -> Result<World, Fail> {
     let mut nodes = Vec::new(alloc);
-    nodes.push(PlanNode {
-        me: number(1)?,
-        list: List::new(&[2, 3], 2)?,
-    })?;
+    declare(&mut nodes, 1, 2, &[2, 3])?;
     let mut liars = Vec::new(alloc);
     liars.push(number(2)?)?;
     Ok(World::open(
@@ -255,5 +269,120 @@ fn a_sealed_frame_that_nobody_sent_is_forged(rt: HostRuntime) -> Result<(), Fail
         })?;
         assert_eq!(rt; world.forged(), forged, "{from}");
     }
+    Ok(())
+}
+
+/// What node 1 does, or what is done to it.
+#[derive(Clone, Copy)]
+enum Saves {
+    /// It issues this sequence.
+    Issue(Seq),
+    /// Its save of this sequence is cut off, which leaves the new number or the old one.
+    Cut(bool, Seq),
+    /// Its save of this sequence fails, which leaves the new number or the old one.
+    Fail(bool, Seq),
+    Restart,
+}
+
+/// One thing after the other, how many frames were sent by then, and why it was refused.
+static SAVES: [(Saves, usize, Option<u32>); 15] = [
+    (Saves::Cut(true, 5), 0, None),
+    (Saves::Issue(5), 0, Some(30)),
+    (Saves::Issue(6), 1, None),
+    (Saves::Cut(false, 7), 1, None),
+    (Saves::Issue(7), 2, None),
+    // The save isn't asked, so the refusal is told.
+    (Saves::Cut(true, 7), 2, Some(30)),
+    (Saves::Fail(false, 8), 2, Some(32)),
+    (Saves::Issue(9), 2, Some(31)),
+    (Saves::Restart, 2, None),
+    (Saves::Issue(8), 3, None),
+    (Saves::Fail(true, 9), 3, Some(32)),
+    (Saves::Cut(false, 10), 3, Some(31)),
+    (Saves::Issue(9), 3, Some(30)),
+    (Saves::Fail(true, 9), 3, Some(30)),
+    (Saves::Issue(10), 4, None),
+];
+
+fn save(saves: Saves) -> Result<Event, Fail>
+    ensures { IfOk result (λ event. moment_of event ≤ GREATEST_MILLIS) }
+{
+    let at = 1_000;
+    let node = number(1)?;
+    let ask = |seq| Ask::Issue {
+        node,
+        seq,
+        id: X,
+        full: true,
+    };
+    Ok(match saves {
+        Saves::Issue(seq) => Event::Issue {
+            at,
+            node,
+            seq,
+            id: X,
+            full: true,
+        },
+        Saves::Cut(new, seq) => Event::Cut {
+            at,
+            new,
+            ask: ask(seq),
+        },
+        Saves::Fail(new, seq) => Event::Fail {
+            at,
+            new,
+            ask: ask(seq),
+        },
+        Saves::Restart => Event::Restart { at, node },
+    })
+}
+
+fn refused(happened: &Happened) -> Option<u32> {
+    match happened.as_slice() {
+        [Outcome::Refused { refusal, .. }] => Some(refusal.code()),
+        _ => None,
+    }
+}
+
+/// Nodes 1 and 2, two of whom are a quorum.
+const TWO: Schedule = Schedule {
+    nodes: &[(1, 2, &[1, 2]), (2, 2, &[1, 2])],
+    events: &[],
+    reports: &[],
+    fork: None,
+};
+
+#[test]
+fn a_save_may_be_cut_off_or_fail(rt: HostRuntime) -> Result<(), Fail> {
+    let alloc = rt.alloc();
+    let mut world = World::open(alloc, &plan(alloc, &TWO)?)?;
+    for (saves, sent, refusal) in &SAVES {
+        let happened = world.event(&save(*saves)?)?;
+        assert!(rt; refused(&happened) == *refusal);
+        assert_eq!(rt; world.sent().len(), *sent);
+    }
+    Ok(())
+}
+
+/// How many outcomes are told of an event.
+fn told_of(world: &mut World, event: &Event) -> Result<usize, Fail>
+    requires { moment_of event.now ≤ GREATEST_MILLIS }
+{
+    Ok(world.event(event)?.as_slice().len())
+}
+
+#[test]
+fn the_mark_says_what_is_delivered(rt: HostRuntime) -> Result<(), Fail> {
+    let alloc = rt.alloc();
+    let at = 1_000_000;
+    let mut world = World::open(alloc, &plan(alloc, &TWO)?)?;
+    assert_eq!(rt; told_of(&mut world, &event(Happens::Issue(1, X))?)?, 0);
+    assert_eq!(rt; told_of(&mut world, &Event::Drop { at })?, 0);
+    assert_eq!(rt; told_of(&mut world, &event(Happens::Issue(2, X))?)?, 0);
+    // Frame 2 alone comes: node 1 reports, and node 2 doesn't.
+    assert_eq!(rt; told_of(&mut world, &Event::All { at })?, 1);
+    assert_eq!(rt; told_of(&mut world, &Event::All { at })?, 0);
+    assert_eq!(rt; told_of(&mut world, &event(Happens::Deliver(1))?)?, 1);
+    assert_eq!(rt; world.reports().len(), 2);
     Ok(())
 }

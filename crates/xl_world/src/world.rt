@@ -1,12 +1,13 @@
-ghost use Rattle.std.specs.Prelude.{◌≡◌, ◌≤◌, IfOk, OnErr, if◌then◌else◌};
-ghost use Rattle.xl_base.specs.declared.moments.TheConstants.{GREATEST_MILLIS};
-ghost use Rattle.xl_core.specs.Node.{Frame};
-ghost use Rattle.xl_world.specs.Seen.{HasHeard};
+ghost use Rattle.std.specs.Prelude.{◌≡◌, if◌then◌else◌};
 ghost use Rattle.xl_world.specs.Keeper.{one_more};
+ghost use Rattle.xl_world.specs.Schedule.{node_asked, event_asked};
+ghost use Rattle.xl_world.specs.Seen.{issue_seen};
 
-use crate::act::{Asked, NodeEvent, act_at, list_at, preferred_at, restart_at};
+use crate::act::{Asked, NodeEvent, act_at, list_at, preferred_at};
 use crate::agreement::all_agree;
+use crate::anew::{cut_at, replace, restarted_at};
 use crate::forged::is_forged;
+use crate::hearing::{hear_at, hear_each};
 use crate::index::TagIndex;
 use crate::lie::{lied_header, lied_validation};
 use crate::place::{Fate, Place, Saying};
@@ -17,7 +18,7 @@ use std::alloc::Global;
 use std::marker::Model;
 use xl_base::{Millis, NodeNo, OutOfMemory};
 use xl_lists::List;
-use xl_sched::{Event, Lied};
+use xl_sched::{Ask, Event, Lied};
 
 /// A world: the nodes, and all that they ever sent, said and reported.
 #[derive(Drop)]
@@ -27,6 +28,8 @@ pub struct World {
     numbers: Vec<NodeNo>,
     places: Vec<Place>,
     sent: Vec<Sent>,
+    /// How many sent frames stand before the mark.
+    mark: usize,
     index: TagIndex,
     said: Vec<Saying>,
     reports: Vec<WorldReport>,
@@ -46,21 +49,22 @@ impl Model for World {
 }
 
 impl World {
-    ghost use Rattle.std.specs.Prelude.{◌≡◌, ◌≤◌, ◌↔◌, option_map, option_copied, Some, IsTrue, IfOk, OnOk, OnErr};
+    ghost use Rattle.std.specs.Prelude.{◌≡◌, ◌≤◌, ◌↔◌, option_copied, Some, IsTrue, IfOk, OnOk, OnErr};
     ghost use Rattle.xl_ledger.specs.declared.registry.TheConstants.{LEAST_LIMIT, GREATEST_LIMIT};
     ghost use Rattle.xl_lists.specs.Lists.{TrustedList};
     ghost use Rattle.xl_lists.specs.Quorums.{Enough};
     ghost use Rattle.xl_core.specs.Node.{Frame};
-    ghost use Rattle.xl_world.specs.World.{AgreeAt, Headline, list_in, start, step, Act, place_at};
-    ghost use Rattle.xl_world.specs.Schedule.{told_of, reply_to, restart, stepped, moment_of, after_event, outcomes, preference, lied_bytes};
+    ghost use Rattle.xl_world.specs.World.{AgreeAt, AreTimely, Headline, list_in, start, marked, step, run, Act, place_at};
+    ghost use Rattle.xl_world.specs.Schedule.{told_of, reply_to, told_in, moment_of, after_event, cut_at as cut_steps, outcomes, preference, lied_bytes};
     ghost use Rattle.xl_base.specs.declared.moments.TheConstants.{GREATEST_MILLIS};
-    ghost use Rattle.xl_world.specs.Seen.{issue_seen, reports_seen};
+    ghost use Rattle.xl_world.specs.Seen.{reports_seen, with_place, Steps};
     ghost use Rattle.xl_world.specs.declared.place.Fate.TheVariants.{Kept};
 
     /// The world of a plan, at its start.
     pub fn open(alloc: Global, plan: &Plan) -> Result<World, OutOfMemory>
         requires least { LEAST_LIMIT ≤ plan.now.limit }
         requires most { plan.now.limit ≤ GREATEST_LIMIT }
+        requires moments { AreTimely plan.now.nodes.items }
         ensures { IfOk result (λ world. world ≡ start plan.now.limit plan.now.liars.items plan.now.nodes.items) }
     {
         let places = open::places(alloc, plan.limit, &plan.nodes)?;
@@ -70,6 +74,7 @@ impl World {
             numbers: open::numbers(alloc, plan)?,
             places,
             sent: Vec::new(alloc),
+            mark: 0,
             index: TagIndex::new(alloc),
             said: Vec::new(alloc),
             reports: Vec::new(alloc),
@@ -119,6 +124,34 @@ impl World {
             frame.bytes.as_slice(),
         )?;
         Ok(told)
+    }
+
+    /// The sent frames after the mark are handed to their receivers, and the mark moves to the end.
+    fn deliver_all(&mut self, at: Millis) -> Result<Happened, OutOfMemory>
+        requires { at ≤ GREATEST_MILLIS }
+        ensures world { OnOk result (self.new ≡ after_event self.old (Event.All at)) }
+        ensures told { IfOk result (λ told. told ≡ outcomes self.old (Event.All at)) }
+        ensures err { OnErr result (self.new ≡ self.old) }
+    {
+        let frames = &self.sent[self.mark..];
+        let mut told = Vec::with_capacity(self.alloc, 2 * frames.len())?;
+        self.reports.reserve(frames.len())?;
+        hear_each(
+            &mut self.places,
+            &mut self.reports,
+            &mut told,
+            at,
+            frames,
+        );
+        self.mark = self.sent.len();
+        Ok(Happened::from_vec(told))
+    }
+
+    /// The mark moves to the end of what was sent.
+    fn drop_all(&mut self)
+        ensures { self.new ≡ marked self.old }
+    {
+        self.mark = self.sent.len();
     }
 
     /// Bytes come to a node that no node may have sent. An `Err` changes nothing.
@@ -180,14 +213,68 @@ impl World {
         Ok(Happened::from_vec(outcomes))
     }
 
+    /// A place comes in place of the one of its number, where that is a step.
+    fn set_place(&mut self, anew: Place)
+        requires { Steps self.old anew }
+        ensures { self.new ≡ with_place self.old anew }
+    {
+        replace(&mut self.places, anew);
+    }
+
     /// Opens a node anew with the number that its keeper holds.
-    fn restart(&mut self, at: Millis, node: NodeNo) -> Result<(), OutOfMemory>
+    fn restart(&mut self, at: Millis, node: NodeNo) -> Result<Happened, OutOfMemory>
         requires { at ≤ GREATEST_MILLIS }
-        ensures world { OnOk result (self.new ≡ stepped self.old (option_map (restart at) (place_at node self.old.places))) }
+        ensures world { OnOk result (self.new ≡ after_event self.old (Event.Restart at node)) }
+        ensures told { IfOk result (λ told. told ≡ outcomes self.old (Event.Restart at node)) }
         ensures err { OnErr result (self.new ≡ self.old) }
     {
-        restart_at(self.alloc, &mut self.places, node, at)?;
-        Ok(())
+        if let Some(anew) = restarted_at(self.alloc, &self.places, node, at)? {
+            self.set_place(anew);
+        }
+        Ok(Happened::nothing(self.alloc))
+    }
+
+    /// A node is asked to issue, and its save is cut off, which leaves the new number or the old one; it is opened anew then.
+    /// Where no save is asked, it is opened anew after the issue came to its end.
+    fn cut(&mut self, node: NodeNo, asked: &Asked, new: bool) -> Result<Happened, OutOfMemory>
+        requires { asked.now.moment ≤ GREATEST_MILLIS }
+        ensures world { OnOk result (self.new ≡ run self.old (cut_steps asked.now.moment new node (issue_seen asked.now) (place_at node self.old.places))) }
+        ensures told { IfOk result (λ told. told ≡ told_in self.old (cut_steps asked.now.moment new node (issue_seen asked.now) (place_at node self.old.places))) }
+        ensures err { OnErr result (self.new ≡ self.old) }
+    {
+        let Some(cut) = cut_at(self.alloc, &self.places, node, asked, new)? else {
+            return Ok(Happened::nothing(self.alloc));
+        };
+        let told = if cut.torn {
+            Happened::nothing(self.alloc)
+        } else {
+            self.issue(node, asked, Fate::Kept)?
+        };
+        self.set_place(cut.place);
+        Ok(told)
+    }
+
+    /// What a node is asked while its save is cut off.
+    fn cut_asked(&mut self, at: Millis, new: bool, ask: &Ask) -> Result<Happened, OutOfMemory>
+        requires { at ≤ GREATEST_MILLIS }
+        ensures world { OnOk result (self.new ≡ after_event self.old (Event.Cut at new ask.now)) }
+        ensures told { IfOk result (λ told. told ≡ outcomes self.old (Event.Cut at new ask.now)) }
+        ensures err { OnErr result (self.new ≡ self.old) }
+    {
+        let (node, asked) = asked_by(at, ask);
+        self.cut(node, &asked, new)
+    }
+
+    /// What a node is asked while its save fails, which leaves the new number or the old one.
+    fn fail_asked(&mut self, at: Millis, new: bool, ask: &Ask) -> Result<Happened, OutOfMemory>
+        requires { at ≤ GREATEST_MILLIS }
+        ensures world { OnOk result (self.new ≡ after_event self.old (Event.Fail at new ask.now)) }
+        ensures told { IfOk result (λ told. told ≡ outcomes self.old (Event.Fail at new ask.now)) }
+        ensures err { OnErr result (self.new ≡ self.old) }
+    {
+        let (node, asked) = asked_by(at, ask);
+        let fate = if new { Fate::Written } else { Fate::Unwritten };
+        self.issue(node, &asked, fate)
     }
 
     /// An event of a schedule, and what is told of it, in order. An `Err` changes nothing.
@@ -215,10 +302,14 @@ impl World {
                 Fate::Kept,
             ),
             Event::Deliver { at, place } => self.deliver(*at, *place),
-            Event::Restart { at, node } => {
-                self.restart(*at, *node)?;
+            Event::All { at } => self.deliver_all(*at),
+            Event::Drop { .. } => {
+                self.drop_all();
                 Ok(Happened::nothing(self.alloc))
             }
+            Event::Restart { at, node } => self.restart(*at, *node),
+            Event::Cut { at, new, ask } => self.cut_asked(*at, *new, ask),
+            Event::Fail { at, new, ask } => self.fail_asked(*at, *new, ask),
             Event::Lie { at, from, to, what } => self.lie(*at, *from, *to, what),
             Event::Raw { at, to, bytes } => self.hear(*at, *to, bytes.as_slice()),
             Event::Prefer { node, .. } => self.prefer(*node),
@@ -284,28 +375,26 @@ fn counted(count: u64, forged: bool) -> u64
     }
 }
 
-/// Bytes come to the node of a number, where there is one, and what it reports comes after the other reports.
-fn hear_at(
-    alloc: Global,
-    places: &mut Vec<Place>,
-    reports: &mut Vec<WorldReport>,
-    to: NodeNo,
-    now: Millis,
-    bytes: &[u8],
-) -> Result<Happened, OutOfMemory>
-    requires { now ≤ GREATEST_MILLIS }
-    ensures heard { IfOk result (λ told.
-        HasHeard to (Frame now bytes.now) told places.old.items places.new.items reports.old.items reports.new.items) }
-    ensures err_places { OnErr result (places.new.items ≡ places.old.items) }
-    ensures err_reports { OnErr result (reports.new.items ≡ reports.old.items) }
+/// The node that is asked, and what it is asked at a moment.
+fn asked_by(at: Millis, ask: &Ask) -> (NodeNo, Asked)
+    ensures node { result.0 ≡ node_asked ask.now }
+    ensures event { issue_seen result.1 ≡ event_asked at ask.now }
+    ensures moment { result.1.moment ≡ at }
 {
-    let mut outcomes = Vec::with_capacity(alloc, 2)?;
-    reports.reserve(1)?;
-    let event = NodeEvent::Frame { now, bytes };
-    let Some(answer) = act_at(places, to, &event, Fate::Kept) else {
-        return Ok(Happened::from_vec(outcomes));
-    };
-    tell(&mut outcomes, to, &answer);
-    report_some(reports, answer.report);
-    Ok(Happened::from_vec(outcomes))
+    match *ask {
+        Ask::Issue {
+            node,
+            seq,
+            id,
+            full,
+        } => (
+            node,
+            Asked {
+                moment: at,
+                seq,
+                id,
+                full,
+            },
+        ),
+    }
 }

@@ -1,19 +1,20 @@
 ghost use Rattle.std.specs.Prelude.{◌≡◌, ℕ, IfOk, option_copied};
+ghost use Rattle.xl_sched.specs.Words.{Reading, at_line, IsFit};
 
 use crate::event::Event;
 use crate::fault::{Cause, Fault};
 use crate::limits::MOST_NAMES;
 use crate::line::Line;
 use crate::members::{full, members, trusted, validating};
-use crate::numbers::{number, place};
+use crate::numbers::{number, number_within, place};
 use crate::reader::Reader;
 use crate::tokens::Tokens;
 use crate::word::Word;
-use xl_base::Bytes;
+use xl_base::{Bytes, GREATEST_MILLIS};
 
 impl Reader {
     ghost use Rattle.xl_sched.specs.Refusals.{GivenMemory};
-    ghost use Rattle.xl_sched.specs.Words.{worded_line, unless_late, node_line, node_of, mode_of, name_line, issue_event, deliver_event, restart_event, IsFit, IsFitEvent};
+    ghost use Rattle.xl_sched.specs.Words.{worded_line, unless_late, node_line, node_of, mode_of, name_line, issue_event, deliver_event, all_event, drop_event, restart_event, IsFit, IsFitEvent};
 
     /// The line of a first token, and of the tokens after it.
     pub(super) fn worded_line<'a>(
@@ -38,6 +39,11 @@ impl Reader {
             Some(Word::Limit) => self.limit_in_time(token, arguments),
             Some(Word::Ledger) => self.ledger(arguments),
             Some(Word::Prefer) => Ok(Line::Event(self.prefer(arguments)?)),
+            Some(Word::At) => at(arguments),
+            Some(Word::All) => Ok(Line::Event(self.all(arguments)?)),
+            Some(Word::Drop) => Ok(Line::Event(self.drop(arguments)?)),
+            Some(Word::Cut) => Ok(Line::Event(self.cut(arguments)?)),
+            Some(Word::Fail) => Ok(Line::Event(self.fail(arguments)?)),
         }
     }
 
@@ -138,6 +144,24 @@ impl Reader {
         })
     }
 
+    /// `all`.
+    fn all<'a>(&self, arguments: Tokens<'a>) -> Result<Event, Fault<'a>>
+        ensures value { result ≡ all_event self.now arguments.entry }
+        ensures fit { IfOk result (λ event. (sent : ℕ) → IsFitEvent self.now sent event) }
+    {
+        arguments.none()?;
+        Ok(Event::All { at: self.moment })
+    }
+
+    /// `drop`.
+    fn drop<'a>(&self, arguments: Tokens<'a>) -> Result<Event, Fault<'a>>
+        ensures value { result ≡ drop_event self.now arguments.entry }
+        ensures fit { IfOk result (λ event. (sent : ℕ) → IsFitEvent self.now sent event) }
+    {
+        arguments.none()?;
+        Ok(Event::Drop { at: self.moment })
+    }
+
     /// `restart i`.
     fn restart<'a>(&self, arguments: Tokens<'a>) -> Result<Event, Fault<'a>>
         ensures value { result ≡ restart_event self.now arguments.entry }
@@ -149,4 +173,13 @@ impl Reader {
             node: self.nodes.declared(node)?,
         })
     }
+}
+
+/// `at ms`.
+fn at<'a>(arguments: Tokens<'a>) -> Result<Line, Fault<'a>>
+    ensures value { result ≡ at_line arguments.entry }
+    ensures fit { IfOk result (λ line. (reading : Reading) → (sent : ℕ) → IsFit reading sent line) }
+{
+    let token = arguments.one()?;
+    Ok(Line::At(number_within(token, 0, GREATEST_MILLIS)?))
 }

@@ -6,7 +6,7 @@ use Rattle.xl_sched.specs.declared.line.Line.TheVariants as line
 use Rattle.xl_sched.specs.declared.named.Named.{Named}
 use Rattle.xl_sched.specs.Words.{Reading}
 use Rattle.xl_sched.specs.Reading.{counted, after}
-use Rattle.xl_sched.proofs.reader.Reader.learn.Goals.{in-Node+in_ok-declare-in-Node, in-Liar+in_ok-declare-in-Liar, in-Name+in_ok-declare-in-Name, in-Limit, in-Ledger+in_ok-declare_ledger-in-Ledger, in-Event}
+use Rattle.xl_sched.proofs.reader.Reader.learn.Goals.{in-Node+in_ok-declare-in-Node, in-Liar+in_ok-declare-in-Liar, in-Name+in_ok-declare-in-Name, in-Limit, in-Ledger+in_ok-declare_ledger-in-Ledger, in-At, in-Event}
 use Rattle.xl_sched.proofs.reader.Reader.learn.Goals as goal
 
 after_ledger : (r : Reading) (l : Line) (name parent as_slice : List ℕ) (header : Header) (names : List Named) → l ≡ line.Ledger name parent header → as_slice ≡ name → names ≡ r.names ++ record { name = as_slice; id = header_id header; header = Some header } ∷ [] → record (counted r) { names = names } ≡ after r l
@@ -19,5 +19,6 @@ returns-clause-learnt c = elim c.match-line.branch [
   | in-Name+in_ok-declare-in-Name w ↦ search rules
   | in-Limit w ↦ search rules
   | in-Ledger+in_ok-declare_ledger-in-Ledger w ↦ rw w.self-inside-is (after_ledger _ c.args.line.now _ _ _ _ _ w.in-Ledger.is w.as_slice-in-Ledger.ensures w.in_ok-declare_ledger-in-Ledger.ensures.declared ∙ ap (λ r. after r c.args.line.now) c.self.view_is)
+  | in-At w ↦ search rules
   | in-Event w ↦ search rules
 ]

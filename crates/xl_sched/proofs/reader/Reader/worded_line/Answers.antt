@@ -14,3 +14,15 @@ returns-in_ok-raw-in-Some-Raw-clause-fit c = c.in_ok-raw-in-Some-Raw.ensures.fit
 
 pub returns-in_ok-prefer-in-Some-Prefer-clause-fit : goal.returns-in_ok-prefer-in-Some-Prefer-clause-fit
 returns-in_ok-prefer-in-Some-Prefer-clause-fit c = c.in_ok-prefer-in-Some-Prefer.ensures.fit c.args.sent
+
+pub returns-in_ok-all-in-Some-All-clause-fit : goal.returns-in_ok-all-in-Some-All-clause-fit
+returns-in_ok-all-in-Some-All-clause-fit c = c.in_ok-all-in-Some-All.ensures.fit c.args.sent
+
+pub returns-in_ok-drop-in-Some-Drop-clause-fit : goal.returns-in_ok-drop-in-Some-Drop-clause-fit
+returns-in_ok-drop-in-Some-Drop-clause-fit c = c.in_ok-drop-in-Some-Drop.ensures.fit c.args.sent
+
+pub returns-in_ok-cut-in-Some-Cut-clause-fit : goal.returns-in_ok-cut-in-Some-Cut-clause-fit
+returns-in_ok-cut-in-Some-Cut-clause-fit c = c.in_ok-cut-in-Some-Cut.ensures.fit c.args.sent
+
+pub returns-in_ok-fail-in-Some-Fail-clause-fit : goal.returns-in_ok-fail-in-Some-Fail-clause-fit
+returns-in_ok-fail-in-Some-Fail-clause-fit c = c.in_ok-fail-in-Some-Fail.ensures.fit c.args.sent

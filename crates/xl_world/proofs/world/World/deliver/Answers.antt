@@ -6,10 +6,11 @@ use Rattle.xl_world.specs.World.{World, Act, step, place_at}
 use Rattle.xl_world.specs.declared.place.Fate.TheVariants.{Kept}
 use Rattle.xl_world.specs.Worlds.{world_seen}
 use Rattle.xl_world.specs.Schedule.{frame_at, after_event, outcomes}
-use Rattle.xl_world.specs.Seen.{HasHeard, forged_at}
+use Rattle.xl_world.specs.Seen.{forged_at}
 use Rattle.xl_sched.specs.declared.event.Event.TheVariants.{Deliver}
 use Rattle.xl_world.proofs.Runs.{run_more}
-use Rattle.xl_world.proofs.Steps.{heard_step, told_heard, frame_fair, delivered, delivered_told}
+use Rattle.xl_world.proofs.Delivering.{delivered, delivered_told}
+use Rattle.xl_world.proofs.Steps.{heard_step, frame_fair}
 use Rattle.xl_world.proofs.world.World.deliver.Goals as goal
 use Rattle.xl_world.proofs.world.World.deliver.Goals.{In_ok-told}
 
@@ -17,18 +18,14 @@ use Rattle.xl_world.proofs.world.World.deliver.Goals.{In_ok-told}
 found : (c : In_ok-told) → frame_at c.self.inside.sent.items c.args.place ≡ Some c.in-Some.frame.now
 found c = ap (λ (fs : List Sent). frame_at fs c.args.place) (sym c.deref.ensures.value) ∙ sym c.in-Some.ensures
 
-heard : (c : In_ok-told) →
-    HasHeard c.in-Some.frame.now.to (Frame c.args.at c.as_slice.result.now) c.in_ok-told.told c.self.inside.places.items c.hear_at.new.places.items c.self.inside.reports.items c.hear_at.new.reports.items
-heard c = c.in_ok-told.ensures.heard
-
 -- the lists of the code are those of the step: what was sent isn't forged
 its_step : (c : In_ok-told) →
-    world_seen (record { alloc = c.self.inside.alloc; liars = c.self.inside.liars; numbers = c.self.inside.numbers; places = c.hear_at.new.places; sent = c.self.inside.sent; index = c.self.inside.index; said = c.self.inside.said; reports = c.hear_at.new.reports; forged = c.self.inside.forged })
+    world_seen (record { alloc = c.self.inside.alloc; liars = c.self.inside.liars; numbers = c.self.inside.numbers; places = c.hear_at.new.places; sent = c.self.inside.sent; mark = c.self.inside.mark; index = c.self.inside.index; said = c.self.inside.said; reports = c.hear_at.new.reports; forged = c.self.inside.forged })
     ≡ step (world_seen c.self.inside) (Act c.in-Some.frame.now.to (Frame c.args.at c.as_slice.result.now) Kept)
 its_step c =
     let o = place_at c.in-Some.frame.now.to c.self.inside.places.items in
-    heard_step (world_seen c.self.inside) c.in-Some.frame.now.to c.args.at c.as_slice.result.now (heard c).answer c.hear_at.new.places.items _ c.self.inside.forged
-    (heard c).answers (heard c).acted (heard c).reported
+    heard_step (world_seen c.self.inside) c.in-Some.frame.now.to c.args.at c.as_slice.result.now c.hear_at.new.places.items _ c.self.inside.forged
+    c.in_ok-told.ensures.places c.in_ok-told.ensures.reports
     (sym (cond-false (forged_at c.self.inside.liars.items c.self.inside.sent.items c.as_slice.result.now o) _ _
     (ap (λ (bytes : List ℕ). forged_at c.self.inside.liars.items c.self.inside.sent.items bytes o) c.as_slice.ensures
     ∙ frame_fair c.self.inside.liars.items c.self.inside.sent.items c.in-Some.frame.now c.args.place o (found c))))
@@ -39,6 +36,7 @@ invariant_of-self-2 c =
     record {
       run = run_more (world_seen c.self.inside) _ (Act c.in-Some.frame.now.to (Frame c.args.at c.as_slice.result.now) Kept) (its_step d) c.self.invariant.run;
       index = c.self.invariant.index;
+      mark = c.self.invariant.mark;
     }
 
 pub returns-clause-world : goal.returns-clause-world
@@ -50,7 +48,5 @@ returns-clause-world c =
 pub returns-clause-told : goal.returns-clause-told
 returns-clause-told c =
     let d = (goal.at.returns-clause-told c).In_ok-told in
-    let e = Frame c.args.at c.as_slice.result.now in
-    delivered_told (world_seen c.self.inside) c.args.at c.args.place c.in-Some.frame.now c.as_slice.result.now c.in_ok-told.told (found d) c.as_slice.ensures
-    ((heard d).tells ∙ told_heard (world_seen c.self.inside) c.in-Some.frame.now.to e (heard d).answer (heard d).answers)
+    delivered_told (world_seen c.self.inside) c.args.at c.args.place c.in-Some.frame.now c.as_slice.result.now c.in_ok-told.told (found d) c.as_slice.ensures c.in_ok-told.ensures.told
     ∙ ap (λ (u : World). outcomes u (Deliver c.args.at c.args.place)) c.self.view_is

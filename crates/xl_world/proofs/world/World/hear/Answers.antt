@@ -9,9 +9,9 @@ use Rattle.xl_world.specs.Keeper.{one_more}
 use Rattle.xl_world.specs.Indexes.{IsIndex}
 use Rattle.xl_world.specs.Worlds.{world_seen}
 use Rattle.xl_world.specs.Schedule.{told_of, reply_to}
-use Rattle.xl_world.specs.Seen.{HasHeard, forged_at}
+use Rattle.xl_world.specs.Seen.{forged_at}
 use Rattle.xl_world.proofs.Runs.{run_more}
-use Rattle.xl_world.proofs.Steps.{heard_step, told_heard}
+use Rattle.xl_world.proofs.Steps.{heard_step}
 use Rattle.xl_world.proofs.world.World.hear.Goals as goal
 use Rattle.xl_world.proofs.world.World.hear.Goals.{In_ok-told}
 
@@ -26,16 +26,12 @@ tested c =
     ∙ (ap (λ (sent : List Sent). forged_at c.self.inside.liars.items sent c.args.bytes.now (place_at c.args.to c.deref-3.result.now)) c.deref-2.ensures.value
     ∙ ap (λ (places : List Place). forged_at c.self.inside.liars.items c.self.inside.sent.items c.args.bytes.now (place_at c.args.to places)) c.deref-3.ensures.value))
 
-heard : (c : In_ok-told) →
-    HasHeard c.args.to (Frame c.args.now c.args.bytes.now) c.in_ok-told.told c.self.inside.places.items c.hear_at.new.places.items c.self.inside.reports.items c.hear_at.new.reports.items
-heard c = c.in_ok-told.ensures.heard
-
 -- the lists of the code are those of the step
 its_step : (c : In_ok-told) (count : ℕ) → count ≡ (if forged c then one_more c.self.inside.forged else c.self.inside.forged) →
-    world_seen (record { alloc = c.self.inside.alloc; liars = c.self.inside.liars; numbers = c.self.inside.numbers; places = c.hear_at.new.places; sent = c.self.inside.sent; index = c.is_forged-forged.new.index; said = c.self.inside.said; reports = c.hear_at.new.reports; forged = count })
+    world_seen (record { alloc = c.self.inside.alloc; liars = c.self.inside.liars; numbers = c.self.inside.numbers; places = c.hear_at.new.places; sent = c.self.inside.sent; mark = c.self.inside.mark; index = c.is_forged-forged.new.index; said = c.self.inside.said; reports = c.hear_at.new.reports; forged = count })
     ≡ step (world_seen c.self.inside) (Act c.args.to (Frame c.args.now c.args.bytes.now) Kept)
 its_step c count counted =
-    heard_step (world_seen c.self.inside) c.args.to c.args.now c.args.bytes.now (heard c).answer c.hear_at.new.places.items _ count (heard c).answers (heard c).acted (heard c).reported counted
+    heard_step (world_seen c.self.inside) c.args.to c.args.now c.args.bytes.now c.hear_at.new.places.items _ count c.in_ok-told.ensures.places c.in_ok-told.ensures.reports counted
 
 -- the count, by what was tested
 counts : (c : In_ok-told) (count : ℕ) → count ≡ (if c.is_forged-forged.result then one_more c.self.inside.forged else c.self.inside.forged) →
@@ -48,6 +44,7 @@ invariant_of-self-2 c =
     record {
       run = run_more (world_seen c.self.inside) _ (Act c.args.to (Frame c.args.now c.args.bytes.now) Kept) (its_step d _ (counts d _ c.counted-self-inside.ensures)) c.self.invariant.run;
       index = subst (IsIndex c.is_forged-forged.new.index) c.deref-2.ensures.value c.is_forged-forged.ensures.index;
+      mark = c.self.invariant.mark;
     }
 
 pub returns-clause-world : goal.returns-clause-world
@@ -57,7 +54,5 @@ returns-clause-world c =
 
 pub returns-clause-told : goal.returns-clause-told
 returns-clause-told c =
-    let d = (goal.at.returns-clause-told c).In_ok-told in
-    let e = Frame c.args.now c.args.bytes.now in
-    (heard d).tells ∙ told_heard (world_seen c.self.inside) c.args.to e (heard d).answer (heard d).answers
-    ∙ ap (λ (u : World). told_of c.args.to (reply_to u (Act c.args.to e Kept))) c.self.view_is
+    c.in_ok-told.ensures.told
+    ∙ ap (λ (u : World). told_of c.args.to (reply_to u (Act c.args.to (Frame c.args.now c.args.bytes.now) Kept))) c.self.view_is

@@ -1,4 +1,4 @@
-use Rattle.std.proofs.Common.{◌≡◌, ◌++◌, ◌∙◌, [], ap, sym, subst, map, List, Some}
+use Rattle.std.proofs.Common.{◌≡◌, ◌++◌, ◌∙◌, [], ap, arith, length, length-append, sym, subst, map, List, Some}
 use Rattle.std.specs.Prelude.{is_some, option_map, option_to_list, if◌then◌else◌}
 use Rattle.std.specs.Vec.{with_items}
 use Rattle.std.proofs.lemmas.List.{with_items_is}
@@ -44,11 +44,11 @@ its_step c =
     (c.act_at.ensures.places ∙ ap (acted_at c.args.node (asked c) c.args.fate) c.deref_mut.ensures.value)
     (grown c ∙ ap (λ (fs : List Sent). c.self.inside.sent.items ++ (if is_some c.in-Some.answer.issued then fs else [])) (frames c))
     (c.say_some.ensures ∙ ap (λ xs. with_said (map said_seen xs) (option_map (said_by c.args.node) c.in-Some.answer.issued)) c.in_ok-reserve-2.ensures.items)
-    (c.report_some.ensures ∙ ap (λ rs. reports_seen rs ++ option_to_list (option_map report_seen c.in-Some.answer.report)) c.in_ok-reserve-3.ensures.items)
+    (c.report_some.ensures.items ∙ ap (λ rs. reports_seen rs ++ option_to_list (option_map report_seen c.in-Some.answer.report)) c.in_ok-reserve-3.ensures.items)
 
 -- the places stand in their vector
 in_place : (c : After-report_some) →
-    world_seen (record { alloc = c.self.inside.alloc; liars = c.self.inside.liars; numbers = c.self.inside.numbers; places = with_items c.self.inside.places c.act_at.new.places; sent = c.send_some.new.sent; index = c.self.inside.index; said = c.say_some.new.said; reports = c.report_some.new.reports; forged = c.self.inside.forged })
+    world_seen (record { alloc = c.self.inside.alloc; liars = c.self.inside.liars; numbers = c.self.inside.numbers; places = with_items c.self.inside.places c.act_at.new.places; sent = c.send_some.new.sent; mark = c.self.inside.mark; index = c.self.inside.index; said = c.say_some.new.said; reports = c.report_some.new.reports; forged = c.self.inside.forged })
     ≡ step (world_seen c.self.inside) (Act c.args.node (asked c) c.args.fate)
 in_place c =
     ap (λ (ps : List Place). with_lists (world_seen c.self.inside) ps c.send_some.new.sent.items (map said_seen c.say_some.new.said.items) (reports_seen c.report_some.new.reports.items) c.self.inside.forged)
@@ -61,6 +61,7 @@ invariant_of-self-2 c =
     record {
       run = run_more (world_seen c.self.inside) _ (Act c.args.node (asked d) c.args.fate) (in_place d) c.self.invariant.run;
       index = subst (IsIndex c.self.inside.index) (sym (grown d)) (index_more c.self.inside.index c.self.inside.sent.items _ c.self.invariant.index);
+      mark = omega (arith, c.self.invariant.mark, ap length (grown d), length-append c.self.inside.sent.items (if is_some c.in-Some.answer.issued then c.in_ok-frames.frames.items else []));
     }
 
 pub returns-clause-world : goal.returns-clause-world
@@ -72,7 +73,7 @@ pub returns-clause-told : goal.returns-clause-told
 returns-clause-told c =
     let d = (goal.at.returns-clause-told c).After-report_some in
     c.from_vec-2.ensures
-    ∙ (c.tell.ensures
+    ∙ (c.tell.ensures.items
     ∙ (ap (λ (os : List Outcome). os ++ outcomes_told c.args.node c.in-Some.answer) c.in_ok-outcomes.ensures.items
     ∙ (told_step (world_seen c.self.inside) c.args.node (asked d) c.args.fate c.in-Some.answer (answers d)
     ∙ ap (λ (u : World). told_of c.args.node (reply_to u (Act c.args.node (asked d) c.args.fate))) c.self.view_is)))

@@ -1,31 +1,36 @@
-use Rattle.std.proofs.Common.{◌≡◌, ◌∙◌, ap, List}
+use Rattle.std.proofs.Common.{◌≡◌, ◌∙◌, ap, List, Option, Some, refl, sym}
 use Rattle.std.specs.Prelude.{option_map}
-use Rattle.std.specs.Vec.{with_items}
-use Rattle.std.proofs.lemmas.List.{with_items_is}
 use Rattle.xl_world.specs.declared.place.Place.{Place}
-use Rattle.xl_world.specs.World.{World, place_at}
-use Rattle.xl_world.specs.Worlds.{world_seen}
-use Rattle.xl_world.specs.Schedule.{restart, stepped}
-use Rattle.xl_world.specs.Seen.{restarted_at}
-use Rattle.xl_world.proofs.Steps.{restarts, stepped_run}
+use Rattle.xl_world.specs.World.{World, place_at, run}
+use Rattle.xl_world.specs.Schedule.{told_in}
+use Rattle.xl_world.specs.Seen.{restarted}
+use Rattle.xl_world.proofs.Reopening.{restarts, restarts_none}
 use Rattle.xl_world.proofs.world.World.restart.Goals as goal
-use Rattle.xl_world.proofs.world.World.restart.Goals.{In_ok-restart_at}
+use Rattle.xl_world.proofs.world.World.restart.Goals.{In_ok-anew, in-Some, in_default}
 
-its_step : (c : In_ok-restart_at) →
-    world_seen (record { alloc = c.self.inside.alloc; liars = c.self.inside.liars; numbers = c.self.inside.numbers; places = with_items c.self.inside.places c.restart_at.new.places; sent = c.self.inside.sent; index = c.self.inside.index; said = c.self.inside.said; reports = c.self.inside.reports; forged = c.self.inside.forged })
-    ≡ stepped (world_seen c.self.inside) (option_map (restart c.args.at) (place_at c.args.node c.self.inside.places.items))
-its_step c =
-    restarts (world_seen c.self.inside) c.args.node c.args.at _
-    (with_items_is c.self.inside.places c.restart_at.new.places (c.restart_at.auto.places ∙ c.deref_mut.ensures.len)
-    ∙ (c.in_ok-restart_at.ensures.ok ∙ ap (λ (ps : List Place). restarted_at c.args.node c.args.at ps) c.deref_mut.ensures.value))
+-- the place that is left is the one of the world's node
+left : (c : In_ok-anew) → c.in_ok-anew.field-0 ≡ option_map (restarted c.args.at) (place_at c.args.node c.args.self.now.places)
+left c = c.in_ok-anew.ensures ∙ ap (λ (ps : List Place). option_map (restarted c.args.at) (place_at c.args.node ps)) (c.deref.ensures.value ∙ ap (λ (u : World). u.places) c.self.view_is)
 
-pub invariant_of-self-2 : goal.invariant_of-self-2
-invariant_of-self-2 c =
-    record {
-      run = stepped_run (world_seen c.self.inside) _ (option_map (restart c.args.at) (place_at c.args.node c.self.inside.places.items)) (its_step c) c.self.invariant.run;
-      index = c.self.invariant.index;
-    }
+pub set_place-requires : goal.set_place-requires
+set_place-requires c =
+    let d = (goal.at.set_place-requires c).In_ok-anew in
+    (restarts c.args.self.now c.args.node c.args.at c.in-Some.anew (place_at c.args.node c.args.self.now.places) refl (sym c.in-Some.is ∙ left d)).step
 
 pub returns-clause-world : goal.returns-clause-world
 returns-clause-world c =
-    its_step (goal.at.returns-clause-world c).In_ok-restart_at ∙ ap (λ (w : World). stepped w (option_map (restart c.args.at) (place_at c.args.node w.places))) c.self.view_is
+    let d = (goal.at.returns-clause-world c).In_ok-anew in
+    let o : Option Place = place_at c.args.node c.args.self.now.places in
+    elim c.match-branch-2.branch [
+      | in-Some w ↦ w.self-is ∙ (w.set_place.ensures ∙ (restarts c.args.self.now c.args.node c.args.at w.in-Some.anew o refl (sym w.in-Some.is ∙ left d)).world)
+      | in_default w ↦ w.self-is ∙ ap (run c.args.self.now) (sym (restarts_none c.args.at o (sym w.in_default.is ∙ left d)))
+    ]
+
+pub returns-clause-told : goal.returns-clause-told
+returns-clause-told c =
+    let d = (goal.at.returns-clause-told c).In_ok-anew in
+    let o : Option Place = place_at c.args.node c.args.self.now.places in
+    c.nothing.ensures ∙ elim c.match-branch-2.branch [
+      | in-Some w ↦ sym (restarts c.args.self.now c.args.node c.args.at w.in-Some.anew o refl (sym w.in-Some.is ∙ left d)).told
+      | in_default w ↦ ap (told_in c.args.self.now) (sym (restarts_none c.args.at o (sym w.in_default.is ∙ left d)))
+    ]

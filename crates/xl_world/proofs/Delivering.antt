@@ -1,0 +1,119 @@
+-- What comes of sent frames is a step for each.
+use Rattle.std.proofs.Common.{◌≡◌, ℕ, ◌+◌, ◌<◌, true, List, [], ◌∷◌, ◌++◌, length, get_or, take, refl, ap, sym, ◌∙◌, Some, map}
+use Rattle.std.specs.Prelude.{All as Each, drop, option_map, option_to_list}
+use Rattle.std.specs.Str.{bytes_eq}
+use Rattle.std.proofs.lemmas.Bool.{cond-false}
+use Rattle.std.proofs.lemmas.List.{append-nil, append_assoc, take_more}
+use Rattle.std.proofs.lemmas.List.Elements.{All-drop, All-head, All-tail}
+use Rattle.std.proofs.lemmas.List.Folds.{list_any_at}
+use Rattle.std.proofs.lemmas.Slice.Eq.{bytes_eq-Decides}
+use Rattle.xl_lists.specs.Agreement.{Report}
+use Rattle.xl_core.specs.Node.{Frame}
+use Rattle.xl_sched.specs.declared.event.Event.TheVariants.{All, Deliver}
+use Rattle.xl_world.specs.declared.outcome.Outcome.{Outcome}
+use Rattle.xl_world.specs.declared.place.Fate.TheVariants.{Kept}
+use Rattle.xl_world.specs.declared.place.Place.{Place}
+use Rattle.xl_world.specs.declared.report.WorldReport.{WorldReport}
+use Rattle.xl_world.specs.declared.sent.Sent.{Sent}
+use Rattle.xl_world.specs.Schedule.{after_event, delivery, frame_at, outcomes, reply_to, told_by, told_in, told_of}
+use Rattle.xl_world.specs.Seen.{Hearing, acted_at, forged_at, hearing_seen, heard_all, heard_one, reply_in, reported_in, reports_seen}
+use Rattle.xl_world.specs.World.{World, Step, Act, Mark, marked, place_at, run, step, was_sent}
+use Rattle.xl_world.proofs.Runs.{run-append}
+use Rattle.xl_world.proofs.Steps.{with_lists, fair_at, heard_step, told_once}
+
+-- the bytes of the sent frame come to its receiver
+pub delivered : (w v : World) (at place : ℕ) (f : Sent) (bytes : List ℕ) → frame_at w.sent place ≡ Some f → bytes ≡ f.bytes →
+    v ≡ step w (Act f.to (Frame at bytes) Kept) → v ≡ after_event w (Deliver at place)
+delivered w v at place f bytes found is_bytes is =
+    is ∙ (ap (λ (b : List ℕ). step w (Act f.to (Frame at b) Kept)) is_bytes ∙ ap (λ o. run w (option_to_list (option_map (delivery at) o))) (sym found))
+
+pub delivered_told : (w : World) (at place : ℕ) (f : Sent) (bytes : List ℕ) (told : List Outcome) → frame_at w.sent place ≡ Some f → bytes ≡ f.bytes →
+    told ≡ told_of f.to (reply_to w (Act f.to (Frame at bytes) Kept)) → told ≡ outcomes w (Deliver at place)
+delivered_told w at place f bytes told found is_bytes is =
+    is ∙ (ap (λ (b : List ℕ). told_of f.to (reply_to w (Act f.to (Frame at b) Kept))) is_bytes
+    ∙ (told_once w (delivery at f) ∙ ap (λ o. told_in w (option_to_list (option_map (delivery at) o))) (sym found)))
+
+-- all of these were sent
+abbrev pub AreSent : List Sent → List Sent → Type 0
+AreSent sent fs = Each (λ f. was_sent sent f.bytes ≡ true) fs
+
+abbrev pub heard_of : World → List Outcome → Hearing
+heard_of w told = record { places = w.places; reports = w.reports; told = told }
+
+-- the world with what was heard
+abbrev pub with_hearing : World → Hearing → World
+with_hearing w h = with_lists w h.places w.sent w.said h.reports w.forged
+
+delivery_step : (w : World) (at : ℕ) (f : Sent) (told : List Outcome) → was_sent w.sent f.bytes ≡ true → step w (delivery at f) ≡ with_hearing w (heard_one f.to at f.bytes (heard_of w told))
+delivery_step w at f told was =
+    sym (heard_step w f.to at f.bytes _ _ w.forged refl refl
+    (sym (cond-false (forged_at w.liars w.sent f.bytes (place_at f.to w.places)) _ _ (fair_at w.liars w.sent f.bytes (place_at f.to w.places) was))))
+
+-- deliveries of what was sent are what is heard of it
+pub deliveries : (w : World) (at : ℕ) (fs : List Sent) (told : List Outcome) → AreSent w.sent fs → run w (map (delivery at) fs) ≡ with_hearing w (heard_all at fs (heard_of w told))
+deliveries w at [] told sent = refl
+deliveries w at (f ∷ fs) told sent =
+    let one = heard_one f.to at f.bytes (heard_of w told) in
+    ap (λ (u : World). run u (map (delivery at) fs)) (delivery_step w at f told (All-head (λ g. was_sent w.sent g.bytes ≡ true) f fs sent))
+    ∙ deliveries (with_hearing w one) at fs one.told (All-tail (λ g. was_sent w.sent g.bytes ≡ true) f fs sent)
+
+pub deliveries_told : (w : World) (at : ℕ) (fs : List Sent) (told : List Outcome) → AreSent w.sent fs → told ++ told_in w (map (delivery at) fs) ≡ (heard_all at fs (heard_of w told)).told
+deliveries_told w at [] told sent = append-nil told
+deliveries_told w at (f ∷ fs) told sent =
+    let one = heard_one f.to at f.bytes (heard_of w told) in
+    sym (append_assoc told (told_by w (delivery at f)) (told_in (step w (delivery at f)) (map (delivery at) fs)))
+    ∙ (ap (λ (u : World). (told ++ told_by w (delivery at f)) ++ told_in u (map (delivery at) fs)) (delivery_step w at f told (All-head (λ g. was_sent w.sent g.bytes ≡ true) f fs sent))
+    ∙ deliveries_told (with_hearing w one) at fs one.told (All-tail (λ g. was_sent w.sent g.bytes ≡ true) f fs sent))
+
+-- nothing is told of the mark
+pub told_marked : (w : World) (ss : List Step) → told_in w (ss ++ Mark ∷ []) ≡ told_in w ss
+told_marked w [] = refl
+told_marked w (s ∷ ss) = ap (λ os. told_by w s ++ os) (told_marked (step w s) ss)
+
+-- ONE FRAME MORE
+
+heard_last : (at : ℕ) (fs : List Sent) (f : Sent) (h : Hearing) → heard_all at (fs ++ f ∷ []) h ≡ heard_one f.to at f.bytes (heard_all at fs h)
+heard_last at [] f h = refl
+heard_last at (g ∷ gs) f h = heard_last at gs f (heard_one g.to at g.bytes h)
+
+same_hearing : {p q : List Place} {r s : List Report} {t u : List Outcome} → p ≡ q → r ≡ s → t ≡ u → (let h : Hearing = record { places = p; reports = r; told = t } in h) ≡ (let h : Hearing = record { places = q; reports = s; told = u } in h)
+same_hearing {p} {q} {r} {s} {t} {u} a b c =
+    let h = λ (x : List Place) (y : List Report) (z : List Outcome). let k : Hearing = record { places = x; reports = y; told = z } in k in
+    ap (λ x. h x r t) a ∙ (ap (λ y. h q y t) b ∙ ap (λ z. h q s z) c)
+
+-- what is heard of the frames so far and of the next one
+pub heard_more : (at : ℕ) (fs : List Sent) (k : ℕ) (f : Sent) (bytes : List ℕ) (first : Hearing) (places places' : List Place) (reports reports' : List WorldReport) (told told' : List Outcome) →
+    k < length fs → f ≡ get_or fs k f → bytes ≡ f.bytes → hearing_seen places reports told ≡ heard_all at (take k fs) first →
+    places' ≡ acted_at f.to (Frame at bytes) Kept places → reports_seen reports' ≡ reports_seen reports ++ reported_in (reply_in f.to (Frame at bytes) places) →
+    told' ≡ told ++ told_of f.to (reply_in f.to (Frame at bytes) places) → hearing_seen places' reports' told' ≡ heard_all at (take (k + 1) fs) first
+heard_more at fs k f bytes first places places' reports reports' told told' k_in is is_bytes before is_places is_reports is_told =
+    same_hearing is_places is_reports is_told
+    ∙ (ap (λ (b : List ℕ). heard_one f.to at b (hearing_seen places reports told)) is_bytes
+    ∙ (ap (heard_one f.to at f.bytes) before
+    ∙ (sym (heard_last at (take k fs) f first)
+    ∙ ap (λ xs. heard_all at xs first) (sym (take_more fs k f k_in ∙ ap (λ g. take k fs ++ g ∷ []) (sym is))))))
+
+-- ALL OF THEM
+
+each_sent : (sent : List Sent) → AreSent sent sent
+each_sent sent k d k_in =
+    let f : Sent = get_or sent k d in
+    list_any_at (λ g. bytes_eq g.bytes f.bytes) sent k d k_in ((bytes_eq-Decides f.bytes f.bytes).1 refl)
+
+after_mark : (w : World) → AreSent w.sent (drop w.mark w.sent)
+after_mark w = All-drop (λ f. was_sent w.sent f.bytes ≡ true) w.mark w.sent (each_sent w.sent)
+
+-- the sent frames after the mark were heard, and the mark stands at the end
+pub all_delivered : (w : World) (at : ℕ) (frames : List Sent) (h : Hearing) → frames ≡ drop w.mark w.sent → h ≡ heard_all at frames (heard_of w []) → marked (with_hearing w h) ≡ after_event w (All at)
+all_delivered w at frames h is heard =
+    let fs : List Sent = drop w.mark w.sent in
+    ap (λ (x : Hearing). marked (with_hearing w x)) (heard ∙ ap (λ xs. heard_all at xs (heard_of w [])) is)
+    ∙ (ap marked (sym (deliveries w at fs [] (after_mark w)))
+    ∙ sym (run-append w (map (delivery at) fs) Mark))
+
+pub all_told : (w : World) (at : ℕ) (frames : List Sent) (h : Hearing) → frames ≡ drop w.mark w.sent → h ≡ heard_all at frames (heard_of w []) → h.told ≡ outcomes w (All at)
+all_told w at frames h is heard =
+    let fs : List Sent = drop w.mark w.sent in
+    ap (λ (x : Hearing). x.told) (heard ∙ ap (λ xs. heard_all at xs (heard_of w [])) is)
+    ∙ (sym (deliveries_told w at fs [] (after_mark w))
+    ∙ sym (told_marked w (map (delivery at) fs)))

@@ -1,0 +1,11 @@
+use Rattle.std.proofs.Common.{◌≡◌, arith}
+use Rattle.xl_world.proofs.Delivering.{heard_more}
+use Rattle.xl_world.proofs.hearing.hear_each.Goals as goal
+
+pub loop-frame-preserved : goal.loop-frame-preserved
+loop-frame-preserved c = (
+  heard_more c.args.at c.args.frames.now c.loop-frame.frame-index c.frame-item.result c.as_slice.result.now _ _ _ _ _ _ _ c.loop-frame-test.true c.frame-item.is c.as_slice.ensures c.loop-frame.invariant.0
+      c.hear.ensures.places c.hear.ensures.reports c.hear.ensures.told,
+  omega (arith, c.loop-frame.invariant.1, c.hear.ensures.room.0, c.hear.ensures.room.1, c.loop-frame-test.true),
+  omega (arith, c.loop-frame.invariant.2, c.hear.ensures.told_room.0, c.hear.ensures.told_room.1, c.loop-frame-test.true),
+)

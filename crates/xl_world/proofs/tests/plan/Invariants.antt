@@ -1,0 +1,5 @@
+use Rattle.xl_world.specs.World.{AreTimely}
+use Rattle.xl_world.proofs.tests.plan.Given as goal
+
+abbrev pub invariant-loop-node : goal.invariant-loop-node
+invariant-loop-node l = AreTimely l.nodes.items
