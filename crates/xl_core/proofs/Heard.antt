@@ -1,5 +1,5 @@
 -- What is known of bytes in which something is heard.
-use Rattle.std.proofs.Common.{◌≡◌, ℕ, Bool, true, false, List, [], length, refl, ap, sym, ◌∙◌, Option, Some, None, Result, Ok, Err}
+use Rattle.std.proofs.Common.{◌≡◌, ◌≢◌, ℕ, subst, Bool, true, false, List, [], length, refl, ap, sym, ◌∙◌, Option, Some, None, Result, Ok, Err}
 use Rattle.std.specs.Prelude.{◌==◌, ◌||◌, ◌-◌, not, nat_lt, nat_le, unwrap_or, IfOk, if◌then◌else◌}
 use Rattle.std.proofs.lemmas.Bool.{cond_both, le-leb, ltb-false}
 use Rattle.xl_lists.specs.Lists.{is_on}
@@ -13,6 +13,7 @@ use Rattle.xl_wire.specs.Kinds.{span}
 use Rattle.xl_wire.specs.Raws.{RawFrame}
 use Rattle.xl_tags.specs.Opening.{refusal_of, is_sealed}
 use Rattle.xl_tags.specs.Sealing.{tag_by}
+use Rattle.xl_tags.proofs.OpeningLaws.{opens_alone}
 use Rattle.xl_tags.specs.Rings.{Ring}
 use Rattle.xl_tags.specs.declared.refusal.TagRefusal.{TagRefusal}
 use Rattle.xl_tags.specs.declared.refusal.TagRefusal.TheVariants.{NotForMe, Stranger, BadTag}
@@ -50,6 +51,7 @@ pub record IsHeard (ring : Ring) (members bytes : List ℕ) (said : Spoken) : Ty
   pub split : split_of bytes ≡ Whole frame
   pub last : nat_le (length bytes) (span frame.body) ≡ true
   pub for_me : (frame.to == ring.me) ≡ true
+  pub other : frame.from ≢ ring.me
   pub listed : is_on members frame.from ≡ true
   pub is_sealed : is_sealed ring frame ≡ true
   pub body : heard_body frame.kind frame.from (body_of frame.kind frame.body) ≡ Ok said
@@ -117,6 +119,7 @@ split_parts ring members bytes (Whole f) said at is =
       split = at;
       last = le-leb _ _ (ltb-false _ _ fits);
       for_me = right.0;
+      other = (opens_alone ring members f parts.0).1;
       listed = right.1;
       is_sealed = right.2;
       body = parts.1;
@@ -132,6 +135,12 @@ heard_listed ring members bytes (Ok said) is =
     let parts = heard_parts ring members bytes said (sym is) in
     ap (is_on members) (body_from parts.frame.kind parts.frame.from (body_of parts.frame.kind parts.frame.body) said parts.body) ∙ parts.listed
 heard_listed ring members bytes (Err why) is = tt
+
+-- nor is it the ring's own member
+pub not_itself : (ring : Ring) (members bytes : List ℕ) (said : Spoken) → heard ring members bytes ≡ Ok said → said.from ≢ ring.me
+not_itself ring members bytes said is =
+    let parts = heard_parts ring members bytes said is in
+    subst (λ (from : ℕ). from ≢ ring.me) (sym (body_from parts.frame.kind parts.frame.from (body_of parts.frame.kind parts.frame.body) said parts.body)) parts.other
 
 -- ---- headers
 

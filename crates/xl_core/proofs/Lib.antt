@@ -10,3 +10,7 @@ pub mod Passing
 pub mod Expiring
 pub mod Living
 pub mod Reporting
+pub mod Draining
+pub mod Peers
+pub mod Stepping
+pub mod Stopping

@@ -4,5 +4,8 @@ pub mod Sending
 pub mod Node
 pub mod Replies
 pub mod Keeping
+pub mod Queues
+pub mod Core
+pub mod Stops
 pub mod Rest
 pub mod Lives

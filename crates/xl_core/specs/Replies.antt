@@ -5,6 +5,12 @@ use Rattle.xl_core.specs.declared.report.Report.{Report}
 use Rattle.xl_core.specs.declared.report.Issued.{Issued}
 use Rattle.xl_core.specs.declared.refusal.Refusal.{Refusal}
 use Rattle.xl_core.specs.declared.refusal.Refusal.TheVariants as node
+use Rattle.xl_ledger.specs.Headers.{header_id}
+use Rattle.xl_core.specs.declared.hearing.Speech.{Speech}
+use Rattle.xl_core.specs.declared.hearing.Speech.TheVariants as speech
+use Rattle.xl_core.specs.declared.taken.Taken.{Taken}
+use Rattle.xl_core.specs.declared.taken.Heard.{Heard}
+use Rattle.xl_core.specs.declared.taken.Taken.TheVariants.{Vote, Header}
 use Rattle.xl_core.specs.Node.{Node, Reply, Save, refusing}
 use Rattle.xl_core.specs.Node.Save.{Kept, Failed}
 
@@ -17,6 +23,16 @@ issue_reply (Err why) n = refusing n why
 abbrev pub hear_reply : Result (Option Report) Refusal → Node → Reply
 hear_reply (Ok report) n = record { node = n; refused = None; issued = None; report = report }
 hear_reply (Err why) n = refusing n why
+
+-- the report of what was taken
+abbrev pub report_in : Result Heard Refusal → Result (Option Report) Refusal
+report_in (Ok done) = Ok done.report
+report_in (Err why) = Err why
+
+-- what is taken of what was said: a validation, or a header with its id
+abbrev pub taken_of : Speech → Taken
+taken_of (speech.Vote v) = Vote
+taken_of (speech.Header h) = Header (header_id h)
 
 -- how the save was answered, as the refusal tells it
 abbrev pub save_of : Refusal → Save

@@ -1,21 +1,35 @@
-//! One node as a function of what happens at it: it issues validations, hears those of its list's members and the headers of
-//! ledgers, reports a ledger as fully validated once a quorum of the members' current full validations name it, and knows the
-//! ledger that their votes prefer.
+//! One node as a function of what happens at it, and its queues.
 //!
-//! It stands on xl_validations and xl_ledger, and on xl_wire and xl_tags, by which it reads, opens and seals frames. Its one
-//! contract: each call leaves the node and answers as `happens` says, and takes no memory.
+//! `Node` issues validations, hears those of its list's members and the headers of ledgers, reports a ledger as fully
+//! validated once a quorum of the members' current full validations name it, and knows the ledger that their votes prefer.
+//! `Core` is a node with its queues: what it issues waits for every peer until it is drained into frames, and what it reports
+//! waits until it is taken. A full queue drops its oldest item and counts it.
+//!
+//! It stands on xl_validations and xl_ledger, on xl_queues, on xl_io's keepers, and on xl_wire and xl_tags, by which it reads,
+//! opens and seals frames. Its one contract: each call leaves the node and answers as `happens` says, and its queues with what
+//! that gave, so that nothing is said before the keeper has saved its sequence; and no call after `open` takes memory.
 #![tactic(auto)]
 
 mod hearing;
 mod law;
 mod node;
+mod outgoing;
+mod queued;
 mod refusal;
 mod report;
 mod sending;
+mod settings;
+mod taken;
+mod untaken;
 
 pub use hearing::{Speech, Spoken};
 pub use law::reports;
-pub use node::Core;
+pub use node::Node;
+pub use outgoing::OUTGOING;
+pub use queued::{Core, LONGEST_FRAME};
 pub use refusal::Refusal;
 pub use report::{Issued, Report};
 pub use sending::{HEADER_FRAME, VALIDATION_FRAME, sealed, sealed_header};
+pub use settings::Settings;
+pub use taken::Taken;
+pub use untaken::UNTAKEN;

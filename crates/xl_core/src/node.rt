@@ -1,7 +1,8 @@
-ghost use Rattle.std.specs.Prelude.{◌≡◌, ◌↔◌, ◌<◌, ◌≤◌, IfOk, IsOk, OnOk, OnErr, IsTrue, true, Some, Ok, Err, ℕ, option_map};
+ghost use Rattle.std.specs.Prelude.{◌≡◌, ◌≢◌, ◌↔◌, ◌<◌, ◌≤◌, IfOk, IsOk, OnOk, OnErr, IsTrue, true, Some, Ok, Err, ℕ, option_map, None, []};
 ghost use Rattle.std.specs.Result.{result_err};
 ghost use Rattle.xl_base.specs.declared.moments.TheConstants.{GREATEST_MILLIS};
 ghost use Rattle.xl_lists.specs.Lists.{is_on};
+ghost use Rattle.xl_validations.specs.Votes.{votes_of};
 ghost use Rattle.xl_core.specs.Node.{
   Issue,
   Frame,
@@ -31,7 +32,10 @@ ghost use Rattle.xl_core.specs.Hearing.{heard};
 ghost use Rattle.xl_core.specs.Sending.{sealed_bytes, has_spelling};
 ghost use Rattle.xl_core.specs.Refusals.{refusal_from};
 ghost use Rattle.xl_core.specs.Rest.{IsKeyed, report_if};
-ghost use Rattle.xl_core.specs.Replies.{issue_reply, hear_reply, save_in};
+ghost use Rattle.xl_core.specs.Replies.{issue_reply, hear_reply, report_in, taken_of, save_in};
+ghost use Rattle.xl_core.specs.declared.hearing.Spoken.{Spoken};
+ghost use Rattle.xl_core.specs.declared.taken.Taken.TheVariants.{Vote, Header as TakenHeader};
+ghost use Rattle.xl_ledger.specs.Headers.{header_id};
 ghost use Rattle.xl_core.specs.Node.Save.{Kept};
 ghost use Rattle.xl_core.specs.Keeping.{AsksSave, Saves};
 ghost use Rattle.xl_base.specs.Faults.{Rose};
@@ -39,7 +43,8 @@ ghost use Rattle.xl_io.specs.Keepers.{after_save};
 
 use crate::hearing::hear;
 use crate::sending::{VALIDATION_FRAME, sealed};
-use crate::{Issued, Refusal, Report, Speech};
+use crate::taken::Heard;
+use crate::{Issued, Refusal, Report, Speech, Taken};
 use std::alloc::Global;
 use std::marker::Model;
 use xl_base::{LedgerId, Millis, NodeNo, OutOfMemory, Secs, Seq, secs_of};
@@ -56,7 +61,7 @@ const LEAST_TIME: Millis = 1_000;
 
 /// A node. No call after `open` takes memory.
 #[derive(Drop)]
-pub struct Core {
+pub struct Node {
     me: NodeNo,
     list: List,
     keys: Keys,
@@ -72,7 +77,7 @@ pub struct Core {
     last: Option<Report>,
 }
 
-impl Model for Core {
+impl Model for Node {
     ghost use Rattle.xl_validations.specs.Tallies.{IsTally};
     ghost use Rattle.xl_core.specs.Node.{Node};
     ghost use Rattle.xl_core.specs.Rest.{IsReady};
@@ -125,7 +130,7 @@ fn report_by(
     }
 }
 
-impl Core {
+impl Node {
     /// A node with a list, its keys, among them one for each other listed member, room for so many ledgers, the root among
     /// them, and the number that its keeper holds: it knows the root alone, and nothing is taken or reported yet.
     pub fn open(
@@ -136,7 +141,7 @@ impl Core {
         limit: u32,
         now: Millis,
         kept: Seq,
-    ) -> Result<Core, OutOfMemory>
+    ) -> Result<Node, OutOfMemory>
         requires keyed { IsKeyed me list.members keys }
         requires least { LEAST_LIMIT ≤ limit }
         requires most { limit ≤ GREATEST_LIMIT }
@@ -145,7 +150,7 @@ impl Core {
     {
         let registry = Registry::open(alloc, limit)?;
         let table = Table::open(alloc, &list, me)?;
-        Ok(Core {
+        Ok(Node {
             me,
             list,
             keys,
@@ -236,24 +241,69 @@ impl Core {
         ensures by_its_parent { (from : ℕ) (h : Header) → heard self.old.keys self.old.list.members bytes.now ≡ Ok (record { from = from; what = speech.Header h }) →
             result_err result ≡ option_map HeaderRefused (add_refusal self.old.ledgers h) }
         ensures unchanged { OnErr result (self.new ≡ at_moment now self.old) }
+        // A header gives nothing to report.
+        ensures silent { (from : ℕ) (h : Header) → heard self.old.keys self.old.list.members bytes.now ≡ Ok (record { from = from; what = speech.Header h }) → OnOk result (result ≡ Ok None) }
+    {
+        match self.take_frame(now, bytes) {
+            Ok(heard) => Ok(heard.report),
+            Err(why) => Err(why),
+        }
+    }
+
+    /// Hears bytes that come, and tells what was taken of them, too.
+    pub(crate) fn take_frame(&mut self, now: Millis, bytes: &[u8]) -> Result<Heard, Refusal>
+        requires moment { now ≤ GREATEST_MILLIS }
+        ensures exact { hear_reply (report_in result) self.new ≡ happens self.old (Frame now bytes.now) Kept }
+        ensures unheard { (why : Refusal) → heard self.old.keys self.old.list.members bytes.now ≡ Err why → result ≡ Err why }
+        ensures by_its_row { (from : ℕ) (v : Validation) → heard self.old.keys self.old.list.members bytes.now ≡ Ok (record { from = from; what = speech.Vote v }) →
+            result_err result ≡ option_map refusal_from (refusal_at (at_moment now self.old) (second_of (at_moment now self.old)) from v) }
+        ensures by_its_parent { (from : ℕ) (h : Header) → heard self.old.keys self.old.list.members bytes.now ≡ Ok (record { from = from; what = speech.Header h }) →
+            result_err result ≡ option_map HeaderRefused (add_refusal self.old.ledgers h) }
+        ensures unchanged { OnErr result (self.new ≡ at_moment now self.old) }
+        ensures taken { (said : Spoken) → heard self.old.keys self.old.list.members bytes.now ≡ Ok said → IfOk result (λ done. done.taken ≡ taken_of said.what) }
+        ensures silent { (from : ℕ) (h : Header) → heard self.old.keys self.old.list.members bytes.now ≡ Ok (record { from = from; what = speech.Header h }) → IfOk result (λ done. done.report ≡ None) }
+        // It hears others, and not itself.
+        ensures others { (said : Spoken) → heard self.old.keys self.old.list.members bytes.now ≡ Ok said → said.from ≢ self.old.me }
     {
         self.advance(now);
         let said = hear(&self.keys, &self.list, bytes)?;
         match said.what {
-            Speech::Vote(validation) => self.take(secs_of(self.time), said.from, &validation),
+            Speech::Vote(validation) => self.take_vote(secs_of(self.time), said.from, &validation),
             Speech::Header(header) => self.learn(&header),
         }
     }
 
+    /// A member's row takes a validation.
+    fn take_vote(&mut self, now: Secs, from: NodeNo, v: &Validation) -> Result<Heard, Refusal>
+        requires listed { IsTrue (is_on self.old.list.members from) }
+        ensures exact { hear_reply (report_in result) self.new ≡ hears self.old now from v.now (refusal_at self.old now from v.now) }
+        ensures taken { IfOk result (λ done. done.taken ≡ Vote) }
+        ensures refused { result_err result ≡ option_map refusal_from (refusal_at self.old now from v.now) }
+        ensures unchanged { OnErr result (self.new ≡ self.old) }
+    {
+        match self.take(now, from, v) {
+            Ok(report) => Ok(Heard {
+                taken: Taken::Vote,
+                report,
+            }),
+            Err(why) => Err(why),
+        }
+    }
+
     /// Adds a header to the known ledgers. Validations that waited for it are votes from then on, and nothing is reported.
-    fn learn(&mut self, h: &Header) -> Result<Option<Report>, Refusal>
-        ensures exact { hear_reply result self.new ≡ learns self.old h.now (add_refusal self.old.ledgers h.now) }
+    fn learn(&mut self, h: &Header) -> Result<Heard, Refusal>
+        ensures exact { hear_reply (report_in result) self.new ≡ learns self.old h.now (add_refusal self.old.ledgers h.now) }
+        ensures taken { IfOk result (λ done. done.taken ≡ TakenHeader (header_id h.now)) }
+        ensures silent { IfOk result (λ done. done.report ≡ None) }
         ensures refused { result_err result ≡ option_map HeaderRefused (add_refusal self.old.ledgers h.now) }
         ensures unchanged { OnErr result (self.new ≡ self.old) }
     {
         let ledger = self.registry.add(h)?;
         self.table.header_known(&self.registry, ledger);
-        Ok(None)
+        Ok(Heard {
+            taken: Taken::Header(self.registry.id_at(ledger)),
+            report: None,
+        })
     }
 
     /// The validation that it would issue at a moment.
@@ -352,7 +402,8 @@ impl Core {
     /// The ledger that the members' votes prefer, or None exactly where there is no vote. The largest sequence issued counts as
     /// the kept number.
     pub fn preferred(&self) -> Option<Report>
-        ensures { result ≡ preferred self.now }
+        ensures value { result ≡ preferred self.now }
+        ensures none { (result ≡ None) ↔ (votes_of self.now.ledgers.headers self.now.rows ≡ []) }
     {
         let mut walk = self.registry.walk();
         let ledger = self.table.preferred(&mut walk, self.kept)?;

@@ -1,5 +1,6 @@
 // The frames in which a node sends a validation, or a header.
-ghost use Rattle.std.specs.Prelude.{◌≡◌, IsTrue};
+ghost use Rattle.std.specs.Prelude.{◌≡◌, ◌<◌, ◌^◌, IsTrue};
+ghost use Rattle.xl_ledger.specs.Headers.{IsHeader};
 ghost use Rattle.xl_core.specs.Sending.{sealed_bytes, sealed_header_bytes, has_spelling};
 
 use xl_base::NodeNo;
@@ -34,7 +35,8 @@ pub const HEADER_FRAME: usize = 164;
 
 /// The frame of a header for another member, sealed if there is a key for it.
 pub fn sealed_header(keys: &Keys, to: NodeNo, header: &Header) -> [u8; HEADER_FRAME]
-    ensures { result ≡ sealed_header_bytes keys.now keys.now.me to header.now }
+    ensures bytes { result ≡ sealed_header_bytes keys.now keys.now.me to header.now }
+    ensures spelled { (keys.now.me < 2 ^ 32) × (to < 2 ^ 32) × IsHeader header.now }
 {
     let mut bytes = [0; HEADER_FRAME];
     let frame = Frame {

@@ -138,7 +138,7 @@ whole_ended : (w v : World) (i : ℕ) (e : Event) (new : Bool) (told : List Outc
 whole_ended w v i e new told p (Some s) at asked torn is said = cc
 whole_ended w v i e new told p None at asked torn is said =
     let again_is : with_place v (restarted (moment_in e) p) ≡ step v (Again i (moment_in e) (found p.keeper)) =
-        subst (λ (u : World). with_place u (restarted (moment_in e) p) ≡ step u (Again i (moment_in e) (found p.keeper))) (sym is) (whole_at w i e p at asked) in
+    subst (λ (u : World). with_place u (restarted (moment_in e) p) ≡ step u (Again i (moment_in e) (found p.keeper))) (sym is) (whole_at w i e p at asked) in
     record {
       step = (Again i (moment_in e) (found p.keeper), again_is);
       world = again_is ∙ ap (λ (u : World). step u (Again i (moment_in e) (found p.keeper))) is;

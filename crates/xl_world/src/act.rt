@@ -14,7 +14,7 @@ use crate::place::{Fate, Place};
 use crate::saving::Fated;
 use crate::{Outcome, WorldReport};
 use xl_base::{LedgerId, Millis, NodeNo, Seq};
-use xl_core::{Core, Issued, Refusal, Report};
+use xl_core::{Issued, Node, Refusal, Report};
 use xl_lists::List;
 use xl_wire::Validation;
 
@@ -57,7 +57,7 @@ impl Answer {
 }
 
 /// A report of a node, under its list.
-fn report_under(node: &Core, report: Option<Report>) -> Option<WorldReport>
+fn report_under(node: &Node, report: Option<Report>) -> Option<WorldReport>
     ensures { option_map report_seen result ≡ option_map (reported_by node.now) report }
 {
     match report {
@@ -72,7 +72,7 @@ fn report_under(node: &Core, report: Option<Report>) -> Option<WorldReport>
 }
 
 /// What came of a node's issue.
-fn issued(node: &Core, outcome: Result<Issued, Refusal>) -> Answer
+fn issued(node: &Node, outcome: Result<Issued, Refusal>) -> Answer
     ensures { IsAnswer result (issue_reply outcome node.now) }
 {
     match outcome {

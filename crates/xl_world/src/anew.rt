@@ -10,7 +10,7 @@ use crate::act::{Asked, place_of};
 use crate::place::Place;
 use std::alloc::Global;
 use xl_base::{Millis, NodeNo, OutOfMemory, Seq};
-use xl_core::Core;
+use xl_core::Node;
 
 /// What a cut leaves: the place with its node opened anew, and whether the event was torn in its save.
 #[derive(Drop)]
@@ -20,19 +20,14 @@ pub struct Cut {
 }
 
 /// The place with its node opened anew with this number, which its keeper then holds alone.
-fn opened_anew(
-    alloc: Global,
-    place: &Place,
-    now: Millis,
-    number: Seq,
-) -> Result<Place, OutOfMemory>
+fn opened_anew(alloc: Global, place: &Place, now: Millis, number: Seq) -> Result<Place, OutOfMemory>
     requires { now ≤ GREATEST_MILLIS }
     ensures { IfOk result (λ anew. anew ≡ place_again place.now now number) }
 {
     let node = &place.node;
     let (list, keys) = (node.list().copy(), node.keys().copy());
     Ok(Place {
-        node: Core::open(alloc, node.me(), list, keys, node.limit(), now, number)?,
+        node: Node::open(alloc, node.me(), list, keys, node.limit(), now, number)?,
         keeper: place.keeper.restored(number),
     })
 }
@@ -58,7 +53,7 @@ pub fn restarted_at(
 }
 
 /// The save that an issue of this sequence asks, if any.
-fn save_asked(node: &Core, seq: Seq) -> Option<Seq>
+fn save_asked(node: &Node, seq: Seq) -> Option<Seq>
     ensures { (now : _) (id : LedgerId) (full : _) → result ≡ asks node.now (Issue now seq id full) }
 {
     if node.kept() < seq && node.failed_save().is_none() {

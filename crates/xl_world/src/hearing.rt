@@ -75,13 +75,6 @@ pub fn hear_each(
     ensures { hearing_seen places.new.items reports.new.items told.new.items ≡ heard_all at frames.now (hearing_seen places.old.items reports.old.items told.old.items) }
 {
     for frame in frames {
-        hear(
-            places,
-            reports,
-            told,
-            frame.to,
-            at,
-            frame.bytes.as_slice(),
-        );
+        hear(places, reports, told, frame.to, at, frame.bytes.as_slice());
     }
 }

@@ -1,9 +1,9 @@
 //! Many nodes in one network: what happens at them, everything that they ever sent, said and reported, and whether they agree.
 //!
-//! A world is made of a plan of honest nodes and liars, and each event of a schedule is a step of it. Whatever was sent may be
+//! A world is made of a plan of honest nodes and liars, and each event of a schedule is some steps of it. Whatever was sent may be
 //! delivered never, once or often, at any later place. So a schedule has every loss, repetition and reordering.
 //!
-//! It stands on xl_core, xl_lists, xl_tags and xl_sched. Its one contract: each event is the world's step, so the world is a run from its
+//! It stands on xl_core, xl_lists, xl_tags and xl_sched. Its one contract: each event is the world's steps, so the world is a run from its
 //! plan, and two honest nodes whose quorums are enough never report different ledgers of one sequence.
 #![tactic(auto)]
 

@@ -10,7 +10,7 @@ use crate::place::{Keeper, Place};
 use crate::{Plan, PlanNode};
 use std::alloc::Global;
 use xl_base::{GREATEST_NODE_NO, NodeNo, OutOfMemory};
-use xl_core::Core;
+use xl_core::Node;
 use xl_tags::Keys;
 
 /// A node at its start, with room for so many ledgers, and its keeper.
@@ -22,7 +22,7 @@ fn place(alloc: Global, limit: u32, node: &PlanNode) -> Result<Place, OutOfMemor
 {
     let keys = Keys::of_schedule(node.me);
     Ok(Place {
-        node: Core::open(
+        node: Node::open(
             alloc,
             node.me,
             node.list.copy(),

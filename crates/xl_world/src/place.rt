@@ -1,5 +1,5 @@
 use xl_base::{LedgerId, NodeNo, Seq};
-use xl_core::Core;
+use xl_core::Node;
 use xl_wire::Validation;
 
 /// How a save is answered, and what it leaves.
@@ -89,7 +89,7 @@ impl Keeper {
 /// A node and its keeper.
 #[derive(Drop)]
 pub struct Place {
-    pub node: Core,
+    pub node: Node,
     pub keeper: Keeper,
 }
 

@@ -10,7 +10,7 @@ use crate::act::{Asked, place_of};
 use crate::place::Place;
 use std::alloc::Global;
 use xl_base::{Bytes, NodeNo, OutOfMemory};
-use xl_core::Core;
+use xl_core::Node;
 use xl_wire::Validation;
 
 /// A frame that a node has sent to one receiver.
@@ -39,7 +39,7 @@ pub fn was_sent(sent: &[Sent], bytes: &[u8]) -> bool
 /// The frame of a validation from a node to a number.
 fn frame_to(
     alloc: Global,
-    node: &Core,
+    node: &Node,
     to: NodeNo,
     validation: &Validation,
 ) -> Result<Sent, OutOfMemory>
@@ -58,7 +58,7 @@ fn frame_to(
 fn frames_for(
     alloc: Global,
     numbers: &[NodeNo],
-    node: &Core,
+    node: &Node,
     validation: &Validation,
 ) -> Result<Vec<Sent>, OutOfMemory>
     ensures { IfOk result (λ frames. frames.items ≡ frames_for numbers.now node.now (Some validation.now)) }

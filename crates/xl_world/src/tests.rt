@@ -81,12 +81,7 @@ fn number(n: u32) -> Result<NodeNo, Fail> {
 }
 
 /// Declares a node with its number, its quorum and its list.
-fn declare(
-    nodes: &mut Vec<PlanNode>,
-    me: u32,
-    quorum: u32,
-    members: &[u32],
-) -> Result<(), Fail>
+fn declare(nodes: &mut Vec<PlanNode>, me: u32, quorum: u32, members: &[u32]) -> Result<(), Fail>
     requires { AreTimely nodes.old.items }
     ensures { OnOk result (AreTimely nodes.new.items) }
 {

@@ -136,13 +136,7 @@ impl World {
         let frames = &self.sent[self.mark..];
         let mut told = Vec::with_capacity(self.alloc, 2 * frames.len())?;
         self.reports.reserve(frames.len())?;
-        hear_each(
-            &mut self.places,
-            &mut self.reports,
-            &mut told,
-            at,
-            frames,
-        );
+        hear_each(&mut self.places, &mut self.reports, &mut told, at, frames);
         self.mark = self.sent.len();
         Ok(Happened::from_vec(told))
     }

@@ -3,7 +3,7 @@ ghost use Rattle.xl_base.specs.declared.moments.TheConstants.{GREATEST_MILLIS};
 
 mod ledgers;
 
-use super::Core;
+use super::Node;
 use crate::{Refusal, Report};
 use Happens::{Known, Says};
 use ledgers::Name::{A, B, C, D, E, F, Root};
@@ -25,19 +25,19 @@ const Y: LedgerId = LedgerId([2; 32]);
 const LIMIT: u32 = 6;
 
 /// Node 5 of the members 1 to 5, of whom 4 are a quorum.
-fn node_of_five(alloc: Global, kept: Seq) -> Result<Core, Fail> {
+fn node_of_five(alloc: Global, kept: Seq) -> Result<Node, Fail> {
     let list = List::new(&[1, 2, 3, 4, 5], 4)?;
     let me = NodeNo::new(5).ok_or("no member")?;
     let keys = Keys::of_schedule(me);
-    Ok(Core::open(alloc, me, list, keys, LIMIT, 1_000, kept)?)
+    Ok(Node::open(alloc, me, list, keys, LIMIT, 1_000, kept)?)
 }
 
 /// Node 1, which isn't one of the members 2 to 6 that it hears.
-fn node_outside(alloc: Global, kept: Seq) -> Result<Core, Fail> {
+fn node_outside(alloc: Global, kept: Seq) -> Result<Node, Fail> {
     let list = List::new(&[2, 3, 4, 5, 6], 3)?;
     let me = NodeNo::new(1).ok_or("no member")?;
     let keys = Keys::of_schedule(me);
-    Ok(Core::open(alloc, me, list, keys, LIMIT, 1_000, kept)?)
+    Ok(Node::open(alloc, me, list, keys, LIMIT, 1_000, kept)?)
 }
 
 /// The moment at which a second begins.
@@ -63,7 +63,7 @@ fn header_frame(number: u32, to: u32, h: &Header) -> Result<[u8; 164], Fail> {
 
 /// Tells the node a validation under a number, or has it issue its own.
 fn tell(
-    node: &mut Core,
+    node: &mut Node,
     keeper: &mut PlainKeeper,
     number: u32,
     v: &Validation,
@@ -261,7 +261,7 @@ enum Happens {
 }
 
 /// Tells the node what happens. Nothing is to be reported of it, since all validations are partial.
-fn happen(node: &mut Core, keeper: &mut PlainKeeper, happens: Happens) -> Result<(), Fail> {
+fn happen(node: &mut Node, keeper: &mut PlainKeeper, happens: Happens) -> Result<(), Fail> {
     match happens {
         Says(number, name, seq) => {
             let v = Validation {
@@ -327,7 +327,7 @@ const ALONG: [Happens; 10] = [
 ];
 
 /// The node outside, opened with a kept number, once it has heard these.
-fn node_along(alloc: Global, keeper: &mut PlainKeeper, kept: Seq) -> Result<Core, Fail> {
+fn node_along(alloc: Global, keeper: &mut PlainKeeper, kept: Seq) -> Result<Node, Fail> {
     let mut node = node_outside(alloc, kept)?;
     for happens in ALONG {
         happen(&mut node, keeper, happens)?;

@@ -20,14 +20,14 @@ seal-requires c =
     let d = (goal.at.seal-requires c).After-encode in
     record { frame = blank d; spells = spelled d; mine = refl; keyed = c.has.ensures.0 c.if-has.true }
 
-pub returns-then-has : goal.returns-then-has
-returns-then-has c =
-    let d = (goal.at.returns-then-has c).After-encode in
+pub returns-then-has-clause-bytes : goal.returns-then-has-clause-bytes
+returns-then-has-clause-bytes c =
+    let d = (goal.at.returns-then-has-clause-bytes c).After-encode in
     (c.seal.ensures.sealed (blank d) (spelled d)).spelling
 
-pub returns-else-has : goal.returns-else-has
-returns-else-has c =
-    let d = (goal.at.returns-else-has c).After-encode in
+pub returns-else-has-clause-bytes : goal.returns-else-has-clause-bytes
+returns-else-has-clause-bytes c =
+    let d = (goal.at.returns-else-has-clause-bytes c).After-encode in
     (spelled d).spelling ∙ ap raw_bytes (sym (unsealed c.args.keys.now (blank d) (λ keyed. never (sym (c.has.ensures.1 keyed) ∙ c.if-has.false))))
   where
     never : true ≡ false → ⊥

@@ -1,0 +1,86 @@
+-- A step of the node, and of its queues.
+use Rattle.std.proofs.Common.{◌≡◌, ℕ, refl, ap, ◌∙◌, subst, Option, Some, None, Result, Ok, Err, List}
+use Rattle.std.specs.Prelude.{nat_lt, map}
+use Rattle.std.proofs.lemmas.Bool.{cond_both}
+use Rattle.xl_queues.specs.Queues.{Backlog}
+use Rattle.xl_wire.specs.declared.validation.Validation.{Validation}
+use Rattle.xl_validations.specs.declared.refusal.ValRefusal.{ValRefusal}
+use Rattle.xl_ledger.specs.declared.header.Header.{Header}
+use Rattle.xl_ledger.specs.declared.refusal.AddRefusal.{AddRefusal}
+use Rattle.xl_ledger.specs.Registries.{add_refusal}
+use Rattle.xl_core.specs.declared.hearing.Spoken.{Spoken}
+use Rattle.xl_core.specs.declared.hearing.Speech.{Speech}
+use Rattle.xl_core.specs.declared.hearing.Speech.TheVariants as speech
+use Rattle.xl_core.specs.declared.refusal.Refusal.{Refusal}
+use Rattle.xl_core.specs.declared.refusal.Refusal.TheVariants.{NotAfter}
+use Rattle.xl_core.specs.declared.report.Report.{Report}
+use Rattle.xl_core.specs.Hearing.{heard}
+use Rattle.xl_core.specs.Node.{Node, Event, Issue, Frame, Reply, Save, happens, hears, learns, hearing, hearing_speech, issues, issues_unless, refusing, refusal_at, at_moment, second_of, own_validation}
+use Rattle.xl_core.specs.Node.Save.{Kept, Failed}
+use Rattle.xl_core.specs.Queues.{with_report, with_waiting}
+use Rattle.xl_core.specs.Core.{Core, stepped}
+use Rattle.xl_core.specs.Replies.{hear_reply, issue_reply}
+use Rattle.xl_core.specs.declared.report.Issued.{Issued}
+use Rattle.xl_core.specs.declared.outgoing.Outgoing.{Outgoing}
+
+-- THE NODE STAYS ITSELF
+
+-- its number, its keys and, as it hears, its kept number
+pub record IsSame (n m : Node) : Type 0 where
+  pub me : m.me ≡ n.me
+  pub keys : m.keys ≡ n.keys
+
+vote_same : (n : Node) (now from : ℕ) (v : Validation) (o : Option ValRefusal) → IsSame n (hears n now from v o).node
+vote_same n now from v None = record { me = refl; keys = refl }
+vote_same n now from v (Some why) = record { me = refl; keys = refl }
+
+header_same : (n : Node) (h : Header) (o : Option AddRefusal) → IsSame n (learns n h o).node
+header_same n h None = record { me = refl; keys = refl }
+header_same n h (Some why) = record { me = refl; keys = refl }
+
+speech_same : (n : Node) (now from : ℕ) (what : Speech) → IsSame n (hearing_speech n now from what).node
+speech_same n now from (speech.Vote v) = vote_same n now from v (refusal_at n now from v)
+speech_same n now from (speech.Header h) = header_same n h (add_refusal n.ledgers h)
+
+hearing_same : (n : Node) (now : ℕ) (r : Result Spoken Refusal) → IsSame n (hearing n now r).node
+hearing_same n now (Ok said) = speech_same n now said.from said.what
+hearing_same n now (Err why) = record { me = refl; keys = refl }
+
+issues_same : (n : Node) (now : ℕ) (save : Save) (v : Validation) → IsSame n (issues n now save v).node
+issues_same n now Kept v = record { me = refl; keys = refl }
+issues_same n now (Failed count) v = record { me = refl; keys = refl }
+
+unless_same : (n : Node) (off : Option ℕ) (save : Save) (v : Validation) → IsSame n (issues_unless n off save v).node
+unless_same n None save v = issues_same n (second_of n) save v
+unless_same n (Some failed) save v = record { me = refl; keys = refl }
+
+same_later : (n m : Node) (now : ℕ) → IsSame (at_moment now n) m → IsSame n m
+same_later n m now same = record { me = same.me; keys = same.keys }
+
+pub stays_itself : (n : Node) (e : Event) (save : Save) → IsSame n (happens n e save).node
+stays_itself n (Frame now bytes) save =
+    same_later n (happens n (Frame now bytes) save).node now (hearing_same (at_moment now n) (second_of (at_moment now n)) (heard n.keys n.list.members bytes))
+stays_itself n (Issue now seq id full) save =
+    let m : Node = at_moment now n in
+    same_later n (happens n (Issue now seq id full) save).node now
+    (cond_both (nat_lt m.kept seq) (issues_unless m m.off save (own_validation m seq id full)) (refusing m (NotAfter m.kept)) (λ r. IsSame m r.node)
+    (λ _. unless_same m m.off save (own_validation m seq id full)) (λ _. record { me = refl; keys = refl }))
+
+-- THE QUEUES' STEP
+
+-- what was heard
+pub heard_step : (core : Core) (n : Node) (report : Option Report) (untaken : Backlog Report) (reply : Reply) → hear_reply (Ok report) n ≡ reply → untaken ≡ with_report core.untaken report →
+    record core { node = n; untaken = untaken } ≡ stepped core reply
+heard_step core n report untaken reply is pushed =
+    subst (λ (r : Reply). record core { node = n; untaken = untaken } ≡ stepped core r) is (ap (λ (u : Backlog Report). let c : Core = record core { node = n; untaken = u } in c) pushed)
+
+pub refused_step : (core : Core) (n : Node) (why : Refusal) (reply : Reply) → hear_reply (Err why) n ≡ reply → record core { node = n } ≡ stepped core reply
+refused_step core n why reply is = subst (λ (r : Reply). record core { node = n } ≡ stepped core r) is refl
+
+-- what was issued
+pub issued_step : (core : Core) (n : Node) (done : Issued) (outgoing : List Outgoing) (untaken : Backlog Report) (reply : Reply) → issue_reply (Ok done) n ≡ reply →
+    outgoing ≡ map (with_waiting done.validation) core.outgoing → untaken ≡ with_report core.untaken done.report → record core { node = n; outgoing = outgoing; untaken = untaken } ≡ stepped core reply
+issued_step core n done outgoing untaken reply is waiting pushed =
+    subst (λ (r : Reply). record core { node = n; outgoing = outgoing; untaken = untaken } ≡ stepped core r) is
+    (ap (λ (os : List Outgoing). let c : Core = record core { node = n; outgoing = os; untaken = untaken } in c) waiting
+    ∙ ap (λ (u : Backlog Report). let c : Core = record core { node = n; outgoing = map (with_waiting done.validation) core.outgoing; untaken = u } in c) pushed)

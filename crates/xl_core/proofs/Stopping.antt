@@ -1,0 +1,250 @@
+-- What a node has said stays covered by what its keeper may hold.
+use Rattle.std.proofs.Common.{◌≡◌, ◌≢◌, ℕ, ◌<◌, ◌≤◌, ◌/◌, Bool, true, false, cond, List, [], ◌∷◌, ◌++◌, length, drop, refl, ap, sym, ◌∙◌, subst, arith, inl, inr, Option, Some, None, Result, Ok, Err}
+use Rattle.std.specs.Prelude.{◌==◌, All, IfSome, map, max, nat_lt, option_map}
+use Rattle.xl_base.specs.declared.ids.LedgerId.{LedgerId}
+use Rattle.std.specs.Option.{option_and_then, is_none}
+use Rattle.std.proofs.lemmas.Bool.{cond_both, cond-true, cond-false, eqb-true, false_from_ne_true, ltb-true}
+use Rattle.std.proofs.lemmas.List.Elements.{All-append, All-cons, All-nil, All-head, All-tail, All-weaker, All-map, All-drop}
+use Rattle.xl_lists.specs.Lists.{TrustedList}
+use Rattle.xl_tags.specs.Rings.{Ring}
+use Rattle.xl_io.specs.Keepers.{Held, MayHold, after_save}
+use Rattle.xl_queues.specs.Queues.{pushed}
+use Rattle.xl_wire.specs.declared.validation.Validation.{Validation}
+use Rattle.xl_validations.specs.declared.row.Row.{Row}
+use Rattle.xl_validations.specs.declared.refusal.ValRefusal.{ValRefusal}
+use Rattle.xl_validations.specs.Rows.{row_of, row_at, unexpired, is_current, refusal, with_validation, at_member, empty_row}
+use Rattle.xl_ledger.specs.declared.header.Header.{Header}
+use Rattle.xl_ledger.specs.declared.refusal.AddRefusal.{AddRefusal}
+use Rattle.xl_ledger.specs.Registries.{add_refusal}
+use Rattle.xl_core.specs.declared.hearing.Spoken.{Spoken}
+use Rattle.xl_core.specs.declared.hearing.Speech.{Speech}
+use Rattle.xl_core.specs.declared.hearing.Speech.TheVariants as speech
+use Rattle.xl_core.specs.declared.outgoing.Outgoing.{Outgoing}
+use Rattle.xl_core.specs.declared.refusal.Refusal.{Refusal}
+use Rattle.xl_core.specs.declared.refusal.Refusal.TheVariants.{NotAfter}
+use Rattle.xl_core.specs.Hearing.{heard}
+use Rattle.xl_core.specs.Node.{Node, Issue, Frame, Reply, Save, happens, hears, learns, hearing, hearing_speech, issues, issues_unless, refusing, refusal_at, at_moment, second_of, own_validation, take, asks, unless_off, is_kept, opened}
+use Rattle.xl_core.specs.Node.Save.{Kept, Failed}
+use Rattle.xl_core.specs.Queues.{with_issued, with_waiting, after_drain, at_peer, none_for, peers_of}
+use Rattle.xl_core.specs.Core.{Core, stepped, with_queues}
+use Rattle.xl_core.specs.Stops.{IsCovered, own_current}
+
+-- A ROW
+
+-- what the row of a number has taken, if it has one
+abbrev current_of : List Row → ℕ → Option Validation
+current_of rows me = option_and_then (λ row. row.current) (row_of rows me)
+
+abbrev AtMost : ℕ → Option Validation → Type 0
+AtMost kept o = IfSome o (λ v. v.seq ≤ kept)
+
+differs : (m n : ℕ) → m ≢ n → (m == n) ≡ false
+differs m n other = false_from_ne_true (m == n) (λ e. other (eqb-true m n e))
+
+taking_member : (now : ℕ) (v : Validation) (row : Row) → (take now v row).member ≡ row.member
+taking_member now v row = cond_both (is_none (refusal row now v)) (with_validation v row) row (λ r. r.member ≡ row.member) (λ _. refl) (λ _. refl)
+
+-- another number's row stays
+other_row : (from me : ℕ) (f : Row → Row) → ((row : Row) → (f row).member ≡ row.member) → from ≢ me → (rows : List Row) → row_of (at_member from f rows) me ≡ row_of rows me
+other_row from me f same other [] = refl
+other_row from me f same other (row ∷ rows) =
+    cond_both (row.member == from) (f row ∷ rows) (row ∷ at_member from f rows) (λ rs. row_of rs me ≡ row_of (row ∷ rows) me)
+    (λ is.
+    let not_me : (row.member == me) ≡ false = subst (λ (m : ℕ). (m == me) ≡ false) (sym (eqb-true row.member from is)) (differs from me other) in
+    cond-false ((f row).member == me) (Some (f row)) (row_of rows me) (ap (λ (m : ℕ). m == me) (same row) ∙ not_me) ∙ sym (cond-false (row.member == me) (Some row) (row_of rows me) not_me))
+    (λ _. ap (λ (o : Option Row). cond (row.member == me) (Some row) o) (other_row from me f same other rows))
+
+-- a row expires
+expired_most : (kept s : ℕ) (o : Option Validation) → AtMost kept o → AtMost kept (unexpired s o)
+expired_most kept s None most = most
+expired_most kept s (Some v) most = cond_both (is_current s v) (Some v) None (AtMost kept) (λ _. most) (λ _. tt)
+
+current_then : (kept s me : ℕ) (rows : List Row) → AtMost kept (current_of rows me) → AtMost kept (current_of (map (row_at s) rows) me)
+current_then kept s me [] most = most
+current_then kept s me (row ∷ rows) most =
+    split (row.member == me) (current_then kept s me rows) most
+  where
+    split : (b : Bool) → (AtMost kept (current_of rows me) → AtMost kept (current_of (map (row_at s) rows) me)) →
+        AtMost kept (option_and_then (λ r. r.current) (cond b (Some row) (row_of rows me))) → AtMost kept (option_and_then (λ r. r.current) (cond b (Some (row_at s row)) (row_of (map (row_at s) rows) me)))
+    split true rest h = expired_most kept s row.current h
+    split false rest h = rest h
+
+-- the own row takes what is issued, or stays
+taking_most : (kept now : ℕ) (v : Validation) (row : Row) → v.seq ≤ kept → AtMost kept row.current → AtMost kept (take now v row).current
+taking_most kept now v row le most = cond_both (is_none (refusal row now v)) (with_validation v row) row (λ r. AtMost kept r.current) (λ _. le) (λ _. most)
+
+own_taken : (kept me now : ℕ) (v : Validation) (rows : List Row) → v.seq ≤ kept → AtMost kept (current_of rows me) → AtMost kept (current_of (at_member me (take now v) rows) me)
+own_taken kept me now v [] le most = most
+own_taken kept me now v (row ∷ rows) le most =
+    split (row.member == me) (own_taken kept me now v rows le) refl most
+  where
+    split : (b : Bool) → (AtMost kept (current_of rows me) → AtMost kept (current_of (at_member me (take now v) rows) me)) → (row.member == me) ≡ b → AtMost kept (option_and_then (λ r. r.current) (cond b (Some row) (row_of rows me))) →
+        AtMost kept (option_and_then (λ r. r.current) (row_of (cond b (take now v row ∷ rows) (row ∷ at_member me (take now v) rows)) me))
+    split true rest is h =
+        subst (λ (o : Option Row). AtMost kept (option_and_then (λ r. r.current) o)) (sym (cond-true ((take now v row).member == me) (Some (take now v row)) (row_of rows me) (ap (λ (m : ℕ). m == me) (taking_member now v row) ∙ is)))
+        (taking_most kept now v row le h)
+    split false rest is h =
+        subst (λ (o : Option Row). AtMost kept (option_and_then (λ r. r.current) o)) (sym (cond-false (row.member == me) (Some row) (row_of (at_member me (take now v) rows) me) is))
+        (rest h)
+
+most_later : (old new : ℕ) (o : Option Validation) → old ≤ new → AtMost old o → AtMost new o
+most_later old new None le most = most
+most_later old new (Some v) le most = omega (arith, le, most)
+
+-- HEARING
+
+-- what is heard neither changes the own row, but by the time, nor the kept number, and issues nothing
+pub record IsAside (n : Node) (reply : Reply) : Type 0 where
+  pub kept : reply.node.kept ≡ n.kept
+  pub own : own_current reply.node ≡ own_current n
+  pub issued : reply.issued ≡ None
+
+aside : (n : Node) (why : Refusal) → IsAside n (refusing n why)
+aside n why = record { kept = refl; own = refl; issued = refl }
+
+vote_aside : (n : Node) (now from : ℕ) (v : Validation) (o : Option ValRefusal) → from ≢ n.me → IsAside n (hears n now from v o)
+vote_aside n now from v None other = record {
+  kept = refl;
+  own = ap (λ (o : Option Row). option_and_then (λ row. row.current) o) (other_row from n.me (take now v) (taking_member now v) other n.rows);
+  issued = refl;
+}
+vote_aside n now from v (Some why) other = record { kept = refl; own = refl; issued = refl }
+
+header_aside : (n : Node) (h : Header) (o : Option AddRefusal) → IsAside n (learns n h o)
+header_aside n h None = record { kept = refl; own = refl; issued = refl }
+header_aside n h (Some why) = record { kept = refl; own = refl; issued = refl }
+
+speech_aside : (n : Node) (now from : ℕ) (what : Speech) → from ≢ n.me → IsAside n (hearing_speech n now from what)
+speech_aside n now from (speech.Vote v) other = vote_aside n now from v (refusal_at n now from v) other
+speech_aside n now from (speech.Header h) other = header_aside n h (add_refusal n.ledgers h)
+
+hearing_aside : (n : Node) (now : ℕ) (r : Result Spoken Refusal) → ((said : Spoken) → r ≡ Ok said → said.from ≢ n.me) → IsAside n (hearing n now r)
+hearing_aside n now (Ok said) others = speech_aside n now said.from said.what (others said refl)
+hearing_aside n now (Err why) others = aside n why
+
+-- a step that issues nothing
+step_covered : (held : Held) (core : Core) (reply : Reply) → reply.node.kept ≡ core.node.kept → AtMost core.node.kept (own_current reply.node) → reply.issued ≡ None → IsCovered held core → IsCovered held (stepped core reply)
+step_covered held core reply same own none was = record {
+  saved = λ n may. omega (arith, was.saved n may, same);
+  own = subst (λ (k : ℕ). AtMost k (own_current reply.node)) (sym same) own;
+  queued = subst (λ (k : ℕ). All (λ o. All (λ v. v.seq ≤ k) o.items.items) (with_issued core.outgoing reply.issued)) (sym same)
+      (subst (λ (o : Option Validation). All (λ q. All (λ v. v.seq ≤ core.node.kept) q.items.items) (with_issued core.outgoing o)) (sym none) was.queued);
+}
+
+pub frame_covered : (held : Held) (core : Core) (now : ℕ) (bytes : List ℕ) → ((said : Spoken) → heard core.node.keys core.node.list.members bytes ≡ Ok said → said.from ≢ core.node.me) → IsCovered held core →
+    IsCovered held (stepped core (happens core.node (Frame now bytes) Kept))
+frame_covered held core now bytes others was =
+    let m : Node = at_moment now core.node in
+    let reply : Reply = hearing m (second_of m) (heard core.node.keys core.node.list.members bytes) in
+    let beside = hearing_aside m (second_of m) (heard core.node.keys core.node.list.members bytes) others in
+    step_covered held core reply beside.kept
+    (subst (AtMost core.node.kept) (sym beside.own) (current_then core.node.kept (max core.node.time now / 1000) core.node.me core.node.rows was.own))
+    beside.issued was
+
+-- ISSUING
+
+-- each item of the queues with this one
+items_most : (kept : ℕ) (n : ℕ) (items : List Validation) (v : Validation) → v.seq ≤ kept → All (λ x. x.seq ≤ kept) items → All (λ x. x.seq ≤ kept) (pushed n items v)
+items_most kept n items v le most =
+    let all : All (λ x. x.seq ≤ kept) (items ++ v ∷ []) = All-append (λ x. x.seq ≤ kept) items (v ∷ []) most (All-cons (λ x. x.seq ≤ kept) v [] le (All-nil (λ x. x.seq ≤ kept))) in
+    cond_both (nat_lt (length items) n) (items ++ v ∷ []) (drop 1 (items ++ v ∷ [])) (λ xs. All (λ x. x.seq ≤ kept) xs) (λ _. all) (λ _. All-drop (λ x. x.seq ≤ kept) 1 (items ++ v ∷ []) all)
+
+queues_most : (old kept : ℕ) (v : Validation) (outgoing : List Outgoing) → old ≤ kept → v.seq ≤ kept → All (λ o. All (λ x. x.seq ≤ old) o.items.items) outgoing →
+    All (λ o. All (λ x. x.seq ≤ kept) o.items.items) (map (with_waiting v) outgoing)
+queues_most old kept v outgoing le at was =
+    All-map (λ o. All (λ x. x.seq ≤ kept) o.items.items) (with_waiting v) outgoing
+    (All-weaker (λ o. All (λ x. x.seq ≤ old) o.items.items) (λ o. All (λ x. x.seq ≤ kept) (with_waiting v o).items.items)
+    (λ o most. items_most kept 64 o.items.items v at (All-weaker (λ x. x.seq ≤ old) (λ x. x.seq ≤ kept) (λ x m. omega (arith, m, le)) o.items.items most)) outgoing was)
+
+-- the node's time and rows, before it issues
+later_covered : (held : Held) (core : Core) (now : ℕ) → IsCovered held core → IsCovered held (record core { node = at_moment now core.node })
+later_covered held core now was = record {
+  saved = was.saved;
+  own = current_then core.node.kept (max core.node.time now / 1000) core.node.me core.node.rows was.own;
+  queued = was.queued;
+}
+
+-- a save of a greater number
+saves_covered : (held : Held) (core : Core) (save : Save) (v : Validation) → core.node.kept < v.seq → IsCovered held core →
+    IsCovered (after_save held (Some v.seq) (is_kept save)) (stepped core (issues core.node (second_of core.node) save v))
+saves_covered held core Kept v above was = record {
+  saved = λ n may. elim may [
+    | inl is ↦ omega (arith, is)
+    | inr asked ↦ absurd (none_asked n asked)
+  ];
+  own = own_taken v.seq core.node.me (second_of core.node) v core.node.rows (omega arith) (most_later core.node.kept v.seq (own_current core.node) (omega (arith, above)) was.own);
+  queued = queues_most core.node.kept v.seq v core.outgoing (omega (arith, above)) (omega arith) was.queued;
+}
+  where
+    none_asked : (n : ℕ) → None ≡ Some n → ⊥
+    none_asked n e = cc
+saves_covered held core (Failed count) v above was = record {
+  saved = λ n may. elim may [
+    | inl is ↦ was.saved n (inl is)
+    | inr asked ↦ omega (arith, same n asked, above)
+  ];
+  own = was.own;
+  queued = was.queued;
+}
+  where
+    same : (n : ℕ) → Some v.seq ≡ Some n → v.seq ≡ n
+    same n e = cc
+
+unless_covered : (held : Held) (core : Core) (off : Option ℕ) (save : Save) (v : Validation) → core.node.kept < v.seq → IsCovered held core →
+    IsCovered (after_save held (unless_off off v.seq) (is_kept save)) (stepped core (issues_unless core.node off save v))
+unless_covered held core None save v above was = saves_covered held core save v above was
+unless_covered held core (Some failed) save v above was = record { saved = was.saved; own = was.own; queued = was.queued }
+
+issuing_covered : (held : Held) (core : Core) (seq : ℕ) (save : Save) (v : Validation) (b : Bool) → nat_lt core.node.kept seq ≡ b → v.seq ≡ seq → IsCovered held core →
+    IsCovered (after_save held (cond b (unless_off core.node.off seq) None) (is_kept save)) (stepped core (cond b (issues_unless core.node core.node.off save v) (refusing core.node (NotAfter core.node.kept))))
+issuing_covered held core seq save v true above same was =
+    subst (λ (s : ℕ). IsCovered (after_save held (unless_off core.node.off s) (is_kept save)) (stepped core (issues_unless core.node core.node.off save v))) same
+    (unless_covered held core core.node.off save v (omega (arith, ltb-true core.node.kept seq above, same)) was)
+issuing_covered held core seq save v false above same was = record { saved = was.saved; own = was.own; queued = was.queued }
+
+pub issue_covered : (held : Held) (core : Core) (now seq : ℕ) (id : LedgerId) (full : Bool) (save : Save) → IsCovered held core →
+    IsCovered (after_save held (asks core.node (Issue now seq id full)) (is_kept save)) (stepped core (happens core.node (Issue now seq id full) save))
+issue_covered held core now seq id full save was =
+    let m : Node = at_moment now core.node in
+    issuing_covered held (record core { node = m }) seq save (own_validation m seq id full) (nat_lt m.kept seq) refl refl (later_covered held core now was)
+
+-- what the keeper was and is told to hold
+pub issue_covers : (before after : Held) (old new : Option Held) (core : Core) (now seq : ℕ) (id : LedgerId) (full : Bool) (save : Save) →
+    new ≡ option_map (λ held. after_save held (asks core.node (Issue now seq id full)) (is_kept save)) old → old ≡ Some before → new ≡ Some after → IsCovered before core →
+    IsCovered after (stepped core (happens core.node (Issue now seq id full) save))
+issue_covers before after old new core now seq id full save is was_told is_told was =
+    let told : Some (after_save before (asks core.node (Issue now seq id full)) (is_kept save)) ≡ Some after =
+    sym (is ∙ ap (λ (o : Option Held). option_map (λ held. after_save held (asks core.node (Issue now seq id full)) (is_kept save)) o) was_told) ∙ is_told in
+    subst (λ (h : Held). IsCovered h (stepped core (happens core.node (Issue now seq id full) save))) (some_same _ after told) (issue_covered before core now seq id full save was)
+  where
+    some_same : (a b : Held) → Some a ≡ Some b → a ≡ b
+    some_same a b e = cc
+
+-- DRAINING
+
+drained_most : (kept member n : ℕ) (outgoing : List Outgoing) → All (λ o. All (λ x. x.seq ≤ kept) o.items.items) outgoing → All (λ o. All (λ x. x.seq ≤ kept) o.items.items) (at_peer member (after_drain n) outgoing)
+drained_most kept member n [] was = was
+drained_most kept member n (o ∷ os) was =
+    let first = All-head (λ q. All (λ x. x.seq ≤ kept) q.items.items) o os was in
+    let rest = All-tail (λ q. All (λ x. x.seq ≤ kept) q.items.items) o os was in
+    cond_both (o.peer == member) (after_drain n o ∷ os) (o ∷ at_peer member (after_drain n) os) (λ qs. All (λ q. All (λ x. x.seq ≤ kept) q.items.items) qs)
+    (λ _. All-cons (λ q. All (λ x. x.seq ≤ kept) q.items.items) (after_drain n o) os (All-drop (λ x. x.seq ≤ kept) n o.items.items first) rest)
+    (λ _. All-cons (λ q. All (λ x. x.seq ≤ kept) q.items.items) o (at_peer member (after_drain n) os) first (drained_most kept member n os rest))
+
+pub drain_covered : (held : Held) (core : Core) (member n : ℕ) → IsCovered held core → IsCovered held (record core { outgoing = at_peer member (after_drain n) core.outgoing })
+drain_covered held core member n was = record { saved = was.saved; own = was.own; queued = drained_most core.node.kept member n core.outgoing was.queued }
+
+-- OPENING
+
+empty_most : (kept me : ℕ) (members : List ℕ) → AtMost kept (current_of (map empty_row members) me)
+empty_most kept me [] = tt
+empty_most kept me (m ∷ ms) =
+    cond_both (m == me) (Some (empty_row m)) (row_of (map empty_row ms) me) (λ o. AtMost kept (option_and_then (λ row. row.current) o)) (λ _. tt) (λ _. empty_most kept me ms)
+
+-- nothing is said yet
+pub opened_covered : (held : Held) (me : ℕ) (list : TrustedList) (keys : Ring) (limit now kept : ℕ) → ((n : ℕ) → MayHold held n → kept ≤ n) → IsCovered held (with_queues (opened me list keys limit now kept))
+opened_covered held me list keys limit now kept holds = record {
+  saved = holds;
+  own = empty_most kept me list.members;
+  queued = All-map (λ o. All (λ v. v.seq ≤ kept) o.items.items) none_for (peers_of keys) (λ k d k_in. All-nil (λ v. v.seq ≤ kept));
+}

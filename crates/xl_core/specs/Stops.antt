@@ -1,0 +1,20 @@
+-- A stop at any moment: what a node has said, or has waiting to be said, is of a sequence that its keeper can't fall below.
+-- Source: this profile, by which a node saves a sequence before it says it.
+use Rattle.std.specs.Prelude.{ℕ, ◌≤◌, All, IfSome}
+use Rattle.std.specs.declared.option.Option.{Option}
+use Rattle.std.specs.Option.{option_and_then}
+use Rattle.xl_io.specs.Keepers.{Held, MayHold}
+use Rattle.xl_wire.specs.declared.validation.Validation.{Validation}
+use Rattle.xl_validations.specs.Rows.{row_of}
+use Rattle.xl_core.specs.Node.{Node}
+use Rattle.xl_core.specs.Core.{Core}
+
+-- the validation in the node's own row, if there is one
+abbrev pub own_current : Node → Option Validation
+own_current n = option_and_then (λ row. row.current) (row_of n.rows n.me)
+
+-- a stop may leave no number below the kept one, and what the node has said is at most that
+pub record IsCovered (held : Held) (core : Core) : Type 0 where
+  pub saved : (n : ℕ) → MayHold held n → core.node.kept ≤ n
+  pub own : IfSome (own_current core.node) (λ v. v.seq ≤ core.node.kept)
+  pub queued : All (λ o. All (λ v. v.seq ≤ core.node.kept) o.items.items) core.outgoing

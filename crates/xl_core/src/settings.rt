@@ -1,0 +1,16 @@
+use xl_base::NodeNo;
+use xl_lists::List;
+use xl_tags::Keys;
+
+/// What a node is opened with.
+#[derive(Drop)]
+pub struct Settings {
+    /// The node's number.
+    pub me: NodeNo,
+    /// The list of the members that it hears.
+    pub list: List,
+    /// The keys that it shares with others, among them one for each other listed member. Who has a key is a peer.
+    pub keys: Keys,
+    /// How many ledgers it may know, the root among them.
+    pub limit: u32,
+}
