@@ -1,36 +1,65 @@
-// What liars say. A liar has no node: its frames are made up here.
-ghost use Rattle.std.specs.Prelude.{◌≡◌};
-ghost use Rattle.xl_tags.specs.Rings.{key_of, schedule_ring};
+// What liars say. A liar has no node: its frames are made up here, each sealed by the one key that it takes.
+ghost use Rattle.std.specs.Prelude.{◌≡◌, ◌≤◌, ◌++◌, length};
+ghost use Rattle.xl_wire.specs.Raws.{RawFrame, SpellsRaw};
+ghost use Rattle.xl_tags.specs.Rings.{schedule_ring};
+ghost use Rattle.xl_tags.specs.Sealing.{before_tag, sealed};
 ghost use Rattle.xl_core.specs.Sending.{sealed_bytes, sealed_header_bytes};
 
 use xl_base::NodeNo;
-use xl_core::{HEADER_FRAME, VALIDATION_FRAME, sealed, sealed_header};
-use xl_ledger::Header;
-use xl_tags::{Keys, pair_key};
-use xl_wire::Validation;
-
-/// The one key of a member that a frame to this receiver takes; there is none for itself.
-fn keys_to(from: NodeNo, to: NodeNo) -> Keys
-    ensures own { result.me ≡ from }
-    ensures key { key_of result to ≡ key_of (schedule_ring from) to }
-{
-    let mut keys = Keys::new(from);
-    if to != from {
-        keys.put(to, pair_key(from, to));
-    }
-    keys
-}
+use xl_core::{HEADER_FRAME, VALIDATION_FRAME};
+use xl_ledger::{Header, header_bytes};
+use xl_tags::{hmac, pair_key};
+use xl_wire::{Body, Frame, Validation, encode};
 
 /// The frame of a validation, sealed by the key that the schedule gives the two.
 pub fn lied_validation(from: NodeNo, to: NodeNo, validation: &Validation) -> [u8; VALIDATION_FRAME]
     ensures { result ≡ sealed_bytes (schedule_ring from) from to validation.now }
 {
-    sealed(&keys_to(from, to), to, validation)
+    let mut bytes = [0; VALIDATION_FRAME];
+    let frame = Frame {
+        from: from.get(),
+        to: to.get(),
+        body: Body::Validation(*validation),
+        tag: [0; 32],
+    };
+    encode(&frame, &mut bytes);
+    seal(from, to, &mut bytes);
+    bytes
 }
 
 /// The frame of a header, sealed alike.
 pub fn lied_header(from: NodeNo, to: NodeNo, header: &Header) -> [u8; HEADER_FRAME]
     ensures { result ≡ sealed_header_bytes (schedule_ring from) from to header.now }
 {
-    sealed_header(&keys_to(from, to), to, header)
+    let mut bytes = [0; HEADER_FRAME];
+    let frame = Frame {
+        from: from.get(),
+        to: to.get(),
+        body: Body::Header(header_bytes(header)),
+        tag: [0; 32],
+    };
+    encode(&frame, &mut bytes);
+    seal(from, to, &mut bytes);
+    bytes
+}
+
+/// Seals a frame by the key that the schedule gives the two. There is none for one number alone: its frame stays as it is.
+fn seal(from: NodeNo, to: NodeNo, frame: &mut [u8])
+    requires { 32 ≤ length frame.old }
+    ensures { (f : RawFrame) → f.to ≡ to → SpellsRaw f frame.old → SpellsRaw (sealed (schedule_ring from) f) frame.new }
+{
+    if to != from {
+        let end = frame.len() - 32;
+        let tag = hmac(&pair_key(from, to), &frame[..end]);
+        put_tag(frame, &tag);
+    }
+}
+
+fn put_tag(frame: &mut [u8], tag: &[u8; 32])
+    requires { 32 ≤ length frame.old }
+    ensures put { frame.new ≡ before_tag frame.old ++ tag.now }
+    ensures long { length tag.now ≡ 32 }
+{
+    let end = frame.len() - 32;
+    frame[end..].copy_from_slice(tag);
 }
