@@ -10,9 +10,11 @@ use Rattle.xl_validations.specs.declared.refusal.ValRefusal.{ValRefusal}
 use Rattle.xl_validations.specs.Rows.{row_of, refusal_of, with_validation, at_member}
 use Rattle.xl_core.specs.declared.report.Report.{Report}
 use Rattle.xl_core.specs.declared.refusal.Refusal.{Refusal}
+use Rattle.xl_core.specs.Answers.{Took, Done}
+use Rattle.xl_core.specs.declared.taken.Taken.TheVariants.{Vote}
 use Rattle.xl_core.specs.Node.{Node, Reply, hears, reporting, with_taken, take, arisen, arises_in, report_of, refusal_at, later}
 use Rattle.xl_core.specs.Rest.{IsAtRest, NothingArises, report_if}
-use Rattle.xl_core.specs.Replies.{hear_reply}
+use Rattle.xl_core.specs.Replies.{vote_reply}
 use Rattle.xl_core.proofs.Members.{row_if_on, members_stay, nobody_changes, refused_stays, taken_changes}
 use Rattle.xl_core.proofs.Arising.{arisen_by, rest_after, nothing_arisen}
 
@@ -46,48 +48,48 @@ rest_when_taken n from v rows report last rest is_rows is_report is_last = recor
 
 pub answer_when_taken : (n : Node) (now from : ℕ) (v : Validation) (rows : List Row) (report last : Option Report) → IsAtRest n → is_on n.list.members from ≡ true →
     None ≡ refusal_of n.rows from now v → rows ≡ at_member from (with_validation v) n.rows → report ≡ report_if (arises_in n.list.quorum rows n.last v) v → last ≡ option_or report n.last →
-    hear_reply (Ok report) (record n { rows = rows; last = last }) ≡ hears n now from v (refusal_at n now from v)
+    vote_reply (Ok report) (record n { rows = rows; last = last }) ≡ hears n now from v (refusal_at n now from v)
 answer_when_taken n now from v rows report last rest on unrefused is_rows is_report is_last =
     let arises_so : arisen (record n { rows = rows }) ≡ report =
     subst (λ rs. option_map report_of (find (arises_in n.list.quorum rs n.last) (filter_map (λ row. row.current) rs)) ≡ report_if (arises_in n.list.quorum rs n.last v) v) (sym is_rows)
     (arisen_by n.list.quorum n.rows n.last from v rest.reported (has_row n from rest on))
     ∙ sym is_report in
-    let with_last = λ (l : Option Report). let r : Reply = hear_reply (Ok report) (record n { rows = rows; last = l }) in r in
-    let with_report = λ (rp : Option Report). let r : Reply = hear_reply (Ok rp) (record n { rows = rows; last = later n.last rp }) in r in
+    let with_last = λ (l : Option Report). let r : Reply = vote_reply (Ok report) (record n { rows = rows; last = l }) in r in
+    let with_report = λ (rp : Option Report). let r : Reply = vote_reply (Ok rp) (record n { rows = rows; last = later n.last rp }) in r in
     ap with_last (is_last ∙ or_later report n.last)
     ∙ ap with_report (sym arises_so)
-    ∙ ap (λ rs. reporting (record n { rows = rs }) None) (is_rows ∙ sym (taken_changes from now v n.rows (sym unrefused)))
+    ∙ ap (λ rs. reporting (record n { rows = rs }) (Took Vote) None) (is_rows ∙ sym (taken_changes from now v n.rows (sym unrefused)))
     ∙ ap (hears n now from v) unrefused
 
 -- WHERE NO ROW CHANGES
 
-pub stays : (n : Node) (rows : List Row) (issued : Option Validation) → IsAtRest n → rows ≡ n.rows → (n ≡ (reporting (record n { rows = rows }) issued).node) × (None ≡ arisen (record n { rows = rows }))
+pub stays : (n : Node) (rows : List Row) (issued : Option Validation) → IsAtRest n → rows ≡ n.rows → (n ≡ (reporting (record n { rows = rows }) Done issued).node) × (None ≡ arisen (record n { rows = rows }))
 stays n rows issued rest same =
     let none : (rs : List Row) → rs ≡ n.rows → None ≡ arisen (record n { rows = rs }) =
     λ rs e. subst (λ x. None ≡ arisen (record n { rows = x })) (sym e) (sym (nothing_arisen n.list.quorum n.rows n.last rest.reported (filter_map (λ row. row.current) n.rows))) in
     (ap (λ rs. let m : Node = record n { rows = rs } in m) (sym same) ∙ ap (λ o. let m : Node = record n { rows = rows; last = later n.last o } in m) (none rows same), none rows same)
 
-hear_node : (r : Result (Option Report) Refusal) (m : Node) → (hear_reply r m).node ≡ m
-hear_node (Ok report) m = refl
-hear_node (Err why) m = refl
+vote_node : (r : Result (Option Report) Refusal) (m : Node) → (vote_reply r m).node ≡ m
+vote_node (Ok report) m = refl
+vote_node (Err why) m = refl
 
-hear_report : (r : Result (Option Report) Refusal) (m : Node) → (hear_reply r m).report ≡ result_unwrap_or r None
-hear_report (Ok report) m = refl
-hear_report (Err why) m = refl
+vote_report : (r : Result (Option Report) Refusal) (m : Node) → (vote_reply r m).report ≡ result_unwrap_or r None
+vote_report (Ok report) m = refl
+vote_report (Err why) m = refl
 
 -- the node is the same where the row refuses
 heard_own : (n : Node) (now from : ℕ) (v : Validation) (o : Option ValRefusal) → IsAtRest n → refusal_at n now from v ≡ o →
-    ((hears n now from v o).node ≡ (reporting (with_taken n now from v) (Some v)).node) × ((hears n now from v o).report ≡ arisen (with_taken n now from v))
+    ((hears n now from v o).node ≡ (reporting (with_taken n now from v) Done (Some v)).node) × ((hears n now from v o).report ≡ arisen (with_taken n now from v))
 heard_own n now from v None rest is = (refl, refl)
 heard_own n now from v (Some why) rest is = stays n (at_member from (take now v) n.rows) (Some v) rest (refused_stays from now v why n.rows is)
 
-pub own_taken : (n : Node) (now from : ℕ) (v : Validation) (r : Result (Option Report) Refusal) (m : Node) → IsAtRest n → hear_reply r m ≡ hears n now from v (refusal_at n now from v) →
-    (m ≡ (reporting (with_taken n now from v) (Some v)).node) × (result_unwrap_or r None ≡ arisen (with_taken n now from v))
+pub own_taken : (n : Node) (now from : ℕ) (v : Validation) (r : Result (Option Report) Refusal) (m : Node) → IsAtRest n → vote_reply r m ≡ hears n now from v (refusal_at n now from v) →
+    (m ≡ (reporting (with_taken n now from v) Done (Some v)).node) × (result_unwrap_or r None ≡ arisen (with_taken n now from v))
 own_taken n now from v r m rest is =
     let heard = heard_own n now from v (refusal_at n now from v) rest refl in
-    (sym (hear_node r m) ∙ ap (λ (x : Reply). x.node) is ∙ heard.0, sym (hear_report r m) ∙ ap (λ (x : Reply). x.report) is ∙ heard.1)
+    (sym (vote_node r m) ∙ ap (λ (x : Reply). x.node) is ∙ heard.0, sym (vote_report r m) ∙ ap (λ (x : Reply). x.report) is ∙ heard.1)
 
 -- nor where the node isn't on its list
 pub own_not_listed : (n : Node) (now : ℕ) (v : Validation) → IsAtRest n → is_on n.list.members n.me ≡ false →
-    (n ≡ (reporting (with_taken n now n.me v) (Some v)).node) × (None ≡ arisen (with_taken n now n.me v))
+    (n ≡ (reporting (with_taken n now n.me v) Done (Some v)).node) × (None ≡ arisen (with_taken n now n.me v))
 own_not_listed n now v rest off = stays n (at_member n.me (take now v) n.rows) (Some v) rest (nobody_changes n.me (take now v) n.rows (has_none n n.me rest off))

@@ -1,77 +1,279 @@
--- What a room holds once the oldest items' frames were written into it, and these items were taken out.
-use Rattle.std.proofs.Common.{◌≡◌, ℕ, ◌+◌, ◌-◌, ◌*◌, ◌<◌, List, [], ◌∷◌, ◌++◌, length, get_or, set, take, drop, arith, refl, ap, sym, ◌∙◌}
-use Rattle.std.specs.List.{flat_map}
-use Rattle.std.proofs.lemmas.List.{take_more, take_more_set, take-append-drop, length-take-le, length-append, length-drop, length-set, drop-set-lt, drop-drop, take_at, drop_at, get_or-drop, append-nil}
+-- What a room holds, and what still waits, while a drain goes on.
+use Rattle.std.proofs.Common.{◌≡◌, ℕ, zero, suc, ◌+◌, ◌-◌, ◌<◌, ◌≤◌, true, false, cond, List, [], ◌∷◌, ◌++◌, length, set, take, drop, map, arith, refl, ap, sym, ◌∙◌, subst, Option, Some, None}
+use Rattle.std.specs.Prelude.{All, IfSome, count_by, nat_le, option_to_list, slice_get}
+use Rattle.std.specs.Option.{is_none}
+use Rattle.std.proofs.lemmas.Bool.{cond-true, cond-false, le-leb}
+use Rattle.std.proofs.lemmas.Bool.Decides.{nat_tests}
 use Rattle.std.proofs.lemmas.Grind.{flat_map-append}
-use Rattle.xl_wire.specs.Writing.{Puts}
+use Rattle.std.proofs.lemmas.List.{length-append, length-drop, length-set, length-take-le, append-nil, append_assoc, take_at, drop_at, drop-drop, set-get_or, get_or-set_same, take-append-drop, drop-map}
+use Rattle.std.proofs.lemmas.List.Elements.{All-head, All-tail, filter_map-append}
+use Rattle.std.proofs.lemmas.List.Sums.{sum_by-append}
+use Rattle.xl_queues.specs.Broadcasts.{queue_of}
+use Rattle.xl_queues.specs.Queues.{Backlog, no_items, one_more}
+use Rattle.xl_wire.specs.declared.validation.Validation.{Validation}
+use Rattle.xl_core.specs.declared.item.Item.{Item}
+use Rattle.xl_core.specs.declared.item.Item.TheVariants.{Vote}
+use Rattle.xl_core.specs.Items.{frame_of}
+use Rattle.xl_core.specs.Node.{Node}
+use Rattle.xl_core.specs.Sending.{sealed_bytes, has_spelling}
+use Rattle.xl_core.specs.declared.putting.Put.{Put}
+use Rattle.xl_core.specs.declared.putting.Put.TheVariants.{Written, PassedOver, NoRoom}
+use Rattle.xl_core.specs.Draining.{IsPut, Stands, TakesOne}
+use Rattle.xl_core.specs.Queues.{waiting_at, at_number, after_taking, fitting, frames_in, joined, lost_more}
 
--- a frame of 87 bytes behind so many others
-one_frame : (at next : ℕ) (frame old new : List ℕ) → length frame ≡ 87 → next ≡ at + 87 → Puts at frame old new →
-    (take next new ≡ take at old ++ frame) × (drop next new ≡ drop next old) × (length new ≡ length old)
-one_frame at next frame old new long is_next puts =
-    let front : length (take at old) ≡ at = length-take-le at old (omega (arith, puts.fits)) in
-    let both : length (take at old ++ frame) ≡ next = omega (arith, length-append (take at old) frame) in
-    let is : new ≡ (take at old ++ frame) ++ drop next old = puts.is ∙ ap (λ (n : ℕ). (take at old ++ frame) ++ drop n old) (omega (arith, long, is_next)) in
-    let rest : length (drop next old) ≡ length old - next = length-drop next old in (
-      ap (take next) is ∙ take_at (take at old ++ frame) (drop next old) next both,
-      ap (drop next) is ∙ drop_at (take at old ++ frame) (drop next old) next both,
-      ap length is ∙ omega (arith, length-append (take at old ++ frame) (drop next old), puts.fits),
-    )
+-- THE FRAMES
 
-module _ {X : Type 0} where
-  -- so many items were taken from the old ones, and their frames written
-  pub record IsDrained (f : X → List ℕ) (items left : List X) (old new : List ℕ) (i : ℕ) : Type 0 where
-    pub held : left ≡ drop i items
-    pub written : take (i * 87) new ≡ flat_map f (take i items)
-    pub rest : drop (i * 87) new ≡ drop (i * 87) old
-    pub long : length new ≡ length old
+abbrev Frames : Type 0
+Frames = List (Option (List ℕ))
 
-  pub drained_none : (f : X → List ℕ) (items : List X) (old : List ℕ) → IsDrained f items items old old 0
-  drained_none f items old = record { held = refl; written = refl; rest = refl; long = refl }
+frames_then : (fs : Frames) (o : Option (List ℕ)) → frames_in (fs ++ o ∷ []) ≡ frames_in fs ++ option_to_list o
+frames_then fs None = filter_map-append (λ (f : Option (List ℕ)). f) fs (None ∷ [])
+frames_then fs (Some f) = filter_map-append (λ (x : Option (List ℕ)). x) fs (Some f ∷ [])
 
-  -- one more
-  pub drained_more : (f : X → List ℕ) (items left left' : List X) (old mid new frame : List ℕ) (i : ℕ) (d : X) → i < length items → IsDrained f items left old mid i →
-      frame ≡ f (get_or left 0 d) → length frame ≡ 87 → Puts (i * 87) frame mid new → left' ≡ drop 1 left → IsDrained f items left' old new (i + 1)
-  drained_more f items left left' old mid new frame i d i_in was is long puts is_left =
-      let one = one_frame (i * 87) ((i + 1) * 87) frame mid new long (omega arith) puts in
-      let first : get_or left 0 d ≡ get_or items i d = ap (λ (xs : List X). get_or xs 0 d) was.held ∙ get_or-drop i items 0 d ∙ ap (λ (n : ℕ). get_or items n d) (omega arith) in
-      let more : flat_map f (take (i + 1) items) ≡ flat_map f (take i items) ++ f (get_or items i d) =
-      ap (flat_map f) (take_more items i d i_in) ∙ flat_map-append f (take i items) (get_or items i d ∷ []) ∙ ap (λ (xs : List ℕ). flat_map f (take i items) ++ xs) (append-nil (f (get_or items i d))) in
-      let next : (i + 1) * 87 ≡ i * 87 + 87 = omega arith in
-      let rest : drop ((i + 1) * 87) mid ≡ drop ((i + 1) * 87) old =
-      ap (λ (n : ℕ). drop n mid) next ∙ sym (drop-drop 87 (i * 87) mid) ∙ ap (drop 87) was.rest ∙ drop-drop 87 (i * 87) old ∙ ap (λ (n : ℕ). drop n old) (sym next) in
-      record {
-        held = is_left ∙ ap (drop 1) was.held ∙ drop-drop 1 i items;
-        written = one.0 ∙ ap (λ (xs : List ℕ). xs ++ frame) was.written ∙ ap (λ (xs : List ℕ). flat_map f (take i items) ++ xs) (is ∙ ap f first) ∙ sym more;
-        rest = one.1 ∙ rest;
-        long = one.2 ∙ was.long;
-      }
+joined_then : (fs : List (List ℕ)) (f : List ℕ) → joined (fs ++ f ∷ []) ≡ joined fs ++ f
+joined_then fs f = flat_map-append (λ (x : List ℕ). x) fs (f ∷ []) ∙ ap (λ (xs : List ℕ). joined fs ++ xs) (append-nil f)
 
-  -- the whole room
-  pub drained_room : (f : X → List ℕ) (items left : List X) (old new : List ℕ) (i : ℕ) → IsDrained f items left old new i → new ≡ flat_map f (take i items) ++ drop (i * 87) old
-  drained_room f items left old new i done =
-      sym (take-append-drop (i * 87) new) ∙ ap (λ (xs : List ℕ). xs ++ drop (i * 87) new) done.written ∙ ap (λ (xs : List ℕ). flat_map f (take i items) ++ xs) done.rest
+take_first : (fs rest : Frames) (n : ℕ) (o : Option (List ℕ)) → n ≤ length fs → drop n fs ≡ o ∷ rest → take (n + 1) fs ≡ take n fs ++ o ∷ []
+take_first fs rest n o few is =
+    let front : length (take n fs ++ o ∷ []) ≡ n + 1 = omega (arith, length-append (take n fs) (o ∷ []), length-take-le n fs few) in
+    ap (take (n + 1)) (sym (take-append-drop n fs) ∙ ap (λ (xs : Frames). take n fs ++ xs) is ∙ sym (append_assoc (take n fs) (o ∷ []) rest))
+    ∙ take_at (take n fs ++ o ∷ []) rest (n + 1) front
 
-  -- so many items were taken from the old ones, and stand in the room
-  pub record IsGiven (items left old new : List X) (i : ℕ) : Type 0 where
-    pub held : left ≡ drop i items
-    pub given : take i new ≡ take i items
-    pub rest : drop i new ≡ drop i old
-    pub long : length new ≡ length old
+drop_first : (fs rest : Frames) (n : ℕ) (o : Option (List ℕ)) → drop n fs ≡ o ∷ rest → drop (n + 1) fs ≡ rest
+drop_first fs rest n o is = ap (λ (k : ℕ). drop k fs) (omega arith) ∙ sym (drop-drop 1 n fs) ∙ ap (drop 1) is
 
-  pub given_none : (items old : List X) → IsGiven items items old old 0
-  given_none items old = record { held = refl; given = refl; rest = refl; long = refl }
+-- WHAT WAITS
 
-  pub given_more : (items left left' old mid new : List X) (i : ℕ) (x : X) → i < length items → i < length mid → IsGiven items left old mid i → get_or left 0 x ≡ x → new ≡ set mid i x → left' ≡ drop 1 left →
-      IsGiven items left' old new (i + 1)
-  given_more items left left' old mid new i x i_in i_room was first is is_left =
-      let same : get_or items i x ≡ x = sym (ap (λ (xs : List X). get_or xs 0 x) was.held ∙ get_or-drop i items 0 x ∙ ap (λ (n : ℕ). get_or items n x) (omega arith)) ∙ first in
-      record {
-        held = is_left ∙ ap (drop 1) was.held ∙ drop-drop 1 i items;
-        given = ap (take (i + 1)) is ∙ take_more_set mid i x i_room ∙ ap (λ (xs : List X). xs ++ x ∷ []) was.given ∙ ap (λ (y : X). take i items ++ y ∷ []) (sym same) ∙ sym (take_more items i x i_in);
-        rest = ap (drop (i + 1)) is ∙ drop-set-lt (i + 1) mid i x (omega arith) ∙ sym (drop-drop 1 i mid) ∙ ap (drop 1) was.rest ∙ drop-drop 1 i old;
-        long = ap length is ∙ length-set mid i x ∙ was.long;
-      }
+lost_then : (n m lost : ℕ) → lost_more n (lost_more m lost) ≡ lost_more (m + n) lost
+lost_then zero m lost = ap (λ (k : ℕ). lost_more k lost) (omega arith)
+lost_then (suc n) m lost =
+    let next : suc (m + n) ≡ m + suc n = omega arith in
+    ap one_more (lost_then n m lost) ∙ ap (λ (k : ℕ). lost_more k lost) next
 
-  pub given_room : (items left old new : List X) (i : ℕ) → IsGiven items left old new i → new ≡ take i items ++ drop i old
-  given_room items left old new i done = sym (take-append-drop i new) ∙ ap (λ (xs : List X). xs ++ drop i new) done.given ∙ ap (λ (xs : List X). take i items ++ xs) done.rest
+count_then : (fs : Frames) (o : Option (List ℕ)) → count_by is_none fs + count_by is_none (o ∷ []) ≡ count_by is_none (fs ++ o ∷ [])
+count_then fs o = sym (sum_by-append (λ (x : Option (List ℕ)). cond (is_none x) 1 0) fs (o ∷ []))
+
+same_backlog : {xs ys : List Item} {a b : ℕ} → xs ≡ ys → a ≡ b → (let q : Backlog Item = record { items = xs; lost = a } in q) ≡ (let q : Backlog Item = record { items = ys; lost = b } in q)
+same_backlog p q = cc
+
+-- one item more was taken
+taking_then : (fs : Frames) (o : Option (List ℕ)) (q : Backlog Item) → after_taking (o ∷ []) (after_taking fs q) ≡ after_taking (fs ++ o ∷ []) q
+taking_then fs o q =
+    same_backlog (drop-drop 1 (length fs) q.items ∙ ap (λ (k : ℕ). drop k q.items) (sym (length-append fs (o ∷ []))))
+    (lost_then (count_by is_none (o ∷ [])) (count_by is_none fs) q.lost ∙ ap (λ (k : ℕ). lost_more k q.lost) (count_then fs o))
+
+-- nothing was taken
+pub taking_none : (waiting : List (Backlog Item)) (number : ℕ) → at_number waiting number (after_taking []) ≡ waiting
+taking_none waiting zero = refl
+taking_none waiting (suc place) = set-get_or waiting place no_items
+
+set-set : (qs : List (Backlog Item)) (k : ℕ) (x y : Backlog Item) → set (set qs k x) k y ≡ set qs k y
+set-set [] k x y = refl
+set-set (q ∷ qs) zero x y = refl
+set-set (q ∷ qs) (suc k) x y = ap (λ (rest : List (Backlog Item)). q ∷ rest) (set-set qs k x y)
+
+-- the queue of a number, once it was changed
+changed : (waiting : List (Backlog Item)) (number : ℕ) (f : Backlog Item → Backlog Item) → 1 ≤ number → number ≤ length waiting → waiting_at (at_number waiting number f) number ≡ f (waiting_at waiting number)
+changed waiting zero f least most = absurd (omega arith)
+changed waiting (suc place) f least most = get_or-set_same waiting place (f (queue_of waiting place)) no_items (omega arith)
+
+changed_again : (waiting : List (Backlog Item)) (number : ℕ) (f g : Backlog Item → Backlog Item) → 1 ≤ number → number ≤ length waiting → at_number (at_number waiting number f) number g ≡ at_number waiting number (λ q. g (f q))
+changed_again waiting zero f g least most = refl
+changed_again waiting (suc place) f g least most =
+    set-set waiting place (f (queue_of waiting place)) (g (queue_of (set waiting place (f (queue_of waiting place))) place))
+    ∙ ap (λ (q : Backlog Item). set waiting place (g q)) (get_or-set_same waiting place (f (queue_of waiting place)) no_items (omega arith))
+
+at_number_same : (waiting : List (Backlog Item)) (number : ℕ) (f g : Backlog Item → Backlog Item) → ((q : Backlog Item) → f q ≡ g q) → at_number waiting number f ≡ at_number waiting number g
+at_number_same waiting zero f g same = refl
+at_number_same waiting (suc place) f g same = ap (set waiting place) (same (queue_of waiting place))
+
+pub length_changed : (waiting : List (Backlog Item)) (number : ℕ) (f : Backlog Item → Backlog Item) → length (at_number waiting number f) ≡ length waiting
+length_changed waiting zero f = refl
+length_changed waiting (suc place) f = length-set waiting place (f (queue_of waiting place))
+
+-- A DRAIN SO FAR
+
+-- so many of the oldest items for a number were taken, of these frames
+pub record IsDrained (fs : Frames) (old now : List (Backlog Item)) (number : ℕ) (old_room room : List ℕ) (at : ℕ) : Type 0 where
+  pub count : ℕ
+  pub few : count ≤ length fs
+  pub waits : now ≡ at_number old number (after_taking (take count fs))
+  pub written : room ≡ joined (frames_in (take count fs)) ++ drop at old_room
+  pub place : at ≡ length (joined (frames_in (take count fs)))
+  pub within : at ≤ length old_room
+  pub fits : count + fitting (drop count fs) (length old_room - at) ≡ fitting fs (length old_room)
+
+pub drained_none : (fs : Frames) (old : List (Backlog Item)) (number : ℕ) (room : List ℕ) → IsDrained fs old old number room room 0
+drained_none fs old number room =
+    let whole : length room - 0 ≡ length room = omega arith in
+    let same : fitting fs (length room - 0) ≡ fitting fs (length room) = ap (fitting fs) whole in
+    record { count = 0; few = omega arith; waits = sym (taking_none old number); written = refl; place = refl; within = omega arith; fits = omega (arith, same) }
+
+-- the room is as long as it was
+pub drained_long : (fs : Frames) (old now : List (Backlog Item)) (number : ℕ) (old_room room : List ℕ) (at : ℕ) → IsDrained fs old now number old_room room at → length room ≡ length old_room
+drained_long fs old now number old_room room at so_far =
+    omega (arith, ap length so_far.written, length-append (joined (frames_in (take so_far.count fs))) (drop at old_room), length-drop at old_room, so_far.place, so_far.within)
+
+-- what the frames of the rest are
+pub frames_left : (f : Item → Option (List ℕ)) (old now : List (Backlog Item)) (number : ℕ) (old_room room : List ℕ) (at : ℕ) → 1 ≤ number → number ≤ length old →
+    (so_far : IsDrained (map f (waiting_at old number).items) old now number old_room room at) → map f (waiting_at now number).items ≡ drop so_far.count (map f (waiting_at old number).items)
+frames_left f old now number old_room room at least most so_far =
+    let items : List Item = (waiting_at old number).items in
+    let long : length (take so_far.count (map f items)) ≡ so_far.count = length-take-le so_far.count (map f items) so_far.few in
+    ap (λ (ws : List (Backlog Item)). map f (waiting_at ws number).items) so_far.waits
+    ∙ ap (λ (q : Backlog Item). map f q.items) (changed old number (after_taking (take so_far.count (map f items))) least most)
+    ∙ ap (λ (k : ℕ). map f (drop k items)) long
+    ∙ sym (drop-map f so_far.count items)
+
+-- the next frame is written
+module _ (fs rest : Frames) (old now next : List (Backlog Item)) (number : ℕ) (old_room mid new : List ℕ) (at at' : ℕ) (o : Option (List ℕ)) (so_far : IsDrained fs old now number old_room mid at)
+    (first : drop so_far.count fs ≡ o ∷ rest) (taken : next ≡ at_number now number (after_taking (o ∷ []))) (least : 1 ≤ number) (most : number ≤ length old) where
+  abbrev count : ℕ
+  count = so_far.count
+
+  further : count + 1 ≤ length fs
+  further = omega (arith, ap length first, length-drop count fs)
+
+  waits_then : next ≡ at_number old number (after_taking (take (count + 1) fs))
+  waits_then =
+      taken ∙ ap (λ (ws : List (Backlog Item)). at_number ws number (after_taking (o ∷ []))) so_far.waits
+      ∙ changed_again old number (after_taking (take count fs)) (after_taking (o ∷ [])) least most
+      ∙ at_number_same old number (λ q. after_taking (o ∷ []) (after_taking (take count fs) q)) (after_taking (take count fs ++ o ∷ [])) (taking_then (take count fs) o)
+      ∙ ap (λ (xs : Frames). at_number old number (after_taking xs)) (sym (take_first fs rest count o so_far.few first))
+
+passed_more : (fs rest : Frames) (old now next : List (Backlog Item)) (number : ℕ) (old_room mid new : List ℕ) (at at' : ℕ) (so_far : IsDrained fs old now number old_room mid at) →
+    drop so_far.count fs ≡ None ∷ rest → next ≡ at_number now number (after_taking (None ∷ [])) → 1 ≤ number → number ≤ length old → Stands None at at' mid new → IsDrained fs old next number old_room new at'
+passed_more fs rest old now next number old_room mid new at at' so_far first taken least most stands =
+    let count : ℕ = so_far.count in
+    let frames : frames_in (take (count + 1) fs) ≡ frames_in (take count fs) = ap frames_in (take_first fs rest count None so_far.few first) ∙ frames_then (take count fs) None ∙ append-nil (frames_in (take count fs)) in
+    subst (λ (k : ℕ). IsDrained fs old next number old_room new k) (sym stands.0)
+    (record {
+      count = count + 1;
+      few = further fs rest old now next number old_room mid new at at' None so_far first taken least most;
+      waits = waits_then fs rest old now next number old_room mid new at at' None so_far first taken least most;
+      written = stands.1 ∙ so_far.written ∙ ap (λ (xs : List (List ℕ)). joined xs ++ drop at old_room) (sym frames);
+      place = so_far.place ∙ ap (λ (xs : List (List ℕ)). length (joined xs)) (sym frames);
+      within = so_far.within;
+      fits = ap (λ (xs : Frames). count + 1 + fitting xs (length old_room - at)) (drop_first fs rest count None first)
+          ∙ omega arith
+          ∙ ap (λ (xs : Frames). count + fitting xs (length old_room - at)) (sym first)
+          ∙ so_far.fits;
+    })
+
+written_more : (fs rest : Frames) (old now next : List (Backlog Item)) (number : ℕ) (old_room mid new : List ℕ) (at at' : ℕ) (f : List ℕ) (so_far : IsDrained fs old now number old_room mid at) →
+    drop so_far.count fs ≡ Some f ∷ rest → next ≡ at_number now number (after_taking (Some f ∷ [])) → 1 ≤ number → number ≤ length old → Stands (Some f) at at' mid new → IsDrained fs old next number old_room new at'
+written_more fs rest old now next number old_room mid new at at' f so_far first taken least most stands =
+    let count : ℕ = so_far.count in
+    let before : List ℕ = joined (frames_in (take count fs)) in
+    let long : length mid ≡ length old_room = drained_long fs old now number old_room mid at so_far in
+    let frames : joined (frames_in (take (count + 1) fs)) ≡ before ++ f =
+    ap joined (ap frames_in (take_first fs rest count (Some f) so_far.few first) ∙ frames_then (take count fs) (Some f)) ∙ joined_then (frames_in (take count fs)) f in
+    let front : take at mid ≡ before = ap (take at) so_far.written ∙ take_at before (drop at old_room) at (sym so_far.place) in
+    let back : drop (at + length f) mid ≡ drop (at + length f) old_room =
+    ap (drop (at + length f)) so_far.written ∙ ap (λ (k : ℕ). drop k (before ++ drop at old_room)) (omega arith) ∙ sym (drop-drop (length f) at (before ++ drop at old_room))
+    ∙ ap (drop (length f)) (drop_at before (drop at old_room) at (sym so_far.place)) ∙ drop-drop (length f) at old_room ∙ ap (λ (k : ℕ). drop k old_room) (omega arith) in
+    let room : length f ≤ length old_room - at = omega (arith, stands.1.fits, long) in
+    let minus : length old_room - (at + length f) ≡ length old_room - at - length f = omega arith in
+    subst (λ (k : ℕ). IsDrained fs old next number old_room new k) (sym stands.0)
+    (record {
+      count = count + 1;
+      few = further fs rest old now next number old_room mid new at at' (Some f) so_far first taken least most;
+      waits = waits_then fs rest old now next number old_room mid new at at' (Some f) so_far first taken least most;
+      written = stands.1.is ∙ ap (λ (xs : List ℕ). xs ++ f ++ drop (at + length f) mid) front ∙ ap (λ (xs : List ℕ). before ++ f ++ xs) back
+          ∙ ap (λ (xs : List ℕ). xs ++ drop (at + length f) old_room) (sym frames);
+      place = omega (arith, ap length frames, length-append before f, so_far.place);
+      within = omega (arith, stands.1.fits, long);
+      fits = ap (λ (xs : Frames). count + 1 + fitting xs (length old_room - (at + length f))) (drop_first fs rest count (Some f) first)
+          ∙ ap (λ (k : ℕ). count + 1 + fitting rest k) minus
+          ∙ omega (arith, cond-true (nat_le (length f) (length old_room - at)) (suc (fitting rest (length old_room - at - length f))) 0 (le-leb (length f) (length old_room - at) room))
+          ∙ ap (λ (xs : Frames). count + fitting xs (length old_room - at)) (sym first)
+          ∙ so_far.fits;
+    })
+
+-- one item more was taken
+pub drained_more : (f : Item → Option (List ℕ)) (old now next : List (Backlog Item)) (number : ℕ) (old_room mid new : List ℕ) (at at' : ℕ) → 1 ≤ number → number ≤ length old →
+    IsDrained (map f (waiting_at old number).items) old now number old_room mid at → TakesOne (map f (waiting_at now number).items) now next number at at' mid new →
+    IsDrained (map f (waiting_at old number).items) old next number old_room new at'
+drained_more f old now next number old_room mid new at at' least most so_far one =
+    by one.first one.rest (sym (frames_left f old now number old_room mid at least most so_far) ∙ one.is) one.taken one.stands
+  where
+    by : (o : Option (List ℕ)) (rest : Frames) → drop so_far.count (map f (waiting_at old number).items) ≡ o ∷ rest → next ≡ at_number now number (after_taking (o ∷ [])) → Stands o at at' mid new →
+        IsDrained (map f (waiting_at old number).items) old next number old_room new at'
+    by None rest first taken stands = passed_more (map f (waiting_at old number).items) rest old now next number old_room mid new at at' so_far first taken least most stands
+    by (Some frame) rest first taken stands = written_more (map f (waiting_at old number).items) rest old now next number old_room mid new at at' frame so_far first taken least most stands
+
+-- THE WHOLE DRAIN
+
+-- nothing more fits
+pub drained_all : (fs : Frames) (old now : List (Backlog Item)) (number : ℕ) (old_room room : List ℕ) (at : ℕ) → (so_far : IsDrained fs old now number old_room room at) →
+    fitting (drop so_far.count fs) (length old_room - at) ≡ 0 → so_far.count ≡ fitting fs (length old_room)
+drained_all fs old now number old_room room at so_far none = omega (arith, so_far.fits, none)
+
+pub drained_end : (f : Item → Option (List ℕ)) (old now : List (Backlog Item)) (number : ℕ) (old_room room : List ℕ) (at : ℕ) → 1 ≤ number → number ≤ length old →
+    (so_far : IsDrained (map f (waiting_at old number).items) old now number old_room room at) → fitting (map f (waiting_at now number).items) (length room - at) ≡ 0 →
+    so_far.count ≡ fitting (map f (waiting_at old number).items) (length old_room)
+drained_end f old now number old_room room at least most so_far none =
+    let fs : Frames = map f (waiting_at old number).items in
+    let rest = frames_left f old now number old_room room at least most so_far in
+    let long = drained_long fs old now number old_room room at so_far in
+    drained_all fs old now number old_room room at so_far
+    (ap (λ (xs : Frames). fitting xs (length old_room - at)) (sym rest) ∙ ap (λ (k : ℕ). fitting (map f (waiting_at now number).items) (k - at)) (sym long) ∙ none)
+
+-- a drain gives nothing exactly where nothing is left but what is passed over: each frame fits into the room
+pub none_left : (fs : Frames) (room : ℕ) → All (λ o. IfSome o (λ f. (0 < length f) × (length f ≤ room))) fs → length (joined (frames_in (take (fitting fs room) fs))) ≡ 0 → frames_in fs ≡ []
+none_left [] room fits none = refl
+none_left (None ∷ fs) room fits none = none_left fs room (All-tail (λ o. IfSome o (λ f. (0 < length f) × (length f ≤ room))) None fs fits) none
+none_left (Some f ∷ fs) room fits none =
+    let its = All-head (λ o. IfSome o (λ g. (0 < length g) × (length g ≤ room))) (Some f) fs fits in
+    let room_for : fitting (Some f ∷ fs) room ≡ suc (fitting fs (room - length f)) = cond-true (nat_le (length f) room) (suc (fitting fs (room - length f))) 0 (le-leb (length f) room its.1) in
+    let given : List (List ℕ) = frames_in (take (fitting fs (room - length f)) fs) in
+    let long : length (joined (frames_in (take (fitting (Some f ∷ fs) room) (Some f ∷ fs)))) ≡ length (f ++ joined given) = ap (λ (k : ℕ). length (joined (frames_in (take k (Some f ∷ fs))))) room_for in
+    absurd (omega (arith, its.0, none, long, length-append f (joined given)))
+
+pub none_given : (fs : Frames) (room : ℕ) → frames_in fs ≡ [] → length (joined (frames_in (take (fitting fs room) fs))) ≡ 0
+none_given [] room none = refl
+none_given (None ∷ fs) room none = none_given fs room none
+none_given (Some f ∷ fs) room none = cc
+
+-- ONE ITEM
+
+-- what waits for a number waits for its reader
+pub waiting_there : (waiting : List (Backlog Item)) (number reader : ℕ) → reader + 1 ≡ number → waiting_at waiting number ≡ queue_of waiting reader
+waiting_there waiting zero reader is = absurd (omega (arith, is))
+waiting_there waiting (suc place) reader is = let same : place ≡ reader = omega (arith, is) in ap (queue_of waiting) same
+
+-- what found no room is too long
+pub found_no_room : (o : Option (List ℕ)) (at : ℕ) (old new : List ℕ) (r : Put) → IsPut o at old new r → r ≡ NoRoom → (f : List ℕ) × (o ≡ Some f) × (length old - at < length f) × (new ≡ old)
+found_no_room None at old new (Written count) is none = cc
+found_no_room None at old new PassedOver is none = cc
+found_no_room None at old new NoRoom is none = absurd is
+found_no_room (Some f) at old new (Written count) is none = cc
+found_no_room (Some f) at old new PassedOver is none = cc
+found_no_room (Some f) at old new NoRoom is none = (f, refl, is.0, is.1)
+
+-- none is there
+pub none_there : (f : Item → Option (List ℕ)) (items : List Item) (room : ℕ) → slice_get items 0 ≡ None → fitting (map f items) room ≡ 0
+none_there f [] room none = refl
+none_there f (item ∷ items) room none = cc
+
+-- the first is too long
+pub too_long : (f : Item → Option (List ℕ)) (items : List Item) (item : Item) (frame : List ℕ) (room : ℕ) → slice_get items 0 ≡ Some item → f item ≡ Some frame → room < length frame → fitting (map f items) room ≡ 0
+too_long f [] item frame room first its long = cc
+too_long f (x ∷ items) item frame room first its long =
+    ap (λ (o : Option (List ℕ)). fitting (o ∷ map f items) room) (ap f (same x item first) ∙ its)
+    ∙ cond-false (nat_le (length frame) room) (suc (fitting (map f items) (room - length frame))) 0 (lt-not-leb (length frame) room long)
+  where
+    same : (x y : Item) → Some x ≡ Some y → x ≡ y
+    same x y e = cc
+
+    lt-not-leb : (a b : ℕ) → b < a → nat_le a b ≡ false
+    lt-not-leb a b lt = grind (arith, nat_tests)
+
+-- A VOTE
+
+-- its frame was put
+pub vote_put : (n : Node) (to : ℕ) (item : Item) (v : Validation) (frame : List ℕ) (at : ℕ) (old new : List ℕ) (r : Put) → Vote v ≡ item → frame ≡ sealed_bytes n.keys n.me to v → has_spelling n.me to v ≡ true →
+    IsPut (Some frame) at old new r → IsPut (frame_of n to item) at old new r
+vote_put n to item v frame at old new r same is spelled put =
+    subst (λ (x : Item). IsPut (frame_of n to x) at old new r) same
+    (subst (λ (o : Option (List ℕ)). IsPut o at old new r) (ap (λ (f : List ℕ). Some f) is ∙ sym (cond-true (has_spelling n.me to v) (Some (sealed_bytes n.keys n.me to v)) None spelled)) put)

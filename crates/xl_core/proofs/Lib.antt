@@ -1,6 +1,7 @@
 pub mod Heard
 pub mod Learning
 pub mod SealingLaws
+pub mod Spelling
 pub mod Counts
 pub mod Members
 pub mod Arising
@@ -11,6 +12,6 @@ pub mod Expiring
 pub mod Living
 pub mod Reporting
 pub mod Draining
-pub mod Peers
+pub mod Handing
 pub mod Stepping
 pub mod Stopping

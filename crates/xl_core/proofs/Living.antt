@@ -12,6 +12,7 @@ use Rattle.xl_validations.specs.declared.row.Row.{Row}
 use Rattle.xl_validations.specs.declared.refusal.ValRefusal.{ValRefusal}
 use Rattle.xl_validations.specs.Rows.{row_of, refusal_of, with_validation, at_member, empty_row}
 use Rattle.xl_core.specs.declared.report.Report.{Report}
+use Rattle.xl_core.specs.Answers.{Done}
 use Rattle.xl_core.specs.Node.{Node, Event, Issue, Frame, Reply, Save, issues_unless, opened, happens, hears, issues, refusing, reporting, with_taken, take, arisen, arises_in, is_above, later, report_of, refusal_at, hearing, hearing_speech, learns, at_moment, second_of, own_validation}
 use Rattle.xl_core.specs.Node.Save.{Kept, Failed}
 use Rattle.xl_core.specs.declared.refusal.Refusal.TheVariants.{NotAfter}
@@ -126,18 +127,18 @@ goes_on list n reports now from v rows living is_rows unrefused =
 
 -- what the rows report once a row has taken a validation, or refused it, or isn't there
 by_row : (list : TrustedList) (n : Node) (reports : List Report) (now from : ℕ) (v : Validation) (issued : Option Validation) → IsLiving list n reports → (o : Option Row) → row_of n.rows from ≡ o →
-    (p : Option ValRefusal) → refusal_of n.rows from now v ≡ p → IsLiving list (reporting (with_taken n now from v) issued).node (reports ++ option_to_list (arisen (with_taken n now from v)))
+    (p : Option ValRefusal) → refusal_of n.rows from now v ≡ p → IsLiving list (reporting (with_taken n now from v) Done issued).node (reports ++ option_to_list (arisen (with_taken n now from v)))
 by_row list n reports now from v issued living None nobody p is =
     same_life (nobody_changes from (take now v) n.rows nobody)
   where
-    same_life : at_member from (take now v) n.rows ≡ n.rows → IsLiving list (reporting (with_taken n now from v) issued).node (reports ++ option_to_list (arisen (with_taken n now from v)))
+    same_life : at_member from (take now v) n.rows ≡ n.rows → IsLiving list (reporting (with_taken n now from v) Done issued).node (reports ++ option_to_list (arisen (with_taken n now from v)))
     same_life same =
         let still = stays n (at_member from (take now v) n.rows) issued living.rest same in
-        subst (λ o. IsLiving list (reporting (with_taken n now from v) issued).node (reports ++ option_to_list o)) still.1
+        subst (λ o. IsLiving list (reporting (with_taken n now from v) Done issued).node (reports ++ option_to_list o)) still.1
         (subst (λ m. IsLiving list m (reports ++ [])) still.0 (unreported list n reports living))
 by_row list n reports now from v issued living (Some row) there (Some why) is =
     let still = stays n (at_member from (take now v) n.rows) issued living.rest (refused_stays from now v why n.rows is) in
-    subst (λ o. IsLiving list (reporting (with_taken n now from v) issued).node (reports ++ option_to_list o)) still.1
+    subst (λ o. IsLiving list (reporting (with_taken n now from v) Done issued).node (reports ++ option_to_list o)) still.1
     (subst (λ m. IsLiving list m (reports ++ [])) still.0 (unreported list n reports living))
 by_row list n reports now from v issued living (Some row) there None is =
     let rows : List Row = at_member from (take now v) n.rows in
@@ -151,7 +152,7 @@ by_row list n reports now from v issued living (Some row) there None is =
     (rest_when_taken n from v rows report (later n.last report) living.rest is_rows refl (sym (or_later report n.last))))
 
 reported_on : (list : TrustedList) (n : Node) (reports : List Report) (now from : ℕ) (v : Validation) (issued : Option Validation) → IsLiving list n reports →
-    IsLiving list (reporting (with_taken n now from v) issued).node (reports ++ option_to_list (arisen (with_taken n now from v)))
+    IsLiving list (reporting (with_taken n now from v) Done issued).node (reports ++ option_to_list (arisen (with_taken n now from v)))
 reported_on list n reports now from v issued living = by_row list n reports now from v issued living (row_of n.rows from) refl (refusal_of n.rows from now v) refl
 
 -- EVERY EVENT

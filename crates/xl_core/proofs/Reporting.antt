@@ -25,6 +25,8 @@ use Rattle.xl_core.specs.declared.hearing.Spoken.{Spoken}
 use Rattle.xl_core.specs.declared.hearing.Speech.{Speech}
 use Rattle.xl_core.specs.declared.hearing.Speech.TheVariants.{Vote, Header}
 use Rattle.xl_core.specs.Hearing.{heard}
+use Rattle.xl_core.specs.Answers.{Answer, Took, Done}
+use Rattle.xl_core.specs.declared.taken.Taken.TheVariants.{Vote as TakenVote}
 use Rattle.xl_core.specs.Node.{Node, Event, Issue, Frame, Reply, Save, issues_unless, opened, happens, hears, issues, saving, refusing, reporting, with_taken, arises, is_above, report_of, refusal_at, hearing, hearing_speech, learns, at_moment, second_of, own_validation}
 use Rattle.xl_core.specs.Lives.{node_after, reports_in, ReportsArise, ReportsRise}
 use Rattle.xl_core.proofs.Counts.{find_passes, names_it}
@@ -47,8 +49,8 @@ news_of m r None passes is = absurd (none-some r is)
 news_of m r (Some v) passes is =
     subst (λ (x : Report). (m.list.quorum ≤ count_full x.seq x.id m.rows) × (is_above m.last x.seq ≡ true)) (same_Some (report_of v) r is) (parts_of m.list.quorum m.rows m.last v passes)
 
-reporting_news : (n m : Node) (issued : Option Validation) (r : Report) → m.list ≡ n.list → m.last ≡ n.last → (reporting m issued).report ≡ Some r → IsNews n (reporting m issued) r
-reporting_news n m issued r same_list same_last is =
+reporting_news : (n m : Node) (a : Answer) (issued : Option Validation) (r : Report) → m.list ≡ n.list → m.last ≡ n.last → (reporting m a issued).report ≡ Some r → IsNews n (reporting m a issued) r
+reporting_news n m a issued r same_list same_last is =
     let parts = news_of m r (find (arises m) (filter_map (λ row. row.current) m.rows)) (find_passes (arises m) (filter_map (λ row. row.current) m.rows)) is in
     record {
       quorum = subst (λ (l : TrustedList). l.quorum ≤ count_full r.seq r.id m.rows) same_list parts.0;
@@ -56,7 +58,7 @@ reporting_news n m issued r same_list same_last is =
     }
 
 issued_news : (n : Node) (now : ℕ) (save : Save) (v : Validation) (r : Report) → (issues n now save v).report ≡ Some r → IsNews n (issues n now save v) r
-issued_news n now Kept v r is = reporting_news n (saving n now v) (Some v) r refl refl is
+issued_news n now Kept v r is = reporting_news n (saving n now v) Done (Some v) r refl refl is
 issued_news n now (Failed count) v r is = no_news n (issues n now (Failed count) v) r refl is
 
 unless_news : (n : Node) (off : Option ℕ) (save : Save) (v : Validation) (r : Report) → (issues_unless n off save v).report ≡ Some r → IsNews n (issues_unless n off save v) r
@@ -64,7 +66,7 @@ unless_news n None save v r is = issued_news n (second_of n) save v r is
 unless_news n (Some failed) save v r is = no_news n (issues_unless n (Some failed) save v) r refl is
 
 heard_news : (n : Node) (now from : ℕ) (v : Validation) (o : Option ValRefusal) (r : Report) → (hears n now from v o).report ≡ Some r → IsNews n (hears n now from v o) r
-heard_news n now from v None r is = reporting_news n (with_taken n now from v) None r refl refl is
+heard_news n now from v None r is = reporting_news n (with_taken n now from v) (Took TakenVote) None r refl refl is
 heard_news n now from v (Some why) r is = no_news n (hears n now from v (Some why)) r refl is
 
 learnt_news : (n : Node) (h : LedgerHeader) (o : Option AddRefusal) (r : Report) → (learns n h o).report ≡ Some r → IsNews n (learns n h o) r

@@ -1,6 +1,6 @@
 -- A step of the node, and of its queues.
 use Rattle.std.proofs.Common.{◌≡◌, ℕ, refl, ap, ◌∙◌, subst, Option, Some, None, Result, Ok, Err, List}
-use Rattle.std.specs.Prelude.{nat_lt, map}
+use Rattle.std.specs.Prelude.{nat_lt}
 use Rattle.std.proofs.lemmas.Bool.{cond_both}
 use Rattle.xl_queues.specs.Queues.{Backlog}
 use Rattle.xl_wire.specs.declared.validation.Validation.{Validation}
@@ -17,11 +17,15 @@ use Rattle.xl_core.specs.declared.report.Report.{Report}
 use Rattle.xl_core.specs.Hearing.{heard}
 use Rattle.xl_core.specs.Node.{Node, Event, Issue, Frame, Reply, Save, happens, hears, learns, hearing, hearing_speech, issues, issues_unless, refusing, refusal_at, at_moment, second_of, own_validation}
 use Rattle.xl_core.specs.Node.Save.{Kept, Failed}
-use Rattle.xl_core.specs.Queues.{with_report, with_waiting}
+use Rattle.xl_core.specs.Answers.{Refused, Took, Done}
+use Rattle.xl_core.specs.Queues.{with_report}
 use Rattle.xl_core.specs.Core.{Core, stepped}
-use Rattle.xl_core.specs.Replies.{hear_reply, issue_reply}
+use Rattle.xl_core.specs.Replies.{Answers, hear_reply, issue_reply}
+use Rattle.xl_core.specs.declared.item.Item.{Item}
+use Rattle.xl_core.specs.declared.item.Item.TheVariants.{Vote as VoteItem}
 use Rattle.xl_core.specs.declared.report.Issued.{Issued}
-use Rattle.xl_core.specs.declared.outgoing.Outgoing.{Outgoing}
+use Rattle.xl_core.specs.declared.taken.Heard.{Heard}
+use Rattle.xl_queues.specs.Broadcasts.{pushed_to_all}
 
 -- THE NODE STAYS ITSELF
 
@@ -66,21 +70,26 @@ stays_itself n (Issue now seq id full) save =
     (cond_both (nat_lt m.kept seq) (issues_unless m m.off save (own_validation m seq id full)) (refusing m (NotAfter m.kept)) (λ r. IsSame m r.node)
     (λ _. unless_same m m.off save (own_validation m seq id full)) (λ _. record { me = refl; keys = refl }))
 
--- THE QUEUES' STEP
+-- THE CORE'S STEP
 
 -- what was heard
-pub heard_step : (core : Core) (n : Node) (report : Option Report) (untaken : Backlog Report) (reply : Reply) → hear_reply (Ok report) n ≡ reply → untaken ≡ with_report core.untaken report →
-    record core { node = n; untaken = untaken } ≡ stepped core reply
-heard_step core n report untaken reply is pushed =
-    subst (λ (r : Reply). record core { node = n; untaken = untaken } ≡ stepped core r) is (ap (λ (u : Backlog Report). let c : Core = record core { node = n; untaken = u } in c) pushed)
+pub heard_step : (core : Core) (n : Node) (heard : Heard) (untaken : Backlog Report) (reply : Reply) → hear_reply (Ok heard) n ≡ reply → untaken ≡ with_report core.untaken heard.report →
+    Answers (stepped core reply) (record core { node = n; untaken = untaken }) (Took heard.taken)
+heard_step core n heard untaken reply is pushed =
+    subst (λ (r : Reply). Answers (stepped core r) (record core { node = n; untaken = untaken }) (Took heard.taken)) is
+    (record { core = ap (λ (u : Backlog Report). let c : Core = record core { node = n; untaken = u } in c) pushed; answer = refl })
 
-pub refused_step : (core : Core) (n : Node) (why : Refusal) (reply : Reply) → hear_reply (Err why) n ≡ reply → record core { node = n } ≡ stepped core reply
-refused_step core n why reply is = subst (λ (r : Reply). record core { node = n } ≡ stepped core r) is refl
+pub refused_step : (core : Core) (n : Node) (why : Refusal) (reply : Reply) → refusing n why ≡ reply → Answers (stepped core reply) (record core { node = n }) (Refused why)
+refused_step core n why reply is =
+    subst (λ (r : Reply). Answers (stepped core r) (record core { node = n }) (Refused why)) is (record { core = refl; answer = refl })
 
 -- what was issued
-pub issued_step : (core : Core) (n : Node) (done : Issued) (outgoing : List Outgoing) (untaken : Backlog Report) (reply : Reply) → issue_reply (Ok done) n ≡ reply →
-    outgoing ≡ map (with_waiting done.validation) core.outgoing → untaken ≡ with_report core.untaken done.report → record core { node = n; outgoing = outgoing; untaken = untaken } ≡ stepped core reply
-issued_step core n done outgoing untaken reply is waiting pushed =
-    subst (λ (r : Reply). record core { node = n; outgoing = outgoing; untaken = untaken } ≡ stepped core r) is
-    (ap (λ (os : List Outgoing). let c : Core = record core { node = n; outgoing = os; untaken = untaken } in c) waiting
-    ∙ ap (λ (u : Backlog Report). let c : Core = record core { node = n; outgoing = map (with_waiting done.validation) core.outgoing; untaken = u } in c) pushed)
+pub issued_step : (core : Core) (n : Node) (done : Issued) (waiting : List (Backlog Item)) (untaken : Backlog Report) (reply : Reply) → issue_reply (Ok done) n ≡ reply →
+    waiting ≡ pushed_to_all 64 core.waiting (VoteItem done.validation) → untaken ≡ with_report core.untaken done.report → Answers (stepped core reply) (record core { node = n; waiting = waiting; untaken = untaken }) Done
+issued_step core n done waiting untaken reply is waits pushed =
+    subst (λ (r : Reply). Answers (stepped core r) (record core { node = n; waiting = waiting; untaken = untaken }) Done) is
+    (record {
+      core = ap (λ (ws : List (Backlog Item)). let c : Core = record core { node = n; waiting = ws; untaken = untaken } in c) waits
+          ∙ ap (λ (u : Backlog Report). let c : Core = record core { node = n; waiting = pushed_to_all 64 core.waiting (VoteItem done.validation); untaken = u } in c) pushed;
+      answer = refl;
+    })

@@ -1,14 +1,14 @@
 -- What a node has said stays covered by what its keeper may hold.
-use Rattle.std.proofs.Common.{◌≡◌, ◌≢◌, ℕ, ◌<◌, ◌≤◌, ◌/◌, Bool, true, false, cond, List, [], ◌∷◌, ◌++◌, length, drop, refl, ap, sym, ◌∙◌, subst, arith, inl, inr, Option, Some, None, Result, Ok, Err}
-use Rattle.std.specs.Prelude.{◌==◌, All, IfSome, map, max, nat_lt, option_map}
+use Rattle.std.proofs.Common.{◌≡◌, ◌≢◌, ℕ, zero, suc, ◌<◌, ◌≤◌, ◌/◌, Bool, true, false, cond, List, [], ◌∷◌, ◌++◌, length, drop, refl, ap, sym, ◌∙◌, subst, arith, inl, inr, Option, Some, None, Result, Ok, Err}
+use Rattle.std.specs.Prelude.{◌==◌, All, IfSome, map, max, nat_lt, option_map, replicate}
 use Rattle.xl_base.specs.declared.ids.LedgerId.{LedgerId}
 use Rattle.std.specs.Option.{option_and_then, is_none}
 use Rattle.std.proofs.lemmas.Bool.{cond_both, cond-true, cond-false, eqb-true, false_from_ne_true, ltb-true}
-use Rattle.std.proofs.lemmas.List.Elements.{All-append, All-cons, All-nil, All-head, All-tail, All-weaker, All-map, All-drop}
+use Rattle.std.proofs.lemmas.List.Elements.{All-append, All-cons, All-nil, All-head, All-tail, All-weaker, All-map, All-drop, All-set}
 use Rattle.xl_lists.specs.Lists.{TrustedList}
 use Rattle.xl_tags.specs.Rings.{Ring}
 use Rattle.xl_io.specs.Keepers.{Held, MayHold, after_save}
-use Rattle.xl_queues.specs.Queues.{pushed}
+use Rattle.xl_queues.specs.Queues.{Backlog, no_items, with_item}
 use Rattle.xl_wire.specs.declared.validation.Validation.{Validation}
 use Rattle.xl_validations.specs.declared.row.Row.{Row}
 use Rattle.xl_validations.specs.declared.refusal.ValRefusal.{ValRefusal}
@@ -19,15 +19,19 @@ use Rattle.xl_ledger.specs.Registries.{add_refusal}
 use Rattle.xl_core.specs.declared.hearing.Spoken.{Spoken}
 use Rattle.xl_core.specs.declared.hearing.Speech.{Speech}
 use Rattle.xl_core.specs.declared.hearing.Speech.TheVariants as speech
-use Rattle.xl_core.specs.declared.outgoing.Outgoing.{Outgoing}
 use Rattle.xl_core.specs.declared.refusal.Refusal.{Refusal}
 use Rattle.xl_core.specs.declared.refusal.Refusal.TheVariants.{NotAfter}
 use Rattle.xl_core.specs.Hearing.{heard}
-use Rattle.xl_core.specs.Node.{Node, Issue, Frame, Reply, Save, happens, hears, learns, hearing, hearing_speech, issues, issues_unless, refusing, refusal_at, at_moment, second_of, own_validation, take, asks, unless_off, is_kept, opened}
+use Rattle.xl_core.specs.Node.{Node, Reply, Save, hears, learns, hearing, hearing_speech, issues, issues_unless, refusing, refusal_at, at_moment, second_of, own_validation, take, unless_off, is_kept, opened}
 use Rattle.xl_core.specs.Node.Save.{Kept, Failed}
-use Rattle.xl_core.specs.Queues.{with_issued, with_waiting, after_drain, at_peer, none_for, peers_of}
-use Rattle.xl_core.specs.Core.{Core, stepped, with_queues}
-use Rattle.xl_core.specs.Stops.{IsCovered, own_current}
+use Rattle.xl_core.specs.Items.{taken_for}
+use Rattle.xl_core.specs.Queues.{with_items, at_number, after_taking}
+use Rattle.xl_core.specs.Core.{Core, stepped, with_queues, core_happens, core_asks}
+use Rattle.xl_core.specs.declared.event.CoreEvent.TheVariants.{Issue, Frame, Drain}
+use Rattle.xl_core.specs.declared.item.Item.{Item}
+use Rattle.xl_core.specs.declared.item.Item.TheVariants.{Vote}
+use Rattle.xl_core.specs.Stops.{IsCovered, IsItemCovered, own_current}
+use Rattle.xl_queues.specs.Broadcasts.{queue_of, pushed_to_all}
 
 -- A ROW
 
@@ -37,6 +41,10 @@ current_of rows me = option_and_then (λ row. row.current) (row_of rows me)
 
 abbrev AtMost : ℕ → Option Validation → Type 0
 AtMost kept o = IfSome o (λ v. v.seq ≤ kept)
+
+-- each item that waits is covered
+abbrev AllCovered : ℕ → List (Backlog Item) → Type 0
+AllCovered kept waiting = All (λ q. All (IsItemCovered kept) q.items) waiting
 
 differs : (m n : ℕ) → m ≢ n → (m == n) ≡ false
 differs m n other = false_from_ne_true (m == n) (λ e. other (eqb-true m n e))
@@ -97,22 +105,22 @@ most_later old new (Some v) le most = omega (arith, le, most)
 pub record IsAside (n : Node) (reply : Reply) : Type 0 where
   pub kept : reply.node.kept ≡ n.kept
   pub own : own_current reply.node ≡ own_current n
-  pub issued : reply.issued ≡ None
+  pub items : reply.items ≡ []
 
 aside : (n : Node) (why : Refusal) → IsAside n (refusing n why)
-aside n why = record { kept = refl; own = refl; issued = refl }
+aside n why = record { kept = refl; own = refl; items = refl }
 
 vote_aside : (n : Node) (now from : ℕ) (v : Validation) (o : Option ValRefusal) → from ≢ n.me → IsAside n (hears n now from v o)
 vote_aside n now from v None other = record {
   kept = refl;
   own = ap (λ (o : Option Row). option_and_then (λ row. row.current) o) (other_row from n.me (take now v) (taking_member now v) other n.rows);
-  issued = refl;
+  items = refl;
 }
-vote_aside n now from v (Some why) other = record { kept = refl; own = refl; issued = refl }
+vote_aside n now from v (Some why) other = record { kept = refl; own = refl; items = refl }
 
 header_aside : (n : Node) (h : Header) (o : Option AddRefusal) → IsAside n (learns n h o)
-header_aside n h None = record { kept = refl; own = refl; issued = refl }
-header_aside n h (Some why) = record { kept = refl; own = refl; issued = refl }
+header_aside n h None = record { kept = refl; own = refl; items = refl }
+header_aside n h (Some why) = record { kept = refl; own = refl; items = refl }
 
 speech_aside : (n : Node) (now from : ℕ) (what : Speech) → from ≢ n.me → IsAside n (hearing_speech n now from what)
 speech_aside n now from (speech.Vote v) other = vote_aside n now from v (refusal_at n now from v) other
@@ -123,57 +131,60 @@ hearing_aside n now (Ok said) others = speech_aside n now said.from said.what (o
 hearing_aside n now (Err why) others = aside n why
 
 -- a step that issues nothing
-step_covered : (held : Held) (core : Core) (reply : Reply) → reply.node.kept ≡ core.node.kept → AtMost core.node.kept (own_current reply.node) → reply.issued ≡ None → IsCovered held core → IsCovered held (stepped core reply)
+step_covered : (held : Held) (core : Core) (reply : Reply) → reply.node.kept ≡ core.node.kept → AtMost core.node.kept (own_current reply.node) → reply.items ≡ [] → IsCovered held core → IsCovered held (stepped core reply).core
 step_covered held core reply same own none was = record {
   saved = λ n may. omega (arith, was.saved n may, same);
   own = subst (λ (k : ℕ). AtMost k (own_current reply.node)) (sym same) own;
-  queued = subst (λ (k : ℕ). All (λ o. All (λ v. v.seq ≤ k) o.items.items) (with_issued core.outgoing reply.issued)) (sym same)
-      (subst (λ (o : Option Validation). All (λ q. All (λ v. v.seq ≤ core.node.kept) q.items.items) (with_issued core.outgoing o)) (sym none) was.queued);
+  waiting = subst (λ (k : ℕ). AllCovered k (with_items core.waiting reply.items)) (sym same)
+      (subst (λ (xs : List Item). AllCovered core.node.kept (with_items core.waiting xs)) (sym none) was.waiting);
 }
 
 pub frame_covered : (held : Held) (core : Core) (now : ℕ) (bytes : List ℕ) → ((said : Spoken) → heard core.node.keys core.node.list.members bytes ≡ Ok said → said.from ≢ core.node.me) → IsCovered held core →
-    IsCovered held (stepped core (happens core.node (Frame now bytes) Kept))
+    IsCovered held (core_happens core (Frame now bytes) Kept).core
 frame_covered held core now bytes others was =
     let m : Node = at_moment now core.node in
     let reply : Reply = hearing m (second_of m) (heard core.node.keys core.node.list.members bytes) in
     let beside = hearing_aside m (second_of m) (heard core.node.keys core.node.list.members bytes) others in
     step_covered held core reply beside.kept
     (subst (AtMost core.node.kept) (sym beside.own) (current_then core.node.kept (max core.node.time now / 1000) core.node.me core.node.rows was.own))
-    beside.issued was
+    beside.items was
 
 -- ISSUING
 
--- each item of the queues with this one
-items_most : (kept : ℕ) (n : ℕ) (items : List Validation) (v : Validation) → v.seq ≤ kept → All (λ x. x.seq ≤ kept) items → All (λ x. x.seq ≤ kept) (pushed n items v)
-items_most kept n items v le most =
-    let all : All (λ x. x.seq ≤ kept) (items ++ v ∷ []) = All-append (λ x. x.seq ≤ kept) items (v ∷ []) most (All-cons (λ x. x.seq ≤ kept) v [] le (All-nil (λ x. x.seq ≤ kept))) in
-    cond_both (nat_lt (length items) n) (items ++ v ∷ []) (drop 1 (items ++ v ∷ [])) (λ xs. All (λ x. x.seq ≤ kept) xs) (λ _. all) (λ _. All-drop (λ x. x.seq ≤ kept) 1 (items ++ v ∷ []) all)
+-- an item that is covered stays so as the kept number rises
+still_covered : (old kept : ℕ) → old ≤ kept → (item : Item) → IsItemCovered old item → IsItemCovered kept item
+still_covered old kept le (Vote v) covered = omega (arith, covered, le)
 
-queues_most : (old kept : ℕ) (v : Validation) (outgoing : List Outgoing) → old ≤ kept → v.seq ≤ kept → All (λ o. All (λ x. x.seq ≤ old) o.items.items) outgoing →
-    All (λ o. All (λ x. x.seq ≤ kept) o.items.items) (map (with_waiting v) outgoing)
-queues_most old kept v outgoing le at was =
-    All-map (λ o. All (λ x. x.seq ≤ kept) o.items.items) (with_waiting v) outgoing
-    (All-weaker (λ o. All (λ x. x.seq ≤ old) o.items.items) (λ o. All (λ x. x.seq ≤ kept) (with_waiting v o).items.items)
-    (λ o most. items_most kept 64 o.items.items v at (All-weaker (λ x. x.seq ≤ old) (λ x. x.seq ≤ kept) (λ x m. omega (arith, m, le)) o.items.items most)) outgoing was)
+-- each item of a queue, with this one
+items_most : (old kept : ℕ) (q : Backlog Item) (v : Validation) → old ≤ kept → v.seq ≤ kept → All (IsItemCovered old) q.items → All (IsItemCovered kept) (with_item 64 q (Vote v)).items
+items_most old kept q v le at most =
+    let all : All (IsItemCovered kept) (q.items ++ Vote v ∷ []) = All-append (IsItemCovered kept) q.items (Vote v ∷ []) (All-weaker (IsItemCovered old) (IsItemCovered kept) (still_covered old kept le) q.items most)
+    (All-cons (IsItemCovered kept) (Vote v) [] at (All-nil (IsItemCovered kept))) in
+    cond_both (nat_lt (length q.items) 64) (q.items ++ Vote v ∷ []) (drop 1 (q.items ++ Vote v ∷ [])) (All (IsItemCovered kept)) (λ _. all) (λ _. All-drop (IsItemCovered kept) 1 (q.items ++ Vote v ∷ []) all)
+
+queues_most : (old kept : ℕ) (v : Validation) (waiting : List (Backlog Item)) → old ≤ kept → v.seq ≤ kept → AllCovered old waiting → AllCovered kept (pushed_to_all 64 waiting (Vote v))
+queues_most old kept v waiting le at was =
+    All-map (λ q. All (IsItemCovered kept) q.items) (λ q. with_item 64 q (Vote v)) waiting
+    (All-weaker (λ q. All (IsItemCovered old) q.items) (λ q. All (IsItemCovered kept) (with_item 64 q (Vote v)).items) (λ q most. items_most old kept q v le at most) waiting was)
 
 -- the node's time and rows, before it issues
 later_covered : (held : Held) (core : Core) (now : ℕ) → IsCovered held core → IsCovered held (record core { node = at_moment now core.node })
 later_covered held core now was = record {
   saved = was.saved;
   own = current_then core.node.kept (max core.node.time now / 1000) core.node.me core.node.rows was.own;
-  queued = was.queued;
+  waiting = was.waiting;
 }
 
 -- a save of a greater number
 saves_covered : (held : Held) (core : Core) (save : Save) (v : Validation) → core.node.kept < v.seq → IsCovered held core →
-    IsCovered (after_save held (Some v.seq) (is_kept save)) (stepped core (issues core.node (second_of core.node) save v))
+    IsCovered (after_save held (Some v.seq) (is_kept save)) (stepped core (issues core.node (second_of core.node) save v)).core
 saves_covered held core Kept v above was = record {
   saved = λ n may. elim may [
     | inl is ↦ omega (arith, is)
     | inr asked ↦ absurd (none_asked n asked)
   ];
   own = own_taken v.seq core.node.me (second_of core.node) v core.node.rows (omega arith) (most_later core.node.kept v.seq (own_current core.node) (omega (arith, above)) was.own);
-  queued = queues_most core.node.kept v.seq v core.outgoing (omega (arith, above)) (omega arith) was.queued;
+  waiting = queues_most core.node.kept v.seq v core.waiting (omega (arith, above)) (omega arith) was.waiting;
 }
   where
     none_asked : (n : ℕ) → None ≡ Some n → ⊥
@@ -184,55 +195,57 @@ saves_covered held core (Failed count) v above was = record {
     | inr asked ↦ omega (arith, same n asked, above)
   ];
   own = was.own;
-  queued = was.queued;
+  waiting = was.waiting;
 }
   where
     same : (n : ℕ) → Some v.seq ≡ Some n → v.seq ≡ n
     same n e = cc
 
 unless_covered : (held : Held) (core : Core) (off : Option ℕ) (save : Save) (v : Validation) → core.node.kept < v.seq → IsCovered held core →
-    IsCovered (after_save held (unless_off off v.seq) (is_kept save)) (stepped core (issues_unless core.node off save v))
+    IsCovered (after_save held (unless_off off v.seq) (is_kept save)) (stepped core (issues_unless core.node off save v)).core
 unless_covered held core None save v above was = saves_covered held core save v above was
-unless_covered held core (Some failed) save v above was = record { saved = was.saved; own = was.own; queued = was.queued }
+unless_covered held core (Some failed) save v above was = record { saved = was.saved; own = was.own; waiting = was.waiting }
 
 issuing_covered : (held : Held) (core : Core) (seq : ℕ) (save : Save) (v : Validation) (b : Bool) → nat_lt core.node.kept seq ≡ b → v.seq ≡ seq → IsCovered held core →
-    IsCovered (after_save held (cond b (unless_off core.node.off seq) None) (is_kept save)) (stepped core (cond b (issues_unless core.node core.node.off save v) (refusing core.node (NotAfter core.node.kept))))
+    IsCovered (after_save held (cond b (unless_off core.node.off seq) None) (is_kept save)) (stepped core (cond b (issues_unless core.node core.node.off save v) (refusing core.node (NotAfter core.node.kept)))).core
 issuing_covered held core seq save v true above same was =
-    subst (λ (s : ℕ). IsCovered (after_save held (unless_off core.node.off s) (is_kept save)) (stepped core (issues_unless core.node core.node.off save v))) same
+    subst (λ (s : ℕ). IsCovered (after_save held (unless_off core.node.off s) (is_kept save)) (stepped core (issues_unless core.node core.node.off save v)).core) same
     (unless_covered held core core.node.off save v (omega (arith, ltb-true core.node.kept seq above, same)) was)
-issuing_covered held core seq save v false above same was = record { saved = was.saved; own = was.own; queued = was.queued }
+issuing_covered held core seq save v false above same was = record { saved = was.saved; own = was.own; waiting = was.waiting }
 
 pub issue_covered : (held : Held) (core : Core) (now seq : ℕ) (id : LedgerId) (full : Bool) (save : Save) → IsCovered held core →
-    IsCovered (after_save held (asks core.node (Issue now seq id full)) (is_kept save)) (stepped core (happens core.node (Issue now seq id full) save))
+    IsCovered (after_save held (core_asks core (Issue now seq id full)) (is_kept save)) (core_happens core (Issue now seq id full) save).core
 issue_covered held core now seq id full save was =
     let m : Node = at_moment now core.node in
     issuing_covered held (record core { node = m }) seq save (own_validation m seq id full) (nat_lt m.kept seq) refl refl (later_covered held core now was)
 
 -- what the keeper was and is told to hold
 pub issue_covers : (before after : Held) (old new : Option Held) (core : Core) (now seq : ℕ) (id : LedgerId) (full : Bool) (save : Save) →
-    new ≡ option_map (λ held. after_save held (asks core.node (Issue now seq id full)) (is_kept save)) old → old ≡ Some before → new ≡ Some after → IsCovered before core →
-    IsCovered after (stepped core (happens core.node (Issue now seq id full) save))
+    new ≡ option_map (λ held. after_save held (core_asks core (Issue now seq id full)) (is_kept save)) old → old ≡ Some before → new ≡ Some after → IsCovered before core →
+    IsCovered after (core_happens core (Issue now seq id full) save).core
 issue_covers before after old new core now seq id full save is was_told is_told was =
-    let told : Some (after_save before (asks core.node (Issue now seq id full)) (is_kept save)) ≡ Some after =
-    sym (is ∙ ap (λ (o : Option Held). option_map (λ held. after_save held (asks core.node (Issue now seq id full)) (is_kept save)) o) was_told) ∙ is_told in
-    subst (λ (h : Held). IsCovered h (stepped core (happens core.node (Issue now seq id full) save))) (some_same _ after told) (issue_covered before core now seq id full save was)
+    let told : Some (after_save before (core_asks core (Issue now seq id full)) (is_kept save)) ≡ Some after =
+    sym (is ∙ ap (λ (o : Option Held). option_map (λ held. after_save held (core_asks core (Issue now seq id full)) (is_kept save)) o) was_told) ∙ is_told in
+    subst (λ (h : Held). IsCovered h (core_happens core (Issue now seq id full) save).core) (some_same _ after told) (issue_covered before core now seq id full save was)
   where
     some_same : (a b : Held) → Some a ≡ Some b → a ≡ b
     some_same a b e = cc
 
 -- DRAINING
 
-drained_most : (kept member n : ℕ) (outgoing : List Outgoing) → All (λ o. All (λ x. x.seq ≤ kept) o.items.items) outgoing → All (λ o. All (λ x. x.seq ≤ kept) o.items.items) (at_peer member (after_drain n) outgoing)
-drained_most kept member n [] was = was
-drained_most kept member n (o ∷ os) was =
-    let first = All-head (λ q. All (λ x. x.seq ≤ kept) q.items.items) o os was in
-    let rest = All-tail (λ q. All (λ x. x.seq ≤ kept) q.items.items) o os was in
-    cond_both (o.peer == member) (after_drain n o ∷ os) (o ∷ at_peer member (after_drain n) os) (λ qs. All (λ q. All (λ x. x.seq ≤ kept) q.items.items) qs)
-    (λ _. All-cons (λ q. All (λ x. x.seq ≤ kept) q.items.items) (after_drain n o) os (All-drop (λ x. x.seq ≤ kept) n o.items.items first) rest)
-    (λ _. All-cons (λ q. All (λ x. x.seq ≤ kept) q.items.items) o (at_peer member (after_drain n) os) first (drained_most kept member n os rest))
+drained_most : (kept number : ℕ) (waiting : List (Backlog Item)) (taken : List (Option (List ℕ))) → AllCovered kept waiting → AllCovered kept (at_number waiting number (after_taking taken))
+drained_most kept zero waiting taken was = was
+drained_most kept (suc place) waiting taken was =
+    All-set (λ q. All (IsItemCovered kept) q.items) waiting place (after_taking taken (queue_of waiting place))
+    (All-drop (IsItemCovered kept) (length taken) (queue_of waiting place).items (at_place waiting place was)) was
+  where
+    at_place : (qs : List (Backlog Item)) (k : ℕ) → AllCovered kept qs → All (IsItemCovered kept) (queue_of qs k).items
+    at_place [] k each = All-nil (IsItemCovered kept)
+    at_place (q ∷ qs) zero each = All-head (λ x. All (IsItemCovered kept) x.items) q qs each
+    at_place (q ∷ qs) (suc k) each = at_place qs k (All-tail (λ x. All (IsItemCovered kept) x.items) q qs each)
 
-pub drain_covered : (held : Held) (core : Core) (member n : ℕ) → IsCovered held core → IsCovered held (record core { outgoing = at_peer member (after_drain n) core.outgoing })
-drain_covered held core member n was = record { saved = was.saved; own = was.own; queued = drained_most core.node.kept member n core.outgoing was.queued }
+pub drain_covered : (held : Held) (core : Core) (member room : ℕ) → IsCovered held core → IsCovered held (core_happens core (Drain member room) Kept).core
+drain_covered held core member room was = record { saved = was.saved; own = was.own; waiting = drained_most core.node.kept member core.waiting (taken_for core.node core.waiting member room) was.waiting }
 
 -- OPENING
 
@@ -246,5 +259,9 @@ pub opened_covered : (held : Held) (me : ℕ) (list : TrustedList) (keys : Ring)
 opened_covered held me list keys limit now kept holds = record {
   saved = holds;
   own = empty_most kept me list.members;
-  queued = All-map (λ o. All (λ v. v.seq ≤ kept) o.items.items) none_for (peers_of keys) (λ k d k_in. All-nil (λ v. v.seq ≤ kept));
+  waiting = nothing_waits 64;
 }
+  where
+    nothing_waits : (n : ℕ) → AllCovered kept (replicate n no_items)
+    nothing_waits zero = All-nil (λ q. All (IsItemCovered kept) q.items)
+    nothing_waits (suc n) = All-cons (λ q. All (IsItemCovered kept) q.items) no_items (replicate n no_items) (All-nil (IsItemCovered kept)) (nothing_waits n)

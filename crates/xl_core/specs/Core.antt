@@ -1,28 +1,66 @@
--- A node with its queues: what it issues waits for every peer, and what it reports waits to be taken. Source: this profile.
-use Rattle.std.specs.Prelude.{Bool, false, List}
+-- A core: a node with what waits at it, to be sent and to be read, and everything that may happen to it. Source: this profile.
+use Rattle.std.specs.Prelude.{ℕ, Bool, true, false, List, take}
+use Rattle.std.specs.Prelude.{None}
+use Rattle.std.specs.declared.option.Option.{Option}
 use Rattle.xl_queues.specs.Queues.{Backlog, no_items}
-use Rattle.xl_core.specs.declared.outgoing.Outgoing.{Outgoing}
+use Rattle.xl_wire.specs.declared.validation.Validation.{Validation}
+use Rattle.xl_core.specs.declared.event.CoreEvent.{CoreEvent}
+use Rattle.xl_core.specs.declared.event.CoreEvent.TheVariants.{Issue, Frame, Drain, Reports, Stop, Stopped}
+use Rattle.xl_core.specs.declared.item.Item.{Item}
 use Rattle.xl_core.specs.declared.report.Report.{Report}
-use Rattle.xl_core.specs.Node.{Node, Reply}
-use Rattle.xl_core.specs.Queues.{none_for_all, with_issued, with_report}
+use Rattle.xl_core.specs.Answers.{Answer, Done, Gave, Handed, Told}
+use Rattle.xl_core.specs.Items.{taken_for}
+use Rattle.xl_core.specs.Node as nodes
+use Rattle.xl_core.specs.Node.{Node, Reply, Save, happens, asks}
+use Rattle.xl_core.specs.Queues.{none_waiting, with_items, at_number, frames_in, after_taking, with_report, without}
 
 pub record Core : Type 0 where
   pub node : Node
-  -- for each peer, in the order of their numbers, the issued validations that weren't drained
-  pub outgoing : List Outgoing
+  -- for each number from 1 to 64, the items that weren't drained. Only a peer's are ever
+  pub waiting : List (Backlog Item)
   -- the reports that no one has taken
   pub untaken : Backlog Report
   pub stopped : Bool
 
 -- the node with nothing waiting
 abbrev pub with_queues : Node → Core
-with_queues n = record { node = n; outgoing = none_for_all n.keys; untaken = no_items; stopped = false }
+with_queues n = record { node = n; waiting = none_waiting; untaken = no_items; stopped = false }
 
--- what came of an event: what was issued waits for every peer, and what is reported to be taken
-abbrev pub stepped : Core → Reply → Core
+-- what came of an event: the core then, what is answered, the validation that was issued, and the report that arose
+pub record CoreReply : Type 0 where
+  pub core : Core
+  pub answer : Answer
+  pub issued : Option Validation
+  pub report : Option Report
+
+-- what came of it at the node: its items wait for every number, and what it reports to be taken
+abbrev pub stepped : Core → Reply → CoreReply
 stepped core reply = record {
-  node = reply.node;
-  outgoing = with_issued core.outgoing reply.issued;
-  untaken = with_report core.untaken reply.report;
-  stopped = core.stopped;
+  core = record { node = reply.node; waiting = with_items core.waiting reply.items; untaken = with_report core.untaken reply.report; stopped = core.stopped };
+  answer = reply.answer;
+  issued = reply.issued;
+  report = reply.report;
 }
+
+-- the core is left so, and answers this; nothing is issued or reported
+abbrev pub answering : Core → Answer → CoreReply
+answering core answer = record { core = core; answer = answer; issued = None; report = None }
+
+-- what came of an event, whose save was answered so
+abbrev pub core_happens : Core → CoreEvent → Save → CoreReply
+core_happens core (Issue now seq id full) save = stepped core (happens core.node (nodes.Issue now seq id full) save)
+core_happens core (Frame now bytes) save = stepped core (happens core.node (nodes.Frame now bytes) save)
+core_happens core (Drain member room) save =
+    let taken = taken_for core.node core.waiting member room in answering (record core { waiting = at_number core.waiting member (after_taking taken) }) (Gave member (frames_in taken))
+core_happens core (Reports room) save = answering (record core { untaken = without room core.untaken }) (Handed (take room core.untaken.items))
+core_happens core Stop save = answering (record core { stopped = true }) Done
+core_happens core Stopped save = answering core (Told core.stopped)
+
+-- the save that an event asks
+abbrev pub core_asks : Core → CoreEvent → Option ℕ
+core_asks core (Issue now seq id full) = asks core.node (nodes.Issue now seq id full)
+core_asks core (Frame now bytes) = None
+core_asks core (Drain member room) = None
+core_asks core (Reports room) = None
+core_asks core Stop = None
+core_asks core Stopped = None

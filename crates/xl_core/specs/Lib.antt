@@ -1,11 +1,14 @@
 pub mod Refusals
 pub mod Hearing
 pub mod Sending
+pub mod Answers
 pub mod Node
-pub mod Replies
-pub mod Keeping
 pub mod Queues
+pub mod Items
 pub mod Core
+pub mod Replies
+pub mod Draining
+pub mod Keeping
 pub mod Stops
 pub mod Rest
 pub mod Lives

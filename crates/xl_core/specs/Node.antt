@@ -1,6 +1,6 @@
 -- One node: the ledgers that it knows, its rows, the last sequence that it saved, and what it reports as fully validated.
 -- Source: Chase and MacBrough, "Analysis of the XRP Ledger Consensus Protocol" (2018), and rippled's Consensus and Validations.
-use Rattle.std.specs.Prelude.{ℕ, ◌/◌, ◌&&◌, max, Bool, true, false, List, map, filter_map, find, option_map, nat_lt, nat_le, if◌then◌else◌}
+use Rattle.std.specs.Prelude.{ℕ, ◌/◌, ◌&&◌, max, Bool, true, false, List, [], ◌∷◌, map, filter_map, find, option_map, nat_lt, nat_le, if◌then◌else◌}
 use Rattle.std.specs.Prelude.{Some, None, Result, Ok, Err}
 use Rattle.std.specs.declared.option.Option.{Option}
 use Rattle.std.specs.Option.{is_none}
@@ -23,6 +23,11 @@ use Rattle.xl_core.specs.declared.refusal.Refusal.TheVariants.{NotAfter, Issuing
 use Rattle.xl_core.specs.declared.hearing.Spoken.{Spoken}
 use Rattle.xl_core.specs.declared.hearing.Speech.{Speech}
 use Rattle.xl_core.specs.declared.hearing.Speech.TheVariants.{Vote, Header as Ledger}
+use Rattle.xl_core.specs.declared.item.Item.{Item}
+use Rattle.xl_core.specs.declared.item.Item.TheVariants.{Vote as VoteItem}
+use Rattle.xl_core.specs.declared.taken.Taken.TheVariants.{Vote as TakenVote, Header as TakenHeader}
+use Rattle.xl_ledger.specs.Headers.{header_id}
+use Rattle.xl_core.specs.Answers.{Answer, Refused, Took, Done}
 use Rattle.xl_core.specs.Hearing.{heard}
 use Rattle.xl_core.specs.Refusals.{refusal_from}
 
@@ -49,10 +54,11 @@ pub data Event : Type 0 where
   -- bytes come, whatever they are
   Frame : (now : ℕ) (bytes : List ℕ) → Event
 
--- what came of it: the node then, why it was refused, what it issued, and what it reports
+-- what came of it: the node then, what it answers, what waits for every peer, what it issued, and what it reports
 pub record Reply : Type 0 where
   pub node : Node
-  pub refused : Option Refusal
+  pub answer : Answer
+  pub items : List Item
   pub issued : Option Validation
   pub report : Option Report
 
@@ -93,11 +99,16 @@ later last None = last
 later last (Some report) = Some report
 
 abbrev pub refusing : Node → Refusal → Reply
-refusing n why = record { node = n; refused = Some why; issued = None; report = None }
+refusing n why = record { node = n; answer = Refused why; items = []; issued = None; report = None }
+
+-- what is issued waits for every peer
+abbrev pub items_of : Option Validation → List Item
+items_of None = []
+items_of (Some v) = VoteItem v ∷ []
 
 -- the rows report what arises in them
-abbrev pub reporting : Node → Option Validation → Reply
-reporting n issued = record { node = record n { last = later n.last (arisen n) }; refused = None; issued = issued; report = arisen n }
+abbrev pub reporting : Node → Answer → Option Validation → Reply
+reporting n answer issued = record { node = record n { last = later n.last (arisen n) }; answer = answer; items = items_of issued; issued = issued; report = arisen n }
 
 -- the sender's row takes the validation, unless it refuses it
 abbrev pub take : ℕ → Validation → Row → Row
@@ -131,7 +142,7 @@ asks n (Frame now bytes) = None
 
 -- after a save that failed the node issues nothing more
 abbrev pub issues : Node → ℕ → Save → Validation → Reply
-issues n now Kept v = reporting (saving n now v) (Some v)
+issues n now Kept v = reporting (saving n now v) Done (Some v)
 issues n now (Failed count) v = refusing (record n { off = Some v.seq }) (KeepFault count)
 
 abbrev pub issues_unless : Node → Option ℕ → Save → Validation → Reply
@@ -140,7 +151,7 @@ issues_unless n (Some failed) save v = refusing n (IssuingOff failed)
 
 -- a member's row answers
 abbrev pub hears : Node → ℕ → ℕ → Validation → Option ValRefusal → Reply
-hears n now from v None = reporting (with_taken n now from v) None
+hears n now from v None = reporting (with_taken n now from v) (Took TakenVote) None
 hears n now from v (Some why) = refusing n (refusal_from why)
 
 -- why the row of a number doesn't take the validation
@@ -149,7 +160,7 @@ refusal_at n now from v = refusal_of n.rows from now v
 
 -- a header is added to the known ledgers. Validations that waited for it are votes from then on
 abbrev pub learns : Node → Header → Option AddRefusal → Reply
-learns n h None = record { node = record n { ledgers = with_header n.ledgers h }; refused = None; issued = None; report = None }
+learns n h None = record { node = record n { ledgers = with_header n.ledgers h }; answer = Took (TakenHeader (header_id h)); items = []; issued = None; report = None }
 learns n h (Some why) = refusing n (HeaderRefused why)
 
 -- a validation goes to its sender's row, and a header to the ledgers

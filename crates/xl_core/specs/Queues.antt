@@ -1,37 +1,57 @@
--- What waits at a node: validations for each peer, and reports. Source: this profile, by which a full queue drops its oldest item.
-use Rattle.std.specs.Prelude.{ℕ, ◌/◌, ◌==◌, min, List, [], ◌∷◌, length, map, filter, find, take, drop, is_some, if◌then◌else◌}
+-- What waits at a node: items for each number, and reports. Source: this profile, by which a full queue drops its oldest item.
+use Rattle.std.specs.Prelude.{ℕ, ◌-◌, List, [], ◌∷◌, zero, suc, length, filter_map, drop, count_by, nat_le, replicate, if◌then◌else◌}
 use Rattle.std.specs.Prelude.{Some, None}
 use Rattle.std.specs.declared.option.Option.{Option}
-use Rattle.std.specs.List.{range_with_len, flat_map}
-use Rattle.std.specs.Option.{option_map_or}
-use Rattle.xl_queues.specs.Queues.{Backlog, no_items, with_item}
-use Rattle.xl_tags.specs.Rings.{Ring, key_of}
-use Rattle.xl_wire.specs.declared.validation.Validation.{Validation}
-use Rattle.xl_core.specs.declared.outgoing.Outgoing.{Outgoing}
-use Rattle.xl_core.specs.declared.outgoing.TheConstants.{OUTGOING}
+use Rattle.std.specs.List.{flat_map}
+use Rattle.std.specs.Option.{is_none}
+use Rattle.xl_queues.specs.Broadcasts.{queue_of, at_reader, pushed_to_all}
+use Rattle.xl_queues.specs.Queues.{Backlog, no_items, with_item, one_more}
+use Rattle.xl_core.specs.declared.item.Item.{Item}
+use Rattle.xl_core.specs.declared.outgoing.TheConstants.{OUTGOING, MEMBERS}
 use Rattle.xl_core.specs.declared.report.Report.{Report}
 use Rattle.xl_core.specs.declared.untaken.TheConstants.{UNTAKEN}
-use Rattle.xl_core.specs.Sending.{sealed_bytes}
 
--- the numbers that a ring has a key for, rising
-abbrev pub peers_of : Ring → List ℕ
-peers_of ring = filter (λ member. is_some (key_of ring member)) (range_with_len 1 64)
+-- nothing waits for the numbers from 1 to 64
+abbrev pub none_waiting : List (Backlog Item)
+none_waiting = replicate MEMBERS no_items
 
--- nothing waits for a peer
-abbrev pub none_for : ℕ → Outgoing
-none_for peer = record { peer = peer; items = no_items }
+-- items wait for every number, in this order
+abbrev pub with_items : List (Backlog Item) → List Item → List (Backlog Item)
+with_items waiting [] = waiting
+with_items waiting (item ∷ items) = with_items (pushed_to_all OUTGOING waiting item) items
 
-abbrev pub none_for_all : Ring → List Outgoing
-none_for_all ring = map none_for (peers_of ring)
+-- what waits for a number; nothing does for one outside 1 to 64
+abbrev pub waiting_at : List (Backlog Item) → ℕ → Backlog Item
+waiting_at waiting zero = no_items
+waiting_at waiting (suc place) = queue_of waiting place
 
--- one item more waits for a peer
-abbrev pub with_waiting : Validation → Outgoing → Outgoing
-with_waiting v o = record { peer = o.peer; items = with_item OUTGOING o.items v }
+-- how many of the oldest items a room takes: their frames go into it one behind the other, and what is passed over needs no place
+abbrev pub fitting : List (Option (List ℕ)) → ℕ → ℕ
+fitting [] room = 0
+fitting (None ∷ frames) room = suc (fitting frames room)
+fitting (Some frame ∷ frames) room = if nat_le (length frame) room then suc (fitting frames (room - length frame)) else 0
 
--- what was issued waits for every peer
-abbrev pub with_issued : List Outgoing → Option Validation → List Outgoing
-with_issued outgoing None = outgoing
-with_issued outgoing (Some v) = map (with_waiting v) outgoing
+-- the frames of these items
+abbrev pub frames_in : List (Option (List ℕ)) → List (List ℕ)
+frames_in frames = filter_map (λ frame. frame) frames
+
+-- one behind the other
+abbrev pub joined : List (List ℕ) → List ℕ
+joined frames = flat_map (λ frame. frame) frames
+
+-- the count once so many more were lost
+abbrev pub lost_more : ℕ → ℕ → ℕ
+lost_more zero lost = lost
+lost_more (suc n) lost = one_more (lost_more n lost)
+
+-- a queue after its oldest items, of these frames, were taken or passed over; what is passed over is counted as lost
+abbrev pub after_taking : List (Option (List ℕ)) → Backlog Item → Backlog Item
+after_taking frames q = record { items = drop (length frames) q.items; lost = lost_more (count_by is_none frames) q.lost }
+
+-- what waits, with the queue of a number changed
+abbrev pub at_number : List (Backlog Item) → ℕ → (Backlog Item → Backlog Item) → List (Backlog Item)
+at_number waiting zero change = waiting
+at_number waiting (suc place) change = at_reader waiting place change
 
 -- a report waits to be taken
 abbrev pub with_report : Backlog Report → Option Report → Backlog Report
@@ -41,27 +61,3 @@ with_report untaken (Some report) = with_item UNTAKEN untaken report
 -- the first items have been taken
 abbrev pub without : {T : Type 0} → ℕ → Backlog T → Backlog T
 without n queue = record { items = drop n queue.items; lost = queue.lost }
-
--- what waits for a member
-abbrev pub queue_for : List Outgoing → ℕ → Option Outgoing
-queue_for outgoing member = find (λ o. o.peer == member) outgoing
-
-abbrev pub items_for : List Outgoing → ℕ → List Validation
-items_for outgoing member = option_map_or (λ o. o.items.items) (queue_for outgoing member) []
-
--- the first items of a peer have been taken
-abbrev pub after_drain : ℕ → Outgoing → Outgoing
-after_drain n o = record { peer = o.peer; items = without n o.items }
-
--- what waits, with a peer's own queue changed
-abbrev pub at_peer : ℕ → (Outgoing → Outgoing) → List Outgoing → List Outgoing
-at_peer member change [] = []
-at_peer member change (o ∷ os) = if o.peer == member then change o ∷ os else o ∷ at_peer member change os
-
--- how many items' frames a room of so many bytes takes
-abbrev pub fitting : List Validation → ℕ → ℕ
-fitting items room = min (length items) (room / 87)
-
--- the frames of the first items, one after the other
-abbrev pub frames_of : Ring → ℕ → List Validation → ℕ → List ℕ
-frames_of ring to items n = flat_map (sealed_bytes ring ring.me to) (take n items)

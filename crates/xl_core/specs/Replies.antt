@@ -1,38 +1,59 @@
 -- The answers of a node's calls, as replies. Source: this project's own, by which a call answers what the node's step replies.
-use Rattle.std.specs.Prelude.{Result, Ok, Err, Some, None}
+use Rattle.std.specs.Prelude.{◌≡◌, ℕ, List, [], ◌++◌, length, drop, Result, Ok, Err, Some, None}
 use Rattle.std.specs.declared.option.Option.{Option}
 use Rattle.xl_core.specs.declared.report.Report.{Report}
 use Rattle.xl_core.specs.declared.report.Issued.{Issued}
 use Rattle.xl_core.specs.declared.refusal.Refusal.{Refusal}
 use Rattle.xl_core.specs.declared.refusal.Refusal.TheVariants as node
-use Rattle.xl_ledger.specs.Headers.{header_id}
-use Rattle.xl_core.specs.declared.hearing.Speech.{Speech}
-use Rattle.xl_core.specs.declared.hearing.Speech.TheVariants as speech
 use Rattle.xl_core.specs.declared.taken.Taken.{Taken}
 use Rattle.xl_core.specs.declared.taken.Heard.{Heard}
-use Rattle.xl_core.specs.declared.taken.Taken.TheVariants.{Vote, Header}
-use Rattle.xl_core.specs.Node.{Node, Reply, Save, refusing}
+use Rattle.xl_core.specs.declared.taken.Taken.TheVariants.{Vote}
+use Rattle.xl_core.specs.Answers.{Answer, Refused, Took, Done, given_in, handed_in}
+use Rattle.xl_core.specs.Core.{Core, CoreReply}
+use Rattle.xl_core.specs.Queues.{joined}
+use Rattle.xl_core.specs.Node.{Node, Reply, Save, refusing, items_of}
 use Rattle.xl_core.specs.Node.Save.{Kept, Failed}
 
 -- what a call that issues answers, with the node that it leaves
 abbrev pub issue_reply : Result Issued Refusal → Node → Reply
-issue_reply (Ok done) n = record { node = n; refused = None; issued = Some done.validation; report = done.report }
+issue_reply (Ok done) n = record { node = n; answer = Done; items = items_of (Some done.validation); issued = Some done.validation; report = done.report }
 issue_reply (Err why) n = refusing n why
 
 -- what a call that hands in bytes answers
-abbrev pub hear_reply : Result (Option Report) Refusal → Node → Reply
-hear_reply (Ok report) n = record { node = n; refused = None; issued = None; report = report }
+abbrev pub hear_reply : Result Heard Refusal → Node → Reply
+hear_reply (Ok heard) n = record { node = n; answer = Took heard.taken; items = []; issued = None; report = heard.report }
 hear_reply (Err why) n = refusing n why
 
--- the report of what was taken
-abbrev pub report_in : Result Heard Refusal → Result (Option Report) Refusal
-report_in (Ok done) = Ok done.report
-report_in (Err why) = Err why
+-- what a row's call answers, with what it reports
+abbrev pub vote_reply : Result (Option Report) Refusal → Node → Reply
+vote_reply (Ok report) n = record { node = n; answer = Took Vote; items = []; issued = None; report = report }
+vote_reply (Err why) n = refusing n why
 
--- what is taken of what was said: a validation, or a header with its id
-abbrev pub taken_of : Speech → Taken
-taken_of (speech.Vote v) = Vote
-taken_of (speech.Header h) = Header (header_id h)
+-- what a core's calls answer
+abbrev pub taken_answer : Result Taken Refusal → Answer
+taken_answer (Ok taken) = Took taken
+taken_answer (Err why) = Refused why
+
+abbrev pub done_answer : {X : Type 0} → Result X Refusal → Answer
+done_answer (Ok _) = Done
+done_answer (Err why) = Refused why
+
+-- what a core's call answers, with the core that it leaves
+pub record Answers (reply : CoreReply) (after : Core) (told : Answer) : Type 0 where
+  pub core : after ≡ reply.core
+  pub answer : told ≡ reply.answer
+
+-- what a drain leaves: the core, and a room that begins with the frames that it gave
+pub record Drains (reply : CoreReply) (after : Core) (written : ℕ) (old new : List ℕ) : Type 0 where
+  pub core : after ≡ reply.core
+  pub count : written ≡ length (joined (given_in reply.answer))
+  pub room : new ≡ joined (given_in reply.answer) ++ drop written old
+
+-- what handing out leaves: the core, and a room that begins with the reports
+pub record HandsOut (reply : CoreReply) (after : Core) (written : ℕ) (old new : List Report) : Type 0 where
+  pub core : after ≡ reply.core
+  pub count : written ≡ length (handed_in reply.answer)
+  pub room : new ≡ handed_in reply.answer ++ drop written old
 
 -- how the save was answered, as the refusal tells it
 abbrev pub save_of : Refusal → Save

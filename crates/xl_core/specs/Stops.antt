@@ -6,6 +6,8 @@ use Rattle.std.specs.Option.{option_and_then}
 use Rattle.xl_io.specs.Keepers.{Held, MayHold}
 use Rattle.xl_wire.specs.declared.validation.Validation.{Validation}
 use Rattle.xl_validations.specs.Rows.{row_of}
+use Rattle.xl_core.specs.declared.item.Item.{Item}
+use Rattle.xl_core.specs.declared.item.Item.TheVariants.{Vote}
 use Rattle.xl_core.specs.Node.{Node}
 use Rattle.xl_core.specs.Core.{Core}
 
@@ -13,8 +15,12 @@ use Rattle.xl_core.specs.Core.{Core}
 abbrev pub own_current : Node → Option Validation
 own_current n = option_and_then (λ row. row.current) (row_of n.rows n.me)
 
+-- a validation that waits is of a sequence that is at most this
+abbrev pub IsItemCovered : ℕ → Item → Type 0
+IsItemCovered kept (Vote v) = v.seq ≤ kept
+
 -- a stop may leave no number below the kept one, and what the node has said is at most that
 pub record IsCovered (held : Held) (core : Core) : Type 0 where
   pub saved : (n : ℕ) → MayHold held n → core.node.kept ≤ n
   pub own : IfSome (own_current core.node) (λ v. v.seq ≤ core.node.kept)
-  pub queued : All (λ o. All (λ v. v.seq ≤ core.node.kept) o.items.items) core.outgoing
+  pub waiting : All (λ q. All (IsItemCovered core.node.kept) q.items) core.waiting

@@ -2,18 +2,22 @@
 //!
 //! `Node` issues validations, hears those of its list's members and the headers of ledgers, reports a ledger as fully
 //! validated once a quorum of the members' current full validations name it, and knows the ledger that their votes prefer.
-//! `Core` is a node with its queues: what it issues waits for every peer until it is drained into frames, and what it reports
-//! waits until it is taken. A full queue drops its oldest item and counts it.
+//! `Core` is a node with what waits at it: what it issues waits for every peer until it is drained into frames, and what it
+//! reports until it is handed out. What waits for the peers is kept once, with a place for each of them: who is overrun loses the
+//! oldest items, and they are counted. `CoreEvent` is everything that may happen to a core, drains and handing out included.
 //!
 //! It stands on xl_validations and xl_ledger, on xl_queues, on xl_io's keepers, and on xl_wire and xl_tags, by which it reads,
-//! opens and seals frames. Its one contract: each call leaves the node and answers as `happens` says, and its queues with what
-//! that gave, so that nothing is said before the keeper has saved its sequence; and no call after `open` takes memory.
+//! opens and seals frames. Its one contract: each call leaves the core and answers as `core_happens` says of its event, so that
+//! nothing is said before the keeper has saved its sequence; and no call after `open` takes memory.
 #![tactic(auto)]
 
+mod event;
 mod hearing;
+mod item;
 mod law;
 mod node;
 mod outgoing;
+mod putting;
 mod queued;
 mod refusal;
 mod report;
@@ -22,7 +26,9 @@ mod settings;
 mod taken;
 mod untaken;
 
+pub use event::CoreEvent;
 pub use hearing::{Speech, Spoken};
+pub use item::Item;
 pub use law::reports;
 pub use node::Node;
 pub use outgoing::OUTGOING;

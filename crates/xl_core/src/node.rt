@@ -1,4 +1,4 @@
-ghost use Rattle.std.specs.Prelude.{◌≡◌, ◌≢◌, ◌↔◌, ◌<◌, ◌≤◌, IfOk, IsOk, OnOk, OnErr, IsTrue, true, Some, Ok, Err, ℕ, option_map, None, []};
+ghost use Rattle.std.specs.Prelude.{◌≡◌, ◌≢◌, ◌↔◌, ◌<◌, ◌≤◌, IfOk, IsOk, OnOk, OnErr, IsTrue, true, Some, Ok, Err, ℕ, option_map, None, [], length};
 ghost use Rattle.std.specs.Result.{result_err};
 ghost use Rattle.xl_base.specs.declared.moments.TheConstants.{GREATEST_MILLIS};
 ghost use Rattle.xl_lists.specs.Lists.{is_on};
@@ -28,23 +28,26 @@ ghost use Rattle.xl_core.specs.declared.refusal.Refusal.TheVariants.{NotAfter, I
 ghost use Rattle.xl_core.specs.declared.hearing.Speech.TheVariants as speech;
 ghost use Rattle.xl_ledger.specs.Registries.{add_refusal};
 ghost use Rattle.xl_ledger.specs.declared.registry.TheConstants.{LEAST_LIMIT, GREATEST_LIMIT};
+ghost use Rattle.xl_core.specs.Draining.{IsPut};
 ghost use Rattle.xl_core.specs.Hearing.{heard};
+ghost use Rattle.xl_core.specs.Items.{frame_of};
 ghost use Rattle.xl_core.specs.Sending.{sealed_bytes, has_spelling};
 ghost use Rattle.xl_core.specs.Refusals.{refusal_from};
 ghost use Rattle.xl_core.specs.Rest.{IsKeyed, report_if};
-ghost use Rattle.xl_core.specs.Replies.{issue_reply, hear_reply, report_in, taken_of, save_in};
+ghost use Rattle.xl_core.specs.Answers.{Done};
+ghost use Rattle.xl_core.specs.Replies.{issue_reply, hear_reply, vote_reply, save_in};
 ghost use Rattle.xl_core.specs.declared.hearing.Spoken.{Spoken};
-ghost use Rattle.xl_core.specs.declared.taken.Taken.TheVariants.{Vote, Header as TakenHeader};
-ghost use Rattle.xl_ledger.specs.Headers.{header_id};
 ghost use Rattle.xl_core.specs.Node.Save.{Kept};
 ghost use Rattle.xl_core.specs.Keeping.{AsksSave, Saves};
 ghost use Rattle.xl_base.specs.Faults.{Rose};
 ghost use Rattle.xl_io.specs.Keepers.{after_save};
 
 use crate::hearing::hear;
+use crate::item::vote_in;
+use crate::putting::{Put, put_frame};
 use crate::sending::{VALIDATION_FRAME, sealed};
 use crate::taken::Heard;
-use crate::{Issued, Refusal, Report, Speech, Taken};
+use crate::{Issued, Item, Refusal, Report, Speech, Taken};
 use std::alloc::Global;
 use std::marker::Model;
 use xl_base::{LedgerId, Millis, NodeNo, OutOfMemory, Secs, Seq, secs_of};
@@ -232,7 +235,7 @@ impl Node {
     /// stranger or carries another tag; where its body is none; and then as the sender's row refuses the validation: as stale,
     /// as a repeat, as a conflict, or as old; or as the header isn't added: it is known, its parent isn't, its sequence isn't the
     /// parent's plus one, or there is no room; all in this order. First the time is set, and rows expire; nothing else changes then.
-    pub fn frame(&mut self, now: Millis, bytes: &[u8]) -> Result<Option<Report>, Refusal>
+    pub fn frame(&mut self, now: Millis, bytes: &[u8]) -> Result<Heard, Refusal>
         requires moment { now ≤ GREATEST_MILLIS }
         ensures exact { hear_reply result self.new ≡ happens self.old (Frame now bytes.now) Kept }
         ensures unheard { (why : Refusal) → heard self.old.keys self.old.list.members bytes.now ≡ Err why → result ≡ Err why }
@@ -241,27 +244,6 @@ impl Node {
         ensures by_its_parent { (from : ℕ) (h : Header) → heard self.old.keys self.old.list.members bytes.now ≡ Ok (record { from = from; what = speech.Header h }) →
             result_err result ≡ option_map HeaderRefused (add_refusal self.old.ledgers h) }
         ensures unchanged { OnErr result (self.new ≡ at_moment now self.old) }
-        // A header gives nothing to report.
-        ensures silent { (from : ℕ) (h : Header) → heard self.old.keys self.old.list.members bytes.now ≡ Ok (record { from = from; what = speech.Header h }) → OnOk result (result ≡ Ok None) }
-    {
-        match self.take_frame(now, bytes) {
-            Ok(heard) => Ok(heard.report),
-            Err(why) => Err(why),
-        }
-    }
-
-    /// Hears bytes that come, and tells what was taken of them, too.
-    pub(crate) fn take_frame(&mut self, now: Millis, bytes: &[u8]) -> Result<Heard, Refusal>
-        requires moment { now ≤ GREATEST_MILLIS }
-        ensures exact { hear_reply (report_in result) self.new ≡ happens self.old (Frame now bytes.now) Kept }
-        ensures unheard { (why : Refusal) → heard self.old.keys self.old.list.members bytes.now ≡ Err why → result ≡ Err why }
-        ensures by_its_row { (from : ℕ) (v : Validation) → heard self.old.keys self.old.list.members bytes.now ≡ Ok (record { from = from; what = speech.Vote v }) →
-            result_err result ≡ option_map refusal_from (refusal_at (at_moment now self.old) (second_of (at_moment now self.old)) from v) }
-        ensures by_its_parent { (from : ℕ) (h : Header) → heard self.old.keys self.old.list.members bytes.now ≡ Ok (record { from = from; what = speech.Header h }) →
-            result_err result ≡ option_map HeaderRefused (add_refusal self.old.ledgers h) }
-        ensures unchanged { OnErr result (self.new ≡ at_moment now self.old) }
-        ensures taken { (said : Spoken) → heard self.old.keys self.old.list.members bytes.now ≡ Ok said → IfOk result (λ done. done.taken ≡ taken_of said.what) }
-        ensures silent { (from : ℕ) (h : Header) → heard self.old.keys self.old.list.members bytes.now ≡ Ok (record { from = from; what = speech.Header h }) → IfOk result (λ done. done.report ≡ None) }
         // It hears others, and not itself.
         ensures others { (said : Spoken) → heard self.old.keys self.old.list.members bytes.now ≡ Ok said → said.from ≢ self.old.me }
     {
@@ -276,8 +258,7 @@ impl Node {
     /// A member's row takes a validation.
     fn take_vote(&mut self, now: Secs, from: NodeNo, v: &Validation) -> Result<Heard, Refusal>
         requires listed { IsTrue (is_on self.old.list.members from) }
-        ensures exact { hear_reply (report_in result) self.new ≡ hears self.old now from v.now (refusal_at self.old now from v.now) }
-        ensures taken { IfOk result (λ done. done.taken ≡ Vote) }
+        ensures exact { hear_reply result self.new ≡ hears self.old now from v.now (refusal_at self.old now from v.now) }
         ensures refused { result_err result ≡ option_map refusal_from (refusal_at self.old now from v.now) }
         ensures unchanged { OnErr result (self.new ≡ self.old) }
     {
@@ -292,9 +273,7 @@ impl Node {
 
     /// Adds a header to the known ledgers. Validations that waited for it are votes from then on, and nothing is reported.
     fn learn(&mut self, h: &Header) -> Result<Heard, Refusal>
-        ensures exact { hear_reply (report_in result) self.new ≡ learns self.old h.now (add_refusal self.old.ledgers h.now) }
-        ensures taken { IfOk result (λ done. done.taken ≡ TakenHeader (header_id h.now)) }
-        ensures silent { IfOk result (λ done. done.report ≡ None) }
+        ensures exact { hear_reply result self.new ≡ learns self.old h.now (add_refusal self.old.ledgers h.now) }
         ensures refused { result_err result ≡ option_map HeaderRefused (add_refusal self.old.ledgers h.now) }
         ensures unchanged { OnErr result (self.new ≡ self.old) }
     {
@@ -327,9 +306,19 @@ impl Node {
         sealed(&self.keys, to, validation)
     }
 
+    /// Puts the frame in which it sends an item to a member at a place of a room, where the room is long enough. What isn't sent
+    /// is passed over.
+    pub(crate) fn put(&self, to: NodeNo, item: &Item, at: usize, room: &mut [u8]) -> Put
+        requires { at ≤ length room.old }
+        ensures { IsPut (frame_of self.now to item.now) at room.old room.new result }
+    {
+        let v = vote_in(item);
+        put_frame(&self.sealed(to, &v), at, room)
+    }
+
     /// The own row takes what was issued, if the node stands on its list.
     fn take_own(&mut self, now: Secs, v: &Validation) -> Option<Report>
-        ensures node { self.new ≡ (reporting (with_taken self.old now self.old.me v.now) (Some v.now)).node }
+        ensures node { self.new ≡ (reporting (with_taken self.old now self.old.me v.now) Done (Some v.now)).node }
         ensures report { result ≡ arisen (with_taken self.old now self.old.me v.now) }
     {
         let me = self.me;
@@ -343,7 +332,7 @@ impl Node {
     /// A member's row takes a validation, and what that gives is reported.
     fn take(&mut self, now: Secs, from: NodeNo, v: &Validation) -> Result<Option<Report>, Refusal>
         requires listed { IsTrue (is_on self.old.list.members from) }
-        ensures exact { hear_reply result self.new ≡ hears self.old now from v.now (refusal_at self.old now from v.now) }
+        ensures exact { vote_reply result self.new ≡ hears self.old now from v.now (refusal_at self.old now from v.now) }
         ensures refused { result_err result ≡ option_map refusal_from (refusal_at self.old now from v.now) }
         ensures unchanged { OnErr result (self.new ≡ self.old) }
     {

@@ -1,4 +1,4 @@
-ghost use Rattle.std.specs.Prelude.{◌≡◌, ◌↔◌, ◌<◌, ◌≤◌, ◌*◌, ◌++◌, [], ℕ, IfOk, IsSome, IfSome, OnErr, Some, Ok, Err, length, min, take, drop, true, option_map, None};
+ghost use Rattle.std.specs.Prelude.{◌≡◌, ◌↔◌, ◌<◌, ◌≤◌, [], ℕ, IfOk, IsSome, OnErr, Some, Ok, Err, length, option_map, None};
 ghost use Rattle.std.specs.Result.{result_err};
 ghost use Rattle.xl_base.specs.Faults.{Rose};
 ghost use Rattle.xl_base.specs.declared.moments.TheConstants.{GREATEST_MILLIS};
@@ -7,42 +7,33 @@ ghost use Rattle.xl_validations.specs.Votes.{votes_of};
 ghost use Rattle.xl_ledger.specs.declared.registry.TheConstants.{LEAST_LIMIT, GREATEST_LIMIT};
 ghost use Rattle.xl_io.specs.Keepers.{Held, MayHold, after_save};
 ghost use Rattle.xl_tags.specs.Rings.{key_of};
-ghost use Rattle.xl_core.specs.Core.{with_queues, stepped};
-ghost use Rattle.xl_core.specs.Queues.{queue_for, items_for, at_peer, after_drain, fitting, frames_of, without};
+ghost use Rattle.xl_core.specs.Answers.{Done, Told};
+ghost use Rattle.xl_core.specs.Core.{with_queues, core_happens, core_asks};
+ghost use Rattle.xl_core.specs.Items.{frames_for};
+ghost use Rattle.xl_core.specs.Queues.{waiting_at, frames_in};
+ghost use Rattle.xl_core.specs.declared.event.CoreEvent.TheVariants.{Issue, Frame, Drain, Reports, Stop, Stopped};
 ghost use Rattle.xl_core.specs.Stops.{IsCovered};
 ghost use Rattle.xl_core.specs.Hearing.{heard};
 ghost use Rattle.xl_core.specs.Keeping.{AsksSave, Saves};
 ghost use Rattle.xl_core.specs.Refusals.{refusal_from};
-ghost use Rattle.xl_core.specs.Replies.{save_in, taken_of};
+ghost use Rattle.xl_core.specs.Replies.{Answers, Drains, HandsOut, taken_answer, done_answer, save_in};
 ghost use Rattle.xl_core.specs.Rest.{IsKeyed};
-ghost use Rattle.xl_core.specs.Node.{
-  Issue,
-  Frame,
-  opened,
-  at_moment,
-  second_of,
-  happens,
-  refusal_at,
-  preferred,
-  asks,
-  is_kept,
-};
+ghost use Rattle.xl_core.specs.Node.{opened, at_moment, second_of, refusal_at, preferred, is_kept};
 ghost use Rattle.xl_core.specs.Node.Save.{Kept};
 ghost use Rattle.xl_core.specs.declared.queued.TheConstants.{LONGEST_FRAME};
-ghost use Rattle.xl_core.specs.declared.hearing.Spoken.{Spoken};
 ghost use Rattle.xl_core.specs.declared.hearing.Speech.TheVariants as speech;
 ghost use Rattle.xl_core.specs.declared.refusal.Refusal.TheVariants.{NotAfter, IssuingOff, KeepFault, Header as HeaderRefused};
 
-use crate::outgoing::{Outgoing, drain_for, lost_for, open_all, push_to_all};
+use crate::outgoing::{Waiting, drain, lost_for};
 use crate::untaken::{UNTAKEN, push_report, take_reports};
-use crate::{Node, Refusal, Report, Settings, Taken};
+use crate::{Item, Node, Refusal, Report, Settings, Taken};
 use std::alloc::Global;
 use std::marker::Model;
 use xl_base::{LedgerId, Millis, NodeNo, OutOfMemory, Seq};
 use xl_io::Keeper;
 use xl_ledger::Header;
 use xl_lists::List;
-use xl_queues::Queue;
+use xl_queues::{Broadcast, Queue};
 use xl_tags::Keys;
 use xl_wire::Validation;
 
@@ -54,21 +45,17 @@ pub const LONGEST_FRAME: usize = 8_240;
 #[derive(Drop)]
 pub struct Core {
     node: Node,
-    outgoing: Vec<Outgoing>,
+    waiting: Waiting,
     untaken: Queue<Report, UNTAKEN>,
     stopped: bool,
 }
 
 impl Model for Core {
-    ghost use Rattle.std.specs.Prelude.{◌≡◌, map};
     ghost use Rattle.xl_core.specs.Core.{Core};
-    ghost use Rattle.xl_core.specs.Queues.{peers_of};
 
     ghost Value = { Core };
 
-    ghost view = { λ a. record { node = a.node; outgoing = a.outgoing.items; untaken = a.untaken; stopped = a.stopped } };
-
-    ghost invariant = { λ a. map (λ o. o.peer) a.outgoing.items ≡ peers_of a.node.keys };
+    ghost view = { λ a. record { node = a.node; waiting = a.waiting; untaken = a.untaken; stopped = a.stopped } };
 }
 
 impl Core {
@@ -87,7 +74,7 @@ impl Core {
         // The keeper holds nothing below the number.
         ensures stop { (held : Held) → ((n : ℕ) → MayHold held n → kept ≤ n) → IfOk result (λ core. IsCovered held core) }
     {
-        let outgoing = open_all(alloc, &settings.keys)?;
+        let waiting = Broadcast::open(alloc)?;
         let untaken = Queue::open(alloc)?;
         let Settings {
             me,
@@ -98,7 +85,7 @@ impl Core {
         let node = Node::open(alloc, me, list, keys, limit, now, kept)?;
         Ok(Core {
             node,
-            outgoing,
+            waiting,
             untaken,
             stopped: false,
         })
@@ -109,19 +96,17 @@ impl Core {
     /// Refused as the node refuses them. First the time is set, and rows expire; nothing else changes then.
     pub fn frame(&mut self, now: Millis, bytes: &[u8]) -> Result<Taken, Refusal>
         requires moment { now ≤ GREATEST_MILLIS }
-        ensures exact { self.new ≡ stepped self.old (happens self.old.node (Frame now bytes.now) Kept) }
-        ensures refusal { result_err result ≡ (happens self.old.node (Frame now bytes.now) Kept).refused }
-        ensures taken { (said : Spoken) → heard self.old.node.keys self.old.node.list.members bytes.now ≡ Ok said → IfOk result (λ taken. taken ≡ taken_of said.what) }
+        ensures step { Answers (core_happens self.old (Frame now bytes.now) Kept) self.new (taken_answer result) }
         ensures unheard { (why : Refusal) → heard self.old.node.keys self.old.node.list.members bytes.now ≡ Err why → result ≡ Err why }
         ensures by_its_row { (from : ℕ) (v : Validation) → heard self.old.node.keys self.old.node.list.members bytes.now ≡ Ok (record { from = from; what = speech.Vote v }) →
             result_err result ≡ option_map refusal_from (refusal_at (at_moment now self.old.node) (second_of (at_moment now self.old.node)) from v) }
         ensures by_its_parent { (from : ℕ) (h : Header) → heard self.old.node.keys self.old.node.list.members bytes.now ≡ Ok (record { from = from; what = speech.Header h }) →
             result_err result ≡ option_map HeaderRefused (add_refusal self.old.node.ledgers h) }
         ensures unchanged { OnErr result (self.new ≡ record self.old { node = at_moment now self.old.node }) }
-        ensures unsent { self.new.outgoing ≡ self.old.outgoing }
+        ensures unsent { self.new.waiting ≡ self.old.waiting }
         ensures stop { (held : Held) → IsCovered held self.old → IsCovered held self.new }
     {
-        match self.node.take_frame(now, bytes) {
+        match self.node.frame(now, bytes) {
             Ok(heard) => {
                 push_report(&mut self.untaken, heard.report);
                 Ok(heard.taken)
@@ -142,22 +127,21 @@ impl Core {
         keeper: &mut K,
     ) -> Result<(), Refusal>
         requires moment { now ≤ GREATEST_MILLIS }
-        ensures exact { self.new ≡ stepped self.old (happens self.old.node (Issue now seq id full) (save_in result)) }
-        ensures refusal { result_err result ≡ (happens self.old.node (Issue now seq id full) (save_in result)).refused }
-        ensures unsent { OnErr result (self.new.outgoing ≡ self.old.outgoing) }
+        ensures step { Answers (core_happens self.old (Issue now seq id full) (save_in result)) self.new (done_answer result) }
+        ensures unsent { OnErr result (self.new.waiting ≡ self.old.waiting) }
         ensures not_after { (result ≡ Err (NotAfter self.old.node.kept)) ↔ (seq ≤ self.old.node.kept) }
         ensures off { (failed : ℕ) → (result ≡ Err (IssuingOff failed)) ↔ ((self.old.node.kept < seq) × (self.old.node.off ≡ Some failed)) }
         ensures fault { (count : ℕ) → result ≡ Err (KeepFault count) → Rose (K.faults keeper.old) (K.faults keeper.new) × (count ≡ K.faults keeper.new) }
         // At most one save is asked, of a number above the kept one.
-        ensures held { K.held keeper.new ≡ option_map (λ held. after_save held (asks self.old.node (Issue now seq id full)) (is_kept (save_in result))) (K.held keeper.old) }
-        ensures saves { AsksSave (asks self.old.node (Issue now seq id full)) (K.saves keeper.old) (K.saves keeper.new) }
-        ensures keeper { Saves K.save_gives (asks self.old.node (Issue now seq id full)) (is_kept (save_in result)) keeper.old keeper.new }
+        ensures held { K.held keeper.new ≡ option_map (λ held. after_save held (core_asks self.old (Issue now seq id full)) (is_kept (save_in result))) (K.held keeper.old) }
+        ensures saves { AsksSave (core_asks self.old (Issue now seq id full)) (K.saves keeper.old) (K.saves keeper.new) }
+        ensures keeper { Saves K.save_gives (core_asks self.old (Issue now seq id full)) (is_kept (save_in result)) keeper.old keeper.new }
         ensures later { K.faults keeper.old ≤ K.faults keeper.new }
         ensures stop { (before after : Held) → K.held keeper.old ≡ Some before → K.held keeper.new ≡ Some after → IsCovered before self.old → IsCovered after self.new }
     {
         match self.node.issue(now, seq, id, full, keeper) {
             Ok(issued) => {
-                push_to_all(&mut self.outgoing, &issued.validation);
+                self.waiting.push(Item::Vote(issued.validation));
                 push_report(&mut self.untaken, issued.report);
                 Ok(())
             }
@@ -170,29 +154,26 @@ impl Core {
     pub fn drain(&mut self, member: NodeNo, room: &mut [u8]) -> usize
         requires peer { IsSome (key_of self.old.node.keys member) }
         requires room { LONGEST_FRAME ≤ length room.old }
-        ensures count { result ≡ 87 * fitting (items_for self.old.outgoing member) (length room.old) }
-        ensures frames { room.new ≡ frames_of self.old.node.keys member (items_for self.old.outgoing member) (fitting (items_for self.old.outgoing member) (length room.old)) ++ drop result room.old }
-        ensures taken { self.new ≡ record self.old { outgoing = at_peer member (after_drain (fitting (items_for self.old.outgoing member) (length room.old))) self.old.outgoing } }
-        ensures nothing { (result ≡ 0) ↔ (items_for self.old.outgoing member ≡ []) }
+        ensures step { Drains (core_happens self.old (Drain member (length room.old)) Kept) self.new result room.old room.new }
+        // It answers 0 exactly where nothing is left but items that are passed over.
+        ensures nothing { (result ≡ 0) ↔ (frames_in (frames_for self.old.node self.old.waiting member) ≡ []) }
         ensures stop { (held : Held) → IsCovered held self.old → IsCovered held self.new }
     {
-        drain_for(&mut self.outgoing, member, self.node.keys(), room)
+        drain(&mut self.waiting, &self.node, member, room)
     }
 
-    /// How many items for a peer were dropped, since its queue was full.
+    /// How many items for a peer were lost, since its queue was full or they were passed over.
     pub fn lost(&self, member: NodeNo) -> u64
         requires peer { IsSome (key_of self.now.node.keys member) }
-        ensures { IfSome (queue_for self.now.outgoing member) (λ o. result ≡ o.items.lost) }
+        ensures { result ≡ (waiting_at self.now.waiting member).lost }
     {
-        lost_for(&self.outgoing, member)
+        lost_for(&self.waiting, member)
     }
 
     /// Takes out the oldest reports that no one has taken, as many as the room holds, and answers how many. The rest of the
     /// room is as it was.
     pub fn reports(&mut self, room: &mut [Report]) -> usize
-        ensures count { result ≡ min (length self.old.untaken.items) (length room.old) }
-        ensures given { room.new ≡ take result self.old.untaken.items ++ drop result room.old }
-        ensures taken { self.new ≡ record self.old { untaken = without result self.old.untaken } }
+        ensures step { HandsOut (core_happens self.old (Reports (length room.old)) Kept) self.new result room.old room.new }
         ensures stop { (held : Held) → IsCovered held self.old → IsCovered held self.new }
     {
         take_reports(&mut self.untaken, room)
@@ -207,7 +188,7 @@ impl Core {
 
     /// Notes that the node is to stop: whoever runs it asks `stopped`.
     pub fn stop(&mut self)
-        ensures stopped { self.new ≡ record self.old { stopped = true } }
+        ensures step { Answers (core_happens self.old Stop Kept) self.new Done }
         ensures stop { (held : Held) → IsCovered held self.old → IsCovered held self.new }
     {
         self.stopped = true;
@@ -215,7 +196,7 @@ impl Core {
 
     /// Whether the node is to stop.
     pub fn stopped(&self) -> bool
-        ensures { result ≡ self.now.stopped }
+        ensures step { Answers (core_happens self.now Stopped Kept) self.now (Told result) }
     {
         self.stopped
     }

@@ -47,3 +47,31 @@ fn a_queue_of_length_0_loses_all(rt: HostRuntime) -> Result<(), Fail> {
     assert_eq!(rt; queue.lost(), 1);
     Ok(())
 }
+
+/// Each reader has what a queue of its own would have.
+#[test]
+fn each_reader_has_its_own_place(rt: HostRuntime) -> Result<(), Fail> {
+    let mut items = Broadcast::<u32, 3, 2>::open(rt.alloc())?;
+    assert!(rt; items.pop(0).is_none());
+    for item in 1..3 {
+        items.push(item);
+    }
+    assert_eq!(rt; items.pop(0), Some(1));
+    for item in 3..6 {
+        items.push(item);
+    }
+    assert_eq!(rt; (items.len(0), items.lost(0)), (3, 1));
+    assert_eq!(rt; (items.len(1), items.lost(1)), (3, 2));
+    assert!(rt; items.first(1) == Some(&3));
+    items.pass_over(1);
+    assert_eq!(rt; (items.len(1), items.lost(1)), (2, 3));
+    for item in [Some(3), Some(4), Some(5), None] {
+        assert_eq!(rt; items.pop(0), item);
+    }
+    items.push(6);
+    assert_eq!(rt; (items.pop(0), items.lost(0)), (Some(6), 1));
+    assert_eq!(rt; (items.pop(1), items.lost(1)), (Some(4), 3));
+    items.pass_over(0);
+    assert_eq!(rt; items.lost(0), 1);
+    Ok(())
+}

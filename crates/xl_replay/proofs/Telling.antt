@@ -14,6 +14,7 @@ use Rattle.xl_lines.specs.Lines.{Line as TextLine, content}
 use Rattle.xl_lines.specs.Rules.{Step, goes_on, refuses as refuses_line, Told}
 use Rattle.xl_lines.specs.Told.{after as after_text, told_by, step_within, step_at, told_from}
 use Rattle.xl_core.specs.declared.report.Report.{Report}
+use Rattle.xl_core.specs.Answers.{refusal_in}
 use Rattle.xl_core.specs.Node.{Node, Event as NodeEvent, Reply, happens, preferred}
 use Rattle.xl_ledger.specs.Headers.{header_id}
 use Rattle.xl_sched.specs.declared.event.Event.{Event}
@@ -85,8 +86,8 @@ run_grows : (w : World) (ss : List WorldStep) → Grows w (run w ss)
 run_grows w [] = λ r h. h
 run_grows w (s ∷ ss) = λ r h. run_grows (step w s) ss r (step_grows w s r h)
 
-refused_reported : (v : World) (i : ℕ) (r : Reply) → All (IsReported v) (option_to_list (option_map (Refused i) r.refused))
-refused_reported v i r = refused_at r.refused
+refused_reported : (v : World) (i : ℕ) (r : Reply) → All (IsReported v) (option_to_list (option_map (Refused i) (refusal_in r.answer)))
+refused_reported v i r = refused_at (refusal_in r.answer)
   where
     refused_at : (o : Option _) → All (IsReported v) (option_to_list (option_map (Refused i) o))
     refused_at None = All-nil (IsReported v)

@@ -17,3 +17,9 @@ pub mod Reporters
 pub mod Forging
 pub mod Indexing
 pub mod Lying
+pub mod CoreSettling
+pub mod CoreSteps
+pub mod CoreRuns
+pub mod CoreLists
+pub mod Emptying
+pub mod Sending

@@ -34,7 +34,7 @@ pub record HasLists (plan : List PlanNode) (w : World) : Type 0 where
   pub nodes : (i : ℕ) (p : Place) → place_at i w.places ≡ Some p → list_at plan i ≡ Some p.node.list
   pub reports : All (λ r. list_at plan r.node ≡ Some r.list) w.reports
 
-reported_under : (plan : List PlanNode) (n : Node) → list_at plan n.me ≡ Some n.list → (o : Option Report) →
+pub reported_under : (plan : List PlanNode) (n : Node) → list_at plan n.me ≡ Some n.list → (o : Option Report) →
     All (λ r. list_at plan r.node ≡ Some r.list) (option_to_list (option_map (reported_by n) o))
 reported_under plan n h None = All-nil (λ r. list_at plan r.node ≡ Some r.list)
 reported_under plan n h (Some q) = All-cons (λ r. list_at plan r.node ≡ Some r.list) (reported_by n q) [] h (All-nil (λ r. list_at plan r.node ≡ Some r.list))
@@ -134,7 +134,7 @@ some_list : (a b : TrustedList) → Some a ≡ Some b → a ≡ b
 some_list a b e = cc
 
 -- a report of a number is under its list
-its_list : (plan : List PlanNode) (i : ℕ) (a : TrustedList) (r : Reported) → list_at plan i ≡ Some a → r.node ≡ i → list_at plan r.node ≡ Some r.list → a ≡ r.list
+pub its_list : (plan : List PlanNode) (i : ℕ) (a : TrustedList) (r : Reported) → list_at plan i ≡ Some a → r.node ≡ i → list_at plan r.node ≡ Some r.list → a ≡ r.list
 its_list plan i a r at_i of_i under = some_list a r.list (sym at_i ∙ (ap (list_at plan) (sym of_i) ∙ under))
 
 pub headline : Headline

@@ -81,7 +81,7 @@ failed_rises k s j above (inr e) = (k.in_force, omega (arith, some_number s j e)
 -- THE EVENTS
 
 -- nothing is issued or reported
-still : (p : Place) (r : Reply) → r.node ≡ p.node → r.issued ≡ None → r.report ≡ None → IsWell p → IsStep p r p.keeper
+pub still : (p : Place) (r : Reply) → r.node ≡ p.node → r.issued ≡ None → r.report ≡ None → IsWell p → IsStep p r p.keeper
 still p r node issued report well = record {
   me = ap (λ (n : Node). n.me) node;
   list = ap (λ (n : Node). n.list) node;

@@ -51,7 +51,7 @@ sent_says P w bytes x says sent is =
     let equal : f.bytes ≡ bytes = (bytes_eq-Decides f.bytes bytes).0 same in
     subst (λ o. IfSome o P) (ap said_in equal ∙ is) says_f)
 
-heard_unforged : (w : World) (n : Node) → Stands w (IsGenuine w.liars w.said) → (bytes : List ℕ) → forges w.liars w.sent n.keys bytes (split_of bytes) ≡ false →
+pub heard_unforged : (w : World) (n : Node) → Stands w (IsGenuine w.liars w.said) → (bytes : List ℕ) → forges w.liars w.sent n.keys bytes (split_of bytes) ≡ false →
     (from : ℕ) (v : Validation) → IsHeard n.keys n.list.members bytes (record { from = from; what = Vote v }) → IsGenuine w.liars w.said (said_by from v)
 heard_unforged w n stands bytes fair from v heard =
     let f : RawFrame = heard.frame in
@@ -66,7 +66,7 @@ heard_genuine w n stands (Issue now seq id full) fair = tt
 heard_genuine w n stands (Frame now bytes) fair = λ from v is. heard_unforged w n stands bytes fair from v (heard_parts n.keys n.list.members bytes (record { from = from; what = Vote v }) is)
 
 -- one more is not none
-never_none : (k : ℕ) → one_more k ≡ 0 → ⊥
+pub never_none : (k : ℕ) → one_more k ≡ 0 → ⊥
 never_none k h = omega (arith, h)
 
 -- THE STEPS
@@ -95,7 +95,7 @@ asked_holds : (n : ℕ) (o : Option ℕ) → is_asked o n ≡ true → o ≡ Som
 asked_holds n None h = cc
 asked_holds n (Some s) h = ap (λ (k : ℕ). Some k) (eqb-true s n h)
 
-may_hold-true : (k : Keeper) (n : ℕ) → may_hold k n ≡ true → MayHold k n
+pub may_hold-true : (k : Keeper) (n : ℕ) → may_hold k n ≡ true → MayHold k n
 may_hold-true k n h = elim (or_cases (n == k.in_force) (is_asked k.asked n) h) [ inl e ↦ inl (eqb-true n k.in_force e) | inr e ↦ inr (asked_holds n k.asked e) ]
 
 -- a node opened again with a number that is not below its keeper's

@@ -96,7 +96,7 @@ abbrev pub spoken : ℕ → Option Validation → Option Said
 spoken i issued = option_map (said_by i) issued
 
 -- a fact of an issued validation is one of what the world has it say
-spoken_fact : (P : Said → Type 0) (i : ℕ) (o : Option Validation) → IfSome o (λ v. P (said_by i v)) → IfSome (spoken i o) P
+pub spoken_fact : (P : Said → Type 0) (i : ℕ) (o : Option Validation) → IfSome o (λ v. P (said_by i v)) → IfSome (spoken i o) P
 spoken_fact P i None h = tt
 spoken_fact P i (Some v) h = h
 
@@ -106,7 +106,7 @@ issued_genuine liars said i None = tt
 issued_genuine liars said i (Some v) = or_right _ _ (now_said said (said_by i v))
 
 -- the report of a node whose rows are genuine has its quorum
-report_backed : (liars : List ℕ) (said : List Said) (p : Place) → IsWell p → All (RowSays (IsGenuine liars said)) p.node.rows →
+pub report_backed : (liars : List ℕ) (said : List Said) (p : Place) → IsWell p → All (RowSays (IsGenuine liars said)) p.node.rows →
     (o : Option Report) → IfSome o (λ q. p.node.list.quorum ≤ count_full q.seq q.id p.node.rows) → All (IsBacked liars said) (option_to_list (option_map (reported_by p.node) o))
 report_backed liars said p well says None h = All-nil (IsBacked liars said)
 report_backed liars said p well says (Some q) h = All-cons (IsBacked liars said) (reported_by p.node q) []

@@ -4,7 +4,6 @@ use Rattle.std.specs.Prelude.{◌==◌, ◌&&◌, not, nat_lt, All, IfSome, map,
 use Rattle.std.proofs.lemmas.Bool.{and_parts, cond_both, ltb-true, eqb-true}
 use Rattle.std.proofs.lemmas.List.{append-nil, length-append, length-replicate}
 use Rattle.std.proofs.lemmas.List.Elements.{All-nil, All-cons}
-use Rattle.xl_tags.proofs.MacLaws.{length-mac}
 use Rattle.xl_lists.specs.Agreement.{Said}
 use Rattle.xl_wire.specs.declared.body.Body.{Body}
 use Rattle.xl_wire.specs.declared.body.Body.TheVariants as bodies
@@ -25,41 +24,10 @@ use Rattle.xl_core.specs.declared.hearing.Spoken.{Spoken}
 use Rattle.xl_core.specs.Hearing.{heard}
 use Rattle.xl_core.specs.Sending.{validation_frame, sealed_bytes, has_spelling}
 use Rattle.xl_core.proofs.Heard.{IsHeard, body_from, vote_body}
+use Rattle.xl_core.proofs.Spelling.{held, sealed_raw}
 use Rattle.xl_core.specs.declared.hearing.Speech.TheVariants.{Vote}
 use Rattle.xl_world.specs.declared.sent.Sent.{Sent}
 use Rattle.xl_world.specs.World.{said_by, said_in, said_in_body, said_in_split, FrameSays, frame_to, frames_for}
-
--- a tag has 32 bytes, also where there is no key
-tag_long : (bytes : List ℕ) (o : Option (List ℕ)) → length (unwrap_or (option_map (λ key. mac key (before_tag bytes)) o) (replicate 32 0)) ≡ 32
-tag_long bytes None = refl
-tag_long bytes (Some key) = length-mac key _
-
--- what the fields of a frame hold
-pub record IsHeld (from to : ℕ) (v : Validation) : Type 0 where
-  pub sender : from < 2 ^ 32
-  pub receiver : to < 2 ^ 32
-  pub validation : IsValidation v
-
-pub held : (from to : ℕ) (v : Validation) → has_spelling from to v ≡ true → IsHeld from to v
-held from to v h =
-    let a = and_parts (nat_lt from (2 ^ 32) && nat_lt to (2 ^ 32) && length v.id.0 == 32 && nat_lt v.seq (2 ^ 32)) _ h in
-    let b = and_parts (nat_lt from (2 ^ 32) && nat_lt to (2 ^ 32) && length v.id.0 == 32) _ a.0 in
-    let c = and_parts (nat_lt from (2 ^ 32) && nat_lt to (2 ^ 32)) _ b.0 in
-    let d = and_parts (nat_lt from (2 ^ 32)) _ c.0 in
-    record {
-      sender = ltb-true from (2 ^ 32) d.0;
-      receiver = ltb-true to (2 ^ 32) d.1;
-      validation = record { id = eqb-true (length v.id.0) 32 c.1; seq = ltb-true v.seq (2 ^ 32) b.1; signed = ltb-true v.signed (2 ^ 32) a.1 };
-    }
-
--- the sealed frame of a validation has its spelling
-sealed_raw : (ring : Ring) (from to : ℕ) (v : Validation) → IsHeld from to v → IsRaw (sealed ring (validation_frame from to v (replicate 32 0)))
-sealed_raw ring from to v fits = record {
-  lawful = spelled_lawful (bodies.Validation v) fits.validation;
-  from = fits.sender;
-  to = fits.receiver;
-  tag = tag_long (raw_bytes (validation_frame from to v (replicate 32 0))) (key_of ring to);
-}
 
 -- so it says the validation
 pub sealed_said : (ring : Ring) (from to : ℕ) (v : Validation) → has_spelling from to v ≡ true → said_in (sealed_bytes ring from to v) ≡ Some (said_by from v)

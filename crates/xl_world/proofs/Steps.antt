@@ -39,6 +39,7 @@ use Rattle.xl_world.specs.declared.place.Keeper.{Keeper}
 use Rattle.xl_world.specs.declared.place.Fate.{Fate}
 use Rattle.xl_world.specs.declared.place.Fate.TheVariants.{Kept}
 use Rattle.xl_world.specs.Keeper.{may_hold, is_asked, answer_of, found, one_more}
+use Rattle.xl_core.specs.Answers.{refusal_in}
 use Rattle.xl_core.specs.Node.Save.{Kept as AnsweredOk, Failed as AnsweredFailed}
 use Rattle.xl_core.specs.Sending.{sealed_bytes, has_spelling}
 use Rattle.xl_world.specs.World.{World, Step, Act, Mark, again, reopened, place_again, was_sent, forges, place_at, put, frames_for, said_by, reported_by, acts, step, run}
@@ -173,7 +174,7 @@ tells_at i e fate a None answers = absurd answers
 tells_at i e fate a (Some p) is =
     let r : Reply = happens p.node e (answer_of p.keeper fate) in
     ap (λ o. option_to_list (option_map (Refused i) o) ++ option_to_list (option_map (λ q. Full i q.seq q.id) a.report)) is.refused
-    ∙ ap (λ (o : Option Outcome). option_to_list (option_map (Refused i) r.refused) ++ option_to_list o) (full_told i r.node a.report r.report is.report)
+    ∙ ap (λ (o : Option Outcome). option_to_list (option_map (Refused i) (refusal_in r.answer)) ++ option_to_list o) (full_told i r.node a.report r.report is.report)
 
 pub told_step : (w : World) (i : ℕ) (e : Event) (fate : Fate) (a : Answer) → AnswersAt i e fate w.places (Some a) → outcomes_told i a ≡ told_of i (reply_to w (Act i e fate))
 told_step w i e fate a answers = tells_at i e fate a (place_at i w.places) answers

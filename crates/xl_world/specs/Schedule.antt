@@ -9,6 +9,7 @@ use Rattle.xl_sched.specs.declared.event.Event.TheVariants as event
 use Rattle.xl_sched.specs.declared.lied.Lied.{Lied}
 use Rattle.xl_sched.specs.declared.lied.Lied.TheVariants as lied
 use Rattle.xl_tags.specs.Rings.{schedule_ring}
+use Rattle.xl_core.specs.Answers.{refusal_in}
 use Rattle.xl_core.specs.Node.{Event as NodeEvent, Issue, Frame, Reply, asks, happens, preferred}
 use Rattle.xl_core.specs.Sending.{sealed_bytes, sealed_header_bytes}
 use Rattle.xl_world.specs.declared.outcome.Outcome.{Outcome}
@@ -99,7 +100,7 @@ reply_to w Mark = None
 
 -- what is told of a reply: that it refused, and what it reports
 abbrev pub outcomes_of : ℕ → Reply → List Outcome
-outcomes_of i r = option_to_list (option_map (Refused i) r.refused) ++ option_to_list (option_map (λ q. Full i q.seq q.id) r.report)
+outcomes_of i r = option_to_list (option_map (Refused i) (refusal_in r.answer)) ++ option_to_list (option_map (λ q. Full i q.seq q.id) r.report)
 
 abbrev pub told_of : ℕ → Option Reply → List Outcome
 told_of i None = []

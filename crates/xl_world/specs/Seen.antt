@@ -6,6 +6,7 @@ use Rattle.std.specs.List.{list_all}
 use Rattle.xl_base.specs.Ids.{same_id}
 use Rattle.xl_base.specs.declared.ids.LedgerId.{LedgerId}
 use Rattle.xl_lists.specs.Agreement.{Said, Report}
+use Rattle.xl_core.specs.Answers.{refusal_in}
 use Rattle.xl_core.specs.Node.{Event, Issue, Frame, Reply, happens, at_moment, own_validation}
 use Rattle.xl_world.specs.declared.act.Answer.{Answer}
 use Rattle.xl_world.specs.declared.act.Asked.{Asked}
@@ -56,7 +57,7 @@ event_seen (event.Frame now bytes) = Frame now bytes.now
 
 -- what a node's calls answered is this reply
 pub record IsAnswer (a : Answer) (r : Reply) : Type 0 where
-  pub refused : a.refused ≡ r.refused
+  pub refused : a.refused ≡ refusal_in r.answer
   pub issued : a.issued ≡ r.issued
   pub report : option_map report_seen a.report ≡ option_map (reported_by r.node) r.report
 

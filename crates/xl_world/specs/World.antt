@@ -23,6 +23,7 @@ use Rattle.xl_tags.specs.Opening.{is_sealed}
 use Rattle.xl_tags.specs.Rings.{Ring, schedule_ring}
 use Rattle.xl_validations.specs.declared.row.Row.{Row}
 use Rattle.xl_core.specs.declared.report.Report.{Report}
+use Rattle.xl_core.specs.Answers.{Done}
 use Rattle.xl_core.specs.Node.{Node, Event, Issue, Frame, Reply, happens, asks, opened}
 use Rattle.xl_core.specs.Sending.{sealed_bytes, has_spelling}
 use Rattle.xl_world.specs.declared.sent.Sent.{Sent}
@@ -123,7 +124,7 @@ place_after p event fate = record { node = (happens p.node event (answer_of p.ke
 
 -- a node that is opened says and reports nothing
 abbrev pub quiet : Node → Reply
-quiet n = record { node = n; refused = None; issued = None; report = None }
+quiet n = record { node = n; answer = Done; items = []; issued = None; report = None }
 
 -- the place opened again with this number, which its keeper then holds alone
 abbrev pub place_again : Place → ℕ → ℕ → Place

@@ -113,10 +113,10 @@ fn hear(place: &mut Place, now: Millis, bytes: &[u8]) -> Answer
     ensures answer { IsAnswer result (happens place.old.node (Frame now bytes.now) AnsweredOk) }
 {
     match place.node.frame(now, bytes) {
-        Ok(report) => Answer {
+        Ok(heard) => Answer {
             refused: None,
             issued: None,
-            report: report_under(&place.node, report),
+            report: report_under(&place.node, heard.report),
         },
         Err(refusal) => Answer::refusing(refusal),
     }

@@ -47,6 +47,16 @@ fn moment(second: Secs) -> Millis
     (u64::from(second) * 1_000).min(GREATEST_MILLIS)
 }
 
+/// What bytes that come give to report.
+fn hear(node: &mut Node, now: Millis, bytes: &[u8]) -> Result<Option<Report>, Refusal>
+    requires { now ≤ GREATEST_MILLIS }
+{
+    match node.frame(now, bytes) {
+        Ok(heard) => Ok(heard.report),
+        Err(why) => Err(why),
+    }
+}
+
 /// The frame of a validation that a number sends to another.
 fn frame(number: u32, to: u32, v: &Validation) -> Result<[u8; 87], Fail> {
     let from = NodeNo::new(number).ok_or("no member")?;
@@ -73,7 +83,7 @@ fn tell(
     if number == me {
         Ok(node.issue(now, v.seq, v.id, v.full, keeper)?.report)
     } else {
-        Ok(node.frame(now, &frame(number, me, v)?)?)
+        Ok(hear(node, now, &frame(number, me, v)?)?)
     }
 }
 
@@ -130,7 +140,7 @@ fn refuses_validations_with_their_cause(rt: HostRuntime) -> Result<(), Fail> {
             full: true,
         };
         assert_eq!(rt;
-            node.frame(1_000_000, &frame(number, to, &v)?),
+            hear(&mut node, 1_000_000, &frame(number, to, &v)?),
             answer,
             "{number} names {seq}"
         );
@@ -180,16 +190,16 @@ fn tests_a_frame_in_order(rt: HostRuntime) -> Result<(), Fail> {
             bytes = resealed(&bytes, one, node.me());
         }
         assert_eq!(rt;
-            node.frame(1_000, &bytes).map_err(|why| why.code()),
+            hear(&mut node, 1_000, &bytes).map_err(|why| why.code()),
             Err(code)
         );
     }
     let mut longer = [0; 88];
     longer[..87].copy_from_slice(&good);
-    assert_eq!(rt; node.frame(1_000, &longer), Err(Refusal::Extra(1)));
+    assert_eq!(rt; hear(&mut node, 1_000, &longer), Err(Refusal::Extra(1)));
     let (shorter, _) = good.split_at(86);
-    assert_eq!(rt; node.frame(1_000, shorter), Err(Refusal::Short(1)));
-    assert_eq!(rt; node.frame(1_000, &good), Ok(None));
+    assert_eq!(rt; hear(&mut node, 1_000, shorter), Err(Refusal::Short(1)));
+    assert_eq!(rt; hear(&mut node, 1_000, &good), Ok(None));
     Ok(())
 }
 
@@ -217,7 +227,7 @@ fn takes_headers_that_follow(rt: HostRuntime) -> Result<(), Fail> {
         (2, 5, B.header(), Ok(None)),
     ] {
         assert_eq!(rt;
-            node.frame(1_000, &header_frame(number, to, &header)?),
+            hear(&mut node, 1_000, &header_frame(number, to, &header)?),
             answer,
             "{number} sends {header:?}"
         );
@@ -243,7 +253,7 @@ fn takes_headers_while_there_is_room(rt: HostRuntime) -> Result<(), Fail> {
         (child(E.id(), 4, 0), not_added(twin)),
     ] {
         assert_eq!(rt;
-            node.frame(1_000, &header_frame(1, 5, &header)?),
+            hear(&mut node, 1_000, &header_frame(1, 5, &header)?),
             answer,
             "{header:?}"
         );
@@ -274,7 +284,7 @@ fn happen(node: &mut Node, keeper: &mut PlainKeeper, happens: Happens) -> Result
         }
         Known(name) => {
             let frame = header_frame(2, node.me().get(), &name.header())?;
-            node.frame(1_000, &frame)?;
+            hear(node, 1_000, &frame)?;
         }
     }
     Ok(())
@@ -399,7 +409,7 @@ fn time_goes_on_and_rows_expire(rt: HostRuntime) -> Result<(), Fail> {
             signed,
             full: true,
         };
-        let heard = node.frame(moment(now), &frame(1, 5, &v)?);
+        let heard = hear(&mut node, moment(now), &frame(1, 5, &v)?);
         assert_eq!(rt; heard, answer, "{now}");
     }
     let issued = node.issue(2_000, 1, X, true, &mut keeper)?;

@@ -1,7 +1,7 @@
 use Rattle.std.proofs.Common.{◌∙◌, ap, arith, ◌<◌, length, get_or, replicate}
 use Rattle.std.proofs.lemmas.List.{get_or_default, length-drop}
 use Rattle.xl_core.specs.declared.report.Report.{Report}
-use Rattle.xl_core.proofs.Draining.{given_more}
+use Rattle.xl_core.proofs.Handing.{given_more}
 use Rattle.xl_core.proofs.untaken.take_reports.Goals as goal
 
 any : Report

@@ -1,5 +1,5 @@
 use Rattle.std.proofs.Common.{◌≡◌}
-use Rattle.xl_core.proofs.Draining.{IsGiven}
+use Rattle.xl_core.proofs.Handing.{IsGiven}
 use Rattle.xl_core.proofs.untaken.take_reports.Given as goal
 
 -- the reports so far are taken out, and stand in the room

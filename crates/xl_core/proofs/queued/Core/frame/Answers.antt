@@ -1,46 +1,32 @@
-use Rattle.std.proofs.Common.{◌≡◌, ◌≢◌, ℕ, ◌∙◌, ap, sym, subst, Some, None, Ok, Err}
+use Rattle.std.proofs.Common.{◌≡◌, ◌≢◌, ℕ, ap, sym, subst, Some, None, Ok, Err}
 use Rattle.std.specs.Prelude.{option_map}
 use Rattle.std.specs.Result.{result_err}
 use Rattle.xl_wire.specs.declared.validation.Validation.{Validation}
 use Rattle.xl_ledger.specs.declared.header.Header.{Header}
 use Rattle.xl_ledger.specs.Registries.{add_refusal}
+use Rattle.xl_core.specs.declared.event.CoreEvent.TheVariants as event
 use Rattle.xl_core.specs.declared.hearing.Spoken.{Spoken}
 use Rattle.xl_core.specs.declared.hearing.Speech.TheVariants as speech
 use Rattle.xl_core.specs.declared.refusal.Refusal.{Refusal}
 use Rattle.xl_core.specs.declared.refusal.Refusal.TheVariants.{Header as HeaderRefused}
+use Rattle.xl_core.specs.Answers.{Refused, Took}
 use Rattle.xl_core.specs.Hearing.{heard}
-use Rattle.xl_core.specs.Node.{Reply, Frame, happens, at_moment, second_of, refusal_at}
+use Rattle.xl_core.specs.Node.{Frame, happens, at_moment, second_of, refusal_at}
 use Rattle.xl_core.specs.Node.Save.{Kept}
-use Rattle.xl_core.specs.Queues.{peers_of}
-use Rattle.xl_core.specs.Core.{Core, stepped}
+use Rattle.xl_core.specs.Core.{Core, core_happens}
 use Rattle.xl_core.specs.Refusals.{refusal_from}
-use Rattle.xl_core.specs.Replies.{taken_of}
+use Rattle.xl_core.specs.Replies.{Answers}
 use Rattle.xl_core.specs.Stops.{IsCovered}
-use Rattle.xl_core.proofs.Stepping.{stays_itself, heard_step, refused_step}
+use Rattle.xl_core.proofs.Stepping.{heard_step, refused_step}
 use Rattle.xl_core.proofs.Stopping.{frame_covered}
 use Rattle.xl_core.proofs.queued.Core.frame.Goals as goal
 
-pub invariant_of-self : goal.invariant_of-self
-invariant_of-self c =
-    c.self.invariant ∙ ap peers_of (sym (ap (λ (r : Reply). r.node.keys) c.in-Ok.ensures.exact ∙ (stays_itself c.self.inside.node (Frame c.args.now c.args.bytes.now) Kept).keys))
-
-pub invariant_of-self-in-Err : goal.invariant_of-self-in-Err
-invariant_of-self-in-Err c =
-    c.self.invariant ∙ ap peers_of (sym (ap (λ (r : Reply). r.node.keys) c.in-Err.ensures.exact ∙ (stays_itself c.self.inside.node (Frame c.args.now c.args.bytes.now) Kept).keys))
-
-pub returns-in-Ok-clause-exact : goal.returns-in-Ok-clause-exact
-returns-in-Ok-clause-exact c =
-    let old : Core = record { node = c.self.inside.node; outgoing = c.self.inside.outgoing.items; untaken = c.self.inside.untaken; stopped = c.self.inside.stopped } in
-    heard_step old c.take_frame.new.self c.in-Ok.heard.report c.push_report.new.untaken (happens c.self.inside.node (Frame c.args.now c.args.bytes.now) Kept) c.in-Ok.ensures.exact c.push_report.ensures
-    ∙ ap (λ (a : Core). stepped a (happens a.node (Frame c.args.now c.args.bytes.now) Kept)) c.self.view_is
-
-pub returns-in-Ok-clause-refusal : goal.returns-in-Ok-clause-refusal
-returns-in-Ok-clause-refusal c =
-    ap (λ (r : Reply). r.refused) c.in-Ok.ensures.exact ∙ ap (λ (a : Core). (happens a.node (Frame c.args.now c.args.bytes.now) Kept).refused) c.self.view_is
-
-pub returns-in-Ok-clause-taken : goal.returns-in-Ok-clause-taken
-returns-in-Ok-clause-taken c =
-    subst (λ (a : Core). (said : Spoken) → heard a.node.keys a.node.list.members c.args.bytes.now ≡ Ok said → c.in-Ok.heard.taken ≡ taken_of said.what) c.self.view_is c.in-Ok.ensures.taken
+pub returns-in-Ok-clause-step : goal.returns-in-Ok-clause-step
+returns-in-Ok-clause-step c =
+    let old : Core = record { node = c.self.inside.node; waiting = c.self.inside.waiting; untaken = c.self.inside.untaken; stopped = c.self.inside.stopped } in
+    let new : Core = record { node = c.frame.new.self; waiting = c.self.inside.waiting; untaken = c.push_report.new.untaken; stopped = c.self.inside.stopped } in
+    subst (λ (a : Core). Answers (core_happens a (event.Frame c.args.now c.args.bytes.now) Kept) new (Took c.in-Ok.heard.taken)) c.self.view_is
+    (heard_step old c.frame.new.self c.in-Ok.heard c.push_report.new.untaken (happens c.self.inside.node (Frame c.args.now c.args.bytes.now) Kept) c.in-Ok.ensures.exact c.push_report.ensures)
 
 ok_err : {X Y : Type 0} (x : X) (why : Y) → Ok x ≡ Err why → ⊥
 ok_err x why e = cc
@@ -64,17 +50,14 @@ returns-in-Ok-clause-by_its_parent c =
 pub returns-in-Ok-clause-stop : goal.returns-in-Ok-clause-stop
 returns-in-Ok-clause-stop c = λ held was.
     let others = subst (λ (a : Core). (said : Spoken) → heard a.node.keys a.node.list.members c.args.bytes.now ≡ Ok said → said.from ≢ a.node.me) c.self.view_is c.in-Ok.ensures.others in
-    subst (IsCovered held) (sym (returns-in-Ok-clause-exact c)) (frame_covered held c.args.self.now c.args.now c.args.bytes.now others was)
+    subst (IsCovered held) (sym (returns-in-Ok-clause-step c).core) (frame_covered held c.args.self.now c.args.now c.args.bytes.now others was)
 
-pub returns-in-Err-clause-exact : goal.returns-in-Err-clause-exact
-returns-in-Err-clause-exact c =
-    let old : Core = record { node = c.self.inside.node; outgoing = c.self.inside.outgoing.items; untaken = c.self.inside.untaken; stopped = c.self.inside.stopped } in
-    refused_step old c.take_frame.new.self c.in-Err.why (happens c.self.inside.node (Frame c.args.now c.args.bytes.now) Kept) c.in-Err.ensures.exact
-    ∙ ap (λ (a : Core). stepped a (happens a.node (Frame c.args.now c.args.bytes.now) Kept)) c.self.view_is
-
-pub returns-in-Err-clause-refusal : goal.returns-in-Err-clause-refusal
-returns-in-Err-clause-refusal c =
-    ap (λ (r : Reply). r.refused) c.in-Err.ensures.exact ∙ ap (λ (a : Core). (happens a.node (Frame c.args.now c.args.bytes.now) Kept).refused) c.self.view_is
+pub returns-in-Err-clause-step : goal.returns-in-Err-clause-step
+returns-in-Err-clause-step c =
+    let old : Core = record { node = c.self.inside.node; waiting = c.self.inside.waiting; untaken = c.self.inside.untaken; stopped = c.self.inside.stopped } in
+    let new : Core = record { node = c.frame.new.self; waiting = c.self.inside.waiting; untaken = c.self.inside.untaken; stopped = c.self.inside.stopped } in
+    subst (λ (a : Core). Answers (core_happens a (event.Frame c.args.now c.args.bytes.now) Kept) new (Refused c.in-Err.why)) c.self.view_is
+    (refused_step old c.frame.new.self c.in-Err.why (happens c.self.inside.node (Frame c.args.now c.args.bytes.now) Kept) c.in-Err.ensures.exact)
 
 pub returns-in-Err-clause-unheard : goal.returns-in-Err-clause-unheard
 returns-in-Err-clause-unheard c = λ why is.
@@ -95,4 +78,4 @@ returns-in-Err-clause-by_its_parent c =
 pub returns-in-Err-clause-stop : goal.returns-in-Err-clause-stop
 returns-in-Err-clause-stop c = λ held was.
     let others = subst (λ (a : Core). (said : Spoken) → heard a.node.keys a.node.list.members c.args.bytes.now ≡ Ok said → said.from ≢ a.node.me) c.self.view_is c.in-Err.ensures.others in
-    subst (IsCovered held) (sym (returns-in-Err-clause-exact c)) (frame_covered held c.args.self.now c.args.now c.args.bytes.now others was)
+    subst (IsCovered held) (sym (returns-in-Err-clause-step c).core) (frame_covered held c.args.self.now c.args.now c.args.bytes.now others was)

@@ -1,0 +1,31 @@
+use xl_base::{Bytes, LedgerId, Millis, NodeNo, Seq};
+
+/// What may happen at a core. A room stands for how much it holds.
+#[derive(Debug, Drop)]
+pub enum CoreEvent {
+    /// It is asked to issue a validation.
+    Issue {
+        now: Millis,
+        seq: Seq,
+        id: LedgerId,
+        full: bool,
+    },
+    /// Bytes come, whatever they are.
+    Frame {
+        now: Millis,
+        bytes: Bytes,
+    },
+    /// What waits for a member is written into a room of so many bytes.
+    Drain {
+        member: NodeNo,
+        room: usize,
+    },
+    /// The untaken reports are handed out, into a room for so many.
+    Reports {
+        room: usize,
+    },
+    /// It is told to stop.
+    Stop,
+    /// It is asked whether it was told to stop.
+    Stopped,
+}

@@ -1,0 +1,200 @@
+-- Each step of an unforged run of cores keeps what is kept, so reports agree.
+use Rattle.std.proofs.Common.{◌≡◌, ℕ, ◌<◌, ◌≤◌, Bool, true, false, cond, List, [], ◌∷◌, ◌++◌, refl, arith, ap, sym, ◌∙◌, Option, Some, None, subst}
+use Rattle.std.specs.Prelude.{◌==◌, All, IfSome, map, slice_index_or}
+use Rattle.std.proofs.lemmas.Bool.{cond_both}
+use Rattle.std.proofs.lemmas.List.Elements.{All-map, All-head, All-tail, All-nil}
+use Rattle.xl_wire.specs.Heads.{split_of}
+use Rattle.xl_wire.specs.declared.validation.Validation.{Validation}
+use Rattle.xl_tags.specs.Rings.{schedule_ring}
+use Rattle.xl_lists.specs.Agreement.{Said, Report as Reported, IsGenuine, IsBacked, Agree}
+use Rattle.xl_lists.proofs.Agreement.{agreement_from_kept, vouches_still}
+use Rattle.xl_core.specs.declared.event.CoreEvent.{CoreEvent}
+use Rattle.xl_core.specs.declared.event.CoreEvent.TheVariants.{Issue, Frame, Drain, Reports, Stop, Stopped}
+use Rattle.xl_core.specs.declared.hearing.Speech.TheVariants.{Vote}
+use Rattle.xl_core.specs.Answers.{Done}
+use Rattle.xl_core.specs.Core.{Core, CoreReply, answering, core_happens, core_asks}
+use Rattle.xl_core.specs.Node as nodes
+use Rattle.xl_core.specs.Node.{Node, Save}
+use Rattle.xl_core.proofs.Heard.{heard_parts}
+use Rattle.xl_world.specs.declared.place.Keeper.{Keeper}
+use Rattle.xl_world.specs.declared.place.Fate.{Fate}
+use Rattle.xl_world.specs.declared.plan.PlanNode.{PlanNode}
+use Rattle.xl_world.specs.declared.sent.Sent.{Sent}
+use Rattle.xl_world.specs.Keeper.{MayHold, one_more, may_hold, holding, restored, answer_of}
+use Rattle.xl_world.specs.World as flat
+use Rattle.xl_world.specs.World.{AreDeclared, FrameSays, said_by, forges}
+use Rattle.xl_world.specs.Cores.{Place, World, Step, Act, Again, Torn, Mark, place_at, is_forged, settled, acts, reply_at, keeper_after, core_again, reopened, again, torn, moment_in, asked_at, marked, step, run, place_of, start, CoreSays, Stands}
+use Rattle.xl_world.proofs.NodeSteps.{asks_above, failed_rises, opened_well}
+use Rattle.xl_world.proofs.Runs.{heard_unforged, may_hold-true, never_none}
+use Rattle.xl_world.proofs.Settling.{IsWell, spoken, issued_genuine, some_same}
+use Rattle.xl_world.proofs.CoreSettling.{IsSound, ReplySays, GenuineThen, settled_sound, core_weaker, at_its_number, seat}
+use Rattle.xl_world.proofs.CoreSteps.{CoreHeard, core_steps, core_says, opened_core_steps, opened_core_says}
+
+-- WHAT COMES UNFORGED
+
+-- the world without its places
+abbrev bare : World → flat.World
+bare w = record { liars = w.liars; numbers = w.numbers; places = []; sent = w.sent; mark = w.mark; said = w.said; reports = w.reports; forged = w.forged }
+
+bare_stands : (w : World) → All (FrameSays (IsGenuine w.liars w.said)) w.sent → flat.Stands (bare w) (IsGenuine w.liars w.said)
+bare_stands w sent = record { places = λ i p h. cc; sent = sent }
+
+heard_genuine : (w : World) (n : Node) → Stands w (IsGenuine w.liars w.said) → (e : CoreEvent) → is_forged w n e ≡ false → CoreHeard (IsGenuine w.liars w.said) n e
+heard_genuine w n stands (Issue now seq id full) fair = tt
+heard_genuine w n stands (Frame now bytes) fair = λ from v is.
+    heard_unforged (bare w) n (bare_stands w stands.sent) bytes fair from v (heard_parts n.keys n.list.members bytes (record { from = from; what = Vote v }) is)
+heard_genuine w n stands (Drain member room) fair = tt
+heard_genuine w n stands (Reports room) fair = tt
+heard_genuine w n stands Stop fair = tt
+heard_genuine w n stands Stopped fair = tt
+
+heard_weaker : (P Q : Said → Type 0) → ((x : Said) → P x → Q x) → (n : Node) (e : CoreEvent) → CoreHeard P n e → CoreHeard Q n e
+heard_weaker P Q h n (Issue now seq id full) says = tt
+heard_weaker P Q h n (Frame now bytes) says = λ from v is. h (said_by from v) (says from v is)
+heard_weaker P Q h n (Drain member room) says = tt
+heard_weaker P Q h n (Reports room) says = tt
+heard_weaker P Q h n Stop says = tt
+heard_weaker P Q h n Stopped says = tt
+
+-- THE STEPS
+
+act_sound : (w : World) (i : ℕ) (e : CoreEvent) (fate : Fate) → IsSound w → (o : Option Place) → place_at i w.places ≡ o → (acts w i e fate o).forged ≡ 0 → IsSound (acts w i e fate o)
+act_sound w i e fate sound None at same = sound
+act_sound w i e fate sound (Some p) at same =
+    let its : p.core.node.me ≡ i = at_its_number i w.places p at in
+    let r : CoreReply = reply_at p e fate in
+    let still = λ (x : Said). vouches_still w.liars w.said (spoken i r.issued) x.member x.seq x.id in
+    settled_sound w i (is_forged w p.core.node e) p r (keeper_after p e fate) at (core_steps p e fate (sound.well i p at))
+    (core_says (GenuineThen w i r) p.core e (answer_of p.keeper fate)
+    (core_weaker (IsGenuine w.liars w.said) (GenuineThen w i r) still p.core (sound.kept.genuine.places i p at))
+    (heard_weaker (IsGenuine w.liars w.said) (GenuineThen w i r) still p.core.node e (heard_genuine w p.core.node sound.kept.genuine e (not_forged (is_forged w p.core.node e) w.forged same)))
+    (subst (λ m. IfSome r.issued (λ v. GenuineThen w i r (said_by m v))) (sym its) (issued_genuine w.liars w.said i r.issued)))
+    sound
+  where
+    not_forged : (b : Bool) (k : ℕ) → cond b (one_more k) k ≡ 0 → b ≡ false
+    not_forged true k h = absurd (never_none k h)
+    not_forged false k h = refl
+
+-- a core opened again with a number that is not below its keeper's
+reopened_sound : (w : World) (i now number : ℕ) → IsSound w → (p : Place) → place_at i w.places ≡ Some p → (k : ℕ) × (k ≤ number) × MayHold p.keeper k → (asked : Option ℕ) →
+    IsSound (reopened w i (record { core = p.core; keeper = record p.keeper { asked = asked } }) now number)
+reopened_sound w i now number sound p at low asked =
+    let n : Node = p.core.node in
+    settled_sound w i false p (answering (core_again p now number) Done) (restored (record p.keeper { asked = asked }) number) at
+    (opened_core_steps p now number asked (sound.well i p at) low)
+    (record { core = opened_core_says (IsGenuine w.liars w.said) n.me n.list n.keys n.ledgers.limit now number; sent = All-nil (FrameSays (IsGenuine w.liars w.said)) }) sound
+
+again_sound : (w : World) (i now number : ℕ) → IsSound w → (o : Option Place) → place_at i w.places ≡ o → IsSound (again w i now number o)
+again_sound w i now number sound None at = sound
+again_sound w i now number sound (Some p) at =
+    cond_both (may_hold p.keeper number) (reopened w i p now number) w IsSound
+    (λ e. reopened_sound w i now number sound p at (number, omega arith, may_hold-true p.keeper number e) p.keeper.asked) (λ _. sound)
+
+torn_sound : (w : World) (i now number : ℕ) → IsSound w → (p : Place) → place_at i w.places ≡ Some p → (asked : Option ℕ) → IfSome asked (λ s. p.core.node.kept < s) → IsSound (torn w i now number (Some p) asked)
+torn_sound w i now number sound p at None above = sound
+torn_sound w i now number sound p at (Some s) above =
+    let k : Keeper = record p.keeper { asked = Some s } in
+    cond_both (may_hold k number) (reopened w i (record { core = p.core; keeper = k }) now number) w IsSound
+    (λ e. reopened_sound w i now number sound p at (failed_rises p.keeper s number (omega (arith, above, (sound.well i p at).in_force)) (may_hold-true k number e)) (Some s))
+    (λ _. sound)
+
+-- a save is asked above the number that was kept
+asked_above : (core : Core) (e : CoreEvent) → IfSome (core_asks core e) (λ s. core.node.kept < s)
+asked_above core (Issue now seq id full) = asks_above core.node (nodes.Issue now seq id full)
+asked_above core (Frame now bytes) = tt
+asked_above core (Drain member room) = tt
+asked_above core (Reports room) = tt
+asked_above core Stop = tt
+asked_above core Stopped = tt
+
+torn_at : (w : World) (i now number : ℕ) (e : CoreEvent) → IsSound w → (o : Option Place) → place_at i w.places ≡ o → IsSound (torn w i now number o (asked_at o e))
+torn_at w i now number e sound None at = sound
+torn_at w i now number e sound (Some p) at = torn_sound w i now number sound p at (core_asks p.core e) (asked_above p.core e)
+
+-- where the mark stands says nothing
+marked_sound : (w : World) → IsSound w → IsSound (marked w)
+marked_sound w sound = record {
+  kept = record {
+    saved = sound.kept.saved;
+    once = sound.kept.once;
+    genuine = record { places = sound.kept.genuine.places; sent = sound.kept.genuine.sent };
+    backed = sound.kept.backed;
+  };
+  well = sound.well;
+}
+
+step_sound : (w : World) (s : Step) → (step w s).forged ≡ 0 → IsSound w → IsSound (step w s)
+step_sound w (Act i e fate) same sound = act_sound w i e fate sound (place_at i w.places) refl same
+step_sound w (Again i now number) same sound = again_sound w i now number sound (place_at i w.places) refl
+step_sound w (Torn i e number) same sound = torn_at w i (moment_in e) number e sound (place_at i w.places) refl
+step_sound w Mark same sound = marked_sound w sound
+
+-- WHAT STAYS OVER A RUN
+
+-- the liars stay, and where no frame was forged in the end none was at first
+pub record Stays (w v : World) : Type 0 where
+  pub liars : v.liars ≡ w.liars
+  pub forged : v.forged ≡ 0 → w.forged ≡ 0
+
+acts_stays : (w : World) (i : ℕ) (e : CoreEvent) (fate : Fate) (o : Option Place) → Stays w (acts w i e fate o)
+acts_stays w i e fate None = record { liars = refl; forged = λ h. h }
+acts_stays w i e fate (Some p) = record { liars = refl; forged = cond_both (is_forged w p.core.node e) (one_more w.forged) w.forged (λ k. k ≡ 0 → w.forged ≡ 0) (λ _ h. absurd (never_none w.forged h)) (λ _ h. h) }
+
+again_stays : (w : World) (i now number : ℕ) (o : Option Place) → Stays w (again w i now number o)
+again_stays w i now number None = record { liars = refl; forged = λ h. h }
+again_stays w i now number (Some p) =
+    cond_both (may_hold p.keeper number) (reopened w i p now number) w (Stays w) (λ _. record { liars = refl; forged = λ h. h }) (λ _. record { liars = refl; forged = λ h. h })
+
+torn_stays : (w : World) (i now number : ℕ) (o : Option Place) (asked : Option ℕ) → Stays w (torn w i now number o asked)
+torn_stays w i now number None asked = record { liars = refl; forged = λ h. h }
+torn_stays w i now number (Some p) None = record { liars = refl; forged = λ h. h }
+torn_stays w i now number (Some p) (Some s) = again_stays w i now number (Some (record { core = p.core; keeper = record p.keeper { asked = Some s } }))
+
+step_stays : (w : World) (s : Step) → Stays w (step w s)
+step_stays w (Act i e fate) = acts_stays w i e fate (place_at i w.places)
+step_stays w (Again i now number) = again_stays w i now number (place_at i w.places)
+step_stays w (Torn i e number) = torn_stays w i (moment_in e) number (place_at i w.places) (asked_at (place_at i w.places) e)
+step_stays w Mark = record { liars = refl; forged = λ h. h }
+
+pub run_stays : (w : World) (ss : List Step) → Stays w (run w ss)
+run_stays w [] = record { liars = refl; forged = λ h. h }
+run_stays w (s ∷ ss) =
+    let first = step_stays w s in
+    let rest = run_stays (step w s) ss in
+    record { liars = rest.liars ∙ first.liars; forged = λ h. first.forged (rest.forged h) }
+
+-- each world of an unforged run is sound
+pub run_sound : (w : World) (ss : List Step) → (run w ss).forged ≡ 0 → IsSound w → IsSound (run w ss)
+run_sound w [] none sound = sound
+run_sound w (s ∷ ss) none sound = run_sound (step w s) ss none (step_sound w s ((run_stays (step w s) ss).forged none) sound)
+
+-- what holds of each place holds of the one of a number
+each_at : (P : Place → Type 0) (i : ℕ) (ps : List Place) (p : Place) → All P ps → place_at i ps ≡ Some p → P p
+each_at P i [] p each h = cc
+each_at P i (x ∷ xs) p each h =
+    cond_both (x.core.node.me == i) (Some x) (place_at i xs) (λ o. o ≡ Some p → P p)
+    (λ _ here. subst P (sym (some_same x p here)) (All-head P x xs each)) (λ _ there. each_at P i xs p (All-tail P x xs each) there) h
+
+start_sound : (limit : ℕ) (liars : List ℕ) (plan : List PlanNode) → AreDeclared plan → IsSound (start limit liars plan)
+start_sound limit liars plan lists = record {
+  kept = record {
+    saved = λ m s n id said _. cc;
+    once = λ m s a b said _. cc;
+    genuine = record {
+      places = λ i p h. each_at (λ x. CoreSays (IsGenuine liars []) x.core) i _ p
+          (All-map (λ x. CoreSays (IsGenuine liars []) x.core) (place_of limit) plan
+          (λ k e _. let d : PlanNode = slice_index_or plan k e in opened_core_says (IsGenuine liars []) d.me d.list (schedule_ring d.me) limit d.moment 0)) h;
+      sent = All-nil (FrameSays (IsGenuine liars []));
+    };
+    backed = All-nil (IsBacked liars []);
+  };
+  well = λ i p h. each_at (λ x. IsWell (seat x.core x.keeper)) i _ p
+      (All-map (λ x. IsWell (seat x.core x.keeper)) (place_of limit) plan
+      (λ k e in_plan. let d : PlanNode = slice_index_or plan k e in opened_well d.me d.list (schedule_ring d.me) limit d.moment 0 (holding 0) (lists k e in_plan).list refl)) h;
+}
+
+-- reports agree, in each unforged run
+pub agreement : (limit : ℕ) (liars : List ℕ) (plan : List PlanNode) (steps : List Step) → AreDeclared plan → (run (start limit liars plan) steps).forged ≡ 0 → Agree liars (run (start limit liars plan) steps).reports
+agreement limit liars plan steps lists none =
+    subst (λ ls. Agree ls (run (start limit liars plan) steps).reports) (run_stays (start limit liars plan) steps).liars
+    (agreement_from_kept (run_sound (start limit liars plan) steps none (start_sound limit liars plan lists)).kept)

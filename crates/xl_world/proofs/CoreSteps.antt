@@ -1,0 +1,214 @@
+-- What each event at a core shows.
+use Rattle.std.proofs.Common.{◌≡◌, ℕ, zero, suc, ◌≤◌, Bool, true, false, cond, List, [], ◌∷◌, ◌++◌, length, take, drop, map, refl, arith, ap, sym, ◌∙◌, Option, Some, None, Result, Ok, Err, subst}
+use Rattle.std.specs.Prelude.{◌==◌, All, IfSome, nat_lt, replicate}
+use Rattle.std.proofs.lemmas.Bool.{cond_both}
+use Rattle.std.proofs.lemmas.List.{take-map}
+use Rattle.std.proofs.lemmas.List.Elements.{All-append, All-cons, All-drop, All-head, All-map, All-nil, All-set, All-tail, All-take, All-weaker}
+use Rattle.xl_lists.specs.Agreement.{Said}
+use Rattle.xl_queues.specs.Broadcasts.{queue_of, pushed_to_all}
+use Rattle.xl_queues.specs.Queues.{Backlog, no_items, with_item}
+use Rattle.xl_wire.specs.declared.validation.Validation.{Validation}
+use Rattle.xl_validations.specs.declared.refusal.ValRefusal.{ValRefusal}
+use Rattle.xl_ledger.specs.declared.header.Header.{Header}
+use Rattle.xl_ledger.specs.declared.refusal.AddRefusal.{AddRefusal}
+use Rattle.xl_ledger.specs.Registries.{add_refusal}
+use Rattle.xl_lists.specs.Lists.{TrustedList, IsValid}
+use Rattle.xl_tags.specs.Rings.{Ring}
+use Rattle.xl_core.specs.declared.event.CoreEvent.{CoreEvent}
+use Rattle.xl_core.specs.declared.event.CoreEvent.TheVariants.{Issue, Frame, Drain, Reports, Stop, Stopped}
+use Rattle.xl_core.specs.declared.hearing.Spoken.{Spoken}
+use Rattle.xl_core.specs.declared.hearing.Speech.{Speech}
+use Rattle.xl_core.specs.declared.hearing.Speech.TheVariants as speech
+use Rattle.xl_core.specs.declared.item.Item.{Item}
+use Rattle.xl_core.specs.declared.item.Item.TheVariants.{Vote}
+use Rattle.xl_core.specs.declared.refusal.Refusal.{Refusal}
+use Rattle.xl_core.specs.declared.refusal.Refusal.TheVariants.{NotAfter}
+use Rattle.xl_core.specs.Answers.{Answer, Done, Gave}
+use Rattle.xl_core.specs.Core.{Core, CoreReply, answering, core_happens, core_asks, stepped, with_queues}
+use Rattle.xl_core.specs.Hearing.{heard}
+use Rattle.xl_core.specs.Items.{frame_of, frames_for, taken_for}
+use Rattle.xl_core.specs.Node as nodes
+use Rattle.xl_core.specs.Node.{Node, Event, Reply, Save, at_moment, second_of, own_validation, issues_unless, refusing, hears, learns, refusal_at, hearing_speech, hearing, happens, items_of, opened}
+use Rattle.xl_core.specs.Node.Save.{Kept as AnsweredOk, Failed as AnsweredFailed}
+use Rattle.xl_core.specs.Queues.{after_taking, at_number, fitting, frames_in, waiting_at, with_items}
+use Rattle.xl_core.specs.Sending.{sealed_bytes, has_spelling}
+use Rattle.xl_world.specs.declared.place.Keeper.{Keeper}
+use Rattle.xl_world.specs.declared.place.Place.{Place as Seat}
+use Rattle.xl_world.specs.declared.place.Fate.{Fate}
+use Rattle.xl_world.specs.declared.sent.Sent.{Sent}
+use Rattle.xl_world.specs.Keeper.{MayHold, answer_of, restored}
+use Rattle.xl_world.specs.World.{FrameSays, RowSays, quiet, said_by, said_in}
+use Rattle.xl_world.specs.Cores.{Place, sent_in, reply_at, keeper_after, core_again, ItemSays, CoreSays}
+use Rattle.xl_world.proofs.Lists.{happens_keeps}
+use Rattle.xl_world.proofs.NodeSteps.{HeardSays, happens_says, happens_steps, opened_says, opened_steps, opened_well, still}
+use Rattle.xl_world.proofs.Settling.{IsWell, IsStep}
+use Rattle.xl_world.proofs.Speaking.{sealed_said}
+use Rattle.xl_world.proofs.CoreSettling.{ReplySays, node_reply, seat}
+
+-- THE NODE OF THE CORE
+
+-- what an event at the node shows is shown at its core
+lifted : (core : Core) (k k' : Keeper) (r : Reply) → IsStep (seat core k) r k' → IsStep (seat core k) (node_reply (stepped core r)) k'
+lifted core k k' r s = record { me = s.me; list = s.list; well = s.well; rises = s.rises; above = s.above; saved = s.saved; quorum = s.quorum }
+
+-- the node is as it was
+beside : (p : Place) (r : CoreReply) → r.core.node ≡ p.core.node → r.issued ≡ None → r.report ≡ None → IsWell (seat p.core p.keeper) → IsStep (seat p.core p.keeper) (node_reply r) p.keeper
+beside p r node issued report well = still (seat p.core p.keeper) (node_reply r) node issued report well
+
+pub core_steps : (p : Place) (e : CoreEvent) (fate : Fate) → IsWell (seat p.core p.keeper) → IsStep (seat p.core p.keeper) (node_reply (reply_at p e fate)) (keeper_after p e fate)
+core_steps p (Issue now seq id full) fate well =
+    lifted p.core p.keeper (keeper_after p (Issue now seq id full) fate) (happens p.core.node (nodes.Issue now seq id full) (answer_of p.keeper fate)) (happens_steps (seat p.core p.keeper) (nodes.Issue now seq id full) fate well)
+core_steps p (Frame now bytes) fate well =
+    lifted p.core p.keeper (keeper_after p (Frame now bytes) fate) (happens p.core.node (nodes.Frame now bytes) (answer_of p.keeper fate)) (happens_steps (seat p.core p.keeper) (nodes.Frame now bytes) fate well)
+core_steps p (Drain member room) fate well = beside p (reply_at p (Drain member room) fate) refl refl refl well
+core_steps p (Reports room) fate well = beside p (reply_at p (Reports room) fate) refl refl refl well
+core_steps p Stop fate well = beside p (reply_at p Stop fate) refl refl refl well
+core_steps p Stopped fate well = beside p (reply_at p Stopped fate) refl refl refl well
+
+-- a core that is opened again with a number that is not below its keeper's
+pub opened_core_steps : (p : Place) (now number : ℕ) (asked : Option ℕ) → IsWell (seat p.core p.keeper) → (i : ℕ) × (i ≤ number) × MayHold p.keeper i →
+    IsStep (seat p.core p.keeper) (node_reply (answering (core_again p now number) Done)) (restored (record p.keeper { asked = asked }) number)
+opened_core_steps p now number asked well low =
+    let s = opened_steps (seat p.core p.keeper) now number well low in
+    record { me = s.me; list = s.list; well = record { members = s.well.members; valid = s.well.valid; in_force = s.well.in_force }; rises = s.rises; above = s.above; saved = s.saved; quorum = s.quorum }
+
+-- WHAT IS SAID
+
+-- what waits after an event at the node is what it issued, and nothing is given
+pub record IsPlain (r : Reply) : Type 0 where
+  pub items : r.items ≡ items_of r.issued
+  pub sent : (from : ℕ) → sent_in from r.answer ≡ []
+
+issues_plain : (n : Node) (off : Option ℕ) (save : Save) (v : Validation) → IsPlain (issues_unless n off save v)
+issues_plain n None AnsweredOk v = record { items = refl; sent = λ _. refl }
+issues_plain n None (AnsweredFailed count) v = record { items = refl; sent = λ _. refl }
+issues_plain n (Some failed) save v = record { items = refl; sent = λ _. refl }
+
+hears_plain : (n : Node) (now from : ℕ) (v : Validation) (o : Option ValRefusal) → IsPlain (hears n now from v o)
+hears_plain n now from v None = record { items = refl; sent = λ _. refl }
+hears_plain n now from v (Some why) = record { items = refl; sent = λ _. refl }
+
+learns_plain : (n : Node) (h : Header) (o : Option AddRefusal) → IsPlain (learns n h o)
+learns_plain n h None = record { items = refl; sent = λ _. refl }
+learns_plain n h (Some why) = record { items = refl; sent = λ _. refl }
+
+speech_plain : (n : Node) (now from : ℕ) (what : Speech) → IsPlain (hearing_speech n now from what)
+speech_plain n now from (speech.Vote v) = hears_plain n now from v (refusal_at n now from v)
+speech_plain n now from (speech.Header h) = learns_plain n h (add_refusal n.ledgers h)
+
+hearing_plain : (n : Node) (now : ℕ) (said : Result Spoken Refusal) → IsPlain (hearing n now said)
+hearing_plain n now (Ok said) = speech_plain n now said.from said.what
+hearing_plain n now (Err why) = record { items = refl; sent = λ _. refl }
+
+pub happens_plain : (n : Node) (e : Event) (save : Save) → IsPlain (happens n e save)
+happens_plain n (nodes.Issue now seq id full) save =
+    let m : Node = at_moment now n in
+    cond_both (nat_lt m.kept seq) (issues_unless m m.off save (own_validation m seq id full)) (refusing m (NotAfter m.kept)) IsPlain
+    (λ _. issues_plain m m.off save (own_validation m seq id full)) (λ _. record { items = refl; sent = λ _. refl })
+happens_plain n (nodes.Frame now bytes) save = hearing_plain (at_moment now n) (second_of (at_moment now n)) (heard n.keys n.list.members bytes)
+
+-- P holds of what waits
+abbrev AllSay : (Said → Type 0) → ℕ → List (Backlog Item) → Type 0
+AllSay P me waiting = All (λ q. All (ItemSays P me) q.items) waiting
+
+queue_says : (P : Said → Type 0) (me : ℕ) (item : Item) (q : Backlog Item) → ItemSays P me item → All (ItemSays P me) q.items → All (ItemSays P me) (with_item 64 q item).items
+queue_says P me item q fair says =
+    let all : All (ItemSays P me) (q.items ++ item ∷ []) = All-append (ItemSays P me) q.items (item ∷ []) says (All-cons (ItemSays P me) item [] fair (All-nil (ItemSays P me))) in
+    cond_both (nat_lt (length q.items) 64) (q.items ++ item ∷ []) (drop 1 (q.items ++ item ∷ [])) (All (ItemSays P me)) (λ _. all) (λ _. All-drop (ItemSays P me) 1 (q.items ++ item ∷ []) all)
+
+issued_says : (P : Said → Type 0) (me : ℕ) (waiting : List (Backlog Item)) (o : Option Validation) → IfSome o (λ v. P (said_by me v)) → AllSay P me waiting → AllSay P me (with_items waiting (items_of o))
+issued_says P me waiting None fair says = says
+issued_says P me waiting (Some v) fair says =
+    All-map (λ q. All (ItemSays P me) q.items) (λ q. with_item 64 q (Vote v)) waiting
+    (All-weaker (λ q. All (ItemSays P me) q.items) (λ q. All (ItemSays P me) (with_item 64 q (Vote v)).items) (λ q. queue_says P me (Vote v) q fair) waiting says)
+
+-- an event at the node
+node_says : (P : Said → Type 0) (core : Core) (e : Event) (save : Save) → CoreSays P core → HeardSays P core.node e → IfSome (happens core.node e save).issued (λ v. P (said_by core.node.me v)) →
+    ReplySays P (stepped core (happens core.node e save))
+node_says P core e save says heard fair =
+    let r : Reply = happens core.node e save in
+    let plain = happens_plain core.node e save in
+    let me = (happens_keeps core.node e save).0 in
+    record {
+      core = record {
+        rows = (happens_says P core.node e save says.rows heard fair).node;
+        items = subst (λ (m : ℕ). AllSay P m (with_items core.waiting r.items)) (sym me)
+            (subst (λ (xs : List Item). AllSay P core.node.me (with_items core.waiting xs)) (sym plain.items) (issued_says P core.node.me core.waiting r.issued fair says.items));
+      };
+      sent = subst (All (FrameSays P)) (sym (plain.sent r.node.me)) (All-nil (FrameSays P));
+    }
+
+-- DRAINING
+
+-- what waits for one number
+waiting_says : (P : Said → Type 0) (me : ℕ) (waiting : List (Backlog Item)) (number : ℕ) → AllSay P me waiting → All (ItemSays P me) (waiting_at waiting number).items
+waiting_says P me waiting zero says = All-nil (ItemSays P me)
+waiting_says P me waiting (suc place) says = at_place waiting place says
+  where
+    at_place : (qs : List (Backlog Item)) (k : ℕ) → AllSay P me qs → All (ItemSays P me) (queue_of qs k).items
+    at_place [] k each = All-nil (ItemSays P me)
+    at_place (q ∷ qs) zero each = All-head (λ x. All (ItemSays P me) x.items) q qs each
+    at_place (q ∷ qs) (suc k) each = at_place qs k (All-tail (λ x. All (ItemSays P me) x.items) q qs each)
+
+taken_says : (P : Said → Type 0) (me : ℕ) (waiting : List (Backlog Item)) (number : ℕ) (taken : List (Option (List ℕ))) → AllSay P me waiting → AllSay P me (at_number waiting number (after_taking taken))
+taken_says P me waiting zero taken says = says
+taken_says P me waiting (suc place) taken says =
+    All-set (λ q. All (ItemSays P me) q.items) waiting place (after_taking taken (queue_of waiting place))
+    (All-drop (ItemSays P me) (length taken) (queue_of waiting place).items (waiting_says P me waiting (suc place) says)) says
+
+-- the frames of items say what they say
+abbrev BytesSay : (Said → Type 0) → List ℕ → Type 0
+BytesSay P bytes = IfSome (said_in bytes) P
+
+frames_say : (P : Said → Type 0) (n : Node) (to : ℕ) (items : List Item) → All (ItemSays P n.me) items → All (BytesSay P) (frames_in (map (frame_of n to) items))
+frames_say P n to [] says = All-nil (BytesSay P)
+frames_say P n to (Vote v ∷ items) says =
+    let rest = frames_say P n to items (All-tail (ItemSays P n.me) (Vote v) items says) in
+    let its = All-head (ItemSays P n.me) (Vote v) items says in
+    cond_both (has_spelling n.me to v) (Some (sealed_bytes n.keys n.me to v)) None (λ o. All (BytesSay P) (frames_in (o ∷ map (frame_of n to) items)))
+    (λ spelled. All-cons (BytesSay P) (sealed_bytes n.keys n.me to v) (frames_in (map (frame_of n to) items)) (subst (λ o. IfSome o P) (sym (sealed_said n.keys n.me to v spelled)) its) rest)
+    (λ _. rest)
+
+sent_says : (P : Said → Type 0) (from to : ℕ) (frames : List (List ℕ)) → All (BytesSay P) frames → All (FrameSays P) (sent_in from (Gave to frames))
+sent_says P from to frames says = All-map (FrameSays P) (λ bytes. let f : Sent = record { from = from; to = to; bytes = bytes } in f) frames says
+
+drain_says : (P : Said → Type 0) (core : Core) (member room : ℕ) (save : Save) → CoreSays P core → ReplySays P (core_happens core (Drain member room) save)
+drain_says P core member room save says =
+    let n : Node = core.node in
+    let items : List Item = (waiting_at core.waiting member).items in
+    let k : ℕ = fitting (frames_for n core.waiting member) room in
+    record {
+      core = record { rows = says.rows; items = taken_says P n.me core.waiting member (taken_for n core.waiting member room) says.items };
+      sent = sent_says P n.me member (frames_in (take k (map (frame_of n member) items)))
+          (subst (λ (fs : List (Option (List ℕ))). All (BytesSay P) (frames_in fs)) (sym (take-map (frame_of n member) k items))
+          (frames_say P n member (take k items) (All-take (ItemSays P n.me) k items (waiting_says P n.me core.waiting member says.items))));
+    }
+
+-- EVERY EVENT
+
+-- P holds of what is heard
+abbrev pub CoreHeard : (Said → Type 0) → Node → CoreEvent → Type 0
+CoreHeard P n (Issue now seq id full) = Unit {0}
+CoreHeard P n (Frame now bytes) = HeardSays P n (nodes.Frame now bytes)
+CoreHeard P n (Drain member room) = Unit {0}
+CoreHeard P n (Reports room) = Unit {0}
+CoreHeard P n Stop = Unit {0}
+CoreHeard P n Stopped = Unit {0}
+
+-- what holds of what stands at the core, of what came and of what is issued holds of what stands there then, and of what is given
+pub core_says : (P : Said → Type 0) (core : Core) (e : CoreEvent) (save : Save) → CoreSays P core → CoreHeard P core.node e → IfSome (core_happens core e save).issued (λ v. P (said_by core.node.me v)) →
+    ReplySays P (core_happens core e save)
+core_says P core (Issue now seq id full) save says heard fair = node_says P core (nodes.Issue now seq id full) save says tt fair
+core_says P core (Frame now bytes) save says heard fair = node_says P core (nodes.Frame now bytes) save says heard fair
+core_says P core (Drain member room) save says heard fair = drain_says P core member room save says
+core_says P core (Reports room) save says heard fair = record { core = record { rows = says.rows; items = says.items }; sent = All-nil (FrameSays P) }
+core_says P core Stop save says heard fair = record { core = record { rows = says.rows; items = says.items }; sent = All-nil (FrameSays P) }
+core_says P core Stopped save says heard fair = record { core = says; sent = All-nil (FrameSays P) }
+
+-- a core that is opened has nothing
+pub opened_core_says : (P : Said → Type 0) (me : ℕ) (list : TrustedList) (keys : Ring) (limit now kept : ℕ) → CoreSays P (with_queues (opened me list keys limit now kept))
+opened_core_says P me list keys limit now kept = record { rows = opened_says P me list keys limit now kept; items = nothing_waits 64 }
+  where
+    nothing_waits : (n : ℕ) → AllSay P me (replicate n no_items)
+    nothing_waits zero = All-nil (λ q. All (ItemSays P me) q.items)
+    nothing_waits (suc n) = All-cons (λ q. All (ItemSays P me) q.items) no_items (replicate n no_items) (All-nil (ItemSays P me)) (nothing_waits n)

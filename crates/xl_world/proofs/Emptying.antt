@@ -1,0 +1,188 @@
+-- What was issued is sent at once, where a core is emptied after each event.
+use Rattle.std.proofs.Common.{◌≡◌, ℕ, zero, suc, ◌+◌, ◌<◌, ◌≤◌, Bool, true, false, cond, List, [], ◌∷◌, ◌++◌, length, get_or, set, take, drop, filter, map, refl, arith, ap, sym, ◌∙◌, Option, Some, None, subst, append_assoc, append-nil}
+use Rattle.std.specs.Prelude.{◌==◌, ◌&&◌, not, nat_le, nat_lt, All, IfSome, option_map, option_to_list}
+use Rattle.std.specs.List.{flat_map}
+use Rattle.std.proofs.lemmas.Bool.{cond_both, cond-true, cond-false, le-leb, eqb-true, eqb-false, eq-eqb, false_from_ne_true}
+use Rattle.std.proofs.lemmas.List.{get_or-map, get_or-set_other, get_or-set_same, length-map, length-set, drop_all}
+use Rattle.std.proofs.lemmas.List.Elements.{All-cons, All-head, All-nil, All-tail}
+use Rattle.xl_lists.specs.Agreement.{Said, Report as Reported}
+use Rattle.xl_queues.specs.Broadcasts.{queue_of, pushed_to_all}
+use Rattle.xl_queues.specs.Queues.{Backlog, no_items, with_item}
+use Rattle.xl_wire.specs.declared.validation.Validation.{Validation}
+use Rattle.xl_core.specs.declared.event.CoreEvent.{CoreEvent}
+use Rattle.xl_core.specs.declared.event.CoreEvent.TheVariants.{Issue, Frame, Drain, Reports, Stop, Stopped}
+use Rattle.xl_core.specs.declared.item.Item.{Item}
+use Rattle.xl_core.specs.declared.item.Item.TheVariants.{Vote}
+use Rattle.xl_core.specs.declared.queued.TheConstants.{LONGEST_FRAME}
+use Rattle.xl_core.specs.Answers.{Gave}
+use Rattle.xl_core.specs.Core.{Core, answering, core_happens}
+use Rattle.xl_core.proofs.Draining.{taking_none}
+use Rattle.xl_core.specs.Items.{frame_of, frames_for, taken_for}
+use Rattle.xl_core.specs.Node.{Node, Save, items_of}
+use Rattle.xl_core.specs.Node.Save.{Kept as AnsweredOk}
+use Rattle.xl_core.specs.Queues.{after_taking, at_number, fitting, frames_in, waiting_at, with_items}
+use Rattle.xl_core.specs.Sending.{sealed_bytes, has_spelling}
+use Rattle.xl_world.specs.declared.sent.Sent.{Sent}
+use Rattle.xl_world.specs.World.{frame_to, frames_for as frames_at_once}
+use Rattle.xl_world.specs.Cores.{sent_in}
+use Rattle.xl_core.proofs.Spelling.{frames_fit}
+
+-- ONE NUMBER'S QUEUE
+
+-- after a change of one number's queue it has changed so, and the others are as they were
+there : (waiting : List (Backlog Item)) (m : ℕ) (f : Backlog Item → Backlog Item) → 1 ≤ m → m ≤ length waiting → waiting_at (at_number waiting m f) m ≡ f (waiting_at waiting m)
+there waiting zero f least most = absurd (omega arith)
+there waiting (suc place) f least most = get_or-set_same waiting place (f (queue_of waiting place)) no_items (omega arith)
+
+elsewhere : (waiting : List (Backlog Item)) (m k : ℕ) (f : Backlog Item → Backlog Item) → (k ≡ m → ⊥) → waiting_at (at_number waiting m f) k ≡ waiting_at waiting k
+elsewhere waiting zero k f other = refl
+elsewhere waiting (suc place) zero f other = refl
+elsewhere waiting (suc place) (suc k) f other = get_or-set_other waiting place k (f (queue_of waiting place)) no_items (λ e. other (ap (λ (n : ℕ). suc n) e))
+
+long_still : (waiting : List (Backlog Item)) (m : ℕ) (f : Backlog Item → Backlog Item) → length (at_number waiting m f) ≡ length waiting
+long_still waiting zero f = refl
+long_still waiting (suc place) f = length-set waiting place (f (queue_of waiting place))
+
+-- all of at most one frame fits
+one_fits : (room : ℕ) (fs : List (Option (List ℕ))) → All (λ o. IfSome o (λ f. (0 < length f) × (length f ≤ room))) fs → length fs ≤ 1 → take (fitting fs room) fs ≡ fs
+one_fits room [] fits few = refl
+one_fits room (None ∷ []) fits few = refl
+one_fits room (Some f ∷ []) fits few =
+    let its = All-head (λ o. IfSome o (λ g. (0 < length g) × (length g ≤ room))) (Some f) [] fits in
+    ap (λ (k : ℕ). take k (Some f ∷ [])) (cond-true (nat_le (length f) room) 1 0 (le-leb (length f) room its.1))
+one_fits room (x ∷ y ∷ fs) fits few = absurd (omega arith)
+
+few_items : (o : Option Validation) → length (items_of o) ≤ 1
+few_items None = omega arith
+few_items (Some v) = omega arith
+
+-- the frames of what was issued, for one number
+abbrev frames_of : Node → Option Validation → ℕ → List (Option (List ℕ))
+frames_of n o m = map (frame_of n m) (items_of o)
+
+-- where that alone waits, a drain takes it
+takes_all : (n : Node) (o : Option Validation) (waiting : List (Backlog Item)) (m : ℕ) → (waiting_at waiting m).items ≡ items_of o → taken_for n waiting m LONGEST_FRAME ≡ frames_of n o m
+takes_all n o waiting m is =
+    ap (λ (xs : List Item). take (fitting (map (frame_of n m) xs) LONGEST_FRAME) (map (frame_of n m) xs)) is
+    ∙ one_fits LONGEST_FRAME (frames_of n o m) (frames_fit n m LONGEST_FRAME (items_of o) (omega arith)) (omega (arith, few_items o, length-map (items_of o) (frame_of n m)))
+
+-- DRAINS, ONE NUMBER AFTER THE OTHER
+
+-- the core after drains for these numbers, and what they gave
+abbrev pub drained_once : Core → ℕ → Core
+drained_once core m = (core_happens core (Drain m LONGEST_FRAME) AnsweredOk).core
+
+abbrev pub drained : Core → List ℕ → Core
+drained core [] = core
+drained core (m ∷ ms) = drained (drained_once core m) ms
+
+abbrev pub given : Core → List ℕ → List Sent
+given core [] = []
+given core (m ∷ ms) = sent_in core.node.me (core_happens core (Drain m LONGEST_FRAME) AnsweredOk).answer ++ given (drained_once core m) ms
+
+-- rising members' numbers above this one
+abbrev pub Between : ℕ → List ℕ → Type 0
+Between low [] = Unit {0}
+Between low (m ∷ ms) = (low < m) × (m ≤ 64) × Between m ms
+
+-- what was issued alone waits for these numbers
+abbrev pub Waits : Option Validation → Core → List ℕ → Type 0
+Waits o core [] = Unit {0}
+Waits o core (m ∷ ms) = ((waiting_at core.waiting m).items ≡ items_of o) × Waits o core ms
+
+-- a drain leaves what waits for greater numbers
+pub waits_still : (o : Option Validation) (core : Core) (m low : ℕ) (ms : List ℕ) → m ≤ low → Between low ms → Waits o core ms → Waits o (drained_once core m) ms
+waits_still o core m low [] le rising waits = tt
+waits_still o core m low (k ∷ ks) le rising waits = (
+  ap (λ (q : Backlog Item). q.items) (elsewhere core.waiting m k (after_taking (taken_for core.node core.waiting m LONGEST_FRAME)) (λ e. omega (arith, e, rising.0, le))) ∙ waits.0,
+  waits_still o core m k ks (omega (arith, rising.0, le)) rising.2 waits.1,
+)
+
+-- what drains give
+pub given_all : (o : Option Validation) (core : Core) (low : ℕ) (ms : List ℕ) → Between low ms → Waits o core ms →
+    given core ms ≡ flat_map (λ m. map (λ bytes. let f : Sent = record { from = core.node.me; to = m; bytes = bytes } in f) (frames_in (frames_of core.node o m))) ms
+given_all o core low [] rising waits = refl
+given_all o core low (m ∷ ms) rising waits =
+    ap (λ (fs : List (Option (List ℕ))). map (λ bytes. let f : Sent = record { from = core.node.me; to = m; bytes = bytes } in f) (frames_in fs) ++ given (drained_once core m) ms) (takes_all core.node o core.waiting m waits.0)
+    ∙ ap (λ (xs : List Sent). map (λ bytes. let f : Sent = record { from = core.node.me; to = m; bytes = bytes } in f) (frames_in (frames_of core.node o m)) ++ xs)
+    (given_all o (drained_once core m) m ms rising.2 (waits_still o core m m ms (omega arith) rising.2 waits.1))
+
+-- which is what is sent at once
+pub sent_at_once : (n : Node) (o : Option Validation) (numbers : List ℕ) →
+    flat_map (λ m. map (λ bytes. let f : Sent = record { from = n.me; to = m; bytes = bytes } in f) (frames_in (frames_of n o m))) (filter (λ m. not (m == n.me)) numbers) ≡ frames_at_once numbers n o
+sent_at_once n None [] = refl
+sent_at_once n None (m ∷ ms) =
+    cond_both (not (m == n.me)) (m ∷ filter (λ k. not (k == n.me)) ms) (filter (λ k. not (k == n.me)) ms)
+    (λ xs. flat_map (λ k. map (λ bytes. let f : Sent = record { from = n.me; to = k; bytes = bytes } in f) (frames_in (frames_of n None k))) xs ≡ [])
+    (λ _. sent_at_once n None ms) (λ _. sent_at_once n None ms)
+sent_at_once n (Some v) [] = refl
+sent_at_once n (Some v) (m ∷ ms) =
+    let send = λ (k : ℕ). map (λ bytes. let f : Sent = record { from = n.me; to = k; bytes = bytes } in f) (frames_in (frames_of n (Some v) k)) in
+    cond_both (not (m == n.me)) (m ∷ filter (λ k. not (k == n.me)) ms) (filter (λ k. not (k == n.me)) ms)
+    (λ xs. flat_map send xs ≡ map (frame_to n v) (cond (not (m == n.me) && has_spelling n.me m v) (m ∷ filter (λ k. not (k == n.me) && has_spelling n.me k v) ms) (filter (λ k. not (k == n.me) && has_spelling n.me k v) ms)))
+    (λ other. cond_both (has_spelling n.me m v) (Some (sealed_bytes n.keys n.me m v)) None
+    (λ o. map (λ bytes. let f : Sent = record { from = n.me; to = m; bytes = bytes } in f) (frames_in (o ∷ [])) ++ flat_map send (filter (λ k. not (k == n.me)) ms)
+    ≡ map (frame_to n v) (cond (not (m == n.me) && has_spelling n.me m v) (m ∷ filter (λ k. not (k == n.me) && has_spelling n.me k v) ms) (filter (λ k. not (k == n.me) && has_spelling n.me k v) ms)))
+    (λ spelled. ap (λ (fs : List Sent). frame_to n v m ∷ fs) (sent_at_once n (Some v) ms)
+    ∙ ap (map (frame_to n v)) (sym (cond-true (not (m == n.me) && has_spelling n.me m v) (m ∷ filter (λ k. not (k == n.me) && has_spelling n.me k v) ms) _ (both _ _ other spelled))))
+    (λ unspelled. sent_at_once n (Some v) ms
+    ∙ ap (map (frame_to n v)) (sym (cond-false (not (m == n.me) && has_spelling n.me m v) (m ∷ filter (λ k. not (k == n.me) && has_spelling n.me k v) ms) _ (one _ _ unspelled)))))
+    (λ mine. sent_at_once n (Some v) ms
+    ∙ ap (map (frame_to n v)) (sym (cond-false (not (m == n.me) && has_spelling n.me m v) (m ∷ filter (λ k. not (k == n.me) && has_spelling n.me k v) ms) _ (first _ _ mine))))
+  where
+    both : (a b : Bool) → a ≡ true → b ≡ true → (a && b) ≡ true
+    both a b p q = grind arith
+
+    one : (a b : Bool) → b ≡ false → (a && b) ≡ false
+    one a b q = grind arith
+
+    first : (a b : Bool) → a ≡ false → (a && b) ≡ false
+    first a b p = grind arith
+
+-- WHAT WAITS THEN
+
+-- a lesser number's queue stays
+drained_below : (core : Core) (k low : ℕ) (ms : List ℕ) → k ≤ low → Between low ms → waiting_at (drained core ms).waiting k ≡ waiting_at core.waiting k
+drained_below core k low [] le rising = refl
+drained_below core k low (m ∷ ms) le rising =
+    drained_below (drained_once core m) k m ms (omega (arith, le, rising.0)) rising.2
+    ∙ elsewhere core.waiting m k (after_taking (taken_for core.node core.waiting m LONGEST_FRAME)) (λ e. omega (arith, e, le, rising.0))
+
+pub drained_long : (core : Core) (ms : List ℕ) → length (drained core ms).waiting ≡ length core.waiting
+drained_long core [] = refl
+drained_long core (m ∷ ms) = drained_long (drained_once core m) ms ∙ long_still core.waiting m (after_taking (taken_for core.node core.waiting m LONGEST_FRAME))
+
+pub drained_node : (core : Core) (ms : List ℕ) → (drained core ms).node ≡ core.node
+drained_node core [] = refl
+drained_node core (m ∷ ms) = drained_node (drained_once core m) ms
+
+-- nothing for these numbers
+pub drained_none : (o : Option Validation) (core : Core) (low : ℕ) (ms : List ℕ) → length core.waiting ≡ 64 → Between low ms → Waits o core ms → All (λ m. (waiting_at (drained core ms).waiting m).items ≡ []) ms
+drained_none o core low [] long rising waits = All-nil (λ m. (waiting_at core.waiting m).items ≡ [])
+drained_none o core low (m ∷ ms) long rising waits =
+    let change = after_taking (taken_for core.node core.waiting m LONGEST_FRAME) in
+    let taken : length (taken_for core.node core.waiting m LONGEST_FRAME) ≡ length (items_of o) = ap length (takes_all core.node o core.waiting m waits.0) ∙ length-map (items_of o) (frame_of core.node m) in
+    let empty : (waiting_at (drained_once core m).waiting m).items ≡ [] =
+    ap (λ (q : Backlog Item). q.items) (there core.waiting m change (omega (arith, rising.0)) (omega (arith, rising.1, long)))
+    ∙ ap (λ (xs : List Item). drop (length (taken_for core.node core.waiting m LONGEST_FRAME)) xs) waits.0 ∙ drop_all (length (taken_for core.node core.waiting m LONGEST_FRAME)) (items_of o) (omega (arith, taken)) in
+    All-cons (λ k. (waiting_at (drained core (m ∷ ms)).waiting k).items ≡ []) m ms
+    (ap (λ (q : Backlog Item). q.items) (drained_below (drained_once core m) m m ms (omega arith) rising.2) ∙ empty)
+    (drained_none o (drained_once core m) m ms (long_still core.waiting m change ∙ long) rising.2 (waits_still o core m m ms (omega arith) rising.2 waits.1))
+
+-- A DRAIN WHERE NOTHING WAITS
+
+pub dry : (core : Core) (m : ℕ) → (waiting_at core.waiting m).items ≡ [] → core_happens core (Drain m LONGEST_FRAME) AnsweredOk ≡ answering core (Gave m [])
+dry core m none =
+    let taken : taken_for core.node core.waiting m LONGEST_FRAME ≡ [] = takes_all core.node None core.waiting m none in
+    ap (λ (fs : List (Option (List ℕ))). answering (record core { waiting = at_number core.waiting m (after_taking fs) }) (Gave m (frames_in fs))) taken
+    ∙ ap (λ (ws : List (Backlog Item)). answering (record core { waiting = ws }) (Gave m [])) (taking_none core.waiting m)
+
+-- once it was drained nothing waits
+pub dry_then : (o : Option Validation) (core : Core) (m : ℕ) → 1 ≤ m → m ≤ length core.waiting → (waiting_at core.waiting m).items ≡ items_of o → (waiting_at (drained_once core m).waiting m).items ≡ []
+dry_then o core m least most is =
+    let taken : length (taken_for core.node core.waiting m LONGEST_FRAME) ≡ length (items_of o) = ap length (takes_all core.node o core.waiting m is) ∙ length-map (items_of o) (frame_of core.node m) in
+    ap (λ (q : Backlog Item). q.items) (there core.waiting m (after_taking (taken_for core.node core.waiting m LONGEST_FRAME)) least most)
+    ∙ ap (λ (xs : List Item). drop (length (taken_for core.node core.waiting m LONGEST_FRAME)) xs) is ∙ drop_all (length (taken_for core.node core.waiting m LONGEST_FRAME)) (items_of o) (omega (arith, taken))
+
+pub once_long : (core : Core) (m : ℕ) → length (drained_once core m).waiting ≡ length core.waiting
+once_long core m = long_still core.waiting m (after_taking (taken_for core.node core.waiting m LONGEST_FRAME))

@@ -1,0 +1,426 @@
+-- A world whose cores are emptied after each event is, seen without its queues, one that sends at once.
+use Rattle.std.proofs.Common.{◌≡◌, ℕ, zero, suc, ◌+◌, ◌<◌, ◌≤◌, Bool, true, false, cond, List, [], ◌∷◌, ◌++◌, length, get_or, filter, map, refl, arith, ap, sym, ◌∙◌, inl, inr, Option, Some, None, subst, append_assoc, append-nil}
+use Rattle.std.specs.Prelude.{◌==◌, not, nat_lt, All, option_map, option_to_list, replicate}
+use Rattle.std.proofs.lemmas.Bool.{cond_both, cond-true, cond-false, eqb-true, eqb-false, eq-eqb}
+use Rattle.std.specs.List.{flat_map}
+use Rattle.std.proofs.lemmas.List.{get_or-map, length-map, map-append}
+use Rattle.std.proofs.lemmas.List.Elements.{All-cons, All-head, All-nil, All-tail}
+use Rattle.xl_lists.specs.Agreement.{Said, Report as Reported, with_said}
+use Rattle.xl_queues.specs.Broadcasts.{queue_of, pushed_to_all}
+use Rattle.xl_queues.specs.Queues.{Backlog, no_items, with_item}
+use Rattle.xl_wire.specs.declared.validation.Validation.{Validation}
+use Rattle.xl_core.specs.declared.event.CoreEvent.{CoreEvent}
+use Rattle.xl_core.specs.declared.event.CoreEvent.TheVariants.{Issue, Frame, Drain, Reports}
+use Rattle.xl_core.specs.declared.item.Item.{Item}
+use Rattle.xl_core.specs.declared.item.Item.TheVariants.{Vote}
+use Rattle.xl_core.specs.declared.queued.TheConstants.{LONGEST_FRAME}
+use Rattle.xl_core.specs.Answers.{Gave, given_in}
+use Rattle.xl_core.specs.Core.{Core, CoreReply, answering, core_asks, core_happens, stepped}
+use Rattle.xl_core.specs.Node as nodes
+use Rattle.xl_core.specs.Node.{Event, Node, Reply, Save, asks, happens, items_of, opened}
+use Rattle.xl_core.specs.Node.Save.{Kept as AnsweredOk}
+use Rattle.xl_core.specs.Queues.{waiting_at, with_items}
+use Rattle.xl_world.specs.declared.sent.Sent.{Sent}
+use Rattle.xl_world.specs.declared.place.Fate.{Fate}
+use Rattle.xl_world.specs.declared.place.Fate.TheVariants.{Kept}
+use Rattle.xl_world.specs.declared.place.Keeper.{Keeper}
+use Rattle.xl_world.specs.declared.place.Place.{Place as Seat}
+use Rattle.xl_world.specs.declared.plan.PlanNode.{PlanNode}
+use Rattle.xl_world.specs.Keeper.{after_save, answer_of, may_hold, one_more}
+use Rattle.xl_world.specs.World as flat
+use Rattle.xl_world.specs.World.{frames_for, is_declared, all_numbers, up_from, reported_by, said_by}
+use Rattle.xl_world.specs.Cores.{Place, World, Step, Act, Again, Torn, Mark, again, acts, asked_at, core_again, is_forged, keeper_after, marked, moment_in, place_at, place_of, put, reopened, reply_at, run, sent_in, settled, start, step, torn}
+use Rattle.xl_world.specs.Emptying.{IsEmptied, RunsAreOfCores, as_cores, at_core, drains, drains_for, emptying, emptying_at, run_as_cores, seat_of, without_queues}
+use Rattle.xl_world.proofs.CoreSettling.{at_its_number, put_cases}
+use Rattle.xl_world.proofs.CoreSteps.{IsPlain, happens_plain}
+use Rattle.xl_world.proofs.Emptying.{Between, Waits, drained, drained_long, drained_node, drained_none, drained_once, dry, dry_then, given, given_all, once_long, sent_at_once, waits_still}
+use Rattle.xl_world.proofs.Lists.{happens_keeps}
+use Rattle.xl_world.proofs.Settling.{some_same}
+
+-- PLACES
+
+cons_same : {X : Type 0} (x y : X) (xs ys : List X) → x ≡ y → xs ≡ ys → x ∷ xs ≡ y ∷ ys
+cons_same x y xs ys p q = cc
+
+-- a place that stands there already
+put_same : (i : ℕ) (ps : List Place) (p : Place) → place_at i ps ≡ Some p → put p ps ≡ ps
+put_same i [] p h = refl
+put_same i (x ∷ xs) p h =
+    cond_both (x.core.node.me == i) (Some x) (place_at i xs) (λ o. o ≡ Some p → put p (x ∷ xs) ≡ x ∷ xs)
+    (λ is here. let same : p ≡ x = some_same x p here in
+    subst (λ (q : Place). put q (x ∷ xs) ≡ x ∷ xs) (sym same) (cond-true (x.core.node.me == x.core.node.me) _ _ (eq-eqb x.core.node.me x.core.node.me refl)))
+    (λ is_not there.
+    cond-false (x.core.node.me == p.core.node.me) _ _ (ap (λ (k : ℕ). x.core.node.me == k) (at_its_number i xs p there) ∙ is_not) ∙ cons_same x x _ _ refl (put_same i xs p there))
+    h
+
+-- a place that is put is found where one of its number was
+put_at : (i : ℕ) (x : Place) (ps : List Place) (p : Place) → x.core.node.me ≡ i → place_at i ps ≡ Some p → place_at i (put x ps) ≡ Some x
+put_at i x [] p its h = cc
+put_at i x (y ∷ ys) p its h =
+    cond_both (y.core.node.me == x.core.node.me) (x ∷ ys) (y ∷ put x ys) (λ ps. place_at i ps ≡ Some x)
+    (λ _. cond-true (x.core.node.me == i) _ _ (eq-eqb x.core.node.me i its))
+    (λ other.
+    let not_i : (y.core.node.me == i) ≡ false = ap (λ (k : ℕ). y.core.node.me == k) (sym its) ∙ other in
+    cond-false (y.core.node.me == i) _ _ not_i ∙ put_at i x ys p its (sym (cond-false (y.core.node.me == i) _ _ not_i) ∙ h))
+
+-- the later of two stands
+put_put : (x y : Place) (ps : List Place) → y.core.node.me ≡ x.core.node.me → put y (put x ps) ≡ put y ps
+put_put x y [] same = refl
+put_put x y (z ∷ zs) same =
+    cond_both (z.core.node.me == x.core.node.me) (x ∷ zs) (z ∷ put x zs) (λ ps. put y ps ≡ put y (z ∷ zs))
+    (λ is. cond-true (x.core.node.me == y.core.node.me) _ _ (eq-eqb x.core.node.me y.core.node.me (sym same))
+    ∙ sym (cond-true (z.core.node.me == y.core.node.me) _ _ (ap (λ (k : ℕ). z.core.node.me == k) same ∙ is)))
+    (λ is_not.
+    let other : (z.core.node.me == y.core.node.me) ≡ false = ap (λ (k : ℕ). z.core.node.me == k) same ∙ is_not in
+    cond-false (z.core.node.me == y.core.node.me) _ _ other ∙ cons_same z z _ _ refl (put_put x y zs same) ∙ sym (cond-false (z.core.node.me == y.core.node.me) _ _ other))
+
+-- places seen without their queues
+seats_at : (i : ℕ) (ps : List Place) → flat.place_at i (map seat_of ps) ≡ option_map seat_of (place_at i ps)
+seats_at i [] = refl
+seats_at i (p ∷ ps) =
+    cond_both (p.core.node.me == i) (Some p) (place_at i ps) (λ o. flat.place_at i (map seat_of (p ∷ ps)) ≡ option_map seat_of o)
+    (λ is. cond-true (p.core.node.me == i) _ _ is) (λ is_not. cond-false (p.core.node.me == i) _ _ is_not ∙ seats_at i ps)
+
+seats_put : (p : Place) (ps : List Place) → map seat_of (put p ps) ≡ flat.put (seat_of p) (map seat_of ps)
+seats_put p [] = refl
+seats_put p (x ∷ xs) =
+    cond_both (x.core.node.me == p.core.node.me) (p ∷ xs) (x ∷ put p xs) (λ ps. map seat_of ps ≡ flat.put (seat_of p) (map seat_of (x ∷ xs)))
+    (λ is. sym (cond-true (x.core.node.me == p.core.node.me) _ _ is))
+    (λ is_not. cons_same (seat_of x) (seat_of x) _ _ refl (seats_put p xs) ∙ sym (cond-false (x.core.node.me == p.core.node.me) _ _ is_not))
+
+-- EMPTYING
+
+-- the world with a place changed, and with these frames sent
+abbrev moved : World → Place → List Sent → World
+moved w q frames = record { liars = w.liars; numbers = w.numbers; places = put q w.places; sent = w.sent ++ frames; mark = w.mark; said = w.said; reports = w.reports; forged = w.forged }
+
+-- what changes of a world
+abbrev with_lists : World → List Place → List Sent → List Reported → World
+with_lists w places sent reports = record { liars = w.liars; numbers = w.numbers; places = places; sent = sent; mark = w.mark; said = w.said; reports = reports; forged = w.forged }
+
+drain_step : (w : World) (i m : ℕ) (p : Place) → place_at i w.places ≡ Some p →
+    step w (Act i (Drain m LONGEST_FRAME) Kept) ≡ moved w (record { core = drained_once p.core m; keeper = p.keeper }) (sent_in p.core.node.me (core_happens p.core (Drain m LONGEST_FRAME) AnsweredOk).answer)
+drain_step w i m p at =
+    let q : Place = record { core = drained_once p.core m; keeper = p.keeper } in
+    ap (λ o. acts w i (Drain m LONGEST_FRAME) Kept o) at
+    ∙ ap (λ (rs : List Reported). with_lists w (put q w.places) (w.sent ++ sent_in p.core.node.me (core_happens p.core (Drain m LONGEST_FRAME) AnsweredOk).answer) rs) (append-nil w.reports)
+
+run-append : (w : World) (ss ts : List Step) → run w (ss ++ ts) ≡ run (run w ss) ts
+run-append w [] ts = refl
+run-append w (s ∷ ss) ts = run-append (step w s) ss ts
+
+abbrev once : Place → ℕ → Place
+once p m = record { core = drained_once p.core m; keeper = p.keeper }
+
+abbrev frames_once : Place → ℕ → List Sent
+frames_once p m = sent_in p.core.node.me (core_happens p.core (Drain m LONGEST_FRAME) AnsweredOk).answer
+
+-- one more drain gives nothing
+again_dry : (o : Option Validation) (w : World) (i m : ℕ) (p : Place) → place_at i w.places ≡ Some p → 1 ≤ m → m ≤ length p.core.waiting → (waiting_at p.core.waiting m).items ≡ items_of o →
+    step (moved w (once p m) (frames_once p m)) (Act i (Drain m LONGEST_FRAME) Kept) ≡ moved w (once p m) (frames_once p m)
+again_dry o w i m p at least most its =
+    let q : Place = once p m in
+    let frames : List Sent = frames_once p m in
+    let same : core_happens q.core (Drain m LONGEST_FRAME) AnsweredOk ≡ answering q.core (Gave m []) = dry q.core m (dry_then o p.core m least most its) in
+    drain_step (moved w q frames) i m q (put_at i q w.places p (at_its_number i w.places p at) at)
+    ∙ ap (λ (r : CoreReply). moved (moved w q frames) (record { core = r.core; keeper = p.keeper }) (sent_in p.core.node.me r.answer)) same
+    ∙ ap (λ (ps : List Place). with_lists w ps ((w.sent ++ frames) ++ []) w.reports) (put_put q q w.places refl)
+    ∙ ap (λ (fs : List Sent). with_lists w (put q w.places) fs w.reports) (append-nil (w.sent ++ frames))
+
+-- the drains for one number are as one, where at most what was issued waits
+issued_run : (o : Option Validation) (w : World) (i m : ℕ) (p : Place) (core : Core) → place_at i w.places ≡ Some p → 1 ≤ m → m ≤ length p.core.waiting → (waiting_at p.core.waiting m).items ≡ items_of o →
+    run w (map (λ e. Act i e Kept) (drains core m (length (items_of o)))) ≡ moved w (once p m) (frames_once p m)
+issued_run None w i m p core at least most its = drain_step w i m p at
+issued_run (Some v) w i m p core at least most its =
+    cond_both (length (given_in (core_happens core (Drain m LONGEST_FRAME) AnsweredOk).answer) == 0) [] (Drain m LONGEST_FRAME ∷ [])
+    (λ rest. run (step w (Act i (Drain m LONGEST_FRAME) Kept)) (map (λ e. Act i e Kept) rest) ≡ moved w (once p m) (frames_once p m))
+    (λ _. drain_step w i m p at)
+    (λ _. ap (λ (u : World). step u (Act i (Drain m LONGEST_FRAME) Kept)) (drain_step w i m p at) ∙ again_dry (Some v) w i m p at least most its)
+
+number_run : (o : Option Validation) (w : World) (i m : ℕ) (p : Place) (core : Core) → place_at i w.places ≡ Some p → 1 ≤ m → m ≤ length p.core.waiting →
+    (waiting_at core.waiting m).items ≡ items_of o → (waiting_at p.core.waiting m).items ≡ items_of o →
+    run w (map (λ e. Act i e Kept) (drains_for core m)) ≡ moved w (once p m) (frames_once p m)
+number_run o w i m p core at least most is its_is =
+    ap (λ (xs : List Item). run w (map (λ e. Act i e Kept) (drains core m (length xs)))) is ∙ issued_run o w i m p core at least most its_is
+
+drains_run : (o : Option Validation) (core : Core) (low : ℕ) (ms : List ℕ) (w : World) (i : ℕ) (p : Place) → place_at i w.places ≡ Some p → length p.core.waiting ≡ 64 → Between low ms → Waits o core ms → Waits o p.core ms →
+    run w (map (λ e. Act i e Kept) (flat_map (drains_for core) ms)) ≡ moved w (record { core = drained p.core ms; keeper = p.keeper }) (given p.core ms)
+drains_run o core low [] w i p at long rising waits its =
+    ap (λ (ps : List Place). with_lists w ps w.sent w.reports) (sym (put_same i w.places p at)) ∙ ap (λ (fs : List Sent). with_lists w (put p w.places) fs w.reports) (sym (append-nil w.sent))
+drains_run o core low (m ∷ ms) w i p at long rising waits its =
+    let q : Place = record { core = drained_once p.core m; keeper = p.keeper } in
+    let last : Place = record { core = drained q.core ms; keeper = p.keeper } in
+    let frames : List Sent = sent_in p.core.node.me (core_happens p.core (Drain m LONGEST_FRAME) AnsweredOk).answer in
+    let number : p.core.node.me ≡ i = at_its_number i w.places p at in
+    let act = λ (e : CoreEvent). Act i e Kept in
+    ap (run w) (map-append act (drains_for core m) (flat_map (drains_for core) ms))
+    ∙ run-append w (map act (drains_for core m)) (map act (flat_map (drains_for core) ms))
+    ∙ ap (λ (v : World). run v (map act (flat_map (drains_for core) ms))) (number_run o w i m p core at (omega (arith, rising.0)) (omega (arith, rising.1, long)) waits.0 its.0)
+    ∙ drains_run o core m ms (moved w q frames) i q (put_at i q w.places p number at) (once_long p.core m ∙ long) rising.2 waits.1 (waits_still o p.core m m ms (omega arith) rising.2 its.1)
+    ∙ ap (λ (ps : List Place). with_lists w ps ((w.sent ++ frames) ++ given q.core ms) w.reports) (put_put q last w.places (ap (λ (n : Node). n.me) (drained_node q.core ms)))
+    ∙ ap (λ (fs : List Sent). with_lists w (put last w.places) fs w.reports) (append_assoc w.sent frames (given q.core ms))
+
+-- after its reports are handed out
+abbrev handed_out : Core → Core
+handed_out core = (core_happens core (Reports (length core.untaken.items)) AnsweredOk).core
+
+reports_step : (w : World) (i : ℕ) (p : Place) → place_at i w.places ≡ Some p →
+    step w (Act i (Reports (length p.core.untaken.items)) Kept) ≡ moved w (record { core = handed_out p.core; keeper = p.keeper }) []
+reports_step w i p at =
+    let q : Place = record { core = handed_out p.core; keeper = p.keeper } in
+    ap (λ o. acts w i (Reports (length p.core.untaken.items)) Kept o) at
+    ∙ ap (λ (rs : List Reported). with_lists w (put q w.places) (w.sent ++ []) rs) (append-nil w.reports)
+
+abbrev others : List ℕ → Core → List ℕ
+others numbers core = filter (λ m. not (m == core.node.me)) numbers
+
+emptying_run : (o : Option Validation) (numbers : List ℕ) (w : World) (i : ℕ) (p : Place) → place_at i w.places ≡ Some p → length p.core.waiting ≡ 64 → Between 0 (others numbers p.core) → Waits o p.core (others numbers p.core) →
+    run w (map (λ e. Act i e Kept) (emptying numbers p.core)) ≡ moved w (record { core = drained (handed_out p.core) (others numbers p.core); keeper = p.keeper }) (given (handed_out p.core) (others numbers p.core))
+emptying_run o numbers w i p at long rising waits =
+    let q : Place = record { core = handed_out p.core; keeper = p.keeper } in
+    let ms : List ℕ = others numbers p.core in
+    let last : Place = record { core = drained q.core ms; keeper = p.keeper } in
+    ap (λ (v : World). run v (map (λ e. Act i e Kept) (flat_map (drains_for p.core) ms))) (reports_step w i p at)
+    ∙ drains_run o p.core 0 ms (moved w q []) i q (put_at i q w.places p (at_its_number i w.places p at) at) long rising waits (waits_alike o p.core q.core ms refl waits)
+    ∙ ap (λ (ps : List Place). with_lists w ps ((w.sent ++ []) ++ given q.core ms) w.reports) (put_put q last w.places (ap (λ (n : Node). n.me) (drained_node q.core ms)))
+    ∙ ap (λ (fs : List Sent). with_lists w (put last w.places) (fs ++ given q.core ms) w.reports) (append-nil w.sent)
+  where
+    waits_alike : (o : Option Validation) (a b : Core) (ms : List ℕ) → b.waiting ≡ a.waiting → Waits o a ms → Waits o b ms
+    waits_alike o a b [] same waits = tt
+    waits_alike o a b (m ∷ ms) same waits = (ap (λ (ws : List (Backlog Item)). (waiting_at ws m).items) same ∙ waits.0, waits_alike o a b ms same waits.1)
+
+-- WHAT WAITS AFTER AN EVENT
+
+issued_waits : (o : Option Validation) (waiting : List (Backlog Item)) (m : ℕ) → 1 ≤ m → m ≤ length waiting → (waiting_at waiting m).items ≡ [] → (waiting_at (with_items waiting (items_of o)) m).items ≡ items_of o
+issued_waits None waiting m least most none = none
+issued_waits (Some v) waiting zero least most none = absurd (omega arith)
+issued_waits (Some v) waiting (suc place) least most none =
+    ap (λ (q : Backlog Item). q.items) (get_or-map (λ q. with_item 64 q (Vote v)) waiting place no_items no_items (omega arith))
+    ∙ ap (λ (xs : List Item). (let q : Backlog Item = with_item 64 (record { items = xs; lost = 0 }) (Vote v) in q.items)) none
+
+-- a number that is another's
+is_other : (m me : ℕ) → not (m == me) ≡ true → (m == me) ≡ false
+is_other m me h = grind arith
+
+between_from : (low low' : ℕ) (ms : List ℕ) → low' ≤ low → Between low ms → Between low' ms
+between_from low low' [] le rising = tt
+between_from low low' (m ∷ ms) le rising = (omega (arith, le, rising.0), rising.1, rising.2)
+
+between_filter : (p : ℕ → Bool) (low : ℕ) (ms : List ℕ) → Between low ms → Between low (filter p ms)
+between_filter p low [] rising = tt
+between_filter p low (m ∷ ms) rising =
+    cond_both (p m) (m ∷ filter p ms) (filter p ms) (Between low) (λ _. (rising.0, rising.1, between_filter p m ms rising.2))
+    (λ _. between_from m low (filter p ms) (omega (arith, rising.0)) (between_filter p m ms rising.2))
+
+waits_from : (o : Option Validation) (core : Core) (waiting : List (Backlog Item)) (low : ℕ) (numbers : List ℕ) → core.waiting ≡ with_items waiting (items_of o) → length waiting ≡ 64 → Between low numbers →
+    All (λ m. (m == core.node.me) ≡ false → (waiting_at waiting m).items ≡ []) numbers → Waits o core (others numbers core)
+waits_from o core waiting low [] is long rising none = tt
+waits_from o core waiting low (m ∷ ms) is long rising none =
+    let rest = waits_from o core waiting m ms is long rising.2 (All-tail (λ k. (k == core.node.me) ≡ false → (waiting_at waiting k).items ≡ []) m ms none) in
+    cond_both (not (m == core.node.me)) (m ∷ others ms core) (others ms core) (Waits o core)
+    (λ other. (ap (λ (ws : List (Backlog Item)). (waiting_at ws m).items) is
+    ∙ issued_waits o waiting m (omega (arith, rising.0)) (omega (arith, rising.1, long)) (All-head (λ k. (k == core.node.me) ≡ false → (waiting_at waiting k).items ≡ []) m ms none (is_other m core.node.me other)), rest))
+    (λ _. rest)
+
+none_from : (P : ℕ → Type 0) (me : ℕ) (numbers : List ℕ) → All P (filter (λ m. not (m == me)) numbers) → All (λ m. (m == me) ≡ false → P m) numbers
+none_from P me [] each = All-nil (λ m. (m == me) ≡ false → P m)
+none_from P me (m ∷ ms) each =
+    cond_both (not (m == me)) (m ∷ filter (λ k. not (k == me)) ms) (filter (λ k. not (k == me)) ms) (λ xs. All P xs → All (λ k. (k == me) ≡ false → P k) (m ∷ ms))
+    (λ _ h. All-cons (λ k. (k == me) ≡ false → P k) m ms (λ _. All-head P m (filter (λ k. not (k == me)) ms) h) (none_from P me ms (All-tail P m (filter (λ k. not (k == me)) ms) h)))
+    (λ mine h. All-cons (λ k. (k == me) ≡ false → P k) m ms (λ other. absurd (both (m == me) mine other)) (none_from P me ms h))
+    each
+  where
+    both : (b : Bool) → not b ≡ false → b ≡ false → ⊥
+    both true p q = cc
+    both false p q = cc
+
+-- AN EVENT
+
+-- nothing waits in a world for a declared number, and its numbers are members'
+pub record IsIdle (w : World) : Type 0 where
+  pub numbers : Between 0 w.numbers
+  pub emptied : (i : ℕ) (p : Place) → place_at i w.places ≡ Some p → IsEmptied w.numbers p.core
+
+-- an idle world with a place changed
+idle_then : (w : World) (q : Place) (places : List Place) (sent : List Sent) (said : List Said) (reports : List Reported) (mark forged : ℕ) → places ≡ put q w.places → IsEmptied w.numbers q.core → IsIdle w →
+    IsIdle (record { liars = w.liars; numbers = w.numbers; places = places; sent = sent; mark = mark; said = said; reports = reports; forged = forged })
+idle_then w q places sent said reports mark forged is emptied idle = record {
+  numbers = idle.numbers;
+  emptied = λ j x h. elim (put_cases j q w.places x (ap (place_at j) (sym is) ∙ h)) [
+    | inl (_, same) ↦ subst (λ (y : Place). IsEmptied w.numbers y.core) (sym same) emptied
+    | inr (_, there) ↦ idle.emptied j x there
+  ];
+}
+
+-- what an event at the node leaves, once its core is emptied
+record IsSentAtOnce (w : World) (i : ℕ) (forged : Bool) (r : Reply) (k : Keeper) (v : World) : Type 0 where
+  pub seen : without_queues v ≡ flat.settled (without_queues w) i forged r k
+  pub idle : IsIdle v
+
+settled_flat : (w : World) (i : ℕ) (p : Place) (forged : Bool) (r : Reply) (k : Keeper) → place_at i w.places ≡ Some p → IsPlain r → r.node.me ≡ p.core.node.me → IsIdle w →
+    IsSentAtOnce w i forged r k (run (settled w i forged (stepped p.core r) k) (map (λ e. Act i e Kept) (emptying w.numbers (stepped p.core r).core)))
+settled_flat w i p forged r k at plain same_me idle =
+    let core : Core = (stepped p.core r).core in
+    let q : Place = record { core = core; keeper = k } in
+    let v : World = settled w i forged (stepped p.core r) k in
+    let ms : List ℕ = others w.numbers core in
+    let last : Place = record { core = drained (handed_out core) ms; keeper = k } in
+    let frames : List Sent = given (handed_out core) ms in
+    let its : r.node.me ≡ i = same_me ∙ at_its_number i w.places p at in
+    let was = idle.emptied i p at in
+    let node_is : (drained (handed_out core) ms).node ≡ r.node = drained_node (handed_out core) ms in
+    let places : put last (put q w.places) ≡ put last w.places = put_put q last w.places (ap (λ (n : Node). n.me) node_is) in
+    let waiting : core.waiting ≡ with_items p.core.waiting (items_of r.issued) = ap (with_items p.core.waiting) plain.items in
+    let rising : Between 0 ms = between_filter (λ m. not (m == core.node.me)) 0 w.numbers idle.numbers in
+    let none = subst (λ (me : ℕ). All (λ m. (m == me) ≡ false → (waiting_at p.core.waiting m).items ≡ []) w.numbers) (sym same_me) was.none in
+    let waits : Waits r.issued (handed_out core) ms = waits_from r.issued (handed_out core) p.core.waiting 0 w.numbers waiting was.readers idle.numbers none in
+    let sends : frames ≡ frames_for w.numbers r.node r.issued = given_all r.issued (handed_out core) 0 ms rising waits ∙ sent_at_once r.node r.issued w.numbers in
+    let long : length core.waiting ≡ 64 = long_then r.issued waiting was.readers in
+    let ran : run v (map (λ e. Act i e Kept) (emptying w.numbers core)) ≡ moved v last frames =
+    emptying_run r.issued w.numbers v i q (put_at i q w.places p its at) long rising (waits_from r.issued core p.core.waiting 0 w.numbers waiting was.readers idle.numbers none) in
+    let emptied : IsEmptied w.numbers last.core =
+    record {
+      readers = drained_long (handed_out core) ms ∙ long;
+      none = subst (λ (me : ℕ). All (λ m. (m == me) ≡ false → (waiting_at last.core.waiting m).items ≡ []) w.numbers) (sym (ap (λ (n : Node). n.me) node_is))
+          (none_from (λ m. (waiting_at last.core.waiting m).items ≡ []) r.node.me w.numbers (drained_none r.issued (handed_out core) 0 ms long rising waits));
+    } in
+    record {
+      seen = ap without_queues ran
+          ∙ ap (λ (ps : List Seat). with_flat (without_queues v) ps ((w.sent ++ sent_in r.node.me r.answer) ++ frames))
+          (ap (map seat_of) places ∙ seats_put last w.places ∙ ap (λ (n : Node). flat.put (let x : Seat = record { node = n; keeper = k } in x) (map seat_of w.places)) node_is)
+          ∙ ap (λ (fs : List Sent). with_flat (without_queues v) (flat.put (let x : Seat = record { node = r.node; keeper = k } in x) (map seat_of w.places)) fs)
+          (ap (λ (fs : List Sent). (w.sent ++ fs) ++ frames) (plain.sent r.node.me) ∙ ap (λ (fs : List Sent). fs ++ frames) (append-nil w.sent) ∙ ap (λ (fs : List Sent). w.sent ++ fs) sends);
+      idle = subst IsIdle (sym ran) (idle_then w last (put last (put q w.places)) _ _ _ _ _ places emptied idle);
+    }
+  where
+    with_flat : flat.World → List Seat → List Sent → flat.World
+    with_flat u ps fs = record { liars = u.liars; numbers = u.numbers; places = ps; sent = fs; mark = u.mark; said = u.said; reports = u.reports; forged = u.forged }
+
+    long_then : (o : Option Validation) {ws : List (Backlog Item)} → ws ≡ with_items p.core.waiting (items_of o) → length p.core.waiting ≡ 64 → length ws ≡ 64
+    long_then None is long = ap length is ∙ long
+    long_then (Some u) is long = ap length is ∙ length-map p.core.waiting (λ q. with_item 64 q (Vote u)) ∙ long
+
+-- seen so, the worlds go on as one
+record GoesOn (w v : World) (u : flat.World) : Type 0 where
+  pub seen : without_queues v ≡ u
+  pub idle : IsIdle v
+
+-- an event, by its kind
+act_at : (w : World) (i : ℕ) (e : Event) (fate : Fate) → IsIdle w → (o : Option Place) → place_at i w.places ≡ o →
+    GoesOn w (run (acts w i (at_core e) fate o) (emptying_at w.numbers i (at_core e) fate o)) (flat.acts (without_queues w) i e fate (option_map seat_of o))
+act_at w i e fate idle None at = record { seen = refl; idle = idle }
+act_at w i (nodes.Issue now seq id full) fate idle (Some p) at =
+    let r : Reply = happens p.core.node (nodes.Issue now seq id full) (answer_of p.keeper fate) in
+    let s = settled_flat w i p false r (after_save p.keeper (asks p.core.node (nodes.Issue now seq id full)) fate) at (happens_plain p.core.node (nodes.Issue now seq id full) (answer_of p.keeper fate))
+    (happens_keeps p.core.node (nodes.Issue now seq id full) (answer_of p.keeper fate)).0 idle in
+    record { seen = s.seen; idle = s.idle }
+act_at w i (nodes.Frame now bytes) fate idle (Some p) at =
+    let r : Reply = happens p.core.node (nodes.Frame now bytes) (answer_of p.keeper fate) in
+    let s = settled_flat w i p (is_forged w p.core.node (Frame now bytes)) r p.keeper at (happens_plain p.core.node (nodes.Frame now bytes) (answer_of p.keeper fate))
+    (happens_keeps p.core.node (nodes.Frame now bytes) (answer_of p.keeper fate)).0 idle in
+    record { seen = s.seen; idle = s.idle }
+
+-- A NODE THAT IS OPENED AGAIN
+
+nothing_waits : (n k : ℕ) → get_or (replicate n (no_items {T = Item})) k no_items ≡ no_items
+nothing_waits zero k = refl
+nothing_waits (suc n) zero = refl
+nothing_waits (suc n) (suc k) = nothing_waits n k
+
+none_waits : (m : ℕ) → (waiting_at (replicate 64 no_items) m).items ≡ []
+none_waits zero = refl
+none_waits (suc place) = ap (λ (q : Backlog Item). q.items) (nothing_waits 64 place)
+
+none_at_all : (me : ℕ) (numbers : List ℕ) → All (λ m. (m == me) ≡ false → (waiting_at (replicate 64 no_items) m).items ≡ []) numbers
+none_at_all me [] = All-nil (λ m. (m == me) ≡ false → (waiting_at (replicate 64 no_items) m).items ≡ [])
+none_at_all me (m ∷ ms) = All-cons (λ k. (k == me) ≡ false → (waiting_at (replicate 64 no_items) k).items ≡ []) m ms (λ _. none_waits m) (none_at_all me ms)
+
+opened_empty : (numbers : List ℕ) (core : Core) → core.waiting ≡ replicate 64 no_items → IsEmptied numbers core
+opened_empty numbers core is =
+    subst (λ (ws : List (Backlog Item)). IsEmptied numbers (record core { waiting = ws })) (sym is) (record { readers = refl; none = none_at_all core.node.me numbers })
+
+again_at : (w : World) (i now number : ℕ) → IsIdle w → (p : Place) → GoesOn w (again w i now number (Some p)) (flat.again (without_queues w) i now number (Some (seat_of p)))
+again_at w i now number idle p =
+    let q : Place = record { core = core_again p now number; keeper = record p.keeper { in_force = number; asked = None; written = false } } in
+    by (may_hold p.keeper number) q (seats_put q w.places) (opened_empty w.numbers (core_again p now number) refl)
+  where
+    by : (b : Bool) (q : Place) → map seat_of (put q w.places) ≡ flat.put (seat_of q) (map seat_of w.places) → IsEmptied w.numbers q.core →
+        GoesOn w (cond b (let v : World = record { liars = w.liars; numbers = w.numbers; places = put q w.places; sent = w.sent ++ []; mark = w.mark; said = w.said; reports = w.reports ++ []; forged = w.forged } in v) w)
+        (cond b (let u : flat.World = record { liars = w.liars; numbers = w.numbers; places = flat.put (seat_of q) (map seat_of w.places); sent = w.sent ++ []; mark = w.mark; said = w.said; reports = w.reports ++ []; forged = w.forged } in u) (without_queues w))
+    by true q same emptied = record {
+      seen = ap (λ (ps : List Seat). let u : flat.World = record { liars = w.liars; numbers = w.numbers; places = ps; sent = w.sent ++ []; mark = w.mark; said = w.said; reports = w.reports ++ []; forged = w.forged } in u) same;
+      idle = idle_then w q (put q w.places) _ _ _ _ _ refl emptied idle;
+    }
+    by false q same emptied = record { seen = refl; idle = idle }
+
+again_any : (w : World) (i now number : ℕ) → IsIdle w → (o : Option Place) → GoesOn w (again w i now number o) (flat.again (without_queues w) i now number (option_map seat_of o))
+again_any w i now number idle None = record { seen = refl; idle = idle }
+again_any w i now number idle (Some p) = again_at w i now number idle p
+
+torn_any : (w : World) (i now number : ℕ) → IsIdle w → (o : Option Place) (asked : Option ℕ) → GoesOn w (torn w i now number o asked) (flat.torn (without_queues w) i now number (option_map seat_of o) asked)
+torn_any w i now number idle None asked = record { seen = refl; idle = idle }
+torn_any w i now number idle (Some p) None = record { seen = refl; idle = idle }
+torn_any w i now number idle (Some p) (Some s) = again_at w i now number idle (record { core = p.core; keeper = record p.keeper { asked = Some s } })
+
+same_asked : (o : Option Place) (e : Event) → asked_at o (at_core e) ≡ flat.asked_at (option_map seat_of o) e
+same_asked None e = refl
+same_asked (Some p) (nodes.Issue now seq id full) = refl
+same_asked (Some p) (nodes.Frame now bytes) = refl
+
+same_moment : (e : Event) → moment_in (at_core e) ≡ flat.moment_in e
+same_moment (nodes.Issue now seq id full) = refl
+same_moment (nodes.Frame now bytes) = refl
+
+-- RUNS
+
+-- each step of nodes is seen of the steps of its cores
+step_goes_on : (w : World) (s : flat.Step) → IsIdle w → GoesOn w (run w (as_cores w s)) (flat.step (without_queues w) s)
+step_goes_on w (flat.Act i e fate) idle =
+    let one = act_at w i e fate idle (place_at i w.places) refl in
+    record { seen = one.seen ∙ ap (λ o. flat.acts (without_queues w) i e fate o) (sym (seats_at i w.places)); idle = one.idle }
+step_goes_on w (flat.Again i now number) idle =
+    let one = again_any w i now number idle (place_at i w.places) in
+    record { seen = one.seen ∙ ap (λ o. flat.again (without_queues w) i now number o) (sym (seats_at i w.places)); idle = one.idle }
+step_goes_on w (flat.Torn i e number) idle =
+    let o : Option Place = place_at i w.places in
+    let one = torn_any w i (moment_in (at_core e)) number idle o (asked_at o (at_core e)) in
+    record {
+      seen = one.seen ∙ ap (λ (now : ℕ). flat.torn (without_queues w) i now number (option_map seat_of o) (asked_at o (at_core e))) (same_moment e)
+          ∙ ap (λ (asked : Option ℕ). flat.torn (without_queues w) i (flat.moment_in e) number (option_map seat_of o) asked) (same_asked o e)
+          ∙ ap (λ x. flat.torn (without_queues w) i (flat.moment_in e) number x (flat.asked_at x e)) (sym (seats_at i w.places));
+      idle = one.idle;
+    }
+step_goes_on w flat.Mark idle = record { seen = refl; idle = record { numbers = idle.numbers; emptied = idle.emptied } }
+
+runs_go_on : (w : World) (ss : List flat.Step) → IsIdle w → without_queues (run_as_cores w ss) ≡ flat.run (without_queues w) ss
+runs_go_on w [] idle = refl
+runs_go_on w (s ∷ ss) idle =
+    let one = step_goes_on w s idle in runs_go_on (run w (as_cores w s)) ss one.idle ∙ ap (λ (u : flat.World). flat.run u ss) one.seen
+
+-- at the start nothing waits
+up_between : (n k : ℕ) → n + k ≤ 65 → (low : ℕ) → low < n → Between low (up_from n k)
+unfolding up_from
+up_between n zero le low less = tt
+up_between n (suc k) le low less = (less, omega (arith, le), up_between (n + 1) k (omega (arith, le)) n (omega arith))
+
+seats_opened : (limit : ℕ) (plan : List PlanNode) → map seat_of (map (place_of limit) plan) ≡ map (flat.place_of limit) plan
+seats_opened limit [] = refl
+seats_opened limit (d ∷ ds) = cons_same _ _ _ _ refl (seats_opened limit ds)
+
+all_opened : (limit : ℕ) (numbers : List ℕ) (plan : List PlanNode) (i : ℕ) (p : Place) → place_at i (map (place_of limit) plan) ≡ Some p → IsEmptied numbers p.core
+all_opened limit numbers [] i p h = cc
+all_opened limit numbers (d ∷ ds) i p h =
+    cond_both (d.me == i) (Some (place_of limit d)) (place_at i (map (place_of limit) ds)) (λ o. o ≡ Some p → IsEmptied numbers p.core)
+    (λ _ here. subst (λ (x : Place). IsEmptied numbers x.core) (sym (some_same (place_of limit d) p here)) (opened_empty numbers (place_of limit d).core refl))
+    (λ _ there. all_opened limit numbers ds i p there) h
+
+start_idle : (limit : ℕ) (liars : List ℕ) (plan : List PlanNode) → IsIdle (start limit liars plan)
+start_idle limit liars plan = record {
+  numbers = between_filter (is_declared liars plan) 0 all_numbers (up_between 1 64 (omega arith) 0 (omega arith));
+  emptied = all_opened limit (filter (is_declared liars plan) all_numbers) plan;
+}
+
+pub runs_are_of_cores : RunsAreOfCores
+runs_are_of_cores limit liars plan steps =
+    runs_go_on (start limit liars plan) steps (start_idle limit liars plan)
+    ∙ ap (λ (ps : List Seat). let u : flat.World = record { liars = liars; numbers = filter (is_declared liars plan) all_numbers; places = ps; sent = []; mark = 0; said = []; reports = []; forged = 0 } in flat.run u steps) (seats_opened limit plan)

@@ -1,0 +1,206 @@
+-- A network of honest nodes and liars whose nodes are cores, and its runs: a drain and the handing out of reports are steps like any
+-- other, and what a drain gives is what was sent. Whatever was ever sent may come never, once or often, at any later place.
+-- Source: Chase and MacBrough, "Analysis of the XRP Ledger Consensus Protocol" (2018); restarts, keepers and queues by this profile.
+use Rattle.std.specs.Prelude.{◌≡◌, ℕ, ◌==◌, Bool, false, List, [], ◌∷◌, ◌++◌, length, map, filter, All, option_map, option_to_list, find, if◌then◌else◌}
+use Rattle.std.specs.Prelude.{Some, None}
+use Rattle.std.specs.declared.option.Option.{Option}
+use Rattle.xl_lists.specs.Lists.{TrustedList}
+use Rattle.xl_lists.specs.Quorums.{Enough}
+use Rattle.xl_lists.specs.Agreement.{Said, Report as Reported, with_said, Kept}
+use Rattle.xl_wire.specs.Heads.{split_of}
+use Rattle.xl_tags.specs.Rings.{schedule_ring}
+use Rattle.xl_core.specs.declared.event.CoreEvent.{CoreEvent}
+use Rattle.xl_core.specs.declared.event.CoreEvent.TheVariants.{Issue, Frame, Drain, Reports, Stop, Stopped}
+use Rattle.xl_core.specs.declared.item.Item.{Item}
+use Rattle.xl_core.specs.declared.item.Item.TheVariants.{Vote}
+use Rattle.xl_core.specs.Answers.{Answer, Refused, Took, Done, Gave, Handed, Told}
+use Rattle.xl_core.specs.Core.{Core, CoreReply, answering, core_happens, core_asks, with_queues}
+use Rattle.xl_core.specs.Node.{Node, opened}
+use Rattle.xl_world.specs.declared.sent.Sent.{Sent}
+use Rattle.xl_world.specs.declared.place.Keeper.{Keeper}
+use Rattle.xl_world.specs.declared.plan.PlanNode.{PlanNode}
+use Rattle.xl_world.specs.declared.place.Fate.{Fate}
+use Rattle.xl_world.specs.Keeper.{MayHold, one_more, holding, restored, answer_of, after_save, may_hold}
+use Rattle.xl_world.specs.World.{AgreeAt, AreDeclared, FrameSays, RowSays, all_numbers, forges, is_declared, list_at, reported_by, said_by}
+
+-- a core and its keeper
+pub record Place : Type 0 where
+  pub core : Core
+  pub keeper : Keeper
+
+pub record World : Type 0 where
+  pub liars : List ℕ
+  -- all declared numbers, rising
+  pub numbers : List ℕ
+  pub places : List Place
+  -- every frame that a drain ever gave
+  pub sent : List Sent
+  -- how many of them stand before the mark
+  pub mark : ℕ
+  -- every validation that a node ever issued
+  pub said : List Said
+  -- every report of a node, under the list that was in force
+  pub reports : List Reported
+  -- how many sealed frames came that no liar signed and nobody had sent; the count ends at the greatest `u64`
+  pub forged : ℕ
+
+-- What may happen next: something at a node, whose save meets some fate; a node is opened again at a moment; it stops in the
+-- event's save, and is opened again with what that leaves; or the mark moves to the end of what was sent.
+pub data Step : Type 0 where
+  Act : (i : ℕ) (event : CoreEvent) (fate : Fate) → Step
+  Again : (i now number : ℕ) → Step
+  Torn : (i : ℕ) (event : CoreEvent) (number : ℕ) → Step
+  Mark : Step
+
+-- the place of a number
+abbrev pub place_at : ℕ → List Place → Option Place
+place_at i places = find (λ p. p.core.node.me == i) places
+
+-- the places with this one in place of the one of its number
+abbrev pub put : Place → List Place → List Place
+put p [] = []
+put p (x ∷ xs) = if x.core.node.me == p.core.node.me then p ∷ xs else x ∷ put p xs
+
+-- the frames that an answer gives, from this number
+abbrev pub sent_in : ℕ → Answer → List Sent
+sent_in from (Refused why) = []
+sent_in from (Took taken) = []
+sent_in from Done = []
+sent_in from (Gave to frames) = map (λ bytes. record { from = from; to = to; bytes = bytes }) frames
+sent_in from (Handed reports) = []
+sent_in from (Told stopped) = []
+
+-- whether what comes to a node is forged
+abbrev pub is_forged : World → Node → CoreEvent → Bool
+is_forged w n (Issue now seq id full) = false
+is_forged w n (Frame now bytes) = forges w.liars w.sent n.keys bytes (split_of bytes)
+is_forged w n (Drain member room) = false
+is_forged w n (Reports room) = false
+is_forged w n Stop = false
+is_forged w n Stopped = false
+
+-- the world after what came of an event at a node, with its keeper then
+abbrev pub settled : World → ℕ → Bool → CoreReply → Keeper → World
+settled w i forged r keeper = record {
+  liars = w.liars;
+  numbers = w.numbers;
+  places = put (record { core = r.core; keeper = keeper }) w.places;
+  sent = w.sent ++ sent_in r.core.node.me r.answer;
+  mark = w.mark;
+  said = with_said w.said (option_map (said_by i) r.issued);
+  reports = w.reports ++ option_to_list (option_map (reported_by r.core.node) r.report);
+  forged = if forged then one_more w.forged else w.forged;
+}
+
+-- what came of an event at a place, whose save meets this fate
+abbrev pub reply_at : Place → CoreEvent → Fate → CoreReply
+reply_at p event fate = core_happens p.core event (answer_of p.keeper fate)
+
+-- its keeper then
+abbrev pub keeper_after : Place → CoreEvent → Fate → Keeper
+keeper_after p event fate = after_save p.keeper (core_asks p.core event) fate
+
+abbrev pub acts : World → ℕ → CoreEvent → Fate → Option Place → World
+acts w i event fate None = w
+acts w i event fate (Some p) = settled w i (is_forged w p.core.node event) (reply_at p event fate) (keeper_after p event fate)
+
+-- the core of a place opened again with this number
+abbrev pub core_again : Place → ℕ → ℕ → Core
+core_again p now number = let n = p.core.node in with_queues (opened n.me n.list n.keys n.ledgers.limit now number)
+
+-- its keeper then holds that number alone; a core that is opened says and reports nothing
+abbrev pub reopened : World → ℕ → Place → ℕ → ℕ → World
+reopened w i p now number = settled w i false (answering (core_again p now number) Done) (restored p.keeper number)
+
+abbrev pub again : World → ℕ → ℕ → ℕ → Option Place → World
+again w i now number None = w
+again w i now number (Some p) = if may_hold p.keeper number then reopened w i p now number else w
+
+-- only an event that asks a save can be torn
+abbrev pub torn : World → ℕ → ℕ → ℕ → Option Place → Option ℕ → World
+torn w i now number None asked = w
+torn w i now number (Some p) None = w
+torn w i now number (Some p) (Some s) = again w i now number (Some (record { core = p.core; keeper = record p.keeper { asked = Some s } }))
+
+-- the moment of an event that has one
+abbrev pub moment_in : CoreEvent → ℕ
+moment_in (Issue now seq id full) = now
+moment_in (Frame now bytes) = now
+moment_in (Drain member room) = 0
+moment_in (Reports room) = 0
+moment_in Stop = 0
+moment_in Stopped = 0
+
+abbrev pub asked_at : Option Place → CoreEvent → Option ℕ
+asked_at None event = None
+asked_at (Some p) event = core_asks p.core event
+
+-- all that was sent stands before the mark
+abbrev pub marked : World → World
+marked w = record {
+  liars = w.liars;
+  numbers = w.numbers;
+  places = w.places;
+  sent = w.sent;
+  mark = length w.sent;
+  said = w.said;
+  reports = w.reports;
+  forged = w.forged;
+}
+
+abbrev pub step : World → Step → World
+step w (Act i event fate) = acts w i event fate (place_at i w.places)
+step w (Again i now number) = again w i now number (place_at i w.places)
+step w (Torn i event number) = torn w i (moment_in event) number (place_at i w.places) (asked_at (place_at i w.places) event)
+step w Mark = marked w
+
+abbrev pub run : World → List Step → World
+run w [] = w
+run w (s ∷ ss) = run (step w s) ss
+
+-- a core with room for so many ledgers, and its keeper
+abbrev pub place_of : ℕ → PlanNode → Place
+place_of limit d = record { core = with_queues (opened d.me d.list (schedule_ring d.me) limit d.moment 0); keeper = holding 0 }
+
+-- the network at the start
+abbrev pub start : ℕ → List ℕ → List PlanNode → World
+start limit liars plan = record {
+  liars = liars;
+  numbers = filter (is_declared liars plan) all_numbers;
+  places = map (place_of limit) plan;
+  sent = [];
+  mark = 0;
+  said = [];
+  reports = [];
+  forged = 0;
+}
+
+-- the keeper of this member may hold this number
+abbrev pub Holds : World → ℕ → ℕ → Type 0
+Holds w m k = (p : Place) × (place_at m w.places ≡ Some p) × MayHold p.keeper k
+
+-- P holds of what waits at a number to be sent
+abbrev pub ItemSays : (Said → Type 0) → ℕ → Item → Type 0
+ItemSays P me (Vote v) = P (said_by me v)
+
+-- P holds of each validation that stands at the core, in a row or waiting
+pub record CoreSays (P : Said → Type 0) (core : Core) : Type 0 where
+  pub rows : All (RowSays P) core.node.rows
+  pub items : All (λ q. All (ItemSays P core.node.me) q.items) core.waiting
+
+-- P holds of each validation that stands at a core or was sent
+pub record Stands (w : World) (P : Said → Type 0) : Type 0 where
+  pub places : (i : ℕ) (p : Place) → place_at i w.places ≡ Some p → CoreSays P p.core
+  pub sent : All (FrameSays P) w.sent
+
+-- what is kept of a world
+abbrev pub IsKept : World → Type 0
+IsKept w = Kept w.liars w.said w.reports (Holds w) (Stands w)
+
+-- The headline, of every run of cores: where no frame is forged, the nodes of two numbers never report different ledgers of one
+-- sequence, if their quorums together exceed the sum of both lists' sizes, minus the overlap, plus the liars in the overlap.
+abbrev pub Headline : Type 0
+Headline =
+    (limit : ℕ) (liars : List ℕ) (plan : List PlanNode) (steps : List Step) (i j : ℕ) (a b : TrustedList) →
+    AreDeclared plan → list_at plan i ≡ Some a → list_at plan j ≡ Some b → Enough liars a b →
+    (run (start limit liars plan) steps).forged ≡ 0 → AgreeAt (run (start limit liars plan) steps).reports i j

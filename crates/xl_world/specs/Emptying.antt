@@ -1,0 +1,80 @@
+-- A schedule's event at a core, after which nothing waits: its untaken reports are handed out, and it is drained for each other
+-- declared number until a drain gives nothing. Seen without queues, that sends what was issued at once. Source: this project's schedule language.
+use Rattle.std.specs.Prelude.{◌≡◌, ℕ, zero, suc, ◌==◌, not, List, [], ◌∷◌, ◌++◌, All, false, filter, length, map, if◌then◌else◌}
+use Rattle.std.specs.Prelude.{Some, None}
+use Rattle.std.specs.declared.option.Option.{Option}
+use Rattle.std.specs.List.{flat_map}
+use Rattle.xl_core.specs.declared.event.CoreEvent.{CoreEvent}
+use Rattle.xl_core.specs.declared.event.CoreEvent.TheVariants.{Issue, Frame, Drain, Reports}
+use Rattle.xl_core.specs.declared.queued.TheConstants.{LONGEST_FRAME}
+use Rattle.xl_core.specs.Answers.{given_in}
+use Rattle.xl_core.specs.Core.{Core, core_happens}
+use Rattle.xl_core.specs.Node as nodes
+use Rattle.xl_core.specs.Node.{Event}
+use Rattle.xl_core.specs.Node.Save.{Kept as AnsweredOk}
+use Rattle.xl_core.specs.Queues.{waiting_at}
+use Rattle.xl_world.specs.declared.place.Fate.{Fate}
+use Rattle.xl_world.specs.declared.place.Fate.TheVariants.{Kept}
+use Rattle.xl_world.specs.declared.place.Place.{Place as Seat}
+use Rattle.xl_world.specs.declared.plan.PlanNode.{PlanNode}
+use Rattle.xl_world.specs.World as flat
+use Rattle.xl_world.specs.Cores.{Place, World, Step, Act, Again, Torn, Mark, place_at, reply_at, run, start}
+
+-- an event at the node of a core
+abbrev pub at_core : Event → CoreEvent
+at_core (nodes.Issue now seq id full) = Issue now seq id full
+at_core (nodes.Frame now bytes) = Frame now bytes
+
+-- drains for a member, until one gives nothing; so many more at most
+abbrev pub drains : Core → ℕ → ℕ → List CoreEvent
+drains core member zero = Drain member LONGEST_FRAME ∷ []
+drains core member (suc more) =
+    let reply = core_happens core (Drain member LONGEST_FRAME) AnsweredOk in
+    Drain member LONGEST_FRAME ∷ (if length (given_in reply.answer) == 0 then [] else drains reply.core member more)
+
+-- each that gives something takes an item at least
+abbrev pub drains_for : Core → ℕ → List CoreEvent
+drains_for core member = drains core member (length (waiting_at core.waiting member).items)
+
+-- the untaken reports are handed out, and what waits for the other declared numbers is drained, for each in its turn
+abbrev pub emptying : List ℕ → Core → List CoreEvent
+emptying numbers core = Reports (length core.untaken.items) ∷ flat_map (drains_for core) (filter (λ member. not (member == core.node.me)) numbers)
+
+abbrev pub emptying_at : List ℕ → ℕ → CoreEvent → Fate → Option Place → List Step
+emptying_at numbers i event fate None = []
+emptying_at numbers i event fate (Some p) = map (λ e. Act i e Kept) (emptying numbers (reply_at p event fate).core)
+
+-- an event at a core, after which it is emptied
+abbrev pub event_steps : World → ℕ → CoreEvent → Fate → List Step
+event_steps w i event fate = Act i event fate ∷ emptying_at w.numbers i event fate (place_at i w.places)
+
+-- a world seen without its queues
+abbrev pub seat_of : Place → Seat
+seat_of p = record { node = p.core.node; keeper = p.keeper }
+
+abbrev pub without_queues : World → flat.World
+without_queues w = record { liars = w.liars; numbers = w.numbers; places = map seat_of w.places; sent = w.sent; mark = w.mark; said = w.said; reports = w.reports; forged = w.forged }
+
+-- nothing waits for another declared number
+pub record IsEmptied (numbers : List ℕ) (core : Core) : Type 0 where
+  pub readers : length core.waiting ≡ 64
+  pub none : All (λ member. (member == core.node.me) ≡ false → (waiting_at core.waiting member).items ≡ []) numbers
+
+-- a step of nodes as the steps of cores that are emptied after each event
+abbrev pub as_cores : World → flat.Step → List Step
+as_cores w (flat.Act i event fate) = event_steps w i (at_core event) fate
+as_cores w (flat.Again i now number) = Again i now number ∷ []
+as_cores w (flat.Torn i event number) = Torn i (at_core event) number ∷ []
+as_cores w flat.Mark = Mark ∷ []
+
+-- one after the other
+abbrev pub run_as_cores : World → List flat.Step → World
+run_as_cores w [] = w
+run_as_cores w (s ∷ ss) = run_as_cores (run w (as_cores w s)) ss
+
+-- Each run of nodes, whose issued validations are sent at once to each other declared number, is what is seen of the run of cores
+-- that are emptied after each event.
+abbrev pub RunsAreOfCores : Type 0
+RunsAreOfCores =
+    (limit : ℕ) (liars : List ℕ) (plan : List PlanNode) (steps : List flat.Step) →
+    without_queues (run_as_cores (start limit liars plan) steps) ≡ flat.run (flat.start limit liars plan) steps
