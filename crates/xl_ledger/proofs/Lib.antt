@@ -1,8 +1,12 @@
 pub mod HeaderLaws
 pub mod Places
 pub mod ChainLaws
+pub mod Ancestors
+pub mod Meeting
 pub mod TableLaws
 pub mod Growing
+pub mod Jumping
 pub mod Storing
 pub mod Walking
+pub mod Climbing
 pub mod Orders

@@ -1,19 +1,23 @@
 -- What is stored of the ledgers stays right, from the root alone on and as a header is added.
 use Rattle.std.proofs.Common.{◌≡◌, ℕ, zero, suc, ◌<◌, ◌≤◌, ◌==◌, Bool, true, false, cond, List, [], ◌∷◌, ◌++◌, length, get_or, set, replicate, Option, Some, None, slice_get, refl, sym, ap, subst, ◌∙◌, arith, inl, inr}
 use Rattle.std.proofs.lemmas.Bool.{cases_lt}
-use Rattle.std.proofs.lemmas.Bool.Decides.{nat_tests, eqb_tells}
-use Rattle.std.proofs.lemmas.List.{length-append, length-map, map_push, length-set, length-replicate, get_or-set_same, get_or-set_other, get_or-replicate}
+use Rattle.std.proofs.lemmas.Bool.Decides.{eqb_tells}
+use Rattle.std.proofs.lemmas.List.{length-append, length-map, map_push, length-set, length-replicate, get_or-map, get_or-set_same, get_or-set_other, get_or-replicate}
 use Rattle.std.proofs.lemmas.Option.{slice_get_within, slice_get_read}
 use Rattle.xl_base.specs.declared.ids.LedgerId.{LedgerId}
 use Rattle.xl_ledger.specs.declared.header.Header.{Header}
 use Rattle.xl_ledger.specs.declared.ledger.Ledger.{Ledger}
 use Rattle.xl_ledger.specs.Headers.{header_id}
-use Rattle.xl_ledger.specs.Chains.{root_id, root_header, ids, header_at, id_at, place_of, Joins, AreLedgers}
+use Rattle.xl_ledger.specs.Chains.{root_id, root_header, ids, id_at, seq_at, place_of, Joins, AreLedgers}
+use Rattle.xl_ledger.specs.declared.ledger.TheConstants.{LEVELS}
+use Rattle.xl_ledger.specs.Jumps.{AreJumps, AreJumpsBelow}
 use Rattle.xl_ledger.specs.Tables.{bucket_of, last_in, headers_of, IsPlaced, IsIndexed, IsSound}
 use Rattle.xl_ledger.proofs.Places.{slice_get-front, slice_get-seam}
 use Rattle.xl_ledger.proofs.ChainLaws.{unless}
+use Rattle.xl_ledger.proofs.Ancestors.{seq_le}
 use Rattle.xl_ledger.proofs.TableLaws.{read_any}
-use Rattle.xl_ledger.proofs.Growing.{id_at-more, id_at-new, header_at-new, place_of-more, parent_of-more, AreLedgers-more}
+use Rattle.xl_ledger.proofs.Growing.{id_at-more, id_at-new, AreLedgers-more}
+use Rattle.xl_ledger.proofs.Jumping.{jumps_of_root, jumps-more, jumps-new}
 
 when : {X : Type 0} (b : Bool) (x y : X) → b ≡ true → cond b x y ≡ x
 when true x y e = refl
@@ -40,9 +44,9 @@ written table own bucket n rest lt e =
 pub root_known : AreLedgers (root_header ∷ [])
 root_known = record { some = omega arith; root = refl; each = λ place some within. absurd (omega arith) }
 
-pub root_indexed : (l : Ledger) (limit bucket : ℕ) → 0 < limit → l.header ≡ root_header → l.id ≡ root_id → l.before ≡ None → bucket ≡ bucket_of limit l.id → bucket < limit
+pub root_indexed : (l : Ledger) (limit bucket : ℕ) → 0 < limit → l.header ≡ root_header → l.id ≡ root_id → l.jumps ≡ replicate LEVELS 0 → l.before ≡ None → bucket ≡ bucket_of limit l.id → bucket < limit
     → IsIndexed (l ∷ []) (set (replicate limit None) bucket (Some 0))
-root_indexed l limit bucket some header id before at lt =
+root_indexed l limit bucket some header id jumps before at lt =
     let table : List (Option ℕ) = replicate limit None in
     let long : length (set table bucket (Some 0)) ≡ limit = length-set table bucket (Some 0) ∙ length-replicate limit None in
     let alone : headers_of (l ∷ []) ≡ root_header ∷ [] = ap (λ (h : Header). h ∷ []) header in
@@ -58,21 +62,21 @@ root_indexed l limit bucket some header id before at lt =
     only : (place : ℕ) (e : Ledger) → slice_get (l ∷ []) place ≡ Some e → IsPlaced (headers_of (l ∷ [])) (length {A = Option ℕ} (set (replicate limit None) bucket (Some 0))) place e
     only zero e found =
         let same : l ≡ e = cc in
-        subst (λ (x : Ledger). IsPlaced (headers_of (l ∷ [])) (length {A = Option ℕ} (set (replicate limit None) bucket (Some 0))) 0 x) same (record { id = sym id; parent = λ lt. absurd (omega arith); before = before })
+        subst (λ (x : Ledger). IsPlaced (headers_of (l ∷ [])) (length {A = Option ℕ} (set (replicate limit None) bucket (Some 0))) 0 x) same (record { id = sym id; jumps = jumps_of_root (headers_of (l ∷ [])) (subst (λ (hs : List Header). AreLedgers hs) (sym (ap (λ (h : Header). h ∷ []) header)) root_known) l.jumps jumps; before = before })
     only (suc place) e found = absurd cc
 
 -- ---- a header is added
 
 -- a ledger as it is stored
-abbrev pub stored : Header → LedgerId → ℕ → Option ℕ → Ledger
-stored h id parent before = record { header = h; id = id; parent = parent; before = before }
+abbrev pub stored : Header → LedgerId → List ℕ → Option ℕ → Ledger
+stored h id jumps before = record { header = h; id = id; jumps = jumps; before = before }
 
-module _ (ledgers : List Ledger) (table : List (Option ℕ)) (ok : IsIndexed ledgers table) (h : Header) (parent bucket : ℕ) (id : LedgerId) (joins : Joins (headers_of ledgers) h) where
-  pub added_indexed : id ≡ header_id h → place_of (headers_of ledgers) h.parent ≡ Some parent → bucket ≡ bucket_of (length table) id → bucket < length table
-      → IsIndexed (ledgers ++ stored h id parent (get_or table bucket None) ∷ []) (set table bucket (Some (length ledgers)))
-  added_indexed own follows at lt =
+module _ (ledgers : List Ledger) (table : List (Option ℕ)) (ok : IsIndexed ledgers table) (h : Header) (parent bucket : ℕ) (id : LedgerId) (jumps : List ℕ) (joins : Joins (headers_of ledgers) h) where
+  pub added_indexed : id ≡ header_id h → place_of (headers_of ledgers) h.parent ≡ Some parent → AreJumpsBelow (headers_of ledgers) parent jumps → bucket ≡ bucket_of (length table) id → bucket < length table
+      → IsIndexed (ledgers ++ stored h id jumps (get_or table bucket None) ∷ []) (set table bucket (Some (length ledgers)))
+  added_indexed own follows below at lt =
       let hs = headers_of ledgers in
-      let new = stored h id parent (get_or table bucket None) in
+      let new = stored h id jumps (get_or table bucket None) in
       let n = length ledgers in
       let count : length hs ≡ n = length-map ledgers (λ l. l.header) in
       let size : length (set table bucket (Some n)) ≡ length table = length-set table bucket (Some n) in
@@ -84,14 +88,12 @@ module _ (ledgers : List Ledger) (table : List (Option ℕ)) (ok : IsIndexed led
       let old : (place : ℕ) (e : Ledger) → place < n → slice_get ledgers place ≡ Some e → IsPlaced (hs ++ h ∷ []) (length table) place e =
       λ place e within found. let placed = ok.each place e found in record {
         id = same_ids place (omega arith) ∙ placed.id;
-        parent = λ some. parent_of-more hs ok.known h place e.parent some (omega arith) (placed.parent some);
+        jumps = jumps-more hs ok.known h place e.jumps (omega arith) placed.jumps;
         before = placed.before ∙ sym (lasts (bucket_of (length table) e.id) place (omega arith));
       } in
       let newest : IsPlaced (hs ++ h ∷ []) (length table) n new = record {
         id = ap (id_at (hs ++ h ∷ [])) (sym count) ∙ is_new;
-        parent = λ some. unless (n == 0) None (place_of (hs ++ h ∷ []) (header_at (hs ++ h ∷ []) n).parent) (grind (arith, nat_tests))
-            ∙ ap (λ (k : ℕ). place_of (hs ++ h ∷ []) (header_at (hs ++ h ∷ []) k).parent) (sym count)
-            ∙ ap (λ (x : Header). place_of (hs ++ h ∷ []) x.parent) (header_at-new hs h ok.known.some) ∙ place_of-more hs h ok.known.some h.parent parent follows;
+        jumps = subst (λ (k : ℕ). AreJumps (hs ++ h ∷ []) k jumps) count (jumps-new hs ok.known h parent jumps joins follows below);
         before = ok.last bucket lt ∙ ap (λ (k : ℕ). last_in (ids hs) (length table) bucket k) (sym count) ∙ sym (lasts bucket (length hs) (omega arith))
             ∙ ap (λ (k : ℕ). last_in (ids (hs ++ h ∷ [])) (length table) bucket k) count ∙ ap (λ (b : ℕ). last_in (ids (hs ++ h ∷ [])) (length table) b n) at;
       } in
@@ -126,12 +128,20 @@ pub read_placed : (ledgers : List Ledger) (table : List (Option ℕ)) (place i :
 read_placed ledgers table place i l ok lt same read =
     ok.each place l (slice_get_read ledgers (length ledgers) place l refl (omega (arith, length-map ledgers (λ l. l.header))) (read ∙ ap (λ (j : ℕ). get_or ledgers j l) same))
 
+-- no sequence reaches the greatest limit
+pub read_below : (ledgers : List Ledger) (table : List (Option ℕ)) (place i limit capacity : ℕ) (l : Ledger) → IsSound ledgers table limit capacity → place < length (headers_of ledgers) → i ≡ place → l ≡ get_or ledgers i l → l.header.seq < 262144
+read_below ledgers table place i limit capacity l sound lt same read =
+    let hs = headers_of ledgers in
+    let count : length hs ≡ length ledgers = length-map ledgers (λ l. l.header) in
+    let own : seq_at hs place ≡ l.header.seq = ap (λ (x : Header). x.seq) (get_or-map (λ (l : Ledger). l.header) ledgers place l root_header (omega (arith, count)) ∙ ap (λ (x : Ledger). x.header) (sym (read ∙ ap (λ (j : ℕ). get_or ledgers j l) same))) in
+    omega (arith, seq_le hs sound.indexed.known place lt, sound.room.within, sound.room.most)
+
 pub opened : (l : Ledger) (front items : List Ledger) (table : List (Option ℕ)) (limit size bucket first capacity : ℕ) → 2 ≤ limit → limit ≤ 262144 → limit ≤ capacity
-    → items ≡ front ++ l ∷ [] → front ≡ [] → table ≡ replicate limit None → size ≡ limit → l.header ≡ root_header → l.id ≡ root_id → l.before ≡ None → bucket ≡ bucket_of size l.id → bucket < size → first ≡ 0
+    → items ≡ front ++ l ∷ [] → front ≡ [] → table ≡ replicate limit None → size ≡ limit → l.header ≡ root_header → l.id ≡ root_id → l.jumps ≡ replicate LEVELS 0 → l.before ≡ None → bucket ≡ bucket_of size l.id → bucket < size → first ≡ 0
     → IsSound items (set table bucket (Some first)) limit capacity
-opened l front items table limit size bucket first capacity least most reserved items_are front_is table_is size_is header id before at lt first_is =
+opened l front items table limit size bucket first capacity least most reserved items_are front_is table_is size_is header id jumps before at lt first_is =
     let alone : items ≡ l ∷ [] = items_are ∙ ap (λ (x : List Ledger). x ++ l ∷ []) front_is in
-    let indexed : IsIndexed (l ∷ []) (set (replicate limit None) bucket (Some 0)) = root_indexed l limit bucket (omega arith) header id before (at ∙ ap (λ (n : ℕ). bucket_of n l.id) size_is) (omega arith) in
+    let indexed : IsIndexed (l ∷ []) (set (replicate limit None) bucket (Some 0)) = root_indexed l limit bucket (omega arith) header id jumps before (at ∙ ap (λ (n : ℕ). bucket_of n l.id) size_is) (omega arith) in
     let tabled : set table bucket (Some first) ≡ set (replicate limit None) bucket (Some 0) = ap (λ (x : List (Option ℕ)). set x bucket (Some first)) table_is ∙ ap (λ (n : ℕ). set (replicate limit None) bucket (Some n)) first_is in
     record {
       indexed = subst (λ (x : List Ledger). IsIndexed x (set table bucket (Some first))) (sym alone) (subst (λ (x : List (Option ℕ)). IsIndexed (l ∷ []) x) (sym tabled) indexed);
@@ -140,16 +150,16 @@ opened l front items table limit size bucket first capacity least most reserved 
 
 -- the ledgers as they are stored after a push
 module _ (ledgers items : List Ledger) (table : List (Option ℕ)) (limit old capacity : ℕ) (sound : IsSound ledgers table limit old) where
-  pub pushed : (h : Header) (id : LedgerId) (parent size bucket place : ℕ) (before : Option ℕ) → old ≤ capacity → items ≡ ledgers ++ stored h id parent before ∷ []
-      → id ≡ header_id h → Joins (headers_of ledgers) h → place_of (headers_of ledgers) h.parent ≡ Some parent → length ledgers < limit
+  pub pushed : (h : Header) (id : LedgerId) (parent size bucket place : ℕ) (jumps : List ℕ) (before : Option ℕ) → old ≤ capacity → items ≡ ledgers ++ stored h id jumps before ∷ []
+      → id ≡ header_id h → Joins (headers_of ledgers) h → place_of (headers_of ledgers) h.parent ≡ Some parent → AreJumpsBelow (headers_of ledgers) parent jumps → length ledgers < limit
       → size ≡ length table → bucket ≡ bucket_of size id → bucket < size → before ≡ get_or table bucket before → place ≡ length ledgers
       → IsSound items (set table bucket (Some place)) limit capacity
-  pushed h id parent size bucket place before kept items_are own joins follows room size_is at lt read place_is =
+  pushed h id parent size bucket place jumps before kept items_are own joins follows below room size_is at lt read place_is =
       let within : bucket < length table = omega arith in
       let led : get_or table bucket None ≡ before = read_any table bucket before None within read in
-      let indexed = added_indexed ledgers table sound.indexed h parent bucket id joins own follows (at ∙ ap (λ (n : ℕ). bucket_of n id) size_is) within in
-      let same : ledgers ++ stored h id parent (get_or table bucket None) ∷ [] ≡ items = ap (λ (o : Option ℕ). ledgers ++ stored h id parent o ∷ []) led ∙ sym items_are in
+      let indexed = added_indexed ledgers table sound.indexed h parent bucket id jumps joins own follows below (at ∙ ap (λ (n : ℕ). bucket_of n id) size_is) within in
+      let same : ledgers ++ stored h id jumps (get_or table bucket None) ∷ [] ≡ items = ap (λ (o : Option ℕ). ledgers ++ stored h id jumps o ∷ []) led ∙ sym items_are in
       record {
-        indexed = subst (λ (x : List Ledger). IsIndexed x (set table bucket (Some place))) same (subst (λ (n : ℕ). IsIndexed (ledgers ++ stored h id parent (get_or table bucket None) ∷ []) (set table bucket (Some n))) (sym place_is) indexed);
-        room = record { least = sound.room.least; most = sound.room.most; within = omega (arith, ap length items_are, length-append ledgers (stored h id parent before ∷ [])); reserved = omega (arith, sound.room.reserved) };
+        indexed = subst (λ (x : List Ledger). IsIndexed x (set table bucket (Some place))) same (subst (λ (n : ℕ). IsIndexed (ledgers ++ stored h id jumps (get_or table bucket None) ∷ []) (set table bucket (Some n))) (sym place_is) indexed);
+        room = record { least = sound.room.least; most = sound.room.most; within = omega (arith, ap length items_are, length-append ledgers (stored h id jumps before ∷ [])); reserved = omega (arith, sound.room.reserved) };
       }

@@ -1,6 +1,7 @@
 pub mod Headers
 pub mod Reading
 pub mod Chains
+pub mod Jumps
 pub mod Codes
 pub mod Registries
 pub mod Tables

@@ -5,7 +5,8 @@ use Rattle.byteorder.specs.Endian.{big_number}
 use Rattle.xl_base.specs.declared.ids.LedgerId.{LedgerId}
 use Rattle.xl_ledger.specs.declared.header.Header.{Header}
 use Rattle.xl_ledger.specs.declared.ledger.Ledger.{Ledger}
-use Rattle.xl_ledger.specs.Chains.{root_id, ids, parent_of, AreLedgers}
+use Rattle.xl_ledger.specs.Chains.{root_id, ids, AreLedgers}
+use Rattle.xl_ledger.specs.Jumps.{AreJumps}
 
 -- the bucket of an id, of so many
 abbrev pub bucket_of : ℕ → LedgerId → ℕ
@@ -22,8 +23,13 @@ headers_of ledgers = map (λ l. l.header) ledgers
 -- what each ledger is stored with
 pub record IsPlaced (headers : List Header) (buckets place : ℕ) (l : Ledger) : Type 0 where
   pub id : slice_index_or (ids headers) place root_id ≡ l.id
-  pub parent : 0 < place → parent_of headers place ≡ Some l.parent
+  pub jumps : AreJumps headers place l.jumps
   pub before : l.before ≡ last_in (ids headers) buckets (bucket_of buckets l.id) place
+
+-- the jumps of each ledger lead where they should
+pub record HaveJumps (ledgers : List Ledger) : Type 0 where
+  pub known : AreLedgers (headers_of ledgers)
+  pub each : (place : ℕ) (l : Ledger) → slice_get ledgers place ≡ Some l → AreJumps (headers_of ledgers) place l.jumps
 
 -- the buckets lead to all ledgers
 pub record IsIndexed (ledgers : List Ledger) (table : List (Option ℕ)) : Type 0 where

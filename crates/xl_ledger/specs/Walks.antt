@@ -1,4 +1,4 @@
--- Walks along chains, and how many steps they took. A step is one parent that is followed, or one header that is read.
+-- Walks along chains, and how many steps they took. A step is one jump that is taken, or one header that is read.
 -- Source: this project's own count of steps.
 use Rattle.std.specs.Prelude.{◌≡◌, ℕ, ◌+◌, ◌-◌, ◌^◌, ◌≤◌, min}
 use Rattle.xl_ledger.specs.Registries.{Ledgers}

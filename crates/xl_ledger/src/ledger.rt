@@ -1,13 +1,16 @@
 use crate::{Header, LedgerNo};
 use xl_base::LedgerId;
 
+/// How many jumps a ledger has: so many bits have the numbers below the greatest limit.
+pub(crate) const LEVELS: usize = 18;
+
 /// A ledger as it is stored.
 #[derive(Clone, Copy, Debug)]
 pub(crate) struct Ledger {
     pub(crate) header: Header,
     pub(crate) id: LedgerId,
-    /// The ledger that it follows; the root has itself here.
-    pub(crate) parent: LedgerNo,
+    /// Its ancestors 1, 2, 4 and so on places up; the root where the chain ends below.
+    pub(crate) jumps: [LedgerNo; LEVELS],
     /// The one before it whose id has the same bucket.
     pub(crate) before: Option<LedgerNo>,
 }

@@ -1,7 +1,8 @@
 //! Ledgers as a node knows them: their headers, the chain of each, and what a branch that votes prefer is.
 //!
 //! Headers have one spelling and are named by its half hash. A registry takes a header where it follows a known ledger; so
-//! each ledger has a chain, the ledgers from the root to it. Chains are followed by a walk alone, which counts its steps.
+//! each ledger has a chain, the ledgers from the root to it. Chains are followed by a walk alone, which counts its steps: with
+//! each ledger stand its ancestors 1, 2, 4 and so on places up, so each way along a chain is a few jumps.
 //!
 //! It stands on xl_base and the kit's `byteorder`; only opening a registry takes memory. Its one contract: what a registry
 //! and a walk answer is read from the list of headers, and a `Branch` prefers what counting its votes over whole chains does.
@@ -9,6 +10,7 @@
 
 mod branch;
 mod header;
+mod jumps;
 mod law;
 mod ledger;
 mod ledger_no;

@@ -1,11 +1,13 @@
-ghost use Rattle.std.specs.Prelude.{◌≡◌, ◌↔◌, ◌+◌, ◌<◌, ◌≤◌, ◌++◌, [], ◌∷◌, length, None, Some, IsOk, IfOk, OnOk, OnErr};
+ghost use Rattle.std.specs.Prelude.{◌≡◌, ◌↔◌, ◌+◌, ◌<◌, ◌≤◌, ◌++◌, [], ◌∷◌, length, replicate, None, Some, IsOk, IfOk, OnOk, OnErr};
 ghost use Rattle.xl_ledger.specs.Headers.{header_id};
-ghost use Rattle.xl_ledger.specs.Chains.{root_id, root_header, header_at, id_at, seq_at, place_of, parent_of, Joins, AreLedgers};
+ghost use Rattle.xl_ledger.specs.Chains.{root_id, root_header, header_at, id_at, seq_at, place_of, Joins, AreLedgers};
+ghost use Rattle.xl_ledger.specs.Jumps.{jump_of};
 ghost use Rattle.xl_ledger.specs.Registries.{only_root, with_header, parent_place, add_refusal, unless_refused};
 ghost use Rattle.xl_ledger.specs.Walks.{start_of};
 ghost use Rattle.xl_ledger.specs.declared.registry.TheConstants.{LEAST_LIMIT, GREATEST_LIMIT};
 
-use crate::ledger::Ledger;
+use crate::jumps::jumps_below;
+use crate::ledger::{LEVELS, Ledger};
 use crate::table::{bucket_of, empty_table, find};
 use crate::{AddRefusal, Header, LedgerNo, Walk, id_of};
 use std::alloc::Global;
@@ -129,10 +131,11 @@ impl Registry {
     {
         let place = LedgerNo::at(self.ledgers.len() as u32);
         let bucket = bucket_of(&id, self.table.len());
+        let jumps = jumps_below(&self.ledgers, parent);
         self.ledgers.push_reserved(Ledger {
             header: *h,
             id,
-            parent,
+            jumps,
             before: self.table[bucket],
         });
         self.table[bucket] = Some(place);
@@ -156,6 +159,7 @@ impl Registry {
     pub fn seq_of(&self, ledger: LedgerNo) -> Seq
         requires { ledger < length self.now.headers }
         ensures value { result ≡ seq_at self.now.headers ledger }
+        ensures below { result < GREATEST_LIMIT }
         ensures ledgers { AreLedgers self.now.headers }
     {
         self.ledgers[ledger.place()].header.seq
@@ -175,15 +179,13 @@ impl Registry {
         &self.ledgers[ledger.place()].header
     }
 
-    /// The ledger that this one follows.
-    pub(crate) fn parent(&self, ledger: LedgerNo) -> LedgerNo
+    /// The ledger `2 ^ level` places up, or the root where so many aren't there.
+    pub(crate) fn jump(&self, ledger: LedgerNo, level: u32) -> LedgerNo
         requires known { ledger < length self.now.headers }
-        requires added { 0 < ledger }
-        ensures value { parent_of self.now.headers ledger ≡ Some result }
-        ensures earlier { result < ledger }
-        ensures ledgers { AreLedgers self.now.headers }
+        requires level { level < LEVELS }
+        ensures { result ≡ jump_of self.now.headers ledger level }
     {
-        self.ledgers[ledger.place()].parent
+        self.ledgers[ledger.place()].jumps[level as usize]
     }
 }
 
@@ -191,6 +193,7 @@ impl Registry {
 fn root() -> Ledger
     ensures header { result.header ≡ root_header }
     ensures id { result.id ≡ root_id }
+    ensures jumps { result.jumps ≡ replicate LEVELS 0 }
     ensures before { result.before ≡ None }
 {
     let id = LedgerId([0; 32]);
@@ -208,7 +211,7 @@ fn root() -> Ledger
     Ledger {
         header,
         id,
-        parent: LedgerNo::root(),
+        jumps: [LedgerNo::root(); LEVELS],
         before: None,
     }
 }

@@ -1,7 +1,8 @@
-ghost use Rattle.std.specs.Prelude.{◌≡◌};
+ghost use Rattle.std.specs.Prelude.{◌≡◌, ◌<◌, ◌≤◌, length, IfOk};
 
 use super::*;
 use hex::FromHex;
+use std::process::Abort;
 use std::test::Fail;
 use xl_base::{LedgerId, SetId};
 
@@ -130,5 +131,92 @@ fn walks_along_two_chains(rt: HostRuntime) -> Result<(), Fail> {
     let before = walk.taken();
     assert_eq!(rt; *walk.header(right), d);
     assert!(rt; walk.taken() > before);
+    Ok(())
+}
+
+/// Adds so many ledgers, each above the one before, and tells the last.
+fn grow(
+    registry: &mut Registry,
+    from: LedgerNo,
+    count: u32,
+    mark: u8,
+) -> Result<LedgerNo, AddRefusal>
+    requires { from < length registry.old.headers }
+    ensures known { IfOk result (λ last. last < length registry.new.headers) }
+    ensures longer { length registry.old.headers ≤ length registry.new.headers }
+{
+    let mut last = from;
+    for _ in 0..count {
+        let next = child(registry.id_at(last), registry.seq_of(last) + 1, mark);
+        last = registry.add(&next)?;
+    }
+    Ok(last)
+}
+
+/// Ancestors along a branch that leaves the first chain at a sequence, and whose further ledgers were added from a place on.
+fn finds_ancestors(rt: &impl Abort, registry: &Registry, last: LedgerNo, leaves: u32, from: u32)
+    requires known { last < length registry.now.headers }
+    requires from { from ≤ GREATEST_LIMIT }
+{
+    let top = registry.seq_of(last);
+    for seq in 0..top {
+        let mut walk = registry.walk();
+        let place = if seq <= leaves {
+            seq
+        } else {
+            from + (seq - leaves - 1)
+        };
+        assert_eq!(rt; walk.ancestor(last, seq), LedgerNo::at(place));
+        // A jump for each bit of the number of places between them.
+        assert_eq!(rt; walk.taken(), u64::from((top - seq).count_ones()));
+    }
+}
+
+#[test]
+fn jumps_along_a_chain_with_two_forks(rt: HostRuntime) -> Result<(), Fail> {
+    let mut registry = Registry::open(rt.alloc(), 8_192)?;
+    let first = grow(&mut registry, LedgerNo::root(), 3_000, 1)?;
+    assert!(rt; registry.seq_of(first) >= 1_001);
+    let fork = registry.walk().ancestor(first, 1_000);
+    let higher = registry.walk().ancestor(first, 1_001);
+    let second = grow(&mut registry, fork, 2_000, 2)?;
+    let third = grow(&mut registry, higher, 1_500, 3)?;
+    finds_ancestors(&rt, &registry, first, 3_000, 0);
+    finds_ancestors(&rt, &registry, second, 1_000, 3_001);
+    finds_ancestors(&rt, &registry, third, 1_001, 5_001);
+    for (a, b, common) in [
+        (first, second, fork),
+        (third, first, higher),
+        (second, third, fork),
+        (fork, third, fork),
+        (first, LedgerNo::root(), LedgerNo::root()),
+    ] {
+        let mut walk = registry.walk();
+        assert_eq!(rt; walk.common(a, b), common);
+        assert!(rt; walk.taken() <= 54);
+    }
+    Ok(())
+}
+
+#[test]
+fn finds_far_ancestors_a_million_times(rt: HostRuntime) -> Result<(), Fail> {
+    let mut registry = Registry::open(rt.alloc(), GREATEST_LIMIT)?;
+    let last = grow(&mut registry, LedgerNo::root(), 200_000, 1)?;
+    let left = grow(&mut registry, LedgerNo::root(), 100, 2)?;
+    let right = grow(&mut registry, LedgerNo::root(), 100, 3)?;
+    let top = registry.seq_of(last);
+    assert_eq!(rt; top, 200_000);
+    for _ in 0..5 {
+        for seq in 0..top {
+            let mut walk = registry.walk();
+            assert_eq!(rt; walk.ancestor(last, seq), LedgerNo::at(seq));
+            assert!(rt; walk.taken() <= 18);
+        }
+    }
+    let mut walk = registry.walk();
+    assert_eq!(rt;
+        (walk.common(last, left), walk.common(left, right)),
+        (LedgerNo::root(), LedgerNo::root())
+    );
     Ok(())
 }

@@ -1,12 +1,15 @@
-ghost use Rattle.std.specs.Prelude.{◌≡◌, ◌≢◌, ◌<◌, ◌≤◌, length, slice_get, Some};
-ghost use Rattle.xl_ledger.specs.Chains.{header_at, id_at, seq_at, parent_of, chain, common_of, AreLedgers};
+ghost use Rattle.std.specs.Prelude.{◌≡◌, ◌≢◌, ◌+◌, ◌<◌, ◌≤◌, length, slice_get, Some};
+ghost use Rattle.xl_ledger.specs.Chains.{header_at, id_at, seq_at, chain, common_of, AreLedgers};
+ghost use Rattle.xl_ledger.specs.Jumps.{jump_of};
+ghost use Rattle.xl_ledger.specs.declared.registry.TheConstants.{GREATEST_LIMIT};
 ghost use Rattle.xl_ledger.specs.Walks.{start_of, ticked, GoesOn, TakesStep};
 
+use crate::ledger::LEVELS;
 use crate::{Header, LedgerNo, Registry};
 use std::marker::Model;
 use xl_base::{LedgerId, Seq, Steps};
 
-/// The one way along the chains of a registry, which counts its steps: parents that it follows, and headers that it reads.
+/// The one way along the chains of a registry, which counts its steps: jumps that it takes, and headers that it reads.
 ///
 /// It stays on its registry, and hands out neither that nor its count of steps.
 #[derive(Debug, Drop)]
@@ -60,6 +63,7 @@ impl<'a> Walk<'a> {
     pub fn seq_of(&self, ledger: LedgerNo) -> Seq
         requires { ledger < length self.now.ledgers.headers }
         ensures value { result ≡ seq_at self.now.ledgers.headers ledger }
+        ensures below { result < GREATEST_LIMIT }
         ensures ledgers { AreLedgers self.now.ledgers.headers }
     {
         self.registry.seq_of(ledger)
@@ -76,7 +80,9 @@ impl<'a> Walk<'a> {
         self.registry.header(ledger)
     }
 
-    /// The ledger of this sequence on the chain of a ledger. No step where that is the ledger's own, and at least one elsewhere.
+    /// The ledger of this sequence on the chain of a ledger: one jump for each bit of how far up it is, so at most 18 steps.
+    ///
+    /// No step where the sequence is the ledger's own, and at least one elsewhere.
     pub fn ancestor(&mut self, ledger: LedgerNo, seq: Seq) -> LedgerNo
         requires known { ledger < length self.old.ledgers.headers }
         requires above { seq ≤ seq_at self.old.ledgers.headers ledger }
@@ -84,16 +90,20 @@ impl<'a> Walk<'a> {
         ensures known { result < length self.old.ledgers.headers }
         ensures sequence { seq_at self.old.ledgers.headers result ≡ seq }
         ensures goes_on { GoesOn self.old self.new }
+        ensures still { seq ≡ seq_at self.old.ledgers.headers ledger → self.new.taken ≡ self.old.taken }
         ensures step { seq ≢ seq_at self.old.ledgers.headers ledger → TakesStep self.old self.new }
+        ensures most { self.new.taken ≤ self.old.taken + 18 }
     {
         let mut at = ledger;
         while self.seq_of(at) > seq {
-            at = self.parent(at);
+            let left = self.seq_of(at) - seq;
+            at = self.jump(at, left.ilog2());
         }
         at
     }
 
-    /// The last ledger that the chains of two ledgers have in common. At least one step where the ledgers differ.
+    /// The last ledger that the chains of two ledgers have in common, in at most 54 steps: at most 18 bring both to one
+    /// sequence, and then each takes at most 18. At least one step where the ledgers differ.
     pub fn common(&mut self, a: LedgerNo, b: LedgerNo) -> LedgerNo
         requires a_known { a < length self.old.ledgers.headers }
         requires b_known { b < length self.old.ledgers.headers }
@@ -101,31 +111,70 @@ impl<'a> Walk<'a> {
         ensures known { result < length self.old.ledgers.headers }
         ensures goes_on { GoesOn self.old self.new }
         ensures step { a ≢ b → TakesStep self.old self.new }
+        ensures most { self.new.taken ≤ self.old.taken + 54 }
     {
-        let mut left = a;
-        let mut right = b;
-        // A later ledger is never on the chain of an earlier one.
-        while left != right {
-            if left > right {
-                left = self.parent(left);
-            } else {
-                right = self.parent(right);
-            }
+        let a_seq = self.seq_of(a);
+        let b_seq = self.seq_of(b);
+        // What they share isn't below the higher of the two.
+        if a_seq > b_seq {
+            let left = self.ancestor(a, b_seq);
+            self.meet(left, b)
+        } else {
+            let right = self.ancestor(b, a_seq);
+            self.meet(a, right)
         }
-        left
     }
 
-    /// The ledger that this one follows. One step.
-    fn parent(&mut self, ledger: LedgerNo) -> LedgerNo
+    /// The same for two ledgers of one sequence.
+    ///
+    /// From the farthest jump down, both take each that leads them to different ledgers. So they end just below the ledger
+    /// that they share.
+    fn meet(&mut self, a: LedgerNo, b: LedgerNo) -> LedgerNo
+        requires a_known { a < length self.old.ledgers.headers }
+        requires b_known { b < length self.old.ledgers.headers }
+        requires ledgers { AreLedgers self.old.ledgers.headers }
+        requires one_seq { seq_at self.old.ledgers.headers a ≡ seq_at self.old.ledgers.headers b }
+        requires low { seq_at self.old.ledgers.headers a < GREATEST_LIMIT }
+        ensures value { result ≡ common_of self.old.ledgers.headers a b }
+        ensures known { result < length self.old.ledgers.headers }
+        ensures goes_on { GoesOn self.old self.new }
+        ensures step { a ≢ b → TakesStep self.old self.new }
+        ensures most { self.new.taken ≤ self.old.taken + 36 }
+    {
+        if a == b {
+            return a;
+        }
+        let mut left = a;
+        let mut right = b;
+        let mut level = LEVELS as u32;
+        while level > 0 {
+            level -= 1;
+            if self.leads_to(left, level) != self.leads_to(right, level) {
+                left = self.jump(left, level);
+                right = self.jump(right, level);
+            }
+        }
+        self.jump(left, 0)
+    }
+
+    /// Where a jump leads. No step, since it isn't taken.
+    fn leads_to(&self, ledger: LedgerNo, level: u32) -> LedgerNo
+        requires known { ledger < length self.now.ledgers.headers }
+        requires level { level < LEVELS }
+        ensures { result ≡ jump_of self.now.ledgers.headers ledger level }
+    {
+        self.registry.jump(ledger, level)
+    }
+
+    /// Takes a jump. One step.
+    fn jump(&mut self, ledger: LedgerNo, level: u32) -> LedgerNo
         requires known { ledger < length self.old.ledgers.headers }
-        requires added { 0 < ledger }
-        ensures value { parent_of self.old.ledgers.headers ledger ≡ Some result }
-        ensures earlier { result < ledger }
-        ensures ledgers { AreLedgers self.old.ledgers.headers }
+        requires level { level < LEVELS }
+        ensures value { result ≡ jump_of self.old.ledgers.headers ledger level }
         ensures goes_on { GoesOn self.old self.new }
         ensures step { self.new.taken ≡ ticked self.old.taken }
     {
         self.steps.tick();
-        self.registry.parent(ledger)
+        self.registry.jump(ledger, level)
     }
 }

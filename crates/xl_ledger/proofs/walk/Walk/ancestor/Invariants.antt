@@ -1,12 +1,9 @@
-use Rattle.std.proofs.Common.{◌≡◌}
-use Rattle.xl_ledger.proofs.Walking.{HasGone, Climbs}
+use Rattle.xl_ledger.specs.Chains.{seq_at}
+use Rattle.xl_ledger.proofs.Climbing.{Climbs}
 use Rattle.xl_ledger.proofs.walk.Walk.ancestor.Given as goal
 
 abbrev pub invariant-loop-self : goal.invariant-loop-self
-invariant-loop-self l = record {
-  climbs : Climbs l.fn.self.ledgers.headers l.fn.ledger l.seq l.at;
-  gone : HasGone l.fn.self l.self (l.at ≡ l.fn.ledger);
-}
+invariant-loop-self l = Climbs l.fn.self l.self l.fn.ledger l.seq l.at
 
 abbrev pub decreases-loop-self : goal.decreases-loop-self
-decreases-loop-self l = l.at
+decreases-loop-self l = seq_at l.fn.self.ledgers.headers l.at
