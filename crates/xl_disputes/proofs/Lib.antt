@@ -1,2 +1,15 @@
 pub mod RisingIds
 pub mod Ordered
+pub mod IdOrder
+pub mod Exchanging
+pub mod Finding
+pub mod ExchangingAll
+pub mod Sharing
+pub mod Changing
+pub mod Weighing
+pub mod Standing
+pub mod Votings
+pub mod Extending
+pub mod Picking
+pub mod Keeping
+pub mod Pooling

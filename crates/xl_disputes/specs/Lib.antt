@@ -4,4 +4,8 @@ pub mod Adding
 pub mod Disputes
 pub mod Votes
 pub mod Next
-pub mod Places
+pub mod Tallies
+pub mod Pooled
+pub mod Rows
+pub mod Holdings
+pub mod Standings

@@ -1,4 +1,4 @@
-ghost use Rattle.std.specs.Prelude.{◌≡◌, IfOk};
+ghost use Rattle.std.specs.Prelude.{◌≡◌, ◌≤◌, [], length, vec_capacity, IfOk};
 ghost use Rattle.xl_base.specs.Sets.{set_id_of, IsSet};
 ghost use Rattle.xl_disputes.specs.Disputes.{has};
 
@@ -6,7 +6,10 @@ use std::alloc::Global;
 use std::marker::Model;
 use xl_base::{OutOfMemory, SetId, TxId, set_id};
 
-/// A set of transactions and its id, which is computed once, when the set is made.
+/// A set has at most so many ids.
+pub(crate) const SET_IDS: usize = 256;
+
+/// A set of transactions and its id, which is computed once, when the set is taken. Its room is taken when it is opened.
 #[derive(Debug, Drop)]
 pub(crate) struct Set {
     ids: Vec<TxId>,
@@ -14,7 +17,7 @@ pub(crate) struct Set {
 }
 
 impl Model for Set {
-    ghost use Rattle.std.specs.Prelude.{List};
+    ghost use Rattle.std.specs.Prelude.{List, vec_capacity};
     ghost use Rattle.xl_base.specs.declared.ids.TxId.{TxId};
     ghost use Rattle.xl_disputes.specs.Named.{IsNamed};
 
@@ -22,25 +25,39 @@ impl Model for Set {
 
     ghost view = { λ set. set.ids.items };
 
-    ghost invariant = { λ set. IsNamed set.ids.items set.id };
+    ghost invariant = { λ set. IsNamed set.ids.items set.id (vec_capacity set.ids) };
+}
+
+/// Puts these ids in place of older ones, where there is room for them.
+fn put(room: &mut Vec<TxId>, ids: &[TxId])
+    requires { length ids.now ≤ vec_capacity room.old }
+    ensures items { room.new.items ≡ ids.now }
+    ensures capacity { vec_capacity room.old ≤ vec_capacity room.new }
+{
+    room.clear();
+    match room.extend_from_slice(ids) {
+        Ok(()) => {}
+        Err(_) => unreachable!(),
+    }
 }
 
 impl Set {
-    /// The set of these ids. It takes no memory.
-    pub(crate) fn of(ids: Vec<TxId>) -> Set
-        requires { IsSet ids.items }
-        ensures { result ≡ ids.items }
+    /// The empty set, with room for every other one.
+    pub(crate) fn open(alloc: Global) -> Result<Set, OutOfMemory>
+        ensures { IfOk result (λ set. set ≡ []) }
     {
+        let ids = Vec::with_capacity(alloc, SET_IDS)?;
         let id = set_id(&ids);
-        Set { ids, id }
+        Ok(Set { ids, id })
     }
 
-    /// A copy of these ids as a set.
-    pub(crate) fn copy_of(alloc: Global, ids: &[TxId]) -> Result<Set, OutOfMemory>
+    /// Becomes the set of these ids.
+    pub(crate) fn take(&mut self, ids: &[TxId])
         requires { IsSet ids.now }
-        ensures { IfOk result (λ set. set ≡ ids.now) }
+        ensures { self.new ≡ ids.now }
     {
-        Ok(Set::of(Vec::from_slice(alloc, ids)?))
+        put(&mut self.ids, ids);
+        self.id = set_id(ids);
     }
 
     pub(crate) fn ids(&self) -> &[TxId]

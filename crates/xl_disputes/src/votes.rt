@@ -1,5 +1,5 @@
-ghost use Rattle.std.specs.Prelude.{◌≡◌, ◌<◌};
-ghost use Rattle.xl_disputes.specs.Votes.{threshold as threshold_of, weight as weight_of, next_vote as next_vote_of, with_vote};
+ghost use Rattle.std.specs.Prelude.{◌≡◌};
+ghost use Rattle.xl_disputes.specs.Votes.{threshold as threshold_of, weight as weight_of, next_vote as next_vote_of};
 
 /// How the members' positions vote on a transaction, and whether our own set has it. Our own position is in neither count.
 #[derive(Clone, Copy, Debug, PartialEq, Eq)]
@@ -24,19 +24,6 @@ pub fn threshold(percent: u64) -> u32
 }
 
 impl Votes {
-    /// Counts what one position says, where its set is held.
-    pub(crate) fn count(&mut self, vote: Option<bool>)
-        requires yays { self.old.yays < 64 }
-        requires nays { self.old.nays < 64 }
-        ensures { self.new ≡ with_vote self.old vote }
-    {
-        match vote {
-            Some(true) => self.yays += 1,
-            Some(false) => self.nays += 1,
-            None => {}
-        }
-    }
-
     /// Our next vote. It stays where every other vote is ours already.
     pub(crate) fn next(self, percent: u64, proposing: bool) -> bool
         ensures { result ≡ next_vote_of percent proposing self }

@@ -1,15 +1,55 @@
-use Rattle.std.proofs.Common.{◌∙◌, ap}
-use Rattle.xl_disputes.specs.Disputes.{Known}
+use Rattle.std.proofs.Common.{◌≡◌, vec_capacity, ap, sym, ◌∙◌, arith}
+use Rattle.std.specs.Prelude.{◌↔◌, ◌≢◌, IsTrue, IsFalse}
+use Rattle.xl_disputes.specs.Disputes.{Known, with_own}
 use Rattle.xl_disputes.specs.Next.{next_set}
+use Rattle.xl_disputes.specs.Standings.{known_of}
 use Rattle.xl_disputes.proofs.Ordered.{differ}
+use Rattle.xl_disputes.proofs.Picking.{next_is}
+use Rattle.xl_disputes.proofs.Keeping.{IsWeighable, weighable, settled, known_settled, own_weighable, own_known}
 use Rattle.xl_disputes.proofs.disputes.Disputes.update.Goals as goal
+use Rattle.xl_disputes.proofs.disputes.Disputes.update.Goals.{After-ne-changed, After-settle}
 
-pub returns-clause-changed : goal.returns-clause-changed
-returns-clause-changed c =
-    (differ (next_set c.args.self.now c.args.percent c.args.proposing) c.args.self.now.own c.ids.result.now c.ids-2.result.now c.ne-changed.result
-    (c.ids.ensures.value ∙ c.in_ok-next.ensures) (c.ids-2.ensures.value ∙ ap (λ (k : Known). k.own) c.self.view_is) c.ne-changed.ensures).0
+is_next : (c : After-ne-changed) → c.pick.new.next.items ≡ next_set c.args.self.now c.args.percent c.args.proposing
+is_next c =
+    c.pick.ensures.value ∙ next_is c.self.inside.shares c.self.inside.positions c.args.percent c.args.proposing c.self.invariant.kept c.self.invariant.kept.places
+    ∙ ap (λ k. next_set k c.args.percent c.args.proposing) c.self.view_is
 
-pub returns-clause-same : goal.returns-clause-same
-returns-clause-same c =
-    (differ (next_set c.args.self.now c.args.percent c.args.proposing) c.args.self.now.own c.ids.result.now c.ids-2.result.now c.ne-changed.result
-    (c.ids.ensures.value ∙ c.in_ok-next.ensures) (c.ids-2.ensures.value ∙ ap (λ (k : Known). k.own) c.self.view_is) c.ne-changed.ensures).1
+-- what the code's `!=` says
+tested : (c : After-ne-changed) →
+    (IsTrue c.ne-changed.result ↔ (next_set c.args.self.now c.args.percent c.args.proposing ≢ c.args.self.now.own))
+    × (IsFalse c.ne-changed.result ↔ (next_set c.args.self.now c.args.percent c.args.proposing ≡ c.args.self.now.own))
+tested c =
+    differ (next_set c.args.self.now c.args.percent c.args.proposing) c.args.self.now.own c.as_slice.result.now c.ids.result.now c.ne-changed.result
+    (c.as_slice.ensures.value ∙ is_next c) (c.ids.ensures.value ∙ c.own.ensures ∙ ap (λ (k : Known). k.own) c.self.view_is) c.ne-changed.ensures
+
+before : (c : After-ne-changed) → IsWeighable c.self.inside.shares c.self.inside.positions
+before c = weighable c.self.inside.shares c.self.inside.positions (vec_capacity c.self.inside.next) c.self.invariant
+
+pub invariant_of-self : goal.invariant_of-self
+invariant_of-self c =
+    settled c.take.new.self c.settle.new.shares c.self.inside.positions (vec_capacity c.pick.new.next)
+    (own_weighable c.deref.result.now c.self.inside.shares c.take.new.self c.self.inside.positions c.take.ensures.taken (before (goal.at.invariant_of-self c).After-ne-changed))
+    (omega (arith, c.self.invariant.roomy, c.pick.ensures.room)) c.settle.ensures
+
+pub returns-then-changed-clause-changed : goal.returns-then-changed-clause-changed
+returns-then-changed-clause-changed c = (tested (goal.at.returns-then-changed-clause-changed c).After-ne-changed).0
+
+pub returns-then-changed-clause-same : goal.returns-then-changed-clause-same
+returns-then-changed-clause-same c = (tested (goal.at.returns-then-changed-clause-same c).After-ne-changed).1
+
+pub returns-then-changed-clause-taken : goal.returns-then-changed-clause-taken
+returns-then-changed-clause-taken c =
+    known_settled c.take.new.self c.settle.new.shares c.self.inside.positions c.settle.ensures
+    ∙ own_known c.deref.result.now c.self.inside.shares c.take.new.self c.self.inside.positions c.take.ensures.taken (before (goal.at.returns-then-changed-clause-taken c).After-ne-changed)
+    ∙ ap (with_own (known_of c.self.inside.shares c.self.inside.positions)) (c.deref.ensures.value ∙ is_next (goal.at.returns-then-changed-clause-taken c).After-ne-changed)
+    ∙ ap (λ k. with_own k (next_set c.args.self.now c.args.percent c.args.proposing)) c.self.view_is
+
+pub returns-else-changed-clause-changed : goal.returns-else-changed-clause-changed
+returns-else-changed-clause-changed c = (tested (goal.at.returns-else-changed-clause-changed c).After-ne-changed).0
+
+pub returns-else-changed-clause-same : goal.returns-else-changed-clause-same
+returns-else-changed-clause-same c = (tested (goal.at.returns-else-changed-clause-same c).After-ne-changed).1
+
+pub returns-else-changed-clause-taken : goal.returns-else-changed-clause-taken
+returns-else-changed-clause-taken c =
+    c.self.view_is ∙ ap (with_own c.args.self.now) (sym ((tested (goal.at.returns-else-changed-clause-taken c).After-ne-changed).1.0 c.if-changed.false))

@@ -1,0 +1,157 @@
+-- The votes that the index and the weights tell are the ones of the positions.
+use Rattle.std.proofs.Common.{◌≡◌, ℕ, zero, suc, ◌+◌, ◌-◌, ◌<◌, ◌≤◌, ◌||◌, nat_lt, Bool, true, false, not, cond, List, [], ◌∷◌, length, map, get_or, replicate, refl, sym, ap, ◌∙◌, arith}
+use Rattle.std.specs.Prelude.{count_by, find, filter_map, unwrap_or, Option, Some, None, option_map}
+use Rattle.std.specs.List.{list_any}
+use Rattle.std.proofs.lemmas.Bool.Decides.{nat_tests}
+use Rattle.std.proofs.lemmas.List.{length-map}
+use Rattle.std.proofs.lemmas.List.Sums.{sum_by-cons}
+use Rattle.xl_base.specs.declared.ids.TxId.{TxId}
+use Rattle.xl_base.specs.declared.ids.SetId.{SetId}
+use Rattle.xl_disputes.specs.declared.votes.Votes.{Votes}
+use Rattle.xl_disputes.specs.declared.tally.Tally.{Tally}
+use Rattle.xl_disputes.specs.Disputes.{has, is_named, is_yay, is_nay, vote, votes, votes_of, is_counted, counted_sets}
+use Rattle.xl_disputes.specs.Holdings.{Holding, ids_in, ours_of, amount, total}
+use Rattle.xl_disputes.specs.Standings.{stand, voters, votes_by, own_in, own_ids, known_of, IsKept}
+use Rattle.xl_disputes.proofs.Standing.{picked, picked_standings, says, stands_for, amount_picked, both_picked, sets_of}
+
+-- ---- the holdings' sets are the counted ones
+
+pub counted_are : (hs : List Holding) (positions : List (Option SetId)) → own_in hs ≡ Some (own_ids hs) → filter_map (λ s. s) (sets_of hs) ≡ counted_sets (known_of hs positions)
+counted_are [] positions own = absurd (cc own)
+counted_are (h ∷ hs) positions own = ap (λ s. filter_map (λ x. x) (s ∷ sets_of hs)) own
+
+-- ---- yays and nays
+
+count_same : {A : Type 0} (p q : A → Bool) → ((a : A) → p a ≡ q a) → (as' : List A) → count_by p as' ≡ count_by q as'
+count_same p q same [] = refl
+count_same p q same (a ∷ as') = omega (arith, sum_by-cons (λ x. cond (p x) 1 0) a as', sum_by-cons (λ x. cond (q x) 1 0) a as', ap {B = ℕ} (λ b. cond b 1 0) (same a), count_same p q same as')
+
+nay_is : (o : Option (List TxId)) (tx : TxId) → is_yay (option_map (λ set. not (has set tx)) o) ≡ is_nay (option_map (λ set. has set tx) o)
+nay_is None tx = refl
+nay_is (Some set) tx = refl
+
+module _ (hs : List Holding) (positions : List (Option SetId)) (kept : IsKept hs positions) (count : length hs ≡ 65) (tx : TxId) where
+  found_as : (id : SetId) → find (is_named id) (filter_map (λ s. s) (sets_of hs)) ≡ find (is_named id) (counted_sets (known_of hs positions))
+  found_as id = ap (find (is_named id)) (counted_are hs positions kept.own)
+
+  yay_says : (position : Option SetId) → is_yay (says (λ set. has set tx) (sets_of hs) position) ≡ is_yay (vote (known_of hs positions) tx position)
+  yay_says None = refl
+  yay_says (Some id) = ap (λ o. is_yay (option_map (λ set. has set tx) o)) (found_as id)
+
+  nay_says : (position : Option SetId) → is_yay (says (λ set. not (has set tx)) (sets_of hs) position) ≡ is_nay (vote (known_of hs positions) tx position)
+  nay_says None = refl
+  nay_says (Some id) =
+      nay_is (find (is_named id) (filter_map (λ s. s) (sets_of hs))) tx ∙ ap (λ o. is_nay (option_map (λ set. has set tx) o)) (found_as id)
+
+  picked_by : (test : List TxId → Bool) → picked (map (λ h. test (ids_in h)) hs) (map (λ h. h.weight) hs) ≡ count_by (λ position. is_yay (says test (sets_of hs) position)) positions
+  picked_by test =
+      ap (picked (map (λ h. test (ids_in h)) hs)) kept.weights ∙ picked_standings hs (map (λ h. test (ids_in h)) hs) positions (length-map hs (λ h. test (ids_in h)) ∙ count)
+      ∙ count_same (λ position. get_or (map (λ h. test (ids_in h)) hs) (stand hs position) false) (λ position. is_yay (says test (sets_of hs) position)) (stands_for test hs) positions
+
+  yays_are : (total hs tx).yays ≡ (votes (known_of hs positions) tx).yays
+  yays_are =
+      amount_picked tx (λ set. has set tx) hs ∙ picked_by (λ set. has set tx)
+      ∙ count_same (λ position. is_yay (says (λ set. has set tx) (sets_of hs) position)) (λ position. is_yay (vote (known_of hs positions) tx position)) yay_says positions
+
+  nays_are : voters hs - (total hs tx).yays ≡ (votes (known_of hs positions) tx).nays
+  nays_are =
+      let nays : picked (map (λ h. not (has (ids_in h) tx)) hs) (map (λ h. h.weight) hs) ≡ (votes (known_of hs positions) tx).nays =
+      picked_by (λ set. not (has set tx))
+      ∙ count_same (λ position. is_yay (says (λ set. not (has set tx)) (sets_of hs) position)) (λ position. is_nay (vote (known_of hs positions) tx position)) nay_says positions in
+      omega (arith, nays, amount_picked tx (λ set. has set tx) hs, both_picked (λ set. has set tx) hs)
+
+-- ---- ours
+
+no_ours : (tx : TxId) (n : ℕ) (hs : List Holding) → map (λ h. h.ours) hs ≡ replicate n false → amount ours_of tx hs ≡ 0
+no_ours tx n [] theirs = refl
+no_ours tx zero (h ∷ hs) theirs = absurd (cc theirs)
+no_ours tx (suc n) (h ∷ hs) theirs =
+    let head : h.ours ≡ false = ap (first true) theirs in
+    let rest : map (λ x. x.ours) hs ≡ replicate n false = ap tail' theirs in
+    omega (arith, sum_by-cons (λ (x : Holding). cond (has (ids_in x) tx) (ours_of x) 0) h hs, no_ours tx n hs rest, nothing (has (ids_in h) tx) (ours_of h) (ap {B = ℕ} (λ b. cond b 1 0) head))
+  where
+    first : Bool → List Bool → Bool
+    first d [] = d
+    first d (b ∷ bs) = b
+
+    tail' : List Bool → List Bool
+    tail' [] = []
+    tail' (b ∷ bs) = bs
+
+    nothing : (b : Bool) (n : ℕ) → n ≡ 0 → cond b n 0 ≡ 0
+    nothing true n none = none
+    nothing false n none = refl
+
+ours_are : (tx : TxId) (hs : List Holding) → map (λ h. h.ours) hs ≡ true ∷ replicate 64 false → nat_lt 0 (amount ours_of tx hs) ≡ has (own_ids hs) tx
+ours_are tx [] ours = absurd (cc ours)
+ours_are tx (h ∷ hs) ours =
+    let head : h.ours ≡ true = ap (first false) ours in
+    let none : amount ours_of tx hs ≡ 0 = no_ours tx 64 hs (ap tail' ours) in
+    let sum : amount ours_of tx (h ∷ hs) ≡ cond (has (ids_in h) tx) 1 0 =
+    omega (arith, sum_by-cons (λ (x : Holding). cond (has (ids_in x) tx) (ours_of x) 0) h hs, none, ap {B = ℕ} (λ b. cond (has (ids_in h) tx) (cond b 1 0) 0) head) in
+    ap (nat_lt 0) sum ∙ test (has (ids_in h) tx)
+  where
+    first : Bool → List Bool → Bool
+    first d [] = d
+    first d (b ∷ bs) = b
+
+    tail' : List Bool → List Bool
+    tail' [] = []
+    tail' (b ∷ bs) = bs
+
+    test : (b : Bool) → nat_lt 0 (cond b 1 0) ≡ b
+    test true = refl
+    test false = refl
+
+-- ---- all of it
+
+votes_same : (a b : Votes) → a.yays ≡ b.yays → a.nays ≡ b.nays → a.ours ≡ b.ours → a ≡ b
+votes_same a b yays nays ours =
+    ap (λ x. record { yays = x; nays = a.nays; ours = a.ours }) yays ∙ ap (λ x. record { yays = b.yays; nays = x; ours = a.ours }) nays
+    ∙ ap (λ x. record { yays = b.yays; nays = b.nays; ours = x }) ours
+
+module _ (hs : List Holding) (positions : List (Option SetId)) (kept : IsKept hs positions) (count : length hs ≡ 65) (tx : TxId) where
+  pub votes_are : votes_by (voters hs) (total hs tx) ≡ votes (known_of hs positions) tx
+  votes_are =
+      votes_same (votes_by (voters hs) (total hs tx)) (votes (known_of hs positions) tx) (yays_are hs positions kept count tx) (nays_are hs positions kept count tx) (ours_are tx hs kept.ours)
+
+-- an id is counted exactly where a set has it
+any_set : (tx : TxId) (hs : List Holding) → nat_lt 0 (amount (λ _. 1) tx hs) ≡ list_any (λ set. has set tx) (filter_map (λ s. s) (sets_of hs))
+any_set tx [] = refl
+any_set tx (h ∷ hs) = ap (nat_lt 0) (sum_by-cons (λ (x : Holding). cond (has (ids_in x) tx) 1 0) h hs) ∙ step h.set (any_set tx hs)
+  where
+    step : (set : Option (List TxId)) → nat_lt 0 (amount (λ _. 1) tx hs) ≡ list_any (λ s. has s tx) (filter_map (λ s. s) (sets_of hs)) →
+        nat_lt 0 (cond (has (unwrap_or set []) tx) 1 0 + amount (λ _. 1) tx hs) ≡ list_any (λ s. has s tx) (filter_map (λ s. s) (set ∷ sets_of hs))
+    step None more = ap (nat_lt 0) (plus_none (amount (λ _. 1) tx hs)) ∙ more
+      where
+        plus_none : (n : ℕ) → 0 + n ≡ n
+        plus_none n = omega arith
+    step (Some s) more = either (has s tx) more
+      where
+        either : (b : Bool) → nat_lt 0 (amount (λ _. 1) tx hs) ≡ list_any (λ x. has x tx) (filter_map (λ x. x) (sets_of hs)) →
+            nat_lt 0 (cond b 1 0 + amount (λ _. 1) tx hs) ≡ (b || list_any (λ x. has x tx) (filter_map (λ x. x) (sets_of hs)))
+        either true more' = grind (arith, nat_tests)
+        either false more' = ap (nat_lt 0) (plus (amount (λ _. 1) tx hs)) ∙ more'
+          where
+            plus : (n : ℕ) → 0 + n ≡ n
+            plus n = omega arith
+
+pub counted_is : (hs : List Holding) (positions : List (Option SetId)) → own_in hs ≡ Some (own_ids hs) → (tx : TxId) → nat_lt 0 (total hs tx).sets ≡ is_counted (known_of hs positions) tx
+counted_is hs positions own tx = any_set tx hs ∙ ap (list_any (λ set. has set tx)) (counted_are hs positions own)
+
+-- ---- as the code tells it
+
+module _ (hs : List Holding) (positions : List (Option SetId)) (kept : IsKept hs positions) (tx : TxId) (tally : Tally) (is : tally ≡ total hs tx) where
+  test_is : nat_lt 0 tally.sets ≡ is_counted (known_of hs positions) tx
+  test_is = ap (λ (t : Tally). nat_lt 0 t.sets) is ∙ counted_is hs positions kept.own tx
+
+  pub told_votes : (n : ℕ) (v : Votes) → n ≡ voters hs → v ≡ votes_by n tally → 0 < tally.sets → Some v ≡ votes_of (known_of hs positions) tx
+  told_votes n v n_is v_is some =
+      let counted : is_counted (known_of hs positions) tx ≡ true = sym test_is ∙ grind (arith, nat_tests, some) in
+      ap Some (v_is ∙ ap (λ m. votes_by m tally) n_is ∙ ap (votes_by (voters hs)) is ∙ votes_are hs positions kept kept.places tx)
+      ∙ ap (λ b. cond b (Some (votes (known_of hs positions) tx)) None) (sym counted)
+
+  pub told_none : tally.sets ≤ 0 → None ≡ votes_of (known_of hs positions) tx
+  told_none none =
+      let out : is_counted (known_of hs positions) tx ≡ false = sym test_is ∙ grind (arith, nat_tests, none) in
+      ap (λ b. cond b (Some (votes (known_of hs positions) tx)) None) (sym out)

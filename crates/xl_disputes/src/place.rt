@@ -1,0 +1,118 @@
+ghost use Rattle.std.specs.Prelude.{◌≡◌, Some, None, IfOk, option_copied};
+ghost use Rattle.xl_base.specs.Sets.{set_id_of, IsSet};
+ghost use Rattle.xl_disputes.specs.Standings.{names};
+ghost use Rattle.xl_disputes.specs.Holdings.{empty_own, no_holding, ids_in, tally_from, with_set, with_weight};
+
+use crate::set::Set;
+use crate::tally::Tally;
+use std::alloc::Global;
+use std::marker::Model;
+use xl_base::{OutOfMemory, SetId, TxId};
+
+/// A place for our own set or a member's, with how many positions the set stands for. Its room is taken when it is opened.
+#[derive(Debug, Drop)]
+pub(crate) struct Place {
+    set: Set,
+    holds: bool,
+    weight: u32,
+    ours: bool,
+}
+
+impl Model for Place {
+    ghost use Rattle.std.specs.Prelude.{Some, None, if◌then◌else◌};
+    ghost use Rattle.xl_disputes.specs.Holdings.{Holding};
+
+    ghost Value = { Holding };
+
+    ghost view = { λ p. record { set = if p.holds then Some p.set else None; weight = p.weight; ours = p.ours } };
+}
+
+impl Place {
+    /// Our own, with the empty set.
+    pub(crate) fn own(alloc: Global) -> Result<Place, OutOfMemory>
+        ensures { IfOk result (λ place. place ≡ empty_own) }
+    {
+        Ok(Place {
+            set: Set::open(alloc)?,
+            holds: true,
+            weight: 0,
+            ours: true,
+        })
+    }
+
+    /// A member's, with no set.
+    pub(crate) fn free(alloc: Global) -> Result<Place, OutOfMemory>
+        ensures { IfOk result (λ place. place ≡ no_holding) }
+    {
+        Ok(Place {
+            set: Set::open(alloc)?,
+            holds: false,
+            weight: 0,
+            ours: false,
+        })
+    }
+
+    /// The set, if there is one.
+    pub(crate) fn set(&self) -> Option<&Set>
+        ensures { option_copied result ≡ self.now.set }
+    {
+        if self.holds { Some(&self.set) } else { None }
+    }
+
+    /// Whether it holds the set of this id.
+    pub(crate) fn is_named(&self, id: &SetId) -> bool
+        ensures { result ≡ names id.now self.now.set }
+    {
+        self.holds && self.set.id() == *id
+    }
+
+    /// How many positions the set stands for.
+    pub(crate) fn weight(&self) -> u32
+        ensures { result ≡ self.now.weight }
+    {
+        self.weight
+    }
+
+    /// The ids of the set, if there is one.
+    pub(crate) fn ids(&self) -> &[TxId]
+        ensures value { result.now ≡ ids_in self.now }
+        ensures valid { IsSet (ids_in self.now) }
+    {
+        if self.holds { self.set.ids() } else { &[] }
+    }
+
+    /// What each of the ids has from it.
+    pub(crate) fn tally(&self) -> Tally
+        ensures { result ≡ tally_from self.now }
+    {
+        Tally {
+            sets: 1,
+            yays: self.weight,
+            ours: u32::from(self.ours),
+        }
+    }
+
+    /// Holds the set of these ids, and tells its id.
+    pub(crate) fn fill(&mut self, ids: &[TxId]) -> SetId
+        requires { IsSet ids.now }
+        ensures named { result ≡ set_id_of ids.now }
+        ensures taken { self.new ≡ with_set (Some ids.now) self.old }
+    {
+        self.set.take(ids);
+        self.holds = true;
+        self.set.id()
+    }
+
+    /// Holds no set any more.
+    pub(crate) fn release(&mut self)
+        ensures { self.new ≡ with_set None self.old }
+    {
+        self.holds = false;
+    }
+
+    pub(crate) fn weigh(&mut self, weight: u32)
+        ensures { self.new ≡ with_weight weight self.old }
+    {
+        self.weight = weight;
+    }
+}
