@@ -1,0 +1,108 @@
+-- The lines of a heartbeat, one after the other.
+use Rattle.std.proofs.Common.{◌≡◌, ℕ, ◌-◌, ◌/◌, ◌≤◌, Bool, true, false, ap, sym, refl, ◌∙◌, arith, Option}
+use Rattle.std.proofs.lemmas.Bool.{cond_both, cond-false, le-ltb}
+use Rattle.std.specs.Prelude.{nat_lt, is_some}
+use Rattle.xl_rounds.specs.declared.agreement.Tally.{Tally}
+use Rattle.xl_rounds.specs.declared.agreement.Consensus.{Consensus}
+use Rattle.xl_rounds.specs.declared.agreement.Consensus.TheVariants.{No, Yes, MovedOn}
+use Rattle.xl_rounds.specs.declared.decision.Decision.{Decision}
+use Rattle.xl_rounds.specs.declared.pulse.Said.{Said}
+use Rattle.xl_rounds.specs.declared.pulse.Kind.{Kind}
+use Rattle.xl_rounds.specs.declared.pulse.Pulse.{Pulse}
+use Rattle.xl_rounds.specs.Agreement.{consensus}
+use Rattle.xl_rounds.specs.Rounds.{Round}
+use Rattle.xl_rounds.specs.Heartbeats.{Beat, quiet, is_ready, with_new_position, voted, decision, is_renewed, after_third, said_in_third, tally, outcome, kind_of, ready_after, established_by, established, establish_beat}
+
+abbrev pub with_ready : Option ℕ → Round → Round
+with_ready ready r = record r { ready = ready }
+
+abbrev pub pulse_of : Kind → Option Said → Pulse
+pulse_of kind said = record { kind = kind; said = said }
+
+-- what the fourth and the fifth line find
+reached_is : (r : Round) (t : Tally) (found : Consensus) (reached : Option Kind) (agreed : Bool) (round_ms finished : ℕ) →
+    t ≡ tally r round_ms finished → found ≡ consensus t → reached ≡ outcome found agreed → reached ≡ outcome (consensus (tally r round_ms finished)) agreed
+reached_is r t found reached agreed round_ms finished is_t is_found is_reached =
+    is_reached ∙ ap (λ f. outcome f agreed) (is_found ∙ ap consensus is_t)
+
+-- what lines 3 to 5 found, in the order in which the code found it
+pub record AreLines (d : Decision) (before after : Round) (is_new : Bool) (said : Option Said) (t : Tally) (found : Consensus) (reached : Option Kind) (round_ms second finished : ℕ) : Type 0 where
+  pub new : is_new ≡ is_renewed before second d
+  pub said_is : said ≡ said_in_third before second d
+  pub after_is : after ≡ after_third before second d
+  pub tally_is : t ≡ tally after round_ms finished
+  pub found_is : found ≡ consensus t
+  pub reached_is : reached ≡ outcome found d.choice.agreed
+
+all_reached : (d : Decision) (before after : Round) (is_new : Bool) (said : Option Said) (t : Tally) (found : Consensus) (reached : Option Kind) (round_ms second finished : ℕ) →
+    AreLines d before after is_new said t found reached round_ms second finished →
+    reached ≡ outcome (consensus (tally (after_third before second d) round_ms finished)) d.choice.agreed
+all_reached d before after is_new said t found reached round_ms second finished lines =
+    reached_is after t found reached d.choice.agreed round_ms finished lines.tally_is lines.found_is lines.reached_is
+    ∙ ap (λ (r : Round). outcome (consensus (tally r round_ms finished)) d.choice.agreed) lines.after_is
+
+pub told_by : (d : Decision) (before after : Round) (is_new : Bool) (said : Option Said) (t : Tally) (found : Consensus) (reached : Option Kind) (round_ms second finished : ℕ) →
+    AreLines d before after is_new said t found reached round_ms second finished →
+    pulse_of (kind_of reached is_new) said ≡ (established_by d round_ms second finished before).pulse
+told_by d before after is_new said t found reached round_ms second finished lines =
+    ap (λ o. pulse_of (kind_of o is_new) said) (all_reached d before after is_new said t found reached round_ms second finished lines)
+    ∙ ap (λ b. pulse_of (kind_of (outcome (consensus (tally (after_third before second d) round_ms finished)) d.choice.agreed) b) said) lines.new
+    ∙ ap (pulse_of (kind_of (outcome (consensus (tally (after_third before second d) round_ms finished)) d.choice.agreed) (is_renewed before second d))) lines.said_is
+
+pub left_by : (d : Decision) (before after : Round) (is_new : Bool) (said : Option Said) (t : Tally) (found : Consensus) (reached : Option Kind) (round_ms second finished : ℕ) →
+    AreLines d before after is_new said t found reached round_ms second finished →
+    with_ready (ready_after reached round_ms) after ≡ (established_by d round_ms second finished before).round
+left_by d before after is_new said t found reached round_ms second finished lines =
+    ap (λ o. with_ready (ready_after o round_ms) after) (all_reached d before after is_new said t found reached round_ms second finished lines)
+    ∙ ap (with_ready (ready_after (outcome (consensus (tally (after_third before second d) round_ms finished)) d.choice.agreed) round_ms)) lines.after_is
+
+-- the first two lines come before
+pub decided_first : (d : Decision) (before old : Round) (round_ms second finished : ℕ) → d ≡ decision old round_ms second → before ≡ voted old round_ms second →
+    established_by d round_ms second finished before ≡ established round_ms second finished old
+decided_first d before old round_ms second finished is_d is_before =
+    ap (λ e. established_by e round_ms second finished before) is_d ∙ ap (established_by (decision old round_ms second) round_ms second finished) is_before
+
+-- a round that isn't young
+pub no_longer_young : (now finished round_ms second : ℕ) (r : Round) → round_ms ≡ now - r.stance.closed → 1950 ≤ round_ms → second ≡ now / 1000 →
+    established round_ms second finished r ≡ establish_beat now finished r
+no_longer_young now finished round_ms second r is late is_second =
+    ap (λ ms. established ms second finished r) is
+    ∙ ap (λ s. established (now - r.stance.closed) s finished r) is_second
+    ∙ sym (cond-false (nat_lt (now - r.stance.closed) 1950) (quiet r) (established (now - r.stance.closed) (now / 1000) finished r)
+    (le-ltb (now - r.stance.closed) 1950 (omega (arith, is, late))))
+
+-- ---- what holds after a heartbeat
+
+-- the round is ready exactly where the heartbeat tells so, and stays on its ledger
+pub record IsTold (r : Round) (b : Beat) : Type 0 where
+  pub ready : is_some b.round.ready ≡ is_ready b.pulse.kind
+  pub setting : b.round.setting ≡ r.setting
+
+quiet_told : (r : Round) → IsTold r (quiet r)
+quiet_told r = record { ready = refl; setting = refl }
+
+concluded_ready : (r : Round) (round_ms : ℕ) (c : Consensus) (agreed is_new : Bool) (said : Option Said) →
+    is_some (ready_after (outcome c agreed) round_ms) ≡ is_ready (kind_of (outcome c agreed) is_new)
+concluded_ready r round_ms c false true said = refl
+concluded_ready r round_ms c false false said = refl
+concluded_ready r round_ms No true true said = refl
+concluded_ready r round_ms No true false said = refl
+concluded_ready r round_ms Yes true is_new said = refl
+concluded_ready r round_ms MovedOn true is_new said = refl
+
+after_third_setting : (r : Round) (second : ℕ) (d : Decision) → (after_third r second d).setting ≡ r.setting
+after_third_setting r second d =
+    cond_both (is_renewed r second d) (with_new_position d.choice.close second r) r (λ (s : Round). s.setting ≡ r.setting) (λ _. refl) (λ _. refl)
+
+by_told : (d : Decision) (round_ms second finished : ℕ) (r : Round) → IsTold r (established_by d round_ms second finished r)
+by_told d round_ms second finished r = record {
+  ready = concluded_ready (after_third r second d) round_ms (consensus (tally (after_third r second d) round_ms finished)) d.choice.agreed (is_renewed r second d) (said_in_third r second d);
+  setting = after_third_setting r second d;
+}
+
+pub establish_told : (now finished : ℕ) (r : Round) → IsTold r (establish_beat now finished r)
+establish_told now finished r =
+    let ms : ℕ = now - r.stance.closed in
+    let second : ℕ = now / 1000 in
+    let told = by_told (decision r ms second) ms second finished (voted r ms second) in
+    cond_both (nat_lt ms 1950) (quiet r) (established ms second finished r) (IsTold r) (λ _. quiet_told r) (λ _. record { ready = told.ready; setting = told.setting })

@@ -1,0 +1,8 @@
+use Rattle.std.proofs.Common.{◌≡◌, ◌++◌, map, take, drop}
+use Rattle.xl_rounds.specs.Positions.{unless_old}
+use Rattle.xl_rounds.proofs.positions.Positions.remove_old.Given as goal
+
+-- the positions so far stand where they aren't old, and the others as they were
+abbrev pub invariant-loop-place : goal.invariant-loop-place
+invariant-loop-place l =
+    l.self ≡ record l.initial.self { members = map (unless_old l.now) (take l.place l.initial.self.members) ++ drop l.place l.initial.self.members }

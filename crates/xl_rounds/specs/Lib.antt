@@ -1,0 +1,12 @@
+pub mod Codes
+pub mod Lines
+pub mod Closing
+pub mod Agreement
+pub mod Pending
+pub mod Positions
+pub mod Settings
+pub mod Rounds
+pub mod Proposals
+pub mod Heartbeats
+pub mod Laws
+pub mod Rest

@@ -1,0 +1,103 @@
+ghost use Rattle.std.specs.Prelude.{◌≡◌, ◌≤◌, [], length, vec_capacity, IfOk, OnOk, OnErr};
+ghost use Rattle.std.specs.List.{prefix_len};
+ghost use Rattle.std.specs.Result.{result_err};
+ghost use Rattle.xl_base.specs.Sets.{is_below as is_below_of, IsSet};
+ghost use Rattle.xl_disputes.specs.Disputes.{has};
+ghost use Rattle.xl_disputes.specs.Rising.{with_tx};
+ghost use Rattle.xl_rounds.specs.Pending.{submit_refusal, without_accepted};
+
+use crate::RoundRefusal;
+use std::alloc::Global;
+use std::marker::Model;
+use xl_base::{OutOfMemory, TxId};
+
+/// As many transactions may be pending as a set may have.
+const POOL: u32 = 256;
+
+/// The transactions that wait for a ledger, in rising order. No call after `open` takes memory.
+#[derive(Drop)]
+pub(crate) struct Pending {
+    ids: Vec<TxId>,
+}
+
+impl Model for Pending {
+    ghost use Rattle.std.specs.Prelude.{List, vec_capacity};
+    ghost use Rattle.xl_base.specs.declared.ids.TxId.{TxId};
+    ghost use Rattle.xl_rounds.specs.Rest.{HasRoom};
+
+    ghost Value = { List TxId };
+
+    ghost view = { λ a. a.ids.items };
+
+    ghost invariant = { λ a. HasRoom a.ids.items (vec_capacity a.ids) };
+}
+
+/// How many ids at the front are below this one.
+fn place_of(ids: &[TxId], tx: &TxId) -> usize
+    ensures value { result ≡ prefix_len (λ id. is_below_of id tx.now) ids.now }
+    ensures within { result ≤ length ids.now }
+{
+    ids.iter().take_while(|id| is_below(id, tx)).count()
+}
+
+fn is_below(a: &TxId, b: &TxId) -> bool
+    ensures { result ≡ is_below_of a.now b.now }
+{
+    a < b
+}
+
+fn is_among(ids: &[TxId], tx: &TxId) -> bool
+    ensures { result ≡ has ids.now tx.now }
+{
+    ids.contains(tx)
+}
+
+/// Keeps the ids that aren't accepted.
+fn drop_accepted(ids: &mut Vec<TxId>, accepted: &[TxId])
+    ensures left { ids.new.items ≡ without_accepted accepted.now ids.old.items }
+    ensures room { vec_capacity ids.new ≡ vec_capacity ids.old }
+{
+    ids.retain(|tx| !is_among(accepted, tx));
+}
+
+impl Pending {
+    /// No transaction, and room for as many as may be.
+    pub(crate) fn open(alloc: Global) -> Result<Pending, OutOfMemory>
+        ensures { IfOk result (λ pending. pending ≡ []) }
+    {
+        Ok(Pending {
+            ids: Vec::with_capacity(alloc, POOL as usize)?,
+        })
+    }
+
+    pub(crate) fn as_slice(&self) -> &[TxId]
+        ensures value { result.now ≡ self.now }
+        ensures set { IsSet self.now }
+    {
+        &self.ids
+    }
+
+    /// Puts a transaction at its place. Refused as pending, or where no more may be, in this order; all then stays.
+    pub(crate) fn submit(&mut self, tx: TxId) -> Result<(), RoundRefusal>
+        ensures answer { result_err result ≡ submit_refusal self.old tx }
+        ensures taken { OnOk result (self.new ≡ with_tx tx self.old) }
+        ensures refused { OnErr result (self.new ≡ self.old) }
+    {
+        if is_among(&self.ids, &tx) {
+            return Err(RoundRefusal::Pending(tx));
+        }
+        if self.ids.len() >= POOL as usize {
+            return Err(RoundRefusal::PoolFull(POOL));
+        }
+        let place = place_of(&self.ids, &tx);
+        let _ = self.ids.insert(place, tx);
+        Ok(())
+    }
+
+    /// Takes the transactions of an accepted set out.
+    pub(crate) fn take_out(&mut self, accepted: &[TxId])
+        ensures { self.new ≡ without_accepted accepted.now self.old }
+    {
+        drop_accepted(&mut self.ids, accepted);
+    }
+}

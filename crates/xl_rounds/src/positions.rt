@@ -1,0 +1,232 @@
+ghost use Rattle.std.specs.Prelude.{◌≡◌, ◌≤◌, ◌<◌, ◌+◌, not, [], length, take, map, filter_map, option_map, slice_index_or, None, Some, IfOk};
+ghost use Rattle.xl_base.specs.Sets.{set_id_of, IsSet};
+ghost use Rattle.xl_closetime.specs.Choices.{choose_close as choose_close_of};
+ghost use Rattle.xl_closetime.specs.Resolutions.{IsResolution};
+ghost use Rattle.xl_rounds.specs.Heartbeats.{is_same_set};
+ghost use Rattle.xl_rounds.specs.Positions.{
+  no_positions,
+  position_of,
+  with_position,
+  without_positions,
+  with_held,
+  with_own,
+  count as count_of,
+  is_old as is_old_of,
+  unless_old as unless_old_of,
+  without_old,
+  next_set,
+  close_times as close_times_of,
+  names as names_of,
+  agreeing as agreeing_of,
+  times_of,
+};
+ghost use Rattle.xl_rounds.specs.Rest.{is_old_position as is_old_position_of, without_old_at};
+
+use crate::members::{MEMBERS, member_at, place_of};
+use std::alloc::Global;
+use std::marker::Model;
+use xl_base::{NodeNo, OutOfMemory, Secs, SetId, TxId};
+use xl_closetime::{Choice, choose_close};
+use xl_disputes::Disputes;
+use xl_wire::Proposal;
+
+/// A position is old once so many seconds have passed since it was taken.
+const FRESH_SECS: Secs = 20;
+
+/// The members' positions, the sets that members hold, and our own set. No call after `open` takes memory.
+#[derive(Drop)]
+pub(crate) struct Positions {
+    /// The positions, from member 1 on.
+    members: [Option<Proposal>; MEMBERS],
+    /// The sets, and what the positions say of them.
+    disputes: Disputes,
+}
+
+impl Model for Positions {
+    ghost use Rattle.xl_rounds.specs.Positions.{Positions};
+    ghost use Rattle.xl_rounds.specs.Rest.{AreNamed};
+
+    ghost Value = { Positions };
+
+    ghost view = { λ a. record { members = a.members; held = a.disputes.held; own = a.disputes.own } };
+
+    ghost invariant = { λ a. AreNamed a.members a.disputes.positions };
+}
+
+/// Whether a position is too old to stand.
+pub(crate) fn is_old(now: Secs, p: &Proposal) -> bool
+    ensures { result ≡ is_old_of now p.now }
+{
+    p.time <= now.saturating_sub(FRESH_SECS)
+}
+
+/// Whether it is a position that is too old to stand.
+fn is_old_position(now: Secs, position: &Option<Proposal>) -> bool
+    ensures kept { result ≡ is_old_position_of now position.now }
+{
+    match position {
+        Some(p) => is_old(now, p),
+        None => false,
+    }
+}
+
+fn names(id: &SetId, position: &Option<Proposal>) -> bool
+    ensures { result ≡ names_of id.now position.now }
+{
+    match position {
+        Some(p) => p.set == *id,
+        None => false,
+    }
+}
+
+/// Writes the close times of the positions into the front of the room, and tells how many they are.
+fn close_times(members: &[Option<Proposal>], room: &mut [Secs]) -> usize
+    requires fits { length members.now ≤ length room.old }
+    ensures len { result ≡ length (times_of members.now) }
+    ensures within { result ≤ length members.now }
+    ensures times { take result room.new ≡ times_of members.now }
+{
+    let mut len = 0;
+    for position in members {
+        if let Some(p) = position {
+            room[len] = p.close;
+            len += 1;
+        }
+    }
+    len
+}
+
+impl Positions {
+    /// No position, no held set, and an empty set of our own.
+    pub(crate) fn open(alloc: Global) -> Result<Positions, OutOfMemory>
+        ensures { IfOk result (λ positions. positions ≡ no_positions []) }
+    {
+        Ok(Positions {
+            members: [None; MEMBERS],
+            disputes: Disputes::open(alloc)?,
+        })
+    }
+
+    /// The member's position, if it has one.
+    pub(crate) fn of(&self, member: NodeNo) -> Option<Proposal>
+        ensures { result ≡ position_of self.now member }
+    {
+        self.members[place_of(member)]
+    }
+
+    /// The member's position is this proposal, in place of an older one.
+    pub(crate) fn put(&mut self, member: NodeNo, p: &Proposal)
+        ensures { self.new ≡ with_position member (Some p.now) self.old }
+    {
+        self.members[place_of(member)] = Some(*p);
+        self.disputes.position(member, p.set);
+    }
+
+    /// The member has no position any more.
+    pub(crate) fn remove(&mut self, member: NodeNo)
+        ensures { self.new ≡ with_position member None self.old }
+    {
+        self.members[place_of(member)] = None;
+        self.disputes.leave(member);
+    }
+
+    /// No member has a position any more.
+    pub(crate) fn clear(&mut self)
+        ensures { self.new ≡ without_positions self.old }
+    {
+        self.members = [None; MEMBERS];
+        self.disputes.clear();
+    }
+
+    /// Removes the positions that are too old to stand.
+    pub(crate) fn remove_old(&mut self, now: Secs)
+        ensures { self.new ≡ without_old now self.old }
+    {
+        // Each member has a place.
+        let _ = &self.members;
+        for place in 0..MEMBERS {
+            self.remove_if_old(place, now);
+        }
+    }
+
+    fn remove_if_old(&mut self, place: usize, now: Secs)
+        requires { place < MEMBERS }
+        ensures { self.new ≡ without_old_at now place self.old }
+    {
+        if is_old_position(now, &self.members[place]) {
+            self.remove(member_at(place));
+        }
+    }
+
+    /// These ids are what the member holds, in place of older ones. Tells their id.
+    pub(crate) fn hold(&mut self, member: NodeNo, set: &[TxId]) -> SetId
+        requires { IsSet set.now }
+        ensures named { result ≡ set_id_of set.now }
+        ensures held { self.new ≡ with_held member set.now self.old }
+    {
+        self.disputes.hold(member, set)
+    }
+
+    /// These ids are our own set.
+    pub(crate) fn own(&mut self, set: &[TxId])
+        requires { IsSet set.now }
+        ensures { self.new ≡ with_own set.now self.old }
+    {
+        self.disputes.own(set);
+    }
+
+    pub(crate) fn own_set(&self) -> &[TxId]
+        ensures value { result.now ≡ self.now.own }
+        ensures valid { IsSet self.now.own }
+    {
+        self.disputes.own_set()
+    }
+
+    pub(crate) fn own_id(&self) -> SetId
+        ensures { result ≡ set_id_of self.now.own }
+    {
+        self.disputes.own_id()
+    }
+
+    /// Our set is the next one by the votes. Tells whether it changed.
+    pub(crate) fn update(&mut self, percent: u64, proposing: bool) -> bool
+        ensures changed { result ≡ not (is_same_set (next_set percent proposing self.old) self.old.own) }
+        ensures voted { self.new ≡ with_own (next_set percent proposing self.old) self.old }
+    {
+        self.disputes.update(percent, proposing)
+    }
+
+    /// How many members have a position.
+    pub(crate) fn count(&self) -> u32
+        ensures value { result ≡ count_of self.now }
+        ensures most { result ≤ 64 }
+    {
+        self.members
+            .iter()
+            .filter(|position| position.is_some())
+            .count() as u32
+    }
+
+    /// How many positions name our set.
+    pub(crate) fn agreeing(&self) -> u32
+        ensures value { result ≡ agreeing_of self.now }
+        ensures most { result ≤ 64 }
+    {
+        let id = self.own_id();
+        self.members
+            .iter()
+            .filter(|position| names(&id, position))
+            .count() as u32
+    }
+
+    /// The close time that the positions give, and whether it is agreed on.
+    pub(crate) fn choose_close(&self, own: Secs, proposing: bool, threshold: u32, r: u8) -> Choice
+        requires percent { threshold ≤ 100 }
+        requires resolution { IsResolution r }
+        ensures { result ≡ choose_close_of (close_times_of self.now) own proposing threshold r }
+    {
+        let mut room = [0; MEMBERS];
+        let len = close_times(&self.members, &mut room);
+        choose_close(&room[..len], own, proposing, threshold, r)
+    }
+}

@@ -1,0 +1,227 @@
+ghost use Rattle.std.specs.Prelude.{◌≤◌};
+ghost use Rattle.xl_base.specs.declared.moments.TheConstants.{GREATEST_MILLIS};
+
+use crate::{Agreed, Kind, Mode, Phase, Placed, Pulse, Round, RoundRefusal, Seen};
+use std::alloc::Global;
+use std::marker::Model;
+use std::test::Fail;
+use xl_base::{GREATEST_MILLIS, LedgerId, Millis, NodeNo, Secs, SetId, TxId, set_id};
+use xl_ledger::{Header, LedgerNo, Registry, build_next, id_of};
+use xl_wire::Proposal;
+
+pub const ROOT: LedgerId = LedgerId([0; 32]);
+
+/// No member has said or seen anything.
+pub const NOTHING: Seen = Seen {
+    validated: 0,
+    finished: 0,
+};
+
+pub fn member(number: u32) -> Result<NodeNo, Fail> {
+    Ok(NodeNo::new(number).ok_or("no member")?)
+}
+
+/// The transaction of a number.
+pub fn tx(number: u8) -> TxId {
+    TxId([number; 32])
+}
+
+/// The proposal of a set on a ledger, made and closed at a second.
+pub fn on(prev: LedgerId, set: SetId, pseq: u32, second: Secs) -> Proposal {
+    Proposal {
+        prev,
+        set,
+        pseq,
+        close: second,
+        time: second,
+    }
+}
+
+/// What came of a proposal: where it is, or the number of the refusal, and its own number, if it has one.
+#[derive(Clone, Copy, Debug, PartialEq, Eq)]
+pub enum Told {
+    Taken(Placed),
+    Refused(u32, u32),
+}
+
+fn summary(answer: Result<Placed, RoundRefusal>) -> Told {
+    match answer {
+        Ok(placed) => Told::Taken(placed),
+        Err(RoundRefusal::OldPosition(kept)) => Told::Refused(27, kept),
+        Err(RoundRefusal::StaleProposal(now)) => Told::Refused(29, now),
+        Err(why) => Told::Refused(why.code(), 0),
+    }
+}
+
+/// A registry, and a round on one of its ledgers.
+#[derive(Drop)]
+pub struct Node {
+    registry: Registry,
+    round: Round,
+}
+
+impl Model for Node {
+    ghost use Rattle.std.specs.Prelude.{◌<◌, length};
+    ghost use Rattle.xl_ledger.specs.Registries.{Ledgers};
+
+    ghost Value = { Ledgers };
+
+    ghost view = { λ n. n.registry };
+
+    ghost invariant = { λ n. n.round.setting.previous < length n.registry.headers };
+}
+
+impl Node {
+    /// The first round of a node, which knows the root alone, at second 1.
+    pub fn open(alloc: Global, mode: Mode) -> Result<Node, Fail> {
+        let registry = Registry::open(alloc, 8)?;
+        let round = Round::open(alloc, &registry, LedgerNo::root(), mode, 1_000)?;
+        Ok(Node { registry, round })
+    }
+
+    /// A proposing node with two transactions pending. Members 2, 3 and 4 propose a set of the first alone, which 2 holds, at
+    /// second 1. The set's id is told too.
+    pub fn with_three(alloc: Global) -> Result<(Node, SetId), Fail> {
+        let mut node = Node::open(alloc, Mode::Proposing)?;
+        let _ = node.submit(2);
+        let _ = node.submit(1);
+        let theirs = node.round.hold(member(2)?, &[tx(1)]);
+        let p = on(ROOT, theirs, 0, 1);
+        node.hear(2, &p, 1)?;
+        node.hear(3, &p, 1)?;
+        node.hear(4, &p, 1)?;
+        Ok((node, theirs))
+    }
+
+    /// What becomes of a member's proposal.
+    pub fn hear(&mut self, number: u32, p: &Proposal, now: Secs) -> Result<Told, Fail> {
+        let from = member(number)?;
+        let answer = self.round.proposal(&self.registry, from, p, now);
+        if answer == Err(RoundRefusal::Left(from)) {
+            return Ok(Told::Refused(28, number));
+        }
+        Ok(summary(answer))
+    }
+
+    /// The ledger that a proposal of member 2 is refused with, for its own.
+    pub fn previous_refused(&mut self, p: &Proposal) -> Result<Option<LedgerId>, Fail> {
+        let from = member(2)?;
+        match self.round.proposal(&self.registry, from, p, 100) {
+            Err(RoundRefusal::WrongPrev(ours)) => Ok(Some(ours)),
+            _ => Ok(None),
+        }
+    }
+
+    /// What a heartbeat does and says: the propose sequence, the close time and the second of the position, and whether it
+    /// goes with the set.
+    pub fn brief(&mut self, now: Millis) -> Result<(Kind, Option<(u32, Secs, Secs, bool)>), Fail> {
+        if now > GREATEST_MILLIS {
+            return Err("too late".into());
+        }
+        let pulse = self.round.heartbeat(now, NOTHING);
+        let said = match pulse.said {
+            Some(said) => {
+                let p = said.proposal;
+                Some((p.pseq, p.close, p.time, said.with_set))
+            }
+            None => None,
+        };
+        Ok((pulse.kind, said))
+    }
+
+    /// The set, the propose sequence, the close time and the second of the position by which the node leaves.
+    pub fn leaving(&mut self, now: Millis) -> Result<Option<(SetId, u32, Secs, Secs)>, Fail>
+        requires { now ≤ GREATEST_MILLIS }
+    {
+        let said = match self.round.leave(now) {
+            Some(p) => Some((p.set, p.pseq, p.close, p.time)),
+            None => None,
+        };
+        Ok(said)
+    }
+
+    /// Whether 256 transactions become pending.
+    pub fn fill(&mut self) -> bool {
+        let mut all = true;
+        for number in 0..=255 {
+            all = self.submit(number).is_ok() && all;
+        }
+        all
+    }
+
+    pub fn submit(&mut self, number: u8) -> Result<(), RoundRefusal> {
+        self.round.submit(tx(number))
+    }
+
+    pub fn submit_id(&mut self, id: TxId) -> Result<(), RoundRefusal> {
+        self.round.submit(id)
+    }
+
+    pub fn phase(&self) -> Phase {
+        self.round.phase()
+    }
+
+    /// How many transactions are in our set, the first and the last.
+    pub fn own(&self) -> (usize, Option<TxId>, Option<TxId>) {
+        let set = self.round.own_set();
+        (set.len(), set.first().copied(), set.last().copied())
+    }
+
+    pub fn beat(&mut self, now: Millis, seen: Seen) -> Pulse
+        requires { now ≤ GREATEST_MILLIS }
+    {
+        self.round.heartbeat(now, seen)
+    }
+
+    /// What kind of heartbeat it is.
+    pub fn kind(&mut self, now: Millis, seen: Seen) -> Kind
+        requires { now ≤ GREATEST_MILLIS }
+    {
+        self.beat(now, seen).kind
+    }
+
+    /// A heartbeat that is ready, and accepted.
+    pub fn accept(&mut self, now: Millis, seen: Seen) -> Result<(Pulse, Agreed), Fail>
+        requires { now ≤ GREATEST_MILLIS }
+    {
+        let pulse = self.round.heartbeat(now, seen);
+        if let Kind::Ready { .. } = pulse.kind {
+            let agreed = self.round.agreed();
+            self.round.accept();
+            return Ok((pulse, agreed));
+        }
+        Err("not ready")?
+    }
+
+    /// The ledger that follows the root by an empty set, at a close time.
+    pub fn learn(&mut self, close: Secs, resolution: u8) -> Result<LedgerId, Fail> {
+        let header = next_of_root(close, resolution);
+        let _ = self.registry.add(&header);
+        Ok(id_of(&header))
+    }
+
+    /// Starts the round on a known ledger.
+    pub fn start(&mut self, id: &LedgerId, mode: Mode, now: Millis) -> Result<(), Fail>
+        requires { now ≤ GREATEST_MILLIS }
+    {
+        let ledger = self.registry.find(id).ok_or("unknown")?;
+        self.round.start(&self.registry, ledger, mode, now);
+        Ok(())
+    }
+}
+
+/// The header of the ledger that follows the root by an empty set.
+pub fn next_of_root(close: Secs, resolution: u8) -> Header {
+    let root = Header {
+        seq: 0,
+        drops: 100_000_000_000_000_000,
+        parent: ROOT,
+        tx_hash: [0; 32],
+        account_hash: [0; 32],
+        parent_close: 0,
+        close: 0,
+        resolution: 30,
+        flags: 0,
+    };
+    build_next(ROOT, &root, set_id(&[]), close, resolution)
+}
