@@ -1,0 +1,26 @@
+use Rattle.std.proofs.Common.{◌==◌, ◌||◌, List, get_or, refl, sym, ap, subst, ◌∙◌}
+use Rattle.std.proofs.lemmas.Bool.{eqb-true}
+use Rattle.std.proofs.lemmas.List.Folds.{list_any_more}
+use Rattle.xl_ledger.specs.declared.vote.Vote.{Vote}
+use Rattle.xl_ledger.specs.Votes.{has_voted}
+use Rattle.xl_trie.specs.Chains.{In}
+use Rattle.xl_trie.proofs.Listing.{in_at, true_false}
+use Rattle.xl_trie.proofs.Ways.{take_long}
+use Rattle.xl_trie.proofs.trie.ledger_of.Goals as goal
+
+pub returns-then-eq : goal.returns-then-eq
+returns-then-eq c = (
+  c.vote-item.result,
+  subst (λ (v : Vote). In v c.args.votes.now) (sym c.vote-item.is) (in_at c.args.votes.now c.loop-vote.vote-index c.vote-item.result c.loop-vote-test.true),
+  eqb-true c.vote-item.result.member c.args.member (sym c.eq.ensures ∙ c.if-eq.true),
+  refl,
+)
+
+pub loop-vote-preserved : goal.loop-vote-preserved
+loop-vote-preserved c =
+    list_any_more (λ (v : Vote). v.member == c.args.member) c.args.votes.now c.loop-vote.vote-index c.vote-item.result c.loop-vote-test.true
+    ∙ ap (λ b. b || (get_or c.args.votes.now c.loop-vote.vote-index c.vote-item.result).member == c.args.member) c.loop-vote.invariant
+    ∙ ap (λ (v : Vote). v.member == c.args.member) (sym c.vote-item.is) ∙ sym c.eq.ensures ∙ c.if-eq.false
+
+pub unreachable-requires : goal.unreachable-requires
+unreachable-requires c = true_false (has_voted c.args.votes.now c.args.member) c.requires (ap (λ (vs : List Vote). has_voted vs c.args.member) (sym (take_long c.loop-vote.vote-index c.args.votes.now c.loop-vote-test.false)) ∙ c.loop-vote.invariant)

@@ -1,0 +1,15 @@
+pub mod Chains
+pub mod Spots
+pub mod Paths
+pub mod Sets
+pub mod Ways
+pub mod Tries
+pub mod Leading
+pub mod Places
+pub mod Going
+pub mod Growing
+pub mod Linking
+pub mod Counting
+pub mod Votings
+pub mod Pruning
+pub mod Counted

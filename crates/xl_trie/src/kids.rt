@@ -1,0 +1,105 @@
+ghost use Rattle.std.specs.Prelude.{◌≡◌, ◌<◌, ℕ, List, ◌∷◌, length, Option, Some, IsSome, IfSome};
+ghost use Rattle.xl_pool.specs.Pools.{get};
+ghost use Rattle.xl_pool.specs.declared.name.Name.{Name};
+ghost use Rattle.xl_trie.specs.declared.node.Node.{Node};
+ghost use Rattle.xl_trie.specs.Leading.{leads, lead, IsBestSoFar, IsBest, BeginsAt};
+ghost use Rattle.xl_trie.specs.Tries.{AreLinked, HasKids, IsKid};
+
+use crate::node::{Node, is_named, node_at};
+use xl_ledger::{LedgerNo, Walk};
+use xl_pool::{Name, Pool};
+
+/// Whether a span leads another: it has more votes, or as many and its first ledger the greater id.
+fn leads(walk: &Walk<'_>, a: &Node, b: &Node) -> bool
+    requires a { a.now.first < length walk.now.ledgers.headers }
+    requires b { b.now.first < length walk.now.ledgers.headers }
+    ensures { result ≡ leads walk.now.ledgers.headers a.now b.now }
+{
+    let by_votes = a.branch.cmp(&b.branch);
+    by_votes
+        .then(walk.id_at(a.first).cmp(&walk.id_at(b.first)))
+        .is_gt()
+}
+
+/// The best so far, where one more child is looked at.
+fn better(
+    nodes: &Pool<Node>,
+    walk: &Walk<'_>,
+    out: &Option<Name>,
+    best: Option<Name>,
+    name: Name,
+) -> Option<Name>
+    requires first { (a : Name) (n : Node) → get nodes.now a ≡ Some n → n.first < length walk.now.ledgers.headers }
+    requires stands { IsSome (get nodes.now name) }
+    requires best { IfSome best (λ b. IsSome (get nodes.now b)) }
+    ensures stands { IfSome result (λ b. IsSome (get nodes.now b)) }
+    ensures best { (a : Name) (n : Node) (rest : List Name) → IsKid nodes.now a name n → IsBestSoFar walk.now.ledgers.headers nodes.now a out.now (name ∷ rest) best
+        → IsBestSoFar walk.now.ledgers.headers nodes.now a out.now rest result }
+{
+    if is_named(out, name) {
+        return best;
+    }
+    let Some(old) = best else { return Some(name) };
+    if leads(walk, &node_at(nodes, name), &node_at(nodes, old)) {
+        Some(name)
+    } else {
+        best
+    }
+}
+
+/// The child that no other one leads, but for the one that is left out.
+pub(crate) fn best_kid(
+    nodes: &Pool<Node>,
+    walk: &Walk<'_>,
+    of: Name,
+    out: Option<Name>,
+) -> Option<Name>
+    requires linked { AreLinked walk.now.ledgers.headers nodes.now }
+    requires stands { IsSome (get nodes.now of) }
+    ensures stands { IfSome result (λ b. IsSome (get nodes.now b)) }
+    ensures best { IsBest walk.now.ledgers.headers nodes.now of out result }
+{
+    let mut at = node_at(nodes, of).child;
+    let mut best = None;
+    // No node has more children than the nodes are many.
+    for _ in 0..nodes.live() {
+        let Some(name) = at else { return best };
+        best = better(nodes, walk, &out, best, name);
+        at = node_at(nodes, name).sibling;
+    }
+    best
+}
+
+/// By how many votes a span is ahead of the second, with one more where it has the greater id.
+pub(crate) fn lead(walk: &Walk<'_>, best: &Node, second: Option<Node>) -> u64
+    requires best { best.now.first < length walk.now.ledgers.headers }
+    requires second { IfSome second (λ s. s.first < length walk.now.ledgers.headers) }
+    ensures { result ≡ lead walk.now.ledgers.headers best.now second }
+{
+    match second {
+        None => best.branch as u64,
+        Some(second) => {
+            let ahead = best.branch.saturating_sub(second.branch) as u64;
+            let by_ids = walk.id_at(best.first).cmp(&walk.id_at(second.first));
+            if by_ids.is_gt() { ahead + 1 } else { ahead }
+        }
+    }
+}
+
+/// The child whose span begins with this ledger.
+pub(crate) fn kid_from(nodes: &Pool<Node>, of: Name, first: LedgerNo) -> Option<Name>
+    requires kids { (n : Node) → get nodes.now of ≡ Some n → HasKids nodes.now of n }
+    requires stands { IsSome (get nodes.now of) }
+    ensures { BeginsAt nodes.now of first result }
+{
+    let mut at = node_at(nodes, of).child;
+    for _ in 0..nodes.live() {
+        let Some(name) = at else { return None };
+        let node = node_at(nodes, name);
+        if node.first == first {
+            return Some(name);
+        }
+        at = node.sibling;
+    }
+    None
+}
