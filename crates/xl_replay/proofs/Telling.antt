@@ -15,7 +15,9 @@ use Rattle.xl_lines.specs.Rules.{Step, goes_on, refuses as refuses_line, Told}
 use Rattle.xl_lines.specs.Told.{after as after_text, told_by, step_within, step_at, told_from}
 use Rattle.xl_core.specs.declared.report.Report.{Report}
 use Rattle.xl_core.specs.Answers.{refusal_in}
-use Rattle.xl_core.specs.Node.{Node, Event as NodeEvent, Reply, happens, preferred}
+use Rattle.xl_core.specs.Core.{CoreReply}
+use Rattle.xl_core.specs.Node.{Node, preferred}
+use Rattle.xl_core.specs.declared.event.CoreEvent.{CoreEvent}
 use Rattle.xl_ledger.specs.Headers.{header_id}
 use Rattle.xl_sched.specs.declared.event.Event.{Event}
 use Rattle.xl_sched.specs.declared.event.Event.TheVariants as event
@@ -31,11 +33,12 @@ use Rattle.xl_world.specs.declared.place.Place.{Place}
 use Rattle.xl_world.specs.declared.plan.PlanNode.{PlanNode}
 use Rattle.xl_world.specs.declared.place.Fate.{Fate}
 use Rattle.xl_world.specs.Keeper.{may_hold, answer_of}
-use Rattle.xl_world.specs.World.{World, Step as WorldStep, Act, Again, Torn, Mark, place_at, reported_by, acts, reopened, again, torn, asked_at, moment_in, step, run, start, IsDeclared, AreDeclared, IsRun}
+use Rattle.xl_world.specs.World.{reported_by, IsDeclared, AreDeclared}
+use Rattle.xl_world.specs.Cores.{World, Step as WorldStep, Act, Again, Torn, Mark, place_at, reply_at, acts, reopened, again, torn, asked_at, moment_in, step, run, start, IsRun}
 use Rattle.xl_world.specs.Schedule.{steps_of, after_event, told_of as told_at, told_by as told_by_step, told_in, preference, outcomes}
-use Rattle.xl_world.proofs.Settling.{at_its_number}
-use Rattle.xl_world.proofs.Lists.{happens_keeps}
-use Rattle.xl_world.proofs.Runs.{run_on}
+use Rattle.xl_world.proofs.CoreSettling.{at_its_number}
+use Rattle.xl_world.proofs.CoreLists.{core_keeps}
+use Rattle.xl_world.proofs.CoreRuns.{run_on}
 use Rattle.xl_replay.specs.Texts.{outcome_line, outcome_lines}
 use Rattle.xl_replay.specs.Replays.{Replaying, world_of, silent, after, after_line, after_answer, ending, rules}
 use Rattle.xl_replay.specs.Headlines.{Spoken, spoken_line, Extends, state_after, state_from}
@@ -61,11 +64,11 @@ still_reported w v grows (Preferred node ledger) h = tt
 settled_grows : (w v : World) (more : List Reported) → v.reports ≡ w.reports ++ more → Grows w v
 settled_grows w v more is r h = subst (λ rs. Contains rs r) (sym is) (Contains-append_left w.reports more r h)
 
-acts_grows : (w : World) (i : ℕ) (e : NodeEvent) (fate : Fate) (o : Option Place) → Grows w (acts w i e fate o)
+acts_grows : (w : World) (i : ℕ) (e : CoreEvent) (fate : Fate) (o : Option Place) → Grows w (acts w i e fate o)
 acts_grows w i e fate None = λ r h. h
 acts_grows w i e fate (Some p) =
-    let r : Reply = happens p.node e (answer_of p.keeper fate) in
-    settled_grows w (acts w i e fate (Some p)) (option_to_list (option_map (reported_by r.node) r.report)) refl
+    let r : CoreReply = reply_at p e fate in
+    settled_grows w (acts w i e fate (Some p)) (option_to_list (option_map (reported_by r.core.node) r.report)) refl
 
 again_grows : (w : World) (i now number : ℕ) (o : Option Place) → Grows w (again w i now number o)
 again_grows w i now number None = λ r h. h
@@ -74,7 +77,7 @@ again_grows w i now number (Some p) = cond_both (may_hold p.keeper number) (reop
 torn_grows : (w : World) (i now number : ℕ) (o : Option Place) (asked : Option ℕ) → Grows w (torn w i now number o asked)
 torn_grows w i now number None asked = λ r h. h
 torn_grows w i now number (Some p) None = λ r h. h
-torn_grows w i now number (Some p) (Some s) = again_grows w i now number (Some (record { node = p.node; keeper = record p.keeper { asked = Some s } }))
+torn_grows w i now number (Some p) (Some s) = again_grows w i now number (Some (record { core = p.core; keeper = record p.keeper { asked = Some s } }))
 
 step_grows : (w : World) (s : WorldStep) → Grows w (step w s)
 step_grows w (Act i e fate) = acts_grows w i e fate (place_at i w.places)
@@ -86,7 +89,7 @@ run_grows : (w : World) (ss : List WorldStep) → Grows w (run w ss)
 run_grows w [] = λ r h. h
 run_grows w (s ∷ ss) = λ r h. run_grows (step w s) ss r (step_grows w s r h)
 
-refused_reported : (v : World) (i : ℕ) (r : Reply) → All (IsReported v) (option_to_list (option_map (Refused i) (refusal_in r.answer)))
+refused_reported : (v : World) (i : ℕ) (r : CoreReply) → All (IsReported v) (option_to_list (option_map (Refused i) (refusal_in r.answer)))
 refused_reported v i r = refused_at (refusal_in r.answer)
   where
     refused_at : (o : Option _) → All (IsReported v) (option_to_list (option_map (Refused i) o))
@@ -104,14 +107,14 @@ full_reported w i n its (Some q) v is =
     )
     (All-nil (IsReported v))
 
-act_reported : (w : World) (i : ℕ) (e : NodeEvent) (fate : Fate) (o : Option Place) → place_at i w.places ≡ o →
-    All (IsReported (acts w i e fate o)) (told_at i (option_map (λ p. happens p.node e (answer_of p.keeper fate)) o))
+act_reported : (w : World) (i : ℕ) (e : CoreEvent) (fate : Fate) (o : Option Place) → place_at i w.places ≡ o →
+    All (IsReported (acts w i e fate o)) (told_at i (option_map (λ p. reply_at p e fate) o))
 act_reported w i e fate None at = All-nil (IsReported w)
 act_reported w i e fate (Some p) at =
-    let r : Reply = happens p.node e (answer_of p.keeper fate) in
+    let r : CoreReply = reply_at p e fate in
     let v : World = acts w i e fate (Some p) in
     All-append (IsReported v) _ _ (refused_reported v i r)
-    (full_reported w i r.node ((happens_keeps p.node e (answer_of p.keeper fate)).0 ∙ at_its_number i w.places p at) r.report v refl)
+    (full_reported w i r.core.node ((core_keeps p.core e (answer_of p.keeper fate)).0 ∙ at_its_number i w.places p at) r.report v refl)
 
 step_reported : (w : World) (s : WorldStep) → All (IsReported (step w s)) (told_by_step w s)
 step_reported w (Act i e fate) = act_reported w i e fate (place_at i w.places) refl
@@ -129,7 +132,7 @@ run_reported w (s ∷ ss) =
 -- what a node prefers is no report
 preference_reported : (w : World) (i : ℕ) (o : Option Place) → All (IsReported w) (preference i o)
 preference_reported w i None = All-nil (IsReported w)
-preference_reported w i (Some p) = All-cons (IsReported w) (Preferred i (preferred p.node)) [] tt (All-nil (IsReported w))
+preference_reported w i (Some p) = All-cons (IsReported w) (Preferred i (preferred p.core.node)) [] tt (All-nil (IsReported w))
 
 event_reported : (w : World) (e : Event) → All (IsReported (after_event w e)) (outcomes w e)
 event_reported w (event.Issue at node seq id full) = run_reported w (steps_of w (event.Issue at node seq id full))

@@ -16,15 +16,16 @@ use Rattle.xl_world.specs.declared.place.Keeper.{Keeper}
 use Rattle.xl_world.specs.declared.place.Fate.{Fate}
 use Rattle.xl_world.specs.declared.plan.PlanNode.{PlanNode}
 use Rattle.xl_world.specs.Keeper.{may_hold, restored, answer_of}
-use Rattle.xl_world.specs.World.{list_at}
-use Rattle.xl_world.specs.Cores.{Place, World, Step, Act, Again, Torn, Mark, place_at, is_forged, settled, acts, reply_at, keeper_after, core_again, reopened, again, torn, moment_in, asked_at, step, run, place_of, start, Headline}
+use Rattle.xl_world.specs.World.{AgreeAt, AreDeclared, list_at}
+use Rattle.xl_world.specs.declared.place.Place.{Place}
+use Rattle.xl_world.specs.Cores.{World, Step, Act, Again, Torn, Mark, place_at, is_forged, settled, acts, reply_at, keeper_after, core_again, reopened, again, torn, moment_in, asked_at, step, run, place_of, start, list_in, Headline, IsRun}
 use Rattle.xl_world.proofs.Lists.{happens_keeps, its_list, reported_under}
 use Rattle.xl_world.proofs.Settling.{some_same}
 use Rattle.xl_world.proofs.CoreSettling.{put_cases, at_its_number}
 use Rattle.xl_world.proofs.CoreRuns.{agreement}
 
 -- each core has the list of its number, and reported under it
-record HasLists (plan : List PlanNode) (w : World) : Type 0 where
+pub record HasLists (plan : List PlanNode) (w : World) : Type 0 where
   pub nodes : (i : ℕ) (p : Place) → place_at i w.places ≡ Some p → list_at plan i ≡ Some p.core.node.list
   pub reports : All (λ r. list_at plan r.node ≡ Some r.list) w.reports
 
@@ -43,10 +44,10 @@ settled_lists plan w i forged p r k at same_me same_list has =
     }
 
 -- a core keeps its number and its list
-abbrev KeepsList : Core → CoreReply → Type 0
+abbrev pub KeepsList : Core → CoreReply → Type 0
 KeepsList core r = (r.core.node.me ≡ core.node.me) × (r.core.node.list ≡ core.node.list)
 
-core_keeps : (core : Core) (e : CoreEvent) (save : Save) → KeepsList core (core_happens core e save)
+pub core_keeps : (core : Core) (e : CoreEvent) (save : Save) → KeepsList core (core_happens core e save)
 core_keeps core (Issue now seq id full) save = let keeps = happens_keeps core.node (nodes.Issue now seq id full) save in (keeps.0, keeps.1)
 core_keeps core (Frame now bytes) save = let keeps = happens_keeps core.node (nodes.Frame now bytes) save in (keeps.0, keeps.1)
 core_keeps core (Drain member room) save = (refl, refl)
@@ -81,7 +82,7 @@ step_lists plan w (Again i now number) has = again_lists plan w i now number has
 step_lists plan w (Torn i e number) has = torn_lists plan w i (moment_in e) number has (place_at i w.places) refl (asked_at (place_at i w.places) e)
 step_lists plan w Mark has = record { nodes = has.nodes; reports = has.reports }
 
-run_lists : (plan : List PlanNode) (w : World) (ss : List Step) → HasLists plan w → HasLists plan (run w ss)
+pub run_lists : (plan : List PlanNode) (w : World) (ss : List Step) → HasLists plan w → HasLists plan (run w ss)
 run_lists plan w [] has = has
 run_lists plan w (s ∷ ss) has = run_lists plan (step w s) ss (step_lists plan w s has)
 
@@ -94,7 +95,7 @@ opened_under limit (d ∷ ds) i p h =
     (λ is_not there. ap (option_map (λ x. x.list)) (cond-false (d.me == i) (Some d) _ is_not) ∙ opened_under limit ds i p there)
     h
 
-start_lists : (limit : ℕ) (liars : List ℕ) (plan : List PlanNode) → HasLists plan (start limit liars plan)
+pub start_lists : (limit : ℕ) (liars : List ℕ) (plan : List PlanNode) → HasLists plan (start limit liars plan)
 start_lists limit liars plan = record { nodes = opened_under limit plan; reports = All-nil (λ r. list_at plan r.node ≡ Some r.list) }
 
 pub core_headline : Headline
@@ -106,3 +107,23 @@ core_headline limit liars plan steps i j a b lists at_i at_j enough none k d k_i
     let mine : a ≡ r.list = its_list plan i a r at_i of_i (has k d k_in) in
     let theirs : b ≡ q.list = its_list plan j b q at_j of_j (has l e l_in) in
     agreement limit liars plan steps lists none k d k_in l e l_in (subst (λ x. Enough liars r.list x) theirs (subst (λ x. Enough liars x b) mine enough)) same_seq
+
+-- a number's list in the world is the declared one
+declared_as : (plan : List PlanNode) (w : World) (i : ℕ) (a : TrustedList) (o : Option Place) → place_at i w.places ≡ o → HasLists plan w → option_map (λ p. p.core.node.list) o ≡ Some a → list_at plan i ≡ Some a
+declared_as plan w i a None at has is = cc
+declared_as plan w i a (Some p) at has is = has.nodes i p at ∙ is
+
+-- so the reports of a world that is a run agree, where no frame was forged
+run_agrees : (limit : ℕ) (liars : List ℕ) (plan : List PlanNode) (steps : List Step) (i j : ℕ) (a b : TrustedList) → AreDeclared plan →
+    list_in (run (start limit liars plan) steps) i ≡ Some a → list_in (run (start limit liars plan) steps) j ≡ Some b → Enough liars a b →
+    (run (start limit liars plan) steps).forged ≡ 0 → AgreeAt (run (start limit liars plan) steps).reports i j
+run_agrees limit liars plan steps i j a b lists at_i at_j enough none =
+    let w : World = run (start limit liars plan) steps in
+    let has : HasLists plan w = run_lists plan (start limit liars plan) steps (start_lists limit liars plan) in
+    core_headline limit liars plan steps i j a b lists (declared_as plan w i a (place_at i w.places) refl has at_i) (declared_as plan w j b (place_at j w.places) refl has at_j) enough none
+
+pub world_agrees : (w : World) → IsRun w → (i j : ℕ) (a b : TrustedList) → list_in w i ≡ Some a → list_in w j ≡ Some b → Enough w.liars a b → w.forged ≡ 0 → AgreeAt w.reports i j
+world_agrees w is_run i j a b at_i at_j enough none =
+    let is = is_run.4 in
+    subst (λ (u : World). AgreeAt u.reports i j) (sym is)
+    (run_agrees is_run.0 w.liars is_run.1 is_run.2 i j a b is_run.3 (subst (λ (u : World). list_in u i ≡ Some a) is at_i) (subst (λ (u : World). list_in u j ≡ Some b) is at_j) enough (subst (λ (u : World). u.forged ≡ 0) is none))

@@ -1,6 +1,6 @@
 -- Each step of an unforged run of cores keeps what is kept, so reports agree.
 use Rattle.std.proofs.Common.{◌≡◌, ℕ, ◌<◌, ◌≤◌, Bool, true, false, cond, List, [], ◌∷◌, ◌++◌, refl, arith, ap, sym, ◌∙◌, Option, Some, None, subst}
-use Rattle.std.specs.Prelude.{◌==◌, All, IfSome, map, slice_index_or}
+use Rattle.std.specs.Prelude.{◌==◌, All, IfSome, map, filter, slice_index_or}
 use Rattle.std.proofs.lemmas.Bool.{cond_both}
 use Rattle.std.proofs.lemmas.List.Elements.{All-map, All-head, All-tail, All-nil}
 use Rattle.xl_wire.specs.Heads.{split_of}
@@ -22,8 +22,9 @@ use Rattle.xl_world.specs.declared.plan.PlanNode.{PlanNode}
 use Rattle.xl_world.specs.declared.sent.Sent.{Sent}
 use Rattle.xl_world.specs.Keeper.{MayHold, one_more, may_hold, holding, restored, answer_of}
 use Rattle.xl_world.specs.World as flat
-use Rattle.xl_world.specs.World.{AreDeclared, FrameSays, said_by, forges}
-use Rattle.xl_world.specs.Cores.{Place, World, Step, Act, Again, Torn, Mark, place_at, is_forged, settled, acts, reply_at, keeper_after, core_again, reopened, again, torn, moment_in, asked_at, marked, step, run, place_of, start, CoreSays, Stands}
+use Rattle.xl_world.specs.World.{AreDeclared, FrameSays, said_by, forges, is_declared, all_numbers}
+use Rattle.xl_world.specs.declared.place.Place.{Place}
+use Rattle.xl_world.specs.Cores.{World, Step, Act, Again, Torn, Mark, place_at, is_forged, settled, acts, reply_at, keeper_after, core_again, reopened, again, torn, moment_in, asked_at, marked, step, run, place_of, start, CoreSays, Stands, IsRun}
 use Rattle.xl_world.proofs.NodeSteps.{asks_above, failed_rises, opened_well}
 use Rattle.xl_world.proofs.Runs.{heard_unforged, may_hold-true, never_none}
 use Rattle.xl_world.proofs.Settling.{IsWell, spoken, issued_genuine, some_same}
@@ -198,3 +199,38 @@ pub agreement : (limit : ℕ) (liars : List ℕ) (plan : List PlanNode) (steps :
 agreement limit liars plan steps lists none =
     subst (λ ls. Agree ls (run (start limit liars plan) steps).reports) (run_stays (start limit liars plan) steps).liars
     (agreement_from_kept (run_sound (start limit liars plan) steps none (start_sound limit liars plan lists)).kept)
+
+-- RUNS GO ON
+
+pub run-append : (w : World) (ss ts : List Step) → run w (ss ++ ts) ≡ run (run w ss) ts
+run-append w [] ts = refl
+run-append w (s ∷ ss) ts = run-append (step w s) ss ts
+
+-- a run and a step more
+pub run_more : (w v : World) (s : Step) → v ≡ step w s → IsRun w → IsRun v
+run_more w v s is run_w =
+    let e : run (start run_w.0 w.liars run_w.1) (run_w.2 ++ s ∷ []) ≡ v = run-append (start run_w.0 w.liars run_w.1) run_w.2 (s ∷ []) ∙ (ap (λ (u : World). step u s) (sym run_w.4) ∙ sym is) in
+    let same : w.liars ≡ v.liars = sym (step_stays w s).liars ∙ ap (λ (u : World). u.liars) (sym is) in
+    (run_w.0, run_w.1, (run_w.2 ++ s ∷ []), run_w.3, sym (subst (λ ls. run (start run_w.0 ls run_w.1) (run_w.2 ++ s ∷ []) ≡ v) same e))
+
+-- a run and more steps
+pub run_on : (w v : World) (ss : List Step) → v ≡ run w ss → IsRun w → IsRun v
+run_on w v [] is run_w = subst (λ (u : World). IsRun u) (sym is) run_w
+run_on w v (s ∷ ss) is run_w = run_on (step w s) v ss is (run_more w (step w s) s refl run_w)
+
+-- a world that has just been opened is one
+pub opened_run : (limit : ℕ) (liars declared : List ℕ) (plan : List PlanNode) (numbers : List ℕ) (places : List Place) (sent : List Sent) (said : List Said) (reports : List Reported) →
+    liars ≡ declared → numbers ≡ filter (is_declared declared plan) all_numbers → places ≡ map (place_of limit) plan → sent ≡ [] → said ≡ [] → reports ≡ [] → AreDeclared plan →
+    IsRun (record { liars = liars; numbers = numbers; places = places; sent = sent; mark = 0; said = said; reports = reports; forged = 0 })
+opened_run limit liars declared plan numbers places sent said reports same is_numbers is_places is_sent is_said is_reports are =
+    let its : numbers ≡ filter (is_declared liars plan) all_numbers = is_numbers ∙ ap (λ (ls : List ℕ). filter (is_declared ls plan) all_numbers) (sym same) in
+    let world = λ (n : List ℕ) (p : List Place) (f : List Sent) (s : List Said) (r : List Reported). let w : World = record { liars = liars; numbers = n; places = p; sent = f; mark = 0; said = s; reports = r; forged = 0 } in w in (
+      limit,
+      plan,
+      [],
+      are,
+      ap (λ n. world n places sent said reports) its ∙ (ap (λ p. world (filter (is_declared liars plan) all_numbers) p sent said reports) is_places
+          ∙ (ap (λ f. world (filter (is_declared liars plan) all_numbers) (map (place_of limit) plan) f said reports) is_sent
+          ∙ (ap (λ s. world (filter (is_declared liars plan) all_numbers) (map (place_of limit) plan) [] s reports) is_said
+          ∙ ap (λ r. world (filter (is_declared liars plan) all_numbers) (map (place_of limit) plan) [] [] r) is_reports))),
+    )

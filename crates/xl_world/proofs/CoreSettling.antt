@@ -12,10 +12,11 @@ use Rattle.xl_core.specs.declared.item.Item.TheVariants.{Vote}
 use Rattle.xl_core.specs.Core.{Core, CoreReply}
 use Rattle.xl_core.specs.Node.{Reply}
 use Rattle.xl_world.specs.declared.place.Keeper.{Keeper}
-use Rattle.xl_world.specs.declared.place.Place.{Place as Seat}
+use Rattle.xl_world.specs.World.{Place as Seat}
 use Rattle.xl_world.specs.Keeper.{MayHold}
 use Rattle.xl_world.specs.World.{FrameSays, RowSays, said_by, said_in}
-use Rattle.xl_world.specs.Cores.{Place, World, place_at, put, sent_in, settled, Holds, ItemSays, CoreSays, IsKept}
+use Rattle.xl_world.specs.declared.place.Place.{Place}
+use Rattle.xl_world.specs.Cores.{World, place_at, put, sent_in, settled, Holds, ItemSays, CoreSays, IsKept}
 use Rattle.xl_world.proofs.Settling.{IsWell, IsStep, if_some, some_same, spoken, spoken_fact, report_backed}
 
 -- a core's node with its keeper

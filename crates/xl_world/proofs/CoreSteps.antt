@@ -33,12 +33,13 @@ use Rattle.xl_core.specs.Node.Save.{Kept as AnsweredOk, Failed as AnsweredFailed
 use Rattle.xl_core.specs.Queues.{after_taking, at_number, fitting, frames_in, waiting_at, with_items}
 use Rattle.xl_core.specs.Sending.{sealed_bytes, has_spelling}
 use Rattle.xl_world.specs.declared.place.Keeper.{Keeper}
-use Rattle.xl_world.specs.declared.place.Place.{Place as Seat}
+use Rattle.xl_world.specs.World.{Place as Seat}
 use Rattle.xl_world.specs.declared.place.Fate.{Fate}
 use Rattle.xl_world.specs.declared.sent.Sent.{Sent}
 use Rattle.xl_world.specs.Keeper.{MayHold, answer_of, restored}
 use Rattle.xl_world.specs.World.{FrameSays, RowSays, quiet, said_by, said_in}
-use Rattle.xl_world.specs.Cores.{Place, sent_in, reply_at, keeper_after, core_again, ItemSays, CoreSays}
+use Rattle.xl_world.specs.declared.place.Place.{Place}
+use Rattle.xl_world.specs.Cores.{sent_in, reply_at, keeper_after, core_again, ItemSays, CoreSays}
 use Rattle.xl_world.proofs.Lists.{happens_keeps}
 use Rattle.xl_world.proofs.NodeSteps.{HeardSays, happens_says, happens_steps, opened_says, opened_steps, opened_well, still}
 use Rattle.xl_world.proofs.Settling.{IsWell, IsStep}

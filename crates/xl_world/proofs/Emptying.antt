@@ -15,7 +15,7 @@ use Rattle.xl_core.specs.declared.item.Item.{Item}
 use Rattle.xl_core.specs.declared.item.Item.TheVariants.{Vote}
 use Rattle.xl_core.specs.declared.queued.TheConstants.{LONGEST_FRAME}
 use Rattle.xl_core.specs.Answers.{Gave}
-use Rattle.xl_core.specs.Core.{Core, answering, core_happens}
+use Rattle.xl_core.specs.Core.{Core, CoreReply, answering, core_happens}
 use Rattle.xl_core.proofs.Draining.{taking_none}
 use Rattle.xl_core.specs.Items.{frame_of, frames_for, taken_for}
 use Rattle.xl_core.specs.Node.{Node, Save, items_of}
@@ -25,6 +25,8 @@ use Rattle.xl_core.specs.Sending.{sealed_bytes, has_spelling}
 use Rattle.xl_world.specs.declared.sent.Sent.{Sent}
 use Rattle.xl_world.specs.World.{frame_to, frames_for as frames_at_once}
 use Rattle.xl_world.specs.Cores.{sent_in}
+use Rattle.xl_world.specs.Idle.{Between, Waits}
+use Rattle.xl_world.specs.Emptying.{drained, drained_once, given}
 use Rattle.xl_core.proofs.Spelling.{frames_fit}
 
 -- ONE NUMBER'S QUEUE
@@ -61,34 +63,12 @@ abbrev frames_of : Node → Option Validation → ℕ → List (Option (List ℕ
 frames_of n o m = map (frame_of n m) (items_of o)
 
 -- where that alone waits, a drain takes it
-takes_all : (n : Node) (o : Option Validation) (waiting : List (Backlog Item)) (m : ℕ) → (waiting_at waiting m).items ≡ items_of o → taken_for n waiting m LONGEST_FRAME ≡ frames_of n o m
+pub takes_all : (n : Node) (o : Option Validation) (waiting : List (Backlog Item)) (m : ℕ) → (waiting_at waiting m).items ≡ items_of o → taken_for n waiting m LONGEST_FRAME ≡ frames_of n o m
 takes_all n o waiting m is =
     ap (λ (xs : List Item). take (fitting (map (frame_of n m) xs) LONGEST_FRAME) (map (frame_of n m) xs)) is
     ∙ one_fits LONGEST_FRAME (frames_of n o m) (frames_fit n m LONGEST_FRAME (items_of o) (omega arith)) (omega (arith, few_items o, length-map (items_of o) (frame_of n m)))
 
 -- DRAINS, ONE NUMBER AFTER THE OTHER
-
--- the core after drains for these numbers, and what they gave
-abbrev pub drained_once : Core → ℕ → Core
-drained_once core m = (core_happens core (Drain m LONGEST_FRAME) AnsweredOk).core
-
-abbrev pub drained : Core → List ℕ → Core
-drained core [] = core
-drained core (m ∷ ms) = drained (drained_once core m) ms
-
-abbrev pub given : Core → List ℕ → List Sent
-given core [] = []
-given core (m ∷ ms) = sent_in core.node.me (core_happens core (Drain m LONGEST_FRAME) AnsweredOk).answer ++ given (drained_once core m) ms
-
--- rising members' numbers above this one
-abbrev pub Between : ℕ → List ℕ → Type 0
-Between low [] = Unit {0}
-Between low (m ∷ ms) = (low < m) × (m ≤ 64) × Between m ms
-
--- what was issued alone waits for these numbers
-abbrev pub Waits : Option Validation → Core → List ℕ → Type 0
-Waits o core [] = Unit {0}
-Waits o core (m ∷ ms) = ((waiting_at core.waiting m).items ≡ items_of o) × Waits o core ms
 
 -- a drain leaves what waits for greater numbers
 pub waits_still : (o : Option Validation) (core : Core) (m low : ℕ) (ms : List ℕ) → m ≤ low → Between low ms → Waits o core ms → Waits o (drained_once core m) ms
@@ -186,3 +166,21 @@ dry_then o core m least most is =
 
 pub once_long : (core : Core) (m : ℕ) → length (drained_once core m).waiting ≡ length core.waiting
 once_long core m = long_still core.waiting m (after_taking (taken_for core.node core.waiting m LONGEST_FRAME))
+
+-- what was not taken still isn't
+pub drained_untaken : (core : Core) (ms : List ℕ) → (drained core ms).untaken ≡ core.untaken
+drained_untaken core [] = refl
+drained_untaken core (m ∷ ms) = drained_untaken (drained_once core m) ms
+
+-- where nothing waits drains change nothing
+pub all_dry : (core : Core) (ms : List ℕ) → Waits None core ms → drained core ms ≡ core
+all_dry core [] waits = refl
+all_dry core (m ∷ ms) waits =
+    let same : drained_once core m ≡ core = ap (λ (r : CoreReply). r.core) (dry core m waits.0) in
+    ap (λ (c : Core). drained c ms) same ∙ all_dry core ms waits.1
+
+pub none_given : (core : Core) (ms : List ℕ) → Waits None core ms → given core ms ≡ []
+none_given core [] waits = refl
+none_given core (m ∷ ms) waits =
+    let same : core_happens core (Drain m LONGEST_FRAME) AnsweredOk ≡ answering core (Gave m []) = dry core m waits.0 in
+    ap (λ (r : CoreReply). sent_in core.node.me r.answer ++ given r.core ms) same ∙ none_given core ms waits.1

@@ -23,3 +23,5 @@ pub mod CoreRuns
 pub mod CoreLists
 pub mod Emptying
 pub mod Sending
+pub mod Givings
+pub mod Taking

@@ -23,9 +23,8 @@ use Rattle.xl_world.specs.declared.place.Keeper.{Keeper}
 use Rattle.xl_world.specs.declared.place.Fate.{Fate}
 use Rattle.xl_core.specs.Node.Save.{Kept, Failed}
 use Rattle.xl_world.specs.Keeper.{may_hold, restored, answer_of, after_save}
-use Rattle.xl_world.specs.declared.place.Place.{Place}
 use Rattle.xl_world.specs.declared.plan.PlanNode.{PlanNode}
-use Rattle.xl_world.specs.World.{World, Step, Act, Again, Torn, Mark, place_at, list_in, reported_by, is_forged, settled, acts, quiet, place_again, moment_in, reopened, again, torn, asked_at, step, run, place_of, start, AreDeclared, list_at, AgreeAt, IsRun, Headline}
+use Rattle.xl_world.specs.World.{Place, World, Step, Act, Again, Torn, Mark, place_at, reported_by, is_forged, settled, acts, quiet, place_again, moment_in, reopened, again, torn, asked_at, step, run, place_of, start, AreDeclared, list_at, AgreeAt, Headline}
 use Rattle.xl_world.proofs.Settling.{put_cases, at_its_number, some_same}
 use Rattle.xl_world.proofs.Runs.{agreement}
 
@@ -146,23 +145,3 @@ headline limit liars plan steps i j a b lists at_i at_j enough none k d k_in l e
     let mine : a ≡ r.list = its_list plan i a r at_i of_i (has k d k_in) in
     let theirs : b ≡ q.list = its_list plan j b q at_j of_j (has l e l_in) in
     agreement limit liars plan steps lists none k d k_in l e l_in (subst (λ x. Enough liars r.list x) theirs (subst (λ x. Enough liars x b) mine enough)) same_seq
-
--- a number's list in the world is the declared one
-declared_as : (plan : List PlanNode) (w : World) (i : ℕ) (a : TrustedList) (o : Option Place) → place_at i w.places ≡ o → HasLists plan w → option_map (λ p. p.node.list) o ≡ Some a → list_at plan i ≡ Some a
-declared_as plan w i a None at has is = cc
-declared_as plan w i a (Some p) at has is = has.nodes i p at ∙ is
-
--- so the reports of a world that is a run agree, where no frame was forged
-run_agrees : (limit : ℕ) (liars : List ℕ) (plan : List PlanNode) (steps : List Step) (i j : ℕ) (a b : TrustedList) → AreDeclared plan →
-    list_in (run (start limit liars plan) steps) i ≡ Some a → list_in (run (start limit liars plan) steps) j ≡ Some b → Enough liars a b →
-    (run (start limit liars plan) steps).forged ≡ 0 → AgreeAt (run (start limit liars plan) steps).reports i j
-run_agrees limit liars plan steps i j a b lists at_i at_j enough none =
-    let w : World = run (start limit liars plan) steps in
-    let has : HasLists plan w = run_lists plan (start limit liars plan) steps (start_lists limit liars plan) in
-    headline limit liars plan steps i j a b lists (declared_as plan w i a (place_at i w.places) refl has at_i) (declared_as plan w j b (place_at j w.places) refl has at_j) enough none
-
-pub world_agrees : (w : World) → IsRun w → (i j : ℕ) (a b : TrustedList) → list_in w i ≡ Some a → list_in w j ≡ Some b → Enough w.liars a b → w.forged ≡ 0 → AgreeAt w.reports i j
-world_agrees w is_run i j a b at_i at_j enough none =
-    let is = is_run.4 in
-    subst (λ (u : World). AgreeAt u.reports i j) (sym is)
-    (run_agrees is_run.0 w.liars is_run.1 is_run.2 i j a b is_run.3 (subst (λ (u : World). list_in u i ≡ Some a) is at_i) (subst (λ (u : World). list_in u j ≡ Some b) is at_j) enough (subst (λ (u : World). u.forged ≡ 0) is none))

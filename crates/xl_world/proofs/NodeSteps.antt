@@ -28,8 +28,7 @@ use Rattle.xl_world.specs.declared.place.Fate.TheVariants.{Kept, Unwritten, Writ
 use Rattle.xl_world.specs.Keeper.{MayHold, one_more, restored, answer_of, after_failed, after_save}
 use Rattle.xl_validations.proofs.Turning.{members_then}
 use Rattle.xl_core.specs.Node.Save.{Kept as AnsweredOk, Failed as AnsweredFailed}
-use Rattle.xl_world.specs.declared.place.Place.{Place}
-use Rattle.xl_world.specs.World.{said_by, RowSays, NodeSays, quiet, place_again}
+use Rattle.xl_world.specs.World.{Place, said_by, RowSays, NodeSays, quiet, place_again}
 use Rattle.xl_world.proofs.Settling.{IsWell, IsStep, ReplySays, if_some}
 
 -- ROWS

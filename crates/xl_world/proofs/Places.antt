@@ -6,90 +6,109 @@ use Rattle.std.proofs.Common.{inl, inr, subst}
 use Rattle.std.proofs.lemmas.List.Sums.{fails_before_first}
 use Rattle.std.proofs.lemmas.List.Quantifiers.{position-Some}
 use Rattle.std.proofs.lemmas.Bool.{eqb-true, lt-ltb, cases_lt, cond_both, cond-true, cond-false}
-use Rattle.xl_core.specs.Node.{Event, happens}
+use Rattle.xl_core.specs.declared.event.CoreEvent.{CoreEvent}
 use Rattle.xl_world.specs.declared.act.Answer.{Answer}
 use Rattle.xl_world.specs.declared.place.Place.{Place}
 use Rattle.xl_world.specs.declared.place.Fate.{Fate}
 use Rattle.xl_world.specs.Keeper.{answer_of}
-use Rattle.xl_world.specs.World.{place_at, put, place_after}
-use Rattle.xl_world.specs.Seen.{IsAnswer, put_acted, acted_at, Answers, AnswersAt}
-use Rattle.xl_world.proofs.Lists.{happens_keeps}
+use Rattle.xl_world.specs.Cores.{place_at, put, reply_at}
+use Rattle.xl_world.specs.Seen.{IsAnswer, place_after, place_drained, put_acted, put_drained, given_at, acted_at, Answers, AnswersAt}
+use Rattle.xl_world.specs.declared.sent.Sent.{Sent}
+use Rattle.xl_world.proofs.CoreLists.{core_keeps}
+use Rattle.xl_world.proofs.Emptying.{drained_node}
+use Rattle.xl_world.specs.Emptying.{given, others}
 
 cons_same : {X : Type 0} (x y : X) (xs ys : List X) → x ≡ y → xs ≡ ys → x ∷ xs ≡ y ∷ ys
 cons_same x y xs ys p q = cc
 
 -- the place at the first index of its number, and the places with another one there
-there : (xs : List Place) (i k : ℕ) (d : Place) → k < length xs → ((get_or xs k d).node.me == i) ≡ true → ((j : ℕ) → j < k → ((get_or xs j d).node.me == i) ≡ false) →
+there : (xs : List Place) (i k : ℕ) (d : Place) → k < length xs → ((get_or xs k d).core.node.me == i) ≡ true → ((j : ℕ) → j < k → ((get_or xs j d).core.node.me == i) ≡ false) →
     place_at i xs ≡ Some (get_or xs k d)
 there [] i k d k_in is first = absurd (omega arith)
-there (x ∷ xs) i zero d k_in is first = cond-true (x.node.me == i) _ _ is
+there (x ∷ xs) i zero d k_in is first = cond-true (x.core.node.me == i) _ _ is
 there (x ∷ xs) i (suc k) d k_in is first =
-    cond-false (x.node.me == i) _ _ (first 0 (omega arith)) ∙ there xs i k d (omega arith) is (λ j h. first (suc j) (omega arith))
+    cond-false (x.core.node.me == i) _ _ (first 0 (omega arith)) ∙ there xs i k d (omega arith) is (λ j h. first (suc j) (omega arith))
 
-put_there : (xs : List Place) (i k : ℕ) (d y : Place) → k < length xs → ((get_or xs k d).node.me == i) ≡ true → ((j : ℕ) → j < k → ((get_or xs j d).node.me == i) ≡ false) → y.node.me ≡ i →
+put_there : (xs : List Place) (i k : ℕ) (d y : Place) → k < length xs → ((get_or xs k d).core.node.me == i) ≡ true → ((j : ℕ) → j < k → ((get_or xs j d).core.node.me == i) ≡ false) → y.core.node.me ≡ i →
     set xs k y ≡ put y xs
 put_there [] i k d y k_in is first its = absurd (omega arith)
-put_there (x ∷ xs) i zero d y k_in is first its = sym (cond-true (x.node.me == y.node.me) _ _ (ap (λ (m : ℕ). x.node.me == m) its ∙ is))
+put_there (x ∷ xs) i zero d y k_in is first its = sym (cond-true (x.core.node.me == y.core.node.me) _ _ (ap (λ (m : ℕ). x.core.node.me == m) its ∙ is))
 put_there (x ∷ xs) i (suc k) d y k_in is first its =
     cons_same _ _ _ _ refl (put_there xs i k d y (omega arith) is (λ j h. first (suc j) (omega arith)) its)
-    ∙ sym (cond-false (x.node.me == y.node.me) _ _ (ap (λ (m : ℕ). x.node.me == m) its ∙ first 0 (omega arith)))
+    ∙ sym (cond-false (x.core.node.me == y.core.node.me) _ _ (ap (λ (m : ℕ). x.core.node.me == m) its ∙ first 0 (omega arith)))
 
 -- no place of that number
-nowhere : (xs : List Place) (i : ℕ) → ((j : ℕ) (d : Place) → j < length xs → ((get_or xs j d).node.me == i) ≡ false) → place_at i xs ≡ None
+nowhere : (xs : List Place) (i : ℕ) → ((j : ℕ) (d : Place) → j < length xs → ((get_or xs j d).core.node.me == i) ≡ false) → place_at i xs ≡ None
 nowhere [] i none = refl
-nowhere (x ∷ xs) i none = cond-false (x.node.me == i) _ _ (none 0 x (omega arith)) ∙ nowhere xs i (λ j d h. none (suc j) d (omega arith))
+nowhere (x ∷ xs) i none = cond-false (x.core.node.me == i) _ _ (none 0 x (omega arith)) ∙ nowhere xs i (λ j d h. none (suc j) d (omega arith))
 
 -- where no index is found, none has the number
-none_found : (xs : List Place) (i : ℕ) → position (λ p. p.node.me == i) xs ≡ None → (j : ℕ) (d : Place) → j < length xs → ((get_or xs j d).node.me == i) ≡ false
+none_found : (xs : List Place) (i : ℕ) → position (λ p. p.core.node.me == i) xs ≡ None → (j : ℕ) (d : Place) → j < length xs → ((get_or xs j d).core.node.me == i) ≡ false
 none_found xs i none j d j_in =
-    elim (cases_lt (position_or_len (λ p. p.node.me == i) xs) (length xs)) [
-      | inl within ↦ let some = cond-true (nat_lt (position_or_len (λ p. p.node.me == i) xs) (length xs)) (Some (position_or_len (λ p. p.node.me == i) xs)) None (lt-ltb _ _ within) in cc
-      | inr past ↦ fails_before_first (λ p. p.node.me == i) xs j d (omega arith)
+    elim (cases_lt (position_or_len (λ p. p.core.node.me == i) xs) (length xs)) [
+      | inl within ↦ let some = cond-true (nat_lt (position_or_len (λ p. p.core.node.me == i) xs) (length xs)) (Some (position_or_len (λ p. p.core.node.me == i) xs)) None (lt-ltb _ _ within) in cc
+      | inr past ↦ fails_before_first (λ p. p.core.node.me == i) xs j d (omega arith)
     ]
 
 -- the place that is found is the one of the number
-pub found_there : (xs : List Place) (i k : ℕ) (d : Place) → position (λ p. p.node.me == i) xs ≡ Some k → place_at i xs ≡ Some (get_or xs k d)
+pub found_there : (xs : List Place) (i k : ℕ) (d : Place) → position (λ p. p.core.node.me == i) xs ≡ Some k → place_at i xs ≡ Some (get_or xs k d)
 found_there xs i k d found =
-    let at = position-Some (λ p. p.node.me == i) xs k d found in there xs i k d at.0 at.1 (λ j h. at.2 j h)
+    let at = position-Some (λ p. p.core.node.me == i) xs k d found in there xs i k d at.0 at.1 (λ j h. at.2 j h)
 
 -- with another one put there
-pub put_found : (xs : List Place) (i k : ℕ) (d y : Place) → position (λ p. p.node.me == i) xs ≡ Some k → y.node.me ≡ (get_or xs k d).node.me → set xs k y ≡ put y xs
+pub put_found : (xs : List Place) (i k : ℕ) (d y : Place) → position (λ p. p.core.node.me == i) xs ≡ Some k → y.core.node.me ≡ (get_or xs k d).core.node.me → set xs k y ≡ put y xs
 put_found xs i k d y found same =
-    let at = position-Some (λ p. p.node.me == i) xs k d found in put_there xs i k d y at.0 at.1 (λ j h. at.2 j h) (same ∙ eqb-true _ _ at.1)
+    let at = position-Some (λ p. p.core.node.me == i) xs k d found in put_there xs i k d y at.0 at.1 (λ j h. at.2 j h) (same ∙ eqb-true _ _ at.1)
 
-pub none_there : (xs : List Place) (i : ℕ) → position (λ p. p.node.me == i) xs ≡ None → place_at i xs ≡ None
+pub none_there : (xs : List Place) (i : ℕ) → position (λ p. p.core.node.me == i) xs ≡ None → place_at i xs ≡ None
 none_there xs i none = nowhere xs i (none_found xs i none)
 
 -- an event at the place that is found
-pub acted_there : (xs : List Place) (i k : ℕ) (e : Event) (fate : Fate) (d y : Place) → position (λ p. p.node.me == i) xs ≡ Some k → y ≡ place_after (get_or xs k d) e fate → set xs k y ≡ acted_at i e fate xs
+pub acted_there : (xs : List Place) (i k : ℕ) (e : CoreEvent) (fate : Fate) (d y : Place) → position (λ p. p.core.node.me == i) xs ≡ Some k → y ≡ place_after (get_or xs k d) e fate → set xs k y ≡ acted_at i e fate xs
 acted_there xs i k e fate d y found is =
-    put_found xs i k d y found (ap (λ (p : Place). p.node.me) is ∙ (happens_keeps (get_or xs k d).node e (answer_of (get_or xs k d).keeper fate)).0)
+    put_found xs i k d y found (ap (λ (p : Place). p.core.node.me) is ∙ (core_keeps (get_or xs k d).core e (answer_of (get_or xs k d).keeper fate)).0)
     ∙ (ap (λ (p : Place). put p xs) is ∙ ap (λ o. put_acted e fate o xs) (sym (found_there xs i k d found)))
 
-pub acted_nowhere : (xs : List Place) (i : ℕ) (e : Event) (fate : Fate) → position (λ p. p.node.me == i) xs ≡ None → xs ≡ acted_at i e fate xs
+-- a drain of the place that is found
+pub drained_there : (numbers : List ℕ) (xs : List Place) (i k : ℕ) (d y : Place) → position (λ p. p.core.node.me == i) xs ≡ Some k → y ≡ place_drained numbers (get_or xs k d) → set xs k y ≡ put_drained numbers (place_at i xs) xs
+drained_there numbers xs i k d y found is =
+    let p : Place = get_or xs k d in
+    put_found xs i k d y found (ap (λ (p : Place). p.core.node.me) is ∙ ap (λ n. n.me) (drained_node p.core (others numbers p.core.node.me)))
+    ∙ (ap (λ (p : Place). put p xs) is ∙ ap (λ o. put_drained numbers o xs) (sym (found_there xs i k d found)))
+
+pub drained_nowhere : (numbers : List ℕ) (xs : List Place) (i : ℕ) → position (λ p. p.core.node.me == i) xs ≡ None → xs ≡ put_drained numbers (place_at i xs) xs
+drained_nowhere numbers xs i none = ap (λ o. put_drained numbers o xs) (sym (none_there xs i none))
+
+pub given_there : (numbers : List ℕ) (xs : List Place) (i k : ℕ) (d : Place) → position (λ p. p.core.node.me == i) xs ≡ Some k → given (get_or xs k d).core (others numbers (get_or xs k d).core.node.me) ≡ given_at numbers (place_at i xs)
+given_there numbers xs i k d found = ap (given_at numbers) (sym (found_there xs i k d found))
+
+pub given_nowhere : (numbers : List ℕ) (xs : List Place) (i : ℕ) → position (λ p. p.core.node.me == i) xs ≡ None → [] ≡ given_at numbers (place_at i xs)
+given_nowhere numbers xs i none = ap (given_at numbers) (sym (none_there xs i none))
+
+pub acted_nowhere : (xs : List Place) (i : ℕ) (e : CoreEvent) (fate : Fate) → position (λ p. p.core.node.me == i) xs ≡ None → xs ≡ acted_at i e fate xs
 acted_nowhere xs i e fate none = ap (λ o. put_acted e fate o xs) (sym (none_there xs i none))
 
-pub answered_there : (xs : List Place) (i k : ℕ) (e : Event) (fate : Fate) (d : Place) (a : Answer) → position (λ p. p.node.me == i) xs ≡ Some k → IsAnswer a (happens (get_or xs k d).node e (answer_of (get_or xs k d).keeper fate)) → AnswersAt i e fate xs (Some a)
+pub answered_there : (xs : List Place) (i k : ℕ) (e : CoreEvent) (fate : Fate) (d : Place) (a : Answer) → position (λ p. p.core.node.me == i) xs ≡ Some k → IsAnswer a (reply_at (get_or xs k d) e fate) → AnswersAt i e fate xs (Some a)
 answered_there xs i k e fate d a found is = subst (λ o. Answers e fate o (Some a)) (sym (found_there xs i k d found)) is
 
-pub answered_nowhere : (xs : List Place) (i : ℕ) (e : Event) (fate : Fate) → position (λ p. p.node.me == i) xs ≡ None → AnswersAt i e fate xs None
+pub answered_nowhere : (xs : List Place) (i : ℕ) (e : CoreEvent) (fate : Fate) → position (λ p. p.core.node.me == i) xs ≡ None → AnswersAt i e fate xs None
 answered_nowhere xs i e fate none = subst (λ o. Answers e fate o None) (sym (none_there xs i none)) tt
 
 -- a place comes in place of the one of its number
-pub put_nowhere : (x : Place) (ps : List Place) → place_at x.node.me ps ≡ None → put x ps ≡ ps
+pub put_nowhere : (x : Place) (ps : List Place) → place_at x.core.node.me ps ≡ None → put x ps ≡ ps
 put_nowhere x [] none = refl
 put_nowhere x (y ∷ ys) none =
-    cond_both (y.node.me == x.node.me) (Some y) (place_at x.node.me ys) (λ o. o ≡ None → put x (y ∷ ys) ≡ y ∷ ys)
+    cond_both (y.core.node.me == x.core.node.me) (Some y) (place_at x.core.node.me ys) (λ o. o ≡ None → put x (y ∷ ys) ≡ y ∷ ys)
     (λ _ here. cc)
-    (λ other there. cond-false (y.node.me == x.node.me) _ _ other ∙ cons_same _ _ _ _ refl (put_nowhere x ys there))
+    (λ other there. cond-false (y.core.node.me == x.core.node.me) _ _ other ∙ cons_same _ _ _ _ refl (put_nowhere x ys there))
     none
 
-pub put_its : (xs : List Place) (k : ℕ) (d y : Place) → position (λ p. p.node.me == y.node.me) xs ≡ Some k → set xs k y ≡ put y xs
-put_its xs k d y found = let at = position-Some (λ p. p.node.me == y.node.me) xs k d found in put_there xs y.node.me k d y at.0 at.1 (λ j h. at.2 j h) refl
+pub put_its : (xs : List Place) (k : ℕ) (d y : Place) → position (λ p. p.core.node.me == y.core.node.me) xs ≡ Some k → set xs k y ≡ put y xs
+put_its xs k d y found = let at = position-Some (λ p. p.core.node.me == y.core.node.me) xs k d found in put_there xs y.core.node.me k d y at.0 at.1 (λ j h. at.2 j h) refl
 
 -- and where there is none of its number, nothing changes
-pub put_none : (xs : List Place) (y : Place) → position (λ p. p.node.me == y.node.me) xs ≡ None → put y xs ≡ xs
-put_none xs y none = put_nowhere y xs (none_there xs y.node.me none)
+pub put_none : (xs : List Place) (y : Place) → position (λ p. p.core.node.me == y.core.node.me) xs ≡ None → put y xs ≡ xs
+put_none xs y none = put_nowhere y xs (none_there xs y.core.node.me none)
 
 pub on_ok : {X E : Type 0} (P Q : Type 0) (r : Result X E) → OnOk r P → (P → Q) → OnOk r Q
 on_ok P Q (Ok x) p h = h p

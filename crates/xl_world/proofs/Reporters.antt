@@ -5,31 +5,32 @@ use Rattle.std.proofs.lemmas.Bool.{cond_both, cond-true, cond-false, eqb-true}
 use Rattle.std.proofs.lemmas.List.Elements.{All-head, All-tail}
 use Rattle.xl_lists.specs.Lists.{TrustedList}
 use Rattle.xl_lists.specs.Agreement.{Report as Reported}
-use Rattle.xl_core.specs.Node.{Event}
+use Rattle.xl_core.specs.declared.event.CoreEvent.{CoreEvent}
 use Rattle.xl_world.specs.declared.place.Place.{Place}
 use Rattle.xl_world.specs.declared.plan.PlanNode.{PlanNode}
 use Rattle.xl_world.specs.declared.place.Fate.{Fate}
 use Rattle.xl_world.specs.Keeper.{may_hold}
-use Rattle.xl_world.specs.World.{World, Step, Act, Again, Torn, Mark, place_at, put, acts, moment_in, reopened, again, torn, asked_at, step, run, place_of, start, IsDeclared, AreDeclared, list_at, list_in, IsRun}
-use Rattle.xl_world.proofs.Lists.{HasLists, run_lists, start_lists}
+use Rattle.xl_world.specs.World.{IsDeclared, AreDeclared, list_at}
+use Rattle.xl_world.specs.Cores.{World, Step, Act, Again, Torn, Mark, place_at, put, acts, moment_in, reopened, again, torn, asked_at, step, run, place_of, start, list_in, IsRun}
+use Rattle.xl_world.proofs.CoreLists.{HasLists, run_lists, start_lists}
 
 -- a place that is put is found where one of its number was, and nowhere else
 put_present : (j : ℕ) (q : Place) (ps : List Place) → is_some (place_at j (put q ps)) ≡ is_some (place_at j ps)
 put_present j q [] = refl
 put_present j q (y ∷ ys) =
-    cond_both (y.node.me == q.node.me) (q ∷ ys) (y ∷ put q ys) (λ zs. is_some (place_at j zs) ≡ is_some (place_at j (y ∷ ys)))
-    (λ same. cond_both (q.node.me == j) (Some q) (place_at j ys) (λ o. is_some o ≡ is_some (place_at j (y ∷ ys)))
-    (λ is. sym (ap is_some (cond-true (y.node.me == j) (Some y) _ (ap (λ (k : ℕ). k == j) (eqb-true _ _ same) ∙ is))))
-    (λ is_not. sym (ap is_some (cond-false (y.node.me == j) (Some y) _ (ap (λ (k : ℕ). k == j) (eqb-true _ _ same) ∙ is_not)))))
-    (λ _. cond_both (y.node.me == j) (Some y) (place_at j (put q ys)) (λ o. is_some o ≡ is_some (place_at j (y ∷ ys)))
-    (λ is. sym (ap is_some (cond-true (y.node.me == j) (Some y) _ is)))
-    (λ is_not. put_present j q ys ∙ sym (ap is_some (cond-false (y.node.me == j) (Some y) _ is_not))))
+    cond_both (y.core.node.me == q.core.node.me) (q ∷ ys) (y ∷ put q ys) (λ zs. is_some (place_at j zs) ≡ is_some (place_at j (y ∷ ys)))
+    (λ same. cond_both (q.core.node.me == j) (Some q) (place_at j ys) (λ o. is_some o ≡ is_some (place_at j (y ∷ ys)))
+    (λ is. sym (ap is_some (cond-true (y.core.node.me == j) (Some y) _ (ap (λ (k : ℕ). k == j) (eqb-true _ _ same) ∙ is))))
+    (λ is_not. sym (ap is_some (cond-false (y.core.node.me == j) (Some y) _ (ap (λ (k : ℕ). k == j) (eqb-true _ _ same) ∙ is_not)))))
+    (λ _. cond_both (y.core.node.me == j) (Some y) (place_at j (put q ys)) (λ o. is_some o ≡ is_some (place_at j (y ∷ ys)))
+    (λ is. sym (ap is_some (cond-true (y.core.node.me == j) (Some y) _ is)))
+    (λ is_not. put_present j q ys ∙ sym (ap is_some (cond-false (y.core.node.me == j) (Some y) _ is_not))))
 
 -- the nodes that stand in a world stand in the other
 abbrev StandsSame : World → World → Type 0
 StandsSame w v = (j : ℕ) → is_some (place_at j v.places) ≡ is_some (place_at j w.places)
 
-acts_present : (w : World) (i : ℕ) (e : Event) (fate : Fate) (o : Option Place) → StandsSame w (acts w i e fate o)
+acts_present : (w : World) (i : ℕ) (e : CoreEvent) (fate : Fate) (o : Option Place) → StandsSame w (acts w i e fate o)
 acts_present w i e fate None j = refl
 acts_present w i e fate (Some p) j = put_present j _ w.places
 
@@ -40,7 +41,7 @@ again_present w i now number (Some p) j = cond_both (may_hold p.keeper number) (
 torn_present : (w : World) (i now number : ℕ) (o : Option Place) (asked : Option ℕ) → StandsSame w (torn w i now number o asked)
 torn_present w i now number None asked j = refl
 torn_present w i now number (Some p) None j = refl
-torn_present w i now number (Some p) (Some s) j = again_present w i now number (Some (record { node = p.node; keeper = record p.keeper { asked = Some s } })) j
+torn_present w i now number (Some p) (Some s) j = again_present w i now number (Some (record { core = p.core; keeper = record p.keeper { asked = Some s } })) j
 
 step_present : (w : World) (s : Step) → StandsSame w (step w s)
 step_present w (Act i e fate) j = acts_present w i e fate (place_at i w.places) j
@@ -74,7 +75,7 @@ declared_member (d ∷ ds) each i a at =
     at
 
 -- a node that stands in the world, and its list
-listed : (plan : List PlanNode) (w : World) → HasLists plan w → (i : ℕ) (a : TrustedList) (o : Option Place) → place_at i w.places ≡ o → is_some o ≡ true → list_at plan i ≡ Some a → option_map (λ p. p.node.list) o ≡ Some a
+listed : (plan : List PlanNode) (w : World) → HasLists plan w → (i : ℕ) (a : TrustedList) (o : Option Place) → place_at i w.places ≡ o → is_some o ≡ true → list_at plan i ≡ Some a → option_map (λ p. p.core.node.list) o ≡ Some a
 listed plan w has i a None at there is = cc
 listed plan w has i a (Some p) at there is = sym (has.nodes i p at) ∙ is
 

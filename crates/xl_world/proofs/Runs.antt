@@ -24,9 +24,8 @@ use Rattle.xl_core.specs.Node.{Node, Event, Issue, Frame, Reply, Save, asks, hap
 use Rattle.xl_world.specs.declared.place.Keeper.{Keeper}
 use Rattle.xl_world.specs.declared.place.Fate.{Fate}
 use Rattle.xl_world.specs.Keeper.{MayHold, one_more, may_hold, is_asked, holding, restored, answer_of, after_save}
-use Rattle.xl_world.specs.declared.place.Place.{Place}
 use Rattle.xl_world.specs.declared.plan.PlanNode.{PlanNode}
-use Rattle.xl_world.specs.World.{World, Step, Act, Again, Torn, Mark, marked, place_at, said_by, said_in, was_sent, forges, is_forged, acts, reopened, quiet, place_again, moment_in, again, torn, asked_at, step, run, place_of, start, is_declared, all_numbers, AreDeclared, FrameSays, NodeSays, Stands, IsRun}
+use Rattle.xl_world.specs.World.{Place, World, Step, Act, Again, Torn, Mark, marked, place_at, said_by, said_in, was_sent, forges, is_forged, acts, reopened, quiet, place_again, moment_in, again, torn, asked_at, step, run, place_of, start, is_declared, all_numbers, AreDeclared, FrameSays, NodeSays, Stands}
 use Rattle.xl_world.proofs.Settling.{IsWell, IsSound, ReplySays, GenuineThen, spoken, settled_sound, issued_genuine, node_weaker, at_its_number, some_same}
 use Rattle.xl_world.proofs.NodeSteps.{happens_steps, happens_says, HeardSays, heard_weaker, opened_says, opened_well, opened_steps, asks_above, failed_rises}
 
@@ -163,7 +162,7 @@ torn_stays w i now number None asked = record { liars = refl; forged = λ h. h }
 torn_stays w i now number (Some p) None = record { liars = refl; forged = λ h. h }
 torn_stays w i now number (Some p) (Some s) = again_stays w i now number (Some (record { node = p.node; keeper = record p.keeper { asked = Some s } }))
 
-pub step_stays : (w : World) (s : Step) → Stays w (step w s)
+step_stays : (w : World) (s : Step) → Stays w (step w s)
 step_stays w (Act i e fate) = acts_stays w i e fate (place_at i w.places)
 step_stays w (Again i now number) = again_stays w i now number (place_at i w.places)
 step_stays w (Torn i e number) = torn_stays w i (moment_in e) number (place_at i w.places) (asked_at (place_at i w.places) e)
@@ -208,38 +207,3 @@ pub agreement : (limit : ℕ) (liars : List ℕ) (plan : List PlanNode) (steps :
 agreement limit liars plan steps lists none =
     subst (λ ls. Agree ls (run (start limit liars plan) steps).reports) (run_stays (start limit liars plan) steps).liars
     (agreement_from_kept (run_sound (start limit liars plan) steps none (start_sound limit liars plan lists)).kept)
-
--- RUNS GO ON
-
-pub run-append : (w : World) (ss : List Step) (s : Step) → run w (ss ++ s ∷ []) ≡ step (run w ss) s
-run-append w [] s = refl
-run-append w (r ∷ rs) s = run-append (step w r) rs s
-
--- a run and a step more
-pub run_more : (w v : World) (s : Step) → v ≡ step w s → IsRun w → IsRun v
-run_more w v s is run_w =
-    let e : run (start run_w.0 w.liars run_w.1) (run_w.2 ++ s ∷ []) ≡ v = run-append (start run_w.0 w.liars run_w.1) run_w.2 s ∙ (ap (λ (u : World). step u s) (sym run_w.4) ∙ sym is) in
-    let same : w.liars ≡ v.liars = sym (step_stays w s).liars ∙ ap (λ (u : World). u.liars) (sym is) in
-    (run_w.0, run_w.1, (run_w.2 ++ s ∷ []), run_w.3, sym (subst (λ ls. run (start run_w.0 ls run_w.1) (run_w.2 ++ s ∷ []) ≡ v) same e))
-
--- a run and more steps
-pub run_on : (w v : World) (ss : List Step) → v ≡ run w ss → IsRun w → IsRun v
-run_on w v [] is run_w = subst (λ (u : World). IsRun u) (sym is) run_w
-run_on w v (s ∷ ss) is run_w = run_on (step w s) v ss is (run_more w (step w s) s refl run_w)
-
--- a world that has just been opened is one
-pub opened_run : (limit : ℕ) (liars declared : List ℕ) (plan : List PlanNode) (numbers : List ℕ) (places : List Place) (sent : List Sent) (said : List Said) (reports : List Reported) →
-    liars ≡ declared → numbers ≡ filter (is_declared declared plan) all_numbers → places ≡ map (place_of limit) plan → sent ≡ [] → said ≡ [] → reports ≡ [] → AreDeclared plan →
-    IsRun (record { liars = liars; numbers = numbers; places = places; sent = sent; mark = 0; said = said; reports = reports; forged = 0 })
-opened_run limit liars declared plan numbers places sent said reports same is_numbers is_places is_sent is_said is_reports are =
-    let its : numbers ≡ filter (is_declared liars plan) all_numbers = is_numbers ∙ ap (λ (ls : List ℕ). filter (is_declared ls plan) all_numbers) (sym same) in
-    let world = λ (n : List ℕ) (p : List Place) (f : List Sent) (s : List Said) (r : List Reported). let w : World = record { liars = liars; numbers = n; places = p; sent = f; mark = 0; said = s; reports = r; forged = 0 } in w in (
-      limit,
-      plan,
-      [],
-      are,
-      ap (λ n. world n places sent said reports) its ∙ (ap (λ p. world (filter (is_declared liars plan) all_numbers) p sent said reports) is_places
-          ∙ (ap (λ f. world (filter (is_declared liars plan) all_numbers) (map (place_of limit) plan) f said reports) is_sent
-          ∙ (ap (λ s. world (filter (is_declared liars plan) all_numbers) (map (place_of limit) plan) [] s reports) is_said
-          ∙ ap (λ r. world (filter (is_declared liars plan) all_numbers) (map (place_of limit) plan) [] [] r) is_reports))),
-    )

@@ -1,6 +1,6 @@
 -- A world whose cores are emptied after each event is, seen without its queues, one that sends at once.
 use Rattle.std.proofs.Common.{◌≡◌, ℕ, zero, suc, ◌+◌, ◌<◌, ◌≤◌, Bool, true, false, cond, List, [], ◌∷◌, ◌++◌, length, get_or, filter, map, refl, arith, ap, sym, ◌∙◌, inl, inr, Option, Some, None, subst, append_assoc, append-nil}
-use Rattle.std.specs.Prelude.{◌==◌, not, nat_lt, All, option_map, option_to_list, replicate}
+use Rattle.std.specs.Prelude.{◌==◌, not, nat_lt, All, IfSome, drop, if◌then◌else◌, option_map, option_to_list, replicate}
 use Rattle.std.proofs.lemmas.Bool.{cond_both, cond-true, cond-false, eqb-true, eqb-false, eq-eqb}
 use Rattle.std.specs.List.{flat_map}
 use Rattle.std.proofs.lemmas.List.{get_or-map, length-map, map-append}
@@ -19,21 +19,27 @@ use Rattle.xl_core.specs.Core.{Core, CoreReply, answering, core_asks, core_happe
 use Rattle.xl_core.specs.Node as nodes
 use Rattle.xl_core.specs.Node.{Event, Node, Reply, Save, asks, happens, items_of, opened}
 use Rattle.xl_core.specs.Node.Save.{Kept as AnsweredOk}
-use Rattle.xl_core.specs.Queues.{waiting_at, with_items}
+use Rattle.xl_core.specs.Queues.{waiting_at, with_items, with_report}
+use Rattle.xl_core.specs.declared.report.Report.{Report as NodeReport}
+use Rattle.xl_base.specs.declared.ids.LedgerId.{LedgerId}
+use Rattle.xl_tags.specs.Rings.{schedule_ring}
 use Rattle.xl_world.specs.declared.sent.Sent.{Sent}
 use Rattle.xl_world.specs.declared.place.Fate.{Fate}
 use Rattle.xl_world.specs.declared.place.Fate.TheVariants.{Kept}
 use Rattle.xl_world.specs.declared.place.Keeper.{Keeper}
-use Rattle.xl_world.specs.declared.place.Place.{Place as Seat}
+use Rattle.xl_world.specs.World.{Place as Seat}
 use Rattle.xl_world.specs.declared.plan.PlanNode.{PlanNode}
 use Rattle.xl_world.specs.Keeper.{after_save, answer_of, may_hold, one_more}
 use Rattle.xl_world.specs.World as flat
 use Rattle.xl_world.specs.World.{frames_for, is_declared, all_numbers, up_from, reported_by, said_by}
-use Rattle.xl_world.specs.Cores.{Place, World, Step, Act, Again, Torn, Mark, again, acts, asked_at, core_again, is_forged, keeper_after, marked, moment_in, place_at, place_of, put, reopened, reply_at, run, sent_in, settled, start, step, torn}
-use Rattle.xl_world.specs.Emptying.{IsEmptied, RunsAreOfCores, as_cores, at_core, drains, drains_for, emptying, emptying_at, run_as_cores, seat_of, without_queues}
+use Rattle.xl_world.specs.declared.place.Place.{Place}
+use Rattle.xl_world.specs.Cores.{World, Step, Act, Again, Torn, Mark, again, acts, asked_at, core_again, is_forged, keeper_after, marked, moment_in, place_at, place_of, put, reopened, reply_at, run, sent_in, settled, start, step, torn}
+use Rattle.xl_world.specs.Idle.{Between, IsIdle, Waits, WaitsOnly}
+use Rattle.xl_world.specs.Emptying.{IsEmptied, RunsAreOfCores, as_cores, at_core, drained, drained_once, drains, drains_for, emptying, emptying_at, event_steps, given, handed_out, others, run_as_cores, seat_of, without_queues}
+use Rattle.xl_world.proofs.CoreRuns.{run-append}
 use Rattle.xl_world.proofs.CoreSettling.{at_its_number, put_cases}
 use Rattle.xl_world.proofs.CoreSteps.{IsPlain, happens_plain}
-use Rattle.xl_world.proofs.Emptying.{Between, Waits, drained, drained_long, drained_node, drained_none, drained_once, dry, dry_then, given, given_all, once_long, sent_at_once, waits_still}
+use Rattle.xl_world.proofs.Emptying.{all_dry, none_given, drained_long, drained_node, drained_none, drained_untaken, dry, dry_then, given_all, once_long, sent_at_once, waits_still}
 use Rattle.xl_world.proofs.Lists.{happens_keeps}
 use Rattle.xl_world.proofs.Settling.{some_same}
 
@@ -54,7 +60,7 @@ put_same i (x ∷ xs) p h =
     h
 
 -- a place that is put is found where one of its number was
-put_at : (i : ℕ) (x : Place) (ps : List Place) (p : Place) → x.core.node.me ≡ i → place_at i ps ≡ Some p → place_at i (put x ps) ≡ Some x
+pub put_at : (i : ℕ) (x : Place) (ps : List Place) (p : Place) → x.core.node.me ≡ i → place_at i ps ≡ Some p → place_at i (put x ps) ≡ Some x
 put_at i x [] p its h = cc
 put_at i x (y ∷ ys) p its h =
     cond_both (y.core.node.me == x.core.node.me) (x ∷ ys) (y ∷ put x ys) (λ ps. place_at i ps ≡ Some x)
@@ -64,7 +70,7 @@ put_at i x (y ∷ ys) p its h =
     cond-false (y.core.node.me == i) _ _ not_i ∙ put_at i x ys p its (sym (cond-false (y.core.node.me == i) _ _ not_i) ∙ h))
 
 -- the later of two stands
-put_put : (x y : Place) (ps : List Place) → y.core.node.me ≡ x.core.node.me → put y (put x ps) ≡ put y ps
+pub put_put : (x y : Place) (ps : List Place) → y.core.node.me ≡ x.core.node.me → put y (put x ps) ≡ put y ps
 put_put x y [] same = refl
 put_put x y (z ∷ zs) same =
     cond_both (z.core.node.me == x.core.node.me) (x ∷ zs) (z ∷ put x zs) (λ ps. put y ps ≡ put y (z ∷ zs))
@@ -104,10 +110,6 @@ drain_step w i m p at =
     let q : Place = record { core = drained_once p.core m; keeper = p.keeper } in
     ap (λ o. acts w i (Drain m LONGEST_FRAME) Kept o) at
     ∙ ap (λ (rs : List Reported). with_lists w (put q w.places) (w.sent ++ sent_in p.core.node.me (core_happens p.core (Drain m LONGEST_FRAME) AnsweredOk).answer) rs) (append-nil w.reports)
-
-run-append : (w : World) (ss ts : List Step) → run w (ss ++ ts) ≡ run (run w ss) ts
-run-append w [] ts = refl
-run-append w (s ∷ ss) ts = run-append (step w s) ss ts
 
 abbrev once : Place → ℕ → Place
 once p m = record { core = drained_once p.core m; keeper = p.keeper }
@@ -160,25 +162,19 @@ drains_run o core low (m ∷ ms) w i p at long rising waits its =
     ∙ ap (λ (ps : List Place). with_lists w ps ((w.sent ++ frames) ++ given q.core ms) w.reports) (put_put q last w.places (ap (λ (n : Node). n.me) (drained_node q.core ms)))
     ∙ ap (λ (fs : List Sent). with_lists w (put last w.places) fs w.reports) (append_assoc w.sent frames (given q.core ms))
 
--- after its reports are handed out
-abbrev handed_out : Core → Core
-handed_out core = (core_happens core (Reports (length core.untaken.items)) AnsweredOk).core
-
+-- after the report that arose is handed out
 reports_step : (w : World) (i : ℕ) (p : Place) → place_at i w.places ≡ Some p →
-    step w (Act i (Reports (length p.core.untaken.items)) Kept) ≡ moved w (record { core = handed_out p.core; keeper = p.keeper }) []
+    step w (Act i (Reports 1) Kept) ≡ moved w (record { core = handed_out p.core; keeper = p.keeper }) []
 reports_step w i p at =
     let q : Place = record { core = handed_out p.core; keeper = p.keeper } in
-    ap (λ o. acts w i (Reports (length p.core.untaken.items)) Kept o) at
+    ap (λ o. acts w i (Reports 1) Kept o) at
     ∙ ap (λ (rs : List Reported). with_lists w (put q w.places) (w.sent ++ []) rs) (append-nil w.reports)
 
-abbrev others : List ℕ → Core → List ℕ
-others numbers core = filter (λ m. not (m == core.node.me)) numbers
-
-emptying_run : (o : Option Validation) (numbers : List ℕ) (w : World) (i : ℕ) (p : Place) → place_at i w.places ≡ Some p → length p.core.waiting ≡ 64 → Between 0 (others numbers p.core) → Waits o p.core (others numbers p.core) →
-    run w (map (λ e. Act i e Kept) (emptying numbers p.core)) ≡ moved w (record { core = drained (handed_out p.core) (others numbers p.core); keeper = p.keeper }) (given (handed_out p.core) (others numbers p.core))
+emptying_run : (o : Option Validation) (numbers : List ℕ) (w : World) (i : ℕ) (p : Place) → place_at i w.places ≡ Some p → length p.core.waiting ≡ 64 → Between 0 (others numbers p.core.node.me) → Waits o p.core (others numbers p.core.node.me) →
+    run w (map (λ e. Act i e Kept) (emptying numbers p.core)) ≡ moved w (record { core = drained (handed_out p.core) (others numbers p.core.node.me); keeper = p.keeper }) (given (handed_out p.core) (others numbers p.core.node.me))
 emptying_run o numbers w i p at long rising waits =
     let q : Place = record { core = handed_out p.core; keeper = p.keeper } in
-    let ms : List ℕ = others numbers p.core in
+    let ms : List ℕ = others numbers p.core.node.me in
     let last : Place = record { core = drained q.core ms; keeper = p.keeper } in
     ap (λ (v : World). run v (map (λ e. Act i e Kept) (flat_map (drains_for p.core) ms))) (reports_step w i p at)
     ∙ drains_run o p.core 0 ms (moved w q []) i q (put_at i q w.places p (at_its_number i w.places p at) at) long rising waits (waits_alike o p.core q.core ms refl waits)
@@ -213,11 +209,11 @@ between_filter p low (m ∷ ms) rising =
     (λ _. between_from m low (filter p ms) (omega (arith, rising.0)) (between_filter p m ms rising.2))
 
 waits_from : (o : Option Validation) (core : Core) (waiting : List (Backlog Item)) (low : ℕ) (numbers : List ℕ) → core.waiting ≡ with_items waiting (items_of o) → length waiting ≡ 64 → Between low numbers →
-    All (λ m. (m == core.node.me) ≡ false → (waiting_at waiting m).items ≡ []) numbers → Waits o core (others numbers core)
+    All (λ m. (m == core.node.me) ≡ false → (waiting_at waiting m).items ≡ []) numbers → Waits o core (others numbers core.node.me)
 waits_from o core waiting low [] is long rising none = tt
 waits_from o core waiting low (m ∷ ms) is long rising none =
     let rest = waits_from o core waiting m ms is long rising.2 (All-tail (λ k. (k == core.node.me) ≡ false → (waiting_at waiting k).items ≡ []) m ms none) in
-    cond_both (not (m == core.node.me)) (m ∷ others ms core) (others ms core) (Waits o core)
+    cond_both (not (m == core.node.me)) (m ∷ others ms core.node.me) (others ms core.node.me) (Waits o core)
     (λ other. (ap (λ (ws : List (Backlog Item)). (waiting_at ws m).items) is
     ∙ issued_waits o waiting m (omega (arith, rising.0)) (omega (arith, rising.1, long)) (All-head (λ k. (k == core.node.me) ≡ false → (waiting_at waiting k).items ≡ []) m ms none (is_other m core.node.me other)), rest))
     (λ _. rest)
@@ -236,11 +232,6 @@ none_from P me (m ∷ ms) each =
 
 -- AN EVENT
 
--- nothing waits in a world for a declared number, and its numbers are members'
-pub record IsIdle (w : World) : Type 0 where
-  pub numbers : Between 0 w.numbers
-  pub emptied : (i : ℕ) (p : Place) → place_at i w.places ≡ Some p → IsEmptied w.numbers p.core
-
 -- an idle world with a place changed
 idle_then : (w : World) (q : Place) (places : List Place) (sent : List Sent) (said : List Said) (reports : List Reported) (mark forged : ℕ) → places ≡ put q w.places → IsEmptied w.numbers q.core → IsIdle w →
     IsIdle (record { liars = w.liars; numbers = w.numbers; places = places; sent = sent; mark = mark; said = said; reports = reports; forged = forged })
@@ -252,18 +243,45 @@ idle_then w q places sent said reports mark forged is emptied idle = record {
   ];
 }
 
+-- the world after what came of an event at a place, once its core is emptied
+abbrev pub emptied_then : World → ℕ → Bool → CoreReply → Keeper → World
+emptied_then w i forged r keeper = record {
+  liars = w.liars;
+  numbers = w.numbers;
+  places = put (let x : Place = record { core = drained (handed_out r.core) (others w.numbers r.core.node.me); keeper = keeper } in x) w.places;
+  sent = w.sent ++ given (handed_out r.core) (others w.numbers r.core.node.me);
+  mark = w.mark;
+  said = with_said w.said (option_map (said_by i) r.issued);
+  reports = w.reports ++ option_to_list (option_map (reported_by r.core.node) r.report);
+  forged = if forged then one_more w.forged else w.forged;
+}
+
+-- after an event only what was issued waits for the others, and where nothing was, drains change nothing
+pub record IsAsIssued (numbers : List ℕ) (r : CoreReply) : Type 0 where
+  pub waits : WaitsOnly numbers (handed_out r.core)
+  pub keys : r.core.node.keys ≡ schedule_ring r.core.node.me
+  pub dry : r.issued ≡ None → drained (handed_out r.core) (others numbers r.core.node.me) ≡ handed_out r.core
+  pub none : r.issued ≡ None → given (handed_out r.core) (others numbers r.core.node.me) ≡ []
+
 -- what an event at the node leaves, once its core is emptied
-record IsSentAtOnce (w : World) (i : ℕ) (forged : Bool) (r : Reply) (k : Keeper) (v : World) : Type 0 where
+record IsSentAtOnce (w : World) (i : ℕ) (forged : Bool) (r : Reply) (core : Core) (k : Keeper) (v : World) : Type 0 where
+  pub ran : v ≡ emptied_then w i forged (stepped core r) k
+  pub as_issued : IsAsIssued w.numbers (stepped core r)
   pub seen : without_queues v ≡ flat.settled (without_queues w) i forged r k
   pub idle : IsIdle v
 
-settled_flat : (w : World) (i : ℕ) (p : Place) (forged : Bool) (r : Reply) (k : Keeper) → place_at i w.places ≡ Some p → IsPlain r → r.node.me ≡ p.core.node.me → IsIdle w →
-    IsSentAtOnce w i forged r k (run (settled w i forged (stepped p.core r) k) (map (λ e. Act i e Kept) (emptying w.numbers (stepped p.core r).core)))
-settled_flat w i p forged r k at plain same_me idle =
+-- what arose alone was untaken
+pub taken_then : (q : Backlog NodeReport) (o : Option NodeReport) → q.items ≡ [] → drop 1 (with_report q o).items ≡ []
+taken_then q None none = ap (drop 1) none
+taken_then q (Some report) none = ap (λ (xs : List NodeReport). drop 1 (let x : Backlog NodeReport = with_item 1024 (record { items = xs; lost = 0 }) report in x.items)) none
+
+settled_flat : (w : World) (i : ℕ) (p : Place) (forged : Bool) (r : Reply) (k : Keeper) → place_at i w.places ≡ Some p → IsPlain r → r.node.me ≡ p.core.node.me → r.node.keys ≡ p.core.node.keys → IsIdle w →
+    IsSentAtOnce w i forged r p.core k (run (settled w i forged (stepped p.core r) k) (map (λ e. Act i e Kept) (emptying w.numbers (stepped p.core r).core)))
+settled_flat w i p forged r k at plain same_me same_keys idle =
     let core : Core = (stepped p.core r).core in
     let q : Place = record { core = core; keeper = k } in
     let v : World = settled w i forged (stepped p.core r) k in
-    let ms : List ℕ = others w.numbers core in
+    let ms : List ℕ = others w.numbers core.node.me in
     let last : Place = record { core = drained (handed_out core) ms; keeper = k } in
     let frames : List Sent = given (handed_out core) ms in
     let its : r.node.me ≡ i = same_me ∙ at_its_number i w.places p at in
@@ -278,18 +296,30 @@ settled_flat w i p forged r k at plain same_me idle =
     let long : length core.waiting ≡ 64 = long_then r.issued waiting was.readers in
     let ran : run v (map (λ e. Act i e Kept) (emptying w.numbers core)) ≡ moved v last frames =
     emptying_run r.issued w.numbers v i q (put_at i q w.places p its at) long rising (waits_from r.issued core p.core.waiting 0 w.numbers waiting was.readers idle.numbers none) in
+    let all_sent : (w.sent ++ sent_in r.node.me r.answer) ++ frames ≡ w.sent ++ frames =
+    ap (λ (fs : List Sent). (w.sent ++ fs) ++ frames) (plain.sent r.node.me) ∙ ap (λ (fs : List Sent). fs ++ frames) (append-nil w.sent) in
+    let keyed : r.node.keys ≡ schedule_ring r.node.me = same_keys ∙ (was.keys ∙ ap schedule_ring (sym same_me)) in
     let emptied : IsEmptied w.numbers last.core =
     record {
       readers = drained_long (handed_out core) ms ∙ long;
       none = subst (λ (me : ℕ). All (λ m. (m == me) ≡ false → (waiting_at last.core.waiting m).items ≡ []) w.numbers) (sym (ap (λ (n : Node). n.me) node_is))
           (none_from (λ m. (waiting_at last.core.waiting m).items ≡ []) r.node.me w.numbers (drained_none r.issued (handed_out core) 0 ms long rising waits));
+      untaken = ap (λ (q : Backlog NodeReport). q.items) (drained_untaken (handed_out core) ms) ∙ taken_then p.core.untaken r.report was.untaken;
+      keys = ap (λ (n : Node). n.keys) node_is ∙ (keyed ∙ ap schedule_ring (sym (ap (λ (n : Node). n.me) node_is)));
     } in
     record {
+      ran = ran ∙ ap (λ (ps : List Place). with_lists v ps ((w.sent ++ sent_in r.node.me r.answer) ++ frames) v.reports) places
+          ∙ ap (λ (fs : List Sent). with_lists v (put last w.places) fs v.reports) all_sent;
+      as_issued = record {
+        waits = (r.issued, waits);
+        keys = keyed;
+        dry = λ quiet. all_dry (handed_out core) ms (subst (λ (o : Option Validation). Waits o (handed_out core) ms) quiet waits);
+        none = λ quiet. none_given (handed_out core) ms (subst (λ (o : Option Validation). Waits o (handed_out core) ms) quiet waits);
+      };
       seen = ap without_queues ran
           ∙ ap (λ (ps : List Seat). with_flat (without_queues v) ps ((w.sent ++ sent_in r.node.me r.answer) ++ frames))
           (ap (map seat_of) places ∙ seats_put last w.places ∙ ap (λ (n : Node). flat.put (let x : Seat = record { node = n; keeper = k } in x) (map seat_of w.places)) node_is)
-          ∙ ap (λ (fs : List Sent). with_flat (without_queues v) (flat.put (let x : Seat = record { node = r.node; keeper = k } in x) (map seat_of w.places)) fs)
-          (ap (λ (fs : List Sent). (w.sent ++ fs) ++ frames) (plain.sent r.node.me) ∙ ap (λ (fs : List Sent). fs ++ frames) (append-nil w.sent) ∙ ap (λ (fs : List Sent). w.sent ++ fs) sends);
+          ∙ ap (λ (fs : List Sent). with_flat (without_queues v) (flat.put (let x : Seat = record { node = r.node; keeper = k } in x) (map seat_of w.places)) fs) (all_sent ∙ ap (λ (fs : List Sent). w.sent ++ fs) sends);
       idle = subst IsIdle (sym ran) (idle_then w last (put last (put q w.places)) _ _ _ _ _ places emptied idle);
     }
   where
@@ -305,20 +335,41 @@ record GoesOn (w v : World) (u : flat.World) : Type 0 where
   pub seen : without_queues v ≡ u
   pub idle : IsIdle v
 
--- an event, by its kind
+-- what an event at a place leaves, once its core is emptied, where there is such a place
+abbrev pub emptied_acts : World → ℕ → CoreEvent → Fate → Option Place → World
+emptied_acts w i e fate None = w
+emptied_acts w i e fate (Some p) = emptied_then w i (is_forged w p.core.node e) (reply_at p e fate) (keeper_after p e fate)
+
+-- an event, once the core is emptied
+pub record IsEmptiedEvent (w : World) (i : ℕ) (e : CoreEvent) (fate : Fate) (o : Option Place) (v : World) : Type 0 where
+  pub ran : v ≡ emptied_acts w i e fate o
+  pub as_issued : IfSome o (λ p. IsAsIssued w.numbers (reply_at p e fate))
+  pub idle : IsIdle v
+
+-- by its kind
 act_at : (w : World) (i : ℕ) (e : Event) (fate : Fate) → IsIdle w → (o : Option Place) → place_at i w.places ≡ o →
-    GoesOn w (run (acts w i (at_core e) fate o) (emptying_at w.numbers i (at_core e) fate o)) (flat.acts (without_queues w) i e fate (option_map seat_of o))
-act_at w i e fate idle None at = record { seen = refl; idle = idle }
+    IsEmptiedEvent w i (at_core e) fate o (run (acts w i (at_core e) fate o) (emptying_at w.numbers i (at_core e) fate o))
+    × GoesOn w (run (acts w i (at_core e) fate o) (emptying_at w.numbers i (at_core e) fate o)) (flat.acts (without_queues w) i e fate (option_map seat_of o))
+act_at w i e fate idle None at = (record { ran = refl; as_issued = tt; idle = idle }, record { seen = refl; idle = idle })
 act_at w i (nodes.Issue now seq id full) fate idle (Some p) at =
     let r : Reply = happens p.core.node (nodes.Issue now seq id full) (answer_of p.keeper fate) in
-    let s = settled_flat w i p false r (after_save p.keeper (asks p.core.node (nodes.Issue now seq id full)) fate) at (happens_plain p.core.node (nodes.Issue now seq id full) (answer_of p.keeper fate))
-    (happens_keeps p.core.node (nodes.Issue now seq id full) (answer_of p.keeper fate)).0 idle in
-    record { seen = s.seen; idle = s.idle }
+    let keeps = happens_keeps p.core.node (nodes.Issue now seq id full) (answer_of p.keeper fate) in
+    let s = settled_flat w i p false r (after_save p.keeper (asks p.core.node (nodes.Issue now seq id full)) fate) at (happens_plain p.core.node (nodes.Issue now seq id full) (answer_of p.keeper fate)) keeps.0 keeps.2 idle in
+    (record { ran = s.ran; as_issued = s.as_issued; idle = s.idle }, record { seen = s.seen; idle = s.idle })
 act_at w i (nodes.Frame now bytes) fate idle (Some p) at =
     let r : Reply = happens p.core.node (nodes.Frame now bytes) (answer_of p.keeper fate) in
-    let s = settled_flat w i p (is_forged w p.core.node (Frame now bytes)) r p.keeper at (happens_plain p.core.node (nodes.Frame now bytes) (answer_of p.keeper fate))
-    (happens_keeps p.core.node (nodes.Frame now bytes) (answer_of p.keeper fate)).0 idle in
-    record { seen = s.seen; idle = s.idle }
+    let keeps = happens_keeps p.core.node (nodes.Frame now bytes) (answer_of p.keeper fate) in
+    let s = settled_flat w i p (is_forged w p.core.node (Frame now bytes)) r p.keeper at (happens_plain p.core.node (nodes.Frame now bytes) (answer_of p.keeper fate)) keeps.0 keeps.2 idle in
+    (record { ran = s.ran; as_issued = s.as_issued; idle = s.idle }, record { seen = s.seen; idle = s.idle })
+
+-- the steps of an issue or of what comes to a node
+pub issue_ran : (w : World) (i now seq : ℕ) (id : LedgerId) (full : Bool) (fate : Fate) → IsIdle w →
+    IsEmptiedEvent w i (Issue now seq id full) fate (place_at i w.places) (run w (event_steps w i (Issue now seq id full) fate))
+issue_ran w i now seq id full fate idle = (act_at w i (nodes.Issue now seq id full) fate idle (place_at i w.places) refl).0
+
+pub frame_ran : (w : World) (i now : ℕ) (bytes : List ℕ) → IsIdle w →
+    IsEmptiedEvent w i (Frame now bytes) Kept (place_at i w.places) (run w (event_steps w i (Frame now bytes) Kept))
+frame_ran w i now bytes idle = (act_at w i (nodes.Frame now bytes) Kept idle (place_at i w.places) refl).0
 
 -- A NODE THAT IS OPENED AGAIN
 
@@ -335,14 +386,14 @@ none_at_all : (me : ℕ) (numbers : List ℕ) → All (λ m. (m == me) ≡ false
 none_at_all me [] = All-nil (λ m. (m == me) ≡ false → (waiting_at (replicate 64 no_items) m).items ≡ [])
 none_at_all me (m ∷ ms) = All-cons (λ k. (k == me) ≡ false → (waiting_at (replicate 64 no_items) k).items ≡ []) m ms (λ _. none_waits m) (none_at_all me ms)
 
-opened_empty : (numbers : List ℕ) (core : Core) → core.waiting ≡ replicate 64 no_items → IsEmptied numbers core
-opened_empty numbers core is =
-    subst (λ (ws : List (Backlog Item)). IsEmptied numbers (record core { waiting = ws })) (sym is) (record { readers = refl; none = none_at_all core.node.me numbers })
+opened_empty : (numbers : List ℕ) (core : Core) → core.waiting ≡ replicate 64 no_items → core.untaken.items ≡ [] → core.node.keys ≡ schedule_ring core.node.me → IsEmptied numbers core
+opened_empty numbers core is untaken keys =
+    subst (λ (ws : List (Backlog Item)). IsEmptied numbers (record core { waiting = ws })) (sym is) (record { readers = refl; none = none_at_all core.node.me numbers; untaken = untaken; keys = keys })
 
-again_at : (w : World) (i now number : ℕ) → IsIdle w → (p : Place) → GoesOn w (again w i now number (Some p)) (flat.again (without_queues w) i now number (Some (seat_of p)))
-again_at w i now number idle p =
+again_at : (w : World) (i now number : ℕ) → IsIdle w → (p : Place) → p.core.node.keys ≡ schedule_ring p.core.node.me → GoesOn w (again w i now number (Some p)) (flat.again (without_queues w) i now number (Some (seat_of p)))
+again_at w i now number idle p keys =
     let q : Place = record { core = core_again p now number; keeper = record p.keeper { in_force = number; asked = None; written = false } } in
-    by (may_hold p.keeper number) q (seats_put q w.places) (opened_empty w.numbers (core_again p now number) refl)
+    by (may_hold p.keeper number) q (seats_put q w.places) (opened_empty w.numbers (core_again p now number) refl refl keys)
   where
     by : (b : Bool) (q : Place) → map seat_of (put q w.places) ≡ flat.put (seat_of q) (map seat_of w.places) → IsEmptied w.numbers q.core →
         GoesOn w (cond b (let v : World = record { liars = w.liars; numbers = w.numbers; places = put q w.places; sent = w.sent ++ []; mark = w.mark; said = w.said; reports = w.reports ++ []; forged = w.forged } in v) w)
@@ -353,14 +404,14 @@ again_at w i now number idle p =
     }
     by false q same emptied = record { seen = refl; idle = idle }
 
-again_any : (w : World) (i now number : ℕ) → IsIdle w → (o : Option Place) → GoesOn w (again w i now number o) (flat.again (without_queues w) i now number (option_map seat_of o))
-again_any w i now number idle None = record { seen = refl; idle = idle }
-again_any w i now number idle (Some p) = again_at w i now number idle p
+again_any : (w : World) (i now number : ℕ) → IsIdle w → (o : Option Place) → place_at i w.places ≡ o → GoesOn w (again w i now number o) (flat.again (without_queues w) i now number (option_map seat_of o))
+again_any w i now number idle None at = record { seen = refl; idle = idle }
+again_any w i now number idle (Some p) at = again_at w i now number idle p (idle.emptied i p at).keys
 
-torn_any : (w : World) (i now number : ℕ) → IsIdle w → (o : Option Place) (asked : Option ℕ) → GoesOn w (torn w i now number o asked) (flat.torn (without_queues w) i now number (option_map seat_of o) asked)
-torn_any w i now number idle None asked = record { seen = refl; idle = idle }
-torn_any w i now number idle (Some p) None = record { seen = refl; idle = idle }
-torn_any w i now number idle (Some p) (Some s) = again_at w i now number idle (record { core = p.core; keeper = record p.keeper { asked = Some s } })
+torn_any : (w : World) (i now number : ℕ) → IsIdle w → (o : Option Place) → place_at i w.places ≡ o → (asked : Option ℕ) → GoesOn w (torn w i now number o asked) (flat.torn (without_queues w) i now number (option_map seat_of o) asked)
+torn_any w i now number idle None at asked = record { seen = refl; idle = idle }
+torn_any w i now number idle (Some p) at None = record { seen = refl; idle = idle }
+torn_any w i now number idle (Some p) at (Some s) = again_at w i now number idle (record { core = p.core; keeper = record p.keeper { asked = Some s } }) (idle.emptied i p at).keys
 
 same_asked : (o : Option Place) (e : Event) → asked_at o (at_core e) ≡ flat.asked_at (option_map seat_of o) e
 same_asked None e = refl
@@ -373,17 +424,24 @@ same_moment (nodes.Frame now bytes) = refl
 
 -- RUNS
 
+-- a node opened again leaves an idle world
+pub again_idle : (w : World) (i now number : ℕ) → IsIdle w → IsIdle (step w (Again i now number))
+again_idle w i now number idle = (again_any w i now number idle (place_at i w.places) refl).idle
+
+pub torn_idle : (w : World) (i : ℕ) (e : CoreEvent) (number : ℕ) → IsIdle w → IsIdle (step w (Torn i e number))
+torn_idle w i e number idle = (torn_any w i (moment_in e) number idle (place_at i w.places) refl (asked_at (place_at i w.places) e)).idle
+
 -- each step of nodes is seen of the steps of its cores
 step_goes_on : (w : World) (s : flat.Step) → IsIdle w → GoesOn w (run w (as_cores w s)) (flat.step (without_queues w) s)
 step_goes_on w (flat.Act i e fate) idle =
-    let one = act_at w i e fate idle (place_at i w.places) refl in
+    let one = (act_at w i e fate idle (place_at i w.places) refl).1 in
     record { seen = one.seen ∙ ap (λ o. flat.acts (without_queues w) i e fate o) (sym (seats_at i w.places)); idle = one.idle }
 step_goes_on w (flat.Again i now number) idle =
-    let one = again_any w i now number idle (place_at i w.places) in
+    let one = again_any w i now number idle (place_at i w.places) refl in
     record { seen = one.seen ∙ ap (λ o. flat.again (without_queues w) i now number o) (sym (seats_at i w.places)); idle = one.idle }
 step_goes_on w (flat.Torn i e number) idle =
     let o : Option Place = place_at i w.places in
-    let one = torn_any w i (moment_in (at_core e)) number idle o (asked_at o (at_core e)) in
+    let one = torn_any w i (moment_in (at_core e)) number idle o refl (asked_at o (at_core e)) in
     record {
       seen = one.seen ∙ ap (λ (now : ℕ). flat.torn (without_queues w) i now number (option_map seat_of o) (asked_at o (at_core e))) (same_moment e)
           ∙ ap (λ (asked : Option ℕ). flat.torn (without_queues w) i (flat.moment_in e) number (option_map seat_of o) asked) (same_asked o e)
@@ -411,13 +469,22 @@ all_opened : (limit : ℕ) (numbers : List ℕ) (plan : List PlanNode) (i : ℕ)
 all_opened limit numbers [] i p h = cc
 all_opened limit numbers (d ∷ ds) i p h =
     cond_both (d.me == i) (Some (place_of limit d)) (place_at i (map (place_of limit) ds)) (λ o. o ≡ Some p → IsEmptied numbers p.core)
-    (λ _ here. subst (λ (x : Place). IsEmptied numbers x.core) (sym (some_same (place_of limit d) p here)) (opened_empty numbers (place_of limit d).core refl))
+    (λ _ here. subst (λ (x : Place). IsEmptied numbers x.core) (sym (some_same (place_of limit d) p here)) (opened_empty numbers (place_of limit d).core refl refl refl))
     (λ _ there. all_opened limit numbers ds i p there) h
 
-start_idle : (limit : ℕ) (liars : List ℕ) (plan : List PlanNode) → IsIdle (start limit liars plan)
+pub start_idle : (limit : ℕ) (liars : List ℕ) (plan : List PlanNode) → IsIdle (start limit liars plan)
 start_idle limit liars plan = record {
   numbers = between_filter (is_declared liars plan) 0 all_numbers (up_between 1 64 (omega arith) 0 (omega arith));
   emptied = all_opened limit (filter (is_declared liars plan) all_numbers) plan;
+}
+
+-- a world of these numbers and places is idle
+pub opened_idle : (limit : ℕ) (liars declared : List ℕ) (plan : List PlanNode) (numbers : List ℕ) (places : List Place) {sent : List Sent} {said : List Said} {reports : List Reported} {mark forged : ℕ} →
+    numbers ≡ filter (is_declared declared plan) all_numbers → places ≡ map (place_of limit) plan →
+    IsIdle (record { liars = liars; numbers = numbers; places = places; sent = sent; mark = mark; said = said; reports = reports; forged = forged })
+opened_idle limit liars declared plan numbers places is_numbers is_places = record {
+  numbers = subst (Between 0) (sym is_numbers) (start_idle limit declared plan).numbers;
+  emptied = λ i p at. subst (λ (ns : List ℕ). IsEmptied ns p.core) (sym is_numbers) ((start_idle limit declared plan).emptied i p (ap (place_at i) (sym is_places) ∙ at));
 }
 
 pub runs_are_of_cores : RunsAreOfCores

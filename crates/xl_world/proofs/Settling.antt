@@ -15,9 +15,8 @@ use Rattle.xl_core.specs.declared.report.Report.{Report}
 use Rattle.xl_core.specs.Node.{Node, Reply}
 use Rattle.xl_world.specs.declared.place.Keeper.{Keeper}
 use Rattle.xl_world.specs.Keeper.{MayHold}
-use Rattle.xl_world.specs.declared.place.Place.{Place}
 use Rattle.xl_world.proofs.Speaking.{frames_say}
-use Rattle.xl_world.specs.World.{World, place_at, put, said_in, said_by, reported_by, settled, Holds, RowSays, FrameSays, NodeSays, IsKept}
+use Rattle.xl_world.specs.World.{Place, World, place_at, put, said_in, said_by, reported_by, settled, Holds, RowSays, FrameSays, NodeSays, IsKept}
 
 -- a node's rows are its list's, on which each member stands once, and the number that it kept is its keeper's
 pub record IsWell (p : Place) : Type 0 where

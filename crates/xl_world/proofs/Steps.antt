@@ -1,10 +1,11 @@
 -- What the code's changes are of the world.
 use Rattle.std.proofs.Common.{◌≡◌, ℕ, zero, suc, arith, Bool, true, false, cond, List, [], ◌∷◌, ◌++◌, length, refl, ap, sym, ◌∙◌, Option, Some, None, Result, Ok, Err, subst}
-use Rattle.std.specs.Prelude.{◌==◌, ◌&&◌, ◌||◌, not, All, is_some, nat_lt, nat_le, option_map, option_to_list, slice_get, if◌then◌else◌, map, unwrap_or, filter}
+use Rattle.std.specs.List.{flat_map}
+use Rattle.std.specs.Prelude.{◌==◌, ◌&&◌, ◌||◌, not, All, IfSome, is_some, nat_lt, nat_le, option_map, option_to_list, slice_get, if◌then◌else◌, map, unwrap_or, filter}
 use Rattle.std.proofs.lemmas.Bool.{cond-true, cond-false, cond_both, or_left, or_right, eq-eqb}
 use Rattle.std.proofs.lemmas.List.Folds.{list_any_at}
 use Rattle.std.proofs.lemmas.Option.{slice_get_within, get_or_from_slice_get}
-use Rattle.std.proofs.lemmas.List.{append-nil, append_assoc}
+use Rattle.std.proofs.lemmas.List.{append-nil, append_assoc, map-append}
 use Rattle.std.proofs.lemmas.List.Elements.{All-head, All-tail}
 use Rattle.xl_lists.specs.Agreement.{Said, Report, with_said}
 use Rattle.xl_wire.specs.declared.validation.Validation.{Validation}
@@ -28,7 +29,13 @@ use Rattle.xl_core.specs.declared.hearing.Speech.TheVariants.{Vote, Header as Le
 use Rattle.xl_core.specs.declared.refusal.Refusal.{Refusal}
 use Rattle.xl_core.specs.declared.refusal.Refusal.TheVariants.{NotAfter}
 use Rattle.xl_core.specs.Hearing.{heard}
-use Rattle.xl_core.specs.Node.{Node, Event, Issue, Frame, Reply, Save, at_moment, second_of, own_validation, issues_unless, happens, hears, learns, hearing_speech, hearing, refusing, refusal_at}
+use Rattle.xl_core.specs.Node as nodes
+use Rattle.xl_core.specs.Node.{Node, Reply, at_moment, second_of, happens, hears, learns, hearing_speech, hearing, refusal_at}
+use Rattle.xl_core.specs.Core.{Core, CoreReply, core_happens}
+use Rattle.xl_core.specs.Queues.{waiting_at}
+use Rattle.xl_core.specs.declared.event.CoreEvent.{CoreEvent}
+use Rattle.xl_core.specs.declared.event.CoreEvent.TheVariants.{Issue, Frame, Drain, Reports}
+use Rattle.xl_core.specs.declared.queued.TheConstants.{LONGEST_FRAME}
 use Rattle.xl_world.specs.declared.act.Answer.{Answer}
 use Rattle.xl_world.specs.declared.outcome.Outcome.{Outcome}
 use Rattle.xl_world.specs.declared.outcome.Outcome.TheVariants.{Refused, Full}
@@ -39,14 +46,20 @@ use Rattle.xl_world.specs.declared.place.Keeper.{Keeper}
 use Rattle.xl_world.specs.declared.place.Fate.{Fate}
 use Rattle.xl_world.specs.declared.place.Fate.TheVariants.{Kept}
 use Rattle.xl_world.specs.Keeper.{may_hold, is_asked, answer_of, found, one_more}
-use Rattle.xl_core.specs.Answers.{refusal_in}
+use Rattle.xl_core.specs.Answers.{given_in, refusal_in}
 use Rattle.xl_core.specs.Node.Save.{Kept as AnsweredOk, Failed as AnsweredFailed}
 use Rattle.xl_core.specs.Sending.{sealed_bytes, has_spelling}
-use Rattle.xl_world.specs.World.{World, Step, Act, Mark, again, reopened, place_again, was_sent, forges, place_at, put, frames_for, said_by, reported_by, acts, step, run}
-use Rattle.xl_world.proofs.Settling.{at_its_number, some_same}
-use Rattle.xl_sched.specs.declared.event.Event.TheVariants.{Deliver}
-use Rattle.xl_world.specs.Schedule.{frame_at, delivery, restart, after_event, told_of, reply_to, told_by, told_in, outcomes}
-use Rattle.xl_world.specs.Seen.{restarted, report_seen, put_acted, acted_at, Answers, AnswersAt, outcomes_told, frames_from, forged_at, reply_in, reported_in}
+use Rattle.xl_world.specs.World.{was_sent, forges, said_by, reported_by}
+use Rattle.xl_world.specs.Cores.{World, Step, Act, Mark, is_forged, keeper_after, place_at, put, reply_at, step, run}
+use Rattle.xl_world.specs.Emptying.{drained, drains, drains_for, emptying_at, event_steps, given, others}
+use Rattle.xl_world.specs.Idle.{IsIdle}
+use Rattle.xl_world.proofs.CoreSettling.{at_its_number}
+use Rattle.xl_world.proofs.Settling.{some_same}
+use Rattle.xl_world.proofs.CoreLists.{core_keeps}
+use Rattle.xl_world.proofs.Emptying.{drained_node}
+use Rattle.xl_world.proofs.Sending.{IsAsIssued, emptied_acts, frame_ran, issue_ran, put_at, put_put}
+use Rattle.xl_world.specs.Schedule.{frame_at, told_of, reply_to, told_by, told_in}
+use Rattle.xl_world.specs.Seen.{MayDrain, report_seen, place_after, place_drained, put_acted, put_drained, given_at, acted_at, Answers, AnswersAt, outcomes_told, forged_at, reply_in, reported_in}
 
 -- what a step changes of a world
 abbrev pub with_lists : World → List Place → List Sent → List Said → List Report → ℕ → World
@@ -62,66 +75,96 @@ same_lists w {p} {p'} {f} {f'} {s} {s'} {r} {r'} {n} {n'} a b c d e =
     ap (λ (x : List Place). with_lists w x f s r n) a ∙ (ap (λ (x : List Sent). with_lists w p' x s r n) b ∙ (ap (λ (x : List Said). with_lists w p' f' x r n) c
     ∙ (ap (λ (x : List Report). with_lists w p' f' s' x n) d ∙ ap (λ (x : ℕ). with_lists w p' f' s' r' x) e)))
 
-nothing_at : (e : Event) (fate : Fate) (o : Option Place) → Answers e fate o None → o ≡ None
+nothing_at : (e : CoreEvent) (fate : Fate) (o : Option Place) → Answers e fate o None → o ≡ None
 nothing_at e fate None answers = refl
 nothing_at e fate (Some p) answers = absurd answers
 
 -- there is no node of a number that answers nothing
-pub no_place : (w : World) (i : ℕ) (e : Event) (fate : Fate) → AnswersAt i e fate w.places None → place_at i w.places ≡ None
+pub no_place : (w : World) (i : ℕ) (e : CoreEvent) (fate : Fate) → AnswersAt i e fate w.places None → place_at i w.places ≡ None
 no_place w i e fate answers = nothing_at e fate (place_at i w.places) answers
 
 -- WHAT IS ISSUED
 
--- frames are made by number and keys alone
-same_frames : (numbers : List ℕ) (n m : Node) (v : Validation) → m.keys ≡ n.keys → m.me ≡ n.me → frames_for numbers n (Some v) ≡ frames_for numbers m (Some v)
-same_frames numbers n m v keys me =
-    ap (λ (k : Ring). map (λ to. let f : Sent = record { from = n.me; to = to; bytes = sealed_bytes k n.me to v } in f) (filter (λ to. not (to == n.me) && has_spelling n.me to v) numbers)) (sym keys)
-    ∙ ap (λ (x : ℕ). map (λ to. let f : Sent = record { from = x; to = to; bytes = sealed_bytes m.keys x to v } in f) (filter (λ to. not (to == x) && has_spelling x to v) numbers)) (sym me)
+-- the places of the code, and what it sent
+abbrev pub places_issued : List ℕ → ℕ → CoreEvent → Fate → Answer → List Place → List Place
+places_issued numbers i e fate a places = let ps : List Place = acted_at i e fate places in if is_some a.issued then put_drained numbers (place_at i ps) ps else ps
 
--- its frames are those of the node as it was, if it is issued
-unless_frames : (numbers : List ℕ) (n m : Node) (off : Option ℕ) (save : Save) (v : Validation) → m.keys ≡ n.keys → m.me ≡ n.me →
-    (if is_some (issues_unless m off save v).issued then frames_for numbers n (Some v) else []) ≡ frames_for numbers (issues_unless m off save v).node (issues_unless m off save v).issued
-unless_frames numbers n m None AnsweredOk v keys me = same_frames numbers n (issues_unless m None AnsweredOk v).node v keys me
-unless_frames numbers n m None (AnsweredFailed count) v keys me = refl
-unless_frames numbers n m (Some failed) save v keys me = refl
+abbrev pub sent_issued : List ℕ → ℕ → CoreEvent → Fate → Answer → List Place → List Sent
+sent_issued numbers i e fate a places = if is_some a.issued then given_at numbers (place_at i (acted_at i e fate places)) else []
 
-issue_frames : (numbers : List ℕ) (n m : Node) (save : Save) (v : Validation) (b : Bool) → m.keys ≡ n.keys → m.me ≡ n.me →
-    (let r : Reply = cond b (issues_unless m m.off save v) (refusing m (NotAfter m.kept)) in if is_some r.issued then frames_for numbers n (Some v) else []) ≡
-    (let r : Reply = cond b (issues_unless m m.off save v) (refusing m (NotAfter m.kept)) in frames_for numbers r.node r.issued)
-issue_frames numbers n m save v true keys me = unless_frames numbers n m m.off save v keys me
-issue_frames numbers n m save v false keys me = refl
+-- whether what comes to a place, where there is one, is forged
+abbrev forged_in : World → CoreEvent → Option Place → Bool
+forged_in w e None = false
+forged_in w e (Some p) = is_forged w p.core.node e
 
-issued_at : (w : World) (i now seq : ℕ) (id : LedgerId) (full : Bool) (fate : Fate) (a : Answer) (o : Option Place) → place_at i w.places ≡ o → Answers (Issue now seq id full) fate o (Some a) →
-    with_lists w (put_acted (Issue now seq id full) fate o w.places)
-    (w.sent ++ (if is_some a.issued then frames_from w.numbers now seq id full o else []))
-    (with_said w.said (option_map (said_by i) a.issued)) (w.reports ++ option_to_list (option_map report_seen a.report)) w.forged
-    ≡ acts w i (Issue now seq id full) fate o
-issued_at w i now seq id full fate a None at answers = absurd answers
-issued_at w i now seq id full fate a (Some p) at is =
-    let m : Node = at_moment now p.node in
-    let v : Validation = own_validation m seq id full in
-    same_lists w refl
-    (ap (λ (o : Option Validation). w.sent ++ (if is_some o then frames_for w.numbers p.node (Some v) else [])) is.issued
-    ∙ ap (λ (fs : List Sent). w.sent ++ fs) (issue_frames w.numbers p.node m (answer_of p.keeper fate) v (nat_lt m.kept seq) refl refl))
+-- a place whose report was handed out, once it is drained
+drained_place : (w : World) (i : ℕ) (e : CoreEvent) (fate : Fate) (p : Place) → place_at i w.places ≡ Some p → (o : Option Validation) → o ≡ (reply_at p e fate).issued → IsAsIssued w.numbers (reply_at p e fate) →
+    (let ps : List Place = put (place_after p e fate) w.places in if is_some o then put_drained w.numbers (place_at i ps) ps else ps) ≡ put (place_drained w.numbers (place_after p e fate)) w.places
+drained_place w i e fate p at None is issued =
+    ap (λ (c : Core). put (let x : Place = record { core = c; keeper = keeper_after p e fate } in x) w.places) (sym (issued.dry (sym is)))
+drained_place w i e fate p at (Some v) is issued =
+    let q : Place = place_after p e fate in
+    let its : q.core.node.me ≡ i = (core_keeps p.core e (answer_of p.keeper fate)).0 ∙ at_its_number i w.places p at in
+    ap (λ o. put_drained w.numbers o (put q w.places)) (put_at i q w.places p its at)
+    ∙ put_put q (place_drained w.numbers q) w.places (ap (λ (n : Node). n.me) (drained_node q.core (others w.numbers q.core.node.me)))
+
+drained_sent : (w : World) (i : ℕ) (e : CoreEvent) (fate : Fate) (p : Place) → place_at i w.places ≡ Some p → (o : Option Validation) → o ≡ (reply_at p e fate).issued → IsAsIssued w.numbers (reply_at p e fate) →
+    (if is_some o then given_at w.numbers (place_at i (put (place_after p e fate) w.places)) else []) ≡ given (place_after p e fate).core (others w.numbers (place_after p e fate).core.node.me)
+drained_sent w i e fate p at None is issued = sym (issued.none (sym is))
+drained_sent w i e fate p at (Some v) is issued =
+    let q : Place = place_after p e fate in
+    ap (given_at w.numbers) (put_at i q w.places p ((core_keeps p.core e (answer_of p.keeper fate)).0 ∙ at_its_number i w.places p at) at)
+
+issued_at : (w : World) (i : ℕ) (e : CoreEvent) (fate : Fate) (a : Answer) (o : Option Place) → place_at i w.places ≡ o → Answers e fate o (Some a) → IfSome o (λ p. IsAsIssued w.numbers (reply_at p e fate)) → (n : ℕ) →
+    n ≡ (if forged_in w e o then one_more w.forged else w.forged) →
+    with_lists w (let ps : List Place = put_acted e fate o w.places in if is_some a.issued then put_drained w.numbers (place_at i ps) ps else ps)
+    (w.sent ++ (if is_some a.issued then given_at w.numbers (place_at i (put_acted e fate o w.places)) else []))
+    (with_said w.said (option_map (said_by i) a.issued)) (w.reports ++ option_to_list (option_map report_seen a.report)) n
+    ≡ emptied_acts w i e fate o
+issued_at w i e fate a None at answers issued n counted = absurd answers
+issued_at w i e fate a (Some p) at is issued n counted =
+    same_lists w (drained_place w i e fate p at a.issued is.issued issued) (ap (λ fs. w.sent ++ fs) (drained_sent w i e fate p at a.issued is.issued issued))
     (ap (λ (o : Option Validation). with_said w.said (option_map (said_by i) o)) is.issued)
     (ap (λ (o : Option Report). w.reports ++ option_to_list o) is.report)
-    refl
+    counted
 
--- the lists of the code, with what is issued, are the step's
-pub issued_step : (w : World) (i now seq : ℕ) (id : LedgerId) (full : Bool) (fate : Fate) (a : Answer) (places : List Place) (sent : List Sent) (said : List Said) (reports : List Report) →
-    AnswersAt i (Issue now seq id full) fate w.places (Some a) → places ≡ acted_at i (Issue now seq id full) fate w.places →
-    sent ≡ w.sent ++ (if is_some a.issued then frames_from w.numbers now seq id full (place_at i w.places) else []) →
+-- the lists of the code, with what is issued, are those of the steps
+pub issued_step : (w : World) (i now seq : ℕ) (id : LedgerId) (full : Bool) (fate : Fate) (a : Answer) (places : List Place) (sent : List Sent) (said : List Said) (reports : List Report) → IsIdle w →
+    AnswersAt i (Issue now seq id full) fate w.places (Some a) → places ≡ places_issued w.numbers i (Issue now seq id full) fate a w.places →
+    sent ≡ w.sent ++ sent_issued w.numbers i (Issue now seq id full) fate a w.places →
     said ≡ with_said w.said (option_map (said_by i) a.issued) → reports ≡ w.reports ++ option_to_list (option_map report_seen a.report) →
-    with_lists w places sent said reports w.forged ≡ step w (Act i (Issue now seq id full) fate)
-issued_step w i now seq id full fate a places sent said reports answers is_places is_sent is_said is_reports =
-    same_lists w is_places is_sent is_said is_reports refl ∙ issued_at w i now seq id full fate a (place_at i w.places) refl answers
+    with_lists w places sent said reports w.forged ≡ run w (event_steps w i (Issue now seq id full) fate)
+issued_step w i now seq id full fate a places sent said reports idle answers is_places is_sent is_said is_reports =
+    let ran = issue_ran w i now seq id full fate idle in
+    same_lists w is_places is_sent is_said is_reports refl
+    ∙ issued_at w i (Issue now seq id full) fate a (place_at i w.places) refl answers ran.as_issued w.forged (unforged (place_at i w.places)) ∙ sym ran.ran
+  where
+    unforged : (o : Option Place) → w.forged ≡ (if forged_in w (Issue now seq id full) o then one_more w.forged else w.forged)
+    unforged None = refl
+    unforged (Some p) = refl
+
+-- what may be drained then
+may_drain_at : (w : World) (i : ℕ) (e : CoreEvent) (fate : Fate) (o : Option Place) → place_at i w.places ≡ o → IfSome o (λ p. IsAsIssued w.numbers (reply_at p e fate)) →
+    (p : Place) → place_at i (put_acted e fate o w.places) ≡ Some p → MayDrain w.numbers p
+may_drain_at w i e fate None at issued p h = absurd (never (sym at ∙ h))
+  where
+    never : (let o : Option Place = None in o) ≡ Some p → ⊥
+    never e = cc
+may_drain_at w i e fate (Some q) at issued p h =
+    let its : (place_after q e fate).core.node.me ≡ i = (core_keeps q.core e (answer_of q.keeper fate)).0 ∙ at_its_number i w.places q at in
+    subst (MayDrain w.numbers) (sym (some_same (place_after q e fate) p (sym (put_at i (place_after q e fate) w.places q its at) ∙ h))) (issued.waits, issued.keys)
+
+pub may_drain : (w : World) (i now seq : ℕ) (id : LedgerId) (full : Bool) (fate : Fate) (ps : List Place) → IsIdle w → ps ≡ acted_at i (Issue now seq id full) fate w.places → (p : Place) → place_at i ps ≡ Some p → MayDrain w.numbers p
+may_drain w i now seq id full fate ps idle is p h =
+    may_drain_at w i (Issue now seq id full) fate (place_at i w.places) refl (issue_ran w i now seq id full fate idle).as_issued p (ap (place_at i) (sym is) ∙ h)
 
 -- where there is no node of the number nothing changes
-pub issued_nothing : (w : World) (i now seq : ℕ) (id : LedgerId) (full : Bool) (fate : Fate) (places : List Place) → AnswersAt i (Issue now seq id full) fate w.places None → places ≡ acted_at i (Issue now seq id full) fate w.places →
-    with_lists w places w.sent w.said w.reports w.forged ≡ step w (Act i (Issue now seq id full) fate)
-issued_nothing w i now seq id full fate places answers is =
-    let none : place_at i w.places ≡ None = no_place w i (Issue now seq id full) fate answers in
-    ap (λ (ps : List Place). with_lists w ps w.sent w.said w.reports w.forged) (is ∙ ap (λ o. put_acted (Issue now seq id full) fate o w.places) none) ∙ ap (λ o. acts w i (Issue now seq id full) fate o) (sym none)
+pub issued_nothing : (w : World) (i now seq : ℕ) (id : LedgerId) (full : Bool) (fate : Fate) (places : List Place) → IsIdle w → AnswersAt i (Issue now seq id full) fate w.places None → places ≡ acted_at i (Issue now seq id full) fate w.places →
+    with_lists w places w.sent w.said w.reports w.forged ≡ run w (event_steps w i (Issue now seq id full) fate)
+issued_nothing w i now seq id full fate places idle answers is =
+    let e : CoreEvent = Issue now seq id full in
+    let none : place_at i w.places ≡ None = no_place w i e fate answers in
+    ap (λ (ps : List Place). with_lists w ps w.sent w.said w.reports w.forged) (is ∙ ap (λ o. put_acted e fate o w.places) none) ∙ ap (λ o. emptied_acts w i e fate o) (sym none) ∙ sym (issue_ran w i now seq id full fate idle).ran
 
 -- WHAT IS HEARD
 
@@ -142,25 +185,29 @@ hearing_quiet : (n : Node) (now : ℕ) (said : Result Spoken Refusal) → (heari
 hearing_quiet n now (Err why) = refl
 hearing_quiet n now (Ok said) = speech_quiet n now said.from said.what
 
-heard_at : (w : World) (to now : ℕ) (bytes : List ℕ) (forged : ℕ) (o : Option Place) → forged ≡ (if forged_at w.liars w.sent bytes o then one_more w.forged else w.forged) →
-    with_lists w (put_acted (Frame now bytes) Kept o w.places) w.sent w.said (w.reports ++ reported_in (option_map (λ p. happens p.node (Frame now bytes) (answer_of p.keeper Kept)) o)) forged ≡ acts w to (Frame now bytes) Kept o
-heard_at w to now bytes forged None counted = same_lists w refl refl refl (append-nil w.reports) counted
-heard_at w to now bytes forged (Some p) counted =
-    let r : Reply = happens p.node (Frame now bytes) AnsweredOk in
-    let quiet : r.issued ≡ None = hearing_quiet (at_moment now p.node) (second_of (at_moment now p.node)) (heard p.node.keys p.node.list.members bytes) in
-    same_lists w refl
-    (sym (append-nil w.sent) ∙ ap (λ (o : Option Validation). w.sent ++ frames_for w.numbers r.node o) (sym quiet))
+pub frame_quiet : (n : Node) (now : ℕ) (bytes : List ℕ) → (happens n (nodes.Frame now bytes) AnsweredOk).issued ≡ None
+frame_quiet n now bytes = hearing_quiet (at_moment now n) (second_of (at_moment now n)) (heard n.keys n.list.members bytes)
+
+heard_at : (w : World) (to now : ℕ) (bytes : List ℕ) (forged : ℕ) (o : Option Place) → forged ≡ (if forged_at w.liars w.sent bytes o then one_more w.forged else w.forged) → IfSome o (λ p. IsAsIssued w.numbers (reply_at p (Frame now bytes) Kept)) →
+    with_lists w (put_acted (Frame now bytes) Kept o w.places) w.sent w.said (w.reports ++ reported_in (option_map (λ p. reply_at p (Frame now bytes) Kept) o)) forged ≡ emptied_acts w to (Frame now bytes) Kept o
+heard_at w to now bytes forged None counted issued = same_lists w refl refl refl (append-nil w.reports) counted
+heard_at w to now bytes forged (Some p) counted issued =
+    let quiet : (reply_at p (Frame now bytes) Kept).issued ≡ None = frame_quiet p.core.node now bytes in
+    same_lists w
+    (ap (λ (c : Core). put (let x : Place = record { core = c; keeper = p.keeper } in x) w.places) (sym (issued.dry quiet)))
+    (sym (append-nil w.sent) ∙ ap (λ fs. w.sent ++ fs) (sym (issued.none quiet)))
     (ap (λ (o : Option Validation). with_said w.said (option_map (said_by to) o)) (sym quiet))
     refl
     counted
 
--- what is heard is a step
-pub heard_step : (w : World) (to now : ℕ) (bytes : List ℕ) (places : List Place) (reports : List Report) (forged : ℕ) →
+-- what is heard is the steps of its event
+pub heard_step : (w : World) (to now : ℕ) (bytes : List ℕ) (places : List Place) (reports : List Report) (forged : ℕ) → IsIdle w →
     places ≡ acted_at to (Frame now bytes) Kept w.places → reports ≡ w.reports ++ reported_in (reply_in to (Frame now bytes) w.places) →
     forged ≡ (if forged_at w.liars w.sent bytes (place_at to w.places) then one_more w.forged else w.forged) →
-    with_lists w places w.sent w.said reports forged ≡ step w (Act to (Frame now bytes) Kept)
-heard_step w to now bytes places reports forged is_places is_reports counted =
-    same_lists w is_places refl refl is_reports refl ∙ heard_at w to now bytes forged (place_at to w.places) counted
+    with_lists w places w.sent w.said reports forged ≡ run w (event_steps w to (Frame now bytes) Kept)
+heard_step w to now bytes places reports forged idle is_places is_reports counted =
+    let ran = frame_ran w to now bytes idle in
+    same_lists w is_places refl refl is_reports refl ∙ heard_at w to now bytes forged (place_at to w.places) counted ran.as_issued ∙ sym ran.ran
 
 -- what is told of an answer is what is told of its reply
 full_told : (i : ℕ) (n : Node) (a : Option WorldReport) (r : Option NodeReport) → option_map report_seen a ≡ option_map (reported_by n) r → option_map (λ w. Full i w.seq w.id) a ≡ option_map (λ q. Full i q.seq q.id) r
@@ -169,32 +216,77 @@ full_told i n None (Some q) is = cc
 full_told i n (Some w) None is = cc
 full_told i n (Some w) (Some q) is = ap (option_map (λ (x : Report). Full i x.seq x.id)) is
 
-tells_at : (i : ℕ) (e : Event) (fate : Fate) (a : Answer) (o : Option Place) → Answers e fate o (Some a) → outcomes_told i a ≡ told_of i (option_map (λ p. happens p.node e (answer_of p.keeper fate)) o)
+tells_at : (i : ℕ) (e : CoreEvent) (fate : Fate) (a : Answer) (o : Option Place) → Answers e fate o (Some a) → outcomes_told i a ≡ told_of i (option_map (λ p. reply_at p e fate) o)
 tells_at i e fate a None answers = absurd answers
 tells_at i e fate a (Some p) is =
-    let r : Reply = happens p.node e (answer_of p.keeper fate) in
+    let r : CoreReply = reply_at p e fate in
     ap (λ o. option_to_list (option_map (Refused i) o) ++ option_to_list (option_map (λ q. Full i q.seq q.id) a.report)) is.refused
-    ∙ ap (λ (o : Option Outcome). option_to_list (option_map (Refused i) (refusal_in r.answer)) ++ option_to_list o) (full_told i r.node a.report r.report is.report)
+    ∙ ap (λ (o : Option Outcome). option_to_list (option_map (Refused i) (refusal_in r.answer)) ++ option_to_list o) (full_told i r.core.node a.report r.report is.report)
 
-pub told_step : (w : World) (i : ℕ) (e : Event) (fate : Fate) (a : Answer) → AnswersAt i e fate w.places (Some a) → outcomes_told i a ≡ told_of i (reply_to w (Act i e fate))
-told_step w i e fate a answers = tells_at i e fate a (place_at i w.places) answers
+pub told_append : (w : World) (ss ts : List Step) → told_in w (ss ++ ts) ≡ told_in w ss ++ told_in (run w ss) ts
+told_append w [] ts = refl
+told_append w (s ∷ ss) ts = ap (λ os. told_by w s ++ os) (told_append (step w s) ss ts) ∙ sym (append_assoc (told_by w s) (told_in (step w s) ss) (told_in (run (step w s) ss) ts))
+
+drain_told : (i m room : ℕ) (o : Option Place) → told_of i (option_map (λ p. reply_at p (Drain m room) Kept) o) ≡ []
+drain_told i m room None = refl
+drain_told i m room (Some p) = refl
+
+reports_told : (i room : ℕ) (o : Option Place) → told_of i (option_map (λ p. reply_at p (Reports room) Kept) o) ≡ []
+reports_told i room None = refl
+reports_told i room (Some p) = refl
+
+nothing_more : (w : World) (s : Step) (ss : List Step) → told_by w s ≡ [] → told_in (step w s) ss ≡ [] → told_in w (s ∷ ss) ≡ []
+nothing_more w s ss here there = ap (λ (os : List Outcome). os ++ told_in (step w s) ss) here ∙ there
+
+-- nothing is told of drains
+drains_told : (core : Core) (m n : ℕ) (w : World) (i : ℕ) → told_in w (map (λ e. Act i e Kept) (drains core m n)) ≡ []
+drains_told core m zero w i = nothing_more w (Act i (Drain m LONGEST_FRAME) Kept) [] (drain_told i m LONGEST_FRAME (place_at i w.places)) refl
+drains_told core m (suc n) w i =
+    let r : CoreReply = core_happens core (Drain m LONGEST_FRAME) AnsweredOk in
+    let first : Step = Act i (Drain m LONGEST_FRAME) Kept in
+    nothing_more w first (map (λ e. Act i e Kept) (if length (given_in r.answer) == 0 then [] else drains r.core m n)) (drain_told i m LONGEST_FRAME (place_at i w.places))
+    (cond_both (length (given_in r.answer) == 0) [] (drains r.core m n) (λ rest. told_in (step w first) (map (λ e. Act i e Kept) rest) ≡ []) (λ _. refl) (λ _. drains_told r.core m n (step w first) i))
+
+all_drains_told : (core : Core) (ms : List ℕ) (w : World) (i : ℕ) → told_in w (map (λ e. Act i e Kept) (flat_map (drains_for core) ms)) ≡ []
+all_drains_told core [] w i = refl
+all_drains_told core (m ∷ ms) w i =
+    let act = λ (e : CoreEvent). Act i e Kept in
+    let first : List Step = map act (drains_for core m) in
+    ap (told_in w) (map-append act (drains_for core m) (flat_map (drains_for core) ms))
+    ∙ told_append w first (map act (flat_map (drains_for core) ms))
+    ∙ ap (λ (os : List Outcome). os ++ told_in (run w first) (map act (flat_map (drains_for core) ms))) (drains_told core m (length (waiting_at core.waiting m).items) w i)
+    ∙ all_drains_told core ms (run w first) i
+
+emptying_told : (w v : World) (i : ℕ) (e : CoreEvent) (fate : Fate) (o : Option Place) → told_in v (emptying_at w.numbers i e fate o) ≡ []
+emptying_told w v i e fate None = refl
+emptying_told w v i e fate (Some p) =
+    let core : Core = (reply_at p e fate).core in
+    nothing_more v (Act i (Reports 1) Kept) (map (λ e. Act i e Kept) (flat_map (drains_for core) (others w.numbers core.node.me))) (reports_told i 1 (place_at i v.places)) (all_drains_told core (others w.numbers core.node.me) (step v (Act i (Reports 1) Kept)) i)
+
+-- what is told of an event and of the emptying that follows is what is told of the event
+pub told_once : (w : World) (i : ℕ) (e : CoreEvent) (fate : Fate) → told_of i (reply_to w (Act i e fate)) ≡ told_in w (event_steps w i e fate)
+told_once w i e fate =
+    sym (ap (λ (os : List Outcome). told_of i (reply_to w (Act i e fate)) ++ os) (emptying_told w (step w (Act i e fate)) i e fate (place_at i w.places)) ∙ append-nil (told_of i (reply_to w (Act i e fate))))
+
+pub told_step : (w : World) (i : ℕ) (e : CoreEvent) (fate : Fate) (a : Answer) → AnswersAt i e fate w.places (Some a) → outcomes_told i a ≡ told_in w (event_steps w i e fate)
+told_step w i e fate a answers = tells_at i e fate a (place_at i w.places) answers ∙ told_once w i e fate
 
 -- and of what comes to a node
-pub told_there : (i : ℕ) (e : Event) (a : Answer) (ps : List Place) → AnswersAt i e Kept ps (Some a) → outcomes_told i a ≡ told_of i (reply_in i e ps)
+pub told_there : (i : ℕ) (e : CoreEvent) (a : Answer) (ps : List Place) → AnswersAt i e Kept ps (Some a) → outcomes_told i a ≡ told_of i (reply_in i e ps)
 told_there i e a ps answers = tells_at i e Kept a (place_at i ps) answers
 
-pub told_nowhere : (i : ℕ) (e : Event) (ps : List Place) → AnswersAt i e Kept ps None → told_of i (reply_in i e ps) ≡ []
-told_nowhere i e ps answers = ap (λ o. told_of i (option_map (λ p. happens p.node e (answer_of p.keeper Kept)) o)) (nothing_at e Kept (place_at i ps) answers)
+pub told_nowhere : (i : ℕ) (e : CoreEvent) (ps : List Place) → AnswersAt i e Kept ps None → told_of i (reply_in i e ps) ≡ []
+told_nowhere i e ps answers = ap (λ o. told_of i (option_map (λ p. reply_at p e Kept) o)) (nothing_at e Kept (place_at i ps) answers)
 
-reports_at : (e : Event) (a : Answer) (o : Option Place) → Answers e Kept o (Some a) → option_to_list (option_map report_seen a.report) ≡ reported_in (option_map (λ p. happens p.node e (answer_of p.keeper Kept)) o)
+reports_at : (e : CoreEvent) (a : Answer) (o : Option Place) → Answers e Kept o (Some a) → option_to_list (option_map report_seen a.report) ≡ reported_in (option_map (λ p. reply_at p e Kept) o)
 reports_at e a None answers = absurd answers
 reports_at e a (Some p) is = ap option_to_list is.report
 
-pub reports_there : (i : ℕ) (e : Event) (a : Answer) (ps : List Place) → AnswersAt i e Kept ps (Some a) → option_to_list (option_map report_seen a.report) ≡ reported_in (reply_in i e ps)
+pub reports_there : (i : ℕ) (e : CoreEvent) (a : Answer) (ps : List Place) → AnswersAt i e Kept ps (Some a) → option_to_list (option_map report_seen a.report) ≡ reported_in (reply_in i e ps)
 reports_there i e a ps answers = reports_at e a (place_at i ps) answers
 
-pub reports_nowhere : (i : ℕ) (e : Event) (ps : List Place) → AnswersAt i e Kept ps None → reported_in (reply_in i e ps) ≡ []
-reports_nowhere i e ps answers = ap (λ o. reported_in (option_map (λ p. happens p.node e (answer_of p.keeper Kept)) o)) (nothing_at e Kept (place_at i ps) answers)
+pub reports_nowhere : (i : ℕ) (e : CoreEvent) (ps : List Place) → AnswersAt i e Kept ps None → reported_in (reply_in i e ps) ≡ []
+reports_nowhere i e ps answers = ap (λ o. reported_in (option_map (λ p. reply_at p e Kept) o)) (nothing_at e Kept (place_at i ps) answers)
 
 -- bytes that were sent are not forged
 fair : (last mine liar right sent : Bool) → sent ≡ true → (last && (mine && not liar && not sent && right)) ≡ false
@@ -212,12 +304,8 @@ found_sent sent f k at =
 
 pub fair_at : (liars : List ℕ) (sent : List Sent) (bytes : List ℕ) (o : Option Place) → was_sent sent bytes ≡ true → forged_at liars sent bytes o ≡ false
 fair_at liars sent bytes None was = refl
-fair_at liars sent bytes (Some p) was = sent_fair liars sent p.node.keys bytes (split_of bytes) was
+fair_at liars sent bytes (Some p) was = sent_fair liars sent p.core.node.keys bytes (split_of bytes) was
 
 pub frame_fair : (liars : List ℕ) (sent : List Sent) (f : Sent) (place : ℕ) (o : Option Place) → frame_at sent place ≡ Some f → forged_at liars sent f.bytes o ≡ false
 frame_fair liars sent f zero o at = cc
 frame_fair liars sent f (suc k) o at = fair_at liars sent f.bytes o (found_sent sent f k at)
-
--- what is told of one step
-pub told_once : (w : World) (s : Step) → told_by w s ≡ told_in w (s ∷ [])
-told_once w s = sym (append-nil (told_by w s))

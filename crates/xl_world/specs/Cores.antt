@@ -18,15 +18,11 @@ use Rattle.xl_core.specs.Core.{Core, CoreReply, answering, core_happens, core_as
 use Rattle.xl_core.specs.Node.{Node, opened}
 use Rattle.xl_world.specs.declared.sent.Sent.{Sent}
 use Rattle.xl_world.specs.declared.place.Keeper.{Keeper}
+use Rattle.xl_world.specs.declared.place.Place.{Place}
 use Rattle.xl_world.specs.declared.plan.PlanNode.{PlanNode}
 use Rattle.xl_world.specs.declared.place.Fate.{Fate}
 use Rattle.xl_world.specs.Keeper.{MayHold, one_more, holding, restored, answer_of, after_save, may_hold}
 use Rattle.xl_world.specs.World.{AgreeAt, AreDeclared, FrameSays, RowSays, all_numbers, forges, is_declared, list_at, reported_by, said_by}
-
--- a core and its keeper
-pub record Place : Type 0 where
-  pub core : Core
-  pub keeper : Keeper
 
 pub record World : Type 0 where
   pub liars : List ℕ
@@ -204,3 +200,15 @@ Headline =
     (limit : ℕ) (liars : List ℕ) (plan : List PlanNode) (steps : List Step) (i j : ℕ) (a b : TrustedList) →
     AreDeclared plan → list_at plan i ≡ Some a → list_at plan j ≡ Some b → Enough liars a b →
     (run (start limit liars plan) steps).forged ≡ 0 → AgreeAt (run (start limit liars plan) steps).reports i j
+
+-- the list of a node of the world
+abbrev pub list_in : World → ℕ → Option TrustedList
+list_in w i = option_map (λ p. p.core.node.list) (place_at i w.places)
+
+-- the core of a node of the world
+abbrev pub core_in : World → ℕ → Option Core
+core_in w i = option_map (λ p. p.core) (place_at i w.places)
+
+-- the world comes from a declared one by steps
+abbrev pub IsRun : World → Type 0
+IsRun w = (limit : ℕ) × (plan : List PlanNode) × (steps : List Step) × AreDeclared plan × (w ≡ run (start limit w.liars plan) steps)

@@ -1,5 +1,5 @@
--- A schedule's event at a core, after which nothing waits: its untaken reports are handed out, and it is drained for each other
--- declared number until a drain gives nothing. Seen without queues, that sends what was issued at once. Source: this project's schedule language.
+-- A schedule's event at a core, after which nothing waits: the report that arose, if any, is handed out, and the core is drained for
+-- each other declared number until a drain gives nothing. Seen without queues, that sends what was issued at once. Source: this project's schedule language.
 use Rattle.std.specs.Prelude.{◌≡◌, ℕ, zero, suc, ◌==◌, not, List, [], ◌∷◌, ◌++◌, All, false, filter, length, map, if◌then◌else◌}
 use Rattle.std.specs.Prelude.{Some, None}
 use Rattle.std.specs.declared.option.Option.{Option}
@@ -13,12 +13,15 @@ use Rattle.xl_core.specs.Node as nodes
 use Rattle.xl_core.specs.Node.{Event}
 use Rattle.xl_core.specs.Node.Save.{Kept as AnsweredOk}
 use Rattle.xl_core.specs.Queues.{waiting_at}
+use Rattle.xl_tags.specs.Rings.{schedule_ring}
+use Rattle.xl_world.specs.declared.sent.Sent.{Sent}
 use Rattle.xl_world.specs.declared.place.Fate.{Fate}
 use Rattle.xl_world.specs.declared.place.Fate.TheVariants.{Kept}
-use Rattle.xl_world.specs.declared.place.Place.{Place as Seat}
+use Rattle.xl_world.specs.World.{Place as Seat}
 use Rattle.xl_world.specs.declared.plan.PlanNode.{PlanNode}
 use Rattle.xl_world.specs.World as flat
-use Rattle.xl_world.specs.Cores.{Place, World, Step, Act, Again, Torn, Mark, place_at, reply_at, run, start}
+use Rattle.xl_world.specs.declared.place.Place.{Place}
+use Rattle.xl_world.specs.Cores.{World, Step, Act, Again, Torn, Mark, place_at, reply_at, run, sent_in, start}
 
 -- an event at the node of a core
 abbrev pub at_core : Event → CoreEvent
@@ -36,9 +39,13 @@ drains core member (suc more) =
 abbrev pub drains_for : Core → ℕ → List CoreEvent
 drains_for core member = drains core member (length (waiting_at core.waiting member).items)
 
--- the untaken reports are handed out, and what waits for the other declared numbers is drained, for each in its turn
+-- the numbers but this one
+abbrev pub others : List ℕ → ℕ → List ℕ
+others numbers me = filter (λ member. not (member == me)) numbers
+
+-- the report that arose is handed out, and what waits for the other declared numbers is drained, for each in its turn
 abbrev pub emptying : List ℕ → Core → List CoreEvent
-emptying numbers core = Reports (length core.untaken.items) ∷ flat_map (drains_for core) (filter (λ member. not (member == core.node.me)) numbers)
+emptying numbers core = Reports 1 ∷ flat_map (drains_for core) (others numbers core.node.me)
 
 abbrev pub emptying_at : List ℕ → ℕ → CoreEvent → Fate → Option Place → List Step
 emptying_at numbers i event fate None = []
@@ -55,10 +62,32 @@ seat_of p = record { node = p.core.node; keeper = p.keeper }
 abbrev pub without_queues : World → flat.World
 without_queues w = record { liars = w.liars; numbers = w.numbers; places = map seat_of w.places; sent = w.sent; mark = w.mark; said = w.said; reports = w.reports; forged = w.forged }
 
--- nothing waits for another declared number
+-- nothing waits for another declared number, nor to be taken; the keys are those of a schedule's member
 pub record IsEmptied (numbers : List ℕ) (core : Core) : Type 0 where
   pub readers : length core.waiting ≡ 64
   pub none : All (λ member. (member == core.node.me) ≡ false → (waiting_at core.waiting member).items ≡ []) numbers
+  pub untaken : core.untaken.items ≡ []
+  pub keys : core.node.keys ≡ schedule_ring core.node.me
+
+-- the core after the report that arose was handed out
+abbrev pub handed_out : Core → Core
+handed_out core = (core_happens core (Reports 1) AnsweredOk).core
+
+-- the core after one drain for a member, and what it gave
+abbrev pub drained_once : Core → ℕ → Core
+drained_once core m = (core_happens core (Drain m LONGEST_FRAME) AnsweredOk).core
+
+abbrev pub given_once : Core → ℕ → List Sent
+given_once core m = sent_in core.node.me (core_happens core (Drain m LONGEST_FRAME) AnsweredOk).answer
+
+-- the core after one for each of these numbers, and what they gave
+abbrev pub drained : Core → List ℕ → Core
+drained core [] = core
+drained core (m ∷ ms) = drained (drained_once core m) ms
+
+abbrev pub given : Core → List ℕ → List Sent
+given core [] = []
+given core (m ∷ ms) = given_once core m ++ given (drained_once core m) ms
 
 -- a step of nodes as the steps of cores that are emptied after each event
 abbrev pub as_cores : World → flat.Step → List Step

@@ -2,6 +2,7 @@ pub mod Keeper
 pub mod World
 pub mod Cores
 pub mod Emptying
+pub mod Idle
 pub mod Schedule
 pub mod Forks
 pub mod Seen

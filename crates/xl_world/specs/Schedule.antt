@@ -10,20 +10,34 @@ use Rattle.xl_sched.specs.declared.lied.Lied.{Lied}
 use Rattle.xl_sched.specs.declared.lied.Lied.TheVariants as lied
 use Rattle.xl_tags.specs.Rings.{schedule_ring}
 use Rattle.xl_core.specs.Answers.{refusal_in}
-use Rattle.xl_core.specs.Node.{Event as NodeEvent, Issue, Frame, Reply, asks, happens, preferred}
+use Rattle.xl_core.specs.Core.{CoreReply, core_asks}
+use Rattle.xl_core.specs.Node.{preferred}
+use Rattle.xl_core.specs.declared.event.CoreEvent.{CoreEvent}
+use Rattle.xl_core.specs.declared.event.CoreEvent.TheVariants.{Issue, Frame}
 use Rattle.xl_core.specs.Sending.{sealed_bytes, sealed_header_bytes}
 use Rattle.xl_world.specs.declared.outcome.Outcome.{Outcome}
 use Rattle.xl_world.specs.declared.outcome.Outcome.TheVariants.{Refused, Full, Preferred}
 use Rattle.xl_world.specs.declared.place.Fate.{Fate}
 use Rattle.xl_world.specs.declared.place.Fate.TheVariants.{Kept, Unwritten, Written}
 use Rattle.xl_world.specs.declared.place.Place.{Place}
-use Rattle.xl_world.specs.Keeper.{answer_of, found, left_by}
+use Rattle.xl_world.specs.Keeper.{found, left_by}
 use Rattle.xl_world.specs.declared.sent.Sent.{Sent}
-use Rattle.xl_world.specs.World.{World, Step, Act, Again, Torn, Mark, place_at, step, run}
+use Rattle.xl_world.specs.Cores.{World, Step, Act, Again, Torn, Mark, place_at, reply_at, step, run}
+use Rattle.xl_world.specs.Emptying.{event_steps}
 
 -- a frame is delivered
-abbrev pub delivery : ℕ → Sent → Step
-delivery at f = Act f.to (Frame at f.bytes) Kept
+abbrev pub delivery : World → ℕ → Sent → List Step
+delivery w at f = event_steps w f.to (Frame at f.bytes) Kept
+
+-- one after the other
+abbrev pub deliveries : World → ℕ → List Sent → List Step
+deliveries w at [] = []
+deliveries w at (f ∷ fs) = delivery w at f ++ deliveries (run w (delivery w at f)) at fs
+
+-- a frame, if there is one
+abbrev pub delivery_of : World → ℕ → Option Sent → List Step
+delivery_of w at None = []
+delivery_of w at (Some f) = delivery w at f
 
 -- the sent frame of a place, from 1 on
 abbrev pub frame_at : List Sent → ℕ → Option Sent
@@ -32,7 +46,7 @@ frame_at sent (suc k) = slice_get sent k
 
 -- a node is opened anew with the number that its keeper holds
 abbrev pub restart : ℕ → Place → Step
-restart at p = Again p.node.me at (found p.keeper)
+restart at p = Again p.core.node.me at (found p.keeper)
 
 -- the frame of a lie, sealed as its sender seals
 abbrev pub lied_bytes : ℕ → ℕ → Lied → List ℕ
@@ -44,7 +58,7 @@ abbrev pub node_asked : Ask → ℕ
 node_asked (ask.Issue node seq id full) = node
 
 -- and what it is asked to do, at a moment
-abbrev pub event_asked : ℕ → Ask → NodeEvent
+abbrev pub event_asked : ℕ → Ask → CoreEvent
 event_asked at (ask.Issue node seq id full) = Issue at seq id full
 
 -- how a save fails that leaves the new number, or the old one
@@ -53,25 +67,25 @@ failing new = if new then Written else Unwritten
 
 -- an event whose save is cut off stops there, and leaves the new number or the old one. One that asks no save comes to its end, and
 -- then the node is opened anew
-abbrev pub cut_short : ℕ → Bool → ℕ → NodeEvent → Place → Option ℕ → List Step
-cut_short at new i e p None = Act i e Kept ∷ Again i at (left_by p.keeper new None) ∷ []
-cut_short at new i e p (Some s) = Torn i e (left_by p.keeper new (Some s)) ∷ []
+abbrev pub cut_short : World → ℕ → Bool → ℕ → CoreEvent → Place → Option ℕ → List Step
+cut_short w at new i e p None = event_steps w i e Kept ++ Again i at (left_by p.keeper new None) ∷ []
+cut_short w at new i e p (Some s) = Torn i e (left_by p.keeper new (Some s)) ∷ []
 
-abbrev pub cut_at : ℕ → Bool → ℕ → NodeEvent → Option Place → List Step
-cut_at at new i e None = []
-cut_at at new i e (Some p) = cut_short at new i e p (asks p.node e)
+abbrev pub cut_at : World → ℕ → Bool → ℕ → CoreEvent → Option Place → List Step
+cut_at w at new i e None = []
+cut_at w at new i e (Some p) = cut_short w at new i e p (core_asks p.core e)
 
 -- the steps that an event is
 abbrev pub steps_of : World → Event → List Step
-steps_of w (event.Issue at node seq id full) = Act node (Issue at seq id full) Kept ∷ []
-steps_of w (event.Deliver at place) = option_to_list (option_map (delivery at) (frame_at w.sent place))
-steps_of w (event.All at) = map (delivery at) (drop w.mark w.sent) ++ Mark ∷ []
+steps_of w (event.Issue at node seq id full) = event_steps w node (Issue at seq id full) Kept
+steps_of w (event.Deliver at place) = delivery_of w at (frame_at w.sent place)
+steps_of w (event.All at) = deliveries w at (drop w.mark w.sent) ++ Mark ∷ []
 steps_of w (event.Drop at) = Mark ∷ []
 steps_of w (event.Restart at node) = option_to_list (option_map (restart at) (place_at node w.places))
-steps_of w (event.Cut at new what) = cut_at at new (node_asked what) (event_asked at what) (place_at (node_asked what) w.places)
-steps_of w (event.Fail at new what) = Act (node_asked what) (event_asked at what) (failing new) ∷ []
-steps_of w (event.Lie at from to what) = Act to (Frame at (lied_bytes from to what)) Kept ∷ []
-steps_of w (event.Raw at to bytes) = Act to (Frame at bytes) Kept ∷ []
+steps_of w (event.Cut at new what) = cut_at w at new (node_asked what) (event_asked at what) (place_at (node_asked what) w.places)
+steps_of w (event.Fail at new what) = event_steps w (node_asked what) (event_asked at what) (failing new)
+steps_of w (event.Lie at from to what) = event_steps w to (Frame at (lied_bytes from to what)) Kept
+steps_of w (event.Raw at to bytes) = event_steps w to (Frame at bytes) Kept
 steps_of w (event.Prefer at node) = []
 
 -- the world after an event
@@ -92,17 +106,17 @@ moment_of (event.Raw at to bytes) = at
 moment_of (event.Prefer at node) = at
 
 -- what came of a step at a node
-abbrev pub reply_to : World → Step → Option Reply
-reply_to w (Act i event fate) = option_map (λ p. happens p.node event (answer_of p.keeper fate)) (place_at i w.places)
+abbrev pub reply_to : World → Step → Option CoreReply
+reply_to w (Act i event fate) = option_map (λ p. reply_at p event fate) (place_at i w.places)
 reply_to w (Again i now number) = None
 reply_to w (Torn i event number) = None
 reply_to w Mark = None
 
 -- what is told of a reply: that it refused, and what it reports
-abbrev pub outcomes_of : ℕ → Reply → List Outcome
+abbrev pub outcomes_of : ℕ → CoreReply → List Outcome
 outcomes_of i r = option_to_list (option_map (Refused i) (refusal_in r.answer)) ++ option_to_list (option_map (λ q. Full i q.seq q.id) r.report)
 
-abbrev pub told_of : ℕ → Option Reply → List Outcome
+abbrev pub told_of : ℕ → Option CoreReply → List Outcome
 told_of i None = []
 told_of i (Some r) = outcomes_of i r
 
@@ -120,7 +134,7 @@ told_in w (s ∷ ss) = told_by w s ++ told_in (step w s) ss
 
 -- the ledger that the node of a number prefers, where there is such a node
 abbrev pub preference : ℕ → Option Place → List Outcome
-preference i place = option_to_list (option_map (λ p. Preferred i (preferred p.node)) place)
+preference i place = option_to_list (option_map (λ p. Preferred i (preferred p.core.node)) place)
 
 -- what is told of an event: of its steps, or of what is asked
 abbrev pub outcomes : World → Event → List Outcome

@@ -7,7 +7,10 @@ use Rattle.xl_base.specs.Ids.{same_id}
 use Rattle.xl_base.specs.declared.ids.LedgerId.{LedgerId}
 use Rattle.xl_lists.specs.Agreement.{Said, Report}
 use Rattle.xl_core.specs.Answers.{refusal_in}
-use Rattle.xl_core.specs.Node.{Event, Issue, Frame, Reply, happens, at_moment, own_validation}
+use Rattle.xl_core.specs.Core.{Core, CoreReply}
+use Rattle.xl_core.specs.declared.event.CoreEvent.{CoreEvent}
+use Rattle.xl_core.specs.declared.event.CoreEvent.TheVariants.{Issue, Frame}
+use Rattle.xl_tags.specs.Rings.{schedule_ring}
 use Rattle.xl_world.specs.declared.act.Answer.{Answer}
 use Rattle.xl_world.specs.declared.act.Asked.{Asked}
 use Rattle.xl_world.specs.declared.act.NodeEvent.{NodeEvent}
@@ -20,11 +23,14 @@ use Rattle.xl_world.specs.declared.place.Place.{Place}
 use Rattle.xl_world.specs.declared.place.Saying.{Saying}
 use Rattle.xl_world.specs.declared.report.WorldReport.{WorldReport}
 use Rattle.xl_world.specs.declared.place.Fate.{Fate}
-use Rattle.xl_world.specs.Keeper.{answer_of, found, left_by}
+use Rattle.xl_world.specs.Keeper.{found, left_by, restored}
 use Rattle.xl_world.specs.Forks as Forks
 use Rattle.xl_world.specs.declared.place.Fate.TheVariants.{Kept}
 use Rattle.xl_world.specs.Schedule.{told_of}
-use Rattle.xl_world.specs.World.{World, Step, place_at, put, place_after, place_again, reported_by, forges, frames_for, step}
+use Rattle.xl_world.specs.World.{reported_by, forges}
+use Rattle.xl_world.specs.Cores.{World, Step, core_again, keeper_after, place_at, put, reply_at, step}
+use Rattle.xl_world.specs.Emptying.{drained, given, handed_out, others}
+use Rattle.xl_world.specs.Idle.{IsIdle, WaitsOnly}
 use Rattle.xl_wire.specs.Heads.{split_of}
 use Rattle.xl_world.specs.declared.sent.Sent.{Sent}
 
@@ -48,36 +54,65 @@ agrees_at j r q = not (q.node == j && (r.seq == q.seq && not (same_id r.id q.id)
 abbrev pub accords : ℕ → ℕ → List WorldReport → WorldReport → Bool
 accords i j reports r = not (r.node == i) || list_all (λ q. agrees_at j (report_seen r) (report_seen q)) reports
 
-abbrev pub issue_seen : Asked → Event
+abbrev pub issue_seen : Asked → CoreEvent
 issue_seen a = Issue a.moment a.seq a.id a.full
 
-abbrev pub event_seen : NodeEvent → Event
+abbrev pub event_seen : NodeEvent → CoreEvent
 event_seen (event.Issue asked) = issue_seen asked
 event_seen (event.Frame now bytes) = Frame now bytes.now
 
 -- what a node's calls answered is this reply
-pub record IsAnswer (a : Answer) (r : Reply) : Type 0 where
+pub record IsAnswer (a : Answer) (r : CoreReply) : Type 0 where
   pub refused : a.refused ≡ refusal_in r.answer
   pub issued : a.issued ≡ r.issued
-  pub report : option_map report_seen a.report ≡ option_map (reported_by r.node) r.report
+  pub report : option_map report_seen a.report ≡ option_map (reported_by r.core.node) r.report
 
-abbrev pub put_acted : Event → Fate → Option Place → List Place → List Place
+-- a place after an event, of which the report was handed out
+abbrev pub place_after : Place → CoreEvent → Fate → Place
+place_after p e fate = record { core = handed_out (reply_at p e fate).core; keeper = keeper_after p e fate }
+
+abbrev pub put_acted : CoreEvent → Fate → Option Place → List Place → List Place
 put_acted e fate None places = places
 put_acted e fate (Some p) places = put (place_after p e fate) places
 
 -- the places after an event at the node of a number
-abbrev pub acted_at : ℕ → Event → Fate → List Place → List Place
+abbrev pub acted_at : ℕ → CoreEvent → Fate → List Place → List Place
 acted_at i e fate places = put_acted e fate (place_at i places) places
 
 -- what the node of a number answered, where there is one
-abbrev pub Answers : Event → Fate → Option Place → Option Answer → Type 0
+abbrev pub Answers : CoreEvent → Fate → Option Place → Option Answer → Type 0
 Answers e fate None None = Unit {0}
 Answers e fate None (Some a) = ⊥
 Answers e fate (Some p) None = ⊥
-Answers e fate (Some p) (Some a) = IsAnswer a (happens p.node e (answer_of p.keeper fate))
+Answers e fate (Some p) (Some a) = IsAnswer a (reply_at p e fate)
 
-abbrev pub AnswersAt : ℕ → Event → Fate → List Place → Option Answer → Type 0
+abbrev pub AnswersAt : ℕ → CoreEvent → Fate → List Place → Option Answer → Type 0
 AnswersAt i e fate places answer = Answers e fate (place_at i places) answer
+
+-- no report waits at the node of a number
+abbrev pub NoneUntaken : ℕ → List Place → Type 0
+NoneUntaken i places = (p : Place) → place_at i places ≡ Some p → p.core.untaken.items ≡ []
+
+-- nor at any
+abbrev pub NoneUntakenAnywhere : List Place → Type 0
+NoneUntakenAnywhere places = (i : ℕ) → NoneUntaken i places
+
+-- only what was just issued waits at the node of a number, and its keys are those of a schedule's member
+abbrev pub MayDrain : List ℕ → Place → Type 0
+MayDrain numbers p = WaitsOnly numbers p.core × (p.core.node.keys ≡ schedule_ring p.core.node.me)
+
+-- a place that was drained for the other numbers
+abbrev pub place_drained : List ℕ → Place → Place
+place_drained numbers p = record { core = drained p.core (others numbers p.core.node.me); keeper = p.keeper }
+
+abbrev pub put_drained : List ℕ → Option Place → List Place → List Place
+put_drained numbers None places = places
+put_drained numbers (Some p) places = put (place_drained numbers p) places
+
+-- and what it gave
+abbrev pub given_at : List ℕ → Option Place → List Sent
+given_at numbers None = []
+given_at numbers (Some p) = given p.core (others numbers p.core.node.me)
 
 -- what is told of an answer
 abbrev pub outcomes_told : ℕ → Answer → List Outcome
@@ -86,12 +121,7 @@ outcomes_told i a = option_to_list (option_map (Refused i) a.refused) ++ option_
 -- whether what comes to a place, where there is one, is forged
 abbrev pub forged_at : List ℕ → List Sent → List ℕ → Option Place → Bool
 forged_at liars sent bytes None = false
-forged_at liars sent bytes (Some p) = forges liars sent p.node.keys bytes (split_of bytes)
-
--- the frames that the node of a place would send
-abbrev pub frames_from : List ℕ → ℕ → ℕ → LedgerId → Bool → Option Place → List Sent
-frames_from numbers now seq id full None = []
-frames_from numbers now seq id full (Some p) = frames_for numbers p.node (Some (own_validation (at_moment now p.node) seq id full))
+forged_at liars sent bytes (Some p) = forges liars sent p.core.node.keys bytes (split_of bytes)
 
 -- what is told of an answer, where there is one, and what it reports
 abbrev pub told_some : ℕ → Option Answer → List Outcome
@@ -103,13 +133,13 @@ reported_some None = []
 reported_some (Some a) = option_to_list (option_map report_seen a.report)
 
 -- what the node of a number replies to what comes to it, where there is one
-abbrev pub reply_in : ℕ → Event → List Place → Option Reply
-reply_in i e places = option_map (λ p. happens p.node e (answer_of p.keeper Kept)) (place_at i places)
+abbrev pub reply_in : ℕ → CoreEvent → List Place → Option CoreReply
+reply_in i e places = option_map (λ p. reply_at p e Kept) (place_at i places)
 
 -- and what it reports
-abbrev pub reported_in : Option Reply → List Report
+abbrev pub reported_in : Option CoreReply → List Report
 reported_in None = []
-reported_in (Some r) = option_to_list (option_map (reported_by r.node) r.report)
+reported_in (Some r) = option_to_list (option_map (reported_by r.core.node) r.report)
 
 -- the places, the reports and what is told, while frames come
 pub record Hearing : Type 0 where
@@ -133,6 +163,10 @@ abbrev pub heard_all : ℕ → List Sent → Hearing → Hearing
 heard_all at [] h = h
 heard_all at (f ∷ fs) h = heard_all at fs (heard_one f.to at f.bytes h)
 
+-- a place opened again with this number, which its keeper then holds alone
+abbrev pub place_again : Place → ℕ → ℕ → Place
+place_again p now number = record { core = core_again p now number; keeper = restored p.keeper number }
+
 -- a place whose node is opened anew with the number that a restart finds
 abbrev pub restarted : ℕ → Place → Place
 restarted now p = place_again p now (found p.keeper)
@@ -154,6 +188,6 @@ with_place w p = record {
   forged = w.forged;
 }
 
--- that is the world after one step
+-- that is the world after one step, and nothing waits in it
 abbrev pub Steps : World → Place → Type 0
-Steps w p = (s : Step) × (with_place w p ≡ step w s)
+Steps w p = (s : Step) × (with_place w p ≡ step w s) × IsIdle (step w s)

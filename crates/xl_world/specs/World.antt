@@ -1,5 +1,6 @@
--- A network of honest nodes and liars, and its runs. Whatever was ever sent may be delivered never, once or often, at any later
--- place: so runs have every loss, repetition and reordering.
+-- A network of honest nodes and liars without queues, and its runs: what a node issues is sent at once to each other declared number.
+-- It is what is seen of a network of cores that are emptied after each event. Whatever was ever sent may be delivered never, once or
+-- often, at any later place.
 -- Source: Chase and MacBrough, "Analysis of the XRP Ledger Consensus Protocol" (2018); restarts and keepers by this profile.
 use Rattle.std.specs.Prelude.{◌≤◌, ◌≡◌, ℕ, ◌+◌, ◌==◌, ◌&&◌, ◌||◌, nat_le, Bool, false, not, List, [], ◌∷◌, ◌++◌, zero, suc, length, map, filter, All, IfSome, option_map, option_to_list, find, if◌then◌else◌}
 use Rattle.std.specs.Prelude.{Some, None, Result, Ok, Err}
@@ -29,9 +30,13 @@ use Rattle.xl_core.specs.Sending.{sealed_bytes, has_spelling}
 use Rattle.xl_world.specs.declared.sent.Sent.{Sent}
 use Rattle.xl_world.specs.declared.place.Keeper.{Keeper}
 use Rattle.xl_world.specs.declared.plan.PlanNode.{PlanNode}
-use Rattle.xl_world.specs.declared.place.Place.{Place}
 use Rattle.xl_world.specs.declared.place.Fate.{Fate}
 use Rattle.xl_world.specs.Keeper.{MayHold, one_more, holding, restored, answer_of, after_save, may_hold}
+
+-- a node and its keeper
+pub record Place : Type 0 where
+  pub node : Node
+  pub keeper : Keeper
 
 pub record World : Type 0 where
   pub liars : List ℕ
@@ -221,10 +226,6 @@ AreTimely plan = All (λ d. d.moment ≤ GREATEST_MILLIS) plan
 abbrev pub list_at : List PlanNode → ℕ → Option TrustedList
 list_at plan i = option_map (λ d. d.list) (find (λ d. d.me == i) plan)
 
--- the list of a node of the world
-abbrev pub list_in : World → ℕ → Option TrustedList
-list_in w i = option_map (λ p. p.node.list) (place_at i w.places)
-
 -- the keeper of this member may hold this number
 abbrev pub Holds : World → ℕ → ℕ → Type 0
 Holds w m k = (p : Place) × (place_at m w.places ≡ Some p) × MayHold p.keeper k
@@ -279,7 +280,3 @@ Headline =
     (limit : ℕ) (liars : List ℕ) (plan : List PlanNode) (steps : List Step) (i j : ℕ) (a b : TrustedList) →
     AreDeclared plan → list_at plan i ≡ Some a → list_at plan j ≡ Some b → Enough liars a b →
     (run (start limit liars plan) steps).forged ≡ 0 → AgreeAt (run (start limit liars plan) steps).reports i j
-
--- the world comes from a declared one by steps
-abbrev pub IsRun : World → Type 0
-IsRun w = (limit : ℕ) × (plan : List PlanNode) × (steps : List Step) × AreDeclared plan × (w ≡ run (start limit w.liars plan) steps)

@@ -2,7 +2,8 @@
 use Rattle.std.specs.Prelude.{◌≤◌, length, map}
 use Rattle.xl_world.specs.declared.world.World.TheInside.{Inside}
 use Rattle.xl_world.specs.Indexes.{IsIndex}
-use Rattle.xl_world.specs.World.{World, IsRun}
+use Rattle.xl_world.specs.Cores.{World, IsRun}
+use Rattle.xl_world.specs.Idle.{IsIdle}
 use Rattle.xl_world.specs.Seen.{said_seen, reports_seen}
 
 abbrev pub world_seen : Inside → World
@@ -17,8 +18,9 @@ world_seen w = record {
   forged = w.forged;
 }
 
--- what the type keeps: the world is a run, its index is one of what was sent, and its mark stands in that
+-- what the type keeps: the world is a run, nothing waits in it, its index is one of what was sent, and its mark stands in that
 pub record IsWhole (w : Inside) : Type 0 where
   pub run : IsRun (world_seen w)
+  pub idle : IsIdle (world_seen w)
   pub index : IsIndex w.index w.sent.items
   pub mark : w.mark ≤ length w.sent.items

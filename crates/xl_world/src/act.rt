@@ -1,20 +1,20 @@
 // What an event does to one place, and what comes of it.
-ghost use Rattle.std.specs.Prelude.{◌≡◌, ◌≤◌, ◌==◌, Some, None, option_copied, option_map, position};
-ghost use Rattle.xl_core.specs.Node.{happens, preferred, Issue, Frame};
+ghost use Rattle.std.specs.Prelude.{◌≡◌, ◌≤◌, ◌==◌, [], Some, None, length, option_copied, option_map, option_to_list, position};
+ghost use Rattle.xl_core.specs.Node.{preferred};
+ghost use Rattle.xl_core.specs.declared.event.CoreEvent.TheVariants.{Frame};
 ghost use Rattle.xl_base.specs.declared.moments.TheConstants.{GREATEST_MILLIS};
-ghost use Rattle.xl_core.specs.Node.Save.{Kept as AnsweredOk};
-ghost use Rattle.xl_core.specs.Replies.{issue_reply};
 ghost use Rattle.xl_world.specs.declared.place.Fate.TheVariants.{Kept};
-ghost use Rattle.xl_world.specs.Keeper.{answer_of};
 ghost use Rattle.xl_world.specs.declared.outcome.Outcome.TheVariants.{Preferred};
-ghost use Rattle.xl_world.specs.World.{reported_by, moment_in, place_after, place_at};
-ghost use Rattle.xl_world.specs.Seen.{report_seen, issue_seen, event_seen, IsAnswer, acted_at, AnswersAt};
+ghost use Rattle.xl_world.specs.World.{reported_by};
+ghost use Rattle.xl_world.specs.Cores.{moment_in, place_at, reply_at};
+ghost use Rattle.xl_world.specs.Emptying.{handed_out};
+ghost use Rattle.xl_world.specs.Seen.{report_seen, issue_seen, event_seen, IsAnswer, NoneUntaken, place_after, acted_at, AnswersAt};
 
 use crate::place::{Fate, Place};
 use crate::saving::Fated;
 use crate::{Outcome, WorldReport};
 use xl_base::{LedgerId, Millis, NodeNo, Seq};
-use xl_core::{Issued, Node, Refusal, Report};
+use xl_core::{Core, Node, Refusal, Report};
 use xl_lists::List;
 use xl_wire::Validation;
 
@@ -71,25 +71,29 @@ fn report_under(node: &Node, report: Option<Report>) -> Option<WorldReport>
     }
 }
 
-/// What came of a node's issue.
-fn issued(node: &Node, outcome: Result<Issued, Refusal>) -> Answer
-    ensures { IsAnswer result (issue_reply outcome node.now) }
+/// The report that waits to be taken, if there is one.
+fn taken_report(core: &mut Core) -> Option<Report>
+    requires { length core.old.untaken.items ≤ 1 }
+    ensures core { core.new ≡ handed_out core.old }
+    ensures report { option_to_list result ≡ core.old.untaken.items }
 {
-    match outcome {
-        Ok(issued) => Answer {
-            refused: None,
-            issued: Some(issued.validation),
-            report: report_under(node, issued.report),
-        },
-        Err(refusal) => Answer::refusing(refusal),
+    let mut room = [Report {
+        seq: 0,
+        id: LedgerId([0; 32]),
+    }];
+    if core.reports(&mut room) == 0 {
+        None
+    } else {
+        Some(room[0])
     }
 }
 
-/// A node is asked to issue: its keeper holds the sequence before anything is said.
+/// A core is asked to issue: its keeper holds the sequence before anything is said.
 fn issue(place: &mut Place, asked: &Asked, fate: Fate) -> Answer
-    requires { asked.now.moment ≤ GREATEST_MILLIS }
+    requires moment { asked.now.moment ≤ GREATEST_MILLIS }
+    requires untaken { place.old.core.untaken.items ≡ [] }
     ensures place { place.new ≡ place_after place.old (issue_seen asked.now) fate }
-    ensures answer { IsAnswer result (happens place.old.node (issue_seen asked.now) (answer_of place.old.keeper fate)) }
+    ensures answer { IsAnswer result (reply_at place.old (issue_seen asked.now) fate) }
 {
     let Asked {
         moment,
@@ -97,26 +101,38 @@ fn issue(place: &mut Place, asked: &Asked, fate: Fate) -> Answer
         id,
         full,
     } = *asked;
+    let validation = place.core.node().own_validation(moment, seq, id, full);
     let mut fated = Fated {
         keeper: place.keeper,
         fate,
     };
-    let outcome = place.node.issue(moment, seq, id, full, &mut fated);
+    let outcome = place.core.issue(moment, seq, id, full, &mut fated);
     place.keeper = fated.keeper;
-    issued(&place.node, outcome)
+    let report = taken_report(&mut place.core);
+    match outcome {
+        Ok(()) => Answer {
+            refused: None,
+            issued: Some(validation),
+            report: report_under(place.core.node(), report),
+        },
+        Err(refusal) => Answer::refusing(refusal),
+    }
 }
 
-/// Bytes come to a node.
+/// Bytes come to a core.
 fn hear(place: &mut Place, now: Millis, bytes: &[u8]) -> Answer
-    requires { now ≤ GREATEST_MILLIS }
+    requires moment { now ≤ GREATEST_MILLIS }
+    requires untaken { place.old.core.untaken.items ≡ [] }
     ensures place { place.new ≡ place_after place.old (Frame now bytes.now) Kept }
-    ensures answer { IsAnswer result (happens place.old.node (Frame now bytes.now) AnsweredOk) }
+    ensures answer { IsAnswer result (reply_at place.old (Frame now bytes.now) Kept) }
 {
-    match place.node.frame(now, bytes) {
-        Ok(heard) => Answer {
+    let outcome = place.core.frame(now, bytes);
+    let report = taken_report(&mut place.core);
+    match outcome {
+        Ok(_) => Answer {
             refused: None,
             issued: None,
-            report: report_under(&place.node, heard.report),
+            report: report_under(place.core.node(), report),
         },
         Err(refusal) => Answer::refusing(refusal),
     }
@@ -124,9 +140,10 @@ fn hear(place: &mut Place, now: Millis, bytes: &[u8]) -> Answer
 
 /// An event at a place, whose save meets a fate.
 pub fn act(place: &mut Place, event: &NodeEvent<'_>, fate: Fate) -> Answer
-    requires { moment_in (event_seen event.now) ≤ GREATEST_MILLIS }
+    requires moment { moment_in (event_seen event.now) ≤ GREATEST_MILLIS }
+    requires untaken { place.old.core.untaken.items ≡ [] }
     ensures place { place.new ≡ place_after place.old (event_seen event.now) fate }
-    ensures answer { IsAnswer result (happens place.old.node (event_seen event.now) (answer_of place.old.keeper fate)) }
+    ensures answer { IsAnswer result (reply_at place.old (event_seen event.now) fate) }
 {
     match event {
         NodeEvent::Issue(asked) => issue(place, asked, fate),
@@ -136,19 +153,32 @@ pub fn act(place: &mut Place, event: &NodeEvent<'_>, fate: Fate) -> Answer
 
 /// Where the node of a number stands.
 pub fn place_of(places: &[Place], i: NodeNo) -> Option<usize>
-    ensures { result ≡ position (λ p. p.node.me == i) places.now }
+    ensures { result ≡ position (λ p. p.core.node.me == i) places.now }
 {
-    places.iter().position(|place| place.node.me() == i)
+    places.iter().position(|place| place.core.me() == i)
 }
 
 /// The list of the node of a number, where there is one.
 pub fn list_at(places: &[Place], i: NodeNo) -> Option<&List>
-    ensures { option_copied result ≡ option_map (λ p. p.node.list) (place_at i places.now) }
+    ensures { option_copied result ≡ option_map (λ p. p.core.node.list) (place_at i places.now) }
 {
     match place_of(places, i) {
         Some(k) => {
             let place = &places[k];
-            Some(place.node.list())
+            Some(place.core.list())
+        }
+        None => None,
+    }
+}
+
+/// The core of a number, where there is one.
+pub fn core_at(places: &[Place], i: NodeNo) -> Option<&Core>
+    ensures { option_copied result ≡ option_map (λ p. p.core) (place_at i places.now) }
+{
+    match place_of(places, i) {
+        Some(k) => {
+            let place = &places[k];
+            Some(&place.core)
         }
         None => None,
     }
@@ -156,14 +186,14 @@ pub fn list_at(places: &[Place], i: NodeNo) -> Option<&List>
 
 /// The ledger that the node of a number prefers, where there is such a node.
 pub fn preferred_at(places: &[Place], i: NodeNo) -> Option<Outcome>
-    ensures { result ≡ option_map (λ p. Preferred i (preferred p.node)) (place_at i places.now) }
+    ensures { result ≡ option_map (λ p. Preferred i (preferred p.core.node)) (place_at i places.now) }
 {
     match place_of(places, i) {
         Some(k) => {
             let place = &places[k];
             Some(Outcome::Preferred {
                 node: i,
-                at: place.node.preferred(),
+                at: place.core.preferred(),
             })
         }
         None => None,
@@ -172,7 +202,8 @@ pub fn preferred_at(places: &[Place], i: NodeNo) -> Option<Outcome>
 
 /// An event at the node of a number, where there is one.
 pub fn act_at(places: &mut [Place], i: NodeNo, event: &NodeEvent<'_>, fate: Fate) -> Option<Answer>
-    requires { moment_in (event_seen event.now) ≤ GREATEST_MILLIS }
+    requires moment { moment_in (event_seen event.now) ≤ GREATEST_MILLIS }
+    requires untaken { NoneUntaken i places.old }
     ensures places { places.new ≡ acted_at i (event_seen event.now) fate places.old }
     ensures answer { AnswersAt i (event_seen event.now) fate places.old result }
 {

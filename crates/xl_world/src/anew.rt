@@ -2,15 +2,16 @@
 ghost use Rattle.std.specs.Prelude.{◌≡◌, ◌≤◌, IfOk, option_map};
 ghost use Rattle.xl_base.specs.declared.ids.LedgerId.{LedgerId};
 ghost use Rattle.xl_base.specs.declared.moments.TheConstants.{GREATEST_MILLIS};
-ghost use Rattle.xl_core.specs.Node.{Issue, asks};
-ghost use Rattle.xl_world.specs.Seen.{issue_seen, restarted, cut_seen};
-ghost use Rattle.xl_world.specs.World.{place_at, place_again, put};
+ghost use Rattle.xl_core.specs.Core.{core_asks};
+ghost use Rattle.xl_core.specs.declared.event.CoreEvent.TheVariants.{Issue};
+ghost use Rattle.xl_world.specs.Seen.{issue_seen, place_again, restarted, cut_seen};
+ghost use Rattle.xl_world.specs.Cores.{place_at, put};
 
 use crate::act::{Asked, place_of};
 use crate::place::Place;
 use std::alloc::Global;
 use xl_base::{Millis, NodeNo, OutOfMemory, Seq};
-use xl_core::Node;
+use xl_core::{Core, Settings};
 
 /// What a cut leaves: the place with its node opened anew, and whether the event was torn in its save.
 #[derive(Drop)]
@@ -24,10 +25,15 @@ fn opened_anew(alloc: Global, place: &Place, now: Millis, number: Seq) -> Result
     requires { now ≤ GREATEST_MILLIS }
     ensures { IfOk result (λ anew. anew ≡ place_again place.now now number) }
 {
-    let node = &place.node;
-    let (list, keys) = (node.list().copy(), node.keys().copy());
+    let core = &place.core;
+    let settings = Settings {
+        me: core.me(),
+        list: core.list().copy(),
+        keys: core.keys().copy(),
+        limit: core.limit(),
+    };
     Ok(Place {
-        node: Node::open(alloc, node.me(), list, keys, node.limit(), now, number)?,
+        core: Core::open(alloc, settings, now, number)?,
         keeper: place.keeper.restored(number),
     })
 }
@@ -53,10 +59,10 @@ pub fn restarted_at(
 }
 
 /// The save that an issue of this sequence asks, if any.
-fn save_asked(node: &Node, seq: Seq) -> Option<Seq>
-    ensures { (now : _) (id : LedgerId) (full : _) → result ≡ asks node.now (Issue now seq id full) }
+fn save_asked(core: &Core, seq: Seq) -> Option<Seq>
+    ensures { (now : _) (id : LedgerId) (full : _) → result ≡ core_asks core.now (Issue now seq id full) }
 {
-    if node.kept() < seq && node.failed_save().is_none() {
+    if core.kept() < seq && core.node().failed_save().is_none() {
         Some(seq)
     } else {
         None
@@ -66,9 +72,9 @@ fn save_asked(node: &Node, seq: Seq) -> Option<Seq>
 /// A place as a cut leaves it: where a save is asked, with that number if `new`, and else with the one in force.
 fn cut_place(alloc: Global, place: &Place, asked: &Asked, new: bool) -> Result<Cut, OutOfMemory>
     requires { asked.now.moment ≤ GREATEST_MILLIS }
-    ensures { IfOk result (λ cut. cut ≡ cut_seen asked.now.moment new place.now (asks place.now.node (issue_seen asked.now))) }
+    ensures { IfOk result (λ cut. cut ≡ cut_seen asked.now.moment new place.now (core_asks place.now.core (issue_seen asked.now))) }
 {
-    let saved = save_asked(&place.node, asked.seq);
+    let saved = save_asked(&place.core, asked.seq);
     let number = place.keeper.left_by(new, saved);
     Ok(Cut {
         place: opened_anew(alloc, place, asked.moment, number)?,
@@ -85,7 +91,7 @@ pub fn cut_at(
     new: bool,
 ) -> Result<Option<Cut>, OutOfMemory>
     requires { asked.now.moment ≤ GREATEST_MILLIS }
-    ensures { IfOk result (λ left. left ≡ option_map (λ p. cut_seen asked.now.moment new p (asks p.node (issue_seen asked.now))) (place_at i places.now)) }
+    ensures { IfOk result (λ left. left ≡ option_map (λ p. cut_seen asked.now.moment new p (core_asks p.core (issue_seen asked.now))) (place_at i places.now)) }
 {
     match place_of(places, i) {
         Some(k) => {
@@ -100,7 +106,7 @@ pub fn cut_at(
 pub fn replace(places: &mut [Place], anew: Place)
     ensures { places.new ≡ put anew places.old }
 {
-    if let Some(k) = place_of(places, anew.node.me()) {
+    if let Some(k) = place_of(places, anew.core.me()) {
         places[k] = anew;
     }
 }

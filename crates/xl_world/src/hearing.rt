@@ -1,10 +1,10 @@
 // Bytes that come to nodes.
 ghost use Rattle.std.specs.Prelude.{◌≡◌, ◌+◌, ◌*◌, ◌≤◌, ◌<◌, ◌++◌, IfOk, OnOk, OnErr, length, vec_len, vec_capacity};
 ghost use Rattle.xl_base.specs.declared.moments.TheConstants.{GREATEST_MILLIS};
-ghost use Rattle.xl_core.specs.Node.{Frame};
+ghost use Rattle.xl_core.specs.declared.event.CoreEvent.TheVariants.{Frame};
 ghost use Rattle.xl_world.specs.declared.place.Fate.TheVariants.{Kept};
 ghost use Rattle.xl_world.specs.Schedule.{told_of};
-ghost use Rattle.xl_world.specs.Seen.{reports_seen, acted_at, reply_in, reported_in, hearing_seen, heard_all};
+ghost use Rattle.xl_world.specs.Seen.{reports_seen, acted_at, reply_in, reported_in, hearing_seen, heard_all, NoneUntaken, NoneUntakenAnywhere};
 
 use crate::act::{NodeEvent, act_at};
 use crate::place::{Fate, Place};
@@ -24,6 +24,7 @@ fn hear(
     bytes: &[u8],
 )
     requires moment { now ≤ GREATEST_MILLIS }
+    requires untaken { NoneUntaken to places.old.items }
     requires room { vec_len reports.old < vec_capacity reports.old }
     requires told_room { vec_len told.old + 2 ≤ vec_capacity told.old }
     ensures places { places.new.items ≡ acted_at to (Frame now bytes.now) Kept places.old.items }
@@ -48,7 +49,8 @@ pub fn hear_at(
     now: Millis,
     bytes: &[u8],
 ) -> Result<Happened, OutOfMemory>
-    requires { now ≤ GREATEST_MILLIS }
+    requires moment { now ≤ GREATEST_MILLIS }
+    requires untaken { NoneUntaken to places.old.items }
     ensures places { OnOk result (places.new.items ≡ acted_at to (Frame now bytes.now) Kept places.old.items) }
     ensures reports { OnOk result (reports_seen reports.new.items ≡ reports_seen reports.old.items ++ reported_in (reply_in to (Frame now bytes.now) places.old.items)) }
     ensures told { IfOk result (λ told. told ≡ told_of to (reply_in to (Frame now bytes.now) places.old.items)) }
@@ -70,6 +72,7 @@ pub fn hear_each(
     frames: &[Sent],
 )
     requires moment { at ≤ GREATEST_MILLIS }
+    requires untaken { NoneUntakenAnywhere places.old.items }
     requires room { vec_len reports.old + length frames.now ≤ vec_capacity reports.old }
     requires told_room { vec_len told.old + 2 * length frames.now ≤ vec_capacity told.old }
     ensures { hearing_seen places.new.items reports.new.items told.new.items ≡ heard_all at frames.now (hearing_seen places.old.items reports.old.items told.old.items) }

@@ -4,38 +4,36 @@ ghost use Rattle.std.specs.List.{list_any};
 ghost use Rattle.xl_ledger.specs.declared.registry.TheConstants.{LEAST_LIMIT, GREATEST_LIMIT};
 ghost use Rattle.xl_lists.specs.Lists.{is_on};
 ghost use Rattle.xl_base.specs.declared.moments.TheConstants.{GREATEST_MILLIS};
-ghost use Rattle.xl_world.specs.World.{place_of, is_declared, all_numbers, AreDeclared, AreTimely};
+ghost use Rattle.xl_world.specs.World.{is_declared, all_numbers, AreDeclared, AreTimely};
+ghost use Rattle.xl_world.specs.Cores.{place_of};
 
 use crate::place::{Keeper, Place};
 use crate::{Plan, PlanNode};
 use std::alloc::Global;
 use xl_base::{GREATEST_NODE_NO, NodeNo, OutOfMemory};
-use xl_core::Node;
+use xl_core::{Core, Settings};
 use xl_tags::Keys;
 
-/// A node at its start, with room for so many ledgers, and its keeper.
+/// A core at its start, with room for so many ledgers, and its keeper.
 fn place(alloc: Global, limit: u32, node: &PlanNode) -> Result<Place, OutOfMemory>
     requires least { LEAST_LIMIT ≤ limit }
     requires most { limit ≤ GREATEST_LIMIT }
     requires moment { node.now.moment ≤ GREATEST_MILLIS }
     ensures { IfOk result (λ place. place ≡ place_of limit node.now) }
 {
-    let keys = Keys::of_schedule(node.me);
+    let settings = Settings {
+        me: node.me,
+        list: node.list.copy(),
+        keys: Keys::of_schedule(node.me),
+        limit,
+    };
     Ok(Place {
-        node: Node::open(
-            alloc,
-            node.me,
-            node.list.copy(),
-            keys,
-            limit,
-            node.moment,
-            0,
-        )?,
+        core: Core::open(alloc, settings, node.moment, 0)?,
         keeper: Keeper::holding(0),
     })
 }
 
-/// The nodes at their start.
+/// The cores at their start.
 pub fn places(alloc: Global, limit: u32, nodes: &[PlanNode]) -> Result<Vec<Place>, OutOfMemory>
     requires least { LEAST_LIMIT ≤ limit }
     requires most { limit ≤ GREATEST_LIMIT }

@@ -1,5 +1,5 @@
 use xl_base::{LedgerId, NodeNo, Seq};
-use xl_core::Node;
+use xl_core::Core;
 use xl_wire::Validation;
 
 /// How a save is answered, and what it leaves.
@@ -86,10 +86,10 @@ impl Keeper {
     }
 }
 
-/// A node and its keeper.
+/// A core and its keeper.
 #[derive(Drop)]
 pub struct Place {
-    pub node: Node,
+    pub core: Core,
     pub keeper: Keeper,
 }
 

@@ -1,16 +1,24 @@
 // What was sent: every frame of every node, as its bytes.
-ghost use Rattle.std.specs.Prelude.{◌≡◌, ◌≤◌, IfOk, IsTrue, Some, option_copied};
-ghost use Rattle.xl_base.specs.declared.moments.TheConstants.{GREATEST_MILLIS};
-ghost use Rattle.xl_core.specs.Sending.{has_spelling};
+ghost use Rattle.std.specs.Prelude.{◌≡◌, ◌≢◌, ◌+◌, ◌<◌, ◌≤◌, ◌++◌, [], All, IfOk, Some, if◌then◌else◌, is_some, length, option_copied, vec_len, vec_capacity};
+ghost use Rattle.std.specs.declared.option.Option.{Option};
+ghost use Rattle.xl_tags.specs.Rings.{schedule_ring};
+ghost use Rattle.xl_wire.specs.declared.validation.Validation as validation;
+ghost use Rattle.xl_core.specs.Node.{items_of};
+ghost use Rattle.xl_core.specs.Queues.{waiting_at};
+ghost use Rattle.xl_core.specs.declared.sending.TheConstants.{VALIDATION_FRAME};
+ghost use Rattle.xl_world.specs.declared.place.Place.{Place};
+ghost use Rattle.xl_world.specs.Cores.{place_at};
+ghost use Rattle.xl_world.specs.Emptying.{drained, drained_once, given, given_once, others};
+ghost use Rattle.xl_world.specs.Idle.{Between, WaitsOnly};
 ghost use Rattle.xl_world.specs.Schedule.{frame_at};
-ghost use Rattle.xl_world.specs.Seen.{frames_from};
-ghost use Rattle.xl_world.specs.World.{was_sent, frame_to, frames_for, place_at};
+ghost use Rattle.xl_world.specs.Seen.{MayDrain, given_at, put_drained};
+ghost use Rattle.xl_world.specs.World.{was_sent};
 
-use crate::act::{Asked, place_of};
+use crate::act::place_of;
 use crate::place::Place;
 use std::alloc::Global;
 use xl_base::{Bytes, NodeNo, OutOfMemory};
-use xl_core::Node;
+use xl_core::{Core, LONGEST_FRAME, VALIDATION_FRAME};
 use xl_wire::Validation;
 
 /// A frame that a node has sent to one receiver.
@@ -36,61 +44,120 @@ pub fn was_sent(sent: &[Sent], bytes: &[u8]) -> bool
     sent.iter().any(|frame| frame.bytes.as_slice() == bytes)
 }
 
-/// The frame of a validation from a node to a number.
-fn frame_to(
-    alloc: Global,
-    node: &Node,
-    to: NodeNo,
-    validation: &Validation,
-) -> Result<Sent, OutOfMemory>
-    ensures frame { IfOk result (λ frame. frame ≡ frame_to node.now validation.now to) }
-    ensures spelled { IsTrue (has_spelling node.now.me to validation.now) }
+/// Room for a frame, so many times.
+pub fn rooms(alloc: Global, count: usize) -> Result<Vec<Vec<u8>>, OutOfMemory>
+    ensures count { IfOk result (λ rooms. vec_len rooms ≡ count) }
+    ensures each { IfOk result (λ rooms. All (λ room. (room.items ≡ []) × (VALIDATION_FRAME ≤ vec_capacity room)) rooms.items) }
 {
-    let bytes = node.sealed(to, validation);
-    Ok(Sent {
-        from: node.me(),
-        to,
-        bytes: Bytes::from_vec(Vec::from_slice(alloc, &bytes)?),
-    })
+    let mut rooms = Vec::with_capacity(alloc, count)?;
+    for _ in 0..count {
+        rooms.push(Vec::with_capacity(alloc, VALIDATION_FRAME)?)?;
+    }
+    Ok(rooms)
 }
 
-/// A frame for each other declared number, rising.
-fn frames_for(
-    alloc: Global,
-    numbers: &[NodeNo],
-    node: &Node,
-    validation: &Validation,
-) -> Result<Vec<Sent>, OutOfMemory>
-    ensures { IfOk result (λ frames. frames.items ≡ frames_for numbers.now node.now (Some validation.now)) }
+/// A frame in the last of the rooms.
+fn filled(rooms: &mut Vec<Vec<u8>>, frame: &[u8]) -> Vec<u8>
+    requires some { 0 < vec_len rooms.old }
+    requires each { All (λ room. (room.items ≡ []) × (VALIDATION_FRAME ≤ vec_capacity room)) rooms.old.items }
+    requires short { length frame.now ≤ VALIDATION_FRAME }
+    ensures bytes { result.items ≡ frame.now }
+    ensures count { vec_len rooms.new + 1 ≡ vec_len rooms.old }
+    ensures each { All (λ room. (room.items ≡ []) × (VALIDATION_FRAME ≤ vec_capacity room)) rooms.new.items }
 {
-    let mut frames = Vec::with_capacity(alloc, numbers.len())?;
+    match rooms.pop() {
+        Some(mut room) => {
+            let _ = room.extend_from_slice(frame);
+            room
+        }
+        None => unreachable!(),
+    }
+}
+
+/// What waits for another number is drained. It is one frame at most, which is sent.
+fn drain_for(core: &mut Core, to: NodeNo, rooms: &mut Vec<Vec<u8>>, sent: &mut Vec<Sent>)
+    requires other { to ≢ core.old.node.me }
+    requires keys { core.old.node.keys ≡ schedule_ring core.old.node.me }
+    requires waits { (o : Option validation.Validation) × ((waiting_at core.old.waiting to).items ≡ items_of o) }
+    requires rooms { 0 < vec_len rooms.old }
+    requires each { All (λ room. (room.items ≡ []) × (VALIDATION_FRAME ≤ vec_capacity room)) rooms.old.items }
+    requires room { vec_len sent.old < vec_capacity sent.old }
+    ensures core { core.new ≡ drained_once core.old to }
+    ensures sent { sent.new.items ≡ sent.old.items ++ given_once core.old to }
+    ensures rooms { vec_len rooms.old ≤ vec_len rooms.new + 1 }
+    ensures each { All (λ room. (room.items ≡ []) × (VALIDATION_FRAME ≤ vec_capacity room)) rooms.new.items }
+    ensures room { (vec_len sent.new ≤ vec_len sent.old + 1) × (vec_capacity sent.old ≤ vec_capacity sent.new) }
+{
+    let mut room = [0; LONGEST_FRAME];
+    let count = core.drain(to, &mut room);
+    if count > 0 {
+        let bytes = filled(rooms, &room[..count]);
+        sent.push_reserved(Sent {
+            from: core.me(),
+            to,
+            bytes: Bytes::from_vec(bytes),
+        });
+    }
+}
+
+/// What waits for each other number is drained, for each in its turn, and sent.
+fn drain(core: &mut Core, numbers: &[NodeNo], rooms: &mut Vec<Vec<u8>>, sent: &mut Vec<Sent>)
+    requires waits { WaitsOnly numbers.now core.old }
+    requires rising { Between 0 numbers.now }
+    requires keys { core.old.node.keys ≡ schedule_ring core.old.node.me }
+    requires rooms { length numbers.now ≤ vec_len rooms.old }
+    requires each { All (λ room. (room.items ≡ []) × (VALIDATION_FRAME ≤ vec_capacity room)) rooms.old.items }
+    requires room { vec_len sent.old + length numbers.now ≤ vec_capacity sent.old }
+    ensures core { core.new ≡ drained core.old (others numbers.now core.old.node.me) }
+    ensures sent { sent.new.items ≡ sent.old.items ++ given core.old (others numbers.now core.old.node.me) }
+{
     for &to in numbers {
-        if to != node.me() {
-            frames.push(frame_to(alloc, node, to, validation)?)?;
+        if to != core.me() {
+            drain_for(core, to, rooms, sent);
         }
     }
-    Ok(frames)
 }
 
-/// The frames that the node of a number would send of what it is asked to issue, where there is one.
-pub fn frames_from(
-    alloc: Global,
-    numbers: &[NodeNo],
-    places: &[Place],
+/// The core of a number, where there is one, is drained for each other number, and what it gives is sent.
+fn drain_at(
+    places: &mut [Place],
     i: NodeNo,
-    asked: &Asked,
-) -> Result<Vec<Sent>, OutOfMemory>
-    requires { asked.now.moment ≤ GREATEST_MILLIS }
-    ensures { IfOk result (λ frames. frames.items ≡ frames_from numbers.now asked.now.moment asked.now.seq asked.now.id asked.now.full (place_at i places.now)) }
+    numbers: &[NodeNo],
+    rooms: &mut Vec<Vec<u8>>,
+    sent: &mut Vec<Sent>,
+)
+    requires waits { (p : Place) → place_at i places.old ≡ Some p → MayDrain numbers.now p }
+    requires rising { Between 0 numbers.now }
+    requires rooms { length numbers.now ≤ vec_len rooms.old }
+    requires each { All (λ room. (room.items ≡ []) × (VALIDATION_FRAME ≤ vec_capacity room)) rooms.old.items }
+    requires room { vec_len sent.old + length numbers.now ≤ vec_capacity sent.old }
+    ensures places { places.new ≡ put_drained numbers.now (place_at i places.old) places.old }
+    ensures sent { sent.new.items ≡ sent.old.items ++ given_at numbers.now (place_at i places.old) }
 {
-    match place_of(places, i) {
-        Some(k) => {
-            let place = &places[k];
-            let validation = place
-                .node
-                .own_validation(asked.moment, asked.seq, asked.id, asked.full);
-            frames_for(alloc, numbers, &place.node, &validation)
-        }
-        None => Ok(Vec::new(alloc)),
+    if let Some(k) = place_of(places, i) {
+        let place = &mut places[k];
+        drain(&mut place.core, numbers, rooms, sent);
+    }
+}
+
+/// Where something was issued, its core is drained for each other number, and what it gives is sent.
+pub fn send_some(
+    places: &mut [Place],
+    i: NodeNo,
+    numbers: &[NodeNo],
+    rooms: &mut Vec<Vec<u8>>,
+    sent: &mut Vec<Sent>,
+    issued: &Option<Validation>,
+)
+    requires waits { (p : Place) → place_at i places.old ≡ Some p → MayDrain numbers.now p }
+    requires rising { Between 0 numbers.now }
+    requires rooms { length numbers.now ≤ vec_len rooms.old }
+    requires each { All (λ room. (room.items ≡ []) × (VALIDATION_FRAME ≤ vec_capacity room)) rooms.old.items }
+    requires room { vec_len sent.old + length numbers.now ≤ vec_capacity sent.old }
+    ensures places { places.new ≡ (if is_some issued.now then put_drained numbers.now (place_at i places.old) places.old else places.old) }
+    ensures sent { sent.new.items ≡ sent.old.items ++ (if is_some issued.now then given_at numbers.now (place_at i places.old) else []) }
+{
+    if issued.is_some() {
+        drain_at(places, i, numbers, rooms, sent);
     }
 }

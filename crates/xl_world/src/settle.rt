@@ -1,12 +1,12 @@
 // What came of an event, taken into the lists of a world. The room was made before, so no call wants memory.
-ghost use Rattle.std.specs.Prelude.{◌≡◌, ◌+◌, ◌<◌, ◌≤◌, ◌++◌, [], is_some, if◌then◌else◌, length, map, option_map, option_to_list, vec_len, vec_capacity};
+ghost use Rattle.std.specs.Prelude.{◌≡◌, ◌+◌, ◌<◌, ◌≤◌, ◌++◌, map, option_map, option_to_list, vec_len, vec_capacity};
 ghost use Rattle.xl_lists.specs.Agreement.{with_said};
 ghost use Rattle.xl_world.specs.World.{said_by};
 ghost use Rattle.xl_world.specs.Seen.{outcomes_told, said_seen, report_seen, reports_seen};
 
 use crate::act::Answer;
 use crate::place::Saying;
-use crate::{Outcome, Sent, WorldReport};
+use crate::{Outcome, WorldReport};
 use xl_base::NodeNo;
 use xl_wire::Validation;
 
@@ -19,16 +19,6 @@ fn push_some<T: Drop>(list: &mut Vec<T>, element: Option<T>)
 {
     if let Some(element) = element {
         let _ = list.push(element);
-    }
-}
-
-/// The frames of what is issued are sent, if anything is.
-pub fn send_some(sent: &mut Vec<Sent>, frames: &mut Vec<Sent>, issued: &Option<Validation>)
-    requires { vec_len sent.old + vec_len frames.old ≤ vec_capacity sent.old }
-    ensures { sent.new.items ≡ sent.old.items ++ (if is_some issued.now then frames.old.items else []) }
-{
-    if issued.is_some() {
-        let _ = sent.append(frames);
     }
 }
 

@@ -3,7 +3,7 @@ ghost use Rattle.xl_world.specs.Keeper.{one_more};
 ghost use Rattle.xl_world.specs.Schedule.{node_asked, event_asked};
 ghost use Rattle.xl_world.specs.Seen.{issue_seen};
 
-use crate::act::{Asked, NodeEvent, act_at, list_at, preferred_at};
+use crate::act::{Asked, NodeEvent, act_at, core_at, list_at, preferred_at};
 use crate::agreement::all_agree;
 use crate::anew::{cut_at, replace, restarted_at};
 use crate::forged::is_forged;
@@ -11,16 +11,17 @@ use crate::hearing::{hear_at, hear_each};
 use crate::index::TagIndex;
 use crate::lie::{lied_header, lied_validation};
 use crate::place::{Fate, Place, Saying};
-use crate::sent::{frame_at, frames_from};
-use crate::settle::{report_some, say_some, send_some, tell};
+use crate::sent::{frame_at, rooms, send_some};
+use crate::settle::{report_some, say_some, tell};
 use crate::{Happened, Plan, Sent, WorldReport, open};
 use std::alloc::Global;
 use std::marker::Model;
 use xl_base::{Millis, NodeNo, OutOfMemory};
+use xl_core::Core;
 use xl_lists::List;
 use xl_sched::{Ask, Event, Lied};
 
-/// A world: the nodes, and all that they ever sent, said and reported.
+/// A world: the cores, and all that they ever sent, said and reported.
 #[derive(Drop)]
 pub struct World {
     alloc: Global,
@@ -37,7 +38,7 @@ pub struct World {
 }
 
 impl Model for World {
-    ghost use Rattle.xl_world.specs.World.{World as TheWorld};
+    ghost use Rattle.xl_world.specs.Cores.{World as TheWorld};
 
     ghost Value = { TheWorld };
 
@@ -53,9 +54,11 @@ impl World {
     ghost use Rattle.xl_ledger.specs.declared.registry.TheConstants.{LEAST_LIMIT, GREATEST_LIMIT};
     ghost use Rattle.xl_lists.specs.Lists.{TrustedList};
     ghost use Rattle.xl_lists.specs.Quorums.{Enough};
-    ghost use Rattle.xl_core.specs.Node.{Frame};
-    ghost use Rattle.xl_world.specs.World.{AgreeAt, AreTimely, Headline, list_in, start, marked, step, run, Act, place_at};
-    ghost use Rattle.xl_world.specs.Schedule.{told_of, reply_to, told_in, moment_of, after_event, cut_at as cut_steps, outcomes, preference, lied_bytes};
+    ghost use Rattle.xl_core.specs.declared.event.CoreEvent.TheVariants.{Frame};
+    ghost use Rattle.xl_world.specs.World.{AgreeAt, AreTimely};
+    ghost use Rattle.xl_world.specs.Cores.{Headline, list_in, core_in, start, marked, run, place_at};
+    ghost use Rattle.xl_world.specs.Emptying.{event_steps};
+    ghost use Rattle.xl_world.specs.Schedule.{told_in, moment_of, after_event, cut_at as cut_steps, outcomes, preference, lied_bytes};
     ghost use Rattle.xl_base.specs.declared.moments.TheConstants.{GREATEST_MILLIS};
     ghost use Rattle.xl_world.specs.Seen.{reports_seen, with_place, Steps};
     ghost use Rattle.xl_world.specs.declared.place.Fate.TheVariants.{Kept};
@@ -82,16 +85,16 @@ impl World {
         })
     }
 
-    /// A node is asked to issue, and what it issues is sent. An `Err` changes nothing.
+    /// A core is asked to issue, and what it issues is drained and sent. The room is made before, so an `Err` changes nothing.
     fn issue(&mut self, node: NodeNo, asked: &Asked, fate: Fate) -> Result<Happened, OutOfMemory>
         requires { asked.now.moment ≤ GREATEST_MILLIS }
-        ensures world { OnOk result (self.new ≡ step self.old (Act node (issue_seen asked.now) fate)) }
-        ensures told { IfOk result (λ told. told ≡ told_of node (reply_to self.old (Act node (issue_seen asked.now) fate))) }
+        ensures world { OnOk result (self.new ≡ run self.old (event_steps self.old node (issue_seen asked.now) fate)) }
+        ensures told { IfOk result (λ told. told ≡ told_in self.old (event_steps self.old node (issue_seen asked.now) fate)) }
         ensures err { OnErr result (self.new ≡ self.old) }
     {
         let mut outcomes = Vec::with_capacity(self.alloc, 2)?;
-        let mut frames = frames_from(self.alloc, &self.numbers, &self.places, node, asked)?;
-        self.sent.reserve(frames.len())?;
+        let mut rooms = rooms(self.alloc, self.numbers.len())?;
+        self.sent.reserve(self.numbers.len())?;
         self.said.reserve(1)?;
         self.reports.reserve(1)?;
         let event = NodeEvent::Issue(*asked);
@@ -99,7 +102,14 @@ impl World {
             return Ok(Happened::from_vec(outcomes));
         };
         tell(&mut outcomes, node, &answer);
-        send_some(&mut self.sent, &mut frames, &answer.issued);
+        send_some(
+            &mut self.places,
+            node,
+            &self.numbers,
+            &mut rooms,
+            &mut self.sent,
+            &answer.issued,
+        );
         say_some(&mut self.said, node, &answer.issued);
         report_some(&mut self.reports, answer.report);
         Ok(Happened::from_vec(outcomes))
@@ -151,8 +161,8 @@ impl World {
     /// Bytes come to a node that no node may have sent. An `Err` changes nothing.
     fn hear(&mut self, now: Millis, to: NodeNo, bytes: &[u8]) -> Result<Happened, OutOfMemory>
         requires { now ≤ GREATEST_MILLIS }
-        ensures world { OnOk result (self.new ≡ step self.old (Act to (Frame now bytes.now) Kept)) }
-        ensures told { IfOk result (λ told. told ≡ told_of to (reply_to self.old (Act to (Frame now bytes.now) Kept))) }
+        ensures world { OnOk result (self.new ≡ run self.old (event_steps self.old to (Frame now bytes.now) Kept)) }
+        ensures told { IfOk result (λ told. told ≡ told_in self.old (event_steps self.old to (Frame now bytes.now) Kept)) }
         ensures err { OnErr result (self.new ≡ self.old) }
     {
         let forged = is_forged(
@@ -184,8 +194,8 @@ impl World {
         what: &Lied,
     ) -> Result<Happened, OutOfMemory>
         requires { now ≤ GREATEST_MILLIS }
-        ensures world { OnOk result (self.new ≡ step self.old (Act to (Frame now (lied_bytes from to what.now)) Kept)) }
-        ensures told { IfOk result (λ told. told ≡ told_of to (reply_to self.old (Act to (Frame now (lied_bytes from to what.now)) Kept))) }
+        ensures world { OnOk result (self.new ≡ run self.old (event_steps self.old to (Frame now (lied_bytes from to what.now)) Kept)) }
+        ensures told { IfOk result (λ told. told ≡ told_in self.old (event_steps self.old to (Frame now (lied_bytes from to what.now)) Kept)) }
         ensures err { OnErr result (self.new ≡ self.old) }
     {
         match what {
@@ -232,8 +242,8 @@ impl World {
     /// Where no save is asked, it is opened anew after the issue came to its end.
     fn cut(&mut self, node: NodeNo, asked: &Asked, new: bool) -> Result<Happened, OutOfMemory>
         requires { asked.now.moment ≤ GREATEST_MILLIS }
-        ensures world { OnOk result (self.new ≡ run self.old (cut_steps asked.now.moment new node (issue_seen asked.now) (place_at node self.old.places))) }
-        ensures told { IfOk result (λ told. told ≡ told_in self.old (cut_steps asked.now.moment new node (issue_seen asked.now) (place_at node self.old.places))) }
+        ensures world { OnOk result (self.new ≡ run self.old (cut_steps self.old asked.now.moment new node (issue_seen asked.now) (place_at node self.old.places))) }
+        ensures told { IfOk result (λ told. told ≡ told_in self.old (cut_steps self.old asked.now.moment new node (issue_seen asked.now) (place_at node self.old.places))) }
         ensures err { OnErr result (self.new ≡ self.old) }
     {
         let Some(cut) = cut_at(self.alloc, &self.places, node, asked, new)? else {
@@ -329,6 +339,13 @@ impl World {
         ensures { option_copied result ≡ list_in self.now node }
     {
         list_at(&self.places, node)
+    }
+
+    /// The core of a node, or None for a number that no honest node has.
+    pub fn node(&self, node: NodeNo) -> Option<&Core>
+        ensures { option_copied result ≡ core_in self.now node }
+    {
+        core_at(&self.places, node)
     }
 
     /// Every report of a node, in order.

@@ -7,8 +7,8 @@ use Rattle.xl_world.proofs.act.list_at.Goals as goal
 
 pub returns-in-Some : goal.returns-in-Some
 returns-in-Some c =
-    ap (λ (l : TrustedList). Some l) (c.list.ensures ∙ ap (λ (p : Place). p.node.list) c.index-places-k.is)
-    ∙ sym (ap (option_map (λ p. p.node.list)) (found_there c.args.places.now c.args.i c.in-Some.k c.index-places-k.result (sym c.in-Some.ensures)))
+    ap (λ (l : TrustedList). Some l) (c.list.ensures ∙ ap (λ (p : Place). p.core.node.list) c.index-places-k.is)
+    ∙ sym (ap (option_map (λ p. p.core.node.list)) (found_there c.args.places.now c.args.i c.in-Some.k c.index-places-k.result (sym c.in-Some.ensures)))
 
 pub returns-in-None : goal.returns-in-None
-returns-in-None c = sym (ap (option_map (λ p. p.node.list)) (none_there c.args.places.now c.args.i (sym c.in-None.ensures)))
+returns-in-None c = sym (ap (option_map (λ p. p.core.node.list)) (none_there c.args.places.now c.args.i (sym c.in-None.ensures)))

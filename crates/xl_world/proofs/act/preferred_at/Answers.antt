@@ -8,8 +8,8 @@ use Rattle.xl_world.proofs.act.preferred_at.Goals as goal
 
 pub returns-in-Some : goal.returns-in-Some
 returns-in-Some c =
-    ap (λ r. Some (Preferred c.args.i r)) (c.preferred.ensures.value ∙ ap (λ (p : Place). preferred p.node) c.index-places-k.is)
-    ∙ sym (ap (option_map (λ p. Preferred c.args.i (preferred p.node))) (found_there c.args.places.now c.args.i c.in-Some.k c.index-places-k.result (sym c.in-Some.ensures)))
+    ap (λ r. Some (Preferred c.args.i r)) (c.preferred.ensures.value ∙ ap (λ (p : Place). preferred p.core.node) c.index-places-k.is)
+    ∙ sym (ap (option_map (λ p. Preferred c.args.i (preferred p.core.node))) (found_there c.args.places.now c.args.i c.in-Some.k c.index-places-k.result (sym c.in-Some.ensures)))
 
 pub returns-in-None : goal.returns-in-None
-returns-in-None c = sym (ap (option_map (λ p. Preferred c.args.i (preferred p.node))) (none_there c.args.places.now c.args.i (sym c.in-None.ensures)))
+returns-in-None c = sym (ap (option_map (λ p. Preferred c.args.i (preferred p.core.node))) (none_there c.args.places.now c.args.i (sym c.in-None.ensures)))

@@ -3,8 +3,7 @@ use Rattle.std.specs.Prelude.{is_some}
 use Rattle.xl_world.specs.declared.anew.Cut.{Cut}
 use Rattle.xl_world.specs.declared.place.Place.{Place}
 use Rattle.xl_world.specs.Keeper.{left_by}
-use Rattle.xl_world.specs.Seen.{cut_seen}
-use Rattle.xl_world.specs.World.{place_again}
+use Rattle.xl_world.specs.Seen.{cut_seen, place_again}
 use Rattle.xl_world.proofs.anew.cut_place.Goals as goal
 
 pub returns : goal.returns

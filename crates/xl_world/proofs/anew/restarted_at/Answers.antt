@@ -1,8 +1,7 @@
 use Rattle.std.proofs.Common.{◌≡◌, ℕ, Some, ap, sym, ◌∙◌}
 use Rattle.std.specs.Prelude.{option_map}
 use Rattle.xl_world.specs.declared.place.Place.{Place}
-use Rattle.xl_world.specs.Seen.{restarted}
-use Rattle.xl_world.specs.World.{place_again}
+use Rattle.xl_world.specs.Seen.{place_again, restarted}
 use Rattle.xl_world.proofs.Places.{found_there, none_there}
 use Rattle.xl_world.proofs.anew.restarted_at.Goals as goal
 

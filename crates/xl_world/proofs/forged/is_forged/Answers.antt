@@ -9,7 +9,7 @@ use Rattle.xl_world.proofs.forged.is_forged.Goals as goal
 pub returns-in-Some-clause-value : goal.returns-in-Some-clause-value
 returns-in-Some-clause-value c =
     c.forges.ensures.value
-    ∙ (ap (λ k. forges c.args.liars.now c.args.sent.now k c.args.bytes.now (split_of c.args.bytes.now)) (c.keys.ensures.value ∙ ap (λ (p : Place). p.node.keys) c.index-places-k.is)
+    ∙ (ap (λ k. forges c.args.liars.now c.args.sent.now k c.args.bytes.now (split_of c.args.bytes.now)) (c.keys.ensures.value ∙ ap (λ (p : Place). p.core.node.keys) c.index-places-k.is)
     ∙ sym (ap (forged_at c.args.liars.now c.args.sent.now c.args.bytes.now) (found_there c.args.places.now c.args.to c.in-Some.k c.index-places-k.result (sym c.in-Some.ensures))))
 
 pub returns-in-None-clause-value : goal.returns-in-None-clause-value

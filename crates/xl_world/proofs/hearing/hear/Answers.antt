@@ -1,5 +1,5 @@
 use Rattle.std.proofs.Common.{◌≡◌, List, ◌++◌, Some, ap, subst, ◌∙◌}
-use Rattle.xl_core.specs.Node.{Frame}
+use Rattle.xl_core.specs.declared.event.CoreEvent.TheVariants.{Frame}
 use Rattle.xl_world.specs.declared.outcome.Outcome.{Outcome}
 use Rattle.xl_world.specs.declared.place.Fate.TheVariants.{Kept}
 use Rattle.xl_world.specs.declared.place.Place.{Place}

@@ -1,5 +1,6 @@
-use Rattle.std.proofs.Common.{◌≡◌, arith}
-use Rattle.xl_world.proofs.Delivering.{heard_more}
+use Rattle.std.proofs.Common.{◌≡◌, arith, subst, sym}
+use Rattle.xl_world.proofs.Delivering.{heard_more, untaken_still}
+use Rattle.xl_world.specs.Seen.{NoneUntakenAnywhere}
 use Rattle.xl_world.proofs.hearing.hear_each.Goals as goal
 
 pub loop-frame-preserved : goal.loop-frame-preserved
@@ -8,4 +9,5 @@ loop-frame-preserved c = (
       c.hear.ensures.places c.hear.ensures.reports c.hear.ensures.told,
   omega (arith, c.loop-frame.invariant.1, c.hear.ensures.room.0, c.hear.ensures.room.1, c.loop-frame-test.true),
   omega (arith, c.loop-frame.invariant.2, c.hear.ensures.told_room.0, c.hear.ensures.told_room.1, c.loop-frame-test.true),
+  subst NoneUntakenAnywhere (sym c.hear.ensures.places) (untaken_still c.frame-item.result.to c.args.at c.as_slice.result.now c.loop-frame.places.items c.loop-frame.invariant.3),
 )

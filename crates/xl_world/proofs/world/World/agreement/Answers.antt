@@ -1,8 +1,9 @@
 use Rattle.std.proofs.Common.{subst}
 use Rattle.std.specs.Prelude.{IsTrue, ◌↔◌}
-use Rattle.xl_world.specs.World.{World, AgreeAt, IsRun}
+use Rattle.xl_world.specs.Cores.{World, IsRun}
+use Rattle.xl_world.specs.World.{AgreeAt}
 use Rattle.xl_world.proofs.Agreeing.{answer_tells}
-use Rattle.xl_world.proofs.Lists.{headline, world_agrees}
+use Rattle.xl_world.proofs.CoreLists.{core_headline, world_agrees}
 use Rattle.xl_world.proofs.world.World.agreement.Goals as goal
 
 pub returns-clause-exact : goal.returns-clause-exact
@@ -18,4 +19,4 @@ returns-clause-enough c a b at_i at_j enough none =
     (world_agrees c.args.self.now is_run c.args.i c.args.j a b at_i at_j enough none)
 
 pub returns-clause-headline : goal.returns-clause-headline
-returns-clause-headline c = headline
+returns-clause-headline c = core_headline

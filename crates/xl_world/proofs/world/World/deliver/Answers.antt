@@ -1,15 +1,18 @@
-use Rattle.std.proofs.Common.{◌≡◌, ◌∙◌, ℕ, List, Some, ap, sym}
+use Rattle.std.proofs.Common.{◌≡◌, ◌∙◌, ℕ, List, Some, ap, subst, sym}
 use Rattle.std.proofs.lemmas.Bool.{cond-false}
-use Rattle.xl_core.specs.Node.{Frame}
+use Rattle.xl_core.specs.declared.event.CoreEvent.TheVariants.{Frame}
 use Rattle.xl_world.specs.declared.sent.Sent.{Sent}
-use Rattle.xl_world.specs.World.{World, Act, step, place_at}
+use Rattle.xl_world.specs.Cores.{World, place_at, run}
+use Rattle.xl_world.specs.Emptying.{event_steps}
+use Rattle.xl_world.specs.Idle.{IsIdle}
 use Rattle.xl_world.specs.declared.place.Fate.TheVariants.{Kept}
 use Rattle.xl_world.specs.Worlds.{world_seen}
 use Rattle.xl_world.specs.Schedule.{frame_at, after_event, outcomes}
 use Rattle.xl_world.specs.Seen.{forged_at}
 use Rattle.xl_sched.specs.declared.event.Event.TheVariants.{Deliver}
-use Rattle.xl_world.proofs.Runs.{run_more}
-use Rattle.xl_world.proofs.Delivering.{delivered, delivered_told}
+use Rattle.xl_world.proofs.CoreRuns.{run_on}
+use Rattle.xl_world.proofs.Sending.{frame_ran}
+use Rattle.xl_world.proofs.Delivering.{idle_untaken, delivered, delivered_told}
 use Rattle.xl_world.proofs.Steps.{heard_step, frame_fair}
 use Rattle.xl_world.proofs.world.World.deliver.Goals as goal
 use Rattle.xl_world.proofs.world.World.deliver.Goals.{In_ok-told}
@@ -21,10 +24,10 @@ found c = ap (λ (fs : List Sent). frame_at fs c.args.place) (sym c.deref.ensure
 -- the lists of the code are those of the step: what was sent isn't forged
 its_step : (c : In_ok-told) →
     world_seen (record { alloc = c.self.inside.alloc; liars = c.self.inside.liars; numbers = c.self.inside.numbers; places = c.hear_at.new.places; sent = c.self.inside.sent; mark = c.self.inside.mark; index = c.self.inside.index; said = c.self.inside.said; reports = c.hear_at.new.reports; forged = c.self.inside.forged })
-    ≡ step (world_seen c.self.inside) (Act c.in-Some.frame.now.to (Frame c.args.at c.as_slice.result.now) Kept)
+    ≡ run (world_seen c.self.inside) (event_steps (world_seen c.self.inside) c.in-Some.frame.now.to (Frame c.args.at c.as_slice.result.now) Kept)
 its_step c =
     let o = place_at c.in-Some.frame.now.to c.self.inside.places.items in
-    heard_step (world_seen c.self.inside) c.in-Some.frame.now.to c.args.at c.as_slice.result.now c.hear_at.new.places.items _ c.self.inside.forged
+    heard_step (world_seen c.self.inside) c.in-Some.frame.now.to c.args.at c.as_slice.result.now c.hear_at.new.places.items _ c.self.inside.forged c.self.invariant.idle
     c.in_ok-told.ensures.places c.in_ok-told.ensures.reports
     (sym (cond-false (forged_at c.self.inside.liars.items c.self.inside.sent.items c.as_slice.result.now o) _ _
     (ap (λ (bytes : List ℕ). forged_at c.self.inside.liars.items c.self.inside.sent.items bytes o) c.as_slice.ensures
@@ -34,7 +37,8 @@ pub invariant_of-self-2 : goal.invariant_of-self-2
 invariant_of-self-2 c =
     let d = (goal.at.invariant_of-self-2 c).In_ok-told in
     record {
-      run = run_more (world_seen c.self.inside) _ (Act c.in-Some.frame.now.to (Frame c.args.at c.as_slice.result.now) Kept) (its_step d) c.self.invariant.run;
+      run = run_on (world_seen c.self.inside) _ (event_steps (world_seen c.self.inside) c.in-Some.frame.now.to (Frame c.args.at c.as_slice.result.now) Kept) (its_step d) c.self.invariant.run;
+      idle = subst (λ (u : World). IsIdle u) (sym (its_step d)) (frame_ran (world_seen c.self.inside) c.in-Some.frame.now.to c.args.at c.as_slice.result.now c.self.invariant.idle).idle;
       index = c.self.invariant.index;
       mark = c.self.invariant.mark;
     }
@@ -50,3 +54,6 @@ returns-clause-told c =
     let d = (goal.at.returns-clause-told c).In_ok-told in
     delivered_told (world_seen c.self.inside) c.args.at c.args.place c.in-Some.frame.now c.as_slice.result.now c.in_ok-told.told (found d) c.as_slice.ensures c.in_ok-told.ensures.told
     ∙ ap (λ (u : World). outcomes u (Deliver c.args.at c.args.place)) c.self.view_is
+
+pub hear_at-requires-clause-untaken : goal.hear_at-requires-clause-untaken
+hear_at-requires-clause-untaken c = idle_untaken (world_seen c.self.inside) c.self.invariant.idle c.in-Some.frame.now.to

@@ -7,10 +7,11 @@ use Rattle.xl_world.specs.declared.report.WorldReport.{WorldReport}
 use Rattle.xl_world.specs.declared.sent.Sent.{Sent}
 use Rattle.xl_world.specs.Schedule.{after_event, outcomes, steps_of}
 use Rattle.xl_world.specs.Seen.{Hearing, hearing_seen, heard_all}
-use Rattle.xl_world.specs.World.{World}
+use Rattle.xl_world.specs.Cores.{World}
+use Rattle.xl_world.specs.Idle.{IsIdle}
 use Rattle.xl_world.specs.Worlds.{world_seen}
-use Rattle.xl_world.proofs.Delivering.{all_delivered, all_told, heard_of, with_hearing}
-use Rattle.xl_world.proofs.Runs.{run_on}
+use Rattle.xl_world.proofs.Delivering.{all_delivered, all_idle, idle_untaken, all_told, heard_of, with_hearing}
+use Rattle.xl_world.proofs.CoreRuns.{run_on}
 use Rattle.xl_world.proofs.Steps.{with_mark}
 use Rattle.xl_world.proofs.world.World.deliver_all.Goals as goal
 use Rattle.xl_world.proofs.world.World.deliver_all.Goals.{After-from_vec}
@@ -39,12 +40,13 @@ its_steps : (c : After-from_vec) →
 its_steps c =
     let all : c.len-self-inside.result ≡ length c.self.inside.sent.items = omega (arith, c.len-self-inside.ensures, c.self.inside.sent.ok.0) in
     ap (with_mark (with_hearing (world_seen c.self.inside) (hearing c))) all
-    ∙ all_delivered (world_seen c.self.inside) c.args.at (frames c) (hearing c) (are_after_mark c) (heard c)
+    ∙ all_delivered (world_seen c.self.inside) c.args.at (frames c) (hearing c) c.self.invariant.idle (are_after_mark c) (heard c)
 
 pub invariant_of-self-2 : goal.invariant_of-self-2
 invariant_of-self-2 c =
     record {
       run = run_on (world_seen c.self.inside) _ (steps_of (world_seen c.self.inside) (All c.args.at)) (its_steps c) c.self.invariant.run;
+      idle = subst (λ (u : World). IsIdle u) (sym (its_steps c)) (all_idle (world_seen c.self.inside) c.args.at c.self.invariant.idle);
       index = c.self.invariant.index;
       mark = omega (arith, c.len-self-inside.ensures, c.self.inside.sent.ok.0);
     }
@@ -55,5 +57,8 @@ returns-clause-world c = its_steps c ∙ ap (λ (u : World). after_event u (All 
 pub returns-clause-told : goal.returns-clause-told
 returns-clause-told c =
     c.from_vec.ensures
-    ∙ (all_told (world_seen c.self.inside) c.args.at (frames c) (hearing c) (are_after_mark c) (heard c)
+    ∙ (all_told (world_seen c.self.inside) c.args.at (frames c) (hearing c) c.self.invariant.idle (are_after_mark c) (heard c)
     ∙ ap (λ (u : World). outcomes u (All c.args.at)) c.self.view_is)
+
+pub hear_each-requires-clause-untaken : goal.hear_each-requires-clause-untaken
+hear_each-requires-clause-untaken c = idle_untaken (world_seen c.self.inside) c.self.invariant.idle

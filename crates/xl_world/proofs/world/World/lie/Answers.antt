@@ -1,17 +1,18 @@
 use Rattle.std.proofs.Common.{◌≡◌, ◌∙◌, ℕ, List, ap, sym, subst}
 use Rattle.std.specs.Prelude.{OnOk, IfOk}
-use Rattle.xl_core.specs.Node.{Frame}
-use Rattle.xl_world.specs.World.{Act, step}
+use Rattle.xl_core.specs.declared.event.CoreEvent.TheVariants.{Frame}
+use Rattle.xl_world.specs.Cores.{run}
+use Rattle.xl_world.specs.Emptying.{event_steps}
 use Rattle.xl_world.specs.declared.place.Fate.TheVariants.{Kept}
-use Rattle.xl_world.specs.Schedule.{lied_bytes, told_of, reply_to}
+use Rattle.xl_world.specs.Schedule.{lied_bytes, told_in}
 use Rattle.xl_world.proofs.world.World.lie.Goals as goal
 
 pub returns-in-Header-clause-world : goal.returns-in-Header-clause-world
 returns-in-Header-clause-world c =
     let is = c.lied_header.ensures ∙ ap (lied_bytes c.args.from c.args.to) (sym c.in-Header.is) in
-    subst (λ (bytes : List ℕ). OnOk c.hear-in-Header.result (c.hear-in-Header.new.self ≡ step c.args.self.now (Act c.args.to (Frame c.args.now bytes) Kept))) is c.hear-in-Header.ensures.world
+    subst (λ (bytes : List ℕ). OnOk c.hear-in-Header.result (c.hear-in-Header.new.self ≡ run c.args.self.now (event_steps c.args.self.now c.args.to (Frame c.args.now bytes) Kept))) is c.hear-in-Header.ensures.world
 
 pub returns-in-Header-clause-told : goal.returns-in-Header-clause-told
 returns-in-Header-clause-told c =
     let is = c.lied_header.ensures ∙ ap (lied_bytes c.args.from c.args.to) (sym c.in-Header.is) in
-    subst (λ (bytes : List ℕ). IfOk c.hear-in-Header.result (λ told. told ≡ told_of c.args.to (reply_to c.args.self.now (Act c.args.to (Frame c.args.now bytes) Kept)))) is c.hear-in-Header.ensures.told
+    subst (λ (bytes : List ℕ). IfOk c.hear-in-Header.result (λ told. told ≡ told_in c.args.self.now (event_steps c.args.self.now c.args.to (Frame c.args.now bytes) Kept))) is c.hear-in-Header.ensures.told

@@ -1,7 +1,8 @@
-use Rattle.std.proofs.Common.{◌≡◌, ◌∙◌, ap, List, Option, Some, refl, sym}
+use Rattle.std.proofs.Common.{◌≡◌, ◌∙◌, ap, List, Option, Some, refl, subst, sym}
 use Rattle.std.specs.Prelude.{option_map}
 use Rattle.xl_world.specs.declared.place.Place.{Place}
-use Rattle.xl_world.specs.World.{World, place_at, run}
+use Rattle.xl_world.specs.Cores.{World, place_at, run}
+use Rattle.xl_world.specs.Idle.{IsIdle}
 use Rattle.xl_world.specs.Schedule.{told_in}
 use Rattle.xl_world.specs.Seen.{restarted}
 use Rattle.xl_world.proofs.Reopening.{restarts, restarts_none}
@@ -15,14 +16,14 @@ left c = c.in_ok-anew.ensures ∙ ap (λ (ps : List Place). option_map (restarte
 pub set_place-requires : goal.set_place-requires
 set_place-requires c =
     let d = (goal.at.set_place-requires c).In_ok-anew in
-    (restarts c.args.self.now c.args.node c.args.at c.in-Some.anew (place_at c.args.node c.args.self.now.places) refl (sym c.in-Some.is ∙ left d)).step
+    (restarts c.args.self.now c.args.node c.args.at c.in-Some.anew (place_at c.args.node c.args.self.now.places) (subst (λ (u : World). IsIdle u) c.self.view_is c.self.invariant.idle) refl (sym c.in-Some.is ∙ left d)).step
 
 pub returns-clause-world : goal.returns-clause-world
 returns-clause-world c =
     let d = (goal.at.returns-clause-world c).In_ok-anew in
     let o : Option Place = place_at c.args.node c.args.self.now.places in
     elim c.match-branch-2.branch [
-      | in-Some w ↦ w.self-is ∙ (w.set_place.ensures ∙ (restarts c.args.self.now c.args.node c.args.at w.in-Some.anew o refl (sym w.in-Some.is ∙ left d)).world)
+      | in-Some w ↦ w.self-is ∙ (w.set_place.ensures ∙ (restarts c.args.self.now c.args.node c.args.at w.in-Some.anew o (subst (λ (u : World). IsIdle u) c.self.view_is c.self.invariant.idle) refl (sym w.in-Some.is ∙ left d)).world)
       | in_default w ↦ w.self-is ∙ ap (run c.args.self.now) (sym (restarts_none c.args.at o (sym w.in_default.is ∙ left d)))
     ]
 
@@ -31,6 +32,6 @@ returns-clause-told c =
     let d = (goal.at.returns-clause-told c).In_ok-anew in
     let o : Option Place = place_at c.args.node c.args.self.now.places in
     c.nothing.ensures ∙ elim c.match-branch-2.branch [
-      | in-Some w ↦ sym (restarts c.args.self.now c.args.node c.args.at w.in-Some.anew o refl (sym w.in-Some.is ∙ left d)).told
+      | in-Some w ↦ sym (restarts c.args.self.now c.args.node c.args.at w.in-Some.anew o (subst (λ (u : World). IsIdle u) c.self.view_is c.self.invariant.idle) refl (sym w.in-Some.is ∙ left d)).told
       | in_default w ↦ ap (told_in c.args.self.now) (sym (restarts_none c.args.at o (sym w.in_default.is ∙ left d)))
     ]

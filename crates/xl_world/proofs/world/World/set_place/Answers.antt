@@ -3,9 +3,10 @@ use Rattle.std.specs.Vec.{with_items}
 use Rattle.std.proofs.lemmas.List.{with_items_is}
 use Rattle.xl_world.specs.declared.place.Place.{Place}
 use Rattle.xl_world.specs.Seen.{with_place, Steps}
-use Rattle.xl_world.specs.World.{World, put}
+use Rattle.xl_world.specs.Cores.{World, put}
+use Rattle.xl_world.specs.Idle.{IsIdle}
 use Rattle.xl_world.specs.Worlds.{world_seen}
-use Rattle.xl_world.proofs.Runs.{run_more}
+use Rattle.xl_world.proofs.CoreRuns.{run_more}
 use Rattle.xl_world.proofs.Steps.{with_lists}
 use Rattle.xl_world.proofs.world.World.set_place.Goals as goal
 use Rattle.xl_world.proofs.world.World.set_place.Goals.{After-replace}
@@ -25,6 +26,7 @@ invariant_of-self c =
     let steps : Steps (world_seen c.self.inside) c.args.anew = subst (λ (u : World). Steps u c.args.anew) (sym c.self.view_is) c.requires in
     record {
       run = run_more (world_seen c.self.inside) _ steps.0 (in_place (goal.at.invariant_of-self c).After-replace ∙ steps.1) c.self.invariant.run;
+      idle = subst (λ (u : World). IsIdle u) (sym (in_place (goal.at.invariant_of-self c).After-replace ∙ steps.1)) steps.2;
       index = c.self.invariant.index;
       mark = c.self.invariant.mark;
     }

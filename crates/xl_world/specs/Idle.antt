@@ -1,0 +1,30 @@
+-- Worlds in which nothing waits, and cores at which only what was just issued does. Source: what the code of this crate relies on.
+use Rattle.std.specs.Prelude.{◌≡◌, ℕ, ◌<◌, ◌≤◌, List, [], ◌∷◌}
+use Rattle.std.specs.Prelude.{Some}
+use Rattle.std.specs.declared.option.Option.{Option}
+use Rattle.xl_wire.specs.declared.validation.Validation.{Validation}
+use Rattle.xl_core.specs.Core.{Core}
+use Rattle.xl_core.specs.Node.{items_of}
+use Rattle.xl_core.specs.Queues.{waiting_at}
+use Rattle.xl_world.specs.declared.place.Place.{Place}
+use Rattle.xl_world.specs.Cores.{World, place_at}
+use Rattle.xl_world.specs.Emptying.{IsEmptied, others}
+
+-- rising members' numbers above this one
+abbrev pub Between : ℕ → List ℕ → Type 0
+Between low [] = Unit {0}
+Between low (m ∷ ms) = (low < m) × (m ≤ 64) × Between m ms
+
+-- what was issued alone waits for these numbers
+abbrev pub Waits : Option Validation → Core → List ℕ → Type 0
+Waits o core [] = Unit {0}
+Waits o core (m ∷ ms) = ((waiting_at core.waiting m).items ≡ items_of o) × Waits o core ms
+
+-- for each other number
+abbrev pub WaitsOnly : List ℕ → Core → Type 0
+WaitsOnly numbers core = (o : Option Validation) × Waits o core (others numbers core.node.me)
+
+-- nothing waits in a world for a declared number, and its numbers are members'
+pub record IsIdle (w : World) : Type 0 where
+  pub numbers : Between 0 w.numbers
+  pub emptied : (i : ℕ) (p : Place) → place_at i w.places ≡ Some p → IsEmptied w.numbers p.core
