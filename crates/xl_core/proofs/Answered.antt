@@ -13,7 +13,8 @@ use Rattle.xl_core.specs.declared.refusal.Refusal.{Refusal}
 use Rattle.xl_core.specs.Answers.{Took, Done}
 use Rattle.xl_core.specs.declared.taken.Taken.TheVariants.{Vote}
 use Rattle.xl_core.specs.Node.{Node, Reply, hears, reporting, with_taken, take, arisen, arises_in, report_of, refusal_at, later}
-use Rattle.xl_core.specs.Rest.{IsAtRest, NothingArises, report_if}
+use Rattle.xl_core.specs.Node.{report_if}
+use Rattle.xl_core.specs.Rest.{IsAtRest, NothingArises}
 use Rattle.xl_core.specs.Replies.{vote_reply}
 use Rattle.xl_core.proofs.Members.{row_if_on, members_stay, nobody_changes, refused_stays, taken_changes}
 use Rattle.xl_core.proofs.Arising.{arisen_by, rest_after, nothing_arisen}

@@ -8,7 +8,8 @@ use Rattle.xl_validations.specs.declared.row.Row.{Row}
 use Rattle.xl_validations.specs.Rows.{row_of, with_validation, at_member, is_full_of, count_full}
 use Rattle.xl_core.specs.declared.report.Report.{Report}
 use Rattle.xl_core.specs.Node.{is_above, arises_in, report_of, later}
-use Rattle.xl_core.specs.Rest.{NothingArises, report_if}
+use Rattle.xl_core.specs.Node.{report_if}
+use Rattle.xl_core.specs.Rest.{NothingArises}
 use Rattle.xl_core.proofs.Counts.{count_of_others, names_it, found_if_taken, find_passes, find_none}
 
 abbrev currents : List Row → List Validation

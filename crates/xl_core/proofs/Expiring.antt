@@ -12,8 +12,9 @@ use Rattle.xl_validations.specs.Rows.{is_current, unexpired, row_at, is_full_of,
 use Rattle.xl_validations.proofs.Turning.{members_then}
 use Rattle.xl_core.specs.declared.report.Report.{Report}
 use Rattle.xl_core.specs.Node.{Node, at_moment}
+use Rattle.xl_core.proofs.Current.{current_then, none_expire}
 use Rattle.xl_core.proofs.Passing.{IsHead, is_past, still_names}
-use Rattle.xl_core.specs.Rest.{IsAtRest, IsReady}
+use Rattle.xl_core.specs.Rest.{IsAtRest, IsCurrent, IsReady}
 
 full_then : (seq : ℕ) (id : LedgerId) (s : ℕ) (o : Option Validation) (m n : ℕ) → m ≤ n → cond (is_full_of seq id (unexpired s o)) 1 0 + m ≤ cond (is_full_of seq id o) 1 0 + n
 full_then seq id s None m n le = omega (arith, le)
@@ -40,6 +41,24 @@ ready_then now n le ready = record {
   rest = rest_then now n ready.rest;
   keyed = record { own = ready.keyed.own; listed = ready.keyed.listed };
   time = omega (arith, le, ready.time);
+  current = current_then (max n.time now / 1000) n.rows;
+}
+
+-- within a second nothing expires
+pub same_second : (now : ℕ) (n : Node) (time before after : ℕ) → IsReady n → time ≡ max n.time now → before ≡ n.time / 1000 → after ≡ time / 1000 → after ≡ before → record n { time = time } ≡ at_moment now n
+same_second now n time before after ready time_is before_is after_is same =
+    let still : max n.time now / 1000 ≡ n.time / 1000 = sym (ap (λ (t : ℕ). t / 1000) time_is) ∙ sym after_is ∙ same ∙ before_is in
+    ap (λ (t : ℕ). let m : Node = record n { time = t } in m) time_is
+    ∙ ap (λ (rs : List Row). let m : Node = record n { time = max n.time now; rows = rs } in m)
+    (sym (ap (λ (s : ℕ). map (row_at s) n.rows) still ∙ none_expire (n.time / 1000) n.rows ready.current))
+
+-- the time as the code has it, within a second
+pub ready_within : (now : ℕ) (n : Node) (time : ℕ) → now ≤ GREATEST_MILLIS → time ≡ max n.time now → time / 1000 ≡ n.time / 1000 → IsReady n → IsReady (record n { time = time })
+ready_within now n time le time_is same ready = record {
+  rest = record { valid = ready.rest.valid; members = ready.rest.members; reported = ready.rest.reported };
+  keyed = record { own = ready.keyed.own; listed = ready.keyed.listed };
+  time = omega (arith, le, ready.time, time_is);
+  current = subst (λ (s : ℕ). All (IsCurrent s) n.rows) (sym same) ready.current;
 }
 
 -- the time and the rows as the code has them

@@ -24,4 +24,5 @@ still_ready n ledgers rows same ready =
       rest = record { valid = ready.rest.valid; members = ready.rest.members; reported = ready.rest.reported };
       keyed = record { own = ready.keyed.own; listed = ready.keyed.listed };
       time = ready.time;
+      current = ready.current;
     })

@@ -8,6 +8,7 @@ pub mod Arising
 pub mod Answered
 pub mod Opening
 pub mod Passing
+pub mod Current
 pub mod Expiring
 pub mod Living
 pub mod Reporting
@@ -15,3 +16,4 @@ pub mod Draining
 pub mod Handing
 pub mod Stepping
 pub mod Stopping
+pub mod Covering

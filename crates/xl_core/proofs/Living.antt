@@ -12,6 +12,7 @@ use Rattle.xl_validations.specs.declared.row.Row.{Row}
 use Rattle.xl_validations.specs.declared.refusal.ValRefusal.{ValRefusal}
 use Rattle.xl_validations.specs.Rows.{row_of, refusal_of, with_validation, at_member, empty_row}
 use Rattle.xl_core.specs.declared.report.Report.{Report}
+use Rattle.xl_core.specs.declared.settings.Settings.{Settings}
 use Rattle.xl_core.specs.Answers.{Done}
 use Rattle.xl_core.specs.Node.{Node, Event, Issue, Frame, Reply, Save, issues_unless, opened, happens, hears, issues, refusing, reporting, with_taken, take, arisen, arises_in, is_above, later, report_of, refusal_at, hearing, hearing_speech, learns, at_moment, second_of, own_validation}
 use Rattle.xl_core.specs.Node.Save.{Kept, Failed}
@@ -24,7 +25,8 @@ use Rattle.xl_core.specs.declared.hearing.Speech.{Speech}
 use Rattle.xl_core.specs.declared.hearing.Speech.TheVariants.{Vote, Header}
 use Rattle.xl_core.specs.declared.refusal.Refusal.{Refusal}
 use Rattle.xl_core.specs.Hearing.{heard}
-use Rattle.xl_core.specs.Rest.{IsAtRest, report_if}
+use Rattle.xl_core.specs.Node.{report_if}
+use Rattle.xl_core.specs.Rest.{IsAtRest}
 use Rattle.xl_core.specs.Lives.{Happening, node_after, reports_in}
 use Rattle.xl_core.proofs.Expiring.{rest_then, heads_at, last_past}
 use Rattle.xl_core.proofs.Members.{nobody_changes, refused_stays, taken_changes}
@@ -163,7 +165,7 @@ GoesOn list reports r = IsLiving list r.node (reports ++ option_to_list r.report
 issued_on : (list : TrustedList) (n : Node) (reports : List Report) (now : ℕ) (save : Save) (v : Validation) → IsLiving list n reports → GoesOn list reports (issues n now save v)
 issued_on list n reports now Kept v living = reported_on list (record n { kept = v.seq }) reports now n.me v (Some v) (any_kept list n reports v.seq living)
 issued_on list n reports now (Failed count) v living =
-    unreported list (record n { off = Some v.seq }) reports
+    unreported list (record n { failed_save = Some v.seq }) reports
     (record {
       listed = living.listed;
       rest = record { valid = living.rest.valid; members = living.rest.members; reported = living.rest.reported };
@@ -220,8 +222,8 @@ pub happens_on : (list : TrustedList) (n : Node) (reports : List Report) (e : Ev
 happens_on list n reports (Issue now seq id full) save living =
     let m : Node = at_moment now n in
     let moved : IsLiving list m reports = living_then now list n reports living in
-    cond_both (nat_lt m.kept seq) (issues_unless m m.off save (own_validation m seq id full)) (refusing m (NotAfter m.kept)) (GoesOn list reports)
-    (λ _. issued_unless list m reports m.off save (own_validation m seq id full) moved)
+    cond_both (nat_lt m.kept seq) (issues_unless m m.failed_save save (own_validation m seq id full)) (refusing m (NotAfter m.kept)) (GoesOn list reports)
+    (λ _. issued_unless list m reports m.failed_save save (own_validation m seq id full) moved)
     (λ _. unreported list m reports moved)
 happens_on list n reports (Frame now bytes) save living =
     hearing_on list (at_moment now n) reports (second_of (at_moment now n)) (heard n.keys n.list.members bytes) (living_then now list n reports living)
@@ -237,14 +239,14 @@ heads_opened : (members : List ℕ) → All IsHead (map empty_row members)
 heads_opened [] = All-nil IsHead
 heads_opened (m ∷ ms) = All-cons IsHead (empty_row m) (map empty_row ms) tt (heads_opened ms)
 
-pub living_from_opening : (me : ℕ) (list : TrustedList) (keys : Ring) (limit now kept : ℕ) (life : List Happening) → IsValid list →
-    IsLiving list (node_after (opened me list keys limit now kept) life) (reports_in (opened me list keys limit now kept) life)
-living_from_opening me list keys limit now kept life valid =
-    lives list (opened me list keys limit now kept) [] life
+pub living_from_opening : (settings : Settings) (now kept : ℕ) (life : List Happening) → IsValid settings.list →
+    IsLiving settings.list (node_after (opened settings now kept) life) (reports_in (opened settings now kept) life)
+living_from_opening settings now kept life valid =
+    lives settings.list (opened settings now kept) [] life
     (record {
       listed = refl;
-      rest = opened_at_rest me list keys limit now kept valid;
-      heads = heads_opened list.members;
+      rest = opened_at_rest settings now kept valid;
+      heads = heads_opened settings.list.members;
       past = tt;
       told = tt;
       below = All-nil (λ r. is_above None r.seq ≡ false);

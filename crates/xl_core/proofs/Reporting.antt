@@ -84,8 +84,8 @@ hearing_news n now (Err why) r is = no_news n (refusing n why) r refl is
 happens_news : (n : Node) (e : Event) (save : Save) (r : Report) → (happens n e save).report ≡ Some r → IsNews n (happens n e save) r
 happens_news n (Issue now seq id full) save r is =
     let m : Node = at_moment now n in
-    cond_both (nat_lt m.kept seq) (issues_unless m m.off save (own_validation m seq id full)) (refusing m (NotAfter m.kept)) (λ reply. reply.report ≡ Some r → IsNews n reply r)
-    (λ _ e. let news = unless_news m m.off save (own_validation m seq id full) r e in record { quorum = news.quorum; above = news.above })
+    cond_both (nat_lt m.kept seq) (issues_unless m m.failed_save save (own_validation m seq id full)) (refusing m (NotAfter m.kept)) (λ reply. reply.report ≡ Some r → IsNews n reply r)
+    (λ _ e. let news = unless_news m m.failed_save save (own_validation m seq id full) r e in record { quorum = news.quorum; above = news.above })
     (λ _ e. no_news n (refusing m (NotAfter m.kept)) r refl e)
     is
 happens_news n (Frame now bytes) save r is = let news = hearing_news (at_moment now n) (second_of (at_moment now n)) (heard n.keys n.list.members bytes) r is in record { quorum = news.quorum; above = news.above }
@@ -122,10 +122,11 @@ in_one (Some x) r (k, within, is) =
 -- THE LAW
 
 pub reports_arise : ReportsArise
-reports_arise me list keys limit now kept life next r valid =
-    let n : Node = node_after (opened me list keys limit now kept) life in
-    let told : List Report = reports_in (opened me list keys limit now kept) life in
-    let living : IsLiving list n told = living_from_opening me list keys limit now kept life valid in (
+reports_arise settings now kept life next r valid =
+    let list = settings.list in
+    let n : Node = node_after (opened settings now kept) life in
+    let told : List Report = reports_in (opened settings now kept) life in
+    let living : IsLiving list n told = living_from_opening settings now kept life valid in (
       λ is.
           let news = happens_news n next.event next.save r is in (
             subst (λ (l : TrustedList). l.quorum ≤ count_full r.seq r.id (happens n next.event next.save).node.rows) living.listed news.quorum,
@@ -160,4 +161,4 @@ reports_arise me list keys limit now kept life next r valid =
     arises_now list reply told after r enough fresh = by_last list reply told after r enough fresh reply.node.last refl
 
 pub reports_rise : ReportsRise
-reports_rise me list keys limit now kept life valid = (living_from_opening me list keys limit now kept life valid).rising
+reports_rise settings now kept life valid = (living_from_opening settings now kept life valid).rising

@@ -23,7 +23,7 @@ use Rattle.xl_core.specs.Core.{Core, stepped}
 use Rattle.xl_core.specs.Replies.{Answers, hear_reply, issue_reply}
 use Rattle.xl_core.specs.declared.item.Item.{Item}
 use Rattle.xl_core.specs.declared.item.Item.TheVariants.{Vote as VoteItem}
-use Rattle.xl_core.specs.declared.report.Issued.{Issued}
+use Rattle.xl_core.specs.declared.report.OwnValidation.{OwnValidation}
 use Rattle.xl_core.specs.declared.taken.Heard.{Heard}
 use Rattle.xl_queues.specs.Broadcasts.{pushed_to_all}
 
@@ -67,8 +67,8 @@ stays_itself n (Frame now bytes) save =
 stays_itself n (Issue now seq id full) save =
     let m : Node = at_moment now n in
     same_later n (happens n (Issue now seq id full) save).node now
-    (cond_both (nat_lt m.kept seq) (issues_unless m m.off save (own_validation m seq id full)) (refusing m (NotAfter m.kept)) (λ r. IsSame m r.node)
-    (λ _. unless_same m m.off save (own_validation m seq id full)) (λ _. record { me = refl; keys = refl }))
+    (cond_both (nat_lt m.kept seq) (issues_unless m m.failed_save save (own_validation m seq id full)) (refusing m (NotAfter m.kept)) (λ r. IsSame m r.node)
+    (λ _. unless_same m m.failed_save save (own_validation m seq id full)) (λ _. record { me = refl; keys = refl }))
 
 -- THE CORE'S STEP
 
@@ -84,7 +84,7 @@ refused_step core n why reply is =
     subst (λ (r : Reply). Answers (stepped core r) (record core { node = n }) (Refused why)) is (record { core = refl; answer = refl })
 
 -- what was issued
-pub issued_step : (core : Core) (n : Node) (done : Issued) (waiting : List (Backlog Item)) (untaken : Backlog Report) (reply : Reply) → issue_reply (Ok done) n ≡ reply →
+pub issued_step : (core : Core) (n : Node) (done : OwnValidation) (waiting : List (Backlog Item)) (untaken : Backlog Report) (reply : Reply) → issue_reply (Ok done) n ≡ reply →
     waiting ≡ pushed_to_all 64 core.waiting (VoteItem done.validation) → untaken ≡ with_report core.untaken done.report → Answers (stepped core reply) (record core { node = n; waiting = waiting; untaken = untaken }) Done
 issued_step core n done waiting untaken reply is waits pushed =
     subst (λ (r : Reply). Answers (stepped core r) (record core { node = n; waiting = waiting; untaken = untaken }) Done) is

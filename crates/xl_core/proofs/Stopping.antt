@@ -5,8 +5,7 @@ use Rattle.xl_base.specs.declared.ids.LedgerId.{LedgerId}
 use Rattle.std.specs.Option.{option_and_then, is_none}
 use Rattle.std.proofs.lemmas.Bool.{cond_both, cond-true, cond-false, eqb-true, false_from_ne_true, ltb-true}
 use Rattle.std.proofs.lemmas.List.Elements.{All-append, All-cons, All-nil, All-head, All-tail, All-weaker, All-map, All-drop, All-set}
-use Rattle.xl_lists.specs.Lists.{TrustedList}
-use Rattle.xl_tags.specs.Rings.{Ring}
+use Rattle.xl_core.specs.declared.settings.Settings.{Settings}
 use Rattle.xl_io.specs.Keepers.{Held, MayHold, after_save}
 use Rattle.xl_queues.specs.Queues.{Backlog, no_items, with_item}
 use Rattle.xl_wire.specs.declared.validation.Validation.{Validation}
@@ -22,10 +21,11 @@ use Rattle.xl_core.specs.declared.hearing.Speech.TheVariants as speech
 use Rattle.xl_core.specs.declared.refusal.Refusal.{Refusal}
 use Rattle.xl_core.specs.declared.refusal.Refusal.TheVariants.{NotAfter}
 use Rattle.xl_core.specs.Hearing.{heard}
-use Rattle.xl_core.specs.Node.{Node, Reply, Save, hears, learns, hearing, hearing_speech, issues, issues_unless, refusing, refusal_at, at_moment, second_of, own_validation, take, unless_off, is_kept, opened}
+use Rattle.xl_core.specs.Answers.{given_in}
+use Rattle.xl_core.specs.Node.{Node, Reply, Save, hears, learns, hearing, hearing_speech, issues, issues_unless, refusing, refusal_at, at_moment, second_of, own_validation, take, unless_failed, is_kept, opened}
 use Rattle.xl_core.specs.Node.Save.{Kept, Failed}
 use Rattle.xl_core.specs.Items.{taken_for}
-use Rattle.xl_core.specs.Queues.{with_items, at_number, after_taking}
+use Rattle.xl_core.specs.Queues.{with_items, at_number, after_taking, waiting_at}
 use Rattle.xl_core.specs.Core.{Core, stepped, with_queues, core_happens, core_asks}
 use Rattle.xl_core.specs.declared.event.CoreEvent.TheVariants.{Issue, Frame, Drain}
 use Rattle.xl_core.specs.declared.item.Item.{Item}
@@ -43,7 +43,7 @@ abbrev AtMost : ℕ → Option Validation → Type 0
 AtMost kept o = IfSome o (λ v. v.seq ≤ kept)
 
 -- each item that waits is covered
-abbrev AllCovered : ℕ → List (Backlog Item) → Type 0
+abbrev pub AllCovered : ℕ → List (Backlog Item) → Type 0
 AllCovered kept waiting = All (λ q. All (IsItemCovered kept) q.items) waiting
 
 differs : (m n : ℕ) → m ≢ n → (m == n) ≡ false
@@ -130,6 +130,26 @@ hearing_aside : (n : Node) (now : ℕ) (r : Result Spoken Refusal) → ((said : 
 hearing_aside n now (Ok said) others = speech_aside n now said.from said.what (others said refl)
 hearing_aside n now (Err why) others = aside n why
 
+-- hearing leaves the kept number, and gives no frame
+vote_keeps : (n : Node) (now from : ℕ) (v : Validation) (o : Option ValRefusal) → ((hears n now from v o).node.kept ≡ n.kept) × (given_in (hears n now from v o).answer ≡ [])
+vote_keeps n now from v None = (refl, refl)
+vote_keeps n now from v (Some why) = (refl, refl)
+
+header_keeps : (n : Node) (h : Header) (o : Option AddRefusal) → ((learns n h o).node.kept ≡ n.kept) × (given_in (learns n h o).answer ≡ [])
+header_keeps n h None = (refl, refl)
+header_keeps n h (Some why) = (refl, refl)
+
+speech_keeps : (n : Node) (now from : ℕ) (what : Speech) → ((hearing_speech n now from what).node.kept ≡ n.kept) × (given_in (hearing_speech n now from what).answer ≡ [])
+speech_keeps n now from (speech.Vote v) = vote_keeps n now from v (refusal_at n now from v)
+speech_keeps n now from (speech.Header h) = header_keeps n h (add_refusal n.ledgers h)
+
+hearing_keeps : (n : Node) (now : ℕ) (r : Result Spoken Refusal) → ((hearing n now r).node.kept ≡ n.kept) × (given_in (hearing n now r).answer ≡ [])
+hearing_keeps n now (Ok said) = speech_keeps n now said.from said.what
+hearing_keeps n now (Err why) = (refl, refl)
+
+pub heard_keeps : (n : Node) (now : ℕ) (bytes : List ℕ) → let reply = hearing (at_moment now n) (second_of (at_moment now n)) (heard n.keys n.list.members bytes) in (reply.node.kept ≡ n.kept) × (given_in reply.answer ≡ [])
+heard_keeps n now bytes = hearing_keeps (at_moment now n) (second_of (at_moment now n)) (heard n.keys n.list.members bytes)
+
 -- a step that issues nothing
 step_covered : (held : Held) (core : Core) (reply : Reply) → reply.node.kept ≡ core.node.kept → AtMost core.node.kept (own_current reply.node) → reply.items ≡ [] → IsCovered held core → IsCovered held (stepped core reply).core
 step_covered held core reply same own none was = record {
@@ -202,15 +222,15 @@ saves_covered held core (Failed count) v above was = record {
     same n e = cc
 
 unless_covered : (held : Held) (core : Core) (off : Option ℕ) (save : Save) (v : Validation) → core.node.kept < v.seq → IsCovered held core →
-    IsCovered (after_save held (unless_off off v.seq) (is_kept save)) (stepped core (issues_unless core.node off save v)).core
+    IsCovered (after_save held (unless_failed off v.seq) (is_kept save)) (stepped core (issues_unless core.node off save v)).core
 unless_covered held core None save v above was = saves_covered held core save v above was
 unless_covered held core (Some failed) save v above was = record { saved = was.saved; own = was.own; waiting = was.waiting }
 
 issuing_covered : (held : Held) (core : Core) (seq : ℕ) (save : Save) (v : Validation) (b : Bool) → nat_lt core.node.kept seq ≡ b → v.seq ≡ seq → IsCovered held core →
-    IsCovered (after_save held (cond b (unless_off core.node.off seq) None) (is_kept save)) (stepped core (cond b (issues_unless core.node core.node.off save v) (refusing core.node (NotAfter core.node.kept)))).core
+    IsCovered (after_save held (cond b (unless_failed core.node.failed_save seq) None) (is_kept save)) (stepped core (cond b (issues_unless core.node core.node.failed_save save v) (refusing core.node (NotAfter core.node.kept)))).core
 issuing_covered held core seq save v true above same was =
-    subst (λ (s : ℕ). IsCovered (after_save held (unless_off core.node.off s) (is_kept save)) (stepped core (issues_unless core.node core.node.off save v)).core) same
-    (unless_covered held core core.node.off save v (omega (arith, ltb-true core.node.kept seq above, same)) was)
+    subst (λ (s : ℕ). IsCovered (after_save held (unless_failed core.node.failed_save s) (is_kept save)) (stepped core (issues_unless core.node core.node.failed_save save v)).core) same
+    (unless_covered held core core.node.failed_save save v (omega (arith, ltb-true core.node.kept seq above, same)) was)
 issuing_covered held core seq save v false above same was = record { saved = was.saved; own = was.own; waiting = was.waiting }
 
 pub issue_covered : (held : Held) (core : Core) (now seq : ℕ) (id : LedgerId) (full : Bool) (save : Save) → IsCovered held core →
@@ -233,16 +253,21 @@ issue_covers before after old new core now seq id full save is was_told is_told 
 
 -- DRAINING
 
-drained_most : (kept number : ℕ) (waiting : List (Backlog Item)) (taken : List (Option (List ℕ))) → AllCovered kept waiting → AllCovered kept (at_number waiting number (after_taking taken))
-drained_most kept zero waiting taken was = was
-drained_most kept (suc place) waiting taken was =
-    All-set (λ q. All (IsItemCovered kept) q.items) waiting place (after_taking taken (queue_of waiting place))
-    (All-drop (IsItemCovered kept) (length taken) (queue_of waiting place).items (at_place waiting place was)) was
+-- what waits for one number
+pub waiting_covered : (kept : ℕ) (waiting : List (Backlog Item)) (number : ℕ) → AllCovered kept waiting → All (IsItemCovered kept) (waiting_at waiting number).items
+waiting_covered kept waiting zero was = All-nil (IsItemCovered kept)
+waiting_covered kept waiting (suc place) was = at_place waiting place was
   where
     at_place : (qs : List (Backlog Item)) (k : ℕ) → AllCovered kept qs → All (IsItemCovered kept) (queue_of qs k).items
     at_place [] k each = All-nil (IsItemCovered kept)
     at_place (q ∷ qs) zero each = All-head (λ x. All (IsItemCovered kept) x.items) q qs each
     at_place (q ∷ qs) (suc k) each = at_place qs k (All-tail (λ x. All (IsItemCovered kept) x.items) q qs each)
+
+drained_most : (kept number : ℕ) (waiting : List (Backlog Item)) (taken : List (Option (List ℕ))) → AllCovered kept waiting → AllCovered kept (at_number waiting number (after_taking taken))
+drained_most kept zero waiting taken was = was
+drained_most kept (suc place) waiting taken was =
+    All-set (λ q. All (IsItemCovered kept) q.items) waiting place (after_taking taken (queue_of waiting place))
+    (All-drop (IsItemCovered kept) (length taken) (queue_of waiting place).items (waiting_covered kept waiting (suc place) was)) was
 
 pub drain_covered : (held : Held) (core : Core) (member room : ℕ) → IsCovered held core → IsCovered held (core_happens core (Drain member room) Kept).core
 drain_covered held core member room was = record { saved = was.saved; own = was.own; waiting = drained_most core.node.kept member core.waiting (taken_for core.node core.waiting member room) was.waiting }
@@ -255,10 +280,10 @@ empty_most kept me (m ∷ ms) =
     cond_both (m == me) (Some (empty_row m)) (row_of (map empty_row ms) me) (λ o. AtMost kept (option_and_then (λ row. row.current) o)) (λ _. tt) (λ _. empty_most kept me ms)
 
 -- nothing is said yet
-pub opened_covered : (held : Held) (me : ℕ) (list : TrustedList) (keys : Ring) (limit now kept : ℕ) → ((n : ℕ) → MayHold held n → kept ≤ n) → IsCovered held (with_queues (opened me list keys limit now kept))
-opened_covered held me list keys limit now kept holds = record {
+pub opened_covered : (held : Held) (settings : Settings) (now kept : ℕ) → ((n : ℕ) → MayHold held n → kept ≤ n) → IsCovered held (with_queues (opened settings now kept))
+opened_covered held settings now kept holds = record {
   saved = holds;
-  own = empty_most kept me list.members;
+  own = empty_most kept settings.me settings.list.members;
   waiting = nothing_waits 64;
 }
   where

@@ -12,3 +12,4 @@ pub mod Keeping
 pub mod Stops
 pub mod Rest
 pub mod Lives
+pub mod CoreLives

@@ -2,10 +2,10 @@
 use Rattle.std.specs.Prelude.{◌≡◌, ℕ, ◌≤◌, ◌↔◌, List, [], ◌∷◌, ◌++◌, map, option_to_list, Contains}
 use Rattle.std.specs.Prelude.{Some}
 use Rattle.std.specs.List.Sorted.{IsStrictlyIncreasing}
-use Rattle.xl_lists.specs.Lists.{TrustedList, IsValid}
-use Rattle.xl_tags.specs.Rings.{Ring}
+use Rattle.xl_lists.specs.Lists.{IsValid}
 use Rattle.xl_validations.specs.Rows.{count_full}
 use Rattle.xl_core.specs.declared.report.Report.{Report}
+use Rattle.xl_core.specs.declared.settings.Settings.{Settings}
 use Rattle.xl_core.specs.Node.{Node, Event, Save, opened, happens}
 
 -- an event, and how its save was answered
@@ -27,13 +27,13 @@ reports_in n (h ∷ hs) = option_to_list (happens n h.event h.save).report ++ re
 -- reported since the node opened.
 abbrev pub ReportsArise : Type 0
 ReportsArise =
-    (me : ℕ) (list : TrustedList) (keys : Ring) (limit now kept : ℕ) (life : List Happening) (next : Happening) (r : Report) → IsValid list →
-    let n = node_after (opened me list keys limit now kept) life in
+    (settings : Settings) (now kept : ℕ) (life : List Happening) (next : Happening) (r : Report) → IsValid settings.list →
+    let n = node_after (opened settings now kept) life in
     let reply = happens n next.event next.save in
-    (reply.report ≡ Some r) ↔ ((list.quorum ≤ count_full r.seq r.id reply.node.rows) × ¬ Contains (reports_in (opened me list keys limit now kept) life) r)
+    (reply.report ≡ Some r) ↔ ((settings.list.quorum ≤ count_full r.seq r.id reply.node.rows) × ¬ Contains (reports_in (opened settings now kept) life) r)
 
 -- The sequences of the reports of a life rise.
 abbrev pub ReportsRise : Type 0
 ReportsRise =
-    (me : ℕ) (list : TrustedList) (keys : Ring) (limit now kept : ℕ) (life : List Happening) → IsValid list →
-    IsStrictlyIncreasing (map (λ r. r.seq) (reports_in (opened me list keys limit now kept) life))
+    (settings : Settings) (now kept : ℕ) (life : List Happening) → IsValid settings.list →
+    IsStrictlyIncreasing (map (λ r. r.seq) (reports_in (opened settings now kept) life))

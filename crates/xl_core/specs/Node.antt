@@ -18,6 +18,7 @@ use Rattle.xl_ledger.specs.Chains.{seq_at, id_at}
 use Rattle.xl_ledger.specs.Registries.{Ledgers, only_root, with_header, add_refusal}
 use Rattle.xl_ledger.specs.Votes.{preferred_of}
 use Rattle.xl_core.specs.declared.report.Report.{Report}
+use Rattle.xl_core.specs.declared.settings.Settings.{Settings}
 use Rattle.xl_core.specs.declared.refusal.Refusal.{Refusal}
 use Rattle.xl_core.specs.declared.refusal.Refusal.TheVariants.{NotAfter, IssuingOff, KeepFault, Header as HeaderRefused}
 use Rattle.xl_core.specs.declared.hearing.Spoken.{Spoken}
@@ -36,6 +37,8 @@ pub record Node : Type 0 where
   pub list : TrustedList
   -- the keys that it shares with others
   pub keys : Ring
+  -- whether it is a validator
+  pub validating : Bool
   -- the greatest moment since it opened, in milliseconds; at least 1,000
   pub time : ℕ
   pub ledgers : Ledgers
@@ -43,7 +46,7 @@ pub record Node : Type 0 where
   -- the last sequence that was saved
   pub kept : ℕ
   -- the sequence whose save failed since the node opened: it issues nothing then
-  pub off : Option ℕ
+  pub failed_save : Option ℕ
   -- the last report since the node opened
   pub last : Option Report
 
@@ -62,9 +65,24 @@ pub record Reply : Type 0 where
   pub issued : Option Validation
   pub report : Option Report
 
--- a node opened with room for so many ledgers, at a moment, and with the number that its keeper holds
-abbrev pub opened : ℕ → TrustedList → Ring → ℕ → ℕ → ℕ → Node
-opened me list keys limit now kept = record { me = me; list = list; keys = keys; time = max 1000 now; ledgers = only_root limit; rows = map empty_row list.members; kept = kept; off = None; last = None }
+-- a node opened with its settings, at a moment, and with the number that its keeper holds
+abbrev pub opened : Settings → ℕ → ℕ → Node
+opened s now kept = record {
+  me = s.me;
+  list = s.list;
+  keys = s.keys;
+  validating = s.validating;
+  time = max 1000 now;
+  ledgers = only_root s.limit;
+  rows = map empty_row s.list.members;
+  kept = kept;
+  failed_save = None;
+  last = None;
+}
+
+-- the settings that it was opened with
+abbrev pub settings_of : Node → Settings
+settings_of n = record { me = n.me; list = n.list; keys = n.keys; limit = n.ledgers.limit; validating = n.validating }
 
 -- the second of its time
 abbrev pub second_of : Node → ℕ
@@ -88,6 +106,10 @@ arises n v = arises_in n.list.quorum n.rows n.last v
 
 abbrev pub report_of : Validation → Report
 report_of v = record { seq = v.seq; id = v.id }
+
+-- what a validation gives to report
+abbrev pub report_if : Bool → Validation → Option Report
+report_if arises v = if arises then Some (report_of v) else None
 
 -- what the rows give to report
 abbrev pub arisen : Node → Option Report
@@ -131,19 +153,19 @@ is_kept Kept = true
 is_kept (Failed count) = false
 
 -- nothing is asked after a save that failed
-abbrev pub unless_off : Option ℕ → ℕ → Option ℕ
-unless_off None seq = Some seq
-unless_off (Some failed) seq = None
+abbrev pub unless_failed : Option ℕ → ℕ → Option ℕ
+unless_failed None seq = Some seq
+unless_failed (Some failed) seq = None
 
 -- the save that an event asks
 abbrev pub asks : Node → Event → Option ℕ
-asks n (Issue now seq id full) = if nat_lt n.kept seq then unless_off n.off seq else None
+asks n (Issue now seq id full) = if nat_lt n.kept seq then unless_failed n.failed_save seq else None
 asks n (Frame now bytes) = None
 
 -- after a save that failed the node issues nothing more
 abbrev pub issues : Node → ℕ → Save → Validation → Reply
 issues n now Kept v = reporting (saving n now v) Done (Some v)
-issues n now (Failed count) v = refusing (record n { off = Some v.seq }) (KeepFault count)
+issues n now (Failed count) v = refusing (record n { failed_save = Some v.seq }) (KeepFault count)
 
 abbrev pub issues_unless : Node → Option ℕ → Save → Validation → Reply
 issues_unless n None save v = issues n (second_of n) save v
@@ -172,11 +194,24 @@ abbrev pub hearing : Node → ℕ → Result Spoken Refusal → Reply
 hearing n now (Ok said) = hearing_speech n now said.from said.what
 hearing n now (Err why) = refusing n why
 
+-- why it refuses what a member says: the member's row does, or the ledgers do
+abbrev pub speech_refusal : Node → ℕ → Speech → Option Refusal
+speech_refusal n from (Vote v) = option_map refusal_from (refusal_at n (second_of n) from v)
+speech_refusal n from (Ledger h) = option_map HeaderRefused (add_refusal n.ledgers h)
+
+abbrev pub heard_refusal : Node → Result Spoken Refusal → Option Refusal
+heard_refusal n (Ok said) = speech_refusal n said.from said.what
+heard_refusal n (Err why) = Some why
+
+-- why it refuses bytes, if it does
+abbrev pub frame_refusal : Node → List ℕ → Option Refusal
+frame_refusal n bytes = heard_refusal n (heard n.keys n.list.members bytes)
+
 abbrev pub own_validation : Node → ℕ → LedgerId → Bool → Validation
 own_validation n seq id full = record { id = id; seq = seq; signed = second_of n; full = full }
 
 abbrev pub issuing : Node → ℕ → LedgerId → Bool → Save → Reply
-issuing n seq id full save = if nat_lt n.kept seq then issues_unless n n.off save (own_validation n seq id full) else refusing n (NotAfter n.kept)
+issuing n seq id full save = if nat_lt n.kept seq then issues_unless n n.failed_save save (own_validation n seq id full) else refusing n (NotAfter n.kept)
 
 -- what came of an event, whose save was answered so: first the time is set, and rows expire
 abbrev pub happens : Node → Event → Save → Reply

@@ -2,7 +2,7 @@
 use Rattle.std.specs.Prelude.{◌≡◌, ℕ, List, [], ◌++◌, length, drop, Result, Ok, Err, Some, None}
 use Rattle.std.specs.declared.option.Option.{Option}
 use Rattle.xl_core.specs.declared.report.Report.{Report}
-use Rattle.xl_core.specs.declared.report.Issued.{Issued}
+use Rattle.xl_core.specs.declared.report.OwnValidation.{OwnValidation}
 use Rattle.xl_core.specs.declared.refusal.Refusal.{Refusal}
 use Rattle.xl_core.specs.declared.refusal.Refusal.TheVariants as node
 use Rattle.xl_core.specs.declared.taken.Taken.{Taken}
@@ -15,7 +15,7 @@ use Rattle.xl_core.specs.Node.{Node, Reply, Save, refusing, items_of}
 use Rattle.xl_core.specs.Node.Save.{Kept, Failed}
 
 -- what a call that issues answers, with the node that it leaves
-abbrev pub issue_reply : Result Issued Refusal → Node → Reply
+abbrev pub issue_reply : Result OwnValidation Refusal → Node → Reply
 issue_reply (Ok done) n = record { node = n; answer = Done; items = items_of (Some done.validation); issued = Some done.validation; report = done.report }
 issue_reply (Err why) n = refusing n why
 

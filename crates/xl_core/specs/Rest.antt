@@ -1,17 +1,16 @@
 -- What a node keeps between its events. Source: what the code of this crate relies on.
-use Rattle.std.specs.Prelude.{◌≡◌, ℕ, ◌≤◌, Bool, false, List, map, if◌then◌else◌}
+use Rattle.std.specs.Prelude.{◌≡◌, ℕ, ◌≤◌, true, false, List, map, All, IfSome}
 use Rattle.xl_tags.specs.Opening.{HasKeys}
 use Rattle.xl_tags.specs.Rings.{Ring}
-use Rattle.std.specs.Prelude.{Some, None}
 use Rattle.std.specs.declared.option.Option.{Option}
 use Rattle.xl_base.specs.declared.ids.LedgerId.{LedgerId}
 use Rattle.xl_base.specs.declared.moments.TheConstants.{GREATEST_MILLIS}
 use Rattle.xl_lists.specs.Lists.{IsValid}
-use Rattle.xl_wire.specs.declared.validation.Validation.{Validation}
 use Rattle.xl_validations.specs.declared.row.Row.{Row}
-use Rattle.xl_validations.specs.Rows.{count_full}
+use Rattle.xl_validations.specs.Rows.{count_full, is_current}
 use Rattle.xl_core.specs.declared.report.Report.{Report}
-use Rattle.xl_core.specs.Node.{Node, is_above, report_of}
+use Rattle.xl_core.specs.declared.node.Node.TheInside.{Inside}
+use Rattle.xl_core.specs.Node.{Node, is_above, second_of}
 
 -- what a quorum of rows holds isn't above the last report
 abbrev pub NothingArises : ℕ → List Row → Option Report → Type 0
@@ -29,12 +28,29 @@ pub record IsKeyed (me : ℕ) (members : List ℕ) (keys : Ring) : Type 0 where
   pub own : keys.me ≡ me
   pub listed : HasKeys keys members
 
+-- the validation that a row holds is current at a second
+abbrev pub IsCurrent : ℕ → Row → Type 0
+IsCurrent second row = IfSome row.current (λ v. is_current second v ≡ true)
+
 -- what the type keeps
 pub record IsReady (n : Node) : Type 0 where
   pub rest : IsAtRest n
   pub keyed : IsKeyed n.me n.list.members n.keys
   pub time : n.time ≤ GREATEST_MILLIS
+  -- no validation would expire in the second of its time
+  pub current : All (IsCurrent (second_of n)) n.rows
 
--- what a validation gives to report
-abbrev pub report_if : Bool → Validation → Option Report
-report_if arises v = if arises then Some (report_of v) else None
+-- a node of the code, as the definitions see it
+abbrev pub node_seen : {B : Type 0} → Inside B → Node
+node_seen n = record {
+  me = n.me;
+  list = n.list;
+  keys = n.keys.value;
+  validating = n.validating;
+  time = n.time;
+  ledgers = n.registry;
+  rows = n.table.rows;
+  kept = n.kept;
+  failed_save = n.failed_save;
+  last = n.last;
+}

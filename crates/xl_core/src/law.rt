@@ -1,4 +1,5 @@
 ghost use Rattle.xl_core.specs.Lives.{ReportsArise, ReportsRise};
+ghost use Rattle.xl_core.specs.CoreLives.{SaidIsSaved};
 
 /// The law of a node's reports, which has no code: it speaks of every life of a node, which is what happened since it opened.
 pub fn reports()
@@ -6,4 +7,10 @@ pub fn reports()
     ensures arise { ReportsArise }
     // So no ledger is reported twice, nor two of one sequence.
     ensures rise { ReportsRise }
+{}
+
+/// The law of what a core ever said, which has no code: over every life of a core and its keeper, whatever was drained in it and
+/// when.
+pub fn said_is_saved()
+    ensures { SaidIsSaved }
 {}

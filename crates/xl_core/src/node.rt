@@ -1,4 +1,4 @@
-ghost use Rattle.std.specs.Prelude.{◌≡◌, ◌≢◌, ◌↔◌, ◌<◌, ◌≤◌, IfOk, IsOk, OnOk, OnErr, IsTrue, true, Some, Ok, Err, ℕ, option_map, None, [], length};
+ghost use Rattle.std.specs.Prelude.{◌≡◌, ◌≢◌, ◌↔◌, ◌<◌, ◌≤◌, IfOk, OnOk, OnErr, IsTrue, Some, Ok, Err, ℕ, option_map, None, [], length};
 ghost use Rattle.std.specs.Result.{result_err};
 ghost use Rattle.xl_base.specs.declared.moments.TheConstants.{GREATEST_MILLIS};
 ghost use Rattle.xl_lists.specs.Lists.{is_on};
@@ -19,6 +19,9 @@ ghost use Rattle.xl_core.specs.Node.{
   is_above,
   learns,
   preferred,
+  report_if,
+  settings_of,
+  frame_refusal,
   asks,
   is_kept,
   issues,
@@ -33,7 +36,7 @@ ghost use Rattle.xl_core.specs.Hearing.{heard};
 ghost use Rattle.xl_core.specs.Items.{frame_of};
 ghost use Rattle.xl_core.specs.Sending.{sealed_bytes, has_spelling};
 ghost use Rattle.xl_core.specs.Refusals.{refusal_from};
-ghost use Rattle.xl_core.specs.Rest.{IsKeyed, report_if};
+ghost use Rattle.xl_core.specs.Rest.{IsKeyed};
 ghost use Rattle.xl_core.specs.Answers.{Done};
 ghost use Rattle.xl_core.specs.Replies.{issue_reply, hear_reply, vote_reply, save_in};
 ghost use Rattle.xl_core.specs.declared.hearing.Spoken.{Spoken};
@@ -47,14 +50,13 @@ use crate::item::vote_in;
 use crate::putting::{Put, put_frame};
 use crate::sending::{VALIDATION_FRAME, sealed};
 use crate::taken::Heard;
-use crate::{Issued, Item, Refusal, Report, Speech, Taken};
+use crate::{Item, OwnValidation, Refusal, Report, Settings, Speech, Taken};
 use std::alloc::Global;
 use std::marker::Model;
-use xl_base::{LedgerId, Millis, NodeNo, OutOfMemory, Secs, Seq, secs_of};
+use xl_base::{LedgerId, Millis, NodeNo, OutOfMemory, Seq, secs_of};
 use xl_io::Keeper;
 use xl_ledger::{Branch, Header, Registry};
 use xl_lists::List;
-use xl_recount::Plain;
 use xl_tags::Keys;
 use xl_validations::Table;
 use xl_wire::Validation;
@@ -62,46 +64,38 @@ use xl_wire::Validation;
 /// A node's time is never before its first second.
 const LEAST_TIME: Millis = 1_000;
 
-/// A node. No call after `open` takes memory.
+/// A node, over whichever branch of votes. No call after `open` takes memory.
 #[derive(Drop)]
-pub struct Node {
+pub struct Node<B: Branch> {
     me: NodeNo,
     list: List,
-    keys: Keys,
+    /// Behind a pointer, since they are large.
+    keys: Box<Keys>,
+    validating: bool,
     /// The greatest moment since it opened.
     time: Millis,
     registry: Registry,
-    table: Table<Plain>,
+    table: Table<B>,
     /// The last sequence that was saved.
     kept: Seq,
     /// The sequence whose save failed since the node opened.
-    off: Option<Seq>,
+    failed_save: Option<Seq>,
     /// The last report since the node opened.
     last: Option<Report>,
 }
 
-impl Model for Node {
+impl<B: Branch> Model for Node<B> {
     ghost use Rattle.xl_validations.specs.Tallies.{IsTally};
     ghost use Rattle.xl_core.specs.Node.{Node};
-    ghost use Rattle.xl_core.specs.Rest.{IsReady};
+    ghost use Rattle.xl_core.specs.Rest.{IsReady, node_seen};
 
     ghost Value = { Node };
 
-    ghost view = { λ a. record {
-      me = a.me;
-      list = a.list;
-      keys = a.keys;
-      time = a.time;
-      ledgers = a.registry;
-      rows = a.table.rows;
-      kept = a.kept;
-      off = a.off;
-      last = a.last;
-    } };
+    ghost view = { node_seen };
 
     ghost invariant = { λ a.
-        IsReady (record { me = a.me; list = a.list; keys = a.keys; time = a.time; ledgers = a.registry; rows = a.table.rows; kept = a.kept; off = a.off; last = a.last })
-        × IsTally (⟦<Plain as Branch>⟧.goes_with a.table.branch) a.registry.headers a.table.rows (⟦<Plain as Branch>⟧.votes a.table.branch) (⟦<Plain as Branch>⟧.room a.table.branch) };
+        IsReady (node_seen a)
+        × IsTally (B.goes_with a.table.branch) a.registry.headers a.table.rows (B.votes a.table.branch) (B.room a.table.branch) };
 }
 
 /// Whether a sequence is above that of the last report.
@@ -115,8 +109,8 @@ fn is_above_last(last: &Option<Report>, seq: Seq) -> bool
 }
 
 /// What a validation just taken gives to report: it alone can have reached a quorum now.
-fn report_by(
-    table: &Table<Plain>,
+fn report_by<B: Branch>(
+    table: &Table<B>,
     quorum: u32,
     last: &Option<Report>,
     v: &Validation,
@@ -133,46 +127,74 @@ fn report_by(
     }
 }
 
-impl Node {
-    /// A node with a list, its keys, among them one for each other listed member, room for so many ledgers, the root among
-    /// them, and the number that its keeper holds: it knows the root alone, and nothing is taken or reported yet.
+impl<B: Branch + Drop> Node<B> {
+    /// A node with its settings, among whose keys is one for each other listed member, and the number that its keeper holds: it
+    /// knows the root alone, and nothing is taken or reported yet.
     pub fn open(
         alloc: Global,
-        me: NodeNo,
-        list: List,
-        keys: Keys,
-        limit: u32,
+        settings: Settings,
         now: Millis,
         kept: Seq,
-    ) -> Result<Node, OutOfMemory>
-        requires keyed { IsKeyed me list.members keys }
-        requires least { LEAST_LIMIT ≤ limit }
-        requires most { limit ≤ GREATEST_LIMIT }
+    ) -> Result<Node<B>, OutOfMemory>
+        requires keyed { IsKeyed settings.me settings.list.members settings.keys }
+        requires least { LEAST_LIMIT ≤ settings.limit }
+        requires most { settings.limit ≤ GREATEST_LIMIT }
         requires moment { now ≤ GREATEST_MILLIS }
-        ensures { IfOk result (λ core. core ≡ opened me list keys limit now kept) }
+        ensures { IfOk result (λ node. node ≡ opened settings now kept) }
     {
+        let Settings {
+            me,
+            list,
+            keys,
+            limit,
+            validating,
+        } = settings;
         let registry = Registry::open(alloc, limit)?;
         let table = Table::open(alloc, &list, me)?;
+        let keys = Box::new(alloc, keys)?;
         Ok(Node {
             me,
             list,
             keys,
+            validating,
             time: now.max(LEAST_TIME),
             registry,
             table,
             kept,
-            off: None,
+            failed_save: None,
             last: None,
         })
     }
 
-    /// Sets the time, which never goes back, and removes the validations that are no longer current.
+    /// Opens the node anew in its place, with the number that its keeper holds. An `Err` changes nothing.
+    pub fn reopen(&mut self, alloc: Global, now: Millis, kept: Seq) -> Result<(), OutOfMemory>
+        requires moment { now ≤ GREATEST_MILLIS }
+        ensures opened { OnOk result (self.new ≡ opened (settings_of self.old) now kept) }
+        ensures err { OnErr result (self.new ≡ self.old) }
+    {
+        let registry = Registry::open(alloc, self.registry.limit())?;
+        let table = Table::open(alloc, &self.list, self.me)?;
+        self.registry = registry;
+        self.table = table;
+        self.time = now.max(LEAST_TIME);
+        self.kept = kept;
+        self.failed_save = None;
+        self.last = None;
+        Ok(())
+    }
+
+    /// Sets the time, which never goes back, and removes the validations that are no longer current. Within a second none ceases
+    /// to be.
     fn advance(&mut self, now: Millis)
         requires { now ≤ GREATEST_MILLIS }
         ensures { self.new ≡ at_moment now self.old }
     {
+        let second = secs_of(self.time);
         self.time = self.time.max(now);
-        self.table.expire(&self.registry, secs_of(self.time));
+        let now = secs_of(self.time);
+        if now != second {
+            self.table.expire(&self.registry, now);
+        }
     }
 
     /// Saves a sequence and issues its validation, signed in the second of the node's time. Only after the save does the
@@ -188,11 +210,11 @@ impl Node {
         id: LedgerId,
         full: bool,
         keeper: &mut K,
-    ) -> Result<Issued, Refusal>
+    ) -> Result<OwnValidation, Refusal>
         requires moment { now ≤ GREATEST_MILLIS }
         ensures exact { issue_reply result self.new ≡ happens self.old (Issue now seq id full) (save_in result) }
         ensures not_after { (result ≡ Err (NotAfter self.old.kept)) ↔ (seq ≤ self.old.kept) }
-        ensures off { (failed : ℕ) → (result ≡ Err (IssuingOff failed)) ↔ ((self.old.kept < seq) × (self.old.off ≡ Some failed)) }
+        ensures off { (failed : ℕ) → (result ≡ Err (IssuingOff failed)) ↔ ((self.old.kept < seq) × (self.old.failed_save ≡ Some failed)) }
         ensures fault { (count : ℕ) → result ≡ Err (KeepFault count) → Rose (K.faults keeper.old) (K.faults keeper.new) × (count ≡ K.faults keeper.new) }
         // At most one save is asked, of a number above the kept one.
         ensures held { K.held keeper.new ≡ option_map (λ held. after_save held (asks self.old (Issue now seq id full)) (is_kept (save_in result))) (K.held keeper.old) }
@@ -204,18 +226,18 @@ impl Node {
         if seq <= self.kept {
             return Err(Refusal::NotAfter(self.kept));
         }
-        if let Some(failed) = self.off {
+        if let Some(failed) = self.failed_save {
             return Err(Refusal::IssuingOff(failed));
         }
         if keeper.save(seq).is_err() {
-            self.off = Some(seq);
+            self.failed_save = Some(seq);
             return Err(Refusal::KeepFault(keeper.faults()));
         }
         Ok(self.issue_saved(seq, id, full))
     }
 
     /// Issues the validation of a sequence that was saved.
-    fn issue_saved(&mut self, seq: Seq, id: LedgerId, full: bool) -> Issued
+    fn issue_saved(&mut self, seq: Seq, id: LedgerId, full: bool) -> OwnValidation
         ensures { issue_reply (Ok result) self.new ≡ issues self.old (second_of self.old) Kept (own_validation self.old seq id full) }
     {
         let validation = Validation {
@@ -225,8 +247,8 @@ impl Node {
             full,
         };
         self.kept = seq;
-        let report = self.take_own(validation.signed, &validation);
-        Issued { validation, report }
+        let report = self.take_own(&validation);
+        OwnValidation { validation, report }
     }
 
     /// Hears bytes that come, and tells what they give to report.
@@ -238,11 +260,7 @@ impl Node {
     pub fn frame(&mut self, now: Millis, bytes: &[u8]) -> Result<Heard, Refusal>
         requires moment { now ≤ GREATEST_MILLIS }
         ensures exact { hear_reply result self.new ≡ happens self.old (Frame now bytes.now) Kept }
-        ensures unheard { (why : Refusal) → heard self.old.keys self.old.list.members bytes.now ≡ Err why → result ≡ Err why }
-        ensures by_its_row { (from : ℕ) (v : Validation) → heard self.old.keys self.old.list.members bytes.now ≡ Ok (record { from = from; what = speech.Vote v }) →
-            result_err result ≡ option_map refusal_from (refusal_at (at_moment now self.old) (second_of (at_moment now self.old)) from v) }
-        ensures by_its_parent { (from : ℕ) (h : Header) → heard self.old.keys self.old.list.members bytes.now ≡ Ok (record { from = from; what = speech.Header h }) →
-            result_err result ≡ option_map HeaderRefused (add_refusal self.old.ledgers h) }
+        ensures refused { result_err result ≡ frame_refusal (at_moment now self.old) bytes.now }
         ensures unchanged { OnErr result (self.new ≡ at_moment now self.old) }
         // It hears others, and not itself.
         ensures others { (said : Spoken) → heard self.old.keys self.old.list.members bytes.now ≡ Ok said → said.from ≢ self.old.me }
@@ -250,19 +268,19 @@ impl Node {
         self.advance(now);
         let said = hear(&self.keys, &self.list, bytes)?;
         match said.what {
-            Speech::Vote(validation) => self.take_vote(secs_of(self.time), said.from, &validation),
+            Speech::Vote(validation) => self.take_vote(said.from, &validation),
             Speech::Header(header) => self.learn(&header),
         }
     }
 
     /// A member's row takes a validation.
-    fn take_vote(&mut self, now: Secs, from: NodeNo, v: &Validation) -> Result<Heard, Refusal>
+    fn take_vote(&mut self, from: NodeNo, v: &Validation) -> Result<Heard, Refusal>
         requires listed { IsTrue (is_on self.old.list.members from) }
-        ensures exact { hear_reply result self.new ≡ hears self.old now from v.now (refusal_at self.old now from v.now) }
-        ensures refused { result_err result ≡ option_map refusal_from (refusal_at self.old now from v.now) }
+        ensures exact { hear_reply result self.new ≡ hears self.old (second_of self.old) from v.now (refusal_at self.old (second_of self.old) from v.now) }
+        ensures refused { result_err result ≡ option_map refusal_from (refusal_at self.old (second_of self.old) from v.now) }
         ensures unchanged { OnErr result (self.new ≡ self.old) }
     {
-        match self.take(now, from, v) {
+        match self.take(from, v) {
             Ok(report) => Ok(Heard {
                 taken: Taken::Vote,
                 report,
@@ -317,26 +335,26 @@ impl Node {
     }
 
     /// The own row takes what was issued, if the node stands on its list.
-    fn take_own(&mut self, now: Secs, v: &Validation) -> Option<Report>
-        ensures node { self.new ≡ (reporting (with_taken self.old now self.old.me v.now) Done (Some v.now)).node }
-        ensures report { result ≡ arisen (with_taken self.old now self.old.me v.now) }
+    fn take_own(&mut self, v: &Validation) -> Option<Report>
+        ensures node { self.new ≡ (reporting (with_taken self.old (second_of self.old) self.old.me v.now) Done (Some v.now)).node }
+        ensures report { result ≡ arisen (with_taken self.old (second_of self.old) self.old.me v.now) }
     {
         let me = self.me;
         if self.list.has(me) {
-            self.take(now, me, v).unwrap_or(None)
+            self.take(me, v).unwrap_or(None)
         } else {
             None
         }
     }
 
     /// A member's row takes a validation, and what that gives is reported.
-    fn take(&mut self, now: Secs, from: NodeNo, v: &Validation) -> Result<Option<Report>, Refusal>
+    fn take(&mut self, from: NodeNo, v: &Validation) -> Result<Option<Report>, Refusal>
         requires listed { IsTrue (is_on self.old.list.members from) }
-        ensures exact { vote_reply result self.new ≡ hears self.old now from v.now (refusal_at self.old now from v.now) }
-        ensures refused { result_err result ≡ option_map refusal_from (refusal_at self.old now from v.now) }
+        ensures exact { vote_reply result self.new ≡ hears self.old (second_of self.old) from v.now (refusal_at self.old (second_of self.old) from v.now) }
+        ensures refused { result_err result ≡ option_map refusal_from (refusal_at self.old (second_of self.old) from v.now) }
         ensures unchanged { OnErr result (self.new ≡ self.old) }
     {
-        self.table.take(&self.registry, from, v, now)?;
+        self.table.take(&self.registry, from, v, secs_of(self.time))?;
         let report = report_by(&self.table, self.list.quorum(), &self.last, v);
         self.last = report.or(self.last);
         Ok(report)
@@ -372,6 +390,13 @@ impl Node {
         self.time
     }
 
+    /// Whether it is a validator.
+    pub fn is_validating(&self) -> bool
+        ensures { result ≡ self.now.validating }
+    {
+        self.validating
+    }
+
     /// How many ledgers it may know, the root among them.
     pub fn limit(&self) -> u32
         ensures value { result ≡ self.now.ledgers.limit }
@@ -404,9 +429,9 @@ impl Node {
 
     /// The sequence whose save failed since the node opened, if one did.
     pub fn failed_save(&self) -> Option<Seq>
-        ensures { result ≡ self.now.off }
+        ensures { result ≡ self.now.failed_save }
     {
-        self.off
+        self.failed_save
     }
 
     /// The last report since the node opened.

@@ -7,6 +7,7 @@ ghost use Rattle.xl_core.specs.Queues.{after_taking, at_number, fitting, frames_
 use crate::putting::Put;
 use crate::{Item, Node};
 use xl_base::NodeNo;
+use xl_ledger::Branch;
 use xl_queues::Broadcast;
 
 /// How many items may wait for a peer.
@@ -28,7 +29,12 @@ fn reader_of(member: NodeNo) -> usize
 
 /// Writes the frames of the oldest items for a member into the room, as many as fit, and takes these items out. An item that is
 /// passed over is dropped.
-pub fn drain(waiting: &mut Waiting, node: &Node, member: NodeNo, room: &mut [u8]) -> usize
+pub fn drain<B: Branch + Drop>(
+    waiting: &mut Waiting,
+    node: &Node<B>,
+    member: NodeNo,
+    room: &mut [u8],
+) -> usize
     ensures count { result ≡ length (joined (frames_in (taken_for node.now waiting.old member (length room.old)))) }
     ensures frames { room.new ≡ joined (frames_in (taken_for node.now waiting.old member (length room.old))) ++ drop result room.old }
     ensures taken { waiting.new ≡ at_number waiting.old member (after_taking (taken_for node.now waiting.old member (length room.old))) }
@@ -42,9 +48,9 @@ pub fn drain(waiting: &mut Waiting, node: &Node, member: NodeNo, room: &mut [u8]
 
 /// Writes the frame of the oldest item for a member at a place of the room, takes the item out, and answers where the next frame
 /// goes. None where nothing waits or the room is too short: all is as it was then.
-fn drain_first(
+fn drain_first<B: Branch + Drop>(
     waiting: &mut Waiting,
-    node: &Node,
+    node: &Node<B>,
     member: NodeNo,
     at: usize,
     room: &mut [u8],

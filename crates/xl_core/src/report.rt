@@ -8,9 +8,9 @@ pub struct Report {
     pub id: LedgerId,
 }
 
-/// What a node has issued, and what it reports by its own row.
+/// A validation that a node has issued, and what it reports by its own row.
 #[derive(Clone, Copy, Debug, PartialEq, Eq)]
-pub struct Issued {
+pub struct OwnValidation {
     pub validation: Validation,
     pub report: Option<Report>,
 }

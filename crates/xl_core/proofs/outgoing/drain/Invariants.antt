@@ -5,8 +5,8 @@ use Rattle.xl_core.proofs.Draining.{IsDrained}
 use Rattle.xl_core.proofs.outgoing.drain.Given as goal
 
 abbrev pub decreases-loop-next : goal.decreases-loop-next
-decreases-loop-next l = length (waiting_at l.waiting l.member).items
+decreases-loop-next g l = length (waiting_at l.waiting l.member).items
 
 -- the frames so far are written, and their items taken out
 abbrev pub invariant-loop-next : goal.invariant-loop-next
-invariant-loop-next l = IsDrained (frames_for l.node l.initial.waiting l.member) l.initial.waiting l.waiting l.member l.initial.room l.room l.at
+invariant-loop-next g l = IsDrained (frames_for l.node l.initial.waiting l.member) l.initial.waiting l.waiting l.member l.initial.room l.room l.at

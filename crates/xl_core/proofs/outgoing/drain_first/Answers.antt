@@ -8,14 +8,14 @@ use Rattle.xl_core.proofs.Draining.{waiting_there, found_no_room, none_there, to
 use Rattle.xl_core.proofs.outgoing.drain_first.Goals as goal
 
 pub returns-in_err-item-clause-none : goal.returns-in_err-item-clause-none
-returns-in_err-item-clause-none c = λ _.
+returns-in_err-item-clause-none g c = λ _.
     let there = waiting_there c.args.waiting.now c.args.member c.reader_of-reader.result c.reader_of-reader.ensures.place in
     let first : slice_get (waiting_at c.args.waiting.now c.args.member).items 0 ≡ None =
     ap (λ (q : Backlog Item). slice_get q.items 0) there ∙ sym c.first.ensures.oldest ∙ ap option_copied c.in_err-item.was in
     (none_there (frame_of c.args.node.now c.args.member) (waiting_at c.args.waiting.now c.args.member).items (length c.args.room.now - c.args.at) first, refl, refl)
 
 pub returns-in-NoRoom-clause-none : goal.returns-in-NoRoom-clause-none
-returns-in-NoRoom-clause-none c = λ _.
+returns-in-NoRoom-clause-none g c = λ _.
     let there = waiting_there c.args.waiting.now c.args.member c.reader_of-reader.result c.reader_of-reader.ensures.place in
     let item : Item = c.in_ok-item.field-0.now in
     let first : slice_get (waiting_at c.args.waiting.now c.args.member).items 0 ≡ Some item =

@@ -1,9 +1,18 @@
-use Rattle.xl_core.proofs.Expiring.{ready_after}
+use Rattle.std.proofs.Common.{◌≡◌, ◌∙◌, ◌/◌, ℕ, ap, sym}
+use Rattle.std.specs.Prelude.{max}
+use Rattle.xl_core.specs.Node.{Node, at_moment}
+use Rattle.xl_core.specs.Rest.{node_seen}
+use Rattle.xl_core.proofs.Expiring.{ready_after, same_second}
 use Rattle.xl_core.proofs.node.Node.advance.Goals as goal
 
 pub invariant_of-self : goal.invariant_of-self
-invariant_of-self c = (
-  ready_after c.args.now (record { me = c.self.inside.me; list = c.self.inside.list; keys = c.self.inside.keys; time = c.self.inside.time; ledgers = c.self.inside.registry; rows = c.self.inside.table.rows; kept = c.self.inside.kept; off = c.self.inside.off; last = c.self.inside.last })
-      c.max-self-inside.result c.secs_of.result c.expire.new.self.rows c.requires c.max-self-inside.ensures c.secs_of.ensures c.expire.ensures.rows c.self.invariant.0,
+invariant_of-self g c = (
+  ready_after c.args.now (node_seen c.self.inside) c.max-self-inside.result c.secs_of-now.result c.expire.new.self.rows c.requires c.max-self-inside.ensures c.secs_of-now.ensures c.expire.ensures.rows c.self.invariant.0,
   c.expire.ensures.tally,
 )
+
+pub returns-else-now-second : goal.returns-else-now-second
+returns-else-now-second g c =
+    let n : Node = node_seen c.self.inside in
+    same_second c.args.now n c.max-self-inside.result c.secs_of-second.result c.secs_of-now.result c.self.invariant.0 c.max-self-inside.ensures c.secs_of-second.ensures c.secs_of-now.ensures c.if-now-second.false
+    ∙ ap (at_moment c.args.now) c.self.view_is

@@ -22,60 +22,25 @@ use Rattle.xl_core.proofs.Stopping.{frame_covered}
 use Rattle.xl_core.proofs.queued.Core.frame.Goals as goal
 
 pub returns-in-Ok-clause-step : goal.returns-in-Ok-clause-step
-returns-in-Ok-clause-step c =
+returns-in-Ok-clause-step g c =
     let old : Core = record { node = c.self.inside.node; waiting = c.self.inside.waiting; untaken = c.self.inside.untaken; stopped = c.self.inside.stopped } in
     let new : Core = record { node = c.frame.new.self; waiting = c.self.inside.waiting; untaken = c.push_report.new.untaken; stopped = c.self.inside.stopped } in
     subst (λ (a : Core). Answers (core_happens a (event.Frame c.args.now c.args.bytes.now) Kept) new (Took c.in-Ok.heard.taken)) c.self.view_is
     (heard_step old c.frame.new.self c.in-Ok.heard c.push_report.new.untaken (happens c.self.inside.node (Frame c.args.now c.args.bytes.now) Kept) c.in-Ok.ensures.exact c.push_report.ensures)
 
-ok_err : {X Y : Type 0} (x : X) (why : Y) → Ok x ≡ Err why → ⊥
-ok_err x why e = cc
-
-pub returns-in-Ok-clause-unheard : goal.returns-in-Ok-clause-unheard
-returns-in-Ok-clause-unheard c = λ why is.
-    let not : (w : Refusal) → heard c.args.self.now.node.keys c.args.self.now.node.list.members c.args.bytes.now ≡ Err w → Ok c.in-Ok.heard ≡ Err w =
-    subst (λ (a : Core). (w : Refusal) → heard a.node.keys a.node.list.members c.args.bytes.now ≡ Err w → Ok c.in-Ok.heard ≡ Err w) c.self.view_is c.in-Ok.ensures.unheard in
-    absurd (ok_err c.in-Ok.heard why (not why is))
-
-pub returns-in-Ok-clause-by_its_row : goal.returns-in-Ok-clause-by_its_row
-returns-in-Ok-clause-by_its_row c =
-    subst (λ (a : Core). (from : ℕ) (v : Validation) → heard a.node.keys a.node.list.members c.args.bytes.now ≡ Ok (record { from = from; what = speech.Vote v }) →
-    None ≡ option_map refusal_from (refusal_at (at_moment c.args.now a.node) (second_of (at_moment c.args.now a.node)) from v)) c.self.view_is c.in-Ok.ensures.by_its_row
-
-pub returns-in-Ok-clause-by_its_parent : goal.returns-in-Ok-clause-by_its_parent
-returns-in-Ok-clause-by_its_parent c =
-    subst (λ (a : Core). (from : ℕ) (h : Header) → heard a.node.keys a.node.list.members c.args.bytes.now ≡ Ok (record { from = from; what = speech.Header h }) →
-    None ≡ option_map HeaderRefused (add_refusal a.node.ledgers h)) c.self.view_is c.in-Ok.ensures.by_its_parent
-
 pub returns-in-Ok-clause-stop : goal.returns-in-Ok-clause-stop
-returns-in-Ok-clause-stop c = λ held was.
+returns-in-Ok-clause-stop g c = λ held was.
     let others = subst (λ (a : Core). (said : Spoken) → heard a.node.keys a.node.list.members c.args.bytes.now ≡ Ok said → said.from ≢ a.node.me) c.self.view_is c.in-Ok.ensures.others in
-    subst (IsCovered held) (sym (returns-in-Ok-clause-step c).core) (frame_covered held c.args.self.now c.args.now c.args.bytes.now others was)
+    subst (IsCovered held) (sym (returns-in-Ok-clause-step g c).core) (frame_covered held c.args.self.now c.args.now c.args.bytes.now others was)
 
 pub returns-in-Err-clause-step : goal.returns-in-Err-clause-step
-returns-in-Err-clause-step c =
+returns-in-Err-clause-step g c =
     let old : Core = record { node = c.self.inside.node; waiting = c.self.inside.waiting; untaken = c.self.inside.untaken; stopped = c.self.inside.stopped } in
     let new : Core = record { node = c.frame.new.self; waiting = c.self.inside.waiting; untaken = c.self.inside.untaken; stopped = c.self.inside.stopped } in
     subst (λ (a : Core). Answers (core_happens a (event.Frame c.args.now c.args.bytes.now) Kept) new (Refused c.in-Err.why)) c.self.view_is
     (refused_step old c.frame.new.self c.in-Err.why (happens c.self.inside.node (Frame c.args.now c.args.bytes.now) Kept) c.in-Err.ensures.exact)
 
-pub returns-in-Err-clause-unheard : goal.returns-in-Err-clause-unheard
-returns-in-Err-clause-unheard c = λ why is.
-    let same : (w : Refusal) → heard c.args.self.now.node.keys c.args.self.now.node.list.members c.args.bytes.now ≡ Err w → Some c.in-Err.why ≡ Some w =
-    subst (λ (a : Core). (w : Refusal) → heard a.node.keys a.node.list.members c.args.bytes.now ≡ Err w → Some c.in-Err.why ≡ Some w) c.self.view_is (λ w e. ap result_err (c.in-Err.ensures.unheard w e)) in
-    let e = same why is in cc
-
-pub returns-in-Err-clause-by_its_row : goal.returns-in-Err-clause-by_its_row
-returns-in-Err-clause-by_its_row c =
-    subst (λ (a : Core). (from : ℕ) (v : Validation) → heard a.node.keys a.node.list.members c.args.bytes.now ≡ Ok (record { from = from; what = speech.Vote v }) →
-    Some c.in-Err.why ≡ option_map refusal_from (refusal_at (at_moment c.args.now a.node) (second_of (at_moment c.args.now a.node)) from v)) c.self.view_is c.in-Err.ensures.by_its_row
-
-pub returns-in-Err-clause-by_its_parent : goal.returns-in-Err-clause-by_its_parent
-returns-in-Err-clause-by_its_parent c =
-    subst (λ (a : Core). (from : ℕ) (h : Header) → heard a.node.keys a.node.list.members c.args.bytes.now ≡ Ok (record { from = from; what = speech.Header h }) →
-    Some c.in-Err.why ≡ option_map HeaderRefused (add_refusal a.node.ledgers h)) c.self.view_is c.in-Err.ensures.by_its_parent
-
 pub returns-in-Err-clause-stop : goal.returns-in-Err-clause-stop
-returns-in-Err-clause-stop c = λ held was.
+returns-in-Err-clause-stop g c = λ held was.
     let others = subst (λ (a : Core). (said : Spoken) → heard a.node.keys a.node.list.members c.args.bytes.now ≡ Ok said → said.from ≢ a.node.me) c.self.view_is c.in-Err.ensures.others in
-    subst (IsCovered held) (sym (returns-in-Err-clause-step c).core) (frame_covered held c.args.self.now c.args.now c.args.bytes.now others was)
+    subst (IsCovered held) (sym (returns-in-Err-clause-step g c).core) (frame_covered held c.args.self.now c.args.now c.args.bytes.now others was)

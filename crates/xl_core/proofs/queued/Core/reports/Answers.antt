@@ -10,7 +10,7 @@ use Rattle.xl_core.proofs.Handing.{take_most, drop_most}
 use Rattle.xl_core.proofs.queued.Core.reports.Goals as goal
 
 pub returns-clause-step : goal.returns-clause-step
-returns-clause-step c =
+returns-clause-step g c =
     let room = length c.args.room.now in
     let items : List Report = c.self.inside.untaken.items in
     let n = c.take_reports.result in
@@ -24,5 +24,5 @@ returns-clause-step c =
     })
 
 pub returns-clause-stop : goal.returns-clause-stop
-returns-clause-stop c = λ held was.
+returns-clause-stop g c = λ held was.
     subst (λ (a : Core). IsCovered held (record a { untaken = c.take_reports.new.untaken })) (sym c.self.view_is) (record { saved = was.saved; own = was.own; waiting = was.waiting })

@@ -4,4 +4,4 @@ use Rattle.xl_core.specs.Stops.{IsCovered}
 use Rattle.xl_core.proofs.queued.Core.stop.Goals as goal
 
 pub returns-clause-stop : goal.returns-clause-stop
-returns-clause-stop c = λ held was. subst (λ (a : Core). IsCovered held (record a { stopped = true })) (sym c.self.view_is) (record { saved = was.saved; own = was.own; waiting = was.waiting })
+returns-clause-stop g c = λ held was. subst (λ (a : Core). IsCovered held (record a { stopped = true })) (sym c.self.view_is) (record { saved = was.saved; own = was.own; waiting = was.waiting })
