@@ -28,7 +28,7 @@ use Rattle.xl_sched.specs.Ledgers.{parent_of, header_after}
 use Rattle.xl_sched.specs.Members.{member_of, new_member_of, members_of, trusted_of, unless_refused}
 use Rattle.xl_sched.specs.Words.{Reading, mode_of, node_of, node_line, liar_line, has_most_names, named_line, named_ledger_line, limit_line, at_line, issue_event, deliver_event, all_event, drop_event, restart_event, cut_event, fail_event, lie_event, raw_event, prefer_event, event_line, line_of, line_if_word, word_of, worded_line}
 use Rattle.xl_sched.specs.Reading.{Answer, passes, gives, refuses, is_header, header_line, is_comment, some_line, later_line, bounded_line, answer_to, reading_of}
-use Rattle.xl_world.specs.World.{IsDeclared}
+use Rattle.xl_world.specs.Plans.{IsDeclared}
 
 -- LISTS
 

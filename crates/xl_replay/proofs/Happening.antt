@@ -6,7 +6,7 @@ use Rattle.xl_sched.specs.Words.{Reading}
 use Rattle.xl_world.specs.declared.outcome.Outcome.{Outcome}
 use Rattle.xl_world.specs.declared.plan.PlanNode.{PlanNode}
 use Rattle.xl_world.specs.Schedule.{after_event, outcomes}
-use Rattle.xl_world.specs.Cores.{World}
+use Rattle.xl_world.specs.World.{World}
 use Rattle.xl_replay.specs.Texts.{outcome_lines}
 use Rattle.xl_replay.specs.Replays.{Replaying, world_of, after}
 

@@ -16,9 +16,10 @@ use Rattle.xl_sched.specs.declared.refusal.SchedRefusal.TheVariants.{Header}
 use Rattle.xl_world.specs.declared.outcome.Outcome.{Outcome}
 use Rattle.xl_world.specs.declared.outcome.Outcome.TheVariants.{Full}
 use Rattle.xl_world.specs.Forks.{first_fork}
-use Rattle.xl_world.specs.Cores.{World, IsRun}
-use Rattle.xl_world.specs.World.{IsDeclared, AgreeAt}
-use Rattle.xl_world.proofs.CoreLists.{world_agrees}
+use Rattle.xl_world.specs.World.{World, IsRun}
+use Rattle.xl_world.specs.Plans.{IsDeclared}
+use Rattle.xl_world.specs.World.{AgreeAt}
+use Rattle.xl_world.proofs.Lists.{world_agrees}
 use Rattle.xl_world.proofs.Reporters.{IsReporter, world_reporters}
 use Rattle.xl_replay.specs.declared.replayer.TheConstants.{DEFAULT_LIMIT}
 use Rattle.xl_replay.specs.Texts.{forged_line, agreement_line, end_lines, bad_line}

@@ -3,7 +3,7 @@ use Rattle.std.proofs.Common.{◌≡◌, ℕ, suc, ◌+◌, ◌-◌, ◌≤◌, 
 use Rattle.std.specs.List.{flat_map}
 use Rattle.std.proofs.lemmas.Grind.{flat_map-append}
 use Rattle.std.proofs.lemmas.List.{append-nil}
-use Rattle.xl_world.specs.World.{up_from}
+use Rattle.xl_world.specs.Plans.{up_from}
 use Rattle.xl_world.proofs.Numbers.{up_from_more}
 
 -- one number more

@@ -8,8 +8,8 @@ use Rattle.std.proofs.lemmas.List.{append-nil}
 use Rattle.std.proofs.lemmas.List.Elements.{All-head, All-tail, All-nil, All-cons}
 use Rattle.xl_lists.specs.Lists.{TrustedList}
 use Rattle.xl_lists.specs.Quorums.{bound_of, Enough}
-use Rattle.xl_world.specs.Cores.{World, list_in}
-use Rattle.xl_world.specs.World.{up_from, all_numbers}
+use Rattle.xl_world.specs.World.{World, list_in}
+use Rattle.xl_world.specs.Plans.{up_from, all_numbers}
 use Rattle.xl_replay.specs.Texts.{short_line, short_of, short_with, shorts_of, short_lines}
 use Rattle.xl_replay.specs.Headlines.{Short, short_text, IsPair}
 

@@ -32,13 +32,15 @@ use Rattle.xl_world.specs.declared.outcome.Outcome.TheVariants.{Refused, Full, P
 use Rattle.xl_world.specs.declared.place.Place.{Place}
 use Rattle.xl_world.specs.declared.plan.PlanNode.{PlanNode}
 use Rattle.xl_world.specs.declared.place.Fate.{Fate}
-use Rattle.xl_world.specs.Keeper.{may_hold, answer_of}
-use Rattle.xl_world.specs.World.{reported_by, IsDeclared, AreDeclared}
-use Rattle.xl_world.specs.Cores.{World, Step as WorldStep, Act, Again, Torn, Mark, place_at, reply_at, acts, reopened, again, torn, asked_at, moment_in, step, run, start, IsRun}
+use Rattle.xl_io.specs.Keepers.{may_hold}
+use Rattle.xl_world.specs.Keeper.{answer_of}
+use Rattle.xl_world.specs.World.{reported_by}
+use Rattle.xl_world.specs.Plans.{IsDeclared, AreDeclared}
+use Rattle.xl_world.specs.World.{World, Step as WorldStep, Act, Again, Torn, Mark, place_at, reply_at, acts, reopened, again, torn, asked_at, moment_in, step, run, start, IsRun}
 use Rattle.xl_world.specs.Schedule.{steps_of, after_event, told_of as told_at, told_by as told_by_step, told_in, preference, outcomes}
-use Rattle.xl_world.proofs.CoreSettling.{at_its_number}
-use Rattle.xl_world.proofs.CoreLists.{core_keeps}
-use Rattle.xl_world.proofs.CoreRuns.{run_on}
+use Rattle.xl_world.proofs.Settling.{at_its_number}
+use Rattle.xl_world.proofs.Lists.{core_keeps}
+use Rattle.xl_world.proofs.Runs.{run_on}
 use Rattle.xl_replay.specs.Texts.{outcome_line, outcome_lines}
 use Rattle.xl_replay.specs.Replays.{Replaying, world_of, silent, after, after_line, after_answer, ending, rules}
 use Rattle.xl_replay.specs.Headlines.{Spoken, spoken_line, Extends, state_after, state_from}

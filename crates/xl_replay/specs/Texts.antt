@@ -25,8 +25,8 @@ use Rattle.xl_sched.specs.Tokens.{shown_token}
 use Rattle.xl_world.specs.declared.outcome.Outcome.{Outcome}
 use Rattle.xl_world.specs.declared.outcome.Outcome.TheVariants.{Refused, Full, Preferred}
 use Rattle.xl_world.specs.Forks.{Fork, first_fork}
-use Rattle.xl_world.specs.Cores.{World, list_in}
-use Rattle.xl_world.specs.World.{up_from, all_numbers}
+use Rattle.xl_world.specs.World.{World, list_in}
+use Rattle.xl_world.specs.Plans.{up_from, all_numbers}
 
 abbrev pub space : List ℕ
 space = codes " "

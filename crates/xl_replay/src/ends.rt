@@ -4,8 +4,8 @@ ghost use Rattle.std.specs.List.{flat_map};
 ghost use Rattle.std.specs.String.{string_bytes};
 ghost use Rattle.xl_world.specs.Forks.{first_fork};
 ghost use Rattle.xl_world.specs.Seen.{fork_seen};
-ghost use Rattle.xl_world.specs.Cores.{list_in};
-ghost use Rattle.xl_world.specs.World.{up_from};
+ghost use Rattle.xl_world.specs.World.{list_in};
+ghost use Rattle.xl_world.specs.Plans.{up_from};
 ghost use Rattle.xl_replay.specs.Texts.{short_of, short_with, shorts_of, short_lines, forged_line, agreement_line, end_lines};
 ghost use Rattle.xl_base.specs.declared.node_no.TheConstants.{GREATEST_NODE_NO};
 

@@ -2,7 +2,7 @@
 ghost use Rattle.std.specs.Prelude.{◌≡◌, ◌≤◌, ◌+◌, [], IfOk, decimal};
 ghost use Rattle.xl_ledger.specs.declared.registry.TheConstants.{LEAST_LIMIT};
 ghost use Rattle.xl_sched.specs.declared.limits.TheConstants.{MOST_LEDGERS};
-ghost use Rattle.xl_world.specs.World.{AreTimely};
+ghost use Rattle.xl_world.specs.Plans.{AreTimely};
 ghost use Rattle.xl_replay.specs.Replays.{at_first, beyond};
 ghost use Rattle.xl_replay.specs.Texts.{bad_line};
 

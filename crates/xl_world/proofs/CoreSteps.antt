@@ -22,6 +22,7 @@ use Rattle.xl_core.specs.declared.hearing.Speech.TheVariants as speech
 use Rattle.xl_core.specs.declared.item.Item.{Item}
 use Rattle.xl_core.specs.declared.item.Item.TheVariants.{Vote}
 use Rattle.xl_core.specs.declared.refusal.Refusal.{Refusal}
+use Rattle.xl_core.specs.declared.settings.Settings.{Settings}
 use Rattle.xl_core.specs.declared.refusal.Refusal.TheVariants.{NotAfter}
 use Rattle.xl_core.specs.Answers.{Answer, Done, Gave}
 use Rattle.xl_core.specs.Core.{Core, CoreReply, answering, core_happens, core_asks, stepped, with_queues}
@@ -33,18 +34,21 @@ use Rattle.xl_core.specs.Node.Save.{Kept as AnsweredOk, Failed as AnsweredFailed
 use Rattle.xl_core.specs.Queues.{after_taking, at_number, fitting, frames_in, waiting_at, with_items}
 use Rattle.xl_core.specs.Sending.{sealed_bytes, has_spelling}
 use Rattle.xl_world.specs.declared.place.Keeper.{Keeper}
-use Rattle.xl_world.specs.World.{Place as Seat}
+use Rattle.xl_world.proofs.Seats.{Seat}
 use Rattle.xl_world.specs.declared.place.Fate.{Fate}
 use Rattle.xl_world.specs.declared.sent.Sent.{Sent}
-use Rattle.xl_world.specs.Keeper.{MayHold, answer_of, restored}
-use Rattle.xl_world.specs.World.{FrameSays, RowSays, quiet, said_by, said_in}
+use Rattle.xl_io.specs.Keepers.{MayHold}
+use Rattle.xl_world.specs.Keeper.{held_by, answer_of, restored}
+use Rattle.xl_world.proofs.Standing.{FrameSays, RowSays, said_in}
+use Rattle.xl_world.specs.World.{said_by}
 use Rattle.xl_world.specs.declared.place.Place.{Place}
-use Rattle.xl_world.specs.Cores.{sent_in, reply_at, keeper_after, core_again, ItemSays, CoreSays}
-use Rattle.xl_world.proofs.Lists.{happens_keeps}
+use Rattle.xl_world.specs.World.{sent_in, reply_at, keeper_after, core_again}
+use Rattle.xl_world.proofs.Standing.{ItemSays, CoreSays}
+use Rattle.xl_world.proofs.Keeping.{happens_keeps}
 use Rattle.xl_world.proofs.NodeSteps.{HeardSays, happens_says, happens_steps, opened_says, opened_steps, opened_well, still}
-use Rattle.xl_world.proofs.Settling.{IsWell, IsStep}
+use Rattle.xl_world.proofs.Seats.{IsWell, IsStep}
 use Rattle.xl_world.proofs.Speaking.{sealed_said}
-use Rattle.xl_world.proofs.CoreSettling.{ReplySays, node_reply, seat}
+use Rattle.xl_world.proofs.Settling.{ReplySays, node_reply, seat}
 
 -- THE NODE OF THE CORE
 
@@ -67,7 +71,7 @@ core_steps p Stop fate well = beside p (reply_at p Stop fate) refl refl refl wel
 core_steps p Stopped fate well = beside p (reply_at p Stopped fate) refl refl refl well
 
 -- a core that is opened again with a number that is not below its keeper's
-pub opened_core_steps : (p : Place) (now number : ℕ) (asked : Option ℕ) → IsWell (seat p.core p.keeper) → (i : ℕ) × (i ≤ number) × MayHold p.keeper i →
+pub opened_core_steps : (p : Place) (now number : ℕ) (asked : Option ℕ) → IsWell (seat p.core p.keeper) → (i : ℕ) × (i ≤ number) × MayHold (held_by p.keeper) i →
     IsStep (seat p.core p.keeper) (node_reply (answering (core_again p now number) Done)) (restored (record p.keeper { asked = asked }) number)
 opened_core_steps p now number asked well low =
     let s = opened_steps (seat p.core p.keeper) now number well low in
@@ -104,8 +108,8 @@ hearing_plain n now (Err why) = record { items = refl; sent = λ _. refl }
 pub happens_plain : (n : Node) (e : Event) (save : Save) → IsPlain (happens n e save)
 happens_plain n (nodes.Issue now seq id full) save =
     let m : Node = at_moment now n in
-    cond_both (nat_lt m.kept seq) (issues_unless m m.off save (own_validation m seq id full)) (refusing m (NotAfter m.kept)) IsPlain
-    (λ _. issues_plain m m.off save (own_validation m seq id full)) (λ _. record { items = refl; sent = λ _. refl })
+    cond_both (nat_lt m.kept seq) (issues_unless m m.failed_save save (own_validation m seq id full)) (refusing m (NotAfter m.kept)) IsPlain
+    (λ _. issues_plain m m.failed_save save (own_validation m seq id full)) (λ _. record { items = refl; sent = λ _. refl })
 happens_plain n (nodes.Frame now bytes) save = hearing_plain (at_moment now n) (second_of (at_moment now n)) (heard n.keys n.list.members bytes)
 
 -- P holds of what waits
@@ -207,9 +211,9 @@ core_says P core Stop save says heard fair = record { core = record { rows = say
 core_says P core Stopped save says heard fair = record { core = says; sent = All-nil (FrameSays P) }
 
 -- a core that is opened has nothing
-pub opened_core_says : (P : Said → Type 0) (me : ℕ) (list : TrustedList) (keys : Ring) (limit now kept : ℕ) → CoreSays P (with_queues (opened me list keys limit now kept))
-opened_core_says P me list keys limit now kept = record { rows = opened_says P me list keys limit now kept; items = nothing_waits 64 }
+pub opened_core_says : (P : Said → Type 0) (settings : Settings) (now kept : ℕ) → CoreSays P (with_queues (opened settings now kept))
+opened_core_says P settings now kept = record { rows = opened_says P settings now kept; items = nothing_waits 64 }
   where
-    nothing_waits : (n : ℕ) → AllSay P me (replicate n no_items)
-    nothing_waits zero = All-nil (λ q. All (ItemSays P me) q.items)
-    nothing_waits (suc n) = All-cons (λ q. All (ItemSays P me) q.items) no_items (replicate n no_items) (All-nil (ItemSays P me)) (nothing_waits n)
+    nothing_waits : (n : ℕ) → AllSay P settings.me (replicate n no_items)
+    nothing_waits zero = All-nil (λ q. All (ItemSays P settings.me) q.items)
+    nothing_waits (suc n) = All-cons (λ q. All (ItemSays P settings.me) q.items) no_items (replicate n no_items) (All-nil (ItemSays P settings.me)) (nothing_waits n)

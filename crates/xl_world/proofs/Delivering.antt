@@ -17,12 +17,12 @@ use Rattle.xl_world.specs.declared.report.WorldReport.{WorldReport}
 use Rattle.xl_world.specs.declared.sent.Sent.{Sent}
 use Rattle.xl_world.specs.Schedule.{after_event, deliveries, delivery, delivery_of, frame_at, outcomes, reply_to, told_by, told_in, told_of}
 use Rattle.xl_world.specs.Seen.{Hearing, NoneUntakenAnywhere, acted_at, forged_at, hearing_seen, heard_all, heard_one, place_after, put_acted, reply_in, reported_in, reports_seen}
-use Rattle.xl_world.specs.World.{was_sent}
-use Rattle.xl_world.specs.Cores.{World, Step, Act, Mark, marked, place_at, reply_at, run, step}
+use Rattle.xl_world.specs.Forgeries.{was_sent}
+use Rattle.xl_world.specs.World.{World, Step, Act, Mark, marked, place_at, reply_at, run, step}
 use Rattle.xl_world.specs.Emptying.{event_steps}
 use Rattle.xl_world.specs.Idle.{IsIdle}
-use Rattle.xl_world.proofs.CoreRuns.{run-append}
-use Rattle.xl_world.proofs.CoreSettling.{put_cases}
+use Rattle.xl_world.proofs.Runs.{run-append}
+use Rattle.xl_world.proofs.Settling.{put_cases}
 use Rattle.xl_world.proofs.Sending.{frame_ran, taken_then}
 use Rattle.xl_world.proofs.Steps.{with_lists, fair_at, heard_step, told_append, told_once}
 

@@ -23,8 +23,7 @@ use Rattle.xl_core.specs.Node.Save.{Kept as AnsweredOk}
 use Rattle.xl_core.specs.Queues.{after_taking, at_number, fitting, frames_in, waiting_at, with_items}
 use Rattle.xl_core.specs.Sending.{sealed_bytes, has_spelling}
 use Rattle.xl_world.specs.declared.sent.Sent.{Sent}
-use Rattle.xl_world.specs.World.{frame_to, frames_for as frames_at_once}
-use Rattle.xl_world.specs.Cores.{sent_in}
+use Rattle.xl_world.specs.World.{sent_in}
 use Rattle.xl_world.specs.Idle.{Between, Waits}
 use Rattle.xl_world.specs.Emptying.{drained, drained_once, given}
 use Rattle.xl_core.proofs.Spelling.{frames_fit}
@@ -77,47 +76,6 @@ waits_still o core m low (k ∷ ks) le rising waits = (
   ap (λ (q : Backlog Item). q.items) (elsewhere core.waiting m k (after_taking (taken_for core.node core.waiting m LONGEST_FRAME)) (λ e. omega (arith, e, rising.0, le))) ∙ waits.0,
   waits_still o core m k ks (omega (arith, rising.0, le)) rising.2 waits.1,
 )
-
--- what drains give
-pub given_all : (o : Option Validation) (core : Core) (low : ℕ) (ms : List ℕ) → Between low ms → Waits o core ms →
-    given core ms ≡ flat_map (λ m. map (λ bytes. let f : Sent = record { from = core.node.me; to = m; bytes = bytes } in f) (frames_in (frames_of core.node o m))) ms
-given_all o core low [] rising waits = refl
-given_all o core low (m ∷ ms) rising waits =
-    ap (λ (fs : List (Option (List ℕ))). map (λ bytes. let f : Sent = record { from = core.node.me; to = m; bytes = bytes } in f) (frames_in fs) ++ given (drained_once core m) ms) (takes_all core.node o core.waiting m waits.0)
-    ∙ ap (λ (xs : List Sent). map (λ bytes. let f : Sent = record { from = core.node.me; to = m; bytes = bytes } in f) (frames_in (frames_of core.node o m)) ++ xs)
-    (given_all o (drained_once core m) m ms rising.2 (waits_still o core m m ms (omega arith) rising.2 waits.1))
-
--- which is what is sent at once
-pub sent_at_once : (n : Node) (o : Option Validation) (numbers : List ℕ) →
-    flat_map (λ m. map (λ bytes. let f : Sent = record { from = n.me; to = m; bytes = bytes } in f) (frames_in (frames_of n o m))) (filter (λ m. not (m == n.me)) numbers) ≡ frames_at_once numbers n o
-sent_at_once n None [] = refl
-sent_at_once n None (m ∷ ms) =
-    cond_both (not (m == n.me)) (m ∷ filter (λ k. not (k == n.me)) ms) (filter (λ k. not (k == n.me)) ms)
-    (λ xs. flat_map (λ k. map (λ bytes. let f : Sent = record { from = n.me; to = k; bytes = bytes } in f) (frames_in (frames_of n None k))) xs ≡ [])
-    (λ _. sent_at_once n None ms) (λ _. sent_at_once n None ms)
-sent_at_once n (Some v) [] = refl
-sent_at_once n (Some v) (m ∷ ms) =
-    let send = λ (k : ℕ). map (λ bytes. let f : Sent = record { from = n.me; to = k; bytes = bytes } in f) (frames_in (frames_of n (Some v) k)) in
-    cond_both (not (m == n.me)) (m ∷ filter (λ k. not (k == n.me)) ms) (filter (λ k. not (k == n.me)) ms)
-    (λ xs. flat_map send xs ≡ map (frame_to n v) (cond (not (m == n.me) && has_spelling n.me m v) (m ∷ filter (λ k. not (k == n.me) && has_spelling n.me k v) ms) (filter (λ k. not (k == n.me) && has_spelling n.me k v) ms)))
-    (λ other. cond_both (has_spelling n.me m v) (Some (sealed_bytes n.keys n.me m v)) None
-    (λ o. map (λ bytes. let f : Sent = record { from = n.me; to = m; bytes = bytes } in f) (frames_in (o ∷ [])) ++ flat_map send (filter (λ k. not (k == n.me)) ms)
-    ≡ map (frame_to n v) (cond (not (m == n.me) && has_spelling n.me m v) (m ∷ filter (λ k. not (k == n.me) && has_spelling n.me k v) ms) (filter (λ k. not (k == n.me) && has_spelling n.me k v) ms)))
-    (λ spelled. ap (λ (fs : List Sent). frame_to n v m ∷ fs) (sent_at_once n (Some v) ms)
-    ∙ ap (map (frame_to n v)) (sym (cond-true (not (m == n.me) && has_spelling n.me m v) (m ∷ filter (λ k. not (k == n.me) && has_spelling n.me k v) ms) _ (both _ _ other spelled))))
-    (λ unspelled. sent_at_once n (Some v) ms
-    ∙ ap (map (frame_to n v)) (sym (cond-false (not (m == n.me) && has_spelling n.me m v) (m ∷ filter (λ k. not (k == n.me) && has_spelling n.me k v) ms) _ (one _ _ unspelled)))))
-    (λ mine. sent_at_once n (Some v) ms
-    ∙ ap (map (frame_to n v)) (sym (cond-false (not (m == n.me) && has_spelling n.me m v) (m ∷ filter (λ k. not (k == n.me) && has_spelling n.me k v) ms) _ (first _ _ mine))))
-  where
-    both : (a b : Bool) → a ≡ true → b ≡ true → (a && b) ≡ true
-    both a b p q = grind arith
-
-    one : (a b : Bool) → b ≡ false → (a && b) ≡ false
-    one a b q = grind arith
-
-    first : (a b : Bool) → a ≡ false → (a && b) ≡ false
-    first a b p = grind arith
 
 -- WHAT WAITS THEN
 

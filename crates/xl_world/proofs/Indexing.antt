@@ -11,8 +11,8 @@ use Rattle.std.proofs.lemmas.Slice.Eq.{bytes_eq-Decides}
 use Rattle.xl_world.specs.declared.index.TagIndex.{TagIndex}
 use Rattle.xl_world.specs.declared.sent.Sent.{Sent}
 use Rattle.xl_world.specs.Indexes.{tag_in, place_of_tag, IsIndex}
-use Rattle.xl_world.specs.World.{was_sent}
-use Rattle.xl_world.proofs.Runs.{from_found}
+use Rattle.xl_world.specs.Forgeries.{was_sent}
+use Rattle.xl_world.proofs.Unforged.{from_found}
 
 some_number : (a b : ℕ) → Some a ≡ Some b → b ≡ a
 some_number a b e = cc

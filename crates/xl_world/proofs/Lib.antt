@@ -1,6 +1,11 @@
+pub mod Standing
 pub mod Speaking
-pub mod Settling
+pub mod Seats
 pub mod NodeSteps
+pub mod Keeping
+pub mod Unforged
+pub mod Settling
+pub mod CoreSteps
 pub mod Runs
 pub mod Lists
 pub mod Agreeing
@@ -17,10 +22,6 @@ pub mod Reporters
 pub mod Forging
 pub mod Indexing
 pub mod Lying
-pub mod CoreSettling
-pub mod CoreSteps
-pub mod CoreRuns
-pub mod CoreLists
 pub mod Emptying
 pub mod Sending
 pub mod Givings

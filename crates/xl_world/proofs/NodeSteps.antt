@@ -13,6 +13,7 @@ use Rattle.xl_validations.specs.Rows.{is_current, unexpired, row_at, refusal, wi
 use Rattle.xl_core.specs.declared.report.Report.{Report}
 use Rattle.xl_core.specs.declared.refusal.Refusal.TheVariants.{NotAfter, IssuingOff, KeepFault}
 use Rattle.xl_core.specs.declared.refusal.Refusal.{Refusal}
+use Rattle.xl_core.specs.declared.settings.Settings.{Settings}
 use Rattle.xl_ledger.specs.declared.header.Header.{Header}
 use Rattle.xl_ledger.specs.declared.refusal.AddRefusal.{AddRefusal}
 use Rattle.xl_ledger.specs.Registries.{add_refusal}
@@ -21,15 +22,20 @@ use Rattle.xl_core.specs.declared.hearing.Speech.{Speech}
 use Rattle.xl_core.specs.declared.hearing.Speech.TheVariants.{Vote, Header as Ledger}
 use Rattle.xl_core.specs.Hearing.{heard}
 use Rattle.xl_tags.specs.Rings.{Ring}
-use Rattle.xl_core.specs.Node.{Node, Event, Issue, Frame, Reply, Save, at_moment, second_of, own_validation, issues_unless, unless_off, take, with_taken, saving, arises, arisen, report_of, refusing, hears, learns, refusal_at, hearing_speech, hearing, asks, happens, opened}
+use Rattle.xl_core.specs.Answers.{Done}
+use Rattle.xl_core.specs.Node.{settings_of, Node, Event, Issue, Frame, Reply, Save, at_moment, second_of, own_validation, issues_unless, unless_failed, take, with_taken, saving, arises, arisen, report_of, refusing, hears, learns, refusal_at, hearing_speech, hearing, asks, happens, opened}
 use Rattle.xl_world.specs.declared.place.Keeper.{Keeper}
 use Rattle.xl_world.specs.declared.place.Fate.{Fate}
 use Rattle.xl_world.specs.declared.place.Fate.TheVariants.{Kept, Unwritten, Written}
-use Rattle.xl_world.specs.Keeper.{MayHold, one_more, restored, answer_of, after_failed, after_save}
+use Rattle.xl_io.specs.Keepers.{MayHold}
+use Rattle.xl_queues.specs.Queues.{one_more}
+use Rattle.xl_world.specs.Keeper.{held_by, restored, answer_of, after_failed, after_save}
 use Rattle.xl_validations.proofs.Turning.{members_then}
 use Rattle.xl_core.specs.Node.Save.{Kept as AnsweredOk, Failed as AnsweredFailed}
-use Rattle.xl_world.specs.World.{Place, said_by, RowSays, NodeSays, quiet, place_again}
-use Rattle.xl_world.proofs.Settling.{IsWell, IsStep, ReplySays, if_some}
+use Rattle.xl_world.proofs.Seats.{Seat}
+use Rattle.xl_world.specs.World.{said_by}
+use Rattle.xl_world.proofs.Standing.{RowSays, NodeSays}
+use Rattle.xl_world.proofs.Seats.{IsWell, IsStep, ReplySays, if_some}
 
 -- ROWS
 
@@ -65,12 +71,12 @@ members_opened (m ∷ ms) = cons_same refl (members_opened ms)
 
 -- THE KEEPER
 
-held : (k : Keeper) (n j : ℕ) → MayHold (restored k n) j → j ≡ n
+held : (k : Keeper) (n j : ℕ) → MayHold (held_by (restored k n)) j → j ≡ n
 held k n j (inl e) = e
 held k n j (inr e) = cc
 
 -- after a save that failed the keeper holds the number in force, or the asked one
-pub failed_rises : (k : Keeper) (s j : ℕ) → k.in_force < s → MayHold (record k { asked = Some s }) j → (i : ℕ) × (i ≤ j) × MayHold k i
+pub failed_rises : (k : Keeper) (s j : ℕ) → k.in_force < s → MayHold (held_by (record k { asked = Some s })) j → (i : ℕ) × (i ≤ j) × MayHold (held_by k) i
 failed_rises k s j above (inl e) = (j, omega arith, inl e)
 failed_rises k s j above (inr e) = (k.in_force, omega (arith, some_number s j e), inl refl)
   where
@@ -80,14 +86,14 @@ failed_rises k s j above (inr e) = (k.in_force, omega (arith, some_number s j e)
 -- THE EVENTS
 
 -- nothing is issued or reported
-pub still : (p : Place) (r : Reply) → r.node ≡ p.node → r.issued ≡ None → r.report ≡ None → IsWell p → IsStep p r p.keeper
+pub still : (p : Seat) (r : Reply) → r.node ≡ p.node → r.issued ≡ None → r.report ≡ None → IsWell p → IsStep p r p.keeper
 still p r node issued report well = record {
   me = ap (λ (n : Node). n.me) node;
   list = ap (λ (n : Node). n.list) node;
   well = subst (λ n. IsWell (record { node = n; keeper = p.keeper })) (sym node) (record { members = well.members; valid = well.valid; in_force = well.in_force });
   rises = λ j h. (j, omega arith, h);
-  above = subst (λ o. IfSome o (λ v. (i : ℕ) × (i < v.seq) × MayHold p.keeper i)) (sym issued) tt;
-  saved = subst (λ o. IfSome o (λ v. (j : ℕ) → MayHold p.keeper j → v.seq ≤ j)) (sym issued) tt;
+  above = subst (λ o. IfSome o (λ v. (i : ℕ) × (i < v.seq) × MayHold (held_by p.keeper) i)) (sym issued) tt;
+  saved = subst (λ o. IfSome o (λ v. (j : ℕ) → MayHold (held_by p.keeper) j → v.seq ≤ j)) (sym issued) tt;
   quorum = subst (λ o. IfSome o (λ q. r.node.list.quorum ≤ count_full q.seq q.id r.node.rows)) (sym report) tt;
 }
 
@@ -108,8 +114,8 @@ arisen_quorum n =
     _ (find_passes (arises n) (filter_map (λ row. row.current) n.rows)))
 
 -- after a save that failed
-failed_steps : (p : Place) (v : Validation) (count : ℕ) (written : Bool) → p.node.kept < v.seq → IsWell p →
-    IsStep p (refusing (record p.node { off = Some v.seq }) (KeepFault count)) (after_failed p.keeper v.seq written)
+failed_steps : (p : Seat) (v : Validation) (count : ℕ) (written : Bool) → p.node.kept < v.seq → IsWell p →
+    IsStep p (refusing (record p.node { failed_save = Some v.seq }) (KeepFault count)) (after_failed p.keeper v.seq written)
 failed_steps p v count written above well = record {
   me = refl;
   list = refl;
@@ -121,8 +127,8 @@ failed_steps p v count written above well = record {
 }
 
 -- an issue, by whether its sequence is above the kept one, whether a save failed before, and the fate of its own
-issue_steps : (p : Place) (v : Validation) (b : Bool) (off : Option ℕ) (fate : Fate) → (b ≡ true → p.node.kept < v.seq) → IsWell p →
-    IsStep p (cond b (issues_unless p.node off (answer_of p.keeper fate) v) (refusing p.node (NotAfter p.node.kept))) (after_save p.keeper (cond b (unless_off off v.seq) None) fate)
+issue_steps : (p : Seat) (v : Validation) (b : Bool) (off : Option ℕ) (fate : Fate) → (b ≡ true → p.node.kept < v.seq) → IsWell p →
+    IsStep p (cond b (issues_unless p.node off (answer_of p.keeper fate) v) (refusing p.node (NotAfter p.node.kept))) (after_save p.keeper (cond b (unless_failed off v.seq) None) fate)
 issue_steps p v true None Kept above well = record {
   me = refl;
   list = refl;
@@ -137,7 +143,7 @@ issue_steps p v true None Written above well = failed_steps p v (one_more p.keep
 issue_steps p v true (Some failed) fate above well = still p (refusing p.node (IssuingOff failed)) refl refl refl well
 issue_steps p v false off fate above well = still p (refusing p.node (NotAfter p.node.kept)) refl refl refl well
 
-hears_steps : (p : Place) (now from : ℕ) (v : Validation) (o : Option ValRefusal) → IsWell p → IsStep p (hears p.node now from v o) p.keeper
+hears_steps : (p : Seat) (now from : ℕ) (v : Validation) (o : Option ValRefusal) → IsWell p → IsStep p (hears p.node now from v o) p.keeper
 hears_steps p now from v (Some why) well = still p (hears p.node now from v (Some why)) refl refl refl well
 hears_steps p now from v None well = record {
   me = refl;
@@ -150,7 +156,7 @@ hears_steps p now from v None well = record {
 }
 
 -- a header changes no row and no number
-learns_steps : (p : Place) (h : Header) (o : Option AddRefusal) → IsWell p → IsStep p (learns p.node h o) p.keeper
+learns_steps : (p : Seat) (h : Header) (o : Option AddRefusal) → IsWell p → IsStep p (learns p.node h o) p.keeper
 learns_steps p h (Some why) well = still p (learns p.node h (Some why)) refl refl refl well
 learns_steps p h None well = record {
   me = refl;
@@ -162,28 +168,28 @@ learns_steps p h None well = record {
   quorum = tt;
 }
 
-speech_steps : (p : Place) (now from : ℕ) (what : Speech) → IsWell p → IsStep p (hearing_speech p.node now from what) p.keeper
+speech_steps : (p : Seat) (now from : ℕ) (what : Speech) → IsWell p → IsStep p (hearing_speech p.node now from what) p.keeper
 speech_steps p now from (Vote v) well = hears_steps p now from v (refusal_at p.node now from v) well
 speech_steps p now from (Ledger h) well = learns_steps p h (add_refusal p.node.ledgers h) well
 
-hearing_steps : (p : Place) (now : ℕ) (said : Result Spoken Refusal) → IsWell p → IsStep p (hearing p.node now said) p.keeper
+hearing_steps : (p : Seat) (now : ℕ) (said : Result Spoken Refusal) → IsWell p → IsStep p (hearing p.node now said) p.keeper
 hearing_steps p now (Ok said) well = speech_steps p now said.from said.what well
 hearing_steps p now (Err why) well = still p (refusing p.node why) refl refl refl well
 
 -- the place at a moment: its time is set, and rows expire
-abbrev moved : ℕ → Place → Place
+abbrev moved : ℕ → Seat → Seat
 moved now p = record { node = at_moment now p.node; keeper = p.keeper }
 
-well_then : (now : ℕ) (p : Place) → IsWell p → IsWell (moved now p)
+well_then : (now : ℕ) (p : Seat) → IsWell p → IsWell (moved now p)
 well_then now p well = record { members = members_then (max p.node.time now / 1000) p.node.rows ∙ well.members; valid = well.valid; in_force = well.in_force }
 
-from_moved : (now : ℕ) (p : Place) (r : Reply) (k : Keeper) → IsStep (moved now p) r k → IsStep p r k
+from_moved : (now : ℕ) (p : Seat) (r : Reply) (k : Keeper) → IsStep (moved now p) r k → IsStep p r k
 from_moved now p r k s = record { me = s.me; list = s.list; well = s.well; rises = s.rises; above = s.above; saved = s.saved; quorum = s.quorum }
 
-pub happens_steps : (p : Place) (e : Event) (fate : Fate) → IsWell p → IsStep p (happens p.node e (answer_of p.keeper fate)) (after_save p.keeper (asks p.node e) fate)
+pub happens_steps : (p : Seat) (e : Event) (fate : Fate) → IsWell p → IsStep p (happens p.node e (answer_of p.keeper fate)) (after_save p.keeper (asks p.node e) fate)
 happens_steps p (Issue now seq id full) fate well =
     let m : Node = at_moment now p.node in
-    from_moved now p _ _ (issue_steps (moved now p) (own_validation m seq id full) (nat_lt m.kept seq) m.off fate (λ e. ltb-true _ _ e) (well_then now p well))
+    from_moved now p _ _ (issue_steps (moved now p) (own_validation m seq id full) (nat_lt m.kept seq) m.failed_save fate (λ e. ltb-true _ _ e) (well_then now p well))
 happens_steps p (Frame now bytes) fate well =
     from_moved now p _ _ (hearing_steps (moved now p) (second_of (at_moment now p.node)) (heard p.node.keys p.node.list.members bytes) (well_then now p well))
 
@@ -239,33 +245,37 @@ says_then P now n says = rows_then P (max n.time now / 1000) n.rows says
 pub happens_says : (P : Said → Type 0) (n : Node) (e : Event) (save : Save) → NodeSays P n → HeardSays P n e →
     IfSome (happens n e save).issued (λ v. P (said_by n.me v)) → ReplySays P n.me (happens n e save)
 happens_says P n (Issue now seq id full) save says heard fair =
-    let m : Node = at_moment now n in issue_says P m (own_validation m seq id full) (nat_lt m.kept seq) m.off save (says_then P now n says) fair
+    let m : Node = at_moment now n in issue_says P m (own_validation m seq id full) (nat_lt m.kept seq) m.failed_save save (says_then P now n says) fair
 happens_says P n (Frame now bytes) save says fair issued =
     hearing_says P (at_moment now n) (second_of (at_moment now n)) (heard n.keys n.list.members bytes) (says_then P now n says) fair
 
 -- a node that is opened has nothing
-pub opened_says : (P : Said → Type 0) (me : ℕ) (list : TrustedList) (keys : Ring) (limit now kept : ℕ) → NodeSays P (opened me list keys limit now kept)
-opened_says P me list keys limit now kept = All-map (RowSays P) empty_row list.members (λ _ _ _. tt)
+pub opened_says : (P : Said → Type 0) (settings : Settings) (now kept : ℕ) → NodeSays P (opened settings now kept)
+opened_says P settings now kept = All-map (RowSays P) empty_row settings.list.members (λ _ _ _. tt)
 
-pub opened_well : (me : ℕ) (list : TrustedList) (keys : Ring) (limit now number : ℕ) (k : Keeper) → IsValid list → k.in_force ≡ number → IsWell (record { node = opened me list keys limit now number; keeper = k })
-opened_well me list keys limit now number k valid same = record { members = members_opened list.members; valid = valid; in_force = sym same }
+pub opened_well : (settings : Settings) (now number : ℕ) (k : Keeper) → IsValid settings.list → k.in_force ≡ number → IsWell (record { node = opened settings now number; keeper = k })
+opened_well settings now number k valid same = record { members = members_opened settings.list.members; valid = valid; in_force = sym same }
 
 -- a save is asked above the number that was kept
 pub asks_above : (n : Node) (e : Event) → IfSome (asks n e) (λ s. n.kept < s)
-asks_above n (Issue now seq id full) = cond_both (nat_lt n.kept seq) (unless_off n.off seq) None (λ o. IfSome o (λ s. n.kept < s)) (λ e. unless_above n.off (ltb-true _ _ e)) (λ _. tt)
+asks_above n (Issue now seq id full) = cond_both (nat_lt n.kept seq) (unless_failed n.failed_save seq) None (λ o. IfSome o (λ s. n.kept < s)) (λ e. unless_above n.failed_save (ltb-true _ _ e)) (λ _. tt)
   where
-    unless_above : (off : Option ℕ) → n.kept < seq → IfSome (unless_off off seq) (λ s. n.kept < s)
+    unless_above : (off : Option ℕ) → n.kept < seq → IfSome (unless_failed off seq) (λ s. n.kept < s)
     unless_above None lt = lt
     unless_above (Some failed) lt = tt
 asks_above n (Frame now bytes) = tt
 
+-- a node that is opened says and reports nothing
+abbrev pub quiet : Node → Reply
+quiet n = record { node = n; answer = Done; items = []; issued = None; report = None }
+
 -- a node opened again with a number that is not below its keeper's
-pub opened_steps : (p : Place) (now number : ℕ) → IsWell p → (i : ℕ) × (i ≤ number) × MayHold p.keeper i →
-    IsStep p (quiet (place_again p now number).node) (restored p.keeper number)
+pub opened_steps : (p : Seat) (now number : ℕ) → IsWell p → (i : ℕ) × (i ≤ number) × MayHold (held_by p.keeper) i →
+    IsStep p (quiet (opened (settings_of p.node) now number)) (restored p.keeper number)
 opened_steps p now number well low = record {
   me = refl;
   list = refl;
-  well = opened_well p.node.me p.node.list p.node.keys p.node.ledgers.limit now number (restored p.keeper number) well.valid refl;
+  well = opened_well (settings_of p.node) now number (restored p.keeper number) well.valid refl;
   rises = λ j h. (low.0, omega (arith, held p.keeper number j h, low.1), low.2);
   above = tt;
   saved = tt;

@@ -2,7 +2,7 @@
 use Rattle.std.proofs.Common.{◌≡◌, ℕ, zero, suc, ◌+◌, ◌-◌, ◌≤◌, Bool, cond, List, [], ◌∷◌, ◌++◌, arith, ap, sym, ◌∙◌, Option, Some, None}
 use Rattle.std.specs.Prelude.{filter, option_to_list, if◌then◌else◌}
 use Rattle.std.proofs.lemmas.Bool.{cond_both}
-use Rattle.xl_world.specs.World.{up_from}
+use Rattle.xl_world.specs.Plans.{up_from}
 
 -- one number more
 pub up_from_more : (n k : ℕ) → up_from n (suc k) ≡ up_from n k ++ (n + k) ∷ []

@@ -11,10 +11,10 @@ use Rattle.xl_world.specs.declared.act.Answer.{Answer}
 use Rattle.xl_world.specs.declared.place.Place.{Place}
 use Rattle.xl_world.specs.declared.place.Fate.{Fate}
 use Rattle.xl_world.specs.Keeper.{answer_of}
-use Rattle.xl_world.specs.Cores.{place_at, put, reply_at}
-use Rattle.xl_world.specs.Seen.{IsAnswer, place_after, place_drained, put_acted, put_drained, given_at, acted_at, Answers, AnswersAt}
+use Rattle.xl_world.specs.World.{place_at, put, reply_at}
+use Rattle.xl_world.specs.Seen.{IsAnswer, place_again, put_again, place_after, place_drained, put_acted, put_drained, given_at, acted_at, Answers, AnswersAt}
 use Rattle.xl_world.specs.declared.sent.Sent.{Sent}
-use Rattle.xl_world.proofs.CoreLists.{core_keeps}
+use Rattle.xl_world.proofs.Lists.{core_keeps}
 use Rattle.xl_world.proofs.Emptying.{drained_node}
 use Rattle.xl_world.specs.Emptying.{given, others}
 
@@ -84,6 +84,15 @@ given_there numbers xs i k d found = ap (given_at numbers) (sym (found_there xs 
 
 pub given_nowhere : (numbers : List ℕ) (xs : List Place) (i : ℕ) → position (λ p. p.core.node.me == i) xs ≡ None → [] ≡ given_at numbers (place_at i xs)
 given_nowhere numbers xs i none = ap (given_at numbers) (sym (none_there xs i none))
+
+-- a node that is opened again at the place that is found
+pub again_there : (xs : List Place) (i k now number : ℕ) (d y : Place) → position (λ p. p.core.node.me == i) xs ≡ Some k → y ≡ place_again (get_or xs k d) now number → set xs k y ≡ put_again now number (place_at i xs) xs
+again_there xs i k now number d y found is =
+    put_found xs i k d y found (ap (λ (p : Place). p.core.node.me) is)
+    ∙ (ap (λ (p : Place). put p xs) is ∙ ap (λ o. put_again now number o xs) (sym (found_there xs i k d found)))
+
+pub again_nowhere : (xs : List Place) (i now number : ℕ) → position (λ p. p.core.node.me == i) xs ≡ None → xs ≡ put_again now number (place_at i xs) xs
+again_nowhere xs i now number none = ap (λ o. put_again now number o xs) (sym (none_there xs i none))
 
 pub acted_nowhere : (xs : List Place) (i : ℕ) (e : CoreEvent) (fate : Fate) → position (λ p. p.core.node.me == i) xs ≡ None → xs ≡ acted_at i e fate xs
 acted_nowhere xs i e fate none = ap (λ o. put_acted e fate o xs) (sym (none_there xs i none))

@@ -1,6 +1,6 @@
 -- Each reporting node stands in the world under the list of its report, and its number is a member's.
 use Rattle.std.proofs.Common.{◌≡◌, ℕ, ◌≤◌, true, false, List, [], ◌∷◌, refl, ap, sym, ◌∙◌, Option, Some, None, subst}
-use Rattle.std.specs.Prelude.{◌==◌, All, map, find, option_map, is_some, slice_index_or}
+use Rattle.std.specs.Prelude.{◌==◌, ◌↔◌, All, map, find, option_map, is_some, slice_index_or}
 use Rattle.std.proofs.lemmas.Bool.{cond_both, cond-true, cond-false, eqb-true}
 use Rattle.std.proofs.lemmas.List.Elements.{All-head, All-tail}
 use Rattle.xl_lists.specs.Lists.{TrustedList}
@@ -9,10 +9,11 @@ use Rattle.xl_core.specs.declared.event.CoreEvent.{CoreEvent}
 use Rattle.xl_world.specs.declared.place.Place.{Place}
 use Rattle.xl_world.specs.declared.plan.PlanNode.{PlanNode}
 use Rattle.xl_world.specs.declared.place.Fate.{Fate}
-use Rattle.xl_world.specs.Keeper.{may_hold}
-use Rattle.xl_world.specs.World.{IsDeclared, AreDeclared, list_at}
-use Rattle.xl_world.specs.Cores.{World, Step, Act, Again, Torn, Mark, place_at, put, acts, moment_in, reopened, again, torn, asked_at, step, run, place_of, start, list_in, IsRun}
-use Rattle.xl_world.proofs.CoreLists.{HasLists, run_lists, start_lists}
+use Rattle.xl_io.specs.Keepers.{may_hold}
+use Rattle.xl_world.specs.Keeper.{held_by}
+use Rattle.xl_world.specs.Plans.{IsDeclared, AreDeclared, list_at}
+use Rattle.xl_world.specs.World.{World, Step, Act, Again, Torn, Mark, place_at, put, acts, moment_in, reopened, again, torn, asked_at, step, run, place_of, start, list_in, core_in, IsRun}
+use Rattle.xl_world.proofs.Lists.{HasLists, run_lists, start_lists}
 
 -- a place that is put is found where one of its number was, and nowhere else
 put_present : (j : ℕ) (q : Place) (ps : List Place) → is_some (place_at j (put q ps)) ≡ is_some (place_at j ps)
@@ -36,7 +37,7 @@ acts_present w i e fate (Some p) j = put_present j _ w.places
 
 again_present : (w : World) (i now number : ℕ) (o : Option Place) → StandsSame w (again w i now number o)
 again_present w i now number None j = refl
-again_present w i now number (Some p) j = cond_both (may_hold p.keeper number) (reopened w i p now number) w (λ v. is_some (place_at j v.places) ≡ is_some (place_at j w.places)) (λ _. put_present j _ w.places) (λ _. refl)
+again_present w i now number (Some p) j = cond_both (may_hold (held_by p.keeper) number) (reopened w i p now number) w (λ v. is_some (place_at j v.places) ≡ is_some (place_at j w.places)) (λ _. put_present j _ w.places) (λ _. refl)
 
 torn_present : (w : World) (i now number : ℕ) (o : Option Place) (asked : Option ℕ) → StandsSame w (torn w i now number o asked)
 torn_present w i now number None asked j = refl
@@ -98,3 +99,20 @@ run_reporters limit liars plan steps each k d k_in =
 
 pub world_reporters : (w : World) → IsRun w → All (IsReporter w) w.reports
 world_reporters w is_run = subst (λ (u : World). All (IsReporter u) u.reports) (sym is_run.4) (run_reporters is_run.0 w.liars is_run.1 is_run.2 is_run.3)
+
+-- one is there exactly where the other is
+absent_like : {X Y : Type 0} (o : Option X) (p : Option Y) → is_some o ≡ is_some p → o ≡ None → p ≡ None
+absent_like None None same is = refl
+absent_like None (Some y) same is = cc
+absent_like (Some x) p same is = cc
+
+some_mapped : {X Y : Type 0} (f : X → Y) (o : Option X) → is_some (option_map f o) ≡ is_some o
+some_mapped f None = refl
+some_mapped f (Some x) = refl
+
+-- a number has a core exactly where a node was declared with it
+pub none_declared : (limit : ℕ) (liars : List ℕ) (plan : List PlanNode) (steps : List Step) (i : ℕ) → (core_in (run (start limit liars plan) steps) i ≡ None) ↔ (list_at plan i ≡ None)
+none_declared limit liars plan steps i =
+    let w : World = run (start limit liars plan) steps in
+    let same : is_some (core_in w i) ≡ is_some (list_at plan i) = some_mapped (λ (p : Place). p.core) (place_at i w.places) ∙ run_present (start limit liars plan) steps i ∙ start_present limit i plan in
+    (absent_like (core_in w i) (list_at plan i) same, absent_like (list_at plan i) (core_in w i) (sym same))

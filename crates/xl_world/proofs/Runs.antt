@@ -1,127 +1,113 @@
--- Each step of an unforged run keeps what is kept, so reports agree.
-use Rattle.std.proofs.Common.{◌≡◌, ℕ, ◌+◌, ◌<◌, ◌≤◌, Bool, true, false, cond, List, [], ◌∷◌, ◌++◌, length, refl, arith, ap, sym, ◌∙◌, inl, inr, Option, Some, None, subst}
-use Rattle.std.specs.Prelude.{◌==◌, ◌&&◌, ◌⊎◌, All, IfSome, nat_le, not, slice_index_or, map, filter}
-use Rattle.std.specs.List.{list_any}
-use Rattle.std.proofs.lemmas.Bool.{or_left, or_cases, eqb-true, cond_both}
+-- Each step of an unforged run of cores keeps what is kept, so reports agree.
+use Rattle.std.proofs.Common.{◌≡◌, ℕ, ◌<◌, ◌≤◌, Bool, true, false, cond, List, [], ◌∷◌, ◌++◌, refl, arith, ap, sym, ◌∙◌, Option, Some, None, subst}
+use Rattle.std.specs.Prelude.{◌==◌, All, IfSome, map, filter, slice_index_or}
+use Rattle.std.proofs.lemmas.Bool.{cond_both}
 use Rattle.std.proofs.lemmas.List.Elements.{All-map, All-head, All-tail, All-nil}
-use Rattle.std.proofs.lemmas.Slice.Eq.{bytes_eq-Decides}
-use Rattle.xl_lists.specs.Lists.{is_on}
 use Rattle.xl_wire.specs.Heads.{split_of}
-use Rattle.xl_wire.specs.Kinds.{span}
-use Rattle.xl_wire.specs.Raws.{RawFrame}
-use Rattle.xl_tags.specs.Opening.{is_sealed}
+use Rattle.xl_wire.specs.declared.validation.Validation.{Validation}
 use Rattle.xl_tags.specs.Rings.{schedule_ring}
-use Rattle.xl_wire.specs.Bodies.{body_of}
-use Rattle.xl_core.specs.declared.hearing.Speech.TheVariants.{Vote}
-use Rattle.xl_core.specs.Hearing.{heard}
-use Rattle.xl_core.proofs.Heard.{IsHeard, heard_parts, body_from}
-use Rattle.xl_world.proofs.Speaking.{heard_said}
-use Rattle.xl_world.specs.declared.sent.Sent.{Sent}
 use Rattle.xl_lists.specs.Agreement.{Said, Report as Reported, IsGenuine, IsBacked, Agree}
 use Rattle.xl_lists.proofs.Agreement.{agreement_from_kept, vouches_still}
-use Rattle.xl_wire.specs.declared.validation.Validation.{Validation}
-use Rattle.xl_core.specs.Node.{Node, Event, Issue, Frame, Reply, Save, asks, happens}
+use Rattle.xl_core.specs.declared.event.CoreEvent.{CoreEvent}
+use Rattle.xl_core.specs.declared.event.CoreEvent.TheVariants.{Issue, Frame, Drain, Reports, Stop, Stopped}
+use Rattle.xl_core.specs.declared.hearing.Speech.TheVariants.{Vote}
+use Rattle.xl_core.specs.Answers.{Done}
+use Rattle.xl_core.specs.Core.{Core, CoreReply, answering, core_happens, core_asks}
+use Rattle.xl_core.specs.Node as nodes
+use Rattle.xl_core.specs.Node.{Node, Save, settings_of}
+use Rattle.xl_core.proofs.Heard.{heard_parts}
 use Rattle.xl_world.specs.declared.place.Keeper.{Keeper}
 use Rattle.xl_world.specs.declared.place.Fate.{Fate}
-use Rattle.xl_world.specs.Keeper.{MayHold, one_more, may_hold, is_asked, holding, restored, answer_of, after_save}
 use Rattle.xl_world.specs.declared.plan.PlanNode.{PlanNode}
-use Rattle.xl_world.specs.World.{Place, World, Step, Act, Again, Torn, Mark, marked, place_at, said_by, said_in, was_sent, forges, is_forged, acts, reopened, quiet, place_again, moment_in, again, torn, asked_at, step, run, place_of, start, is_declared, all_numbers, AreDeclared, FrameSays, NodeSays, Stands}
-use Rattle.xl_world.proofs.Settling.{IsWell, IsSound, ReplySays, GenuineThen, spoken, settled_sound, issued_genuine, node_weaker, at_its_number, some_same}
-use Rattle.xl_world.proofs.NodeSteps.{happens_steps, happens_says, HeardSays, heard_weaker, opened_says, opened_well, opened_steps, asks_above, failed_rises}
+use Rattle.xl_world.specs.declared.sent.Sent.{Sent}
+use Rattle.xl_io.specs.Keepers.{MayHold, may_hold}
+use Rattle.xl_queues.specs.Queues.{one_more}
+use Rattle.xl_world.specs.Keeper.{held_by, resting, restored, answer_of}
+use Rattle.xl_world.specs.Plans.{planned, AreDeclared, is_declared, all_numbers}
+use Rattle.xl_world.proofs.Standing.{FrameSays}
+use Rattle.xl_world.specs.World.{said_by}
+use Rattle.xl_world.specs.Forgeries.{forges}
+use Rattle.xl_world.specs.declared.place.Place.{Place}
+use Rattle.xl_world.specs.World.{World, Step, Act, Again, Torn, Mark, place_at, is_forged, settled, acts, reply_at, keeper_after, core_again, reopened, again, torn, moment_in, asked_at, marked, step, run, place_of, start, IsRun}
+use Rattle.xl_world.proofs.Standing.{CoreSays, Stands}
+use Rattle.xl_world.proofs.NodeSteps.{asks_above, failed_rises, opened_well}
+use Rattle.xl_world.proofs.Unforged.{heard_unforged, may_hold-true, never_none}
+use Rattle.xl_world.proofs.Seats.{IsWell, spoken, issued_genuine, some_same}
+use Rattle.xl_world.proofs.Settling.{IsSound, ReplySays, GenuineThen, settled_sound, core_weaker, at_its_number, seat}
+use Rattle.xl_world.proofs.CoreSteps.{CoreHeard, core_steps, core_says, opened_core_steps, opened_core_says}
 
 -- WHAT COMES UNFORGED
 
--- what holds of each element holds of one that a test finds
-pub from_found : {X : Type 0} (p : X → Bool) (P : X → Type 0) (R : Type 0) (xs : List X) → list_any p xs ≡ true → All P xs → ((x : X) → p x ≡ true → P x → R) → R
-from_found p P R [] found each then_ = cc
-from_found p P R (x ∷ xs) found each then_ =
-    elim (or_cases (p x) (list_any p xs) found)
-    [ inl here ↦ then_ x here (All-head P x xs each) | inr there ↦ from_found p P R xs there (All-tail P x xs each) then_ ]
-
--- what is not forged, though it is a sealed frame to the node, comes from a liar or was sent
-unforged : (last mine liar sent right : Bool) → (last && (mine && not liar && not sent && right)) ≡ false → last ≡ true → mine ≡ true → right ≡ true → (liar ≡ true) ⊎ (sent ≡ true)
-unforged last mine liar sent right h a b c = grind arith
-
--- what was sent says what comes
-sent_says : (P : Said → Type 0) (w : World) (bytes : List ℕ) (x : Said) → All (FrameSays P) w.sent → was_sent w.sent bytes ≡ true → said_in bytes ≡ Some x → P x
-sent_says P w bytes x says sent is =
-    from_found _ (FrameSays P) _ w.sent sent says
-    (λ f same says_f.
-    let equal : f.bytes ≡ bytes = (bytes_eq-Decides f.bytes bytes).0 same in
-    subst (λ o. IfSome o P) (ap said_in equal ∙ is) says_f)
-
-pub heard_unforged : (w : World) (n : Node) → Stands w (IsGenuine w.liars w.said) → (bytes : List ℕ) → forges w.liars w.sent n.keys bytes (split_of bytes) ≡ false →
-    (from : ℕ) (v : Validation) → IsHeard n.keys n.list.members bytes (record { from = from; what = Vote v }) → IsGenuine w.liars w.said (said_by from v)
-heard_unforged w n stands bytes fair from v heard =
-    let f : RawFrame = heard.frame in
-    elim (unforged (nat_le (length bytes) (span f.body)) (f.to == n.keys.me) (is_on w.liars f.from) (was_sent w.sent bytes) (is_sealed n.keys f)
-    (ap (forges w.liars w.sent n.keys bytes) (sym heard.split) ∙ fair) heard.last heard.for_me heard.is_sealed) [
-      | inl liar ↦ or_left _ _ (ap (is_on w.liars) (body_from f.kind f.from (body_of f.kind f.body) (record { from = from; what = Vote v }) heard.body) ∙ liar)
-      | inr sent ↦ sent_says (IsGenuine w.liars w.said) w bytes (said_by from v) stands.sent sent (heard_said n.keys n.list.members bytes from v heard)
-    ]
-
-heard_genuine : (w : World) (n : Node) → Stands w (IsGenuine w.liars w.said) → (e : Event) → is_forged w n e ≡ false → HeardSays (IsGenuine w.liars w.said) n e
+heard_genuine : (w : World) (n : Node) → Stands w (IsGenuine w.liars w.said) → (e : CoreEvent) → is_forged w n e ≡ false → CoreHeard (IsGenuine w.liars w.said) n e
 heard_genuine w n stands (Issue now seq id full) fair = tt
-heard_genuine w n stands (Frame now bytes) fair = λ from v is. heard_unforged w n stands bytes fair from v (heard_parts n.keys n.list.members bytes (record { from = from; what = Vote v }) is)
+heard_genuine w n stands (Frame now bytes) fair = λ from v is.
+    heard_unforged w n stands.sent bytes fair from v (heard_parts n.keys n.list.members bytes (record { from = from; what = Vote v }) is)
+heard_genuine w n stands (Drain member room) fair = tt
+heard_genuine w n stands (Reports room) fair = tt
+heard_genuine w n stands Stop fair = tt
+heard_genuine w n stands Stopped fair = tt
 
--- one more is not none
-pub never_none : (k : ℕ) → one_more k ≡ 0 → ⊥
-never_none k h = omega (arith, h)
+heard_weaker : (P Q : Said → Type 0) → ((x : Said) → P x → Q x) → (n : Node) (e : CoreEvent) → CoreHeard P n e → CoreHeard Q n e
+heard_weaker P Q h n (Issue now seq id full) says = tt
+heard_weaker P Q h n (Frame now bytes) says = λ from v is. h (said_by from v) (says from v is)
+heard_weaker P Q h n (Drain member room) says = tt
+heard_weaker P Q h n (Reports room) says = tt
+heard_weaker P Q h n Stop says = tt
+heard_weaker P Q h n Stopped says = tt
 
 -- THE STEPS
 
-act_sound : (w : World) (i : ℕ) (e : Event) (fate : Fate) → IsSound w → (o : Option Place) → place_at i w.places ≡ o → (acts w i e fate o).forged ≡ 0 → IsSound (acts w i e fate o)
+act_sound : (w : World) (i : ℕ) (e : CoreEvent) (fate : Fate) → IsSound w → (o : Option Place) → place_at i w.places ≡ o → (acts w i e fate o).forged ≡ 0 → IsSound (acts w i e fate o)
 act_sound w i e fate sound None at same = sound
 act_sound w i e fate sound (Some p) at same =
-    let its : p.node.me ≡ i = at_its_number i w.places p at in
-    let save : Save = answer_of p.keeper fate in
-    let r : Reply = happens p.node e save in
+    let its : p.core.node.me ≡ i = at_its_number i w.places p at in
+    let r : CoreReply = reply_at p e fate in
     let still = λ (x : Said). vouches_still w.liars w.said (spoken i r.issued) x.member x.seq x.id in
-    settled_sound w i (is_forged w p.node e) p r (after_save p.keeper (asks p.node e) fate) at (happens_steps p e fate (sound.well i p at))
-    (subst (λ m. ReplySays (GenuineThen w i r) m r) its
-    (happens_says (GenuineThen w i r) p.node e save
-    (node_weaker (IsGenuine w.liars w.said) (GenuineThen w i r) still p.node (sound.kept.genuine.places i p at))
-    (heard_weaker (IsGenuine w.liars w.said) (GenuineThen w i r) still p.node e (heard_genuine w p.node sound.kept.genuine e (not_forged (is_forged w p.node e) w.forged same)))
-    (subst (λ m. IfSome r.issued (λ v. GenuineThen w i r (said_by m v))) (sym its) (issued_genuine w.liars w.said i r.issued))))
+    settled_sound w i (is_forged w p.core.node e) p r (keeper_after p e fate) at (core_steps p e fate (sound.well i p at))
+    (core_says (GenuineThen w i r) p.core e (answer_of p.keeper fate)
+    (core_weaker (IsGenuine w.liars w.said) (GenuineThen w i r) still p.core (sound.kept.genuine.places i p at))
+    (heard_weaker (IsGenuine w.liars w.said) (GenuineThen w i r) still p.core.node e (heard_genuine w p.core.node sound.kept.genuine e (not_forged (is_forged w p.core.node e) w.forged same)))
+    (subst (λ m. IfSome r.issued (λ v. GenuineThen w i r (said_by m v))) (sym its) (issued_genuine w.liars w.said i r.issued)))
     sound
   where
     not_forged : (b : Bool) (k : ℕ) → cond b (one_more k) k ≡ 0 → b ≡ false
     not_forged true k h = absurd (never_none k h)
     not_forged false k h = refl
 
--- a test that passes says that the keeper may hold it
-asked_holds : (n : ℕ) (o : Option ℕ) → is_asked o n ≡ true → o ≡ Some n
-asked_holds n None h = cc
-asked_holds n (Some s) h = ap (λ (k : ℕ). Some k) (eqb-true s n h)
-
-pub may_hold-true : (k : Keeper) (n : ℕ) → may_hold k n ≡ true → MayHold k n
-may_hold-true k n h = elim (or_cases (n == k.in_force) (is_asked k.asked n) h) [ inl e ↦ inl (eqb-true n k.in_force e) | inr e ↦ inr (asked_holds n k.asked e) ]
-
--- a node opened again with a number that is not below its keeper's
-reopened_sound : (w : World) (i now number : ℕ) → IsSound w → (p : Place) → place_at i w.places ≡ Some p → (k : ℕ) × (k ≤ number) × MayHold p.keeper k → (asked : Option ℕ) →
-    IsSound (reopened w i (record { node = p.node; keeper = record p.keeper { asked = asked } }) now number)
+-- a core opened again with a number that is not below its keeper's
+reopened_sound : (w : World) (i now number : ℕ) → IsSound w → (p : Place) → place_at i w.places ≡ Some p → (k : ℕ) × (k ≤ number) × MayHold (held_by p.keeper) k → (asked : Option ℕ) →
+    IsSound (reopened w i (record { core = p.core; keeper = record p.keeper { asked = asked } }) now number)
 reopened_sound w i now number sound p at low asked =
-    settled_sound w i false p (quiet (place_again p now number).node) (restored p.keeper number) at
-    (opened_steps p now number (sound.well i p at) low)
-    (record { node = opened_says (IsGenuine w.liars w.said) p.node.me p.node.list p.node.keys p.node.ledgers.limit now number; issued = tt }) sound
+    settled_sound w i false p (answering (core_again p now number) Done) (restored (record p.keeper { asked = asked }) number) at
+    (opened_core_steps p now number asked (sound.well i p at) low)
+    (record { core = opened_core_says (IsGenuine w.liars w.said) (settings_of p.core.node) now number; sent = All-nil (FrameSays (IsGenuine w.liars w.said)) }) sound
 
 again_sound : (w : World) (i now number : ℕ) → IsSound w → (o : Option Place) → place_at i w.places ≡ o → IsSound (again w i now number o)
 again_sound w i now number sound None at = sound
 again_sound w i now number sound (Some p) at =
-    cond_both (may_hold p.keeper number) (reopened w i p now number) w IsSound
-    (λ e. reopened_sound w i now number sound p at (number, omega arith, may_hold-true p.keeper number e) p.keeper.asked) (λ _. sound)
+    cond_both (may_hold (held_by p.keeper) number) (reopened w i p now number) w IsSound
+    (λ e. reopened_sound w i now number sound p at (number, omega arith, may_hold-true (held_by p.keeper) number e) p.keeper.asked) (λ _. sound)
 
-torn_sound : (w : World) (i now number : ℕ) → IsSound w → (p : Place) → place_at i w.places ≡ Some p → (asked : Option ℕ) → IfSome asked (λ s. p.node.kept < s) → IsSound (torn w i now number (Some p) asked)
+torn_sound : (w : World) (i now number : ℕ) → IsSound w → (p : Place) → place_at i w.places ≡ Some p → (asked : Option ℕ) → IfSome asked (λ s. p.core.node.kept < s) → IsSound (torn w i now number (Some p) asked)
 torn_sound w i now number sound p at None above = sound
 torn_sound w i now number sound p at (Some s) above =
     let k : Keeper = record p.keeper { asked = Some s } in
-    cond_both (may_hold k number) (reopened w i (record { node = p.node; keeper = k }) now number) w IsSound
-    (λ e. reopened_sound w i now number sound p at (failed_rises p.keeper s number (omega (arith, above, (sound.well i p at).in_force)) (may_hold-true k number e)) (Some s))
+    cond_both (may_hold (held_by k) number) (reopened w i (record { core = p.core; keeper = k }) now number) w IsSound
+    (λ e. reopened_sound w i now number sound p at (failed_rises p.keeper s number (omega (arith, above, (sound.well i p at).in_force)) (may_hold-true (held_by k) number e)) (Some s))
     (λ _. sound)
 
-torn_at : (w : World) (i now number : ℕ) (e : Event) → IsSound w → (o : Option Place) → place_at i w.places ≡ o → IsSound (torn w i now number o (asked_at o e))
+-- a save is asked above the number that was kept
+asked_above : (core : Core) (e : CoreEvent) → IfSome (core_asks core e) (λ s. core.node.kept < s)
+asked_above core (Issue now seq id full) = asks_above core.node (nodes.Issue now seq id full)
+asked_above core (Frame now bytes) = tt
+asked_above core (Drain member room) = tt
+asked_above core (Reports room) = tt
+asked_above core Stop = tt
+asked_above core Stopped = tt
+
+torn_at : (w : World) (i now number : ℕ) (e : CoreEvent) → IsSound w → (o : Option Place) → place_at i w.places ≡ o → IsSound (torn w i now number o (asked_at o e))
 torn_at w i now number e sound None at = sound
-torn_at w i now number e sound (Some p) at = torn_sound w i now number sound p at (asks p.node e) (asks_above p.node e)
+torn_at w i now number e sound (Some p) at = torn_sound w i now number sound p at (core_asks p.core e) (asked_above p.core e)
 
 -- where the mark stands says nothing
 marked_sound : (w : World) → IsSound w → IsSound (marked w)
@@ -148,19 +134,19 @@ pub record Stays (w v : World) : Type 0 where
   pub liars : v.liars ≡ w.liars
   pub forged : v.forged ≡ 0 → w.forged ≡ 0
 
-acts_stays : (w : World) (i : ℕ) (e : Event) (fate : Fate) (o : Option Place) → Stays w (acts w i e fate o)
+acts_stays : (w : World) (i : ℕ) (e : CoreEvent) (fate : Fate) (o : Option Place) → Stays w (acts w i e fate o)
 acts_stays w i e fate None = record { liars = refl; forged = λ h. h }
-acts_stays w i e fate (Some p) = record { liars = refl; forged = cond_both (is_forged w p.node e) (one_more w.forged) w.forged (λ k. k ≡ 0 → w.forged ≡ 0) (λ _ h. absurd (never_none w.forged h)) (λ _ h. h) }
+acts_stays w i e fate (Some p) = record { liars = refl; forged = cond_both (is_forged w p.core.node e) (one_more w.forged) w.forged (λ k. k ≡ 0 → w.forged ≡ 0) (λ _ h. absurd (never_none w.forged h)) (λ _ h. h) }
 
 again_stays : (w : World) (i now number : ℕ) (o : Option Place) → Stays w (again w i now number o)
 again_stays w i now number None = record { liars = refl; forged = λ h. h }
 again_stays w i now number (Some p) =
-    cond_both (may_hold p.keeper number) (reopened w i p now number) w (Stays w) (λ _. record { liars = refl; forged = λ h. h }) (λ _. record { liars = refl; forged = λ h. h })
+    cond_both (may_hold (held_by p.keeper) number) (reopened w i p now number) w (Stays w) (λ _. record { liars = refl; forged = λ h. h }) (λ _. record { liars = refl; forged = λ h. h })
 
 torn_stays : (w : World) (i now number : ℕ) (o : Option Place) (asked : Option ℕ) → Stays w (torn w i now number o asked)
 torn_stays w i now number None asked = record { liars = refl; forged = λ h. h }
 torn_stays w i now number (Some p) None = record { liars = refl; forged = λ h. h }
-torn_stays w i now number (Some p) (Some s) = again_stays w i now number (Some (record { node = p.node; keeper = record p.keeper { asked = Some s } }))
+torn_stays w i now number (Some p) (Some s) = again_stays w i now number (Some (record { core = p.core; keeper = record p.keeper { asked = Some s } }))
 
 step_stays : (w : World) (s : Step) → Stays w (step w s)
 step_stays w (Act i e fate) = acts_stays w i e fate (place_at i w.places)
@@ -181,25 +167,28 @@ run_sound w [] none sound = sound
 run_sound w (s ∷ ss) none sound = run_sound (step w s) ss none (step_sound w s ((run_stays (step w s) ss).forged none) sound)
 
 -- what holds of each place holds of the one of a number
-pub each_at : (P : Place → Type 0) (i : ℕ) (ps : List Place) (p : Place) → All P ps → place_at i ps ≡ Some p → P p
+each_at : (P : Place → Type 0) (i : ℕ) (ps : List Place) (p : Place) → All P ps → place_at i ps ≡ Some p → P p
 each_at P i [] p each h = cc
 each_at P i (x ∷ xs) p each h =
-    cond_both (x.node.me == i) (Some x) (place_at i xs) (λ o. o ≡ Some p → P p)
+    cond_both (x.core.node.me == i) (Some x) (place_at i xs) (λ o. o ≡ Some p → P p)
     (λ _ here. subst P (sym (some_same x p here)) (All-head P x xs each)) (λ _ there. each_at P i xs p (All-tail P x xs each) there) h
 
-pub start_sound : (limit : ℕ) (liars : List ℕ) (plan : List PlanNode) → AreDeclared plan → IsSound (start limit liars plan)
+start_sound : (limit : ℕ) (liars : List ℕ) (plan : List PlanNode) → AreDeclared plan → IsSound (start limit liars plan)
 start_sound limit liars plan lists = record {
   kept = record {
     saved = λ m s n id said _. cc;
     once = λ m s a b said _. cc;
     genuine = record {
-      places = λ i p h. each_at (λ x. NodeSays (IsGenuine liars []) x.node) i _ p
-          (All-map (λ x. NodeSays (IsGenuine liars []) x.node) (place_of limit) plan (λ k e _. let d : PlanNode = slice_index_or plan k e in opened_says (IsGenuine liars []) d.me d.list (schedule_ring d.me) limit d.moment 0)) h;
+      places = λ i p h. each_at (λ x. CoreSays (IsGenuine liars []) x.core) i _ p
+          (All-map (λ x. CoreSays (IsGenuine liars []) x.core) (place_of limit) plan
+          (λ k e _. let d : PlanNode = slice_index_or plan k e in opened_core_says (IsGenuine liars []) (planned limit d) d.moment 0)) h;
       sent = All-nil (FrameSays (IsGenuine liars []));
     };
     backed = All-nil (IsBacked liars []);
   };
-  well = λ i p h. each_at IsWell i _ p (All-map IsWell (place_of limit) plan (λ k e in_plan. let d : PlanNode = slice_index_or plan k e in opened_well d.me d.list (schedule_ring d.me) limit d.moment 0 (holding 0) (lists k e in_plan).list refl)) h;
+  well = λ i p h. each_at (λ x. IsWell (seat x.core x.keeper)) i _ p
+      (All-map (λ x. IsWell (seat x.core x.keeper)) (place_of limit) plan
+      (λ k e in_plan. let d : PlanNode = slice_index_or plan k e in opened_well (planned limit d) d.moment 0 (resting 0) (lists k e in_plan).list refl)) h;
 }
 
 -- reports agree, in each unforged run
@@ -207,3 +196,38 @@ pub agreement : (limit : ℕ) (liars : List ℕ) (plan : List PlanNode) (steps :
 agreement limit liars plan steps lists none =
     subst (λ ls. Agree ls (run (start limit liars plan) steps).reports) (run_stays (start limit liars plan) steps).liars
     (agreement_from_kept (run_sound (start limit liars plan) steps none (start_sound limit liars plan lists)).kept)
+
+-- RUNS GO ON
+
+pub run-append : (w : World) (ss ts : List Step) → run w (ss ++ ts) ≡ run (run w ss) ts
+run-append w [] ts = refl
+run-append w (s ∷ ss) ts = run-append (step w s) ss ts
+
+-- a run and a step more
+pub run_more : (w v : World) (s : Step) → v ≡ step w s → IsRun w → IsRun v
+run_more w v s is run_w =
+    let e : run (start run_w.0 w.liars run_w.1) (run_w.2 ++ s ∷ []) ≡ v = run-append (start run_w.0 w.liars run_w.1) run_w.2 (s ∷ []) ∙ (ap (λ (u : World). step u s) (sym run_w.4) ∙ sym is) in
+    let same : w.liars ≡ v.liars = sym (step_stays w s).liars ∙ ap (λ (u : World). u.liars) (sym is) in
+    (run_w.0, run_w.1, (run_w.2 ++ s ∷ []), run_w.3, sym (subst (λ ls. run (start run_w.0 ls run_w.1) (run_w.2 ++ s ∷ []) ≡ v) same e))
+
+-- a run and more steps
+pub run_on : (w v : World) (ss : List Step) → v ≡ run w ss → IsRun w → IsRun v
+run_on w v [] is run_w = subst (λ (u : World). IsRun u) (sym is) run_w
+run_on w v (s ∷ ss) is run_w = run_on (step w s) v ss is (run_more w (step w s) s refl run_w)
+
+-- a world that has just been opened is one
+pub opened_run : (limit : ℕ) (liars declared : List ℕ) (plan : List PlanNode) (numbers : List ℕ) (places : List Place) (sent : List Sent) (said : List Said) (reports : List Reported) →
+    liars ≡ declared → numbers ≡ filter (is_declared declared plan) all_numbers → places ≡ map (place_of limit) plan → sent ≡ [] → said ≡ [] → reports ≡ [] → AreDeclared plan →
+    IsRun (record { liars = liars; numbers = numbers; places = places; sent = sent; mark = 0; said = said; reports = reports; forged = 0 })
+opened_run limit liars declared plan numbers places sent said reports same is_numbers is_places is_sent is_said is_reports are =
+    let its : numbers ≡ filter (is_declared liars plan) all_numbers = is_numbers ∙ ap (λ (ls : List ℕ). filter (is_declared ls plan) all_numbers) (sym same) in
+    let world = λ (n : List ℕ) (p : List Place) (f : List Sent) (s : List Said) (r : List Reported). let w : World = record { liars = liars; numbers = n; places = p; sent = f; mark = 0; said = s; reports = r; forged = 0 } in w in (
+      limit,
+      plan,
+      [],
+      are,
+      ap (λ n. world n places sent said reports) its ∙ (ap (λ p. world (filter (is_declared liars plan) all_numbers) p sent said reports) is_places
+          ∙ (ap (λ f. world (filter (is_declared liars plan) all_numbers) (map (place_of limit) plan) f said reports) is_sent
+          ∙ (ap (λ s. world (filter (is_declared liars plan) all_numbers) (map (place_of limit) plan) [] s reports) is_said
+          ∙ ap (λ r. world (filter (is_declared liars plan) all_numbers) (map (place_of limit) plan) [] [] r) is_reports))),
+    )

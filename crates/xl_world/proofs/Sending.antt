@@ -1,4 +1,4 @@
--- A world whose cores are emptied after each event is, seen without its queues, one that sends at once.
+-- What an event leaves in a world whose cores are emptied after each event.
 use Rattle.std.proofs.Common.{◌≡◌, ℕ, zero, suc, ◌+◌, ◌<◌, ◌≤◌, Bool, true, false, cond, List, [], ◌∷◌, ◌++◌, length, get_or, filter, map, refl, arith, ap, sym, ◌∙◌, inl, inr, Option, Some, None, subst, append_assoc, append-nil}
 use Rattle.std.specs.Prelude.{◌==◌, not, nat_lt, All, IfSome, drop, if◌then◌else◌, option_map, option_to_list, replicate}
 use Rattle.std.proofs.lemmas.Bool.{cond_both, cond-true, cond-false, eqb-true, eqb-false, eq-eqb}
@@ -27,21 +27,22 @@ use Rattle.xl_world.specs.declared.sent.Sent.{Sent}
 use Rattle.xl_world.specs.declared.place.Fate.{Fate}
 use Rattle.xl_world.specs.declared.place.Fate.TheVariants.{Kept}
 use Rattle.xl_world.specs.declared.place.Keeper.{Keeper}
-use Rattle.xl_world.specs.World.{Place as Seat}
 use Rattle.xl_world.specs.declared.plan.PlanNode.{PlanNode}
-use Rattle.xl_world.specs.Keeper.{after_save, answer_of, may_hold, one_more}
-use Rattle.xl_world.specs.World as flat
-use Rattle.xl_world.specs.World.{frames_for, is_declared, all_numbers, up_from, reported_by, said_by}
+use Rattle.xl_world.specs.Keeper.{held_by, restored, after_save, answer_of}
+use Rattle.xl_io.specs.Keepers.{may_hold}
+use Rattle.xl_queues.specs.Queues.{one_more}
+use Rattle.xl_world.specs.Plans.{is_declared, all_numbers, up_from}
+use Rattle.xl_world.specs.World.{reported_by, said_by}
 use Rattle.xl_world.specs.declared.place.Place.{Place}
-use Rattle.xl_world.specs.Cores.{World, Step, Act, Again, Torn, Mark, again, acts, asked_at, core_again, is_forged, keeper_after, marked, moment_in, place_at, place_of, put, reopened, reply_at, run, sent_in, settled, start, step, torn}
+use Rattle.xl_world.specs.World.{World, Step, Act, Again, Torn, Mark, again, acts, asked_at, core_again, is_forged, keeper_after, marked, moment_in, place_at, place_of, put, reopened, reply_at, run, sent_in, settled, start, step, torn}
 use Rattle.xl_world.specs.Idle.{Between, IsIdle, Waits, WaitsOnly}
-use Rattle.xl_world.specs.Emptying.{IsEmptied, RunsAreOfCores, as_cores, at_core, drained, drained_once, drains, drains_for, emptying, emptying_at, event_steps, given, handed_out, others, run_as_cores, seat_of, without_queues}
-use Rattle.xl_world.proofs.CoreRuns.{run-append}
-use Rattle.xl_world.proofs.CoreSettling.{at_its_number, put_cases}
+use Rattle.xl_world.specs.Emptying.{IsEmptied, drained, drained_once, drains, drains_for, emptying, emptying_at, event_steps, given, handed_out, others}
+use Rattle.xl_world.proofs.Runs.{run-append}
+use Rattle.xl_world.proofs.Settling.{at_its_number, put_cases}
 use Rattle.xl_world.proofs.CoreSteps.{IsPlain, happens_plain}
-use Rattle.xl_world.proofs.Emptying.{all_dry, none_given, drained_long, drained_node, drained_none, drained_untaken, dry, dry_then, given_all, once_long, sent_at_once, waits_still}
-use Rattle.xl_world.proofs.Lists.{happens_keeps}
-use Rattle.xl_world.proofs.Settling.{some_same}
+use Rattle.xl_world.proofs.Emptying.{all_dry, none_given, drained_long, drained_node, drained_none, drained_untaken, dry, dry_then, once_long, waits_still}
+use Rattle.xl_world.proofs.Keeping.{happens_keeps}
+use Rattle.xl_world.proofs.Seats.{some_same}
 
 -- PLACES
 
@@ -79,20 +80,6 @@ put_put x y (z ∷ zs) same =
     (λ is_not.
     let other : (z.core.node.me == y.core.node.me) ≡ false = ap (λ (k : ℕ). z.core.node.me == k) same ∙ is_not in
     cond-false (z.core.node.me == y.core.node.me) _ _ other ∙ cons_same z z _ _ refl (put_put x y zs same) ∙ sym (cond-false (z.core.node.me == y.core.node.me) _ _ other))
-
--- places seen without their queues
-seats_at : (i : ℕ) (ps : List Place) → flat.place_at i (map seat_of ps) ≡ option_map seat_of (place_at i ps)
-seats_at i [] = refl
-seats_at i (p ∷ ps) =
-    cond_both (p.core.node.me == i) (Some p) (place_at i ps) (λ o. flat.place_at i (map seat_of (p ∷ ps)) ≡ option_map seat_of o)
-    (λ is. cond-true (p.core.node.me == i) _ _ is) (λ is_not. cond-false (p.core.node.me == i) _ _ is_not ∙ seats_at i ps)
-
-seats_put : (p : Place) (ps : List Place) → map seat_of (put p ps) ≡ flat.put (seat_of p) (map seat_of ps)
-seats_put p [] = refl
-seats_put p (x ∷ xs) =
-    cond_both (x.core.node.me == p.core.node.me) (p ∷ xs) (x ∷ put p xs) (λ ps. map seat_of ps ≡ flat.put (seat_of p) (map seat_of (x ∷ xs)))
-    (λ is. sym (cond-true (x.core.node.me == p.core.node.me) _ _ is))
-    (λ is_not. cons_same (seat_of x) (seat_of x) _ _ refl (seats_put p xs) ∙ sym (cond-false (x.core.node.me == p.core.node.me) _ _ is_not))
 
 -- EMPTYING
 
@@ -264,10 +251,9 @@ pub record IsAsIssued (numbers : List ℕ) (r : CoreReply) : Type 0 where
   pub none : r.issued ≡ None → given (handed_out r.core) (others numbers r.core.node.me) ≡ []
 
 -- what an event at the node leaves, once its core is emptied
-record IsSentAtOnce (w : World) (i : ℕ) (forged : Bool) (r : Reply) (core : Core) (k : Keeper) (v : World) : Type 0 where
+record IsSettled (w : World) (i : ℕ) (forged : Bool) (r : Reply) (core : Core) (k : Keeper) (v : World) : Type 0 where
   pub ran : v ≡ emptied_then w i forged (stepped core r) k
   pub as_issued : IsAsIssued w.numbers (stepped core r)
-  pub seen : without_queues v ≡ flat.settled (without_queues w) i forged r k
   pub idle : IsIdle v
 
 -- what arose alone was untaken
@@ -275,9 +261,9 @@ pub taken_then : (q : Backlog NodeReport) (o : Option NodeReport) → q.items �
 taken_then q None none = ap (drop 1) none
 taken_then q (Some report) none = ap (λ (xs : List NodeReport). drop 1 (let x : Backlog NodeReport = with_item 1024 (record { items = xs; lost = 0 }) report in x.items)) none
 
-settled_flat : (w : World) (i : ℕ) (p : Place) (forged : Bool) (r : Reply) (k : Keeper) → place_at i w.places ≡ Some p → IsPlain r → r.node.me ≡ p.core.node.me → r.node.keys ≡ p.core.node.keys → IsIdle w →
-    IsSentAtOnce w i forged r p.core k (run (settled w i forged (stepped p.core r) k) (map (λ e. Act i e Kept) (emptying w.numbers (stepped p.core r).core)))
-settled_flat w i p forged r k at plain same_me same_keys idle =
+settled_then : (w : World) (i : ℕ) (p : Place) (forged : Bool) (r : Reply) (k : Keeper) → place_at i w.places ≡ Some p → IsPlain r → r.node.me ≡ p.core.node.me → r.node.keys ≡ p.core.node.keys → IsIdle w →
+    IsSettled w i forged r p.core k (run (settled w i forged (stepped p.core r) k) (map (λ e. Act i e Kept) (emptying w.numbers (stepped p.core r).core)))
+settled_then w i p forged r k at plain same_me same_keys idle =
     let core : Core = (stepped p.core r).core in
     let q : Place = record { core = core; keeper = k } in
     let v : World = settled w i forged (stepped p.core r) k in
@@ -292,7 +278,6 @@ settled_flat w i p forged r k at plain same_me same_keys idle =
     let rising : Between 0 ms = between_filter (λ m. not (m == core.node.me)) 0 w.numbers idle.numbers in
     let none = subst (λ (me : ℕ). All (λ m. (m == me) ≡ false → (waiting_at p.core.waiting m).items ≡ []) w.numbers) (sym same_me) was.none in
     let waits : Waits r.issued (handed_out core) ms = waits_from r.issued (handed_out core) p.core.waiting 0 w.numbers waiting was.readers idle.numbers none in
-    let sends : frames ≡ frames_for w.numbers r.node r.issued = given_all r.issued (handed_out core) 0 ms rising waits ∙ sent_at_once r.node r.issued w.numbers in
     let long : length core.waiting ≡ 64 = long_then r.issued waiting was.readers in
     let ran : run v (map (λ e. Act i e Kept) (emptying w.numbers core)) ≡ moved v last frames =
     emptying_run r.issued w.numbers v i q (put_at i q w.places p its at) long rising (waits_from r.issued core p.core.waiting 0 w.numbers waiting was.readers idle.numbers none) in
@@ -316,24 +301,12 @@ settled_flat w i p forged r k at plain same_me same_keys idle =
         dry = λ quiet. all_dry (handed_out core) ms (subst (λ (o : Option Validation). Waits o (handed_out core) ms) quiet waits);
         none = λ quiet. none_given (handed_out core) ms (subst (λ (o : Option Validation). Waits o (handed_out core) ms) quiet waits);
       };
-      seen = ap without_queues ran
-          ∙ ap (λ (ps : List Seat). with_flat (without_queues v) ps ((w.sent ++ sent_in r.node.me r.answer) ++ frames))
-          (ap (map seat_of) places ∙ seats_put last w.places ∙ ap (λ (n : Node). flat.put (let x : Seat = record { node = n; keeper = k } in x) (map seat_of w.places)) node_is)
-          ∙ ap (λ (fs : List Sent). with_flat (without_queues v) (flat.put (let x : Seat = record { node = r.node; keeper = k } in x) (map seat_of w.places)) fs) (all_sent ∙ ap (λ (fs : List Sent). w.sent ++ fs) sends);
       idle = subst IsIdle (sym ran) (idle_then w last (put last (put q w.places)) _ _ _ _ _ places emptied idle);
     }
   where
-    with_flat : flat.World → List Seat → List Sent → flat.World
-    with_flat u ps fs = record { liars = u.liars; numbers = u.numbers; places = ps; sent = fs; mark = u.mark; said = u.said; reports = u.reports; forged = u.forged }
-
     long_then : (o : Option Validation) {ws : List (Backlog Item)} → ws ≡ with_items p.core.waiting (items_of o) → length p.core.waiting ≡ 64 → length ws ≡ 64
     long_then None is long = ap length is ∙ long
     long_then (Some u) is long = ap length is ∙ length-map p.core.waiting (λ q. with_item 64 q (Vote u)) ∙ long
-
--- seen so, the worlds go on as one
-record GoesOn (w v : World) (u : flat.World) : Type 0 where
-  pub seen : without_queues v ≡ u
-  pub idle : IsIdle v
 
 -- what an event at a place leaves, once its core is emptied, where there is such a place
 abbrev pub emptied_acts : World → ℕ → CoreEvent → Fate → Option Place → World
@@ -346,30 +319,36 @@ pub record IsEmptiedEvent (w : World) (i : ℕ) (e : CoreEvent) (fate : Fate) (o
   pub as_issued : IfSome o (λ p. IsAsIssued w.numbers (reply_at p e fate))
   pub idle : IsIdle v
 
--- by its kind
-act_at : (w : World) (i : ℕ) (e : Event) (fate : Fate) → IsIdle w → (o : Option Place) → place_at i w.places ≡ o →
-    IsEmptiedEvent w i (at_core e) fate o (run (acts w i (at_core e) fate o) (emptying_at w.numbers i (at_core e) fate o))
-    × GoesOn w (run (acts w i (at_core e) fate o) (emptying_at w.numbers i (at_core e) fate o)) (flat.acts (without_queues w) i e fate (option_map seat_of o))
-act_at w i e fate idle None at = (record { ran = refl; as_issued = tt; idle = idle }, record { seen = refl; idle = idle })
-act_at w i (nodes.Issue now seq id full) fate idle (Some p) at =
-    let r : Reply = happens p.core.node (nodes.Issue now seq id full) (answer_of p.keeper fate) in
-    let keeps = happens_keeps p.core.node (nodes.Issue now seq id full) (answer_of p.keeper fate) in
-    let s = settled_flat w i p false r (after_save p.keeper (asks p.core.node (nodes.Issue now seq id full)) fate) at (happens_plain p.core.node (nodes.Issue now seq id full) (answer_of p.keeper fate)) keeps.0 keeps.2 idle in
-    (record { ran = s.ran; as_issued = s.as_issued; idle = s.idle }, record { seen = s.seen; idle = s.idle })
-act_at w i (nodes.Frame now bytes) fate idle (Some p) at =
-    let r : Reply = happens p.core.node (nodes.Frame now bytes) (answer_of p.keeper fate) in
-    let keeps = happens_keeps p.core.node (nodes.Frame now bytes) (answer_of p.keeper fate) in
-    let s = settled_flat w i p (is_forged w p.core.node (Frame now bytes)) r p.keeper at (happens_plain p.core.node (nodes.Frame now bytes) (answer_of p.keeper fate)) keeps.0 keeps.2 idle in
-    (record { ran = s.ran; as_issued = s.as_issued; idle = s.idle }, record { seen = s.seen; idle = s.idle })
+-- an event at the node
+node_ran : (w : World) (i : ℕ) (e : CoreEvent) (n : Event) (fate : Fate) (p : Place) → IsIdle w → place_at i w.places ≡ Some p → (forged : Bool) (k : Keeper) →
+    IsSettled w i forged (happens p.core.node n (answer_of p.keeper fate)) p.core k
+    (run (settled w i forged (stepped p.core (happens p.core.node n (answer_of p.keeper fate))) k) (map (λ e. Act i e Kept) (emptying w.numbers (stepped p.core (happens p.core.node n (answer_of p.keeper fate))).core)))
+node_ran w i e n fate p idle at forged k =
+    let keeps = happens_keeps p.core.node n (answer_of p.keeper fate) in
+    settled_then w i p forged (happens p.core.node n (answer_of p.keeper fate)) k at (happens_plain p.core.node n (answer_of p.keeper fate)) keeps.0 keeps.2 idle
 
 -- the steps of an issue or of what comes to a node
 pub issue_ran : (w : World) (i now seq : ℕ) (id : LedgerId) (full : Bool) (fate : Fate) → IsIdle w →
     IsEmptiedEvent w i (Issue now seq id full) fate (place_at i w.places) (run w (event_steps w i (Issue now seq id full) fate))
-issue_ran w i now seq id full fate idle = (act_at w i (nodes.Issue now seq id full) fate idle (place_at i w.places) refl).0
+issue_ran w i now seq id full fate idle = by_place (place_at i w.places) refl
+  where
+    by_place : (o : Option Place) → place_at i w.places ≡ o → let e = Issue now seq id full in IsEmptiedEvent w i e fate o (run (acts w i e fate o) (emptying_at w.numbers i e fate o))
+    by_place None at = record { ran = refl; as_issued = tt; idle = idle }
+    by_place (Some p) at =
+        let e = Issue now seq id full in
+        let s = node_ran w i e (nodes.Issue now seq id full) fate p idle at false (keeper_after p e fate) in
+        record { ran = s.ran; as_issued = s.as_issued; idle = s.idle }
 
 pub frame_ran : (w : World) (i now : ℕ) (bytes : List ℕ) → IsIdle w →
     IsEmptiedEvent w i (Frame now bytes) Kept (place_at i w.places) (run w (event_steps w i (Frame now bytes) Kept))
-frame_ran w i now bytes idle = (act_at w i (nodes.Frame now bytes) Kept idle (place_at i w.places) refl).0
+frame_ran w i now bytes idle = by_place (place_at i w.places) refl
+  where
+    by_place : (o : Option Place) → place_at i w.places ≡ o → let e = Frame now bytes in IsEmptiedEvent w i e Kept o (run (acts w i e Kept o) (emptying_at w.numbers i e Kept o))
+    by_place None at = record { ran = refl; as_issued = tt; idle = idle }
+    by_place (Some p) at =
+        let e = Frame now bytes in
+        let s = node_ran w i e (nodes.Frame now bytes) Kept p idle at (is_forged w p.core.node e) p.keeper in
+        record { ran = s.ran; as_issued = s.as_issued; idle = s.idle }
 
 -- A NODE THAT IS OPENED AGAIN
 
@@ -390,80 +369,35 @@ opened_empty : (numbers : List ℕ) (core : Core) → core.waiting ≡ replicate
 opened_empty numbers core is untaken keys =
     subst (λ (ws : List (Backlog Item)). IsEmptied numbers (record core { waiting = ws })) (sym is) (record { readers = refl; none = none_at_all core.node.me numbers; untaken = untaken; keys = keys })
 
-again_at : (w : World) (i now number : ℕ) → IsIdle w → (p : Place) → p.core.node.keys ≡ schedule_ring p.core.node.me → GoesOn w (again w i now number (Some p)) (flat.again (without_queues w) i now number (Some (seat_of p)))
+again_at : (w : World) (i now number : ℕ) → IsIdle w → (p : Place) → p.core.node.keys ≡ schedule_ring p.core.node.me → IsIdle (again w i now number (Some p))
 again_at w i now number idle p keys =
-    let q : Place = record { core = core_again p now number; keeper = record p.keeper { in_force = number; asked = None; written = false } } in
-    by (may_hold p.keeper number) q (seats_put q w.places) (opened_empty w.numbers (core_again p now number) refl refl keys)
-  where
-    by : (b : Bool) (q : Place) → map seat_of (put q w.places) ≡ flat.put (seat_of q) (map seat_of w.places) → IsEmptied w.numbers q.core →
-        GoesOn w (cond b (let v : World = record { liars = w.liars; numbers = w.numbers; places = put q w.places; sent = w.sent ++ []; mark = w.mark; said = w.said; reports = w.reports ++ []; forged = w.forged } in v) w)
-        (cond b (let u : flat.World = record { liars = w.liars; numbers = w.numbers; places = flat.put (seat_of q) (map seat_of w.places); sent = w.sent ++ []; mark = w.mark; said = w.said; reports = w.reports ++ []; forged = w.forged } in u) (without_queues w))
-    by true q same emptied = record {
-      seen = ap (λ (ps : List Seat). let u : flat.World = record { liars = w.liars; numbers = w.numbers; places = ps; sent = w.sent ++ []; mark = w.mark; said = w.said; reports = w.reports ++ []; forged = w.forged } in u) same;
-      idle = idle_then w q (put q w.places) _ _ _ _ _ refl emptied idle;
-    }
-    by false q same emptied = record { seen = refl; idle = idle }
-
-again_any : (w : World) (i now number : ℕ) → IsIdle w → (o : Option Place) → place_at i w.places ≡ o → GoesOn w (again w i now number o) (flat.again (without_queues w) i now number (option_map seat_of o))
-again_any w i now number idle None at = record { seen = refl; idle = idle }
-again_any w i now number idle (Some p) at = again_at w i now number idle p (idle.emptied i p at).keys
-
-torn_any : (w : World) (i now number : ℕ) → IsIdle w → (o : Option Place) → place_at i w.places ≡ o → (asked : Option ℕ) → GoesOn w (torn w i now number o asked) (flat.torn (without_queues w) i now number (option_map seat_of o) asked)
-torn_any w i now number idle None at asked = record { seen = refl; idle = idle }
-torn_any w i now number idle (Some p) at None = record { seen = refl; idle = idle }
-torn_any w i now number idle (Some p) at (Some s) = again_at w i now number idle (record { core = p.core; keeper = record p.keeper { asked = Some s } }) (idle.emptied i p at).keys
-
-same_asked : (o : Option Place) (e : Event) → asked_at o (at_core e) ≡ flat.asked_at (option_map seat_of o) e
-same_asked None e = refl
-same_asked (Some p) (nodes.Issue now seq id full) = refl
-same_asked (Some p) (nodes.Frame now bytes) = refl
-
-same_moment : (e : Event) → moment_in (at_core e) ≡ flat.moment_in e
-same_moment (nodes.Issue now seq id full) = refl
-same_moment (nodes.Frame now bytes) = refl
-
--- RUNS
+    cond_both (may_hold (held_by p.keeper) number) (reopened w i p now number) w IsIdle
+    (λ _.
+    let q : Place = record { core = core_again p now number; keeper = restored p.keeper number } in
+    idle_then w q (put q w.places) (w.sent ++ []) w.said (w.reports ++ []) w.mark w.forged refl (opened_empty w.numbers (core_again p now number) refl refl keys) idle)
+    (λ _. idle)
 
 -- a node opened again leaves an idle world
 pub again_idle : (w : World) (i now number : ℕ) → IsIdle w → IsIdle (step w (Again i now number))
-again_idle w i now number idle = (again_any w i now number idle (place_at i w.places) refl).idle
+again_idle w i now number idle = by_place (place_at i w.places) refl
+  where
+    by_place : (o : Option Place) → place_at i w.places ≡ o → IsIdle (again w i now number o)
+    by_place None at = idle
+    by_place (Some p) at = again_at w i now number idle p (idle.emptied i p at).keys
 
 pub torn_idle : (w : World) (i : ℕ) (e : CoreEvent) (number : ℕ) → IsIdle w → IsIdle (step w (Torn i e number))
-torn_idle w i e number idle = (torn_any w i (moment_in e) number idle (place_at i w.places) refl (asked_at (place_at i w.places) e)).idle
-
--- each step of nodes is seen of the steps of its cores
-step_goes_on : (w : World) (s : flat.Step) → IsIdle w → GoesOn w (run w (as_cores w s)) (flat.step (without_queues w) s)
-step_goes_on w (flat.Act i e fate) idle =
-    let one = (act_at w i e fate idle (place_at i w.places) refl).1 in
-    record { seen = one.seen ∙ ap (λ o. flat.acts (without_queues w) i e fate o) (sym (seats_at i w.places)); idle = one.idle }
-step_goes_on w (flat.Again i now number) idle =
-    let one = again_any w i now number idle (place_at i w.places) refl in
-    record { seen = one.seen ∙ ap (λ o. flat.again (without_queues w) i now number o) (sym (seats_at i w.places)); idle = one.idle }
-step_goes_on w (flat.Torn i e number) idle =
-    let o : Option Place = place_at i w.places in
-    let one = torn_any w i (moment_in (at_core e)) number idle o refl (asked_at o (at_core e)) in
-    record {
-      seen = one.seen ∙ ap (λ (now : ℕ). flat.torn (without_queues w) i now number (option_map seat_of o) (asked_at o (at_core e))) (same_moment e)
-          ∙ ap (λ (asked : Option ℕ). flat.torn (without_queues w) i (flat.moment_in e) number (option_map seat_of o) asked) (same_asked o e)
-          ∙ ap (λ x. flat.torn (without_queues w) i (flat.moment_in e) number x (flat.asked_at x e)) (sym (seats_at i w.places));
-      idle = one.idle;
-    }
-step_goes_on w flat.Mark idle = record { seen = refl; idle = record { numbers = idle.numbers; emptied = idle.emptied } }
-
-runs_go_on : (w : World) (ss : List flat.Step) → IsIdle w → without_queues (run_as_cores w ss) ≡ flat.run (without_queues w) ss
-runs_go_on w [] idle = refl
-runs_go_on w (s ∷ ss) idle =
-    let one = step_goes_on w s idle in runs_go_on (run w (as_cores w s)) ss one.idle ∙ ap (λ (u : flat.World). flat.run u ss) one.seen
+torn_idle w i e number idle = by_place (place_at i w.places) refl (asked_at (place_at i w.places) e)
+  where
+    by_place : (o : Option Place) → place_at i w.places ≡ o → (asked : Option ℕ) → IsIdle (torn w i (moment_in e) number o asked)
+    by_place None at asked = idle
+    by_place (Some p) at None = idle
+    by_place (Some p) at (Some s) = again_at w i (moment_in e) number idle (record { core = p.core; keeper = record p.keeper { asked = Some s } }) (idle.emptied i p at).keys
 
 -- at the start nothing waits
 up_between : (n k : ℕ) → n + k ≤ 65 → (low : ℕ) → low < n → Between low (up_from n k)
 unfolding up_from
 up_between n zero le low less = tt
 up_between n (suc k) le low less = (less, omega (arith, le), up_between (n + 1) k (omega (arith, le)) n (omega arith))
-
-seats_opened : (limit : ℕ) (plan : List PlanNode) → map seat_of (map (place_of limit) plan) ≡ map (flat.place_of limit) plan
-seats_opened limit [] = refl
-seats_opened limit (d ∷ ds) = cons_same _ _ _ _ refl (seats_opened limit ds)
 
 all_opened : (limit : ℕ) (numbers : List ℕ) (plan : List PlanNode) (i : ℕ) (p : Place) → place_at i (map (place_of limit) plan) ≡ Some p → IsEmptied numbers p.core
 all_opened limit numbers [] i p h = cc
@@ -486,8 +420,3 @@ opened_idle limit liars declared plan numbers places is_numbers is_places = reco
   numbers = subst (Between 0) (sym is_numbers) (start_idle limit declared plan).numbers;
   emptied = λ i p at. subst (λ (ns : List ℕ). IsEmptied ns p.core) (sym is_numbers) ((start_idle limit declared plan).emptied i p (ap (place_at i) (sym is_places) ∙ at));
 }
-
-pub runs_are_of_cores : RunsAreOfCores
-runs_are_of_cores limit liars plan steps =
-    runs_go_on (start limit liars plan) steps (start_idle limit liars plan)
-    ∙ ap (λ (ps : List Seat). let u : flat.World = record { liars = liars; numbers = filter (is_declared liars plan) all_numbers; places = ps; sent = []; mark = 0; said = []; reports = []; forged = 0 } in flat.run u steps) (seats_opened limit plan)

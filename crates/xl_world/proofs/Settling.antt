@@ -1,68 +1,57 @@
--- A world stays sound when an event at a node is settled, whatever the event was.
+-- A world stays sound when an event at a core is settled, whatever the event was.
 use Rattle.std.proofs.Common.{◌≡◌, ℕ, ◌<◌, ◌≤◌, Bool, List, [], ◌∷◌, arith, ap, sym, ◌∙◌, inl, inr, Option, Some, None, subst}
-use Rattle.std.specs.Prelude.{◌==◌, ◌&&◌, ◌⊎◌, All, IsTrue, IfSome, map, count_by, option_map, option_to_list}
-use Rattle.std.proofs.lemmas.Bool.{and_parts, or_right, eqb-true, eqb-false, cond_both, cond-true, cond-false}
-use Rattle.std.proofs.lemmas.List.Elements.{All-append, All-weaker, All-nil, All-cons, All-map}
-use Rattle.xl_base.specs.declared.ids.LedgerId.{LedgerId}
-use Rattle.xl_lists.specs.Lists.{IsValid}
-use Rattle.xl_lists.specs.Agreement.{Said, with_said, vouches, IsGenuine, IsBacked}
-use Rattle.xl_lists.proofs.Agreement.{same_id-true, kept_by_step, vouches_still, now_said}
-use Rattle.xl_lists.proofs.Counting.{count_image}
-use Rattle.xl_wire.specs.declared.validation.Validation.{Validation}
+use Rattle.std.specs.Prelude.{◌==◌, ◌⊎◌, All, IfSome, option_map}
+use Rattle.std.proofs.lemmas.Bool.{eqb-true, eqb-false, cond_both, cond-true, cond-false}
+use Rattle.std.proofs.lemmas.List.Elements.{All-append, All-weaker}
+use Rattle.xl_lists.specs.Agreement.{Said, with_said, IsGenuine}
+use Rattle.xl_lists.proofs.Agreement.{kept_by_step, vouches_still}
+use Rattle.xl_queues.specs.Queues.{Backlog}
 use Rattle.xl_validations.specs.declared.row.Row.{Row}
-use Rattle.xl_validations.specs.Rows.{is_full_of, count_full}
-use Rattle.xl_core.specs.declared.report.Report.{Report}
-use Rattle.xl_core.specs.Node.{Node, Reply}
+use Rattle.xl_core.specs.declared.item.Item.{Item}
+use Rattle.xl_core.specs.declared.item.Item.TheVariants.{Vote}
+use Rattle.xl_core.specs.Core.{Core, CoreReply}
+use Rattle.xl_core.specs.Node.{Reply}
 use Rattle.xl_world.specs.declared.place.Keeper.{Keeper}
-use Rattle.xl_world.specs.Keeper.{MayHold}
-use Rattle.xl_world.proofs.Speaking.{frames_say}
-use Rattle.xl_world.specs.World.{Place, World, place_at, put, said_in, said_by, reported_by, settled, Holds, RowSays, FrameSays, NodeSays, IsKept}
+use Rattle.xl_world.proofs.Seats.{Seat}
+use Rattle.xl_io.specs.Keepers.{MayHold}
+use Rattle.xl_world.proofs.Standing.{FrameSays, RowSays, said_in}
+use Rattle.xl_world.specs.World.{said_by}
+use Rattle.xl_world.specs.declared.place.Place.{Place}
+use Rattle.xl_world.specs.Keeper.{held_by}
+use Rattle.xl_world.specs.World.{World, place_at, put, sent_in, settled}
+use Rattle.xl_world.proofs.Standing.{Holds, ItemSays, CoreSays, IsKept}
+use Rattle.xl_world.proofs.Seats.{IsWell, IsStep, if_some, some_same, spoken, spoken_fact, report_backed}
 
--- a node's rows are its list's, on which each member stands once, and the number that it kept is its keeper's
-pub record IsWell (p : Place) : Type 0 where
-  pub members : map (λ row. row.member) p.node.rows ≡ p.node.list.members
-  pub valid : IsValid p.node.list
-  pub in_force : p.node.kept ≡ p.keeper.in_force
+-- a core's node with its keeper
+abbrev pub seat : Core → Keeper → Seat
+seat core keeper = record { node = core.node; keeper = keeper }
 
--- what each event at a node must show, of its keeper and its report
-pub record IsStep (p : Place) (r : Reply) (k : Keeper) : Type 0 where
-  pub me : r.node.me ≡ p.node.me
-  pub list : r.node.list ≡ p.node.list
-  pub well : IsWell (record { node = r.node; keeper = k })
-  pub rises : (j : ℕ) → MayHold k j → (i : ℕ) × (i ≤ j) × MayHold p.keeper i
-  pub above : IfSome r.issued (λ v. (i : ℕ) × (i < v.seq) × MayHold p.keeper i)
-  pub saved : IfSome r.issued (λ v. (j : ℕ) → MayHold k j → v.seq ≤ j)
-  pub quorum : IfSome r.report (λ q. r.node.list.quorum ≤ count_full q.seq q.id r.node.rows)
+-- what came of an event at the node of a core
+abbrev pub node_reply : CoreReply → Reply
+node_reply r = record { node = r.core.node; answer = r.answer; items = []; issued = r.issued; report = r.report }
 
--- and of what stands at the node then, and of what it issues
-pub record ReplySays (P : Said → Type 0) (me : ℕ) (r : Reply) : Type 0 where
-  pub node : NodeSays P r.node
-  pub issued : IfSome r.issued (λ v. P (said_by me v))
-
-pub if_some : {X : Type 0} (P Q : X → Type 0) → ((x : X) → P x → Q x) → (o : Option X) → IfSome o P → IfSome o Q
-if_some P Q h None p = tt
-if_some P Q h (Some x) p = h x p
-
-pub some_same : {X : Type 0} (x n : X) → Some x ≡ Some n → n ≡ x
-some_same x n e = cc
+-- P holds of what stands at the core then, and of what is given
+pub record ReplySays (P : Said → Type 0) (r : CoreReply) : Type 0 where
+  pub core : CoreSays P r.core
+  pub sent : All (FrameSays P) (sent_in r.core.node.me r.answer)
 
 -- the place of a number has that number
-pub at_its_number : (i : ℕ) (ps : List Place) (p : Place) → place_at i ps ≡ Some p → p.node.me ≡ i
+pub at_its_number : (i : ℕ) (ps : List Place) (p : Place) → place_at i ps ≡ Some p → p.core.node.me ≡ i
 at_its_number i [] p h = cc
 at_its_number i (x ∷ xs) p h =
-    cond_both (x.node.me == i) (Some x) (place_at i xs) (λ o. o ≡ Some p → p.node.me ≡ i)
-    (λ is here. subst (λ (q : Place). q.node.me ≡ i) (sym (some_same x p here)) (eqb-true _ _ is)) (λ _ there. at_its_number i xs p there) h
+    cond_both (x.core.node.me == i) (Some x) (place_at i xs) (λ o. o ≡ Some p → p.core.node.me ≡ i)
+    (λ is here. subst (λ (q : Place). q.core.node.me ≡ i) (sym (some_same x p here)) (eqb-true _ _ is)) (λ _ there. at_its_number i xs p there) h
 
 -- after a place is put, a number's place is that one or as before
 pub put_cases : (j : ℕ) (x : Place) (ps : List Place) (p : Place) → place_at j (put x ps) ≡ Some p →
-    ((j ≡ x.node.me) × (p ≡ x)) ⊎ ((j ≡ x.node.me → ⊥) × (place_at j ps ≡ Some p))
+    ((j ≡ x.core.node.me) × (p ≡ x)) ⊎ ((j ≡ x.core.node.me → ⊥) × (place_at j ps ≡ Some p))
 put_cases j x [] p h = cc
 put_cases j x (y ∷ ys) p h =
-    cond_both (y.node.me == x.node.me) (x ∷ ys) (y ∷ put x ys) (λ ps. place_at j ps ≡ Some p → ((j ≡ x.node.me) × (p ≡ x)) ⊎ ((j ≡ x.node.me → ⊥) × (place_at j (y ∷ ys) ≡ Some p)))
-    (λ same. cond_both (x.node.me == j) (Some x) (place_at j ys) (λ o. o ≡ Some p → ((j ≡ x.node.me) × (p ≡ x)) ⊎ ((j ≡ x.node.me → ⊥) × (place_at j (y ∷ ys) ≡ Some p)))
+    cond_both (y.core.node.me == x.core.node.me) (x ∷ ys) (y ∷ put x ys) (λ ps. place_at j ps ≡ Some p → ((j ≡ x.core.node.me) × (p ≡ x)) ⊎ ((j ≡ x.core.node.me → ⊥) × (place_at j (y ∷ ys) ≡ Some p)))
+    (λ same. cond_both (x.core.node.me == j) (Some x) (place_at j ys) (λ o. o ≡ Some p → ((j ≡ x.core.node.me) × (p ≡ x)) ⊎ ((j ≡ x.core.node.me → ⊥) × (place_at j (y ∷ ys) ≡ Some p)))
     (λ is here. inl (sym (eqb-true _ _ is), some_same x p here))
     (λ is_not there. inr ((λ e. eqb-false _ _ is_not (sym e)), (cond-false _ (Some y) _ (ap (λ (k : ℕ). k == j) (eqb-true _ _ same) ∙ is_not) ∙ there))))
-    (λ other. cond_both (y.node.me == j) (Some y) (place_at j (put x ys)) (λ o. o ≡ Some p → ((j ≡ x.node.me) × (p ≡ x)) ⊎ ((j ≡ x.node.me → ⊥) × (place_at j (y ∷ ys) ≡ Some p)))
+    (λ other. cond_both (y.core.node.me == j) (Some y) (place_at j (put x ys)) (λ o. o ≡ Some p → ((j ≡ x.core.node.me) × (p ≡ x)) ⊎ ((j ≡ x.core.node.me → ⊥) × (place_at j (y ∷ ys) ≡ Some p)))
     (λ is here. inr ((λ e. eqb-false _ _ other (eqb-true _ _ is ∙ e)), (cond-true _ (Some y) _ is ∙ here)))
     (λ is_not there. elim (put_cases j x ys p there) [
       | inl found ↦ inl found
@@ -70,76 +59,38 @@ put_cases j x (y ∷ ys) p h =
     ]))
     h
 
--- who vouches for a ledger vouches for it by another name
-vouches_same : (liars : List ℕ) (said : List Said) (m : ℕ) {s t : ℕ} {a b : LedgerId} → s ≡ t → a ≡ b → IsTrue (vouches liars said s a m) → IsTrue (vouches liars said t b m)
-vouches_same liars said m {t = t} {a = a} same_seq same h =
-    subst (λ id. IsTrue (vouches liars said t id m)) same (subst (λ seq. IsTrue (vouches liars said seq a m)) same_seq h)
+-- what holds of everything at a core holds with a weaker fact
+pub item_weaker : (P Q : Said → Type 0) → ((x : Said) → P x → Q x) → (me : ℕ) (item : Item) → ItemSays P me item → ItemSays Q me item
+item_weaker P Q h me (Vote v) says = h (said_by me v) says
 
--- at what a row holds
-at_current : (liars : List ℕ) (said : List Said) (seq : ℕ) (id : LedgerId) (m : ℕ) (current : Option Validation) → IfSome current (λ u. IsGenuine liars said (said_by m u)) →
-    IsTrue (is_full_of seq id current) → IsTrue (vouches liars said seq id m)
-at_current liars said seq id m None says full = cc
-at_current liars said seq id m (Some u) says full =
-    let parts = and_parts (u.full && u.seq == seq) _ full in
-    vouches_same liars said m (eqb-true _ _ (and_parts u.full _ parts.0).1) (same_id-true _ _ parts.1) says
-
--- the rows that hold it belong to members that vouch for it
-count_rows : (liars : List ℕ) (said : List Said) (seq : ℕ) (id : LedgerId) (rows : List Row) → All (RowSays (IsGenuine liars said)) rows →
-    count_full seq id rows ≤ count_by (vouches liars said seq id) (map (λ row. row.member) rows)
-count_rows liars said seq id rows says =
-    count_image (λ row. is_full_of seq id row.current) (vouches liars said seq id) (λ row. row.member) rows
-    (All-weaker (RowSays (IsGenuine liars said)) _ (λ row. at_current liars said seq id row.member row.current) rows says)
-
--- what a step says, as the world has it
-abbrev pub spoken : ℕ → Option Validation → Option Said
-spoken i issued = option_map (said_by i) issued
-
--- a fact of an issued validation is one of what the world has it say
-pub spoken_fact : (P : Said → Type 0) (i : ℕ) (o : Option Validation) → IfSome o (λ v. P (said_by i v)) → IfSome (spoken i o) P
-spoken_fact P i None h = tt
-spoken_fact P i (Some v) h = h
-
--- what is issued is genuine then
-pub issued_genuine : (liars : List ℕ) (said : List Said) (i : ℕ) (o : Option Validation) → IfSome o (λ v. IsGenuine liars (with_said said (spoken i o)) (said_by i v))
-issued_genuine liars said i None = tt
-issued_genuine liars said i (Some v) = or_right _ _ (now_said said (said_by i v))
-
--- the report of a node whose rows are genuine has its quorum
-pub report_backed : (liars : List ℕ) (said : List Said) (p : Place) → IsWell p → All (RowSays (IsGenuine liars said)) p.node.rows →
-    (o : Option Report) → IfSome o (λ q. p.node.list.quorum ≤ count_full q.seq q.id p.node.rows) → All (IsBacked liars said) (option_to_list (option_map (reported_by p.node) o))
-report_backed liars said p well says None h = All-nil (IsBacked liars said)
-report_backed liars said p well says (Some q) h = All-cons (IsBacked liars said) (reported_by p.node q) []
-    (record {
-      once = well.valid.once;
-      quorum = subst (λ ms. p.node.list.quorum ≤ count_by (vouches liars said q.seq q.id) ms) well.members (omega (arith, h, count_rows liars said q.seq q.id p.node.rows says));
-    })
-    (All-nil (IsBacked liars said))
-
--- what holds of everything at a node holds with a weaker fact
-pub node_weaker : (P Q : Said → Type 0) → ((x : Said) → P x → Q x) → (n : Node) → NodeSays P n → NodeSays Q n
-node_weaker P Q h n says = All-weaker (RowSays P) (RowSays Q) (λ row. if_some _ _ (λ v. h (said_by row.member v)) row.current) n.rows says
+pub core_weaker : (P Q : Said → Type 0) → ((x : Said) → P x → Q x) → (core : Core) → CoreSays P core → CoreSays Q core
+core_weaker P Q h core says = record {
+  rows = All-weaker (RowSays P) (RowSays Q) (λ (row : Row). if_some _ _ (λ v. h (said_by row.member v)) row.current) core.node.rows says.rows;
+  items = All-weaker (λ (q : Backlog Item). All (ItemSays P core.node.me) q.items) (λ q. All (ItemSays Q core.node.me) q.items)
+      (λ q. All-weaker (ItemSays P core.node.me) (ItemSays Q core.node.me) (item_weaker P Q h core.node.me) q.items) core.waiting says.items;
+}
 
 -- what is kept of a world, and of each place
 pub record IsSound (w : World) : Type 0 where
   pub kept : IsKept w
-  pub well : (i : ℕ) (p : Place) → place_at i w.places ≡ Some p → IsWell p
+  pub well : (i : ℕ) (p : Place) → place_at i w.places ≡ Some p → IsWell (seat p.core p.keeper)
 
--- what each thing that stands at the node then says is genuine, in the world then
-abbrev pub GenuineThen : World → ℕ → Reply → Said → Type 0
+-- what each thing that stands at the core then says is genuine, in the world then
+abbrev pub GenuineThen : World → ℕ → CoreReply → Said → Type 0
 GenuineThen w i r = IsGenuine w.liars (with_said w.said (spoken i r.issued))
 
-pub settled_sound : (w : World) (i : ℕ) (forged : Bool) (p : Place) (r : Reply) (k : Keeper) → place_at i w.places ≡ Some p → IsStep p r k →
-    ReplySays (GenuineThen w i r) i r → IsSound w → IsSound (settled w i forged r k)
+pub settled_sound : (w : World) (i : ℕ) (forged : Bool) (p : Place) (r : CoreReply) (k : Keeper) → place_at i w.places ≡ Some p → IsStep (seat p.core p.keeper) (node_reply r) k →
+    ReplySays (GenuineThen w i r) r → IsSound w → IsSound (settled w i forged r k)
 settled_sound w i forged p r k at steps says sound =
-    let q : Place = record { node = r.node; keeper = k } in
-    let its : i ≡ r.node.me = sym (steps.me ∙ at_its_number i w.places p at) in
+    let q : Place = record { core = r.core; keeper = k } in
+    let its : i ≡ r.core.node.me = sym (steps.me ∙ at_its_number i w.places p at) in
     let before = λ (x : Said). vouches_still w.liars w.said (spoken i r.issued) x.member x.seq x.id in
     record {
       kept = kept_by_step sound.kept
           (record {
             rises = λ m n (x, h, may). elim (put_cases m q w.places x h) [
               | inl (same_m, same_x) ↦
-                  let low = steps.rises n (subst (λ (y : Place). MayHold y.keeper n) same_x may) in
+                  let low = steps.rises n (subst (λ (y : Place). MayHold (held_by y.keeper) n) same_x may) in
                   (low.0, low.1, (p, subst (λ j. place_at j w.places ≡ Some p) (its ∙ sym same_m) at, low.2))
               | inr (_, there) ↦ (n, omega arith, (x, there, may))
             ];
@@ -147,22 +98,22 @@ settled_sound w i forged p r k at steps says sound =
                 (if_some _ _ (λ v low. (low.0, low.1, (p, at, low.2))) r.issued steps.above);
             saved = spoken_fact (λ x. (n : ℕ) → Holds (settled w i forged r k) x.member n → x.seq ≤ n) i r.issued
                 (if_some _ _ (λ v high n (x, h, may). elim (put_cases i q w.places x h) [
-                  | inl (_, same_x) ↦ high n (subst (λ (y : Place). MayHold y.keeper n) same_x may)
+                  | inl (_, same_x) ↦ high n (subst (λ (y : Place). MayHold (held_by y.keeper) n) same_x may)
                   | inr (not_its, _) ↦ absurd (not_its its)
                 ]) r.issued steps.saved);
-            backed = report_backed w.liars (with_said w.said (spoken i r.issued)) q steps.well says.node r.report steps.quorum;
+            backed = report_backed w.liars (with_said w.said (spoken i r.issued)) (seat r.core k) steps.well says.core.rows r.report steps.quorum;
           })
           (record {
             places = λ j x h. elim (put_cases j q w.places x h) [
-              | inl (_, same) ↦ subst (λ (y : Place). NodeSays (GenuineThen w i r) y.node) (sym same) says.node
-              | inr (_, there) ↦ node_weaker (IsGenuine w.liars w.said) (GenuineThen w i r) before x.node (sound.kept.genuine.places j x there)
+              | inl (_, same) ↦ subst (λ (y : Place). CoreSays (GenuineThen w i r) y.core) (sym same) says.core
+              | inr (_, there) ↦ core_weaker (IsGenuine w.liars w.said) (GenuineThen w i r) before x.core (sound.kept.genuine.places j x there)
             ];
             sent = All-append (FrameSays (GenuineThen w i r)) _ _
                 (All-weaker (FrameSays (IsGenuine w.liars w.said)) _ (λ f. if_some _ _ before (said_in f.bytes)) w.sent sound.kept.genuine.sent)
-                (frames_say (GenuineThen w i r) w.numbers r.node r.issued (subst (λ m. IfSome r.issued (λ v. GenuineThen w i r (said_by m v))) its says.issued));
+                says.sent;
           });
       well = λ j x h. elim (put_cases j q w.places x h) [
-        | inl (_, same) ↦ subst (λ (y : Place). IsWell y) (sym same) steps.well
+        | inl (_, same) ↦ subst (λ (y : Place). IsWell (seat y.core y.keeper)) (sym same) steps.well
         | inr (_, there) ↦ sound.well j x there
       ];
     }

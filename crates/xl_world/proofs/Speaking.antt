@@ -27,7 +27,8 @@ use Rattle.xl_core.proofs.Heard.{IsHeard, body_from, vote_body}
 use Rattle.xl_core.proofs.Spelling.{held, sealed_raw}
 use Rattle.xl_core.specs.declared.hearing.Speech.TheVariants.{Vote}
 use Rattle.xl_world.specs.declared.sent.Sent.{Sent}
-use Rattle.xl_world.specs.World.{said_by, said_in, said_in_body, said_in_split, FrameSays, frame_to, frames_for}
+use Rattle.xl_world.specs.World.{said_by}
+use Rattle.xl_world.proofs.Standing.{said_in, said_in_body, said_in_split, FrameSays}
 
 -- so it says the validation
 pub sealed_said : (ring : Ring) (from to : ℕ) (v : Validation) → has_spelling from to v ≡ true → said_in (sealed_bytes ring from to v) ≡ Some (said_by from v)
@@ -36,22 +37,6 @@ sealed_said ring from to v h =
     let f : RawFrame = sealed ring (validation_frame from to v (replicate 32 0)) in
     let whole : split_of (raw_bytes f) ≡ Whole f = ap split_of (sym (append-nil (raw_bytes f))) ∙ split_again f [] (sealed_raw ring from to v fits) in
     ap said_in_split whole ∙ ap (said_in_body from) (body_again (bodies.Validation v) fits.validation)
-
--- the frames of what is issued say it
-frames_each : (P : Said → Type 0) (n : Node) (v : Validation) → P (said_by n.me v) → (numbers : List ℕ) →
-    All (FrameSays P) (map (frame_to n v) (filter (λ to. not (to == n.me) && has_spelling n.me to v) numbers))
-frames_each P n v says [] = All-nil (FrameSays P)
-frames_each P n v says (to ∷ numbers) =
-    cond_both (not (to == n.me) && has_spelling n.me to v) (to ∷ filter (λ k. not (k == n.me) && has_spelling n.me k v) numbers) (filter (λ k. not (k == n.me) && has_spelling n.me k v) numbers)
-    (λ ks. All (FrameSays P) (map (frame_to n v) ks))
-    (λ e. All-cons (FrameSays P) (frame_to n v to) (map (frame_to n v) (filter (λ k. not (k == n.me) && has_spelling n.me k v) numbers))
-    (subst (λ o. IfSome o P) (sym (sealed_said n.keys n.me to v (and_parts (not (to == n.me)) _ e).1)) says)
-    (frames_each P n v says numbers))
-    (λ _. frames_each P n v says numbers)
-
-pub frames_say : (P : Said → Type 0) (numbers : List ℕ) (n : Node) (o : Option Validation) → IfSome o (λ v. P (said_by n.me v)) → All (FrameSays P) (frames_for numbers n o)
-frames_say P numbers n None h = All-nil (FrameSays P)
-frames_say P numbers n (Some v) h = frames_each P n v h numbers
 
 -- what is heard in bytes is what they say
 pub heard_said : (ring : Ring) (members bytes : List ℕ) (from : ℕ) (v : Validation) → IsHeard ring members bytes (record { from = from; what = Vote v }) → said_in bytes ≡ Some (said_by from v)

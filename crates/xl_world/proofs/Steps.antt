@@ -45,17 +45,20 @@ use Rattle.xl_world.specs.declared.sent.Sent.{Sent}
 use Rattle.xl_world.specs.declared.place.Keeper.{Keeper}
 use Rattle.xl_world.specs.declared.place.Fate.{Fate}
 use Rattle.xl_world.specs.declared.place.Fate.TheVariants.{Kept}
-use Rattle.xl_world.specs.Keeper.{may_hold, is_asked, answer_of, found, one_more}
+use Rattle.xl_io.specs.Keepers.{may_hold, is_asked}
+use Rattle.xl_world.specs.Keeper.{answer_of, found}
+use Rattle.xl_queues.specs.Queues.{one_more}
 use Rattle.xl_core.specs.Answers.{given_in, refusal_in}
 use Rattle.xl_core.specs.Node.Save.{Kept as AnsweredOk, Failed as AnsweredFailed}
 use Rattle.xl_core.specs.Sending.{sealed_bytes, has_spelling}
-use Rattle.xl_world.specs.World.{was_sent, forges, said_by, reported_by}
-use Rattle.xl_world.specs.Cores.{World, Step, Act, Mark, is_forged, keeper_after, place_at, put, reply_at, step, run}
+use Rattle.xl_world.specs.Forgeries.{was_sent, forges}
+use Rattle.xl_world.specs.World.{said_by, reported_by}
+use Rattle.xl_world.specs.World.{World, Step, Act, Mark, is_forged, keeper_after, place_at, put, reply_at, step, run}
 use Rattle.xl_world.specs.Emptying.{drained, drains, drains_for, emptying_at, event_steps, given, others}
 use Rattle.xl_world.specs.Idle.{IsIdle}
-use Rattle.xl_world.proofs.CoreSettling.{at_its_number}
-use Rattle.xl_world.proofs.Settling.{some_same}
-use Rattle.xl_world.proofs.CoreLists.{core_keeps}
+use Rattle.xl_world.proofs.Settling.{at_its_number}
+use Rattle.xl_world.proofs.Seats.{some_same}
+use Rattle.xl_world.proofs.Lists.{core_keeps}
 use Rattle.xl_world.proofs.Emptying.{drained_node}
 use Rattle.xl_world.proofs.Sending.{IsAsIssued, emptied_acts, frame_ran, issue_ran, put_at, put_put}
 use Rattle.xl_world.specs.Schedule.{frame_at, told_of, reply_to, told_by, told_in}

@@ -65,7 +65,7 @@ pub issue_tells : (n : Node) (now seq : ℕ) (id : LedgerId) (full : Bool) (save
 issue_tells n now seq id full save =
     let m : Node = at_moment now n in
     let v : Validation = own_validation m seq id full in
-    cond_both (nat_lt m.kept seq) (issues_unless m m.off save v) (refusing m (NotAfter m.kept)) (IssueTells v) (λ _. unless_tells m m.off save v) (λ _. inr (refl, refl, λ e. cc))
+    cond_both (nat_lt m.kept seq) (issues_unless m m.failed_save save v) (refusing m (NotAfter m.kept)) (IssueTells v) (λ _. unless_tells m m.failed_save save v) (λ _. inr (refl, refl, λ e. cc))
 
 pub done_issued : (v : Validation) (r : Reply) → IssueTells v r → Done ≡ r.answer → Some v ≡ r.issued
 done_issued v r tells done = elim tells [ inl (is, _) ↦ sym is | inr (_, _, never) ↦ absurd (never (sym done)) ]

@@ -1,5 +1,5 @@
 -- A schedule's event at a core, after which nothing waits: the report that arose, if any, is handed out, and the core is drained for
--- each other declared number until a drain gives nothing. Seen without queues, that sends what was issued at once. Source: this project's schedule language.
+-- each other declared number until a drain gives nothing. Source: this project's schedule language.
 use Rattle.std.specs.Prelude.{◌≡◌, ℕ, zero, suc, ◌==◌, not, List, [], ◌∷◌, ◌++◌, All, false, filter, length, map, if◌then◌else◌}
 use Rattle.std.specs.Prelude.{Some, None}
 use Rattle.std.specs.declared.option.Option.{Option}
@@ -9,24 +9,15 @@ use Rattle.xl_core.specs.declared.event.CoreEvent.TheVariants.{Issue, Frame, Dra
 use Rattle.xl_core.specs.declared.queued.TheConstants.{LONGEST_FRAME}
 use Rattle.xl_core.specs.Answers.{given_in}
 use Rattle.xl_core.specs.Core.{Core, core_happens}
-use Rattle.xl_core.specs.Node as nodes
-use Rattle.xl_core.specs.Node.{Event}
 use Rattle.xl_core.specs.Node.Save.{Kept as AnsweredOk}
 use Rattle.xl_core.specs.Queues.{waiting_at}
 use Rattle.xl_tags.specs.Rings.{schedule_ring}
 use Rattle.xl_world.specs.declared.sent.Sent.{Sent}
 use Rattle.xl_world.specs.declared.place.Fate.{Fate}
 use Rattle.xl_world.specs.declared.place.Fate.TheVariants.{Kept}
-use Rattle.xl_world.specs.World.{Place as Seat}
 use Rattle.xl_world.specs.declared.plan.PlanNode.{PlanNode}
-use Rattle.xl_world.specs.World as flat
 use Rattle.xl_world.specs.declared.place.Place.{Place}
-use Rattle.xl_world.specs.Cores.{World, Step, Act, Again, Torn, Mark, place_at, reply_at, run, sent_in, start}
-
--- an event at the node of a core
-abbrev pub at_core : Event → CoreEvent
-at_core (nodes.Issue now seq id full) = Issue now seq id full
-at_core (nodes.Frame now bytes) = Frame now bytes
+use Rattle.xl_world.specs.World.{World, Step, Act, Again, Torn, Mark, place_at, reply_at, run, sent_in, start}
 
 -- drains for a member, until one gives nothing; so many more at most
 abbrev pub drains : Core → ℕ → ℕ → List CoreEvent
@@ -55,13 +46,6 @@ emptying_at numbers i event fate (Some p) = map (λ e. Act i e Kept) (emptying n
 abbrev pub event_steps : World → ℕ → CoreEvent → Fate → List Step
 event_steps w i event fate = Act i event fate ∷ emptying_at w.numbers i event fate (place_at i w.places)
 
--- a world seen without its queues
-abbrev pub seat_of : Place → Seat
-seat_of p = record { node = p.core.node; keeper = p.keeper }
-
-abbrev pub without_queues : World → flat.World
-without_queues w = record { liars = w.liars; numbers = w.numbers; places = map seat_of w.places; sent = w.sent; mark = w.mark; said = w.said; reports = w.reports; forged = w.forged }
-
 -- nothing waits for another declared number, nor to be taken; the keys are those of a schedule's member
 pub record IsEmptied (numbers : List ℕ) (core : Core) : Type 0 where
   pub readers : length core.waiting ≡ 64
@@ -88,22 +72,3 @@ drained core (m ∷ ms) = drained (drained_once core m) ms
 abbrev pub given : Core → List ℕ → List Sent
 given core [] = []
 given core (m ∷ ms) = given_once core m ++ given (drained_once core m) ms
-
--- a step of nodes as the steps of cores that are emptied after each event
-abbrev pub as_cores : World → flat.Step → List Step
-as_cores w (flat.Act i event fate) = event_steps w i (at_core event) fate
-as_cores w (flat.Again i now number) = Again i now number ∷ []
-as_cores w (flat.Torn i event number) = Torn i (at_core event) number ∷ []
-as_cores w flat.Mark = Mark ∷ []
-
--- one after the other
-abbrev pub run_as_cores : World → List flat.Step → World
-run_as_cores w [] = w
-run_as_cores w (s ∷ ss) = run_as_cores (run w (as_cores w s)) ss
-
--- Each run of nodes, whose issued validations are sent at once to each other declared number, is what is seen of the run of cores
--- that are emptied after each event.
-abbrev pub RunsAreOfCores : Type 0
-RunsAreOfCores =
-    (limit : ℕ) (liars : List ℕ) (plan : List PlanNode) (steps : List flat.Step) →
-    without_queues (run_as_cores (start limit liars plan) steps) ≡ flat.run (flat.start limit liars plan) steps

@@ -7,7 +7,7 @@ use Rattle.xl_core.specs.Core.{Core}
 use Rattle.xl_core.specs.Node.{items_of}
 use Rattle.xl_core.specs.Queues.{waiting_at}
 use Rattle.xl_world.specs.declared.place.Place.{Place}
-use Rattle.xl_world.specs.Cores.{World, place_at}
+use Rattle.xl_world.specs.World.{World, place_at}
 use Rattle.xl_world.specs.Emptying.{IsEmptied, others}
 
 -- rising members' numbers above this one

@@ -1,33 +1,23 @@
 -- What outlives a stop of a node: the number in force, and after a save that failed the one that was asked, and whether that was
 -- written all the same. Source: this profile, by which a stop in a save may leave either number.
-use Rattle.std.specs.Prelude.{◌≡◌, ℕ, ◌+◌, ◌-◌, ◌^◌, ◌==◌, ◌||◌, min, Bool, true, false, ◌⊎◌, unwrap_or, if◌then◌else◌}
+use Rattle.std.specs.Prelude.{ℕ, Bool, true, false, unwrap_or, if◌then◌else◌}
 use Rattle.std.specs.Prelude.{Some, None}
 use Rattle.std.specs.declared.option.Option.{Option}
+use Rattle.xl_io.specs.Keepers.{Held}
+use Rattle.xl_queues.specs.Queues.{one_more}
 use Rattle.xl_core.specs.Node.{Save}
 use Rattle.xl_core.specs.Node.Save.{Kept as AnsweredOk, Failed as AnsweredFailed}
 use Rattle.xl_world.specs.declared.place.Keeper.{Keeper}
 use Rattle.xl_world.specs.declared.place.Fate.{Fate}
 use Rattle.xl_world.specs.declared.place.Fate.TheVariants.{Kept, Unwritten, Written}
 
--- one more, up to where a count ends
-abbrev pub one_more : ℕ → ℕ
-one_more n = min (n + 1) (2 ^ 64 - 1)
+-- what it may hold over a stop
+abbrev pub held_by : Keeper → Held
+held_by k = record { in_force = k.in_force; asked = k.asked }
 
--- a stop at this moment may leave this number
-abbrev pub MayHold : Keeper → ℕ → Type 0
-MayHold k n = (n ≡ k.in_force) ⊎ (k.asked ≡ Some n)
-
-abbrev pub is_asked : Option ℕ → ℕ → Bool
-is_asked None n = false
-is_asked (Some s) n = s == n
-
--- whether it may
-abbrev pub may_hold : Keeper → ℕ → Bool
-may_hold k n = n == k.in_force || is_asked k.asked n
-
--- a keeper that holds this number alone
-abbrev pub holding : ℕ → Keeper
-holding n = record { in_force = n; asked = None; written = false; faults = 0 }
+-- a keeper that never failed, and holds this number alone
+abbrev pub resting : ℕ → Keeper
+resting n = record { in_force = n; asked = None; written = false; faults = 0 }
 
 -- the keeper when its node is opened again with this number
 abbrev pub restored : Keeper → ℕ → Keeper

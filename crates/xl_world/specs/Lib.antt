@@ -1,6 +1,7 @@
 pub mod Keeper
+pub mod Plans
+pub mod Forgeries
 pub mod World
-pub mod Cores
 pub mod Emptying
 pub mod Idle
 pub mod Schedule

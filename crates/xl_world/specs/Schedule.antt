@@ -22,7 +22,7 @@ use Rattle.xl_world.specs.declared.place.Fate.TheVariants.{Kept, Unwritten, Writ
 use Rattle.xl_world.specs.declared.place.Place.{Place}
 use Rattle.xl_world.specs.Keeper.{found, left_by}
 use Rattle.xl_world.specs.declared.sent.Sent.{Sent}
-use Rattle.xl_world.specs.Cores.{World, Step, Act, Again, Torn, Mark, place_at, reply_at, step, run}
+use Rattle.xl_world.specs.World.{World, Step, Act, Again, Torn, Mark, place_at, reply_at, step, run}
 use Rattle.xl_world.specs.Emptying.{event_steps}
 
 -- a frame is delivered

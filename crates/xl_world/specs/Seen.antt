@@ -27,8 +27,9 @@ use Rattle.xl_world.specs.Keeper.{found, left_by, restored}
 use Rattle.xl_world.specs.Forks as Forks
 use Rattle.xl_world.specs.declared.place.Fate.TheVariants.{Kept}
 use Rattle.xl_world.specs.Schedule.{told_of}
-use Rattle.xl_world.specs.World.{reported_by, forges}
-use Rattle.xl_world.specs.Cores.{World, Step, core_again, keeper_after, place_at, put, reply_at, step}
+use Rattle.xl_world.specs.World.{reported_by}
+use Rattle.xl_world.specs.Forgeries.{forges}
+use Rattle.xl_world.specs.World.{run, World, Step, core_again, keeper_after, place_at, put, reply_at, step}
 use Rattle.xl_world.specs.Emptying.{drained, given, handed_out, others}
 use Rattle.xl_world.specs.Idle.{IsIdle, WaitsOnly}
 use Rattle.xl_wire.specs.Heads.{split_of}
@@ -167,20 +168,21 @@ heard_all at (f ∷ fs) h = heard_all at fs (heard_one f.to at f.bytes h)
 abbrev pub place_again : Place → ℕ → ℕ → Place
 place_again p now number = record { core = core_again p now number; keeper = restored p.keeper number }
 
--- a place whose node is opened anew with the number that a restart finds
-abbrev pub restarted : ℕ → Place → Place
-restarted now p = place_again p now (found p.keeper)
+-- the places with the node of a number opened again
+abbrev pub put_again : ℕ → ℕ → Option Place → List Place → List Place
+put_again now number None places = places
+put_again now number (Some p) places = put (place_again p now number) places
 
--- a place as a cut leaves it: where the event asks a save, it was torn in it
-abbrev pub cut_seen : ℕ → Bool → Place → Option ℕ → Cut
-cut_seen at new p asked = record { place = place_again p at (left_by p.keeper new asked); torn = is_some asked }
+-- what a cut leaves: where the event asks a save, it was torn in it
+abbrev pub cut_seen : Bool → Place → Option ℕ → Cut
+cut_seen new p asked = record { number = left_by p.keeper new asked; torn = is_some asked }
 
--- the world with this place in place of the one of its number
-abbrev pub with_place : World → Place → World
-with_place w p = record {
+-- the world with the node of a number opened again
+abbrev pub with_again : World → ℕ → ℕ → ℕ → World
+with_again w i now number = record {
   liars = w.liars;
   numbers = w.numbers;
-  places = put p w.places;
+  places = put_again now number (place_at i w.places) w.places;
   sent = w.sent;
   mark = w.mark;
   said = w.said;
@@ -189,5 +191,9 @@ with_place w p = record {
 }
 
 -- that is the world after one step, and nothing waits in it
-abbrev pub Steps : World → Place → Type 0
-Steps w p = (s : Step) × (with_place w p ≡ step w s) × IsIdle (step w s)
+abbrev pub Steps : World → ℕ → ℕ → ℕ → Type 0
+Steps w i now number = (s : Step) × (with_again w i now number ≡ step w s) × IsIdle (step w s)
+
+-- the world after the first of these steps, and none of the others
+abbrev pub IsFront : World → List Step → World → Type 0
+IsFront w steps v = (first : List Step) × (rest : List Step) × (steps ≡ first ++ rest) × (v ≡ run w first)

@@ -1,49 +1,37 @@
--- A network of honest nodes and liars without queues, and its runs: what a node issues is sent at once to each other declared number.
--- It is what is seen of a network of cores that are emptied after each event. Whatever was ever sent may be delivered never, once or
--- often, at any later place.
--- Source: Chase and MacBrough, "Analysis of the XRP Ledger Consensus Protocol" (2018); restarts and keepers by this profile.
-use Rattle.std.specs.Prelude.{◌≤◌, ◌≡◌, ℕ, ◌+◌, ◌==◌, ◌&&◌, ◌||◌, nat_le, Bool, false, not, List, [], ◌∷◌, ◌++◌, zero, suc, length, map, filter, All, IfSome, option_map, option_to_list, find, if◌then◌else◌}
-use Rattle.std.specs.Prelude.{Some, None, Result, Ok, Err}
+-- A network of honest nodes and liars, and its runs: a drain of a core and the handing out of its reports are steps like any other,
+-- and what a drain gives is what was sent. Whatever was ever sent may come never, once or often, at any later place.
+-- Source: Chase and MacBrough, "Analysis of the XRP Ledger Consensus Protocol" (2018); restarts, keepers and queues by this profile.
+use Rattle.std.specs.Prelude.{◌≡◌, ℕ, ◌==◌, Bool, false, List, [], ◌∷◌, ◌++◌, length, map, filter, All, option_map, option_to_list, find, if◌then◌else◌}
+use Rattle.std.specs.Prelude.{Some, None}
 use Rattle.std.specs.declared.option.Option.{Option}
-use Rattle.std.specs.List.{list_any}
-use Rattle.std.specs.Str.{bytes_eq}
-use Rattle.xl_base.specs.declared.moments.TheConstants.{GREATEST_MILLIS}
-use Rattle.xl_lists.specs.Lists.{TrustedList, IsValid, is_on}
+use Rattle.xl_io.specs.Keepers.{may_hold}
+use Rattle.xl_lists.specs.Lists.{TrustedList}
 use Rattle.xl_lists.specs.Quorums.{Enough}
-use Rattle.xl_lists.specs.Agreement.{Said, Report as Reported, with_said, Kept}
-use Rattle.xl_wire.specs.declared.body.Body.{Body}
-use Rattle.xl_wire.specs.declared.body.Body.TheVariants as bodies
-use Rattle.xl_wire.specs.declared.refusal.WireRefusal.{WireRefusal}
+use Rattle.xl_lists.specs.Agreement.{Said, Report as Reported, with_said}
+use Rattle.xl_queues.specs.Queues.{one_more}
 use Rattle.xl_wire.specs.declared.validation.Validation.{Validation}
-use Rattle.xl_wire.specs.Bodies.{body_of}
-use Rattle.xl_wire.specs.Heads.{Split, split_of}
-use Rattle.xl_wire.specs.Heads.Split.{Whole, Need, Refused}
-use Rattle.xl_wire.specs.Kinds.{span}
-use Rattle.xl_wire.specs.Raws.{RawFrame}
-use Rattle.xl_tags.specs.Opening.{is_sealed}
-use Rattle.xl_tags.specs.Rings.{Ring, schedule_ring}
-use Rattle.xl_validations.specs.declared.row.Row.{Row}
+use Rattle.xl_wire.specs.Heads.{split_of}
+use Rattle.xl_core.specs.declared.event.CoreEvent.{CoreEvent}
+use Rattle.xl_core.specs.declared.event.CoreEvent.TheVariants.{Issue, Frame, Drain, Reports, Stop, Stopped}
 use Rattle.xl_core.specs.declared.report.Report.{Report}
-use Rattle.xl_core.specs.Answers.{Done}
-use Rattle.xl_core.specs.Node.{Node, Event, Issue, Frame, Reply, happens, asks, opened}
-use Rattle.xl_core.specs.Sending.{sealed_bytes, has_spelling}
+use Rattle.xl_core.specs.Answers.{Answer, Refused, Took, Done, Gave, Handed, Told}
+use Rattle.xl_core.specs.Core.{Core, CoreReply, answering, core_happens, core_asks, with_queues}
+use Rattle.xl_core.specs.Node.{Node, opened, settings_of}
 use Rattle.xl_world.specs.declared.sent.Sent.{Sent}
 use Rattle.xl_world.specs.declared.place.Keeper.{Keeper}
-use Rattle.xl_world.specs.declared.plan.PlanNode.{PlanNode}
+use Rattle.xl_world.specs.declared.place.Place.{Place}
 use Rattle.xl_world.specs.declared.place.Fate.{Fate}
-use Rattle.xl_world.specs.Keeper.{MayHold, one_more, holding, restored, answer_of, after_save, may_hold}
-
--- a node and its keeper
-pub record Place : Type 0 where
-  pub node : Node
-  pub keeper : Keeper
+use Rattle.xl_world.specs.declared.plan.PlanNode.{PlanNode}
+use Rattle.xl_world.specs.Keeper.{held_by, resting, restored, answer_of, after_save}
+use Rattle.xl_world.specs.Plans.{AreDeclared, all_numbers, is_declared, list_at, planned}
+use Rattle.xl_world.specs.Forgeries.{forges}
 
 pub record World : Type 0 where
   pub liars : List ℕ
   -- all declared numbers, rising
   pub numbers : List ℕ
   pub places : List Place
-  -- every frame that a node ever sent
+  -- every frame that a drain ever gave
   pub sent : List Sent
   -- how many of them stand before the mark
   pub mark : ℕ
@@ -57,28 +45,10 @@ pub record World : Type 0 where
 -- What may happen next: something at a node, whose save meets some fate; a node is opened again at a moment; it stops in the
 -- event's save, and is opened again with what that leaves; or the mark moves to the end of what was sent.
 pub data Step : Type 0 where
-  Act : (i : ℕ) (event : Event) (fate : Fate) → Step
+  Act : (i : ℕ) (event : CoreEvent) (fate : Fate) → Step
   Again : (i now number : ℕ) → Step
-  Torn : (i : ℕ) (event : Event) (number : ℕ) → Step
+  Torn : (i : ℕ) (event : CoreEvent) (number : ℕ) → Step
   Mark : Step
-
--- the place of a number
-abbrev pub place_at : ℕ → List Place → Option Place
-place_at i places = find (λ p. p.node.me == i) places
-
--- the places with this one in place of the one of its number
-abbrev pub put : Place → List Place → List Place
-put p [] = []
-put p (x ∷ xs) = if x.node.me == p.node.me then p ∷ xs else x ∷ put p xs
-
--- the frame of a validation from one node to a number
-abbrev pub frame_to : Node → Validation → ℕ → Sent
-frame_to n v to = record { from = n.me; to = to; bytes = sealed_bytes n.keys n.me to v }
-
--- a sealed frame for each other declared number, rising; what no fields hold can't be sent
-abbrev pub frames_for : List ℕ → Node → Option Validation → List Sent
-frames_for numbers n None = []
-frames_for numbers n (Some v) = map (frame_to n v) (filter (λ to. not (to == n.me) && has_spelling n.me to v) numbers)
 
 abbrev pub said_by : ℕ → Validation → Said
 said_by m v = record { member = m; seq = v.seq; id = v.id }
@@ -86,76 +56,88 @@ said_by m v = record { member = m; seq = v.seq; id = v.id }
 abbrev pub reported_by : Node → Report → Reported
 reported_by n r = record { node = n.me; list = n.list; seq = r.seq; id = r.id }
 
--- whether these bytes were sent; they name their sender and their receiver
-abbrev pub was_sent : List Sent → List ℕ → Bool
-was_sent sent bytes = list_any (λ f. bytes_eq f.bytes bytes) sent
+-- the place of a number
+abbrev pub place_at : ℕ → List Place → Option Place
+place_at i places = find (λ p. p.core.node.me == i) places
 
--- whether the frame is to the owner of these keys, with the right tag of another member that is no liar, and nobody sent its bytes;
--- a number that isn't another member's has no key
-abbrev pub is_made_up : List ℕ → List Sent → Ring → List ℕ → RawFrame → Bool
-is_made_up liars sent keys bytes f = f.to == keys.me && not (is_on liars f.from) && not (was_sent sent bytes) && is_sealed keys f
+-- the places with this one in place of the one of its number
+abbrev pub put : Place → List Place → List Place
+put p [] = []
+put p (x ∷ xs) = if x.core.node.me == p.core.node.me then p ∷ xs else x ∷ put p xs
 
--- whether the bytes are one whole frame that is made up
-abbrev pub forges : List ℕ → List Sent → Ring → List ℕ → Split → Bool
-forges liars sent keys bytes (Refused why) = false
-forges liars sent keys bytes (Need lack) = false
-forges liars sent keys bytes (Whole f) = nat_le (length bytes) (span f.body) && is_made_up liars sent keys bytes f
+-- the frames that an answer gives, from this number
+abbrev pub sent_in : ℕ → Answer → List Sent
+sent_in from (Refused why) = []
+sent_in from (Took taken) = []
+sent_in from Done = []
+sent_in from (Gave to frames) = map (λ bytes. record { from = from; to = to; bytes = bytes }) frames
+sent_in from (Handed reports) = []
+sent_in from (Told stopped) = []
 
 -- whether what comes to a node is forged
-abbrev pub is_forged : World → Node → Event → Bool
+abbrev pub is_forged : World → Node → CoreEvent → Bool
 is_forged w n (Issue now seq id full) = false
 is_forged w n (Frame now bytes) = forges w.liars w.sent n.keys bytes (split_of bytes)
+is_forged w n (Drain member room) = false
+is_forged w n (Reports room) = false
+is_forged w n Stop = false
+is_forged w n Stopped = false
 
 -- the world after what came of an event at a node, with its keeper then
-abbrev pub settled : World → ℕ → Bool → Reply → Keeper → World
+abbrev pub settled : World → ℕ → Bool → CoreReply → Keeper → World
 settled w i forged r keeper = record {
   liars = w.liars;
   numbers = w.numbers;
-  places = put (record { node = r.node; keeper = keeper }) w.places;
-  sent = w.sent ++ frames_for w.numbers r.node r.issued;
+  places = put (record { core = r.core; keeper = keeper }) w.places;
+  sent = w.sent ++ sent_in r.core.node.me r.answer;
   mark = w.mark;
   said = with_said w.said (option_map (said_by i) r.issued);
-  reports = w.reports ++ option_to_list (option_map (reported_by r.node) r.report);
+  reports = w.reports ++ option_to_list (option_map (reported_by r.core.node) r.report);
   forged = if forged then one_more w.forged else w.forged;
 }
 
-abbrev pub acts : World → ℕ → Event → Fate → Option Place → World
+-- what came of an event at a place, whose save meets this fate
+abbrev pub reply_at : Place → CoreEvent → Fate → CoreReply
+reply_at p event fate = core_happens p.core event (answer_of p.keeper fate)
+
+-- its keeper then
+abbrev pub keeper_after : Place → CoreEvent → Fate → Keeper
+keeper_after p event fate = after_save p.keeper (core_asks p.core event) fate
+
+abbrev pub acts : World → ℕ → CoreEvent → Fate → Option Place → World
 acts w i event fate None = w
-acts w i event fate (Some p) = settled w i (is_forged w p.node event) (happens p.node event (answer_of p.keeper fate)) (after_save p.keeper (asks p.node event) fate)
+acts w i event fate (Some p) = settled w i (is_forged w p.core.node event) (reply_at p event fate) (keeper_after p event fate)
 
--- the place of a node after an event
-abbrev pub place_after : Place → Event → Fate → Place
-place_after p event fate = record { node = (happens p.node event (answer_of p.keeper fate)).node; keeper = after_save p.keeper (asks p.node event) fate }
+-- the core of a place opened again with this number
+abbrev pub core_again : Place → ℕ → ℕ → Core
+core_again p now number = with_queues (opened (settings_of p.core.node) now number)
 
--- a node that is opened says and reports nothing
-abbrev pub quiet : Node → Reply
-quiet n = record { node = n; answer = Done; items = []; issued = None; report = None }
-
--- the place opened again with this number, which its keeper then holds alone
-abbrev pub place_again : Place → ℕ → ℕ → Place
-place_again p now number = record { node = opened p.node.me p.node.list p.node.keys p.node.ledgers.limit now number; keeper = restored p.keeper number }
-
+-- its keeper then holds that number alone; a core that is opened says and reports nothing
 abbrev pub reopened : World → ℕ → Place → ℕ → ℕ → World
-reopened w i p now number = settled w i false (quiet (place_again p now number).node) (restored p.keeper number)
+reopened w i p now number = settled w i false (answering (core_again p now number) Done) (restored p.keeper number)
 
 abbrev pub again : World → ℕ → ℕ → ℕ → Option Place → World
 again w i now number None = w
-again w i now number (Some p) = if may_hold p.keeper number then reopened w i p now number else w
+again w i now number (Some p) = if may_hold (held_by p.keeper) number then reopened w i p now number else w
 
 -- only an event that asks a save can be torn
 abbrev pub torn : World → ℕ → ℕ → ℕ → Option Place → Option ℕ → World
 torn w i now number None asked = w
 torn w i now number (Some p) None = w
-torn w i now number (Some p) (Some s) = again w i now number (Some (record { node = p.node; keeper = record p.keeper { asked = Some s } }))
+torn w i now number (Some p) (Some s) = again w i now number (Some (record { core = p.core; keeper = record p.keeper { asked = Some s } }))
 
--- the moment of an event at a node
-abbrev pub moment_in : Event → ℕ
+-- the moment of an event that has one
+abbrev pub moment_in : CoreEvent → ℕ
 moment_in (Issue now seq id full) = now
 moment_in (Frame now bytes) = now
+moment_in (Drain member room) = 0
+moment_in (Reports room) = 0
+moment_in Stop = 0
+moment_in Stopped = 0
 
-abbrev pub asked_at : Option Place → Event → Option ℕ
+abbrev pub asked_at : Option Place → CoreEvent → Option ℕ
 asked_at None event = None
-asked_at (Some p) event = asks p.node event
+asked_at (Some p) event = core_asks p.core event
 
 -- all that was sent stands before the mark
 abbrev pub marked : World → World
@@ -180,21 +162,9 @@ abbrev pub run : World → List Step → World
 run w [] = w
 run w (s ∷ ss) = run (step w s) ss
 
--- so many numbers from one on
-unfoldable pub up_from : ℕ → ℕ → List ℕ
-up_from n zero = []
-up_from n (suc k) = n ∷ up_from (n + 1) k
-
--- the numbers that a member may have
-abbrev pub all_numbers : List ℕ
-all_numbers = up_from 1 64
-
-abbrev pub is_declared : List ℕ → List PlanNode → ℕ → Bool
-is_declared liars plan k = list_any (λ d. d.me == k) plan || is_on liars k
-
--- a node with room for so many ledgers, and its keeper
+-- a core with room for so many ledgers, and its keeper
 abbrev pub place_of : ℕ → PlanNode → Place
-place_of limit d = record { node = opened d.me d.list (schedule_ring d.me) limit d.moment 0; keeper = holding 0 }
+place_of limit d = record { core = with_queues (opened (planned limit d) d.moment 0); keeper = resting 0 }
 
 -- the network at the start
 abbrev pub start : ℕ → List ℕ → List PlanNode → World
@@ -209,74 +179,26 @@ start limit liars plan = record {
   forged = 0;
 }
 
--- a node is declared with a number that a member may have, and a list that may be one
-pub record IsDeclared (d : PlanNode) : Type 0 where
-  pub least : 1 ≤ d.me
-  pub greatest : d.me ≤ 64
-  pub list : IsValid d.list
-
-abbrev pub AreDeclared : List PlanNode → Type 0
-AreDeclared plan = All IsDeclared plan
-
--- each node is opened at a moment that there may be
-abbrev pub AreTimely : List PlanNode → Type 0
-AreTimely plan = All (λ d. d.moment ≤ GREATEST_MILLIS) plan
-
--- the list that a number is declared with
-abbrev pub list_at : List PlanNode → ℕ → Option TrustedList
-list_at plan i = option_map (λ d. d.list) (find (λ d. d.me == i) plan)
-
--- the keeper of this member may hold this number
-abbrev pub Holds : World → ℕ → ℕ → Type 0
-Holds w m k = (p : Place) × (place_at m w.places ≡ Some p) × MayHold p.keeper k
-
--- P holds of what the row says
-abbrev pub RowSays : (Said → Type 0) → Row → Type 0
-RowSays P row = IfSome row.current (λ v. P (said_by row.member v))
-
--- what a body says under its sender's number, if it says anything
-abbrev pub said_in_body : ℕ → Result Body WireRefusal → Option Said
-said_in_body from (Ok (bodies.Validation v)) = Some (said_by from v)
-said_in_body from (Ok (bodies.Proposal proposal)) = None
-said_in_body from (Ok (bodies.Header header)) = None
-said_in_body from (Ok (bodies.TxSet ids)) = None
-said_in_body from (Ok (bodies.Tx id)) = None
-said_in_body from (Err why) = None
-
-abbrev pub said_in_split : Split → Option Said
-said_in_split (Whole f) = said_in_body f.from (body_of f.kind f.body)
-said_in_split (Need lack) = None
-said_in_split (Refused why) = None
-
--- what the bytes of a frame say
-abbrev pub said_in : List ℕ → Option Said
-said_in bytes = said_in_split (split_of bytes)
-
--- P holds of what a frame says
-abbrev pub FrameSays : (Said → Type 0) → Sent → Type 0
-FrameSays P f = IfSome (said_in f.bytes) P
-
--- P holds of each validation that stands at the node
-abbrev pub NodeSays : (Said → Type 0) → Node → Type 0
-NodeSays P n = All (RowSays P) n.rows
-
--- P holds of each validation that stands at a node or was sent
-pub record Stands (w : World) (P : Said → Type 0) : Type 0 where
-  pub places : (i : ℕ) (p : Place) → place_at i w.places ≡ Some p → NodeSays P p.node
-  pub sent : All (FrameSays P) w.sent
-
--- what is kept of a world
-abbrev pub IsKept : World → Type 0
-IsKept w = Kept w.liars w.said w.reports (Holds w) (Stands w)
-
 -- no report of i and no report of j share a sequence and differ in id
 abbrev pub AgreeAt : List Reported → ℕ → ℕ → Type 0
 AgreeAt reports i j = All (λ r. All (λ q. r.node ≡ i → q.node ≡ j → r.seq ≡ q.seq → r.id ≡ q.id) reports) reports
 
--- The headline: in each run in which no frame is forged, the nodes of two numbers never report different ledgers of one sequence,
--- if their quorums together exceed the sum of both lists' sizes, minus the overlap, plus the liars in the overlap.
+-- The headline, of every run of cores: where no frame is forged, the nodes of two numbers never report different ledgers of one
+-- sequence, if their quorums together exceed the sum of both lists' sizes, minus the overlap, plus the liars in the overlap.
 abbrev pub Headline : Type 0
 Headline =
     (limit : ℕ) (liars : List ℕ) (plan : List PlanNode) (steps : List Step) (i j : ℕ) (a b : TrustedList) →
     AreDeclared plan → list_at plan i ≡ Some a → list_at plan j ≡ Some b → Enough liars a b →
     (run (start limit liars plan) steps).forged ≡ 0 → AgreeAt (run (start limit liars plan) steps).reports i j
+
+-- the list of a node of the world
+abbrev pub list_in : World → ℕ → Option TrustedList
+list_in w i = option_map (λ p. p.core.node.list) (place_at i w.places)
+
+-- the core of a node of the world
+abbrev pub core_in : World → ℕ → Option Core
+core_in w i = option_map (λ p. p.core) (place_at i w.places)
+
+-- the world comes from a declared one by steps
+abbrev pub IsRun : World → Type 0
+IsRun w = (limit : ℕ) × (plan : List PlanNode) × (steps : List Step) × AreDeclared plan × (w ≡ run (start limit w.liars plan) steps)

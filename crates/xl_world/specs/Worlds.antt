@@ -2,7 +2,7 @@
 use Rattle.std.specs.Prelude.{◌≤◌, length, map}
 use Rattle.xl_world.specs.declared.world.World.TheInside.{Inside}
 use Rattle.xl_world.specs.Indexes.{IsIndex}
-use Rattle.xl_world.specs.Cores.{World, IsRun}
+use Rattle.xl_world.specs.World.{World, IsRun}
 use Rattle.xl_world.specs.Idle.{IsIdle}
 use Rattle.xl_world.specs.Seen.{said_seen, reports_seen}
 

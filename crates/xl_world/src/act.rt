@@ -6,15 +6,16 @@ ghost use Rattle.xl_base.specs.declared.moments.TheConstants.{GREATEST_MILLIS};
 ghost use Rattle.xl_world.specs.declared.place.Fate.TheVariants.{Kept};
 ghost use Rattle.xl_world.specs.declared.outcome.Outcome.TheVariants.{Preferred};
 ghost use Rattle.xl_world.specs.World.{reported_by};
-ghost use Rattle.xl_world.specs.Cores.{moment_in, place_at, reply_at};
+ghost use Rattle.xl_world.specs.World.{moment_in, place_at, reply_at};
 ghost use Rattle.xl_world.specs.Emptying.{handed_out};
 ghost use Rattle.xl_world.specs.Seen.{report_seen, issue_seen, event_seen, IsAnswer, NoneUntaken, place_after, acted_at, AnswersAt};
 
-use crate::place::{Fate, Place};
+use crate::place::{Fate, NodeCore, Place};
 use crate::saving::Fated;
 use crate::{Outcome, WorldReport};
 use xl_base::{LedgerId, Millis, NodeNo, Seq};
-use xl_core::{Core, Node, Refusal, Report};
+use xl_core::{Node, Refusal, Report};
+use xl_recount::Plain;
 use xl_lists::List;
 use xl_wire::Validation;
 
@@ -57,7 +58,7 @@ impl Answer {
 }
 
 /// A report of a node, under its list.
-fn report_under(node: &Node, report: Option<Report>) -> Option<WorldReport>
+fn report_under(node: &Node<Plain>, report: Option<Report>) -> Option<WorldReport>
     ensures { option_map report_seen result ≡ option_map (reported_by node.now) report }
 {
     match report {
@@ -72,7 +73,7 @@ fn report_under(node: &Node, report: Option<Report>) -> Option<WorldReport>
 }
 
 /// The report that waits to be taken, if there is one.
-fn taken_report(core: &mut Core) -> Option<Report>
+fn taken_report(core: &mut NodeCore) -> Option<Report>
     requires { length core.old.untaken.items ≤ 1 }
     ensures core { core.new ≡ handed_out core.old }
     ensures report { option_to_list result ≡ core.old.untaken.items }
@@ -155,7 +156,7 @@ pub fn act(place: &mut Place, event: &NodeEvent<'_>, fate: Fate) -> Answer
 pub fn place_of(places: &[Place], i: NodeNo) -> Option<usize>
     ensures { result ≡ position (λ p. p.core.node.me == i) places.now }
 {
-    places.iter().position(|place| place.core.me() == i)
+    places.iter().position(|place| place.core.node().me() == i)
 }
 
 /// The list of the node of a number, where there is one.
@@ -165,14 +166,14 @@ pub fn list_at(places: &[Place], i: NodeNo) -> Option<&List>
     match place_of(places, i) {
         Some(k) => {
             let place = &places[k];
-            Some(place.core.list())
+            Some(place.core.node().list())
         }
         None => None,
     }
 }
 
 /// The core of a number, where there is one.
-pub fn core_at(places: &[Place], i: NodeNo) -> Option<&Core>
+pub fn core_at(places: &[Place], i: NodeNo) -> Option<&NodeCore>
     ensures { option_copied result ≡ option_map (λ p. p.core) (place_at i places.now) }
 {
     match place_of(places, i) {

@@ -5,8 +5,8 @@ ghost use Rattle.xl_wire.specs.Heads.{split_of};
 ghost use Rattle.xl_wire.specs.Raws.{SpellsRaw, raw_frame};
 ghost use Rattle.xl_world.specs.Indexes.{IsIndex};
 ghost use Rattle.xl_world.specs.Seen.{forged_at};
-ghost use Rattle.xl_world.specs.World.{forges, is_made_up};
-ghost use Rattle.xl_world.specs.Cores.{place_at};
+ghost use Rattle.xl_world.specs.Forgeries.{forges, is_made_up};
+ghost use Rattle.xl_world.specs.World.{place_at};
 
 use crate::Sent;
 use crate::act::place_of;
@@ -72,7 +72,7 @@ pub fn is_forged(
     match place_of(places, to) {
         Some(k) => {
             let place = &places[k];
-            forges(liars, sent, index, place.core.keys(), bytes)
+            forges(liars, sent, index, place.core.node().keys(), bytes)
         }
         None => false,
     }

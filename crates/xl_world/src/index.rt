@@ -1,7 +1,7 @@
 // Whether bytes were sent, without a walk over all that was sent.
 ghost use Rattle.std.specs.Prelude.{◌≡◌, ◌+◌, ◌≤◌, ◌<◌, length, slice_get, true, false, IfSome, option_copied};
 ghost use Rattle.xl_world.specs.Indexes.{tag_in, IsIndex};
-ghost use Rattle.xl_world.specs.World.{was_sent};
+ghost use Rattle.xl_world.specs.Forgeries.{was_sent};
 
 use crate::Sent;
 use crate::sent::was_sent;

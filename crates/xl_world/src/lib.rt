@@ -14,7 +14,6 @@ mod forged;
 mod fork;
 mod hearing;
 mod index;
-mod law;
 mod lie;
 mod open;
 mod outcome;
@@ -27,7 +26,6 @@ mod settle;
 mod world;
 
 pub use fork::{Fork, first_fork, forks};
-pub use law::runs_of_cores;
 pub use outcome::{Happened, Outcome};
 pub use plan::{Plan, PlanNode};
 pub use report::WorldReport;

@@ -4,8 +4,8 @@ ghost use Rattle.std.specs.List.{list_any};
 ghost use Rattle.xl_ledger.specs.declared.registry.TheConstants.{LEAST_LIMIT, GREATEST_LIMIT};
 ghost use Rattle.xl_lists.specs.Lists.{is_on};
 ghost use Rattle.xl_base.specs.declared.moments.TheConstants.{GREATEST_MILLIS};
-ghost use Rattle.xl_world.specs.World.{is_declared, all_numbers, AreDeclared, AreTimely};
-ghost use Rattle.xl_world.specs.Cores.{place_of};
+ghost use Rattle.xl_world.specs.Plans.{is_declared, all_numbers, AreDeclared, AreTimely};
+ghost use Rattle.xl_world.specs.World.{place_of};
 
 use crate::place::{Keeper, Place};
 use crate::{Plan, PlanNode};
@@ -26,10 +26,11 @@ fn place(alloc: Global, limit: u32, node: &PlanNode) -> Result<Place, OutOfMemor
         list: node.list.copy(),
         keys: Keys::of_schedule(node.me),
         limit,
+        validating: node.validating,
     };
     Ok(Place {
         core: Core::open(alloc, settings, node.moment, 0)?,
-        keeper: Keeper::holding(0),
+        keeper: Keeper::resting(0),
     })
 }
 

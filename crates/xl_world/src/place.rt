@@ -1,5 +1,6 @@
 use xl_base::{LedgerId, NodeNo, Seq};
 use xl_core::Core;
+use xl_recount::Plain;
 use xl_wire::Validation;
 
 /// How a save is answered, and what it leaves.
@@ -25,10 +26,11 @@ pub struct Keeper {
 
 impl Keeper {
     ghost use Rattle.std.specs.Prelude.{◌≡◌, ◌≤◌};
-    ghost use Rattle.xl_world.specs.Keeper.{holding, restored, after_failed, found, left_by};
+    ghost use Rattle.xl_world.specs.Keeper.{resting, restored, after_failed, found, left_by};
 
-    pub fn holding(seq: Seq) -> Keeper
-        ensures { result ≡ holding seq }
+    /// A keeper that never failed, and holds this number.
+    pub fn resting(seq: Seq) -> Keeper
+        ensures { result ≡ resting seq }
     {
         Keeper {
             in_force: seq,
@@ -86,10 +88,13 @@ impl Keeper {
     }
 }
 
+/// The core of a node, whose votes are recounted at each question.
+pub type NodeCore = Core<Plain>;
+
 /// A core and its keeper.
 #[derive(Drop)]
 pub struct Place {
-    pub core: Core,
+    pub core: NodeCore,
     pub keeper: Keeper,
 }
 

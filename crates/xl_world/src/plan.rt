@@ -6,6 +6,8 @@ use xl_lists::List;
 pub struct PlanNode {
     pub me: NodeNo,
     pub list: List,
+    /// Whether it is a validator, or else observes.
+    pub validating: bool,
     /// The moment at which it is opened, in milliseconds.
     pub moment: Millis,
 }

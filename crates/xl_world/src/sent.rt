@@ -7,18 +7,18 @@ ghost use Rattle.xl_core.specs.Node.{items_of};
 ghost use Rattle.xl_core.specs.Queues.{waiting_at};
 ghost use Rattle.xl_core.specs.declared.sending.TheConstants.{VALIDATION_FRAME};
 ghost use Rattle.xl_world.specs.declared.place.Place.{Place};
-ghost use Rattle.xl_world.specs.Cores.{place_at};
+ghost use Rattle.xl_world.specs.World.{place_at};
 ghost use Rattle.xl_world.specs.Emptying.{drained, drained_once, given, given_once, others};
 ghost use Rattle.xl_world.specs.Idle.{Between, WaitsOnly};
 ghost use Rattle.xl_world.specs.Schedule.{frame_at};
 ghost use Rattle.xl_world.specs.Seen.{MayDrain, given_at, put_drained};
-ghost use Rattle.xl_world.specs.World.{was_sent};
+ghost use Rattle.xl_world.specs.Forgeries.{was_sent};
 
 use crate::act::place_of;
-use crate::place::Place;
+use crate::place::{NodeCore, Place};
 use std::alloc::Global;
 use xl_base::{Bytes, NodeNo, OutOfMemory};
-use xl_core::{Core, LONGEST_FRAME, VALIDATION_FRAME};
+use xl_core::{LONGEST_FRAME, VALIDATION_FRAME};
 use xl_wire::Validation;
 
 /// A frame that a node has sent to one receiver.
@@ -75,7 +75,7 @@ fn filled(rooms: &mut Vec<Vec<u8>>, frame: &[u8]) -> Vec<u8>
 }
 
 /// What waits for another number is drained. It is one frame at most, which is sent.
-fn drain_for(core: &mut Core, to: NodeNo, rooms: &mut Vec<Vec<u8>>, sent: &mut Vec<Sent>)
+fn drain_for(core: &mut NodeCore, to: NodeNo, rooms: &mut Vec<Vec<u8>>, sent: &mut Vec<Sent>)
     requires other { to ≢ core.old.node.me }
     requires keys { core.old.node.keys ≡ schedule_ring core.old.node.me }
     requires waits { (o : Option validation.Validation) × ((waiting_at core.old.waiting to).items ≡ items_of o) }
@@ -93,7 +93,7 @@ fn drain_for(core: &mut Core, to: NodeNo, rooms: &mut Vec<Vec<u8>>, sent: &mut V
     if count > 0 {
         let bytes = filled(rooms, &room[..count]);
         sent.push_reserved(Sent {
-            from: core.me(),
+            from: core.node().me(),
             to,
             bytes: Bytes::from_vec(bytes),
         });
@@ -101,7 +101,7 @@ fn drain_for(core: &mut Core, to: NodeNo, rooms: &mut Vec<Vec<u8>>, sent: &mut V
 }
 
 /// What waits for each other number is drained, for each in its turn, and sent.
-fn drain(core: &mut Core, numbers: &[NodeNo], rooms: &mut Vec<Vec<u8>>, sent: &mut Vec<Sent>)
+fn drain(core: &mut NodeCore, numbers: &[NodeNo], rooms: &mut Vec<Vec<u8>>, sent: &mut Vec<Sent>)
     requires waits { WaitsOnly numbers.now core.old }
     requires rising { Between 0 numbers.now }
     requires keys { core.old.node.keys ≡ schedule_ring core.old.node.me }
@@ -112,7 +112,7 @@ fn drain(core: &mut Core, numbers: &[NodeNo], rooms: &mut Vec<Vec<u8>>, sent: &m
     ensures sent { sent.new.items ≡ sent.old.items ++ given core.old (others numbers.now core.old.node.me) }
 {
     for &to in numbers {
-        if to != core.me() {
+        if to != core.node().me() {
             drain_for(core, to, rooms, sent);
         }
     }

@@ -1,7 +1,7 @@
 ghost use Rattle.std.specs.Prelude.{◌≡◌, ◌≤◌, IfOk, OnOk};
 ghost use Rattle.xl_base.specs.declared.moments.TheConstants.{GREATEST_MILLIS};
 ghost use Rattle.xl_world.specs.Schedule.{moment_of};
-ghost use Rattle.xl_world.specs.World.{AreTimely};
+ghost use Rattle.xl_world.specs.Plans.{AreTimely};
 
 use super::*;
 use std::alloc::Global;

@@ -1,23 +1,22 @@
 ghost use Rattle.std.specs.Prelude.{◌≡◌, if◌then◌else◌};
-ghost use Rattle.xl_world.specs.Keeper.{one_more};
+ghost use Rattle.xl_queues.specs.Queues.{one_more};
 ghost use Rattle.xl_world.specs.Schedule.{node_asked, event_asked};
 ghost use Rattle.xl_world.specs.Seen.{issue_seen};
 
 use crate::act::{Asked, NodeEvent, act_at, core_at, list_at, preferred_at};
 use crate::agreement::all_agree;
-use crate::anew::{cut_at, replace, restarted_at};
+use crate::anew::{cut_at, found_at, reopen_at};
 use crate::forged::is_forged;
 use crate::hearing::{hear_at, hear_each};
 use crate::index::TagIndex;
 use crate::lie::{lied_header, lied_validation};
-use crate::place::{Fate, Place, Saying};
+use crate::place::{Fate, NodeCore, Place, Saying};
 use crate::sent::{frame_at, rooms, send_some};
 use crate::settle::{report_some, say_some, tell};
 use crate::{Happened, Plan, Sent, WorldReport, open};
 use std::alloc::Global;
 use std::marker::Model;
-use xl_base::{Millis, NodeNo, OutOfMemory};
-use xl_core::Core;
+use xl_base::{Millis, NodeNo, OutOfMemory, Seq};
 use xl_lists::List;
 use xl_sched::{Ask, Event, Lied};
 
@@ -38,7 +37,7 @@ pub struct World {
 }
 
 impl Model for World {
-    ghost use Rattle.xl_world.specs.Cores.{World as TheWorld};
+    ghost use Rattle.xl_world.specs.World.{World as TheWorld};
 
     ghost Value = { TheWorld };
 
@@ -50,17 +49,18 @@ impl Model for World {
 }
 
 impl World {
-    ghost use Rattle.std.specs.Prelude.{◌≡◌, ◌≤◌, ◌↔◌, option_copied, Some, IsTrue, IfOk, OnOk, OnErr};
+    ghost use Rattle.std.specs.Prelude.{◌≡◌, ◌≤◌, ◌↔◌, option_copied, Some, None, IsTrue, IfOk, OnOk, OnErr};
     ghost use Rattle.xl_ledger.specs.declared.registry.TheConstants.{LEAST_LIMIT, GREATEST_LIMIT};
     ghost use Rattle.xl_lists.specs.Lists.{TrustedList};
     ghost use Rattle.xl_lists.specs.Quorums.{Enough};
     ghost use Rattle.xl_core.specs.declared.event.CoreEvent.TheVariants.{Frame};
-    ghost use Rattle.xl_world.specs.World.{AgreeAt, AreTimely};
-    ghost use Rattle.xl_world.specs.Cores.{Headline, list_in, core_in, start, marked, run, place_at};
+    ghost use Rattle.xl_world.specs.World.{AgreeAt};
+    ghost use Rattle.xl_world.specs.Plans.{AreTimely, list_at};
+    ghost use Rattle.xl_world.specs.World.{Headline, list_in, core_in, start, marked, run, place_at};
     ghost use Rattle.xl_world.specs.Emptying.{event_steps};
-    ghost use Rattle.xl_world.specs.Schedule.{told_in, moment_of, after_event, cut_at as cut_steps, outcomes, preference, lied_bytes};
+    ghost use Rattle.xl_world.specs.Schedule.{steps_of, told_in, moment_of, after_event, cut_at as cut_steps, outcomes, preference, lied_bytes};
     ghost use Rattle.xl_base.specs.declared.moments.TheConstants.{GREATEST_MILLIS};
-    ghost use Rattle.xl_world.specs.Seen.{reports_seen, with_place, Steps};
+    ghost use Rattle.xl_world.specs.Seen.{reports_seen, with_again, IsFront, Steps};
     ghost use Rattle.xl_world.specs.declared.place.Fate.TheVariants.{Kept};
 
     /// The world of a plan, at its start.
@@ -217,36 +217,38 @@ impl World {
         Ok(Happened::from_vec(outcomes))
     }
 
-    /// A place comes in place of the one of its number, where that is a step.
-    fn set_place(&mut self, anew: Place)
-        requires { Steps self.old anew }
-        ensures { self.new ≡ with_place self.old anew }
+    /// The node of a number, where there is one, is opened anew in its place, where that is a step. An `Err` changes nothing.
+    fn reopen(&mut self, node: NodeNo, now: Millis, number: Seq) -> Result<(), OutOfMemory>
+        requires moment { now ≤ GREATEST_MILLIS }
+        requires step { Steps self.old node now number }
+        ensures world { OnOk result (self.new ≡ with_again self.old node now number) }
+        ensures err { OnErr result (self.new ≡ self.old) }
     {
-        replace(&mut self.places, anew);
+        reopen_at(self.alloc, &mut self.places, node, now, number)
     }
 
-    /// Opens a node anew with the number that its keeper holds.
+    /// Opens a node anew with the number that its keeper holds. An `Err` changes nothing.
     fn restart(&mut self, at: Millis, node: NodeNo) -> Result<Happened, OutOfMemory>
         requires { at ≤ GREATEST_MILLIS }
         ensures world { OnOk result (self.new ≡ after_event self.old (Event.Restart at node)) }
         ensures told { IfOk result (λ told. told ≡ outcomes self.old (Event.Restart at node)) }
         ensures err { OnErr result (self.new ≡ self.old) }
     {
-        if let Some(anew) = restarted_at(self.alloc, &self.places, node, at)? {
-            self.set_place(anew);
+        if let Some(number) = found_at(&self.places, node) {
+            self.reopen(node, at, number)?;
         }
         Ok(Happened::nothing(self.alloc))
     }
 
     /// A node is asked to issue, and its save is cut off, which leaves the new number or the old one; it is opened anew then.
-    /// Where no save is asked, it is opened anew after the issue came to its end.
+    /// Where no save is asked, it is opened anew after the issue came to its end. An `Err` may come between the two.
     fn cut(&mut self, node: NodeNo, asked: &Asked, new: bool) -> Result<Happened, OutOfMemory>
         requires { asked.now.moment ≤ GREATEST_MILLIS }
         ensures world { OnOk result (self.new ≡ run self.old (cut_steps self.old asked.now.moment new node (issue_seen asked.now) (place_at node self.old.places))) }
         ensures told { IfOk result (λ told. told ≡ told_in self.old (cut_steps self.old asked.now.moment new node (issue_seen asked.now) (place_at node self.old.places))) }
-        ensures err { OnErr result (self.new ≡ self.old) }
+        ensures err { OnErr result (IsFront self.old (cut_steps self.old asked.now.moment new node (issue_seen asked.now) (place_at node self.old.places)) self.new) }
     {
-        let Some(cut) = cut_at(self.alloc, &self.places, node, asked, new)? else {
+        let Some(cut) = cut_at(&self.places, node, asked, new) else {
             return Ok(Happened::nothing(self.alloc));
         };
         let told = if cut.torn {
@@ -254,7 +256,7 @@ impl World {
         } else {
             self.issue(node, asked, Fate::Kept)?
         };
-        self.set_place(cut.place);
+        self.reopen(node, asked.moment, cut.number)?;
         Ok(told)
     }
 
@@ -263,7 +265,7 @@ impl World {
         requires { at ≤ GREATEST_MILLIS }
         ensures world { OnOk result (self.new ≡ after_event self.old (Event.Cut at new ask.now)) }
         ensures told { IfOk result (λ told. told ≡ outcomes self.old (Event.Cut at new ask.now)) }
-        ensures err { OnErr result (self.new ≡ self.old) }
+        ensures err { OnErr result (IsFront self.old (steps_of self.old (Event.Cut at new ask.now)) self.new) }
     {
         let (node, asked) = asked_by(at, ask);
         self.cut(node, &asked, new)
@@ -281,12 +283,13 @@ impl World {
         self.issue(node, &asked, fate)
     }
 
-    /// An event of a schedule, and what is told of it, in order. An `Err` changes nothing.
+    /// An event of a schedule, and what is told of it, in order. Where memory is wanting, the world is as after the first of the
+    /// event's steps, or none.
     pub fn event(&mut self, event: &Event) -> Result<Happened, OutOfMemory>
         requires { moment_of event.now ≤ GREATEST_MILLIS }
         ensures world { OnOk result (self.new ≡ after_event self.old event.now) }
         ensures told { IfOk result (λ told. told ≡ outcomes self.old event.now) }
-        ensures err { OnErr result (self.new ≡ self.old) }
+        ensures err { OnErr result (IsFront self.old (steps_of self.old event.now) self.new) }
     {
         match event {
             Event::Issue {
@@ -341,9 +344,11 @@ impl World {
         list_at(&self.places, node)
     }
 
-    /// The core of a node, or None for a number that no honest node has.
-    pub fn node(&self, node: NodeNo) -> Option<&Core>
-        ensures { option_copied result ≡ core_in self.now node }
+    /// The core of a node, or None for a number that isn't a declared honest node.
+    pub fn node(&self, node: NodeNo) -> Option<&NodeCore>
+        ensures core { option_copied result ≡ core_in self.now node }
+        ensures none { (limit : _) (liars : _) (plan : _) (steps : _) → self.now ≡ run (start limit liars plan) steps →
+            (option_copied result ≡ None) ↔ (list_at plan node ≡ None) }
     {
         core_at(&self.places, node)
     }

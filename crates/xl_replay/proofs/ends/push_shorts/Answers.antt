@@ -1,6 +1,6 @@
 use Rattle.std.proofs.Common.{ℕ, List, ◌++◌, ap, ◌∙◌}
 use Rattle.std.specs.String.{string_bytes}
-use Rattle.xl_world.specs.Cores.{list_in}
+use Rattle.xl_world.specs.World.{list_in}
 use Rattle.xl_replay.specs.Texts.{shorts_of}
 use Rattle.xl_replay.proofs.Numbers.{text_more, text_first}
 use Rattle.xl_replay.proofs.ends.push_shorts.Goals as goal

@@ -2,8 +2,8 @@ use Rattle.std.proofs.Common.{ℕ, List, ◌++◌, ◌≤◌, ap, sym, subst, �
 use Rattle.std.specs.Prelude.{◌-◌}
 use Rattle.std.specs.List.{flat_map}
 use Rattle.std.specs.String.{string_bytes}
-use Rattle.xl_world.specs.Cores.{list_in}
-use Rattle.xl_world.specs.World.{up_from}
+use Rattle.xl_world.specs.World.{list_in}
+use Rattle.xl_world.specs.Plans.{up_from}
 use Rattle.xl_replay.specs.Texts.{short_with}
 use Rattle.xl_replay.proofs.Numbers.{text_more, text_first}
 use Rattle.xl_replay.proofs.ends.push_shorts_from.Goals as goal

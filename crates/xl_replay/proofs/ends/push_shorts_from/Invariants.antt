@@ -1,8 +1,8 @@
 use Rattle.std.proofs.Common.{◌≡◌, ◌++◌, ◌-◌}
 use Rattle.std.specs.List.{flat_map}
 use Rattle.std.specs.String.{string_bytes}
-use Rattle.xl_world.specs.Cores.{list_in}
-use Rattle.xl_world.specs.World.{up_from}
+use Rattle.xl_world.specs.World.{list_in}
+use Rattle.xl_world.specs.Plans.{up_from}
 use Rattle.xl_replay.specs.Texts.{short_with}
 use Rattle.xl_replay.proofs.ends.push_shorts_from.Given as goal
 

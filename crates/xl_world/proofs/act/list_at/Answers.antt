@@ -1,13 +1,14 @@
 use Rattle.std.proofs.Common.{sym, ◌∙◌, ap, Some}
 use Rattle.std.specs.Prelude.{option_map}
 use Rattle.xl_lists.specs.Lists.{TrustedList}
+use Rattle.xl_core.specs.Node.{Node}
 use Rattle.xl_world.specs.declared.place.Place.{Place}
 use Rattle.xl_world.proofs.Places.{found_there, none_there}
 use Rattle.xl_world.proofs.act.list_at.Goals as goal
 
 pub returns-in-Some : goal.returns-in-Some
 returns-in-Some c =
-    ap (λ (l : TrustedList). Some l) (c.list.ensures ∙ ap (λ (p : Place). p.core.node.list) c.index-places-k.is)
+    ap (λ (l : TrustedList). Some l) (c.list.ensures ∙ (ap (λ (n : Node). n.list) c.node.ensures.value ∙ ap (λ (p : Place). p.core.node.list) c.index-places-k.is))
     ∙ sym (ap (option_map (λ p. p.core.node.list)) (found_there c.args.places.now c.args.i c.in-Some.k c.index-places-k.result (sym c.in-Some.ensures)))
 
 pub returns-in-None : goal.returns-in-None

@@ -1,4 +1,4 @@
-use Rattle.std.proofs.Common.{◌≡◌, Some, ap, sym, ◌∙◌}
+use Rattle.std.proofs.Common.{◌≡◌, ◌∙◌, Some, ap, sym}
 use Rattle.std.specs.Prelude.{option_map}
 use Rattle.xl_core.specs.Core.{core_asks}
 use Rattle.xl_world.specs.declared.anew.Cut.{Cut}
@@ -7,12 +7,12 @@ use Rattle.xl_world.specs.Seen.{cut_seen, issue_seen}
 use Rattle.xl_world.proofs.Places.{found_there, none_there}
 use Rattle.xl_world.proofs.anew.cut_at.Goals as goal
 
-pub returns-in_ok-cut_place-in-Some : goal.returns-in_ok-cut_place-in-Some
-returns-in_ok-cut_place-in-Some c =
-    let left = λ (p : Place). cut_seen c.args.asked.now.moment c.args.new p (core_asks p.core (issue_seen c.args.asked.now)) in
-    ap (λ (cut : Cut). Some cut) (c.in_ok-cut_place-in-Some.ensures ∙ ap left c.index-places-k.is)
+pub returns-in-Some : goal.returns-in-Some
+returns-in-Some c =
+    let left = λ (p : Place). cut_seen c.args.new p (core_asks p.core (issue_seen c.args.asked.now)) in
+    ap (λ (cut : Cut). Some cut) (c.cut_place.ensures ∙ ap left c.index-places-k.is)
     ∙ sym (ap (option_map left) (found_there c.args.places.now c.args.i c.in-Some.k c.index-places-k.result (sym c.in-Some.ensures)))
 
 pub returns-in-None : goal.returns-in-None
 returns-in-None c =
-    sym (ap (option_map (λ p. cut_seen c.args.asked.now.moment c.args.new p (core_asks p.core (issue_seen c.args.asked.now)))) (none_there c.args.places.now c.args.i (sym c.in-None.ensures)))
+    sym (ap (option_map (λ p. cut_seen c.args.new p (core_asks p.core (issue_seen c.args.asked.now)))) (none_there c.args.places.now c.args.i (sym c.in-None.ensures)))

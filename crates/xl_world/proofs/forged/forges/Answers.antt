@@ -4,7 +4,7 @@ use Rattle.std.proofs.lemmas.Bool.{le-leb}
 use Rattle.std.proofs.lemmas.List.{take_all}
 use Rattle.xl_wire.specs.Kinds.{span}
 use Rattle.xl_wire.specs.Raws.{SpellsRaw, raw_frame}
-use Rattle.xl_world.specs.World.{forges}
+use Rattle.xl_world.specs.Forgeries.{forges}
 use Rattle.xl_world.proofs.Forging.{passes}
 use Rattle.xl_world.proofs.forged.forges.Goals as goal
 

@@ -1,5 +1,5 @@
 use Rattle.std.proofs.Common.{◌∙◌}
-use Rattle.xl_world.specs.World.{is_declared, up_from}
+use Rattle.xl_world.specs.Plans.{is_declared, up_from}
 use Rattle.xl_world.proofs.Numbers.{numbers_more}
 use Rattle.xl_world.proofs.open.numbers.Goals as goal
 

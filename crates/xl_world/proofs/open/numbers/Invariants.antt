@@ -1,6 +1,6 @@
 use Rattle.std.proofs.Common.{◌≡◌, ◌-◌}
 use Rattle.std.specs.Prelude.{filter}
-use Rattle.xl_world.specs.World.{is_declared, up_from}
+use Rattle.xl_world.specs.Plans.{is_declared, up_from}
 use Rattle.xl_world.proofs.open.numbers.Given as goal
 
 -- the declared ones of the numbers so far

@@ -1,6 +1,6 @@
 use Rattle.std.proofs.Common.{◌∙◌, arith}
-use Rattle.xl_world.specs.Cores.{place_of}
-use Rattle.xl_world.specs.World.{IsDeclared}
+use Rattle.xl_world.specs.World.{place_of}
+use Rattle.xl_world.specs.Plans.{IsDeclared}
 use Rattle.xl_world.proofs.Each.{all_more, map_more}
 use Rattle.xl_world.proofs.open.places.Goals as goal
 

@@ -1,7 +1,7 @@
 use Rattle.std.proofs.Common.{◌≡◌, take}
 use Rattle.std.specs.Prelude.{map}
-use Rattle.xl_world.specs.Cores.{place_of}
-use Rattle.xl_world.specs.World.{AreDeclared}
+use Rattle.xl_world.specs.World.{place_of}
+use Rattle.xl_world.specs.Plans.{AreDeclared}
 use Rattle.xl_world.proofs.open.places.Given as goal
 
 -- the nodes so far stand at their places, and their lists are lists

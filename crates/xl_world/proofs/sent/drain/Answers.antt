@@ -16,7 +16,7 @@ node_is c = drained_node_to c.args.numbers.now c.loop-to.to-index c.args.core.no
 
 -- its number, as the code asks it
 me_is : (c : After-ne) → c.me.result ≡ c.args.core.now.node.me
-me_is c = c.me.ensures ∙ ap (λ (n : Node). n.me) (node_is c)
+me_is c = c.me.ensures ∙ (ap (λ (n : Node). n.me) c.node.ensures.value ∙ ap (λ (n : Node). n.me) (node_is c))
 
 tested : (c : After-ne) → (c.to-item.result == c.me.result) ≡ (c.to-item.result == c.args.core.now.node.me)
 tested c = ap (λ (k : ℕ). c.to-item.result == k) (me_is c)

@@ -1,4 +1,4 @@
-use Rattle.xl_world.specs.World.{AreTimely}
+use Rattle.xl_world.specs.Plans.{AreTimely}
 use Rattle.xl_world.proofs.tests.plan.Given as goal
 
 abbrev pub invariant-loop-node : goal.invariant-loop-node

@@ -2,7 +2,7 @@ use Rattle.std.proofs.Common.{◌≡◌, ◌∙◌, ℕ, List, Some, ap, subst, 
 use Rattle.std.proofs.lemmas.Bool.{cond-false}
 use Rattle.xl_core.specs.declared.event.CoreEvent.TheVariants.{Frame}
 use Rattle.xl_world.specs.declared.sent.Sent.{Sent}
-use Rattle.xl_world.specs.Cores.{World, place_at, run}
+use Rattle.xl_world.specs.World.{World, place_at, run}
 use Rattle.xl_world.specs.Emptying.{event_steps}
 use Rattle.xl_world.specs.Idle.{IsIdle}
 use Rattle.xl_world.specs.declared.place.Fate.TheVariants.{Kept}
@@ -10,7 +10,7 @@ use Rattle.xl_world.specs.Worlds.{world_seen}
 use Rattle.xl_world.specs.Schedule.{frame_at, after_event, outcomes}
 use Rattle.xl_world.specs.Seen.{forged_at}
 use Rattle.xl_sched.specs.declared.event.Event.TheVariants.{Deliver}
-use Rattle.xl_world.proofs.CoreRuns.{run_on}
+use Rattle.xl_world.proofs.Runs.{run_on}
 use Rattle.xl_world.proofs.Sending.{frame_ran}
 use Rattle.xl_world.proofs.Delivering.{idle_untaken, delivered, delivered_told}
 use Rattle.xl_world.proofs.Steps.{heard_step, frame_fair}

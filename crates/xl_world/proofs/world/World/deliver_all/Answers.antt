@@ -7,11 +7,11 @@ use Rattle.xl_world.specs.declared.report.WorldReport.{WorldReport}
 use Rattle.xl_world.specs.declared.sent.Sent.{Sent}
 use Rattle.xl_world.specs.Schedule.{after_event, outcomes, steps_of}
 use Rattle.xl_world.specs.Seen.{Hearing, hearing_seen, heard_all}
-use Rattle.xl_world.specs.Cores.{World}
+use Rattle.xl_world.specs.World.{World}
 use Rattle.xl_world.specs.Idle.{IsIdle}
 use Rattle.xl_world.specs.Worlds.{world_seen}
 use Rattle.xl_world.proofs.Delivering.{all_delivered, all_idle, idle_untaken, all_told, heard_of, with_hearing}
-use Rattle.xl_world.proofs.CoreRuns.{run_on}
+use Rattle.xl_world.proofs.Runs.{run_on}
 use Rattle.xl_world.proofs.Steps.{with_mark}
 use Rattle.xl_world.proofs.world.World.deliver_all.Goals as goal
 use Rattle.xl_world.proofs.world.World.deliver_all.Goals.{After-from_vec}

@@ -3,16 +3,16 @@ use Rattle.std.specs.Prelude.{if◌then◌else◌}
 use Rattle.xl_core.specs.declared.event.CoreEvent.TheVariants.{Frame}
 use Rattle.xl_world.specs.declared.place.Place.{Place}
 use Rattle.xl_world.specs.declared.sent.Sent.{Sent}
-use Rattle.xl_world.specs.Cores.{World, place_at, run}
+use Rattle.xl_world.specs.World.{World, place_at, run}
 use Rattle.xl_world.specs.Emptying.{event_steps}
 use Rattle.xl_world.specs.Idle.{IsIdle}
 use Rattle.xl_world.specs.declared.place.Fate.TheVariants.{Kept}
-use Rattle.xl_world.specs.Keeper.{one_more}
+use Rattle.xl_queues.specs.Queues.{one_more}
 use Rattle.xl_world.specs.Indexes.{IsIndex}
 use Rattle.xl_world.specs.Worlds.{world_seen}
 use Rattle.xl_world.specs.Schedule.{told_in}
 use Rattle.xl_world.specs.Seen.{forged_at}
-use Rattle.xl_world.proofs.CoreRuns.{run_on}
+use Rattle.xl_world.proofs.Runs.{run_on}
 use Rattle.xl_world.proofs.Delivering.{idle_untaken}
 use Rattle.xl_world.proofs.Sending.{frame_ran}
 use Rattle.xl_world.proofs.Steps.{heard_step, told_once}

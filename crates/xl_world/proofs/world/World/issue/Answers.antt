@@ -7,7 +7,7 @@ use Rattle.xl_core.specs.declared.event.CoreEvent.{CoreEvent}
 use Rattle.xl_world.specs.declared.outcome.Outcome.{Outcome}
 use Rattle.xl_world.specs.declared.place.Place.{Place}
 use Rattle.xl_world.specs.declared.sent.Sent.{Sent}
-use Rattle.xl_world.specs.Cores.{IsRun, World, place_at, run}
+use Rattle.xl_world.specs.World.{IsRun, World, place_at, run}
 use Rattle.xl_world.specs.Emptying.{event_steps}
 use Rattle.xl_world.specs.Idle.{IsIdle}
 use Rattle.xl_world.specs.World.{said_by}
@@ -16,7 +16,7 @@ use Rattle.xl_world.proofs.Indexing.{index_more}
 use Rattle.xl_world.specs.Worlds.{world_seen}
 use Rattle.xl_world.specs.Schedule.{told_in}
 use Rattle.xl_world.specs.Seen.{MayDrain, issue_seen, said_seen, report_seen, reports_seen, acted_at, given_at, put_acted, put_drained, AnswersAt, outcomes_told}
-use Rattle.xl_world.proofs.CoreRuns.{run_on}
+use Rattle.xl_world.proofs.Runs.{run_on}
 use Rattle.xl_world.proofs.Delivering.{idle_untaken}
 use Rattle.xl_world.proofs.Sending.{issue_ran}
 use Rattle.xl_world.proofs.Steps.{with_lists, issued_step, may_drain, no_place, same_lists, told_step}

@@ -1,7 +1,7 @@
 use Rattle.std.proofs.Common.{◌≡◌, ◌∙◌, ℕ, List, ap, sym, subst}
 use Rattle.std.specs.Prelude.{OnOk, IfOk}
 use Rattle.xl_core.specs.declared.event.CoreEvent.TheVariants.{Frame}
-use Rattle.xl_world.specs.Cores.{run}
+use Rattle.xl_world.specs.World.{run}
 use Rattle.xl_world.specs.Emptying.{event_steps}
 use Rattle.xl_world.specs.declared.place.Fate.TheVariants.{Kept}
 use Rattle.xl_world.specs.Schedule.{lied_bytes, told_in}

@@ -1,8 +1,8 @@
 use Rattle.std.proofs.Common.{ap, map, subst, ◌∙◌, arith}
 use Rattle.xl_world.specs.Seen.{said_seen, reports_seen}
-use Rattle.xl_world.specs.Cores.{place_of}
-use Rattle.xl_world.specs.World.{AreDeclared}
-use Rattle.xl_world.proofs.CoreRuns.{opened_run}
+use Rattle.xl_world.specs.World.{place_of}
+use Rattle.xl_world.specs.Plans.{AreDeclared}
+use Rattle.xl_world.proofs.Runs.{opened_run}
 use Rattle.xl_world.proofs.Sending.{opened_idle}
 use Rattle.xl_world.proofs.world.World.open.Goals as goal
 

@@ -1,0 +1,102 @@
+-- A node beside its keeper: what each event at it must show.
+use Rattle.std.proofs.Common.{◌≡◌, ℕ, ◌<◌, ◌≤◌, Bool, List, [], ◌∷◌, arith, ap, sym, ◌∙◌, inl, inr, Option, Some, None, subst}
+use Rattle.std.specs.Prelude.{◌==◌, ◌&&◌, ◌⊎◌, All, IsTrue, IfSome, map, count_by, option_map, option_to_list}
+use Rattle.std.proofs.lemmas.Bool.{and_parts, or_right, eqb-true, eqb-false, cond_both, cond-true, cond-false}
+use Rattle.std.proofs.lemmas.List.Elements.{All-append, All-weaker, All-nil, All-cons, All-map}
+use Rattle.xl_base.specs.declared.ids.LedgerId.{LedgerId}
+use Rattle.xl_lists.specs.Lists.{IsValid}
+use Rattle.xl_lists.specs.Agreement.{Said, with_said, vouches, IsGenuine, IsBacked}
+use Rattle.xl_lists.proofs.Agreement.{same_id-true, kept_by_step, vouches_still, now_said}
+use Rattle.xl_lists.proofs.Counting.{count_image}
+use Rattle.xl_wire.specs.declared.validation.Validation.{Validation}
+use Rattle.xl_validations.specs.declared.row.Row.{Row}
+use Rattle.xl_validations.specs.Rows.{is_full_of, count_full}
+use Rattle.xl_core.specs.declared.report.Report.{Report}
+use Rattle.xl_core.specs.Node.{Node, Reply}
+use Rattle.xl_world.specs.declared.place.Keeper.{Keeper}
+use Rattle.xl_world.specs.Keeper.{held_by}
+use Rattle.xl_io.specs.Keepers.{MayHold}
+use Rattle.xl_world.specs.World.{said_by, reported_by}
+use Rattle.xl_world.proofs.Standing.{said_in, Holds, RowSays, FrameSays, NodeSays, IsKept}
+
+-- a node and its keeper
+pub record Seat : Type 0 where
+  pub node : Node
+  pub keeper : Keeper
+
+-- a node's rows are its list's, on which each member stands once, and the number that it kept is its keeper's
+pub record IsWell (p : Seat) : Type 0 where
+  pub members : map (λ row. row.member) p.node.rows ≡ p.node.list.members
+  pub valid : IsValid p.node.list
+  pub in_force : p.node.kept ≡ p.keeper.in_force
+
+-- what each event at a node must show, of its keeper and its report
+pub record IsStep (p : Seat) (r : Reply) (k : Keeper) : Type 0 where
+  pub me : r.node.me ≡ p.node.me
+  pub list : r.node.list ≡ p.node.list
+  pub well : IsWell (record { node = r.node; keeper = k })
+  pub rises : (j : ℕ) → MayHold (held_by k) j → (i : ℕ) × (i ≤ j) × MayHold (held_by p.keeper) i
+  pub above : IfSome r.issued (λ v. (i : ℕ) × (i < v.seq) × MayHold (held_by p.keeper) i)
+  pub saved : IfSome r.issued (λ v. (j : ℕ) → MayHold (held_by k) j → v.seq ≤ j)
+  pub quorum : IfSome r.report (λ q. r.node.list.quorum ≤ count_full q.seq q.id r.node.rows)
+
+-- and of what stands at the node then, and of what it issues
+pub record ReplySays (P : Said → Type 0) (me : ℕ) (r : Reply) : Type 0 where
+  pub node : NodeSays P r.node
+  pub issued : IfSome r.issued (λ v. P (said_by me v))
+
+pub if_some : {X : Type 0} (P Q : X → Type 0) → ((x : X) → P x → Q x) → (o : Option X) → IfSome o P → IfSome o Q
+if_some P Q h None p = tt
+if_some P Q h (Some x) p = h x p
+
+pub some_same : {X : Type 0} (x n : X) → Some x ≡ Some n → n ≡ x
+some_same x n e = cc
+
+-- who vouches for a ledger vouches for it by another name
+vouches_same : (liars : List ℕ) (said : List Said) (m : ℕ) {s t : ℕ} {a b : LedgerId} → s ≡ t → a ≡ b → IsTrue (vouches liars said s a m) → IsTrue (vouches liars said t b m)
+vouches_same liars said m {t = t} {a = a} same_seq same h =
+    subst (λ id. IsTrue (vouches liars said t id m)) same (subst (λ seq. IsTrue (vouches liars said seq a m)) same_seq h)
+
+-- at what a row holds
+at_current : (liars : List ℕ) (said : List Said) (seq : ℕ) (id : LedgerId) (m : ℕ) (current : Option Validation) → IfSome current (λ u. IsGenuine liars said (said_by m u)) →
+    IsTrue (is_full_of seq id current) → IsTrue (vouches liars said seq id m)
+at_current liars said seq id m None says full = cc
+at_current liars said seq id m (Some u) says full =
+    let parts = and_parts (u.full && u.seq == seq) _ full in
+    vouches_same liars said m (eqb-true _ _ (and_parts u.full _ parts.0).1) (same_id-true _ _ parts.1) says
+
+-- the rows that hold it belong to members that vouch for it
+count_rows : (liars : List ℕ) (said : List Said) (seq : ℕ) (id : LedgerId) (rows : List Row) → All (RowSays (IsGenuine liars said)) rows →
+    count_full seq id rows ≤ count_by (vouches liars said seq id) (map (λ row. row.member) rows)
+count_rows liars said seq id rows says =
+    count_image (λ row. is_full_of seq id row.current) (vouches liars said seq id) (λ row. row.member) rows
+    (All-weaker (RowSays (IsGenuine liars said)) _ (λ row. at_current liars said seq id row.member row.current) rows says)
+
+-- what a step says, as the world has it
+abbrev pub spoken : ℕ → Option Validation → Option Said
+spoken i issued = option_map (said_by i) issued
+
+-- a fact of an issued validation is one of what the world has it say
+pub spoken_fact : (P : Said → Type 0) (i : ℕ) (o : Option Validation) → IfSome o (λ v. P (said_by i v)) → IfSome (spoken i o) P
+spoken_fact P i None h = tt
+spoken_fact P i (Some v) h = h
+
+-- what is issued is genuine then
+pub issued_genuine : (liars : List ℕ) (said : List Said) (i : ℕ) (o : Option Validation) → IfSome o (λ v. IsGenuine liars (with_said said (spoken i o)) (said_by i v))
+issued_genuine liars said i None = tt
+issued_genuine liars said i (Some v) = or_right _ _ (now_said said (said_by i v))
+
+-- the report of a node whose rows are genuine has its quorum
+pub report_backed : (liars : List ℕ) (said : List Said) (p : Seat) → IsWell p → All (RowSays (IsGenuine liars said)) p.node.rows →
+    (o : Option Report) → IfSome o (λ q. p.node.list.quorum ≤ count_full q.seq q.id p.node.rows) → All (IsBacked liars said) (option_to_list (option_map (reported_by p.node) o))
+report_backed liars said p well says None h = All-nil (IsBacked liars said)
+report_backed liars said p well says (Some q) h = All-cons (IsBacked liars said) (reported_by p.node q) []
+    (record {
+      once = well.valid.once;
+      quorum = subst (λ ms. p.node.list.quorum ≤ count_by (vouches liars said q.seq q.id) ms) well.members (omega (arith, h, count_rows liars said q.seq q.id p.node.rows says));
+    })
+    (All-nil (IsBacked liars said))
+
+-- what holds of everything at a node holds with a weaker fact
+pub node_weaker : (P Q : Said → Type 0) → ((x : Said) → P x → Q x) → (n : Node) → NodeSays P n → NodeSays Q n
+node_weaker P Q h n says = All-weaker (RowSays P) (RowSays Q) (λ row. if_some _ _ (λ v. h (said_by row.member v)) row.current) n.rows says
