@@ -104,7 +104,7 @@ new_in_range nodes liars token (Ok m) range = cond_both (is_on nodes m || is_on 
 -- what a line declares is declared
 abbrev pub Declares : Line → Type 0
 Declares (line.Limit limit) = Unit {0}
-Declares (line.Node me list validating) = IsDeclared (record { me = me; list = list; moment = 0 })
+Declares (line.Node me list validating) = IsDeclared (record { me = me; list = list; validating = validating; moment = 0 })
 Declares (line.Liar me) = Unit {0}
 Declares (line.Name name id) = Unit {0}
 Declares (line.Ledger name parent header) = Unit {0}

@@ -33,7 +33,7 @@ use Rattle.xl_world.specs.declared.place.Place.{Place}
 use Rattle.xl_world.specs.declared.plan.PlanNode.{PlanNode}
 use Rattle.xl_world.specs.declared.place.Fate.{Fate}
 use Rattle.xl_io.specs.Keepers.{may_hold}
-use Rattle.xl_world.specs.Keeper.{answer_of}
+use Rattle.xl_world.specs.Keeper.{held_by, answer_of}
 use Rattle.xl_world.specs.World.{reported_by}
 use Rattle.xl_world.specs.Plans.{IsDeclared, AreDeclared}
 use Rattle.xl_world.specs.World.{World, Step as WorldStep, Act, Again, Torn, Mark, place_at, reply_at, acts, reopened, again, torn, asked_at, moment_in, step, run, start, IsRun}
@@ -74,7 +74,7 @@ acts_grows w i e fate (Some p) =
 
 again_grows : (w : World) (i now number : ℕ) (o : Option Place) → Grows w (again w i now number o)
 again_grows w i now number None = λ r h. h
-again_grows w i now number (Some p) = cond_both (may_hold p.keeper number) (reopened w i p now number) w (Grows w) (λ _. settled_grows w (reopened w i p now number) [] refl) (λ _ r h. h)
+again_grows w i now number (Some p) = cond_both (may_hold (held_by p.keeper) number) (reopened w i p now number) w (Grows w) (λ _. settled_grows w (reopened w i p now number) [] refl) (λ _ r h. h)
 
 torn_grows : (w : World) (i now number : ℕ) (o : Option Place) (asked : Option ℕ) → Grows w (torn w i now number o asked)
 torn_grows w i now number None asked = λ r h. h
@@ -241,7 +241,7 @@ event_tells r reading e sound extends = record {
 line_tells : (r : Replaying) (reading : Reading) (l : Line) → IsSound r → Extends r.reading.names reading.names → Declares l → StepTells r (after_line r reading l)
 line_tells r reading (line.Limit limit) sound extends declares = quiet_tells r reading limit r.plan r.liars sound extends sound.declared r.world refl
 line_tells r reading (line.Node me list validating) sound extends declares =
-    quiet_tells r reading r.limit _ r.liars sound extends (All-append IsDeclared r.plan _ sound.declared (All-cons IsDeclared (record { me = me; list = list; moment = reading.now }) [] (record { least = declares.least; greatest = declares.greatest; list = declares.list }) (All-nil IsDeclared))) r.world refl
+    quiet_tells r reading r.limit _ r.liars sound extends (All-append IsDeclared r.plan _ sound.declared (All-cons IsDeclared (record { me = me; list = list; validating = validating; moment = reading.now }) [] (record { least = declares.least; greatest = declares.greatest; list = declares.list }) (All-nil IsDeclared))) r.world refl
 line_tells r reading (line.Liar me) sound extends declares = quiet_tells r reading r.limit r.plan _ sound extends sound.declared r.world refl
 line_tells r reading (line.Name name id) sound extends declares = quiet_tells r reading r.limit r.plan r.liars sound extends sound.declared r.world refl
 line_tells r reading (line.Ledger name parent header) sound extends declares = quiet_tells r reading r.limit r.plan r.liars sound extends sound.declared r.world refl

@@ -49,7 +49,7 @@ after r reading e =
 
 abbrev pub after_line : Replaying → Reading → Line → Step Replaying
 after_line r reading (line.Limit limit) = silent r reading limit r.plan r.liars
-after_line r reading (line.Node me list validating) = silent r reading r.limit (r.plan ++ record { me = me; list = list; moment = reading.now } ∷ []) r.liars
+after_line r reading (line.Node me list validating) = silent r reading r.limit (r.plan ++ record { me = me; list = list; validating = validating; moment = reading.now } ∷ []) r.liars
 after_line r reading (line.Liar me) = silent r reading r.limit r.plan (r.liars ++ me ∷ [])
 after_line r reading (line.Name name id) = silent r reading r.limit r.plan r.liars
 after_line r reading (line.Ledger name parent header) = silent r reading r.limit r.plan r.liars

@@ -104,10 +104,15 @@ impl Replayer {
                 self.plan.limit = *limit;
                 Ok(())
             }
-            Line::Node { me, list, .. } => {
+            Line::Node {
+                me,
+                list,
+                validating,
+            } => {
                 self.plan.nodes.push(PlanNode {
                     me: *me,
                     list: list.copy(),
+                    validating: *validating,
                     moment: self.reader.moment(),
                 })?;
                 Ok(())
