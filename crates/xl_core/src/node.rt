@@ -354,7 +354,8 @@ impl<B: Branch + Drop> Node<B> {
         ensures refused { result_err result ≡ option_map refusal_from (refusal_at self.old (second_of self.old) from v.now) }
         ensures unchanged { OnErr result (self.new ≡ self.old) }
     {
-        self.table.take(&self.registry, from, v, secs_of(self.time))?;
+        self.table
+            .take(&self.registry, from, v, secs_of(self.time))?;
         let report = report_by(&self.table, self.list.quorum(), &self.last, v);
         self.last = report.or(self.last);
         Ok(report)
@@ -441,6 +442,3 @@ impl<B: Branch + Drop> Node<B> {
         self.last
     }
 }
-
-#[cfg(test)]
-mod tests;

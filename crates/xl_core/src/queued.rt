@@ -223,6 +223,3 @@ impl<B: Branch + Drop> Core<B> {
         &self.node
     }
 }
-
-#[cfg(test)]
-mod tests;

@@ -156,8 +156,11 @@ drained_more numbers k old new new' before after after' m k_in is other so is_co
       core = is_core ∙ (ap (λ (c : Core). drained_once c m) so.core ∙ (sym (drained_last old first m) ∙ ap (drained old) (sym more)));
       sent = is_sent ∙ (ap (λ (fs : List Sent). fs ++ given_once new m) so.sent ∙ (ap (λ (c : Core). (before ++ given old first) ++ given_once c m) so.core
           ∙ (append_assoc before (given old first) (given_once (drained old first) m) ∙ ap (λ (fs : List Sent). before ++ fs) (sym (given_last old first m) ∙ ap (given old) (sym more)))));
-      waits = (o, subst (λ (c : Core). Waits o c (others (drop (k + 1) numbers) me)) (sym is_core)
-          (waits_still o new m m (others (drop (k + 1) numbers) me) (omega arith) (between_others m me (drop (k + 1) numbers) rising.2) waits.1));
+      waits = (
+        o,
+        subst (λ (c : Core). Waits o c (others (drop (k + 1) numbers) me)) (sym is_core)
+            (waits_still o new m m (others (drop (k + 1) numbers) me) (omega arith) (between_others m me (drop (k + 1) numbers) rising.2) waits.1),
+      );
       rising = raised m (drop (k + 1) numbers) rising.2;
     }
   where

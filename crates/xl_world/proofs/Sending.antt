@@ -201,8 +201,11 @@ waits_from o core waiting low [] is long rising none = tt
 waits_from o core waiting low (m ∷ ms) is long rising none =
     let rest = waits_from o core waiting m ms is long rising.2 (All-tail (λ k. (k == core.node.me) ≡ false → (waiting_at waiting k).items ≡ []) m ms none) in
     cond_both (not (m == core.node.me)) (m ∷ others ms core.node.me) (others ms core.node.me) (Waits o core)
-    (λ other. (ap (λ (ws : List (Backlog Item)). (waiting_at ws m).items) is
-    ∙ issued_waits o waiting m (omega (arith, rising.0)) (omega (arith, rising.1, long)) (All-head (λ k. (k == core.node.me) ≡ false → (waiting_at waiting k).items ≡ []) m ms none (is_other m core.node.me other)), rest))
+    (λ other. (
+      ap (λ (ws : List (Backlog Item)). (waiting_at ws m).items) is
+          ∙ issued_waits o waiting m (omega (arith, rising.0)) (omega (arith, rising.1, long)) (All-head (λ k. (k == core.node.me) ≡ false → (waiting_at waiting k).items ≡ []) m ms none (is_other m core.node.me other)),
+      rest,
+    ))
     (λ _. rest)
 
 none_from : (P : ℕ → Type 0) (me : ℕ) (numbers : List ℕ) → All P (filter (λ m. not (m == me)) numbers) → All (λ m. (m == me) ≡ false → P m) numbers

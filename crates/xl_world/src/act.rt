@@ -15,8 +15,8 @@ use crate::saving::Fated;
 use crate::{Outcome, WorldReport};
 use xl_base::{LedgerId, Millis, NodeNo, Seq};
 use xl_core::{Node, Refusal, Report};
-use xl_recount::Plain;
 use xl_lists::List;
+use xl_recount::Plain;
 use xl_wire::Validation;
 
 /// The ledger of a sequence that a node is asked to issue its validation of.
