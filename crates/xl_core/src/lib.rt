@@ -39,6 +39,3 @@ pub use sending::{HEADER_FRAME, VALIDATION_FRAME, sealed, sealed_header};
 pub use settings::Settings;
 pub use taken::Taken;
 pub use untaken::UNTAKEN;
-
-#[cfg(test)]
-mod tests;
