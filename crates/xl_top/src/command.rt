@@ -7,7 +7,7 @@ ghost use Rattle.xl_lines.specs.Running.{TellsAll};
 ghost use Rattle.xl_replay.specs.Headlines.{names_of, AddsReport};
 ghost use Rattle.xl_replay.specs.Replays.{report_of};
 ghost use Rattle.xl_replay.specs.Statuses.{IsTold};
-ghost use Rattle.xl_node.specs.Commands.{is_replay};
+ghost use Rattle.xl_top.specs.Commands.{is_replay};
 
 use std::alloc::Global;
 use xl_base::Status;
