@@ -165,18 +165,6 @@ module _ (ls : List Header) (ok : AreLedgers ls) where
 
 -- ---- the last common ledger
 
--- an element at the end that the other list doesn't have changes nothing
-pub last_common-left : (last a : ℕ) (xs ys : List ℕ) → ((i y : ℕ) → slice_get ys i ≡ Some y → y ≢ a) → last_common last (xs ++ a ∷ []) ys ≡ last_common last xs ys
-last_common-left last a [] [] differs = refl
-last_common-left last a [] (y ∷ ys) differs = unless (a == y) (last_common a [] ys) last (grind (arith, nat_tests, differs 0 y refl))
-last_common-left last a (x ∷ xs) [] differs = refl
-last_common-left last a (x ∷ xs) (y ∷ ys) differs = ap (λ (n : ℕ). cond (x == y) n last) (last_common-left x a xs ys (λ i z e. differs (suc i) z e))
-
-pub last_common-right : (last b : ℕ) (xs ys : List ℕ) → ((i x : ℕ) → slice_get xs i ≡ Some x → x ≢ b) → last_common last xs (ys ++ b ∷ []) ≡ last_common last xs ys
-last_common-right last b [] ys differs = refl
-last_common-right last b (x ∷ xs) [] differs = unless (x == b) (last_common x xs []) last (grind (arith, nat_tests, differs 0 x refl))
-last_common-right last b (x ∷ xs) (y ∷ ys) differs = ap (λ (n : ℕ). cond (x == y) n last) (last_common-right x b xs ys (λ i z e. differs (suc i) z e))
-
 -- of a list and itself it is the last element
 pub last_common-same : (last a i : ℕ) (xs : List ℕ) → slice_get xs i ≡ Some a → length xs ≡ i + 1 → last_common last xs xs ≡ a
 last_common-same last a i [] at long = absurd cc
@@ -186,20 +174,3 @@ last_common-same last a (suc i) (x ∷ xs) at long = rw (eq-eqb x x refl) (last_
 
 pub common_same : (ls : List Header) (a : ℕ) → common_of ls a a ≡ a
 common_same ls a = last_common-same 0 a (seq_at ls a) (chain ls a) (chain_ends ls a) (length-chain ls a)
-
-module _ (ls : List Header) (ok : AreLedgers ls) where
-  -- the later ledger isn't on the chain of the earlier one
-  pub common_left : (a b p : ℕ) → b < a → a < length ls → HasParent ls ok a p → common_of ls a b ≡ common_of ls p b
-  common_left a b p lt within has =
-      ap (λ (xs : List ℕ). last_common 0 xs (chain ls b)) (chain_more ls ok a p (omega arith) has)
-      ∙ last_common-left 0 a (chain ls p) (chain ls b) (λ i y e same. let at = of_chain ls ok b (omega arith) i y e in omega (arith, at.earlier, same))
-
-  pub common_right : (a b p : ℕ) → a < b → b < length ls → HasParent ls ok b p → common_of ls a b ≡ common_of ls a p
-  common_right a b p lt within has =
-      ap (λ (ys : List ℕ). last_common 0 (chain ls a) ys) (chain_more ls ok b p (omega arith) has)
-      ∙ last_common-right 0 b (chain ls a) (chain ls p) (λ i x e same. let at = of_chain ls ok a (omega arith) i x e in omega (arith, at.earlier, same))
-
-  -- the chain of a ledger's parent is its chain but for the last ledger
-  pub chain_above : (place p s : ℕ) → 0 < place → HasParent ls ok place p → s < seq_at ls place → slice_get (chain ls place) s ≡ slice_get (chain ls p) s
-  chain_above place p s some has lt =
-      ap (λ (xs : List ℕ). slice_get xs s) (chain_more ls ok place p some has) ∙ slice_get-front (chain ls p) (place ∷ []) s (omega (arith, length-chain ls p, has.next))

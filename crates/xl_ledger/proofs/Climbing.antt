@@ -31,7 +31,7 @@ pub record Climbs (start now : Walked) (ledger seq at : ℕ) : Type 0 where
   pub bits : ℕ
   pub near : bits < 18 → seq_at start.ledgers.headers at < seq + 2 ^ bits
   pub few : now.taken + bits ≤ start.taken + 18
-  pub moved : ((at ≡ ledger) × (now.taken ≡ start.taken)) ⊎ (TakesStep start now × (seq < seq_at start.ledgers.headers ledger))
+  pub moved : ((at ≡ ledger) × (now ≡ start)) ⊎ (TakesStep start now × (seq < seq_at start.ledgers.headers ledger))
 
 pub climbs_from : (start : Walked) (ledger seq : ℕ) → ledger < length start.ledgers.headers → seq ≤ seq_at start.ledgers.headers ledger → Climbs start start ledger seq ledger
 climbs_from start ledger seq known above = record {
@@ -97,6 +97,10 @@ has_climbed start now ledger seq at s c above read le =
 pub climbed_to : (start now : Walked) (ledger seq at : ℕ) → Climbs start now ledger seq at → seq ≤ seq_at start.ledgers.headers ledger → seq_at start.ledgers.headers at ≡ seq → slice_get (chain start.ledgers.headers ledger) seq ≡ Some at
 climbed_to start now ledger seq at c above own =
     at_ancestor start.ledgers.headers ledger seq above ∙ ap Some (sym c.same ∙ own_ancestor start.ledgers.headers at seq (sym own))
+
+-- at the ledger's own sequence no step was taken
+pub stood : (start now : Walked) (ledger seq at : ℕ) → Climbs start now ledger seq at → seq ≡ seq_at start.ledgers.headers ledger → now ≡ start
+stood start now ledger seq at c own = elim c.moved [ inl h ↦ h.1 | inr h ↦ absurd (omega (arith, h.1)) ]
 
 -- ---- up to the last common ledger
 
@@ -218,6 +222,12 @@ module _ (start mid : Walked) (a b s at : ℕ) (ok : AreLedgers start.ledgers.he
   leveled_right result known e le told is =
       is ∙ ap (λ (r : Ledgers). common_of r.headers a at) goes.stays ∙ ap (common_of start.ledgers.headers a) (sym (ancestor_told start.ledgers.headers b s at told))
       ∙ common_leveled_right start.ledgers.headers ok a b s known e le
+
+  -- from one ledger to itself the walk stands
+  pub stands_right : (last : Walked) → s ≡ seq_at start.ledgers.headers a → slice_get (chain start.ledgers.headers b) s ≡ Some at → (s ≡ seq_at start.ledgers.headers b → mid ≡ start) → (a ≡ at → last ≡ mid) → a ≡ b → last ≡ start
+  stands_right last read told first second one =
+      let own : s ≡ seq_at start.ledgers.headers b = read ∙ ap (seq_at start.ledgers.headers) one in
+      second (one ∙ sym (own_ancestor start.ledgers.headers b s own) ∙ ancestor_told start.ledgers.headers b s at told) ∙ first own
 
   -- where no step was taken to one sequence, the two still differ
   pub steps_right : (last : Walked) → GoesOn mid last → slice_get (chain start.ledgers.headers b) s ≡ Some at → (s ≢ seq_at start.ledgers.headers b → TakesStep start mid) → (a ≢ at → TakesStep mid last) → a ≢ b → TakesStep start last

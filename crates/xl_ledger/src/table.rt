@@ -19,7 +19,8 @@ pub(crate) fn empty_table(alloc: Global, buckets: u32) -> Result<Vec<Option<Ledg
     Ok(table)
 }
 
-/// The bucket of an id. Ids are hashes, so their first bytes spread them.
+/// The bucket of an id. Ids are hashes, so their first bytes spread them. Who searches for headers of one bucket can fill it, and
+/// each look-up there then follows all of them: at most as many as there are ledgers.
 pub(crate) fn bucket_of(id: &LedgerId, buckets: usize) -> usize
     requires { 0 < buckets }
     ensures value { result ≡ bucket_of buckets id.now }

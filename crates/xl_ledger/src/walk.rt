@@ -90,7 +90,7 @@ impl<'a> Walk<'a> {
         ensures known { result < length self.old.ledgers.headers }
         ensures sequence { seq_at self.old.ledgers.headers result ≡ seq }
         ensures goes_on { GoesOn self.old self.new }
-        ensures still { seq ≡ seq_at self.old.ledgers.headers ledger → self.new.taken ≡ self.old.taken }
+        ensures still { seq ≡ seq_at self.old.ledgers.headers ledger → self.new ≡ self.old }
         ensures step { seq ≢ seq_at self.old.ledgers.headers ledger → TakesStep self.old self.new }
         ensures most { self.new.taken ≤ self.old.taken + 18 }
     {
@@ -103,13 +103,14 @@ impl<'a> Walk<'a> {
     }
 
     /// The last ledger that the chains of two ledgers have in common, in at most 54 steps: at most 18 bring both to one
-    /// sequence, and then each takes at most 18. At least one step where the ledgers differ.
+    /// sequence, and then each takes at most 18. No step where it is one ledger, and at least one where the ledgers differ.
     pub fn common(&mut self, a: LedgerNo, b: LedgerNo) -> LedgerNo
         requires a_known { a < length self.old.ledgers.headers }
         requires b_known { b < length self.old.ledgers.headers }
         ensures value { result ≡ common_of self.old.ledgers.headers a b }
         ensures known { result < length self.old.ledgers.headers }
         ensures goes_on { GoesOn self.old self.new }
+        ensures still { a ≡ b → self.new ≡ self.old }
         ensures step { a ≢ b → TakesStep self.old self.new }
         ensures most { self.new.taken ≤ self.old.taken + 54 }
     {
@@ -138,6 +139,7 @@ impl<'a> Walk<'a> {
         ensures value { result ≡ common_of self.old.ledgers.headers a b }
         ensures known { result < length self.old.ledgers.headers }
         ensures goes_on { GoesOn self.old self.new }
+        ensures still { a ≡ b → self.new ≡ self.old }
         ensures step { a ≢ b → TakesStep self.old self.new }
         ensures most { self.new.taken ≤ self.old.taken + 36 }
     {

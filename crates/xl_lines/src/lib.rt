@@ -22,6 +22,3 @@ pub use limits::{Limits, Overrun};
 pub use lines::Lines;
 pub use machine::{Machine, Next, Verdict};
 pub use teller::Teller;
-
-#[cfg(test)]
-mod tests;

@@ -1,17 +1,14 @@
 //! `xl`, the consensus software of the XRP Ledger. `xl replay` reads a schedule from standard input and writes what each node does.
 //!
-//! It stands on xl_replay. Its one contract is that of `top`: what is written is the report of the schedule that was read, or a front
-//! of it with a status that says why.
+//! It stands on xl_top, whose `top` says what the program does. Here the words, the streams of the system and the exit status are
+//! those of a process.
 #![tactic(auto)]
 
-mod top;
-
-use std::alloc::Global;
 use std::process::ExitCode;
 use std::{env, io};
-use top::top;
 use xl_base::Status;
 use xl_io::{StdSink, StdSource};
+use xl_top::top;
 
 /// The line on standard error that goes with a status, where one does.
 fn complaint(status: Status) -> Option<&'static str> {
@@ -61,6 +58,3 @@ fn main(rt: HostRuntime) -> ExitCode {
     }
     ExitCode::from(status.code())
 }
-
-#[cfg(test)]
-mod tests;

@@ -14,6 +14,3 @@ mod replayer;
 mod words;
 
 pub use command::replay;
-
-#[cfg(test)]
-mod tests;

@@ -208,6 +208,3 @@ fn is_comment(token: &[u8]) -> bool
 {
     matches!(token, [b'#', ..])
 }
-
-#[cfg(test)]
-mod tests;

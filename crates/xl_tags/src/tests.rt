@@ -4,7 +4,6 @@ ghost use Rattle.xl_tags.specs.Sealing.{IsToSeal};
 
 use super::*;
 use hex::FromHex;
-use sha2::{Digest, Sha256};
 use std::test::Fail;
 use xl_base::{LedgerId, NodeNo};
 use xl_lists::List;
@@ -54,92 +53,6 @@ fn tags_the_published_bytes(rt: HostRuntime) -> Result<(), Fail> {
     Ok(())
 }
 
-/// Messages and their SHA-256: FIPS 180-4's longest example, and two of RFC 6234 and NIST's.
-const MESSAGES: [(&str, &str); 3] = [
-    (
-        "61626364656667686263646566676869636465666768696a6465666768696a6b65666768696a6b6c666768696a6b6c6d6768696a6b6c6d6e68696a6b6c6d6e6f696a6b6c6d6e6f706a6b6c6d6e6f70716b6c6d6e6f7071726c6d6e6f707172736d6e6f70717273746e6f707172737475",
-        "cf5b16a778af8380036ce59e7b0492370b249b11e8f07a51afac45037afee9d1",
-    ),
-    (
-        "e3d72570dcdd787ce3887ab2cd684652",
-        "175ee69b02ba9b58e2b0a5fd13819cea573f3940a94f825128cf4209beabb4e8",
-    ),
-    (
-        "c98c8e55",
-        "7abc22c0ae5af26ce93dbb94433a0e0b2e119d014f8e7f65bd56c61ccccd9504",
-    ),
-];
-
-/// A byte so many times, and its SHA-256: FIPS 180-4's million, and those of RFC 6234 and NIST.
-const RUNS: [(u8, u32, &str); 10] = [
-    (
-        0x61,
-        1_000_000,
-        "cdc76e5c9914fb9281a1c7e284d73e67f1809a48a497200e046d39ccc7112cd0",
-    ),
-    (
-        0x19,
-        1,
-        "68aa2e2ee5dff96e3355e6c7ee373e3d6a4e17f75f9518d843709c0c9bc3e3d4",
-    ),
-    (
-        0xbd,
-        1,
-        "68325720aabd7c82f30f554b313d0570c95accbb7dc4b5aae11204c08ffe732b",
-    ),
-    (
-        0x00,
-        55,
-        "02779466cdec163811d078815c633f21901413081449002f24aa3e80f0b88ef7",
-    ),
-    (
-        0x00,
-        56,
-        "d4817aa5497628e7c77e6b606107042bbba3130888c5f47a375e6179be789fbb",
-    ),
-    (
-        0x00,
-        57,
-        "65a16cb7861335d5ace3c60718b5052e44660726da4cd13bb745381b235a1785",
-    ),
-    (
-        0x00,
-        64,
-        "f5a5fd42d16a20302798ef6ed309979b43003d2320d9f0e8ea9831a92759fb4b",
-    ),
-    (
-        0x00,
-        1000,
-        "541b3e9daa09b20bf85fa273e5cbd3e80185aa4ec298e765db87742b70138a53",
-    ),
-    (
-        0x41,
-        1000,
-        "c2e686823489ced2017f6059b8b239318b6364f6dcd835d0a519105a1eadd6e4",
-    ),
-    (
-        0x55,
-        1005,
-        "f4d62ddec0f3dd90ea1380fa16a5ff8dc4c54b21740650f24afc4120903552b0",
-    ),
-];
-
-#[test]
-fn hashes_the_published_messages(rt: HostRuntime) -> Result<(), Fail> {
-    for (message, digest) in MESSAGES {
-        let message = hex::decode(rt.alloc(), message)?;
-        assert_eq!(rt; Sha256::digest(&message), <[u8; 32]>::from_hex(digest)?);
-    }
-    for (byte, count, digest) in RUNS {
-        let mut hasher = Sha256::new();
-        for _ in 0..count {
-            hasher.update(&[byte]);
-        }
-        assert_eq!(rt; hasher.finalize(), <[u8; 32]>::from_hex(digest)?);
-    }
-    Ok(())
-}
-
 fn member(number: u32) -> Result<NodeNo, u32> {
     NodeNo::new(number).ok_or(number)
 }
@@ -169,28 +82,14 @@ fn pairs_have_keys(rt: HostRuntime) -> Result<(), Fail> {
 
 #[test]
 fn keeps_keys(rt: HostRuntime) -> Result<(), Fail> {
-    let me = member(5)?;
+    let (me, other) = (member(5)?, member(64)?);
     let mut keys = Keys::new(me);
-    for (number, byte) in [(1, 1), (64, 2), (1, 3)] {
-        let other = member(number)?;
-        if other != keys.me() {
-            keys.put(other, [byte; 32]);
-        }
+    if other != keys.me() {
+        keys.put(other, [2; 32]);
     }
     let copy = keys.copy();
-    assert_eq!(rt; copy.me(), me);
-    for (number, key) in [
-        (1, Some([3; 32])),
-        (5, None),
-        (63, None),
-        (64, Some([2; 32])),
-    ] {
-        assert_eq!(rt; copy.get(member(number)?), key);
-        assert_eq!(rt; keys.has(member(number)?), key.is_some());
-    }
-    for (last, all) in [(64, true), (63, false)] {
-        assert_eq!(rt; keys.has_all(&List::new(&[5, 1, last], 2)?), all);
-    }
+    assert_eq!(rt; (copy.get(other), copy.get(me)), (Some([2; 32]), None));
+    assert!(rt; keys.has(other) && keys.has_all(&List::new(&[5, 64], 2)?));
     Ok(())
 }
 
@@ -281,33 +180,18 @@ fn a_frame_is_sealed_and_opened(rt: HostRuntime) -> Result<(), Fail> {
 }
 
 #[test]
-fn refuses_by_the_first_cause(rt: HostRuntime) -> Result<(), Fail> {
+fn refuses_another_tag(rt: HostRuntime) -> Result<(), Fail> {
     let list = List::new(&[1, 2, 3], 2)?;
     let keys = Keys::of_schedule(member(2)?);
-    let computed = <[u8; 32]>::from_hex(TAG)?;
-    let cases = [
-        (9, 3, TagRefusal::NotForMe(3), 8),
-        (9, 70, TagRefusal::NotForMe(70), 8),
-        (2, 2, TagRefusal::Stranger(2), 9),
-        (9, 2, TagRefusal::Stranger(9), 9),
-        (70, 2, TagRefusal::Stranger(70), 9),
-        (
-            1,
-            2,
-            TagRefusal::BadTag {
-                read: [0; 32],
-                computed,
-            },
-            10,
-        ),
-    ];
-    for (from, to, refusal, code) in cases {
-        assert_eq!(rt;
-            try_open(&keys, &list, &validation(from, to)),
-            Some(Err(refusal))
-        );
-        assert_eq!(rt; refusal.code(), code);
-    }
+    let refusal = TagRefusal::BadTag {
+        read: [0; 32],
+        computed: <[u8; 32]>::from_hex(TAG)?,
+    };
+    assert_eq!(rt;
+        try_open(&keys, &list, &validation(1, 2)),
+        Some(Err(refusal))
+    );
+    assert_eq!(rt; refusal.code(), 10);
     Ok(())
 }
 
@@ -329,14 +213,8 @@ fn sealed_to_2(from: NodeNo) -> [u8; 87] {
 #[test]
 fn tells_a_right_tag_of_anyone(rt: HostRuntime) -> Result<(), Fail> {
     let keys = Keys::of_schedule(member(2)?);
-    for from in [1, 60, 64] {
-        let frame = sealed_to_2(member(from)?);
-        assert!(rt; carries_its_tag(&keys, &frame));
-        assert!(rt; !carries_its_tag(&keys, &flipped(frame, 86, 1)));
-        assert!(rt; !carries_its_tag(&keys, tag_in(&frame)));
-    }
-    for from in [2, 65] {
-        assert!(rt; !carries_its_tag(&keys, &validation(from, 2)));
-    }
+    let frame = sealed_to_2(member(60)?);
+    assert!(rt; carries_its_tag(&keys, &frame));
+    assert!(rt; !carries_its_tag(&keys, &flipped(frame, 86, 1)));
     Ok(())
 }

@@ -151,6 +151,3 @@ impl Row {
         }
     }
 }
-
-#[cfg(test)]
-mod tests;

@@ -156,6 +156,3 @@ impl Rows {
         find_row(&self.rows, member).current
     }
 }
-
-#[cfg(test)]
-mod tests;

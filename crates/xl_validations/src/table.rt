@@ -1,4 +1,4 @@
-ghost use Rattle.std.specs.Prelude.{◌≡◌, ◌<◌, map, length, take, Some, IsSome, if◌then◌else◌, IfSome, IfOk, OnOk, OnErr};
+ghost use Rattle.std.specs.Prelude.{◌≡◌, ◌+◌, ◌<◌, ◌≤◌, map, length, take, Some, IsSome, if◌then◌else◌, IfSome, IfOk, OnOk, OnErr};
 ghost use Rattle.std.specs.Result.{result_err};
 ghost use Rattle.xl_lists.specs.Lists.{IsValid};
 ghost use Rattle.xl_ledger.specs.Votes.{preferred_of};
@@ -135,23 +135,26 @@ impl<B: Branch> Table<B> {
     }
 
     /// The ledger that the votes prefer, where the largest sequence issued is this one. None exactly where there is no vote.
+    /// At most as many steps as the branch says.
     pub fn preferred(&self, walk: &mut Walk<'_>, largest: Seq) -> Option<LedgerNo>
         requires tally { IsTally (B.goes_with self.now.branch) walk.old.ledgers.headers self.now.rows (B.votes self.now.branch) (B.room self.now.branch) }
         ensures value { result ≡ preferred_of walk.old.ledgers.headers (votes_of walk.old.ledgers.headers self.now.rows) largest }
         ensures known { IfSome result (λ ledger. ledger < length walk.old.ledgers.headers) }
         ensures goes_on { GoesOn walk.old walk.new }
+        ensures steps { IfSome B.JUMPS (λ most. walk.new.taken ≤ walk.old.taken + most) }
     {
         self.branch.preferred(walk, largest)
     }
 
     /// The ledger to go on with from the current one: the preferred one, unless the current one or a ledger above it is
-    /// preferred, or one that follows it at once, or none.
+    /// preferred, or one that follows it at once, or none. At most 18 steps more than `preferred` takes.
     pub fn choose(&self, walk: &mut Walk<'_>, current: LedgerNo, largest: Seq) -> LedgerNo
         requires known { current < length walk.old.ledgers.headers }
         requires tally { IsTally (B.goes_with self.now.branch) walk.old.ledgers.headers self.now.rows (B.votes self.now.branch) (B.room self.now.branch) }
         ensures value { result ≡ choose walk.old.ledgers.headers self.now.rows current largest }
         ensures known { result < length walk.old.ledgers.headers }
         ensures goes_on { GoesOn walk.old walk.new }
+        ensures steps { IfSome B.JUMPS (λ most. walk.new.taken ≤ walk.old.taken + most + 18) }
     {
         match self.preferred(walk, largest) {
             Some(preferred) if goes_elsewhere(walk, current, preferred) => preferred,
@@ -167,6 +170,7 @@ fn goes_elsewhere(walk: &mut Walk<'_>, current: LedgerNo, preferred: LedgerNo) -
     requires preferred { preferred < length walk.old.ledgers.headers }
     ensures value { choose_by walk.old.ledgers.headers current (Some preferred) ≡ (if result then preferred else current) }
     ensures goes_on { GoesOn walk.old walk.new }
+    ensures most { walk.new.taken ≤ walk.old.taken + 18 }
 {
     let seq = walk.seq_of(current);
     let preferred_seq = walk.seq_of(preferred);

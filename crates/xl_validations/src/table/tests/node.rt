@@ -2,7 +2,7 @@ ghost use Rattle.std.specs.Prelude.{◌<◌, length, IsSome, IfSome, IfOk};
 ghost use Rattle.xl_validations.specs.Rows.{row_of};
 
 use super::ledgers::Name;
-use crate::{Table, ValRefusal};
+use crate::Table;
 use std::alloc::Global;
 use std::marker::Model;
 use std::test::Fail;
@@ -72,10 +72,10 @@ impl<B: Branch> Node<B> {
         Ok(())
     }
 
-    /// What the table answers to a validation that a member sends.
-    pub fn hear(&mut self, number: u32, v: &Validation) -> Result<Result<(), ValRefusal>, Fail> {
+    fn hear(&mut self, number: u32, v: &Validation) -> Result<(), Fail> {
         let from = listed(&self.table, number)?;
-        Ok(self.table.take(&self.registry, from, v, self.second))
+        self.table.take(&self.registry, from, v, self.second)?;
+        Ok(())
     }
 
     pub fn happens(&mut self, happens: Happens) -> Result<(), Fail> {
@@ -88,7 +88,7 @@ impl<B: Branch> Node<B> {
                     signed: self.second,
                     full: false,
                 };
-                self.hear(number, &v)??;
+                self.hear(number, &v)?;
             }
             Happens::Pass(secs) => {
                 self.second = self.second.saturating_add(secs);

@@ -1,5 +1,5 @@
 use Rattle.std.proofs.Common.{arith}
-use Rattle.xl_ledger.proofs.Climbing.{climbs_from, bit_within, falls, climbs_on, has_climbed, climbed_to}
+use Rattle.xl_ledger.proofs.Climbing.{climbs_from, bit_within, falls, climbs_on, has_climbed, climbed_to, stood}
 use Rattle.xl_ledger.proofs.walk.Walk.ancestor.Goals as goal
 
 pub loop-self-init : goal.loop-self-init
@@ -27,3 +27,6 @@ pub returns-clause-value : goal.returns-clause-value
 returns-clause-value c =
     climbed_to c.args.self.now c.loop-self.self c.args.ledger c.args.seq c.loop-self.at c.loop-self.invariant c.requires.above
     (has_climbed c.args.self.now c.loop-self.self c.args.ledger c.args.seq c.loop-self.at c.seq_of.result c.loop-self.invariant c.requires.above c.seq_of.ensures.value c.loop-self-test.false)
+
+pub returns-clause-still : goal.returns-clause-still
+returns-clause-still c = stood c.args.self.now c.loop-self.self c.args.ledger c.args.seq c.loop-self.at c.loop-self.invariant

@@ -1,0 +1,62 @@
+//! The worked runs of `xl`: each gives the program its words and an input in memory, and compares what it writes, and its status,
+//! with what they should be. It prints how each went, and how many went as they should.
+//!
+//! The file `runs` has a line for each: its name, the status, and the command line. The input is in `NAME.in` and the text in
+//! `NAME.out`. The file `refusals` has a schedule a line, ` / ` between its lines, and behind ` -> ` the text that refuses the last.
+//!
+//! It stands on xl_top. Its one contract: a run is called the same exactly where both the text and the status are.
+#![tactic(auto)]
+
+mod comparison;
+mod run;
+
+use comparison::Comparison;
+use run::{run_named, run_refused};
+use std::{fs, io};
+
+/// How many runs went as they should, and how many didn't.
+#[derive(Drop)]
+struct Tally {
+    same: u32,
+    other: u32,
+}
+
+impl Tally {
+    fn count(&mut self, comparison: Comparison) {
+        match comparison {
+            Comparison::Same => self.same = self.same.saturating_add(1),
+            _ => self.other = self.other.saturating_add(1),
+        }
+    }
+}
+
+/// The runs that have a name, each with what became of it.
+fn run_all(rt: &HostRuntime, tally: &mut Tally) -> io::Result<()> {
+    let runs = fs::read_to_string(rt, "runs")?;
+    for line in runs.as_str().lines() {
+        let comparison = run_named(rt, line)?;
+        println!(rt; "{line}: {comparison}")?;
+        tally.count(comparison);
+    }
+    Ok(())
+}
+
+/// The schedules with a refused line, of which only those are printed that didn't go as they should.
+fn refuse_all(rt: &HostRuntime, tally: &mut Tally) -> io::Result<()> {
+    let refusals = fs::read_to_string(rt, "refusals")?;
+    for line in refusals.as_str().lines() {
+        let comparison = run_refused(rt.alloc(), line)?;
+        if comparison != Comparison::Same {
+            println!(rt; "{line}: {comparison}")?;
+        }
+        tally.count(comparison);
+    }
+    Ok(())
+}
+
+fn main(rt: HostRuntime) -> io::Result<()> {
+    let mut tally = Tally { same: 0, other: 0 };
+    run_all(&rt, &mut tally)?;
+    refuse_all(&rt, &mut tally)?;
+    println!(rt; "{} same, {} other", tally.same, tally.other)
+}
