@@ -10,54 +10,33 @@ const T2: TxId = TxId([2; 32]);
 
 const T9: TxId = TxId([9; 32]);
 
-/// Percents of the previous round's time, and their thresholds.
-const THRESHOLDS: [(u64, u32); 9] = [
-    (0, 50),
-    (13, 50),
-    (49, 50),
-    (50, 65),
-    (84, 65),
-    (85, 70),
-    (199, 70),
-    (200, 95),
-    (u64::MAX, 95),
-];
-
-/// Yays, nays, ours, the percent, whether we propose, and our next vote.
-const VOTES: [(u32, u32, bool, u64, bool, bool); 12] = [
-    // Weights of 71, 66, 94 and 50.
-    (4, 2, true, 85, true, true),
-    (3, 2, true, 50, true, true),
-    (3, 2, true, 85, true, false),
-    (17, 1, true, 199, true, true),
-    (17, 1, true, 200, true, false),
-    (1, 2, true, 0, true, false),
-    // No other vote differs.
-    (0, 0, true, 200, true, true),
-    (0, 5, false, 0, true, false),
-    // The others alone decide where we don't propose.
-    (3, 2, false, 200, false, true),
-    (2, 2, true, 0, false, false),
-    (1, 0, false, 0, false, true),
-    (0, 1, true, 0, false, false),
-];
-
 fn member(number: u32) -> Result<NodeNo, Fail> {
     Ok(NodeNo::new(number).ok_or("no member")?)
 }
 
 #[test]
 fn asks_for_more_as_time_passes(rt: HostRuntime) {
-    for (percent, weight) in THRESHOLDS {
-        assert_eq!(rt; threshold(percent), weight);
-    }
-    for (yays, nays, ours, percent, proposing, next) in VOTES {
-        let votes = Votes { yays, nays, ours };
-        assert_eq!(rt;
-            votes.next(percent, proposing),
-            next,
-            "{votes:?} at {percent}"
-        );
+    assert_eq!(rt; (threshold(13), threshold(50)), (50, 65));
+    assert_eq!(rt; (threshold(85), threshold(200)), (70, 95));
+    // A weight of 71.
+    let two_thirds = votes(4, 2);
+    assert!(rt; two_thirds.next(85, true));
+    // A weight of 66.
+    let three_fifths = votes(3, 2);
+    assert!(rt; three_fifths.next(50, true));
+    assert!(rt; !three_fifths.next(85, true));
+    // A weight of 94.
+    let all_but_one = votes(17, 1);
+    assert!(rt; all_but_one.next(199, true));
+    assert!(rt; !all_but_one.next(200, true));
+}
+
+/// The votes on a transaction that our own set has.
+fn votes(yays: u32, nays: u32) -> Votes {
+    Votes {
+        yays,
+        nays,
+        ours: true,
     }
 }
 
@@ -241,6 +220,34 @@ fn keeps_the_256_lowest(rt: HostRuntime) -> Result<(), Fail> {
     assert_eq!(rt; disputes.own_set().len(), 256);
     for (place, id) in disputes.own_set().iter().enumerate() {
         assert_eq!(rt; *id, id_of((place / 3) as u8, (place % 3) as u8));
+    }
+    Ok(())
+}
+
+/// So many members hold and name our own set, of 32 ids.
+fn in_agreement(alloc: Global, members: u32) -> Result<Disputes, Fail> {
+    let mut ids = Vec::new(alloc);
+    for kind in 0..32 {
+        ids.push(id_of(1, kind))?;
+    }
+    if !is_set(&ids) {
+        return Err("no set".into());
+    }
+    let mut disputes = Disputes::open(alloc)?;
+    disputes.own(&ids);
+    for number in 1..=members {
+        let id = disputes.hold(member(number)?, &ids);
+        disputes.position(member(number)?, id);
+    }
+    Ok(disputes)
+}
+
+#[test]
+fn nothing_changes_in_agreement(rt: HostRuntime) -> Result<(), Fail> {
+    for members in [1, 7, 64] {
+        let mut disputes = in_agreement(rt.alloc(), members)?;
+        assert!(rt; !disputes.update(50, true));
+        assert_eq!(rt; disputes.own_set().len(), 32);
     }
     Ok(())
 }
