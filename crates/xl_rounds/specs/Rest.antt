@@ -1,6 +1,8 @@
 -- What the code of this crate keeps besides. No public clause cites this file.
-use Rattle.std.specs.Prelude.{◌≡◌, ℕ, ◌≤◌, Bool, false, List, length, map, slice_set, slice_index_or, Option, Some, None}
-use Rattle.xl_base.specs.Sets.{IsSet}
+use Rattle.std.specs.Prelude.{◌≡◌, ℕ, ◌≤◌, Bool, false, List, [], ◌∷◌, length, drop, map, slice_set, slice_index_or, Option, Some, None}
+use Rattle.std.specs.List.{prefix_len}
+use Rattle.std.specs.Str.{bytes_eq}
+use Rattle.xl_base.specs.Sets.{is_below, IsSet}
 use Rattle.xl_base.specs.declared.ids.TxId.{TxId}
 use Rattle.xl_base.specs.declared.ids.SetId.{SetId}
 use Rattle.xl_wire.specs.declared.proposal.Proposal.{Proposal}
@@ -12,6 +14,15 @@ use Rattle.xl_rounds.specs.Positions.{Positions, set_named, is_old, unless_old}
 pub record HasRoom (pending : List TxId) (capacity : ℕ) : Type 0 where
   pub set : IsSet pending
   pub room : 256 ≤ capacity
+
+-- of rising ids those that aren't below one
+abbrev pub not_below : TxId → List TxId → List TxId
+not_below tx ids = drop (prefix_len (λ id. is_below id tx) ids) ids
+
+-- whether an id is the first of some
+abbrev pub is_first : TxId → List TxId → Bool
+is_first tx [] = false
+is_first tx (id ∷ ids) = bytes_eq id.0 tx.0
 
 -- a place for each member, and the disputes know the sets that the positions name
 pub record AreNamed (members : List (Option Proposal)) (named : List (Option SetId)) : Type 0 where
