@@ -88,10 +88,7 @@ fn a_proposal_on_a_former_ledger_is_refused(rt: HostRuntime) -> Result<(), Fail>
     let mut node = Node::open(rt.alloc(), Mode::Observing)?;
     let next = node.learn(30, 30)?;
     node.start(&next, Mode::Observing, 100_000)?;
-    assert_eq!(rt;
-        node.previous_refused(&empty(5, 100)),
-        Some(next)
-    );
+    assert_eq!(rt; node.previous_refused(&empty(5, 100)), Some(next));
     Ok(())
 }
 
@@ -133,10 +130,7 @@ fn later_proposals_wait_for_their_round(rt: HostRuntime) -> Result<(), Fail> {
     assert_eq!(rt; node.hear(3, &on(next, set, 0, 4), 4), later);
     assert_eq!(rt; node.hear(4, &on(unknown, set, 0, 4), 4), later);
     node.start(&next, Mode::Proposing, 5_000)?;
-    assert_eq!(rt;
-        node.hear(3, &on(next, set, 0, 5), 5),
-        Told::Refused(27, 0)
-    );
+    assert_eq!(rt; node.hear(3, &on(next, set, 0, 5), 5), Told::Refused(27, 0));
     Ok(())
 }
 
