@@ -176,3 +176,6 @@ module _ (s : Option (List TxId)) (member : ℕ) (some : 1 ≤ member) (hs next 
 
 pub moved_weighable : (hs : List Holding) (old new : List (Option SetId)) → length new ≡ 64 → IsWeighable hs old → IsWeighable hs new
 moved_weighable hs old new count can = record { places = can.places; own = can.own; ours = can.ours; count = count }
+
+pub moved_settled : (hs new : List Holding) (old positions : List (Option SetId)) (room : ℕ) → IsReady hs old room → length positions ≡ 64 → new ≡ weighed (standings hs positions) hs → IsReady new positions room
+moved_settled hs new old positions room ready count is = settled hs new positions room (moved_weighable hs old positions count (weighable hs old room ready)) ready.roomy is

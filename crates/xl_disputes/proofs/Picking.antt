@@ -18,7 +18,7 @@ use Rattle.xl_disputes.specs.Votes.{next_vote}
 use Rattle.xl_disputes.specs.Next.{next_set}
 use Rattle.xl_disputes.specs.Rows.{is_same, ids_of, tally_of, IsIndex}
 use Rattle.xl_disputes.specs.Holdings.{Holding, ids_in, amount, total, IsShared}
-use Rattle.xl_disputes.specs.Standings.{voters, votes_by, next_of, known_of, IsKept}
+use Rattle.xl_disputes.specs.Standings.{voters, votes_by, wins, next_of, known_of, IsKept}
 use Rattle.xl_disputes.proofs.IdOrder.{same_itself, below_other}
 use Rattle.xl_disputes.proofs.Exchanging.{rises_rest, RisesFrom-lower, Counted}
 use Rattle.xl_disputes.proofs.RisingIds.{IsRising-fold, IsSet-lowest}
@@ -115,25 +115,19 @@ has_holdings t (h ∷ hs) =
         plus n = omega arith
 
 module _ (hs : List Holding) (rows : List Row) (shared : IsShared hs rows) (index : IsIndex rows) (percent : ℕ) (proposing : Bool) where
-  passes_row : Row → Bool
-  passes_row row = next_vote percent proposing (votes_by (voters hs) row.tally)
-
-  passes_id : TxId → Bool
-  passes_id tx = next_vote percent proposing (votes_by (voters hs) (total hs tx))
-
-  agree : All (λ r. next_vote percent proposing (votes_by (voters hs) r.tally) ≡ next_vote percent proposing (votes_by (voters hs) (total hs r.id))) rows
+  agree : All (λ r. wins (voters hs) percent proposing r ≡ next_vote percent proposing (votes_by (voters hs) (total hs r.id))) rows
   agree =
-      All-weaker (λ r. tally_of rows r.id ≡ r.tally) (λ r. next_vote percent proposing (votes_by (voters hs) r.tally) ≡ next_vote percent proposing (votes_by (voters hs) (total hs r.id)))
+      All-weaker (λ r. tally_of rows r.id ≡ r.tally) (λ r. wins (voters hs) percent proposing r ≡ next_vote percent proposing (votes_by (voters hs) (total hs r.id)))
       (λ r is. ap (λ t. next_vote percent proposing (votes_by (voters hs) t)) (sym is ∙ shared.each r.id)) rows (own_tallies rows index.rising)
 
   same_members : (t : TxId) → has (ids_of rows) t ≡ has (flat_map ids_in hs) t
   same_members t = has_rows t rows index.counted ∙ ap (λ (x : Tally). nat_lt 0 x.sets) (shared.each t) ∙ sym (has_holdings t hs)
 
-  pub picked_are : take 256 (ids_of (filter (λ row. next_vote percent proposing (votes_by (voters hs) row.tally)) rows)) ≡ next_of hs percent proposing
+  pub picked_are : take 256 (ids_of (filter (wins (voters hs) percent proposing) rows)) ≡ next_of hs percent proposing
   picked_are =
       let p : TxId → Bool = λ tx. next_vote percent proposing (votes_by (voters hs) (total hs tx)) in
       ap (take 256)
-      (tests_ids (λ row. next_vote percent proposing (votes_by (voters hs) row.tally)) p rows agree
+      (tests_ids (wins (voters hs) percent proposing) p rows agree
       ∙ same_ids (filter p (ids_of rows)) (rising (filter p (flat_map ids_in hs))) (filter-IsRising p (ids_of rows) index.rising) (IsRising-fold [] (filter p (flat_map ids_in hs)) tt)
       (λ t. has_filter p t (ids_of rows) ∙ ap (λ b. p t && b) (same_members t) ∙ sym (has_filter p t (flat_map ids_in hs)) ∙ sym (has_rising t (filter p (flat_map ids_in hs)))))
 

@@ -7,14 +7,14 @@ use Rattle.xl_base.specs.declared.ids.TxId.{TxId}
 use Rattle.xl_disputes.specs.Rising.{with_tx, rising, lowest}
 
 -- ids stay rising
-RisesFrom-with_tx : (a tx : TxId) (ids : List TxId) → IsTrue (is_below a tx) → RisesFrom a ids → RisesFrom a (with_tx tx ids)
+pub RisesFrom-with_tx : (a tx : TxId) (ids : List TxId) → IsTrue (is_below a tx) → RisesFrom a ids → RisesFrom a (with_tx tx ids)
 RisesFrom-with_tx a tx [] low rises = (low, tt)
 RisesFrom-with_tx a tx (id ∷ ids) low rises =
     cond_both (is_below id tx) (id ∷ with_tx tx ids) (cond (is_below tx id) (tx ∷ id ∷ ids) (id ∷ ids)) (RisesFrom a)
     (λ later. (rises.0, RisesFrom-with_tx id tx ids later rises.1))
     (λ _. cond_both (is_below tx id) (tx ∷ id ∷ ids) (id ∷ ids) (RisesFrom a) (λ before. (low, (before, rises.1))) (λ _. rises))
 
-IsRising-with_tx : (tx : TxId) (ids : List TxId) → IsRising ids → IsRising (with_tx tx ids)
+pub IsRising-with_tx : (tx : TxId) (ids : List TxId) → IsRising ids → IsRising (with_tx tx ids)
 IsRising-with_tx tx [] rises = tt
 IsRising-with_tx tx (id ∷ ids) rises =
     cond_both (is_below id tx) (id ∷ with_tx tx ids) (cond (is_below tx id) (tx ∷ id ∷ ids) (id ∷ ids)) IsRising

@@ -62,22 +62,22 @@ module _ (hs : List Holding) (positions : List (Option SetId)) (kept : IsKept hs
 
 -- ---- ours
 
+abbrev first_of : Bool → List Bool → Bool
+first_of d [] = d
+first_of d (b ∷ bs) = b
+
+abbrev rest_of : List Bool → List Bool
+rest_of [] = []
+rest_of (b ∷ bs) = bs
+
 no_ours : (tx : TxId) (n : ℕ) (hs : List Holding) → map (λ h. h.ours) hs ≡ replicate n false → amount ours_of tx hs ≡ 0
 no_ours tx n [] theirs = refl
 no_ours tx zero (h ∷ hs) theirs = absurd (cc theirs)
 no_ours tx (suc n) (h ∷ hs) theirs =
-    let head : h.ours ≡ false = ap (first true) theirs in
-    let rest : map (λ x. x.ours) hs ≡ replicate n false = ap tail' theirs in
+    let head : h.ours ≡ false = ap (first_of true) theirs in
+    let rest : map (λ x. x.ours) hs ≡ replicate n false = ap rest_of theirs in
     omega (arith, sum_by-cons (λ (x : Holding). cond (has (ids_in x) tx) (ours_of x) 0) h hs, no_ours tx n hs rest, nothing (has (ids_in h) tx) (ours_of h) (ap {B = ℕ} (λ b. cond b 1 0) head))
   where
-    first : Bool → List Bool → Bool
-    first d [] = d
-    first d (b ∷ bs) = b
-
-    tail' : List Bool → List Bool
-    tail' [] = []
-    tail' (b ∷ bs) = bs
-
     nothing : (b : Bool) (n : ℕ) → n ≡ 0 → cond b n 0 ≡ 0
     nothing true n none = none
     nothing false n none = refl
@@ -85,20 +85,12 @@ no_ours tx (suc n) (h ∷ hs) theirs =
 ours_are : (tx : TxId) (hs : List Holding) → map (λ h. h.ours) hs ≡ true ∷ replicate 64 false → nat_lt 0 (amount ours_of tx hs) ≡ has (own_ids hs) tx
 ours_are tx [] ours = absurd (cc ours)
 ours_are tx (h ∷ hs) ours =
-    let head : h.ours ≡ true = ap (first false) ours in
-    let none : amount ours_of tx hs ≡ 0 = no_ours tx 64 hs (ap tail' ours) in
+    let head : h.ours ≡ true = ap (first_of false) ours in
+    let none : amount ours_of tx hs ≡ 0 = no_ours tx 64 hs (ap rest_of ours) in
     let sum : amount ours_of tx (h ∷ hs) ≡ cond (has (ids_in h) tx) 1 0 =
     omega (arith, sum_by-cons (λ (x : Holding). cond (has (ids_in x) tx) (ours_of x) 0) h hs, none, ap {B = ℕ} (λ b. cond (has (ids_in h) tx) (cond b 1 0) 0) head) in
     ap (nat_lt 0) sum ∙ test (has (ids_in h) tx)
   where
-    first : Bool → List Bool → Bool
-    first d [] = d
-    first d (b ∷ bs) = b
-
-    tail' : List Bool → List Bool
-    tail' [] = []
-    tail' (b ∷ bs) = bs
-
     test : (b : Bool) → nat_lt 0 (cond b 1 0) ≡ b
     test true = refl
     test false = refl
@@ -115,6 +107,9 @@ module _ (hs : List Holding) (positions : List (Option SetId)) (kept : IsKept hs
   votes_are =
       votes_same (votes_by (voters hs) (total hs tx)) (votes (known_of hs positions) tx) (yays_are hs positions kept count tx) (nays_are hs positions kept count tx) (ours_are tx hs kept.ours)
 
+nothing_more : (n : ℕ) → 0 + n ≡ n
+nothing_more n = omega arith
+
 -- an id is counted exactly where a set has it
 any_set : (tx : TxId) (hs : List Holding) → nat_lt 0 (amount (λ _. 1) tx hs) ≡ list_any (λ set. has set tx) (filter_map (λ s. s) (sets_of hs))
 any_set tx [] = refl
@@ -122,19 +117,13 @@ any_set tx (h ∷ hs) = ap (nat_lt 0) (sum_by-cons (λ (x : Holding). cond (has 
   where
     step : (set : Option (List TxId)) → nat_lt 0 (amount (λ _. 1) tx hs) ≡ list_any (λ s. has s tx) (filter_map (λ s. s) (sets_of hs)) →
         nat_lt 0 (cond (has (unwrap_or set []) tx) 1 0 + amount (λ _. 1) tx hs) ≡ list_any (λ s. has s tx) (filter_map (λ s. s) (set ∷ sets_of hs))
-    step None more = ap (nat_lt 0) (plus_none (amount (λ _. 1) tx hs)) ∙ more
-      where
-        plus_none : (n : ℕ) → 0 + n ≡ n
-        plus_none n = omega arith
+    step None more = ap (nat_lt 0) (nothing_more (amount (λ _. 1) tx hs)) ∙ more
     step (Some s) more = either (has s tx) more
       where
         either : (b : Bool) → nat_lt 0 (amount (λ _. 1) tx hs) ≡ list_any (λ x. has x tx) (filter_map (λ x. x) (sets_of hs)) →
             nat_lt 0 (cond b 1 0 + amount (λ _. 1) tx hs) ≡ (b || list_any (λ x. has x tx) (filter_map (λ x. x) (sets_of hs)))
         either true more' = grind (arith, nat_tests)
-        either false more' = ap (nat_lt 0) (plus (amount (λ _. 1) tx hs)) ∙ more'
-          where
-            plus : (n : ℕ) → 0 + n ≡ n
-            plus n = omega arith
+        either false more' = ap (nat_lt 0) (nothing_more (amount (λ _. 1) tx hs)) ∙ more'
 
 pub counted_is : (hs : List Holding) (positions : List (Option SetId)) → own_in hs ≡ Some (own_ids hs) → (tx : TxId) → nat_lt 0 (total hs tx).sets ≡ is_counted (known_of hs positions) tx
 counted_is hs positions own tx = any_set tx hs ∙ ap (list_any (λ set. has set tx)) (counted_are hs positions own)

@@ -1,6 +1,5 @@
 pub mod Named
 pub mod Rising
-pub mod Adding
 pub mod Disputes
 pub mod Votes
 pub mod Next

@@ -7,7 +7,6 @@ use Rattle.xl_base.specs.Sets.{is_below, IsRising}
 use Rattle.xl_base.specs.declared.ids.TxId.{TxId}
 use Rattle.xl_disputes.specs.declared.tally.Tally.{Tally}
 use Rattle.xl_disputes.specs.declared.rows.Row.{Row}
-use Rattle.xl_disputes.specs.Adding.{goes_before}
 use Rattle.xl_disputes.specs.Disputes.{has}
 use Rattle.xl_disputes.specs.Tallies.{no_tally, exchanged, IsWithin, IsFitting, IsWhole}
 
@@ -42,6 +41,11 @@ with_exchange tx from to (row ∷ rows) =
     if is_below row.id tx
     then row ∷ with_exchange tx from to rows
     else (if is_below tx row.id then put tx (exchanged from to no_tally) (row ∷ rows) else put tx (exchanged from to row.tally) rows)
+
+-- whether an id is below the first of some, if there is one
+abbrev pub goes_before : TxId → List TxId → Bool
+goes_before tx [] = true
+goes_before tx (id ∷ ids) = is_below tx id
 
 -- how many rows stand before an id
 abbrev pub place_of : TxId → List Row → ℕ

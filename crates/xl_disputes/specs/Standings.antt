@@ -1,11 +1,12 @@
 -- Which set each position stands for, and what is known from the holdings.
 -- Source: what the code of this crate keeps. No public clause cites this file.
-use Rattle.std.specs.Prelude.{◌≡◌, ℕ, ◌+◌, ◌-◌, ◌≤◌, nat_lt, Bool, true, false, not, List, [], ◌∷◌, length, map, replicate, fold, filter, flat_map, sum_by, slice_set, slice_index_or, Option, Some, None}
+use Rattle.std.specs.Prelude.{◌≡◌, ℕ, ◌+◌, ◌-◌, ◌≤◌, nat_lt, Bool, true, false, not, List, [], ◌∷◌, ◌++◌, length, map, replicate, fold, take, filter, flat_map, sum_by, slice_set, slice_index_or, Option, Some, None, if◌then◌else◌}
 use Rattle.std.specs.List.{prefix_len}
 use Rattle.xl_base.specs.declared.ids.TxId.{TxId}
 use Rattle.xl_base.specs.declared.ids.SetId.{SetId}
 use Rattle.xl_disputes.specs.declared.votes.Votes.{Votes}
 use Rattle.xl_disputes.specs.declared.tally.Tally.{Tally}
+use Rattle.xl_disputes.specs.declared.rows.Row.{Row}
 use Rattle.xl_disputes.specs.Disputes.{Known, is_named}
 use Rattle.xl_disputes.specs.Rising.{lowest}
 use Rattle.xl_disputes.specs.Votes.{next_vote}
@@ -41,6 +42,14 @@ voters hs = sum_by (λ h. h.weight) hs
 -- what a tally says, where so many vote
 abbrev pub votes_by : ℕ → Tally → Votes
 votes_by n tally = record { yays = tally.yays; nays = n - tally.yays; ours = nat_lt 0 tally.ours }
+
+-- whether our next vote on a row's id is yes, where so many vote
+abbrev pub wins : ℕ → ℕ → Bool → Row → Bool
+wins n percent proposing row = next_vote percent proposing (votes_by n row.tally)
+
+-- with a row's id behind others, where our next vote on it is yes, and there aren't 256
+abbrev pub with_row : ℕ → ℕ → Bool → Row → List TxId → List TxId
+with_row n percent proposing row ids = if wins n percent proposing row then take 256 (ids ++ row.id ∷ []) else ids
 
 -- of the holdings' ids that pass the 256 lowest
 abbrev pub next_of : List Holding → ℕ → Bool → List TxId

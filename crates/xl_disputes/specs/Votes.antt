@@ -1,12 +1,6 @@
 -- How we vote next. Source: rippled's DisputedTx, as it was before its later avalanche states; the numbers are this profile's.
-use Rattle.std.specs.Prelude.{ℕ, ◌+◌, ◌*◌, ◌/◌, ◌==◌, nat_lt, Bool, true, false, Option, Some, None, if◌then◌else◌}
+use Rattle.std.specs.Prelude.{ℕ, ◌+◌, ◌*◌, ◌/◌, ◌==◌, nat_lt, Bool, if◌then◌else◌}
 use Rattle.xl_disputes.specs.declared.votes.Votes.{Votes}
-
--- with one vote more
-abbrev pub with_vote : Votes → Option Bool → Votes
-with_vote v None = v
-with_vote v (Some true) = record v { yays = v.yays + 1 }
-with_vote v (Some false) = record v { nays = v.nays + 1 }
 
 -- the weight that a yes vote must exceed, by the percent of the previous round's time that has passed
 abbrev pub threshold : ℕ → ℕ

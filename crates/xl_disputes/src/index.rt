@@ -1,8 +1,7 @@
-ghost use Rattle.std.specs.Prelude.{◌≡◌, ◌+◌, ◌<◌, ◌≤◌, [], ◌∷◌, ◌++◌, length, take, filter, slice_index_or, vec_len, vec_capacity, IfOk, MatchResult, if◌then◌else◌};
+ghost use Rattle.std.specs.Prelude.{◌≡◌, ◌+◌, ◌<◌, ◌≤◌, [], ◌∷◌, ◌++◌, length, take, filter, slice_index_or, vec_len, vec_capacity, IfOk, MatchResult};
 ghost use Rattle.xl_disputes.specs.Tallies.{IsWithin, IsFitting};
 ghost use Rattle.xl_disputes.specs.Rows.{ids_of, tally_of, pairs, with_exchange, place_of, IsIndex, IsThere, IsAbsent, IsExchangeable, Exchanges};
-ghost use Rattle.xl_disputes.specs.Standings.{votes_by};
-ghost use Rattle.xl_disputes.specs.Votes.{next_vote};
+ghost use Rattle.xl_disputes.specs.Standings.{wins, with_row};
 ghost use Rattle.xl_base.specs.Sets.{is_below as is_below_of, IsRising};
 
 use crate::rows::{ROWS, Row, Rows};
@@ -53,7 +52,7 @@ fn push_low(ids: &mut Vec<TxId>, id: TxId)
 fn pick_row(ids: &mut Vec<TxId>, row: Row, voters: u32, percent: u64, proposing: bool)
     requires few { vec_len ids.old ≤ SET_IDS }
     requires room { SET_IDS ≤ vec_capacity ids.old }
-    ensures picked { ids.new.items ≡ (if next_vote percent proposing (votes_by voters row.tally) then take SET_IDS (ids.old.items ++ row.id ∷ []) else ids.old.items) }
+    ensures picked { ids.new.items ≡ with_row voters percent proposing row ids.old.items }
     ensures few { vec_len ids.new ≤ SET_IDS }
     ensures room { vec_capacity ids.new ≡ vec_capacity ids.old }
 {
@@ -108,7 +107,7 @@ impl Index {
     /// Puts the ids on which our next vote is yes into this room, the 256 lowest where there are more.
     pub(crate) fn pick(&self, next: &mut Vec<TxId>, voters: u32, percent: u64, proposing: bool)
         requires { SET_IDS ≤ vec_capacity next.old }
-        ensures lowest { next.new.items ≡ take SET_IDS (ids_of (filter (λ row. next_vote percent proposing (votes_by voters row.tally)) self.now)) }
+        ensures lowest { next.new.items ≡ take SET_IDS (ids_of (filter (wins voters percent proposing) self.now)) }
         ensures room { vec_capacity next.new ≡ vec_capacity next.old }
         ensures valid { IsIndex self.now }
     {

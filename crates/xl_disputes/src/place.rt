@@ -1,4 +1,4 @@
-ghost use Rattle.std.specs.Prelude.{◌≡◌, Some, None, IfOk, option_copied};
+ghost use Rattle.std.specs.Prelude.{◌≡◌, [], Some, None, IfOk, option_copied};
 ghost use Rattle.xl_base.specs.Sets.{set_id_of, IsSet};
 ghost use Rattle.xl_disputes.specs.Standings.{names};
 ghost use Rattle.xl_disputes.specs.Holdings.{empty_own, no_holding, ids_in, tally_from, with_set, with_weight};
@@ -28,24 +28,26 @@ impl Model for Place {
 }
 
 impl Place {
-    /// Our own, with the empty set.
-    pub(crate) fn own(alloc: Global) -> Result<Place, OutOfMemory>
+    /// Our own, with the empty set, whose id is handed in.
+    pub(crate) fn own(alloc: Global, empty: SetId) -> Result<Place, OutOfMemory>
+        requires { empty ≡ set_id_of [] }
         ensures { IfOk result (λ place. place ≡ empty_own) }
     {
         Ok(Place {
-            set: Set::open(alloc)?,
+            set: Set::open(alloc, empty)?,
             holds: true,
             weight: 0,
             ours: true,
         })
     }
 
-    /// A member's, with no set.
-    pub(crate) fn free(alloc: Global) -> Result<Place, OutOfMemory>
+    /// A member's, with no set. The id of the empty set is handed in.
+    pub(crate) fn free(alloc: Global, empty: SetId) -> Result<Place, OutOfMemory>
+        requires { empty ≡ set_id_of [] }
         ensures { IfOk result (λ place. place ≡ no_holding) }
     {
         Ok(Place {
-            set: Set::open(alloc)?,
+            set: Set::open(alloc, empty)?,
             holds: false,
             weight: 0,
             ours: false,

@@ -42,13 +42,15 @@ fn put(room: &mut Vec<TxId>, ids: &[TxId])
 }
 
 impl Set {
-    /// The empty set, with room for every other one.
-    pub(crate) fn open(alloc: Global) -> Result<Set, OutOfMemory>
+    /// The empty set, whose id is handed in, with room for every other one.
+    pub(crate) fn open(alloc: Global, id: SetId) -> Result<Set, OutOfMemory>
+        requires { id ≡ set_id_of [] }
         ensures { IfOk result (λ set. set ≡ []) }
     {
-        let ids = Vec::with_capacity(alloc, SET_IDS)?;
-        let id = set_id(&ids);
-        Ok(Set { ids, id })
+        Ok(Set {
+            ids: Vec::with_capacity(alloc, SET_IDS)?,
+            id,
+        })
     }
 
     /// Becomes the set of these ids.

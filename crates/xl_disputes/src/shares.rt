@@ -10,7 +10,7 @@ use crate::set::{SET_IDS, Set};
 use crate::tally::Tally;
 use std::alloc::Global;
 use std::marker::Model;
-use xl_base::{OutOfMemory, SetId, TxId};
+use xl_base::{OutOfMemory, SetId, TxId, set_id};
 
 /// A place for our own set, and one for each member's.
 pub(crate) const PLACES: usize = 65;
@@ -38,9 +38,10 @@ fn no_places(alloc: Global) -> Result<Vec<Place>, OutOfMemory>
     ensures { IfOk result (λ places. places.items ≡ no_holdings) }
 {
     let mut places = Vec::with_capacity(alloc, PLACES)?;
-    places.push_reserved(Place::own(alloc)?);
+    let empty = set_id(&[]);
+    places.push_reserved(Place::own(alloc, empty)?);
     for _ in 1..PLACES {
-        places.push_reserved(Place::free(alloc)?);
+        places.push_reserved(Place::free(alloc, empty)?);
     }
     Ok(places)
 }

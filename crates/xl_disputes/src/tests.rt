@@ -1,3 +1,6 @@
+ghost use Rattle.std.specs.Prelude.{◌≤◌};
+ghost use Rattle.xl_base.specs.Sets.{IsSet};
+
 use crate::rising::is_set;
 use crate::{Disputes, Votes, threshold};
 use std::alloc::Global;
@@ -10,90 +13,84 @@ const T2: TxId = TxId([2; 32]);
 
 const T9: TxId = TxId([9; 32]);
 
-/// Percents of the previous round's time, and their thresholds.
-const THRESHOLDS: [(u64, u32); 9] = [
-    (0, 50),
-    (13, 50),
-    (49, 50),
-    (50, 65),
-    (84, 65),
-    (85, 70),
-    (199, 70),
-    (200, 95),
-    (u64::MAX, 95),
-];
+fn member(number: u32) -> NodeNo
+    requires some { 1 ≤ number }
+    requires most { number ≤ 64 }
+{
+    NodeNo::new(number).unwrap()
+}
 
-/// Yays, nays, ours, the percent, whether we propose, and our next vote.
-const VOTES: [(u32, u32, bool, u64, bool, bool); 12] = [
-    // Weights of 71, 66, 94 and 50.
-    (4, 2, true, 85, true, true),
-    (3, 2, true, 50, true, true),
-    (3, 2, true, 85, true, false),
-    (17, 1, true, 199, true, true),
-    (17, 1, true, 200, true, false),
-    (1, 2, true, 0, true, false),
-    // No other vote differs.
-    (0, 0, true, 200, true, true),
-    (0, 5, false, 0, true, false),
-    // The others alone decide where we don't propose.
-    (3, 2, false, 200, false, true),
-    (2, 2, true, 0, false, false),
-    (1, 0, false, 0, false, true),
-    (0, 1, true, 0, false, false),
-];
-
-fn member(number: u32) -> Result<NodeNo, Fail> {
-    Ok(NodeNo::new(number).ok_or("no member")?)
+/// The member holds this set, and its position names it.
+fn join(disputes: &mut Disputes, number: u32, set: &[TxId])
+    requires some { 1 ≤ number }
+    requires most { number ≤ 64 }
+    requires valid { IsSet set.now }
+{
+    let id = disputes.hold(member(number), set);
+    disputes.position(member(number), id);
 }
 
 #[test]
 fn asks_for_more_as_time_passes(rt: HostRuntime) {
-    for (percent, weight) in THRESHOLDS {
-        assert_eq!(rt; threshold(percent), weight);
-    }
-    for (yays, nays, ours, percent, proposing, next) in VOTES {
-        let votes = Votes { yays, nays, ours };
-        assert_eq!(rt;
-            votes.next(percent, proposing),
-            next,
-            "{votes:?} at {percent}"
-        );
+    assert_eq!(rt; (threshold(13), threshold(50)), (50, 65));
+    assert_eq!(rt; (threshold(85), threshold(200)), (70, 95));
+    // A weight of 71.
+    let two_thirds = votes(4, 2);
+    assert!(rt; two_thirds.next(85, true));
+    // A weight of 66.
+    let three_fifths = votes(3, 2);
+    assert!(rt; three_fifths.next(50, true));
+    assert!(rt; !three_fifths.next(85, true));
+    // A weight of 94.
+    let all_but_one = votes(17, 1);
+    assert!(rt; all_but_one.next(199, true));
+    assert!(rt; !all_but_one.next(200, true));
+}
+
+/// The votes on a transaction that our own set has.
+fn votes(yays: u32, nays: u32) -> Votes {
+    Votes {
+        yays,
+        nays,
+        ours: true,
     }
 }
 
-#[test]
-fn counts_positions_whose_sets_are_held(rt: HostRuntime) -> Result<(), Fail> {
-    let mut disputes = Disputes::open(rt.alloc())?;
-    assert_eq!(rt; disputes.votes_of(&T1), None);
+/// Members 2, 3 and 4 hold and name our own set, of one transaction.
+fn three_members(alloc: Global) -> Result<Disputes, Fail> {
+    let mut disputes = Disputes::open(alloc)?;
     disputes.own(&[T1]);
     for number in 2..=4 {
-        let id = disputes.hold(member(number)?, &[T1]);
-        disputes.position(member(number)?, id);
+        join(&mut disputes, number, &[T1]);
     }
-    let empty = disputes.hold(member(5)?, &[]);
-    disputes.position(member(5)?, empty);
+    Ok(disputes)
+}
+
+#[test]
+fn counts_positions_by_their_sets(rt: HostRuntime) -> Result<(), Fail> {
+    let mut disputes = three_members(rt.alloc())?;
+    join(&mut disputes, 5, &[]);
     assert_eq!(rt; counts(&disputes, &T1), Some((3, 1)));
-    disputes.position(member(5)?, set_id(&[T1]));
+    disputes.position(member(5), set_id(&[T1]));
     assert_eq!(rt; counts(&disputes, &T1), Some((4, 0)));
-    disputes.leave(member(5)?);
+    disputes.leave(member(5));
     assert_eq!(rt; counts(&disputes, &T1), Some((3, 0)));
-    disputes.position(member(6)?, set_id(&[T1, T2]));
-    assert_eq!(rt;
-        (counts(&disputes, &T1), counts(&disputes, &T2)),
-        (Some((3, 0)), None)
-    );
-    disputes.hold(member(6)?, &[T1, T2]);
-    assert_eq!(rt;
-        (counts(&disputes, &T1), counts(&disputes, &T2)),
-        (Some((4, 0)), Some((1, 3)))
-    );
-    disputes.forget(member(6)?);
-    assert_eq!(rt;
-        (counts(&disputes, &T1), counts(&disputes, &T2)),
-        (Some((3, 0)), None)
-    );
     disputes.clear();
     assert_eq!(rt; counts(&disputes, &T1), Some((0, 0)));
+    Ok(())
+}
+
+#[test]
+fn counts_positions_once_their_sets_are_held(rt: HostRuntime) -> Result<(), Fail> {
+    let mut disputes = three_members(rt.alloc())?;
+    disputes.position(member(6), set_id(&[T1, T2]));
+    assert_eq!(rt; counts(&disputes, &T1), Some((3, 0)));
+    assert_eq!(rt; counts(&disputes, &T2), None);
+    disputes.hold(member(6), &[T1, T2]);
+    assert_eq!(rt; counts(&disputes, &T1), Some((4, 0)));
+    assert_eq!(rt; counts(&disputes, &T2), Some((1, 3)));
+    disputes.forget(member(6));
+    assert_eq!(rt; counts(&disputes, &T1), Some((3, 0)));
     Ok(())
 }
 
@@ -108,12 +105,10 @@ fn drops_what_most_positions_lack(rt: HostRuntime) -> Result<(), Fail> {
     let mut disputes = Disputes::open(rt.alloc())?;
     disputes.own(&[T9]);
     for number in 1..=2 {
-        let id = disputes.hold(member(number)?, &[T9]);
-        disputes.position(member(number)?, id);
+        join(&mut disputes, number, &[T9]);
     }
     for number in 3..=6 {
-        let id = disputes.hold(member(number)?, &[]);
-        disputes.position(member(number)?, id);
+        join(&mut disputes, number, &[]);
     }
     assert_eq!(rt;
         disputes.votes_of(&T9),
@@ -146,10 +141,12 @@ fn ids_of(alloc: Global, number: u8) -> Result<Vec<TxId>, Fail> {
     Ok(ids)
 }
 
-/// 64 members hold and name 256 different ids each, and our own set has 256 others.
-fn all_different(alloc: Global) -> Result<Disputes, Fail> {
+/// So many members hold and name 256 different ids each, and our own set has 256 others.
+fn all_different(alloc: Global, members: u8) -> Result<Disputes, Fail>
+    requires { members ≤ 64 }
+{
     let mut disputes = Disputes::open(alloc)?;
-    for number in 0..=64 {
+    for number in 0..=members {
         let ids = ids_of(alloc, number)?;
         if !is_set(&ids) {
             return Err("no set".into());
@@ -157,8 +154,7 @@ fn all_different(alloc: Global) -> Result<Disputes, Fail> {
         if number == 0 {
             disputes.own(&ids);
         } else {
-            let id = disputes.hold(member(u32::from(number))?, &ids);
-            disputes.position(member(u32::from(number))?, id);
+            join(&mut disputes, u32::from(number), &ids);
         }
     }
     Ok(disputes)
@@ -166,7 +162,7 @@ fn all_different(alloc: Global) -> Result<Disputes, Fail> {
 
 #[test]
 fn answers_for_16640_ids(rt: HostRuntime) -> Result<(), Fail> {
-    let disputes = all_different(rt.alloc())?;
+    let disputes = all_different(rt.alloc(), 64)?;
     for number in 0..=64 {
         for kind in 0..=255 {
             let votes = Votes {
@@ -183,34 +179,12 @@ fn answers_for_16640_ids(rt: HostRuntime) -> Result<(), Fail> {
 
 #[test]
 fn updates_16640_ids_8000_times(rt: HostRuntime) -> Result<(), Fail> {
-    let mut disputes = all_different(rt.alloc())?;
+    let mut disputes = all_different(rt.alloc(), 64)?;
     assert!(rt; disputes.update(25, true));
     assert!(rt; disputes.own_set().is_empty());
     for _ in 1..8_000 {
         assert!(rt; !disputes.update(25, true));
     }
-    Ok(())
-}
-
-#[test]
-fn a_position_stands_for_our_own_set_first(rt: HostRuntime) -> Result<(), Fail> {
-    let mut disputes = Disputes::open(rt.alloc())?;
-    for number in [2, 3] {
-        let id = disputes.hold(member(number)?, &[T1]);
-        disputes.position(member(number)?, id);
-    }
-    assert_eq!(rt; counts(&disputes, &T1), Some((2, 0)));
-    disputes.forget(member(2)?);
-    assert_eq!(rt; counts(&disputes, &T1), Some((1, 0)));
-    disputes.own(&[T1]);
-    disputes.forget(member(3)?);
-    disputes.position(member(3)?, set_id(&[T1]));
-    assert_eq!(rt; counts(&disputes, &T1), Some((1, 0)));
-    disputes.own(&[T2]);
-    assert_eq!(rt;
-        (counts(&disputes, &T1), counts(&disputes, &T2)),
-        (None, Some((0, 0)))
-    );
     Ok(())
 }
 
@@ -234,13 +208,50 @@ fn keeps_the_256_lowest(rt: HostRuntime) -> Result<(), Fail> {
         if !is_set(&ids) {
             return Err("no set".into());
         }
-        let id = disputes.hold(member(number)?, &ids);
-        disputes.position(member(number)?, id);
+        join(&mut disputes, number, &ids);
     }
     assert!(rt; disputes.update(0, false));
     assert_eq!(rt; disputes.own_set().len(), 256);
     for (place, id) in disputes.own_set().iter().enumerate() {
         assert_eq!(rt; *id, id_of((place / 3) as u8, (place % 3) as u8));
+    }
+    Ok(())
+}
+
+/// So many members hold and name our own set, of 32 ids.
+fn all_alike(alloc: Global, members: u32) -> Result<Disputes, Fail>
+    requires { members ≤ 64 }
+{
+    let mut ids = Vec::new(alloc);
+    for kind in 0..32 {
+        ids.push(id_of(1, kind))?;
+    }
+    if !is_set(&ids) {
+        return Err("no set".into());
+    }
+    let mut disputes = Disputes::open(alloc)?;
+    disputes.own(&ids);
+    for number in 1..=members {
+        join(&mut disputes, number, &ids);
+    }
+    Ok(disputes)
+}
+
+#[test]
+fn our_set_stays_where_all_are_alike(rt: HostRuntime) -> Result<(), Fail> {
+    for members in [1, 7, 64] {
+        let mut alike = all_alike(rt.alloc(), members)?;
+        assert!(rt; !alike.update(50, true));
+    }
+    Ok(())
+}
+
+#[test]
+fn our_set_goes_where_all_differ(rt: HostRuntime) -> Result<(), Fail> {
+    for members in [1, 7, 64] {
+        let mut different = all_different(rt.alloc(), members)?;
+        assert!(rt; different.update(25, true));
+        assert!(rt; !different.update(25, true));
     }
     Ok(())
 }

@@ -1,4 +1,5 @@
 pub mod RisingLaws
+pub mod Walking
 pub mod HeartbeatLaws
 pub mod StartLaws
 pub mod SequenceLaws

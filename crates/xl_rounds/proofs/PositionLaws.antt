@@ -1,9 +1,10 @@
 -- The members' positions, place by place.
-use Rattle.std.proofs.Common.{◌≡◌, ℕ, ◌+◌, ◌<◌, ◌≤◌, Bool, true, false, not, List, [], ◌∷◌, ◌++◌, length, take, drop, set, get_or, map, arith, ap, sym, ◌∙◌, refl, Option, Some, None}
-use Rattle.std.specs.Prelude.{◌↔◌, IsFalse, Decides, option_map}
+use Rattle.std.proofs.Common.{◌≡◌, ℕ, ◌+◌, ◌<◌, ◌≤◌, Bool, true, false, not, cond, List, [], ◌∷◌, ◌++◌, length, take, drop, set, get_or, map, arith, ap, sym, ◌∙◌, refl, Option, Some, None}
+use Rattle.std.specs.Prelude.{◌↔◌, IsFalse, Decides, option_map, is_some}
 use Rattle.std.specs.Str.{bytes_eq}
 use Rattle.std.proofs.lemmas.List.{length-set, length-map, length-take-le, map-set, take_more, take_all, drop_all, take_more_set, drop_more, map_more, get_or_at, set_at, append_assoc, append-nil, length_push}
 use Rattle.std.proofs.lemmas.List.Elements.{filter_map-append}
+use Rattle.std.proofs.lemmas.List.Sums.{sum_by-set}
 use Rattle.std.proofs.lemmas.Slice.Eq.{slice_eq-Decides}
 use Rattle.xl_base.specs.declared.ids.TxId.{TxId}
 use Rattle.xl_base.specs.declared.ids.SetId.{SetId}
@@ -11,15 +12,21 @@ use Rattle.xl_disputes.proofs.Ordered.{tx_decides}
 use Rattle.xl_wire.specs.declared.proposal.Proposal.{Proposal}
 use Rattle.xl_rounds.specs.Heartbeats.{is_same_set}
 use Rattle.xl_rounds.specs.Positions.{set_named, times_of}
-use Rattle.xl_rounds.specs.Rest.{AreNamed}
+use Rattle.xl_rounds.specs.Rest.{one_if, AreNamed}
 
--- the disputes follow a change of a position
-pub named_set : (members : List (Option Proposal)) (named : List (Option SetId)) (place : ℕ) (position : Option Proposal) → AreNamed members named →
-    AreNamed (set members place position) (set named place (set_named position))
-named_set members named place position are = record {
-  places = length-set members place position ∙ are.places;
-  sets = ap (λ ns. set ns place (set_named position)) are.sets ∙ sym (map-set set_named members place position);
-}
+module _ (members : List (Option Proposal)) (count : ℕ) (named : List (Option SetId)) (are : AreNamed members count named) where
+  -- a position that is there was counted
+  pub was_counted : (place : ℕ) (d : Option Proposal) → place < 64 → one_if (get_or members place d) ≤ count
+  was_counted place d within = omega (arith, are.counted, sum_by-set one_if members place None d (omega (arith, within, are.places)))
+
+  -- count and disputes follow a change of a position
+  pub named_set : (place new : ℕ) (position d : Option Proposal) → place < 64 → new + one_if (get_or members place d) ≡ count + one_if position →
+      AreNamed (set members place position) new (set named place (set_named position))
+  named_set place new position d within changed = record {
+    places = length-set members place position ∙ are.places;
+    counted = omega (arith, are.counted, changed, sum_by-set one_if members place position d (omega (arith, within, are.places)));
+    sets = ap (λ ns. set ns place (set_named position)) are.sets ∙ sym (map-set set_named members place position);
+  }
 
 -- the test of a change, by what the disputes tell of it
 tested : (same changed : Bool) (next own : List TxId) → Decides same (next ≡ own) → (IsFalse changed ↔ (next ≡ own)) → changed ≡ not same

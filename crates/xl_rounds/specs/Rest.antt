@@ -1,6 +1,8 @@
 -- What the code of this crate keeps besides. No public clause cites this file.
-use Rattle.std.specs.Prelude.{◌≡◌, ℕ, ◌≤◌, Bool, false, List, length, map, slice_set, slice_index_or, Option, Some, None}
-use Rattle.xl_base.specs.Sets.{IsSet}
+use Rattle.std.specs.Prelude.{◌≡◌, ℕ, ◌≤◌, Bool, false, List, [], ◌∷◌, length, drop, map, count_by, slice_set, slice_index_or, Option, Some, None, is_some, if◌then◌else◌}
+use Rattle.std.specs.List.{prefix_len}
+use Rattle.std.specs.Str.{bytes_eq}
+use Rattle.xl_base.specs.Sets.{is_below, IsSet}
 use Rattle.xl_base.specs.declared.ids.TxId.{TxId}
 use Rattle.xl_base.specs.declared.ids.SetId.{SetId}
 use Rattle.xl_wire.specs.declared.proposal.Proposal.{Proposal}
@@ -13,9 +15,23 @@ pub record HasRoom (pending : List TxId) (capacity : ℕ) : Type 0 where
   pub set : IsSet pending
   pub room : 256 ≤ capacity
 
--- a place for each member, and the disputes know the sets that the positions name
-pub record AreNamed (members : List (Option Proposal)) (named : List (Option SetId)) : Type 0 where
+-- of rising ids those that aren't below one
+abbrev pub not_below : TxId → List TxId → List TxId
+not_below tx ids = drop (prefix_len (λ id. is_below id tx) ids) ids
+
+-- whether an id is the first of some
+abbrev pub is_first : TxId → List TxId → Bool
+is_first tx [] = false
+is_first tx (id ∷ ids) = bytes_eq id.0 tx.0
+
+-- how many positions it is: one or none
+abbrev pub one_if : Option Proposal → ℕ
+one_if position = if is_some position then 1 else 0
+
+-- a place for each member, so many positions in them, and the disputes know the sets that the positions name
+pub record AreNamed (members : List (Option Proposal)) (count : ℕ) (named : List (Option SetId)) : Type 0 where
   pub places : length members ≡ 64
+  pub counted : count ≡ count_by is_some members
   pub sets : named ≡ map set_named members
 
 -- whether it is a position, and an old one

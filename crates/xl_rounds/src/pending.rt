@@ -1,10 +1,11 @@
 ghost use Rattle.std.specs.Prelude.{◌≡◌, ◌≤◌, [], length, vec_capacity, IfOk, OnOk, OnErr};
 ghost use Rattle.std.specs.List.{prefix_len};
 ghost use Rattle.std.specs.Result.{result_err};
-ghost use Rattle.xl_base.specs.Sets.{is_below as is_below_of, IsSet};
+ghost use Rattle.xl_base.specs.Sets.{is_below as is_below_of, IsRising, IsSet};
 ghost use Rattle.xl_disputes.specs.Disputes.{has};
 ghost use Rattle.xl_disputes.specs.Rising.{with_tx};
 ghost use Rattle.xl_rounds.specs.Pending.{submit_refusal, without_accepted};
+ghost use Rattle.xl_rounds.specs.Rest.{not_below as not_below_of, is_first as is_first_of};
 
 use crate::RoundRefusal;
 use std::alloc::Global;
@@ -52,12 +53,40 @@ fn is_among(ids: &[TxId], tx: &TxId) -> bool
     ids.contains(tx)
 }
 
-/// Keeps the ids that aren't accepted.
+/// The ids that aren't below this one.
+fn not_below<'a>(ids: &'a [TxId], tx: &TxId) -> &'a [TxId]
+    ensures { result.now ≡ not_below_of tx.now ids.now }
+{
+    &ids[place_of(ids, tx)..]
+}
+
+fn is_first(ids: &[TxId], tx: &TxId) -> bool
+    ensures { result ≡ is_first_of tx.now ids.now }
+{
+    match ids.first() {
+        Some(id) => id == tx,
+        None => false,
+    }
+}
+
+/// Takes the accepted ids out. Both lists rise, so each is walked once.
 fn drop_accepted(ids: &mut Vec<TxId>, accepted: &[TxId])
+    requires pending { IsRising ids.old.items }
+    requires accepted { IsRising accepted.now }
     ensures left { ids.new.items ≡ without_accepted accepted.now ids.old.items }
     ensures room { vec_capacity ids.new ≡ vec_capacity ids.old }
 {
-    ids.retain(|tx| !is_among(accepted, tx));
+    let mut left = 0;
+    let mut rest = accepted;
+    for place in 0..ids.len() {
+        let tx = ids[place];
+        rest = not_below(rest, &tx);
+        if !is_first(rest, &tx) {
+            ids[left] = tx;
+            left += 1;
+        }
+    }
+    ids.truncate(left);
 }
 
 impl Pending {
@@ -96,6 +125,7 @@ impl Pending {
 
     /// Takes the transactions of an accepted set out.
     pub(crate) fn take_out(&mut self, accepted: &[TxId])
+        requires { IsRising accepted.now }
         ensures { self.new ≡ without_accepted accepted.now self.old }
     {
         drop_accepted(&mut self.ids, accepted);

@@ -20,7 +20,7 @@ ghost use Rattle.xl_rounds.specs.Positions.{
   agreeing as agreeing_of,
   times_of,
 };
-ghost use Rattle.xl_rounds.specs.Rest.{is_old_position as is_old_position_of, without_old_at};
+ghost use Rattle.xl_rounds.specs.Rest.{is_old_position as is_old_position_of, one_if as one_if_of, without_old_at};
 
 use crate::members::{MEMBERS, member_at, place_of};
 use std::alloc::Global;
@@ -38,6 +38,8 @@ const FRESH_SECS: Secs = 20;
 pub(crate) struct Positions {
     /// The positions, from member 1 on.
     members: [Option<Proposal>; MEMBERS],
+    /// How many there are.
+    count: u32,
     /// The sets, and what the positions say of them.
     disputes: Disputes,
 }
@@ -50,7 +52,7 @@ impl Model for Positions {
 
     ghost view = { λ a. record { members = a.members; held = a.disputes.held; own = a.disputes.own } };
 
-    ghost invariant = { λ a. AreNamed a.members a.disputes.positions };
+    ghost invariant = { λ a. AreNamed a.members a.count a.disputes.positions };
 }
 
 /// Whether a position is too old to stand.
@@ -67,6 +69,17 @@ fn is_old_position(now: Secs, position: &Option<Proposal>) -> bool
     match position {
         Some(p) => is_old(now, p),
         None => false,
+    }
+}
+
+/// How many positions it is: one or none.
+fn one_if(position: &Option<Proposal>) -> u32
+    ensures value { result ≡ one_if_of position.now }
+    ensures most { result ≤ 1 }
+{
+    match position {
+        Some(_) => 1,
+        None => 0,
     }
 }
 
@@ -103,6 +116,7 @@ impl Positions {
     {
         Ok(Positions {
             members: [None; MEMBERS],
+            count: 0,
             disputes: Disputes::open(alloc)?,
         })
     }
@@ -118,7 +132,10 @@ impl Positions {
     pub(crate) fn put(&mut self, member: NodeNo, p: &Proposal)
         ensures { self.new ≡ with_position member (Some p.now) self.old }
     {
-        self.members[place_of(member)] = Some(*p);
+        let place = place_of(member);
+        let had = one_if(&self.members[place]);
+        self.members[place] = Some(*p);
+        self.count = self.count + 1 - had;
         self.disputes.position(member, p.set);
     }
 
@@ -126,7 +143,10 @@ impl Positions {
     pub(crate) fn remove(&mut self, member: NodeNo)
         ensures { self.new ≡ with_position member None self.old }
     {
-        self.members[place_of(member)] = None;
+        let place = place_of(member);
+        let had = one_if(&self.members[place]);
+        self.members[place] = None;
+        self.count -= had;
         self.disputes.leave(member);
     }
 
@@ -135,6 +155,7 @@ impl Positions {
         ensures { self.new ≡ without_positions self.old }
     {
         self.members = [None; MEMBERS];
+        self.count = 0;
         self.disputes.clear();
     }
 
@@ -201,10 +222,7 @@ impl Positions {
         ensures value { result ≡ count_of self.now }
         ensures most { result ≤ 64 }
     {
-        self.members
-            .iter()
-            .filter(|position| position.is_some())
-            .count() as u32
+        self.count
     }
 
     /// How many positions name our set.

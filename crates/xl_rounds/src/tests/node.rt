@@ -5,7 +5,7 @@ use crate::{Agreed, Kind, Mode, Phase, Placed, Pulse, Round, RoundRefusal, Seen}
 use std::alloc::Global;
 use std::marker::Model;
 use std::test::Fail;
-use xl_base::{GREATEST_MILLIS, LedgerId, Millis, NodeNo, Secs, SetId, TxId, set_id};
+use xl_base::{LedgerId, Millis, NodeNo, Secs, SetId, TxId, set_id};
 use xl_ledger::{Header, LedgerNo, Registry, build_next, id_of};
 use xl_wire::Proposal;
 
@@ -17,8 +17,11 @@ pub const NOTHING: Seen = Seen {
     finished: 0,
 };
 
-pub fn member(number: u32) -> Result<NodeNo, Fail> {
-    Ok(NodeNo::new(number).ok_or("no member")?)
+pub fn member(number: u32) -> NodeNo
+    requires some { 1 ≤ number }
+    requires most { number ≤ 64 }
+{
+    NodeNo::new(number).unwrap()
 }
 
 /// The transaction of a number.
@@ -85,39 +88,40 @@ impl Node {
         let mut node = Node::open(alloc, Mode::Proposing)?;
         let _ = node.submit(2);
         let _ = node.submit(1);
-        let theirs = node.round.hold(member(2)?, &[tx(1)]);
+        let theirs = node.round.hold(member(2), &[tx(1)]);
         let p = on(ROOT, theirs, 0, 1);
-        node.hear(2, &p, 1)?;
-        node.hear(3, &p, 1)?;
-        node.hear(4, &p, 1)?;
+        node.hear(2, &p, 1);
+        node.hear(3, &p, 1);
+        node.hear(4, &p, 1);
         Ok((node, theirs))
     }
 
     /// What becomes of a member's proposal.
-    pub fn hear(&mut self, number: u32, p: &Proposal, now: Secs) -> Result<Told, Fail> {
-        let from = member(number)?;
+    pub fn hear(&mut self, number: u32, p: &Proposal, now: Secs) -> Told
+        requires some { 1 ≤ number }
+        requires most { number ≤ 64 }
+    {
+        let from = member(number);
         let answer = self.round.proposal(&self.registry, from, p, now);
         if answer == Err(RoundRefusal::Left(from)) {
-            return Ok(Told::Refused(28, number));
+            return Told::Refused(28, number);
         }
-        Ok(summary(answer))
+        summary(answer)
     }
 
     /// The ledger that a proposal of member 2 is refused with, for its own.
-    pub fn previous_refused(&mut self, p: &Proposal) -> Result<Option<LedgerId>, Fail> {
-        let from = member(2)?;
-        match self.round.proposal(&self.registry, from, p, 100) {
-            Err(RoundRefusal::WrongPrev(ours)) => Ok(Some(ours)),
-            _ => Ok(None),
+    pub fn previous_refused(&mut self, p: &Proposal) -> Option<LedgerId> {
+        match self.round.proposal(&self.registry, member(2), p, 100) {
+            Err(RoundRefusal::WrongPrev(ours)) => Some(ours),
+            _ => None,
         }
     }
 
     /// What a heartbeat does and says: the propose sequence, the close time and the second of the position, and whether it
     /// goes with the set.
-    pub fn brief(&mut self, now: Millis) -> Result<(Kind, Option<(u32, Secs, Secs, bool)>), Fail> {
-        if now > GREATEST_MILLIS {
-            return Err("too late".into());
-        }
+    pub fn brief(&mut self, now: Millis) -> (Kind, Option<(u32, Secs, Secs, bool)>)
+        requires { now ≤ GREATEST_MILLIS }
+    {
         let pulse = self.round.heartbeat(now, NOTHING);
         let said = match pulse.said {
             Some(said) => {
@@ -126,18 +130,15 @@ impl Node {
             }
             None => None,
         };
-        Ok((pulse.kind, said))
+        (pulse.kind, said)
     }
 
     /// The set, the propose sequence, the close time and the second of the position by which the node leaves.
-    pub fn leaving(&mut self, now: Millis) -> Result<Option<(SetId, u32, Secs, Secs)>, Fail>
+    pub fn leaving(&mut self, now: Millis) -> Option<(SetId, u32, Secs, Secs)>
         requires { now ≤ GREATEST_MILLIS }
     {
-        let said = match self.round.leave(now) {
-            Some(p) => Some((p.set, p.pseq, p.close, p.time)),
-            None => None,
-        };
-        Ok(said)
+        let p = self.round.leave(now)?;
+        Some((p.set, p.pseq, p.close, p.time))
     }
 
     /// Whether 256 transactions become pending.

@@ -1,15 +1,13 @@
 use Rattle.std.proofs.Common.{None, vec_capacity, replicate, refl, ap, ◌∙◌}
 use Rattle.xl_disputes.specs.Disputes.{without_positions}
-use Rattle.xl_disputes.proofs.Keeping.{weighable, settled, known_settled, moved_weighable}
+use Rattle.xl_disputes.proofs.Keeping.{known_settled, moved_settled}
 use Rattle.xl_disputes.proofs.disputes.Disputes.clear.Goals as goal
 use Rattle.xl_disputes.proofs.disputes.Disputes.clear.Goals.{After-settle}
 
 pub invariant_of-self : goal.invariant_of-self
 invariant_of-self c =
-    settled c.self.inside.shares c.settle.new.shares (replicate 64 None) (vec_capacity c.self.inside.next)
-    (moved_weighable c.self.inside.shares c.self.inside.positions (replicate 64 None) refl
-    (weighable c.self.inside.shares c.self.inside.positions (vec_capacity c.self.inside.next) c.self.invariant))
-    c.self.invariant.roomy c.settle.ensures
+    moved_settled c.self.inside.shares c.settle.new.shares c.self.inside.positions (replicate 64 None) (vec_capacity c.self.inside.next) c.self.invariant
+    refl c.settle.ensures
 
 pub returns : goal.returns
 returns c =

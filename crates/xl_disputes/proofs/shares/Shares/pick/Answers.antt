@@ -1,9 +1,8 @@
 use Rattle.std.proofs.Common.{◌≡◌, take, ap, sym, subst, ◌∙◌}
 use Rattle.std.specs.Prelude.{filter}
 use Rattle.xl_base.specs.Sets.{IsSet}
-use Rattle.xl_disputes.specs.Votes.{next_vote}
 use Rattle.xl_disputes.specs.Rows.{ids_of}
-use Rattle.xl_disputes.specs.Standings.{voters, votes_by, next_of}
+use Rattle.xl_disputes.specs.Standings.{voters, wins, next_of}
 use Rattle.xl_disputes.proofs.Picking.{picked_are, IsSet-next}
 use Rattle.xl_disputes.proofs.shares.Shares.pick.Goals as goal
 use Rattle.xl_disputes.proofs.shares.Shares.pick.Goals.{After-pick}
@@ -11,8 +10,8 @@ use Rattle.xl_disputes.proofs.shares.Shares.pick.Goals.{After-pick}
 is_next : (c : After-pick) → c.pick.new.next.items ≡ next_of c.args.self.now c.args.percent c.args.proposing
 is_next c =
     c.pick.ensures.lowest
-    ∙ ap (λ n. take 256 (ids_of (filter (λ row. next_vote c.args.percent c.args.proposing (votes_by n row.tally)) c.self.inside.index))) c.voters-voters.ensures
-    ∙ ap (λ n. take 256 (ids_of (filter (λ row. next_vote c.args.percent c.args.proposing (votes_by n row.tally)) c.self.inside.index))) (ap voters (sym c.self.view_is))
+    ∙ ap (λ n. take 256 (ids_of (filter (wins n c.args.percent c.args.proposing) c.self.inside.index))) c.voters-voters.ensures
+    ∙ ap (λ n. take 256 (ids_of (filter (wins n c.args.percent c.args.proposing) c.self.inside.index))) (ap voters (sym c.self.view_is))
     ∙ picked_are c.self.inside.places.items c.self.inside.index c.self.invariant c.pick.ensures.valid c.args.percent c.args.proposing
     ∙ ap (λ hs. next_of hs c.args.percent c.args.proposing) c.self.view_is
 

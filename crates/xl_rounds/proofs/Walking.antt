@@ -1,0 +1,155 @@
+-- Two lists of rising ids are walked at once.
+use Rattle.std.proofs.Common.{◌≡◌, ℕ, zero, suc, ◌+◌, ◌<◌, ◌≤◌, ◌||◌, Bool, true, false, not, cond, List, [], ◌∷◌, ◌++◌, length, take, drop, set, get_or, refl, sym, ap, subst, ◌∙◌, arith, append-nil}
+use Rattle.std.specs.Prelude.{filter}
+use Rattle.std.specs.List.{prefix_len}
+use Rattle.std.specs.Str.{bytes_eq}
+use Rattle.std.proofs.lemmas.List.{drop_more, take_more, take_more_set, take_all, drop-set-lt, get_or-drop, length-set}
+use Rattle.std.proofs.lemmas.List.Elements.{filter-append}
+use Rattle.std.proofs.lemmas.Grind.{drop_more_same}
+use Rattle.xl_base.specs.Sets.{is_below, RisesFrom, IsRising}
+use Rattle.xl_base.specs.declared.ids.TxId.{TxId}
+use Rattle.xl_disputes.specs.Disputes.{has}
+use Rattle.xl_disputes.proofs.IdOrder.{irreflexive, neither_below, same_itself, same_is}
+use Rattle.xl_disputes.proofs.Exchanging.{RisesFrom-lower, rises_rest}
+use Rattle.xl_disputes.proofs.Extending.{not_among}
+use Rattle.xl_rounds.specs.Pending.{without_accepted}
+use Rattle.xl_rounds.specs.Rest.{not_below, is_first}
+use Rattle.xl_rounds.proofs.RisingLaws.{is_above}
+
+-- ---- what isn't below an id
+
+drop_rises : (n : ℕ) (ids : List TxId) → IsRising ids → IsRising (drop n ids)
+drop_rises zero ids rises = rises
+drop_rises (suc n) [] rises = tt
+drop_rises (suc n) (id ∷ ids) rises = drop_rises n ids (rises_rest id ids rises)
+
+-- ids that rise from one have nothing below it
+not_lower : (tx t : TxId) (ids : List TxId) → RisesFrom tx ids → has (tx ∷ ids) t ≡ true → is_below t tx ≡ false
+not_lower tx t ids rises among = step (is_below t tx) refl
+  where
+    step : (low : Bool) → low ≡ is_below t tx → low ≡ false
+    step true is = absurd (cc (sym among ∙ not_among t (tx ∷ ids) (sym is, rises)))
+    step false is = refl
+
+differs : (tx t id : TxId) → is_below id tx ≡ true → is_below t tx ≡ false → bytes_eq id.0 t.0 ≡ false
+differs tx t id low high = step (bytes_eq id.0 t.0) refl
+  where
+    step : (same : Bool) → same ≡ bytes_eq id.0 t.0 → same ≡ false
+    step true is = absurd (cc (sym low ∙ ap (λ x. is_below x tx) (same_is id t (sym is)) ∙ high))
+    step false is = refl
+
+-- passing over what is below one loses nothing else
+passed : (tx t : TxId) (ids : List TxId) → is_below t tx ≡ false → has (not_below tx ids) t ≡ has ids t
+passed tx t [] high = refl
+passed tx t (id ∷ ids) high = step (is_below id tx) refl (passed tx t ids high)
+  where
+    step : (low : Bool) → low ≡ is_below id tx → has (not_below tx ids) t ≡ has ids t → has (drop (cond low (1 + prefix_len (λ x. is_below x tx) ids) 0) (id ∷ ids)) t ≡ has (id ∷ ids) t
+    step true is more =
+        let next : 1 + prefix_len (λ x. is_below x tx) ids ≡ suc (prefix_len (λ x. is_below x tx) ids) = omega arith in
+        ap (λ n. has (drop n (id ∷ ids)) t) next ∙ more ∙ ap (λ b. b || has ids t) (sym (differs tx t id (sym is) high))
+    step false is more = refl
+
+-- and the one then comes first, if it is there
+found : (tx : TxId) (ids : List TxId) → IsRising ids → has (not_below tx ids) tx ≡ is_first tx (not_below tx ids)
+found tx [] rises = refl
+found tx (id ∷ ids) rises = step (is_below id tx) refl (found tx ids (rises_rest id ids rises))
+  where
+    alone : (same : Bool) → same ≡ bytes_eq id.0 tx.0 → is_below id tx ≡ false → (same || has ids tx) ≡ same
+    alone true is high = refl
+    alone false is high = not_among tx ids (RisesFrom-lower tx id ids (is_above id tx high (sym is)) rises)
+
+    step : (low : Bool) → low ≡ is_below id tx → has (not_below tx ids) tx ≡ is_first tx (not_below tx ids) →
+        has (drop (cond low (1 + prefix_len (λ x. is_below x tx) ids) 0) (id ∷ ids)) tx ≡ is_first tx (drop (cond low (1 + prefix_len (λ x. is_below x tx) ids) 0) (id ∷ ids))
+    step true is more =
+        let next : 1 + prefix_len (λ x. is_below x tx) ids ≡ suc (prefix_len (λ x. is_below x tx) ids) = omega arith in
+        ap (λ n. has (drop n (id ∷ ids)) tx) next ∙ more ∙ ap (λ n. is_first tx (drop n (id ∷ ids))) (sym next)
+    step false is more = alone (bytes_eq id.0 tx.0) refl (sym is)
+
+-- ---- a walk
+
+-- the first ids are done, so many of them are left, and what is still to come is accepted where the rest has it
+pub record IsWalked (accepted old now rest : List TxId) (place left : ℕ) : Type 0 where
+  pub front : take left now ≡ without_accepted accepted (take place old)
+  pub back : drop place now ≡ drop place old
+  pub long : length now ≡ length old
+  pub few : left ≤ place
+  pub still : (t : TxId) → has (drop place old) t ≡ true → has accepted t ≡ has rest t
+  pub rises : IsRising rest
+
+pub all_walked : (accepted old now rest : List TxId) (place left : ℕ) → IsWalked accepted old now rest place left → length old ≤ place → take left now ≡ without_accepted accepted old
+all_walked accepted old now rest place left walked past = walked.front ∙ ap (without_accepted accepted) (take_all place old past)
+
+module _ (accepted old now rest : List TxId) (place left : ℕ) (walked : IsWalked accepted old now rest place left) (rises : IsRising old) (tx : TxId) (within : place < length old) (at : tx ≡ get_or now place tx) where
+  here : (xs : List TxId) → get_or (drop place xs) 0 tx ≡ get_or xs place tx
+  here xs = let e : place + 0 ≡ place = omega arith in get_or-drop place xs 0 tx ∙ ap (λ n. get_or xs n tx) e
+
+  same : tx ≡ get_or old place tx
+  same = at ∙ sym (here now) ∙ ap (λ xs. get_or xs 0 tx) walked.back ∙ here old
+
+  later : List TxId
+  later = drop (place + 1) old
+
+  opened : drop place old ≡ tx ∷ drop (place + 1) old
+  opened = drop_more old place tx within ∙ ap (λ x. x ∷ drop (place + 1) old) (sym same)
+
+  tx_rises : RisesFrom tx (drop (place + 1) old)
+  tx_rises = subst IsRising opened (drop_rises place old rises)
+
+  next_has : (t : TxId) → has (tx ∷ drop (place + 1) old) t ≡ true → has accepted t ≡ has (not_below tx rest) t
+  next_has t among =
+      walked.still t (ap (λ ids. has ids t) opened ∙ among) ∙ sym (passed tx t rest (not_lower tx t (drop (place + 1) old) tx_rises among))
+
+  among_rest : (t : TxId) → has (drop (place + 1) old) t ≡ true → has (tx ∷ drop (place + 1) old) t ≡ true
+  among_rest t among = ap (λ b. bytes_eq tx.0 t.0 || b) among ∙ or_true (bytes_eq tx.0 t.0)
+    where
+      or_true : (b : Bool) → (b || true) ≡ true
+      or_true true = refl
+      or_true false = refl
+
+  is_accepted : has accepted tx ≡ is_first tx (not_below tx rest)
+  is_accepted = next_has tx (ap (λ b. b || has (drop (place + 1) old) tx) (same_itself tx)) ∙ found tx rest walked.rises
+
+  one_more : (b : Bool) → is_first tx (not_below tx rest) ≡ b → without_accepted accepted (take (place + 1) old) ≡ take left now ++ cond (not b) (tx ∷ []) []
+  one_more b first =
+      ap (without_accepted accepted) (take_more old place tx within ∙ ap (λ x. take place old ++ x ∷ []) (sym same))
+      ∙ filter-append (λ t. not (has accepted t)) (take place old) (tx ∷ [])
+      ∙ ap (λ c. without_accepted accepted (take place old) ++ cond (not c) (tx ∷ []) []) (is_accepted ∙ first)
+      ∙ ap (λ xs. xs ++ cond (not b) (tx ∷ []) []) (sym walked.front)
+
+  next_rises : IsRising (not_below tx rest)
+  next_rises = drop_rises (prefix_len (λ id. is_below id tx) rest) rest walked.rises
+
+  pub dropped : is_first tx (not_below tx rest) ≡ true → IsWalked accepted old now (not_below tx rest) (place + 1) left
+  dropped first = record {
+    front = sym (one_more true first ∙ append-nil (take left now));
+    back = drop_more_same now old place walked.back;
+    long = walked.long;
+    few = omega (arith, walked.few);
+    still = λ t among. next_has t (among_rest t among);
+    rises = next_rises;
+  }
+
+  pub kept : is_first tx (not_below tx rest) ≡ false → IsWalked accepted old (set now left tx) (not_below tx rest) (place + 1) (left + 1)
+  kept first = record {
+    front = take_more_set now left tx (omega (arith, walked.few, walked.long, within)) ∙ sym (one_more false first);
+    back = drop-set-lt (place + 1) now left tx (omega (arith, walked.few)) ∙ drop_more_same now old place walked.back;
+    long = length-set now left tx ∙ walked.long;
+    few = omega (arith, walked.few);
+    still = λ t among. next_has t (among_rest t among);
+    rises = next_rises;
+  }
+
+  -- as the code has it
+  pub kept_as : (next after : List TxId) (first : Bool) (n : ℕ) → next ≡ not_below tx rest → first ≡ is_first tx next → first ≡ false → after ≡ set now left tx → n ≡ left + 1 →
+      IsWalked accepted old after next (place + 1) n
+  kept_as next after first n next_is first_is no_first after_is n_is =
+      subst (λ xs. IsWalked accepted old after xs (place + 1) n) (sym next_is)
+      (subst (λ xs. IsWalked accepted old xs (not_below tx rest) (place + 1) n) (sym after_is)
+      (subst (IsWalked accepted old (set now left tx) (not_below tx rest) (place + 1)) (sym n_is) (kept (ap (is_first tx) (sym next_is) ∙ sym first_is ∙ no_first))))
+
+  pub dropped_as : (next after : List TxId) (first : Bool) (n : ℕ) → next ≡ not_below tx rest → first ≡ is_first tx next → first ≡ true → after ≡ now → n ≡ left →
+      IsWalked accepted old after next (place + 1) n
+  dropped_as next after first n next_is first_is is_first' after_is n_is =
+      subst (λ xs. IsWalked accepted old after xs (place + 1) n) (sym next_is)
+      (subst (λ xs. IsWalked accepted old xs (not_below tx rest) (place + 1) n) (sym after_is)
+      (subst (IsWalked accepted old now (not_below tx rest) (place + 1)) (sym n_is) (dropped (ap (is_first tx) (sym next_is) ∙ sym first_is ∙ is_first'))))
