@@ -6,7 +6,6 @@ use Rattle.std.proofs.lemmas.Bool.{cond_both, le-ltb}
 use Rattle.std.proofs.lemmas.List.{append-nil, get_or_append_left, get_or-append_right}
 use Rattle.std.proofs.lemmas.List.Elements.{All-append, All-cons, All-nil, All-weaker, All-map, Contains-push}
 use Rattle.xl_lists.specs.Lists.{TrustedList, IsValid}
-use Rattle.xl_tags.specs.Rings.{Ring}
 use Rattle.xl_wire.specs.declared.validation.Validation.{Validation}
 use Rattle.xl_validations.specs.declared.row.Row.{Row}
 use Rattle.xl_validations.specs.declared.refusal.ValRefusal.{ValRefusal}

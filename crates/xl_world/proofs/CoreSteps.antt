@@ -1,19 +1,17 @@
 -- What each event at a core shows.
-use Rattle.std.proofs.Common.{◌≡◌, ℕ, zero, suc, ◌≤◌, Bool, true, false, cond, List, [], ◌∷◌, ◌++◌, length, take, drop, map, refl, arith, ap, sym, ◌∙◌, Option, Some, None, Result, Ok, Err, subst}
-use Rattle.std.specs.Prelude.{◌==◌, All, IfSome, nat_lt, replicate}
+use Rattle.std.proofs.Common.{◌≡◌, ℕ, zero, suc, ◌≤◌, List, [], ◌∷◌, ◌++◌, length, take, drop, map, refl, sym, Option, Some, None, Result, Ok, Err, subst}
+use Rattle.std.specs.Prelude.{All, IfSome, nat_lt, replicate}
 use Rattle.std.proofs.lemmas.Bool.{cond_both}
 use Rattle.std.proofs.lemmas.List.{take-map}
 use Rattle.std.proofs.lemmas.List.Elements.{All-append, All-cons, All-drop, All-head, All-map, All-nil, All-set, All-tail, All-take, All-weaker}
 use Rattle.xl_lists.specs.Agreement.{Said}
-use Rattle.xl_queues.specs.Broadcasts.{queue_of, pushed_to_all}
+use Rattle.xl_queues.specs.Broadcasts.{queue_of}
 use Rattle.xl_queues.specs.Queues.{Backlog, no_items, with_item}
 use Rattle.xl_wire.specs.declared.validation.Validation.{Validation}
 use Rattle.xl_validations.specs.declared.refusal.ValRefusal.{ValRefusal}
 use Rattle.xl_ledger.specs.declared.header.Header.{Header}
 use Rattle.xl_ledger.specs.declared.refusal.AddRefusal.{AddRefusal}
 use Rattle.xl_ledger.specs.Registries.{add_refusal}
-use Rattle.xl_lists.specs.Lists.{TrustedList, IsValid}
-use Rattle.xl_tags.specs.Rings.{Ring}
 use Rattle.xl_core.specs.declared.event.CoreEvent.{CoreEvent}
 use Rattle.xl_core.specs.declared.event.CoreEvent.TheVariants.{Issue, Frame, Drain, Reports, Stop, Stopped}
 use Rattle.xl_core.specs.declared.hearing.Spoken.{Spoken}
@@ -24,8 +22,8 @@ use Rattle.xl_core.specs.declared.item.Item.TheVariants.{Vote}
 use Rattle.xl_core.specs.declared.refusal.Refusal.{Refusal}
 use Rattle.xl_core.specs.declared.settings.Settings.{Settings}
 use Rattle.xl_core.specs.declared.refusal.Refusal.TheVariants.{NotAfter}
-use Rattle.xl_core.specs.Answers.{Answer, Done, Gave}
-use Rattle.xl_core.specs.Core.{Core, CoreReply, answering, core_happens, core_asks, stepped, with_queues}
+use Rattle.xl_core.specs.Answers.{Done, Gave}
+use Rattle.xl_core.specs.Core.{Core, CoreReply, answering, core_happens, stepped, with_queues}
 use Rattle.xl_core.specs.Hearing.{heard}
 use Rattle.xl_core.specs.Items.{frame_of, frames_for, taken_for}
 use Rattle.xl_core.specs.Node as nodes
@@ -34,18 +32,17 @@ use Rattle.xl_core.specs.Node.Save.{Kept as AnsweredOk, Failed as AnsweredFailed
 use Rattle.xl_core.specs.Queues.{after_taking, at_number, fitting, frames_in, waiting_at, with_items}
 use Rattle.xl_core.specs.Sending.{sealed_bytes, has_spelling}
 use Rattle.xl_world.specs.declared.place.Keeper.{Keeper}
-use Rattle.xl_world.proofs.Seats.{Seat}
 use Rattle.xl_world.specs.declared.place.Fate.{Fate}
 use Rattle.xl_world.specs.declared.sent.Sent.{Sent}
 use Rattle.xl_io.specs.Keepers.{MayHold}
 use Rattle.xl_world.specs.Keeper.{held_by, answer_of, restored}
-use Rattle.xl_world.proofs.Standing.{FrameSays, RowSays, said_in}
+use Rattle.xl_world.proofs.Standing.{FrameSays, said_in}
 use Rattle.xl_world.specs.World.{said_by}
 use Rattle.xl_world.specs.declared.place.Place.{Place}
 use Rattle.xl_world.specs.World.{sent_in, reply_at, keeper_after, core_again}
 use Rattle.xl_world.proofs.Standing.{ItemSays, CoreSays}
 use Rattle.xl_world.proofs.Keeping.{happens_keeps}
-use Rattle.xl_world.proofs.NodeSteps.{HeardSays, happens_says, happens_steps, opened_says, opened_steps, opened_well, still}
+use Rattle.xl_world.proofs.NodeSteps.{HeardSays, happens_says, happens_steps, opened_says, opened_steps, still}
 use Rattle.xl_world.proofs.Seats.{IsWell, IsStep}
 use Rattle.xl_world.proofs.Speaking.{sealed_said}
 use Rattle.xl_world.proofs.Settling.{ReplySays, node_reply, seat}

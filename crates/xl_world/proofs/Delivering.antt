@@ -1,5 +1,5 @@
 -- What comes of sent frames is a step for each.
-use Rattle.std.proofs.Common.{Option, None, inl, inr, subst, ◌≡◌, ℕ, ◌+◌, ◌<◌, true, List, [], ◌∷◌, ◌++◌, length, get_or, take, refl, ap, sym, ◌∙◌, Some, map}
+use Rattle.std.proofs.Common.{Option, None, inl, inr, subst, ◌≡◌, ℕ, ◌+◌, ◌<◌, true, List, [], ◌∷◌, ◌++◌, length, get_or, take, refl, ap, sym, ◌∙◌, Some}
 use Rattle.std.specs.Prelude.{All as Each, drop}
 use Rattle.std.specs.Str.{bytes_eq}
 use Rattle.std.proofs.lemmas.Bool.{cond-false}

@@ -1,28 +1,22 @@
 -- What was issued is sent at once, where a core is emptied after each event.
-use Rattle.std.proofs.Common.{◌≡◌, ℕ, zero, suc, ◌+◌, ◌<◌, ◌≤◌, Bool, true, false, cond, List, [], ◌∷◌, ◌++◌, length, get_or, set, take, drop, filter, map, refl, arith, ap, sym, ◌∙◌, Option, Some, None, subst, append_assoc, append-nil}
-use Rattle.std.specs.Prelude.{◌==◌, ◌&&◌, not, nat_le, nat_lt, All, IfSome, option_map, option_to_list}
-use Rattle.std.specs.List.{flat_map}
-use Rattle.std.proofs.lemmas.Bool.{cond_both, cond-true, cond-false, le-leb, eqb-true, eqb-false, eq-eqb, false_from_ne_true}
-use Rattle.std.proofs.lemmas.List.{get_or-map, get_or-set_other, get_or-set_same, length-map, length-set, drop_all}
-use Rattle.std.proofs.lemmas.List.Elements.{All-cons, All-head, All-nil, All-tail}
-use Rattle.xl_lists.specs.Agreement.{Said, Report as Reported}
-use Rattle.xl_queues.specs.Broadcasts.{queue_of, pushed_to_all}
-use Rattle.xl_queues.specs.Queues.{Backlog, no_items, with_item}
+use Rattle.std.proofs.Common.{◌≡◌, ℕ, zero, suc, ◌<◌, ◌≤◌, List, [], ◌∷◌, ◌++◌, length, take, drop, map, refl, arith, ap, ◌∙◌, Option, Some, None}
+use Rattle.std.specs.Prelude.{nat_le, All, IfSome}
+use Rattle.std.proofs.lemmas.Bool.{cond-true, le-leb}
+use Rattle.std.proofs.lemmas.List.{get_or-set_other, get_or-set_same, length-map, length-set, drop_all}
+use Rattle.std.proofs.lemmas.List.Elements.{All-cons, All-head, All-nil}
+use Rattle.xl_queues.specs.Broadcasts.{queue_of}
+use Rattle.xl_queues.specs.Queues.{Backlog, no_items}
 use Rattle.xl_wire.specs.declared.validation.Validation.{Validation}
-use Rattle.xl_core.specs.declared.event.CoreEvent.{CoreEvent}
-use Rattle.xl_core.specs.declared.event.CoreEvent.TheVariants.{Issue, Frame, Drain, Reports, Stop, Stopped}
+use Rattle.xl_core.specs.declared.event.CoreEvent.TheVariants.{Drain}
 use Rattle.xl_core.specs.declared.item.Item.{Item}
-use Rattle.xl_core.specs.declared.item.Item.TheVariants.{Vote}
 use Rattle.xl_core.specs.declared.queued.TheConstants.{LONGEST_FRAME}
 use Rattle.xl_core.specs.Answers.{Gave}
 use Rattle.xl_core.specs.Core.{Core, CoreReply, answering, core_happens}
 use Rattle.xl_core.proofs.Draining.{taking_none}
-use Rattle.xl_core.specs.Items.{frame_of, frames_for, taken_for}
-use Rattle.xl_core.specs.Node.{Node, Save, items_of}
+use Rattle.xl_core.specs.Items.{frame_of, taken_for}
+use Rattle.xl_core.specs.Node.{Node, items_of}
 use Rattle.xl_core.specs.Node.Save.{Kept as AnsweredOk}
-use Rattle.xl_core.specs.Queues.{after_taking, at_number, fitting, frames_in, waiting_at, with_items}
-use Rattle.xl_core.specs.Sending.{sealed_bytes, has_spelling}
-use Rattle.xl_world.specs.declared.sent.Sent.{Sent}
+use Rattle.xl_core.specs.Queues.{after_taking, at_number, fitting, frames_in, waiting_at}
 use Rattle.xl_world.specs.World.{sent_in}
 use Rattle.xl_world.specs.Idle.{Between, Waits}
 use Rattle.xl_world.specs.Emptying.{drained, drained_once, given}

@@ -1,9 +1,8 @@
 -- What drains give: at most one frame for a number, of the length of a validation's; number by number, as the code goes.
-use Rattle.std.proofs.Common.{◌≡◌, ◌≢◌, ℕ, suc, ◌+◌, ◌<◌, ◌≤◌, Bool, true, false, List, [], ◌∷◌, ◌++◌, length, get_or, take, drop, filter, map, refl, arith, ap, sym, ◌∙◌, inl, inr, Option, Some, None, subst, append_assoc, append-nil}
+use Rattle.std.proofs.Common.{◌≡◌, ◌≢◌, ℕ, ◌+◌, ◌<◌, ◌≤◌, true, false, List, [], ◌∷◌, ◌++◌, length, get_or, take, drop, map, refl, arith, ap, sym, ◌∙◌, inl, inr, Option, Some, None, subst, append_assoc, append-nil}
 use Rattle.std.specs.Prelude.{◌==◌, ◌⊎◌, IsSome, is_some, not, replicate, if◌then◌else◌}
-use Rattle.std.proofs.lemmas.Bool.{cond_both, cond-true, cond-false, eqb-true, eq-eqb}
+use Rattle.std.proofs.lemmas.Bool.{cond_both, cond-true, cond-false, eqb-true}
 use Rattle.std.proofs.lemmas.List.{take_more, drop_more, length-take}
-use Rattle.xl_wire.specs.declared.body.Body.TheVariants as bodies
 use Rattle.xl_wire.specs.declared.validation.Validation.{Validation}
 use Rattle.xl_wire.specs.Bodies.{validation_bytes}
 use Rattle.xl_wire.proofs.RawLaws.{length-raw_bytes}
@@ -13,7 +12,7 @@ use Rattle.xl_tags.specs.Sealing.{sealed}
 use Rattle.xl_core.specs.declared.queued.TheConstants.{LONGEST_FRAME}
 use Rattle.xl_core.specs.Core.{Core}
 use Rattle.xl_core.specs.Items.{taken_for}
-use Rattle.xl_core.specs.Node.{Node, items_of}
+use Rattle.xl_core.specs.Node.{items_of}
 use Rattle.xl_core.specs.Queues.{waiting_at, frames_in, joined}
 use Rattle.xl_core.specs.Sending.{validation_frame, sealed_bytes, has_spelling}
 use Rattle.xl_core.proofs.Spelling.{held, sealed_raw}

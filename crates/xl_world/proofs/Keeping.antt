@@ -1,10 +1,9 @@
 -- What a node keeps over its events, and the list under which it reports.
-use Rattle.std.proofs.Common.{◌≡◌, ℕ, Bool, true, false, List, [], ◌∷◌, refl, ap, sym, ◌∙◌, inl, inr, Option, Some, None, Result, Ok, Err, subst}
-use Rattle.std.specs.Prelude.{◌==◌, All, map, option_map, option_to_list, nat_lt, slice_index_or}
-use Rattle.std.proofs.lemmas.Bool.{cond_both, cond-true, cond-false}
-use Rattle.std.proofs.lemmas.List.Elements.{All-append, All-nil, All-cons}
+use Rattle.std.proofs.Common.{◌≡◌, ℕ, List, [], refl, ap, sym, ◌∙◌, Option, Some, None, Result, Ok, Err}
+use Rattle.std.specs.Prelude.{All, option_map, option_to_list, nat_lt}
+use Rattle.std.proofs.lemmas.Bool.{cond_both}
+use Rattle.std.proofs.lemmas.List.Elements.{All-nil, All-cons}
 use Rattle.xl_lists.specs.Lists.{TrustedList}
-use Rattle.xl_lists.specs.Quorums.{Enough}
 use Rattle.xl_lists.specs.Agreement.{Report as Reported}
 use Rattle.xl_core.specs.declared.report.Report.{Report}
 use Rattle.xl_core.specs.declared.refusal.Refusal.TheVariants.{NotAfter}
@@ -16,18 +15,13 @@ use Rattle.xl_core.specs.declared.hearing.Spoken.{Spoken}
 use Rattle.xl_core.specs.declared.hearing.Speech.{Speech}
 use Rattle.xl_core.specs.declared.hearing.Speech.TheVariants.{Vote, Header as Ledger}
 use Rattle.xl_core.specs.Hearing.{heard}
-use Rattle.xl_core.specs.Node.{Node, Event, Issue, Frame, Reply, Save, at_moment, second_of, own_validation, issues_unless, issues, hears, learns, hearing_speech, hearing, refusing, refusal_at, happens, asks}
+use Rattle.xl_core.specs.Node.{Node, Event, Issue, Frame, Reply, Save, at_moment, second_of, own_validation, issues_unless, issues, hears, learns, hearing_speech, hearing, refusing, refusal_at, happens}
 use Rattle.xl_wire.specs.declared.validation.Validation.{Validation}
 use Rattle.xl_validations.specs.declared.refusal.ValRefusal.{ValRefusal}
-use Rattle.xl_world.specs.declared.place.Keeper.{Keeper}
-use Rattle.xl_world.specs.declared.place.Fate.{Fate}
 use Rattle.xl_core.specs.Node.Save.{Kept, Failed}
-use Rattle.xl_io.specs.Keepers.{may_hold}
-use Rattle.xl_world.specs.Keeper.{restored, answer_of, after_save}
 use Rattle.xl_world.specs.declared.plan.PlanNode.{PlanNode}
-use Rattle.xl_world.proofs.Seats.{Seat}
 use Rattle.xl_world.specs.World.{reported_by}
-use Rattle.xl_world.specs.Plans.{AreDeclared, list_at}
+use Rattle.xl_world.specs.Plans.{list_at}
 
 pub reported_under : (plan : List PlanNode) (n : Node) → list_at plan n.me ≡ Some n.list → (o : Option Report) →
     All (λ r. list_at plan r.node ≡ Some r.list) (option_to_list (option_map (reported_by n) o))

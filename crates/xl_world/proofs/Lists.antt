@@ -1,6 +1,6 @@
 -- A core reports under the list that it was declared with.
 use Rattle.std.proofs.Common.{◌≡◌, ℕ, Bool, false, List, [], ◌∷◌, refl, ap, sym, ◌∙◌, inl, inr, Option, Some, None, subst}
-use Rattle.std.specs.Prelude.{◌==◌, All, map, option_map, option_to_list, slice_index_or}
+use Rattle.std.specs.Prelude.{◌==◌, All, map, option_map, slice_index_or}
 use Rattle.std.proofs.lemmas.Bool.{cond_both, cond-true, cond-false}
 use Rattle.std.proofs.lemmas.List.Elements.{All-append, All-nil}
 use Rattle.xl_lists.specs.Lists.{TrustedList}

@@ -4,7 +4,7 @@ use Rattle.std.specs.Prelude.{◌==◌, max, All, IfSome, map, find, filter_map,
 use Rattle.std.specs.Option.{is_none}
 use Rattle.std.proofs.lemmas.Bool.{and_parts, eqb-true, cond_both, ltb-true, leb-true}
 use Rattle.std.proofs.lemmas.List.Elements.{All-map, All-head, All-tail, All-cons}
-use Rattle.xl_lists.specs.Lists.{TrustedList, IsValid}
+use Rattle.xl_lists.specs.Lists.{IsValid}
 use Rattle.xl_lists.specs.Agreement.{Said}
 use Rattle.xl_wire.specs.declared.validation.Validation.{Validation}
 use Rattle.xl_validations.specs.declared.row.Row.{Row}
@@ -21,7 +21,6 @@ use Rattle.xl_core.specs.declared.hearing.Spoken.{Spoken}
 use Rattle.xl_core.specs.declared.hearing.Speech.{Speech}
 use Rattle.xl_core.specs.declared.hearing.Speech.TheVariants.{Vote, Header as Ledger}
 use Rattle.xl_core.specs.Hearing.{heard}
-use Rattle.xl_tags.specs.Rings.{Ring}
 use Rattle.xl_core.specs.Answers.{Done}
 use Rattle.xl_core.specs.Node.{settings_of, Node, Event, Issue, Frame, Reply, Save, at_moment, second_of, own_validation, issues_unless, unless_failed, take, with_taken, saving, arises, arisen, report_of, refusing, hears, learns, refusal_at, hearing_speech, hearing, asks, happens, opened}
 use Rattle.xl_world.specs.declared.place.Keeper.{Keeper}

@@ -13,7 +13,6 @@ use Rattle.xl_world.specs.declared.place.Fate.{Fate}
 use Rattle.xl_world.specs.Keeper.{answer_of}
 use Rattle.xl_world.specs.World.{place_at, put, reply_at}
 use Rattle.xl_world.specs.Seen.{IsAnswer, place_again, put_again, place_after, place_drained, put_acted, put_drained, given_at, acted_at, Answers, AnswersAt}
-use Rattle.xl_world.specs.declared.sent.Sent.{Sent}
 use Rattle.xl_world.proofs.Lists.{core_keeps}
 use Rattle.xl_world.proofs.Emptying.{drained_node}
 use Rattle.xl_world.specs.Emptying.{given, others}

@@ -1,11 +1,11 @@
 -- A node that is opened anew is a step.
-use Rattle.std.proofs.Common.{◌≡◌, ℕ, Bool, true, false, cond, List, [], ◌∷◌, ◌++◌, refl, ap, sym, ◌∙◌, Option, Some, None, subst}
+use Rattle.std.proofs.Common.{◌≡◌, ℕ, Bool, true, false, List, [], ◌∷◌, refl, ap, sym, ◌∙◌, Option, Some, None, subst}
 use Rattle.std.specs.Prelude.{◌==◌, ◌||◌, option_map, option_to_list, unwrap_or, if◌then◌else◌}
-use Rattle.std.proofs.lemmas.Bool.{cond-true, cond-false, cond_both, or_left, or_right, eq-eqb}
+use Rattle.std.proofs.lemmas.Bool.{cond-true, or_left, or_right, eq-eqb}
 use Rattle.std.proofs.lemmas.List.{append-nil}
 use Rattle.xl_core.specs.Node as nodes
 use Rattle.xl_core.specs.Node.{Node, opened}
-use Rattle.xl_core.specs.Core.{Core, core_asks, with_queues}
+use Rattle.xl_core.specs.Core.{core_asks}
 use Rattle.xl_core.specs.declared.event.CoreEvent.{CoreEvent}
 use Rattle.xl_core.specs.declared.event.CoreEvent.TheVariants.{Issue}
 use Rattle.xl_base.specs.declared.ids.LedgerId.{LedgerId}
@@ -17,10 +17,10 @@ use Rattle.xl_world.specs.declared.place.Fate.TheVariants.{Kept}
 use Rattle.xl_world.specs.declared.place.Place.{Place}
 use Rattle.xl_world.specs.Keeper.{held_by, after_save, found, left_by}
 use Rattle.xl_io.specs.Keepers.{is_asked, may_hold}
-use Rattle.xl_world.specs.Schedule.{cut_at, cut_short, restart, told_by, told_in}
-use Rattle.xl_world.specs.Seen.{cut_seen, place_again, place_drained, place_after, put_again, with_again, IsFront, Steps}
-use Rattle.xl_world.specs.World.{World, Step, Act, Again, Torn, again, asked_at, is_forged, keeper_after, moment_in, place_at, put, reopened, reply_at, run, step, torn}
-use Rattle.xl_world.specs.Emptying.{drained, event_steps, handed_out, others}
+use Rattle.xl_world.specs.Schedule.{cut_at, cut_short, restart, told_in}
+use Rattle.xl_world.specs.Seen.{cut_seen, place_drained, place_after, put_again, with_again, IsFront, Steps}
+use Rattle.xl_world.specs.World.{World, Step, Again, Torn, again, asked_at, moment_in, place_at, reopened, reply_at, run, step, torn}
+use Rattle.xl_world.specs.Emptying.{event_steps, handed_out, others}
 use Rattle.xl_world.specs.Idle.{IsIdle}
 use Rattle.xl_world.proofs.Runs.{run-append}
 use Rattle.xl_world.proofs.Settling.{at_its_number}

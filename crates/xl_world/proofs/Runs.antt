@@ -3,16 +3,13 @@ use Rattle.std.proofs.Common.{◌≡◌, ℕ, ◌<◌, ◌≤◌, Bool, true, fa
 use Rattle.std.specs.Prelude.{◌==◌, All, IfSome, map, filter, slice_index_or}
 use Rattle.std.proofs.lemmas.Bool.{cond_both}
 use Rattle.std.proofs.lemmas.List.Elements.{All-map, All-head, All-tail, All-nil}
-use Rattle.xl_wire.specs.Heads.{split_of}
-use Rattle.xl_wire.specs.declared.validation.Validation.{Validation}
-use Rattle.xl_tags.specs.Rings.{schedule_ring}
 use Rattle.xl_lists.specs.Agreement.{Said, Report as Reported, IsGenuine, IsBacked, Agree}
 use Rattle.xl_lists.proofs.Agreement.{agreement_from_kept, vouches_still}
 use Rattle.xl_core.specs.declared.event.CoreEvent.{CoreEvent}
 use Rattle.xl_core.specs.declared.event.CoreEvent.TheVariants.{Issue, Frame, Drain, Reports, Stop, Stopped}
 use Rattle.xl_core.specs.declared.hearing.Speech.TheVariants.{Vote}
 use Rattle.xl_core.specs.Answers.{Done}
-use Rattle.xl_core.specs.Core.{Core, CoreReply, answering, core_happens, core_asks}
+use Rattle.xl_core.specs.Core.{Core, CoreReply, answering, core_asks}
 use Rattle.xl_core.specs.Node as nodes
 use Rattle.xl_core.specs.Node.{Node, Save, settings_of}
 use Rattle.xl_core.proofs.Heard.{heard_parts}
@@ -26,14 +23,13 @@ use Rattle.xl_world.specs.Keeper.{held_by, resting, restored, answer_of}
 use Rattle.xl_world.specs.Plans.{planned, AreDeclared, is_declared, all_numbers}
 use Rattle.xl_world.proofs.Standing.{FrameSays}
 use Rattle.xl_world.specs.World.{said_by}
-use Rattle.xl_world.specs.Forgeries.{forges}
 use Rattle.xl_world.specs.declared.place.Place.{Place}
-use Rattle.xl_world.specs.World.{World, Step, Act, Again, Torn, Mark, place_at, is_forged, settled, acts, reply_at, keeper_after, core_again, reopened, again, torn, moment_in, asked_at, marked, step, run, place_of, start, IsRun}
+use Rattle.xl_world.specs.World.{World, Step, Act, Again, Torn, Mark, place_at, is_forged, acts, reply_at, keeper_after, core_again, reopened, again, torn, moment_in, asked_at, marked, step, run, place_of, start, IsRun}
 use Rattle.xl_world.proofs.Standing.{CoreSays, Stands}
 use Rattle.xl_world.proofs.NodeSteps.{asks_above, failed_rises, opened_well}
 use Rattle.xl_world.proofs.Unforged.{heard_unforged, may_hold-true, never_none}
 use Rattle.xl_world.proofs.Seats.{IsWell, spoken, issued_genuine, some_same}
-use Rattle.xl_world.proofs.Settling.{IsSound, ReplySays, GenuineThen, settled_sound, core_weaker, at_its_number, seat}
+use Rattle.xl_world.proofs.Settling.{IsSound, GenuineThen, settled_sound, core_weaker, at_its_number, seat}
 use Rattle.xl_world.proofs.CoreSteps.{CoreHeard, core_steps, core_says, opened_core_steps, opened_core_says}
 
 -- WHAT COMES UNFORGED

@@ -1,12 +1,12 @@
 -- A node beside its keeper: what each event at it must show.
-use Rattle.std.proofs.Common.{◌≡◌, ℕ, ◌<◌, ◌≤◌, Bool, List, [], ◌∷◌, arith, ap, sym, ◌∙◌, inl, inr, Option, Some, None, subst}
-use Rattle.std.specs.Prelude.{◌==◌, ◌&&◌, ◌⊎◌, All, IsTrue, IfSome, map, count_by, option_map, option_to_list}
-use Rattle.std.proofs.lemmas.Bool.{and_parts, or_right, eqb-true, eqb-false, cond_both, cond-true, cond-false}
-use Rattle.std.proofs.lemmas.List.Elements.{All-append, All-weaker, All-nil, All-cons, All-map}
+use Rattle.std.proofs.Common.{◌≡◌, ℕ, ◌<◌, ◌≤◌, List, [], arith, Option, Some, None, subst}
+use Rattle.std.specs.Prelude.{◌==◌, ◌&&◌, All, IsTrue, IfSome, map, count_by, option_map, option_to_list}
+use Rattle.std.proofs.lemmas.Bool.{and_parts, or_right, eqb-true}
+use Rattle.std.proofs.lemmas.List.Elements.{All-weaker, All-nil, All-cons}
 use Rattle.xl_base.specs.declared.ids.LedgerId.{LedgerId}
 use Rattle.xl_lists.specs.Lists.{IsValid}
 use Rattle.xl_lists.specs.Agreement.{Said, with_said, vouches, IsGenuine, IsBacked}
-use Rattle.xl_lists.proofs.Agreement.{same_id-true, kept_by_step, vouches_still, now_said}
+use Rattle.xl_lists.proofs.Agreement.{same_id-true, now_said}
 use Rattle.xl_lists.proofs.Counting.{count_image}
 use Rattle.xl_wire.specs.declared.validation.Validation.{Validation}
 use Rattle.xl_validations.specs.declared.row.Row.{Row}
@@ -17,7 +17,7 @@ use Rattle.xl_world.specs.declared.place.Keeper.{Keeper}
 use Rattle.xl_world.specs.Keeper.{held_by}
 use Rattle.xl_io.specs.Keepers.{MayHold}
 use Rattle.xl_world.specs.World.{said_by, reported_by}
-use Rattle.xl_world.proofs.Standing.{said_in, Holds, RowSays, FrameSays, NodeSays, IsKept}
+use Rattle.xl_world.proofs.Standing.{RowSays, NodeSays}
 
 -- a node and its keeper
 pub record Seat : Type 0 where

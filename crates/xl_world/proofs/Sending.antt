@@ -1,12 +1,11 @@
 -- What an event leaves in a world whose cores are emptied after each event.
-use Rattle.std.proofs.Common.{◌≡◌, ℕ, zero, suc, ◌+◌, ◌<◌, ◌≤◌, Bool, true, false, cond, List, [], ◌∷◌, ◌++◌, length, get_or, filter, map, refl, arith, ap, sym, ◌∙◌, inl, inr, Option, Some, None, subst, append_assoc, append-nil}
-use Rattle.std.specs.Prelude.{◌==◌, not, nat_lt, All, IfSome, drop, if◌then◌else◌, option_map, option_to_list, replicate}
-use Rattle.std.proofs.lemmas.Bool.{cond_both, cond-true, cond-false, eqb-true, eqb-false, eq-eqb}
+use Rattle.std.proofs.Common.{◌≡◌, ℕ, zero, suc, ◌+◌, ◌<◌, ◌≤◌, Bool, true, false, List, [], ◌∷◌, ◌++◌, length, get_or, filter, map, refl, arith, ap, sym, ◌∙◌, inl, inr, Option, Some, None, subst, append_assoc, append-nil}
+use Rattle.std.specs.Prelude.{◌==◌, not, All, IfSome, drop, if◌then◌else◌, option_map, option_to_list, replicate}
+use Rattle.std.proofs.lemmas.Bool.{cond_both, cond-true, cond-false, eq-eqb}
 use Rattle.std.specs.List.{flat_map}
 use Rattle.std.proofs.lemmas.List.{get_or-map, length-map, map-append}
 use Rattle.std.proofs.lemmas.List.Elements.{All-cons, All-head, All-nil, All-tail}
 use Rattle.xl_lists.specs.Agreement.{Said, Report as Reported, with_said}
-use Rattle.xl_queues.specs.Broadcasts.{queue_of, pushed_to_all}
 use Rattle.xl_queues.specs.Queues.{Backlog, no_items, with_item}
 use Rattle.xl_wire.specs.declared.validation.Validation.{Validation}
 use Rattle.xl_core.specs.declared.event.CoreEvent.{CoreEvent}
@@ -15,7 +14,7 @@ use Rattle.xl_core.specs.declared.item.Item.{Item}
 use Rattle.xl_core.specs.declared.item.Item.TheVariants.{Vote}
 use Rattle.xl_core.specs.declared.queued.TheConstants.{LONGEST_FRAME}
 use Rattle.xl_core.specs.Answers.{Gave, given_in}
-use Rattle.xl_core.specs.Core.{Core, CoreReply, answering, core_asks, core_happens, stepped}
+use Rattle.xl_core.specs.Core.{Core, CoreReply, answering, core_happens, stepped}
 use Rattle.xl_core.specs.Node as nodes
 use Rattle.xl_core.specs.Node.{Event, Node, Reply, Save, asks, happens, items_of, opened}
 use Rattle.xl_core.specs.Node.Save.{Kept as AnsweredOk}
@@ -28,13 +27,13 @@ use Rattle.xl_world.specs.declared.place.Fate.{Fate}
 use Rattle.xl_world.specs.declared.place.Fate.TheVariants.{Kept}
 use Rattle.xl_world.specs.declared.place.Keeper.{Keeper}
 use Rattle.xl_world.specs.declared.plan.PlanNode.{PlanNode}
-use Rattle.xl_world.specs.Keeper.{held_by, restored, after_save, answer_of}
+use Rattle.xl_world.specs.Keeper.{held_by, restored, answer_of}
 use Rattle.xl_io.specs.Keepers.{may_hold}
 use Rattle.xl_queues.specs.Queues.{one_more}
 use Rattle.xl_world.specs.Plans.{is_declared, all_numbers, up_from}
 use Rattle.xl_world.specs.World.{reported_by, said_by}
 use Rattle.xl_world.specs.declared.place.Place.{Place}
-use Rattle.xl_world.specs.World.{World, Step, Act, Again, Torn, Mark, again, acts, asked_at, core_again, is_forged, keeper_after, marked, moment_in, place_at, place_of, put, reopened, reply_at, run, sent_in, settled, start, step, torn}
+use Rattle.xl_world.specs.World.{World, Act, Again, Torn, again, acts, asked_at, core_again, is_forged, keeper_after, moment_in, place_at, place_of, put, reopened, reply_at, run, sent_in, settled, start, step, torn}
 use Rattle.xl_world.specs.Idle.{Between, IsIdle, Waits, WaitsOnly}
 use Rattle.xl_world.specs.Emptying.{IsEmptied, drained, drained_once, drains, drains_for, emptying, emptying_at, event_steps, given, handed_out, others}
 use Rattle.xl_world.proofs.Runs.{run-append}

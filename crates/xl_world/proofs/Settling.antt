@@ -1,6 +1,6 @@
 -- A world stays sound when an event at a core is settled, whatever the event was.
-use Rattle.std.proofs.Common.{◌≡◌, ℕ, ◌<◌, ◌≤◌, Bool, List, [], ◌∷◌, arith, ap, sym, ◌∙◌, inl, inr, Option, Some, None, subst}
-use Rattle.std.specs.Prelude.{◌==◌, ◌⊎◌, All, IfSome, option_map}
+use Rattle.std.proofs.Common.{◌≡◌, ℕ, ◌<◌, ◌≤◌, Bool, List, [], ◌∷◌, arith, ap, sym, ◌∙◌, inl, inr, Some, subst}
+use Rattle.std.specs.Prelude.{◌==◌, ◌⊎◌, All}
 use Rattle.std.proofs.lemmas.Bool.{eqb-true, eqb-false, cond_both, cond-true, cond-false}
 use Rattle.std.proofs.lemmas.List.Elements.{All-append, All-weaker}
 use Rattle.xl_lists.specs.Agreement.{Said, with_said, IsGenuine}

@@ -1,34 +1,23 @@
 -- What frames say: the frame of a validation says it, and so does what is heard in bytes.
-use Rattle.std.proofs.Common.{◌≡◌, ℕ, ◌+◌, ◌<◌, ◌^◌, Bool, true, false, List, [], ◌∷◌, ◌++◌, length, refl, arith, ap, sym, ◌∙◌, Option, Some, None, subst, Result, Ok}
-use Rattle.std.specs.Prelude.{◌==◌, ◌&&◌, not, nat_lt, All, IfSome, map, filter, option_map, unwrap_or, replicate}
-use Rattle.std.proofs.lemmas.Bool.{and_parts, cond_both, ltb-true, eqb-true}
-use Rattle.std.proofs.lemmas.List.{append-nil, length-append, length-replicate}
-use Rattle.std.proofs.lemmas.List.Elements.{All-nil, All-cons}
-use Rattle.xl_lists.specs.Agreement.{Said}
-use Rattle.xl_wire.specs.declared.body.Body.{Body}
+use Rattle.std.proofs.Common.{◌≡◌, ℕ, true, List, [], ap, sym, ◌∙◌, Some}
+use Rattle.std.specs.Prelude.{replicate}
+use Rattle.std.proofs.lemmas.List.{append-nil}
 use Rattle.xl_wire.specs.declared.body.Body.TheVariants as bodies
-use Rattle.xl_wire.specs.declared.refusal.WireRefusal.{WireRefusal}
 use Rattle.xl_wire.specs.declared.validation.Validation.{Validation}
-use Rattle.xl_wire.specs.Bodies.{body_of, validation_bytes, flags_of, IsValidation}
-use Rattle.xl_wire.specs.Heads.{Split, split_of}
+use Rattle.xl_wire.specs.Bodies.{body_of}
+use Rattle.xl_wire.specs.Heads.{split_of}
 use Rattle.xl_wire.specs.Heads.Split.{Whole}
-use Rattle.xl_wire.specs.Kinds.{can_have}
-use Rattle.xl_wire.specs.Raws.{RawFrame, raw_bytes, IsRaw}
-use Rattle.xl_wire.proofs.BodyLaws.{body_again, spelled_lawful}
+use Rattle.xl_wire.specs.Raws.{RawFrame, raw_bytes}
+use Rattle.xl_wire.proofs.BodyLaws.{body_again}
 use Rattle.xl_wire.proofs.RawLaws.{split_again}
-use Rattle.xl_tags.specs.Macs.{mac}
-use Rattle.xl_tags.specs.Rings.{Ring, key_of}
-use Rattle.xl_tags.specs.Sealing.{before_tag, sealed}
-use Rattle.xl_core.specs.Node.{Node}
-use Rattle.xl_core.specs.declared.hearing.Spoken.{Spoken}
-use Rattle.xl_core.specs.Hearing.{heard}
+use Rattle.xl_tags.specs.Rings.{Ring}
+use Rattle.xl_tags.specs.Sealing.{sealed}
 use Rattle.xl_core.specs.Sending.{validation_frame, sealed_bytes, has_spelling}
 use Rattle.xl_core.proofs.Heard.{IsHeard, body_from, vote_body}
 use Rattle.xl_core.proofs.Spelling.{held, sealed_raw}
 use Rattle.xl_core.specs.declared.hearing.Speech.TheVariants.{Vote}
-use Rattle.xl_world.specs.declared.sent.Sent.{Sent}
 use Rattle.xl_world.specs.World.{said_by}
-use Rattle.xl_world.proofs.Standing.{said_in, said_in_body, said_in_split, FrameSays}
+use Rattle.xl_world.proofs.Standing.{said_in, said_in_body, said_in_split}
 
 -- so it says the validation
 pub sealed_said : (ring : Ring) (from to : ℕ) (v : Validation) → has_spelling from to v ≡ true → said_in (sealed_bytes ring from to v) ≡ Some (said_by from v)

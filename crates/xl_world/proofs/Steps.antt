@@ -1,12 +1,11 @@
 -- What the code's changes are of the world.
-use Rattle.std.proofs.Common.{◌≡◌, ℕ, zero, suc, arith, Bool, true, false, cond, List, [], ◌∷◌, ◌++◌, length, refl, ap, sym, ◌∙◌, Option, Some, None, Result, Ok, Err, subst}
+use Rattle.std.proofs.Common.{◌≡◌, ℕ, zero, suc, arith, Bool, true, false, List, [], ◌∷◌, ◌++◌, length, refl, ap, sym, ◌∙◌, Option, Some, None, Result, Ok, Err, subst}
 use Rattle.std.specs.List.{flat_map}
-use Rattle.std.specs.Prelude.{◌==◌, ◌&&◌, ◌||◌, not, All, IfSome, is_some, nat_lt, nat_le, option_map, option_to_list, slice_get, if◌then◌else◌, map, unwrap_or, filter}
-use Rattle.std.proofs.lemmas.Bool.{cond-true, cond-false, cond_both, or_left, or_right, eq-eqb}
+use Rattle.std.specs.Prelude.{◌==◌, ◌&&◌, not, IfSome, is_some, nat_le, option_map, option_to_list, slice_get, if◌then◌else◌, map}
+use Rattle.std.proofs.lemmas.Bool.{cond_both}
 use Rattle.std.proofs.lemmas.List.Folds.{list_any_at}
 use Rattle.std.proofs.lemmas.Option.{slice_get_within, get_or_from_slice_get}
 use Rattle.std.proofs.lemmas.List.{append-nil, append_assoc, map-append}
-use Rattle.std.proofs.lemmas.List.Elements.{All-head, All-tail}
 use Rattle.xl_lists.specs.Agreement.{Said, Report, with_said}
 use Rattle.xl_wire.specs.declared.validation.Validation.{Validation}
 use Rattle.xl_core.specs.declared.report.Report.{Report as NodeReport}
@@ -27,7 +26,6 @@ use Rattle.xl_core.specs.declared.hearing.Spoken.{Spoken}
 use Rattle.xl_core.specs.declared.hearing.Speech.{Speech}
 use Rattle.xl_core.specs.declared.hearing.Speech.TheVariants.{Vote, Header as Ledger}
 use Rattle.xl_core.specs.declared.refusal.Refusal.{Refusal}
-use Rattle.xl_core.specs.declared.refusal.Refusal.TheVariants.{NotAfter}
 use Rattle.xl_core.specs.Hearing.{heard}
 use Rattle.xl_core.specs.Node as nodes
 use Rattle.xl_core.specs.Node.{Node, Reply, at_moment, second_of, happens, hears, learns, hearing_speech, hearing, refusal_at}
@@ -42,19 +40,16 @@ use Rattle.xl_world.specs.declared.outcome.Outcome.TheVariants.{Refused, Full}
 use Rattle.xl_world.specs.declared.place.Place.{Place}
 use Rattle.xl_world.specs.declared.report.WorldReport.{WorldReport}
 use Rattle.xl_world.specs.declared.sent.Sent.{Sent}
-use Rattle.xl_world.specs.declared.place.Keeper.{Keeper}
 use Rattle.xl_world.specs.declared.place.Fate.{Fate}
 use Rattle.xl_world.specs.declared.place.Fate.TheVariants.{Kept}
-use Rattle.xl_io.specs.Keepers.{may_hold, is_asked}
-use Rattle.xl_world.specs.Keeper.{answer_of, found}
+use Rattle.xl_world.specs.Keeper.{answer_of}
 use Rattle.xl_queues.specs.Queues.{one_more}
 use Rattle.xl_core.specs.Answers.{given_in, refusal_in}
 use Rattle.xl_core.specs.Node.Save.{Kept as AnsweredOk, Failed as AnsweredFailed}
-use Rattle.xl_core.specs.Sending.{sealed_bytes, has_spelling}
 use Rattle.xl_world.specs.Forgeries.{was_sent, forges}
 use Rattle.xl_world.specs.World.{said_by, reported_by}
-use Rattle.xl_world.specs.World.{World, Step, Act, Mark, is_forged, keeper_after, place_at, put, reply_at, step, run}
-use Rattle.xl_world.specs.Emptying.{drained, drains, drains_for, emptying_at, event_steps, given, others}
+use Rattle.xl_world.specs.World.{World, Step, Act, is_forged, keeper_after, place_at, put, reply_at, step, run}
+use Rattle.xl_world.specs.Emptying.{drains, drains_for, emptying_at, event_steps, given, others}
 use Rattle.xl_world.specs.Idle.{IsIdle}
 use Rattle.xl_world.proofs.Settling.{at_its_number}
 use Rattle.xl_world.proofs.Seats.{some_same}

@@ -1,36 +1,30 @@
 -- What comes unforged: from a liar, or it was sent.
-use Rattle.std.proofs.Common.{◌≡◌, ℕ, ◌+◌, ◌<◌, ◌≤◌, Bool, true, false, cond, List, [], ◌∷◌, ◌++◌, length, refl, arith, ap, sym, ◌∙◌, inl, inr, Option, Some, None, subst}
-use Rattle.std.specs.Prelude.{◌==◌, ◌&&◌, ◌⊎◌, All, IfSome, nat_le, not, slice_index_or, map, filter}
+use Rattle.std.proofs.Common.{◌≡◌, ℕ, Bool, true, false, List, [], ◌∷◌, length, arith, ap, sym, ◌∙◌, inl, inr, Option, Some, None, subst}
+use Rattle.std.specs.Prelude.{◌==◌, ◌&&◌, ◌⊎◌, All, IfSome, nat_le, not}
 use Rattle.std.specs.List.{list_any}
-use Rattle.std.proofs.lemmas.Bool.{or_left, or_cases, eqb-true, cond_both}
-use Rattle.std.proofs.lemmas.List.Elements.{All-map, All-head, All-tail, All-nil}
+use Rattle.std.proofs.lemmas.Bool.{or_left, or_cases, eqb-true}
+use Rattle.std.proofs.lemmas.List.Elements.{All-head, All-tail}
 use Rattle.std.proofs.lemmas.Slice.Eq.{bytes_eq-Decides}
 use Rattle.xl_lists.specs.Lists.{is_on}
 use Rattle.xl_wire.specs.Heads.{split_of}
 use Rattle.xl_wire.specs.Kinds.{span}
 use Rattle.xl_wire.specs.Raws.{RawFrame}
 use Rattle.xl_tags.specs.Opening.{is_sealed}
-use Rattle.xl_tags.specs.Rings.{schedule_ring}
 use Rattle.xl_wire.specs.Bodies.{body_of}
 use Rattle.xl_core.specs.declared.hearing.Speech.TheVariants.{Vote}
 use Rattle.xl_core.specs.Hearing.{heard}
-use Rattle.xl_core.proofs.Heard.{IsHeard, heard_parts, body_from}
+use Rattle.xl_core.proofs.Heard.{IsHeard, body_from}
 use Rattle.xl_world.proofs.Speaking.{heard_said}
 use Rattle.xl_world.specs.declared.sent.Sent.{Sent}
-use Rattle.xl_lists.specs.Agreement.{Said, Report as Reported, IsGenuine, IsBacked, Agree}
-use Rattle.xl_lists.proofs.Agreement.{agreement_from_kept, vouches_still}
+use Rattle.xl_lists.specs.Agreement.{Said, IsGenuine}
 use Rattle.xl_wire.specs.declared.validation.Validation.{Validation}
-use Rattle.xl_core.specs.Node.{Node, Event, Issue, Frame, Reply, Save, asks, happens}
+use Rattle.xl_core.specs.Node.{Node}
 use Rattle.xl_io.specs.Keepers.{Held}
-use Rattle.xl_world.specs.declared.place.Fate.{Fate}
 use Rattle.xl_io.specs.Keepers.{MayHold, may_hold, is_asked}
 use Rattle.xl_queues.specs.Queues.{one_more}
-use Rattle.xl_world.specs.Keeper.{resting, restored, answer_of, after_save}
-use Rattle.xl_world.specs.declared.plan.PlanNode.{PlanNode}
 use Rattle.xl_world.specs.World.{World, said_by}
-use Rattle.xl_world.proofs.Standing.{said_in, FrameSays, NodeSays, Stands}
+use Rattle.xl_world.proofs.Standing.{said_in, FrameSays}
 use Rattle.xl_world.specs.Forgeries.{was_sent, forges}
-use Rattle.xl_world.specs.Plans.{is_declared, all_numbers, AreDeclared}
 
 -- what holds of each element holds of one that a test finds
 pub from_found : {X : Type 0} (p : X → Bool) (P : X → Type 0) (R : Type 0) (xs : List X) → list_any p xs ≡ true → All P xs → ((x : X) → p x ≡ true → P x → R) → R

@@ -5,7 +5,7 @@ use Rattle.std.specs.Prelude.{Some, None}
 use Rattle.std.specs.declared.option.Option.{Option}
 use Rattle.std.specs.List.{flat_map}
 use Rattle.xl_core.specs.declared.event.CoreEvent.{CoreEvent}
-use Rattle.xl_core.specs.declared.event.CoreEvent.TheVariants.{Issue, Frame, Drain, Reports}
+use Rattle.xl_core.specs.declared.event.CoreEvent.TheVariants.{Drain, Reports}
 use Rattle.xl_core.specs.declared.queued.TheConstants.{LONGEST_FRAME}
 use Rattle.xl_core.specs.Answers.{given_in}
 use Rattle.xl_core.specs.Core.{Core, core_happens}
@@ -15,9 +15,8 @@ use Rattle.xl_tags.specs.Rings.{schedule_ring}
 use Rattle.xl_world.specs.declared.sent.Sent.{Sent}
 use Rattle.xl_world.specs.declared.place.Fate.{Fate}
 use Rattle.xl_world.specs.declared.place.Fate.TheVariants.{Kept}
-use Rattle.xl_world.specs.declared.plan.PlanNode.{PlanNode}
 use Rattle.xl_world.specs.declared.place.Place.{Place}
-use Rattle.xl_world.specs.World.{World, Step, Act, Again, Torn, Mark, place_at, reply_at, run, sent_in, start}
+use Rattle.xl_world.specs.World.{World, Step, Act, place_at, reply_at, sent_in}
 
 -- drains for a member, until one gives nothing; so many more at most
 abbrev pub drains : Core → ℕ → ℕ → List CoreEvent

@@ -1,5 +1,5 @@
 -- What an event of a schedule is in a world, and what is told of it. Source: this project's schedule language.
-use Rattle.std.specs.Prelude.{ℕ, zero, suc, Bool, List, [], ◌∷◌, ◌++◌, drop, map, slice_get, option_map, option_to_list, if◌then◌else◌}
+use Rattle.std.specs.Prelude.{ℕ, zero, suc, Bool, List, [], ◌∷◌, ◌++◌, drop, slice_get, option_map, option_to_list, if◌then◌else◌}
 use Rattle.std.specs.Prelude.{Some, None}
 use Rattle.std.specs.declared.option.Option.{Option}
 use Rattle.xl_sched.specs.declared.ask.Ask.{Ask}

@@ -4,10 +4,9 @@ use Rattle.std.specs.Prelude.{Some, None}
 use Rattle.std.specs.declared.option.Option.{Option}
 use Rattle.std.specs.List.{list_all}
 use Rattle.xl_base.specs.Ids.{same_id}
-use Rattle.xl_base.specs.declared.ids.LedgerId.{LedgerId}
 use Rattle.xl_lists.specs.Agreement.{Said, Report}
 use Rattle.xl_core.specs.Answers.{refusal_in}
-use Rattle.xl_core.specs.Core.{Core, CoreReply}
+use Rattle.xl_core.specs.Core.{CoreReply}
 use Rattle.xl_core.specs.declared.event.CoreEvent.{CoreEvent}
 use Rattle.xl_core.specs.declared.event.CoreEvent.TheVariants.{Issue, Frame}
 use Rattle.xl_tags.specs.Rings.{schedule_ring}
@@ -23,7 +22,7 @@ use Rattle.xl_world.specs.declared.place.Place.{Place}
 use Rattle.xl_world.specs.declared.place.Saying.{Saying}
 use Rattle.xl_world.specs.declared.report.WorldReport.{WorldReport}
 use Rattle.xl_world.specs.declared.place.Fate.{Fate}
-use Rattle.xl_world.specs.Keeper.{found, left_by, restored}
+use Rattle.xl_world.specs.Keeper.{left_by, restored}
 use Rattle.xl_world.specs.Forks as Forks
 use Rattle.xl_world.specs.declared.place.Fate.TheVariants.{Kept}
 use Rattle.xl_world.specs.Schedule.{told_of}

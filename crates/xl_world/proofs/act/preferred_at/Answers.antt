@@ -1,4 +1,4 @@
-use Rattle.std.proofs.Common.{◌≡◌, sym, ◌∙◌, ap, Some}
+use Rattle.std.proofs.Common.{sym, ◌∙◌, ap, Some}
 use Rattle.std.specs.Prelude.{option_map}
 use Rattle.xl_core.specs.Node.{preferred}
 use Rattle.xl_world.specs.declared.outcome.Outcome.TheVariants.{Preferred}

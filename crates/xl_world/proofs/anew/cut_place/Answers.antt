@@ -1,5 +1,4 @@
-use Rattle.std.proofs.Common.{◌≡◌, ◌∙◌, ℕ, Bool, Option, ap}
-use Rattle.std.specs.Prelude.{is_some}
+use Rattle.std.proofs.Common.{◌∙◌, ℕ, Bool, Option, ap}
 use Rattle.xl_world.specs.declared.anew.Cut.{Cut}
 use Rattle.xl_world.specs.Keeper.{left_by}
 use Rattle.xl_world.specs.Seen.{cut_seen}

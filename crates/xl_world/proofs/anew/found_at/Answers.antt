@@ -1,4 +1,4 @@
-use Rattle.std.proofs.Common.{◌≡◌, ◌∙◌, ℕ, Some, ap, sym}
+use Rattle.std.proofs.Common.{◌∙◌, ℕ, Some, ap, sym}
 use Rattle.std.specs.Prelude.{option_map}
 use Rattle.xl_world.specs.declared.place.Place.{Place}
 use Rattle.xl_world.specs.Keeper.{found}

@@ -1,4 +1,4 @@
-use Rattle.std.proofs.Common.{◌≡◌, List, ◌++◌, Some, ap, subst, ◌∙◌}
+use Rattle.std.proofs.Common.{List, ◌++◌, Some, ap, subst, ◌∙◌}
 use Rattle.xl_core.specs.declared.event.CoreEvent.TheVariants.{Frame}
 use Rattle.xl_world.specs.declared.outcome.Outcome.{Outcome}
 use Rattle.xl_world.specs.declared.place.Fate.TheVariants.{Kept}

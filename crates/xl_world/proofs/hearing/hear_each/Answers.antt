@@ -1,4 +1,4 @@
-use Rattle.std.proofs.Common.{◌≡◌, arith, subst, sym}
+use Rattle.std.proofs.Common.{arith, subst, sym}
 use Rattle.xl_world.proofs.Delivering.{heard_more, untaken_still}
 use Rattle.xl_world.specs.Seen.{NoneUntakenAnywhere}
 use Rattle.xl_world.proofs.hearing.hear_each.Goals as goal

@@ -1,4 +1,4 @@
-use Rattle.std.proofs.Common.{◌≡◌, ◌∙◌, arith, refl}
+use Rattle.std.proofs.Common.{arith, refl}
 use Rattle.std.specs.Prelude.{replicate}
 use Rattle.xl_wire.specs.Raws.{RawFrame, SpellsRaw}
 use Rattle.xl_core.specs.Sending.{validation_frame}

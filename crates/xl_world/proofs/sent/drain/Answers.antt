@@ -1,5 +1,5 @@
-use Rattle.std.proofs.Common.{◌≡◌, ◌+◌, ◌≤◌, ◌∙◌, ℕ, List, [], false, true, arith, ap, subst, sym, vec_len}
-use Rattle.std.specs.Prelude.{◌==◌, not, All, vec_capacity}
+use Rattle.std.proofs.Common.{◌≡◌, ◌+◌, ◌≤◌, ◌∙◌, ℕ, List, [], arith, ap, subst, sym, vec_len}
+use Rattle.std.specs.Prelude.{◌==◌, All, vec_capacity}
 use Rattle.std.proofs.lemmas.Bool.{not-true, not-false}
 use Rattle.xl_tags.specs.Rings.{schedule_ring}
 use Rattle.xl_core.specs.declared.sending.TheConstants.{VALIDATION_FRAME}

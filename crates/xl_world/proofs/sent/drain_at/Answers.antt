@@ -1,4 +1,4 @@
-use Rattle.std.proofs.Common.{◌≡◌, ◌∙◌, ◌++◌, List, ap, append-nil, slice_index_or, sym}
+use Rattle.std.proofs.Common.{◌∙◌, ◌++◌, List, ap, append-nil, slice_index_or, sym}
 use Rattle.xl_core.specs.Core.{Core}
 use Rattle.xl_world.specs.declared.place.Place.{Place}
 use Rattle.xl_world.specs.declared.sent.Sent.{Sent}

@@ -1,11 +1,10 @@
-use Rattle.std.proofs.Common.{◌≡◌, ◌≤◌, ℕ, arith, length, subst, sym, take}
+use Rattle.std.proofs.Common.{arith, subst, sym}
 use Rattle.std.specs.Prelude.{IsSome}
-use Rattle.std.proofs.lemmas.List.{length-take}
 use Rattle.xl_tags.specs.Rings.{Ring, key_of}
 use Rattle.xl_core.specs.declared.queued.TheConstants.{LONGEST_FRAME}
 use Rattle.xl_core.specs.Items.{taken_for}
 use Rattle.xl_core.specs.Queues.{frames_in}
-use Rattle.xl_world.proofs.Givings.{one_given, peer_of, short_given, short_take}
+use Rattle.xl_world.proofs.Givings.{one_given, peer_of, short_take}
 use Rattle.xl_world.proofs.sent.drain_for.Goals as goal
 
 pub drain-count-requires-clause-peer : goal.drain-count-requires-clause-peer

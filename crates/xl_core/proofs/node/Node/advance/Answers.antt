@@ -1,5 +1,4 @@
-use Rattle.std.proofs.Common.{◌≡◌, ◌∙◌, ◌/◌, ℕ, ap, sym}
-use Rattle.std.specs.Prelude.{max}
+use Rattle.std.proofs.Common.{◌∙◌, ap}
 use Rattle.xl_core.specs.Node.{Node, at_moment}
 use Rattle.xl_core.specs.Rest.{node_seen}
 use Rattle.xl_core.proofs.Expiring.{ready_after, same_second}

@@ -1,11 +1,6 @@
-use Rattle.std.proofs.Common.{◌≡◌, ◌≢◌, ℕ, ◌∙◌, ap, subst, Ok}
-use Rattle.std.specs.Prelude.{option_map}
-use Rattle.xl_ledger.specs.declared.header.Header.{Header}
-use Rattle.xl_ledger.specs.Registries.{add_refusal}
-use Rattle.xl_core.specs.declared.refusal.Refusal.TheVariants.{Header as HeaderRefused}
-use Rattle.xl_core.specs.Hearing.{heard}
+use Rattle.std.proofs.Common.{◌≡◌, ◌≢◌, ℕ, ◌∙◌, subst}
 use Rattle.xl_core.specs.Node.{Node}
-use Rattle.xl_core.proofs.Heard.{header_heard, not_itself}
+use Rattle.xl_core.proofs.Heard.{not_itself}
 use Rattle.xl_core.proofs.node.Node.frame.Goals as goal
 
 pub returns-in-Vote-clause-others : goal.returns-in-Vote-clause-others

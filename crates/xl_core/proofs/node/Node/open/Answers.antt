@@ -1,4 +1,4 @@
-use Rattle.std.proofs.Common.{List, sym, subst, arith}
+use Rattle.std.proofs.Common.{sym, subst}
 use Rattle.xl_ledger.specs.Registries.{Ledgers}
 use Rattle.xl_ledger.specs.Chains.{AreLedgers}
 use Rattle.xl_ledger.proofs.Storing.{root_known}

@@ -1,4 +1,4 @@
-use Rattle.std.proofs.Common.{◌≡◌, ◌∙◌, ap, sym, subst, refl}
+use Rattle.std.proofs.Common.{◌∙◌, ap, sym, subst, refl}
 use Rattle.xl_ledger.specs.Registries.{Ledgers, only_root}
 use Rattle.xl_ledger.specs.Chains.{AreLedgers}
 use Rattle.xl_ledger.proofs.Storing.{root_known}

@@ -1,20 +1,11 @@
-use Rattle.std.proofs.Common.{◌≡◌, ◌≢◌, ℕ, ap, sym, subst, Some, None, Ok, Err}
-use Rattle.std.specs.Prelude.{option_map}
-use Rattle.std.specs.Result.{result_err}
-use Rattle.xl_wire.specs.declared.validation.Validation.{Validation}
-use Rattle.xl_ledger.specs.declared.header.Header.{Header}
-use Rattle.xl_ledger.specs.Registries.{add_refusal}
+use Rattle.std.proofs.Common.{◌≡◌, ◌≢◌, sym, subst, Ok}
 use Rattle.xl_core.specs.declared.event.CoreEvent.TheVariants as event
 use Rattle.xl_core.specs.declared.hearing.Spoken.{Spoken}
-use Rattle.xl_core.specs.declared.hearing.Speech.TheVariants as speech
-use Rattle.xl_core.specs.declared.refusal.Refusal.{Refusal}
-use Rattle.xl_core.specs.declared.refusal.Refusal.TheVariants.{Header as HeaderRefused}
 use Rattle.xl_core.specs.Answers.{Refused, Took}
 use Rattle.xl_core.specs.Hearing.{heard}
-use Rattle.xl_core.specs.Node.{Frame, happens, at_moment, second_of, refusal_at}
+use Rattle.xl_core.specs.Node.{Frame, happens}
 use Rattle.xl_core.specs.Node.Save.{Kept}
 use Rattle.xl_core.specs.Core.{Core, core_happens}
-use Rattle.xl_core.specs.Refusals.{refusal_from}
 use Rattle.xl_core.specs.Replies.{Answers}
 use Rattle.xl_core.specs.Stops.{IsCovered}
 use Rattle.xl_core.proofs.Stepping.{heard_step, refused_step}

@@ -1,8 +1,5 @@
-use Rattle.std.proofs.Common.{◌≡◌, ◌∙◌, ap, sym, subst, List, false}
-use Rattle.xl_queues.specs.Queues.{Backlog}
-use Rattle.xl_core.specs.declared.item.Item.{Item}
-use Rattle.xl_core.specs.declared.report.Report.{Report}
-use Rattle.xl_core.specs.Node.{Node, opened}
+use Rattle.std.proofs.Common.{sym, subst}
+use Rattle.xl_core.specs.Node.{opened}
 use Rattle.xl_core.specs.Stops.{IsCovered}
 use Rattle.xl_core.proofs.Opening.{emptied}
 use Rattle.xl_core.proofs.Stopping.{opened_covered}

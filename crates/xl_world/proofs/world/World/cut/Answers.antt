@@ -6,7 +6,7 @@ use Rattle.xl_world.specs.declared.place.Place.{Place}
 use Rattle.xl_world.specs.World.{World, Step, place_at}
 use Rattle.xl_world.specs.Idle.{IsIdle}
 use Rattle.xl_world.specs.Schedule.{cut_at as cut_steps}
-use Rattle.xl_world.specs.Seen.{cut_seen, issue_seen, with_again, IsFront, Steps}
+use Rattle.xl_world.specs.Seen.{cut_seen, issue_seen, with_again, Steps}
 use Rattle.xl_world.proofs.Reopening.{cuts_torn, cuts_whole, unmoved, cut_front}
 use Rattle.xl_world.proofs.world.World.cut.Goals as goal
 use Rattle.xl_world.proofs.world.World.cut.Goals.{In-Some, then-cut, else-cut+in_ok-told}

@@ -1,6 +1,6 @@
-use Rattle.std.proofs.Common.{◌≡◌, ℕ, arith, ap, length}
+use Rattle.std.proofs.Common.{◌≡◌, arith, ap, length}
 use Rattle.xl_world.specs.Worlds.{world_seen}
-use Rattle.xl_world.specs.World.{World, Mark}
+use Rattle.xl_world.specs.World.{Mark}
 use Rattle.xl_world.proofs.Runs.{run_more}
 use Rattle.xl_world.proofs.Steps.{with_mark}
 use Rattle.xl_world.proofs.world.World.drop_all.Goals as goal

@@ -6,7 +6,7 @@ use Rattle.xl_world.specs.declared.place.Place.{Place}
 use Rattle.xl_world.specs.Seen.{put_again, with_again, Steps}
 use Rattle.xl_world.specs.World.{World, IsRun, place_at}
 use Rattle.xl_world.specs.Idle.{IsIdle}
-use Rattle.xl_world.specs.Worlds.{IsWhole, world_seen}
+use Rattle.xl_world.specs.Worlds.{world_seen}
 use Rattle.xl_world.proofs.Runs.{run_more}
 use Rattle.xl_world.proofs.Steps.{with_lists}
 use Rattle.xl_world.proofs.world.World.reopen.Goals as goal
