@@ -19,12 +19,6 @@ with_ready ready r = record r { ready = ready }
 abbrev pub pulse_of : Kind → Option Said → Pulse
 pulse_of kind said = record { kind = kind; said = said }
 
--- what the fourth and the fifth line find
-reached_is : (r : Round) (t : Tally) (found : Consensus) (reached : Option Kind) (agreed : Bool) (round_ms finished : ℕ) →
-    t ≡ tally r round_ms finished → found ≡ consensus t → reached ≡ outcome found agreed → reached ≡ outcome (consensus (tally r round_ms finished)) agreed
-reached_is r t found reached agreed round_ms finished is_t is_found is_reached =
-    is_reached ∙ ap (λ f. outcome f agreed) (is_found ∙ ap consensus is_t)
-
 -- what lines 3 to 5 found, in the order in which the code found it
 pub record AreLines (d : Decision) (before after : Round) (is_new : Bool) (said : Option Said) (t : Tally) (found : Consensus) (reached : Option Kind) (round_ms second finished : ℕ) : Type 0 where
   pub new : is_new ≡ is_renewed before second d
@@ -34,27 +28,23 @@ pub record AreLines (d : Decision) (before after : Round) (is_new : Bool) (said 
   pub found_is : found ≡ consensus t
   pub reached_is : reached ≡ outcome found d.choice.agreed
 
-all_reached : (d : Decision) (before after : Round) (is_new : Bool) (said : Option Said) (t : Tally) (found : Consensus) (reached : Option Kind) (round_ms second finished : ℕ) →
-    AreLines d before after is_new said t found reached round_ms second finished →
-    reached ≡ outcome (consensus (tally (after_third before second d) round_ms finished)) d.choice.agreed
-all_reached d before after is_new said t found reached round_ms second finished lines =
-    reached_is after t found reached d.choice.agreed round_ms finished lines.tally_is lines.found_is lines.reached_is
-    ∙ ap (λ (r : Round). outcome (consensus (tally r round_ms finished)) d.choice.agreed) lines.after_is
+module _ (d : Decision) (before after : Round) (is_new : Bool) (said : Option Said) (t : Tally) (found : Consensus) (reached : Option Kind) (round_ms second finished : ℕ)
+    (lines : AreLines d before after is_new said t found reached round_ms second finished) where
+  all_reached : reached ≡ outcome (consensus (tally (after_third before second d) round_ms finished)) d.choice.agreed
+  all_reached =
+      lines.reached_is ∙ ap (λ f. outcome f d.choice.agreed) (lines.found_is ∙ ap consensus lines.tally_is)
+      ∙ ap (λ (r : Round). outcome (consensus (tally r round_ms finished)) d.choice.agreed) lines.after_is
 
-pub told_by : (d : Decision) (before after : Round) (is_new : Bool) (said : Option Said) (t : Tally) (found : Consensus) (reached : Option Kind) (round_ms second finished : ℕ) →
-    AreLines d before after is_new said t found reached round_ms second finished →
-    pulse_of (kind_of reached is_new) said ≡ (established_by d round_ms second finished before).pulse
-told_by d before after is_new said t found reached round_ms second finished lines =
-    ap (λ o. pulse_of (kind_of o is_new) said) (all_reached d before after is_new said t found reached round_ms second finished lines)
-    ∙ ap (λ b. pulse_of (kind_of (outcome (consensus (tally (after_third before second d) round_ms finished)) d.choice.agreed) b) said) lines.new
-    ∙ ap (pulse_of (kind_of (outcome (consensus (tally (after_third before second d) round_ms finished)) d.choice.agreed) (is_renewed before second d))) lines.said_is
+  pub told_by : pulse_of (kind_of reached is_new) said ≡ (established_by d round_ms second finished before).pulse
+  told_by =
+      ap (λ o. pulse_of (kind_of o is_new) said) all_reached
+      ∙ ap (λ b. pulse_of (kind_of (outcome (consensus (tally (after_third before second d) round_ms finished)) d.choice.agreed) b) said) lines.new
+      ∙ ap (pulse_of (kind_of (outcome (consensus (tally (after_third before second d) round_ms finished)) d.choice.agreed) (is_renewed before second d))) lines.said_is
 
-pub left_by : (d : Decision) (before after : Round) (is_new : Bool) (said : Option Said) (t : Tally) (found : Consensus) (reached : Option Kind) (round_ms second finished : ℕ) →
-    AreLines d before after is_new said t found reached round_ms second finished →
-    with_ready (ready_after reached round_ms) after ≡ (established_by d round_ms second finished before).round
-left_by d before after is_new said t found reached round_ms second finished lines =
-    ap (λ o. with_ready (ready_after o round_ms) after) (all_reached d before after is_new said t found reached round_ms second finished lines)
-    ∙ ap (with_ready (ready_after (outcome (consensus (tally (after_third before second d) round_ms finished)) d.choice.agreed) round_ms)) lines.after_is
+  pub left_by : with_ready (ready_after reached round_ms) after ≡ (established_by d round_ms second finished before).round
+  left_by =
+      ap (λ o. with_ready (ready_after o round_ms) after) all_reached
+      ∙ ap (with_ready (ready_after (outcome (consensus (tally (after_third before second d) round_ms finished)) d.choice.agreed) round_ms)) lines.after_is
 
 -- the first two lines come before
 pub decided_first : (d : Decision) (before old : Round) (round_ms second finished : ℕ) → d ≡ decision old round_ms second → before ≡ voted old round_ms second →

@@ -1,6 +1,6 @@
 -- The members' positions, place by place.
-use Rattle.std.proofs.Common.{◌≡◌, ℕ, ◌+◌, ◌<◌, ◌≤◌, Bool, true, false, not, cond, List, [], ◌∷◌, ◌++◌, length, take, drop, set, get_or, map, arith, ap, sym, ◌∙◌, refl, Option, Some, None}
-use Rattle.std.specs.Prelude.{◌↔◌, IsFalse, Decides, option_map, is_some}
+use Rattle.std.proofs.Common.{◌≡◌, ℕ, ◌+◌, ◌<◌, ◌≤◌, Bool, true, false, not, List, [], ◌∷◌, ◌++◌, length, take, drop, set, get_or, map, arith, ap, sym, ◌∙◌, refl, Option, Some, None}
+use Rattle.std.specs.Prelude.{◌↔◌, IsFalse, Decides, option_map}
 use Rattle.std.specs.Str.{bytes_eq}
 use Rattle.std.proofs.lemmas.List.{length-set, length-map, length-take-le, map-set, take_more, take_all, drop_all, take_more_set, drop_more, map_more, get_or_at, set_at, append_assoc, append-nil, length_push}
 use Rattle.std.proofs.lemmas.List.Elements.{filter_map-append}

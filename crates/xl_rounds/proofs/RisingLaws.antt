@@ -1,10 +1,11 @@
 -- Ids stay rising where one is put at its place, and where some are taken out.
 use Rattle.std.proofs.Common.{◌≡◌, ℕ, ◌+◌, ◌≤◌, suc, Bool, true, false, cond, List, [], ◌∷◌, length, arith, ap, sym, ◌∙◌, refl}
-use Rattle.std.specs.Prelude.{filter, insert, IsTrue}
+use Rattle.std.specs.Prelude.{filter, insert}
 use Rattle.std.specs.List.{prefix_len, list_any}
 use Rattle.std.specs.Str.{bytes_eq}
 use Rattle.std.proofs.lemmas.Bool.{cond_both, or_parts}
-use Rattle.xl_base.specs.Sets.{is_below, RisesFrom, IsRising, IsSet}
+use Rattle.std.proofs.lemmas.List.Sums.{length-filter, count_by-le-length}
+use Rattle.xl_base.specs.Sets.{is_below, IsSet}
 use Rattle.xl_base.specs.declared.ids.TxId.{TxId}
 use Rattle.xl_disputes.specs.Disputes.{has}
 use Rattle.xl_disputes.specs.Rising.{with_tx}
@@ -13,12 +14,9 @@ use Rattle.xl_disputes.proofs.RisingIds.{IsRising-with_tx}
 use Rattle.xl_disputes.proofs.Extending.{filter-IsRising}
 
 -- of two different ids one is below the other
-pub is_above : (id tx : TxId) → is_below id tx ≡ false → bytes_eq id.0 tx.0 ≡ false → is_below tx id ≡ true
-is_above id tx high other = turned (is_below tx id) refl
-  where
-    turned : (low : Bool) → low ≡ is_below tx id → low ≡ true
-    turned true is = refl
-    turned false is = absurd (cc (sym other ∙ ap (λ (t : TxId). bytes_eq t.0 tx.0) (neither_below id tx high (sym is)) ∙ same_itself tx))
+pub is_above : (id tx : TxId) (low : Bool) → low ≡ is_below tx id → is_below id tx ≡ false → bytes_eq id.0 tx.0 ≡ false → low ≡ true
+is_above id tx true is high other = refl
+is_above id tx false is high other = absurd (cc (sym other ∙ ap (λ (t : TxId). bytes_eq t.0 tx.0) (neither_below id tx high (sym is)) ∙ same_itself tx))
 
 -- an id that isn't there comes to its place
 pub with_tx-inserted : (tx : TxId) (ids : List TxId) → has ids tx ≡ false → with_tx tx ids ≡ insert ids (prefix_len (λ id. is_below id tx) ids) tx
@@ -32,7 +30,7 @@ with_tx-inserted tx (id ∷ ids) new =
     step true is other more =
         let later : 1 + prefix_len (λ other. is_below other tx) ids ≡ suc (prefix_len (λ other. is_below other tx) ids) = omega arith in
         ap (λ ts. id ∷ ts) more ∙ sym (ap (λ n. insert (id ∷ ids) n tx) later)
-    step false is other more = ap (λ b. cond b (tx ∷ id ∷ ids) (id ∷ ids)) (is_above id tx is other)
+    step false is other more = ap (λ b. cond b (tx ∷ id ∷ ids) (id ∷ ids)) (is_above id tx (is_below tx id) refl is other)
 
 -- what the code does with an id that it doesn't find
 pub submitted : (tx : TxId) (ids first second new : List TxId) (place : ℕ) (among : Bool) → first ≡ ids → second ≡ ids →
@@ -52,12 +50,6 @@ length-with_tx tx (id ∷ ids) =
 pub IsSet-with_tx : (tx : TxId) (ids : List TxId) → IsSet ids → length ids + 1 ≤ 256 → IsSet (with_tx tx ids)
 IsSet-with_tx tx ids set fits = record { rising = IsRising-with_tx tx ids set.rising; at_most = omega (arith, length-with_tx tx ids) }
 
-length-filter : (p : TxId → Bool) (ids : List TxId) → length (filter p ids) ≤ length ids
-length-filter p [] = omega arith
-length-filter p (a ∷ ids) =
-    cond_both (p a) (a ∷ filter p ids) (filter p ids) (λ txs. length txs ≤ length (a ∷ ids))
-    (λ _. omega (arith, length-filter p ids)) (λ _. omega (arith, length-filter p ids))
-
 -- some ids of a set are a set
 pub IsSet-filter : (p : TxId → Bool) (ids : List TxId) → IsSet ids → IsSet (filter p ids)
-IsSet-filter p ids set = record { rising = filter-IsRising p ids set.rising; at_most = omega (arith, length-filter p ids, set.at_most) }
+IsSet-filter p ids set = record { rising = filter-IsRising p ids set.rising; at_most = omega (arith, length-filter p ids, count_by-le-length p ids, set.at_most) }

@@ -1,6 +1,6 @@
 -- Two lists of rising ids are walked at once.
 use Rattle.std.proofs.Common.{◌≡◌, ℕ, zero, suc, ◌+◌, ◌<◌, ◌≤◌, ◌||◌, Bool, true, false, not, cond, List, [], ◌∷◌, ◌++◌, length, take, drop, set, get_or, refl, sym, ap, subst, ◌∙◌, arith, append-nil}
-use Rattle.std.specs.Prelude.{filter}
+use Rattle.std.proofs.Math.Bool.{or-true}
 use Rattle.std.specs.List.{prefix_len}
 use Rattle.std.specs.Str.{bytes_eq}
 use Rattle.std.proofs.lemmas.List.{drop_more, take_more, take_more_set, take_all, drop-set-lt, get_or-drop, length-set}
@@ -9,7 +9,7 @@ use Rattle.std.proofs.lemmas.Grind.{drop_more_same}
 use Rattle.xl_base.specs.Sets.{is_below, RisesFrom, IsRising}
 use Rattle.xl_base.specs.declared.ids.TxId.{TxId}
 use Rattle.xl_disputes.specs.Disputes.{has}
-use Rattle.xl_disputes.proofs.IdOrder.{irreflexive, neither_below, same_itself, same_is}
+use Rattle.xl_disputes.proofs.IdOrder.{same_itself, same_is}
 use Rattle.xl_disputes.proofs.Exchanging.{RisesFrom-lower, rises_rest}
 use Rattle.xl_disputes.proofs.Extending.{not_among}
 use Rattle.xl_rounds.specs.Pending.{without_accepted}
@@ -24,19 +24,13 @@ drop_rises (suc n) [] rises = tt
 drop_rises (suc n) (id ∷ ids) rises = drop_rises n ids (rises_rest id ids rises)
 
 -- ids that rise from one have nothing below it
-not_lower : (tx t : TxId) (ids : List TxId) → RisesFrom tx ids → has (tx ∷ ids) t ≡ true → is_below t tx ≡ false
-not_lower tx t ids rises among = step (is_below t tx) refl
-  where
-    step : (low : Bool) → low ≡ is_below t tx → low ≡ false
-    step true is = absurd (cc (sym among ∙ not_among t (tx ∷ ids) (sym is, rises)))
-    step false is = refl
+not_lower : (tx t : TxId) (ids : List TxId) (low : Bool) → low ≡ is_below t tx → RisesFrom tx ids → has (tx ∷ ids) t ≡ true → low ≡ false
+not_lower tx t ids true is rises among = absurd (cc (sym among ∙ not_among t (tx ∷ ids) (sym is, rises)))
+not_lower tx t ids false is rises among = refl
 
-differs : (tx t id : TxId) → is_below id tx ≡ true → is_below t tx ≡ false → bytes_eq id.0 t.0 ≡ false
-differs tx t id low high = step (bytes_eq id.0 t.0) refl
-  where
-    step : (same : Bool) → same ≡ bytes_eq id.0 t.0 → same ≡ false
-    step true is = absurd (cc (sym low ∙ ap (λ x. is_below x tx) (same_is id t (sym is)) ∙ high))
-    step false is = refl
+differs : (tx t id : TxId) (same : Bool) → same ≡ bytes_eq id.0 t.0 → is_below id tx ≡ true → is_below t tx ≡ false → same ≡ false
+differs tx t id true is low high = absurd (cc (sym low ∙ ap (λ x. is_below x tx) (same_is id t (sym is)) ∙ high))
+differs tx t id false is low high = refl
 
 -- passing over what is below one loses nothing else
 passed : (tx t : TxId) (ids : List TxId) → is_below t tx ≡ false → has (not_below tx ids) t ≡ has ids t
@@ -46,7 +40,7 @@ passed tx t (id ∷ ids) high = step (is_below id tx) refl (passed tx t ids high
     step : (low : Bool) → low ≡ is_below id tx → has (not_below tx ids) t ≡ has ids t → has (drop (cond low (1 + prefix_len (λ x. is_below x tx) ids) 0) (id ∷ ids)) t ≡ has (id ∷ ids) t
     step true is more =
         let next : 1 + prefix_len (λ x. is_below x tx) ids ≡ suc (prefix_len (λ x. is_below x tx) ids) = omega arith in
-        ap (λ n. has (drop n (id ∷ ids)) t) next ∙ more ∙ ap (λ b. b || has ids t) (sym (differs tx t id (sym is) high))
+        ap (λ n. has (drop n (id ∷ ids)) t) next ∙ more ∙ ap (λ b. b || has ids t) (sym (differs tx t id (bytes_eq id.0 t.0) refl (sym is) high))
     step false is more = refl
 
 -- and the one then comes first, if it is there
@@ -56,7 +50,7 @@ found tx (id ∷ ids) rises = step (is_below id tx) refl (found tx ids (rises_re
   where
     alone : (same : Bool) → same ≡ bytes_eq id.0 tx.0 → is_below id tx ≡ false → (same || has ids tx) ≡ same
     alone true is high = refl
-    alone false is high = not_among tx ids (RisesFrom-lower tx id ids (is_above id tx high (sym is)) rises)
+    alone false is high = not_among tx ids (RisesFrom-lower tx id ids (is_above id tx (is_below tx id) refl high (sym is)) rises)
 
     step : (low : Bool) → low ≡ is_below id tx → has (not_below tx ids) tx ≡ is_first tx (not_below tx ids) →
         has (drop (cond low (1 + prefix_len (λ x. is_below x tx) ids) 0) (id ∷ ids)) tx ≡ is_first tx (drop (cond low (1 + prefix_len (λ x. is_below x tx) ids) 0) (id ∷ ids))
@@ -79,15 +73,19 @@ pub record IsWalked (accepted old now rest : List TxId) (place left : ℕ) : Typ
 pub all_walked : (accepted old now rest : List TxId) (place left : ℕ) → IsWalked accepted old now rest place left → length old ≤ place → take left now ≡ without_accepted accepted old
 all_walked accepted old now rest place left walked past = walked.front ∙ ap (without_accepted accepted) (take_all place old past)
 
+-- as the code has it
+pub walked_as : (accepted old now rest : List TxId) (place left : ℕ) (now' rest' : List TxId) (left' : ℕ) → now' ≡ now → rest' ≡ rest → left' ≡ left →
+    IsWalked accepted old now rest place left → IsWalked accepted old now' rest' place left'
+walked_as accepted old now rest place left now' rest' left' now_is rest_is left_is walked =
+    subst (λ xs. IsWalked accepted old xs rest' place left') (sym now_is)
+    (subst (λ xs. IsWalked accepted old now xs place left') (sym rest_is) (subst (IsWalked accepted old now rest place) (sym left_is) walked))
+
 module _ (accepted old now rest : List TxId) (place left : ℕ) (walked : IsWalked accepted old now rest place left) (rises : IsRising old) (tx : TxId) (within : place < length old) (at : tx ≡ get_or now place tx) where
   here : (xs : List TxId) → get_or (drop place xs) 0 tx ≡ get_or xs place tx
   here xs = let e : place + 0 ≡ place = omega arith in get_or-drop place xs 0 tx ∙ ap (λ n. get_or xs n tx) e
 
   same : tx ≡ get_or old place tx
   same = at ∙ sym (here now) ∙ ap (λ xs. get_or xs 0 tx) walked.back ∙ here old
-
-  later : List TxId
-  later = drop (place + 1) old
 
   opened : drop place old ≡ tx ∷ drop (place + 1) old
   opened = drop_more old place tx within ∙ ap (λ x. x ∷ drop (place + 1) old) (sym same)
@@ -97,14 +95,10 @@ module _ (accepted old now rest : List TxId) (place left : ℕ) (walked : IsWalk
 
   next_has : (t : TxId) → has (tx ∷ drop (place + 1) old) t ≡ true → has accepted t ≡ has (not_below tx rest) t
   next_has t among =
-      walked.still t (ap (λ ids. has ids t) opened ∙ among) ∙ sym (passed tx t rest (not_lower tx t (drop (place + 1) old) tx_rises among))
+      walked.still t (ap (λ ids. has ids t) opened ∙ among) ∙ sym (passed tx t rest (not_lower tx t (drop (place + 1) old) (is_below t tx) refl tx_rises among))
 
   among_rest : (t : TxId) → has (drop (place + 1) old) t ≡ true → has (tx ∷ drop (place + 1) old) t ≡ true
-  among_rest t among = ap (λ b. bytes_eq tx.0 t.0 || b) among ∙ or_true (bytes_eq tx.0 t.0)
-    where
-      or_true : (b : Bool) → (b || true) ≡ true
-      or_true true = refl
-      or_true false = refl
+  among_rest t among = ap (λ b. bytes_eq tx.0 t.0 || b) among ∙ or-true (bytes_eq tx.0 t.0)
 
   is_accepted : has accepted tx ≡ is_first tx (not_below tx rest)
   is_accepted = next_has tx (ap (λ b. b || has (drop (place + 1) old) tx) (same_itself tx)) ∙ found tx rest walked.rises
@@ -138,18 +132,3 @@ module _ (accepted old now rest : List TxId) (place left : ℕ) (walked : IsWalk
     still = λ t among. next_has t (among_rest t among);
     rises = next_rises;
   }
-
-  -- as the code has it
-  pub kept_as : (next after : List TxId) (first : Bool) (n : ℕ) → next ≡ not_below tx rest → first ≡ is_first tx next → first ≡ false → after ≡ set now left tx → n ≡ left + 1 →
-      IsWalked accepted old after next (place + 1) n
-  kept_as next after first n next_is first_is no_first after_is n_is =
-      subst (λ xs. IsWalked accepted old after xs (place + 1) n) (sym next_is)
-      (subst (λ xs. IsWalked accepted old xs (not_below tx rest) (place + 1) n) (sym after_is)
-      (subst (IsWalked accepted old (set now left tx) (not_below tx rest) (place + 1)) (sym n_is) (kept (ap (is_first tx) (sym next_is) ∙ sym first_is ∙ no_first))))
-
-  pub dropped_as : (next after : List TxId) (first : Bool) (n : ℕ) → next ≡ not_below tx rest → first ≡ is_first tx next → first ≡ true → after ≡ now → n ≡ left →
-      IsWalked accepted old after next (place + 1) n
-  dropped_as next after first n next_is first_is is_first' after_is n_is =
-      subst (λ xs. IsWalked accepted old after xs (place + 1) n) (sym next_is)
-      (subst (λ xs. IsWalked accepted old xs (not_below tx rest) (place + 1) n) (sym after_is)
-      (subst (IsWalked accepted old now (not_below tx rest) (place + 1)) (sym n_is) (dropped (ap (is_first tx) (sym next_is) ∙ sym first_is ∙ is_first'))))

@@ -121,12 +121,14 @@ impl Round {
         self.setting.previous
     }
 
+    /// How the node takes part in the round.
     pub fn mode(&self) -> Mode
         ensures { result ≡ self.now.setting.mode }
     {
         self.setting.mode
     }
 
+    /// How far the round has come.
     pub fn phase(&self) -> Phase
         ensures { result ≡ self.now.phase }
     {
