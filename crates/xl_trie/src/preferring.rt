@@ -90,6 +90,7 @@ pub(crate) fn prefer_from(
     requires here { get nodes.now at ≡ Some node }
     ensures value { EndsAt walk.old.ledgers.headers votes.now largest node.ledger result }
     ensures goes_on { GoesOn walk.old walk.new }
+    ensures steps { walk.new.taken ≤ walk.old.taken + 18 }
 {
     let seq = walk.seq_of(node.ledger);
     let Some(next) = goes_to(nodes, votes, walk, largest, at, &node) else {

@@ -84,13 +84,13 @@ impl Trie {
 }
 
 impl Branch for Trie {
-    ghost use Rattle.std.specs.Prelude.{None};
+    ghost use Rattle.std.specs.Prelude.{Some};
     ghost use Rattle.xl_trie.specs.Going.{GoesWith};
     ghost use Rattle.xl_trie.specs.Growing.{goes_more};
 
-    ghost JUMPS = { None };
+    ghost JUMPS = { Some 18 };
 
-    const JUMPS: Option<u64> = None;
+    const JUMPS: Option<u64> = Some(18);
 
     ghost votes = { λ t. t.votes.items };
 
