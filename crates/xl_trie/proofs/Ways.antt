@@ -10,10 +10,8 @@ use Rattle.xl_ledger.specs.Chains.{seq_at, parent_of, chain, last_common, common
 use Rattle.xl_ledger.specs.Votes.{is_on_chain}
 use Rattle.xl_ledger.proofs.Places.{slice_get-front}
 use Rattle.xl_ledger.proofs.ChainLaws.{HasParent, parent_known, parent_of_known, seq_of_root, seq_of_added, chain_of_root, chain_more, length-chain, chain_ends, of_chain}
-use Rattle.xl_ledger.proofs.Growing.{chain-more}
-use Rattle.xl_trie.specs.Paths.{shared}
-use Rattle.xl_trie.specs.Ways.{way}
-use Rattle.xl_trie.proofs.Lists.{lists_are_chains}
+use Rattle.xl_trie.specs.Ways.{way, OnWay}
+use Rattle.xl_trie.proofs.Fronts.{shared, shared_low}
 
 some_is : {X : Type 0} (a b : X) → Some a ≡ Some b → a ≡ b
 some_is a b e = cc
@@ -186,7 +184,7 @@ module _ (hs : List Header) (ok : AreLedgers hs) where
       let k = shared (way hs a) (way hs b) in
       let whole : common_of hs a b ≡ get_or (0 ∷ way hs a) k 0 =
       ap (λ xs. last_common 0 xs (chain hs b)) (chain_cons a ka) ∙ ap (last_common 0 (0 ∷ way hs a)) (chain_cons b kb) ∙ common_get 0 (way hs a) (way hs b) in
-      let size = lists_are_chains.low (way hs a) (way hs b) in
+      let size = shared_low (way hs a) (way hs b) in
       let at : slice_get (0 ∷ way hs a) k ≡ Some (get_or (0 ∷ way hs a) k 0) = slice_get-get_or (0 ∷ way hs a) k 0 (omega (arith, size)) in
       way_at a k (common_of hs a b) ka (ap (λ xs. slice_get xs k) (chain_cons a ka) ∙ at ∙ ap Some (sym whole))
 
@@ -195,14 +193,11 @@ module _ (hs : List Header) (ok : AreLedgers hs) where
       let k = shared (way hs a) (way hs b) in
       let whole : common_of hs a b ≡ get_or (0 ∷ way hs a) k 0 =
       ap (λ xs. last_common 0 xs (chain hs b)) (chain_cons a ka) ∙ ap (last_common 0 (0 ∷ way hs a)) (chain_cons b kb) ∙ common_get 0 (way hs a) (way hs b) in
-      let at : slice_get (0 ∷ way hs a) k ≡ Some (get_or (0 ∷ way hs a) k 0) = slice_get-get_or (0 ∷ way hs a) k 0 (omega (arith, lists_are_chains.low (way hs a) (way hs b))) in
+      let at : slice_get (0 ∷ way hs a) k ≡ Some (get_or (0 ∷ way hs a) k 0) = slice_get-get_or (0 ∷ way hs a) k 0 (omega (arith, shared_low (way hs a) (way hs b))) in
       (of_chain hs ok a ka k (common_of hs a b) (ap (λ xs. slice_get xs k) (chain_cons a ka) ∙ at ∙ ap Some (sym whole))).known
 
   -- a ledger on the chain of another, by ways
-  abbrev pub On : ℕ → ℕ → Type 0
-  On x v = (length (way hs x) ≤ length (way hs v)) × (take (length (way hs x)) (way hs v) ≡ way hs x)
-
-  pub on_true : (x v : ℕ) → v < length hs → is_on_chain hs x v ≡ true → On x v
+  pub on_true : (x v : ℕ) → v < length hs → is_on_chain hs x v ≡ true → OnWay hs x v
   on_true x v known e =
       let r = any_get (λ y. y == x) (chain hs v) e in
       let same : r.1 ≡ x = eqb-true r.1 x r.3 in
@@ -213,13 +208,8 @@ module _ (hs : List Header) (ok : AreLedgers hs) where
       let low = slice_get_within (chain hs v) r.0 x at in
       (omega (arith, length-chain hs v, length_way hs v), ap (λ k. take k (way hs v)) size ∙ sym is)
 
-  pub on_from : (x v : ℕ) → x < length hs → v < length hs → On x v → is_on_chain hs x v ≡ true
+  pub on_from : (x v : ℕ) → x < length hs → v < length hs → OnWay hs x v → is_on_chain hs x v ≡ true
   on_from x v kx kv on =
       let s = stop_at v (length (way hs x)) kv on.0 in
       let same : s.ledger ≡ x = way_one s.ledger x s.known kx (s.is ∙ on.1) in
       any_at (λ y. y == x) (chain hs v) (length (way hs x)) s.ledger s.at (eq-eqb s.ledger x same)
-
-  -- a known ledger keeps its way as a header is added
-  pub way_stays : (h : Header) (x : ℕ) → x < length hs → way (hs ++ h ∷ []) x ≡ way hs x
-  unfolding way
-  way_stays h x known = ap (drop 1) (chain-more hs ok h x known)
