@@ -1,17 +1,6 @@
 -- Along a span the votes go on as long as more are for it than are uncommitted.
 use Rattle.std.proofs.Common.{◌≡◌, ℕ, zero, suc, ◌+◌, ◌-◌, ◌<◌, ◌≤◌, cond, List, length, take, Option, Some, None, slice_get, refl, sym, ap, subst, ◌∙◌, arith, inl}
-use Rattle.std.specs.Prelude.{nat_lt, max}
-use Rattle.std.proofs.lemmas.Bool.{ltb-true, lt-ltb, le-ltb}
-use Rattle.xl_ledger.specs.declared.header.Header.{Header}
-use Rattle.xl_ledger.specs.declared.vote.Vote.{Vote}
-use Rattle.xl_ledger.specs.Chains.{seq_at, chain, AreLedgers}
-use Rattle.xl_ledger.specs.Votes.{uncommitted, candidates, others, next_of, or_stay, prefer}
-use Rattle.xl_pool.specs.declared.name.Name.{Name}
-use Rattle.xl_trie.specs.declared.node.Span.{Span}
-use Rattle.xl_trie.specs.Nodes.{In, IsKid}
-use Rattle.xl_trie.specs.Tries.{AreSpans}
-use Rattle.xl_trie.specs.Leading.{EndsAt}
-use Rattle.xl_trie.specs.Ways.{way, OnWay}
+use Rattle.xl_trie.proofs.Common.{nat_lt, max, ltb-true, lt-ltb, le-ltb, Header, Vote, seq_at, chain, AreLedgers, uncommitted, candidates, others, next_of, or_stay, prefer, Name, Span, In, IsKid, AreSpans, EndsAt, way, OnWay}
 use Rattle.xl_trie.proofs.Fronts.{take_len}
 use Rattle.xl_trie.proofs.Listing.{count_le}
 use Rattle.xl_trie.proofs.Trees.{on_self, front_of, on_through, same_ledger, begin_size, begin_on, hung, through, span_branch}

@@ -1,26 +1,6 @@
 -- The best of the candidates, by the spans below a node.
 use Rattle.std.proofs.Common.{◌≡◌, ◌≢◌, ◌⊎◌, ℕ, ◌+◌, ◌-◌, ◌<◌, ◌≤◌, ◌==◌, ◌||◌, Bool, true, false, not, cond, List, length, Option, Some, None, refl, sym, ap, subst, ◌∙◌, arith, inl, inr}
-use Rattle.std.specs.declared.cmp.Ordering.{Ordering}
-use Rattle.std.specs.declared.cmp.Ordering.TheVariants.{Less, Equal, Greater}
-use Rattle.std.specs.Ordering.{nat_cmp, ordering_then, ordering_reverse, is_gt}
-use Rattle.std.specs.Cmp.{IsTotalOrder}
-use Rattle.std.specs.List.{list_all}
-use Rattle.std.specs.Prelude.{nat_lt}
-use Rattle.std.proofs.lemmas.Cmp.{nat_cmp_total, nat_list_cmp_total, on_total, then_total}
-use Rattle.std.proofs.lemmas.Map.Lookups.{exact_bytes}
-use Rattle.std.proofs.lemmas.Bool.{cases_lt, cases_Bool, eqb-true, eq-eqb, eqb-false, ne_eqb, or_cases, lt-ltb, le-ltb, not-true, not_from_false}
-use Rattle.xl_base.specs.declared.ids.LedgerId.{LedgerId}
-use Rattle.xl_ledger.specs.declared.header.Header.{Header}
-use Rattle.xl_ledger.specs.declared.vote.Vote.{Vote}
-use Rattle.xl_ledger.specs.Chains.{id_at, seq_at, AreLedgers}
-use Rattle.xl_ledger.specs.Votes.{branch_of, uncommitted, id_rank, rank, candidates, best_of, others, margin, unless_too_few, next_of}
-use Rattle.xl_ledger.proofs.ChainLaws.{earlier_differs}
-use Rattle.xl_ledger.proofs.TableLaws.{same_self}
-use Rattle.xl_pool.specs.declared.name.Name.{Name}
-use Rattle.xl_trie.specs.declared.node.Span.{Span}
-use Rattle.xl_trie.specs.Nodes.{In, IsKid}
-use Rattle.xl_trie.specs.Tries.{AreSpans}
-use Rattle.xl_trie.specs.Leading.{leads, lead, IsBest, GoesTo}
+use Rattle.xl_trie.proofs.Common.{Ordering, Less, Equal, Greater, nat_cmp, ordering_then, ordering_reverse, is_gt, IsTotalOrder, list_all, nat_lt, nat_cmp_total, nat_list_cmp_total, on_total, then_total, exact_bytes, cases_lt, cases_Bool, eqb-true, eq-eqb, eqb-false, ne_eqb, or_cases, lt-ltb, le-ltb, not-true, not_from_false, LedgerId, Header, Vote, id_at, seq_at, AreLedgers, branch_of, uncommitted, id_rank, rank, candidates, best_of, others, margin, unless_too_few, next_of, earlier_differs, same_self, Name, Span, In, IsKid, AreSpans, leads, lead, IsBest, GoesTo}
 use Rattle.xl_trie.proofs.Listing.{some_is, true_false, all_if, all_at, find_in, find_no, in_filter, to_filter}
 use Rattle.xl_trie.proofs.Ways.{length_way, of_parent}
 use Rattle.xl_trie.proofs.Firsts.{of_candidates, to_candidates, first_is, first_of}
@@ -115,9 +95,6 @@ module _ (hs : List Header) (ok : AreLedgers hs) (votes : List Vote) where
   next_none largest x none = ap (unless_too_few hs votes largest x (candidates hs votes x)) (best_none (candidates hs votes x) none)
 
 module _ (hs : List Header) (ok : AreLedgers hs) (votes : List Vote) (S : Name → Option Span) (T : AreSpans hs votes S None) (a : Name) (n : Span) (e : S a ≡ Some n) where
-  abbrev cands : List ℕ
-  cands = candidates hs votes n.ledger
-
   alike : (b d : Name) (m o : Span) → IsKid S a b m → IsKid S a d o → leads hs m o ≡ is_gt (rank hs votes m.first o.first)
   alike b d m o p q =
       let fm = first_is hs ok votes S T a n e b m p in

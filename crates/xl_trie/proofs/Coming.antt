@@ -1,19 +1,10 @@
 -- A span comes: as a leaf, or as the front of one that is split.
 use Rattle.std.proofs.Common.{◌≡◌, ◌≢◌, ◌⊎◌, ℕ, ◌<◌, List, length, Option, Some, None, refl, sym, ap, subst, ◌∙◌, arith, inl, inr}
-use Rattle.xl_ledger.specs.declared.header.Header.{Header}
-use Rattle.xl_ledger.specs.declared.vote.Vote.{Vote}
-use Rattle.xl_ledger.specs.Chains.{AreLedgers}
-use Rattle.xl_ledger.specs.Votes.{tip_of, branch_of}
-use Rattle.xl_pool.specs.declared.name.Name.{Name}
-use Rattle.xl_trie.specs.declared.node.Span.{Span}
-use Rattle.xl_trie.specs.Changing.{leaf_of}
-use Rattle.xl_trie.specs.Nodes.{IsKid, Becomes}
-use Rattle.xl_trie.specs.Places.{IsPlace}
-use Rattle.xl_trie.specs.Tries.{Hangs, AreLinked, HasFork, IsNeeded, IsHalfNeeded, AreSpans, IsRoot}
-use Rattle.xl_trie.specs.Ways.{way, OnWay, IsBegin}
+use Rattle.xl_trie.proofs.Common.{Header, Vote, AreLedgers, tip_of, branch_of, Name, Span, leaf_of, Becomes, IsPlace, AreLinked, HasFork, IsNeeded, IsHalfNeeded, AreSpans, IsRoot, way, OnWay, IsBegin}
 use Rattle.xl_trie.proofs.Listing.{some_is, none_some}
 use Rattle.xl_trie.proofs.Placing.{below, tip_none, branch_none}
-use Rattle.xl_trie.proofs.Trees.{one_name, on_self, rehang, needed_on}
+use Rattle.xl_trie.proofs.Relinking.{Other, other_at, relinked}
+use Rattle.xl_trie.proofs.Trees.{one_name, on_self, needed_on}
 
 -- what a name had before
 pub came : (old new : Name → Option Span) (d : Name) (v : Span) → Becomes old new d (Some v) → (b : Name) (u : Span) → new b ≡ Some u → ((b ≡ d) × (u ≡ v)) ⊎ ((b ≢ d) × (old b ≡ Some u))
@@ -36,32 +27,22 @@ module _ (hs : List Header) (ok : AreLedgers hs) (votes : List Vote) (S S' : Nam
   new : (b : Name) (u : Span) → S b ≡ Some u → u.ledger ≡ l → ⊥
   new b u e same = let le = P.deepest b u e (subst (OnWay hs u.ledger) same (on_self hs u.ledger)) in omega (arith, le, lower, ap (λ x. length (way hs x)) same)
 
-  apart_leaf : (b c : Name) (u : Span) → b ≡ a → IsKid S b c u → f ≡ u.first → ⊥
-  apart_leaf b c u same kid is = P.enters c u (subst (λ (x : Name). IsKid S x c u) same kid) (lower, ap (way hs) (sym is) ∙ first)
-
   pub leaf_linked : AreLinked hs S'
-  leaf_linked = record {
-    known = λ b u e. elim (came S S' d (leaf_of a l f) B b u e) [ inl h ↦ subst (λ (x : Span). x.ledger < length hs) (sym h.1) kl | inr h ↦ V.linked.known b u h.1 ];
-    first = λ b u e. elim (came S S' d (leaf_of a l f) B b u e) [ inl h ↦ subst (λ (x : Span). x.first < length hs) (sym h.1) kf | inr h ↦ V.linked.first b u h.1 ];
-    one = λ b c u w e g same. elim (came S S' d (leaf_of a l f) B b u e) [
-      | inl h ↦ elim (came S S' d (leaf_of a l f) B c w g) [ inl i ↦ h.0 ∙ sym i.0 | inr i ↦ absurd (new c w i.1 (sym same ∙ ap (λ (x : Span). x.ledger) h.1)) ]
-      | inr h ↦ elim (came S S' d (leaf_of a l f) B c w g) [ inl i ↦ absurd (new b u h.1 (same ∙ ap (λ (x : Span). x.ledger) i.1)) | inr i ↦ V.linked.one b c u w h.1 i.1 same ]
-    ];
-    hangs = λ b u e. elim (came S S' d (leaf_of a l f) B b u e) [
-      | inl h ↦ inr (subst (Hangs hs S') (sym h.1) (record { name = a; over = P.span; is = refl; there = to a P.span P.there; above = lower; on = P.on; first = first }))
-      | inr h ↦ elim (V.linked.hangs b u h.1) [ inl root ↦ inl root | inr g ↦ inr (rehang hs S S' u g g.over (to g.name g.over g.there) refl) ]
-    ];
-    apart = λ b c c' u w p q same. elim (came S S' d (leaf_of a l f) B c u p.0) [
-      | inl h ↦ elim (came S S' d (leaf_of a l f) B c' w q.0) [
-        | inl i ↦ h.0 ∙ sym i.0
-        | inr i ↦ absurd (apart_leaf b c' w (some_is b a (sym p.1 ∙ ap (λ (x : Span). x.parent) h.1)) (i.1, q.1) (ap (λ (x : Span). x.first) (sym h.1) ∙ same))
-      ]
-      | inr h ↦ elim (came S S' d (leaf_of a l f) B c' w q.0) [
-        | inl i ↦ absurd (apart_leaf b c u (some_is b a (sym q.1 ∙ ap (λ (x : Span). x.parent) i.1)) (h.1, p.1) (ap (λ (x : Span). x.first) (sym i.1) ∙ sym same))
-        | inr i ↦ V.linked.apart b c c' u w (h.1, p.1) (i.1, q.1) same
-      ]
-    ];
-  }
+  leaf_linked = relinked hs S S' V.linked
+      (λ b u e. elim (came S S' d (leaf_of a l f) B b u e) [ inl h ↦ inr (other_at hs S S' d b (leaf_of a l f) u h.0 h.1 leaf) | inr h ↦ inl (record { span = u; there = h.1; ledger = refl; first = refl; parent = refl }) ])
+      (λ b u e k h. (h.over, to h.name h.over h.there, refl))
+    where
+      leaf : Other hs S S' d (leaf_of a l f)
+      leaf = record {
+        known = kl;
+        first = kf;
+        hangs = record { name = a; over = P.span; is = refl; there = to a P.span P.there; above = lower; on = P.on; first = first };
+        one = λ c w g same. elim (came S S' d (leaf_of a l f) B c w g) [ inl i ↦ i.0 | inr i ↦ absurd (new c w i.1 same) ];
+        apart = λ b c w p q same. elim (came S S' d (leaf_of a l f) B c w q.0) [
+          | inl i ↦ i.0
+          | inr i ↦ absurd (P.enters c w (i.1, q.1 ∙ sym p.1) (lower, ap (way hs) same ∙ first))
+        ];
+      }
 
   fork_to : (b : Name) → HasFork S b → HasFork S' b
   fork_to b k = (k.0, k.1, k.2, k.3, (to k.0 k.2 k.4.0, k.4.1), (to k.1 k.3 k.5.0, k.5.1), k.6)

@@ -1,17 +1,6 @@
 -- The first ledgers of the spans below one are the candidates of the definitions.
 use Rattle.std.proofs.Common.{◌≡◌, ◌≢◌, ℕ, zero, suc, ◌+◌, ◌<◌, ◌≤◌, ◌&&◌, ◌==◌, true, List, length, take, Option, Some, None, sym, ap, subst, ◌∙◌, arith, inl, inr}
-use Rattle.std.specs.List.{range_with_len}
-use Rattle.std.specs.Prelude.{nat_lt}
-use Rattle.std.proofs.lemmas.Bool.{and_parts, and_from, eqb-true, eq-eqb, ltb-true, lt-ltb}
-use Rattle.xl_ledger.specs.declared.header.Header.{Header}
-use Rattle.xl_ledger.specs.declared.vote.Vote.{Vote}
-use Rattle.xl_ledger.specs.Chains.{parent_of, AreLedgers}
-use Rattle.xl_ledger.specs.Votes.{is_on_chain, branch_of, follows, candidates}
-use Rattle.xl_pool.specs.declared.name.Name.{Name}
-use Rattle.xl_trie.specs.declared.node.Span.{Span}
-use Rattle.xl_trie.specs.Nodes.{In, IsKid}
-use Rattle.xl_trie.specs.Tries.{AreSpans}
-use Rattle.xl_trie.specs.Ways.{way, OnWay, IsBegin}
+use Rattle.xl_trie.proofs.Common.{range_with_len, nat_lt, and_parts, and_from, eqb-true, eq-eqb, ltb-true, lt-ltb, Header, Vote, parent_of, AreLedgers, is_on_chain, branch_of, follows, candidates, Name, Span, In, IsKid, AreSpans, way, OnWay, IsBegin}
 use Rattle.xl_trie.proofs.Listing.{some_is, none_some, in_range, of_range, counted, count_some, in_filter, to_filter}
 use Rattle.xl_trie.proofs.Trees.{on_self, front_of, on_through, root_short, begin_size, begin_on, hung, leads_to, toward_vote, known_vote, span_branch}
 use Rattle.xl_trie.proofs.Ways.{way_one, way_short, parent_if, of_parent, on_true, on_from}

@@ -1,6 +1,6 @@
 -- Fronts of lists, and how far two lists go together.
 use Rattle.std.proofs.Common.{true, false, ◌≡◌, ℕ, zero, suc, ◌≤◌, cond, eqb, List, [], ◌∷◌, length, take, refl, sym, ap, ◌∙◌, ⊎_elim, arith}
-use Rattle.std.proofs.lemmas.Bool.{cases_Bool, eqb-true, eq-eqb, ne_eqb, cases_eq}
+use Rattle.xl_trie.proofs.Common.{cases_Bool, eqb-true, eq-eqb, ne_eqb, cases_eq}
 
 -- how many of their first elements two lists share
 abbrev pub shared : List ℕ → List ℕ → ℕ
@@ -63,9 +63,3 @@ shared_most (x ∷ a) (y ∷ b) (suc k) h g e =
 
 pub shared_low_right : (a b : List ℕ) → shared a b ≤ length b
 shared_low_right a b = let h = shared_low b a in let e = shared_turn a b in omega arith
-
-pub shared_self : (a : List ℕ) → shared a a ≡ length a
-shared_self a = let h = shared_low a a in let g = shared_most a a (length a) (omega arith) (omega arith) refl in omega arith
-
-pub shared_none : (a : List ℕ) → shared a [] ≡ 0
-shared_none a = let h = shared_low_right a [] in omega arith

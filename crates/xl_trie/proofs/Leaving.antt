@@ -1,18 +1,8 @@
 -- A span without votes of its own goes: without children, or with one that takes its place.
-use Rattle.std.proofs.Common.{◌≡◌, ◌≢◌, ◌⊎◌, ◌<◌, ◌==◌, List, length, Option, Some, None, refl, sym, ap, subst, ◌∙◌, arith, inl, inr}
-use Rattle.std.proofs.lemmas.Bool.{eq-eqb}
-use Rattle.xl_ledger.specs.declared.header.Header.{Header}
-use Rattle.xl_ledger.specs.declared.vote.Vote.{Vote}
-use Rattle.xl_ledger.specs.Chains.{AreLedgers}
-use Rattle.xl_ledger.specs.Votes.{tip_of, branch_of}
-use Rattle.xl_pool.specs.Pools.{Slot}
-use Rattle.xl_pool.specs.declared.name.Name.{Name}
-use Rattle.xl_trie.specs.declared.node.Node.{Node}
-use Rattle.xl_trie.specs.declared.node.Span.{Span}
-use Rattle.xl_trie.specs.Changing.{IsMerged}
-use Rattle.xl_trie.specs.Nodes.{In, spans, IsKid, Becomes, hung_at}
-use Rattle.xl_trie.specs.Tries.{Hangs, AreLinked, IsNeeded, IsHalfNeeded, AreSpans, IsTrie, IsTrieBut, IsRoot}
+use Rattle.std.proofs.Common.{◌≡◌, ◌≢◌, ◌⊎◌, ◌==◌, List, Option, Some, None, refl, sym, ap, subst, ◌∙◌, arith, inl, inr}
+use Rattle.xl_trie.proofs.Common.{eq-eqb, Header, Vote, AreLedgers, tip_of, branch_of, Slot, Name, Node, Span, IsMerged, In, spans, IsKid, Becomes, hung_at, Hangs, AreLinked, IsNeeded, IsHalfNeeded, AreSpans, IsTrie, IsTrieBut, IsRoot}
 use Rattle.xl_trie.proofs.Listing.{some_is, none_some, count_some}
+use Rattle.xl_trie.proofs.Relinking.{Other, other_at, relinked}
 use Rattle.xl_trie.proofs.Trees.{one_name, on_through, begin_down, root_short, hung, kid_differs, over_of, rehang, needed_on, fork_moved}
 
 module _ (hs : List Header) (ok : AreLedgers hs) (votes : List Vote) (S S' : Name → Option Span) (a c : Name) (V : AreSpans hs votes S (Some c)) (s : Span) (kid : IsKid S a c s) (empty : s.tip ≡ 0) where
@@ -41,16 +31,8 @@ module _ (hs : List Header) (ok : AreLedgers hs) (votes : List Vote) (S S' : Nam
     to b u e other = B.others b other ∙ e
 
     dropped_linked : AreLinked hs S'
-    dropped_linked = record {
-      known = λ b u e. V.linked.known b u (from b u e).1;
-      first = λ b u e. V.linked.first b u (from b u e).1;
-      one = λ b d u w e f. V.linked.one b d u w (from b u e).1 (from d w f).1;
-      hangs = λ b u e. elim (V.linked.hangs b u (from b u e).1) [
-        | inl root ↦ inl root
-        | inr h ↦ inr (rehang hs S S' u h h.over (to h.name h.over h.there (λ same. childless b u ((from b u e).1, h.is ∙ ap Some same))) refl)
-      ];
-      apart = λ b d d' u w p q. V.linked.apart b d d' u w ((from d u p.0).1, p.1) ((from d' w q.0).1, q.1);
-    }
+    dropped_linked = relinked hs S S' V.linked (λ b u e. inl (record { span = u; there = (from b u e).1; ledger = refl; first = refl; parent = refl }))
+        (λ b u e k h. (h.over, to h.name h.over h.there (λ same. childless b k.span (k.there, h.is ∙ ap Some same)), refl))
 
     pub dropped : AreSpans hs votes S' (Some a)
     dropped = record {
@@ -127,49 +109,31 @@ module _ (hs : List Header) (ok : AreLedgers hs) (votes : List Vote) (S S' : Nam
         let n = to_new a o.0 o.1 (kid_differs hs ok S V.linked a c o.0 s o.1 kid) in
         rehang hs S S' (hung_at t (Some a) s.first) (record { name = a; over = o.0; is = refl; there = o.1; above = omega (arith, h.above, g.above); on = on_through hs o.0.ledger s.ledger t.ledger h.on g.on; first = begin_down hs s.ledger t.ledger o.0.ledger s.first g.on h.above h.first }) n.0 n.1 n.2
 
-    hangs : (b : Name) (u : Span) → S' b ≡ Some u → ((u.parent ≡ None) × (u.ledger ≡ 0)) ⊎ Hangs hs S' u
-    hangs b u e =
-        let w = was b u e in
-        elim w.is [
-          | inl i ↦ inr (subst (Hangs hs S') (sym i.1) rest_hangs)
-          | inr i ↦
-              let f : S b ≡ Some u = w.there ∙ ap Some (sym i.1) in
-              elim (V.linked.hangs b u f) [
-                | inl root ↦ inl root
-                | inr h ↦ let n = to_new h.name h.over h.there (λ same. i.0 (lone b u (f, h.is ∙ ap Some same))) in inr (rehang hs S S' u h n.0 n.1 n.2)
-              ]
-        ]
-
-    -- the child beside another
-    beside : (b d : Name) (u w : Span) → u.parent ≡ Some b → u ≡ hung_at t (Some a) s.first → IsKid S b d w → d ≢ c → u.first ≡ w.first → ⊥
-    beside b d u w p i q other same = other (V.linked.apart b d c w s q (kid.0, kid.1 ∙ sym (ap (λ (x : Span). x.parent) i) ∙ p) (sym same ∙ ap (λ (x : Span). x.first) i))
-
-    apart : (b d d' : Name) (u w : Span) → IsKid S' b d u → IsKid S' b d' w → u.first ≡ w.first → d ≡ d'
-    apart b d d' u w p q same =
-        let m = was d u p.0 in
-        let n = was d' w q.0 in
-        elim m.is [
-          | inl i ↦ elim n.is [
-            | inl j ↦ i.0 ∙ sym j.0
-            | inr j ↦ absurd (beside b d' u w p.1 i.1 (n.there ∙ ap Some (sym j.1), q.1) n.other same)
-          ]
-          | inr i ↦ elim n.is [
-            | inl j ↦ absurd (beside b d w u q.1 j.1 (m.there ∙ ap Some (sym i.1), p.1) m.other (sym same))
-            | inr j ↦ V.linked.apart b d d' u w (m.there ∙ ap Some (sym i.1), p.1) (n.there ∙ ap Some (sym j.1), q.1) same
-          ]
-        ]
-
     merged_linked : AreLinked hs S'
-    merged_linked = record {
-      known = λ b u e. let w = was b u e in subst (λ x. x < length hs) (sym w.ledger) (V.linked.known b w.span w.there);
-      first = λ b u e. let w = was b u e in elim w.is [
-        | inl i ↦ subst (λ (x : Span). x.first < length hs) (sym i.1) (V.linked.first c s kid.0)
-        | inr i ↦ subst (λ (x : Span). x.first < length hs) (sym i.1) (V.linked.first b w.span w.there)
-      ];
-      one = λ b d u w e f same. let m = was b u e in let n = was d w f in V.linked.one b d m.span n.span m.there n.there (sym m.ledger ∙ same ∙ n.ledger);
-      hangs = hangs;
-      apart = apart;
-    }
+    merged_linked = relinked hs S S' V.linked
+        (λ b u e. let w = was b u e in elim w.is [
+          | inl i ↦ inr (other_at hs S S' k b (hung_at t (Some a) s.first) u i.0 i.1 other_rest)
+          | inr i ↦ inl (record { span = u; there = w.there ∙ ap Some (sym i.1); ledger = refl; first = refl; parent = refl })
+        ])
+        (λ b u e p h. to_new h.name h.over h.there (λ same. elim (was b u e).is [
+          | inl i ↦ a_not_c (some_is a c (ap (λ (x : Span). x.parent) (sym i.1) ∙ sym p.parent ∙ h.is ∙ ap Some same))
+          | inr i ↦ i.0 (lone b p.span (p.there, h.is ∙ ap Some same))
+        ]))
+      where
+        a_not_c : a ≢ c
+        a_not_c = let o = over_of hs ok S V.linked a c s kid in kid_differs hs ok S V.linked a c o.0 s o.1 kid
+
+        other_rest : Other hs S S' k (hung_at t (Some a) s.first)
+        other_rest = record {
+          known = V.linked.known k t low.0;
+          first = V.linked.first c s kid.0;
+          hangs = rest_hangs;
+          one = λ d w g same. let n = was d w g in V.linked.one d k n.span t n.there low.0 (sym n.ledger ∙ same);
+          apart = λ b d w p q same. let n = was d w q.0 in elim n.is [
+            | inl i ↦ i.0
+            | inr i ↦ absurd (n.other (V.linked.apart a d c w s (n.there ∙ ap Some (sym i.1), q.1 ∙ sym p.1) kid same))
+          ];
+        }
 
     pub merged : AreSpans hs votes S' None
     merged = record {

@@ -1,7 +1,9 @@
+pub mod Common
 pub mod Fronts
 pub mod Ways
 pub mod Listing
 pub mod Trees
+pub mod Relinking
 pub mod Placing
 pub mod Firsts
 pub mod Ranks

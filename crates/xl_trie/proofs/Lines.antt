@@ -1,10 +1,6 @@
 -- Lines of siblings, as nodes come, go, hang and are taken off.
 use Rattle.std.proofs.Common.{◌≡◌, ◌≢◌, ◌⊎◌, List, [], ◌∷◌, Option, Some, None, refl, sym, ap, subst, ◌∙◌, inl, inr}
-use Rattle.xl_pool.specs.Pools.{Slot, get, Updates}
-use Rattle.xl_pool.specs.declared.name.Name.{Name}
-use Rattle.xl_trie.specs.declared.node.Node.{Node}
-use Rattle.xl_trie.specs.declared.node.Span.{Span}
-use Rattle.xl_trie.specs.Nodes.{In, span_of, spans, Becomes, Leads, HasKids, AllKids, AllHang}
+use Rattle.xl_trie.proofs.Common.{Slot, get, Updates, Name, Node, Span, In, span_of, spans, Becomes, Leads, HasKids, AllKids, AllHang}
 use Rattle.xl_trie.proofs.Listing.{some_is, none_some}
 use Rattle.xl_trie.proofs.Trees.{one_name}
 

@@ -1,11 +1,7 @@
 -- What stands in a list, what is found there, and how many.
 use Rattle.std.proofs.Common.{◌≡◌, ◌⊎◌, ℕ, zero, suc, ◌+◌, ◌<◌, ◌≤◌, ◌&&◌, Bool, true, false, cond, List, [], ◌∷◌, ◌++◌, length, get_or, Option, Some, None, IsSome, All, refl, sym, ap, subst, ◌∙◌, ⊎_elim, arith, inl, inr}
-use Rattle.std.specs.Prelude.{find, map}
-use Rattle.std.specs.List.{list_all, count_by, filter, range_with_len}
-use Rattle.std.proofs.lemmas.Bool.{cases_Bool, both_ways}
-use Rattle.std.proofs.lemmas.List.Sums.{sum_by-cons}
-use Rattle.std.proofs.lemmas.List.FromFn.{length-range_with_len, get_or-range_with_len}
-use Rattle.xl_trie.specs.Nodes.{In}
+use Rattle.xl_trie.proofs.Common.{find, map, list_all, count_by, range_with_len, cases_Bool, both_ways, sum_by-cons, length-range_with_len, get_or-range_with_len, In}
+use Rattle.std.specs.List.{filter}
 
 pub some_is : {X : Type 0} (a b : X) → Some a ≡ Some b → a ≡ b
 some_is a b e = cc

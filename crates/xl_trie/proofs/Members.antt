@@ -1,13 +1,6 @@
 -- The votes of members, as one's comes or goes.
 use Rattle.std.proofs.Common.{◌≡◌, ℕ, ◌+◌, ◌==◌, ◌||◌, Bool, true, false, not, cond, List, [], ◌∷◌, ◌++◌, refl, sym, ap, subst, ◌∙◌, arith, inl, inr}
-use Rattle.std.specs.Prelude.{map}
-use Rattle.std.specs.List.{count_by}
-use Rattle.std.proofs.lemmas.Bool.{cases_Bool, eqb-false, eq-eqb, ne_eqb}
-use Rattle.xl_ledger.specs.declared.vote.Vote.{Vote}
-use Rattle.xl_ledger.specs.Votes.{has_voted, without}
-use Rattle.xl_trie.specs.declared.counting.Change.TheVariants.{OneMore, OneFewer}
-use Rattle.xl_trie.specs.Counting.{changed, IsChange}
-use Rattle.xl_trie.specs.Nodes.{In, Apart}
+use Rattle.xl_trie.proofs.Common.{map, count_by, cases_Bool, eqb-false, eq-eqb, ne_eqb, Vote, has_voted, without, OneMore, OneFewer, changed, IsChange, In, Apart}
 use Rattle.xl_trie.proofs.Listing.{true_false, in_either, in_filter, in_map, to_map, count_cons}
 
 abbrev pub members : List Vote → List ℕ

@@ -1,12 +1,6 @@
 -- The names of all nodes of a pool, each once.
 use Rattle.std.proofs.Common.{◌≡◌, ℕ, zero, suc, ◌+◌, ◌<◌, Bool, true, false, cond, List, [], ◌∷◌, length, get_or, is_some, Some, IsSome, refl, sym, ap, subst, ◌∙◌, arith, inl, inr}
-use Rattle.std.proofs.lemmas.List.Sums.{sum_by-cons}
-use Rattle.xl_pool.specs.Pools.{Slot, empty_slot, slot_at, get, live}
-use Rattle.xl_pool.specs.declared.name.Name.{Name}
-use Rattle.xl_pool.proofs.Finding.{given_own, of_found, found_within}
-use Rattle.xl_trie.specs.declared.node.Node.{Node}
-use Rattle.xl_trie.specs.declared.node.Span.{Span}
-use Rattle.xl_trie.specs.Nodes.{In, Apart, span_of, spans}
+use Rattle.xl_trie.proofs.Common.{sum_by-cons, Slot, empty_slot, slot_at, get, live, Name, given_own, of_found, found_within, Node, Span, In, Apart, span_of, spans}
 use Rattle.xl_trie.proofs.Listing.{some_of}
 use Rattle.xl_trie.proofs.Siblings.{is_some_if, node_of}
 

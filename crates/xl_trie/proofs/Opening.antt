@@ -1,15 +1,6 @@
 -- Without votes the root alone has a node.
 use Rattle.std.proofs.Common.{◌≡◌, ℕ, ◌<◌, ◌==◌, List, [], length, replicate, Some, None, refl, sym, ap, subst, ◌∙◌, arith, inl, inr}
-use Rattle.std.proofs.lemmas.Bool.{cases_lt, cond_both}
-use Rattle.std.proofs.lemmas.List.{get_or-replicate, get_or_past, length-replicate}
-use Rattle.xl_ledger.specs.declared.header.Header.{Header}
-use Rattle.xl_ledger.specs.Chains.{AreLedgers}
-use Rattle.xl_pool.specs.Pools.{Slot, empty_slot, slot_at, get, Updates}
-use Rattle.xl_pool.specs.declared.name.Name.{Name}
-use Rattle.xl_trie.specs.declared.node.Node.{Node}
-use Rattle.xl_trie.specs.declared.node.Span.{Span}
-use Rattle.xl_trie.specs.Nodes.{span_of, spans}
-use Rattle.xl_trie.specs.Tries.{GoesWith}
+use Rattle.xl_trie.proofs.Common.{cases_lt, cond_both, get_or-replicate, get_or_past, length-replicate, Header, AreLedgers, Slot, empty_slot, slot_at, get, Updates, Name, Node, Span, span_of, spans, GoesWith}
 use Rattle.xl_trie.proofs.Listing.{some_is, none_some}
 use Rattle.xl_trie.proofs.Siblings.{node_of}
 use Rattle.xl_trie.proofs.Trees.{one_name}

@@ -1,20 +1,6 @@
 -- The deepest span that ends on a way, and what its place tells of votes.
 use Rattle.std.proofs.Common.{◌≡◌, ◌≢◌, ℕ, ◌+◌, ◌<◌, ◌≤◌, ◌==◌, true, false, List, length, take, Option, Some, None, slice_get, sym, ap, subst, ◌∙◌, arith, inl, inr}
-use Rattle.std.proofs.lemmas.Bool.{cases_lt, cases_Bool, eqb-true, eqb-false}
-use Rattle.std.proofs.lemmas.Option.{slice_get_within}
-use Rattle.xl_ledger.specs.declared.header.Header.{Header}
-use Rattle.xl_ledger.specs.declared.vote.Vote.{Vote}
-use Rattle.xl_ledger.specs.Chains.{seq_at, chain, AreLedgers}
-use Rattle.xl_ledger.specs.Votes.{is_on_chain, tip_of, branch_of}
-use Rattle.xl_ledger.proofs.ChainLaws.{length-chain, of_chain}
-use Rattle.xl_pool.specs.declared.name.Name.{Name}
-use Rattle.xl_trie.specs.declared.node.Span.{Span}
-use Rattle.xl_trie.specs.declared.seeking.Place.{Place}
-use Rattle.xl_trie.specs.Nodes.{IsKid}
-use Rattle.xl_trie.specs.Leading.{BeginsAt}
-use Rattle.xl_trie.specs.Places.{Enters, EntersAt, IsPlace}
-use Rattle.xl_trie.specs.Tries.{AreLinked, AreSpans, HasSpan}
-use Rattle.xl_trie.specs.Ways.{way, OnWay, IsBegin}
+use Rattle.xl_trie.proofs.Common.{cases_lt, cases_Bool, eqb-true, eqb-false, slice_get_within, Header, Vote, seq_at, chain, AreLedgers, is_on_chain, tip_of, branch_of, length-chain, of_chain, Name, Span, Place, IsKid, BeginsAt, Enters, EntersAt, IsPlace, AreLinked, AreSpans, HasSpan, way, OnWay, IsBegin}
 use Rattle.xl_trie.proofs.Listing.{some_is, true_false, false_if, counted}
 use Rattle.xl_trie.proofs.Trees.{on_self, front_of, on_through, begin_up, same_ledger, hung, one_kid, leads_to, toward, toward_vote, known_vote, span_branch}
 use Rattle.xl_trie.proofs.Ways.{length_way, way_at, way_one, on_true, on_from}

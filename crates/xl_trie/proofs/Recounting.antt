@@ -1,19 +1,9 @@
 -- Counts, as a vote comes or goes.
-use Rattle.std.proofs.Common.{◌≡◌, ◌≢◌, ◌⊎◌, ℕ, ◌+◌, ◌<◌, ◌==◌, Bool, true, false, cond, List, length, take, Option, Some, None, refl, sym, ap, subst, ◌∙◌, arith, inl, inr}
-use Rattle.std.proofs.lemmas.Bool.{cases_lt, cases_Bool, eqb-true, eq-eqb}
-use Rattle.xl_ledger.specs.declared.header.Header.{Header}
-use Rattle.xl_ledger.specs.declared.vote.Vote.{Vote}
-use Rattle.xl_ledger.specs.Chains.{AreLedgers}
-use Rattle.xl_ledger.specs.Votes.{is_on_chain, tip_of, branch_of}
-use Rattle.xl_pool.specs.declared.name.Name.{Name}
-use Rattle.xl_trie.specs.declared.node.Span.{Span}
-use Rattle.xl_trie.specs.declared.counting.Change.{Change}
-use Rattle.xl_trie.specs.Counting.{changed, with_counts, AreRecounted, IsChange}
-use Rattle.xl_trie.specs.Nodes.{In, Becomes}
-use Rattle.xl_trie.specs.Tries.{AreLinked, HasFork, AreSpans}
-use Rattle.xl_trie.specs.Ways.{way, OnWay}
+use Rattle.std.proofs.Common.{◌≡◌, ◌≢◌, ◌⊎◌, ℕ, ◌<◌, ◌==◌, Bool, true, false, cond, List, length, Option, Some, None, refl, sym, ap, subst, ◌∙◌, arith, inl, inr}
+use Rattle.xl_trie.proofs.Common.{cases_lt, cases_Bool, eqb-true, eq-eqb, Header, Vote, AreLedgers, is_on_chain, tip_of, branch_of, Name, Span, Change, changed, with_counts, AreRecounted, IsChange, In, Becomes, AreLinked, HasFork, AreSpans, way, OnWay}
 use Rattle.xl_trie.proofs.Listing.{some_is, none_some, all_of}
-use Rattle.xl_trie.proofs.Trees.{one_name, on_self, front_of, on_through, same_ledger, root_short, nearest, known_vote, rehang, needed_on}
+use Rattle.xl_trie.proofs.Relinking.{relinked}
+use Rattle.xl_trie.proofs.Trees.{one_name, on_self, front_of, on_through, same_ledger, root_short, nearest, known_vote, needed_on}
 use Rattle.xl_trie.proofs.Ways.{on_true, on_from}
 
 -- how far down a span ends
@@ -28,21 +18,7 @@ pub record SameLinks (old new : Name → Option Span) : Type 0 where
 
 module _ (hs : List Header) (S S' : Name → Option Span) (K : SameLinks S S') where
   pub linked_on : AreLinked hs S → AreLinked hs S'
-  linked_on L = record {
-    known = λ a t e. let s = K.from a t e in subst (λ x. x < length hs) s.2 (L.known a s.0 s.1);
-    first = λ a t e. let s = K.from a t e in subst (λ x. x < length hs) s.3 (L.first a s.0 s.1);
-    one = λ a b t u e f same. let s = K.from a t e in let r = K.from b u f in L.one a b s.0 r.0 s.1 r.1 (s.2 ∙ same ∙ sym r.2);
-    hangs = λ a t e.
-        let s = K.from a t e in
-        elim (L.hangs a s.0 s.1) [
-          | inl root ↦ inl (sym s.4 ∙ root.0, sym s.2 ∙ root.1)
-          | inr h ↦
-              let o = K.to h.name h.over h.there in
-              let g = rehang hs S S' s.0 h o.0 o.1 o.2 in
-              inr (record { name = g.name; over = g.over; is = sym s.4 ∙ g.is; there = g.there; above = subst (λ x. length (way hs g.over.ledger) < length (way hs x)) s.2 g.above; on = subst (OnWay hs g.over.ledger) s.2 g.on; first = ap (way hs) (sym s.3) ∙ g.first ∙ ap (λ x. take (length (way hs g.over.ledger) + 1) (way hs x)) s.2 })
-        ];
-    apart = λ a b c t u p q same. let s = K.from b t p.0 in let r = K.from c u q.0 in L.apart a b c s.0 r.0 (s.1, s.4 ∙ p.1) (r.1, r.4 ∙ q.1) (s.3 ∙ same ∙ sym r.3);
-  }
+  linked_on L = relinked hs S S' L (λ a t e. let s = K.from a t e in inl (record { span = s.0; there = s.1; ledger = s.2; first = s.3; parent = s.4 })) (λ a t e k h. K.to h.name h.over h.there)
 
   pub fork_on : (to_parent : (a : Name) (s : Span) → S a ≡ Some s → (t : Span) × (S' a ≡ Some t) × (s.parent ≡ t.parent)) (a : Name) → HasFork S a → HasFork S' a
   fork_on to a (b, c, s, t, p, q, differ) = let u = to b s p.0 in let w = to c t q.0 in (b, c, u.0, w.0, (u.1, sym u.2 ∙ p.1), (w.1, sym w.2 ∙ q.1), differ)

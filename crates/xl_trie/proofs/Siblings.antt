@@ -1,12 +1,6 @@
 -- A way along siblings, and how many names may have nodes.
 use Rattle.std.proofs.Common.{◌≡◌, ◌≢◌, ◌⊎◌, ℕ, ◌+◌, ◌%◌, ◌^◌, ◌≤◌, cond, List, [], ◌∷◌, length, is_some, Option, Some, None, IsSome, refl, sym, ap, subst, ◌∙◌, arith, inl, inr}
-use Rattle.xl_pool.specs.Pools.{Slot, slot_at, get, live, without_value}
-use Rattle.xl_pool.specs.declared.name.Name.{Name}
-use Rattle.xl_pool.proofs.Counting.{counts, live-set}
-use Rattle.xl_pool.proofs.Finding.{of_found, found_within, Updates-without_value}
-use Rattle.xl_trie.specs.declared.node.Node.{Node}
-use Rattle.xl_trie.specs.declared.node.Span.{Span}
-use Rattle.xl_trie.specs.Nodes.{In, Apart, span_of, spans, IsKid, Leads, HasKids, IsBefore}
+use Rattle.xl_trie.proofs.Common.{Slot, slot_at, get, live, without_value, Name, counts, live-set, of_found, found_within, Updates-without_value, Node, Span, In, Apart, span_of, spans, IsKid, Leads, HasKids, IsBefore}
 use Rattle.xl_trie.proofs.Listing.{some_is, none_some}
 
 -- names with values are no more than the values

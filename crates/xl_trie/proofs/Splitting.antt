@@ -1,22 +1,11 @@
 -- A span is split where the way to a ledger leaves it: t, that of a's child k, at the ledger l, under the new name d.
 use Rattle.std.proofs.Common.{◌≡◌, ◌≢◌, ◌⊎◌, ℕ, ◌+◌, ◌<◌, ◌==◌, List, length, take, Option, Some, None, refl, sym, ap, subst, ◌∙◌, arith, inl, inr}
-use Rattle.std.proofs.lemmas.Bool.{cases_lt, eqb-true}
-use Rattle.xl_ledger.specs.declared.header.Header.{Header}
-use Rattle.xl_ledger.specs.declared.vote.Vote.{Vote}
-use Rattle.xl_ledger.specs.Chains.{seq_at, common_of, AreLedgers}
-use Rattle.xl_ledger.specs.Votes.{tip_of, branch_of}
-use Rattle.xl_pool.specs.declared.name.Name.{Name}
-use Rattle.xl_trie.specs.declared.node.Span.{Span}
-use Rattle.xl_trie.specs.declared.seeking.Place.{Place}
-use Rattle.xl_trie.specs.Changing.{IsSplit}
-use Rattle.xl_trie.specs.Nodes.{IsKid, hung_at}
-use Rattle.xl_trie.specs.Places.{IsPlace}
-use Rattle.xl_trie.specs.Tries.{Hangs, AreLinked, HasFork, IsHalfNeeded, AreSpans, IsRoot}
-use Rattle.xl_trie.specs.Ways.{way, OnWay, IsBegin}
+use Rattle.xl_trie.proofs.Common.{cases_lt, eqb-true, Header, Vote, seq_at, common_of, AreLedgers, tip_of, branch_of, Name, Span, Place, IsSplit, IsKid, hung_at, IsPlace, AreLinked, HasFork, IsHalfNeeded, AreSpans, IsRoot, way, OnWay, IsBegin}
 use Rattle.xl_trie.proofs.Fronts.{shared, take_all, take_len, shared_low, shared_low_right, shared_same, shared_most}
 use Rattle.xl_trie.proofs.Listing.{some_is, none_some, counted}
 use Rattle.xl_trie.proofs.Placing.{zero_if}
-use Rattle.xl_trie.proofs.Trees.{Hung, hung, one_name, front_of, begin_up, kid_differs, over_of, span_branch, rehang, needed_on, fork_moved}
+use Rattle.xl_trie.proofs.Relinking.{Other, other_at, relinked}
+use Rattle.xl_trie.proofs.Trees.{Hung, hung, one_name, front_of, begin_up, kid_differs, over_of, span_branch, needed_on, fork_moved}
 use Rattle.xl_trie.proofs.Ways.{length_way, common_way}
 
 -- where the ways part
@@ -109,79 +98,50 @@ module _ (hs : List Header) (ok : AreLedgers hs) (votes : List Vote) (S S' : Nam
     | inr other ↦ (u, stays b u e other, refl)
   ]
 
-  one : (b c : Name) (u w : Span) → S' b ≡ Some u → S' c ≡ Some w → u.ledger ≡ w.ledger → b ≡ c
-  one b c u w e g same = elim (from b u e) [
-    | inl i ↦ elim (from c w g) [ inl j ↦ i.0 ∙ sym j.0 | inr j ↦ absurd (new c j.1.span j.1.there (sym j.1.ledger ∙ sym same ∙ ap (λ (x : Span). x.ledger) i.1)) ]
-    | inr i ↦ elim (from c w g) [
-      | inl j ↦ absurd (new b i.1.span i.1.there (sym i.1.ledger ∙ same ∙ ap (λ (x : Span). x.ledger) j.1))
-      | inr j ↦ V.linked.one b c i.1.span j.1.span i.1.there j.1.there (sym i.1.ledger ∙ same ∙ j.1.ledger)
-    ]
-  ]
-
-  hangs : (b : Name) (u : Span) → S' b ≡ Some u → ((u.parent ≡ None) × (u.ledger ≡ 0)) ⊎ Hangs hs S' u
-  hangs b u e = elim (from b u e) [
-    | inl i ↦ inr (subst (Hangs hs S') (sym i.1) (record { name = a; over = P.span; is = refl; there = stays a P.span P.there a_not_k; above = Q.lower; on = front_of hs P.span.ledger l to P.on Q.on_to (omega (arith, Q.lower)); first = begin_up hs l t.ledger P.span.ledger t.first Q.on_t Q.lower h.first }))
-    | inr i ↦ elim i.1.is [
-      | inl j ↦ inr (subst (Hangs hs S') (sym j.1) (record { name = d; over = front; is = refl; there = I.front; above = Q.inside; on = Q.on_t; first = starts }))
-      | inr j ↦ elim (V.linked.hangs b u (i.1.there ∙ ap Some (sym j.1))) [
-        | inl root ↦ inl root
-        | inr g ↦ let o = to_new g.name g.over g.there in inr (rehang hs S S' u g o.0 o.1 o.2)
-      ]
-    ]
-  ]
-
-  -- a new child beside one that was there
-  beside : (b c c' : Name) (u w : Span) → IsKid S' b c u → ((c ≡ d) × (u ≡ front)) ⊎ ((c ≡ k) × (u ≡ hung_at P.enters.0 (Some d) begin)) → IsKid S b c' w → c' ≢ k → u.first ≡ w.first → ⊥
-  beside b c c' u w p (inl i) q other same =
-      let at : b ≡ a = some_is b a (sym p.1 ∙ ap (λ (x : Span). x.parent) i.1) in
-      other (V.linked.apart a c' k w P.enters.0 (subst (λ (x : Name). IsKid S x c' w) at q) P.enters.1 (sym same ∙ ap (λ (x : Span). x.first) i.1))
-  beside b c c' u w p (inr i) q other same = childless c' w (subst (λ (x : Name). IsKid S x c' w) (some_is b d (sym p.1 ∙ ap (λ (x : Span). x.parent) i.1)) q)
-
   -- the two new ones hang at different spans
   never : (b : Name) (u w : Span) → u.parent ≡ Some b → u ≡ front → w.parent ≡ Some b → w ≡ hung_at P.enters.0 (Some d) begin → ⊥
   never b u w p i q j = off a P.span P.there (sym (some_is b a (sym p ∙ ap (λ (x : Span). x.parent) i)) ∙ some_is b d (sym q ∙ ap (λ (x : Span). x.parent) j))
 
-  apart : (b c c' : Name) (u w : Span) → IsKid S' b c u → IsKid S' b c' w → u.first ≡ w.first → c ≡ c'
-  apart b c c' u w p q same = elim (from c u p.0) [
-    | inl i ↦ elim (from c' w q.0) [
-      | inl j ↦ i.0 ∙ sym j.0
-      | inr j ↦ elim j.1.is [
-        | inl is ↦ absurd (never b u w p.1 i.1 q.1 is.1)
-        | inr is ↦ absurd (beside b c c' u w p (inl i) (j.1.there ∙ ap Some (sym is.1), q.1) is.0 same)
-      ]
-    ]
-    | inr i ↦ elim i.1.is [
-      | inl has ↦ elim (from c' w q.0) [
-        | inl j ↦ absurd (never b w u q.1 j.1 p.1 has.1)
-        | inr j ↦ elim j.1.is [
-          | inl is ↦ has.0 ∙ sym is.0
-          | inr is ↦ absurd (beside b c c' u w p (inr has) (j.1.there ∙ ap Some (sym is.1), q.1) is.0 same)
-        ]
-      ]
-      | inr has ↦ elim (from c' w q.0) [
-        | inl j ↦ absurd (beside b c' c w u q (inl j) (i.1.there ∙ ap Some (sym has.1), p.1) has.0 (sym same))
-        | inr j ↦ elim j.1.is [
-          | inl is ↦ absurd (beside b c' c w u q (inr is) (i.1.there ∙ ap Some (sym has.1), p.1) has.0 (sym same))
-          | inr is ↦ V.linked.apart b c c' u w (i.1.there ∙ ap Some (sym has.1), p.1) (j.1.there ∙ ap Some (sym is.1), q.1) same
-        ]
-      ]
-    ]
-  ]
-
-  linked : AreLinked hs S'
-  linked = record {
-    known = λ b u e. elim (from b u e) [ inl i ↦ subst (λ (x : Span). x.ledger < length hs) (sym i.1) kl | inr i ↦ subst (λ x. x < length hs) (sym i.1.ledger) (V.linked.known b i.1.span i.1.there) ];
-    first = λ b u e. elim (from b u e) [
-      | inl i ↦ subst (λ (x : Span). x.first < length hs) (sym i.1) (V.linked.first k P.enters.0 P.enters.1.0)
+  other_front : Other hs S S' d front
+  other_front = record {
+    known = kl;
+    first = V.linked.first k P.enters.0 P.enters.1.0;
+    hangs = record { name = a; over = P.span; is = refl; there = stays a P.span P.there a_not_k; above = Q.lower; on = front_of hs P.span.ledger l to P.on Q.on_to (omega (arith, Q.lower)); first = begin_up hs l t.ledger P.span.ledger t.first Q.on_t Q.lower h.first };
+    one = λ c w g same. elim (from c w g) [ inl i ↦ i.0 | inr i ↦ absurd (new c i.1.span i.1.there (sym i.1.ledger ∙ same)) ];
+    apart = λ b c w p q same. elim (from c w q.0) [
+      | inl i ↦ i.0
       | inr i ↦ elim i.1.is [
-        | inl j ↦ subst (λ (x : Span). x.first < length hs) (sym j.1) kb
-        | inr j ↦ subst (λ (x : Span). x.first < length hs) (sym j.1) (V.linked.first b i.1.span i.1.there)
+        | inl j ↦ absurd (never b front w p.1 refl q.1 j.1)
+        | inr j ↦ absurd (j.0 (V.linked.apart a c k w P.enters.0 (i.1.there ∙ ap Some (sym j.1), q.1 ∙ sym p.1) P.enters.1 same))
       ]
     ];
-    one = one;
-    hangs = hangs;
-    apart = apart;
   }
+
+  other_rest : Other hs S S' k (hung_at P.enters.0 (Some d) begin)
+  other_rest = record {
+    known = V.linked.known k P.enters.0 P.enters.1.0;
+    first = kb;
+    hangs = record { name = d; over = front; is = refl; there = I.front; above = Q.inside; on = Q.on_t; first = starts };
+    one = λ c w g same. elim (from c w g) [
+      | inl i ↦ absurd (new k P.enters.0 P.enters.1.0 (sym same ∙ ap (λ (x : Span). x.ledger) i.1))
+      | inr i ↦ V.linked.one c k i.1.span P.enters.0 i.1.there P.enters.1.0 (sym i.1.ledger ∙ same)
+    ];
+    apart = λ b c w p q same. elim (from c w q.0) [
+      | inl i ↦ absurd (never b w (hung_at P.enters.0 (Some d) begin) q.1 i.1 p.1 refl)
+      | inr i ↦ elim i.1.is [ inl j ↦ j.0 | inr j ↦ absurd (childless c w (i.1.there ∙ ap Some (sym j.1), q.1 ∙ sym p.1)) ]
+    ];
+  }
+
+  linked : AreLinked hs S'
+  linked = relinked hs S S' V.linked
+      (λ b u e. elim (from b u e) [
+        | inl i ↦ inr (other_at hs S S' d b front u i.0 i.1 other_front)
+        | inr i ↦ elim i.1.is [
+          | inl j ↦ inr (other_at hs S S' k b (hung_at P.enters.0 (Some d) begin) u j.0 j.1 other_rest)
+          | inr j ↦ inl (record { span = u; there = i.1.there ∙ ap Some (sym j.1); ledger = refl; first = refl; parent = refl })
+        ]
+      ])
+      (λ b u e p h. to_new h.name h.over h.there)
 
   fork_to : (b : Name) → HasFork S b → HasFork S' b
   fork_to b = fork_moved S S' b k d (λ p q. off d p q.0 refl) (λ c p q. (

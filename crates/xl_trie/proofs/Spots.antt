@@ -1,22 +1,7 @@
 -- The nodes are as many as the spots, and at most twice the votes and one.
 use Rattle.std.proofs.Common.{◌≡◌, ℕ, zero, suc, ◌+◌, ◌*◌, ◌<◌, ◌≤◌, ◌==◌, ◌||◌, Bool, true, false, not, cond, List, [], ◌∷◌, ◌++◌, length, take, Option, Some, None, refl, sym, ap, subst, ◌∙◌, arith, inl, inr}
-use Rattle.std.specs.List.{list_any, range_with_len}
-use Rattle.std.specs.Prelude.{map, filter, nat_lt}
-use Rattle.std.proofs.lemmas.Bool.{cases_Bool, cases_lt, eqb-true, eqb-false, eq-eqb, ne_eqb, or_cases, not-true, not_from_false, ltb-true, ltb-false}
-use Rattle.std.proofs.lemmas.List.{length-append, length-map}
-use Rattle.std.proofs.lemmas.List.Filters.{length-filter_both}
-use Rattle.std.proofs.lemmas.List.FromFn.{length-range_with_len, get_or-range_with_len}
-use Rattle.xl_ledger.specs.declared.header.Header.{Header}
-use Rattle.xl_ledger.specs.declared.vote.Vote.{Vote}
-use Rattle.xl_ledger.specs.Chains.{common_of, AreLedgers}
-use Rattle.xl_pool.specs.Pools.{Slot, live}
-use Rattle.xl_pool.specs.declared.name.Name.{Name}
-use Rattle.xl_trie.specs.declared.node.Node.{Node}
-use Rattle.xl_trie.specs.declared.node.Span.{Span}
-use Rattle.xl_trie.specs.Counted.{is_spot, spots}
-use Rattle.xl_trie.specs.Nodes.{In, Apart, spans, IsKid}
-use Rattle.xl_trie.specs.Tries.{HasFork, HasSpan, AreSpans, IsRoot}
-use Rattle.xl_trie.specs.Ways.{way, OnWay}
+use Rattle.xl_trie.proofs.Common.{list_any, range_with_len, map, nat_lt, cases_Bool, cases_lt, eqb-true, eqb-false, eq-eqb, ne_eqb, or_cases, not-true, not_from_false, ltb-true, ltb-false, length-append, length-map, length-filter_both, length-range_with_len, get_or-range_with_len, Header, Vote, common_of, AreLedgers, Slot, live, Name, Node, Span, is_spot, spots, In, Apart, spans, IsKid, HasFork, HasSpan, AreSpans, IsRoot, way, OnWay}
+use Rattle.std.specs.Prelude.{filter}
 use Rattle.xl_trie.proofs.Fronts.{shared, shared_low, shared_low_right, shared_same, shared_most}
 use Rattle.xl_trie.proofs.Listing.{some_is, none_some, at_in, in_either, in_first, in_second, in_range, counted, in_filter, to_filter, in_map, to_map}
 use Rattle.xl_trie.proofs.Firsts.{has_vote, some_branch}

@@ -1,15 +1,6 @@
 -- The tree of spans: which is the nearest above another, and which child leads to one below.
 use Rattle.std.proofs.Common.{◌≡◌, ◌≢◌, ◌⊎◌, ℕ, zero, suc, ◌+◌, ◌<◌, ◌≤◌, List, [], length, take, Option, Some, sym, ap, subst, ◌∙◌, arith, inl, inr}
-use Rattle.std.proofs.lemmas.Bool.{cases_eq, cases_lt}
-use Rattle.xl_ledger.specs.declared.header.Header.{Header}
-use Rattle.xl_ledger.specs.declared.vote.Vote.{Vote}
-use Rattle.xl_ledger.specs.Chains.{AreLedgers}
-use Rattle.xl_ledger.specs.Votes.{is_on_chain, branch_of}
-use Rattle.xl_pool.specs.declared.name.Name.{Name}
-use Rattle.xl_trie.specs.declared.node.Span.{Span}
-use Rattle.xl_trie.specs.Nodes.{In, IsKid}
-use Rattle.xl_trie.specs.Tries.{Hangs, AreLinked, HasFork, IsNeeded, AreSpans}
-use Rattle.xl_trie.specs.Ways.{way, OnWay, IsBegin}
+use Rattle.xl_trie.proofs.Common.{cases_eq, cases_lt, Header, Vote, AreLedgers, is_on_chain, branch_of, Name, Span, In, IsKid, Hangs, AreLinked, HasFork, IsNeeded, AreSpans, way, OnWay, IsBegin}
 use Rattle.xl_trie.proofs.Fronts.{take_all, take_len, take_take}
 use Rattle.xl_trie.proofs.Listing.{some_is, none_some, all_in, count_same}
 use Rattle.xl_trie.proofs.Ways.{way_one, way_root, on_true, on_from}

@@ -1,10 +1,6 @@
 -- The line of siblings without one that is taken off: c, a child of x.
 use Rattle.std.proofs.Common.{◌≡◌, ◌≢◌, ◌⊎◌, List, [], ◌∷◌, Option, Some, None, refl, sym, ap, subst, ◌∙◌, inl, inr}
-use Rattle.xl_pool.specs.Pools.{Slot, get, Updates}
-use Rattle.xl_pool.specs.declared.name.Name.{Name}
-use Rattle.xl_trie.specs.declared.node.Node.{Node}
-use Rattle.xl_trie.specs.declared.node.Span.{Span}
-use Rattle.xl_trie.specs.Nodes.{In, Apart, span_of, spans, Becomes, Leads, HasKids, AllKids, IsBefore, LeadsNow}
+use Rattle.xl_trie.proofs.Common.{Slot, get, Updates, Name, Node, Span, In, Apart, span_of, spans, Becomes, Leads, HasKids, AllKids, IsBefore, LeadsNow}
 use Rattle.xl_trie.proofs.Lines.{came_from, leads_frame, kids_kept}
 use Rattle.xl_trie.proofs.Listing.{some_is, none_some}
 use Rattle.xl_trie.proofs.Trees.{one_name}

@@ -1,16 +1,6 @@
 -- The way to a ledger, and what the chains of ledgers say of it.
 use Rattle.std.proofs.Common.{◌≡◌, ℕ, zero, suc, ◌+◌, ◌<◌, ◌≤◌, ◌==◌, ◌||◌, Bool, true, false, cond, List, [], ◌∷◌, ◌++◌, length, get_or, take, drop, Some, slice_get, refl, sym, ap, ◌∙◌, arith, inl, inr}
-use Rattle.std.specs.List.{list_any}
-use Rattle.std.proofs.lemmas.Bool.{cases_lt, cases_Bool, eqb-true, eq-eqb}
-use Rattle.std.proofs.lemmas.List.{length-append, length-drop, take-append-le, drop-append-le}
-use Rattle.std.proofs.lemmas.List.Folds.{list_any_at}
-use Rattle.std.proofs.lemmas.Option.{slice_get_within, slice_get-get_or, get_or_from_slice_get}
-use Rattle.xl_ledger.specs.declared.header.Header.{Header}
-use Rattle.xl_ledger.specs.Chains.{seq_at, parent_of, chain, last_common, common_of, AreLedgers}
-use Rattle.xl_ledger.specs.Votes.{is_on_chain}
-use Rattle.xl_ledger.proofs.Places.{slice_get-front}
-use Rattle.xl_ledger.proofs.ChainLaws.{HasParent, parent_known, parent_of_known, seq_of_root, seq_of_added, chain_of_root, chain_more, length-chain, chain_ends, of_chain}
-use Rattle.xl_trie.specs.Ways.{way, OnWay}
+use Rattle.xl_trie.proofs.Common.{list_any, cases_lt, cases_Bool, eqb-true, eq-eqb, length-append, length-drop, take-append-le, drop-append-le, list_any_at, slice_get_within, slice_get-get_or, get_or_from_slice_get, Header, seq_at, parent_of, chain, last_common, common_of, AreLedgers, is_on_chain, slice_get-front, HasParent, parent_known, parent_of_known, seq_of_root, seq_of_added, chain_of_root, chain_more, length-chain, chain_ends, of_chain, way, OnWay}
 use Rattle.xl_trie.proofs.Fronts.{shared, shared_low}
 
 some_is : {X : Type 0} (a b : X) → Some a ≡ Some b → a ≡ b
@@ -21,10 +11,6 @@ take_long zero [] le = refl
 take_long (suc n) [] le = refl
 take_long zero (x ∷ xs) le = absurd (omega arith)
 take_long {X = X} (suc n) (x ∷ xs) le = ap (λ (ys : List X). x ∷ ys) (take_long n xs (omega arith))
-
-get_drop : {X : Type 0} (xs : List X) (n : ℕ) → slice_get (drop 1 xs) n ≡ slice_get xs (suc n)
-get_drop [] n = refl
-get_drop (x ∷ xs) n = refl
 
 take_drop : {X : Type 0} (xs : List X) (n : ℕ) → drop 1 (take (suc n) xs) ≡ take n (drop 1 xs)
 take_drop [] zero = refl

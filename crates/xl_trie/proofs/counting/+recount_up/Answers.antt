@@ -1,8 +1,5 @@
 use Rattle.std.proofs.Common.{◌≢◌, ◌<◌, length, Some, sym, ap, subst, ◌∙◌, arith}
-use Rattle.xl_trie.specs.declared.node.Span.{Span}
-use Rattle.xl_trie.specs.Counting.{AreRecounted, with_counts}
-use Rattle.xl_trie.specs.Nodes.{spans, IsKid, Becomes}
-use Rattle.xl_trie.specs.Ways.{way, OnWay}
+use Rattle.xl_trie.proofs.Common.{Span, AreRecounted, with_counts, spans, IsKid, Becomes, way, OnWay}
 use Rattle.xl_trie.proofs.Listing.{some_is}
 use Rattle.xl_trie.proofs.Recounting.{depth, counts_keep, linked_on, recounted_top, recounted_on}
 use Rattle.xl_trie.proofs.Siblings.{is_some_if}

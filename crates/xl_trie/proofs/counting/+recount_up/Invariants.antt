@@ -1,4 +1,4 @@
-use Rattle.xl_trie.specs.Nodes.{spans}
+use Rattle.xl_trie.proofs.Common.{spans}
 use Rattle.xl_trie.proofs.Recounting.{depth}
 use Rattle.xl_trie.proofs.counting.+recount_up.Given as goal
 

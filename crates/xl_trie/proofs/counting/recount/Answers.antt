@@ -1,9 +1,5 @@
 use Rattle.std.proofs.Common.{◌==◌, Some, sym, ap, subst, ◌∙◌, arith, inl, inr}
-use Rattle.xl_ledger.specs.declared.vote.Vote.{Vote}
-use Rattle.xl_ledger.specs.Votes.{is_on_chain}
-use Rattle.xl_trie.specs.declared.node.Span.{Span}
-use Rattle.xl_trie.specs.Counting.{changed, with_counts}
-use Rattle.xl_trie.specs.Nodes.{spans, Becomes}
+use Rattle.xl_trie.proofs.Common.{Vote, is_on_chain, Span, changed, with_counts, spans, Becomes}
 use Rattle.xl_trie.proofs.Listing.{some_is, count_most}
 use Rattle.xl_trie.proofs.Recounting.{counts_keep, linked_on, recounted, ends_on}
 use Rattle.xl_trie.proofs.Trees.{one_name}

@@ -1,7 +1,5 @@
 use Rattle.std.proofs.Common.{◌+◌, ◌-◌, List, None, inl, arith}
-use Rattle.xl_pool.specs.declared.name.Name.{Name}
-use Rattle.xl_trie.specs.Leading.{IsBestSoFar}
-use Rattle.xl_trie.specs.Nodes.{spans}
+use Rattle.xl_trie.proofs.Common.{Name, IsBestSoFar, spans}
 use Rattle.xl_trie.proofs.Siblings.{kid_in, looks_from, looks_on, looked, stands_next}
 use Rattle.xl_trie.proofs.kids.best_kid.Goals as goal
 

@@ -1,8 +1,5 @@
 use Rattle.std.proofs.Common.{◌-◌, List, IsSome}
-use Rattle.std.specs.Prelude.{IfSome}
-use Rattle.xl_pool.specs.declared.name.Name.{Name}
-use Rattle.xl_trie.specs.Leading.{IsBestSoFar}
-use Rattle.xl_trie.specs.Nodes.{spans}
+use Rattle.xl_trie.proofs.Common.{IfSome, Name, IsBestSoFar, spans}
 use Rattle.xl_trie.proofs.Siblings.{Looks}
 use Rattle.xl_trie.proofs.kids.best_kid.Given as goal
 

@@ -1,8 +1,7 @@
 use Rattle.xl_trie.proofs.Listing.{true_false, some_is}
 use Rattle.xl_trie.proofs.Ranks.{best_first, best_next}
 use Rattle.std.proofs.Common.{sym, ap, ◌∙◌}
-use Rattle.xl_trie.specs.Leading.{leads}
-use Rattle.xl_trie.specs.Nodes.{spans}
+use Rattle.xl_trie.proofs.Common.{leads, spans}
 use Rattle.xl_trie.proofs.kids.better.Goals as goal
 
 pub returns-in_default-clause-best : goal.returns-in_default-clause-best

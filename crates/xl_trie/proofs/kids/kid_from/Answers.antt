@@ -1,10 +1,6 @@
 use Rattle.std.proofs.Common.{◌+◌, ◌-◌, inl, inr, sym, ap, ◌∙◌, arith}
-use Rattle.std.proofs.lemmas.Bool.{eqb-true, eq-eqb}
-use Rattle.xl_trie.specs.declared.node.Node.{Node}
-use Rattle.xl_trie.specs.declared.node.Span.{Span}
-use Rattle.xl_trie.specs.Nodes.{spans}
+use Rattle.xl_trie.proofs.Common.{eqb-true, eq-eqb, Node, Span, spans, NoneBegins}
 use Rattle.xl_trie.proofs.Listing.{some_is, true_false}
-use Rattle.xl_trie.specs.Leading.{NoneBegins}
 use Rattle.xl_trie.proofs.Siblings.{kid_in, looks_from, looks_on, looked, looked_all, stands_next, comes}
 use Rattle.xl_trie.proofs.kids.kid_from.Goals as goal
 

@@ -1,6 +1,5 @@
 use Rattle.std.proofs.Common.{◌-◌}
-use Rattle.xl_trie.specs.Leading.{NoneBegins}
-use Rattle.xl_trie.specs.Nodes.{spans}
+use Rattle.xl_trie.proofs.Common.{NoneBegins, spans}
 use Rattle.xl_trie.proofs.Siblings.{Looks}
 use Rattle.xl_trie.proofs.kids.kid_from.Given as goal
 

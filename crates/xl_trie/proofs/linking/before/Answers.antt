@@ -1,6 +1,5 @@
 use Rattle.std.proofs.Common.{◌+◌, ◌-◌, inl, inr, sym, ap, ◌∙◌, arith}
-use Rattle.xl_pool.specs.Pools.{get}
-use Rattle.xl_trie.specs.declared.node.Node.{Node}
+use Rattle.xl_trie.proofs.Common.{get, Node}
 use Rattle.xl_trie.proofs.Listing.{some_is, true_false}
 use Rattle.xl_trie.proofs.Siblings.{NoneLeads, none_leads, looks_from, looks_on, looked, looked_all, stands_next, comes}
 use Rattle.xl_trie.proofs.linking.before.Goals as goal

@@ -1,5 +1,5 @@
 use Rattle.std.proofs.Common.{ap, ◌∙◌}
-use Rattle.xl_trie.specs.declared.node.Span.{Span}
+use Rattle.xl_trie.proofs.Common.{Span}
 use Rattle.xl_trie.proofs.Lines.{kids_given}
 use Rattle.xl_trie.proofs.Siblings.{node_of}
 use Rattle.xl_trie.proofs.linking.give.Goals as goal

@@ -1,5 +1,5 @@
 use Rattle.std.proofs.Common.{refl, sym, ap, ◌∙◌}
-use Rattle.xl_trie.specs.declared.node.Span.{Span}
+use Rattle.xl_trie.proofs.Common.{Span}
 use Rattle.xl_trie.proofs.Lines.{kids_hung}
 use Rattle.xl_trie.proofs.Listing.{some_is}
 use Rattle.xl_trie.proofs.linking.hang.Goals as goal

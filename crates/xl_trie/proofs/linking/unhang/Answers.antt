@@ -1,6 +1,5 @@
 use Rattle.std.proofs.Common.{refl, sym, ap, ◌∙◌}
-use Rattle.xl_trie.specs.Nodes.{spans}
-use Rattle.xl_trie.specs.declared.node.Span.{Span}
+use Rattle.xl_trie.proofs.Common.{spans, Span}
 use Rattle.xl_trie.proofs.Listing.{some_is, some_of}
 use Rattle.xl_trie.proofs.Siblings.{node_of}
 use Rattle.xl_trie.proofs.Unhanging.{kids_unhung}

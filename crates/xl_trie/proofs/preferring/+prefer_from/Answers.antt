@@ -1,16 +1,5 @@
 use Rattle.std.proofs.Common.{◌≡◌, ◌+◌, ◌-◌, ◌^◌, ◌<◌, ℕ, List, Some, sym, ap, subst, ◌∙◌, arith, inl, inr}
-use Rattle.std.proofs.lemmas.Bool.{cases_eq}
-use Rattle.xl_ledger.specs.declared.header.Header.{Header}
-use Rattle.xl_ledger.specs.declared.vote.Vote.{Vote}
-use Rattle.xl_ledger.specs.Chains.{seq_at, AreLedgers}
-use Rattle.xl_ledger.specs.Votes.{uncommitted, next_of}
-use Rattle.xl_pool.specs.Pools.{Slot}
-use Rattle.xl_pool.specs.declared.name.Name.{Name}
-use Rattle.xl_trie.specs.declared.node.Node.{Node}
-use Rattle.xl_trie.specs.declared.node.Span.{Span}
-use Rattle.xl_trie.specs.Leading.{GoesTo}
-use Rattle.xl_trie.specs.Nodes.{spans, IsKid}
-use Rattle.xl_trie.specs.Tries.{IsTrie}
+use Rattle.xl_trie.proofs.Common.{cases_eq, Header, Vote, seq_at, AreLedgers, uncommitted, next_of, Slot, Name, Node, Span, GoesTo, spans, IsKid, IsTrie}
 use Rattle.xl_trie.proofs.Listing.{some_is}
 use Rattle.xl_trie.proofs.Along.{stays, whole_span, part_span}
 use Rattle.xl_trie.proofs.Placing.{deeper}

@@ -1,5 +1,5 @@
 use Rattle.std.proofs.Common.{◌-◌, ◌^◌}
-use Rattle.xl_ledger.specs.Chains.{seq_at}
+use Rattle.xl_trie.proofs.Common.{seq_at}
 use Rattle.xl_trie.proofs.preferring.+prefer_from.Given as goal
 
 abbrev pub decreases-prefer_from : goal.decreases-prefer_from

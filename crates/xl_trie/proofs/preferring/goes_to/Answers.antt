@@ -1,5 +1,5 @@
 use Rattle.std.proofs.Common.{◌∙◌}
-use Rattle.xl_trie.specs.Nodes.{spans}
+use Rattle.xl_trie.proofs.Common.{spans}
 use Rattle.xl_trie.proofs.Choosing.{Choice, goes_nowhere, choice_one, choice_two, chosen, not_chosen}
 use Rattle.xl_trie.proofs.preferring.goes_to.Goals.{in-None, in-Some-best_kid}
 use Rattle.xl_trie.proofs.preferring.goes_to.Goals as goal

@@ -1,6 +1,5 @@
 use Rattle.std.proofs.Common.{◌≡◌, true, false, is_some, Option, Some, None, refl, sym, ap, ◌∙◌, arith, inl, inr}
-use Rattle.xl_pool.specs.declared.name.Name.{Name}
-use Rattle.xl_trie.specs.Nodes.{span_of, spans, IsKid, Becomes}
+use Rattle.xl_trie.proofs.Common.{Span, Name, span_of, spans, IsKid, Becomes}
 use Rattle.xl_trie.proofs.Leaving.{dropped, dropped_half, dropped_root}
 use Rattle.xl_trie.proofs.Listing.{none_some}
 use Rattle.xl_trie.proofs.Siblings.{is_some_if, no_kids, first_kid}
@@ -49,33 +48,23 @@ unhang-requires-clause-other c =
     let o = over_of T.0 T.1 (spans c.args.nodes.now) T.2.1.spans.linked c.in-Some.over c.args.name c.node_at-node.result.span kid in
     kid_differs T.0 T.1 (spans c.args.nodes.now) T.2.1.spans.linked c.in-Some.over c.args.name o.0 c.node_at-node.result.span o.1 kid
 
+empty : (c : goal.After-give) → c.node_at-node.result.span.tip ≡ 0
+empty c = omega (arith, c.if-node-gt0.false)
+
+childless : (c : goal.After-give) (b : Name) (u : Span) → IsKid (spans c.args.nodes.now) c.args.name b u → ⊥
+childless c b u = no_kids c.args.nodes.now c.args.name b c.node_at-node.result u (c.requires.trie.2.1.kids c.args.name c.node_at-node.result c.node_at-node.ensures.node) (none_if c.node_at-node.result.child (sym c.is_some.ensures ∙ c.if-is_some.false))
+
+goes : (c : goal.After-give) → Becomes (spans c.args.nodes.now) (spans c.give.new.nodes) c.args.name None
+goes c = record { changed = c.give.ensures.spans.changed; others = λ b other. c.give.ensures.spans.others b other ∙ (c.unhang.ensures.spans c.node_at-node.result.span c.node_at-node.ensures.span).others b other }
+
 pub returns-clause-trie : goal.returns-clause-trie
-returns-clause-trie c = λ hs votes ok T.
-    let n = c.node_at-node.result in
-    let e = c.node_at-node.ensures.span in
-    let U = c.unhang.ensures.spans n.span e in
-    let B : Becomes (spans c.args.nodes.now) (spans c.give.new.nodes) c.args.name None = record { changed = c.give.ensures.spans.changed; others = λ b other. c.give.ensures.spans.others b other ∙ U.others b other } in
-    record {
-      spans = dropped hs ok votes (spans c.args.nodes.now) (spans c.give.new.nodes) c.in-Some.over c.args.name T.spans n.span (e, c.in-Some.is) (omega (arith, c.if-node-gt0.false)) (λ b u. no_kids c.args.nodes.now c.args.name b n u (T.kids c.args.name n c.node_at-node.ensures.node) (none_if n.child (sym c.is_some.ensures ∙ c.if-is_some.false))) B;
-      kids = c.give.ensures.kids;
-    }
+returns-clause-trie c = λ hs votes ok T. record {
+  spans = dropped hs ok votes (spans c.args.nodes.now) (spans c.give.new.nodes) c.in-Some.over c.args.name T.spans c.node_at-node.result.span (c.node_at-node.ensures.span, c.in-Some.is) (empty c) (childless c) (goes c);
+  kids = c.give.ensures.kids;
+}
 
 pub returns-clause-half : goal.returns-clause-half
-returns-clause-half c =
-    let I = c.requires.trie in
-    let T = I.2.1 in
-    let n = c.node_at-node.result in
-    let e = c.node_at-node.ensures.span in
-    let U = c.unhang.ensures.spans n.span e in
-    let B : Becomes (spans c.args.nodes.now) (spans c.give.new.nodes) c.args.name None = record { changed = c.give.ensures.spans.changed; others = λ b other. c.give.ensures.spans.others b other ∙ U.others b other } in
-    dropped_half I.0 I.1 I.2.0 (spans c.args.nodes.now) (spans c.give.new.nodes) c.in-Some.over c.args.name T.spans n.span (e, c.in-Some.is) (omega (arith, c.if-node-gt0.false)) (λ b u. no_kids c.args.nodes.now c.args.name b n u (T.kids c.args.name n c.node_at-node.ensures.node) (none_if n.child (sym c.is_some.ensures ∙ c.if-is_some.false))) B
+returns-clause-half c = let I = c.requires.trie in dropped_half I.0 I.1 I.2.0 (spans c.args.nodes.now) (spans c.give.new.nodes) c.in-Some.over c.args.name I.2.1.spans c.node_at-node.result.span (c.node_at-node.ensures.span, c.in-Some.is) (empty c) (childless c) (goes c)
 
 pub returns-clause-root : goal.returns-clause-root
-returns-clause-root c =
-    let I = c.requires.trie in
-    let T = I.2.1 in
-    let n = c.node_at-node.result in
-    let e = c.node_at-node.ensures.span in
-    let U = c.unhang.ensures.spans n.span e in
-    let B : Becomes (spans c.args.nodes.now) (spans c.give.new.nodes) c.args.name None = record { changed = c.give.ensures.spans.changed; others = λ b other. c.give.ensures.spans.others b other ∙ U.others b other } in
-    dropped_root I.0 I.1 I.2.0 (spans c.args.nodes.now) (spans c.give.new.nodes) c.in-Some.over c.args.name T.spans n.span (e, c.in-Some.is) (omega (arith, c.if-node-gt0.false)) (λ b u. no_kids c.args.nodes.now c.args.name b n u (T.kids c.args.name n c.node_at-node.ensures.node) (none_if n.child (sym c.is_some.ensures ∙ c.if-is_some.false))) B
+returns-clause-root c = let I = c.requires.trie in dropped_root I.0 I.1 I.2.0 (spans c.args.nodes.now) (spans c.give.new.nodes) c.in-Some.over c.args.name I.2.1.spans c.node_at-node.result.span (c.node_at-node.ensures.span, c.in-Some.is) (empty c) (childless c) (goes c)

@@ -1,14 +1,5 @@
 use Rattle.std.proofs.Common.{◌≡◌, ◌≢◌, Bool, true, false, not, is_some, List, length, Option, Some, None, IsSome, refl, sym, ap, subst, ◌∙◌, arith, inl, inr}
-use Rattle.xl_ledger.specs.declared.header.Header.{Header}
-use Rattle.xl_ledger.specs.declared.vote.Vote.{Vote}
-use Rattle.xl_ledger.specs.Chains.{AreLedgers}
-use Rattle.xl_pool.specs.Pools.{Slot, get}
-use Rattle.xl_pool.specs.declared.name.Name.{Name}
-use Rattle.xl_trie.specs.declared.node.Node.{Node}
-use Rattle.xl_trie.specs.declared.node.Span.{Span}
-use Rattle.xl_trie.specs.Nodes.{span_of, spans, IsKid}
-use Rattle.xl_trie.specs.Tries.{IsNeeded, IsTrieBut}
-use Rattle.xl_trie.specs.Ways.{way}
+use Rattle.xl_trie.proofs.Common.{Header, Vote, AreLedgers, Slot, get, Name, Node, Span, span_of, spans, IsKid, IsNeeded, IsTrieBut, way}
 use Rattle.xl_trie.proofs.Leaving.{merged, merged_root, all_needed}
 use Rattle.xl_trie.proofs.Listing.{some_is, none_some}
 use Rattle.xl_trie.proofs.Siblings.{is_some_if, no_kids, first_kid}

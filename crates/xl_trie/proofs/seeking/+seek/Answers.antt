@@ -1,10 +1,5 @@
 use Rattle.std.proofs.Common.{◌≡◌, ◌+◌, ◌-◌, ◌^◌, ◌<◌, List, length, slice_get, Some, sym, ap, subst, ◌∙◌, arith}
-use Rattle.xl_ledger.specs.declared.header.Header.{Header}
-use Rattle.xl_ledger.specs.Chains.{seq_at, chain}
-use Rattle.xl_ledger.specs.Votes.{is_on_chain}
-use Rattle.xl_trie.specs.Nodes.{spans, IsKid}
-use Rattle.xl_trie.specs.Tries.{IsTrie}
-use Rattle.xl_trie.specs.Ways.{OnWay}
+use Rattle.xl_trie.proofs.Common.{Header, seq_at, chain, is_on_chain, spans, IsKid, IsTrie, OnWay}
 use Rattle.xl_trie.proofs.Listing.{some_is}
 use Rattle.xl_trie.proofs.Ways.{on_true}
 use Rattle.xl_trie.proofs.Placing.{deeper, place_end, place_none, place_within}

@@ -1,5 +1,5 @@
 use Rattle.std.proofs.Common.{◌-◌, ◌^◌}
-use Rattle.xl_ledger.specs.Chains.{seq_at}
+use Rattle.xl_trie.proofs.Common.{seq_at}
 use Rattle.xl_trie.proofs.seeking.+seek.Given as goal
 
 abbrev pub decreases-seek : goal.decreases-seek

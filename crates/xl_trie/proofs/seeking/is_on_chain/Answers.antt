@@ -1,5 +1,5 @@
 use Rattle.std.proofs.Common.{◌≡◌, slice_get, Some, sym, ap, ◌∙◌, arith}
-use Rattle.xl_ledger.specs.Chains.{chain, seq_at}
+use Rattle.xl_trie.proofs.Common.{chain, seq_at}
 use Rattle.xl_trie.proofs.Placing.{on_low, on_at}
 use Rattle.xl_trie.proofs.seeking.is_on_chain.Goals as goal
 

@@ -1,10 +1,5 @@
 use Rattle.std.proofs.Common.{◌≢◌, Some, None, sym, ap, subst, ◌∙◌, arith}
-use Rattle.std.proofs.lemmas.Bool.{eqb-false}
-use Rattle.xl_ledger.specs.Chains.{seq_at}
-use Rattle.xl_trie.specs.declared.node.Span.{Span}
-use Rattle.xl_trie.specs.Changing.{leaf_of}
-use Rattle.xl_trie.specs.Nodes.{spans, Becomes}
-use Rattle.xl_trie.specs.Ways.{IsBegin}
+use Rattle.xl_trie.proofs.Common.{eqb-false, seq_at, Span, leaf_of, spans, Becomes, IsBegin}
 use Rattle.xl_trie.proofs.Coming.{leaf_spans}
 use Rattle.xl_trie.proofs.Listing.{some_is}
 use Rattle.xl_trie.proofs.Placing.{below}

@@ -1,6 +1,5 @@
 use Rattle.std.proofs.Common.{◌≢◌, Some, None, refl, sym, ap, ◌∙◌}
-use Rattle.xl_trie.specs.declared.node.Span.{Span}
-use Rattle.xl_trie.specs.Nodes.{spans, hung_at}
+use Rattle.xl_trie.proofs.Common.{Span, spans, hung_at}
 use Rattle.xl_trie.proofs.Listing.{some_is, none_some}
 use Rattle.xl_trie.proofs.voting.split.Goals as goal
 

@@ -1,6 +1,5 @@
 use Rattle.std.proofs.Common.{sym, ap, ◌∙◌}
-use Rattle.xl_trie.specs.Ways.{way}
-use Rattle.xl_trie.specs.declared.node.Span.{Span}
+use Rattle.xl_trie.proofs.Common.{way, Span}
 use Rattle.xl_trie.proofs.Listing.{some_is}
 use Rattle.xl_trie.proofs.Trees.{empty_on}
 use Rattle.xl_trie.proofs.trie.Trie.place.Goals as goal

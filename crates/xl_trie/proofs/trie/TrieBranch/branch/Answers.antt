@@ -1,13 +1,5 @@
 use Rattle.std.proofs.Common.{◌≢◌, ◌≡◌, List, Option, None, sym, ap, subst, ◌∙◌}
-use Rattle.std.proofs.lemmas.Bool.{eqb-false}
-use Rattle.xl_ledger.specs.declared.header.Header.{Header}
-use Rattle.xl_ledger.specs.Chains.{AreLedgers}
-use Rattle.xl_ledger.specs.Votes.{is_on_chain}
-use Rattle.xl_ledger.specs.Walks.{Walked}
-use Rattle.xl_pool.specs.declared.name.Name.{Name}
-use Rattle.xl_trie.specs.declared.node.Span.{Span}
-use Rattle.xl_trie.specs.Places.{IsPlace, EntersAt}
-use Rattle.xl_trie.specs.Nodes.{spans, IsKid}
+use Rattle.xl_trie.proofs.Common.{eqb-false, Header, AreLedgers, is_on_chain, Walked, Name, Span, IsPlace, EntersAt, spans, IsKid}
 use Rattle.xl_trie.proofs.Listing.{some_is}
 use Rattle.xl_trie.proofs.Placing.{branch_inside, branch_none, branch_outside}
 use Rattle.xl_trie.proofs.trie.TrieBranch.branch.Goals as goal

@@ -1,6 +1,5 @@
 use Rattle.std.proofs.Common.{◌+◌, ◌*◌, List, sym, subst}
-use Rattle.xl_ledger.specs.declared.vote.Vote.{Vote}
-use Rattle.xl_trie.specs.Tries.{GoesWith}
+use Rattle.xl_trie.proofs.Common.{Vote, GoesWith}
 use Rattle.xl_trie.proofs.Opening.{opened}
 use Rattle.xl_trie.proofs.trie.TrieBranch.open.Goals as goal
 

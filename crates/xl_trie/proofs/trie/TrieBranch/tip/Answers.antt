@@ -1,11 +1,5 @@
 use Rattle.std.proofs.Common.{List, None, sym, ap, subst, ◌∙◌}
-use Rattle.std.proofs.lemmas.Bool.{eqb-false}
-use Rattle.xl_ledger.specs.declared.header.Header.{Header}
-use Rattle.xl_ledger.specs.Chains.{AreLedgers}
-use Rattle.xl_ledger.specs.Walks.{Walked}
-use Rattle.xl_trie.specs.declared.node.Span.{Span}
-use Rattle.xl_trie.specs.Nodes.{spans}
-use Rattle.xl_trie.specs.Places.{IsPlace}
+use Rattle.xl_trie.proofs.Common.{eqb-false, Header, AreLedgers, Walked, Span, spans, IsPlace}
 use Rattle.xl_trie.proofs.Listing.{some_is}
 use Rattle.xl_trie.proofs.Placing.{tip_none}
 use Rattle.xl_trie.proofs.trie.TrieBranch.tip.Goals as goal

@@ -1,15 +1,5 @@
 use Rattle.std.proofs.Common.{◌≡◌, ◌<◌, List, length, Some, None, sym, ap, subst, ◌∙◌, arith}
-use Rattle.xl_ledger.specs.declared.header.Header.{Header}
-use Rattle.xl_ledger.specs.declared.vote.Vote.{Vote}
-use Rattle.xl_ledger.specs.Chains.{AreLedgers}
-use Rattle.xl_ledger.specs.Votes.{without}
-use Rattle.xl_ledger.specs.Walks.{Walked}
-use Rattle.xl_pool.specs.Pools.{Slot}
-use Rattle.xl_trie.specs.declared.node.Node.{Node}
-use Rattle.xl_trie.specs.declared.seeking.Place.{Place}
-use Rattle.xl_trie.specs.Nodes.{In, spans}
-use Rattle.xl_trie.specs.Places.{IsPlace}
-use Rattle.xl_trie.specs.Tries.{GoesWith, IsTrie, IsTrieBut}
+use Rattle.xl_trie.proofs.Common.{Header, Vote, AreLedgers, without, Walked, Slot, Node, Place, In, spans, IsPlace, GoesWith, IsTrie, IsTrieBut}
 use Rattle.xl_trie.proofs.Leaving.{less_known}
 use Rattle.xl_trie.proofs.Listing.{all_in}
 use Rattle.xl_trie.proofs.Members.{one_fewer, members_less}

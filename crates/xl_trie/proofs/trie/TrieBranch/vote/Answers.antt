@@ -1,12 +1,5 @@
 use Rattle.std.proofs.Common.{◌≡◌, ◌==◌, ◌∷◌, ◌++◌, List, [], Some, refl, sym, ap, subst, ◌∙◌, arith, inl, inr}
-use Rattle.std.proofs.lemmas.Bool.{eq-eqb}
-use Rattle.xl_ledger.specs.declared.header.Header.{Header}
-use Rattle.xl_ledger.specs.declared.vote.Vote.{Vote}
-use Rattle.xl_ledger.specs.Chains.{AreLedgers}
-use Rattle.xl_ledger.specs.Walks.{Walked}
-use Rattle.xl_trie.specs.declared.node.Span.{Span}
-use Rattle.xl_trie.specs.Nodes.{spans}
-use Rattle.xl_trie.specs.Tries.{GoesWith, IsTrie, IsTrieBut}
+use Rattle.xl_trie.proofs.Common.{eq-eqb, Header, Vote, AreLedgers, Walked, Span, spans, GoesWith, IsTrie, IsTrieBut}
 use Rattle.xl_trie.proofs.Leaving.{all_needed}
 use Rattle.xl_trie.proofs.Listing.{some_is, in_second, count_some}
 use Rattle.xl_trie.proofs.Members.{one_more, members_more}
