@@ -1,7 +1,7 @@
 -- The best of the candidates, by the spans below a node.
 use Rattle.std.proofs.Common.{◌≡◌, ◌≢◌, ◌⊎◌, ℕ, ◌+◌, ◌-◌, ◌<◌, ◌≤◌, ◌==◌, ◌||◌, Bool, true, false, not, cond, List, length, Option, Some, None, refl, sym, ap, subst, ◌∙◌, arith, inl, inr}
 use Rattle.xl_trie.proofs.Common.{Ordering, Less, Equal, Greater, nat_cmp, ordering_then, ordering_reverse, is_gt, IsTotalOrder, list_all, nat_lt, nat_cmp_total, nat_list_cmp_total, on_total, then_total, exact_bytes, cases_lt, cases_Bool, eqb-true, eq-eqb, eqb-false, ne_eqb, or_cases, lt-ltb, le-ltb, not-true, not_from_false, LedgerId, Header, Vote, id_at, seq_at, AreLedgers, branch_of, uncommitted, id_rank, rank, candidates, best_of, others, margin, unless_too_few, next_of, earlier_differs, same_self, Name, Span, In, IsKid, AreSpans, leads, lead, IsBest, GoesTo}
-use Rattle.xl_trie.proofs.Listing.{some_is, true_false, all_if, all_at, find_in, find_no, in_filter, to_filter}
+use Rattle.xl_trie.proofs.Listing.{or_first, or_last, some_is, true_false, all_if, all_at, find_in, find_no, in_filter, to_filter}
 use Rattle.xl_trie.proofs.Ways.{length_way, of_parent}
 use Rattle.xl_trie.proofs.Firsts.{of_candidates, to_candidates, first_is, first_of}
 
@@ -22,14 +22,6 @@ second_equal Greater s e = absurd cc
 
 bytes_of : (a b : LedgerId) → a.0 ≡ b.0 → a ≡ b
 bytes_of a b e = ap (λ (x : List ℕ). let id : LedgerId = record { 0 = x } in id) e
-
-or_first : (a b : Bool) → a ≡ true → (a || b) ≡ true
-or_first true b e = refl
-or_first false b e = absurd cc
-
-or_second : (a b : Bool) → b ≡ true → (a || b) ≡ true
-or_second true b e = refl
-or_second false b e = e
 
 bit_le : (b : Bool) → cond {A = ℕ} b 1 0 ≤ 1
 bit_le true = omega arith
@@ -64,7 +56,7 @@ module _ (hs : List Header) (ok : AreLedgers hs) (votes : List Vote) where
       find_in (λ x. list_all (λ d. d == x || is_gt (rank hs votes x d)) some) some c i
       (all_if (λ d. d == c || is_gt (rank hs votes c d)) some (λ d j. elim (above d j) [
         | inl same ↦ or_first (d == c) (is_gt (rank hs votes c d)) (eq-eqb d c same)
-        | inr gt ↦ or_second (d == c) (is_gt (rank hs votes c d)) gt
+        | inr gt ↦ or_last (d == c) (is_gt (rank hs votes c d)) gt
       ]))
       (λ x j t. elim (or_cases (c == x) (is_gt (rank hs votes x c)) (all_at (λ d. d == x || is_gt (rank hs votes x d)) some t c i)) [
         | inl same ↦ sym (eqb-true c x same)

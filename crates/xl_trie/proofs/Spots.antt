@@ -3,7 +3,7 @@ use Rattle.std.proofs.Common.{◌≡◌, ℕ, zero, suc, ◌+◌, ◌*◌, ◌<�
 use Rattle.xl_trie.proofs.Common.{list_any, range_with_len, map, nat_lt, cases_Bool, cases_lt, eqb-true, eqb-false, eq-eqb, ne_eqb, or_cases, not-true, not_from_false, ltb-true, ltb-false, length-append, length-map, length-filter_both, length-range_with_len, get_or-range_with_len, Header, Vote, common_of, AreLedgers, Slot, live, Name, Node, Span, is_spot, spots, In, Apart, spans, IsKid, HasFork, HasSpan, AreSpans, IsRoot, way, OnWay}
 use Rattle.std.specs.Prelude.{filter}
 use Rattle.xl_trie.proofs.Fronts.{shared, shared_low, shared_low_right, shared_same, shared_most}
-use Rattle.xl_trie.proofs.Listing.{some_is, none_some, at_in, in_either, in_first, in_second, in_range, counted, in_filter, to_filter, in_map, to_map}
+use Rattle.xl_trie.proofs.Listing.{or_first, or_last, some_is, none_some, at_in, in_either, in_first, in_second, in_range, counted, in_filter, to_filter, in_map, to_map}
 use Rattle.xl_trie.proofs.Firsts.{has_vote, some_branch}
 use Rattle.xl_trie.proofs.Naming.{names_of, names_many, names_apart, has_span, span_named}
 use Rattle.xl_trie.proofs.Trees.{on_through, root_on, root_short, hung, over_of, one_kid, leads_to, toward_vote, known_vote}
@@ -49,14 +49,6 @@ module _ {X : Type 0} where
     | inl t ↦ (x, inl refl, t)
     | inr f ↦ let r = any_in p xs (sym (ap (λ b. b || list_any p xs) f) ∙ e) in (r.0, inr r.1, r.2)
   ]
-
-or_first : (a b : Bool) → a ≡ true → (a || b) ≡ true
-or_first true b e = refl
-or_first false b e = absurd cc
-
-or_last : (a b : Bool) → b ≡ true → (a || b) ≡ true
-or_last true b e = refl
-or_last false b e = e
 
 in_any : {X : Type 0} (p : X → Bool) (xs : List X) (x : X) → In x xs → p x ≡ true → list_any p xs ≡ true
 in_any p [] x i e = absurd i

@@ -32,6 +32,10 @@ pub record Becomes (old new : Name → Option Span) (a : Name) (now : Option Spa
   pub changed : new a ≡ now
   pub others : (b : Name) → b ≢ a → new b ≡ old b
 
+-- the span of a name becomes this one, made of what it was
+abbrev pub BecomesOf : (Name → Option Span) → (Name → Option Span) → Name → (Span → Span) → Type 0
+BecomesOf old new a made = (s : Span) → old a ≡ Some s → Becomes old new a (Some (made s))
+
 -- the names from one on, each leading to the next by its sibling
 abbrev pub Leads : List (Slot Node) → Option Name → List Name → Type 0
 Leads nodes at [] = at ≡ None

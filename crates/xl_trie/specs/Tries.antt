@@ -3,6 +3,7 @@
 use Rattle.std.specs.Prelude.{◌≡◌, ◌≢◌, ◌⊎◌, ℕ, ◌<◌, List, [], length, map, Option, Some, None}
 use Rattle.xl_ledger.specs.declared.header.Header.{Header}
 use Rattle.xl_ledger.specs.declared.vote.Vote.{Vote}
+use Rattle.xl_ledger.specs.Chains.{AreLedgers}
 use Rattle.xl_ledger.specs.Votes.{AreKnown, tip_of, branch_of}
 use Rattle.xl_pool.specs.Pools.{Slot}
 use Rattle.xl_pool.specs.declared.name.Name.{Name}
@@ -67,6 +68,18 @@ pub record IsTrieBut (ledgers : List Header) (votes : List Vote) (nodes : List (
 
 abbrev pub IsTrie : List Header → List Vote → List (Slot Node) → Type 0
 IsTrie ledgers votes nodes = IsTrieBut ledgers votes nodes None
+
+-- the nodes stay those of whatever votes they were, with another one that may not be needed
+abbrev pub StayTrie : List Header → List (Slot Node) → Option Name → List (Slot Node) → Option Name → Type 0
+StayTrie ledgers old but new now = (votes : List Vote) → IsTrieBut ledgers votes old but → IsTrieBut ledgers votes new now
+
+-- the same, over whatever ledgers they are
+abbrev pub StayTries : List (Slot Node) → Option Name → List (Slot Node) → Option Name → Type 0
+StayTries old but new now = (ledgers : List Header) (votes : List Vote) → AreLedgers ledgers → IsTrieBut ledgers votes old but → IsTrieBut ledgers votes new now
+
+-- the nodes are those of some votes
+abbrev pub IsSomeTrie : List (Slot Node) → Option Name → Type 0
+IsSomeTrie nodes but = (ledgers : List Header) × AreLedgers ledgers × ((votes : List Vote) × IsTrieBut ledgers votes nodes but)
 
 -- the name of the root's span
 abbrev pub IsRoot : (Name → Option Span) → Name → Type 0

@@ -3,7 +3,7 @@ ghost use Rattle.xl_ledger.specs.Chains.{AreLedgers};
 ghost use Rattle.xl_ledger.specs.declared.vote.Vote.{Vote};
 ghost use Rattle.xl_pool.specs.declared.name.Name.{Name};
 ghost use Rattle.xl_trie.specs.Counting.{changed, with_counts, AreRecounted, IsChange};
-ghost use Rattle.xl_trie.specs.Nodes.{spans, Becomes, AllKids};
+ghost use Rattle.xl_trie.specs.Nodes.{spans, BecomesOf, AllKids};
 ghost use Rattle.xl_trie.specs.Tries.{AreLinked, IsTrieBut, IsRoot};
 ghost use Rattle.xl_trie.specs.Ways.{OnWay};
 ghost use Rattle.xl_trie.specs.declared.node.Span.{Span};
@@ -35,7 +35,7 @@ impl Change {
 fn set_counts(nodes: &mut Pool<Node>, name: Name, tip: u32, branch: u32)
     requires kids { AllKids nodes.old }
     requires stands { IsSome (spans nodes.old name) }
-    ensures spans { (s : Span) → spans nodes.old name ≡ Some s → Becomes (spans nodes.old) (spans nodes.new) name (Some (with_counts s tip branch)) }
+    ensures spans { BecomesOf (spans nodes.old) (spans nodes.new) name (λ s. with_counts s tip branch) }
     ensures kids { AllKids nodes.new }
     ensures slots { length nodes.new ≡ length nodes.old }
 {
@@ -50,9 +50,11 @@ fn recount_up(nodes: &mut Pool<Node>, walk: &Walk<'_>, at: Name, change: Change)
     requires ledgers { AreLedgers walk.now.ledgers.headers }
     requires linked { AreLinked walk.now.ledgers.headers (spans nodes.old) }
     requires kids { AllKids nodes.old }
-    requires small { (a : Name) (s o : Span) → spans nodes.old a ≡ Some s → spans nodes.old at ≡ Some o → OnWay walk.now.ledgers.headers s.ledger o.ledger → s.branch + 1 < 2 ^ 32 }
+    requires small { (a : Name) (s o : Span) → spans nodes.old a ≡ Some s → spans nodes.old at ≡ Some o
+        → OnWay walk.now.ledgers.headers s.ledger o.ledger → s.branch + 1 < 2 ^ 32 }
     requires stands { IsSome (spans nodes.old at) }
-    ensures counts { (s : Span) → spans nodes.old at ≡ Some s → AreRecounted walk.now.ledgers.headers (spans nodes.old) (spans nodes.new) change s.ledger }
+    ensures counts { (s : Span) → spans nodes.old at ≡ Some s
+        → AreRecounted walk.now.ledgers.headers (spans nodes.old) (spans nodes.new) change s.ledger }
     ensures kids { AllKids nodes.new }
     ensures slots { length nodes.new ≡ length nodes.old }
 {
@@ -66,12 +68,15 @@ fn recount_up(nodes: &mut Pool<Node>, walk: &Walk<'_>, at: Name, change: Change)
 /// A vote for the ledger of a span has come, or has gone.
 pub(crate) fn recount(nodes: &mut Pool<Node>, walk: &Walk<'_>, at: Name, change: Change)
     requires ledgers { AreLedgers walk.now.ledgers.headers }
-    requires trie { (votes : List Vote) × IsTrieBut walk.now.ledgers.headers votes nodes.old (Some at) × (length votes + 1 < 2 ^ 32) }
+    requires trie { (votes : List Vote) × IsTrieBut walk.now.ledgers.headers votes nodes.old (Some at)
+        × (length votes + 1 < 2 ^ 32) }
     requires stands { IsSome (spans nodes.old at) }
-    ensures trie { (votes now : List Vote) (v : Vote) → IsTrieBut walk.now.ledgers.headers votes nodes.old (Some at) → IsChange change v votes now
-        → (s : Span) → spans nodes.old at ≡ Some s → s.ledger ≡ v.ledger → IsTrieBut walk.now.ledgers.headers now nodes.new (Some at) }
+    ensures trie { (votes now : List Vote) (v : Vote) → IsTrieBut walk.now.ledgers.headers votes nodes.old (Some at)
+        → IsChange change v votes now → (s : Span) → spans nodes.old at ≡ Some s → s.ledger ≡ v.ledger
+        → IsTrieBut walk.now.ledgers.headers now nodes.new (Some at) }
     ensures root { (root : Name) → IsRoot (spans nodes.old) root → IsRoot (spans nodes.new) root }
-    ensures there { (s : Span) → spans nodes.old at ≡ Some s → (n : Span) × (spans nodes.new at ≡ Some n) × (n.ledger ≡ s.ledger) }
+    ensures there { (s : Span) → spans nodes.old at ≡ Some s
+        → (n : Span) × (spans nodes.new at ≡ Some n) × (n.ledger ≡ s.ledger) }
     ensures slots { length nodes.new ≡ length nodes.old }
 {
     let span = span_at(nodes, at);

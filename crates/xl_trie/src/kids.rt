@@ -29,11 +29,13 @@ fn better(
     best: Option<Name>,
     name: Name,
 ) -> Option<Name>
-    requires first { (a : Name) (s : Span) → spans nodes.now a ≡ Some s → s.first < length walk.now.ledgers.headers }
+    requires first { (a : Name) (s : Span) → spans nodes.now a ≡ Some s
+        → s.first < length walk.now.ledgers.headers }
     requires stands { IsSome (spans nodes.now name) }
     requires best { IfSome best (λ b. IsSome (spans nodes.now b)) }
     ensures stands { IfSome result (λ b. IsSome (spans nodes.now b)) }
-    ensures best { (a : Name) (s : Span) (rest : List Name) → IsKid (spans nodes.now) a name s → IsBestSoFar walk.now.ledgers.headers (spans nodes.now) a out.now (name ∷ rest) best
+    ensures best { (a : Name) (s : Span) (rest : List Name) → IsKid (spans nodes.now) a name s
+        → IsBestSoFar walk.now.ledgers.headers (spans nodes.now) a out.now (name ∷ rest) best
         → IsBestSoFar walk.now.ledgers.headers (spans nodes.now) a out.now rest result }
 {
     if is_named(out, name) {

@@ -1,7 +1,7 @@
 ghost use Rattle.std.specs.Prelude.{◌≡◌, ◌≢◌, ◌+◌, ◌<◌, length, Some, None, IsSome, IfSome};
 ghost use Rattle.xl_ledger.specs.declared.ledger_no.LedgerNo.{LedgerNo};
 ghost use Rattle.xl_pool.specs.Pools.{get, live, Updates};
-ghost use Rattle.xl_trie.specs.Nodes.{spans, Becomes, AllKids, AllHang, IsBefore, LeadsNow, hung_at};
+ghost use Rattle.xl_trie.specs.Nodes.{spans, Becomes, BecomesOf, AllKids, AllHang, IsBefore, LeadsNow, hung_at};
 ghost use Rattle.xl_trie.specs.declared.node.Span.{Span};
 ghost use Rattle.xl_trie.specs.declared.node.Node.{Node};
 
@@ -105,7 +105,7 @@ pub(crate) fn hang(nodes: &mut Pool<Node>, of: Name, name: Name, first: LedgerNo
     requires of { IsSome (spans nodes.old of) }
     requires free { (s : Span) × (spans nodes.old name ≡ Some s) × (s.parent ≡ None) }
     requires other { of ≢ name }
-    ensures spans { (s : Span) → spans nodes.old name ≡ Some s → Becomes (spans nodes.old) (spans nodes.new) name (Some (hung_at s (Some of) first)) }
+    ensures spans { BecomesOf (spans nodes.old) (spans nodes.new) name (λ s. hung_at s (Some of) first) }
     ensures kids { AllKids nodes.new }
     ensures live { live nodes.new ≡ live nodes.old }
     ensures slots { length nodes.new ≡ length nodes.old }
@@ -126,7 +126,7 @@ pub(crate) fn unhang(nodes: &mut Pool<Node>, of: Name, name: Name)
     requires of { IsSome (spans nodes.old of) }
     requires kid { (s : Span) × (spans nodes.old name ≡ Some s) × (s.parent ≡ Some of) }
     requires other { of ≢ name }
-    ensures spans { (s : Span) → spans nodes.old name ≡ Some s → Becomes (spans nodes.old) (spans nodes.new) name (Some (hung_at s None s.first)) }
+    ensures spans { BecomesOf (spans nodes.old) (spans nodes.new) name (λ s. hung_at s None s.first) }
     ensures kids { AllKids nodes.new }
     ensures live { live nodes.new ≡ live nodes.old }
     ensures slots { length nodes.new ≡ length nodes.old }

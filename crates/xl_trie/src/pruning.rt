@@ -1,11 +1,8 @@
-ghost use Rattle.std.specs.Prelude.{◌≡◌, ◌≢◌, List, length, Some, None, IsSome};
-ghost use Rattle.xl_ledger.specs.Chains.{AreLedgers};
-ghost use Rattle.xl_ledger.specs.declared.header.Header.{Header};
-ghost use Rattle.xl_ledger.specs.declared.vote.Vote.{Vote};
+ghost use Rattle.std.specs.Prelude.{◌≡◌, ◌≢◌, length, Some, None, IsSome};
 ghost use Rattle.xl_pool.specs.declared.name.Name.{Name};
 ghost use Rattle.xl_trie.specs.Changing.{IsMerged};
 ghost use Rattle.xl_trie.specs.Nodes.{spans, IsKid, AllKids};
-ghost use Rattle.xl_trie.specs.Tries.{IsTrie, IsTrieBut, IsHalfNeeded, IsRoot};
+ghost use Rattle.xl_trie.specs.Tries.{IsSomeTrie, StayTries, IsHalfNeeded, IsRoot};
 ghost use Rattle.xl_trie.specs.declared.node.Span.{Span};
 
 use crate::linking::{give, hang, unhang};
@@ -15,9 +12,9 @@ use xl_pool::{Name, Pool};
 /// A node without votes of its own and without children goes, but for the root. Which node may have to be merged then: the one
 /// above it, or the node itself where it stays.
 fn drop_empty(nodes: &mut Pool<Node>, name: Name) -> Name
-    requires trie { (ledgers : List Header) × AreLedgers ledgers × ((votes : List Vote) × IsTrieBut ledgers votes nodes.old (Some name)) }
+    requires trie { IsSomeTrie nodes.old (Some name) }
     requires stands { IsSome (spans nodes.old name) }
-    ensures trie { (ledgers : List Header) (votes : List Vote) → AreLedgers ledgers → IsTrieBut ledgers votes nodes.old (Some name) → IsTrieBut ledgers votes nodes.new (Some result) }
+    ensures trie { StayTries nodes.old (Some name) nodes.new (Some result) }
     ensures half { IsHalfNeeded (spans nodes.new) result }
     ensures root { (root : Name) → IsRoot (spans nodes.old) root → IsRoot (spans nodes.new) root }
     ensures slots { length nodes.new ≡ length nodes.old }
@@ -43,7 +40,8 @@ fn lift(nodes: &mut Pool<Node>, of: Name, name: Name, kid: Name)
     requires other { of ≢ name }
     requires apart { name ≢ kid }
     requires below { of ≢ kid }
-    ensures merged { (s t : Span) → IsKid (spans nodes.old) of name s → IsKid (spans nodes.old) name kid t → IsMerged (spans nodes.old) (spans nodes.new) of name kid s t }
+    ensures merged { (s t : Span) → IsKid (spans nodes.old) of name s → IsKid (spans nodes.old) name kid t
+        → IsMerged (spans nodes.old) (spans nodes.new) of name kid s t }
     ensures kids { AllKids nodes.new }
     ensures slots { length nodes.new ≡ length nodes.old }
 {
@@ -56,9 +54,9 @@ fn lift(nodes: &mut Pool<Node>, of: Name, name: Name, kid: Name)
 
 /// A node without votes of its own and with one child is merged with it, but for the root.
 fn merge(nodes: &mut Pool<Node>, name: Name)
-    requires trie { (ledgers : List Header) × AreLedgers ledgers × ((votes : List Vote) × IsTrieBut ledgers votes nodes.old (Some name)) }
+    requires trie { IsSomeTrie nodes.old (Some name) }
     requires half { IsHalfNeeded (spans nodes.old) name }
-    ensures trie { (ledgers : List Header) (votes : List Vote) → AreLedgers ledgers → IsTrieBut ledgers votes nodes.old (Some name) → IsTrie ledgers votes nodes.new }
+    ensures trie { StayTries nodes.old (Some name) nodes.new None }
     ensures root { (root : Name) → IsRoot (spans nodes.old) root → IsRoot (spans nodes.new) root }
     ensures slots { length nodes.new ≡ length nodes.old }
 {
@@ -72,9 +70,9 @@ fn merge(nodes: &mut Pool<Node>, name: Name)
 
 /// The node goes if no vote needs it any more, and so does the one above it then.
 pub(crate) fn prune(nodes: &mut Pool<Node>, name: Name)
-    requires trie { (ledgers : List Header) × AreLedgers ledgers × ((votes : List Vote) × IsTrieBut ledgers votes nodes.old (Some name)) }
+    requires trie { IsSomeTrie nodes.old (Some name) }
     requires stands { IsSome (spans nodes.old name) }
-    ensures trie { (ledgers : List Header) (votes : List Vote) → AreLedgers ledgers → IsTrieBut ledgers votes nodes.old (Some name) → IsTrie ledgers votes nodes.new }
+    ensures trie { StayTries nodes.old (Some name) nodes.new None }
     ensures root { (root : Name) → IsRoot (spans nodes.old) root → IsRoot (spans nodes.new) root }
     ensures slots { length nodes.new ≡ length nodes.old }
 {

@@ -58,9 +58,11 @@ impl Trie {
     /// How many nodes there are: one for each spot, which are the root, each voted ledger, and the last common ledger of each
     /// two voted ledgers.
     pub fn nodes(&self) -> u32
-        ensures spots { (ledgers : List Header) → AreLedgers ledgers → GoesWith ledgers self.now.votes.items self.now.nodes self.now.root
+        ensures spots { (ledgers : List Header) → AreLedgers ledgers
+            → GoesWith ledgers self.now.votes.items self.now.nodes self.now.root
             → result ≡ length (spots ledgers self.now.votes.items) }
-        ensures few { (ledgers : List Header) → AreLedgers ledgers → GoesWith ledgers self.now.votes.items self.now.nodes self.now.root
+        ensures few { (ledgers : List Header) → AreLedgers ledgers
+            → GoesWith ledgers self.now.votes.items self.now.nodes self.now.root
             → result ≤ 2 * length self.now.votes.items + 1 }
     {
         self.nodes.live()

@@ -7,7 +7,7 @@ ghost use Rattle.xl_pool.specs.declared.name.Name.{Name};
 ghost use Rattle.xl_trie.specs.Changing.{IsSplit};
 ghost use Rattle.xl_trie.specs.Nodes.{spans, IsKid, AllKids, AllHang};
 ghost use Rattle.xl_trie.specs.Places.{IsPlace};
-ghost use Rattle.xl_trie.specs.Tries.{IsTrie, IsTrieBut, IsHalfNeeded, IsRoot};
+ghost use Rattle.xl_trie.specs.Tries.{IsTrie, IsTrieBut, StayTrie, IsHalfNeeded, IsRoot};
 ghost use Rattle.xl_trie.specs.Ways.{IsBegin};
 ghost use Rattle.xl_trie.specs.declared.node.Span.{Span};
 
@@ -40,7 +40,8 @@ fn split(nodes: &mut Pool<Node>, of: Name, kid: Name, ledger: LedgerNo, begin: L
     requires stands { IsSome (spans nodes.old of) }
     requires kid { (t : Span) × IsKid (spans nodes.old) of kid t }
     requires other { of ≢ kid }
-    ensures split { (t : Span) → IsKid (spans nodes.old) of kid t → IsSplit (spans nodes.old) (spans nodes.new) of result kid t ledger begin }
+    ensures split { (t : Span) → IsKid (spans nodes.old) of kid t
+        → IsSplit (spans nodes.old) (spans nodes.new) of result kid t ledger begin }
     ensures kids { AllKids nodes.new }
     ensures live { live nodes.new ≡ live nodes.old + 1 }
     ensures slots { length nodes.new ≡ length nodes.old }
@@ -74,7 +75,7 @@ fn fork(
     requires place { IsPlace walk.old.ledgers.headers (spans nodes.old) ledger place }
     requires within { place.within ≡ Some kid }
     requires room { live nodes.old < length nodes.old }
-    ensures trie { (votes : List Vote) → IsTrie walk.old.ledgers.headers votes nodes.old → IsTrieBut walk.old.ledgers.headers votes nodes.new (Some result) }
+    ensures trie { StayTrie walk.old.ledgers.headers nodes.old None nodes.new (Some result) }
     ensures place { IsPlace walk.old.ledgers.headers (spans nodes.new) ledger (record { at = result; within = None }) }
     ensures half { IsHalfNeeded (spans nodes.new) result }
     ensures root { (root : Name) → IsRoot (spans nodes.old) root → IsRoot (spans nodes.new) root }
@@ -96,7 +97,7 @@ fn end_at(nodes: &mut Pool<Node>, walk: &mut Walk<'_>, at: Name, ledger: LedgerN
     requires place { IsPlace walk.old.ledgers.headers (spans nodes.old) ledger (record { at = at; within = None }) }
     requires half { IsHalfNeeded (spans nodes.old) at }
     requires room { live nodes.old < length nodes.old }
-    ensures trie { (votes : List Vote) → IsTrieBut walk.old.ledgers.headers votes nodes.old (Some at) → IsTrieBut walk.old.ledgers.headers votes nodes.new (Some result) }
+    ensures trie { StayTrie walk.old.ledgers.headers nodes.old (Some at) nodes.new (Some result) }
     ensures there { (s : Span) × (spans nodes.new result ≡ Some s) × (s.ledger ≡ ledger) }
     ensures root { (root : Name) → IsRoot (spans nodes.old) root → IsRoot (spans nodes.new) root }
     ensures slots { length nodes.new ≡ length nodes.old }
@@ -132,7 +133,7 @@ pub(crate) fn come(
     requires known { ledger < length walk.old.ledgers.headers }
     requires place { IsPlace walk.old.ledgers.headers (spans nodes.old) ledger place }
     requires room { live nodes.old + 1 < length nodes.old }
-    ensures trie { (votes : List Vote) → IsTrie walk.old.ledgers.headers votes nodes.old → IsTrieBut walk.old.ledgers.headers votes nodes.new (Some result) }
+    ensures trie { StayTrie walk.old.ledgers.headers nodes.old None nodes.new (Some result) }
     ensures there { (s : Span) × (spans nodes.new result ≡ Some s) × (s.ledger ≡ ledger) }
     ensures root { (root : Name) → IsRoot (spans nodes.old) root → IsRoot (spans nodes.new) root }
     ensures slots { length nodes.new ≡ length nodes.old }

@@ -1,5 +1,5 @@
-use Rattle.std.proofs.Common.{◌==◌, Some, sym, ap, subst, ◌∙◌, arith, inl, inr}
-use Rattle.xl_trie.proofs.Common.{Vote, is_on_chain, Span, changed, with_counts, spans, Becomes}
+use Rattle.std.proofs.Common.{◌≡◌, ◌==◌, Some, sym, ap, subst, ◌∙◌, arith, inl, inr}
+use Rattle.xl_trie.proofs.Common.{Name, Vote, is_on_chain, Span, changed, with_counts, spans, Becomes}
 use Rattle.xl_trie.proofs.Listing.{some_is, count_most}
 use Rattle.xl_trie.proofs.Recounting.{counts_keep, linked_on, recounted, ends_on}
 use Rattle.xl_trie.proofs.Trees.{one_name}
@@ -40,17 +40,15 @@ returns-clause-trie c = λ votes now v T change s e at.
       kids = c.recount_up.ensures.kids;
     }
 
-pub returns-clause-root : goal.returns-clause-root
-returns-clause-root c = λ root r.
+ends : (c : goal.After-recount_up) (a : Name) (s : Span) → spans c.args.nodes.now a ≡ Some s → (t : Span) × (spans c.recount_up.new.nodes a ≡ Some t) × (t.ledger ≡ s.ledger)
+ends c =
     let s = c.span_at-span.result in
     let e = c.span_at-span.ensures in
     let B = c.set_counts.ensures.spans s e in
-    let t = ends_on c.args.walk.now.ledgers.headers c.args.change (spans c.args.nodes.now) (spans c.set_counts.new.nodes) (spans c.recount_up.new.nodes) s.ledger (counts_keep (spans c.args.nodes.now) (spans c.set_counts.new.nodes) c.args.at s c.of.result s.branch e B) (c.recount_up.ensures.counts _ B.changed) root r.0 r.1 in
-    (t.0, t.1, t.2 ∙ r.2)
+    ends_on c.args.walk.now.ledgers.headers c.args.change (spans c.args.nodes.now) (spans c.set_counts.new.nodes) (spans c.recount_up.new.nodes) s.ledger (counts_keep (spans c.args.nodes.now) (spans c.set_counts.new.nodes) c.args.at s c.of.result s.branch e B) (c.recount_up.ensures.counts _ B.changed)
+
+pub returns-clause-root : goal.returns-clause-root
+returns-clause-root c = λ root r. let t = ends c root r.0 r.1 in (t.0, t.1, t.2 ∙ r.2)
 
 pub returns-clause-there : goal.returns-clause-there
-returns-clause-there c =
-    let s = c.span_at-span.result in
-    let e = c.span_at-span.ensures in
-    let B = c.set_counts.ensures.spans s e in
-    ends_on c.args.walk.now.ledgers.headers c.args.change (spans c.args.nodes.now) (spans c.set_counts.new.nodes) (spans c.recount_up.new.nodes) s.ledger (counts_keep (spans c.args.nodes.now) (spans c.set_counts.new.nodes) c.args.at s c.of.result s.branch e B) (c.recount_up.ensures.counts _ B.changed) c.args.at
+returns-clause-there c = ends c c.args.at
