@@ -1,215 +1,177 @@
--- Where the way of one vote more leaves those of the others.
-use Rattle.std.proofs.Common.{◌≡◌, ◌≢◌, ℕ, ◌+◌, ◌<◌, ◌≤◌, ◌==◌, false, List, [], ◌∷◌, length, take, Some, refl, sym, ap, subst, ◌∙◌, arith, inl, inr}
-use Rattle.std.proofs.lemmas.Bool.{cases_lt, eqb-true}
-use Rattle.xl_ledger.specs.declared.header.Header.{Header}
-use Rattle.xl_ledger.specs.declared.vote.Vote.{Vote}
-use Rattle.xl_ledger.specs.Chains.{AreLedgers}
-use Rattle.xl_ledger.specs.Votes.{is_on_chain, tip_of, branch_of}
-use Rattle.xl_pool.specs.Pools.{Slot, get}
-use Rattle.xl_pool.specs.declared.name.Name.{Name}
-use Rattle.xl_trie.specs.declared.node.Node.{Node}
-use Rattle.xl_trie.specs.declared.seeking.Place.{Place}
-use Rattle.xl_trie.specs.Chains.{In}
-use Rattle.xl_trie.specs.Paths.{shared}
-use Rattle.xl_trie.specs.Ways.{way, ways}
-use Rattle.xl_trie.specs.Tries.{at_seq, OnSpot, Stands, Hangs, IsKid, IsTrie}
-use Rattle.xl_trie.specs.Places.{OnWay, Enters, IsPlace}
-use Rattle.xl_trie.specs.Linking.{fork_of}
-use Rattle.xl_trie.proofs.Lists.{lists_are_chains}
-use Rattle.xl_trie.proofs.Listing.{some_is, false_if}
-use Rattle.xl_trie.proofs.Counts.{counted, in_map}
-use Rattle.xl_trie.proofs.Between.{spot_top}
-use Rattle.xl_trie.proofs.Ways.{way_one, on_true}
-use Rattle.xl_trie.proofs.Hanging.{hung, span_branch}
-use Rattle.xl_trie.proofs.Firsts.{first_one}
-use Rattle.xl_trie.proofs.Placing.{front_of, on_through, kid_toward}
-use Rattle.xl_trie.proofs.Supports.{zero_if, voted_node}
-use Rattle.xl_trie.proofs.MoreVotes.{goes, goes_is}
+-- A span without votes of its own goes: without children, or with one that takes its place.
+use Rattle.std.proofs.Common.{◌≡◌, ◌≢◌, ◌⊎◌, ◌==◌, List, Option, Some, None, refl, sym, ap, subst, ◌∙◌, arith, inl, inr}
+use Rattle.xl_trie.proofs.Common.{eq-eqb, Header, Vote, AreLedgers, tip_of, branch_of, Slot, Name, Node, Span, IsMerged, In, spans, IsKid, Becomes, hung_at, Hangs, AreLinked, IsNeeded, IsHalfNeeded, AreSpans, IsTrie, IsTrieBut, IsRoot}
+use Rattle.xl_trie.proofs.Listing.{some_is, none_some, count_some}
+use Rattle.xl_trie.proofs.Relinking.{Other, other_at, relinked}
+use Rattle.xl_trie.proofs.Trees.{one_name, on_through, begin_down, root_short, hung, kid_differs, over_of, rehang, needed_on, fork_moved}
 
--- a front on two ways is shared
-pub shares : (a b : List ℕ) (k : ℕ) → k ≤ length a → k ≤ length b → take k a ≡ take k b → k ≤ shared a b
-shares a b k p q e = lists_are_chains.most a b k p q e
+module _ (hs : List Header) (ok : AreLedgers hs) (votes : List Vote) (S S' : Name → Option Span) (a c : Name) (V : AreSpans hs votes S (Some c)) (s : Span) (kid : IsKid S a c s) (empty : s.tip ≡ 0) where
+  -- no vote is for it, and it isn't the root
+  pub votes_off : (v : Vote) → In v votes → (b : Name) (u : Span) → S b ≡ Some u → u.ledger ≡ v.ledger → b ≢ c
+  votes_off v i b u e is same =
+      let own : u ≡ s = some_is u s (sym e ∙ ap S same ∙ kid.0) in
+      let some = count_some (λ (w : Vote). w.ledger == s.ledger) votes v i (eq-eqb v.ledger s.ledger (sym is ∙ ap (λ (x : Span). x.ledger) own)) in
+      omega (arith, some, empty, V.counted.tip c s kid.0)
 
-module _ (hs : List Header) (ok : AreLedgers hs) (votes : List Vote) (nodes : List (Slot Node)) (T : IsTrie hs votes nodes) (v : Vote) (kv : v.ledger < length hs) (p : Place) (P : IsPlace hs nodes v.ledger p) where
-  abbrev pub W : List ℕ
-  W = way hs v.ledger
+  pub root_off : (root : Name) → IsRoot S root → root ≢ c
+  root_off root r same =
+      let o = over_of hs ok S V.linked a c s kid in
+      let h = hung hs ok S V.linked a c o.0 s o.1 kid in
+      omega (arith, h.above, root_short hs ok s.ledger (ap (λ (x : Span). x.ledger) (some_is s r.0 (sym kid.0 ∙ ap S (sym same) ∙ r.1)) ∙ r.2))
 
-  abbrev pub x : ℕ
-  x = length (way hs P.node.ledger)
-
-  -- a spot has a vote below it, or is the root
-  pub record Below (z : List ℕ) : Type 0 where
-    pub way : List ℕ
-    pub voted : In way ([] ∷ ways hs votes)
-    pub low : length z ≤ length way
-    pub on : take (length z) way ≡ z
-
-  pub below_spot : (z : List ℕ) → OnSpot hs votes z → Below z
-  below_spot z s = let t = spot_top [] (length {A = ℕ}) at_seq shared lists_are_chains (ways hs votes) z s in record { way = t.0; voted = t.1; low = t.2; on = t.3 }
-
-  -- a vote whose way goes with the new one below the place goes into a child of it
-  pub record With (w : List ℕ) : Type 0 where
-    pub name : Name
-    pub node : Node
-    pub kid : IsKid nodes p.at name node
-    pub low : length (way hs node.ledger) ≤ length w
-    pub on : take (length (way hs node.ledger)) w ≡ way hs node.ledger
-    pub enters : Enters hs P.node node v.ledger
-
-  pub goes_with : (w : List ℕ) → In w (ways hs votes) → length (way hs P.node.ledger) < shared (way hs v.ledger) w → With w
-  goes_with w i lt =
-      let u = in_map (λ (y : Vote). way hs y.ledger) votes w i in
-      let of = voted_node hs ok votes nodes T u.0 u.1 in
-      let is : way hs of.node.ledger ≡ w = ap (way hs) of.is ∙ sym u.2 in
-      let lw = lists_are_chains.low w (way hs v.ledger) in
-      let lv = lists_are_chains.low (way hs v.ledger) w in
-      let turned = lists_are_chains.turn (way hs v.ledger) w in
-      let on_w : take x w ≡ way hs P.node.ledger = sym (lists_are_chains.same (way hs v.ledger) w x (omega (arith, lt))) ∙ P.on.1 in
-      let far : OnWay hs P.node.ledger of.node.ledger = (omega (arith, lt, lw, turned, ap (length {A = ℕ}) is), ap (take x) is ∙ on_w) in
-      let t = kid_toward hs ok nodes T.linked (length (way hs of.node.ledger)) p.at of.name P.node of.node P.there of.there (omega arith) (omega (arith, lt, lw, turned, ap (length {A = ℕ}) is)) far in
-      let h = hung hs ok nodes T.linked p.at t.name P.node t.node P.there t.kid in
-      let up = h.near.above in
-      let low : length (way hs t.node.ledger) ≤ length w = omega (arith, t.on.0, ap (length {A = ℕ}) is) in
-      let on : take (length (way hs t.node.ledger)) w ≡ way hs t.node.ledger = ap (take (length (way hs t.node.ledger))) (sym is) ∙ t.on.1 in
-      let first : way hs t.node.first ≡ take (x + 1) (way hs v.ledger) =
-      h.first ∙ ap (take (x + 1)) (sym on) ∙ lists_are_chains.again w (x + 1) (length (way hs t.node.ledger)) (omega (arith, up)) low ∙ sym (lists_are_chains.same (way hs v.ledger) w (x + 1) (omega (arith, lt))) in
-      record { name = t.name; node = t.node; kid = t.kid; low = low; on = on; enters = (omega (arith, lt, lv), first) }
-
-  -- ---- no child is entered
-  module _ (empty : (c : Name) (o : Node) → IsKid nodes p.at c o → Enters hs P.node o v.ledger → ⊥) where
-    most_none : (w : List ℕ) → In w ([] ∷ ways hs votes) → shared (way hs v.ledger) w ≤ x
-    most_none w (inl root) = omega (arith, ap (shared (way hs v.ledger)) root, lists_are_chains.turn (way hs v.ledger) [])
-    most_none w (inr i) = elim (cases_lt x (shared (way hs v.ledger) w)) [
-      | inr le ↦ le
-      | inl lt ↦ let g = goes_with w i lt in absurd (empty g.name g.node g.kid g.enters)
+  -- without children it goes
+  module _ (childless : (b : Name) (u : Span) → IsKid S c b u → ⊥) (B : Becomes S S' c None) where
+    from : (b : Name) (u : Span) → S' b ≡ Some u → (b ≢ c) × (S b ≡ Some u)
+    from b u e = elim (one_name b c) [
+      | inl same ↦ absurd (none_some u (sym B.changed ∙ ap S' (sym same) ∙ e))
+      | inr other ↦ (other, sym (B.others b other) ∙ e)
     ]
 
-    pub goes_none : goes hs votes v ≡ x
-    goes_none =
-        let b = below_spot (way hs P.node.ledger) (T.spots.each p.at P.node P.there) in
-        goes_is hs votes v x most_none b.way b.voted (shares (way hs v.ledger) b.way x P.on.0 b.low (P.on.1 ∙ sym b.on))
+    to : (b : Name) (u : Span) → S b ≡ Some u → b ≢ c → S' b ≡ Some u
+    to b u e other = B.others b other ∙ e
 
-    pub off_none : (a : Name) (n : Node) → get nodes a ≡ Some n → n.parent ≡ Some p.at → x < length (way hs v.ledger) → length (way hs v.ledger) < length (way hs n.ledger) → take (length (way hs v.ledger)) (way hs n.ledger) ≡ way hs v.ledger → ⊥
-    off_none a n e up lt deep on =
-        let h = hung hs ok nodes T.linked p.at a P.node n P.there (e, up) in
-        empty a n (e, up) (lt, h.first ∙ sym (lists_are_chains.again (way hs n.ledger) (x + 1) (length (way hs v.ledger)) (omega (arith, lt)) (omega (arith, deep))) ∙ ap (take (x + 1)) on)
+    dropped_linked : AreLinked hs S'
+    dropped_linked = relinked hs S S' V.linked (λ b u e. inl (record { span = u; there = (from b u e).1; ledger = refl; first = refl; parent = refl }))
+        (λ b u e k h. (h.over, to h.name h.over h.there (λ same. childless b k.span (k.there, h.is ∙ ap Some same)), refl))
 
-  -- ---- a child is entered
-  module _ (c : Name) (o : Node) (kid : IsKid nodes p.at c o) (enters : Enters hs P.node o v.ledger) where
-    abbrev pub s : ℕ
-    s = shared (way hs o.ledger) (way hs v.ledger)
+    pub dropped : AreSpans hs votes S' (Some a)
+    dropped = record {
+      known = V.known;
+      linked = dropped_linked;
+      voted = λ v i. let u = V.voted v i in (u.0, u.1, to u.0 u.1 u.2 (votes_off v i u.0 u.1 u.2 u.3), u.3);
+      counted = record { tip = λ b u e. V.counted.tip b u (from b u e).1; branch = λ b u e. V.counted.branch b u (from b u e).1 };
+      needed = λ b u e but.
+          let f = from b u e in
+          let off : (d : Name) (w : Span) → IsKid S b d w → d ≢ c = λ d w p same. but (sym kid.1 ∙ ap (λ (x : Span). x.parent) (some_is s w (sym kid.0 ∙ ap S (sym same) ∙ p.0)) ∙ p.1) in
+          needed_on S S' b u u (V.needed b u f.1 (λ is. f.0 (sym (some_is c b is)))) refl refl
+          (λ k. (k.0, k.1, k.2, k.3, (to k.0 k.2 k.4.0 (off k.0 k.2 k.4), k.4.1), (to k.1 k.3 k.5.0 (off k.1 k.3 k.5), k.5.1), k.6));
+    }
 
-    up : x < length (way hs o.ledger)
-    up = (hung hs ok nodes T.linked p.at c P.node o P.there kid).near.above
+    pub dropped_half : IsHalfNeeded S' a
+    dropped_half =
+        let o = over_of hs ok S V.linked a c s kid in
+        let differ = kid_differs hs ok S V.linked a c o.0 s o.1 kid in (
+          o.0,
+          to a o.0 o.1 differ,
+          elim (V.needed a o.0 o.1 (λ is. differ (sym (some_is c a is)))) [
+            | inl root ↦ inl (inl root)
+            | inr (inl tip) ↦ inl (inr (inl tip))
+            | inr (inr k) ↦ elim (one_name k.0 c) [
+              | inr other ↦ inr (k.0, k.2, (to k.0 k.2 k.4.0 other, k.4.1))
+              | inl same ↦ inr (k.1, k.3, (to k.1 k.3 k.5.0 (λ is. k.6 (same ∙ sym is)), k.5.1))
+            ]
+          ],
+        )
 
-    starts : take (x + 1) (way hs o.ledger) ≡ take (x + 1) (way hs v.ledger)
-    starts = sym (hung hs ok nodes T.linked p.at c P.node o P.there kid).first ∙ enters.1
+    pub dropped_root : (root : Name) → IsRoot S root → IsRoot S' root
+    dropped_root root r = (r.0, to root r.0 r.1 (root_off root r), r.2)
 
-    pub deeper_fork : x + 1 ≤ shared (way hs o.ledger) (way hs v.ledger)
-    deeper_fork = shares (way hs o.ledger) (way hs v.ledger) (x + 1) (omega (arith, up)) (omega (arith, enters.0)) starts
+  -- its one child takes its place
+  module _ (k : Name) (t : Span) (low : IsKid S c k t) (lone : (b : Name) (u : Span) → IsKid S c b u → b ≡ k) (I : IsMerged S S' a c k s t) where
+    rest : Span
+    rest = hung_at t (Some a) s.first
 
-    pub inside_fork : shared (way hs o.ledger) (way hs v.ledger) < length (way hs o.ledger)
-    inside_fork = elim (cases_lt (shared (way hs o.ledger) (way hs v.ledger)) (length (way hs o.ledger))) [
-      | inl lt ↦ lt
-      | inr ge ↦
-          let lw = lists_are_chains.low (way hs v.ledger) (way hs o.ledger) in
-          let turned = lists_are_chains.turn (way hs o.ledger) (way hs v.ledger) in
-          let on : OnWay hs o.ledger v.ledger = (omega (arith, ge, lw, turned), sym (lists_are_chains.same (way hs o.ledger) (way hs v.ledger) (length (way hs o.ledger)) ge) ∙ lists_are_chains.self (way hs o.ledger)) in
-          let le = P.deepest c o kid.0 on in
-          absurd (omega (arith, le, up))
+    off_k : (b d : Name) (u : Span) → b ≢ c → IsKid S b d u → d ≢ k
+    off_k b d u other p same = other (some_is b c (sym p.1 ∙ ap (λ (x : Span). x.parent) (some_is u t (sym p.0 ∙ ap S same ∙ low.0)) ∙ low.1))
+
+    -- a span was there before, and only that of k is another
+    record Was (b : Name) (u : Span) : Type 0 where
+      pub other : b ≢ c
+      pub span : Span
+      pub there : S b ≡ Some span
+      pub ledger : u.ledger ≡ span.ledger
+      pub tip : span.tip ≡ u.tip
+      pub branch : u.branch ≡ span.branch
+      pub is : ((b ≡ k) × (u ≡ hung_at t (Some a) s.first)) ⊎ ((b ≢ k) × (u ≡ span))
+
+    was : (b : Name) (u : Span) → S' b ≡ Some u → Was b u
+    was b u e =
+        let other : b ≢ c = λ same. none_some u (sym I.gone ∙ ap S' (sym same) ∙ e) in
+        elim (one_name b k) [
+          | inl same ↦
+              let is = some_is u (hung_at t (Some a) s.first) (sym e ∙ ap S' same ∙ I.rest) in
+              record { other = other; span = t; there = ap S same ∙ low.0; ledger = ap (λ (x : Span). x.ledger) is; tip = sym (ap (λ (x : Span). x.tip) is); branch = ap (λ (x : Span). x.branch) is; is = inl (same, is) }
+          | inr differs ↦ record { other = other; span = u; there = sym (I.others b other differs) ∙ e; ledger = refl; tip = refl; branch = refl; is = inr (differs, refl) }
+        ]
+
+    to_new : (b : Name) (u : Span) → S b ≡ Some u → b ≢ c → (w : Span) × (S' b ≡ Some w) × (u.ledger ≡ w.ledger)
+    to_new b u e other = elim (one_name b k) [
+      | inl same ↦ (hung_at t (Some a) s.first, ap S' same ∙ I.rest, ap (λ (x : Span). x.ledger) (some_is u t (sym e ∙ ap S same ∙ low.0)))
+      | inr differs ↦ (u, I.others b other differs ∙ e, refl)
     ]
 
-    low_v : shared (way hs o.ledger) (way hs v.ledger) ≤ length (way hs v.ledger)
-    low_v = omega (arith, lists_are_chains.low (way hs v.ledger) (way hs o.ledger), lists_are_chains.turn (way hs o.ledger) (way hs v.ledger))
+    -- what the child hangs at
+    rest_hangs : Hangs hs S' (hung_at t (Some a) s.first)
+    rest_hangs =
+        let o = over_of hs ok S V.linked a c s kid in
+        let h = hung hs ok S V.linked a c o.0 s o.1 kid in
+        let g = hung hs ok S V.linked c k s t kid.0 low in
+        let n = to_new a o.0 o.1 (kid_differs hs ok S V.linked a c o.0 s o.1 kid) in
+        rehang hs S S' (hung_at t (Some a) s.first) (record { name = a; over = o.0; is = refl; there = o.1; above = omega (arith, h.above, g.above); on = on_through hs o.0.ledger s.ledger t.ledger h.on g.on; first = begin_down hs s.ledger t.ledger o.0.ledger s.first g.on h.above h.first }) n.0 n.1 n.2
 
-    most_some : (w : List ℕ) → In w ([] ∷ ways hs votes) → shared (way hs v.ledger) w ≤ s
-    most_some w (inl root) = omega (arith, ap (shared (way hs v.ledger)) root, lists_are_chains.turn (way hs v.ledger) [])
-    most_some w (inr i) = elim (cases_lt s (shared (way hs v.ledger) w)) [
-      | inr le ↦ le
-      | inl lt ↦
-          let deep = deeper_fork in
-          let inner = inside_fork in
-          let g = goes_with w i (omega (arith, lt, deep)) in
-          let same : g.node.first ≡ o.first = way_one hs ok g.node.first o.first (T.linked.first g.name g.node g.kid.0) (T.linked.first c o kid.0) (g.enters.1 ∙ sym enters.1) in
-          let one = first_one hs ok votes nodes T p.at P.node P.there g.name c g.node o g.kid kid same in
-          let own : g.node ≡ o = some_is g.node o (sym g.kid.0 ∙ ap (get nodes) one ∙ kid.0) in
-          let on : take (length (way hs o.ledger)) w ≡ way hs o.ledger = subst (λ (n : Node). take (length (way hs n.ledger)) w ≡ way hs n.ledger) own g.on in
-          let low : length (way hs o.ledger) ≤ length w = subst (λ (n : Node). length (way hs n.ledger) ≤ length w) own g.low in
-          let lv = lists_are_chains.low (way hs v.ledger) w in
-          let both : take (s + 1) (way hs o.ledger) ≡ take (s + 1) (way hs v.ledger) =
-          ap (take (s + 1)) (sym on) ∙ lists_are_chains.again w (s + 1) (length (way hs o.ledger)) (omega (arith, inner)) low ∙ sym (lists_are_chains.same (way hs v.ledger) w (s + 1) (omega (arith, lt))) in
-          absurd (let more = shares (way hs o.ledger) (way hs v.ledger) (s + 1) (omega (arith, inner)) (omega (arith, lt, lv)) both in omega (arith, more))
-    ]
+    merged_linked : AreLinked hs S'
+    merged_linked = relinked hs S S' V.linked
+        (λ b u e. let w = was b u e in elim w.is [
+          | inl i ↦ inr (other_at hs S S' k b (hung_at t (Some a) s.first) u i.0 i.1 other_rest)
+          | inr i ↦ inl (record { span = u; there = w.there ∙ ap Some (sym i.1); ledger = refl; first = refl; parent = refl })
+        ])
+        (λ b u e p h. to_new h.name h.over h.there (λ same. elim (was b u e).is [
+          | inl i ↦ a_not_c (some_is a c (ap (λ (x : Span). x.parent) (sym i.1) ∙ sym p.parent ∙ h.is ∙ ap Some same))
+          | inr i ↦ i.0 (lone b p.span (p.there, h.is ∙ ap Some same))
+        ]))
+      where
+        a_not_c : a ≢ c
+        a_not_c = let o = over_of hs ok S V.linked a c s kid in kid_differs hs ok S V.linked a c o.0 s o.1 kid
 
-    pub goes_some : goes hs votes v ≡ shared (way hs o.ledger) (way hs v.ledger)
-    goes_some =
-        let b = below_spot (way hs o.ledger) (T.spots.each c o kid.0) in
-        let inner = inside_fork in
-        let low = b.low in
-        goes_is hs votes v s most_some b.way b.voted
-        (shares (way hs v.ledger) b.way s low_v (omega (arith, inner, low))
-        (sym (lists_are_chains.same (way hs o.ledger) (way hs v.ledger) s (let r : s ≤ s = omega arith in r)) ∙ ap (take s) (sym b.on) ∙ lists_are_chains.again b.way s (length (way hs o.ledger)) (omega (arith, inner)) low))
+        other_rest : Other hs S S' k (hung_at t (Some a) s.first)
+        other_rest = record {
+          known = V.linked.known k t low.0;
+          first = V.linked.first c s kid.0;
+          hangs = rest_hangs;
+          one = λ d w g same. let n = was d w g in V.linked.one d k n.span t n.there low.0 (sym n.ledger ∙ same);
+          apart = λ b d w p q same. let n = was d w q.0 in elim n.is [
+            | inl i ↦ i.0
+            | inr i ↦ absurd (n.other (V.linked.apart a d c w s (n.there ∙ ap Some (sym i.1), q.1 ∙ sym p.1) kid same))
+          ];
+        }
 
-    -- where the way leaves the span
-    module _ (d : ℕ) (kd : d < length hs) (is : way hs d ≡ take (shared (way hs o.ledger) (way hs v.ledger)) (way hs o.ledger)) where
-      pub size_fork : length (way hs d) ≡ shared (way hs o.ledger) (way hs v.ledger)
-      size_fork = ap (length {A = ℕ}) is ∙ lists_are_chains.place (way hs o.ledger) s (omega (arith, inside_fork))
+    pub merged : AreSpans hs votes S' None
+    merged = record {
+      known = V.known;
+      linked = merged_linked;
+      voted = λ v i. let u = V.voted v i in let w = to_new u.0 u.1 u.2 (votes_off v i u.0 u.1 u.2 u.3) in (u.0, w.0, w.1, sym w.2 ∙ u.3);
+      counted = record {
+        tip = λ b u e. let w = was b u e in sym w.tip ∙ V.counted.tip b w.span w.there ∙ ap (tip_of votes) (sym w.ledger);
+        branch = λ b u e. let w = was b u e in w.branch ∙ V.counted.branch b w.span w.there ∙ ap (branch_of hs votes) (sym w.ledger);
+      };
+      needed = λ b u e but.
+          let w = was b u e in
+          needed_on S S' b w.span u (V.needed b w.span w.there (λ is. w.other (sym (some_is c b is)))) (sym w.ledger) w.tip
+          (fork_moved S S' b c k (λ p q. off_k b k p w.other q refl) (λ d p q. (
+            (λ other. (p, (I.others d other (off_k b d p w.other q) ∙ q.0, q.1))),
+            (λ same. (hung_at t (Some a) s.first, (I.rest, sym kid.1 ∙ ap (λ (x : Span). x.parent) (some_is s p (sym kid.0 ∙ ap S (sym same) ∙ q.0)) ∙ q.1))),
+          )));
+    }
 
-      pub on_kid : OnWay hs d o.ledger
-      on_kid = (omega (arith, size_fork, inside_fork), ap (λ k. take k (way hs o.ledger)) size_fork ∙ sym is)
+    pub merged_root : (root : Name) → IsRoot S root → IsRoot S' root
+    merged_root root r = let w = to_new root r.0 r.1 (root_off root r) in (w.0, w.1, sym w.2 ∙ r.2)
 
-      pub on_new : OnWay hs d v.ledger
-      on_new = (omega (arith, size_fork, low_v), ap (λ k. take k (way hs v.ledger)) size_fork ∙ sym (lists_are_chains.same (way hs o.ledger) (way hs v.ledger) s (let r : s ≤ s = omega arith in r)) ∙ sym is)
+-- where the one that isn't known to be needed is needed, all are
+pub all_needed : (hs : List Header) (votes : List Vote) (S : Name → Option Span) (c : Name) (V : AreSpans hs votes S (Some c)) → ((s : Span) → S c ≡ Some s → IsNeeded S c s) → AreSpans hs votes S None
+all_needed hs votes S c V need = record {
+  known = V.known;
+  linked = V.linked;
+  voted = V.voted;
+  counted = V.counted;
+  needed = λ b u e _. elim (one_name c b) [
+    | inl same ↦ subst (λ (x : Name). IsNeeded S x u) same (need u (ap S same ∙ e))
+    | inr other ↦ V.needed b u e (λ is. other (some_is c b is))
+  ];
+}
 
-      pub fork_alone : Stands hs nodes (way hs d) → ⊥
-      fork_alone st =
-          let le = P.deepest st.0 st.1 st.2 (subst (λ (w : List ℕ). (length w ≤ length (way hs v.ledger)) × (take (length w) (way hs v.ledger) ≡ w)) (sym st.3) on_new) in
-          omega (arith, le, ap (length {A = ℕ}) st.3, size_fork, deeper_fork)
+-- more may be needed than is said
+less_needed : (hs : List Header) (votes : List Vote) (S : Name → Option Span) (c : Name) → AreSpans hs votes S None → AreSpans hs votes S (Some c)
+less_needed hs votes S c V = record { known = V.known; linked = V.linked; voted = V.voted; counted = V.counted; needed = λ b u e _. V.needed b u e (λ none. none_some b none) }
 
-      pub fork_hangs : Hangs hs nodes (fork_of p.at d o)
-      fork_hangs = record {
-        name = p.at;
-        over = P.node;
-        is = refl;
-        there = P.there;
-        near = record {
-          member = (p.at, P.node, P.there, refl);
-          on = (front_of hs P.node.ledger d v.ledger P.on on_new (omega (arith, size_fork, deeper_fork))).1;
-          above = omega (arith, size_fork, deeper_fork);
-          nearest = λ z st lt on.
-              let far : OnWay hs st.1.ledger v.ledger = on_through hs st.1.ledger d v.ledger (omega (arith, lt, ap (length {A = ℕ}) st.3), ap (λ (w : List ℕ). take (length w) (way hs d)) st.3 ∙ on ∙ sym st.3) on_new in
-              let le = P.deepest st.0 st.1 st.2 far in omega (arith, le, ap (length {A = ℕ}) st.3);
-        };
-        first = (hung hs ok nodes T.linked p.at c P.node o P.there kid).first ∙ sym (lists_are_chains.again (way hs o.ledger) (x + 1) s deeper_fork (omega (arith, inside_fork))) ∙ ap (take (x + 1)) (sym is);
-      }
-
-      pub fork_off : (a : Name) (n : Node) → get nodes a ≡ Some n → n.parent ≡ Some p.at → length (way hs d) < length (way hs n.ledger) → take (length (way hs d)) (way hs n.ledger) ≡ way hs d → a ≡ c
-      fork_off a n e par lt on =
-          let h = hung hs ok nodes T.linked p.at a P.node n P.there (e, par) in
-          let first : way hs n.first ≡ way hs o.first =
-          h.first ∙ sym (lists_are_chains.again (way hs n.ledger) (x + 1) (length (way hs d)) (omega (arith, size_fork, deeper_fork)) (omega (arith, lt))) ∙ ap (take (x + 1)) on
-          ∙ ap (take (x + 1)) is ∙ lists_are_chains.again (way hs o.ledger) (x + 1) s deeper_fork (omega (arith, inside_fork)) ∙ sym (hung hs ok nodes T.linked p.at c P.node o P.there kid).first in
-          first_one hs ok votes nodes T p.at P.node P.there a c n o (e, par) kid (way_one hs ok n.first o.first (T.linked.first a n e) (T.linked.first c o kid.0) first)
-
-      pub fork_tip : 0 ≡ tip_of votes d
-      fork_tip = sym (zero_if (tip_of votes d) (λ some.
-          let u = counted (λ (w : Vote). w.ledger == d) votes some in
-          let same : u.0.ledger ≡ d = eqb-true u.0.ledger d u.2 in
-          let of = voted_node hs ok votes nodes T u.0 u.1 in
-          fork_alone (of.name, of.node, of.there, ap (way hs) (of.is ∙ same))))
-
-      pub fork_branch : o.branch ≡ branch_of hs votes d
-      fork_branch = T.counted.branch c o kid.0 ∙ sym (span_branch hs ok votes nodes T p.at c P.node o P.there kid d s kd is (omega (arith, deeper_fork)) (omega (arith, inside_fork)))
-
-      -- where the new ledger is elsewhere, it isn't above the child
-      pub new_off : d ≢ v.ledger → is_on_chain hs v.ledger o.ledger ≡ false
-      new_off other = false_if (is_on_chain hs v.ledger o.ledger) (λ t.
-          let on = on_true hs ok v.ledger o.ledger (T.linked.known c o kid.0) t in
-          let all : length (way hs v.ledger) ≤ s = shares (way hs o.ledger) (way hs v.ledger) (length (way hs v.ledger)) on.0 (let r : length (way hs v.ledger) ≤ length (way hs v.ledger) = omega arith in r) (on.1 ∙ sym (lists_are_chains.self (way hs v.ledger))) in
-          other (way_one hs ok d v.ledger kd kv (is ∙ ap (λ k. take k (way hs o.ledger)) (omega (arith, all, low_v)) ∙ on.1)))
-
-      pub new_under : d ≢ v.ledger → length (way hs d) < length (way hs v.ledger)
-      new_under other = elim (cases_lt (length (way hs d)) (length (way hs v.ledger))) [
-        | inl lt ↦ lt
-        | inr ge ↦ absurd (other (way_one hs ok d v.ledger kd kv (sym on_new.1 ∙ ap (λ k. take k (way hs v.ledger)) (let e : length (way hs d) ≡ length (way hs v.ledger) = omega (arith, ge, on_new.0) in e) ∙ lists_are_chains.self (way hs v.ledger))))
-      ]
+pub less_known : (hs : List Header) (votes : List Vote) (nodes : List (Slot Node)) (c : Name) → IsTrie hs votes nodes → IsTrieBut hs votes nodes (Some c)
+less_known hs votes nodes c T = record { spans = less_needed hs votes (spans nodes) c T.spans; kids = T.kids }

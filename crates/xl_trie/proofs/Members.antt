@@ -1,121 +1,85 @@
--- The one vote of a member, among the votes of others.
-use Rattle.std.proofs.Common.{◌≡◌, ℕ, ◌<◌, ◌==◌, ◌||◌, false, List, [], ◌∷◌, ◌++◌, length, refl, sym, ap, subst, ◌∙◌, inl, inr}
-use Rattle.std.specs.Prelude.{map}
-use Rattle.std.specs.List.{count_by}
-use Rattle.std.proofs.lemmas.Bool.{cases_Bool, eq-eqb, ne_eqb}
-use Rattle.xl_ledger.specs.declared.header.Header.{Header}
-use Rattle.xl_ledger.specs.declared.vote.Vote.{Vote}
-use Rattle.xl_ledger.specs.Votes.{AreSame, has_voted, without}
-use Rattle.xl_ledger.proofs.Orders.{voted_first, without_one, tip_alike, branch_alike, length_alike}
-use Rattle.xl_pool.specs.Pools.{Slot}
-use Rattle.xl_trie.specs.declared.node.Node.{Node}
-use Rattle.xl_trie.specs.Chains.{In}
-use Rattle.xl_trie.specs.Sets.{Apart}
-use Rattle.xl_trie.specs.Ways.{way, ways}
-use Rattle.xl_trie.specs.Tries.{OnSpot, IsTrie}
-use Rattle.xl_trie.proofs.Listing.{all_in, all_of, in_either, in_first, in_second, true_false}
-use Rattle.xl_trie.proofs.Counts.{in_map, to_map}
-use Rattle.xl_trie.proofs.Lines.{in_middle, to_middle, apart_not, apart_more, apart_less}
+-- The votes of members, as one's comes or goes.
+use Rattle.std.proofs.Common.{◌≡◌, ℕ, ◌+◌, ◌==◌, ◌||◌, Bool, true, false, not, cond, List, [], ◌∷◌, ◌++◌, refl, sym, ap, subst, ◌∙◌, arith, inl, inr}
+use Rattle.xl_trie.proofs.Common.{map, count_by, cases_Bool, eqb-false, eq-eqb, ne_eqb, Vote, has_voted, without, OneMore, OneFewer, changed, IsChange, In, Apart}
+use Rattle.xl_trie.proofs.Listing.{or_last, true_false, in_either, in_filter, in_map, to_map, count_cons}
 
 abbrev pub members : List Vote → List ℕ
 members votes = map (λ v. v.member) votes
 
-members_append : (xs ys : List Vote) → members (xs ++ ys) ≡ members xs ++ members ys
-members_append [] ys = refl
-members_append (x ∷ xs) ys = ap (λ m. x.member ∷ m) (members_append xs ys)
+voted_if : (votes : List Vote) (v : Vote) → In v votes → has_voted votes v.member ≡ true
+voted_if [] v i = absurd i
+voted_if (w ∷ votes) v (inl same) = ap (λ b. b || has_voted votes v.member) (eq-eqb w.member v.member (ap (λ (x : Vote). x.member) (sym same)))
+voted_if (w ∷ votes) v (inr i) = or_last (w.member == v.member) (has_voted votes v.member) (voted_if votes v i)
 
-append_none : (xs : List ℕ) → xs ++ [] ≡ xs
-append_none [] = refl
-append_none (x ∷ xs) = ap (λ m. x ∷ m) (append_none xs)
+-- ---- one more
 
-not_member : (votes : List Vote) (member : ℕ) → has_voted votes member ≡ false → In member (members votes) → ⊥
-not_member [] member none i = i
-not_member (v ∷ votes) member none (inl same) = true_false (has_voted (v ∷ votes) member) (ap (λ b. b || has_voted votes member) (eq-eqb v.member member (sym same))) none
-not_member (v ∷ votes) member none (inr i) = elim (cases_Bool (v.member == member)) [
-  | inl t ↦ true_false (has_voted (v ∷ votes) member) (ap (λ b. b || has_voted votes member) t) none
-  | inr f ↦ not_member votes member (sym (ap (λ b. b || has_voted votes member) f) ∙ none) i
+count_last : (p : Vote → Bool) (votes : List Vote) (v : Vote) → count_by p (votes ++ v ∷ []) ≡ cond (p v) 1 0 + count_by p votes
+count_last p [] v = count_cons p v []
+count_last p (w ∷ votes) v = let r = count_last p votes v in omega (arith, r, count_cons p w (votes ++ v ∷ []), count_cons p w votes)
+
+more_if : (b : Bool) (n k : ℕ) → n ≡ cond b 1 0 + k → n ≡ cond b (k + 1) k
+more_if true n k e = omega (arith, e)
+more_if false n k e = omega (arith, e)
+
+pub one_more : (votes : List Vote) (v : Vote) → IsChange OneMore v votes (votes ++ v ∷ [])
+one_more votes v = record {
+  counts = λ p. more_if (p v) (count_by p (votes ++ v ∷ [])) (count_by p votes) (count_last p votes v);
+  from = λ w i. elim (in_either votes (v ∷ []) w i) [ inl j ↦ inl j | inr (inl same) ↦ inr same | inr (inr wrong) ↦ absurd wrong ];
+}
+
+pub members_more : (votes : List Vote) (v : Vote) → Apart (members votes) → has_voted votes v.member ≡ false → Apart (members (votes ++ v ∷ []))
+members_more [] v apart none = ((λ i. i), tt)
+members_more (w ∷ votes) v apart none = elim (cases_Bool (w.member == v.member)) [
+  | inl t ↦ true_false (has_voted (w ∷ votes) v.member) (ap (λ b. b || has_voted votes v.member) t) none
+  | inr f ↦ (
+    (λ i.
+        let u = in_map (λ (x : Vote). x.member) (votes ++ v ∷ []) w.member i in
+        elim (in_either votes (v ∷ []) u.0 u.1) [
+          | inl j ↦ apart.0 (subst (λ m. In m (members votes)) (sym u.2) (to_map (λ (x : Vote). x.member) votes u.0 j))
+          | inr (inl same) ↦ eqb-false w.member v.member f (u.2 ∙ ap (λ (x : Vote). x.member) same)
+          | inr (inr wrong) ↦ wrong
+        ]),
+    members_more votes v apart.1 (sym (ap (λ b. b || has_voted votes v.member) f) ∙ none),
+  )
 ]
 
-no_member : (votes : List Vote) (member : ℕ) → (In member (members votes) → ⊥) → has_voted votes member ≡ false
-no_member [] member none = refl
-no_member (v ∷ votes) member none = ap (λ b. b || has_voted votes member) (ne_eqb v.member member (λ e. none (inl (sym e)))) ∙ no_member votes member (λ i. none (inr i))
+-- ---- one fewer
 
--- one more
-pub members_more : (votes : List Vote) (v : Vote) → Apart (members votes) → has_voted votes v.member ≡ false → Apart (members (votes ++ v ∷ []))
-members_more votes v apart none =
-    subst Apart (sym (members_append votes (v ∷ [])))
-    (apart_more (members votes) [] v.member (subst Apart (sym (append_none (members votes))) apart) (λ i. not_member votes v.member none (subst (In v.member) (append_none (members votes)) i)))
+others_of : (votes : List Vote) (member : ℕ) → (In member (members votes) → ⊥) → without votes member ≡ votes
+others_of [] member none = refl
+others_of (w ∷ votes) member none =
+    ap (λ b. cond (not b) (w ∷ without votes member) (without votes member)) (ne_eqb w.member member (λ e. none (inl (sym e))))
+    ∙ ap (λ ws. w ∷ ws) (others_of votes member (λ i. none (inr i)))
 
--- the votes around one of them
-pub record Around (votes : List Vote) (v : Vote) : Type 0 where
-  pub front : List Vote
-  pub rest : List Vote
-  pub is : votes ≡ front ++ v ∷ rest
+count_without : (p : Vote → Bool) (votes : List Vote) (v : Vote) → In v votes → Apart (members votes) → count_by p votes ≡ cond (p v) 1 0 + count_by p (without votes v.member)
+count_without p [] v i apart = absurd i
+count_without p (w ∷ votes) v (inl same) apart =
+    let one : w.member ≡ v.member = ap (λ (x : Vote). x.member) (sym same) in
+    let rest : without (w ∷ votes) v.member ≡ votes = ap (λ b. cond (not b) (w ∷ without votes v.member) (without votes v.member)) (eq-eqb w.member v.member one) ∙ others_of votes v.member (λ i. apart.0 (subst (λ m. In m (members votes)) (sym one) i)) in
+    omega (arith, count_cons p w votes, ap (count_by p) rest, ap (λ (x : Vote). cond {A = ℕ} (p x) 1 0) same)
+count_without p (w ∷ votes) v (inr i) apart =
+    let other : w.member ≡ v.member → ⊥ = λ e. apart.0 (subst (λ m. In m (members votes)) (sym e) (to_map (λ (x : Vote). x.member) votes v i)) in
+    let rest : without (w ∷ votes) v.member ≡ w ∷ without votes v.member = ap (λ b. cond (not b) (w ∷ without votes v.member) (without votes v.member)) (ne_eqb w.member v.member other) in
+    let r = count_without p votes v i apart.1 in
+    omega (arith, r, count_cons p w votes, count_cons p w (without votes v.member), ap (count_by p) rest)
 
-pub around : (votes : List Vote) (v : Vote) → In v votes → Around votes v
-around [] v i = absurd i
-around (w ∷ votes) v (inl e) = record { front = []; rest = votes; is = ap (λ u. u ∷ votes) (sym e) }
-around (w ∷ votes) v (inr i) = let r = around votes v i in record { front = w ∷ r.front; rest = r.rest; is = ap (λ us. w ∷ us) r.is }
+fewer_if : (b : Bool) (n k : ℕ) → k ≡ cond b 1 0 + n → n ≡ cond b (changed OneFewer k) k
+fewer_if true n k e = omega (arith, e)
+fewer_if false n k e = omega (arith, e)
 
-module _ (hs : List Header) (votes : List Vote) (v : Vote) (i : In v votes) (apart : Apart (members votes)) where
-  abbrev pub parts : Around votes v
-  parts = around votes v i
+pub one_fewer : (votes : List Vote) (v : Vote) → In v votes → Apart (members votes) → IsChange OneFewer v votes (without votes v.member)
+one_fewer votes v i apart = record {
+  counts = λ p. fewer_if (p v) (count_by p (without votes v.member)) (count_by p votes) (count_without p votes v i apart);
+  from = λ w j. inl (in_filter (λ (x : Vote). not (x.member == v.member)) votes w j).0;
+}
 
-  split_apart : Apart (members parts.front ++ v.member ∷ members parts.rest)
-  split_apart = subst Apart (ap members parts.is ∙ members_append parts.front (v ∷ parts.rest)) apart
+pub members_less : (votes : List Vote) (member : ℕ) → Apart (members votes) → Apart (members (without votes member))
+members_less [] member apart = tt
+members_less (w ∷ votes) member apart = by_test (not (w.member == member)) (members_less votes member apart.1)
+  where
+    off : In w.member (members (without votes member)) → ⊥
+    off i = let u = in_map (λ (x : Vote). x.member) (without votes member) w.member i in apart.0 (subst (λ m. In m (members votes)) (sym u.2) (to_map (λ (x : Vote). x.member) votes u.0 (in_filter (λ (x : Vote). not (x.member == member)) votes u.0 u.1).0))
 
-  -- the votes of all others
-  pub without_is : without votes v.member ≡ parts.front ++ parts.rest
-  without_is =
-      ap (λ us. without us v.member) parts.is
-      ∙ without_one parts.front v parts.rest v.member refl
-      (no_member parts.front v.member (λ j. apart_not (members parts.front) (members parts.rest) v.member split_apart (in_first (members parts.front) (members parts.rest) v.member j)))
-      (no_member parts.rest v.member (λ j. apart_not (members parts.front) (members parts.rest) v.member split_apart (in_second (members parts.front) (members parts.rest) v.member j)))
-
-  abbrev pub last : List Vote
-  last = without votes v.member ++ v ∷ []
-
-  same_votes : AreSame votes (without votes v.member ++ v ∷ [])
-  same_votes = subst (λ us. AreSame us (without votes v.member ++ v ∷ [])) (sym parts.is) (voted_first parts.front v parts.rest (without votes v.member) (λ p. ap (λ us. count_by p us) (sym without_is)))
-
-  pub last_length : length (without votes v.member ++ v ∷ []) ≡ length votes
-  last_length = sym (length_alike votes (without votes v.member ++ v ∷ []) same_votes)
-
-  to_last : (u : Vote) → In u votes → In u (without votes v.member ++ v ∷ [])
-  to_last u j = elim (in_middle parts.front parts.rest v u (subst (In u) parts.is j)) [
-    | inl same ↦ in_second (without votes v.member) (v ∷ []) u (inl same)
-    | inr k ↦ in_first (without votes v.member) (v ∷ []) u (subst (In u) (sym without_is) k)
-  ]
-
-  of_last : (u : Vote) → In u (without votes v.member ++ v ∷ []) → In u votes
-  of_last u j = elim (in_either (without votes v.member) (v ∷ []) u j) [
-    | inl k ↦ subst (In u) (sym parts.is) (to_middle parts.front parts.rest v u (subst (In u) without_is k))
-    | inr (inl same) ↦ subst (λ w. In w votes) (sym same) i
-    | inr (inr wrong) ↦ absurd wrong
-  ]
-
-  spot_to : (us ws : List Vote) → ((u : Vote) → In u us → In u ws) → (z : List ℕ) → OnSpot hs us z → OnSpot hs ws z
-  spot_to us ws to z s = record { one = s.one; two = s.two; one_in = rooted s.one s.one_in; two_in = rooted s.two s.two_in; is = s.is }
-    where
-      rooted : (x : List ℕ) → In x ([] ∷ ways hs us) → In x ([] ∷ ways hs ws)
-      rooted x (inl e) = inl e
-      rooted x (inr j) = inr (let u = in_map (λ (w : Vote). way hs w.ledger) us x j in subst (λ y. In y (ways hs ws)) (sym u.2) (to_map (λ (w : Vote). way hs w.ledger) ws u.0 (to u.0 u.1)))
-
-  -- the member's vote as the last one
-  pub trie_last : (nodes : List (Slot Node)) → IsTrie hs votes nodes → IsTrie hs (without votes v.member ++ v ∷ []) nodes
-  trie_last nodes T = record {
-    known = all_of (λ (w : Vote). w.ledger < length hs) (without votes v.member ++ v ∷ []) (λ u j. all_in (λ (w : Vote). w.ledger < length hs) votes T.known u (of_last u j));
-    linked = T.linked;
-    spots = record {
-      each = λ a n e. spot_to votes (without votes v.member ++ v ∷ []) to_last (way hs n.ledger) (T.spots.each a n e);
-      all = λ z s. T.spots.all z (spot_to (without votes v.member ++ v ∷ []) votes of_last z s);
-    };
-    counted = record {
-      tip = λ a n e. T.counted.tip a n e ∙ tip_alike votes (without votes v.member ++ v ∷ []) same_votes n.ledger;
-      branch = λ a n e. T.counted.branch a n e ∙ branch_alike hs votes (without votes v.member ++ v ∷ []) same_votes n.ledger;
-    };
-  }
-
-  -- the others' members still differ
-  pub members_less : Apart (members (without votes v.member))
-  members_less = subst (λ us. Apart (members us)) (sym without_is) (subst Apart (sym (members_append parts.front parts.rest)) (apart_less (members parts.front) (members parts.rest) v.member split_apart))
+    by_test : (b : Bool) → Apart (members (without votes member)) → Apart (members (cond b (w ∷ without votes member) (without votes member)))
+    by_test true rest = (off, rest)
+    by_test false rest = rest

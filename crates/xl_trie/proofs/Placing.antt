@@ -1,109 +1,143 @@
--- The deepest node on a way.
-use Rattle.std.proofs.Common.{◌≡◌, ℕ, zero, suc, ◌+◌, ◌<◌, ◌≤◌, false, List, length, take, slice_get, Some, None, refl, sym, ap, subst, ◌∙◌, arith, inl, inr}
-use Rattle.std.proofs.lemmas.Bool.{cases_lt, cases_eq}
-use Rattle.xl_ledger.specs.declared.header.Header.{Header}
-use Rattle.xl_ledger.specs.declared.vote.Vote.{Vote}
-use Rattle.xl_ledger.specs.Chains.{seq_at, chain, AreLedgers}
-use Rattle.xl_ledger.specs.Votes.{is_on_chain}
-use Rattle.xl_pool.specs.Pools.{Slot, get}
-use Rattle.xl_pool.specs.declared.name.Name.{Name}
-use Rattle.xl_trie.specs.declared.node.Node.{Node}
-use Rattle.xl_trie.specs.Ways.{way}
-use Rattle.xl_trie.specs.Tries.{IsKid, AreLinked, IsTrie}
-use Rattle.xl_trie.specs.Leading.{BeginsAt}
-use Rattle.xl_trie.specs.Places.{OnWay, Enters, IsPlace}
-use Rattle.xl_trie.proofs.Lists.{lists_are_chains}
-use Rattle.xl_trie.proofs.Listing.{some_is, true_false}
-use Rattle.xl_trie.proofs.Ways.{length_way, way_at, way_one, on_from}
-use Rattle.xl_trie.proofs.Hanging.{hang, hung}
-use Rattle.xl_trie.proofs.Firsts.{first_one}
+-- The deepest span that ends on a way, and what its place tells of votes.
+use Rattle.std.proofs.Common.{◌≡◌, ◌≢◌, ℕ, ◌+◌, ◌<◌, ◌≤◌, ◌==◌, true, false, List, length, take, Option, Some, None, slice_get, sym, ap, subst, ◌∙◌, arith, inl, inr}
+use Rattle.xl_trie.proofs.Common.{cases_lt, cases_Bool, eqb-true, eqb-false, slice_get_within, Header, Vote, seq_at, chain, AreLedgers, is_on_chain, tip_of, branch_of, length-chain, of_chain, Name, Span, Place, IsKid, BeginsAt, Enters, EntersAt, IsPlace, AreLinked, AreSpans, HasSpan, way, OnWay, IsBegin}
+use Rattle.xl_trie.proofs.Listing.{some_is, true_false, false_if, counted}
+use Rattle.xl_trie.proofs.Trees.{on_self, front_of, on_through, begin_up, same_ledger, hung, one_kid, leads_to, toward, toward_vote, known_vote, span_branch}
+use Rattle.xl_trie.proofs.Ways.{length_way, way_at, way_one, on_true, on_from}
 
--- a front of a front
-pub front_of : (hs : List Header) (x y to : ℕ) → OnWay hs x to → OnWay hs y to → length (way hs x) ≤ length (way hs y) → OnWay hs x y
-front_of hs x y to p q le = (le, ap (take (length (way hs x))) (sym q.1) ∙ lists_are_chains.again (way hs to) (length (way hs x)) (length (way hs y)) le q.0 ∙ p.1)
+pub zero_if : (n : ℕ) → (0 < n → ⊥) → n ≡ 0
+zero_if n none = elim (cases_lt 0 n) [ inl some ↦ absurd (none some) | inr le ↦ omega (arith, le) ]
 
-pub on_through : (hs : List Header) (x y to : ℕ) → OnWay hs x y → OnWay hs y to → OnWay hs x to
-on_through hs x y to p q = (omega (arith, p.0, q.0), sym (lists_are_chains.again (way hs to) (length (way hs x)) (length (way hs y)) p.0 q.0) ∙ ap (take (length (way hs x))) q.1 ∙ p.1)
+module _ (hs : List Header) (ok : AreLedgers hs) where
+  -- a deeper ledger isn't on a chain
+  pub on_low : (ledger of : ℕ) → of < length hs → seq_at hs of < seq_at hs ledger → false ≡ is_on_chain hs ledger of
+  on_low ledger of ko lt = sym (false_if (is_on_chain hs ledger of) (λ t. let on = on_true hs ok ledger of ko t in omega (arith, on.0, lt, length_way hs ledger, length_way hs of)))
 
-module _ (hs : List Header) (ok : AreLedgers hs) (nodes : List (Slot Node)) (L : AreLinked hs nodes) where
-  -- a child on the way from a node to one below it
-  pub record Toward (a : Name) (to : ℕ) : Type 0 where
-    pub name : Name
-    pub node : Node
-    pub kid : IsKid nodes a name node
-    pub on : OnWay hs node.ledger to
-
-  pub kid_toward : (k : ℕ) (a b : Name) (n m : Node) → get nodes a ≡ Some n → get nodes b ≡ Some m → length (way hs m.ledger) ≤ k → length (way hs n.ledger) < length (way hs m.ledger) → OnWay hs n.ledger m.ledger → Toward a m.ledger
-  kid_toward zero a b n m e f le lt on = absurd (omega arith)
-  kid_toward (suc k) a b n m e f le lt on =
-      let h = hang hs ok nodes L b m f (omega arith) in
-      let o = h.over in
-      let up = h.near.above in
-      let low = h.near.nearest (way hs n.ledger) (a, n, e, refl) lt on.1 in
-      let over_on : OnWay hs o.ledger m.ledger = (omega (arith, up), h.near.on) in
-      elim (cases_eq (length (way hs n.ledger)) (length (way hs o.ledger))) [
-        | inl same ↦
-            let one : way hs o.ledger ≡ way hs n.ledger = sym h.near.on ∙ ap (λ j. take j (way hs m.ledger)) (sym same) ∙ on.1 in
-            let name : h.name ≡ a = L.one h.name a o n h.there e (way_one hs ok o.ledger n.ledger (L.known h.name o h.there) (L.known a n e) one) in
-            record { name = b; node = m; kid = (f, h.is ∙ ap Some name); on = ((let s : length (way hs m.ledger) ≤ length (way hs m.ledger) = omega arith in s), lists_are_chains.self (way hs m.ledger)) }
+  -- what stands where a ledger would stand tells whether it is on the chain
+  pub on_at : (ledger of x : ℕ) → ledger < length hs → of < length hs → slice_get (chain hs of) (seq_at hs ledger) ≡ Some x → (x == ledger) ≡ is_on_chain hs ledger of
+  on_at ledger of x kl ko at =
+      let is = way_at hs ok of (seq_at hs ledger) x ko at ∙ ap (λ k. take k (way hs of)) (sym (length_way hs ledger)) in
+      let low = slice_get_within (chain hs of) (seq_at hs ledger) x at in
+      elim (cases_Bool (x == ledger)) [
+        | inl same ↦ same ∙ sym (on_from hs ok ledger of kl ko (omega (arith, low, length-chain hs of, length_way hs ledger, length_way hs of), sym is ∙ ap (way hs) (eqb-true x ledger same)))
         | inr other ↦
-            let t = kid_toward k a h.name n o e h.there (omega arith) (omega (arith, low, other)) (front_of hs n.ledger o.ledger m.ledger on over_on low) in
-            record { name = t.name; node = t.node; kid = t.kid; on = on_through hs t.node.ledger o.ledger m.ledger t.on over_on }
+            other ∙ sym (false_if (is_on_chain hs ledger of) (λ t.
+            eqb-false x ledger other (way_one hs ok x ledger (of_chain hs ok of ko (seq_at hs ledger) x at).known kl (is ∙ (on_true hs ok ledger of ko t).1))))
       ]
 
-  module _ (to : ℕ) (kt : to < length hs) (a : Name) (n : Node) (e : get nodes a ≡ Some n) (on : OnWay hs n.ledger to) where
-    -- a child on the way is entered
-    pub enters_if : (c : Name) (o : Node) → IsKid nodes a c o → OnWay hs o.ledger to → Enters hs n o to
-    enters_if c o kid far =
-        let h = hung hs ok nodes L a c n o e kid in
-        let lt = h.near.above in
-        (omega (arith, lt, far.0), h.first ∙ ap (take (length (way hs n.ledger) + 1)) (sym far.1) ∙ lists_are_chains.again (way hs to) (length (way hs n.ledger) + 1) (length (way hs o.ledger)) (omega (arith, lt)) far.0)
+module _ (hs : List Header) (ok : AreLedgers hs) (S : Name → Option Span) (L : AreLinked hs S) (to : ℕ) (kt : to < length hs) (a : Name) (s : Span) (e : S a ≡ Some s) (on : OnWay hs s.ledger to) where
+  -- none is deeper, where no child ends on the way
+  deepest_if : ((c : Name) (t : Span) → IsKid S a c t → OnWay hs t.ledger to → ⊥) → (b : Name) (t : Span) → S b ≡ Some t → OnWay hs t.ledger to → length (way hs t.ledger) ≤ length (way hs s.ledger)
+  deepest_if none b t f far = elim (cases_lt (length (way hs s.ledger)) (length (way hs t.ledger))) [
+    | inr le ↦ le
+    | inl lt ↦
+        let u = toward hs ok S L (length (way hs t.ledger)) a b s t e f (omega arith) (front_of hs s.ledger t.ledger to on far (omega (arith, lt))) lt in
+        absurd (none u.name u.span u.kid (on_through hs u.span.ledger t.ledger to u.on far))
+  ]
 
-    deepest_if : ((c : Name) (o : Node) → IsKid nodes a c o → OnWay hs o.ledger to → ⊥) → (b : Name) (m : Node) → get nodes b ≡ Some m → OnWay hs m.ledger to → length (way hs m.ledger) ≤ length (way hs n.ledger)
-    deepest_if none b m f far = elim (cases_lt (length (way hs n.ledger)) (length (way hs m.ledger))) [
-      | inr le ↦ le
-      | inl lt ↦
-          let t = kid_toward (length (way hs m.ledger)) a b n m e f (omega arith) lt (front_of hs n.ledger m.ledger to on far (omega arith)) in
-          absurd (none t.name t.node t.kid (on_through hs t.node.ledger m.ledger to t.on far))
-    ]
+  pub place_end : seq_at hs to ≤ seq_at hs s.ledger → IsPlace hs S to (record { at = a; within = None })
+  place_end le = record {
+    span = s;
+    there = e;
+    on = on;
+    deepest = λ b t f far. omega (arith, le, far.0, length_way hs to, length_way hs s.ledger);
+    enters = λ c t kid enters. omega (arith, le, enters.0, length_way hs to, length_way hs s.ledger);
+  }
 
-    pub place_end : seq_at hs to ≤ seq_at hs n.ledger → IsPlace hs nodes to (record { at = a; within = None })
-    place_end le = record {
-      node = n;
-      there = e;
-      on = on;
-      deepest = λ b m f far. omega (arith, le, far.0, length_way hs to, length_way hs n.ledger);
-      enters = λ c o kid enters. omega (arith, le, enters.0, length_way hs to, length_way hs n.ledger);
-    }
+  module _ (next : ℕ) (at : slice_get (chain hs to) (seq_at hs s.ledger + 1) ≡ Some next) (kn : next < length hs) where
+    next_is : IsBegin hs to s.ledger next
+    next_is = way_at hs ok to (seq_at hs s.ledger + 1) next kt at ∙ ap (λ k. take (k + 1) (way hs to)) (sym (length_way hs s.ledger))
 
-    module _ (next : ℕ) (at : slice_get (chain hs to) (seq_at hs n.ledger + 1) ≡ Some next) (kn : next < length hs) where
-      next_way : way hs next ≡ take (length (way hs n.ledger) + 1) (way hs to)
-      next_way = way_at hs ok to (seq_at hs n.ledger + 1) next kt at ∙ ap (λ k. take (k + 1) (way hs to)) (sym (length_way hs n.ledger))
+    first_is : (c : Name) (t : Span) → IsKid S a c t → IsBegin hs to s.ledger t.first → t.first ≡ next
+    first_is c t kid begin = way_one hs ok t.first next (L.first c t kid.0) kn (begin ∙ sym next_is)
 
-      next_is : (c : Name) (o : Node) → IsKid nodes a c o → Enters hs n o to → o.first ≡ next
-      next_is c o kid enters = way_one hs ok o.first next (L.first c o kid.0) kn (enters.1 ∙ sym next_way)
+    pub place_none : BeginsAt S a next None → IsPlace hs S to (record { at = a; within = None })
+    place_none none =
+        let empty : (c : Name) (t : Span) → IsKid S a c t → IsBegin hs to s.ledger t.first → ⊥ = λ c t kid begin. elim (none c t kid) [ inl wrong ↦ wrong | inr other ↦ other (first_is c t kid begin) ] in
+        record {
+          span = s;
+          there = e;
+          on = on;
+          deepest = deepest_if (λ c t kid far. empty c t kid (leads_to hs ok S L a c s t to e kid far));
+          enters = λ c t kid enters. empty c t kid enters.1;
+        }
 
-      pub place_none : BeginsAt nodes a next None → IsPlace hs nodes to (record { at = a; within = None })
-      place_none none =
-          let empty : (c : Name) (o : Node) → IsKid nodes a c o → Enters hs n o to → ⊥ = λ c o kid enters. elim (none c o kid) [ inl wrong ↦ wrong | inr other ↦ other (next_is c o kid enters) ] in
-          record { node = n; there = e; on = on; deepest = deepest_if (λ c o kid far. empty c o kid (enters_if c o kid far)); enters = empty }
+    pub place_within : seq_at hs s.ledger < seq_at hs to → (c : Name) → BeginsAt S a next (Some c) → (t : Span) → S c ≡ Some t → is_on_chain hs t.ledger to ≡ false → IsPlace hs S to (record { at = a; within = Some c })
+    place_within lt c begins t there off =
+        let own = some_is begins.0 t (sym begins.1.0 ∙ there) in
+        let kid : IsKid S a c t = subst (IsKid S a c) own begins.1 in
+        let begin : IsBegin hs to s.ledger t.first = ap (way hs) (ap (λ (x : Span). x.first) (sym own) ∙ begins.2) ∙ next_is in
+        record {
+          span = s;
+          there = e;
+          on = on;
+          deepest = deepest_if (λ d u is far.
+              let one = one_kid hs ok S L a d c s u t to is kid (leads_to hs ok S L a d s u to e is far) begin in
+              let span : u ≡ t = some_is u t (sym is.0 ∙ ap S one ∙ there) in
+              true_false (is_on_chain hs t.ledger to) (on_from hs ok t.ledger to (L.known c t there) kt (subst (λ (x : Span). OnWay hs x.ledger to) span far)) off);
+          enters = (t, kid, ((omega (arith, lt, length_way hs to, length_way hs s.ledger)), begin));
+        }
 
-module _ (hs : List Header) (ok : AreLedgers hs) (votes : List Vote) (nodes : List (Slot Node)) (T : IsTrie hs votes nodes) (to : ℕ) (kt : to < length hs) (a : Name) (n : Node) (e : get nodes a ≡ Some n) (on : OnWay hs n.ledger to) where
-  pub place_within : (next : ℕ) → slice_get (chain hs to) (seq_at hs n.ledger + 1) ≡ Some next → next < length hs → seq_at hs n.ledger < seq_at hs to → (c : Name) → BeginsAt nodes a next (Some c) → (o : Node) → get nodes c ≡ Some o → is_on_chain hs o.ledger to ≡ false → IsPlace hs nodes to (record { at = a; within = Some c })
-  place_within next at kn lt c begins o there off =
-      let own = some_is begins.0 o (sym begins.1.0 ∙ there) in
-      let kid : IsKid nodes a c o = subst (λ (x : Node). IsKid nodes a c x) own begins.1 in
-      let first : o.first ≡ next = ap (λ (x : Node). x.first) (sym own) ∙ begins.2 in
-      let enters : Enters hs n o to = (omega (arith, lt, length_way hs to, length_way hs n.ledger), ap (way hs) first ∙ way_at hs ok to (seq_at hs n.ledger + 1) next kt at ∙ ap (λ k. take (k + 1) (way hs to)) (sym (length_way hs n.ledger))) in
-      record {
-        node = n;
-        there = e;
-        on = on;
-        deepest = deepest_if hs ok nodes T.linked to kt a n e on (λ d p is far.
-            let other = enters_if hs ok nodes T.linked to kt a n e on d p is far in
-            let same : p.first ≡ o.first = way_one hs ok p.first o.first (T.linked.first d p is.0) (T.linked.first c o kid.0) (other.1 ∙ sym enters.1) in
-            let one : d ≡ c = first_one hs ok votes nodes T a n e d c p o is kid same in
-            let node : p ≡ o = some_is p o (sym is.0 ∙ ap (get nodes) one ∙ there) in
-            true_false (is_on_chain hs o.ledger to) (on_from hs ok o.ledger to (T.linked.known c o there) kt (subst (λ (x : Node). OnWay hs x.ledger to) node far)) off);
-        enters = (o, kid, enters);
-      }
+-- a child is deeper
+pub deeper : (hs : List Header) (ok : AreLedgers hs) (S : Name → Option Span) (L : AreLinked hs S) (a b : Name) (s t : Span) → S a ≡ Some s → IsKid S a b t → seq_at hs s.ledger < seq_at hs t.ledger
+deeper hs ok S L a b s t e kid = let h = hung hs ok S L a b s t e kid in omega (arith, h.above, length_way hs s.ledger, length_way hs t.ledger)
+
+-- ---- how many votes a ledger has, from the place of its way
+
+module _ (hs : List Header) (ok : AreLedgers hs) (S : Name → Option Span) (votes : List Vote) (but : Option Name) (V : AreSpans hs votes S but) (x : ℕ) (kx : x < length hs) (p : Place) (P : IsPlace hs S x p) where
+  -- a ledger at which a span ends has its place there
+  pub at_span : HasSpan S x → P.span.ledger ≡ x
+  at_span of =
+      let le = P.deepest of.0 of.1 of.2 (subst (λ y. OnWay hs y x) (sym of.3) (on_self hs x)) in
+      same_ledger hs ok P.span.ledger x (V.linked.known p.at P.span P.there) kx P.on (omega (arith, le, ap (λ y. length (way hs y)) of.3))
+
+  pub tip_none : P.span.ledger ≢ x → 0 ≡ tip_of votes x
+  tip_none other = sym (zero_if (tip_of votes x) (λ some.
+      let v = counted (λ (w : Vote). w.ledger == x) votes some in
+      other (at_span (subst (HasSpan S) (eqb-true v.0.ledger x v.2) (V.voted v.0 v.1)))))
+
+  pub below : P.span.ledger ≢ x → length (way hs P.span.ledger) < length (way hs x)
+  below other = elim (cases_lt (length (way hs P.span.ledger)) (length (way hs x))) [
+    | inl lt ↦ lt
+    | inr le ↦ absurd (other (same_ledger hs ok P.span.ledger x (V.linked.known p.at P.span P.there) kx P.on le))
+  ]
+
+  -- inside a span it has those of the span
+  pub branch_inside : P.span.ledger ≢ x → (c : Name) (t : Span) → IsKid S p.at c t → is_on_chain hs x t.ledger ≡ true → t.branch ≡ branch_of hs votes x
+  branch_inside other c t kid is = sym (span_branch hs ok S V.linked votes but V p.at c P.span t x P.there kid kx (on_true hs ok x t.ledger (V.linked.known c t kid.0) is) (below other))
+
+  -- a ledger with votes below its place is inside a child's span
+  record Inside : Type 0 where
+    pub name : Name
+    pub span : Span
+    pub kid : IsKid S p.at name span
+    pub enters : Enters hs P.span span x
+    pub inside : is_on_chain hs x span.ledger ≡ true
+
+  inside_if : P.span.ledger ≢ x → 0 < branch_of hs votes x → Inside
+  inside_if other some =
+      let v = counted (λ (w : Vote). is_on_chain hs x w.ledger) votes some in
+      let on = on_true hs ok x v.0.ledger (known_vote hs ok S V.linked votes but V v.0 v.1) v.2 in
+      let lt = below other in
+      let u = toward_vote hs ok S V.linked votes but V p.at P.span v.0 P.there v.1 (on_through hs P.span.ledger x v.0.ledger P.on on) (omega (arith, lt, on.0)) in
+      let h = hung hs ok S V.linked p.at u.name P.span u.span P.there u.kid in
+      let short : length (way hs x) < length (way hs u.span.ledger) = elim (cases_lt (length (way hs x)) (length (way hs u.span.ledger))) [
+        | inl gt ↦ gt
+        | inr le ↦ absurd (let d = P.deepest u.name u.span u.kid.0 (front_of hs u.span.ledger x v.0.ledger u.on on le) in omega (arith, d, h.above))
+      ] in
+      let inside = front_of hs x u.span.ledger v.0.ledger on u.on (omega (arith, short)) in
+      record { name = u.name; span = u.span; kid = u.kid; enters = (lt, begin_up hs x u.span.ledger P.span.ledger u.span.first inside lt h.first); inside = on_from hs ok x u.span.ledger kx (V.linked.known u.name u.span u.kid.0) inside }
+
+  -- elsewhere it has none
+  pub branch_none : P.span.ledger ≢ x → p.within ≡ None → 0 ≡ branch_of hs votes x
+  branch_none other none = sym (zero_if (branch_of hs votes x) (λ some.
+      let u = inside_if other some in
+      (subst (EntersAt hs S p.at P.span x) none P.enters) u.name u.span u.kid u.enters))
+
+  pub branch_outside : P.span.ledger ≢ x → (c : Name) (t : Span) → p.within ≡ Some c → S c ≡ Some t → is_on_chain hs x t.ledger ≡ false → 0 ≡ branch_of hs votes x
+  branch_outside other c t some there off = sym (zero_if (branch_of hs votes x) (λ more.
+      let u = inside_if other more in
+      let w = subst (EntersAt hs S p.at P.span x) some P.enters in
+      let one = one_kid hs ok S V.linked p.at u.name c P.span u.span w.0 x u.kid w.1 u.enters.1 w.2.1 in
+      let span : u.span ≡ t = some_is u.span t (sym u.kid.0 ∙ ap S one ∙ there) in
+      true_false (is_on_chain hs x t.ledger) (subst (λ (y : Span). is_on_chain hs x y.ledger ≡ true) span u.inside) off))

@@ -1,18 +1,6 @@
 -- The order of spans, and which child leads.
 use Rattle.std.proofs.Common.{◌≡◌, ◌≢◌, true, false, List, ◌∷◌, Option, Some, None, refl, sym, ap, subst, ◌∙◌, inl, inr}
-use Rattle.std.specs.declared.cmp.Ordering.{Ordering}
-use Rattle.std.specs.declared.cmp.Ordering.TheVariants.{Less, Equal, Greater}
-use Rattle.std.specs.Ordering.{nat_cmp, ordering_then, ordering_reverse, is_gt}
-use Rattle.std.specs.Cmp.{IsTotalOrder}
-use Rattle.std.proofs.lemmas.Cmp.{upto, nat_cmp_total, nat_list_cmp_total, on_total, then_total}
-use Rattle.xl_ledger.specs.declared.header.Header.{Header}
-use Rattle.xl_ledger.specs.Chains.{id_at}
-use Rattle.xl_ledger.specs.Votes.{id_rank}
-use Rattle.xl_pool.specs.Pools.{Slot, get}
-use Rattle.xl_pool.specs.declared.name.Name.{Name}
-use Rattle.xl_trie.specs.declared.node.Node.{Node}
-use Rattle.xl_trie.specs.Tries.{IsKid}
-use Rattle.xl_trie.specs.Leading.{leads, IsBestSoFar}
+use Rattle.xl_trie.proofs.Common.{Ordering, Less, Equal, Greater, nat_cmp, ordering_then, ordering_reverse, is_gt, IsTotalOrder, upto, nat_cmp_total, nat_list_cmp_total, on_total, then_total, Header, id_at, id_rank, Name, Span, IsKid, leads, IsBestSoFar}
 use Rattle.xl_trie.proofs.Listing.{some_is}
 
 back : (r s : Ordering) → s ≡ ordering_reverse r → is_gt r ≡ true → is_gt s ≡ false
@@ -26,29 +14,29 @@ never_self Equal e = refl
 never_self Greater e = absurd cc
 
 module _ (hs : List Header) where
-  order : IsTotalOrder (λ (a b : Node). ordering_then (nat_cmp a.branch b.branch) (id_rank hs a.first b.first))
-  order = then_total (on_total (λ (n : Node). n.branch) nat_cmp_total) (on_total (λ (n : Node). (id_at hs n.first).0) nat_list_cmp_total)
+  order : IsTotalOrder (λ (a b : Span). ordering_then (nat_cmp a.branch b.branch) (id_rank hs a.first b.first))
+  order = then_total (on_total (λ (n : Span). n.branch) nat_cmp_total) (on_total (λ (n : Span). (id_at hs n.first).0) nat_list_cmp_total)
 
-  pub lead_back : (a b : Node) → leads hs a b ≡ true → leads hs b a ≡ false
+  pub lead_back : (a b : Span) → leads hs a b ≡ true → leads hs b a ≡ false
   lead_back a b h = back (ordering_then (nat_cmp a.branch b.branch) (id_rank hs a.first b.first)) (ordering_then (nat_cmp b.branch a.branch) (id_rank hs b.first a.first)) (order.antisymm b a) h
 
-  pub lead_self : (a : Node) → leads hs a a ≡ false
+  pub lead_self : (a : Span) → leads hs a a ≡ false
   lead_self a = never_self (ordering_then (nat_cmp a.branch a.branch) (id_rank hs a.first a.first)) (order.antisymm a a)
 
   -- whom no one leads is led by no one behind
-  pub lead_through : (a b c : Node) → leads hs a b ≡ false → leads hs c b ≡ true → leads hs a c ≡ false
+  pub lead_through : (a b c : Span) → leads hs a b ≡ false → leads hs c b ≡ true → leads hs a c ≡ false
   lead_through a b c p q = upto order a b c p (lead_back c b q)
 
-  module _ (nodes : List (Slot Node)) (out : Option Name) (a : Name) (rest : List Name) where
+  module _ (S : Name → Option Span) (out : Option Name) (a : Name) (rest : List Name) where
     -- the first that is looked at
-    pub best_first : (best : Option Name) (name : Name) (n : Node) → best ≡ None → out ≢ Some name → IsKid nodes a name n → IsBestSoFar hs nodes a out (name ∷ rest) best → IsBestSoFar hs nodes a out rest (Some name)
+    pub best_first : (best : Option Name) (name : Name) (n : Span) → best ≡ None → out ≢ Some name → IsKid S a name n → IsBestSoFar hs S a out (name ∷ rest) best → IsBestSoFar hs S a out rest (Some name)
     best_first None name n none other kid so = (
       n,
       kid,
       other,
       λ b m k. elim (so b m k) [
         | inl (inl same) ↦
-            let e : m ≡ n = some_is m n (sym k.0 ∙ ap (get nodes) same ∙ kid.0) in
+            let e : m ≡ n = some_is m n (sym k.0 ∙ ap S same ∙ kid.0) in
             inr (inr (subst (λ x. leads hs x n ≡ false) (sym e) (lead_self n)))
         | inl (inr i) ↦ inl i
         | inr is ↦ inr (inl is)
@@ -57,17 +45,17 @@ module _ (hs : List Header) where
     best_first (Some t) name n none other kid so = absurd cc
 
     -- one that leads the best
-    pub best_next : (best : Option Name) (t name : Name) (n m : Node) → best ≡ Some t → get nodes t ≡ Some m → out ≢ Some name → IsKid nodes a name n → leads hs n m ≡ true → IsBestSoFar hs nodes a out (name ∷ rest) best → IsBestSoFar hs nodes a out rest (Some name)
+    pub best_next : (best : Option Name) (t name : Name) (n m : Span) → best ≡ Some t → S t ≡ Some m → out ≢ Some name → IsKid S a name n → leads hs n m ≡ true → IsBestSoFar hs S a out (name ∷ rest) best → IsBestSoFar hs S a out rest (Some name)
     best_next None t name n m is there other kid lead so = absurd cc
     best_next (Some s) t name n m is there other kid lead so =
         let same : s ≡ t = some_is s t is in
-        let own : so.0 ≡ m = some_is so.0 m (sym so.1.0 ∙ ap (get nodes) same ∙ there) in (
+        let own : so.0 ≡ m = some_is so.0 m (sym so.1.0 ∙ ap S same ∙ there) in (
           n,
           kid,
           other,
           λ b k is_kid. elim (so.3 b k is_kid) [
             | inl (inl here) ↦
-                let e : k ≡ n = some_is k n (sym is_kid.0 ∙ ap (get nodes) here ∙ kid.0) in
+                let e : k ≡ n = some_is k n (sym is_kid.0 ∙ ap S here ∙ kid.0) in
                 inr (inr (subst (λ x. leads hs x n ≡ false) (sym e) (lead_self n)))
             | inl (inr i) ↦ inl i
             | inr (inl gone) ↦ inr (inl gone)

@@ -1,169 +1,243 @@
--- A new node between a node and its child: each node's children are linked as before, with the new one in the child's place.
-use Rattle.std.proofs.Common.{◌≡◌, ◌≢◌, ◌⊎◌, ℕ, ◌+◌, List, [], ◌∷◌, ◌++◌, length, Option, Some, None, refl, sym, ap, subst, ◌∙◌, inl, inr}
-use Rattle.xl_pool.specs.Pools.{Slot, get, live, Updates}
-use Rattle.xl_pool.specs.declared.name.Name.{Name}
-use Rattle.xl_trie.specs.declared.node.Node.{Node}
-use Rattle.xl_trie.specs.Chains.{In}
-use Rattle.xl_trie.specs.Sets.{Apart}
-use Rattle.xl_trie.specs.Tries.{Leads, IsKid, HasKids}
-use Rattle.xl_trie.specs.Linking.{IsBefore, LeadsNow, AreAlike, HasMoved, HasCome, AllKids, AllHang}
-use Rattle.xl_trie.proofs.Listing.{some_is, in_first, in_second}
-use Rattle.xl_trie.proofs.Opening.{one_name}
-use Rattle.xl_trie.proofs.Coming.{live_name}
-use Rattle.xl_trie.proofs.Lines.{came_from, leads_frame, kids_kept, alike_through, twice, in_middle, to_middle, at_middle, apart_less, apart_more, Line, line_at, line_others, Slid, slid}
+-- A span is split where the way to a ledger leaves it: t, that of a's child k, at the ledger l, under the new name d.
+use Rattle.std.proofs.Common.{◌≡◌, ◌≢◌, ◌⊎◌, ℕ, ◌+◌, ◌<◌, ◌==◌, List, length, take, Option, Some, None, refl, sym, ap, subst, ◌∙◌, arith, inl, inr}
+use Rattle.xl_trie.proofs.Common.{cases_lt, eqb-true, Header, Vote, seq_at, common_of, AreLedgers, tip_of, branch_of, Name, Span, Place, IsSplit, IsKid, hung_at, IsPlace, AreLinked, HasFork, IsHalfNeeded, AreSpans, IsRoot, way, OnWay, IsBegin}
+use Rattle.xl_trie.proofs.Fronts.{shared, take_all, take_len, shared_low, shared_low_right, shared_same, shared_most}
+use Rattle.xl_trie.proofs.Listing.{some_is, none_some, counted}
+use Rattle.xl_trie.proofs.Placing.{zero_if}
+use Rattle.xl_trie.proofs.Relinking.{Other, other_at, relinked}
+use Rattle.xl_trie.proofs.Trees.{Hung, hung, one_name, front_of, begin_up, kid_differs, over_of, span_branch, needed_on, fork_moved}
+use Rattle.xl_trie.proofs.Ways.{length_way, common_way}
 
-module _ (p0 p1 p2 p3 : List (Slot Node)) (K : AllKids p0) (H : AllHang p0) (x c d : Name) (xn cn v1 v3 : Node) (last : Option Name) (e : get p0 x ≡ Some xn) (kid : IsKid p0 x c cn) (differ : x ≢ c) (before : IsBefore p0 x c last) (fresh : get p0 d ≡ None) (up1 : Updates p0 p1 d (Some v1)) (up2 : LeadsNow p1 p2 x last (Some d)) (up3 : Updates p2 p3 c (Some v3)) (parent : v1.parent ≡ Some x) (child : v1.child ≡ Some c) (sibling : v1.sibling ≡ cn.sibling) (parent3 : v3.parent ≡ Some d) (child3 : v3.child ≡ cn.child) (sibling3 : v3.sibling ≡ None) where
-  line : Line p0 x xn (K x xn e) c cn kid last
-  line = line_at p0 x xn (K x xn e) c cn kid last before
+-- where the ways part
+pub record Parting (hs : List Header) (s t : Span) (to l : ℕ) : Type 0 where
+  pub lower : length (way hs s.ledger) < length (way hs l)
+  pub inside : length (way hs l) < length (way hs t.ledger)
+  pub on_t : OnWay hs l t.ledger
+  pub on_to : OnWay hs l to
+  pub most : length (way hs l) ≡ shared (way hs t.ledger) (way hs to)
 
-  in_p1 : (a : Name) (n : Node) → get p0 a ≡ Some n → get p1 a ≡ Some n
-  in_p1 a n f = up1.others a (live_name p0 a d n f fresh) ∙ f
-
-  S : Slid p1 p2 x xn last (Some d)
-  S = slid p1 p2 x xn last (Some d) (in_p1 x xn e) up2
-
-  c_not_d : c ≢ d
-  c_not_d = live_name p0 c d cn kid.0 fresh
-
-  last_kid : (b : Name) → last ≡ Some b → (b ≢ c) × ((k : Node) × IsKid p0 x b k)
-  last_kid b is = line_others p0 x xn (K x xn e) c cn kid last line b (in_front b (line.before b is))
-    where
-      in_front : (b : Name) → In b line.front → In b (line.front ++ line.rest)
-      in_front b i = in_first line.front line.rest b i
-
-  fresh_last : last ≢ Some d
-  fresh_last is = let k = (last_kid d is).1 in live_name p0 d d k.0 k.1.0 fresh refl
-
-  -- what the names find
-  at_d : (o : Node) × (get p3 d ≡ Some o) × AreAlike v1 o × (o.child ≡ Some c) × (o.sibling ≡ cn.sibling)
-  at_d =
-      let s = S.each d v1 up1.changed in
-      (s.0, up3.others d (λ same. c_not_d (sym same)) ∙ s.1, s.2, s.3 (λ same. live_name p0 x d xn e fresh (sym same)) ∙ child, s.4 fresh_last ∙ sibling)
-
-  each_of : (a : Name) (n : Node) → get p0 a ≡ Some n → a ≢ c → (o : Node) × (get p3 a ≡ Some o) × AreAlike n o × (a ≢ x → o.child ≡ n.child) × (last ≢ Some a → o.sibling ≡ n.sibling)
-  each_of a n f other = let s = S.each a n (in_p1 a n f) in (s.0, up3.others a other ∙ s.1, s.2, s.3, s.4)
-
-  back_of : (a : Name) (o : Node) → get p3 a ≡ Some o → (a ≡ d) ⊎ ((n : Node) × (get p0 a ≡ Some n))
-  back_of a o f = elim (came_from p2 p3 c v3 up3 a o f) [
-    | inl h ↦ inr (cn, ap (get p0) h.0 ∙ kid.0)
-    | inr h ↦
-        let n = S.back a o h.1 in
-        elim (came_from p0 p1 d v1 up1 a n.0 n.1) [ inl k ↦ inl k.0 | inr k ↦ inr (n.0, k.1) ]
-  ]
-
-  -- a child is the new node, the one that moved, or was one before
-  kid_back : (a b : Name) (o : Node) → IsKid p3 a b o → ((b ≡ d) × (a ≡ x)) ⊎ (((b ≡ c) × (a ≡ d)) ⊎ ((b ≢ c) × ((n : Node) × IsKid p0 a b n)))
-  kid_back a b o is = elim (one_name b c) [
-    | inl same ↦
-        let own : o ≡ v3 = some_is o v3 (sym is.0 ∙ ap (get p3) same ∙ up3.changed) in
-        inr (inl (same, some_is a d (sym is.1 ∙ ap (λ (y : Node). y.parent) own ∙ parent3)))
-    | inr other ↦ elim (back_of b o is.0) [
-      | inl new ↦
-          let own : at_d.0 ≡ o = some_is at_d.0 o (sym at_d.1 ∙ ap (get p3) (sym new) ∙ is.0) in
-          inl (new, some_is a x (sym is.1 ∙ ap (λ (y : Node). y.parent) (sym own) ∙ at_d.2.parent ∙ parent))
-      | inr h ↦
-          let g = each_of b h.0 h.1 other in
-          let own : g.0 ≡ o = some_is g.0 o (sym g.1 ∙ is.0) in
-          inr (inr (other, (h.0, (h.1, sym g.2.parent ∙ ap (λ (y : Node). y.parent) own ∙ is.1))))
-    ]
-  ]
-
-  -- the line of another node stays
-  stays : (a : Name) (n o : Node) → a ≢ x → a ≢ d → get p0 a ≡ Some n → o.child ≡ n.child → HasKids p3 a o
-  stays a n o other old f same = kids_kept p0 p3 a n o (K a n f) same
-      (λ b m is.
-      let not_c : b ≢ c = λ h. other (some_is a x (sym is.1 ∙ ap (λ (y : Node). y.parent) (some_is m cn (sym is.0 ∙ ap (get p0) h ∙ kid.0)) ∙ kid.1)) in
-      let g = each_of b m is.0 not_c in
-      let not_last : last ≢ Some b = λ h. let k = (last_kid b h).1 in other (some_is a x (sym is.1 ∙ ap (λ (y : Node). y.parent) (some_is m k.0 (sym is.0 ∙ k.1.0)) ∙ k.1.1)) in
-      (g.0, g.1, g.4 not_last, g.2.parent))
-      (λ b k is. elim (kid_back a b k is) [
-        | inl h ↦ absurd (other h.1)
-        | inr (inl h) ↦ absurd (old h.1)
-        | inr (inr h) ↦ h.1
-      ])
-
-  of_line : (b : Name) → In b (line.front ++ line.rest) → (b ≢ c) × ((k : Node) × IsKid p0 x b k)
-  of_line b i = line_others p0 x xn (K x xn e) c cn kid last line b i
-
-  at_x : (o : Node) → get p3 x ≡ Some o → HasKids p3 x o
-  at_x o f =
-      let up = S.each x xn (in_p1 x xn e) in
-      let there : get p3 x ≡ Some up.0 = up3.others x differ ∙ up.1 in
-      let own : up.0 ≡ o = some_is up.0 o (sym there ∙ f) in
-      let rest : Leads p3 cn.sibling line.rest = leads_frame p0 p3 cn.sibling line.rest line.leads (λ b m i g.
-      let k = of_line b (in_second line.front line.rest b i) in
-      let s = each_of b m g k.0 in
-      (s.0, s.1, s.4 (λ h. front_rest b (line.before b h) i))) in
+module _ (hs : List Header) (ok : AreLedgers hs) (S : Name → Option Span) (L : AreLinked hs S) (a k : Name) (to : ℕ) (P : IsPlace hs S to (record { at = a; within = Some k })) where
+  pub parting : (l : ℕ) → way hs l ≡ take (shared (way hs P.enters.0.ledger) (way hs to)) (way hs P.enters.0.ledger) → Parting hs P.span P.enters.0 to l
+  parting l is =
+      let s = P.span in
+      let t = P.enters.0 in
+      let h = hung hs ok S L a k s t P.there P.enters.1 in
+      let n = shared (way hs t.ledger) (way hs to) in
+      let low = shared_low (way hs t.ledger) (way hs to) in
+      let right = shared_low_right (way hs t.ledger) (way hs to) in
+      let size : length (way hs l) ≡ n = ap (length {A = ℕ}) is ∙ take_len (way hs t.ledger) n low in
+      let deep = shared_most (way hs t.ledger) (way hs to) (length (way hs s.ledger) + 1) (omega (arith, h.above)) (omega (arith, P.enters.2.0)) (sym h.first ∙ P.enters.2.1) in
+      let short : n < length (way hs t.ledger) = elim (cases_lt n (length (way hs t.ledger))) [
+        | inl lt ↦ lt
+        | inr ge ↦
+            let all = shared_same (way hs t.ledger) (way hs to) (length (way hs t.ledger)) ge in
+            let far : OnWay hs t.ledger to = (omega (arith, ge, right), sym all ∙ take_all (way hs t.ledger)) in
+            absurd (let le = P.deepest k t P.enters.1.0 far in omega (arith, le, h.above))
+      ] in
       record {
-        kids = line.front ++ d ∷ line.rest;
-        leads = line.goes p3 o (Some d) (d ∷ line.rest)
-            (λ none. ap (λ (y : Node). y.child) (sym own) ∙ S.first none up.0 up.1)
-            (λ b is. let l = S.later b is in (ap (λ (y : Node). y.child) (sym own) ∙ l.0 up.0 up.1, (l.1.0, up3.others b (last_kid b is).0 ∙ l.1.1, l.1.2)))
-            (λ b k i g other. let s = each_of b k g (of_line b (in_first line.front line.rest b i)).0 in (s.0, s.1, s.4 other))
-            (refl, (at_d.0, at_d.1, subst (λ s. Leads p3 s line.rest) (sym at_d.4) rest));
-        apart = apart_more line.front line.rest d (apart_less line.front line.rest c (subst Apart line.is (K x xn e).apart)) (λ i. let k = (of_line d i).1 in live_name p0 d d k.0 k.1.0 fresh refl);
-        each = λ b i. elim (in_middle line.front line.rest d b i) [
-          | inl same ↦ (at_d.0, (ap (get p3) same ∙ at_d.1, at_d.2.parent ∙ parent))
-          | inr j ↦ let k = of_line b j in let s = each_of b k.1.0 k.1.1.0 k.0 in (s.0, (s.1, s.2.parent ∙ k.1.1.1))
-        ];
-        all = λ b m is. elim (kid_back x b m is) [
-          | inl h ↦ subst (λ (y : Name). In y (line.front ++ d ∷ line.rest)) (sym h.0) (at_middle line.front line.rest d)
-          | inr (inl h) ↦ absurd (live_name p0 x d xn e fresh h.1)
-          | inr (inr h) ↦
-              elim (in_middle line.front line.rest c b (subst (In b) line.is ((K x xn e).all b h.1.0 h.1.1))) [
-                | inl same ↦ absurd (h.0 same)
-                | inr j ↦ to_middle line.front line.rest d b j
-              ]
-        ];
+        lower = omega (arith, size, deep);
+        inside = omega (arith, size, short);
+        on_t = (omega (arith, size, low), ap (λ j. take j (way hs t.ledger)) size ∙ sym is);
+        on_to = (omega (arith, size, right), ap (λ j. take j (way hs to)) size ∙ sym (shared_same (way hs t.ledger) (way hs to) n (omega arith)) ∙ sym is);
+        most = size;
       }
-    where
-      front_rest : (b : Name) → In b line.front → In b line.rest → ⊥
-      front_rest b i j = twice line.front line.rest b (apart_less line.front line.rest c (subst Apart line.is (K x xn e).apart)) i j
 
-  split_kids : (a : Name) (o : Node) → get p3 a ≡ Some o → HasKids p3 a o
-  split_kids a o f = elim (back_of a o f) [
-    | inl new ↦
-        let own : at_d.0 ≡ o = some_is at_d.0 o (sym at_d.1 ∙ ap (get p3) (sym new) ∙ f) in
-        record {
-          kids = c ∷ [];
-          leads = (ap (λ (y : Node). y.child) (sym own) ∙ at_d.3, (v3, up3.changed, sibling3));
-          apart = ((λ i. i), tt);
-          each = λ b i. elim i [ inl same ↦ (v3, (ap (get p3) same ∙ up3.changed, parent3 ∙ ap Some (sym new))) | inr empty ↦ absurd empty ];
-          all = λ b m is. elim (kid_back a b m is) [
-            | inl h ↦ absurd (live_name p0 x d xn e fresh (sym h.1 ∙ new))
-            | inr (inl h) ↦ inl h.0
-            | inr (inr h) ↦ let over = H b h.1.0 a h.1.1.0 h.1.1.1 in absurd (live_name p0 a d over.0 over.1 fresh new)
-          ];
-        }
-    | inr h ↦
-        let not_d = live_name p0 a d h.0 h.1 fresh in
-        elim (one_name a x) [
-          | inl same ↦ subst (λ (y : Name). HasKids p3 y o) (sym same) (at_x o (ap (get p3) (sym same) ∙ f))
-          | inr other ↦ elim (one_name a c) [
-            | inl moved ↦
-                let own : o ≡ v3 = some_is o v3 (sym f ∙ ap (get p3) moved ∙ up3.changed) in
-                let was : h.0 ≡ cn = some_is h.0 cn (sym h.1 ∙ ap (get p0) moved ∙ kid.0) in
-                stays a h.0 o other not_d h.1 (ap (λ (y : Node). y.child) own ∙ child3 ∙ ap (λ (y : Node). y.child) (sym was))
-            | inr kept ↦
-                let g = each_of a h.0 h.1 kept in
-                let own : g.0 ≡ o = some_is g.0 o (sym g.1 ∙ f) in
-                stays a h.0 o other not_d h.1 (ap (λ (y : Node). y.child) (sym own) ∙ g.3 other)
-          ]
-        ]
+module _ (hs : List Header) (ok : AreLedgers hs) (votes : List Vote) (S S' : Name → Option Span) (V : AreSpans hs votes S None) (a k d : Name) (to l begin : ℕ) (kl : l < length hs) (kb : begin < length hs) (P : IsPlace hs S to (record { at = a; within = Some k })) (Q : Parting hs P.span P.enters.0 to l) (starts : IsBegin hs P.enters.0.ledger l begin) (I : IsSplit S S' a d k P.enters.0 l begin) where
+  abbrev t : Span
+  t = P.enters.0
+
+  abbrev front : Span
+  front = record { ledger = l; first = P.enters.0.first; parent = Some a; tip = 0; branch = P.enters.0.branch }
+
+  h : Hung hs P.span P.enters.0
+  h = hung hs ok S V.linked a k P.span P.enters.0 P.there P.enters.1
+
+  off : (b : Name) (u : Span) → S b ≡ Some u → b ≢ d
+  off b u e same = none_some u (sym I.fresh ∙ ap S (sym same) ∙ e)
+
+  stays : (b : Name) (u : Span) → S b ≡ Some u → b ≢ k → S' b ≡ Some u
+  stays b u e other = I.others b (off b u e) other ∙ e
+
+  -- no span ends there yet
+  new : (b : Name) (u : Span) → S b ≡ Some u → u.ledger ≡ l → ⊥
+  new b u e same = let le = P.deepest b u e (subst (λ x. OnWay hs x to) (sym same) Q.on_to) in omega (arith, le, Q.lower, ap (λ x. length (way hs x)) same)
+
+  -- no child of d was there
+  childless : (b : Name) (u : Span) → IsKid S d b u → ⊥
+  childless b u p = let o = over_of hs ok S V.linked d b u p in off d o.0 o.1 refl
+
+  a_not_k : a ≢ k
+  a_not_k = kid_differs hs ok S V.linked a k P.span P.enters.0 P.there P.enters.1
+
+  -- a span is the front, or one that was there, and only that of k is another
+  record Was (b : Name) (u : Span) : Type 0 where
+    pub span : Span
+    pub there : S b ≡ Some span
+    pub ledger : u.ledger ≡ span.ledger
+    pub tip : span.tip ≡ u.tip
+    pub branch : u.branch ≡ span.branch
+    pub is : ((b ≡ k) × (u ≡ hung_at P.enters.0 (Some d) begin)) ⊎ ((b ≢ k) × (u ≡ span))
+
+  from : (b : Name) (u : Span) → S' b ≡ Some u → ((b ≡ d) × (u ≡ front)) ⊎ ((b ≢ d) × Was b u)
+  from b u e = elim (one_name b d) [
+    | inl same ↦ inl (same, some_is u front (sym e ∙ ap S' same ∙ I.front))
+    | inr other ↦ inr (
+      other,
+      elim (one_name b k) [
+        | inl same ↦
+            let is = some_is u (hung_at P.enters.0 (Some d) begin) (sym e ∙ ap S' same ∙ I.rest) in
+            record { span = P.enters.0; there = ap S same ∙ P.enters.1.0; ledger = ap (λ (x : Span). x.ledger) is; tip = sym (ap (λ (x : Span). x.tip) is); branch = ap (λ (x : Span). x.branch) is; is = inl (same, is) }
+        | inr differs ↦ record { span = u; there = sym (I.others b other differs) ∙ e; ledger = refl; tip = refl; branch = refl; is = inr (differs, refl) }
+      ],
+    )
   ]
 
-  pub split_comes : (m : Node) (begin : ℕ) → AreAlike m v1 → HasMoved d begin cn v3 → live p3 ≡ live p0 + 1 → length p3 ≡ length p0 → HasCome p0 p3 d m (Some c) begin
-  split_comes m begin alike moved lives slots = record {
-    fresh = fresh;
-    there = (at_d.0, at_d.1, alike_through m v1 at_d.0 alike at_d.2);
-    each = λ a n f. elim (one_name a c) [
-      | inl same ↦
-          let was : cn ≡ n = some_is cn n (sym kid.0 ∙ ap (get p0) (sym same) ∙ f) in
-          (v3, ap (get p3) same ∙ up3.changed, inl (ap Some (sym same), subst (λ (y : Node). HasMoved d begin y v3) was moved))
-      | inr other ↦ let g = each_of a n f other in (g.0, g.1, inr ((λ is. other (sym (some_is c a is))), g.2))
+  to_new : (b : Name) (u : Span) → S b ≡ Some u → (w : Span) × (S' b ≡ Some w) × (u.ledger ≡ w.ledger)
+  to_new b u e = elim (one_name b k) [
+    | inl same ↦ (hung_at P.enters.0 (Some d) begin, ap S' same ∙ I.rest, ap (λ (x : Span). x.ledger) (some_is u P.enters.0 (sym e ∙ ap S same ∙ P.enters.1.0)))
+    | inr other ↦ (u, stays b u e other, refl)
+  ]
+
+  -- the two new ones hang at different spans
+  never : (b : Name) (u w : Span) → u.parent ≡ Some b → u ≡ front → w.parent ≡ Some b → w ≡ hung_at P.enters.0 (Some d) begin → ⊥
+  never b u w p i q j = off a P.span P.there (sym (some_is b a (sym p ∙ ap (λ (x : Span). x.parent) i)) ∙ some_is b d (sym q ∙ ap (λ (x : Span). x.parent) j))
+
+  other_front : Other hs S S' d front
+  other_front = record {
+    known = kl;
+    first = V.linked.first k P.enters.0 P.enters.1.0;
+    hangs = record { name = a; over = P.span; is = refl; there = stays a P.span P.there a_not_k; above = Q.lower; on = front_of hs P.span.ledger l to P.on Q.on_to (omega (arith, Q.lower)); first = begin_up hs l t.ledger P.span.ledger t.first Q.on_t Q.lower h.first };
+    one = λ c w g same. elim (from c w g) [ inl i ↦ i.0 | inr i ↦ absurd (new c i.1.span i.1.there (sym i.1.ledger ∙ same)) ];
+    apart = λ b c w p q same. elim (from c w q.0) [
+      | inl i ↦ i.0
+      | inr i ↦ elim i.1.is [
+        | inl j ↦ absurd (never b front w p.1 refl q.1 j.1)
+        | inr j ↦ absurd (j.0 (V.linked.apart a c k w P.enters.0 (i.1.there ∙ ap Some (sym j.1), q.1 ∙ sym p.1) P.enters.1 same))
+      ]
     ];
-    back = back_of;
-    kids = split_kids;
-    live = lives;
-    slots = slots;
   }
+
+  other_rest : Other hs S S' k (hung_at P.enters.0 (Some d) begin)
+  other_rest = record {
+    known = V.linked.known k P.enters.0 P.enters.1.0;
+    first = kb;
+    hangs = record { name = d; over = front; is = refl; there = I.front; above = Q.inside; on = Q.on_t; first = starts };
+    one = λ c w g same. elim (from c w g) [
+      | inl i ↦ absurd (new k P.enters.0 P.enters.1.0 (sym same ∙ ap (λ (x : Span). x.ledger) i.1))
+      | inr i ↦ V.linked.one c k i.1.span P.enters.0 i.1.there P.enters.1.0 (sym i.1.ledger ∙ same)
+    ];
+    apart = λ b c w p q same. elim (from c w q.0) [
+      | inl i ↦ absurd (never b w (hung_at P.enters.0 (Some d) begin) q.1 i.1 p.1 refl)
+      | inr i ↦ elim i.1.is [ inl j ↦ j.0 | inr j ↦ absurd (childless c w (i.1.there ∙ ap Some (sym j.1), q.1 ∙ sym p.1)) ]
+    ];
+  }
+
+  linked : AreLinked hs S'
+  linked = relinked hs S S' V.linked
+      (λ b u e. elim (from b u e) [
+        | inl i ↦ inr (other_at hs S S' d b front u i.0 i.1 other_front)
+        | inr i ↦ elim i.1.is [
+          | inl j ↦ inr (other_at hs S S' k b (hung_at P.enters.0 (Some d) begin) u j.0 j.1 other_rest)
+          | inr j ↦ inl (record { span = u; there = i.1.there ∙ ap Some (sym j.1); ledger = refl; first = refl; parent = refl })
+        ]
+      ])
+      (λ b u e p h. to_new h.name h.over h.there)
+
+  fork_to : (b : Name) → HasFork S b → HasFork S' b
+  fork_to b = fork_moved S S' b k d (λ p q. off d p q.0 refl) (λ c p q. (
+    (λ other. (p, (stays c p q.0 other, q.1))),
+    (λ same.
+        let own : p ≡ P.enters.0 = some_is p P.enters.0 (sym q.0 ∙ ap S same ∙ P.enters.1.0) in
+        (front, (I.front, sym P.enters.1.1 ∙ ap (λ (x : Span). x.parent) (sym own) ∙ q.1))),
+  ))
+
+  pub split_spans : AreSpans hs votes S' (Some d)
+  split_spans = record {
+    known = V.known;
+    linked = linked;
+    voted = λ v i. let u = V.voted v i in let w = to_new u.0 u.1 u.2 in (u.0, w.0, w.1, sym w.2 ∙ u.3);
+    counted = record {
+      tip = λ b u e. elim (from b u e) [
+        | inl i ↦ subst (λ (x : Span). x.tip ≡ tip_of votes x.ledger) (sym i.1) (sym (zero_if (tip_of votes l) (λ some.
+            let v = counted (λ (w : Vote). w.ledger == l) votes some in
+            let o = V.voted v.0 v.1 in
+            new o.0 o.1 o.2 (o.3 ∙ eqb-true v.0.ledger l v.2))))
+        | inr i ↦ sym i.1.tip ∙ V.counted.tip b i.1.span i.1.there ∙ ap (tip_of votes) (sym i.1.ledger)
+      ];
+      branch = λ b u e. elim (from b u e) [
+        | inl i ↦ subst (λ (x : Span). x.branch ≡ branch_of hs votes x.ledger) (sym i.1) (sym (span_branch hs ok S V.linked votes None V a k P.span P.enters.0 l P.there P.enters.1 kl Q.on_t Q.lower))
+        | inr i ↦ i.1.branch ∙ V.counted.branch b i.1.span i.1.there ∙ ap (branch_of hs votes) (sym i.1.ledger)
+      ];
+    };
+    needed = λ b u e but. elim (from b u e) [
+      | inl i ↦ absurd (but (ap Some (sym i.0)))
+      | inr i ↦ needed_on S S' b i.1.span u (V.needed b i.1.span i.1.there (λ none. none_some b none)) (sym i.1.ledger) i.1.tip (fork_to b)
+    ];
+  }
+
+  pub split_half : IsHalfNeeded S' d
+  split_half = (front, I.front, inr (k, hung_at P.enters.0 (Some d) begin, (I.rest, refl)))
+
+  -- the way goes on below the front, and not into the rest
+  pub split_place : IsPlace hs S' to (record { at = d; within = None })
+  split_place = record {
+    span = front;
+    there = I.front;
+    on = Q.on_to;
+    deepest = λ b u e far. elim (from b u e) [
+      | inl i ↦ omega (arith, ap (λ (x : Span). length (way hs x.ledger)) i.1)
+      | inr i ↦ let le = P.deepest b i.1.span i.1.there (subst (λ x. OnWay hs x to) i.1.ledger far) in omega (arith, le, Q.lower, ap (λ x. length (way hs x)) i.1.ledger)
+    ];
+    enters = λ c u p far. elim (from c u p.0) [
+      | inl i ↦ off a P.span P.there (sym (some_is d a (sym p.1 ∙ ap (λ (x : Span). x.parent) i.1)))
+      | inr i ↦ elim i.1.is [
+        | inl j ↦
+            let begin_to : IsBegin hs to l begin = ap (way hs) (sym (ap (λ (x : Span). x.first) j.1)) ∙ far.1 in
+            let deep = shared_most (way hs t.ledger) (way hs to) (length (way hs l) + 1) (omega (arith, Q.inside)) (omega (arith, far.0)) (sym starts ∙ begin_to) in
+            omega (arith, deep, Q.most)
+        | inr j ↦ childless c u (i.1.there ∙ ap Some (sym j.1), p.1)
+      ]
+    ];
+  }
+
+  pub split_root : (root : Name) → IsRoot S root → IsRoot S' root
+  split_root root r = let o = to_new root r.0 r.1 in (o.0, o.1, sym o.2 ∙ r.2)
+
+-- ---- from what a walk tells
+
+pub within_place : (hs : List Header) (S : Name → Option Span) (to : ℕ) (p : Place) (k : Name) → IsPlace hs S to p → p.within ≡ Some k → IsPlace hs S to (record { at = p.at; within = Some k })
+within_place hs S to p k P is = subst (λ (w : Option Name). let q : Place = record { at = p.at; within = w } in IsPlace hs S to q) is P
+
+-- the spans once one is split
+pub record Forked (hs : List Header) (votes : List Vote) (S S' : Name → Option Span) (to : ℕ) (d : Name) : Type 0 where
+  pub spans : AreSpans hs votes S' (Some d)
+  pub half : IsHalfNeeded S' d
+  pub place : IsPlace hs S' to (record { at = d; within = None })
+  pub root : (root : Name) → IsRoot S root → IsRoot S' root
+
+module _ (hs : List Header) (ok : AreLedgers hs) (votes : List Vote) (S : Name → Option Span) (V : AreSpans hs votes S None) (to : ℕ) (kt : to < length hs) (p : Place) (k : Name) (P : IsPlace hs S to p) (within : p.within ≡ Some k) (under : Span) (e : S k ≡ Some under) (l : ℕ) (is : l ≡ common_of hs under.ledger to) where
+  abbrev inside : IsPlace hs S to (record { at = p.at; within = Some k })
+  inside = within_place hs S to p k P within
+
+  own : under ≡ inside.enters.0
+  own = some_is under inside.enters.0 (sym e ∙ inside.enters.1.0)
+
+  pub parted : Parting hs inside.span inside.enters.0 to l
+  parted = parting hs ok S V.linked p.at k to inside l (subst (λ (x : Span). way hs l ≡ take (shared (way hs x.ledger) (way hs to)) (way hs x.ledger)) own (ap (way hs) is ∙ common_way hs ok under.ledger to (V.linked.known k under e) kt))
+
+  pub deeper_under : seq_at hs l < seq_at hs under.ledger
+  deeper_under = omega (arith, parted.inside, length_way hs l, length_way hs under.ledger, ap (λ (x : Span). length (way hs x.ledger)) own)
+
+  pub other_under : p.at ≢ k
+  other_under = kid_differs hs ok S V.linked p.at k inside.span inside.enters.0 inside.there inside.enters.1
+
+  pub forked : (S' : Name → Option Span) (d : Name) (begin : ℕ) → l < length hs → begin < length hs → IsBegin hs under.ledger l begin → ((t : Span) → IsKid S p.at k t → IsSplit S S' p.at d k t l begin) → Forked hs votes S S' to d
+  forked S' d begin kl kb starts I =
+      let starts_at = subst (λ (x : Span). IsBegin hs x.ledger l begin) own starts in
+      let split = I inside.enters.0 inside.enters.1 in
+      record {
+        spans = split_spans hs ok votes S S' V p.at k d to l begin kl kb inside parted starts_at split;
+        half = split_half hs ok votes S S' V p.at k d to l begin kl kb inside parted starts_at split;
+        place = split_place hs ok votes S S' V p.at k d to l begin kl kb inside parted starts_at split;
+        root = split_root hs ok votes S S' V p.at k d to l begin kl kb inside parted starts_at split;
+      }

@@ -1,19 +1,7 @@
 -- The way to a ledger, and what the chains of ledgers say of it.
 use Rattle.std.proofs.Common.{◌≡◌, ℕ, zero, suc, ◌+◌, ◌<◌, ◌≤◌, ◌==◌, ◌||◌, Bool, true, false, cond, List, [], ◌∷◌, ◌++◌, length, get_or, take, drop, Some, slice_get, refl, sym, ap, ◌∙◌, arith, inl, inr}
-use Rattle.std.specs.List.{list_any}
-use Rattle.std.proofs.lemmas.Bool.{cases_lt, cases_Bool, eqb-true, eq-eqb}
-use Rattle.std.proofs.lemmas.List.{length-append, length-drop, take-append-le, drop-append-le}
-use Rattle.std.proofs.lemmas.List.Folds.{list_any_at}
-use Rattle.std.proofs.lemmas.Option.{slice_get_within, slice_get-get_or, get_or_from_slice_get}
-use Rattle.xl_ledger.specs.declared.header.Header.{Header}
-use Rattle.xl_ledger.specs.Chains.{seq_at, parent_of, chain, last_common, common_of, AreLedgers}
-use Rattle.xl_ledger.specs.Votes.{is_on_chain}
-use Rattle.xl_ledger.proofs.Places.{slice_get-front}
-use Rattle.xl_ledger.proofs.ChainLaws.{HasParent, parent_known, parent_of_known, seq_of_root, seq_of_added, chain_of_root, chain_more, length-chain, chain_ends, of_chain}
-use Rattle.xl_ledger.proofs.Growing.{chain-more}
-use Rattle.xl_trie.specs.Paths.{shared}
-use Rattle.xl_trie.specs.Ways.{way}
-use Rattle.xl_trie.proofs.Lists.{lists_are_chains}
+use Rattle.xl_trie.proofs.Common.{list_any, cases_lt, cases_Bool, eqb-true, eq-eqb, length-append, length-drop, take-append-le, drop-append-le, list_any_at, slice_get_within, slice_get-get_or, get_or_from_slice_get, Header, seq_at, parent_of, chain, last_common, common_of, AreLedgers, is_on_chain, slice_get-front, HasParent, parent_known, parent_of_known, seq_of_root, seq_of_added, chain_of_root, chain_more, length-chain, chain_ends, of_chain, way, OnWay}
+use Rattle.xl_trie.proofs.Fronts.{shared, shared_low}
 
 some_is : {X : Type 0} (a b : X) → Some a ≡ Some b → a ≡ b
 some_is a b e = cc
@@ -23,10 +11,6 @@ take_long zero [] le = refl
 take_long (suc n) [] le = refl
 take_long zero (x ∷ xs) le = absurd (omega arith)
 take_long {X = X} (suc n) (x ∷ xs) le = ap (λ (ys : List X). x ∷ ys) (take_long n xs (omega arith))
-
-get_drop : {X : Type 0} (xs : List X) (n : ℕ) → slice_get (drop 1 xs) n ≡ slice_get xs (suc n)
-get_drop [] n = refl
-get_drop (x ∷ xs) n = refl
 
 take_drop : {X : Type 0} (xs : List X) (n : ℕ) → drop 1 (take (suc n) xs) ≡ take n (drop 1 xs)
 take_drop [] zero = refl
@@ -186,7 +170,7 @@ module _ (hs : List Header) (ok : AreLedgers hs) where
       let k = shared (way hs a) (way hs b) in
       let whole : common_of hs a b ≡ get_or (0 ∷ way hs a) k 0 =
       ap (λ xs. last_common 0 xs (chain hs b)) (chain_cons a ka) ∙ ap (last_common 0 (0 ∷ way hs a)) (chain_cons b kb) ∙ common_get 0 (way hs a) (way hs b) in
-      let size = lists_are_chains.low (way hs a) (way hs b) in
+      let size = shared_low (way hs a) (way hs b) in
       let at : slice_get (0 ∷ way hs a) k ≡ Some (get_or (0 ∷ way hs a) k 0) = slice_get-get_or (0 ∷ way hs a) k 0 (omega (arith, size)) in
       way_at a k (common_of hs a b) ka (ap (λ xs. slice_get xs k) (chain_cons a ka) ∙ at ∙ ap Some (sym whole))
 
@@ -195,14 +179,11 @@ module _ (hs : List Header) (ok : AreLedgers hs) where
       let k = shared (way hs a) (way hs b) in
       let whole : common_of hs a b ≡ get_or (0 ∷ way hs a) k 0 =
       ap (λ xs. last_common 0 xs (chain hs b)) (chain_cons a ka) ∙ ap (last_common 0 (0 ∷ way hs a)) (chain_cons b kb) ∙ common_get 0 (way hs a) (way hs b) in
-      let at : slice_get (0 ∷ way hs a) k ≡ Some (get_or (0 ∷ way hs a) k 0) = slice_get-get_or (0 ∷ way hs a) k 0 (omega (arith, lists_are_chains.low (way hs a) (way hs b))) in
+      let at : slice_get (0 ∷ way hs a) k ≡ Some (get_or (0 ∷ way hs a) k 0) = slice_get-get_or (0 ∷ way hs a) k 0 (omega (arith, shared_low (way hs a) (way hs b))) in
       (of_chain hs ok a ka k (common_of hs a b) (ap (λ xs. slice_get xs k) (chain_cons a ka) ∙ at ∙ ap Some (sym whole))).known
 
   -- a ledger on the chain of another, by ways
-  abbrev pub On : ℕ → ℕ → Type 0
-  On x v = (length (way hs x) ≤ length (way hs v)) × (take (length (way hs x)) (way hs v) ≡ way hs x)
-
-  pub on_true : (x v : ℕ) → v < length hs → is_on_chain hs x v ≡ true → On x v
+  pub on_true : (x v : ℕ) → v < length hs → is_on_chain hs x v ≡ true → OnWay hs x v
   on_true x v known e =
       let r = any_get (λ y. y == x) (chain hs v) e in
       let same : r.1 ≡ x = eqb-true r.1 x r.3 in
@@ -213,13 +194,8 @@ module _ (hs : List Header) (ok : AreLedgers hs) where
       let low = slice_get_within (chain hs v) r.0 x at in
       (omega (arith, length-chain hs v, length_way hs v), ap (λ k. take k (way hs v)) size ∙ sym is)
 
-  pub on_from : (x v : ℕ) → x < length hs → v < length hs → On x v → is_on_chain hs x v ≡ true
+  pub on_from : (x v : ℕ) → x < length hs → v < length hs → OnWay hs x v → is_on_chain hs x v ≡ true
   on_from x v kx kv on =
       let s = stop_at v (length (way hs x)) kv on.0 in
       let same : s.ledger ≡ x = way_one s.ledger x s.known kx (s.is ∙ on.1) in
       any_at (λ y. y == x) (chain hs v) (length (way hs x)) s.ledger s.at (eq-eqb s.ledger x same)
-
-  -- a known ledger keeps its way as a header is added
-  pub way_stays : (h : Header) (x : ℕ) → x < length hs → way (hs ++ h ∷ []) x ≡ way hs x
-  unfolding way
-  way_stays h x known = ap (drop 1) (chain-more hs ok h x known)

@@ -1,37 +1,28 @@
--- How counts change along the nodes above one. Source: rippled's LedgerTrie, whose branch support rises or falls up to the root.
-use Rattle.std.specs.Prelude.{◌≡◌, ◌⊎◌, ℕ, ◌+◌, ◌-◌, List, [], ◌∷◌, length, Option, Some, None}
-use Rattle.xl_pool.specs.Pools.{Slot, get, live}
+-- How counts change as a vote comes or goes. Source: rippled's LedgerTrie, whose branch support rises or falls up to the root.
+use Rattle.std.specs.Prelude.{◌≡◌, ◌⊎◌, ℕ, ◌+◌, ◌-◌, Bool, List, Option, Some, count_by, if◌then◌else◌}
+use Rattle.xl_ledger.specs.declared.header.Header.{Header}
+use Rattle.xl_ledger.specs.declared.vote.Vote.{Vote}
 use Rattle.xl_pool.specs.declared.name.Name.{Name}
-use Rattle.xl_trie.specs.declared.node.Node.{Node}
+use Rattle.xl_trie.specs.declared.node.Span.{Span}
 use Rattle.xl_trie.specs.declared.counting.Change.{Change}
 use Rattle.xl_trie.specs.declared.counting.Change.TheVariants.{OneMore, OneFewer}
-use Rattle.xl_trie.specs.Chains.{In}
+use Rattle.xl_trie.specs.Nodes.{In}
+use Rattle.xl_trie.specs.Ways.{OnWay}
 
 abbrev pub changed : Change → ℕ → ℕ
 changed OneMore count = count + 1
 changed OneFewer count = count - 1
 
--- the names from one on up, each leading to its parent
-abbrev pub Rises : List (Slot Node) → Option Name → List Name → Type 0
-Rises nodes at [] = at ≡ None
-Rises nodes at (b ∷ bs) = (at ≡ Some b) × ((n : Node) × (get nodes b ≡ Some n) × Rises nodes n.parent bs)
+-- the span with other counts
+abbrev pub with_counts : Span → ℕ → ℕ → Span
+with_counts s tip branch = record { ledger = s.ledger; first = s.first; parent = s.parent; tip = tip; branch = branch }
 
--- all but the count of votes at or below it is the same
-pub record IsLinkedAs (n m : Node) : Type 0 where
-  pub ledger : m.ledger ≡ n.ledger
-  pub first : m.first ≡ n.first
-  pub parent : m.parent ≡ n.parent
-  pub child : m.child ≡ n.child
-  pub sibling : m.sibling ≡ n.sibling
-  pub tip : m.tip ≡ n.tip
+-- the counts of the votes at or below them have changed for the spans on the way to x, and no others
+pub record AreRecounted (ledgers : List Header) (old new : Name → Option Span) (change : Change) (x : ℕ) : Type 0 where
+  pub each : (a : Name) (s : Span) → old a ≡ Some s → (n : ℕ) × (new a ≡ Some (with_counts s s.tip n)) × ((OnWay ledgers s.ledger x × (n ≡ changed change s.branch)) ⊎ ((OnWay ledgers s.ledger x → ⊥) × (n ≡ s.branch)))
+  pub back : (a : Name) (s : Span) → new a ≡ Some s → (t : Span) × (old a ≡ Some t)
 
--- the counts of these nodes have changed, and no others
-pub record AreRecounted (old new : List (Slot Node)) (change : Change) (these : List Name) : Type 0 where
-  pub each : (a : Name) (n : Node) → get old a ≡ Some n → (o : Node) × (get new a ≡ Some o) × IsLinkedAs n o × ((In a these × (o.branch ≡ changed change n.branch)) ⊎ ((In a these → ⊥) × (o.branch ≡ n.branch)))
-  pub back : (a : Name) (o : Node) → get new a ≡ Some o → (n : Node) × (get old a ≡ Some n)
-  pub live : live new ≡ live old
-  pub slots : length new ≡ length old
-
--- the node with another count of its own votes
-abbrev pub with_tip : Node → ℕ → Node
-with_tip n tip = record { ledger = n.ledger; first = n.first; parent = n.parent; child = n.child; sibling = n.sibling; tip = tip; branch = n.branch }
+-- one vote has come, or has gone
+pub record IsChange (change : Change) (v : Vote) (votes now : List Vote) : Type 0 where
+  pub counts : (p : Vote → Bool) → count_by p now ≡ (if p v then changed change (count_by p votes) else count_by p votes)
+  pub from : (w : Vote) → In w now → In w votes ⊎ (w ≡ v)

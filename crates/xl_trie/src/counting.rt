@@ -1,12 +1,16 @@
 ghost use Rattle.std.specs.Prelude.{◌≡◌, ◌+◌, ◌^◌, ◌<◌, List, length, Some, IsSome};
-ghost use Rattle.xl_pool.specs.Pools.{get, live, Updates};
+ghost use Rattle.xl_ledger.specs.Chains.{AreLedgers};
+ghost use Rattle.xl_ledger.specs.declared.vote.Vote.{Vote};
 ghost use Rattle.xl_pool.specs.declared.name.Name.{Name};
-ghost use Rattle.xl_trie.specs.Counting.{changed, Rises, IsLinkedAs, AreRecounted, with_tip};
-ghost use Rattle.xl_trie.specs.Sets.{Apart};
-ghost use Rattle.xl_trie.specs.declared.node.Node.{Node};
+ghost use Rattle.xl_trie.specs.Counting.{changed, with_counts, AreRecounted, IsChange};
+ghost use Rattle.xl_trie.specs.Nodes.{spans, BecomesOf, AllKids};
+ghost use Rattle.xl_trie.specs.Tries.{AreLinked, IsTrieBut, IsRoot};
+ghost use Rattle.xl_trie.specs.Ways.{OnWay};
+ghost use Rattle.xl_trie.specs.declared.node.Span.{Span};
 
 use crate::linking::put;
-use crate::node::{Node, node_at};
+use crate::node::{Node, node_at, span_at};
+use xl_ledger::Walk;
 use xl_pool::{Name, Pool};
 
 /// What a vote that comes, or one that goes, does to the counts.
@@ -28,47 +32,54 @@ impl Change {
     }
 }
 
-/// Changes the count of votes for a node's ledger.
-pub(crate) fn recount_tip(nodes: &mut Pool<Node>, at: Name, change: Change)
-    requires stands { IsSome (get nodes.old at) }
-    requires small { (n : Node) → get nodes.old at ≡ Some n → n.tip + 1 < 2 ^ 32 }
-    ensures names { (n : Node) → get nodes.old at ≡ Some n → Updates nodes.old nodes.new at (Some (with_tip n (changed change n.tip))) }
-    ensures live { live nodes.new ≡ live nodes.old }
+fn set_counts(nodes: &mut Pool<Node>, name: Name, tip: u32, branch: u32)
+    requires kids { AllKids nodes.old }
+    requires stands { IsSome (spans nodes.old name) }
+    ensures spans { BecomesOf (spans nodes.old) (spans nodes.new) name (λ s. with_counts s tip branch) }
+    ensures kids { AllKids nodes.new }
     ensures slots { length nodes.new ≡ length nodes.old }
 {
-    let mut node = node_at(nodes, at);
-    node.tip = change.of(node.tip);
-    put(nodes, at, node);
+    let mut node = node_at(nodes, name);
+    node.span.tip = tip;
+    node.span.branch = branch;
+    put(nodes, name, node);
 }
 
-/// The node with its count of votes at or below it changed.
-fn recounted(node: &Node, change: Change) -> Node
-    requires { node.now.branch + 1 < 2 ^ 32 }
-    ensures linked { IsLinkedAs node.now result }
-    ensures branch { result.branch ≡ changed change node.now.branch }
+/// Changes the counts of votes at or below a span and all spans above it, which are on the ledgers of the walk.
+fn recount_up(nodes: &mut Pool<Node>, walk: &Walk<'_>, at: Name, change: Change)
+    requires ledgers { AreLedgers walk.now.ledgers.headers }
+    requires linked { AreLinked walk.now.ledgers.headers (spans nodes.old) }
+    requires kids { AllKids nodes.old }
+    requires small { (a : Name) (s o : Span) → spans nodes.old a ≡ Some s → spans nodes.old at ≡ Some o
+        → OnWay walk.now.ledgers.headers s.ledger o.ledger → s.branch + 1 < 2 ^ 32 }
+    requires stands { IsSome (spans nodes.old at) }
+    ensures counts { (s : Span) → spans nodes.old at ≡ Some s
+        → AreRecounted walk.now.ledgers.headers (spans nodes.old) (spans nodes.new) change s.ledger }
+    ensures kids { AllKids nodes.new }
+    ensures slots { length nodes.new ≡ length nodes.old }
 {
-    Node {
-        ledger: node.ledger,
-        first: node.first,
-        parent: node.parent,
-        child: node.child,
-        sibling: node.sibling,
-        tip: node.tip,
-        branch: change.of(node.branch),
+    let span = span_at(nodes, at);
+    set_counts(nodes, at, span.tip, change.of(span.branch));
+    if let Some(over) = span.parent {
+        recount_up(nodes, walk, over, change);
     }
 }
 
-/// Changes the counts of votes at or below a node and all nodes above it.
-pub(crate) fn recount_up(nodes: &mut Pool<Node>, at: Name, change: Change)
-    requires small { (a : Name) (n : Node) → get nodes.old a ≡ Some n → n.branch + 1 < 2 ^ 32 }
-    requires rises { (these : List Name) × Rises nodes.old (Some at) these × Apart these }
-    ensures { (these : List Name) → Rises nodes.old (Some at) these → AreRecounted nodes.old nodes.new change these }
+/// A vote for the ledger of a span has come, or has gone.
+pub(crate) fn recount(nodes: &mut Pool<Node>, walk: &Walk<'_>, at: Name, change: Change)
+    requires ledgers { AreLedgers walk.now.ledgers.headers }
+    requires trie { (votes : List Vote) × IsTrieBut walk.now.ledgers.headers votes nodes.old (Some at)
+        × (length votes + 1 < 2 ^ 32) }
+    requires stands { IsSome (spans nodes.old at) }
+    ensures trie { (votes now : List Vote) (v : Vote) → IsTrieBut walk.now.ledgers.headers votes nodes.old (Some at)
+        → IsChange change v votes now → (s : Span) → spans nodes.old at ≡ Some s → s.ledger ≡ v.ledger
+        → IsTrieBut walk.now.ledgers.headers now nodes.new (Some at) }
+    ensures root { (root : Name) → IsRoot (spans nodes.old) root → IsRoot (spans nodes.new) root }
+    ensures there { (s : Span) → spans nodes.old at ≡ Some s
+        → (n : Span) × (spans nodes.new at ≡ Some n) × (n.ledger ≡ s.ledger) }
+    ensures slots { length nodes.new ≡ length nodes.old }
 {
-    let mut over = Some(at);
-    for _ in 0..nodes.live() {
-        let Some(name) = over else { return };
-        let node = node_at(nodes, name);
-        put(nodes, name, recounted(&node, change));
-        over = node.parent;
-    }
+    let span = span_at(nodes, at);
+    set_counts(nodes, at, change.of(span.tip), span.branch);
+    recount_up(nodes, walk, at, change);
 }

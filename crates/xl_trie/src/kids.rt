@@ -1,16 +1,16 @@
 ghost use Rattle.std.specs.Prelude.{◌≡◌, ◌<◌, ℕ, List, ◌∷◌, length, Option, Some, IsSome, IfSome};
-ghost use Rattle.xl_pool.specs.Pools.{get};
 ghost use Rattle.xl_pool.specs.declared.name.Name.{Name};
-ghost use Rattle.xl_trie.specs.declared.node.Node.{Node};
+ghost use Rattle.xl_trie.specs.declared.node.Span.{Span};
+ghost use Rattle.xl_trie.specs.Nodes.{spans, IsKid, AllKids};
 ghost use Rattle.xl_trie.specs.Leading.{leads, lead, IsBestSoFar, IsBest, BeginsAt};
-ghost use Rattle.xl_trie.specs.Tries.{AreLinked, HasKids, IsKid};
+ghost use Rattle.xl_trie.specs.Tries.{AreLinked};
 
-use crate::node::{Node, is_named, node_at};
+use crate::node::{Node, Span, is_named, node_at, span_at};
 use xl_ledger::{LedgerNo, Walk};
 use xl_pool::{Name, Pool};
 
 /// Whether a span leads another: it has more votes, or as many and its first ledger the greater id.
-fn leads(walk: &Walk<'_>, a: &Node, b: &Node) -> bool
+fn leads(walk: &Walk<'_>, a: &Span, b: &Span) -> bool
     requires a { a.now.first < length walk.now.ledgers.headers }
     requires b { b.now.first < length walk.now.ledgers.headers }
     ensures { result ≡ leads walk.now.ledgers.headers a.now b.now }
@@ -29,18 +29,20 @@ fn better(
     best: Option<Name>,
     name: Name,
 ) -> Option<Name>
-    requires first { (a : Name) (n : Node) → get nodes.now a ≡ Some n → n.first < length walk.now.ledgers.headers }
-    requires stands { IsSome (get nodes.now name) }
-    requires best { IfSome best (λ b. IsSome (get nodes.now b)) }
-    ensures stands { IfSome result (λ b. IsSome (get nodes.now b)) }
-    ensures best { (a : Name) (n : Node) (rest : List Name) → IsKid nodes.now a name n → IsBestSoFar walk.now.ledgers.headers nodes.now a out.now (name ∷ rest) best
-        → IsBestSoFar walk.now.ledgers.headers nodes.now a out.now rest result }
+    requires first { (a : Name) (s : Span) → spans nodes.now a ≡ Some s
+        → s.first < length walk.now.ledgers.headers }
+    requires stands { IsSome (spans nodes.now name) }
+    requires best { IfSome best (λ b. IsSome (spans nodes.now b)) }
+    ensures stands { IfSome result (λ b. IsSome (spans nodes.now b)) }
+    ensures best { (a : Name) (s : Span) (rest : List Name) → IsKid (spans nodes.now) a name s
+        → IsBestSoFar walk.now.ledgers.headers (spans nodes.now) a out.now (name ∷ rest) best
+        → IsBestSoFar walk.now.ledgers.headers (spans nodes.now) a out.now rest result }
 {
     if is_named(out, name) {
         return best;
     }
     let Some(old) = best else { return Some(name) };
-    if leads(walk, &node_at(nodes, name), &node_at(nodes, old)) {
+    if leads(walk, &span_at(nodes, name), &span_at(nodes, old)) {
         Some(name)
     } else {
         best
@@ -54,10 +56,11 @@ pub(crate) fn best_kid(
     of: Name,
     out: Option<Name>,
 ) -> Option<Name>
-    requires linked { AreLinked walk.now.ledgers.headers nodes.now }
-    requires stands { IsSome (get nodes.now of) }
-    ensures stands { IfSome result (λ b. IsSome (get nodes.now b)) }
-    ensures best { IsBest walk.now.ledgers.headers nodes.now of out result }
+    requires linked { AreLinked walk.now.ledgers.headers (spans nodes.now) }
+    requires kids { AllKids nodes.now }
+    requires stands { IsSome (spans nodes.now of) }
+    ensures stands { IfSome result (λ b. IsSome (spans nodes.now b)) }
+    ensures best { IsBest walk.now.ledgers.headers (spans nodes.now) of out result }
 {
     let mut at = node_at(nodes, of).child;
     let mut best = None;
@@ -71,7 +74,7 @@ pub(crate) fn best_kid(
 }
 
 /// By how many votes a span is ahead of the second, with one more where it has the greater id.
-pub(crate) fn lead(walk: &Walk<'_>, best: &Node, second: Option<Node>) -> u64
+pub(crate) fn lead(walk: &Walk<'_>, best: &Span, second: Option<Span>) -> u64
     requires best { best.now.first < length walk.now.ledgers.headers }
     requires second { IfSome second (λ s. s.first < length walk.now.ledgers.headers) }
     ensures { result ≡ lead walk.now.ledgers.headers best.now second }
@@ -88,15 +91,15 @@ pub(crate) fn lead(walk: &Walk<'_>, best: &Node, second: Option<Node>) -> u64
 
 /// The child whose span begins with this ledger.
 pub(crate) fn kid_from(nodes: &Pool<Node>, of: Name, first: LedgerNo) -> Option<Name>
-    requires kids { (n : Node) → get nodes.now of ≡ Some n → HasKids nodes.now of n }
-    requires stands { IsSome (get nodes.now of) }
-    ensures { BeginsAt nodes.now of first result }
+    requires kids { AllKids nodes.now }
+    requires stands { IsSome (spans nodes.now of) }
+    ensures { BeginsAt (spans nodes.now) of first result }
 {
     let mut at = node_at(nodes, of).child;
     for _ in 0..nodes.live() {
         let Some(name) = at else { return None };
         let node = node_at(nodes, name);
-        if node.first == first {
+        if node.span.first == first {
             return Some(name);
         }
         at = node.sibling;

@@ -2,12 +2,12 @@ ghost use Rattle.std.specs.Prelude.{◌≡◌, ◌+◌, ◌<◌, ◌≤◌, leng
 ghost use Rattle.xl_ledger.specs.Chains.{AreLedgers};
 ghost use Rattle.xl_ledger.specs.Votes.{AreKnown, uncommitted};
 ghost use Rattle.xl_ledger.specs.Walks.{GoesOn};
-ghost use Rattle.xl_pool.specs.Pools.{get};
 ghost use Rattle.xl_trie.specs.Leading.{GoesTo, EndsAt};
+ghost use Rattle.xl_trie.specs.Nodes.{spans};
 ghost use Rattle.xl_trie.specs.Tries.{IsTrie};
 
 use crate::kids::{best_kid, lead};
-use crate::node::{Node, node_at};
+use crate::node::{Node, Span, span_at};
 use xl_base::Seq;
 use xl_ledger::{LedgerNo, Vote, Walk};
 use xl_pool::{Name, Pool};
@@ -33,20 +33,20 @@ fn goes_to(
     walk: &Walk<'_>,
     largest: Seq,
     at: Name,
-    node: &Node,
+    span: &Span,
 ) -> Option<Name>
     requires ledgers { AreLedgers walk.now.ledgers.headers }
     requires trie { IsTrie walk.now.ledgers.headers votes.now nodes.now }
-    requires here { get nodes.now at ≡ Some node.now }
-    ensures { GoesTo walk.now.ledgers.headers votes.now nodes.now largest at node.now.ledger result }
+    requires here { spans nodes.now at ≡ Some span.now }
+    ensures { GoesTo walk.now.ledgers.headers votes.now (spans nodes.now) largest at span.now.ledger result }
 {
     let Some(best) = best_kid(nodes, walk, at, None) else {
         return None
     };
-    let child = node_at(nodes, best);
+    let child = span_at(nodes, best);
     let ahead = match best_kid(nodes, walk, at, Some(best)) {
         None => lead(walk, &child, None),
-        Some(second) => lead(walk, &child, Some(node_at(nodes, second))),
+        Some(second) => lead(walk, &child, Some(span_at(nodes, second))),
     };
     if ahead > uncommitted(votes, walk, walk.seq_of(child.first), largest) as u64 {
         Some(best)
@@ -84,18 +84,19 @@ pub(crate) fn prefer_from(
     walk: &mut Walk<'_>,
     largest: Seq,
     at: Name,
-    node: Node,
+    span: Span,
 ) -> LedgerNo
     requires trie { IsTrie walk.old.ledgers.headers votes.now nodes.now }
-    requires here { get nodes.now at ≡ Some node }
-    ensures value { EndsAt walk.old.ledgers.headers votes.now largest node.ledger result }
+    requires here { spans nodes.now at ≡ Some span }
+    ensures value { EndsAt walk.old.ledgers.headers votes.now largest span.ledger result }
     ensures goes_on { GoesOn walk.old walk.new }
+    ensures steps { walk.new.taken ≤ walk.old.taken + 18 }
 {
-    let seq = walk.seq_of(node.ledger);
-    let Some(next) = goes_to(nodes, votes, walk, largest, at, &node) else {
-        return node.ledger
+    let seq = walk.seq_of(span.ledger);
+    let Some(next) = goes_to(nodes, votes, walk, largest, at, &span) else {
+        return span.ledger
     };
-    let child = node_at(nodes, next);
+    let child = span_at(nodes, next);
     let end = walk.seq_of(child.ledger);
     if uncommitted(votes, walk, end, largest) < child.branch as usize {
         return prefer_from(nodes, votes, walk, largest, next, child);

@@ -1,82 +1,81 @@
-ghost use Rattle.std.specs.Prelude.{◌≡◌, ◌≢◌, ◌+◌, ◌<◌, List, length, Some, None, IsSome};
-ghost use Rattle.xl_pool.specs.Pools.{get, live, Updates};
-ghost use Rattle.xl_trie.specs.Linking.{AllKids, AllHang};
-ghost use Rattle.xl_ledger.specs.Chains.{AreLedgers};
-ghost use Rattle.xl_ledger.specs.declared.header.Header.{Header};
-ghost use Rattle.xl_ledger.specs.declared.vote.Vote.{Vote};
-ghost use Rattle.xl_trie.specs.Pruning.{HasGone, IsLoose, IsPruned};
-ghost use Rattle.xl_trie.specs.Tries.{IsKid};
-ghost use Rattle.xl_trie.specs.declared.node.Node.{Node};
+ghost use Rattle.std.specs.Prelude.{◌≡◌, ◌≢◌, length, Some, None, IsSome};
+ghost use Rattle.xl_pool.specs.declared.name.Name.{Name};
+ghost use Rattle.xl_trie.specs.Changing.{IsMerged};
+ghost use Rattle.xl_trie.specs.Nodes.{spans, IsKid, AllKids};
+ghost use Rattle.xl_trie.specs.Tries.{IsSomeTrie, StayTries, IsHalfNeeded, IsRoot};
+ghost use Rattle.xl_trie.specs.declared.node.Span.{Span};
 
-use crate::linking::{before, lead_to, put};
-use crate::node::{Node, node_at};
+use crate::linking::{give, hang, unhang};
+use crate::node::{Node, node_at, span_at};
 use xl_pool::{Name, Pool};
 
-/// Gives a slot back.
-fn give(nodes: &mut Pool<Node>, name: Name)
-    requires { IsSome (get nodes.old name) }
-    ensures names { Updates nodes.old nodes.new name None }
-    ensures live { live nodes.new + 1 ≡ live nodes.old }
+/// A node without votes of its own and without children goes, but for the root. Which node may have to be merged then: the one
+/// above it, or the node itself where it stays.
+fn drop_empty(nodes: &mut Pool<Node>, name: Name) -> Name
+    requires trie { IsSomeTrie nodes.old (Some name) }
+    requires stands { IsSome (spans nodes.old name) }
+    ensures trie { StayTries nodes.old (Some name) nodes.new (Some result) }
+    ensures half { IsHalfNeeded (spans nodes.new) result }
+    ensures root { (root : Name) → IsRoot (spans nodes.old) root → IsRoot (spans nodes.new) root }
     ensures slots { length nodes.new ≡ length nodes.old }
 {
-    match nodes.give(name) {
-        Ok(_) => (),
-        Err(_) => unreachable!(),
+    let node = node_at(nodes, name);
+    let Some(over) = node.span.parent else {
+        return name
+    };
+    if node.span.tip > 0 || node.child.is_some() {
+        return name;
     }
-}
-
-/// A node without children goes.
-fn drop_leaf(nodes: &mut Pool<Node>, of: Name, name: Name)
-    requires kids { AllKids nodes.old }
-    requires stands { IsSome (get nodes.old of) }
-    requires kid { (n : Node) × IsKid nodes.old of name n × (n.child ≡ None) }
-    requires other { of ≢ name }
-    ensures gone { (n : Node) → IsKid nodes.old of name n → HasGone nodes.old nodes.new of name n None }
-{
-    let last = before(nodes, of, name);
-    let next = node_at(nodes, name).sibling;
-    lead_to(nodes, of, last, next);
+    unhang(nodes, over, name);
     give(nodes, name);
+    over
 }
 
-/// A node with one child goes: the child takes its place, and its span begins there.
+/// A node goes, and its one child takes its place. That one's span begins with the ledger with which the node's began.
 fn lift(nodes: &mut Pool<Node>, of: Name, name: Name, kid: Name)
     requires kids { AllKids nodes.old }
-    requires stands { IsSome (get nodes.old of) }
-    requires kid { (n : Node) × IsKid nodes.old of name n × (n.child ≡ Some kid) }
-    requires lone { (n : Node) × IsKid nodes.old name kid n × (n.sibling ≡ None) }
+    requires of { IsSome (spans nodes.old of) }
+    requires name { (s : Span) × IsKid (spans nodes.old) of name s }
+    requires kid { (t : Span) × IsKid (spans nodes.old) name kid t }
     requires other { of ≢ name }
     requires apart { name ≢ kid }
     requires below { of ≢ kid }
-    ensures gone { (n : Node) → IsKid nodes.old of name n → HasGone nodes.old nodes.new of name n (Some kid) }
+    ensures merged { (s t : Span) → IsKid (spans nodes.old) of name s → IsKid (spans nodes.old) name kid t
+        → IsMerged (spans nodes.old) (spans nodes.new) of name kid s t }
+    ensures kids { AllKids nodes.new }
+    ensures slots { length nodes.new ≡ length nodes.old }
 {
-    let last = before(nodes, of, name);
-    let node = node_at(nodes, name);
-    let mut under = node_at(nodes, kid);
-    under.parent = Some(of);
-    under.first = node.first;
-    under.sibling = node.sibling;
-    put(nodes, kid, under);
-    lead_to(nodes, of, last, Some(kid));
+    let first = span_at(nodes, name).first;
+    unhang(nodes, name, kid);
+    unhang(nodes, of, name);
+    hang(nodes, of, kid, first);
     give(nodes, name);
 }
 
-/// A node goes that is no spot: not the root, without votes of its own, and with one child or none.
-pub(crate) fn prune(nodes: &mut Pool<Node>, name: Name)
-    requires stands { IsSome (get nodes.old name) }
-    requires loose { (ledgers : List Header) × AreLedgers ledgers × ((votes : List Vote) × IsLoose ledgers votes nodes.old name) }
-    ensures { (ledgers : List Header) (votes : List Vote) → AreLedgers ledgers → IsLoose ledgers votes nodes.old name → IsPruned ledgers votes nodes.old nodes.new name }
+/// A node without votes of its own and with one child is merged with it, but for the root.
+fn merge(nodes: &mut Pool<Node>, name: Name)
+    requires trie { IsSomeTrie nodes.old (Some name) }
+    requires half { IsHalfNeeded (spans nodes.old) name }
+    ensures trie { StayTries nodes.old (Some name) nodes.new None }
+    ensures root { (root : Name) → IsRoot (spans nodes.old) root → IsRoot (spans nodes.new) root }
+    ensures slots { length nodes.new ≡ length nodes.old }
 {
     let node = node_at(nodes, name);
-    let Some(of) = node.parent else { return };
-    if node.tip > 0 {
-        return;
+    let Some(over) = node.span.parent else { return };
+    let Some(kid) = node.child else { return };
+    if node.span.tip == 0 && node_at(nodes, kid).sibling.is_none() {
+        lift(nodes, over, name, kid);
     }
-    let Some(kid) = node.child else {
-        drop_leaf(nodes, of, name);
-        return
-    };
-    if node_at(nodes, kid).sibling.is_none() {
-        lift(nodes, of, name, kid);
-    }
+}
+
+/// The node goes if no vote needs it any more, and so does the one above it then.
+pub(crate) fn prune(nodes: &mut Pool<Node>, name: Name)
+    requires trie { IsSomeTrie nodes.old (Some name) }
+    requires stands { IsSome (spans nodes.old name) }
+    ensures trie { StayTries nodes.old (Some name) nodes.new None }
+    ensures root { (root : Name) → IsRoot (spans nodes.old) root → IsRoot (spans nodes.new) root }
+    ensures slots { length nodes.new ≡ length nodes.old }
+{
+    let last = drop_empty(nodes, name);
+    merge(nodes, last);
 }

@@ -2,17 +2,18 @@ ghost use Rattle.std.specs.Prelude.{◌≡◌, ◌<◌, List, length, Some};
 ghost use Rattle.xl_ledger.specs.Chains.{AreLedgers};
 ghost use Rattle.xl_ledger.specs.Votes.{is_on_chain};
 ghost use Rattle.xl_ledger.specs.Walks.{GoesOn};
-ghost use Rattle.xl_pool.specs.Pools.{get};
-ghost use Rattle.xl_trie.specs.Places.{OnWay, IsPlace};
+ghost use Rattle.xl_trie.specs.Nodes.{spans};
+ghost use Rattle.xl_trie.specs.Places.{IsPlace};
 ghost use Rattle.xl_trie.specs.Tries.{IsTrie};
+ghost use Rattle.xl_trie.specs.Ways.{OnWay};
 ghost use Rattle.xl_ledger.specs.declared.vote.Vote.{Vote};
 
 use crate::kids::kid_from;
-use crate::node::{Node, node_at};
+use crate::node::{Node, Span, span_at};
 use xl_ledger::{LedgerNo, Walk};
 use xl_pool::{Name, Pool};
 
-/// The deepest node on the way to a ledger, and the child into whose span the way goes from there.
+/// The deepest span that ends on the way to a ledger, and the child into whose span the way goes from there.
 #[derive(Clone, Copy, Debug)]
 pub(crate) struct Place {
     pub(crate) at: Name,
@@ -39,17 +40,17 @@ pub(crate) fn seek(
     walk: &mut Walk<'_>,
     to: LedgerNo,
     at: Name,
-    node: Node,
+    span: Span,
 ) -> Place
     requires trie { (votes : List Vote) × IsTrie walk.old.ledgers.headers votes nodes.now }
     requires known { to < length walk.old.ledgers.headers }
-    requires here { get nodes.now at ≡ Some node }
-    requires on { OnWay walk.old.ledgers.headers node.ledger to }
+    requires here { spans nodes.now at ≡ Some span }
+    requires on { OnWay walk.old.ledgers.headers span.ledger to }
     ensures ledgers { AreLedgers walk.old.ledgers.headers }
-    ensures place { IsPlace walk.old.ledgers.headers nodes.now to result }
+    ensures place { IsPlace walk.old.ledgers.headers (spans nodes.now) to result }
     ensures goes_on { GoesOn walk.old walk.new }
 {
-    let seq = walk.seq_of(node.ledger);
+    let seq = walk.seq_of(span.ledger);
     if walk.seq_of(to) <= seq {
         return Place { at, within: None };
     }
@@ -57,7 +58,7 @@ pub(crate) fn seek(
     let Some(name) = kid_from(nodes, at, next) else {
         return Place { at, within: None }
     };
-    let child = node_at(nodes, name);
+    let child = span_at(nodes, name);
     if is_on_chain(walk, child.ledger, to) {
         seek(nodes, walk, to, name, child)
     } else {

@@ -1,16 +1,16 @@
 ghost use Rattle.std.specs.Prelude.{◌≡◌, ◌+◌, ◌*◌, ◌<◌, ◌≤◌, List, length, vec_len, vec_capacity, IsTrue};
 ghost use Rattle.xl_ledger.specs.Chains.{AreLedgers};
 ghost use Rattle.xl_ledger.specs.Walks.{GoesOn};
-ghost use Rattle.xl_trie.specs.Going.{GoesWith};
 ghost use Rattle.xl_ledger.specs.declared.header.Header.{Header};
 ghost use Rattle.xl_ledger.specs.declared.vote.Vote.{Vote};
 ghost use Rattle.xl_ledger.specs.Votes.{has_voted, without};
-ghost use Rattle.xl_trie.specs.Chains.{In};
 ghost use Rattle.xl_trie.specs.Counted.{spots};
+ghost use Rattle.xl_trie.specs.Nodes.{In, spans};
 ghost use Rattle.xl_trie.specs.Places.{IsPlace};
+ghost use Rattle.xl_trie.specs.Tries.{GoesWith};
 
-use crate::counting::{Change, recount_tip, recount_up};
-use crate::node::{Node, node_at, root_node};
+use crate::counting::{Change, recount};
+use crate::node::{Node, root_node, span_at};
 use crate::preferring::prefer_from;
 use crate::pruning::prune;
 use crate::seeking::{Place, is_on_chain, seek};
@@ -58,9 +58,11 @@ impl Trie {
     /// How many nodes there are: one for each spot, which are the root, each voted ledger, and the last common ledger of each
     /// two voted ledgers.
     pub fn nodes(&self) -> u32
-        ensures spots { (ledgers : List Header) → AreLedgers ledgers → GoesWith ledgers self.now.votes.items self.now.nodes self.now.root
+        ensures spots { (ledgers : List Header) → AreLedgers ledgers
+            → GoesWith ledgers self.now.votes.items self.now.nodes self.now.root
             → result ≡ length (spots ledgers self.now.votes.items) }
-        ensures few { (ledgers : List Header) → AreLedgers ledgers → GoesWith ledgers self.now.votes.items self.now.nodes self.now.root
+        ensures few { (ledgers : List Header) → AreLedgers ledgers
+            → GoesWith ledgers self.now.votes.items self.now.nodes self.now.root
             → result ≤ 2 * length self.now.votes.items + 1 }
     {
         self.nodes.live()
@@ -70,7 +72,7 @@ impl Trie {
         requires trie { GoesWith walk.old.ledgers.headers self.now.votes.items self.now.nodes self.now.root }
         requires known { ledger < length walk.old.ledgers.headers }
         ensures ledgers { AreLedgers walk.old.ledgers.headers }
-        ensures place { IsPlace walk.old.ledgers.headers self.now.nodes ledger result }
+        ensures place { IsPlace walk.old.ledgers.headers (spans self.now.nodes) ledger result }
         ensures goes_on { GoesOn walk.old walk.new }
     {
         seek(
@@ -78,19 +80,19 @@ impl Trie {
             walk,
             ledger,
             self.root,
-            node_at(&self.nodes, self.root),
+            span_at(&self.nodes, self.root),
         )
     }
 }
 
 impl Branch for Trie {
-    ghost use Rattle.std.specs.Prelude.{None};
-    ghost use Rattle.xl_trie.specs.Going.{GoesWith};
+    ghost use Rattle.std.specs.Prelude.{Some};
+    ghost use Rattle.xl_trie.specs.Tries.{GoesWith};
     ghost use Rattle.xl_trie.specs.Growing.{goes_more};
 
-    ghost JUMPS = { None };
+    ghost JUMPS = { Some 18 };
 
-    const JUMPS: Option<u64> = None;
+    const JUMPS: Option<u64> = Some(18);
 
     ghost votes = { λ t. t.votes.items };
 
@@ -116,38 +118,34 @@ impl Branch for Trie {
         let mut walk = registry.walk();
         let place = self.place(&mut walk, ledger);
         let name = come(&mut self.nodes, &mut walk, place, ledger);
-        recount_tip(&mut self.nodes, name, Change::OneMore);
-        recount_up(&mut self.nodes, name, Change::OneMore);
+        recount(&mut self.nodes, &walk, name, Change::OneMore);
         self.votes.push_reserved(Vote { member, ledger });
     }
 
     fn unvote(&mut self, registry: &Registry, member: NodeNo) {
         let ledger = ledger_of(&self.votes, member);
-        let place = self.place(&mut registry.walk(), ledger);
-        recount_tip(&mut self.nodes, place.at, Change::OneFewer);
-        recount_up(&mut self.nodes, place.at, Change::OneFewer);
+        let mut walk = registry.walk();
+        let place = self.place(&mut walk, ledger);
+        recount(&mut self.nodes, &walk, place.at, Change::OneFewer);
         drop_votes_of(&mut self.votes, member);
-        let over = node_at(&self.nodes, place.at).parent;
         prune(&mut self.nodes, place.at);
-        let Some(over) = over else { return };
-        prune(&mut self.nodes, over);
     }
 
     fn tip(&self, registry: &Registry, ledger: LedgerNo) -> u32 {
         let place = self.place(&mut registry.walk(), ledger);
-        let node = node_at(&self.nodes, place.at);
-        if node.ledger == ledger { node.tip } else { 0 }
+        let span = span_at(&self.nodes, place.at);
+        if span.ledger == ledger { span.tip } else { 0 }
     }
 
     fn branch(&self, registry: &Registry, ledger: LedgerNo) -> u32 {
         let mut walk = registry.walk();
         let place = self.place(&mut walk, ledger);
-        let node = node_at(&self.nodes, place.at);
-        if node.ledger == ledger {
-            return node.branch;
+        let span = span_at(&self.nodes, place.at);
+        if span.ledger == ledger {
+            return span.branch;
         }
         let Some(name) = place.within else { return 0 };
-        let child = node_at(&self.nodes, name);
+        let child = span_at(&self.nodes, name);
         if is_on_chain(&mut walk, ledger, child.ledger) {
             child.branch
         } else {
@@ -159,7 +157,7 @@ impl Branch for Trie {
         if self.votes.is_empty() {
             return None;
         }
-        let root = node_at(&self.nodes, self.root);
+        let root = span_at(&self.nodes, self.root);
         Some(prefer_from(&self.nodes, &self.votes, walk, largest, self.root, root))
     }
 

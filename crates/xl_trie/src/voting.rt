@@ -1,17 +1,18 @@
-ghost use Rattle.std.specs.Prelude.{◌≡◌, ◌+◌, ◌<◌, ◌≤◌, ◌++◌, [], ◌∷◌, ℕ, List, length, Some, IsSome};
+ghost use Rattle.std.specs.Prelude.{◌≡◌, ◌≢◌, ◌+◌, ◌<◌, ℕ, List, length, Some, None, IsSome};
 ghost use Rattle.xl_ledger.specs.Chains.{AreLedgers, seq_at};
 ghost use Rattle.xl_ledger.specs.Walks.{GoesOn};
 ghost use Rattle.xl_ledger.specs.declared.vote.Vote.{Vote};
-ghost use Rattle.xl_pool.specs.Pools.{get, live};
+ghost use Rattle.xl_pool.specs.Pools.{live};
 ghost use Rattle.xl_pool.specs.declared.name.Name.{Name};
-ghost use Rattle.xl_trie.specs.Linking.{HasCome, AllKids, AllHang, leaf_of, fork_of};
-ghost use Rattle.xl_trie.specs.Places.{IsPlace, OnWay};
-ghost use Rattle.xl_trie.specs.Tries.{AreLinked, AreSpots, AreCounted, IsTrie};
-ghost use Rattle.xl_trie.specs.Votings.{HasNode, IsBegin};
-ghost use Rattle.xl_trie.specs.declared.node.Node.{Node};
+ghost use Rattle.xl_trie.specs.Changing.{IsSplit};
+ghost use Rattle.xl_trie.specs.Nodes.{spans, IsKid, AllKids, AllHang};
+ghost use Rattle.xl_trie.specs.Places.{IsPlace};
+ghost use Rattle.xl_trie.specs.Tries.{IsTrie, IsTrieBut, StayTrie, IsHalfNeeded, IsRoot};
+ghost use Rattle.xl_trie.specs.Ways.{IsBegin};
+ghost use Rattle.xl_trie.specs.declared.node.Span.{Span};
 
-use crate::linking::{leaf, split};
-use crate::node::{Node, node_at};
+use crate::linking::{hang, take, unhang};
+use crate::node::{Node, Span, span_at};
 use crate::seeking::Place;
 use xl_ledger::{LedgerNo, Walk};
 use xl_pool::{Name, Pool};
@@ -31,6 +32,94 @@ fn begin_of(walk: &mut Walk<'_>, ledger: LedgerNo, over: LedgerNo) -> LedgerNo
     walk.ancestor(ledger, seq + 1)
 }
 
+/// A child's span is cut in two. The front, up to a ledger inside, gets a new name.
+fn split(nodes: &mut Pool<Node>, of: Name, kid: Name, ledger: LedgerNo, begin: LedgerNo) -> Name
+    requires room { live nodes.old < length nodes.old }
+    requires kids { AllKids nodes.old }
+    requires hang { AllHang (spans nodes.old) }
+    requires stands { IsSome (spans nodes.old of) }
+    requires kid { (t : Span) × IsKid (spans nodes.old) of kid t }
+    requires other { of ≢ kid }
+    ensures split { (t : Span) → IsKid (spans nodes.old) of kid t
+        → IsSplit (spans nodes.old) (spans nodes.new) of result kid t ledger begin }
+    ensures kids { AllKids nodes.new }
+    ensures live { live nodes.new ≡ live nodes.old + 1 }
+    ensures slots { length nodes.new ≡ length nodes.old }
+{
+    let under = span_at(nodes, kid);
+    let front = Span {
+        ledger,
+        first: under.first,
+        parent: None,
+        tip: 0,
+        branch: under.branch,
+    };
+    let name = take(nodes, front);
+    unhang(nodes, of, kid);
+    hang(nodes, of, name, under.first);
+    hang(nodes, name, kid, begin);
+    name
+}
+
+/// The span that the way to a ledger enters is split where it leaves it.
+fn fork(
+    nodes: &mut Pool<Node>,
+    walk: &mut Walk<'_>,
+    place: Place,
+    kid: Name,
+    ledger: LedgerNo,
+) -> Name
+    requires ledgers { AreLedgers walk.old.ledgers.headers }
+    requires trie { (votes : List Vote) × IsTrie walk.old.ledgers.headers votes nodes.old }
+    requires known { ledger < length walk.old.ledgers.headers }
+    requires place { IsPlace walk.old.ledgers.headers (spans nodes.old) ledger place }
+    requires within { place.within ≡ Some kid }
+    requires room { live nodes.old < length nodes.old }
+    ensures trie { StayTrie walk.old.ledgers.headers nodes.old None nodes.new (Some result) }
+    ensures place { IsPlace walk.old.ledgers.headers (spans nodes.new) ledger (record { at = result; within = None }) }
+    ensures half { IsHalfNeeded (spans nodes.new) result }
+    ensures root { (root : Name) → IsRoot (spans nodes.old) root → IsRoot (spans nodes.new) root }
+    ensures live { live nodes.new ≡ live nodes.old + 1 }
+    ensures slots { length nodes.new ≡ length nodes.old }
+    ensures goes_on { GoesOn walk.old walk.new }
+{
+    let under = span_at(nodes, kid);
+    let end = walk.common(under.ledger, ledger);
+    let begin = begin_of(walk, under.ledger, end);
+    split(nodes, place.at, kid, end, begin)
+}
+
+/// The node of a ledger whose way enters no span below this one: it, or a new one that hangs there.
+fn end_at(nodes: &mut Pool<Node>, walk: &mut Walk<'_>, at: Name, ledger: LedgerNo) -> Name
+    requires ledgers { AreLedgers walk.old.ledgers.headers }
+    requires trie { (votes : List Vote) × IsTrieBut walk.old.ledgers.headers votes nodes.old (Some at) }
+    requires known { ledger < length walk.old.ledgers.headers }
+    requires place { IsPlace walk.old.ledgers.headers (spans nodes.old) ledger (record { at = at; within = None }) }
+    requires half { IsHalfNeeded (spans nodes.old) at }
+    requires room { live nodes.old < length nodes.old }
+    ensures trie { StayTrie walk.old.ledgers.headers nodes.old (Some at) nodes.new (Some result) }
+    ensures there { (s : Span) × (spans nodes.new result ≡ Some s) × (s.ledger ≡ ledger) }
+    ensures root { (root : Name) → IsRoot (spans nodes.old) root → IsRoot (spans nodes.new) root }
+    ensures slots { length nodes.new ≡ length nodes.old }
+    ensures goes_on { GoesOn walk.old walk.new }
+{
+    let over = span_at(nodes, at);
+    if over.ledger == ledger {
+        return at;
+    }
+    let first = begin_of(walk, ledger, over.ledger);
+    let leaf = Span {
+        ledger,
+        first,
+        parent: None,
+        tip: 0,
+        branch: 0,
+    };
+    let name = take(nodes, leaf);
+    hang(nodes, at, name, first);
+    name
+}
+
 /// The node of a ledger from its place: one that was there, or one that comes; where its way leaves a span inside, another
 /// one comes there.
 pub(crate) fn come(
@@ -42,28 +131,17 @@ pub(crate) fn come(
     requires ledgers { AreLedgers walk.old.ledgers.headers }
     requires trie { (votes : List Vote) × IsTrie walk.old.ledgers.headers votes nodes.old }
     requires known { ledger < length walk.old.ledgers.headers }
-    requires place { IsPlace walk.old.ledgers.headers nodes.old ledger place }
+    requires place { IsPlace walk.old.ledgers.headers (spans nodes.old) ledger place }
     requires room { live nodes.old + 1 < length nodes.old }
-    ensures node { (votes : List Vote) (member : ℕ) → IsTrie walk.old.ledgers.headers votes nodes.old
-        → HasNode walk.old.ledgers.headers votes (record { member = member; ledger = ledger }) nodes.old nodes.new result }
+    ensures trie { StayTrie walk.old.ledgers.headers nodes.old None nodes.new (Some result) }
+    ensures there { (s : Span) × (spans nodes.new result ≡ Some s) × (s.ledger ≡ ledger) }
+    ensures root { (root : Name) → IsRoot (spans nodes.old) root → IsRoot (spans nodes.new) root }
     ensures slots { length nodes.new ≡ length nodes.old }
     ensures goes_on { GoesOn walk.old walk.new }
 {
-    let node = node_at(nodes, place.at);
-    if node.ledger == ledger {
-        return place.at;
-    }
     let Some(kid) = place.within else {
-        let first = begin_of(walk, ledger, node.ledger);
-        return leaf(nodes, place.at, ledger, first);
+        return end_at(nodes, walk, place.at, ledger)
     };
-    let under = node_at(nodes, kid);
-    let fork = walk.common(under.ledger, ledger);
-    let begin = begin_of(walk, under.ledger, fork);
-    let name = split(nodes, place.at, kid, fork, begin);
-    if fork == ledger {
-        return name;
-    }
-    let first = begin_of(walk, ledger, fork);
-    leaf(nodes, name, ledger, first)
+    let at = fork(nodes, walk, place, kid, ledger);
+    end_at(nodes, walk, at, ledger)
 }

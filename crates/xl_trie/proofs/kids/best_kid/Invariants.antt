@@ -1,13 +1,10 @@
 use Rattle.std.proofs.Common.{◌-◌, List, IsSome}
-use Rattle.std.specs.Prelude.{IfSome}
-use Rattle.xl_pool.specs.Pools.{get}
-use Rattle.xl_pool.specs.declared.name.Name.{Name}
-use Rattle.xl_trie.specs.Leading.{IsBestSoFar}
+use Rattle.xl_trie.proofs.Common.{IfSome, Name, IsBestSoFar, spans}
 use Rattle.xl_trie.proofs.Siblings.{Looks}
 use Rattle.xl_trie.proofs.kids.best_kid.Given as goal
 
 abbrev pub invariant-loop : goal.invariant-loop
 invariant-loop l = record {
-  stands : IfSome l.best (λ b. IsSome (get l.nodes b));
-  looks : Looks l.nodes l.fn.of (λ (rest : List Name). IsBestSoFar l.walk.ledgers.headers l.nodes l.fn.of l.fn.out rest l.best) l.at (l.end - l.counter);
+  stands : IfSome l.best (λ b. IsSome (spans l.nodes b));
+  looks : Looks l.nodes l.fn.of (λ (rest : List Name). IsBestSoFar l.walk.ledgers.headers (spans l.nodes) l.fn.of l.fn.out rest l.best) l.at (l.end - l.counter);
 }

@@ -1,13 +1,13 @@
 use Rattle.std.proofs.Common.{◌+◌, ◌-◌, inl, inr, sym, ap, ◌∙◌, arith}
-use Rattle.xl_pool.specs.Pools.{get}
-use Rattle.xl_trie.specs.declared.node.Node.{Node}
+use Rattle.xl_trie.proofs.Common.{get, Node}
 use Rattle.xl_trie.proofs.Listing.{some_is, true_false}
-use Rattle.xl_trie.proofs.Siblings.{looks_from, looks_on, looked, looked_all, stands_next, comes}
-use Rattle.xl_trie.proofs.Lines.{NoneLeads, none_leads}
+use Rattle.xl_trie.proofs.Siblings.{NoneLeads, none_leads, looks_from, looks_on, looked, looked_all, stands_next, comes}
 use Rattle.xl_trie.proofs.linking.before.Goals as goal
 
 pub loop-init : goal.loop-init
-loop-init c = looks_from c.args.nodes.now c.args.of (NoneLeads c.args.nodes.now c.args.of c.args.name) c.node_at-at.result (c.live-end.result - 0) (omega (arith, c.live-end.ensures)) (c.requires.kids c.args.of c.node_at-at.result c.node_at-at.ensures) (λ kids all b m kid. inl (all b m kid))
+loop-init c =
+    let has = c.requires.kids c.args.of c.node_at-at.result c.node_at-at.ensures.node in
+    looks_from c.args.nodes.now c.args.of (NoneLeads c.args.nodes.now c.args.of c.args.name) c.node_at-at.result (c.live-end.result - 0) (omega (arith, c.live-end.ensures)) has (λ b m e p. inl (has.all b m e p))
 
 pub returns-in_default : goal.returns-in_default
 returns-in_default c = none_leads c.args.nodes.now c.args.of c.args.name (looked c.args.nodes.now c.args.of (NoneLeads c.args.nodes.now c.args.of c.args.name) c.loop.at _ c.loop.invariant c.in_default.is)
@@ -18,16 +18,16 @@ node_at-node-requires c = stands_next c.args.nodes.now c.args.of (NoneLeads c.ar
 pub returns-then-is_named : goal.returns-then-is_named
 returns-then-is_named c =
     let at = comes c.args.nodes.now c.args.of (NoneLeads c.args.nodes.now c.args.of c.args.name) c.loop.at _ c.in-Some.next c.loop.invariant c.in-Some.is in
-    let own = some_is c.node_at-node.result at.node (sym c.node_at-node.ensures ∙ at.kid.0) in
-    (at.node, at.kid, ap (λ (n : Node). n.sibling) (sym own) ∙ c.is_named.ensures.0 c.if-is_named.true)
+    let own = some_is c.node_at-node.result at.node (sym c.node_at-node.ensures.node ∙ at.there) in
+    (at.node, at.there, at.parent, ap (λ (n : Node). n.sibling) (sym own) ∙ c.is_named.ensures.0 c.if-is_named.true)
 
 pub loop-preserved : goal.loop-preserved
 loop-preserved c =
-    looks_on c.args.nodes.now c.args.of (NoneLeads c.args.nodes.now c.args.of c.args.name) (NoneLeads c.args.nodes.now c.args.of c.args.name) c.loop.at (c.live-end.result - c.loop.counter) (c.live-end.result - (c.loop.counter + 1)) c.in-Some.next c.node_at-node.result c.loop.invariant c.in-Some.is c.node_at-node.ensures (omega (arith, c.loop-test.true))
-    (λ rest kid so b m is. elim (so b m is) [
+    looks_on c.args.nodes.now c.args.of (NoneLeads c.args.nodes.now c.args.of c.args.name) (NoneLeads c.args.nodes.now c.args.of c.args.name) c.loop.at (c.live-end.result - c.loop.counter) (c.live-end.result - (c.loop.counter + 1)) c.in-Some.next c.node_at-node.result c.loop.invariant c.in-Some.is c.node_at-node.ensures.node (omega (arith, c.loop-test.true))
+    (λ rest kid so b m e p. elim (so b m e p) [
       | inl (inl same) ↦
-          let own = some_is m c.node_at-node.result (sym is.0 ∙ ap (get c.args.nodes.now) same ∙ c.node_at-node.ensures) in
-          inr (λ e. true_false c.is_named.result (c.is_named.ensures.1 (ap (λ (n : Node). n.sibling) (sym own) ∙ e)) c.if-is_named.false)
+          let own = some_is m c.node_at-node.result (sym e ∙ ap (get c.args.nodes.now) same ∙ c.node_at-node.ensures.node) in
+          inr (λ h. true_false c.is_named.result (c.is_named.ensures.1 (ap (λ (n : Node). n.sibling) (sym own) ∙ h)) c.if-is_named.false)
       | inl (inr i) ↦ inl i
       | inr other ↦ inr other
     ])

@@ -1,6 +1,5 @@
 use Rattle.std.proofs.Common.{◌-◌}
-use Rattle.xl_trie.proofs.Siblings.{Looks}
-use Rattle.xl_trie.proofs.Lines.{NoneLeads}
+use Rattle.xl_trie.proofs.Siblings.{Looks, NoneLeads}
 use Rattle.xl_trie.proofs.linking.before.Given as goal
 
 abbrev pub invariant-loop : goal.invariant-loop

@@ -1,5 +1,5 @@
 use Rattle.std.proofs.Common.{◌≡◌, ◌≤◌, take}
-use Rattle.xl_ledger.specs.Votes.{uncommitted}
+use Rattle.xl_trie.proofs.Common.{uncommitted}
 use Rattle.xl_trie.proofs.preferring.uncommitted.Given as goal
 
 abbrev pub invariant-loop-vote : goal.invariant-loop-vote

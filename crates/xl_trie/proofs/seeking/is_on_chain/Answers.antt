@@ -1,10 +1,10 @@
 use Rattle.std.proofs.Common.{◌≡◌, slice_get, Some, sym, ap, ◌∙◌, arith}
-use Rattle.xl_ledger.specs.Chains.{chain, seq_at}
-use Rattle.xl_trie.proofs.Chained.{on_low, on_at}
+use Rattle.xl_trie.proofs.Common.{chain, seq_at}
+use Rattle.xl_trie.proofs.Placing.{on_low, on_at}
 use Rattle.xl_trie.proofs.seeking.is_on_chain.Goals as goal
 
 pub returns-then-seq_of-seq-clause-value : goal.returns-then-seq_of-seq-clause-value
-returns-then-seq_of-seq-clause-value c = on_low c.args.walk.now.ledgers.headers c.seq_of-seq.ensures.ledgers c.args.ledger c.args.of c.requires.ledger c.requires.of (omega (arith, c.seq_of-seq.ensures.value, c.seq_of.ensures.value, c.if-seq_of-seq.true))
+returns-then-seq_of-seq-clause-value c = on_low c.args.walk.now.ledgers.headers c.seq_of-seq.ensures.ledgers c.args.ledger c.args.of c.requires.of (omega (arith, c.seq_of-seq.ensures.value, c.seq_of.ensures.value, c.if-seq_of-seq.true))
 
 pub returns-clause-value : goal.returns-clause-value
 returns-clause-value c =

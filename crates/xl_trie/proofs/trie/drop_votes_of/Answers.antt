@@ -1,5 +1,5 @@
 use Rattle.std.proofs.Common.{rules}
-use Rattle.std.proofs.lemmas.Fn.{filter_same}
+use Rattle.xl_trie.proofs.Common.{filter_same}
 use Rattle.xl_trie.proofs.trie.drop_votes_of.Goals as goal
 
 pub returns-clause-without : goal.returns-clause-without

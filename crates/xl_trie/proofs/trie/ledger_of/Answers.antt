@@ -1,9 +1,5 @@
 use Rattle.std.proofs.Common.{◌==◌, ◌||◌, List, get_or, refl, sym, ap, subst, ◌∙◌}
-use Rattle.std.proofs.lemmas.Bool.{eqb-true}
-use Rattle.std.proofs.lemmas.List.Folds.{list_any_more}
-use Rattle.xl_ledger.specs.declared.vote.Vote.{Vote}
-use Rattle.xl_ledger.specs.Votes.{has_voted}
-use Rattle.xl_trie.specs.Chains.{In}
+use Rattle.xl_trie.proofs.Common.{eqb-true, list_any_more, Vote, has_voted, In}
 use Rattle.xl_trie.proofs.Listing.{in_at, true_false}
 use Rattle.xl_trie.proofs.Ways.{take_long}
 use Rattle.xl_trie.proofs.trie.ledger_of.Goals as goal

@@ -1,5 +1,5 @@
 use Rattle.std.proofs.Common.{◌≡◌, false, take}
-use Rattle.xl_ledger.specs.Votes.{has_voted}
+use Rattle.xl_trie.proofs.Common.{has_voted}
 use Rattle.xl_trie.proofs.trie.ledger_of.Given as goal
 
 abbrev pub invariant-loop-vote : goal.invariant-loop-vote

@@ -1,5 +1,5 @@
 use Rattle.std.proofs.Common.{sym, ap, ◌∙◌, ◌+◌, take}
-use Rattle.xl_trie.specs.Ways.{way}
+use Rattle.xl_trie.proofs.Common.{way}
 use Rattle.xl_trie.proofs.Ways.{length_way, way_at}
 use Rattle.xl_trie.proofs.voting.begin_of.Goals as goal
 

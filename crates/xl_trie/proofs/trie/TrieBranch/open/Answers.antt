@@ -1,12 +1,9 @@
-use Rattle.std.proofs.Common.{◌+◌, ◌*◌, List, Some, sym, subst}
-use Rattle.xl_ledger.specs.declared.vote.Vote.{Vote}
-use Rattle.xl_pool.specs.Pools.{Updates}
-use Rattle.xl_trie.specs.declared.node.Node.{Node}
-use Rattle.xl_trie.specs.Going.{GoesWith}
+use Rattle.std.proofs.Common.{◌+◌, ◌*◌, List, sym, subst}
+use Rattle.xl_trie.proofs.Common.{Vote, GoesWith}
 use Rattle.xl_trie.proofs.Opening.{opened}
 use Rattle.xl_trie.proofs.trie.TrieBranch.open.Goals as goal
 
 pub returns-clause-goes : goal.returns-clause-goes
 returns-clause-goes c = λ ledgers ok.
     subst (λ (x : List Vote). GoesWith ledgers x c.take.new.self c.in-Ok.root) (sym c.in_ok-votes.ensures.items)
-    (opened ledgers ok (2 * c.args.members + 1) c.in_ok-nodes.nodes c.take.new.self c.in-Ok.root c.in_ok-nodes.ensures.empty (subst (λ (x : Node). Updates c.in_ok-nodes.nodes c.take.new.self c.in-Ok.root (Some x)) c.root_node.ensures c.in-Ok.ensures.names))
+    (opened ledgers ok (2 * c.args.members + 1) c.in_ok-nodes.nodes c.take.new.self c.in-Ok.root c.root_node.result c.root_node.ensures.child c.root_node.ensures.span c.in_ok-nodes.ensures.empty c.in-Ok.ensures.names)

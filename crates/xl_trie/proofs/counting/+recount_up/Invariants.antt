@@ -1,0 +1,6 @@
+use Rattle.xl_trie.proofs.Common.{spans}
+use Rattle.xl_trie.proofs.Recounting.{depth}
+use Rattle.xl_trie.proofs.counting.+recount_up.Given as goal
+
+abbrev pub decreases-recount_up : goal.decreases-recount_up
+decreases-recount_up l = depth l.walk.now.ledgers.headers (spans l.nodes.now l.at)
