@@ -1,6 +1,6 @@
 -- Every frame that a core ever gave stays covered by what its keeper may hold.
 use Rattle.std.proofs.Common.{◌≡◌, ◌≢◌, ℕ, ◌≤◌, Bool, true, List, [], ◌∷◌, ◌++◌, map, ap, sym, ◌∙◌, subst, arith, Option, Some, None, Ok, append_assoc}
-use Rattle.std.specs.Prelude.{All, IfSome, nat_lt, replicate, take}
+use Rattle.std.specs.Prelude.{All, IfSome, nat_lt, take}
 use Rattle.std.proofs.lemmas.Bool.{cond_both, ltb-true}
 use Rattle.std.proofs.lemmas.List.{append-nil, take-map}
 use Rattle.std.proofs.lemmas.List.Elements.{All-append, All-cons, All-head, All-nil, All-tail, All-take, All-weaker}
@@ -14,6 +14,7 @@ use Rattle.xl_wire.proofs.BodyLaws.{body_again}
 use Rattle.xl_wire.proofs.RawLaws.{split_again}
 use Rattle.xl_tags.specs.Rings.{Ring}
 use Rattle.xl_tags.specs.Sealing.{sealed}
+use Rattle.xl_wire.specs.Frames.{raw_of}
 use Rattle.xl_core.specs.declared.event.CoreEvent.{CoreEvent}
 use Rattle.xl_core.specs.declared.event.CoreEvent.TheVariants.{Issue, Frame, Drain, Reports, Stop, Stopped}
 use Rattle.xl_core.specs.declared.hearing.Spoken.{Spoken}
@@ -29,7 +30,7 @@ use Rattle.xl_core.specs.Node as nodes
 use Rattle.xl_core.specs.Node.{Node, Save, is_kept, issues, issues_unless, refusing, at_moment, second_of, own_validation, happens, opened}
 use Rattle.xl_core.specs.Node.Save.{Kept, Failed}
 use Rattle.xl_core.specs.Queues.{waiting_at, fitting, frames_in}
-use Rattle.xl_core.specs.Sending.{validation_frame, sealed_bytes, has_spelling}
+use Rattle.xl_core.specs.Sending.{blank_frame, sealed_bytes, has_spelling}
 use Rattle.xl_core.specs.Stops.{IsCovered, IsItemCovered}
 use Rattle.xl_core.proofs.Heard.{not_itself}
 use Rattle.xl_core.proofs.Spelling.{held, sealed_raw}
@@ -39,20 +40,19 @@ use Rattle.xl_core.proofs.Stopping.{AllCovered, waiting_covered, heard_keeps, fr
 -- WHAT A DRAIN GIVES
 
 -- the frame of a validation says it
-sealed_says : (ring : Ring) (from to : ℕ) (v : Validation) → has_spelling from to v ≡ true → validation_in (sealed_bytes ring from to v) ≡ Some v
+sealed_says : (ring : Ring) (from to : ℕ) (v : Validation) → has_spelling from to v ≡ true → validation_in (sealed_bytes ring from to (bodies.Validation v)) ≡ Some v
 sealed_says ring from to v h =
-    let fits = held from to v h in
-    let f : RawFrame = sealed ring (validation_frame from to v (replicate 32 0)) in
-    let whole : split_of (raw_bytes f) ≡ Whole f = ap split_of (sym (append-nil (raw_bytes f))) ∙ split_again f [] (sealed_raw ring from to v fits) in
-    ap validation_split whole ∙ ap validation_of (body_again (bodies.Validation v) fits.validation)
+    let f : RawFrame = sealed ring (raw_of (blank_frame from to (bodies.Validation v))) in
+    let whole : split_of (raw_bytes f) ≡ Whole f = ap split_of (sym (append-nil (raw_bytes f))) ∙ split_again f [] (sealed_raw ring from to v h) in
+    ap validation_split whole ∙ ap validation_of (body_again (bodies.Validation v) (held from to v h).body)
 
 frames_covered : (kept : ℕ) (n : Node) (to : ℕ) (items : List Item) → All (IsItemCovered kept) items → All (IsFrameCovered kept) (frames_in (map (frame_of n to) items))
 frames_covered kept n to [] covered = All-nil (IsFrameCovered kept)
 frames_covered kept n to (Vote v ∷ items) covered =
     let rest = frames_covered kept n to items (All-tail (IsItemCovered kept) (Vote v) items covered) in
     let its = All-head (IsItemCovered kept) (Vote v) items covered in
-    cond_both (has_spelling n.me to v) (Some (sealed_bytes n.keys n.me to v)) None (λ o. All (IsFrameCovered kept) (frames_in (o ∷ map (frame_of n to) items)))
-    (λ spelled. All-cons (IsFrameCovered kept) (sealed_bytes n.keys n.me to v) (frames_in (map (frame_of n to) items)) (subst (λ o. IfSome o (λ u. u.seq ≤ kept)) (sym (sealed_says n.keys n.me to v spelled)) its) rest)
+    cond_both (has_spelling n.me to v) (Some (sealed_bytes n.keys n.me to (bodies.Validation v))) None (λ o. All (IsFrameCovered kept) (frames_in (o ∷ map (frame_of n to) items)))
+    (λ spelled. All-cons (IsFrameCovered kept) (sealed_bytes n.keys n.me to (bodies.Validation v)) (frames_in (map (frame_of n to) items)) (subst (λ o. IfSome o (λ u. u.seq ≤ kept)) (sym (sealed_says n.keys n.me to v spelled)) its) rest)
     (λ _. rest)
 
 drain_gives : (kept : ℕ) (core : Core) (member room : ℕ) (save : Save) → AllCovered kept core.waiting → All (IsFrameCovered kept) (given_in (core_happens core (Drain member room) save).answer)

@@ -1,6 +1,6 @@
 -- What a room holds, and what still waits, while a drain goes on.
 use Rattle.std.proofs.Common.{◌≡◌, ℕ, zero, suc, ◌+◌, ◌-◌, ◌<◌, ◌≤◌, true, false, cond, List, [], ◌∷◌, ◌++◌, length, set, take, drop, map, arith, refl, ap, sym, ◌∙◌, subst, Option, Some, None}
-use Rattle.std.specs.Prelude.{All, IfSome, count_by, nat_le, option_to_list, slice_get}
+use Rattle.std.specs.Prelude.{if◌then◌else◌, All, IfSome, count_by, nat_le, option_to_list, slice_get}
 use Rattle.std.specs.Option.{is_none}
 use Rattle.std.proofs.lemmas.Bool.{cond-true, cond-false, le-leb}
 use Rattle.std.proofs.lemmas.Bool.Decides.{nat_tests}
@@ -15,6 +15,8 @@ use Rattle.xl_core.specs.declared.item.Item.{Item}
 use Rattle.xl_core.specs.declared.item.Item.TheVariants.{Vote}
 use Rattle.xl_core.specs.Items.{frame_of}
 use Rattle.xl_core.specs.Node.{Node}
+use Rattle.xl_tags.specs.Rings.{Ring}
+use Rattle.xl_wire.specs.declared.body.Body.TheVariants as bodies
 use Rattle.xl_core.specs.Sending.{sealed_bytes, has_spelling}
 use Rattle.xl_core.specs.declared.putting.Put.{Put}
 use Rattle.xl_core.specs.declared.putting.Put.TheVariants.{Written, PassedOver, NoRoom}
@@ -272,8 +274,11 @@ too_long f (x ∷ items) item frame room first its long =
 -- A VOTE
 
 -- its frame was put
-pub vote_put : (n : Node) (to : ℕ) (item : Item) (v : Validation) (frame : List ℕ) (at : ℕ) (old new : List ℕ) (r : Put) → Vote v ≡ item → frame ≡ sealed_bytes n.keys n.me to v → has_spelling n.me to v ≡ true →
-    IsPut (Some frame) at old new r → IsPut (frame_of n to item) at old new r
-vote_put n to item v frame at old new r same is spelled put =
+pub vote_put : (n : Node) (ring : Ring) (to : ℕ) (item : Item) (v : Validation) (frame : List ℕ) (at : ℕ) (old new : List ℕ) (r : Put) → ring ≡ n.keys → n.keys.me ≡ n.me → Vote v ≡ item →
+    frame ≡ sealed_bytes ring ring.me to (bodies.Validation v) → has_spelling ring.me to v ≡ true → IsPut (Some frame) at old new r → IsPut (frame_of n to item) at old new r
+vote_put n ring to item v frame at old new r its own same is spelled put =
     subst (λ (x : Item). IsPut (frame_of n to x) at old new r) same
-    (subst (λ (o : Option (List ℕ)). IsPut o at old new r) (ap (λ (f : List ℕ). Some f) is ∙ sym (cond-true (has_spelling n.me to v) (Some (sealed_bytes n.keys n.me to v)) None spelled)) put)
+    (subst (λ (m : ℕ). IsPut (if has_spelling m to v then Some (sealed_bytes n.keys m to (bodies.Validation v)) else None) at old new r) own
+    (subst (λ (k : Ring). IsPut (if has_spelling k.me to v then Some (sealed_bytes k k.me to (bodies.Validation v)) else None) at old new r) its
+    (subst (λ (o : Option (List ℕ)). IsPut o at old new r)
+    (ap (λ (f : List ℕ). Some f) is ∙ sym (cond-true (has_spelling ring.me to v) (Some (sealed_bytes ring ring.me to (bodies.Validation v))) None spelled)) put)))

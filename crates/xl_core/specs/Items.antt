@@ -8,11 +8,11 @@ use Rattle.xl_core.specs.Node.{Node}
 use Rattle.xl_core.specs.Queues.{waiting_at, fitting}
 use Rattle.xl_queues.specs.Queues.{Backlog}
 use Rattle.xl_core.specs.Sending.{sealed_bytes, has_spelling}
+use Rattle.xl_wire.specs.declared.body.Body.TheVariants as bodies
 
--- the frame in which a node sends an item to a peer, or None where it passes the item over: what the fields of a frame can't hold
--- isn't sent
+-- the frame in which a node sends an item to a peer, or None where it passes the item over
 abbrev pub frame_of : Node → ℕ → Item → Option (List ℕ)
-frame_of n to (Vote v) = if has_spelling n.me to v then Some (sealed_bytes n.keys n.me to v) else None
+frame_of n to (Vote v) = if has_spelling n.me to v then Some (sealed_bytes n.keys n.me to (bodies.Validation v)) else None
 
 -- of all that waits for a number; there is None for what is passed over
 abbrev pub frames_for : Node → List (Backlog Item) → ℕ → List (Option (List ℕ))

@@ -35,7 +35,7 @@ pub use outgoing::OUTGOING;
 pub use queued::{Core, LONGEST_FRAME};
 pub use refusal::Refusal;
 pub use report::{OwnValidation, Report};
-pub use sending::{HEADER_FRAME, VALIDATION_FRAME, sealed, sealed_header};
+pub use sending::{VALIDATION_FRAME, sealed};
 pub use settings::Settings;
 pub use taken::Taken;
 pub use untaken::UNTAKEN;

@@ -1,7 +1,8 @@
-ghost use Rattle.std.specs.Prelude.{◌≡◌, ◌≢◌, ◌↔◌, ◌<◌, ◌≤◌, IfOk, OnOk, OnErr, IsTrue, Some, Ok, Err, ℕ, option_map, None, [], length};
+ghost use Rattle.std.specs.Prelude.{◌≡◌, ◌≢◌, ◌↔◌, ◌<◌, ◌≤◌, IfOk, OnOk, OnErr, IsSome, IsTrue, Some, Ok, Err, ℕ, option_map, None, [], length};
 ghost use Rattle.std.specs.Result.{result_err};
 ghost use Rattle.xl_base.specs.declared.moments.TheConstants.{GREATEST_MILLIS};
 ghost use Rattle.xl_lists.specs.Lists.{is_on};
+ghost use Rattle.xl_tags.specs.Rings.{key_of};
 ghost use Rattle.xl_validations.specs.Votes.{votes_of};
 ghost use Rattle.xl_core.specs.Node.{
   Issue,
@@ -34,7 +35,6 @@ ghost use Rattle.xl_ledger.specs.declared.registry.TheConstants.{LEAST_LIMIT, GR
 ghost use Rattle.xl_core.specs.Draining.{IsPut};
 ghost use Rattle.xl_core.specs.Hearing.{heard};
 ghost use Rattle.xl_core.specs.Items.{frame_of};
-ghost use Rattle.xl_core.specs.Sending.{sealed_bytes, has_spelling};
 ghost use Rattle.xl_core.specs.Refusals.{refusal_from};
 ghost use Rattle.xl_core.specs.Rest.{IsKeyed};
 ghost use Rattle.xl_core.specs.Answers.{Done};
@@ -48,7 +48,7 @@ ghost use Rattle.xl_io.specs.Keepers.{after_save};
 use crate::hearing::hear;
 use crate::item::vote_in;
 use crate::putting::{Put, put_frame};
-use crate::sending::{VALIDATION_FRAME, sealed};
+use crate::sending::sealed;
 use crate::taken::Heard;
 use crate::{Item, OwnValidation, Refusal, Report, Settings, Speech, Taken};
 use std::alloc::Global;
@@ -316,22 +316,14 @@ impl<B: Branch + Drop> Node<B> {
         }
     }
 
-    /// The frame of a validation for another member, sealed if the node has a key for it.
-    pub fn sealed(&self, to: NodeNo, validation: &Validation) -> [u8; VALIDATION_FRAME]
-        ensures bytes { result ≡ sealed_bytes self.now.keys self.now.me to validation.now }
-        ensures spelled { IsTrue (has_spelling self.now.me to validation.now) }
-    {
-        sealed(&self.keys, to, validation)
-    }
-
     /// Puts the frame in which it sends an item to a member at a place of a room, where the room is long enough. What isn't sent
     /// is passed over.
     pub(crate) fn put(&self, to: NodeNo, item: &Item, at: usize, room: &mut [u8]) -> Put
-        requires { at ≤ length room.old }
+        requires key { IsSome (key_of self.now.keys to) }
+        requires place { at ≤ length room.old }
         ensures { IsPut (frame_of self.now to item.now) at room.old room.new result }
     {
-        let v = vote_in(item);
-        put_frame(&self.sealed(to, &v), at, room)
+        put_frame(&sealed(&self.keys, to, &vote_in(item)), at, room)
     }
 
     /// The own row takes what was issued, if the node stands on its list.

@@ -1,5 +1,6 @@
 // What a node has yet to send, for each number that a member may have.
-ghost use Rattle.std.specs.Prelude.{◌≡◌, ◌+◌, ◌-◌, ◌≤◌, ◌++◌, ℕ, Some, None, drop, length};
+ghost use Rattle.std.specs.Prelude.{◌≡◌, ◌+◌, ◌-◌, ◌≤◌, ◌++◌, ℕ, Some, None, IsSome, drop, length};
+ghost use Rattle.xl_tags.specs.Rings.{key_of};
 ghost use Rattle.xl_core.specs.Draining.{TakesOne};
 ghost use Rattle.xl_core.specs.Items.{frames_for, taken_for};
 ghost use Rattle.xl_core.specs.Queues.{after_taking, at_number, fitting, frames_in, joined, waiting_at};
@@ -35,6 +36,7 @@ pub fn drain<B: Branch + Drop>(
     member: NodeNo,
     room: &mut [u8],
 ) -> usize
+    requires key { IsSome (key_of node.now.keys member) }
     ensures count { result ≡ length (joined (frames_in (taken_for node.now waiting.old member (length room.old)))) }
     ensures frames { room.new ≡ joined (frames_in (taken_for node.now waiting.old member (length room.old))) ++ drop result room.old }
     ensures taken { waiting.new ≡ at_number waiting.old member (after_taking (taken_for node.now waiting.old member (length room.old))) }
@@ -55,7 +57,8 @@ fn drain_first<B: Branch + Drop>(
     at: usize,
     room: &mut [u8],
 ) -> Option<usize>
-    requires { at ≤ length room.old }
+    requires key { IsSome (key_of node.now.keys member) }
+    requires place { at ≤ length room.old }
     ensures none { result ≡ None → (fitting (frames_for node.now waiting.old member) (length room.old - at) ≡ 0) × (waiting.new ≡ waiting.old) × (room.new ≡ room.old) }
     ensures some { (next : ℕ) → result ≡ Some next → TakesOne (frames_for node.now waiting.old member) waiting.old waiting.new member at next room.old room.new }
     ensures numbers { (length waiting.old ≡ 64) × (1 ≤ member) × (member ≤ 64) }

@@ -1,33 +1,25 @@
 -- What drains give: at most one frame for a number, of the length of a validation's; number by number, as the code goes.
 use Rattle.std.proofs.Common.{◌≡◌, ◌≢◌, ℕ, ◌+◌, ◌<◌, ◌≤◌, true, false, List, [], ◌∷◌, ◌++◌, length, get_or, take, drop, map, refl, arith, ap, sym, ◌∙◌, inl, inr, Option, Some, None, subst, append_assoc, append-nil}
-use Rattle.std.specs.Prelude.{◌==◌, ◌⊎◌, IsSome, is_some, not, replicate, if◌then◌else◌}
-use Rattle.std.proofs.lemmas.Bool.{cond_both, cond-true, cond-false, eqb-true}
+use Rattle.std.specs.Prelude.{◌==◌, ◌⊎◌, IsSome, is_some, not, if◌then◌else◌}
+use Rattle.std.proofs.lemmas.Bool.{cond_both, cond-true, cond-false}
 use Rattle.std.proofs.lemmas.List.{take_more, drop_more, length-take}
 use Rattle.xl_wire.specs.declared.validation.Validation.{Validation}
-use Rattle.xl_wire.specs.Bodies.{validation_bytes}
-use Rattle.xl_wire.proofs.RawLaws.{length-raw_bytes}
-use Rattle.xl_tags.specs.Rings.{Ring, key_of, schedule_ring}
+use Rattle.xl_tags.specs.Rings.{key_of, schedule_ring}
 use Rattle.xl_world.proofs.Lying.{key_of_another}
-use Rattle.xl_tags.specs.Sealing.{sealed}
 use Rattle.xl_core.specs.declared.queued.TheConstants.{LONGEST_FRAME}
 use Rattle.xl_core.specs.Core.{Core}
 use Rattle.xl_core.specs.Items.{taken_for}
 use Rattle.xl_core.specs.Node.{items_of}
 use Rattle.xl_core.specs.Queues.{waiting_at, frames_in, joined}
-use Rattle.xl_core.specs.Sending.{validation_frame, sealed_bytes, has_spelling}
-use Rattle.xl_core.proofs.Spelling.{held, sealed_raw}
+use Rattle.xl_wire.specs.declared.body.Body.TheVariants as bodies
+use Rattle.xl_core.specs.Sending.{sealed_bytes, has_spelling}
+use Rattle.xl_core.proofs.Spelling.{sealed_long}
 use Rattle.xl_world.specs.declared.sent.Sent.{Sent}
 use Rattle.xl_world.specs.Emptying.{drained, drained_once, given, given_once, others}
 use Rattle.xl_world.specs.Idle.{Between, Waits, WaitsOnly}
 use Rattle.xl_world.proofs.Emptying.{drained_node, takes_all, waits_still}
 
 -- ONE NUMBER
-
-sealed_long : (ring : Ring) (from to : ℕ) (v : Validation) → has_spelling from to v ≡ true → length (sealed_bytes ring from to v) ≡ 87
-sealed_long ring from to v spelled =
-    let raw = sealed_raw ring from to v (held from to v spelled) in
-    let body : length (validation_bytes v) ≡ 41 = eqb-true (length (validation_bytes v)) 41 raw.lawful in
-    omega (arith, body, length-raw_bytes (sealed ring (validation_frame from to v (replicate 32 0))) raw.tag)
 
 -- nothing, or one frame of 87 bytes
 abbrev pub IsOne : List (List ℕ) → Type 0
@@ -37,9 +29,9 @@ pub one_given : (core : Core) (m : ℕ) (o : Option Validation) → (waiting_at 
 one_given core m None is = inl (ap frames_in (takes_all core.node None core.waiting m is))
 one_given core m (Some v) is =
     let all = takes_all core.node (Some v) core.waiting m is in
-    cond_both (has_spelling core.node.me m v) (Some (sealed_bytes core.node.keys core.node.me m v)) None
+    cond_both (has_spelling core.node.me m v) (Some (sealed_bytes core.node.keys core.node.me m (bodies.Validation v))) None
     (λ o. taken_for core.node core.waiting m LONGEST_FRAME ≡ o ∷ [] → IsOne (frames_in (taken_for core.node core.waiting m LONGEST_FRAME)))
-    (λ spelled same. inr (sealed_bytes core.node.keys core.node.me m v, ap frames_in same, sealed_long core.node.keys core.node.me m v spelled))
+    (λ spelled same. inr (sealed_bytes core.node.keys core.node.me m (bodies.Validation v), ap frames_in same, sealed_long core.node.keys core.node.me m v spelled))
     (λ _ same. inl (ap frames_in same))
     all
 

@@ -1,6 +1,6 @@
 -- A lie is sealed by the one key that its sender shares with its receiver.
-use Rattle.std.proofs.Common.{◌≡◌, ◌≢◌, ℕ, ◌-◌, ◌≤◌, List, Option, Some, None, ap, sym, ◌∙◌, arith}
-use Rattle.std.specs.Prelude.{◌==◌, ◌||◌, IsSome, option_map}
+use Rattle.std.proofs.Common.{◌≡◌, ◌≢◌, ℕ, ◌-◌, ◌≤◌, List, Option, Some, None, refl, ap, sym, ◌∙◌, arith}
+use Rattle.std.specs.Prelude.{◌==◌, ◌||◌, IsSome, option_map, unwrap_or}
 use Rattle.std.proofs.lemmas.Bool.{cond-true, cond-false}
 use Rattle.std.proofs.lemmas.Bool.Decides.{nat_tests}
 use Rattle.std.proofs.lemmas.List.FromFn.{get_or-map-range_with_len}
@@ -8,8 +8,8 @@ use Rattle.xl_lists.specs.Lists.{is_outside}
 use Rattle.xl_wire.specs.Raws.{RawFrame, raw_bytes}
 use Rattle.xl_tags.specs.Macs.{mac}
 use Rattle.xl_tags.specs.PairKeys.{pair_key_of}
-use Rattle.xl_tags.specs.Rings.{key_of, schedule_key, schedule_ring}
-use Rattle.xl_tags.specs.Sealing.{before_tag, tag_by}
+use Rattle.xl_tags.specs.Rings.{Ring, key_of, schedule_key, schedule_ring}
+use Rattle.xl_tags.specs.Sealing.{before_tag, sealed, tag_by, with_tag}
 use Rattle.xl_tags.proofs.RingLaws.{key_at}
 
 -- the key that a schedule gives a number stands at its place
@@ -36,6 +36,14 @@ tag_by_pair from to f part tag low high other is_to is_part is_tag =
 none_some : (o : Option (List ℕ)) → o ≡ None → IsSome o → ⊥
 none_some None none some = cc
 none_some (Some key) none some = cc
+
+kept_tag : (f : RawFrame) (g : List ℕ → List ℕ) (o : Option (List ℕ)) → (IsSome o → ⊥) → with_tag f (unwrap_or (option_map g o) f.tag) ≡ f
+kept_tag f g None none = refl
+kept_tag f g (Some key) none = absurd (none refl)
+
+-- without a key a frame stays as it is
+pub unsealed : (ring : Ring) (f : RawFrame) → (IsSome (key_of ring f.to) → ⊥) → sealed ring f ≡ f
+unsealed ring f none = kept_tag f _ (key_of ring f.to) none
 
 -- a number has no key for itself
 pub keyless : (from to : ℕ) (f : RawFrame) → 1 ≤ to → to ≤ 64 → to ≡ from → f.to ≡ to → IsSome (key_of (schedule_ring from) f.to) → ⊥

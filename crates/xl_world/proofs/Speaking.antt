@@ -1,6 +1,5 @@
 -- What frames say: the frame of a validation says it, and so does what is heard in bytes.
 use Rattle.std.proofs.Common.{◌≡◌, ℕ, true, List, [], ap, sym, ◌∙◌, Some}
-use Rattle.std.specs.Prelude.{replicate}
 use Rattle.std.proofs.lemmas.List.{append-nil}
 use Rattle.xl_wire.specs.declared.body.Body.TheVariants as bodies
 use Rattle.xl_wire.specs.declared.validation.Validation.{Validation}
@@ -12,7 +11,8 @@ use Rattle.xl_wire.proofs.BodyLaws.{body_again}
 use Rattle.xl_wire.proofs.RawLaws.{split_again}
 use Rattle.xl_tags.specs.Rings.{Ring}
 use Rattle.xl_tags.specs.Sealing.{sealed}
-use Rattle.xl_core.specs.Sending.{validation_frame, sealed_bytes, has_spelling}
+use Rattle.xl_wire.specs.Frames.{raw_of}
+use Rattle.xl_core.specs.Sending.{blank_frame, sealed_bytes, has_spelling}
 use Rattle.xl_core.proofs.Heard.{IsHeard, body_from, vote_body}
 use Rattle.xl_core.proofs.Spelling.{held, sealed_raw}
 use Rattle.xl_core.specs.declared.hearing.Speech.TheVariants.{Vote}
@@ -20,12 +20,11 @@ use Rattle.xl_world.specs.World.{said_by}
 use Rattle.xl_world.proofs.Standing.{said_in, said_in_body, said_in_split}
 
 -- so it says the validation
-pub sealed_said : (ring : Ring) (from to : ℕ) (v : Validation) → has_spelling from to v ≡ true → said_in (sealed_bytes ring from to v) ≡ Some (said_by from v)
+pub sealed_said : (ring : Ring) (from to : ℕ) (v : Validation) → has_spelling from to v ≡ true → said_in (sealed_bytes ring from to (bodies.Validation v)) ≡ Some (said_by from v)
 sealed_said ring from to v h =
-    let fits = held from to v h in
-    let f : RawFrame = sealed ring (validation_frame from to v (replicate 32 0)) in
-    let whole : split_of (raw_bytes f) ≡ Whole f = ap split_of (sym (append-nil (raw_bytes f))) ∙ split_again f [] (sealed_raw ring from to v fits) in
-    ap said_in_split whole ∙ ap (said_in_body from) (body_again (bodies.Validation v) fits.validation)
+    let f : RawFrame = sealed ring (raw_of (blank_frame from to (bodies.Validation v))) in
+    let whole : split_of (raw_bytes f) ≡ Whole f = ap split_of (sym (append-nil (raw_bytes f))) ∙ split_again f [] (sealed_raw ring from to v h) in
+    ap said_in_split whole ∙ ap (said_in_body from) (body_again (bodies.Validation v) (held from to v h).body)
 
 -- what is heard in bytes is what they say
 pub heard_said : (ring : Ring) (members bytes : List ℕ) (from : ℕ) (v : Validation) → IsHeard ring members bytes (record { from = from; what = Vote v }) → said_in bytes ≡ Some (said_by from v)

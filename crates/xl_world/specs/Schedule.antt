@@ -14,7 +14,9 @@ use Rattle.xl_core.specs.Core.{CoreReply, core_asks}
 use Rattle.xl_core.specs.Node.{preferred}
 use Rattle.xl_core.specs.declared.event.CoreEvent.{CoreEvent}
 use Rattle.xl_core.specs.declared.event.CoreEvent.TheVariants.{Issue, Frame}
-use Rattle.xl_core.specs.Sending.{sealed_bytes, sealed_header_bytes}
+use Rattle.xl_core.specs.Sending.{sealed_bytes}
+use Rattle.xl_ledger.specs.Headers.{spelling}
+use Rattle.xl_wire.specs.declared.body.Body.TheVariants as bodies
 use Rattle.xl_world.specs.declared.outcome.Outcome.{Outcome}
 use Rattle.xl_world.specs.declared.outcome.Outcome.TheVariants.{Refused, Full, Preferred}
 use Rattle.xl_world.specs.declared.place.Fate.{Fate}
@@ -50,8 +52,8 @@ restart at p = Again p.core.node.me at (found p.keeper)
 
 -- the frame of a lie, sealed as its sender seals
 abbrev pub lied_bytes : ℕ → ℕ → Lied → List ℕ
-lied_bytes from to (lied.Validation v) = sealed_bytes (schedule_ring from) from to v
-lied_bytes from to (lied.Header name h) = sealed_header_bytes (schedule_ring from) from to h
+lied_bytes from to (lied.Validation v) = sealed_bytes (schedule_ring from) from to (bodies.Validation v)
+lied_bytes from to (lied.Header name h) = sealed_bytes (schedule_ring from) from to (bodies.Header (spelling h))
 
 -- the node that is asked
 abbrev pub node_asked : Ask → ℕ

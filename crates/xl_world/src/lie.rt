@@ -3,17 +3,22 @@ ghost use Rattle.std.specs.Prelude.{◌≡◌, ◌≤◌, ◌++◌, length};
 ghost use Rattle.xl_wire.specs.Raws.{RawFrame, SpellsRaw};
 ghost use Rattle.xl_tags.specs.Rings.{schedule_ring};
 ghost use Rattle.xl_tags.specs.Sealing.{before_tag, sealed};
-ghost use Rattle.xl_core.specs.Sending.{sealed_bytes, sealed_header_bytes};
+ghost use Rattle.xl_wire.specs.declared.body.Body.TheVariants as bodies;
+ghost use Rattle.xl_ledger.specs.Headers.{spelling};
+ghost use Rattle.xl_core.specs.Sending.{sealed_bytes};
 
 use xl_base::NodeNo;
-use xl_core::{HEADER_FRAME, VALIDATION_FRAME};
+use xl_core::VALIDATION_FRAME;
 use xl_ledger::{Header, header_bytes};
 use xl_tags::{hmac, pair_key};
 use xl_wire::{Body, Frame, Validation, encode};
 
+/// How many bytes a header's frame has.
+pub const HEADER_FRAME: usize = 164;
+
 /// The frame of a validation, sealed by the key that the schedule gives the two.
 pub fn lied_validation(from: NodeNo, to: NodeNo, validation: &Validation) -> [u8; VALIDATION_FRAME]
-    ensures { result ≡ sealed_bytes (schedule_ring from) from to validation.now }
+    ensures { result ≡ sealed_bytes (schedule_ring from) from to (bodies.Validation validation.now) }
 {
     let mut bytes = [0; VALIDATION_FRAME];
     let frame = Frame {
@@ -29,7 +34,7 @@ pub fn lied_validation(from: NodeNo, to: NodeNo, validation: &Validation) -> [u8
 
 /// The frame of a header, sealed alike.
 pub fn lied_header(from: NodeNo, to: NodeNo, header: &Header) -> [u8; HEADER_FRAME]
-    ensures { result ≡ sealed_header_bytes (schedule_ring from) from to header.now }
+    ensures { result ≡ sealed_bytes (schedule_ring from) from to (bodies.Header (spelling header.now)) }
 {
     let mut bytes = [0; HEADER_FRAME];
     let frame = Frame {

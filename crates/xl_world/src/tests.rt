@@ -6,12 +6,9 @@ ghost use Rattle.xl_base.specs.declared.moments.TheConstants.{GREATEST_MILLIS};
 use super::*;
 use std::alloc::Global;
 use std::test::Fail;
-use xl_base::{Bytes, LedgerId, NodeNo};
-use xl_core::sealed;
+use xl_base::{LedgerId, NodeNo};
 use xl_lists::List;
-use xl_sched::{Ask, Event, Lied};
-use xl_tags::Keys;
-use xl_wire::Validation;
+use xl_sched::Event;
 
 const AT: u64 = 1_000_000;
 
@@ -94,59 +91,5 @@ fn a_fork_is_found(rt: HostRuntime) -> Result<(), Fail> {
     assert_eq!(rt; world.liars(), [three].as_slice());
     assert_eq!(rt; world.node(one).map(|core| core.kept()), Some(1));
     assert!(rt; world.node(three).is_none() && world.list_of(three).is_none());
-    Ok(())
-}
-
-/// Each kind of event once.
-#[test]
-fn each_event_happens(rt: HostRuntime) -> Result<(), Fail> {
-    let alloc = rt.alloc();
-    let mut world = world(alloc)?;
-    let (node, two, three) = (number(1)?, number(2)?, number(3)?);
-    let what = Validation {
-        id: X,
-        seq: 1,
-        signed: 1_000,
-        full: true,
-    };
-    let bytes = Bytes::from_vec(sealed(&Keys::of_schedule(two), node, &what).to_vec(alloc)?);
-    let ask = Ask::Issue {
-        node,
-        seq: 1,
-        id: X,
-        full: true,
-    };
-    assert_eq!(rt; issue(&mut world, 2, X)?, 1);
-    let lie = Event::Lie {
-        at: AT,
-        from: three,
-        to: node,
-        what: Lied::Validation(what),
-    };
-    let raw = Event::Raw {
-        at: AT,
-        to: node,
-        bytes,
-    };
-    let fail = Event::Fail {
-        at: AT,
-        new: false,
-        ask,
-    };
-    let cut = Event::Cut {
-        at: AT,
-        new: true,
-        ask,
-    };
-    let restart = Event::Restart { at: AT, node: two };
-    assert_eq!(rt; told(&mut world, &Event::Deliver { at: AT, place: 1 })?, 1);
-    assert_eq!(rt; told(&mut world, &Event::Drop { at: AT })?, 0);
-    assert_eq!(rt; told(&mut world, &Event::All { at: AT })?, 0);
-    assert_eq!(rt; told(&mut world, &restart)?, 0);
-    assert_eq!(rt; told(&mut world, &lie)?, 1);
-    assert_eq!(rt; told(&mut world, &raw)?, 1);
-    assert_eq!(rt; told(&mut world, &Event::Prefer { at: AT, node })?, 1);
-    assert_eq!(rt; told(&mut world, &fail)?, 1);
-    assert_eq!(rt; told(&mut world, &cut)?, 1);
     Ok(())
 }

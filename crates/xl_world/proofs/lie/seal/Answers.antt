@@ -4,9 +4,8 @@ use Rattle.xl_tags.specs.Macs.{mac}
 use Rattle.xl_tags.specs.Rings.{schedule_ring}
 use Rattle.xl_tags.specs.Sealing.{before_tag}
 use Rattle.xl_tags.proofs.SealingLaws.{sealed_as}
-use Rattle.xl_core.proofs.SealingLaws.{unsealed}
 use Rattle.xl_wire.specs.Raws.{RawFrame, SpellsRaw}
-use Rattle.xl_world.proofs.Lying.{tag_by_pair, keyless}
+use Rattle.xl_world.proofs.Lying.{tag_by_pair, keyless, unsealed}
 use Rattle.xl_world.proofs.lie.seal.Goals as goal
 
 pub returns-then-ne : goal.returns-then-ne
