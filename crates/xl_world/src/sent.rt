@@ -75,7 +75,13 @@ fn filled(rooms: &mut Vec<Vec<u8>>, frame: &[u8]) -> Vec<u8>
 }
 
 /// What waits for another number is drained. It is one frame at most, which is sent.
-fn drain_for(core: &mut NodeCore, to: NodeNo, rooms: &mut Vec<Vec<u8>>, sent: &mut Vec<Sent>)
+fn drain_for(
+    core: &mut NodeCore,
+    to: NodeNo,
+    frame: &mut [u8; LONGEST_FRAME],
+    rooms: &mut Vec<Vec<u8>>,
+    sent: &mut Vec<Sent>,
+)
     requires other { to ≢ core.old.node.me }
     requires keys { core.old.node.keys ≡ schedule_ring core.old.node.me }
     requires waits { (o : Option validation.Validation) × ((waiting_at core.old.waiting to).items ≡ items_of o) }
@@ -88,10 +94,9 @@ fn drain_for(core: &mut NodeCore, to: NodeNo, rooms: &mut Vec<Vec<u8>>, sent: &m
     ensures each { All (λ room. (room.items ≡ []) × (VALIDATION_FRAME ≤ vec_capacity room)) rooms.new.items }
     ensures room { (vec_len sent.new ≤ vec_len sent.old + 1) × (vec_capacity sent.old ≤ vec_capacity sent.new) }
 {
-    let mut room = [0; LONGEST_FRAME];
-    let count = core.drain(to, &mut room);
+    let count = core.drain(to, frame);
     if count > 0 {
-        let bytes = filled(rooms, &room[..count]);
+        let bytes = filled(rooms, &frame[..count]);
         sent.push_reserved(Sent {
             from: core.node().me(),
             to,
@@ -111,9 +116,10 @@ fn drain(core: &mut NodeCore, numbers: &[NodeNo], rooms: &mut Vec<Vec<u8>>, sent
     ensures core { core.new ≡ drained core.old (others numbers.now core.old.node.me) }
     ensures sent { sent.new.items ≡ sent.old.items ++ given core.old (others numbers.now core.old.node.me) }
 {
+    let mut frame = [0; LONGEST_FRAME];
     for &to in numbers {
         if to != core.node().me() {
-            drain_for(core, to, rooms, sent);
+            drain_for(core, to, &mut frame, rooms, sent);
         }
     }
 }
