@@ -14,7 +14,7 @@ use Rattle.xl_disputes.specs.declared.tally.Tally.{Tally}
 use Rattle.xl_disputes.specs.declared.rows.Row.{Row}
 use Rattle.xl_disputes.specs.Disputes.{has, votes}
 use Rattle.xl_disputes.specs.Rising.{rising, lowest}
-use Rattle.xl_disputes.specs.Votes.{next_vote}
+use Rattle.xl_disputes.specs.Votes.{next_vote, threshold}
 use Rattle.xl_disputes.specs.Next.{next_set}
 use Rattle.xl_disputes.specs.Rows.{is_same, ids_of, tally_of, IsIndex}
 use Rattle.xl_disputes.specs.Holdings.{Holding, ids_in, amount, total, IsShared}
@@ -114,25 +114,25 @@ has_holdings t (h ∷ hs) =
         plus : (n : ℕ) → n ≡ 0 + n
         plus n = omega arith
 
-module _ (hs : List Holding) (rows : List Row) (shared : IsShared hs rows) (index : IsIndex rows) (percent : ℕ) (proposing : Bool) where
-  agree : All (λ r. wins (voters hs) percent proposing r ≡ next_vote percent proposing (votes_by (voters hs) (total hs r.id))) rows
+module _ (hs : List Holding) (rows : List Row) (shared : IsShared hs rows) (index : IsIndex rows) (needed : ℕ) (proposing : Bool) where
+  agree : All (λ r. wins (voters hs) needed proposing r ≡ next_vote needed proposing (votes_by (voters hs) (total hs r.id))) rows
   agree =
-      All-weaker (λ r. tally_of rows r.id ≡ r.tally) (λ r. wins (voters hs) percent proposing r ≡ next_vote percent proposing (votes_by (voters hs) (total hs r.id)))
-      (λ r is. ap (λ t. next_vote percent proposing (votes_by (voters hs) t)) (sym is ∙ shared.each r.id)) rows (own_tallies rows index.rising)
+      All-weaker (λ r. tally_of rows r.id ≡ r.tally) (λ r. wins (voters hs) needed proposing r ≡ next_vote needed proposing (votes_by (voters hs) (total hs r.id)))
+      (λ r is. ap (λ t. next_vote needed proposing (votes_by (voters hs) t)) (sym is ∙ shared.each r.id)) rows (own_tallies rows index.rising)
 
   same_members : (t : TxId) → has (ids_of rows) t ≡ has (flat_map ids_in hs) t
   same_members t = has_rows t rows index.counted ∙ ap (λ (x : Tally). nat_lt 0 x.sets) (shared.each t) ∙ sym (has_holdings t hs)
 
-  pub picked_are : take 256 (ids_of (filter (wins (voters hs) percent proposing) rows)) ≡ next_of hs percent proposing
+  pub picked_are : take 256 (ids_of (filter (wins (voters hs) needed proposing) rows)) ≡ next_of hs needed proposing
   picked_are =
-      let p : TxId → Bool = λ tx. next_vote percent proposing (votes_by (voters hs) (total hs tx)) in
+      let p : TxId → Bool = λ tx. next_vote needed proposing (votes_by (voters hs) (total hs tx)) in
       ap (take 256)
-      (tests_ids (wins (voters hs) percent proposing) p rows agree
+      (tests_ids (wins (voters hs) needed proposing) p rows agree
       ∙ same_ids (filter p (ids_of rows)) (rising (filter p (flat_map ids_in hs))) (filter-IsRising p (ids_of rows) index.rising) (IsRising-fold [] (filter p (flat_map ids_in hs)) tt)
       (λ t. has_filter p t (ids_of rows) ∙ ap (λ b. p t && b) (same_members t) ∙ sym (has_filter p t (flat_map ids_in hs)) ∙ sym (has_rising t (filter p (flat_map ids_in hs)))))
 
-pub IsSet-next : (hs : List Holding) (percent : ℕ) (proposing : Bool) → IsSet (next_of hs percent proposing)
-IsSet-next hs percent proposing = IsSet-lowest (filter (λ tx. next_vote percent proposing (votes_by (voters hs) (total hs tx))) (flat_map ids_in hs))
+pub IsSet-next : (hs : List Holding) (needed : ℕ) (proposing : Bool) → IsSet (next_of hs needed proposing)
+IsSet-next hs needed proposing = IsSet-lowest (filter (λ tx. next_vote needed proposing (votes_by (voters hs) (total hs tx))) (flat_map ids_in hs))
 
 -- ---- our next set
 
@@ -146,7 +146,7 @@ flat_sets (h ∷ hs) = step h.set (flat_sets hs)
     step (Some s) more = ap (λ ids. s ++ ids) more
 
 pub next_is : (hs : List Holding) (positions : List (Option SetId)) (percent : ℕ) (proposing : Bool) → IsKept hs positions → length hs ≡ 65 →
-    next_of hs percent proposing ≡ next_set (known_of hs positions) percent proposing
+    next_of hs (threshold percent) proposing ≡ next_set (known_of hs positions) percent proposing
 next_is hs positions percent proposing kept count =
-    ap (λ (v : TxId → Bool). lowest 256 (filter v (flat_map ids_in hs))) (fun_ext (λ tx. ap (next_vote percent proposing) (votes_are hs positions kept count tx)))
-    ∙ ap (λ ids. lowest 256 (filter (λ tx. next_vote percent proposing (votes (known_of hs positions) tx)) ids)) (flat_sets hs ∙ ap (flat_map (λ set. set)) (counted_are hs positions kept.own))
+    ap (λ (v : TxId → Bool). lowest 256 (filter v (flat_map ids_in hs))) (fun_ext (λ tx. ap (next_vote (threshold percent) proposing) (votes_are hs positions kept count tx)))
+    ∙ ap (λ ids. lowest 256 (filter (λ tx. next_vote (threshold percent) proposing (votes (known_of hs positions) tx)) ids)) (flat_sets hs ∙ ap (flat_map (λ set. set)) (counted_are hs positions kept.own))

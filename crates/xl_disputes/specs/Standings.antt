@@ -45,15 +45,15 @@ votes_by n tally = record { yays = tally.yays; nays = n - tally.yays; ours = nat
 
 -- whether our next vote on a row's id is yes, where so many vote
 abbrev pub wins : ℕ → ℕ → Bool → Row → Bool
-wins n percent proposing row = next_vote percent proposing (votes_by n row.tally)
+wins n needed proposing row = next_vote needed proposing (votes_by n row.tally)
 
 -- with a row's id behind others, where our next vote on it is yes, and there aren't 256
 abbrev pub with_row : ℕ → ℕ → Bool → Row → List TxId → List TxId
-with_row n percent proposing row ids = if wins n percent proposing row then take 256 (ids ++ row.id ∷ []) else ids
+with_row n needed proposing row ids = if wins n needed proposing row then take 256 (ids ++ row.id ∷ []) else ids
 
 -- of the holdings' ids that pass the 256 lowest
 abbrev pub next_of : List Holding → ℕ → Bool → List TxId
-next_of hs percent proposing = lowest 256 (filter (λ tx. next_vote percent proposing (votes_by (voters hs) (total hs tx))) (flat_map ids_in hs))
+next_of hs needed proposing = lowest 256 (filter (λ tx. next_vote needed proposing (votes_by (voters hs) (total hs tx))) (flat_map ids_in hs))
 
 -- our own place's set
 abbrev pub own_in : List Holding → Option (List TxId)

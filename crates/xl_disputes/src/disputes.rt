@@ -13,9 +13,9 @@ ghost use Rattle.xl_disputes.specs.Disputes.{
 ghost use Rattle.xl_disputes.specs.Next.{next_set};
 ghost use Rattle.xl_disputes.specs.Standings.{weighed, standings};
 
-use crate::Votes;
 use crate::set::SET_IDS;
 use crate::shares::{PLACES, Shares};
+use crate::{Votes, threshold};
 use std::alloc::Global;
 use std::marker::Model;
 use xl_base::{NodeNo, OutOfMemory, SetId, TxId};
@@ -172,7 +172,8 @@ impl Disputes {
         ensures same { IsFalse result ↔ (next_set self.old percent proposing ≡ self.old.own) }
         ensures taken { self.new ≡ with_own self.old (next_set self.old percent proposing) }
     {
-        self.shares.pick(&mut self.next, percent, proposing);
+        let needed = threshold(percent);
+        self.shares.pick(&mut self.next, needed, proposing);
         let changed = self.next.as_slice() != self.shares.own().ids();
         if changed {
             self.shares.take(OWN, &self.next);

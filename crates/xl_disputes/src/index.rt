@@ -49,14 +49,14 @@ fn push_low(ids: &mut Vec<TxId>, id: TxId)
 }
 
 /// Puts the id of a row behind others, if our next vote on it is yes.
-fn pick_row(ids: &mut Vec<TxId>, row: Row, voters: u32, percent: u64, proposing: bool)
+fn pick_row(ids: &mut Vec<TxId>, row: Row, voters: u32, needed: u32, proposing: bool)
     requires few { vec_len ids.old ≤ SET_IDS }
     requires room { SET_IDS ≤ vec_capacity ids.old }
-    ensures picked { ids.new.items ≡ with_row voters percent proposing row ids.old.items }
+    ensures picked { ids.new.items ≡ with_row voters needed proposing row ids.old.items }
     ensures few { vec_len ids.new ≤ SET_IDS }
     ensures room { vec_capacity ids.new ≡ vec_capacity ids.old }
 {
-    if row.tally.votes(voters).next(percent, proposing) {
+    if row.tally.votes(voters).next(needed, proposing) {
         push_low(ids, row.id);
     }
 }
@@ -105,15 +105,15 @@ impl Index {
     }
 
     /// Puts the ids on which our next vote is yes into this room, the 256 lowest where there are more.
-    pub(crate) fn pick(&self, next: &mut Vec<TxId>, voters: u32, percent: u64, proposing: bool)
+    pub(crate) fn pick(&self, next: &mut Vec<TxId>, voters: u32, needed: u32, proposing: bool)
         requires { SET_IDS ≤ vec_capacity next.old }
-        ensures lowest { next.new.items ≡ take SET_IDS (ids_of (filter (wins voters percent proposing) self.now)) }
+        ensures lowest { next.new.items ≡ take SET_IDS (ids_of (filter (wins voters needed proposing) self.now)) }
         ensures room { vec_capacity next.new ≡ vec_capacity next.old }
         ensures valid { IsIndex self.now }
     {
         next.clear();
         for place in 0..self.len() {
-            pick_row(next, self.at(place), voters, percent, proposing);
+            pick_row(next, self.at(place), voters, needed, proposing);
         }
     }
 

@@ -109,14 +109,14 @@ impl Shares {
     }
 
     /// Puts the ids on which our next vote is yes into this room, the 256 lowest where there are more.
-    pub(crate) fn pick(&self, next: &mut Vec<TxId>, percent: u64, proposing: bool)
+    pub(crate) fn pick(&self, next: &mut Vec<TxId>, needed: u32, proposing: bool)
         requires { SET_IDS ≤ vec_capacity next.old }
-        ensures value { next.new.items ≡ next_of self.now percent proposing }
+        ensures value { next.new.items ≡ next_of self.now needed proposing }
         ensures valid { IsSet next.new.items }
         ensures room { vec_capacity next.new ≡ vec_capacity next.old }
     {
         let voters = self.voters();
-        self.index.pick(next, voters, percent, proposing);
+        self.index.pick(next, voters, needed, proposing);
     }
 
     /// The place of the first set that a position names, or else the number of places.

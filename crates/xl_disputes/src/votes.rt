@@ -24,9 +24,9 @@ pub fn threshold(percent: u64) -> u32
 }
 
 impl Votes {
-    /// Our next vote. It stays where every other vote is ours already.
-    pub(crate) fn next(self, percent: u64, proposing: bool) -> bool
-        ensures { result ≡ next_vote_of percent proposing self }
+    /// Our next vote, where a yes vote must weigh more than `needed` percent. It stays where every other vote is ours already.
+    pub(crate) fn next(self, needed: u32, proposing: bool) -> bool
+        ensures { result ≡ next_vote_of needed proposing self }
     {
         let stays = if self.ours {
             self.nays == 0
@@ -36,7 +36,7 @@ impl Votes {
         if stays {
             self.ours
         } else if proposing {
-            self.weight() > u64::from(threshold(percent))
+            self.weight() > u64::from(needed)
         } else {
             self.yays > self.nays
         }

@@ -2,7 +2,7 @@ use Rattle.std.proofs.Common.{◌≡◌, vec_capacity, ap, sym, ◌∙◌, arith
 use Rattle.std.specs.Prelude.{◌↔◌, ◌≢◌, IsTrue, IsFalse}
 use Rattle.xl_disputes.specs.Disputes.{Known, with_own}
 use Rattle.xl_disputes.specs.Next.{next_set}
-use Rattle.xl_disputes.specs.Standings.{known_of}
+use Rattle.xl_disputes.specs.Standings.{known_of, next_of}
 use Rattle.xl_disputes.proofs.Ordered.{differ}
 use Rattle.xl_disputes.proofs.Picking.{next_is}
 use Rattle.xl_disputes.proofs.Keeping.{IsWeighable, weighable, settled, known_settled, own_weighable, own_known}
@@ -11,7 +11,8 @@ use Rattle.xl_disputes.proofs.disputes.Disputes.update.Goals.{After-ne-changed, 
 
 is_next : (c : After-ne-changed) → c.pick.new.next.items ≡ next_set c.args.self.now c.args.percent c.args.proposing
 is_next c =
-    c.pick.ensures.value ∙ next_is c.self.inside.shares c.self.inside.positions c.args.percent c.args.proposing c.self.invariant.kept c.self.invariant.kept.places
+    c.pick.ensures.value ∙ ap (λ needed. next_of c.self.inside.shares needed c.args.proposing) c.threshold-needed.ensures
+    ∙ next_is c.self.inside.shares c.self.inside.positions c.args.percent c.args.proposing c.self.invariant.kept c.self.invariant.kept.places
     ∙ ap (λ k. next_set k c.args.percent c.args.proposing) c.self.view_is
 
 -- what the code's `!=` says

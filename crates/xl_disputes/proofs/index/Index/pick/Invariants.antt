@@ -6,7 +6,7 @@ use Rattle.xl_disputes.proofs.index.Index.pick.Given as goal
 -- of the rows so far those that pass are picked
 abbrev pub invariant-loop-place : goal.invariant-loop-place
 invariant-loop-place l = record {
-  picked : l.next.items ≡ take 256 (ids_of (filter (wins l.voters l.percent l.proposing) (take l.place l.self)));
+  picked : l.next.items ≡ take 256 (ids_of (filter (wins l.voters l.needed l.proposing) (take l.place l.self)));
   few : vec_len l.next ≤ 256;
   room : vec_capacity l.next ≡ vec_capacity l.fn.next;
 }

@@ -7,16 +7,16 @@ use Rattle.xl_disputes.proofs.Picking.{picked_are, IsSet-next}
 use Rattle.xl_disputes.proofs.shares.Shares.pick.Goals as goal
 use Rattle.xl_disputes.proofs.shares.Shares.pick.Goals.{After-pick}
 
-is_next : (c : After-pick) → c.pick.new.next.items ≡ next_of c.args.self.now c.args.percent c.args.proposing
+is_next : (c : After-pick) → c.pick.new.next.items ≡ next_of c.args.self.now c.args.needed c.args.proposing
 is_next c =
     c.pick.ensures.lowest
-    ∙ ap (λ n. take 256 (ids_of (filter (wins n c.args.percent c.args.proposing) c.self.inside.index))) c.voters-voters.ensures
-    ∙ ap (λ n. take 256 (ids_of (filter (wins n c.args.percent c.args.proposing) c.self.inside.index))) (ap voters (sym c.self.view_is))
-    ∙ picked_are c.self.inside.places.items c.self.inside.index c.self.invariant c.pick.ensures.valid c.args.percent c.args.proposing
-    ∙ ap (λ hs. next_of hs c.args.percent c.args.proposing) c.self.view_is
+    ∙ ap (λ n. take 256 (ids_of (filter (wins n c.args.needed c.args.proposing) c.self.inside.index))) c.voters-voters.ensures
+    ∙ ap (λ n. take 256 (ids_of (filter (wins n c.args.needed c.args.proposing) c.self.inside.index))) (ap voters (sym c.self.view_is))
+    ∙ picked_are c.self.inside.places.items c.self.inside.index c.self.invariant c.pick.ensures.valid c.args.needed c.args.proposing
+    ∙ ap (λ hs. next_of hs c.args.needed c.args.proposing) c.self.view_is
 
 pub returns-clause-value : goal.returns-clause-value
 returns-clause-value c = is_next c
 
 pub returns-clause-valid : goal.returns-clause-valid
-returns-clause-valid c = subst IsSet (sym (is_next c)) (IsSet-next c.args.self.now c.args.percent c.args.proposing)
+returns-clause-valid c = subst IsSet (sym (is_next c)) (IsSet-next c.args.self.now c.args.needed c.args.proposing)
