@@ -36,15 +36,15 @@ fn asks_for_more_as_time_passes(rt: HostRuntime) {
     assert_eq!(rt; (threshold(85), threshold(200)), (70, 95));
     // A weight of 71.
     let two_thirds = votes(4, 2);
-    assert!(rt; two_thirds.next(85, true));
+    assert!(rt; two_thirds.next(threshold(85), true));
     // A weight of 66.
     let three_fifths = votes(3, 2);
-    assert!(rt; three_fifths.next(50, true));
-    assert!(rt; !three_fifths.next(85, true));
+    assert!(rt; three_fifths.next(threshold(50), true));
+    assert!(rt; !three_fifths.next(threshold(85), true));
     // A weight of 94.
     let all_but_one = votes(17, 1);
-    assert!(rt; all_but_one.next(199, true));
-    assert!(rt; !all_but_one.next(200, true));
+    assert!(rt; all_but_one.next(threshold(199), true));
+    assert!(rt; !all_but_one.next(threshold(200), true));
 }
 
 /// The votes on a transaction that our own set has.
