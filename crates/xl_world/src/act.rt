@@ -16,7 +16,7 @@ use crate::{Outcome, WorldReport};
 use xl_base::{LedgerId, Millis, NodeNo, Seq};
 use xl_core::{Node, Refusal, Report};
 use xl_lists::List;
-use xl_recount::Plain;
+use xl_trie::Trie;
 use xl_wire::Validation;
 
 /// The ledger of a sequence that a node is asked to issue its validation of.
@@ -58,7 +58,7 @@ impl Answer {
 }
 
 /// A report of a node, under its list.
-fn report_under(node: &Node<Plain>, report: Option<Report>) -> Option<WorldReport>
+fn report_under(node: &Node<Trie>, report: Option<Report>) -> Option<WorldReport>
     ensures { option_map report_seen result ≡ option_map (reported_by node.now) report }
 {
     match report {

@@ -1,6 +1,6 @@
 use xl_base::{LedgerId, NodeNo, Seq};
 use xl_core::Core;
-use xl_recount::Plain;
+use xl_trie::Trie;
 use xl_wire::Validation;
 
 /// How a save is answered, and what it leaves.
@@ -88,8 +88,8 @@ impl Keeper {
     }
 }
 
-/// The core of a node, whose votes are recounted at each question.
-pub type NodeCore = Core<Plain>;
+/// The core of a node, whose votes stand in a compressed trie.
+pub type NodeCore = Core<Trie>;
 
 /// A core and its keeper.
 #[derive(Drop)]
