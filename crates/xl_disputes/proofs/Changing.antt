@@ -1,16 +1,15 @@
 -- What the code makes of the index and of a holding that it changes.
-use Rattle.std.proofs.Common.{◌≡◌, ℕ, zero, suc, ◌<◌, ◌≤◌, true, false, cond, List, [], ◌∷◌, length, replicate, set, get_or, refl, sym, ap, subst, ◌∙◌, arith}
-use Rattle.std.specs.Prelude.{sum_by, Some, None}
-use Rattle.std.proofs.lemmas.List.Elements.{All-replicate, All-cons, All-get_or}
-use Rattle.std.proofs.lemmas.List.Sums.{sum_by-cons}
+use Rattle.std.proofs.Common.{◌≡◌, ℕ, zero, suc, ◌<◌, ◌≤◌, true, false, cond, List, [], ◌∷◌, length, map, set, get_or, refl, sym, ap, subst, ◌∙◌, arith}
+use Rattle.std.specs.Prelude.{All, Some, None}
+use Rattle.std.proofs.lemmas.List.Elements.{All-nil, All-cons, All-get_or}
 use Rattle.xl_base.specs.Sets.{IsSet}
 use Rattle.xl_base.specs.declared.ids.TxId.{TxId}
 use Rattle.xl_disputes.specs.declared.tally.Tally.{Tally}
 use Rattle.xl_disputes.specs.declared.rows.Row.{Row}
 use Rattle.xl_disputes.specs.Disputes.{has}
-use Rattle.xl_disputes.specs.Tallies.{no_tally}
+use Rattle.xl_disputes.specs.Tallies.{no_tally, held_by}
 use Rattle.xl_disputes.specs.Rows.{IsExchangeable, Exchanges}
-use Rattle.xl_disputes.specs.Holdings.{Holding, no_holding, empty_own, no_holdings, changed, with_set, with_weight, ids_in, tally_from, amount, IsShared}
+use Rattle.xl_disputes.specs.Holdings.{Holding, no_holding, member_bits, empty_own, no_holdings, changed, with_set, with_weight, ids_in, tally_from, IsShared}
 use Rattle.xl_disputes.proofs.Sharing.{part, can_release, can_weigh, can_fill, weight_most, still_shared}
 
 -- a change in place
@@ -50,7 +49,7 @@ module _ (hs : List Holding) (rows : List Row) (shared : IsShared hs rows) (plac
       subst (λ x. IsShared (set hs place x) new) (sym is)
       (still_shared hs rows shared place h h there at new (ids_in h) (tally_from h) no_tally (with_set None h)
       (exchanged_as new ids (ids_in h) from (tally_from h) to no_tally ids_is from_is to_is done)
-      (λ tx in_it. (its tx in_it, refl)) not_its (record { rising = tt; at_most = omega arith }) (weight_most hs rows shared place h h there at) (omega arith))
+      (λ tx in_it. (its tx in_it, refl)) not_its (record { rising = tt; at_most = omega arith }) (weight_most hs rows shared place h h there at) refl)
 
   pub may_weigh : (ids : List TxId) (from to : Tally) (h' : Holding) (weight : ℕ) → weight ≤ 64 → from ≡ tally_from h → h' ≡ with_weight weight h → ids ≡ ids_in h' → to ≡ tally_from h' → IsExchangeable rows ids from to
   may_weigh ids from to h' weight few from_is is ids_is to_is =
@@ -64,7 +63,7 @@ module _ (hs : List Holding) (rows : List Row) (shared : IsShared hs rows) (plac
       (still_shared hs rows shared place h h there at new (ids_in h) (tally_from h) (tally_from (with_weight weight h)) (with_weight weight h)
       (exchanged_as new ids (ids_in h) from (tally_from h) to (tally_from (with_weight weight h)) (ids_is ∙ ap ids_in is) from_is (to_is ∙ ap tally_from is) done)
       (λ tx in_it. (its tx in_it, ap (λ b. cond b (tally_from (with_weight weight h)) no_tally) in_it))
-      (λ tx out. not_its tx out ∙ ap (λ b. cond b (tally_from (with_weight weight h)) no_tally) (sym out)) set_in few (omega arith))
+      (λ tx out. not_its tx out ∙ ap (λ b. cond b (tally_from (with_weight weight h)) no_tally) (sym out)) set_in few refl)
 
   pub may_fill : (ids : List TxId) (from to : Tally) → ids_in h ≡ [] → IsSet ids → from ≡ no_tally → to ≡ tally_from h → IsExchangeable rows ids from to
   may_fill ids from to free valid from_is to_is =
@@ -82,27 +81,25 @@ module _ (hs : List Holding) (rows : List Row) (shared : IsShared hs rows) (plac
       (exchanged_as new ids ids from no_tally to (tally_from h) refl from_is to_is done)
       (λ tx in_it. (nothing_in tx free, ap (λ b. cond b (tally_from h) no_tally) in_it))
       (λ tx out. nothing_in tx free ∙ ap (λ b. cond b (tally_from h) no_tally) (sym out)) valid (weight_most hs rows shared place h h there at)
-      (omega (arith, ap length free)))
+      refl)
 
 -- ---- the first holdings
 
-nothing_given : (f : Holding → ℕ) (tx : TxId) (n : ℕ) → amount f tx (replicate n no_holding) ≡ 0
-nothing_given f tx zero = refl
-nothing_given f tx (suc n) = omega (arith, sum_by-cons (λ h. cond (has (ids_in h) tx) (f h) 0) no_holding (replicate n no_holding), nothing_given f tx n)
+none_set : (bits : List ℕ) → All (λ h. IsSet (ids_in h)) (map no_holding bits)
+none_set [] = All-nil (λ h. IsSet (ids_in h))
+none_set (bit ∷ bits) = All-cons (λ h. IsSet (ids_in h)) (no_holding bit) (map no_holding bits) (record { rising = tt; at_most = omega arith }) (none_set bits)
 
-no_lengths : (n : ℕ) → sum_by (λ h. length (ids_in h)) (replicate n no_holding) ≡ 0
-no_lengths zero = refl
-no_lengths (suc n) = omega (arith, sum_by-cons (λ (h : Holding). length (ids_in h)) no_holding (replicate n no_holding), no_lengths n)
+none_weighs : (bits : List ℕ) → All (λ h. h.weight ≤ 64) (map no_holding bits)
+none_weighs [] = All-nil (λ h. h.weight ≤ 64)
+none_weighs (bit ∷ bits) = All-cons (λ h. h.weight ≤ 64) (no_holding bit) (map no_holding bits) (omega arith) (none_weighs bits)
 
 pub first_shared : (hs : List Holding) (rows : List Row) → hs ≡ no_holdings → rows ≡ [] → IsShared hs rows
 first_shared hs rows hs_is rows_is =
     subst (λ x. IsShared x rows) (sym hs_is) (subst (IsShared no_holdings) (sym rows_is) (record {
       count = refl;
-      sets = All-cons (λ h. IsSet (ids_in h)) empty_own (replicate 64 no_holding) empty (All-replicate (λ h. IsSet (ids_in h)) 64 no_holding empty);
-      few = All-cons (λ h. h.weight ≤ 64) empty_own (replicate 64 no_holding) (omega arith) (All-replicate (λ h. h.weight ≤ 64) 64 no_holding (omega arith));
+      sets = All-cons (λ h. IsSet (ids_in h)) empty_own (map no_holding member_bits) (record { rising = tt; at_most = omega arith }) (none_set member_bits);
+      few = All-cons (λ h. h.weight ≤ 64) empty_own (map no_holding member_bits) (omega arith) (none_weighs member_bits);
+      bits = omega arith;
+      index = record { rising = tt; counted = All-nil (λ (row : Row). 0 < held_by row.tally) };
       each = λ tx. refl;
-      held = refl;
     }))
-  where
-    empty : IsSet []
-    empty = record { rising = tt; at_most = omega arith }

@@ -1,16 +1,15 @@
 -- What an exchange does to an index.
-use Rattle.std.proofs.Common.{◌≡◌, ◌+◌, ◌<◌, ◌≤◌, ◌==◌, Bool, true, false, cond, List, [], ◌∷◌, refl, sym, ap, subst, ◌∙◌, arith}
+use Rattle.std.proofs.Common.{◌≡◌, ◌+◌, ◌<◌, ◌≤◌, ◌==◌, Bool, true, false, cond, List, [], ◌∷◌, length, refl, sym, ap, subst, ◌∙◌, arith}
 use Rattle.std.specs.Prelude.{All}
 use Rattle.std.proofs.lemmas.Bool.{cond_both}
 use Rattle.std.proofs.lemmas.Bool.Decides.{nat_tests}
-use Rattle.std.proofs.lemmas.List.Sums.{sum_by-cons}
 use Rattle.std.proofs.lemmas.List.Elements.{All-cons, All-head, All-tail}
 use Rattle.xl_base.specs.Sets.{is_below, RisesFrom, IsRising}
 use Rattle.xl_base.specs.declared.ids.TxId.{TxId}
 use Rattle.xl_disputes.specs.declared.tally.Tally.{Tally}
 use Rattle.xl_disputes.specs.declared.rows.Row.{Row}
-use Rattle.xl_disputes.specs.Tallies.{no_tally, exchanged, IsWhole}
-use Rattle.xl_disputes.specs.Rows.{is_same, ids_of, tally_of, pairs, IsIndex, put, with_exchange}
+use Rattle.xl_disputes.specs.Tallies.{no_tally, held_by, exchanged, IsWhole}
+use Rattle.xl_disputes.specs.Rows.{is_same, ids_of, tally_of, IsIndex, put, with_exchange}
 use Rattle.xl_disputes.proofs.IdOrder.{below_trans, neither_below, same_itself, same_is, below_other, above_other}
 
 -- an id below the first of some is below all, and so has nothing
@@ -31,12 +30,12 @@ tally_above a (row ∷ rows) rises =
 
 put-RisesFrom : (a tx : TxId) (tally : Tally) (rows : List Row) → is_below a tx ≡ true → RisesFrom tx (ids_of rows) → RisesFrom a (ids_of (put tx tally rows))
 put-RisesFrom a tx tally rows low rises =
-    cond_both (tally.sets == 0) rows (record { id = tx; tally = tally } ∷ rows) (λ rs. RisesFrom a (ids_of rs))
+    cond_both (held_by tally == 0) rows (record { id = tx; tally = tally } ∷ rows) (λ rs. RisesFrom a (ids_of rs))
     (λ _. RisesFrom-lower a tx (ids_of rows) low rises) (λ _. (low, rises))
 
 put-IsRising : (tx : TxId) (tally : Tally) (rows : List Row) → RisesFrom tx (ids_of rows) → IsRising (ids_of (put tx tally rows))
 put-IsRising tx tally rows rises =
-    cond_both (tally.sets == 0) rows (record { id = tx; tally = tally } ∷ rows) (λ rs. IsRising (ids_of rs)) (λ _. rises_rest tx (ids_of rows) rises) (λ _. rises)
+    cond_both (held_by tally == 0) rows (record { id = tx; tally = tally } ∷ rows) (λ rs. IsRising (ids_of rs)) (λ _. rises_rest tx (ids_of rows) rises) (λ _. rises)
 
 -- an id that is neither below nor above is the one
 from_same : (a tx : TxId) (ids : List TxId) → is_below a tx ≡ false → is_below tx a ≡ false → RisesFrom a ids → RisesFrom tx ids
@@ -65,11 +64,11 @@ exchange-IsRising tx from to (row ∷ rows) rises =
 -- ---- each in a set
 
 abbrev pub Counted : Row → Type 0
-Counted row = 0 < row.tally.sets
+Counted row = 0 < held_by row.tally
 
 put-counted : (tx : TxId) (tally : Tally) (rows : List Row) → All Counted rows → All Counted (put tx tally rows)
 put-counted tx tally rows all =
-    cond_both (tally.sets == 0) rows (record { id = tx; tally = tally } ∷ rows) (All Counted) (λ _. all)
+    cond_both (held_by tally == 0) rows (record { id = tx; tally = tally } ∷ rows) (All Counted) (λ _. all)
     (λ some. All-cons Counted (record { id = tx; tally = tally }) rows (grind (arith, nat_tests, some)) all)
 
 exchange-counted : (tx : TxId) (from to : Tally) (rows : List Row) → All Counted rows → All Counted (with_exchange tx from to rows)
@@ -101,8 +100,8 @@ dropped false tx t tally rows is none empty = refl
 put_tally : (tx t : TxId) (tally : Tally) (rows : List Row) → tally_of rows tx ≡ no_tally → IsWhole tally →
     tally_of (put tx tally rows) t ≡ cond (is_same tx t) tally (tally_of rows t)
 put_tally tx t tally rows none whole =
-    cond_both (tally.sets == 0) rows (record { id = tx; tally = tally } ∷ rows) (λ rs. tally_of rs t ≡ cond (is_same tx t) tally (tally_of rows t))
-    (λ z. let gone : tally.sets ≡ 0 = grind (arith, nat_tests, z) in dropped (is_same tx t) tx t tally rows refl none (whole gone)) (λ _. refl)
+    cond_both (held_by tally == 0) rows (record { id = tx; tally = tally } ∷ rows) (λ rs. tally_of rs t ≡ cond (is_same tx t) tally (tally_of rows t))
+    (λ z. let gone : held_by tally ≡ 0 = grind (arith, nat_tests, z) in dropped (is_same tx t) tx t tally rows refl none (whole gone)) (λ _. refl)
 
 pub exchange_tally : (tx t : TxId) (from to : Tally) (rows : List Row) → IsRising (ids_of rows) → IsWhole (exchanged from to (tally_of rows tx)) →
     tally_of (with_exchange tx from to rows) t ≡ cond (is_same tx t) (exchanged from to (tally_of rows tx)) (tally_of rows t)
@@ -149,47 +148,21 @@ exchange_tally tx t from to (row ∷ rows) rises whole =
         ∙ unlike (is_same tx t) refl one
         ∙ ap (λ y. cond (is_same tx t) (exchanged from to y) (tally_of (row ∷ rows) t)) (sym e)
 
--- ---- how often a set has an id
+-- ---- at most one row comes
 
-put_pairs : (tx : TxId) (tally : Tally) (rows : List Row) → pairs (put tx tally rows) ≡ tally.sets + pairs rows
-put_pairs tx tally rows =
-    cond_both (tally.sets == 0) rows (record { id = tx; tally = tally } ∷ rows) (λ rs. pairs rs ≡ tally.sets + pairs rows)
-    (λ z. let gone : tally.sets ≡ 0 = grind (arith, nat_tests, z) in omega (arith, gone))
-    (λ _. sum_by-cons (λ (row : Row). row.tally.sets) (record { id = tx; tally = tally }) rows)
+put_length : (tx : TxId) (tally : Tally) (rows : List Row) → length (put tx tally rows) ≤ length rows + 1
+put_length tx tally rows =
+    cond_both (held_by tally == 0) rows (record { id = tx; tally = tally } ∷ rows) (λ rs. length rs ≤ length rows + 1)
+    (λ _. omega arith) (λ _. omega arith)
 
-pub exchange_pairs : (tx : TxId) (from to : Tally) (rows : List Row) → IsRising (ids_of rows) → from.sets ≤ (tally_of rows tx).sets →
-    pairs (with_exchange tx from to rows) + from.sets ≡ pairs rows + to.sets
-exchange_pairs tx from to [] rises within = omega (arith, within, put_pairs tx (exchanged from to no_tally) [])
-exchange_pairs tx from to (row ∷ rows) rises within =
+pub exchange_length : (tx : TxId) (from to : Tally) (rows : List Row) → length (with_exchange tx from to rows) ≤ length rows + 1
+exchange_length tx from to [] = put_length tx (exchanged from to no_tally) []
+exchange_length tx from to (row ∷ rows) =
     cond_both (is_below row.id tx) (row ∷ with_exchange tx from to rows)
     (cond (is_below tx row.id) (put tx (exchanged from to no_tally) (row ∷ rows)) (put tx (exchanged from to row.tally) rows)) P
-    (later (exchange_pairs tx from to rows (rises_rest row.id (ids_of rows) rises)))
-    (λ high. cond_both (is_below tx row.id) (put tx (exchanged from to no_tally) (row ∷ rows)) (put tx (exchanged from to row.tally) rows) P before (here high))
+    (λ _. omega (arith, exchange_length tx from to rows))
+    (λ _. cond_both (is_below tx row.id) (put tx (exchanged from to no_tally) (row ∷ rows)) (put tx (exchanged from to row.tally) rows) P
+    (λ _. put_length tx (exchanged from to no_tally) (row ∷ rows)) (λ _. omega (arith, put_length tx (exchanged from to row.tally) rows)))
   where
     P : List Row → Type 0
-    P rs = pairs rs + from.sets ≡ pairs (row ∷ rows) + to.sets
-
-    at : (x : Tally) → tally_of (row ∷ rows) tx ≡ x → from.sets ≤ x.sets
-    at x is = subst (λ (y : Tally). from.sets ≤ y.sets) is within
-
-    sum : pairs (row ∷ rows) ≡ row.tally.sets + pairs rows
-    sum = sum_by-cons (λ (r : Row). r.tally.sets) row rows
-
-    later : (from.sets ≤ (tally_of rows tx).sets → pairs (with_exchange tx from to rows) + from.sets ≡ pairs rows + to.sets) →
-        is_below row.id tx ≡ true → P (row ∷ with_exchange tx from to rows)
-    later more lower =
-        let e : tally_of (row ∷ rows) tx ≡ tally_of rows tx = rw (below_other row.id tx lower) refl in
-        omega (arith, sum, sum_by-cons (λ (r : Row). r.tally.sets) row (with_exchange tx from to rows), more (at (tally_of rows tx) e))
-
-    before : is_below tx row.id ≡ true → P (put tx (exchanged from to no_tally) (row ∷ rows))
-    before lower =
-        let few : from.sets ≤ 0 = at no_tally (tally_above tx (row ∷ rows) (lower, rises)) in
-        omega (arith, few, put_pairs tx (exchanged from to no_tally) (row ∷ rows))
-
-    here : is_below row.id tx ≡ false → is_below tx row.id ≡ false → P (put tx (exchanged from to row.tally) rows)
-    here high low =
-        let one : row.id ≡ tx = neither_below row.id tx high low in
-        let same : is_same row.id tx ≡ true = subst (λ x. is_same row.id x ≡ true) one (same_itself row.id) in
-        let e : tally_of (row ∷ rows) tx ≡ row.tally = rw same refl in
-        let few : from.sets ≤ row.tally.sets = at row.tally e in
-        omega (arith, few, sum, put_pairs tx (exchanged from to row.tally) rows)
+    P rs = length rs ≤ length (row ∷ rows) + 1

@@ -1,5 +1,5 @@
 -- An exchange with each of some ids that rise.
-use Rattle.std.proofs.Common.{◌≡◌, ℕ, zero, suc, ◌+◌, ◌*◌, ◌<◌, ◌≤◌, ◌||◌, Bool, true, false, cond, List, [], ◌∷◌, ◌++◌, length, take, get_or, refl, sym, ap, subst, ◌∙◌, arith}
+use Rattle.std.proofs.Common.{◌≡◌, ℕ, zero, suc, ◌+◌, ◌<◌, ◌≤◌, ◌||◌, Bool, true, false, cond, List, [], ◌∷◌, ◌++◌, length, take, get_or, refl, sym, ap, subst, ◌∙◌, arith}
 use Rattle.std.proofs.lemmas.List.{take_more, take_all, length-take-le}
 use Rattle.std.proofs.lemmas.List.Folds.{list_any-append}
 use Rattle.xl_base.specs.Sets.{is_below, RisesFrom, IsRising}
@@ -7,10 +7,10 @@ use Rattle.xl_base.specs.declared.ids.TxId.{TxId}
 use Rattle.xl_disputes.specs.declared.tally.Tally.{Tally}
 use Rattle.xl_disputes.specs.declared.rows.Row.{Row}
 use Rattle.xl_disputes.specs.Disputes.{has}
-use Rattle.xl_disputes.specs.Tallies.{exchanged, IsWithin, IsFitting, IsWhole}
-use Rattle.xl_disputes.specs.Rows.{is_same, tally_of, pairs, IsIndex, with_exchange, IsExchangeable, Exchanges}
+use Rattle.xl_disputes.specs.Tallies.{held_by, exchanged, IsWithin, IsFitting, IsWhole}
+use Rattle.xl_disputes.specs.Rows.{is_same, tally_of, IsIndex, with_exchange, IsExchangeable, Exchanges}
 use Rattle.xl_disputes.proofs.IdOrder.{below_trans, same_is, same_itself, below_other}
-use Rattle.xl_disputes.proofs.Exchanging.{rises_rest, exchange_tally, exchange_pairs}
+use Rattle.xl_disputes.proofs.Exchanging.{rises_rest, exchange_tally, exchange_length}
 
 above_first : (a : TxId) (ids : List TxId) (i : ℕ) (d : TxId) → RisesFrom a ids → i < length ids → is_below a (get_or ids i d) ≡ true
 above_first a [] i d rises within = absurd (omega (arith, within))
@@ -57,8 +57,8 @@ module _ (old mid new : List Row) (ids : List TxId) (i : ℕ) (x d : TxId) (from
   pub can_within : IsWithin from (tally_of mid x)
   can_within = subst (IsWithin from) as_before (can.within x in_ids)
 
-  pub can_fit : IsFitting (tally_of mid x) to
-  can_fit = subst (λ t. IsFitting t to) as_before (can.fitting x in_ids)
+  pub can_fit : IsFitting (exchanged from to (tally_of mid x))
+  can_fit = subst (λ t. IsFitting (exchanged from to t)) as_before (can.fitting x in_ids)
 
   can_be_whole : IsWhole (exchanged from to (tally_of mid x))
   can_be_whole = subst (λ t. IsWhole (exchanged from to t)) as_before (can.whole x in_ids)
@@ -66,10 +66,11 @@ module _ (old mid new : List Row) (ids : List TxId) (i : ℕ) (x d : TxId) (from
   so_far : length (take i ids) ≡ i
   so_far = length-take-le i ids (omega (arith, within))
 
-  pub can_have_room : pairs mid + to.sets ≤ 16640 + from.sets
-  can_have_room =
-      let done : pairs mid + i * from.sets ≡ pairs old + i * to.sets = subst (λ n. pairs mid + n * from.sets ≡ pairs old + n * to.sets) so_far before.total in
-      omega (arith, done, can.room i within)
+  few_so_far : length mid ≤ length old + i
+  few_so_far = subst (λ n. length mid ≤ length old + n) so_far before.few
+
+  pub can_have_room : held_by from ≡ 0 → length mid < 16640
+  can_have_room none = omega (arith, few_so_far, can.room none, within)
 
   module _ (exact : new ≡ with_exchange x from to mid) (index : IsIndex new) where
     one : (t : TxId) → tally_of new t ≡ cond (is_same x t) (exchanged from to (tally_of mid x)) (tally_of mid t)
@@ -88,16 +89,13 @@ module _ (old mid new : List Row) (ids : List TxId) (i : ℕ) (x d : TxId) (from
       each = λ t.
           one t ∙ both t (has (take i ids) t) (is_same x t) refl refl
           ∙ ap (λ b. cond b (exchanged from to (tally_of old t)) (tally_of old t)) (sym (has_more ids i x d t within at));
-      total =
+      few =
           let now : length (take (i + 1) ids) ≡ i + 1 = length-take-le (i + 1) ids (omega (arith, within)) in
-          let sum : pairs new + from.sets ≡ pairs mid + to.sets =
-          ap (λ rows. pairs rows + from.sets) exact ∙ exchange_pairs x from to mid before.index.rising can_within.sets in
-          let done : pairs mid + i * from.sets ≡ pairs old + i * to.sets = subst (λ n. pairs mid + n * from.sets ≡ pairs old + n * to.sets) so_far before.total in
-          subst (λ n. pairs new + n * from.sets ≡ pairs old + n * to.sets) (sym now) (omega (arith, sum, done));
+          omega (arith, now, few_so_far, ap length exact, exchange_length x from to mid);
     }
 
 pub exchanges_none : (rows : List Row) (ids : List TxId) (from to : Tally) → IsIndex rows → Exchanges rows rows (take 0 ids) from to
-exchanges_none rows ids from to index = record { index = index; each = λ t. refl; total = omega arith }
+exchanges_none rows ids from to index = record { index = index; each = λ t. refl; few = omega arith }
 
 pub exchanges_all : (old new : List Row) (ids : List TxId) (i : ℕ) (from to : Tally) → length ids ≤ i → Exchanges old new (take i ids) from to → Exchanges old new ids from to
 exchanges_all old new ids i from to past done = subst (λ xs. Exchanges old new xs from to) (take_all i ids past) done

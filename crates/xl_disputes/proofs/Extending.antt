@@ -1,5 +1,5 @@
 -- Ids that rise are told by what they have.
-use Rattle.std.proofs.Common.{◌≡◌, ◌||◌, ◌&&◌, Bool, true, false, cond, List, [], ◌∷◌, refl, sym, ap, subst, ◌∙◌}
+use Rattle.std.proofs.Common.{◌≡◌, ◌+◌, ◌≤◌, ◌||◌, ◌&&◌, Bool, true, false, cond, List, [], ◌∷◌, length, arith, refl, sym, ap, subst, ◌∙◌}
 use Rattle.std.specs.Prelude.{fold, filter}
 use Rattle.std.proofs.lemmas.Bool.{cond_both}
 use Rattle.std.proofs.lemmas.Map.Views.{any-filter_same}
@@ -89,6 +89,24 @@ has_fold t ids (tx ∷ txs) = has_fold t (with_tx tx ids) txs ∙ ap (λ b. b ||
 
 pub has_rising : (t : TxId) (txs : List TxId) → has (rising txs) t ≡ has txs t
 has_rising t txs = has_fold t [] txs
+
+-- the different ids are no more than all
+
+with_length : (tx : TxId) (ids : List TxId) → length (with_tx tx ids) ≤ length ids + 1
+with_length tx [] = omega arith
+with_length tx (id ∷ ids) =
+    cond_both (is_below id tx) (id ∷ with_tx tx ids) (cond (is_below tx id) (tx ∷ id ∷ ids) (id ∷ ids)) P (λ _. omega (arith, with_length tx ids))
+    (λ _. cond_both (is_below tx id) (tx ∷ id ∷ ids) (id ∷ ids) P (λ _. omega arith) (λ _. omega arith))
+  where
+    P : List TxId → Type 0
+    P xs = length xs ≤ length (id ∷ ids) + 1
+
+length_fold : (ids txs : List TxId) → length (fold (λ kept tx. with_tx tx kept) ids txs) ≤ length ids + length txs
+length_fold ids [] = omega arith
+length_fold ids (tx ∷ txs) = omega (arith, length_fold (with_tx tx ids) txs, with_length tx ids)
+
+pub rising_length : (txs : List TxId) → length (rising txs) ≤ length txs
+rising_length txs = omega (arith, length_fold [] txs)
 
 pub has_filter : (p : TxId → Bool) (t : TxId) (ids : List TxId) → has (filter p ids) t ≡ (p t && has ids t)
 has_filter p t ids = any-filter_same (λ id. is_same id t) p (p t) (λ id same. ap p (same_is id t same)) ids

@@ -1,18 +1,16 @@
 -- Where the code finds an id in an index, and what it does there.
-use Rattle.std.proofs.Common.{◌≡◌, ◌≢◌, ℕ, zero, suc, ◌+◌, ◌-◌, ◌<◌, ◌≤◌, ◌==◌, nat_lt, Bool, true, false, cond, List, [], ◌∷◌, ◌++◌, length, take, drop, set, get_or, refl, sym, ap, subst, ◌∙◌, arith, drop-cons}
-use Rattle.std.specs.Prelude.{All}
+use Rattle.std.proofs.Common.{◌≡◌, ◌≢◌, ℕ, zero, suc, ◌+◌, ◌<◌, ◌≤◌, ◌==◌, nat_lt, Bool, true, false, cond, List, [], ◌∷◌, ◌++◌, length, take, drop, set, get_or, refl, sym, ap, subst, ◌∙◌, arith, drop-cons}
 use Rattle.std.proofs.lemmas.Bool.Decides.{nat_tests}
 use Rattle.std.proofs.lemmas.List.{set_split, drop_all, take-append-drop}
-use Rattle.std.proofs.lemmas.List.Sums.{sum_by-cons, prefix_len-le-length}
-use Rattle.std.proofs.lemmas.List.Elements.{All-head, All-tail}
+use Rattle.std.proofs.lemmas.List.Sums.{prefix_len-le-length}
 use Rattle.xl_base.specs.Sets.{is_below, RisesFrom, IsRising}
 use Rattle.xl_base.specs.declared.ids.TxId.{TxId}
 use Rattle.xl_disputes.specs.declared.tally.Tally.{Tally}
 use Rattle.xl_disputes.specs.declared.rows.Row.{Row}
-use Rattle.xl_disputes.specs.Tallies.{no_tally, exchanged}
-use Rattle.xl_disputes.specs.Rows.{is_same, ids_of, tally_of, pairs, IsIndex, put, with_exchange, goes_before, place_of, IsThere, IsAbsent}
+use Rattle.xl_disputes.specs.Tallies.{no_tally, held_by, exchanged, IsWithin}
+use Rattle.xl_disputes.specs.Rows.{is_same, ids_of, tally_of, IsIndex, put, with_exchange, goes_before, place_of, IsThere, IsAbsent}
 use Rattle.xl_disputes.proofs.IdOrder.{irreflexive, below_trans, neither_below, same_itself, same_is, below_other}
-use Rattle.xl_disputes.proofs.Exchanging.{rises_rest, tally_above, Counted, exchange-IsIndex}
+use Rattle.xl_disputes.proofs.Exchanging.{rises_rest, tally_above, exchange-IsIndex}
 
 not_later : (a tx b : TxId) (lower : Bool) → lower ≡ is_below b tx → is_below a b ≡ true → is_below a tx ≡ false → lower ≡ false
 not_later a tx b true is after high = absurd (cc (high, below_trans a b tx after (sym is)))
@@ -82,16 +80,16 @@ module _ (tx : TxId) (from to : Tally) (rows : List Row) (place : ℕ) (d : Row)
       exchange_split tx from to rows ∙ ap (λ n. take n rows ++ here tx from to (drop n rows)) (sym there.is)
       ∙ ap (λ rs. take place rows ++ here tx from to rs) from_place ∙ rw high refl
 
-  pub exchange_set : (exchanged from to (get_or rows place d).tally).sets ≢ 0 →
+  pub exchange_set : held_by (exchanged from to (get_or rows place d).tally) ≢ 0 →
       set rows place (record { id = tx; tally = exchanged from to (get_or rows place d).tally }) ≡ with_exchange tx from to rows
   exchange_set some =
-      let more : ((exchanged from to (get_or rows place d).tally).sets == 0) ≡ false = grind (arith, nat_tests, some) in
+      let more : (held_by (exchanged from to (get_or rows place d).tally) == 0) ≡ false = grind (arith, nat_tests, some) in
       set_split rows place (record { id = tx; tally = exchanged from to (get_or rows place d).tally }) there.within
       ∙ sym (exchange_there ∙ rw more refl)
 
-  pub exchange_remove : (exchanged from to (get_or rows place d).tally).sets ≡ 0 → take place rows ++ drop (suc place) rows ≡ with_exchange tx from to rows
+  pub exchange_remove : held_by (exchanged from to (get_or rows place d).tally) ≡ 0 → take place rows ++ drop (suc place) rows ≡ with_exchange tx from to rows
   exchange_remove none =
-      let gone : ((exchanged from to (get_or rows place d).tally).sets == 0) ≡ true = grind (arith, nat_tests, none) in
+      let gone : (held_by (exchanged from to (get_or rows place d).tally) == 0) ≡ true = grind (arith, nat_tests, none) in
       sym (exchange_there ∙ rw gone refl)
 
 -- the id doesn't stand there
@@ -117,23 +115,16 @@ module _ (tx : TxId) (from to : Tally) (rows : List Row) (place : ℕ) (rises : 
       exchange_split tx from to rows ∙ ap (λ n. take n rows ++ here tx from to (drop n rows)) (sym absent.is)
       ∙ ap (λ rs. take place rows ++ rs) (not_here tx from to (drop place rows) absent.above)
 
-  pub exchange_insert : (exchanged from to no_tally).sets ≢ 0 →
+  pub exchange_insert : held_by (exchanged from to no_tally) ≢ 0 →
       take place rows ++ record { id = tx; tally = exchanged from to no_tally } ∷ drop place rows ≡ with_exchange tx from to rows
   exchange_insert some =
-      let more : ((exchanged from to no_tally).sets == 0) ≡ false = grind (arith, nat_tests, some) in
+      let more : (held_by (exchanged from to no_tally) == 0) ≡ false = grind (arith, nat_tests, some) in
       sym (exchange_absent ∙ rw more refl)
 
-  pub exchange_nothing : (exchanged from to no_tally).sets ≡ 0 → rows ≡ with_exchange tx from to rows
+  pub exchange_nothing : held_by (exchanged from to no_tally) ≡ 0 → rows ≡ with_exchange tx from to rows
   exchange_nothing none =
-      let gone : ((exchanged from to no_tally).sets == 0) ≡ true = grind (arith, nat_tests, none) in
+      let gone : (held_by (exchanged from to no_tally) == 0) ≡ true = grind (arith, nat_tests, none) in
       sym (exchange_absent ∙ rw gone (take-append-drop place rows))
-
--- ---- room
-
-pub length_pairs : (rows : List Row) → All Counted rows → length rows ≤ pairs rows
-length_pairs [] all = omega arith
-length_pairs (row ∷ rows) all =
-    omega (arith, sum_by-cons (λ (r : Row). r.tally.sets) row rows, All-head Counted row rows all, length_pairs rows (All-tail Counted row rows all))
 
 -- ---- as the code does it
 
@@ -180,34 +171,40 @@ module _ (tx : TxId) (from to : Tally) (rows : List Row) (place : ℕ) (row : Ro
     same_tally : exchanged from to (get_or rows place row).tally ≡ tally
     same_tally = ap (λ (r : Row). exchanged from to r.tally) (sym at) ∙ sym is
 
-    pub set_exact : tally.sets ≢ 0 → set rows place (record { id = tx; tally = tally }) ≡ with_exchange tx from to rows
+    pub set_exact : held_by tally ≢ 0 → set rows place (record { id = tx; tally = tally }) ≡ with_exchange tx from to rows
     set_exact =
-        subst (λ (t : Tally). t.sets ≢ 0 → set rows place (record { id = tx; tally = t }) ≡ with_exchange tx from to rows) same_tally
+        subst (λ (t : Tally). held_by t ≢ 0 → set rows place (record { id = tx; tally = t }) ≡ with_exchange tx from to rows) same_tally
         (exchange_set tx from to rows place row index.rising there)
 
-    pub remove_exact : tally.sets ≡ 0 → take place rows ++ drop (suc place) rows ≡ with_exchange tx from to rows
+    pub remove_exact : held_by tally ≡ 0 → take place rows ++ drop (suc place) rows ≡ with_exchange tx from to rows
     remove_exact =
-        subst (λ (t : Tally). t.sets ≡ 0 → take place rows ++ drop (suc place) rows ≡ with_exchange tx from to rows) same_tally
+        subst (λ (t : Tally). held_by t ≡ 0 → take place rows ++ drop (suc place) rows ≡ with_exchange tx from to rows) same_tally
         (exchange_remove tx from to rows place row index.rising there)
 
 module _ (tx : TxId) (from to : Tally) (rows : List Row) (place : ℕ) (index : IsIndex rows) (absent : IsAbsent tx rows place) (none tally : Tally) (nothing : none ≡ no_tally) (is : tally ≡ exchanged from to none) where
   same_none : exchanged from to no_tally ≡ tally
   same_none = ap (exchanged from to) (sym nothing) ∙ sym is
 
-  pub insert_exact : tally.sets ≢ 0 → take place rows ++ record { id = tx; tally = tally } ∷ drop place rows ≡ with_exchange tx from to rows
+  pub insert_exact : held_by tally ≢ 0 → take place rows ++ record { id = tx; tally = tally } ∷ drop place rows ≡ with_exchange tx from to rows
   insert_exact =
-      subst (λ (t : Tally). t.sets ≢ 0 → take place rows ++ record { id = tx; tally = t } ∷ drop place rows ≡ with_exchange tx from to rows) same_none
+      subst (λ (t : Tally). held_by t ≢ 0 → take place rows ++ record { id = tx; tally = t } ∷ drop place rows ≡ with_exchange tx from to rows) same_none
       (exchange_insert tx from to rows place index.rising absent)
 
-  pub nothing_exact : tally.sets ≡ 0 → rows ≡ with_exchange tx from to rows
-  nothing_exact = subst (λ (t : Tally). t.sets ≡ 0 → rows ≡ with_exchange tx from to rows) same_none (exchange_nothing tx from to rows place index.rising absent)
+  pub nothing_exact : held_by tally ≡ 0 → rows ≡ with_exchange tx from to rows
+  nothing_exact = subst (λ (t : Tally). held_by t ≡ 0 → rows ≡ with_exchange tx from to rows) same_none (exchange_nothing tx from to rows place index.rising absent)
 
   -- there is room for one id more
-  pub has_room : from.sets ≤ (tally_of rows tx).sets → pairs rows + to.sets ≤ 16640 + from.sets → tally.sets ≢ 0 → length rows < 16640
-  has_room within room some =
-      let none_before : from.sets ≤ 0 = subst (λ (t : Tally). from.sets ≤ t.sets) (tally_absent tx from to rows place index.rising absent) within in
-      let sets : tally.sets ≡ 0 - from.sets + to.sets = ap (λ (t : Tally). t.sets) (sym same_none) in
-      omega (arith, room, none_before, sets, some, length_pairs rows index.counted)
+  pub has_room : IsWithin from (tally_of rows tx) → (held_by from ≡ 0 → length rows < 16640) → length rows < 16640
+  has_room within room =
+      let nothing_out : IsWithin from no_tally = subst (IsWithin from) (tally_absent tx from to rows place index.rising absent) within in
+      room (omega (arith, nothing_out.members, nothing_out.ours))
+
+-- what the code's test tells
+pub is_gone : (t : Tally) (r : Bool) → r ≡ (held_by t == 0) → r ≡ true → held_by t ≡ 0
+is_gone t r is yes' = grind (arith, nat_tests, is, yes')
+
+pub is_kept : (t : Tally) (r : Bool) → r ≡ (held_by t == 0) → r ≡ false → held_by t ≢ 0
+is_kept t r is no' = grind (arith, nat_tests, is, no')
 
 pub from_exact : (tx : TxId) (from to : Tally) (rows new : List Row) → IsIndex rows → new ≡ with_exchange tx from to rows → IsIndex new
 from_exact tx from to rows new index exact = subst IsIndex (sym exact) (exchange-IsIndex tx from to rows index)

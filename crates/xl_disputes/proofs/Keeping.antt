@@ -1,5 +1,5 @@
 -- What is known after a change, once each set has the weight of the positions that stand for it.
-use Rattle.std.proofs.Common.{◌≡◌, ℕ, zero, suc, ◌+◌, ◌-◌, ◌<◌, ◌≤◌, true, false, not, cond, List, [], ◌∷◌, length, map, set, get_or, replicate, refl, sym, ap, subst, ◌∙◌, arith}
+use Rattle.std.proofs.Common.{◌≡◌, ℕ, zero, suc, ◌+◌, ◌-◌, ◌<◌, ◌≤◌, not, cond, List, [], ◌∷◌, length, map, set, get_or, replicate, refl, sym, ap, subst, ◌∙◌, arith}
 use Rattle.std.specs.Prelude.{fold, Option, Some, None}
 use Rattle.std.specs.List.{prefix_len}
 use Rattle.std.proofs.Math.Path.{fun_ext}
@@ -7,7 +7,7 @@ use Rattle.std.proofs.lemmas.List.{length-set}
 use Rattle.xl_base.specs.declared.ids.TxId.{TxId}
 use Rattle.xl_base.specs.declared.ids.SetId.{SetId}
 use Rattle.xl_disputes.specs.Disputes.{with_own}
-use Rattle.xl_disputes.specs.Holdings.{Holding, changed, with_set}
+use Rattle.xl_disputes.specs.Holdings.{Holding, member_bits, changed, with_set}
 use Rattle.xl_disputes.specs.Standings.{names, stand, with_one, standings, weighed, own_in, own_ids, held_in, known_of, IsReady}
 
 -- ---- weights change nothing else
@@ -37,10 +37,10 @@ held_weighed [] hs = refl
 held_weighed (w ∷ weights) [] = refl
 held_weighed (w ∷ weights) (h ∷ hs) = sets_weighed weights hs
 
-ours_weighed : (weights : List ℕ) (hs : List Holding) → map (λ h. h.ours) (weighed weights hs) ≡ map (λ h. h.ours) hs
-ours_weighed [] hs = refl
-ours_weighed (w ∷ weights) [] = refl
-ours_weighed (w ∷ weights) (h ∷ hs) = ap (λ bs. h.ours ∷ bs) (ours_weighed weights hs)
+bits_weighed : (weights : List ℕ) (hs : List Holding) → map (λ h. h.bit) (weighed weights hs) ≡ map (λ h. h.bit) hs
+bits_weighed [] hs = refl
+bits_weighed (w ∷ weights) [] = refl
+bits_weighed (w ∷ weights) (h ∷ hs) = ap (λ bs. h.bit ∷ bs) (bits_weighed weights hs)
 
 weights_weighed : (weights : List ℕ) (hs : List Holding) → length weights ≡ length hs → map (λ h. h.weight) (weighed weights hs) ≡ weights
 weights_weighed [] [] same = refl
@@ -75,11 +75,11 @@ length_standings hs positions = length_fold hs (replicate 65 0) positions
 pub record IsWeighable (hs : List Holding) (positions : List (Option SetId)) : Type 0 where
   pub places : length hs ≡ 65
   pub own : own_in hs ≡ Some (own_ids hs)
-  pub ours : map (λ h. h.ours) hs ≡ true ∷ replicate 64 false
+  pub bits : map (λ h. h.bit) hs ≡ 0 ∷ member_bits
   pub count : length positions ≡ 64
 
 pub weighable : (hs : List Holding) (positions : List (Option SetId)) (room : ℕ) → IsReady hs positions room → IsWeighable hs positions
-weighable hs positions room ready = record { places = ready.kept.places; own = ready.kept.own; ours = ready.kept.ours; count = ready.kept.count }
+weighable hs positions room ready = record { places = ready.kept.places; own = ready.kept.own; bits = ready.kept.bits; count = ready.kept.count }
 
 pub settled : (hs new : List Holding) (positions : List (Option SetId)) (room : ℕ) → IsWeighable hs positions → 256 ≤ room → new ≡ weighed (standings hs positions) hs → IsReady new positions room
 settled hs new positions room can roomy is =
@@ -88,7 +88,7 @@ settled hs new positions room can roomy is =
       kept = record {
         places = length_weighed weights hs ∙ can.places;
         own = own_weighed weights hs ∙ can.own ∙ ap Some (sym (ids_weighed weights hs));
-        ours = ours_weighed weights hs ∙ can.ours;
+        bits = bits_weighed weights hs ∙ can.bits;
         count = can.count;
         weights = weights_weighed weights hs (length_standings hs positions ∙ sym can.places) ∙ sym (standings_weighed weights hs positions);
       };
@@ -109,10 +109,10 @@ length_changed f place [] = refl
 length_changed f zero (h ∷ hs) = refl
 length_changed f (suc place) (h ∷ hs) = omega (arith, length_changed f place hs)
 
-ours_changed : (s : Option (List TxId)) (place : ℕ) (hs : List Holding) → map (λ h. h.ours) (changed (with_set s) place hs) ≡ map (λ h. h.ours) hs
-ours_changed s place [] = refl
-ours_changed s zero (h ∷ hs) = refl
-ours_changed s (suc place) (h ∷ hs) = ap (λ bs. h.ours ∷ bs) (ours_changed s place hs)
+bits_changed : (s : Option (List TxId)) (place : ℕ) (hs : List Holding) → map (λ h. h.bit) (changed (with_set s) place hs) ≡ map (λ h. h.bit) hs
+bits_changed s place [] = refl
+bits_changed s zero (h ∷ hs) = refl
+bits_changed s (suc place) (h ∷ hs) = ap (λ bs. h.bit ∷ bs) (bits_changed s place hs)
 
 sets_changed : (s : Option (List TxId)) (place : ℕ) (hs : List Holding) → map (λ h. h.set) (changed (with_set s) place hs) ≡ set (map (λ h. h.set) hs) place s
 sets_changed s zero [] = refl
@@ -130,7 +130,7 @@ module _ (ids : List TxId) (hs next : List Holding) (positions : List (Option Se
   own_weighable can = subst (λ x. IsWeighable x positions) (sym is) (record {
     places = length_changed (with_set (Some ids)) 0 hs ∙ can.places;
     own = own_taken hs (omega (arith, can.places));
-    ours = ours_changed (Some ids) 0 hs ∙ can.ours;
+    bits = bits_changed (Some ids) 0 hs ∙ can.bits;
     count = can.count;
   })
 
@@ -162,7 +162,7 @@ module _ (s : Option (List TxId)) (member : ℕ) (some : 1 ≤ member) (hs next 
   member_weighable can = subst (λ x. IsWeighable x positions) (sym is) (record {
     places = length_changed (with_set s) member hs ∙ can.places;
     own = own_stays member some hs ∙ can.own ∙ ap Some (sym (ids_stay member some hs));
-    ours = ours_changed s member hs ∙ can.ours;
+    bits = bits_changed s member hs ∙ can.bits;
     count = can.count;
   })
 
@@ -175,7 +175,7 @@ module _ (s : Option (List TxId)) (member : ℕ) (some : 1 ≤ member) (hs next 
 -- ---- positions change
 
 pub moved_weighable : (hs : List Holding) (old new : List (Option SetId)) → length new ≡ 64 → IsWeighable hs old → IsWeighable hs new
-moved_weighable hs old new count can = record { places = can.places; own = can.own; ours = can.ours; count = count }
+moved_weighable hs old new count can = record { places = can.places; own = can.own; bits = can.bits; count = count }
 
 pub moved_settled : (hs new : List Holding) (old positions : List (Option SetId)) (room : ℕ) → IsReady hs old room → length positions ≡ 64 → new ≡ weighed (standings hs positions) hs → IsReady new positions room
 moved_settled hs new old positions room ready count is = settled hs new positions room (moved_weighable hs old positions count (weighable hs old room ready)) ready.roomy is

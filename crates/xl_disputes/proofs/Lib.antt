@@ -9,6 +9,7 @@ pub mod Changing
 pub mod Weighing
 pub mod Standing
 pub mod Votings
+pub mod Which
 pub mod Extending
 pub mod Picking
 pub mod Keeping

@@ -1,27 +1,24 @@
 -- The ids of the index that pass are our next set.
-use Rattle.std.proofs.Common.{◌≡◌, ℕ, zero, suc, ◌+◌, ◌<◌, ◌≤◌, ◌||◌, ◌&&◌, nat_lt, Bool, true, false, cond, List, [], ◌∷◌, ◌++◌, length, take, get_or, refl, sym, ap, ◌∙◌, arith, append-nil, length-append}
+use Rattle.std.proofs.Common.{◌≡◌, ℕ, zero, suc, ◌+◌, ◌<◌, ◌≤◌, ◌&&◌, Bool, true, false, cond, List, [], ◌∷◌, ◌++◌, length, take, get_or, refl, sym, ap, ◌∙◌, arith, append-nil, length-append}
 use Rattle.std.specs.Prelude.{filter, flat_map, filter_map, All, Option, Some, None, unwrap_or}
 use Rattle.std.proofs.Math.Path.{fun_ext}
-use Rattle.std.proofs.lemmas.Bool.Decides.{nat_tests}
 use Rattle.std.proofs.lemmas.List.{take_more, take_all, take-append-le}
-use Rattle.std.proofs.lemmas.List.Sums.{sum_by-cons}
 use Rattle.std.proofs.lemmas.List.Elements.{All-nil, All-cons, All-head, All-tail, All-weaker, filter-append}
-use Rattle.std.proofs.lemmas.List.Folds.{list_any-append}
 use Rattle.xl_base.specs.Sets.{RisesFrom, IsRising, IsSet}
 use Rattle.xl_base.specs.declared.ids.TxId.{TxId}
 use Rattle.xl_base.specs.declared.ids.SetId.{SetId}
-use Rattle.xl_disputes.specs.declared.tally.Tally.{Tally}
 use Rattle.xl_disputes.specs.declared.rows.Row.{Row}
-use Rattle.xl_disputes.specs.Disputes.{has, votes}
+use Rattle.xl_disputes.specs.Disputes.{votes}
 use Rattle.xl_disputes.specs.Rising.{rising, lowest}
 use Rattle.xl_disputes.specs.Votes.{next_vote, threshold}
 use Rattle.xl_disputes.specs.Next.{next_set}
-use Rattle.xl_disputes.specs.Rows.{is_same, ids_of, tally_of, IsIndex}
-use Rattle.xl_disputes.specs.Holdings.{Holding, ids_in, amount, total, IsShared}
+use Rattle.xl_disputes.specs.Rows.{ids_of, tally_of, IsIndex}
+use Rattle.xl_disputes.specs.Holdings.{Holding, ids_in, total, IsShared}
 use Rattle.xl_disputes.specs.Standings.{voters, votes_by, wins, next_of, known_of, IsKept}
 use Rattle.xl_disputes.proofs.IdOrder.{same_itself, below_other}
-use Rattle.xl_disputes.proofs.Exchanging.{rises_rest, RisesFrom-lower, Counted}
+use Rattle.xl_disputes.proofs.Exchanging.{rises_rest, RisesFrom-lower}
 use Rattle.xl_disputes.proofs.RisingIds.{IsRising-fold, IsSet-lowest}
+use Rattle.xl_disputes.proofs.Sharing.{same_members}
 use Rattle.xl_disputes.proofs.Extending.{same_ids, has_rising, has_filter, filter-IsRising}
 use Rattle.xl_disputes.proofs.Standing.{sets_of}
 use Rattle.xl_disputes.proofs.Votings.{counted_are, votes_are}
@@ -90,38 +87,11 @@ tests_ids q p (row ∷ rows) all = step (q row) (p row.id) (All-head (λ r. q r 
 
 -- ---- the index has the ids of the holdings
 
-has_rows : (t : TxId) (rows : List Row) → All Counted rows → has (ids_of rows) t ≡ nat_lt 0 (tally_of rows t).sets
-has_rows t [] all = refl
-has_rows t (row ∷ rows) all = step (is_same row.id t) (has_rows t rows (All-tail Counted row rows all))
-  where
-    some : nat_lt 0 row.tally.sets ≡ true
-    some = let more : 0 < row.tally.sets = All-head Counted row rows all in grind (arith, nat_tests, more)
-
-    step : (b : Bool) → has (ids_of rows) t ≡ nat_lt 0 (tally_of rows t).sets → (b || has (ids_of rows) t) ≡ nat_lt 0 (cond b row.tally (tally_of rows t)).sets
-    step true more = sym some
-    step false more = more
-
-has_holdings : (t : TxId) (hs : List Holding) → has (flat_map ids_in hs) t ≡ nat_lt 0 (amount (λ _. 1) t hs)
-has_holdings t [] = refl
-has_holdings t (h ∷ hs) =
-    list_any-append (λ id. is_same id t) (ids_in h) (flat_map ids_in hs) ∙ step (has (ids_in h) t) (has_holdings t hs)
-    ∙ ap (nat_lt 0) (sym (sum_by-cons (λ (x : Holding). cond (has (ids_in x) t) 1 0) h hs))
-  where
-    step : (b : Bool) → has (flat_map ids_in hs) t ≡ nat_lt 0 (amount (λ _. 1) t hs) → (b || has (flat_map ids_in hs) t) ≡ nat_lt 0 (cond b 1 0 + amount (λ _. 1) t hs)
-    step true more = grind (arith, nat_tests)
-    step false more = more ∙ ap (nat_lt 0) (plus (amount (λ _. 1) t hs))
-      where
-        plus : (n : ℕ) → n ≡ 0 + n
-        plus n = omega arith
-
 module _ (hs : List Holding) (rows : List Row) (shared : IsShared hs rows) (index : IsIndex rows) (needed : ℕ) (proposing : Bool) where
   agree : All (λ r. wins (voters hs) needed proposing r ≡ next_vote needed proposing (votes_by (voters hs) (total hs r.id))) rows
   agree =
       All-weaker (λ r. tally_of rows r.id ≡ r.tally) (λ r. wins (voters hs) needed proposing r ≡ next_vote needed proposing (votes_by (voters hs) (total hs r.id)))
       (λ r is. ap (λ t. next_vote needed proposing (votes_by (voters hs) t)) (sym is ∙ shared.each r.id)) rows (own_tallies rows index.rising)
-
-  same_members : (t : TxId) → has (ids_of rows) t ≡ has (flat_map ids_in hs) t
-  same_members t = has_rows t rows index.counted ∙ ap (λ (x : Tally). nat_lt 0 x.sets) (shared.each t) ∙ sym (has_holdings t hs)
 
   pub picked_are : take 256 (ids_of (filter (wins (voters hs) needed proposing) rows)) ≡ next_of hs needed proposing
   picked_are =
@@ -129,7 +99,7 @@ module _ (hs : List Holding) (rows : List Row) (shared : IsShared hs rows) (inde
       ap (take 256)
       (tests_ids (wins (voters hs) needed proposing) p rows agree
       ∙ same_ids (filter p (ids_of rows)) (rising (filter p (flat_map ids_in hs))) (filter-IsRising p (ids_of rows) index.rising) (IsRising-fold [] (filter p (flat_map ids_in hs)) tt)
-      (λ t. has_filter p t (ids_of rows) ∙ ap (λ b. p t && b) (same_members t) ∙ sym (has_filter p t (flat_map ids_in hs)) ∙ sym (has_rising t (filter p (flat_map ids_in hs)))))
+      (λ t. has_filter p t (ids_of rows) ∙ ap (λ b. p t && b) (same_members hs rows shared t) ∙ sym (has_filter p t (flat_map ids_in hs)) ∙ sym (has_rising t (filter p (flat_map ids_in hs)))))
 
 pub IsSet-next : (hs : List Holding) (needed : ℕ) (proposing : Bool) → IsSet (next_of hs needed proposing)
 IsSet-next hs needed proposing = IsSet-lowest (filter (λ tx. next_vote needed proposing (votes_by (voters hs) (total hs tx))) (flat_map ids_in hs))

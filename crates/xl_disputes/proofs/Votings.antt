@@ -1,5 +1,5 @@
 -- The votes that the index and the weights tell are the ones of the positions.
-use Rattle.std.proofs.Common.{◌≡◌, ℕ, zero, suc, ◌+◌, ◌-◌, ◌<◌, ◌≤◌, ◌||◌, nat_lt, Bool, true, false, not, cond, List, [], ◌∷◌, length, map, get_or, replicate, refl, sym, ap, ◌∙◌, arith}
+use Rattle.std.proofs.Common.{◌≡◌, ℕ, zero, suc, ◌+◌, ◌-◌, ◌≤◌, ◌==◌, ◌||◌, nat_lt, Bool, true, false, not, cond, List, [], ◌∷◌, length, map, get_or, replicate, refl, sym, ap, ◌∙◌, arith}
 use Rattle.std.specs.Prelude.{count_by, find, filter_map, unwrap_or, Option, Some, None, option_map}
 use Rattle.std.specs.List.{list_any}
 use Rattle.std.proofs.lemmas.Bool.Decides.{nat_tests}
@@ -10,7 +10,9 @@ use Rattle.xl_base.specs.declared.ids.SetId.{SetId}
 use Rattle.xl_disputes.specs.declared.votes.Votes.{Votes}
 use Rattle.xl_disputes.specs.declared.tally.Tally.{Tally}
 use Rattle.xl_disputes.specs.Disputes.{has, is_named, is_yay, is_nay, vote, votes, votes_of, is_counted, counted_sets}
-use Rattle.xl_disputes.specs.Holdings.{Holding, ids_in, ours_of, amount, total}
+use Rattle.xl_disputes.specs.Holdings.{Holding, member_bits, ids_in, ours_of, amount, total}
+use Rattle.xl_disputes.specs.Tallies.{held_by}
+use Rattle.xl_disputes.proofs.Sharing.{one_of, some_one, amount_both}
 use Rattle.xl_disputes.specs.Standings.{stand, voters, votes_by, own_in, own_ids, known_of, IsKept}
 use Rattle.xl_disputes.proofs.Standing.{picked, picked_standings, says, stands_for, amount_picked, both_picked, sets_of}
 
@@ -70,22 +72,30 @@ abbrev rest_of : List Bool → List Bool
 rest_of [] = []
 rest_of (b ∷ bs) = bs
 
-no_ours : (tx : TxId) (n : ℕ) (hs : List Holding) → map (λ h. h.ours) hs ≡ replicate n false → amount ours_of tx hs ≡ 0
+no_ours : (tx : TxId) (n : ℕ) (hs : List Holding) → map (λ h. h.bit == 0) hs ≡ replicate n false → amount ours_of tx hs ≡ 0
 no_ours tx n [] theirs = refl
 no_ours tx zero (h ∷ hs) theirs = absurd (cc theirs)
 no_ours tx (suc n) (h ∷ hs) theirs =
-    let head : h.ours ≡ false = ap (first_of true) theirs in
-    let rest : map (λ x. x.ours) hs ≡ replicate n false = ap rest_of theirs in
+    let head : (h.bit == 0) ≡ false = ap (first_of true) theirs in
+    let rest : map (λ x. x.bit == 0) hs ≡ replicate n false = ap rest_of theirs in
     omega (arith, sum_by-cons (λ (x : Holding). cond (has (ids_in x) tx) (ours_of x) 0) h hs, no_ours tx n hs rest, nothing (has (ids_in h) tx) (ours_of h) (ap {B = ℕ} (λ b. cond b 1 0) head))
   where
     nothing : (b : Bool) (n : ℕ) → n ≡ 0 → cond b n 0 ≡ 0
     nothing true n none = none
     nothing false n none = refl
 
-ours_are : (tx : TxId) (hs : List Holding) → map (λ h. h.ours) hs ≡ true ∷ replicate 64 false → nat_lt 0 (amount ours_of tx hs) ≡ has (own_ids hs) tx
+-- our own place alone has no bit
+pub alone_ours : (hs : List Holding) → map (λ h. h.bit) hs ≡ 0 ∷ member_bits → map (λ h. h.bit == 0) hs ≡ true ∷ replicate 64 false
+alone_ours hs bits = tests hs ∙ ap (map (λ bit. bit == 0)) bits
+  where
+    tests : (xs : List Holding) → map (λ h. h.bit == 0) xs ≡ map (λ bit. bit == 0) (map (λ h. h.bit) xs)
+    tests [] = refl
+    tests (x ∷ xs) = ap (λ bs. (x.bit == 0) ∷ bs) (tests xs)
+
+pub ours_are : (tx : TxId) (hs : List Holding) → map (λ h. h.bit == 0) hs ≡ true ∷ replicate 64 false → nat_lt 0 (amount ours_of tx hs) ≡ has (own_ids hs) tx
 ours_are tx [] ours = absurd (cc ours)
 ours_are tx (h ∷ hs) ours =
-    let head : h.ours ≡ true = ap (first_of false) ours in
+    let head : (h.bit == 0) ≡ true = ap (first_of false) ours in
     let none : amount ours_of tx hs ≡ 0 = no_ours tx 64 hs (ap rest_of ours) in
     let sum : amount ours_of tx (h ∷ hs) ≡ cond (has (ids_in h) tx) 1 0 =
     omega (arith, sum_by-cons (λ (x : Holding). cond (has (ids_in x) tx) (ours_of x) 0) h hs, none, ap {B = ℕ} (λ b. cond (has (ids_in h) tx) (cond b 1 0) 0) head) in
@@ -105,42 +115,43 @@ votes_same a b yays nays ours =
 module _ (hs : List Holding) (positions : List (Option SetId)) (kept : IsKept hs positions) (count : length hs ≡ 65) (tx : TxId) where
   pub votes_are : votes_by (voters hs) (total hs tx) ≡ votes (known_of hs positions) tx
   votes_are =
-      votes_same (votes_by (voters hs) (total hs tx)) (votes (known_of hs positions) tx) (yays_are hs positions kept count tx) (nays_are hs positions kept count tx) (ours_are tx hs kept.ours)
+      votes_same (votes_by (voters hs) (total hs tx)) (votes (known_of hs positions) tx) (yays_are hs positions kept count tx) (nays_are hs positions kept count tx) (ours_are tx hs (alone_ours hs kept.bits))
 
 nothing_more : (n : ℕ) → 0 + n ≡ n
 nothing_more n = omega arith
 
 -- an id is counted exactly where a set has it
-any_set : (tx : TxId) (hs : List Holding) → nat_lt 0 (amount (λ _. 1) tx hs) ≡ list_any (λ set. has set tx) (filter_map (λ s. s) (sets_of hs))
+any_set : (tx : TxId) (hs : List Holding) → nat_lt 0 (amount one_of tx hs) ≡ list_any (λ set. has set tx) (filter_map (λ s. s) (sets_of hs))
 any_set tx [] = refl
-any_set tx (h ∷ hs) = ap (nat_lt 0) (sum_by-cons (λ (x : Holding). cond (has (ids_in x) tx) 1 0) h hs) ∙ step h.set (any_set tx hs)
+any_set tx (h ∷ hs) = ap (nat_lt 0) (sum_by-cons (λ (x : Holding). cond (has (ids_in x) tx) (one_of x) 0) h hs) ∙ step h.set (any_set tx hs)
   where
-    step : (set : Option (List TxId)) → nat_lt 0 (amount (λ _. 1) tx hs) ≡ list_any (λ s. has s tx) (filter_map (λ s. s) (sets_of hs)) →
-        nat_lt 0 (cond (has (unwrap_or set []) tx) 1 0 + amount (λ _. 1) tx hs) ≡ list_any (λ s. has s tx) (filter_map (λ s. s) (set ∷ sets_of hs))
-    step None more = ap (nat_lt 0) (nothing_more (amount (λ _. 1) tx hs)) ∙ more
+    step : (set : Option (List TxId)) → nat_lt 0 (amount one_of tx hs) ≡ list_any (λ s. has s tx) (filter_map (λ s. s) (sets_of hs)) →
+        nat_lt 0 (cond (has (unwrap_or set []) tx) (one_of h) 0 + amount one_of tx hs) ≡ list_any (λ s. has s tx) (filter_map (λ s. s) (set ∷ sets_of hs))
+    step None more = ap (nat_lt 0) (nothing_more (amount one_of tx hs)) ∙ more
     step (Some s) more = either (has s tx) more
       where
-        either : (b : Bool) → nat_lt 0 (amount (λ _. 1) tx hs) ≡ list_any (λ x. has x tx) (filter_map (λ x. x) (sets_of hs)) →
-            nat_lt 0 (cond b 1 0 + amount (λ _. 1) tx hs) ≡ (b || list_any (λ x. has x tx) (filter_map (λ x. x) (sets_of hs)))
-        either true more' = grind (arith, nat_tests)
-        either false more' = ap (nat_lt 0) (nothing_more (amount (λ _. 1) tx hs)) ∙ more'
+        either : (b : Bool) → nat_lt 0 (amount one_of tx hs) ≡ list_any (λ x. has x tx) (filter_map (λ x. x) (sets_of hs)) →
+            nat_lt 0 (cond b (one_of h) 0 + amount one_of tx hs) ≡ (b || list_any (λ x. has x tx) (filter_map (λ x. x) (sets_of hs)))
+        either true more' = let one : 1 ≤ one_of h = some_one h in grind (arith, nat_tests, one)
+        either false more' = ap (nat_lt 0) (nothing_more (amount one_of tx hs)) ∙ more'
 
-pub counted_is : (hs : List Holding) (positions : List (Option SetId)) → own_in hs ≡ Some (own_ids hs) → (tx : TxId) → nat_lt 0 (total hs tx).sets ≡ is_counted (known_of hs positions) tx
-counted_is hs positions own tx = any_set tx hs ∙ ap (list_any (λ set. has set tx)) (counted_are hs positions own)
+pub counted_is : (hs : List Holding) (positions : List (Option SetId)) → own_in hs ≡ Some (own_ids hs) → (tx : TxId) → nat_lt 0 (held_by (total hs tx)) ≡ is_counted (known_of hs positions) tx
+counted_is hs positions own tx = ap (nat_lt 0) (amount_both tx hs) ∙ any_set tx hs ∙ ap (list_any (λ set. has set tx)) (counted_are hs positions own)
 
 -- ---- as the code tells it
 
 module _ (hs : List Holding) (positions : List (Option SetId)) (kept : IsKept hs positions) (tx : TxId) (tally : Tally) (is : tally ≡ total hs tx) where
-  test_is : nat_lt 0 tally.sets ≡ is_counted (known_of hs positions) tx
-  test_is = ap (λ (t : Tally). nat_lt 0 t.sets) is ∙ counted_is hs positions kept.own tx
+  test_is : nat_lt 0 (held_by tally) ≡ is_counted (known_of hs positions) tx
+  test_is = ap (λ (t : Tally). nat_lt 0 (held_by t)) is ∙ counted_is hs positions kept.own tx
 
-  pub told_votes : (n : ℕ) (v : Votes) → n ≡ voters hs → v ≡ votes_by n tally → 0 < tally.sets → Some v ≡ votes_of (known_of hs positions) tx
-  told_votes n v n_is v_is some =
-      let counted : is_counted (known_of hs positions) tx ≡ true = sym test_is ∙ grind (arith, nat_tests, some) in
-      ap Some (v_is ∙ ap (λ m. votes_by m tally) n_is ∙ ap (votes_by (voters hs)) is ∙ votes_are hs positions kept kept.places tx)
-      ∙ ap (λ b. cond b (Some (votes (known_of hs positions) tx)) None) (sym counted)
+  module _ (gone : Bool) (gone_is : gone ≡ (held_by tally == 0)) where
+    pub told_votes : (n : ℕ) (v : Votes) → n ≡ voters hs → v ≡ votes_by n tally → gone ≡ false → Some v ≡ votes_of (known_of hs positions) tx
+    told_votes n v n_is v_is some =
+        let counted : is_counted (known_of hs positions) tx ≡ true = sym test_is ∙ grind (arith, nat_tests, gone_is, some) in
+        ap Some (v_is ∙ ap (λ m. votes_by m tally) n_is ∙ ap (votes_by (voters hs)) is ∙ votes_are hs positions kept kept.places tx)
+        ∙ ap (λ b. cond b (Some (votes (known_of hs positions) tx)) None) (sym counted)
 
-  pub told_none : tally.sets ≤ 0 → None ≡ votes_of (known_of hs positions) tx
-  told_none none =
-      let out : is_counted (known_of hs positions) tx ≡ false = sym test_is ∙ grind (arith, nat_tests, none) in
-      ap (λ b. cond b (Some (votes (known_of hs positions) tx)) None) (sym out)
+    pub told_none : gone ≡ true → None ≡ votes_of (known_of hs positions) tx
+    told_none none =
+        let out : is_counted (known_of hs positions) tx ≡ false = sym test_is ∙ grind (arith, nat_tests, gone_is, none) in
+        ap (λ b. cond b (Some (votes (known_of hs positions) tx)) None) (sym out)

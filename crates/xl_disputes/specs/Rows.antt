@@ -1,6 +1,6 @@
 -- The index: the ids of our own set and of the held sets in rising order, each once, with what it has.
 -- Source: what the code of this crate keeps. No public clause cites this file.
-use Rattle.std.specs.Prelude.{◌≡◌, ℕ, ◌+◌, ◌*◌, ◌<◌, ◌≤◌, ◌==◌, Bool, true, List, [], ◌∷◌, length, drop, map, sum_by, slice_index_or, All, if◌then◌else◌}
+use Rattle.std.specs.Prelude.{◌≡◌, ℕ, ◌+◌, ◌<◌, ◌≤◌, ◌==◌, Bool, true, List, [], ◌∷◌, length, drop, map, slice_index_or, All, if◌then◌else◌}
 use Rattle.std.specs.List.{prefix_len}
 use Rattle.std.specs.Str.{bytes_eq}
 use Rattle.xl_base.specs.Sets.{is_below, IsRising}
@@ -8,7 +8,7 @@ use Rattle.xl_base.specs.declared.ids.TxId.{TxId}
 use Rattle.xl_disputes.specs.declared.tally.Tally.{Tally}
 use Rattle.xl_disputes.specs.declared.rows.Row.{Row}
 use Rattle.xl_disputes.specs.Disputes.{has}
-use Rattle.xl_disputes.specs.Tallies.{no_tally, exchanged, IsWithin, IsFitting, IsWhole}
+use Rattle.xl_disputes.specs.Tallies.{no_tally, held_by, exchanged, IsWithin, IsFitting, IsWhole}
 
 abbrev pub is_same : TxId → TxId → Bool
 is_same a b = bytes_eq a.0 b.0
@@ -21,18 +21,14 @@ abbrev pub tally_of : List Row → TxId → Tally
 tally_of [] tx = no_tally
 tally_of (row ∷ rows) tx = if is_same row.id tx then row.tally else tally_of rows tx
 
--- how often a set has an id
-abbrev pub pairs : List Row → ℕ
-pairs rows = sum_by (λ row. row.tally.sets) rows
-
 -- the ids rise, and each is in a set
 pub record IsIndex (rows : List Row) : Type 0 where
   pub rising : IsRising (ids_of rows)
-  pub counted : All (λ row. 0 < row.tally.sets) rows
+  pub counted : All (λ row. 0 < held_by row.tally) rows
 
 -- an id before others, unless it is in no set
 abbrev pub put : TxId → Tally → List Row → List Row
-put tx tally rows = if tally.sets == 0 then rows else (record { id = tx; tally = tally } ∷ rows)
+put tx tally rows = if held_by tally == 0 then rows else (record { id = tx; tally = tally } ∷ rows)
 
 -- with one part of what an id has taken out, and another put in
 abbrev pub with_exchange : TxId → Tally → Tally → List Row → List Row
@@ -65,12 +61,12 @@ pub record IsAbsent (tx : TxId) (rows : List Row) (place : ℕ) : Type 0 where
 -- one part can be taken out of what each of some ids has, and another put in
 pub record IsExchangeable (rows : List Row) (ids : List TxId) (from to : Tally) : Type 0 where
   pub within : (tx : TxId) → has ids tx ≡ true → IsWithin from (tally_of rows tx)
-  pub fitting : (tx : TxId) → has ids tx ≡ true → IsFitting (tally_of rows tx) to
+  pub fitting : (tx : TxId) → has ids tx ≡ true → IsFitting (exchanged from to (tally_of rows tx))
   pub whole : (tx : TxId) → has ids tx ≡ true → IsWhole (exchanged from to (tally_of rows tx))
-  pub room : (n : ℕ) → n < length ids → pairs rows + (n + 1) * to.sets ≤ 16640 + (n + 1) * from.sets
+  pub room : held_by from ≡ 0 → length rows + length ids ≤ 16640
 
 -- it was
 pub record Exchanges (old new : List Row) (ids : List TxId) (from to : Tally) : Type 0 where
   pub index : IsIndex new
   pub each : (tx : TxId) → tally_of new tx ≡ (if has ids tx then exchanged from to (tally_of old tx) else tally_of old tx)
-  pub total : pairs new + length ids * from.sets ≡ pairs old + length ids * to.sets
+  pub few : length new ≤ length old + length ids

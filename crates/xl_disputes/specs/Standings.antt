@@ -1,6 +1,6 @@
 -- Which set each position stands for, and what is known from the holdings.
 -- Source: what the code of this crate keeps. No public clause cites this file.
-use Rattle.std.specs.Prelude.{◌≡◌, ℕ, ◌+◌, ◌-◌, ◌≤◌, nat_lt, Bool, true, false, not, List, [], ◌∷◌, ◌++◌, length, map, replicate, fold, take, filter, flat_map, sum_by, slice_set, slice_index_or, Option, Some, None, if◌then◌else◌}
+use Rattle.std.specs.Prelude.{◌≡◌, ℕ, ◌+◌, ◌-◌, ◌≤◌, nat_lt, Bool, false, not, List, [], ◌∷◌, ◌++◌, length, map, replicate, fold, take, filter, flat_map, sum_by, slice_set, slice_index_or, Option, Some, None, if◌then◌else◌}
 use Rattle.std.specs.List.{prefix_len}
 use Rattle.xl_base.specs.declared.ids.TxId.{TxId}
 use Rattle.xl_base.specs.declared.ids.SetId.{SetId}
@@ -10,7 +10,7 @@ use Rattle.xl_disputes.specs.declared.rows.Row.{Row}
 use Rattle.xl_disputes.specs.Disputes.{Known, is_named}
 use Rattle.xl_disputes.specs.Rising.{lowest}
 use Rattle.xl_disputes.specs.Votes.{next_vote}
-use Rattle.xl_disputes.specs.Holdings.{Holding, ids_in, total, with_weight}
+use Rattle.xl_disputes.specs.Holdings.{Holding, member_bits, ids_in, total, with_weight}
 
 abbrev pub names : SetId → Option (List TxId) → Bool
 names id None = false
@@ -73,11 +73,11 @@ held_in (h ∷ hs) = map (λ x. x.set) hs
 abbrev pub known_of : List Holding → List (Option SetId) → Known
 known_of hs positions = record { own = own_ids hs; held = held_in hs; positions = positions }
 
--- our own place has a set and is the only one of ours, and each set has the weight of the positions that stand for it
+-- our own place has a set, each place has its bit, and each set has the weight of the positions that stand for it
 pub record IsKept (hs : List Holding) (positions : List (Option SetId)) : Type 0 where
   pub places : length hs ≡ 65
   pub own : own_in hs ≡ Some (own_ids hs)
-  pub ours : map (λ h. h.ours) hs ≡ true ∷ replicate 64 false
+  pub bits : map (λ h. h.bit) hs ≡ 0 ∷ member_bits
   pub count : length positions ≡ 64
   pub weights : map (λ h. h.weight) hs ≡ standings hs positions
 

@@ -157,10 +157,10 @@ impl Disputes {
         ensures { result ≡ votes_of self.now tx.now }
     {
         let tally = self.shares.tally(tx);
-        if tally.sets > 0 {
-            Some(tally.votes(self.shares.voters()))
-        } else {
+        if tally.is_none() {
             None
+        } else {
+            Some(tally.votes(self.shares.voters()))
         }
     }
 

@@ -1,6 +1,6 @@
-ghost use Rattle.std.specs.Prelude.{◌≡◌, ◌+◌, ◌<◌, ◌≤◌, [], ◌∷◌, ◌++◌, length, take, filter, slice_index_or, vec_len, vec_capacity, IfOk, MatchResult};
-ghost use Rattle.xl_disputes.specs.Tallies.{IsWithin, IsFitting};
-ghost use Rattle.xl_disputes.specs.Rows.{ids_of, tally_of, pairs, with_exchange, place_of, IsIndex, IsThere, IsAbsent, IsExchangeable, Exchanges};
+ghost use Rattle.std.specs.Prelude.{◌≡◌, ◌<◌, ◌≤◌, [], ◌∷◌, ◌++◌, length, take, filter, slice_index_or, vec_len, vec_capacity, IfOk, MatchResult};
+ghost use Rattle.xl_disputes.specs.Tallies.{held_by, exchanged, IsWithin, IsFitting};
+ghost use Rattle.xl_disputes.specs.Rows.{ids_of, tally_of, with_exchange, place_of, IsIndex, IsThere, IsAbsent, IsExchangeable, Exchanges};
 ghost use Rattle.xl_disputes.specs.Standings.{wins, with_row};
 ghost use Rattle.xl_base.specs.Sets.{is_below as is_below_of, IsRising};
 
@@ -145,8 +145,8 @@ impl Index {
     /// Takes one part of what an id has out, and puts another in.
     pub(crate) fn exchange(&mut self, id: TxId, from: Tally, to: Tally)
         requires within { IsWithin from (tally_of self.old id) }
-        requires fitting { IsFitting (tally_of self.old id) to }
-        requires room { pairs self.old + to.sets ≤ ROWS + from.sets }
+        requires fitting { IsFitting (exchanged from to (tally_of self.old id)) }
+        requires room { held_by from ≡ 0 → length self.old < ROWS }
         ensures exact { self.new ≡ with_exchange id from to self.old }
         ensures valid { IsIndex self.new }
     {
@@ -171,12 +171,12 @@ impl Index {
     fn exchange_there(&mut self, place: usize, id: TxId, from: Tally, to: Tally)
         requires there { IsThere id self.old place }
         requires within { IsWithin from (tally_of self.old id) }
-        requires fitting { IsFitting (tally_of self.old id) to }
+        requires fitting { IsFitting (exchanged from to (tally_of self.old id)) }
         ensures exact { self.new ≡ with_exchange id from to self.old }
         ensures valid { IsIndex self.new }
     {
         let tally = self.rows.at(place).tally.exchange(from, to);
-        if tally.sets == 0 {
+        if tally.is_none() {
             self.rows.remove(place);
         } else {
             self.rows.set(place, Row { id, tally });
@@ -186,14 +186,14 @@ impl Index {
     fn exchange_absent(&mut self, place: usize, id: TxId, from: Tally, to: Tally)
         requires absent { IsAbsent id self.old place }
         requires within { IsWithin from (tally_of self.old id) }
-        requires fitting { IsFitting (tally_of self.old id) to }
-        requires room { pairs self.old + to.sets ≤ ROWS + from.sets }
+        requires fitting { IsFitting (exchanged from to (tally_of self.old id)) }
+        requires room { held_by from ≡ 0 → length self.old < ROWS }
         ensures exact { self.new ≡ with_exchange id from to self.old }
         ensures valid { IsIndex self.new }
     {
         let _ = &self.rows;
         let tally = Tally::none().exchange(from, to);
-        if tally.sets != 0 {
+        if !tally.is_none() {
             self.rows.insert(place, Row { id, tally });
         }
     }

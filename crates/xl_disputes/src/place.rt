@@ -15,7 +15,8 @@ pub(crate) struct Place {
     set: Set,
     holds: bool,
     weight: u32,
-    ours: bool,
+    /// The bit of its member, or 0 where it is our own.
+    bit: u64,
 }
 
 impl Model for Place {
@@ -24,7 +25,7 @@ impl Model for Place {
 
     ghost Value = { Holding };
 
-    ghost view = { λ p. record { set = if p.holds then Some p.set else None; weight = p.weight; ours = p.ours } };
+    ghost view = { λ p. record { set = if p.holds then Some p.set else None; weight = p.weight; bit = p.bit } };
 }
 
 impl Place {
@@ -37,20 +38,20 @@ impl Place {
             set: Set::open(alloc, empty)?,
             holds: true,
             weight: 0,
-            ours: true,
+            bit: 0,
         })
     }
 
-    /// A member's, with no set. The id of the empty set is handed in.
-    pub(crate) fn free(alloc: Global, empty: SetId) -> Result<Place, OutOfMemory>
+    /// That of the member with this bit, with no set. The id of the empty set is handed in.
+    pub(crate) fn free(alloc: Global, empty: SetId, bit: u64) -> Result<Place, OutOfMemory>
         requires { empty ≡ set_id_of [] }
-        ensures { IfOk result (λ place. place ≡ no_holding) }
+        ensures { IfOk result (λ place. place ≡ no_holding bit) }
     {
         Ok(Place {
             set: Set::open(alloc, empty)?,
             holds: false,
             weight: 0,
-            ours: false,
+            bit,
         })
     }
 
@@ -88,9 +89,9 @@ impl Place {
         ensures { result ≡ tally_from self.now }
     {
         Tally {
-            sets: 1,
+            members: self.bit,
             yays: self.weight,
-            ours: u32::from(self.ours),
+            ours: u32::from(self.bit == 0),
         }
     }
 

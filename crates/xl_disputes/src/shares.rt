@@ -1,8 +1,10 @@
-ghost use Rattle.std.specs.Prelude.{◌≡◌, ◌<◌, ◌≤◌, [], not, length, Some, None, slice_index_or, All, IfOk, vec_capacity};
+ghost use Rattle.std.specs.Prelude.{◌≡◌, ◌-◌, ◌^◌, ◌<◌, ◌≤◌, [], ◌∷◌, map, not, length, Some, None, slice_index_or, All, IfOk, vec_capacity};
 ghost use Rattle.xl_base.specs.Sets.{set_id_of, IsSet};
 ghost use Rattle.std.specs.List.{prefix_len};
 ghost use Rattle.xl_disputes.specs.Standings.{names, stand as stand_of, standings as standings_of, weighed, voters as voters_of, with_one, own_in, own_ids, next_of};
-ghost use Rattle.xl_disputes.specs.Holdings.{Holding, no_holdings, ids_in, total, changed, with_set, with_weight};
+ghost use Rattle.xl_disputes.specs.Disputes.{has};
+ghost use Rattle.xl_disputes.specs.Tallies.{holders};
+ghost use Rattle.xl_disputes.specs.Holdings.{Holding, member_bits, no_holdings, ids_in, total, changed, with_set, with_weight};
 
 use crate::index::Index;
 use crate::place::Place;
@@ -33,6 +35,15 @@ impl Model for Shares {
     ghost invariant = { λ a. IsShared a.places.items a.index };
 }
 
+/// The bit of a member's place.
+fn bit_of(place: usize) -> u64
+    requires some { 1 ≤ place }
+    requires within { place < PLACES }
+    ensures { result ≡ 2 ^ (place - 1) }
+{
+    1 << (place - 1)
+}
+
 /// Our own place, and those of the members.
 fn no_places(alloc: Global) -> Result<Vec<Place>, OutOfMemory>
     ensures { IfOk result (λ places. places.items ≡ no_holdings) }
@@ -40,8 +51,8 @@ fn no_places(alloc: Global) -> Result<Vec<Place>, OutOfMemory>
     let mut places = Vec::with_capacity(alloc, PLACES)?;
     let empty = set_id(&[]);
     places.push_reserved(Place::own(alloc, empty)?);
-    for _ in 1..PLACES {
-        places.push_reserved(Place::free(alloc, empty)?);
+    for place in 1..PLACES {
+        places.push_reserved(Place::free(alloc, empty, bit_of(place))?);
     }
     Ok(places)
 }
@@ -89,9 +100,11 @@ impl Shares {
         }
     }
 
-    /// What an id has from all places.
+    /// What an id has from all places, which tells the places that have it.
     pub(crate) fn tally(&self, id: &TxId) -> Tally
-        ensures { result ≡ total self.now id.now }
+        requires { map (λ h. h.bit) self.now ≡ 0 ∷ member_bits }
+        ensures value { result ≡ total self.now id.now }
+        ensures which { holders result ≡ map (λ h. has (ids_in h) id.now) self.now }
     {
         let _ = &self.places;
         self.index.tally(id)

@@ -1,13 +1,16 @@
-ghost use Rattle.std.specs.Prelude.{◌≡◌};
-ghost use Rattle.xl_disputes.specs.Tallies.{exchanged, IsWithin, IsFitting, no_tally};
+ghost use Rattle.std.specs.Prelude.{◌≡◌, ◌==◌};
+ghost use Rattle.xl_disputes.specs.Tallies.{held_by, exchanged, IsWithin, IsFitting, no_tally};
 ghost use Rattle.xl_disputes.specs.Standings.{votes_by};
 
 use crate::Votes;
 
-/// What an id has: how many sets, how many positions whose set has it, and 1 where our own set has it.
+/// Which sets have an id, and how many positions stand for one of them.
+///
+/// Each number is the sum of what the sets that have the id give: a member's set gives the member's own bit, its weight and 0,
+/// and our own gives 0, its weight and 1. So the bits of `members` are the members whose set has the id.
 #[derive(Clone, Copy, Debug)]
 pub(crate) struct Tally {
-    pub(crate) sets: u32,
+    pub(crate) members: u64,
     pub(crate) yays: u32,
     pub(crate) ours: u32,
 }
@@ -18,10 +21,17 @@ impl Tally {
         ensures { result ≡ no_tally }
     {
         Tally {
-            sets: 0,
+            members: 0,
             yays: 0,
             ours: 0,
         }
+    }
+
+    /// Whether no set has the id.
+    pub(crate) fn is_none(self) -> bool
+        ensures { result ≡ (held_by self == 0) }
+    {
+        self.members == 0 && self.ours == 0
     }
 
     /// The votes that it says, where so many vote.
@@ -38,11 +48,11 @@ impl Tally {
     /// With one part taken out, and another put in.
     pub(crate) fn exchange(self, from: Tally, to: Tally) -> Tally
         requires within { IsWithin from self }
-        requires fitting { IsFitting self to }
+        requires fitting { IsFitting (exchanged from to self) }
         ensures { result ≡ exchanged from to self }
     {
         Tally {
-            sets: self.sets - from.sets + to.sets,
+            members: self.members - from.members + to.members,
             yays: self.yays - from.yays + to.yays,
             ours: self.ours - from.ours + to.ours,
         }
