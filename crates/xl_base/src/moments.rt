@@ -13,10 +13,10 @@ pub type Millis = u64;
 /// No moment is later.
 pub const GREATEST_MILLIS: Millis = 4_000_000_000_000;
 
-/// A validation is current less than so many seconds after it was signed,
+/// A validation is stale once so many seconds have passed since it was signed.
 pub const PAST_SECS: Secs = 180;
 
-/// and less than so many before.
+/// A validation signed so many seconds ahead isn't current yet.
 pub const FUTURE_SECS: Secs = 300;
 
 /// The second of a moment, rounded down.

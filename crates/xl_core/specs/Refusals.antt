@@ -3,6 +3,7 @@ use Rattle.std.specs.Prelude.{ℕ}
 use Rattle.xl_wire.specs.Codes.{code_of as frame_code}
 use Rattle.xl_tags.specs.Codes.{code_of as tag_code}
 use Rattle.xl_ledger.specs.Codes.{code_of as header_code}
+use Rattle.xl_validations.specs.Codes.{code_of as row_code}
 use Rattle.xl_validations.specs.declared.refusal.ValRefusal.{ValRefusal}
 use Rattle.xl_validations.specs.declared.refusal.ValRefusal.TheVariants as row
 use Rattle.xl_core.specs.declared.refusal.Refusal.{Refusal}
@@ -19,10 +20,10 @@ abbrev pub code_of : Refusal → ℕ
 code_of (node.Frame why) = frame_code why
 code_of (node.Tag why) = tag_code why
 code_of (node.Header why) = header_code why
-code_of (node.Stale now signed) = 20
-code_of (node.Repeat id) = 21
-code_of (node.Conflict id) = 22
-code_of (node.OldSeq largest) = 23
+code_of (node.Stale now signed) = row_code (row.Stale now signed)
+code_of (node.Repeat id) = row_code (row.Repeat id)
+code_of (node.Conflict id) = row_code (row.Conflict id)
+code_of (node.OldSeq largest) = row_code (row.OldSeq largest)
 code_of (node.NotAfter kept) = 30
 code_of (node.IssuingOff failed) = 31
 code_of (node.KeepFault count) = 32

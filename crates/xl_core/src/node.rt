@@ -85,7 +85,7 @@ pub struct Node<B: Branch> {
 }
 
 impl<B: Branch> Model for Node<B> {
-    ghost use Rattle.xl_validations.specs.Tallies.{IsTally};
+    ghost use Rattle.xl_validations.specs.Tallies.{IsTallied};
     ghost use Rattle.xl_core.specs.Node.{Node};
     ghost use Rattle.xl_core.specs.Rest.{IsReady, node_seen};
 
@@ -94,8 +94,7 @@ impl<B: Branch> Model for Node<B> {
     ghost view = { node_seen };
 
     ghost invariant = { λ a.
-        IsReady (node_seen a)
-        × IsTally (B.goes_with a.table.branch) a.registry.headers a.table.rows (B.votes a.table.branch) (B.room a.table.branch) };
+        IsReady (node_seen a) × IsTallied B.goes_with B.votes B.room a.table a.registry.headers };
 }
 
 /// Whether a sequence is above that of the last report.

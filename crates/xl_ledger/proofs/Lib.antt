@@ -10,3 +10,4 @@ pub mod Storing
 pub mod Walking
 pub mod Climbing
 pub mod Orders
+pub mod Ranks

@@ -1,6 +1,6 @@
 -- Ledgers in the order in which they were added, and the chain of each: the ledgers from the root to it, by parents.
 -- A ledger is named by its place in this order; the root is the first.
--- Source: Chase and MacBrough, "Analysis of the XRP Ledger Consensus Protocol" (2018); rippled's ledgers and their ancestors.
+-- Source: Chase and MacBrough, "Analysis of the XRP Ledger Consensus Protocol" (2018); rippled's ledgers and ancestors.
 use Rattle.std.specs.Prelude.{◌≡◌, ℕ, zero, suc, ◌+◌, ◌<◌, ◌==◌, List, [], ◌∷◌, ◌++◌, length, map, take, replicate, position, slice_index_or, Option, Some, None, unwrap_or, if◌then◌else◌}
 use Rattle.xl_base.specs.Ids.{same_id}
 use Rattle.xl_base.specs.declared.ids.LedgerId.{LedgerId}

@@ -1,5 +1,6 @@
--- Jump tables: with each ledger stand its ancestors 1, 2, 4 and so on places up, so that far ancestors are few jumps away.
--- Source: jump pointers (Bender and Farach-Colton, "The Level Ancestor Problem Simplified", 2004); how many is this profile's.
+-- Jump tables: with each ledger stand its ancestors 1, 2, 4 and so on places up, so far ancestors are few jumps away.
+-- Source: jump pointers (Bender and Farach-Colton, "The Level Ancestor Problem Simplified", 2004); how many is this
+-- profile's.
 use Rattle.std.specs.Prelude.{◌≡◌, ℕ, ◌+◌, ◌-◌, ◌^◌, ◌<◌, List, slice_get, slice_index_or, Some}
 use Rattle.xl_ledger.specs.declared.header.Header.{Header}
 use Rattle.xl_ledger.specs.declared.ledger.TheConstants.{LEVELS}
@@ -19,4 +20,5 @@ AreJumps ledgers place jumps = (level : ℕ) → level < LEVELS → slice_get ju
 
 -- and these are those of a ledger that follows this one
 abbrev pub AreJumpsBelow : List Header → ℕ → List ℕ → Type 0
-AreJumpsBelow ledgers parent jumps = (level : ℕ) → level < LEVELS → slice_get jumps level ≡ Some (ancestor_of ledgers parent (seq_at ledgers parent + 1 - 2 ^ level))
+AreJumpsBelow ledgers parent jumps = (level : ℕ) → level < LEVELS
+    → slice_get jumps level ≡ Some (ancestor_of ledgers parent (seq_at ledgers parent + 1 - 2 ^ level))

@@ -1,5 +1,6 @@
 -- Votes for ledgers, and the branch that they prefer. Each definition is a count of votes over whole chains.
--- Source: rippled's LedgerTrie; Chase and MacBrough, "Analysis of the XRP Ledger Consensus Protocol" (2018), on preferred branches.
+-- Source: rippled's LedgerTrie; Chase and MacBrough, "Analysis of the XRP Ledger Consensus Protocol" (2018), on
+-- preferred branches.
 use Rattle.std.specs.Prelude.{◌≡◌, ℕ, zero, suc, ◌+◌, ◌-◌, ◌<◌, ◌==◌, ◌&&◌, ◌||◌, not, nat_lt, Bool, false, List, [], ◌∷◌, length, filter, find, max, count_by, Option, Some, None, if◌then◌else◌, All}
 use Rattle.std.specs.declared.cmp.Ordering.{Ordering}
 use Rattle.std.specs.Ordering.{nat_cmp, ordering_then, is_gt}
@@ -46,7 +47,9 @@ follows (Some parent) ledger = parent == ledger
 
 -- the children of a ledger for which, or for one below which, there are votes
 abbrev pub candidates : List Header → List Vote → ℕ → List ℕ
-candidates ledgers votes ledger = filter (λ c. follows (parent_of ledgers c) ledger && nat_lt 0 (branch_of ledgers votes c)) (range_with_len 0 (length ledgers))
+candidates ledgers votes ledger =
+    filter (λ c. follows (parent_of ledgers c) ledger && nat_lt 0 (branch_of ledgers votes c))
+    (range_with_len 0 (length ledgers))
 
 -- ids are compared byte by byte
 abbrev pub id_rank : List Header → ℕ → ℕ → Ordering
@@ -54,7 +57,8 @@ id_rank ledgers a b = slice_cmp nat_cmp (id_at ledgers a).0 (id_at ledgers b).0
 
 -- ledgers are compared by their votes, and then by their ids
 abbrev pub rank : List Header → List Vote → ℕ → ℕ → Ordering
-rank ledgers votes a b = ordering_then (nat_cmp (branch_of ledgers votes a) (branch_of ledgers votes b)) (id_rank ledgers a b)
+rank ledgers votes a b =
+    ordering_then (nat_cmp (branch_of ledgers votes a) (branch_of ledgers votes b)) (id_rank ledgers a b)
 
 -- the one that ranks above each other
 abbrev pub best_of : List Header → List Vote → List ℕ → Option ℕ
@@ -67,16 +71,20 @@ others best some = filter (λ c. not (c == best)) some
 abbrev pub margin : List Header → List Vote → ℕ → Option ℕ → ℕ
 margin ledgers votes best None = branch_of ledgers votes best
 margin ledgers votes best (Some second) =
-    branch_of ledgers votes best - branch_of ledgers votes second + (if is_gt (id_rank ledgers best second) then 1 else 0)
+    branch_of ledgers votes best - branch_of ledgers votes second
+    + (if is_gt (id_rank ledgers best second) then 1 else 0)
 
 abbrev pub unless_too_few : List Header → List Vote → ℕ → ℕ → List ℕ → Option ℕ → Option ℕ
 unless_too_few ledgers votes largest ledger some None = None
 unless_too_few ledgers votes largest ledger some (Some best) =
-    if nat_lt (uncommitted ledgers votes (seq_at ledgers ledger + 1) largest) (margin ledgers votes best (best_of ledgers votes (others best some))) then Some best else None
+    let ahead = margin ledgers votes best (best_of ledgers votes (others best some)) in
+    if nat_lt (uncommitted ledgers votes (seq_at ledgers ledger + 1) largest) ahead then Some best else None
 
 -- the child to go on to: the best, where its margin exceeds the uncommitted votes
 abbrev pub next_of : List Header → List Vote → ℕ → ℕ → Option ℕ
-next_of ledgers votes largest ledger = unless_too_few ledgers votes largest ledger (candidates ledgers votes ledger) (best_of ledgers votes (candidates ledgers votes ledger))
+next_of ledgers votes largest ledger =
+    let some = candidates ledgers votes ledger in
+    unless_too_few ledgers votes largest ledger some (best_of ledgers votes some)
 
 abbrev pub or_stay : ℕ → Option ℕ → (ℕ → ℕ) → ℕ
 or_stay ledger None go = ledger
@@ -85,7 +93,8 @@ or_stay ledger (Some next) go = go next
 -- the ledger at which this many steps down the chains end at the latest
 abbrev pub prefer : List Header → List Vote → ℕ → ℕ → ℕ → ℕ
 prefer ledgers votes largest zero ledger = ledger
-prefer ledgers votes largest (suc n) ledger = or_stay ledger (next_of ledgers votes largest ledger) (λ next. prefer ledgers votes largest n next)
+prefer ledgers votes largest (suc n) ledger =
+    or_stay ledger (next_of ledgers votes largest ledger) (λ next. prefer ledgers votes largest n next)
 
 -- the preferred ledger: from the root down, as far as it goes. No chain is longer than the ledgers are many
 abbrev pub preferred_of : List Header → List Vote → ℕ → Option ℕ
@@ -98,8 +107,10 @@ TipsAreSame = (votes moved : List Vote) (ledger : ℕ) → AreSame votes moved �
 
 -- So they are for each ledger and those below it.
 abbrev pub BranchesAreSame : Type 0
-BranchesAreSame = (ledgers : List Header) (votes moved : List Vote) (ledger : ℕ) → AreSame votes moved → branch_of ledgers votes ledger ≡ branch_of ledgers moved ledger
+BranchesAreSame = (ledgers : List Header) (votes moved : List Vote) (ledger : ℕ) → AreSame votes moved
+    → branch_of ledgers votes ledger ≡ branch_of ledgers moved ledger
 
 -- They prefer the same ledger.
 abbrev pub PreferredAreSame : Type 0
-PreferredAreSame = (ledgers : List Header) (votes moved : List Vote) (largest : ℕ) → AreSame votes moved → preferred_of ledgers votes largest ≡ preferred_of ledgers moved largest
+PreferredAreSame = (ledgers : List Header) (votes moved : List Vote) (largest : ℕ) → AreSame votes moved
+    → preferred_of ledgers votes largest ≡ preferred_of ledgers moved largest

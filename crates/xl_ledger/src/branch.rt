@@ -32,7 +32,8 @@ pub trait Branch: Sized {
         requires { members ≤ 64 }
         ensures votes { IfOk result (λ branch. votes branch ≡ []) }
         ensures room { IfOk result (λ branch. room branch ≡ members) }
-        ensures goes { IfOk result (λ branch. (ledgers : List Header) → AreLedgers ledgers → goes_with branch ledgers) };
+        ensures goes { IfOk result (λ branch. (ledgers : List Header) → AreLedgers ledgers
+            → goes_with branch ledgers) };
 
     /// Takes the vote of a member that has none.
     fn vote(&mut self, registry: &Registry, member: NodeNo, ledger: LedgerNo)
@@ -64,8 +65,8 @@ pub trait Branch: Sized {
         requires known { ledger < length registry.now.headers }
         ensures { result ≡ branch_of registry.now.headers (votes self.now) ledger };
 
-    /// The ledger that the votes prefer, or None exactly where there are none. It is the root, or the end of the way from
-    /// there to the best child, again and again, as long as that one's margin exceeds the uncommitted votes.
+    /// The ledger that the votes prefer, or None exactly where there are none. It is the root, or the end of the way
+    /// from there to the best child, again and again, as long as that one's margin exceeds the uncommitted votes.
     fn preferred(&self, walk: &mut Walk<'_>, largest: Seq) -> Option<LedgerNo>
         requires { goes_with self.now walk.old.ledgers.headers }
         ensures value { result ≡ preferred_of walk.old.ledgers.headers (votes self.now) largest }
@@ -73,5 +74,6 @@ pub trait Branch: Sized {
         ensures steps { IfSome JUMPS (λ most. walk.new.taken ≤ walk.old.taken + most) };
 
     /// It goes with the registry still when a header is added.
-    ghost grows: { (branch : Self) (ledgers : List Header) (h : Header) → AreLedgers ledgers → goes_with branch ledgers → goes_with branch (ledgers ++ h ∷ []) };
+    ghost grows: { (branch : Self) (ledgers : List Header) (h : Header) → AreLedgers ledgers
+        → goes_with branch ledgers → goes_with branch (ledgers ++ h ∷ []) };
 }

@@ -1,6 +1,7 @@
 ghost use Rattle.std.specs.Prelude.{◌≡◌, ◌+◌, ◌-◌, ◌^◌, ◌<◌, ◌≤◌, [], ◌∷◌, length};
 ghost use Rattle.xl_base.specs.Putting.{Puts};
 ghost use Rattle.xl_ledger.specs.Headers.{IsHeader, spelling, header_id, account_hash_after, close_after, next_header};
+ghost use Rattle.xl_ledger.specs.Chains.{root_header};
 ghost use Rattle.xl_ledger.specs.Reading.{header_in};
 ghost use Rattle.xl_ledger.specs.declared.header.Header.{Header};
 
@@ -99,10 +100,27 @@ pub fn id_of(h: &Header) -> LedgerId
     LedgerId(half512(&bytes))
 }
 
+/// The header of the root, which follows no ledger and is known to everyone.
+pub fn root_header() -> Header
+    ensures { result ≡ root_header }
+{
+    Header {
+        seq: 0,
+        drops: 100_000_000_000_000_000,
+        parent: LedgerId([0; 32]),
+        tx_hash: [0; 32],
+        account_hash: [0; 32],
+        parent_close: 0,
+        close: 0,
+        resolution: 30,
+        flags: 0,
+    }
+}
+
 /// The header of the ledger that follows the parent by the set that was agreed on.
 ///
-/// The close time is handed in as it is to stand. Where there was no agreement on one, it is 0: the ledger then closes a
-/// second after its parent, and its flags say so.
+/// The close time is handed in as it is to stand. Where there was no agreement on one, it is 0: the ledger then closes
+/// a second after its parent, and its flags say so.
 pub fn build_next(
     parent_id: LedgerId,
     parent: &Header,

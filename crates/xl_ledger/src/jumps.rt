@@ -5,8 +5,8 @@ ghost use Rattle.xl_ledger.specs.Tables.{headers_of, HaveJumps};
 use crate::LedgerNo;
 use crate::ledger::{LEVELS, Ledger};
 
-/// The jumps of a ledger that follows this one. The first leads to this one, and each other as far again as the one before,
-/// by the table of the ledger to which that leads.
+/// The jumps of a ledger that follows this one. The first leads to this one, and each other as far again as the one
+/// before, by the table of the ledger to which that leads.
 pub(crate) fn jumps_below(ledgers: &[Ledger], parent: LedgerNo) -> [LedgerNo; LEVELS]
     requires jumps { HaveJumps ledgers.now }
     requires known { parent < length ledgers.now }

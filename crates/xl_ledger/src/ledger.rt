@@ -1,3 +1,4 @@
+use crate::link::Link;
 use crate::{Header, LedgerNo};
 use xl_base::LedgerId;
 
@@ -12,5 +13,5 @@ pub(crate) struct Ledger {
     /// Its ancestors 1, 2, 4 and so on places up; the root where the chain ends below.
     pub(crate) jumps: [LedgerNo; LEVELS],
     /// The one before it whose id has the same bucket.
-    pub(crate) before: Option<LedgerNo>,
+    pub(crate) before: Link,
 }

@@ -2,7 +2,8 @@ ghost use Rattle.std.specs.Prelude.{◌≡◌};
 
 use std::marker::Model;
 
-/// A ledger of a registry: its place in the order in which ledgers were added. It names a ledger in that registry alone.
+/// A ledger of a registry: its place in the order in which ledgers were added. It names a ledger in that registry
+/// alone.
 #[derive(Clone, Copy, Debug, PartialEq, Eq, PartialOrd, Ord)]
 pub struct LedgerNo {
     place: u32,

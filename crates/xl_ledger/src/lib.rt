@@ -1,11 +1,12 @@
 //! Ledgers as a node knows them: their headers, the chain of each, and what a branch that votes prefer is.
 //!
-//! Headers have one spelling and are named by its half hash. A registry takes a header where it follows a known ledger; so
-//! each ledger has a chain, the ledgers from the root to it. Chains are followed by a walk alone, which counts its steps: with
-//! each ledger stand its ancestors 1, 2, 4 and so on places up, so each way along a chain is a few jumps.
+//! Headers have one spelling and are named by its half hash. A registry takes a header where it follows a known ledger;
+//! so each ledger has a chain, the ledgers from the root to it. Chains are followed by a walk alone, which counts its
+//! steps: with each ledger stand its ancestors 1, 2, 4 and so on places up, so each way along a chain is a few jumps.
 //!
-//! It stands on xl_base and the kit's `byteorder`; only opening a registry takes memory. Its one contract: what a registry
-//! and a walk answer is read from the list of headers, and a `Branch` prefers what counting its votes over whole chains does.
+//! It stands on xl_base and the kit's `byteorder`; only opening a registry takes memory. Its one contract: what a
+//! registry and a walk answer is read from the list of headers, and a `Branch` prefers what counting its votes over
+//! whole chains does.
 #![tactic(auto)]
 
 mod branch;
@@ -14,6 +15,7 @@ mod jumps;
 mod law;
 mod ledger;
 mod ledger_no;
+mod link;
 mod refusal;
 mod registry;
 mod table;
@@ -21,7 +23,7 @@ mod vote;
 mod walk;
 
 pub use branch::Branch;
-pub use header::{Header, build_next, header_bytes, id_of, read_header};
+pub use header::{Header, build_next, header_bytes, id_of, read_header, root_header};
 pub use law::order_of_votes;
 pub use ledger_no::LedgerNo;
 pub use refusal::AddRefusal;

@@ -9,8 +9,9 @@ ghost use Rattle.xl_ledger.specs.declared.registry.TheConstants.{LEAST_LIMIT, GR
 
 use crate::jumps::jumps_below;
 use crate::ledger::{LEVELS, Ledger};
+use crate::link::Link;
 use crate::table::{bucket_of, empty_table, find};
-use crate::{AddRefusal, Header, LedgerNo, Walk, id_of};
+use crate::{AddRefusal, Header, LedgerNo, Walk, id_of, root_header};
 use std::alloc::Global;
 use std::marker::Model;
 use xl_base::{LedgerId, OutOfMemory, Seq};
@@ -21,14 +22,14 @@ pub const LEAST_LIMIT: u32 = 2;
 /// The greatest.
 pub const GREATEST_LIMIT: u32 = 262_144;
 
-/// The ledgers that are known: the root, and each header whose parent was known when it came. No call after `open` takes
-/// memory.
+/// The ledgers that are known: the root, and each header whose parent was known when it came. No call after `open`
+/// takes memory.
 #[derive(Debug, Drop)]
 pub struct Registry {
     limit: u32,
     ledgers: Vec<Ledger>,
     /// The last ledger of each bucket of ids.
-    table: Vec<Option<LedgerNo>>,
+    table: Vec<Link>,
 }
 
 impl Model for Registry {
@@ -56,7 +57,7 @@ impl Registry {
         let root = root();
         let bucket = bucket_of(&root.id, table.len());
         ledgers.push_reserved(root);
-        table[bucket] = Some(LedgerNo::root());
+        table[bucket] = Link::to(LedgerNo::root());
         Ok(Registry {
             limit,
             ledgers,
@@ -139,7 +140,7 @@ impl Registry {
             jumps,
             before: self.table[bucket],
         });
-        self.table[bucket] = Some(place);
+        self.table[bucket] = Link::to(place);
         place
     }
 
@@ -197,22 +198,10 @@ fn root() -> Ledger
     ensures jumps { result.jumps ≡ replicate LEVELS 0 }
     ensures before { result.before ≡ None }
 {
-    let id = LedgerId([0; 32]);
-    let header = Header {
-        seq: 0,
-        drops: 100_000_000_000_000_000,
-        parent: id,
-        tx_hash: [0; 32],
-        account_hash: [0; 32],
-        parent_close: 0,
-        close: 0,
-        resolution: 30,
-        flags: 0,
-    };
     Ledger {
-        header,
-        id,
+        header: root_header(),
+        id: LedgerId([0; 32]),
         jumps: [LedgerNo::root(); LEVELS],
-        before: None,
+        before: Link::none(),
     }
 }

@@ -81,7 +81,8 @@ impl<'a> Walk<'a> {
         self.registry.header(ledger)
     }
 
-    /// The ledger of this sequence on the chain of a ledger: one jump for each bit of how far up it is, so at most 18 steps.
+    /// The ledger of this sequence on the chain of a ledger: one jump for each bit of how far up it is, so at most 18
+    /// steps.
     ///
     /// No step where the sequence is the ledger's own, and at least one elsewhere.
     pub fn ancestor(&mut self, ledger: LedgerNo, seq: Seq) -> LedgerNo
@@ -104,7 +105,9 @@ impl<'a> Walk<'a> {
     }
 
     /// The last ledger that the chains of two ledgers have in common, in at most 54 steps: at most 18 bring both to one
-    /// sequence, and then each takes at most 18. No step where it is one ledger, and at least one where the ledgers differ.
+    /// sequence, and then each takes at most 18.
+    ///
+    /// No step where it is one ledger, and at least one where the ledgers differ.
     pub fn common(&mut self, a: LedgerNo, b: LedgerNo) -> LedgerNo
         requires a_known { a < length self.old.ledgers.headers }
         requires b_known { b < length self.old.ledgers.headers }
@@ -129,8 +132,8 @@ impl<'a> Walk<'a> {
 
     /// The same for two ledgers of one sequence.
     ///
-    /// From the farthest jump down, both take each that leads them to different ledgers. So they end just below the ledger
-    /// that they share.
+    /// From the farthest jump down, both take each that leads them to different ledgers. So they end just below the
+    /// ledger that they share.
     fn meet(&mut self, a: LedgerNo, b: LedgerNo) -> LedgerNo
         requires a_known { a < length self.old.ledgers.headers }
         requires b_known { b < length self.old.ledgers.headers }

@@ -17,7 +17,7 @@ use Rattle.xl_ledger.proofs.Walking.{told_parent}
 use Rattle.xl_recount.specs.Children.{towards, children_of, votes_for, child_rank, IsOther, Leads, AreChildren, margin_of}
 use Rattle.xl_recount.proofs.Finding.{false_if, some_is, follows_is, follows_some, find_only, find_none, all_if, all_at, of_filter, in_filter, stands_if, any_if}
 use Rattle.xl_recount.proofs.Towards.{of_towards, counted, branch_of_child}
-use Rattle.xl_recount.proofs.Ranks.{gt_back}
+use Rattle.xl_ledger.proofs.Ranks.{gt_back}
 
 both_true : (a b : Bool) → a ≡ true → b ≡ true → (a && b) ≡ true
 both_true true b p q = q
@@ -131,7 +131,7 @@ module _ (ls : List Header) (ok : AreLedgers ls) (votes : List Vote) (known : Ar
         | inl same ↦ sym (eqb-true b x same)
         | inr gt ↦ elim (above x is.0 is.1) [
           | inl same ↦ same
-          | inr more ↦ let less = gt_back ls ok children b x more in let f : true ≡ false = sym gt ∙ ap is_gt (same_rank x b is.0 cb) ∙ less in absurd cc
+          | inr more ↦ let less = gt_back ls ok (votes_for children) b x more in let f : true ≡ false = sym gt ∙ ap is_gt (same_rank x b is.0 cb) ∙ less in absurd cc
         ]
       ] in
       find_only (λ c. list_all (λ d. d == c || is_gt (rank ls votes c d)) (picked out some)) (picked out some) there.at b there.stands leads_all only

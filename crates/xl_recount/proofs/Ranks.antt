@@ -1,20 +1,13 @@
 -- The order of children, and which child leads.
-use Rattle.std.proofs.Common.{◌≡◌, ◌≢◌, ◌⊎◌, ℕ, ◌+◌, ◌<◌, ◌==◌, Bool, true, false, not, cond, List, [], ◌∷◌, ◌++◌, length, Option, Some, None, refl, sym, ap, subst, ◌∙◌, arith, inl, inr}
-use Rattle.std.specs.declared.cmp.Ordering.{Ordering}
-use Rattle.std.specs.declared.cmp.Ordering.TheVariants.{Less, Equal, Greater}
-use Rattle.std.specs.Ordering.{nat_cmp, ordering_then, ordering_reverse, is_gt}
-use Rattle.std.specs.Cmp.{IsTotalOrder}
-use Rattle.std.proofs.lemmas.Cmp.{upto, nat_cmp_total, nat_list_cmp_total, on_total, then_total}
-use Rattle.std.proofs.lemmas.Map.Lookups.{exact_bytes}
-use Rattle.std.proofs.lemmas.Bool.{cases_lt, eq-eqb}
+use Rattle.std.proofs.Common.{◌≡◌, ◌≢◌, ◌⊎◌, ℕ, ◌+◌, ◌<◌, ◌==◌, Bool, true, false, not, cond, List, [], ◌∷◌, ◌++◌, length, Option, Some, None, sym, ap, subst, ◌∙◌, arith, inl, inr}
+use Rattle.std.specs.Ordering.{is_gt}
+use Rattle.std.proofs.lemmas.Bool.{eq-eqb}
 use Rattle.std.proofs.lemmas.Bool.Decides.{nat_tests, eqb_tells}
 use Rattle.std.proofs.lemmas.List.Sums.{sum_by_push}
-use Rattle.xl_base.specs.declared.ids.LedgerId.{LedgerId}
 use Rattle.xl_ledger.specs.declared.header.Header.{Header}
-use Rattle.xl_ledger.specs.Chains.{id_at, AreLedgers}
-use Rattle.xl_ledger.specs.Votes.{follows, id_rank}
-use Rattle.xl_ledger.proofs.ChainLaws.{earlier_differs}
-use Rattle.xl_ledger.proofs.TableLaws.{same_self}
+use Rattle.xl_ledger.specs.Chains.{AreLedgers}
+use Rattle.xl_ledger.specs.Votes.{follows}
+use Rattle.xl_ledger.proofs.Ranks.{gt_then, gt_or}
 use Rattle.xl_recount.specs.Children.{votes_for, child_rank, IsOther, IsCounted, Leads}
 use Rattle.xl_recount.proofs.Finding.{false_if, some_is, follows_is}
 
@@ -27,60 +20,7 @@ other_if a b n d other e = true_is_false (sym other ∙ d ∙ ap not (same (a ==
     true_is_false : true ≡ false → ⊥
     true_is_false e = cc
 
-back : (r s : Ordering) → s ≡ ordering_reverse r → is_gt r ≡ true → is_gt s ≡ false
-back Less s e gt = absurd cc
-back Equal s e gt = absurd cc
-back Greater s e gt = ap is_gt e
-
-forth : (r s : Ordering) → s ≡ ordering_reverse r → is_gt r ≡ false → (r ≡ Equal → ⊥) → is_gt s ≡ true
-forth Less s e le other = ap is_gt e
-forth Equal s e le other = absurd (other refl)
-forth Greater s e le other = absurd cc
-
-second_equal : (r s : Ordering) → ordering_then r s ≡ Equal → s ≡ Equal
-second_equal Less s e = absurd cc
-second_equal Equal s e = e
-second_equal Greater s e = absurd cc
-
-bytes_of : (a b : LedgerId) → a.0 ≡ b.0 → a ≡ b
-bytes_of a b e = ap (λ (x : List ℕ). let id : LedgerId = record { 0 = x } in id) e
-
-true_or : (b : Bool) → (b ≡ true) ⊎ (b ≡ false)
-true_or true = inl refl
-true_or false = inr refl
-
 module _ (ls : List Header) (ok : AreLedgers ls) (all : List (Option ℕ)) where
-  rank : ℕ → ℕ → Ordering
-  rank = child_rank ls all
-
-  order : IsTotalOrder (child_rank ls all)
-  order = then_total (on_total (votes_for all) nat_cmp_total) (on_total (λ (c : ℕ). (id_at ls c).0) nat_list_cmp_total)
-
-  pub gt_back : (a b : ℕ) → is_gt (child_rank ls all a b) ≡ true → is_gt (child_rank ls all b a) ≡ false
-  gt_back a b h = back (child_rank ls all a b) (child_rank ls all b a) (order.antisymm b a) h
-
-  pub gt_then : (a b c : ℕ) → is_gt (child_rank ls all a b) ≡ true → is_gt (child_rank ls all b c) ≡ true → is_gt (child_rank ls all a c) ≡ true
-  gt_then a b c p q = elim (true_or (is_gt (child_rank ls all a c))) [
-    | inl more ↦ more
-    | inr less ↦ let h = upto order b a c (gt_back a b p) less in absurd cc
-  ]
-
-  ids_differ : (a b : ℕ) → a < length ls → b < length ls → a ≢ b → (id_at ls a).0 ≡ (id_at ls b).0 → ⊥
-  ids_differ a b la lb other e =
-      let same = bytes_of (id_at ls a) (id_at ls b) e in
-      elim (cases_lt a b) [
-        | inl lt ↦ let d = earlier_differs ls ok a b lt lb in let t = same_self (id_at ls b) (id_at ls a) (sym same) in cc
-        | inr ge ↦ elim (cases_lt b a) [
-          | inl lt ↦ let d = earlier_differs ls ok b a lt la in let t = same_self (id_at ls a) (id_at ls b) same in cc
-          | inr le ↦ other (omega arith)
-        ]
-      ]
-
-  pub gt_or : (a b : ℕ) → a < length ls → b < length ls → a ≢ b → is_gt (child_rank ls all a b) ≡ false → is_gt (child_rank ls all b a) ≡ true
-  gt_or a b la lb other h =
-      forth (child_rank ls all a b) (child_rank ls all b a) (order.antisymm b a) h
-      (λ e. ids_differ a b la lb other (exact_bytes (id_at ls a).0 (id_at ls b).0 (second_equal (nat_cmp (votes_for all a) (votes_for all b)) (id_rank ls a b) e)))
-
   -- ---- one more vote
 
   push_count : (some : List (Option ℕ)) (o : Option ℕ) (c : ℕ) → votes_for (some ++ o ∷ []) c ≡ votes_for some c + cond (follows o c) 1 0
@@ -130,7 +70,7 @@ module _ (ls : List Header) (ok : AreLedgers ls) (all : List (Option ℕ)) where
       | inl same ↦ inl same
       | inr differs ↦ elim (leads.1 c (counted_before some out d c differs counted)) [
         | inl is ↦ inr (subst (λ (x : ℕ). is_gt (child_rank ls all d x) ≡ true) (sym is) gt)
-        | inr more ↦ inr (gt_then d b c gt more)
+        | inr more ↦ inr (gt_then ls ok (votes_for all) d b c gt more)
       ]
     ],
   )
@@ -142,7 +82,7 @@ module _ (ls : List Header) (ok : AreLedgers ls) (all : List (Option ℕ)) where
     λ c counted. elim (same_or c d) [
       | inl same ↦ elim (same_or c b) [
         | inl is ↦ inl is
-        | inr differs ↦ inr (subst (λ (x : ℕ). is_gt (child_rank ls all b x) ≡ true) (sym same) (gt_or d b ld lb (λ e. differs (same ∙ e)) le))
+        | inr differs ↦ inr (subst (λ (x : ℕ). is_gt (child_rank ls all b x) ≡ true) (sym same) (gt_or ls ok (votes_for all) d b ld lb (λ e. differs (same ∙ e)) le))
       ]
       | inr differs ↦ leads.1 c (counted_before some out d c differs counted)
     ],

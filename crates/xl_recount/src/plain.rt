@@ -32,9 +32,13 @@ fn drop_votes_of(votes: &mut Vec<Vote>, member: NodeNo)
 }
 
 impl Branch for Plain {
-    ghost use Rattle.std.specs.Prelude.{◌<◌, None, length, All};
+    ghost use Rattle.std.specs.Prelude.{◌<◌, ◌++◌, [], ◌∷◌, None, length, All};
+    ghost use Rattle.std.proofs.Common.{subst, sym};
+    ghost use Rattle.std.proofs.Math.Nat.{lt_trans};
+    ghost use Rattle.std.proofs.Math.Numerals.{lt-add-one};
+    ghost use Rattle.std.proofs.lemmas.List.{length_push};
+    ghost use Rattle.std.proofs.lemmas.List.Elements.{All-weaker};
     ghost use Rattle.xl_ledger.specs.Votes.{AreKnown};
-    ghost use Rattle.xl_recount.specs.Growing.{known_more};
 
     ghost JUMPS = { None };
 
@@ -76,5 +80,9 @@ impl Branch for Plain {
         Some(prefer(&self.votes, walk, largest))
     }
 
-    ghost grows = { λ p ledgers h ok known. known_more ledgers h p.votes.items known };
+    // A ledger that was known is still, since there is one more.
+    ghost grows = { λ p ledgers h ok known.
+        All-weaker (λ v. v.ledger < length ledgers) (λ v. v.ledger < length (ledgers ++ h ∷ []))
+        (λ v lt. subst (λ n. v.ledger < n) (sym (length_push ledgers h)) (lt_trans lt (lt-add-one (length ledgers))))
+        p.votes.items known };
 }

@@ -1,7 +1,8 @@
 -- A tally at its opening, and as a member's validation is taken.
 use Rattle.std.proofs.Common.{◌≡◌, ℕ, ◌≤◌, Bool, List, [], ◌∷◌, ◌++◌, length, map, Option, Some, None, refl, sym, ap, subst, ◌∙◌, arith}
-use Rattle.std.specs.Prelude.{nat_eq, count_by, IfSome, IsSome}
+use Rattle.std.specs.Prelude.{nat_eq, count_by, IsSome}
 use Rattle.std.specs.List.{IsDistinct}
+use Rattle.std.specs.Option.{option_and_then}
 use Rattle.std.proofs.lemmas.List.{length-append, append_assoc}
 use Rattle.std.proofs.lemmas.List.Elements.{filter_map-append}
 use Rattle.xl_lists.specs.Lists.{TrustedList, IsValid}
@@ -10,9 +11,9 @@ use Rattle.xl_ledger.specs.declared.header.Header.{Header}
 use Rattle.xl_ledger.specs.declared.vote.Vote.{Vote}
 use Rattle.xl_ledger.specs.Chains.{AreLedgers}
 use Rattle.xl_validations.specs.declared.row.Row.{Row}
-use Rattle.xl_validations.specs.Rows.{empty_row, row_of, at_member, with_validation}
+use Rattle.xl_validations.specs.Rows.{empty_row, row_of, current_of, at_member, with_validation}
 use Rattle.xl_validations.specs.Votes.{cast, ledger_named, votes_of}
-use Rattle.xl_validations.specs.Tallies.{IsTally, IsTallyOfAny, StandsBeside}
+use Rattle.xl_validations.specs.Tallies.{IsTally, StandsBeside}
 use Rattle.xl_validations.proofs.Splitting.{members, votes_by, is_at, stands_beside, stood_beside}
 
 no_votes : (ls : List Header) (ms : List ℕ) → votes_of ls (map empty_row ms) ≡ []
@@ -28,7 +29,7 @@ length_empty [] = refl
 length_empty (m ∷ ms) = let more = length_empty ms in omega (arith, more)
 
 pub tally_opened : (GoesWith : List Header → Type 0) (list : TrustedList) (rows : List Row) (votes : List Vote) (room n : ℕ) → IsValid list → rows ≡ map empty_row list.members → votes ≡ [] → room ≡ n → n ≡ length list.members
-    → ((ls : List Header) → AreLedgers ls → GoesWith ls) → IsTallyOfAny GoesWith rows votes room
+    → ((ls : List Header) → AreLedgers ls → GoesWith ls) → (ls : List Header) → AreLedgers ls → IsTally GoesWith ls rows votes room
 tally_opened GoesWith list rows votes room n valid rows_are none room_is n_is goes = λ ls ok. record {
   are = ok;
   goes = goes ls ok;
@@ -86,9 +87,9 @@ module _ (GoesWith : List Header → Type 0) (ls : List Header) (rows : List Row
           ap (count_by p) (sym (filter_map-append (λ r. cast r.member (rule ls r)) (front ++ new ∷ []) back))
           ∙ ap (λ (rs : List Row). count_by p (votes_of ls rs)) (append_assoc front (new ∷ []) back)
 
-  pub takes : (before : Option Validation) → IsSome (row_of rows from) → IfSome (row_of rows from) (λ row. before ≡ row.current) → Takes GoesWith ls rows votes room from before v
+  pub takes : (before : Option Validation) → IsSome (row_of rows from) → before ≡ current_of rows from → Takes GoesWith ls rows votes room from before v
   takes before listed is = by_row (row_of rows from) refl listed is
     where
-      by_row : (o : Option Row) → row_of rows from ≡ o → IsSome o → IfSome o (λ row. before ≡ row.current) → Takes GoesWith ls rows votes room from before v
+      by_row : (o : Option Row) → row_of rows from ≡ o → IsSome o → before ≡ option_and_then (λ row. row.current) o → Takes GoesWith ls rows votes room from before v
       by_row None found listed is = absurd cc
       by_row (Some row) found listed is = at_row before row found is

@@ -2,8 +2,9 @@
 use Rattle.std.specs.Prelude.{ℕ, ◌+◌, ◌-◌, ◌==◌, ◌&&◌, Bool, false, not, List, [], ◌∷◌, find, count_by, nat_lt, nat_le, if◌then◌else◌}
 use Rattle.std.specs.Prelude.{Some, None}
 use Rattle.std.specs.declared.option.Option.{Option}
-use Rattle.std.specs.Option.{option_and_then}
+use Rattle.std.specs.Option.{option_and_then, option_map_or}
 use Rattle.xl_base.specs.Ids.{same_id}
+use Rattle.xl_base.specs.declared.moments.TheConstants.{PAST_SECS, FUTURE_SECS}
 use Rattle.xl_base.specs.declared.ids.LedgerId.{LedgerId}
 use Rattle.xl_wire.specs.declared.validation.Validation.{Validation}
 use Rattle.xl_validations.specs.declared.row.Row.{Row}
@@ -12,7 +13,7 @@ use Rattle.xl_validations.specs.declared.refusal.ValRefusal.TheVariants.{Stale, 
 
 -- signed less than 180 seconds ago, and less than 300 seconds ahead
 abbrev pub is_current : ℕ → Validation → Bool
-is_current now v = nat_lt (now - 180) v.signed && nat_lt v.signed (now + 300)
+is_current now v = nat_lt (now - PAST_SECS) v.signed && nat_lt v.signed (now + FUTURE_SECS)
 
 -- a row at the opening
 abbrev pub empty_row : ℕ → Row
@@ -42,6 +43,14 @@ with_validation v row = record { member = row.member; largest = v.seq; current =
 abbrev pub row_of : List Row → ℕ → Option Row
 row_of rows member = find (λ row. row.member == member) rows
 
+-- the greatest sequence taken from a member; 0 at first, and for one without a row
+abbrev pub largest_of : List Row → ℕ → ℕ
+largest_of rows member = option_map_or (λ row. row.largest) (row_of rows member) 0
+
+-- the current validation of a member, if it has one
+abbrev pub current_of : List Row → ℕ → Option Validation
+current_of rows member = option_and_then (λ row. row.current) (row_of rows member)
+
 -- why the row of a member doesn't take the validation
 abbrev pub refusal_of : List Row → ℕ → ℕ → Validation → Option ValRefusal
 refusal_of rows member now v = option_and_then (λ row. refusal row now v) (row_of rows member)
@@ -49,7 +58,8 @@ refusal_of rows member now v = option_and_then (λ row. refusal row now v) (row_
 -- the rows with the member's own one changed
 abbrev pub at_member : ℕ → (Row → Row) → List Row → List Row
 at_member member change [] = []
-at_member member change (row ∷ rows) = if row.member == member then change row ∷ rows else row ∷ at_member member change rows
+at_member member change (row ∷ rows) =
+    if row.member == member then change row ∷ rows else row ∷ at_member member change rows
 
 -- a validation that is no longer current is removed
 abbrev pub unexpired : ℕ → Option Validation → Option Validation

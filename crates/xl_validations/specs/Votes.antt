@@ -1,5 +1,5 @@
--- Members' votes, and the ledger that a node goes on with by them. Source: rippled's Validations and LedgerTrie; the order of
--- the lines of `choose` is this profile's.
+-- Members' votes, and the ledger that a node goes on with by them.
+-- Source: rippled's Validations and LedgerTrie; the order of the lines of `choose` is this profile's.
 use Rattle.std.specs.Prelude.{ℕ, ◌-◌, ◌==◌, nat_lt, List, filter_map, Option, Some, None, option_map, if◌then◌else◌}
 use Rattle.std.specs.Option.{option_and_then}
 use Rattle.xl_wire.specs.declared.validation.Validation.{Validation}
@@ -30,6 +30,10 @@ votes_of ledgers rows = filter_map (λ row. cast row.member (ledger_named ledger
 abbrev pub finished : List Header → List Row → ℕ → ℕ
 finished ledgers rows ledger = branch_of ledgers (votes_of ledgers rows) ledger - tip_of (votes_of ledgers rows) ledger
 
+-- the ledger that the votes prefer, where the largest sequence issued is this one
+abbrev pub preferred : List Header → List Row → ℕ → Option ℕ
+preferred ledgers rows largest = preferred_of ledgers (votes_of ledgers rows) largest
+
 -- the ledger to go on with, where this one is preferred
 abbrev pub choose_by : List Header → ℕ → Option ℕ → ℕ
 choose_by ledgers current None = current
@@ -41,4 +45,4 @@ choose_by ledgers current (Some preferred) =
 
 -- the ledger to go on with: a preferred one that isn't on the current one's chain, and doesn't follow it at once
 abbrev pub choose : List Header → List Row → ℕ → ℕ → ℕ
-choose ledgers rows current largest = choose_by ledgers current (preferred_of ledgers (votes_of ledgers rows) largest)
+choose ledgers rows current largest = choose_by ledgers current (preferred ledgers rows largest)

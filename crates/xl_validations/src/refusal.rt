@@ -1,4 +1,5 @@
 ghost use Rattle.std.specs.Prelude.{◌≡◌};
+ghost use Rattle.xl_validations.specs.Codes.{code_of};
 
 use xl_base::{LedgerId, Secs, Seq};
 
@@ -13,4 +14,18 @@ pub enum ValRefusal {
     Conflict(LedgerId),
     /// The sequence is at most the greatest one taken from the member, which is given.
     OldSeq(Seq),
+}
+
+impl ValRefusal {
+    /// The number of the refusal.
+    pub fn code(self) -> u32
+        ensures { result ≡ code_of self }
+    {
+        match self {
+            ValRefusal::Stale(..) => 20,
+            ValRefusal::Repeat(_) => 21,
+            ValRefusal::Conflict(_) => 22,
+            ValRefusal::OldSeq(_) => 23,
+        }
+    }
 }

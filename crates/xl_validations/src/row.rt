@@ -15,14 +15,8 @@ ghost use Rattle.xl_validations.specs.Rows.{
 };
 
 use crate::ValRefusal;
-use xl_base::{LedgerId, NodeNo, Secs, Seq};
+use xl_base::{FUTURE_SECS, LedgerId, NodeNo, PAST_SECS, Secs, Seq};
 use xl_wire::Validation;
-
-/// A validation is stale once so many seconds have passed since it was signed.
-const PAST_SECS: Secs = 180;
-
-/// A validation signed so many seconds ahead isn't current yet.
-const FUTURE_SECS: Secs = 300;
 
 /// A member's row.
 #[derive(Clone, Copy, Debug, PartialEq, Eq)]

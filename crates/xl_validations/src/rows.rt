@@ -1,8 +1,11 @@
-ghost use Rattle.std.specs.Prelude.{◌≡◌, ◌==◌, ◌≤◌, map, length, position, Some, IsSome, is_some, IfSome, IfOk, OnOk, OnErr};
+ghost use Rattle.std.specs.Prelude.{◌≡◌, ◌==◌, ◌≤◌, map, length, position, Some, IsSome, is_some, IfOk, OnOk, OnErr};
+ghost use Rattle.std.specs.Prelude.{option_map};
 ghost use Rattle.std.specs.Result.{result_err};
 ghost use Rattle.xl_lists.specs.Lists.{IsValid};
 ghost use Rattle.xl_validations.specs.Rows.{
   row_of,
+  largest_of,
+  current_of,
   refusal_of,
   empty_row,
   with_validation,
@@ -61,12 +64,11 @@ fn place_of(rows: &[Row], member: NodeNo) -> usize
     position_of(rows, member).unwrap()
 }
 
-/// A member's row.
-fn find_row(rows: &[Row], member: NodeNo) -> &Row
-    requires listed { IsSome (row_of rows.now member) }
-    ensures { row_of rows.now member ≡ Some result.now }
+/// A member's row, if it has one.
+fn find_row(rows: &[Row], member: NodeNo) -> Option<&Row>
+    ensures { option_map (λ row. row.now) result ≡ row_of rows.now member }
 {
-    &rows[place_of(rows, member)]
+    rows.iter().find(|row| row.member == member)
 }
 
 /// Expires each row.
@@ -140,19 +142,20 @@ impl Rows {
             .count() as u32
     }
 
-    /// The greatest sequence taken from a member, 0 at first.
+    /// The greatest sequence taken from a member; 0 at first, and for one without a row.
     pub fn largest(&self, member: NodeNo) -> Seq
-        requires listed { IsSome (row_of self.now member) }
-        ensures { IfSome (row_of self.now member) (λ row. result ≡ row.largest) }
+        ensures { result ≡ largest_of self.now member }
     {
-        find_row(&self.rows, member).largest
+        match find_row(&self.rows, member) {
+            Some(row) => row.largest,
+            None => 0,
+        }
     }
 
     /// A member's current validation, if it has one.
     pub fn current(&self, member: NodeNo) -> Option<Validation>
-        requires listed { IsSome (row_of self.now member) }
-        ensures { IfSome (row_of self.now member) (λ row. result ≡ row.current) }
+        ensures { result ≡ current_of self.now member }
     {
-        find_row(&self.rows, member).current
+        find_row(&self.rows, member)?.current
     }
 }

@@ -1,10 +1,10 @@
 ghost use Rattle.std.specs.Prelude.{◌≡◌, ◌+◌, ◌<◌, ◌≤◌, map, length, take, Some, IsSome, if◌then◌else◌, IfSome, IfOk, OnOk, OnErr};
 ghost use Rattle.std.specs.Result.{result_err};
 ghost use Rattle.xl_lists.specs.Lists.{IsValid};
-ghost use Rattle.xl_ledger.specs.Votes.{preferred_of};
 ghost use Rattle.xl_ledger.specs.Walks.{GoesOn};
 ghost use Rattle.xl_validations.specs.Rows.{
   row_of,
+  largest_of,
   refusal_of,
   empty_row,
   with_validation,
@@ -13,12 +13,13 @@ ghost use Rattle.xl_validations.specs.Rows.{
   count_full,
   named,
 };
-ghost use Rattle.xl_validations.specs.Votes.{votes_of, finished, choose_by, choose};
-ghost use Rattle.xl_validations.specs.Tallies.{IsTally, IsTallyOfAny, IsNewest};
+ghost use Rattle.xl_validations.specs.Votes.{preferred, finished, choose_by, choose};
+ghost use Rattle.xl_validations.specs.Tallies.{IsTallied, IsTalliedByAny, IsNewest};
 
 use crate::tally::{cast_for, ledger_named, revote, take_back_expired};
 use crate::{Rows, ValRefusal};
 use std::alloc::Global;
+use std::marker::Model;
 use xl_base::{LedgerId, NodeNo, OutOfMemory, Secs, Seq};
 use xl_ledger::{Branch, LedgerNo, Registry, Walk};
 use xl_lists::List;
@@ -26,8 +27,8 @@ use xl_wire::Validation;
 
 /// The rows of a list's members, and the branch of ledgers that has their votes. No call after `open` takes memory.
 ///
-/// It goes with one registry. After each ledger that is added there, and before any other call that is handed the registry,
-/// comes one `header_known`.
+/// It goes with one registry. After each ledger that is added there, and before any other call that is handed the
+/// registry, comes one `header_known`.
 #[derive(Debug, Drop)]
 pub struct Table<B> {
     me: NodeNo,
@@ -35,12 +36,20 @@ pub struct Table<B> {
     branch: B,
 }
 
+impl<B> Model for Table<B> {
+    ghost use Rattle.xl_validations.specs.Tallies.{Table};
+
+    ghost Value = { Table B };
+
+    ghost view = { λ t. record { me = t.me; rows = t.rows; branch = t.branch } };
+}
+
 impl<B: Branch> Table<B> {
     /// An empty row for each member of the list of a node, and no vote.
     pub fn open(alloc: Global, list: &List, me: NodeNo) -> Result<Table<B>, OutOfMemory>
         ensures me { IfOk result (λ table. table.me ≡ me) }
         ensures rows { IfOk result (λ table. table.rows ≡ map empty_row list.now.members) }
-        ensures tally { IfOk result (λ table. IsTallyOfAny (B.goes_with table.branch) table.rows (B.votes table.branch) (B.room table.branch)) }
+        ensures tally { IfOk result (λ table. IsTalliedByAny B.goes_with B.votes B.room table) }
         ensures valid { IsValid list.now }
     {
         let rows = Rows::open(alloc, list)?;
@@ -48,8 +57,8 @@ impl<B: Branch> Table<B> {
         Ok(Table { me, rows, branch })
     }
 
-    /// Takes a member's validation into its row. The member's vote is then for the ledger that it names, where that is known
-    /// and of its sequence.
+    /// Takes a member's validation into its row. The member's vote is then for the ledger that it names, where that is
+    /// known and of its sequence.
     ///
     /// Refused as stale, as a repeat, as a conflict, or as old, tested in this order; the table then stays as it was.
     pub fn take(
@@ -60,11 +69,11 @@ impl<B: Branch> Table<B> {
         now: Secs,
     ) -> Result<(), ValRefusal>
         requires listed { IsSome (row_of self.old.rows from) }
-        requires tally { IsTally (B.goes_with self.old.branch) registry.now.headers self.old.rows (B.votes self.old.branch) (B.room self.old.branch) }
+        requires tally { IsTallied B.goes_with B.votes B.room self.old registry.now.headers }
         ensures answer { result_err result ≡ refusal_of self.old.rows from now v.now }
         ensures taken { OnOk result (self.new.rows ≡ at_member from (with_validation v.now) self.old.rows) }
         ensures me { self.new.me ≡ self.old.me }
-        ensures tally { IsTally (B.goes_with self.new.branch) registry.now.headers self.new.rows (B.votes self.new.branch) (B.room self.new.branch) }
+        ensures tally { IsTallied B.goes_with B.votes B.room self.new registry.now.headers }
         ensures refused { OnErr result (self.new ≡ self.old) }
     {
         let before = self.rows.current(from);
@@ -80,12 +89,13 @@ impl<B: Branch> Table<B> {
         Ok(())
     }
 
-    /// Removes the validations that are no longer current at a second, and their votes. Each row keeps its greatest sequence.
+    /// Removes the validations that are no longer current at a second, and their votes. Each row keeps its greatest
+    /// sequence.
     pub fn expire(&mut self, registry: &Registry, now: Secs)
-        requires tally { IsTally (B.goes_with self.old.branch) registry.now.headers self.old.rows (B.votes self.old.branch) (B.room self.old.branch) }
+        requires tally { IsTallied B.goes_with B.votes B.room self.old registry.now.headers }
         ensures rows { self.new.rows ≡ map (row_at now) self.old.rows }
         ensures me { self.new.me ≡ self.old.me }
-        ensures tally { IsTally (B.goes_with self.new.branch) registry.now.headers self.new.rows (B.votes self.new.branch) (B.room self.new.branch) }
+        ensures tally { IsTallied B.goes_with B.votes B.room self.new registry.now.headers }
     {
         take_back_expired(&mut self.branch, registry, self.rows.as_slice(), now);
         self.rows.expire(now);
@@ -94,10 +104,10 @@ impl<B: Branch> Table<B> {
     /// Takes the votes of the validations that waited for the ledger that was added last. The rows stay.
     pub fn header_known(&mut self, registry: &Registry, ledger: LedgerNo)
         requires newest { IsNewest registry.now.headers ledger }
-        requires tally { IsTally (B.goes_with self.old.branch) (take ledger registry.now.headers) self.old.rows (B.votes self.old.branch) (B.room self.old.branch) }
+        requires tally { IsTallied B.goes_with B.votes B.room self.old (take ledger registry.now.headers) }
         ensures rows { self.new.rows ≡ self.old.rows }
         ensures me { self.new.me ≡ self.old.me }
-        ensures tally { IsTally (B.goes_with self.new.branch) registry.now.headers self.new.rows (B.votes self.new.branch) (B.room self.new.branch) }
+        ensures tally { IsTallied B.goes_with B.votes B.room self.new registry.now.headers }
     {
         cast_for(&mut self.branch, registry, self.rows.as_slice(), ledger);
     }
@@ -109,17 +119,17 @@ impl<B: Branch> Table<B> {
         self.rows.count_full(seq, id)
     }
 
-    /// How many members other than the node itself have a current validation, full or partial, that names this id: at most 64.
+    /// How many members other than the node itself have a current validation, full or partial, that names this id: at
+    /// most 64.
     pub fn named(&self, id: &LedgerId) -> u32
         ensures { result ≡ named self.now.me id.now self.now.rows }
     {
         self.rows.named(self.me, id)
     }
 
-    /// The greatest sequence taken from a member, 0 at first.
+    /// The greatest sequence taken from a member; 0 at first, and for one without a row.
     pub fn largest(&self, member: NodeNo) -> Seq
-        requires listed { IsSome (row_of self.now.rows member) }
-        ensures { IfSome (row_of self.now.rows member) (λ row. result ≡ row.largest) }
+        ensures { result ≡ largest_of self.now.rows member }
     {
         self.rows.largest(member)
     }
@@ -127,18 +137,18 @@ impl<B: Branch> Table<B> {
     /// How many votes are for ledgers below this one.
     pub fn finished(&self, registry: &Registry, ledger: LedgerNo) -> u32
         requires known { ledger < length registry.now.headers }
-        requires tally { IsTally (B.goes_with self.now.branch) registry.now.headers self.now.rows (B.votes self.now.branch) (B.room self.now.branch) }
+        requires tally { IsTallied B.goes_with B.votes B.room self.now registry.now.headers }
         ensures { result ≡ finished registry.now.headers self.now.rows ledger }
     {
         let branch = self.branch.branch(registry, ledger);
         branch.saturating_sub(self.branch.tip(registry, ledger))
     }
 
-    /// The ledger that the votes prefer, where the largest sequence issued is this one. None exactly where there is no vote.
-    /// At most as many steps as the branch says.
+    /// The ledger that the votes prefer, where the largest sequence issued is this one. None exactly where there is no
+    /// vote. At most as many steps as the branch says.
     pub fn preferred(&self, walk: &mut Walk<'_>, largest: Seq) -> Option<LedgerNo>
-        requires tally { IsTally (B.goes_with self.now.branch) walk.old.ledgers.headers self.now.rows (B.votes self.now.branch) (B.room self.now.branch) }
-        ensures value { result ≡ preferred_of walk.old.ledgers.headers (votes_of walk.old.ledgers.headers self.now.rows) largest }
+        requires tally { IsTallied B.goes_with B.votes B.room self.now walk.old.ledgers.headers }
+        ensures value { result ≡ preferred walk.old.ledgers.headers self.now.rows largest }
         ensures known { IfSome result (λ ledger. ledger < length walk.old.ledgers.headers) }
         ensures goes_on { GoesOn walk.old walk.new }
         ensures steps { IfSome B.JUMPS (λ most. walk.new.taken ≤ walk.old.taken + most) }
@@ -150,7 +160,7 @@ impl<B: Branch> Table<B> {
     /// preferred, or one that follows it at once, or none. At most 18 steps more than `preferred` takes.
     pub fn choose(&self, walk: &mut Walk<'_>, current: LedgerNo, largest: Seq) -> LedgerNo
         requires known { current < length walk.old.ledgers.headers }
-        requires tally { IsTally (B.goes_with self.now.branch) walk.old.ledgers.headers self.now.rows (B.votes self.now.branch) (B.room self.now.branch) }
+        requires tally { IsTallied B.goes_with B.votes B.room self.now walk.old.ledgers.headers }
         ensures value { result ≡ choose walk.old.ledgers.headers self.now.rows current largest }
         ensures known { result < length walk.old.ledgers.headers }
         ensures goes_on { GoesOn walk.old walk.new }
@@ -168,7 +178,8 @@ impl<B: Branch> Table<B> {
 fn goes_elsewhere(walk: &mut Walk<'_>, current: LedgerNo, preferred: LedgerNo) -> bool
     requires current { current < length walk.old.ledgers.headers }
     requires preferred { preferred < length walk.old.ledgers.headers }
-    ensures value { choose_by walk.old.ledgers.headers current (Some preferred) ≡ (if result then preferred else current) }
+    ensures value { choose_by walk.old.ledgers.headers current (Some preferred)
+        ≡ (if result then preferred else current) }
     ensures goes_on { GoesOn walk.old walk.new }
     ensures most { walk.new.taken ≤ walk.old.taken + 18 }
 {

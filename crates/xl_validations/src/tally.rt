@@ -1,9 +1,8 @@
 // The votes of rows, kept in a branch.
 ghost use Rattle.std.specs.Prelude.{◌≡◌, ◌<◌, List, length, map, take, IfSome, None};
-ghost use Rattle.xl_ledger.specs.declared.vote.Vote.{Vote};
 ghost use Rattle.xl_validations.specs.Rows.{row_at, unexpired};
 ghost use Rattle.xl_validations.specs.Votes.{ledger_named};
-ghost use Rattle.xl_validations.specs.Tallies.{IsTally, IsNewest, StandsBeside};
+ghost use Rattle.xl_validations.specs.Tallies.{IsTallyIn, IsNewest, Stands, Turns};
 
 use crate::Row;
 use xl_base::{NodeNo, Secs};
@@ -32,11 +31,10 @@ fn take_back<B: Branch>(
     before: Option<LedgerNo>,
 )
     requires goes { B.goes_with branch.old registry.now.headers }
-    requires beside { (others : List Vote) × StandsBeside (B.votes branch.old) others member before (B.room branch.old) }
+    requires beside { Stands B.votes B.room branch.old member before }
     ensures goes { B.goes_with branch.new registry.now.headers }
     ensures room { B.room branch.new ≡ B.room branch.old }
-    ensures back { (others : List Vote) → StandsBeside (B.votes branch.old) others member before (B.room branch.old)
-        → StandsBeside (B.votes branch.new) others member None (B.room branch.new) }
+    ensures back { Turns B.votes B.room branch.old branch.new member before None }
 {
     if before.is_some() {
         branch.unvote(registry, member);
@@ -47,11 +45,10 @@ fn take_back<B: Branch>(
 fn cast<B: Branch>(branch: &mut B, registry: &Registry, member: NodeNo, after: Option<LedgerNo>)
     requires goes { B.goes_with branch.old registry.now.headers }
     requires known { IfSome after (λ ledger. ledger < length registry.now.headers) }
-    requires beside { (others : List Vote) × StandsBeside (B.votes branch.old) others member None (B.room branch.old) }
+    requires beside { Stands B.votes B.room branch.old member None }
     ensures goes { B.goes_with branch.new registry.now.headers }
     ensures room { B.room branch.new ≡ B.room branch.old }
-    ensures cast { (others : List Vote) → StandsBeside (B.votes branch.old) others member None (B.room branch.old)
-        → StandsBeside (B.votes branch.new) others member after (B.room branch.new) }
+    ensures cast { Turns B.votes B.room branch.old branch.new member None after }
 {
     if let Some(ledger) = after {
         branch.vote(registry, member, ledger);
@@ -68,11 +65,10 @@ pub(crate) fn revote<B: Branch>(
 )
     requires goes { B.goes_with branch.old registry.now.headers }
     requires known { IfSome after (λ ledger. ledger < length registry.now.headers) }
-    requires beside { (others : List Vote) × StandsBeside (B.votes branch.old) others member before (B.room branch.old) }
+    requires beside { Stands B.votes B.room branch.old member before }
     ensures goes { B.goes_with branch.new registry.now.headers }
     ensures room { B.room branch.new ≡ B.room branch.old }
-    ensures turned { (others : List Vote) → StandsBeside (B.votes branch.old) others member before (B.room branch.old)
-        → StandsBeside (B.votes branch.new) others member after (B.room branch.new) }
+    ensures turned { Turns B.votes B.room branch.old branch.new member before after }
 {
     take_back(branch, registry, member, before);
     cast(branch, registry, member, after);
@@ -81,11 +77,13 @@ pub(crate) fn revote<B: Branch>(
 /// Takes back the vote of a row whose validation is no longer current at a second.
 fn take_back_if_expired<B: Branch>(branch: &mut B, registry: &Registry, row: &Row, now: Secs)
     requires goes { B.goes_with branch.old registry.now.headers }
-    requires beside { (others : List Vote) × StandsBeside (B.votes branch.old) others row.now.member (ledger_named registry.now.headers row.now.current) (B.room branch.old) }
+    requires beside { Stands B.votes B.room branch.old row.now.member
+        (ledger_named registry.now.headers row.now.current) }
     ensures goes { B.goes_with branch.new registry.now.headers }
     ensures room { B.room branch.new ≡ B.room branch.old }
-    ensures turned { (others : List Vote) → StandsBeside (B.votes branch.old) others row.now.member (ledger_named registry.now.headers row.now.current) (B.room branch.old)
-        → StandsBeside (B.votes branch.new) others row.now.member (ledger_named registry.now.headers (unexpired now row.now.current)) (B.room branch.new) }
+    ensures turned { Turns B.votes B.room branch.old branch.new row.now.member
+        (ledger_named registry.now.headers row.now.current)
+        (ledger_named registry.now.headers (unexpired now row.now.current)) }
 {
     if row.is_expired(now) {
         let before = ledger_named(registry, &row.current);
@@ -100,8 +98,8 @@ pub(crate) fn take_back_expired<B: Branch>(
     rows: &[Row],
     now: Secs,
 )
-    requires tally { IsTally (B.goes_with branch.old) registry.now.headers rows.now (B.votes branch.old) (B.room branch.old) }
-    ensures tally { IsTally (B.goes_with branch.new) registry.now.headers (map (row_at now) rows.now) (B.votes branch.new) (B.room branch.new) }
+    requires tally { IsTallyIn B.goes_with B.votes B.room branch.old rows.now registry.now.headers }
+    ensures tally { IsTallyIn B.goes_with B.votes B.room branch.new (map (row_at now) rows.now) registry.now.headers }
 {
     for row in rows {
         take_back_if_expired(branch, registry, row, now);
@@ -112,11 +110,13 @@ pub(crate) fn take_back_expired<B: Branch>(
 fn cast_if_for<B: Branch>(branch: &mut B, registry: &Registry, row: &Row, ledger: LedgerNo)
     requires goes { B.goes_with branch.old registry.now.headers }
     requires newest { IsNewest registry.now.headers ledger }
-    requires beside { (others : List Vote) × StandsBeside (B.votes branch.old) others row.now.member (ledger_named (take ledger registry.now.headers) row.now.current) (B.room branch.old) }
+    requires beside { Stands B.votes B.room branch.old row.now.member
+        (ledger_named (take ledger registry.now.headers) row.now.current) }
     ensures goes { B.goes_with branch.new registry.now.headers }
     ensures room { B.room branch.new ≡ B.room branch.old }
-    ensures turned { (others : List Vote) → StandsBeside (B.votes branch.old) others row.now.member (ledger_named (take ledger registry.now.headers) row.now.current) (B.room branch.old)
-        → StandsBeside (B.votes branch.new) others row.now.member (ledger_named registry.now.headers row.now.current) (B.room branch.new) }
+    ensures turned { Turns B.votes B.room branch.old branch.new row.now.member
+        (ledger_named (take ledger registry.now.headers) row.now.current)
+        (ledger_named registry.now.headers row.now.current) }
 {
     if row.is_of(registry.seq_of(ledger), &registry.id_at(ledger)) {
         cast(branch, registry, row.member, Some(ledger));
@@ -131,8 +131,8 @@ pub(crate) fn cast_for<B: Branch>(
     ledger: LedgerNo,
 )
     requires newest { IsNewest registry.now.headers ledger }
-    requires tally { IsTally (B.goes_with branch.old) (take ledger registry.now.headers) rows.now (B.votes branch.old) (B.room branch.old) }
-    ensures tally { IsTally (B.goes_with branch.new) registry.now.headers rows.now (B.votes branch.new) (B.room branch.new) }
+    requires tally { IsTallyIn B.goes_with B.votes B.room branch.old rows.now (take ledger registry.now.headers) }
+    ensures tally { IsTallyIn B.goes_with B.votes B.room branch.new rows.now registry.now.headers }
 {
     for row in rows {
         cast_if_for(branch, registry, row, ledger);

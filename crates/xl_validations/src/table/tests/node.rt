@@ -32,13 +32,13 @@ pub struct Node<B: Branch> {
 
 impl<B: Branch> Model for Node<B> {
     ghost use Rattle.xl_ledger.specs.Registries.{Ledgers};
-    ghost use Rattle.xl_validations.specs.Tallies.{IsTally};
+    ghost use Rattle.xl_validations.specs.Tallies.{IsTallied};
 
     ghost Value = { Ledgers };
 
     ghost view = { λ n. n.registry };
 
-    ghost invariant = { λ n. IsTally (B.goes_with n.table.branch) n.registry.headers n.table.rows (B.votes n.table.branch) (B.room n.table.branch) };
+    ghost invariant = { λ n. IsTallied B.goes_with B.votes B.room n.table n.registry.headers };
 }
 
 /// The member of a number, who has a row.
@@ -123,7 +123,7 @@ impl<B: Branch> Node<B> {
     }
 
     pub fn largest(&self, number: u32) -> Result<Seq, Fail> {
-        let member = listed(&self.table, number)?;
+        let member = NodeNo::new(number).ok_or("no member")?;
         Ok(self.table.largest(member))
     }
 }
