@@ -16,7 +16,6 @@ mod law;
 mod ledger;
 mod ledger_no;
 mod link;
-mod putting;
 mod refusal;
 mod registry;
 mod table;
