@@ -31,14 +31,10 @@ fn child(parent: LedgerId, seq: u32, mark: u8) -> Header
 {
     Header {
         seq,
-        drops: 100_000_000_000_000_000,
         parent,
         tx_hash: [mark; 32],
-        account_hash: [0; 32],
-        parent_close: 0,
         close: 30,
-        resolution: 30,
-        flags: 0,
+        ..root_header()
     }
 }
 

@@ -1,20 +1,16 @@
 use super::Plain;
 use std::test::Fail;
 use xl_base::{LedgerId, NodeNo};
-use xl_ledger::{Branch, Header, LedgerNo, Registry, id_of};
+use xl_ledger::{Branch, Header, LedgerNo, Registry, id_of, root_header};
 
 /// A ledger that follows another.
 fn child(parent: LedgerId, seq: u32, mark: u8) -> Header {
     Header {
         seq,
-        drops: 100_000_000_000_000_000,
         parent,
         tx_hash: [mark; 32],
-        account_hash: [0; 32],
-        parent_close: 0,
         close: 30,
-        resolution: 30,
-        flags: 0,
+        ..root_header()
     }
 }
 

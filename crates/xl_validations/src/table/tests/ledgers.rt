@@ -1,5 +1,5 @@
 use xl_base::{LedgerId, Seq};
-use xl_ledger::{Header, id_of};
+use xl_ledger::{Header, id_of, root_header};
 
 /// A ledger of one chain.
 #[derive(Clone, Copy, Debug, PartialEq, Eq)]
@@ -15,14 +15,10 @@ const ROOT_ID: LedgerId = LedgerId([0; 32]);
 fn child(parent: LedgerId, seq: Seq, mark: u8) -> Header {
     Header {
         seq,
-        drops: 100_000_000_000_000_000,
         parent,
         tx_hash: [mark; 32],
-        account_hash: [0; 32],
-        parent_close: 0,
         close: 30,
-        resolution: 30,
-        flags: 0,
+        ..root_header()
     }
 }
 
