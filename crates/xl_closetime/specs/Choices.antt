@@ -21,8 +21,8 @@ abbrev pub rising : List ℕ → List ℕ
 rising [] = []
 rising (t ∷ ts) = with_time t (rising ts)
 
--- A walk over times: one that occurs at least as often as the bound is chosen, and how often it occurs is the new bound.
--- The last one chosen, if any is.
+-- A walk over times: one that occurs at least as often as the bound is chosen, and how often it occurs is the new
+-- bound. The last one chosen, if any is.
 abbrev pub last_chosen : (ℕ → ℕ) → ℕ → Option ℕ → List ℕ → Option ℕ
 last_chosen number bound chosen [] = chosen
 last_chosen number bound chosen (t ∷ ts) =

@@ -11,4 +11,4 @@ round_close t r = if t == 0 then 0 else min (t + r / 2 - (t + r / 2) % r) last_s
 
 -- the rounded time, but after the prior one; 0 stays 0
 abbrev pub effective : ℕ → ℕ → ℕ → ℕ
-effective t r prior = if t == 0 then 0 else min (max (t + r / 2 - (t + r / 2) % r) (prior + 1)) last_second
+effective t r prior = if t == 0 then 0 else max (round_close t r) (min (prior + 1) last_second)

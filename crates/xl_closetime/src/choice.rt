@@ -54,11 +54,12 @@ pub fn needed(p: u32, pct: u32) -> u32
     ((p * pct + pct / 2) / 100).max(1)
 }
 
-/// The close time for these close times of the members' positions and our own, none of them rounded yet, at a resolution.
+/// The close time for these close times of the members' positions and our own, none of them rounded yet, at a
+/// resolution.
 ///
-/// With no positions it is our own time, and agreed on. Else our own counts where we propose. Of the different times, in
-/// rising order, the choice is the last that occurs at least as often as `pct` percent of all need and at least as often
-/// as every time chosen before it. It is agreed on where it occurs as often as 75 percent of all need.
+/// With no positions it is our own time, and agreed on. Else our own counts where we propose. Of the different times,
+/// in rising order, the choice is the last that occurs at least as often as `pct` percent of all need and at least as
+/// often as every time chosen before it. It is agreed on where it occurs as often as 75 percent of all need.
 pub fn choose_close(times: &[Secs], own: Secs, proposing: bool, pct: u32, r: u8) -> Choice
     requires positions { length times.now ≤ POSITIONS }
     requires percent { pct ≤ 100 }

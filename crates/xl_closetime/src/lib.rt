@@ -1,10 +1,10 @@
 //! Close times: how coarse they are, how one is rounded, and which one the members agree on.
 //!
-//! Members' clocks differ, so a ledger closes at a time that is rounded to the resolution in force, and a round takes the
-//! time that most positions name.
+//! Members' clocks differ, so a ledger closes at a time that is rounded to the resolution in force, and a round takes
+//! the time that most positions name.
 //!
-//! It stands on xl_base alone, and no call takes memory. Its one contract: `choose_close` gives the last time, in rising
-//! order, that occurs at least as often as is needed and at least as often as every time chosen before it.
+//! It stands on xl_base alone, and no call takes memory. Its one contract: `choose_close` gives the last time, in
+//! rising order, that occurs at least as often as is needed and at least as often as every time chosen before it.
 #![tactic(auto)]
 
 mod choice;

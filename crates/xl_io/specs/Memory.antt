@@ -1,13 +1,13 @@
 -- What sources, sinks and keepers in memory show: their content, their faults and their script.
 -- Source: this project's own, for tests of what reads and writes.
-use Rattle.std.specs.Prelude.{ℕ, List, Some, None, drop, option_map, if◌then◌else◌}
+use Rattle.std.specs.Prelude.{ℕ, ◌||◌, Bool, List, Some, None, drop, option_map, if◌then◌else◌}
 use Rattle.std.specs.declared.option.Option.{Option}
-use Rattle.xl_io.specs.Scripts.{Script}
-use Rattle.xl_io.specs.Keepers.{Held, holding}
+use Rattle.xl_io.specs.Scripts.{Script, next_fails}
+use Rattle.xl_io.specs.Keepers.{Held, holding, after_save}
 use Rattle.xl_io.specs.Saves.{SaveList}
-use Rattle.xl_io.specs.declared.keeper.memory.PlainKeeper.{PlainKeeper}
-use Rattle.xl_io.specs.declared.keeper.memory.MemKeeper.{MemKeeper}
-use Rattle.xl_io.specs.declared.keeper.memory.FailedSave.{FailedSave}
+use Rattle.xl_io.specs.declared.keeper.plain.PlainKeeper.{PlainKeeper}
+use Rattle.xl_io.specs.declared.keeper.scripted.MemKeeper.{MemKeeper}
+use Rattle.xl_io.specs.declared.keeper.scripted.FailedSave.{FailedSave}
 use Rattle.xl_io.specs.declared.source.memory.MemSource.{MemSource}
 use Rattle.xl_io.specs.declared.sink.memory.MemSink.{MemSink}
 
@@ -55,6 +55,10 @@ last_written in_force (Some save) = if save.written then save.seq else in_force
 abbrev pub next_load : MemKeeper → ℕ
 next_load keeper = last_written keeper.in_force keeper.failed
 
+-- the numbers that a stop may leave after a save of this number
+abbrev pub held_after : MemKeeper → ℕ → Bool → Option Held
+held_after keeper seq ok = option_map (λ held. after_save held (Some seq) ok) (numbers_held keeper)
+
 abbrev pub list_of_saves : MemKeeper → SaveList
 list_of_saves keeper = keeper.saves
 
@@ -67,3 +71,11 @@ fault_script keeper = record { failing = keeper.failures.failing.items; calls = 
 -- the calls that leave the asked number, of those that are saves and fail
 abbrev pub written_script : MemKeeper → Script
 written_script keeper = record { failing = keeper.written.items; calls = keeper.failures.calls }
+
+-- the next call leaves the asked number, if it is a save that fails
+abbrev pub next_is_written : MemKeeper → Bool
+next_is_written keeper = next_fails (written_script keeper)
+
+-- the number that the next load answers after a save of this number
+abbrev pub next_after : MemKeeper → ℕ → Bool → ℕ
+next_after keeper seq ok = if ok || next_is_written keeper then seq else in_force keeper

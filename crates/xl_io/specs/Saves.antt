@@ -1,4 +1,5 @@
--- The saves that a keeper in memory tells, in room that was taken when it was made. Source: this project's own, for tests of what saves.
+-- The saves that a keeper in memory tells, in room that was taken when it was made. Source: this project's own, for
+-- tests of what saves.
 use Rattle.std.specs.Prelude.{ℕ, ◌-◌, ◌==◌, List, [], ◌∷◌, Option, Some, None, if◌then◌else◌}
 use Rattle.std.specs.Io.KnownBytes.{append_known}
 
@@ -13,4 +14,7 @@ no_saves room = record { told = Some []; room = room }
 
 -- one more; from the first one on for which there is no room, none is told
 abbrev pub with_save : SaveList → ℕ → SaveList
-with_save saves n = record { told = if saves.room == 0 then None else append_known saves.told (n ∷ []); room = saves.room - 1 }
+with_save saves n = record {
+  told = if saves.room == 0 then None else append_known saves.told (n ∷ []);
+  room = saves.room - 1;
+}

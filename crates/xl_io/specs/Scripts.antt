@@ -1,4 +1,5 @@
--- Which calls of a source, a sink or a keeper in memory fail. Source: this project's own, for tests of what reads and writes.
+-- Which calls of a source, a sink or a keeper in memory fail. Source: this project's own, for tests of what reads and
+-- writes.
 use Rattle.std.specs.Prelude.{ℕ, ◌==◌, Bool, List}
 use Rattle.xl_base.specs.Counts.{one_more}
 use Rattle.std.specs.List.{list_any}

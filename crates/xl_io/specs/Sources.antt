@@ -1,4 +1,5 @@
--- What a read does to the bytes that a source has left, where they are told. Source: the POSIX call read, with a count of faults.
+-- What a read does to the bytes that a source has left, where they are told. Source: the POSIX call read, with a
+-- count of faults.
 use Rattle.std.specs.Prelude.{◌≡◌, ℕ, ◌<◌, ◌≤◌, List, length, take}
 use Rattle.std.specs.declared.option.Option.{Option}
 use Rattle.std.specs.Io.KnownBytes.{prepend_known, IsAtEnd}

@@ -1,4 +1,5 @@
-ghost use Rattle.std.specs.Prelude.{◌≡◌, ◌+◌, ◌-◌, ◌^◌, ◌≤◌, min, IsTrue};
+ghost use Rattle.std.specs.Prelude.{◌≡◌, ◌≤◌, IsTrue};
+ghost use Rattle.xl_base.specs.Counts.{one_more};
 ghost use Rattle.xl_base.specs.Faults.{Rose};
 ghost use Rattle.xl_io.specs.Scripts.{is_listed};
 
@@ -42,7 +43,7 @@ impl Failures {
     pub fn next_fails(&mut self) -> bool
         ensures fails { result ≡ is_listed (record { failing = self.new.failing.items; calls = self.new.calls }) }
         ensures failing { self.new.failing ≡ self.old.failing }
-        ensures calls { self.new.calls ≡ min (self.old.calls + 1) (2 ^ 64 - 1) }
+        ensures calls { self.new.calls ≡ one_more self.old.calls }
         ensures later { self.old.count ≤ self.new.count }
         ensures rose { IsTrue result → Rose self.old.count self.new.count }
     {

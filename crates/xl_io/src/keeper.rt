@@ -3,8 +3,9 @@ ghost use Rattle.std.specs.declared.option.Option.{Option};
 ghost use Rattle.xl_base.specs.Faults.{Rose};
 ghost use Rattle.xl_io.specs.Keepers.{Held, MayHold, holding, after_save, AddsSave};
 
-pub mod memory;
+pub mod plain;
 mod saves;
+pub mod scripted;
 
 use crate::Failed;
 use xl_base::Seq;
@@ -20,7 +21,8 @@ pub trait Keeper {
     /// How often a call has failed, up to the greatest `u64`.
     ghost faults: { Self → ℕ };
 
-    /// What a save leaves beside that, by whether it was answered with Ok: a keeper whose answers are known says it here.
+    /// What a save leaves beside that, by whether it was answered with Ok. A keeper over a real disk says nothing
+    /// here; one whose answers are known, as that of a network in memory, says what it holds then.
     ghost save_gives: { Self → ℕ → Bool → Self → Type 0 } = { λ _ _ _ _. Unit {0} };
 
     /// Answers a number that it may hold, and holds that one alone from then on. `Failed` leaves it.

@@ -1,9 +1,10 @@
-//! The outside as the program sees it: a source that bytes come from, a sink that bytes go to, and a keeper of the last
-//! issued sequence, each with a count of its faults. Sources and sinks are over the streams of the system and in memory,
-//! keepers in memory.
+//! The outside as the program sees it: a source that bytes come from, a sink that bytes go to, and a keeper of the
+//! last issued sequence, each with a count of its faults. Sources and sinks are over the streams of the system and in
+//! memory, keepers in memory.
 //!
 //! It stands on xl_base. Its one contract: a call answers `Failed` only where the count rose in that call, so no code
-//! above can invent a fault; and where content is told, what was read, what is held and what a stop may leave is exact.
+//! above can invent a fault; and where content is told, what was read, what is held and what a stop may leave is
+//! exact.
 #![tactic(auto)]
 
 mod failed;
@@ -14,7 +15,8 @@ mod source;
 
 pub use failed::Failed;
 pub use keeper::Keeper;
-pub use keeper::memory::{MemKeeper, PlainKeeper};
+pub use keeper::plain::PlainKeeper;
+pub use keeper::scripted::MemKeeper;
 pub use sink::memory::{Discard, MemSink};
 pub use sink::standard::StdSink;
 pub use sink::{Sink, Wrote, write_all};

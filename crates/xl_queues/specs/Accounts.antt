@@ -7,7 +7,8 @@ pub record Gone (T : Type 0) : Type 0 where
   pub item : T
   pub taken : Bool
 
--- what was pushed is what has gone and then what is held; of the gone items the taken ones were handed out, and the others were counted as lost
+-- what was pushed is what has gone and then what is held; of the gone items the taken ones were handed out, and the
+-- others were counted as lost
 pub record IsAccounted {T : Type 0} (pushed taken : List T) (queue : Backlog T) : Type 0 where
   pub gone : List (Gone T)
   pub in_order : pushed ≡ map (λ g. g.item) gone ++ queue.items
@@ -17,4 +18,5 @@ pub record IsAccounted {T : Type 0} (pushed taken : List T) (queue : Backlog T) 
 module _ {T : Type 0} where
   -- all is accounted for after the call as it was before, with these items pushed and these taken by it
   abbrev pub Accounts : Backlog T → Backlog T → List T → List T → Type 0
-  Accounts old new pushed taken = (before out : List T) → IsAccounted before out old → IsAccounted (before ++ pushed) (out ++ taken) new
+  Accounts old new pushed taken =
+      (before out : List T) → IsAccounted before out old → IsAccounted (before ++ pushed) (out ++ taken) new

@@ -11,7 +11,9 @@ pub record Backlog (T : Type 0) : Type 0 where
 module _ {T : Type 0} where
   -- a backlog is stored as the pair of its fields
   abbrev pub backlog_code : Coded T → Coded (Backlog T)
-  backlog_code code = code_by (List T × ℕ) (coded× (coded_list code) coded_ℕ) (λ q. (q.items, q.lost)) (λ p. record { items = p.0; lost = p.1 }) (λ _. refl)
+  backlog_code code =
+      code_by (List T × ℕ) (coded× (coded_list code) coded_ℕ)
+      (λ q. (q.items, q.lost)) (λ p. record { items = p.0; lost = p.1 }) (λ _. refl)
 
   -- nothing was pushed yet
   abbrev pub no_items : Backlog T
@@ -23,7 +25,10 @@ module _ {T : Type 0} where
 
   -- after a push into a queue of at most n items
   abbrev pub with_item : ℕ → Backlog T → T → Backlog T
-  with_item n queue item = record { items = pushed n queue.items item; lost = if nat_lt (length queue.items) n then queue.lost else one_more queue.lost }
+  with_item n queue item = record {
+    items = pushed n queue.items item;
+    lost = if nat_lt (length queue.items) n then queue.lost else one_more queue.lost;
+  }
 
   -- the oldest item was taken, if there was one
   abbrev pub without_first : Backlog T → Backlog T
@@ -31,4 +36,7 @@ module _ {T : Type 0} where
 
   -- the oldest item was lost, if there was one
   abbrev pub passed_over : Backlog T → Backlog T
-  passed_over queue = record { items = drop 1 queue.items; lost = if length queue.items == 0 then queue.lost else one_more queue.lost }
+  passed_over queue = record {
+    items = drop 1 queue.items;
+    lost = if length queue.items == 0 then queue.lost else one_more queue.lost;
+  }

@@ -1,5 +1,7 @@
-ghost use Rattle.std.specs.Prelude.{◌≡◌, ◌+◌, ◌-◌, ◌≤◌, ◌<◌, ◌^◌, min, length, slice_get, option_copied, replicate, map, IfOk};
+ghost use Rattle.std.specs.Prelude.{◌≡◌, ◌+◌, ◌-◌, ◌≤◌, ◌<◌, ◌^◌, [], ◌∷◌, min, length, slice_get, replicate, map, IfOk};
+ghost use Rattle.std.specs.Prelude.{option_copied, option_to_list};
 ghost use Rattle.xl_queues.specs.Broadcasts.{queue_of, at_reader, pushed_to_all, left_with, counted_anew};
+ghost use Rattle.xl_queues.specs.Broadcasts.{AccountsForAll, AreAccounted, no_reader, one_reader};
 ghost use Rattle.xl_queues.specs.Queues.{no_items, passed_over, without_first};
 
 use circular_buffer::HeapCircularBuffer;
@@ -16,8 +18,9 @@ pub struct Reader {
     lost: u64,
 }
 
-/// The last items that were pushed, at most `N`, until each of `R` readers has taken them. A push is one write: a reader that
-/// falls behind by more than `N` items has lost the oldest, as if it had `N` places of its own. No call after `open` takes memory.
+/// The last items that were pushed, at most `N`, until each of `R` readers has taken them. A push is one write: a
+/// reader that falls behind by more than `N` items has lost the oldest, as if it had `N` places of its own. No call
+/// after `open` takes memory.
 #[derive(Drop)]
 pub struct Broadcast<T, const N: usize, const R: usize> {
     items: HeapCircularBuffer<T>,
@@ -38,12 +41,14 @@ impl<T, const N: usize, const R: usize> Model for Broadcast<T, N, R> {
 
     ghost view = { λ b. map (waiting_for N b.items.items b.pushed) b.readers };
 
-    ghost invariant = { λ b. (b.items.capacity ≡ N) × (length b.items.items ≤ N) × All (KeepsUp N (length b.items.items) b.pushed) b.readers };
+    ghost invariant = { λ b. (b.items.capacity ≡ N) × (length b.items.items ≤ N)
+        × All (KeepsUp N (length b.items.items) b.pushed) b.readers };
 }
 
 impl<T: Copy + Drop, const N: usize, const R: usize> Broadcast<T, N, R> {
     pub fn open(alloc: Global) -> Result<Self, OutOfMemory>
-        ensures { IfOk result (λ queues. queues ≡ replicate R no_items) }
+        ensures empty { IfOk result (λ queues. queues ≡ replicate R no_items) }
+        ensures accounted { IfOk result AreAccounted }
     {
         Ok(Broadcast {
             items: HeapCircularBuffer::with_capacity(alloc, N)?,
@@ -55,6 +60,7 @@ impl<T: Copy + Drop, const N: usize, const R: usize> Broadcast<T, N, R> {
     /// Puts the item last for every reader. One for which `N` items wait already loses its oldest.
     pub fn push(&mut self, item: T)
         ensures pushed { self.new ≡ pushed_to_all N self.old item }
+        ensures accounted { AccountsForAll self.old self.new (item ∷ []) no_reader }
     {
         if self.pushed == u64::MAX {
             let held = self.items.capacity() as u64;
@@ -98,6 +104,7 @@ impl<T: Copy + Drop, const N: usize, const R: usize> Broadcast<T, N, R> {
         requires { reader < R }
         ensures oldest { result ≡ slice_get (queue_of self.old reader).items 0 }
         ensures taken { self.new ≡ at_reader self.old reader without_first }
+        ensures accounted { AccountsForAll self.old self.new [] (one_reader reader (option_to_list result)) }
     {
         let oldest = self.first(reader).copied();
         let left = self.len(reader).saturating_sub(1);
@@ -109,6 +116,7 @@ impl<T: Copy + Drop, const N: usize, const R: usize> Broadcast<T, N, R> {
     pub fn pass_over(&mut self, reader: usize)
         requires { reader < R }
         ensures passed { self.new ≡ at_reader self.old reader passed_over }
+        ensures accounted { AccountsForAll self.old self.new [] no_reader }
     {
         let waiting = self.len(reader);
         if waiting > 0 {

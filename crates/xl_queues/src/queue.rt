@@ -68,7 +68,8 @@ impl<T: Drop, const N: usize> Queue<T, N> {
 
     /// Counts the item as lost, if there is one.
     fn count(&mut self, dropped: Option<T>)
-        ensures { self.new ≡ record self.old { lost = if is_some dropped then one_more self.old.lost else self.old.lost } }
+        ensures items { self.new.items ≡ self.old.items }
+        ensures lost { self.new.lost ≡ (if is_some dropped then one_more self.old.lost else self.old.lost) }
     {
         if dropped.is_some() {
             self.lost = self.lost.saturating_add(1);

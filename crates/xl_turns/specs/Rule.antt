@@ -1,6 +1,6 @@
--- The rule of the lock's table, in four parts. Source: the ticket lock (Mellor-Crummey and Scott, 1991); the parts on journal,
--- places and shares are own. Word 0 counts the drawn tickets, word 1 is the ticket that is served, and the one slot has the object
--- with its journal. The rule holds between any two steps of any threads.
+-- The rule of the lock's table, in four parts. Source: the ticket lock (Mellor-Crummey and Scott, 1991); the parts on
+-- journal, places and shares are own. Word 0 counts the drawn tickets, word 1 is the ticket that is served, and the
+-- one slot has the object with its journal. The rule holds between any two steps of any threads.
 use Rattle.std.specs.Prelude.{◌≡◌, ℕ, ◌+◌, ◌<◌, ◌≤◌, ◌⊎◌, List, [], ◌∷◌, length, Option, Some}
 use Rattle.std.specs.List.{sum_by}
 use mathlib.Core.Option.{some}

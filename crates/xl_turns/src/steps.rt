@@ -42,8 +42,9 @@ pub(crate) fn draw<O, E, P: History<O, E>, R: Wait>(
     unreachable!()
 }
 
-/// Waits until the ticket is served. While another one is, it sleeps until that word changes, and where it changes before
-/// the sleep, it doesn't sleep. No more turns end in between than threads wait, so the word's lower half tells a change.
+/// Waits until the ticket is served. While another one is, it sleeps until that word changes, and where it changes
+/// before the sleep, it doesn't sleep. No more turns end in between than threads wait, so the word's lower half tells
+/// a change.
 pub(crate) fn wait_for<O, E, P: History<O, E>, R: Wait>(
     rt: &R,
     top: &Top<O, E, P>,
@@ -114,9 +115,9 @@ pub(crate) fn put<O: Drop, E: Drop, P: History<O, E>>(
 
 /// Ends the turn, and wakes the threads that sleep until theirs.
 ///
-/// Who sleeps drew its ticket first, then found another one served. Where that was before this turn's end, the look at the
-/// drawn tickets after it finds the sleeper's ticket among them. So no sleeper is left out, and no thread is woken where
-/// none waits.
+/// Who sleeps drew its ticket first, then found another one served. Where that was before this turn's end, the look
+/// at the drawn tickets after it finds the sleeper's ticket among them. So no sleeper is left out, and no thread is
+/// woken where none waits.
 pub(crate) fn leave<O, E, P: History<O, E>>(top: &Top<O, E, P>, seat: &mut Place<O, E>)
     requires seat { IsAt top.now seat.old }
     requires limit { top.now.key.limit ≤ 2 ^ 62 }

@@ -18,7 +18,10 @@ impl Model for Saves {
 
     ghost Value = { SaveList };
 
-    ghost view = { λ s. record { told = if s.whole then Some s.seqs.items else None; room = vec_capacity s.seqs - vec_len s.seqs } };
+    ghost view = { λ s. record {
+      told = if s.whole then Some s.seqs.items else None;
+      room = vec_capacity s.seqs - vec_len s.seqs;
+    } };
 }
 
 impl Saves {

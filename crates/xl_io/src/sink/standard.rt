@@ -1,9 +1,10 @@
-ghost use Rattle.std.specs.Prelude.{◌≡◌, None};
+ghost use Rattle.std.specs.Prelude.{◌≡◌, ◌≤◌, None, IfSome, length};
 
 use crate::{Sink, Wrote};
-use std::io::Write;
+use std::io::{ErrorKind, Write};
 
-/// A sink over any writer. What it holds isn't told. A write that takes no byte is a fault.
+/// A sink over any writer. What it holds isn't told. A write that is interrupted is made again, and one that takes no
+/// byte is a fault.
 #[derive(Drop)]
 pub struct StdSink<W> {
     writer: W,
@@ -24,12 +25,27 @@ impl<W: Write> Sink for StdSink<W> {
     ghost faults = { λ s. s.faults };
 
     fn write(&mut self, piece: &[u8]) -> Wrote {
-        match self.writer.write(piece) {
-            Ok(count) if count > 0 => Wrote::Took(count),
+        match write_uninterrupted(&mut self.writer, piece) {
+            Some(count) if count > 0 => Wrote::Took(count),
             _ => {
                 self.faults = self.faults.saturating_add(1);
                 Wrote::Failed
             }
         }
     }
+}
+
+/// Writes again after each write that was interrupted, and answers how many bytes were taken, or None where the
+/// writer failed.
+fn write_uninterrupted<W: Write>(writer: &mut W, piece: &[u8]) -> Option<usize>
+    ensures { IfSome result (λ count. count ≤ length piece.now) }
+{
+    for _ in 0..u64::MAX {
+        match writer.write(piece) {
+            Ok(count) => return Some(count),
+            Err(error) if error.kind() == ErrorKind::Interrupted => {}
+            Err(_) => return None,
+        }
+    }
+    None
 }

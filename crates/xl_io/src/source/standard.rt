@@ -1,10 +1,10 @@
-ghost use Rattle.std.specs.Prelude.{◌≡◌, None};
+ghost use Rattle.std.specs.Prelude.{◌≡◌, ◌≤◌, None, IfSome, length};
 
 use crate::{Piece, Source};
-use std::io::Read;
+use std::io::{ErrorKind, Read};
 
-/// A source over any reader. A read that gives no byte is the end. What it has left isn't told, so its end comes
-/// wherever the reader says so.
+/// A source over any reader. A read that is interrupted is made again, and one that gives no byte is the end. What it
+/// has left isn't told, so its end comes wherever the reader says so.
 #[derive(Drop)]
 pub struct StdSource<R> {
     reader: R,
@@ -25,13 +25,27 @@ impl<R: Read> Source for StdSource<R> {
     ghost faults = { λ s. s.faults };
 
     fn read(&mut self, room: &mut [u8]) -> Piece {
-        match self.reader.read(room) {
-            Ok(0) => Piece::End,
-            Ok(count) => Piece::Got(count),
-            Err(_) => {
+        match read_uninterrupted(&mut self.reader, room) {
+            Some(0) => Piece::End,
+            Some(count) => Piece::Got(count),
+            None => {
                 self.faults = self.faults.saturating_add(1);
                 Piece::Failed
             }
         }
     }
+}
+
+/// Reads again after each read that was interrupted, and answers how many bytes came, or None where the reader failed.
+fn read_uninterrupted<R: Read>(reader: &mut R, room: &mut [u8]) -> Option<usize>
+    ensures { IfSome result (λ count. count ≤ length room.new) }
+{
+    for _ in 0..u64::MAX {
+        match reader.read(room) {
+            Ok(count) => return Some(count),
+            Err(error) if error.kind() == ErrorKind::Interrupted => {}
+            Err(_) => return None,
+        }
+    }
+    None
 }

@@ -19,8 +19,8 @@ use std::mem;
 use std::sync::Wait;
 
 impl<O: Drop, E: Drop, P: History<O, E>> TicketLock<O, E, P> {
-    /// A lock over the object, which gives out so many tickets in all, 1 to 2^62, and its first pass. For want of memory it
-    /// hands the object back.
+    /// A lock over the object, which gives out so many tickets in all, 1 to 2^62, and its first pass. For want of
+    /// memory it hands the object back.
     pub fn open(
         alloc: Global,
         object: O,
@@ -39,8 +39,8 @@ impl<O: Drop, E: Drop, P: History<O, E>> TicketLock<O, E, P> {
         Ok((TicketLock { board, limit }, pass))
     }
 
-    /// Draws a ticket, waits until it is served, and hands the object out. Where as many tickets were drawn as may be, it is
-    /// `Full`, and the pass only knows that from then on. No other call of the lock waits.
+    /// Draws a ticket, waits until it is served, and hands the object out. Where as many tickets were drawn as may
+    /// be, it is `Full`, and the pass only knows that from then on. No other call of the lock waits.
     pub fn enter<R: Wait>(&self, rt: &R, pass: &mut Pass<E>) -> Result<Turn<O, E>, Full>
         requires pass { IsPassOf self.now pass.old }
 
@@ -78,8 +78,8 @@ impl<O: Drop, E: Drop, P: History<O, E>> TicketLock<O, E, P> {
         }
     }
 
-    /// Ends the turn. The page's one entry, whose memory was taken before the turn, stands behind all others from now on,
-    /// and the object is what the next turn finds.
+    /// Ends the turn. The page's one entry, whose memory was taken before the turn, stands behind all others from now
+    /// on, and the object is what the next turn finds.
     pub fn finish(&self, pass: &mut Pass<E>, turn: Turn<O, E>, page: LinkedList<E>)
         requires turn { HasTurn self.now pass.old turn }
         // the entry leads from the object that the turn found to the one that it leaves
@@ -100,8 +100,8 @@ impl<O: Drop, E: Drop, P: History<O, E>> TicketLock<O, E, P> {
         pass.badge = seat.into_badge();
     }
 
-    /// The object and its journal, from the last pass. Each drawn ticket has its entry there: where the pass knows that the
-    /// limit was drawn, the journal has as many entries.
+    /// The object and its journal, from the last pass. Each drawn ticket has its entry there: where the pass knows
+    /// that the limit was drawn, the journal has as many entries.
     pub fn close(self, pass: Pass<E>) -> Held<O, E>
         requires pass { IsPassOf self pass }
         requires whole { (known pass).share ≡ 2 ^ 126 }

@@ -5,6 +5,7 @@ use Rattle.xl_queues.specs.declared.broadcast.Reader.{Reader}
 use Rattle.xl_queues.specs.declared.broadcast.Broadcast.TheInside.{Inside}
 use Rattle.xl_queues.specs.Broadcasts.{waiting_for, KeepsUp, counted_anew}
 use Rattle.xl_queues.proofs.Broadcasting.{all_anew, all_up_anew, push_waits, push_keeps}
+use Rattle.xl_queues.proofs.AllAccounting.{all_push}
 use Rattle.xl_queues.proofs.broadcast.Broadcast.push.Goals as goal
 use Rattle.xl_queues.proofs.broadcast.Broadcast.push.Goals.{then-self, else-self}
 
@@ -58,8 +59,7 @@ returns g c =
           (as_it_was n old.items old.pushed old.readers c.self.invariant.2)
     ] in
     let few : length new.items.items ≤ n = omega (arith, ap (λ (b : Buffer _). length b.items) counted.items, c.self.invariant.1) in
-    record {
-      pushed = push_waits n new.items.items c.push_back.new.self.items new.pushed new.readers c.args.self.now c.args.item
-          (ap (λ (b : Buffer _). b.items) c.push_back.ensures.items ∙ ap (λ (k : ℕ). keep_last k (new.items.items ++ c.args.item ∷ [])) (ap (λ (b : Buffer _). b.capacity) counted.items ∙ c.self.invariant.0))
-          few counted.up (counted.waits ∙ c.self.view_is);
-    }
+    let pushed = push_waits n new.items.items c.push_back.new.self.items new.pushed new.readers c.args.self.now c.args.item
+    (ap (λ (b : Buffer _). b.items) c.push_back.ensures.items ∙ ap (λ (k : ℕ). keep_last k (new.items.items ++ c.args.item ∷ [])) (ap (λ (b : Buffer _). b.capacity) counted.items ∙ c.self.invariant.0))
+    few counted.up (counted.waits ∙ c.self.view_is) in
+    record { pushed = pushed; accounted = all_push n c.args.self.now _ c.args.item pushed }

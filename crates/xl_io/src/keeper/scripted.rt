@@ -8,65 +8,6 @@ use crate::{Failed, Keeper};
 use std::alloc::Global;
 use xl_base::{OutOfMemory, Seq};
 
-/// A keeper in memory that never fails: its count of faults is 0. It tells its saves while there is room for them.
-#[derive(Drop)]
-pub struct PlainKeeper {
-    seq: Seq,
-    saves: Saves,
-}
-
-impl PlainKeeper {
-    ghost use Rattle.xl_io.specs.Memory.{plain_saves};
-
-    /// A keeper that never saved, with room to tell so many saves.
-    pub fn new(alloc: Global, room: usize) -> Result<Self, OutOfMemory>
-        ensures held { IfOk result (λ keeper. ⟦<PlainKeeper as Keeper>⟧.held keeper ≡ Some (holding 0)) }
-        ensures saves { IfOk result (λ keeper. plain_saves keeper ≡ no_saves room) }
-    {
-        Ok(PlainKeeper {
-            seq: 0,
-            saves: Saves::with_room(alloc, room)?,
-        })
-    }
-
-    /// All numbers that were asked to be saved, where they are told.
-    pub fn saves(&self) -> Option<&[Seq]>
-        ensures { option_map (λ seqs. seqs.now) result ≡ ⟦<PlainKeeper as Keeper>⟧.saves self.now }
-    {
-        self.saves.told()
-    }
-}
-
-impl Keeper for PlainKeeper {
-    ghost use Rattle.std.specs.Prelude.{IsOk};
-    ghost use Rattle.xl_io.specs.Memory.{plain_held, plain_saves};
-    ghost use Rattle.xl_io.specs.Saves.{with_save};
-
-    ghost held = { plain_held };
-
-    ghost saves = { λ keeper. (plain_saves keeper).told };
-
-    ghost faults = { λ _. 0 };
-
-    fn load(&mut self) -> Result<Seq, Failed> {
-        Ok(self.seq)
-    }
-
-    fn save(&mut self, seq: Seq) -> Result<(), Failed>
-        ensures ok { IsOk result }
-        ensures held { plain_held self.new ≡ Some (holding seq) }
-        ensures list { plain_saves self.new ≡ with_save (plain_saves self.old) seq }
-    {
-        self.saves.push(seq);
-        self.seq = seq;
-        Ok(())
-    }
-
-    fn faults(&self) -> u64 {
-        0
-    }
-}
-
 /// A save that failed: the number that was asked, and whether it was written all the same.
 #[derive(Clone, Copy, Debug, PartialEq, Eq)]
 struct FailedSave {
@@ -90,8 +31,8 @@ impl MemKeeper {
 
     /// A keeper that never saved, with room to tell so many saves.
     ///
-    /// The calls whose numbers, from 1, are listed as failing fail. A save that fails leaves the number in force for the
-    /// next load, or the one that was asked if it is listed as written too.
+    /// The calls whose numbers, from 1, are listed as failing fail. A save that fails leaves the number in force for
+    /// the next load, or the one that was asked if it is listed as written too.
     pub fn new(
         alloc: Global,
         room: usize,
@@ -141,20 +82,21 @@ impl MemKeeper {
 }
 
 impl Keeper for MemKeeper {
-    ghost use Rattle.std.specs.Prelude.{◌↔◌, ◌||◌, is_ok, IfSome, IsErr, IsTrue, OnErr, if◌then◌else◌};
+    ghost use Rattle.std.specs.Prelude.{◌↔◌, is_ok, IfSome, IsErr, IsTrue, OnErr};
     ghost use Rattle.xl_base.specs.Faults.{Rose};
-    ghost use Rattle.xl_io.specs.Keepers.{after_save, AddsSave, MayHold};
+    ghost use Rattle.xl_io.specs.Keepers.{MayHold};
     ghost use Rattle.xl_io.specs.Memory.{
       fault_script,
-      in_force,
+      held_after,
       keeper_faults,
       list_of_saves,
+      next_after,
       next_load,
       numbers_held,
       written_script,
     };
     ghost use Rattle.xl_io.specs.Saves.{with_save};
-    ghost use Rattle.xl_io.specs.Scripts.{called, is_listed, next_fails};
+    ghost use Rattle.xl_io.specs.Scripts.{called, next_fails};
 
     ghost held = { numbers_held };
 
@@ -164,7 +106,7 @@ impl Keeper for MemKeeper {
 
     fn load(&mut self) -> Result<Seq, Failed>
         ensures loaded { IfOk result (λ seq. IfSome (numbers_held self.old) (λ held. MayHold held seq)) }
-        ensures alone { IfOk result (λ seq. numbers_held self.new ≡ option_map (λ _. holding seq) (numbers_held self.old)) }
+        ensures alone { IfOk result (λ seq. numbers_held self.new ≡ Some (holding seq)) }
         ensures left { OnErr result (numbers_held self.new ≡ numbers_held self.old) }
         ensures later { keeper_faults self.old ≤ keeper_faults self.new }
         ensures failed { OnErr result (Rose (keeper_faults self.old) (keeper_faults self.new)) }
@@ -186,12 +128,12 @@ impl Keeper for MemKeeper {
     }
 
     fn save(&mut self, seq: Seq) -> Result<(), Failed>
-        ensures held { numbers_held self.new ≡ option_map (λ held. after_save held (Some seq) (is_ok result)) (numbers_held self.old) }
+        ensures held { numbers_held self.new ≡ held_after self.old seq (is_ok result) }
         ensures later { keeper_faults self.old ≤ keeper_faults self.new }
         ensures failed { OnErr result (Rose (keeper_faults self.old) (keeper_faults self.new)) }
 
         // What the script makes of it.
-        ensures next { next_load self.new ≡ (if is_ok result || is_listed (called (written_script self.old)) then seq else in_force self.old) }
+        ensures next { next_load self.new ≡ next_after self.old seq (is_ok result) }
         ensures list { list_of_saves self.new ≡ with_save (list_of_saves self.old) seq }
         ensures failing { fault_script self.new ≡ called (fault_script self.old) }
         ensures written { written_script self.new ≡ called (written_script self.old) }
