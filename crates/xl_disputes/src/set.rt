@@ -9,7 +9,8 @@ use xl_base::{OutOfMemory, SetId, TxId, set_id};
 /// A set has at most so many ids.
 pub(crate) const SET_IDS: usize = 256;
 
-/// A set of transactions and its id, which is computed once, when the set is taken. Its room is taken when it is opened.
+/// A set of transactions and its id, which is computed once, when the set is taken. Its room is taken when it is
+/// opened.
 #[derive(Debug, Drop)]
 pub(crate) struct Set {
     ids: Vec<TxId>,
