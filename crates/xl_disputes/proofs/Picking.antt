@@ -10,8 +10,8 @@ use Rattle.xl_base.specs.declared.ids.SetId.{SetId}
 use Rattle.xl_disputes.specs.declared.rows.Row.{Row}
 use Rattle.xl_disputes.specs.Disputes.{votes}
 use Rattle.xl_disputes.specs.Rising.{rising, lowest}
-use Rattle.xl_disputes.specs.Votes.{next_vote, threshold}
-use Rattle.xl_disputes.specs.Next.{next_set}
+use Rattle.xl_disputes.specs.Votes.{next_vote}
+use Rattle.xl_disputes.specs.Next.{winners}
 use Rattle.xl_disputes.specs.Rows.{ids_of, tally_of, IsIndex}
 use Rattle.xl_disputes.specs.Holdings.{Holding, ids_in, total, IsShared}
 use Rattle.xl_disputes.specs.Standings.{voters, votes_by, wins, next_of, known_of, IsKept}
@@ -115,8 +115,8 @@ flat_sets (h ∷ hs) = step h.set (flat_sets hs)
     step None more = more
     step (Some s) more = ap (λ ids. s ++ ids) more
 
-pub next_is : (hs : List Holding) (positions : List (Option SetId)) (percent : ℕ) (proposing : Bool) → IsKept hs positions → length hs ≡ 65 →
-    next_of hs (threshold percent) proposing ≡ next_set (known_of hs positions) percent proposing
-next_is hs positions percent proposing kept count =
-    ap (λ (v : TxId → Bool). lowest 256 (filter v (flat_map ids_in hs))) (fun_ext (λ tx. ap (next_vote (threshold percent) proposing) (votes_are hs positions kept count tx)))
-    ∙ ap (λ ids. lowest 256 (filter (λ tx. next_vote (threshold percent) proposing (votes (known_of hs positions) tx)) ids)) (flat_sets hs ∙ ap (flat_map (λ set. set)) (counted_are hs positions kept.own))
+pub next_is : (hs : List Holding) (positions : List (Option SetId)) (needed : ℕ) (proposing : Bool) → IsKept hs positions → length hs ≡ 65 →
+    next_of hs needed proposing ≡ winners (known_of hs positions) needed proposing
+next_is hs positions needed proposing kept count =
+    ap (λ (v : TxId → Bool). lowest 256 (filter v (flat_map ids_in hs))) (fun_ext (λ tx. ap (next_vote needed proposing) (votes_are hs positions kept count tx)))
+    ∙ ap (λ ids. lowest 256 (filter (λ tx. next_vote needed proposing (votes (known_of hs positions) tx)) ids)) (flat_sets hs ∙ ap (flat_map (λ set. set)) (counted_are hs positions kept.own))

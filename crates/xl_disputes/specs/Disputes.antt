@@ -37,7 +37,10 @@ without_positions k = record k { positions = replicate 64 None }
 
 -- neither position nor set
 abbrev pub without_member : Known → ℕ → Known
-without_member k member = record k { held = slice_set k.held (member - 1) None; positions = slice_set k.positions (member - 1) None }
+without_member k member = record k {
+  held = slice_set k.held (member - 1) None;
+  positions = slice_set k.positions (member - 1) None;
+}
 
 -- the held sets by rising member
 abbrev pub held_sets : List (Option (List TxId)) → List (List TxId)

@@ -1,4 +1,5 @@
--- Rows in a pool, and the order of their names. Source: what the code of this crate keeps. No public clause cites this file.
+-- Rows in a pool, and the order of their names. Source: what the code of this crate keeps. No public clause cites this
+-- file.
 use Rattle.std.specs.Prelude.{◌≡◌, ℕ, ◌≤◌, List, [], length, map, All, Some, unwrap_or}
 use Rattle.xl_pool.specs.Pools.{Slot, get, live}
 use Rattle.xl_pool.specs.declared.name.Name.{Name}

@@ -36,7 +36,9 @@ with_exchange tx from to [] = put tx (exchanged from to no_tally) []
 with_exchange tx from to (row ∷ rows) =
     if is_below row.id tx
     then row ∷ with_exchange tx from to rows
-    else (if is_below tx row.id then put tx (exchanged from to no_tally) (row ∷ rows) else put tx (exchanged from to row.tally) rows)
+    else (if is_below tx row.id
+    then put tx (exchanged from to no_tally) (row ∷ rows)
+    else put tx (exchanged from to row.tally) rows)
 
 -- whether an id is below the first of some, if there is one
 abbrev pub goes_before : TxId → List TxId → Bool
@@ -68,5 +70,6 @@ pub record IsExchangeable (rows : List Row) (ids : List TxId) (from to : Tally) 
 -- it was
 pub record Exchanges (old new : List Row) (ids : List TxId) (from to : Tally) : Type 0 where
   pub index : IsIndex new
-  pub each : (tx : TxId) → tally_of new tx ≡ (if has ids tx then exchanged from to (tally_of old tx) else tally_of old tx)
+  pub each : (tx : TxId) →
+      tally_of new tx ≡ (if has ids tx then exchanged from to (tally_of old tx) else tally_of old tx)
   pub few : length new ≤ length old + length ids

@@ -53,7 +53,8 @@ with_row n needed proposing row ids = if wins n needed proposing row then take 2
 
 -- of the holdings' ids that pass the 256 lowest
 abbrev pub next_of : List Holding → ℕ → Bool → List TxId
-next_of hs needed proposing = lowest 256 (filter (λ tx. next_vote needed proposing (votes_by (voters hs) (total hs tx))) (flat_map ids_in hs))
+next_of hs needed proposing =
+    lowest 256 (filter (λ tx. next_vote needed proposing (votes_by (voters hs) (total hs tx))) (flat_map ids_in hs))
 
 -- our own place's set
 abbrev pub own_in : List Holding → Option (List TxId)

@@ -10,7 +10,7 @@ ghost use Rattle.xl_disputes.specs.Disputes.{
   without_member,
   votes_of,
 };
-ghost use Rattle.xl_disputes.specs.Next.{next_set};
+ghost use Rattle.xl_disputes.specs.Next.{next_set, winners};
 ghost use Rattle.xl_disputes.specs.Standings.{weighed, standings};
 
 use crate::set::SET_IDS;
@@ -164,15 +164,23 @@ impl Disputes {
         }
     }
 
-    /// Decides each transaction of the counted sets by its votes, once `percent` percent of the previous round's time have
-    /// passed, and takes those that win as our own set, the 256 lowest where there are more. All votes are decided on the
-    /// same counts. Tells whether our set changed.
+    /// Decides each transaction of the counted sets by its votes, once `percent` percent of the previous round's time
+    /// have passed, and takes those that win as our own set, the 256 lowest where there are more. All votes are decided
+    /// on the same counts. Tells whether our set changed.
     pub fn update(&mut self, percent: u64, proposing: bool) -> bool
         ensures changed { IsTrue result ↔ (next_set self.old percent proposing ≢ self.old.own) }
         ensures same { IsFalse result ↔ (next_set self.old percent proposing ≡ self.old.own) }
         ensures taken { self.new ≡ with_own self.old (next_set self.old percent proposing) }
     {
-        let needed = threshold(percent);
+        self.update_above(threshold(percent), proposing)
+    }
+
+    /// The same, where the threshold is known: a yes vote must weigh more than `needed` percent.
+    pub fn update_above(&mut self, needed: u32, proposing: bool) -> bool
+        ensures changed { IsTrue result ↔ (winners self.old needed proposing ≢ self.old.own) }
+        ensures same { IsFalse result ↔ (winners self.old needed proposing ≡ self.old.own) }
+        ensures taken { self.new ≡ with_own self.old (winners self.old needed proposing) }
+    {
         self.shares.pick(&mut self.next, needed, proposing);
         let changed = self.next.as_slice() != self.shares.own().ids();
         if changed {

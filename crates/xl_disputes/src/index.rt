@@ -1,6 +1,31 @@
-ghost use Rattle.std.specs.Prelude.{◌≡◌, ◌<◌, ◌≤◌, [], ◌∷◌, ◌++◌, length, take, filter, slice_index_or, vec_len, vec_capacity, IfOk, MatchResult};
+ghost use Rattle.std.specs.Prelude.{
+  ◌≡◌,
+  ◌<◌,
+  ◌≤◌,
+  [],
+  ◌∷◌,
+  ◌++◌,
+  length,
+  take,
+  filter,
+  slice_index_or,
+  vec_len,
+  vec_capacity,
+  IfOk,
+  MatchResult,
+};
 ghost use Rattle.xl_disputes.specs.Tallies.{held_by, exchanged, IsWithin, IsFitting};
-ghost use Rattle.xl_disputes.specs.Rows.{ids_of, tally_of, with_exchange, place_of, IsIndex, IsThere, IsAbsent, IsExchangeable, Exchanges};
+ghost use Rattle.xl_disputes.specs.Rows.{
+  ids_of,
+  tally_of,
+  with_exchange,
+  place_of,
+  IsIndex,
+  IsThere,
+  IsAbsent,
+  IsExchangeable,
+  Exchanges,
+};
 ghost use Rattle.xl_disputes.specs.Standings.{wins, with_row};
 ghost use Rattle.xl_base.specs.Sets.{is_below as is_below_of, IsRising};
 

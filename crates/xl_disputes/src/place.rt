@@ -9,7 +9,8 @@ use std::alloc::Global;
 use std::marker::Model;
 use xl_base::{OutOfMemory, SetId, TxId};
 
-/// A place for our own set or a member's, with how many positions the set stands for. Its room is taken when it is opened.
+/// A place for our own set or a member's, with how many positions the set stands for. Its room is taken when it is
+/// opened.
 #[derive(Debug, Drop)]
 pub(crate) struct Place {
     set: Set,

@@ -9,7 +9,8 @@ use xl_base::{MOST_IDS, OutOfMemory, SetId, TxId, set_id};
 /// A set has at most so many ids.
 pub(crate) const SET_IDS: usize = MOST_IDS;
 
-/// A set of transactions and its id, which is computed once, when the set is taken. Its room is taken when it is opened.
+/// A set of transactions and its id, which is computed once, when the set is taken. Its room is taken when it is
+/// opened.
 #[derive(Debug, Drop)]
 pub(crate) struct Set {
     ids: Vec<TxId>,

@@ -1,10 +1,46 @@
-ghost use Rattle.std.specs.Prelude.{◌≡◌, ◌-◌, ◌^◌, ◌<◌, ◌≤◌, [], ◌∷◌, map, not, length, Some, None, slice_index_or, All, IfOk, vec_capacity};
+ghost use Rattle.std.specs.Prelude.{
+  ◌≡◌,
+  ◌-◌,
+  ◌^◌,
+  ◌<◌,
+  ◌≤◌,
+  [],
+  ◌∷◌,
+  map,
+  not,
+  length,
+  Some,
+  None,
+  slice_index_or,
+  All,
+  IfOk,
+  vec_capacity,
+};
 ghost use Rattle.xl_base.specs.Sets.{set_id_of, IsSet};
 ghost use Rattle.std.specs.List.{prefix_len};
-ghost use Rattle.xl_disputes.specs.Standings.{names, stand as stand_of, standings as standings_of, weighed, voters as voters_of, with_one, own_in, own_ids, next_of};
+ghost use Rattle.xl_disputes.specs.Standings.{
+  names,
+  stand as stand_of,
+  standings as standings_of,
+  weighed,
+  voters as voters_of,
+  with_one,
+  own_in,
+  own_ids,
+  next_of,
+};
 ghost use Rattle.xl_disputes.specs.Disputes.{has};
 ghost use Rattle.xl_disputes.specs.Tallies.{holders};
-ghost use Rattle.xl_disputes.specs.Holdings.{Holding, member_bits, no_holdings, ids_in, total, changed, with_set, with_weight};
+ghost use Rattle.xl_disputes.specs.Holdings.{
+  Holding,
+  member_bits,
+  no_holdings,
+  ids_in,
+  total,
+  changed,
+  with_set,
+  with_weight,
+};
 
 use crate::index::Index;
 use crate::place::Place;

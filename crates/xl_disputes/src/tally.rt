@@ -6,8 +6,8 @@ use crate::Votes;
 
 /// Which sets have an id, and how many positions stand for one of them.
 ///
-/// Each number is the sum of what the sets that have the id give: a member's set gives the member's own bit, its weight and 0,
-/// and our own gives 0, its weight and 1. So the bits of `members` are the members whose set has the id.
+/// Each number is the sum of what the sets that have the id give: a member's set gives the member's own bit, its weight
+/// and 0, and our own gives 0, its weight and 1. So the bits of `members` are the members whose set has the id.
 #[derive(Clone, Copy, Debug)]
 pub(crate) struct Tally {
     pub(crate) members: u64,

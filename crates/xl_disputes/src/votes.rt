@@ -1,7 +1,8 @@
 ghost use Rattle.std.specs.Prelude.{◌≡◌};
 ghost use Rattle.xl_disputes.specs.Votes.{threshold as threshold_of, weight as weight_of, next_vote as next_vote_of};
 
-/// How the members' positions vote on a transaction, and whether our own set has it. Our own position is in neither count.
+/// How the members' positions vote on a transaction, and whether our own set has it. Our own position is in neither
+/// count.
 #[derive(Clone, Copy, Debug, PartialEq, Eq)]
 pub struct Votes {
     /// The members whose position's set is held and has it.
@@ -24,7 +25,8 @@ pub fn threshold(percent: u64) -> u32
 }
 
 impl Votes {
-    /// Our next vote, where a yes vote must weigh more than `needed` percent. It stays where every other vote is ours already.
+    /// Our next vote, where a yes vote must weigh more than `needed` percent. It stays where every other vote is ours
+    /// already.
     pub(crate) fn next(self, needed: u32, proposing: bool) -> bool
         ensures { result ≡ next_vote_of needed proposing self }
     {

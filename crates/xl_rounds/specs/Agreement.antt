@@ -1,12 +1,13 @@
--- When a round comes to consensus. Source: classical rippled's Consensus; the numbers and the order of the lines are this
--- profile's.
+-- When a round comes to consensus. Source: classical rippled's Consensus; the numbers and the order of the lines are
+-- this profile's.
 use Rattle.std.specs.Prelude.{◌+◌, ◌*◌, ◌/◌, ◌==◌, ◌&&◌, nat_lt, nat_le, Bool, [], ◌∷◌}
 use Rattle.xl_rounds.specs.declared.agreement.Tally.{Tally}
 use Rattle.xl_rounds.specs.declared.agreement.Consensus.{Consensus}
 use Rattle.xl_rounds.specs.declared.agreement.Consensus.TheVariants.{No, Yes, MovedOn}
 use Rattle.xl_rounds.specs.Lines.{first_line}
 
--- fewer than three quarters of the previous round's proposers have a position, and the round hasn't taken longer than that one
+-- fewer than three quarters of the previous round's proposers have a position, and the round hasn't taken longer than
+-- that one
 abbrev pub is_short : Tally → Bool
 is_short t = nat_lt t.positions (t.previous_proposers * 3 / 4) && nat_lt t.round_ms (t.previous_ms + 1950)
 

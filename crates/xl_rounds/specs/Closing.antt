@@ -1,4 +1,5 @@
--- When the open phase closes. Source: classical rippled's Consensus; the numbers and the order of the lines are this profile's.
+-- When the open phase closes. Source: classical rippled's Consensus; the numbers and the order of the lines are this
+-- profile's.
 use Rattle.std.specs.Prelude.{◌+◌, ◌/◌, ◌==◌, ◌||◌, nat_lt, nat_le, Bool, true, false, [], ◌∷◌}
 use Rattle.xl_rounds.specs.declared.closing.Waiting.{Waiting}
 use Rattle.xl_rounds.specs.Lines.{first_line}

@@ -44,7 +44,8 @@ quiet r = record { round = record r { ready = None }; pulse = record { kind = No
 
 -- where we propose, our position is sent, with our set before it or without
 abbrev pub said_of : Round → Bool → Option Said
-said_of r with_set = if is_proposing r.setting.mode then Some (record { proposal = our_position r; with_set = with_set }) else None
+said_of r with_set =
+    if is_proposing r.setting.mode then Some (record { proposal = our_position r; with_set = with_set }) else None
 
 -- ---- open
 
@@ -79,6 +80,10 @@ open_beat now validated r = if should_close (waiting r now validated) then close
 abbrev pub percent_of : Former → ℕ → ℕ
 percent_of former round_ms = round_ms * 100 / max former.round_ms 5000
 
+-- the threshold of that percent
+abbrev pub needed : Round → ℕ → ℕ
+needed r round_ms = threshold (percent_of r.former round_ms)
+
 -- whether two sets are the same
 abbrev pub is_same_set : List TxId → List TxId → Bool
 is_same_set a b = pointwise (λ (x y : TxId). bytes_eq x.0 y.0) a b
@@ -89,29 +94,39 @@ kept r second = without_old second r.positions
 
 -- the second line: the votes decide our next set, and the close times the choice among them
 abbrev pub next_own : Round → ℕ → ℕ → List TxId
-next_own r round_ms second = next_set (percent_of r.former round_ms) (is_proposing r.setting.mode) (kept r second)
+next_own r round_ms second = next_set (needed r round_ms) (is_proposing r.setting.mode) (kept r second)
 
 abbrev pub voted : Round → ℕ → ℕ → Round
 voted r round_ms second = record r { positions = with_own (next_own r round_ms second) (kept r second) }
 
 abbrev pub chosen : Round → ℕ → ℕ → Choice
 chosen r round_ms second =
-    choose_close (close_times (kept r second)) r.stance.close (is_proposing r.setting.mode) (threshold (percent_of r.former round_ms)) r.setting.resolution
+    choose_close (close_times (kept r second)) r.stance.close (is_proposing r.setting.mode)
+    (needed r round_ms) r.setting.resolution
 
 abbrev pub decision : Round → ℕ → ℕ → Decision
-decision r round_ms second = record { changed = not (is_same_set (next_own r round_ms second) r.positions.own); choice = chosen r round_ms second }
+decision r round_ms second = record {
+  changed = not (is_same_set (next_own r round_ms second) r.positions.own);
+  choice = chosen r round_ms second;
+}
 
 -- the third line: our position is renewed where our set or the close time changed, or once twelve seconds have passed
 abbrev pub is_renewed : Round → ℕ → Decision → Bool
 is_renewed r second d =
-    d.changed || not (d.choice.close == round_close r.stance.close r.setting.resolution) || nat_le r.stance.time (second - 12)
+    d.changed || not (d.choice.close == round_close r.stance.close r.setting.resolution)
+    || nat_le r.stance.time (second - 12)
 
 -- the greatest propose sequence but for the one that says that a member leaves
 abbrev pub last_sequence : ℕ
 last_sequence = 4294967294
 
 abbrev pub renewed : ℕ → ℕ → Stance → Stance
-renewed close second s = record { closed = s.closed; propose_sequence = min (s.propose_sequence + 1) last_sequence; close = close; time = second }
+renewed close second s = record {
+  closed = s.closed;
+  propose_sequence = min (s.propose_sequence + 1) last_sequence;
+  close = close;
+  time = second;
+}
 
 abbrev pub with_new_position : ℕ → ℕ → Round → Round
 with_new_position close second r = record r { stance = renewed close second r.stance }
@@ -120,7 +135,8 @@ abbrev pub after_third : Round → ℕ → Decision → Round
 after_third r second d = if is_renewed r second d then with_new_position d.choice.close second r else r
 
 abbrev pub said_in_third : Round → ℕ → Decision → Option Said
-said_in_third r second d = if is_renewed r second d then said_of (with_new_position d.choice.close second r) d.changed else None
+said_in_third r second d =
+    if is_renewed r second d then said_of (with_new_position d.choice.close second r) d.changed else None
 
 -- the fourth line
 abbrev pub tally : Round → ℕ → ℕ → Tally
@@ -165,7 +181,8 @@ established_by d round_ms second finished r = concluded (after_third r second d)
     (is_renewed r second d) (said_in_third r second d)
 
 abbrev pub established : ℕ → ℕ → ℕ → Round → Beat
-established round_ms second finished r = established_by (decision r round_ms second) round_ms second finished (voted r round_ms second)
+established round_ms second finished r =
+    established_by (decision r round_ms second) round_ms second finished (voted r round_ms second)
 
 abbrev pub establish_beat : ℕ → ℕ → Round → Beat
 establish_beat now finished r =

@@ -25,19 +25,23 @@ IsAgreed r = (count r.positions ≡ 0) ⊎ (voices r * 80 ≤ agreeing_voices r 
 
 -- A heartbeat that is ready, the members not having moved on, leaves a round that is agreed.
 abbrev pub ReadyIsAgreed : Type 0
-ReadyIsAgreed = (now : ℕ) (seen : Seen) (r : Round) → (heartbeat now seen r).pulse.kind ≡ Ready false → IsAgreed (heartbeat now seen r).round
+ReadyIsAgreed = (now : ℕ) (seen : Seen) (r : Round) →
+    (heartbeat now seen r).pulse.kind ≡ Ready false → IsAgreed (heartbeat now seen r).round
 
 -- A proposal leaves a member's position, or takes it away, or puts a newer one in its place.
 abbrev pub PositionsAreNewer : Type 0
 PositionsAreNewer = (ledgers : List Header) (member : ℕ) (p : Proposal) (now : ℕ) (r : Round) (kept next : Proposal) →
-    position_of r.positions member ≡ Some kept → position_of (with_proposal ledgers member p now r).positions member ≡ Some next →
+    position_of r.positions member ≡ Some kept →
+    position_of (with_proposal ledgers member p now r).positions member ≡ Some next →
     (next ≡ kept) ⊎ (kept.pseq < next.pseq)
 
 -- a member's later proposal builds on another ledger than the round's, which isn't known, or is later
 abbrev pub Waits : List Header → Round → ℕ → Type 0
-Waits ledgers r member = (p : Proposal) → later_of r member ≡ Some p → (is_ours r p ≡ false) × (is_past ledgers r.setting.previous p.prev ≡ false)
+Waits ledgers r member = (p : Proposal) → later_of r member ≡ Some p →
+    (is_ours r p ≡ false) × (is_past ledgers r.setting.previous p.prev ≡ false)
 
 -- After a start each member's does.
 abbrev pub NoneWaitsInVain : Type 0
-NoneWaitsInVain = (ledgers : List Header) (previous : ℕ) (mode : Mode) (now : ℕ) (r : Round) (member : ℕ) → 1 ≤ member → member ≤ 64 →
+NoneWaitsInVain = (ledgers : List Header) (previous : ℕ) (mode : Mode) (now : ℕ) (r : Round) (member : ℕ) →
+    1 ≤ member → member ≤ 64 →
     Waits ledgers (started ledgers previous mode now r) member

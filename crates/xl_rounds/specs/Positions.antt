@@ -1,4 +1,5 @@
--- The members' positions, the sets that members hold, and our own set. Each list has a place for each member, from 1 to 64.
+-- The members' positions, the sets that members hold, and our own set. Each list has a place for each member, from 1 to
+-- 64.
 -- Source: classical rippled's Consensus; the limits of time are this profile's.
 use Rattle.std.specs.Prelude.{ℕ, ◌-◌, nat_le, Bool, false, List, replicate, map, filter_map, count_by, slice_set, slice_index_or, Option, Some, None, is_some, option_map, if◌then◌else◌}
 use Rattle.std.specs.Str.{bytes_eq}
@@ -7,7 +8,7 @@ use Rattle.xl_base.specs.declared.ids.TxId.{TxId}
 use Rattle.xl_base.specs.declared.ids.SetId.{SetId}
 use Rattle.xl_wire.specs.declared.proposal.Proposal.{Proposal}
 use Rattle.xl_disputes.specs.Disputes.{Known}
-use Rattle.xl_disputes.specs.Next.{next_set as next_set_of}
+use Rattle.xl_disputes.specs.Next.{winners}
 
 pub record Positions : Type 0 where
   pub members : List (Option Proposal)
@@ -62,9 +63,9 @@ set_named position = option_map (λ (p : Proposal). p.set) position
 abbrev pub known_by : Positions → Known
 known_by a = record { own = a.own; held = a.held; positions = map set_named a.members }
 
--- our next set by the votes of the positions, once this percent of the previous round's time has passed
+-- our next set by the votes of the positions, where a yes vote must weigh more than needed
 abbrev pub next_set : ℕ → Bool → Positions → List TxId
-next_set percent proposing a = next_set_of (known_by a) percent proposing
+next_set needed proposing a = winners (known_by a) needed proposing
 
 -- the close times of the positions, by rising member
 abbrev pub times_of : List (Option Proposal) → List ℕ

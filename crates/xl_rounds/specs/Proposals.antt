@@ -44,7 +44,10 @@ has_left r member = slice_index_or r.left (member - 1) false
 abbrev pub answer_here : Round → ℕ → Proposal → ℕ → Result Placed RoundRefusal
 answer_here r member p now = first_line (
     -- it is no newer than the member's position
-    (is_repeated p.pseq (position_of r.positions member), Err (OldPosition (sequence_of (position_of r.positions member))))
+    (
+      is_repeated p.pseq (position_of r.positions member),
+      Err (OldPosition (sequence_of (position_of r.positions member))),
+    )
     -- the member has left
     ∷ (has_left r member, Err (Left member))
     -- it is old
@@ -66,14 +69,17 @@ answer ledgers r member p now = first_line (
 abbrev pub with_answer : Result Placed RoundRefusal → ℕ → Proposal → Round → Round
 with_answer (Ok Position) member p r = record r { positions = with_position member (Some p) r.positions }
 with_answer (Ok Later) member p r = record r { later = with_at member (Some p) r.later }
-with_answer (Ok Gone) member p r = record r { positions = with_position member None r.positions; left = with_at member true r.left }
+with_answer (Ok Gone) member p r = record r {
+  positions = with_position member None r.positions;
+  left = with_at member true r.left;
+}
 with_answer (Err why) member p r = r
 
 abbrev pub with_proposal : List Header → ℕ → Proposal → ℕ → Round → Round
 with_proposal ledgers member p now r = with_answer (answer ledgers r member p now) member p r
 
--- a member's later proposal on the round's ledger is taken out and handed to the rule; one on a ledger that is known, and not
--- later, is dropped
+-- a member's later proposal on the round's ledger is taken out and handed to the rule; one on a ledger that is known,
+-- and not later, is dropped
 abbrev pub without_later : ℕ → Round → Round
 without_later member r = record r { later = with_at member None r.later }
 
@@ -94,4 +100,5 @@ with_all_handed ledgers (suc n) now r =
 
 -- a round starts on a ledger, at a moment
 abbrev pub started : List Header → ℕ → Mode → ℕ → Round → Round
-started ledgers previous mode now r = with_all_handed ledgers 64 (now / 1000) (on_ledger (setting_on ledgers previous mode now) r)
+started ledgers previous mode now r =
+    with_all_handed ledgers 64 (now / 1000) (on_ledger (setting_on ledgers previous mode now) r)

@@ -41,7 +41,9 @@ is_old_position now (Some p) = is_old now p
 
 -- without the position at one place, where that is old
 abbrev pub without_old_at : ℕ → ℕ → Positions → Positions
-without_old_at now place a = record a { members = slice_set a.members place (unless_old now (slice_index_or a.members place None)) }
+without_old_at now place a = record a {
+  members = slice_set a.members place (unless_old now (slice_index_or a.members place None));
+}
 
 -- a round has a place for each member, and a resolution of the six
 pub record IsSound (setting : Setting) (left : List Bool) (later : List (Option Proposal)) : Type 0 where

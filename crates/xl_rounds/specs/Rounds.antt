@@ -1,6 +1,6 @@
 -- A round: what it is on, how far it has come, what the members propose in it, and what is kept for later.
--- Source: Chase and MacBrough, "Analysis of the XRP Ledger Consensus Protocol" (2018); classical rippled's Consensus. The
--- numbers and the order of the lines are this profile's.
+-- Source: Chase and MacBrough, "Analysis of the XRP Ledger Consensus Protocol" (2018); classical rippled's Consensus.
+-- The numbers and the order of the lines are this profile's.
 use Rattle.std.specs.Prelude.{ℕ, ◌/◌, Bool, true, false, List, [], replicate, Option, Some, None, if◌then◌else◌}
 use Rattle.xl_base.specs.Sets.{set_id_of}
 use Rattle.xl_base.specs.declared.ids.TxId.{TxId}
@@ -90,7 +90,8 @@ is_establish Accepted = false
 
 -- we leave where we have a position that we proposed
 abbrev pub leave : ℕ → Round → Option Proposal
-leave now r = if is_proposing r.setting.mode then (if is_establish r.phase then Some (bow_out now r) else None) else None
+leave now r =
+    if is_proposing r.setting.mode then (if is_establish r.phase then Some (bow_out now r) else None) else None
 
 abbrev pub with_pending : TxId → Round → Round
 with_pending tx r = record r { pending = with_tx tx r.pending }

@@ -24,7 +24,7 @@ pub(crate) struct Tally {
     pub(crate) agree: u32,
     /// The positions, ours among them where we propose.
     pub(crate) total: u32,
-    /// The votes for ledgers below the previous one.
+    /// The votes for ledgers that build on the previous one, directly or not.
     pub(crate) finished: u32,
 }
 

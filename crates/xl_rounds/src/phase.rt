@@ -5,7 +5,8 @@ pub enum Mode {
     Proposing,
     /// It follows the members' positions and proposes none.
     Observing,
-    /// It has left the ledger that it was on for the one that the votes prefer, and proposes nothing until the next round.
+    /// It has left the ledger that it was on for the one that the votes prefer, and proposes nothing until the next
+    /// round.
     SwitchedLedger,
 }
 

@@ -1,4 +1,20 @@
-ghost use Rattle.std.specs.Prelude.{◌≡◌, ◌≤◌, ◌<◌, ◌+◌, not, [], length, take, map, filter_map, option_map, slice_index_or, None, Some, IfOk};
+ghost use Rattle.std.specs.Prelude.{
+  ◌≡◌,
+  ◌≤◌,
+  ◌<◌,
+  ◌+◌,
+  not,
+  [],
+  length,
+  take,
+  map,
+  filter_map,
+  option_map,
+  slice_index_or,
+  None,
+  Some,
+  IfOk,
+};
 ghost use Rattle.xl_base.specs.Sets.{set_id_of, IsSet};
 ghost use Rattle.xl_closetime.specs.Choices.{choose_close as choose_close_of};
 ghost use Rattle.xl_closetime.specs.Resolutions.{IsResolution};
@@ -209,12 +225,13 @@ impl Positions {
         self.disputes.own_id()
     }
 
-    /// Our set is the next one by the votes. Tells whether it changed.
-    pub(crate) fn update(&mut self, percent: u64, proposing: bool) -> bool
-        ensures changed { result ≡ not (is_same_set (next_set percent proposing self.old) self.old.own) }
-        ensures voted { self.new ≡ with_own (next_set percent proposing self.old) self.old }
+    /// Our set is the next one by the votes, where a yes vote must weigh more than `needed` percent. Tells whether it
+    /// changed.
+    pub(crate) fn update(&mut self, needed: u32, proposing: bool) -> bool
+        ensures changed { result ≡ not (is_same_set (next_set needed proposing self.old) self.old.own) }
+        ensures voted { self.new ≡ with_own (next_set needed proposing self.old) self.old }
     {
-        self.disputes.update(percent, proposing)
+        self.disputes.update_above(needed, proposing)
     }
 
     /// How many members have a position.

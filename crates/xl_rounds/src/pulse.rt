@@ -6,7 +6,7 @@ use xl_wire::Proposal;
 pub struct Seen {
     /// The members other than us whose current validation names the previous ledger.
     pub validated: u32,
-    /// The votes for ledgers below the previous one.
+    /// The votes for ledgers that build on the previous one, directly or not.
     pub finished: u32,
 }
 

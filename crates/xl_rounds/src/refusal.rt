@@ -3,14 +3,16 @@ ghost use Rattle.xl_rounds.specs.Codes.{code_of};
 
 use xl_base::{LedgerId, NodeNo, Secs, TxId};
 
-/// Why a round doesn't take a transaction or a proposal. Each cause is told only where no earlier one of its call holds.
+/// Why a round doesn't take a transaction or a proposal. Each cause is told only where no earlier one of its call
+/// holds.
 #[derive(Clone, Copy, Debug, PartialEq, Eq)]
 pub enum RoundRefusal {
     /// The transaction is pending.
     Pending(TxId),
     /// So many transactions are pending, as many as may be.
     PoolFull(u32),
-    /// The proposal builds on another ledger than ours, which is given, and on one that is known and not later than ours.
+    /// The proposal builds on another ledger than ours, which is given, and on one that is known and not later than
+    /// ours.
     WrongPrev(LedgerId),
     /// Its propose sequence isn't above that of the member's position, which is given.
     OldPosition(u32),

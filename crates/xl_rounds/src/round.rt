@@ -42,7 +42,8 @@ pub struct Round {
     former: Former,
     phase: Phase,
     stance: Stance,
-    /// How long the round had taken at the last heartbeat, where that was ready, and nothing was accepted or started since.
+    /// How long the round had taken at the last heartbeat, where that was ready, and nothing was accepted or started
+    /// since.
     ready: Option<Millis>,
     positions: Positions,
     /// Which members left this round, from member 1 on.
@@ -135,7 +136,8 @@ impl Round {
         self.phase
     }
 
-    /// Makes a transaction pending. Refused where it is, or where as many are as may be, in this order; the round then stays.
+    /// Makes a transaction pending. Refused where it is, or where as many are as may be, in this order; the round then
+    /// stays.
     pub fn submit(&mut self, tx: TxId) -> Result<(), RoundRefusal>
         ensures answer { result_err result ≡ submit_refusal self.old.pending tx }
         ensures taken { OnOk result (self.new ≡ with_pending tx self.old) }
@@ -161,7 +163,8 @@ impl Round {
         self.positions.hold(member, set)
     }
 
-    /// The position by which a proposing node leaves the round in the phase establish, or None. The round stays as it is.
+    /// The position by which a proposing node leaves the round in the phase establish, or None. The round stays as it
+    /// is.
     pub fn leave(&mut self, now: Millis) -> Option<Proposal>
         requires { now ≤ GREATEST_MILLIS }
         ensures answer { result ≡ leave_of now self.old }
@@ -208,7 +211,8 @@ impl Round {
         }
     }
 
-    /// Accepts what the round agreed on: the ids of our set are no longer pending, and the next round remembers this one.
+    /// Accepts what the round agreed on: the ids of our set are no longer pending, and the next round remembers this
+    /// one.
     pub fn accept(&mut self)
         requires ready { IsSome self.old.ready }
         ensures { IfSome self.old.ready (λ round_ms. self.new ≡ accepted round_ms self.old) }

@@ -1,7 +1,11 @@
 ghost use Rattle.std.specs.Prelude.{◌≡◌, ◌<◌, length};
 ghost use Rattle.xl_closetime.specs.Resolutions.{IsResolution};
 ghost use Rattle.xl_ledger.specs.Chains.{header_at};
-ghost use Rattle.xl_rounds.specs.Settings.{setting_on, resolution_on as resolution_on_header, counted_resolution as counted_resolution_of};
+ghost use Rattle.xl_rounds.specs.Settings.{
+  setting_on,
+  resolution_on as resolution_on_header,
+  counted_resolution as counted_resolution_of,
+};
 
 use crate::Mode;
 use xl_base::{LedgerId, Millis, Secs};

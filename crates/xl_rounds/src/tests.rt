@@ -163,7 +163,8 @@ fn old_positions_go(rt: HostRuntime) -> Result<(), Fail> {
         Told::Taken(Placed::Position)
     );
     assert_eq!(rt; node.kind(16_000, NOTHING), Kind::Closed);
-    // A vote for a ledger below ours says that the member has moved on. Once it has no position, there is nobody to disagree.
+    // A vote for a ledger below ours says that the member has moved on. Once it has no position, there is nobody to
+    // disagree.
     let one = Seen {
         validated: 0,
         finished: 1,

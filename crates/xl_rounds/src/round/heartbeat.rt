@@ -87,8 +87,8 @@ fn ready_after(reached: Option<Kind>, round_ms: Millis) -> Option<Millis>
 impl Round {
     /// Lets the round's phase go on at a moment, and tells what happened and what is to be sent.
     ///
-    /// An open round closes, or nothing happens. An established one may renew our position, and may come to be ready, which is
-    /// when the ledger that it agreed on is to be accepted. An accepted one waits for the next start.
+    /// An open round closes, or nothing happens. An established one may renew our position, and may come to be ready,
+    /// which is when the ledger that it agreed on is to be accepted. An accepted one waits for the next start.
     pub fn heartbeat(&mut self, now: Millis, seen: Seen) -> Pulse
         requires { now ≤ GREATEST_MILLIS }
         ensures told { result ≡ (heartbeat_of now seen self.old).pulse }
@@ -211,15 +211,15 @@ impl Round {
         ensures voted { self.new ≡ voted self.old round_ms second }
     {
         let proposing = self.setting.mode.is_proposing();
-        let percent = percent_of(self.former, round_ms);
+        let needed = threshold(percent_of(self.former, round_ms));
         self.positions.remove_old(second);
         let choice = self.positions.choose_close(
             self.stance.close,
             proposing,
-            threshold(percent),
+            needed,
             self.setting.resolution,
         );
-        let changed = self.positions.update(percent, proposing);
+        let changed = self.positions.update(needed, proposing);
         Decision { changed, choice }
     }
 

@@ -36,8 +36,8 @@ fn is_past(registry: &Registry, previous: LedgerNo, id: &LedgerId) -> bool
 }
 
 impl Round {
-    /// Starts the round on a ledger. No member has a position then, and none has left. The later proposals on this ledger are
-    /// handed to the rule, by rising member, and those on a ledger that is known and not later are dropped.
+    /// Starts the round on a ledger. No member has a position then, and none has left. The later proposals on this
+    /// ledger are handed to the rule, by rising member, and those on a ledger that is known and not later are dropped.
     pub fn start(&mut self, registry: &Registry, previous: LedgerNo, mode: Mode, now: Millis)
         requires known { previous < length registry.now.headers }
         requires moment { now ≤ GREATEST_MILLIS }
@@ -54,7 +54,8 @@ impl Round {
 
     /// Takes a member's proposal, and tells what became of it.
     ///
-    /// Refused for its ledger, as an old position, as of a member that left, or as stale, in this order; the round then stays.
+    /// Refused for its ledger, as an old position, as of a member that left, or as stale, in this order; the round then
+    /// stays.
     pub fn proposal(
         &mut self,
         registry: &Registry,

@@ -82,8 +82,8 @@ impl Node {
         Ok(Node { registry, round })
     }
 
-    /// A proposing node with two transactions pending. Members 2, 3 and 4 propose a set of the first alone, which 2 holds, at
-    /// second 1. The set's id is told too.
+    /// A proposing node with two transactions pending. Members 2, 3 and 4 propose a set of the first alone, which 2
+    /// holds, at second 1. The set's id is told too.
     pub fn with_three(alloc: Global) -> Result<(Node, SetId), Fail> {
         let mut node = Node::open(alloc, Mode::Proposing)?;
         let _ = node.submit(2);
@@ -117,8 +117,8 @@ impl Node {
         }
     }
 
-    /// What a heartbeat does and says: the propose sequence, the close time and the second of the position, and whether it
-    /// goes with the set.
+    /// What a heartbeat does and says: the propose sequence, the close time and the second of the position, and whether
+    /// it goes with the set.
     pub fn brief(&mut self, now: Millis) -> (Kind, Option<(u32, Secs, Secs, bool)>)
         requires { now ≤ GREATEST_MILLIS }
     {

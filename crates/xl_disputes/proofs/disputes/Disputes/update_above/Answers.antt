@@ -1,26 +1,26 @@
 use Rattle.std.proofs.Common.{◌≡◌, vec_capacity, ap, sym, ◌∙◌, arith}
 use Rattle.std.specs.Prelude.{◌↔◌, ◌≢◌, IsTrue, IsFalse}
 use Rattle.xl_disputes.specs.Disputes.{Known, with_own}
-use Rattle.xl_disputes.specs.Next.{next_set}
-use Rattle.xl_disputes.specs.Standings.{known_of, next_of}
+use Rattle.xl_disputes.specs.Next.{winners}
+use Rattle.xl_disputes.specs.Standings.{known_of}
 use Rattle.xl_disputes.proofs.Ordered.{differ}
 use Rattle.xl_disputes.proofs.Picking.{next_is}
 use Rattle.xl_disputes.proofs.Keeping.{IsWeighable, weighable, settled, known_settled, own_weighable, own_known}
-use Rattle.xl_disputes.proofs.disputes.Disputes.update.Goals as goal
-use Rattle.xl_disputes.proofs.disputes.Disputes.update.Goals.{After-ne-changed, After-settle}
+use Rattle.xl_disputes.proofs.disputes.Disputes.update_above.Goals as goal
+use Rattle.xl_disputes.proofs.disputes.Disputes.update_above.Goals.{After-ne-changed, After-settle}
 
-is_next : (c : After-ne-changed) → c.pick.new.next.items ≡ next_set c.args.self.now c.args.percent c.args.proposing
+is_next : (c : After-ne-changed) → c.pick.new.next.items ≡ winners c.args.self.now c.args.needed c.args.proposing
 is_next c =
-    c.pick.ensures.value ∙ ap (λ needed. next_of c.self.inside.shares needed c.args.proposing) c.threshold-needed.ensures
-    ∙ next_is c.self.inside.shares c.self.inside.positions c.args.percent c.args.proposing c.self.invariant.kept c.self.invariant.kept.places
-    ∙ ap (λ k. next_set k c.args.percent c.args.proposing) c.self.view_is
+    c.pick.ensures.value
+    ∙ next_is c.self.inside.shares c.self.inside.positions c.args.needed c.args.proposing c.self.invariant.kept c.self.invariant.kept.places
+    ∙ ap (λ k. winners k c.args.needed c.args.proposing) c.self.view_is
 
 -- what the code's `!=` says
 tested : (c : After-ne-changed) →
-    (IsTrue c.ne-changed.result ↔ (next_set c.args.self.now c.args.percent c.args.proposing ≢ c.args.self.now.own))
-    × (IsFalse c.ne-changed.result ↔ (next_set c.args.self.now c.args.percent c.args.proposing ≡ c.args.self.now.own))
+    (IsTrue c.ne-changed.result ↔ (winners c.args.self.now c.args.needed c.args.proposing ≢ c.args.self.now.own))
+    × (IsFalse c.ne-changed.result ↔ (winners c.args.self.now c.args.needed c.args.proposing ≡ c.args.self.now.own))
 tested c =
-    differ (next_set c.args.self.now c.args.percent c.args.proposing) c.args.self.now.own c.as_slice.result.now c.ids.result.now c.ne-changed.result
+    differ (winners c.args.self.now c.args.needed c.args.proposing) c.args.self.now.own c.as_slice.result.now c.ids.result.now c.ne-changed.result
     (c.as_slice.ensures.value ∙ is_next c) (c.ids.ensures.value ∙ c.own.ensures ∙ ap (λ (k : Known). k.own) c.self.view_is) c.ne-changed.ensures
 
 before : (c : After-ne-changed) → IsWeighable c.self.inside.shares c.self.inside.positions
@@ -43,7 +43,7 @@ returns-then-changed-clause-taken c =
     known_settled c.take.new.self c.settle.new.shares c.self.inside.positions c.settle.ensures
     ∙ own_known c.deref.result.now c.self.inside.shares c.take.new.self c.self.inside.positions c.take.ensures.taken (before (goal.at.returns-then-changed-clause-taken c).After-ne-changed)
     ∙ ap (with_own (known_of c.self.inside.shares c.self.inside.positions)) (c.deref.ensures.value ∙ is_next (goal.at.returns-then-changed-clause-taken c).After-ne-changed)
-    ∙ ap (λ k. with_own k (next_set c.args.self.now c.args.percent c.args.proposing)) c.self.view_is
+    ∙ ap (λ k. with_own k (winners c.args.self.now c.args.needed c.args.proposing)) c.self.view_is
 
 pub returns-else-changed-clause-changed : goal.returns-else-changed-clause-changed
 returns-else-changed-clause-changed c = (tested (goal.at.returns-else-changed-clause-changed c).After-ne-changed).0
