@@ -12,8 +12,10 @@ use Rattle.xl_core.specs.declared.report.Report.{Report}
 use Rattle.xl_core.specs.declared.refusal.Refusal.{Refusal}
 use Rattle.xl_core.specs.Answers.{Took, Done}
 use Rattle.xl_core.specs.declared.taken.Taken.TheVariants.{Vote}
-use Rattle.xl_core.specs.Node.{Node, Reply, hears, reporting, with_taken, take, arisen, arises_in, report_of, refusal_at, later}
+use Rattle.xl_core.specs.Node.{Node, Reply, hears, taking, refusing_or, reporting, with_taken, take, arisen, arises_in, report_of, refusal_at, second_of, later}
 use Rattle.xl_core.specs.Node.{report_if}
+use Rattle.xl_core.specs.declared.hearing.Speech.TheVariants as speech
+use Rattle.xl_core.specs.Refusals.{refusal_from}
 use Rattle.xl_core.specs.Rest.{IsAtRest, NothingArises}
 use Rattle.xl_core.specs.Replies.{vote_reply}
 use Rattle.xl_core.proofs.Members.{row_if_on, members_stay, nobody_changes, refused_stays, taken_changes}
@@ -47,10 +49,10 @@ rest_when_taken n from v rows report last rest is_rows is_report is_last = recor
       (rest_after n.list.quorum n.rows n.last from v rest.reported));
 }
 
-pub answer_when_taken : (n : Node) (now from : ℕ) (v : Validation) (rows : List Row) (report last : Option Report) → IsAtRest n → is_on n.list.members from ≡ true →
-    None ≡ refusal_of n.rows from now v → rows ≡ at_member from (with_validation v) n.rows → report ≡ report_if (arises_in n.list.quorum rows n.last v) v → last ≡ option_or report n.last →
-    vote_reply (Ok report) (record n { rows = rows; last = last }) ≡ hears n now from v (refusal_at n now from v)
-answer_when_taken n now from v rows report last rest on unrefused is_rows is_report is_last =
+pub answer_when_taken : (n : Node) (from : ℕ) (v : Validation) (rows : List Row) (report last : Option Report) → IsAtRest n → is_on n.list.members from ≡ true →
+    None ≡ refusal_of n.rows from (second_of n) v → rows ≡ at_member from (with_validation v) n.rows → report ≡ report_if (arises_in n.list.quorum rows n.last v) v → last ≡ option_or report n.last →
+    vote_reply (Ok report) (record n { rows = rows; last = last }) ≡ hears n from (speech.Validation v)
+answer_when_taken n from v rows report last rest on unrefused is_rows is_report is_last =
     let arises_so : arisen (record n { rows = rows }) ≡ report =
     subst (λ rs. option_map report_of (find (arises_in n.list.quorum rs n.last) (filter_map (λ row. row.current) rs)) ≡ report_if (arises_in n.list.quorum rs n.last v) v) (sym is_rows)
     (arisen_by n.list.quorum n.rows n.last from v rest.reported (has_row n from rest on))
@@ -59,8 +61,8 @@ answer_when_taken n now from v rows report last rest on unrefused is_rows is_rep
     let with_report = λ (rp : Option Report). let r : Reply = vote_reply (Ok rp) (record n { rows = rows; last = later n.last rp }) in r in
     ap with_last (is_last ∙ or_later report n.last)
     ∙ ap with_report (sym arises_so)
-    ∙ ap (λ rs. reporting (record n { rows = rs }) (Took Vote) None) (is_rows ∙ sym (taken_changes from now v n.rows (sym unrefused)))
-    ∙ ap (hears n now from v) unrefused
+    ∙ ap (λ rs. reporting (record n { rows = rs }) (Took Vote) None) (is_rows ∙ sym (taken_changes from (second_of n) v n.rows (sym unrefused)))
+    ∙ ap (λ (o : Option ValRefusal). refusing_or n (option_map refusal_from o) (taking n from (speech.Validation v))) unrefused
 
 -- WHERE NO ROW CHANGES
 
@@ -79,15 +81,16 @@ vote_report (Ok report) m = refl
 vote_report (Err why) m = refl
 
 -- the node is the same where the row refuses
-heard_own : (n : Node) (now from : ℕ) (v : Validation) (o : Option ValRefusal) → IsAtRest n → refusal_at n now from v ≡ o →
-    ((hears n now from v o).node ≡ (reporting (with_taken n now from v) Done (Some v)).node) × ((hears n now from v o).report ≡ arisen (with_taken n now from v))
-heard_own n now from v None rest is = (refl, refl)
-heard_own n now from v (Some why) rest is = stays n (at_member from (take now v) n.rows) (Some v) rest (refused_stays from now v why n.rows is)
+heard_own : (n : Node) (from : ℕ) (v : Validation) (o : Option ValRefusal) → IsAtRest n → refusal_at n (second_of n) from v ≡ o →
+    let reply = refusing_or n (option_map refusal_from o) (taking n from (speech.Validation v)) in
+    (reply.node ≡ (reporting (with_taken n (second_of n) from v) Done (Some v)).node) × (reply.report ≡ arisen (with_taken n (second_of n) from v))
+heard_own n from v None rest is = (refl, refl)
+heard_own n from v (Some why) rest is = stays n (at_member from (take (second_of n) v) n.rows) (Some v) rest (refused_stays from (second_of n) v why n.rows is)
 
-pub own_taken : (n : Node) (now from : ℕ) (v : Validation) (r : Result (Option Report) Refusal) (m : Node) → IsAtRest n → vote_reply r m ≡ hears n now from v (refusal_at n now from v) →
-    (m ≡ (reporting (with_taken n now from v) Done (Some v)).node) × (result_unwrap_or r None ≡ arisen (with_taken n now from v))
-own_taken n now from v r m rest is =
-    let heard = heard_own n now from v (refusal_at n now from v) rest refl in
+pub own_taken : (n : Node) (from : ℕ) (v : Validation) (r : Result (Option Report) Refusal) (m : Node) → IsAtRest n → vote_reply r m ≡ hears n from (speech.Validation v) →
+    (m ≡ (reporting (with_taken n (second_of n) from v) Done (Some v)).node) × (result_unwrap_or r None ≡ arisen (with_taken n (second_of n) from v))
+own_taken n from v r m rest is =
+    let heard = heard_own n from v (refusal_at n (second_of n) from v) rest refl in
     (sym (vote_node r m) ∙ ap (λ (x : Reply). x.node) is ∙ heard.0, sym (vote_report r m) ∙ ap (λ (x : Reply). x.report) is ∙ heard.1)
 
 -- nor where the node isn't on its list

@@ -128,8 +128,8 @@ step_on held core given (Frame now bytes) save life =
     record {
       own = ap (λ (r : Ring). r.me) same.keys ∙ life.own ∙ sym same.me;
       covered = frame_covered held core now bytes others life.covered;
-      all = more_given core.node.kept (happens core.node e save).node.kept given (given_in (core_happens core (Frame now bytes) save).answer) (omega (arith, keeps.0)) life.all
-          (subst (All (IsFrameCovered (happens core.node e save).node.kept)) (sym keeps.1) (All-nil (IsFrameCovered (happens core.node e save).node.kept)));
+      all = more_given core.node.kept (happens core.node e save).node.kept given (given_in (core_happens core (Frame now bytes) save).answer) (omega (arith, keeps.kept)) life.all
+          (subst (All (IsFrameCovered (happens core.node e save).node.kept)) (sym keeps.given) (All-nil (IsFrameCovered (happens core.node e save).node.kept)));
     }
 step_on held core given (Drain member room) save life = record {
   own = life.own;

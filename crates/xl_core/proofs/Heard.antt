@@ -1,13 +1,16 @@
--- What is known of bytes in which something is heard.
-use Rattle.std.proofs.Common.{◌≡◌, ◌≢◌, ℕ, subst, Bool, true, false, List, [], length, refl, ap, sym, ◌∙◌, Option, Some, None, Result, Ok, Err}
-use Rattle.std.specs.Prelude.{◌==◌, ◌||◌, ◌-◌, not, nat_lt, nat_le, unwrap_or, IfOk, if◌then◌else◌}
-use Rattle.std.proofs.lemmas.Bool.{cond_both, le-leb, ltb-false}
+-- What is known of bytes in which something is heard, and in which nothing is.
+use Rattle.std.proofs.Common.{◌≡◌, ◌≢◌, ℕ, zero, suc, ◌<◌, ◌≤◌, subst, Bool, true, false, List, [], ◌∷◌, length, refl, ap, sym, ◌∙◌, arith, Option, Some, None, Result, Ok, Err}
+use Rattle.std.specs.Prelude.{◌==◌, ◌||◌, ◌-◌, not, nat_lt, nat_le, unwrap_or, option_map, IfOk, if◌then◌else◌}
+use Rattle.std.specs.Option.{option_or}
+use Rattle.std.specs.Result.{IsErrAnd}
+use Rattle.std.proofs.lemmas.Bool.{cond_both, cond-true, cond-false, le-leb, lt-ltb, ltb-false, le-ltb, eqb-true, or_cases}
+use Rattle.xl_base.specs.Refusals.{refused_if, first_of, unless_refused}
 use Rattle.xl_lists.specs.Lists.{is_on}
 use Rattle.xl_wire.specs.declared.body.Body.{Body}
 use Rattle.xl_wire.specs.declared.body.Body.TheVariants as bodies
 use Rattle.xl_wire.specs.declared.refusal.WireRefusal.{WireRefusal}
-use Rattle.xl_wire.specs.Bodies.{body_of}
-use Rattle.xl_wire.specs.Heads.{Split, split_of}
+use Rattle.xl_wire.specs.Bodies.{body_of, body_in, body_refusal, validation_in}
+use Rattle.xl_wire.specs.Heads.{Split, split_of, split_unless, head_refusal, lacking, raw_in}
 use Rattle.xl_wire.specs.Heads.Split.{Whole, Need, Refused}
 use Rattle.xl_wire.specs.Kinds.{span}
 use Rattle.xl_wire.specs.Raws.{RawFrame}
@@ -18,32 +21,68 @@ use Rattle.xl_tags.specs.Rings.{Ring}
 use Rattle.xl_tags.specs.declared.refusal.TagRefusal.{TagRefusal}
 use Rattle.xl_tags.specs.declared.refusal.TagRefusal.TheVariants.{NotForMe, Stranger, BadTag}
 use Rattle.xl_wire.specs.declared.validation.Validation.{Validation}
-use Rattle.xl_ledger.specs.declared.header.Header.{Header as LedgerHeader}
+use Rattle.xl_ledger.specs.declared.header.Header.{Header}
 use Rattle.xl_ledger.specs.Reading.{header_in}
 use Rattle.xl_core.specs.declared.hearing.Spoken.{Spoken}
 use Rattle.xl_core.specs.declared.hearing.Speech.{Speech}
-use Rattle.xl_core.specs.declared.hearing.Speech.TheVariants.{Vote, Header}
+use Rattle.xl_core.specs.declared.hearing.Speech.TheVariants as speech
 use Rattle.xl_core.specs.declared.refusal.Refusal.{Refusal}
-use Rattle.xl_core.specs.declared.refusal.Refusal.TheVariants.{Extra}
-use Rattle.xl_core.specs.Hearing.{said_by, heard_body, heard_opened, heard_split, heard}
+use Rattle.xl_core.specs.declared.refusal.Refusal.TheVariants.{Frame, Tag, Short, Extra, NotBuilt}
+use Rattle.xl_core.specs.Hearing.{is_heard, causes, unheard, speech_in, said_in, heard}
 
-abbrev sender_in : ℕ → Result Spoken Refusal → ℕ
-sender_in other (Ok s) = s.from
-sender_in other (Err why) = other
+-- THE CAUSES
 
-abbrev what_in : Validation → Result Spoken Refusal → Speech
-what_in other (Ok s) = s.what
-what_in other (Err why) = Vote other
+some_none : {X : Type 0} (x : X) → Some x ≡ None → ⊥
+some_none x e = cc
 
-abbrev body_in : Validation → Speech → Body
-body_in other (Vote v) = bodies.Validation v
-body_in other (Header h) = bodies.Validation other
+-- a cause that doesn't decide
+no_cause : {X : Type 0} (b : Bool) (x : X) → refused_if b x ≡ None → b ≡ false
+no_cause true x e = absurd (some_none x e)
+no_cause false x e = refl
 
-abbrev validation_in : Validation → Result Spoken Refusal → Body
-validation_in other r = body_in other (what_in other r)
+none_of : {X Y : Type 0} (f : X → Y) (o : Option X) → option_map f o ≡ None → o ≡ None
+none_of f None e = refl
+none_of f (Some x) e = absurd (some_none (f x) e)
 
-no_vote : (h : LedgerHeader) (v : Validation) → Header h ≡ Vote v → ⊥
-no_vote h v e = cc
+-- none of the causes holds
+none_holds : {X : Type 0} (a b c d e f : Option X) → first_of (a ∷ b ∷ c ∷ d ∷ e ∷ f ∷ []) ≡ None → (a ≡ None) × (b ≡ None) × (c ≡ None) × (d ≡ None) × (e ≡ None) × (f ≡ None)
+none_holds None None None None None None is = (refl, refl, refl, refl, refl, refl)
+none_holds (Some x) b c d e f is = absurd (some_none x is)
+none_holds None (Some x) c d e f is = absurd (some_none x is)
+none_holds None None (Some x) d e f is = absurd (some_none x is)
+none_holds None None None (Some x) e f is = absurd (some_none x is)
+none_holds None None None None (Some x) f is = absurd (some_none x is)
+none_holds None None None None None (Some x) is = absurd (some_none x is)
+
+-- nothing is refused of these bytes
+pub record Passes (ring : Ring) (members bytes : List ℕ) (f : RawFrame) : Type 0 where
+  pub head : head_refusal bytes ≡ None
+  pub whole : lacking bytes ≡ 0
+  pub last : length bytes ≤ span f.body
+  pub opened : refusal_of ring members f ≡ None
+  pub body : body_refusal f.kind f.body ≡ None
+  pub heard : is_heard f.kind ≡ true
+
+passes : (ring : Ring) (members bytes : List ℕ) (f : RawFrame) → first_of (causes ring members bytes f) ≡ None → Passes ring members bytes f
+passes ring members bytes f none =
+    let parts = none_holds (option_map Frame (head_refusal bytes)) (refused_if (nat_lt 0 (lacking bytes)) (Short (lacking bytes)))
+    (refused_if (nat_lt (span f.body) (length bytes)) (Extra (length bytes - span f.body))) (option_map Tag (refusal_of ring members f))
+    (option_map Frame (body_refusal f.kind f.body)) (refused_if (not (is_heard f.kind)) (NotBuilt f.kind)) none in
+    let lacks : lacking bytes ≤ 0 = ltb-false 0 (lacking bytes) (no_cause (nat_lt 0 (lacking bytes)) (Short (lacking bytes)) parts.1) in
+    record {
+      head = none_of Frame (head_refusal bytes) parts.0;
+      whole = omega (arith, lacks);
+      last = ltb-false (span f.body) (length bytes) (no_cause (nat_lt (span f.body) (length bytes)) (Extra (length bytes - span f.body)) parts.2);
+      opened = none_of Tag (refusal_of ring members f) parts.3;
+      body = none_of Frame (body_refusal f.kind f.body) parts.4;
+      heard = truly (is_heard f.kind) (no_cause (not (is_heard f.kind)) (NotBuilt f.kind) parts.5);
+    }
+  where
+    truly : (b : Bool) → not b ≡ false → b ≡ true
+    truly true e = refl
+    truly false e = cc
+
+-- WHAT IS HEARD
 
 -- it says something in a whole frame that the node opens
 pub record IsHeard (ring : Ring) (members bytes : List ℕ) (said : Spoken) : Type 0 where
@@ -54,38 +93,9 @@ pub record IsHeard (ring : Ring) (members bytes : List ℕ) (said : Spoken) : Ty
   pub other : frame.from ≢ ring.me
   pub listed : is_on members frame.from ≡ true
   pub is_sealed : is_sealed ring frame ≡ true
-  pub body : heard_body frame.kind frame.from (body_of frame.kind frame.body) ≡ Ok said
-
--- what is said is said by the sender
-said_from : (kind from : ℕ) (body : Body) (said : Spoken) → said_by kind from body ≡ Ok said → said.from ≡ from
-said_from kind from (bodies.Validation v) said is = ap (sender_in from) (sym is)
-said_from kind from (bodies.Header bytes) said is = ap (sender_in from) (sym is)
-said_from kind from (bodies.Proposal proposal) said is = cc
-said_from kind from (bodies.TxSet ids) said is = cc
-said_from kind from (bodies.Tx id) said is = cc
-
-pub body_from : (kind from : ℕ) (read : Result Body WireRefusal) (said : Spoken) → heard_body kind from read ≡ Ok said → said.from ≡ from
-body_from kind from (Ok body) said is = said_from kind from body said is
-body_from kind from (Err why) said is = cc
-
--- a validation is said by a validation's body
-vote_in : (kind from m : ℕ) (v : Validation) (body : Body) → said_by kind from body ≡ Ok (record { from = m; what = Vote v }) → body ≡ bodies.Validation v
-vote_in kind from m v (bodies.Validation u) is = ap (λ (r : Result Spoken Refusal). validation_in v r) is
-vote_in kind from m v (bodies.Header bytes) is = absurd (no_vote (header_in bytes) v (ap (λ (r : Result Spoken Refusal). what_in v r) is))
-vote_in kind from m v (bodies.Proposal proposal) is = cc
-vote_in kind from m v (bodies.TxSet ids) is = cc
-vote_in kind from m v (bodies.Tx id) is = cc
-
-pub vote_body : (kind from m : ℕ) (v : Validation) (read : Result Body WireRefusal) → heard_body kind from read ≡ Ok (record { from = m; what = Vote v }) → read ≡ Ok (bodies.Validation v)
-vote_body kind from m v (Ok body) is = ap (λ (b : Body). Ok b) (vote_in kind from m v body is)
-vote_body kind from m v (Err why) is = cc
-
-opened_parts : (f : RawFrame) (o : Option TagRefusal) (said : Spoken) → heard_opened f o ≡ Ok said → (o ≡ None) × (heard_body f.kind f.from (body_of f.kind f.body) ≡ Ok said)
-opened_parts f None said is = (refl, is)
-opened_parts f (Some why) said is = cc
-
-some_none : (why : TagRefusal) → Some why ≡ None → ⊥
-some_none why e = cc
+  pub body : body_refusal frame.kind frame.body ≡ None
+  pub is_heard : is_heard frame.kind ≡ true
+  pub says : said_in frame ≡ said
 
 -- a frame that is opened is for the ring's member, and is sealed
 pub opens : (ring : Ring) (members : List ℕ) (f : RawFrame) → refusal_of ring members f ≡ None → ((f.to == ring.me) ≡ true) × (is_on members f.from ≡ true) × (is_sealed ring f ≡ true)
@@ -105,53 +115,208 @@ opens ring members f none = by_receiver (f.to == ring.me) none
     by_receiver true e = let parts = by_sender (f.from == ring.me) (is_on members f.from) e in (refl, parts.0, parts.1)
     by_receiver false e = absurd (some_none _ e)
 
-split_parts : (ring : Ring) (members bytes : List ℕ) (s : Split) (said : Spoken) → split_of bytes ≡ s → heard_split ring members (length bytes) s ≡ Ok said → IsHeard ring members bytes said
-split_parts ring members bytes (Refused why) said at is = cc
-split_parts ring members bytes (Need lack) said at is = cc
-split_parts ring members bytes (Whole f) said at is =
-    cond_both (nat_lt (span f.body) (length bytes)) (Err (Extra (length bytes - span f.body))) (heard_opened f (refusal_of ring members f)) (λ r. r ≡ Ok said → IsHeard ring members bytes said)
-    (λ _ e. cc)
-    (λ fits e.
-    let parts = opened_parts f (refusal_of ring members f) said e in
-    let right = opens ring members f parts.0 in
-    record {
-      frame = f;
-      split = at;
-      last = le-leb _ _ (ltb-false _ _ fits);
-      for_me = right.0;
-      other = (opens_alone ring members f parts.0).1;
-      listed = right.1;
-      is_sealed = right.2;
-      body = parts.1;
-    })
-    is
+abbrev told : Spoken → Result Spoken Refusal
+told said = Ok said
+
+same_said : (a b : Spoken) → told a ≡ told b → a ≡ b
+same_said a b e = cc
+
+-- bytes in which something is heard are refused for no cause
+pub heard_by : (ring : Ring) (members bytes : List ℕ) (said : Spoken) → heard ring members bytes ≡ Ok said → (unheard ring members bytes ≡ None) × (said_in (raw_in bytes) ≡ said)
+heard_by ring members bytes said is = by (unheard ring members bytes) is
+  where
+    by : (o : Option Refusal) → unless_refused o (said_in (raw_in bytes)) ≡ Ok said → (o ≡ None) × (said_in (raw_in bytes) ≡ said)
+    by None e = (refl, same_said (said_in (raw_in bytes)) said e)
+    by (Some why) e = cc
+
+-- and something is heard where none holds
+pub heard_where : (ring : Ring) (members bytes : List ℕ) → unheard ring members bytes ≡ None → heard ring members bytes ≡ Ok (said_in (raw_in bytes))
+heard_where ring members bytes none = ap (λ (o : Option Refusal). unless_refused o (said_in (raw_in bytes))) none
+
+split_whole : (o : Option WireRefusal) (lack : ℕ) (f : RawFrame) → o ≡ None → lack ≡ 0 → split_unless o lack f ≡ Whole f
+split_whole o lack f e d = rw (e, d) refl
 
 pub heard_parts : (ring : Ring) (members bytes : List ℕ) (said : Spoken) → heard ring members bytes ≡ Ok said → IsHeard ring members bytes said
-heard_parts ring members bytes said is = split_parts ring members bytes (split_of bytes) said refl is
+heard_parts ring members bytes said is =
+    let by = heard_by ring members bytes said is in
+    let f : RawFrame = raw_in bytes in
+    let p = passes ring members bytes f by.0 in
+    let right = opens ring members f p.opened in
+    record {
+      frame = f;
+      split = split_whole (head_refusal bytes) (lacking bytes) f p.head p.whole;
+      last = le-leb (length bytes) (span f.body) p.last;
+      for_me = right.0;
+      other = (opens_alone ring members f p.opened).1;
+      listed = right.1;
+      is_sealed = right.2;
+      body = p.body;
+      is_heard = p.heard;
+      says = by.1;
+    }
+
+-- what is said is said by the sender
+pub sender : (ring : Ring) (members bytes : List ℕ) (said : Spoken) (h : IsHeard ring members bytes said) → said.from ≡ h.frame.from
+sender ring members bytes said h = sym (ap (λ (s : Spoken). s.from) h.says)
 
 -- who is heard is listed
 pub heard_listed : (ring : Ring) (members bytes : List ℕ) (r : Result Spoken Refusal) → r ≡ heard ring members bytes → IfOk r (λ said. is_on members said.from ≡ true)
 heard_listed ring members bytes (Ok said) is =
     let parts = heard_parts ring members bytes said (sym is) in
-    ap (is_on members) (body_from parts.frame.kind parts.frame.from (body_of parts.frame.kind parts.frame.body) said parts.body) ∙ parts.listed
+    ap (is_on members) (sender ring members bytes said parts) ∙ parts.listed
 heard_listed ring members bytes (Err why) is = tt
 
 -- nor is it the ring's own member
 pub not_itself : (ring : Ring) (members bytes : List ℕ) (said : Spoken) → heard ring members bytes ≡ Ok said → said.from ≢ ring.me
 not_itself ring members bytes said is =
     let parts = heard_parts ring members bytes said is in
-    subst (λ (from : ℕ). from ≢ ring.me) (sym (body_from parts.frame.kind parts.frame.from (body_of parts.frame.kind parts.frame.body) said parts.body)) parts.other
+    subst (λ (from : ℕ). from ≢ ring.me) (sym (sender ring members bytes said parts)) parts.other
 
--- ---- headers
+-- a validation that is heard is the frame's body
+pub validation_body : (ring : Ring) (members bytes : List ℕ) (from : ℕ) (v : Validation) (h : IsHeard ring members bytes (record { from = from; what = speech.Validation v })) →
+    body_of h.frame.kind h.frame.body ≡ Ok (bodies.Validation v)
+validation_body ring members bytes from v h =
+    by (h.frame.kind == 2) refl (ap (λ (s : Spoken). s.what) h.says)
+  where
+    same : (a b : Validation) → speech.Validation a ≡ speech.Validation b → a ≡ b
+    same a b e = cc
 
-abbrev header_of : LedgerHeader → Speech → LedgerHeader
-header_of other (Vote v) = other
-header_of other (Header h) = h
+    by : (b : Bool) → (h.frame.kind == 2) ≡ b → (if b then speech.Validation (validation_in h.frame.body) else speech.Header (header_in h.frame.body)) ≡ speech.Validation v → body_of h.frame.kind h.frame.body ≡ Ok (bodies.Validation v)
+    by true kind is =
+        ap (λ (o : Option WireRefusal). unless_refused o (body_in h.frame.kind h.frame.body)) h.body
+        ∙ ap (λ (k : ℕ). (let r : Result Body WireRefusal = Ok (body_in k h.frame.body) in r)) (eqb-true h.frame.kind 2 kind)
+        ∙ ap (λ (u : Validation). (let r : Result Body WireRefusal = Ok (bodies.Validation u) in r)) (same (validation_in h.frame.body) v is)
+    by false kind is = cc
 
-abbrev header_told_in : LedgerHeader → Result Spoken Refusal → LedgerHeader
-header_told_in other (Ok s) = header_of other s.what
-header_told_in other (Err why) = other
+-- WHAT THE TESTS FIND
 
--- the header that is said is the one that is heard
-pub header_heard : (r : Result Spoken Refusal) (said : Spoken) (from : ℕ) (a h : LedgerHeader) → said.what ≡ Header a → Ok said ≡ r → r ≡ Ok (record { from = from; what = Header h }) → a ≡ h
-header_heard r said from a h what is heard = sym (ap (header_of a) what) ∙ ap (header_told_in a) (is ∙ heard)
+-- what is made of a body that was read
+abbrev pub said_by : ℕ → ℕ → Body → Result Spoken Refusal
+said_by kind from (bodies.Validation v) = Ok (record { from = from; what = speech.Validation v })
+said_by kind from (bodies.Proposal proposal) = Err (NotBuilt kind)
+said_by kind from (bodies.Header bytes) = Ok (record { from = from; what = speech.Header (header_in bytes) })
+said_by kind from (bodies.TxSet ids) = Err (NotBuilt kind)
+said_by kind from (bodies.Tx id) = Err (NotBuilt kind)
+
+abbrev pub read_so : ℕ → ℕ → Result Body WireRefusal → Result Spoken Refusal
+read_so kind from (Ok body) = said_by kind from body
+read_so kind from (Err why) = Err (Frame why)
+
+-- what is said in a body of a kind
+abbrev IsSaid : ℕ → List ℕ → ℕ → Type 0
+IsSaid from body kind =
+    said_by kind from (body_in kind body) ≡ unless_refused (first_of (refused_if (not (is_heard kind)) (NotBuilt kind) ∷ [])) (record { from = from; what = speech_in kind body })
+
+of_kind : (from : ℕ) (body : List ℕ) (kind : ℕ) → IsSaid from body kind
+of_kind from body kind = one (kind == 1) refl
+  where
+    at : (k : ℕ) → (kind == k) ≡ true → IsSaid from body k → IsSaid from body kind
+    at k e is = subst (IsSaid from body) (sym (eqb-true kind k e)) is
+
+    four : (b : Bool) → (kind == 4) ≡ b → (kind == 1) ≡ false → (kind == 2) ≡ false → (kind == 3) ≡ false → IsSaid from body kind
+    four true e _ _ _ = at 4 e refl
+    four false d a b c = rw (a, b, c, d) refl
+
+    three : (b : Bool) → (kind == 3) ≡ b → (kind == 1) ≡ false → (kind == 2) ≡ false → IsSaid from body kind
+    three true e _ _ = at 3 e refl
+    three false c a b = four (kind == 4) refl a b c
+
+    two : (b : Bool) → (kind == 2) ≡ b → (kind == 1) ≡ false → IsSaid from body kind
+    two true e _ = at 2 e refl
+    two false b a = three (kind == 3) refl a b
+
+    one : (b : Bool) → (kind == 1) ≡ b → IsSaid from body kind
+    one true e = at 1 e refl
+    one false a = two (kind == 2) refl a
+
+of_body : (kind from : ℕ) (body : List ℕ) (o : Option WireRefusal) → read_so kind from (unless_refused o (body_in kind body))
+    ≡ unless_refused (first_of (option_map Frame o ∷ refused_if (not (is_heard kind)) (NotBuilt kind) ∷ [])) (record { from = from; what = speech_in kind body })
+of_body kind from body None = of_kind from body kind
+of_body kind from body (Some why) = refl
+
+split_refused : (o : Option WireRefusal) (lack : ℕ) (f : RawFrame) (why : WireRefusal) → split_unless o lack f ≡ Refused why → o ≡ Some why
+split_refused None zero f why is = cc
+split_refused None (suc lack) f why is = cc
+split_refused (Some other) lack f why is = cc
+
+split_need : (o : Option WireRefusal) (lack n : ℕ) (f : RawFrame) → split_unless o lack f ≡ Need n → (o ≡ None) × (lack ≡ n) × (0 < lack)
+split_need None zero n f is = absurd cc
+split_need None (suc lack) n f is = (refl, same (suc lack) n is, omega arith)
+  where
+    same : (a b : ℕ) → Need a ≡ Need b → a ≡ b
+    same a b e = cc
+split_need (Some why) lack n f is = absurd cc
+
+split_found : (o : Option WireRefusal) (lack : ℕ) (raw f : RawFrame) → split_unless o lack raw ≡ Whole f → (o ≡ None) × (lack ≡ 0) × (raw ≡ f)
+split_found None zero raw f is = (refl, refl, same raw f is)
+  where
+    same : (a b : RawFrame) → Whole a ≡ Whole b → a ≡ b
+    same a b e = cc
+split_found None (suc lack) raw f is = absurd cc
+split_found (Some why) lack raw f is = absurd cc
+
+module _ (ring : Ring) (members bytes : List ℕ) where
+  -- the causes, once some are known
+  abbrev heard_with : Option WireRefusal → ℕ → RawFrame → Bool → Option TagRefusal → Result Spoken Refusal
+  heard_with head lack f more tag = unless_refused (first_of (
+      option_map Frame head
+      ∷ refused_if (nat_lt 0 lack) (Short lack)
+      ∷ refused_if more (Extra (length bytes - span f.body))
+      ∷ option_map Tag tag
+      ∷ option_map Frame (body_refusal f.kind f.body)
+      ∷ refused_if (not (is_heard f.kind)) (NotBuilt f.kind)
+      ∷ [])) (said_in f)
+
+  pub no_frame : (why : WireRefusal) → split_of bytes ≡ Refused why → heard ring members bytes ≡ Err (Frame why)
+  no_frame why is =
+      let f : RawFrame = raw_in bytes in
+      ap (λ (o : Option WireRefusal). heard_with o (lacking bytes) f (nat_lt (span f.body) (length bytes)) (refusal_of ring members f)) (split_refused (head_refusal bytes) (lacking bytes) f why is)
+
+  pub short : (lack : ℕ) → split_of bytes ≡ Need lack → heard ring members bytes ≡ Err (Short lack)
+  short lack is =
+      let f : RawFrame = raw_in bytes in
+      let found = split_need (head_refusal bytes) (lacking bytes) lack f is in
+      let more = nat_lt (span f.body) (length bytes) in
+      ap (λ (o : Option WireRefusal). heard_with o (lacking bytes) f more (refusal_of ring members f)) found.0
+      ∙ cond_both (nat_lt 0 (lacking bytes)) (Some (Short (lacking bytes))) None
+      (λ o. unless_refused (option_or o (first_of (refused_if more (Extra (length bytes - span f.body)) ∷ option_map Tag (refusal_of ring members f) ∷ option_map Frame (body_refusal f.kind f.body) ∷ refused_if (not (is_heard f.kind)) (NotBuilt f.kind) ∷ []))) (said_in f) ≡ Err (Short lack))
+      (λ _. ap (λ (n : ℕ). (let r : Result Spoken Refusal = Err (Short n) in r)) found.1)
+      (λ none. absurd (omega (arith, found.2, ltb-false 0 (lacking bytes) none)))
+
+  -- a whole frame
+  of_frame : (f : RawFrame) → split_of bytes ≡ Whole f → heard ring members bytes ≡ heard_with None 0 f (nat_lt (span f.body) (length bytes)) (refusal_of ring members f)
+  of_frame f is =
+      let found = split_found (head_refusal bytes) (lacking bytes) (raw_in bytes) f is in
+      let raw : RawFrame = raw_in bytes in
+      ap (λ (o : Option WireRefusal). heard_with o (lacking bytes) raw (nat_lt (span raw.body) (length bytes)) (refusal_of ring members raw)) found.0
+      ∙ ap (λ (n : ℕ). heard_with None n raw (nat_lt (span raw.body) (length bytes)) (refusal_of ring members raw)) found.1
+      ∙ ap (λ (g : RawFrame). heard_with None 0 g (nat_lt (span g.body) (length bytes)) (refusal_of ring members g)) found.2
+
+  pub long : (f : RawFrame) → split_of bytes ≡ Whole f → span f.body < length bytes → heard ring members bytes ≡ Err (Extra (length bytes - span f.body))
+  long f is more =
+      of_frame f is ∙ ap (λ (b : Bool). heard_with None 0 f b (refusal_of ring members f)) (lt-ltb (span f.body) (length bytes) more)
+
+  pub opened : (f : RawFrame) → split_of bytes ≡ Whole f → length bytes ≤ span f.body → heard ring members bytes ≡ heard_with None 0 f false (refusal_of ring members f)
+  opened f is fits = of_frame f is ∙ ap (λ (b : Bool). heard_with None 0 f b (refusal_of ring members f)) (le-ltb (span f.body) (length bytes) fits)
+
+  pub unopened : (f : RawFrame) (why : TagRefusal) → split_of bytes ≡ Whole f → length bytes ≤ span f.body → refusal_of ring members f ≡ Some why → heard ring members bytes ≡ Err (Tag why)
+  unopened f why is fits refused = opened f is fits ∙ ap (heard_with None 0 f false) refused
+
+  -- its body was read
+  pub read : (f : RawFrame) (r : Result Body WireRefusal) → split_of bytes ≡ Whole f → length bytes ≤ span f.body → refusal_of ring members f ≡ None → r ≡ body_of f.kind f.body →
+      heard ring members bytes ≡ read_so f.kind f.from r
+  read f r is fits opens body =
+      opened f is fits ∙ ap (heard_with None 0 f false) opens ∙ sym (of_body f.kind f.from f.body (body_refusal f.kind f.body)) ∙ ap (read_so f.kind f.from) (sym body)
+
+-- a body of another kind than those that are heard
+pub other_body : (kind from : ℕ) (body : Body) → ((v : Validation) → body ≢ bodies.Validation v) → ((h : List ℕ) → body ≢ bodies.Header h) → Err (NotBuilt kind) ≡ said_by kind from body
+other_body kind from (bodies.Validation v) not_validation not_header = absurd (not_validation v refl)
+other_body kind from (bodies.Header h) not_validation not_header = absurd (not_header h refl)
+other_body kind from (bodies.Proposal proposal) _ _ = refl
+other_body kind from (bodies.TxSet ids) _ _ = refl
+other_body kind from (bodies.Tx id) _ _ = refl
+
+-- the exit of a `?`
+pub err_so : {T : Type 0} (r : Result T Refusal) (why : Refusal) → IsErrAnd r (λ x. x ≡ why) → r ≡ Err why
+err_so (Ok said) why is = absurd is
+err_so {T} (Err x) why is = ap (λ (w : Refusal). (let r : Result T Refusal = Err w in r)) is

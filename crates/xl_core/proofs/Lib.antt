@@ -1,4 +1,5 @@
 pub mod Heard
+pub mod Frames
 pub mod Learning
 pub mod SealingLaws
 pub mod Spelling
@@ -17,3 +18,4 @@ pub mod Handing
 pub mod Stepping
 pub mod Stopping
 pub mod Covering
+pub mod Accounted

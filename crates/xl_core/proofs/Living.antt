@@ -13,17 +13,16 @@ use Rattle.xl_validations.specs.Rows.{row_of, refusal_of, with_validation, at_me
 use Rattle.xl_core.specs.declared.report.Report.{Report}
 use Rattle.xl_core.specs.declared.settings.Settings.{Settings}
 use Rattle.xl_core.specs.Answers.{Done}
-use Rattle.xl_core.specs.Node.{Node, Event, Issue, Frame, Reply, Save, issues_unless, opened, happens, hears, issues, refusing, reporting, with_taken, take, arisen, arises_in, is_above, later, report_of, refusal_at, hearing, hearing_speech, learns, at_moment, second_of, own_validation}
+use Rattle.xl_core.specs.Node.{Node, Event, Issue, Frame, Reply, Save, issues_unless, opened, happens, issues, refusing, reporting, with_taken, take, arisen, arises_in, is_above, later, report_of, taking, hearing, at_moment, second_of, own_validation}
 use Rattle.xl_core.specs.Node.Save.{Kept, Failed}
 use Rattle.xl_core.specs.declared.refusal.Refusal.TheVariants.{NotAfter}
 use Rattle.xl_ledger.specs.declared.header.Header.{Header as LedgerHeader}
 use Rattle.xl_ledger.specs.declared.refusal.AddRefusal.{AddRefusal}
 use Rattle.xl_ledger.specs.Registries.{with_header, add_refusal}
-use Rattle.xl_core.specs.declared.hearing.Spoken.{Spoken}
 use Rattle.xl_core.specs.declared.hearing.Speech.{Speech}
-use Rattle.xl_core.specs.declared.hearing.Speech.TheVariants.{Vote, Header}
+use Rattle.xl_core.specs.declared.hearing.Speech.TheVariants as speech
 use Rattle.xl_core.specs.declared.refusal.Refusal.{Refusal}
-use Rattle.xl_core.specs.Hearing.{heard}
+use Rattle.xl_core.proofs.Frames.{hearing_either}
 use Rattle.xl_core.specs.Node.{report_if}
 use Rattle.xl_core.specs.Rest.{IsAtRest}
 use Rattle.xl_core.specs.Lives.{Happening, node_after, reports_in}
@@ -179,13 +178,10 @@ issued_unless : (list : TrustedList) (n : Node) (reports : List Report) (off : O
 issued_unless list n reports None save v living = issued_on list n reports (second_of n) save v living
 issued_unless list n reports (Some failed) save v living = unreported list n reports living
 
-heard_on : (list : TrustedList) (n : Node) (reports : List Report) (now from : ℕ) (v : Validation) (o : Option ValRefusal) → IsLiving list n reports → GoesOn list reports (hears n now from v o)
-heard_on list n reports now from v None living = reported_on list n reports now from v None living
-heard_on list n reports now from v (Some why) living = unreported list n reports living
-
 -- a header changes no row
-learnt_on : (list : TrustedList) (n : Node) (reports : List Report) (h : LedgerHeader) (o : Option AddRefusal) → IsLiving list n reports → GoesOn list reports (learns n h o)
-learnt_on list n reports h None living = unreported list (record n { ledgers = with_header n.ledgers h }) reports
+taking_on : (list : TrustedList) (n : Node) (reports : List Report) (from : ℕ) (what : Speech) → IsLiving list n reports → GoesOn list reports (taking n from what)
+taking_on list n reports from (speech.Validation v) living = reported_on list n reports (second_of n) from v None living
+taking_on list n reports from (speech.Header h) living = unreported list (record n { ledgers = with_header n.ledgers h }) reports
     (record {
       listed = living.listed;
       rest = record { valid = living.rest.valid; members = living.rest.members; reported = living.rest.reported };
@@ -195,15 +191,10 @@ learnt_on list n reports h None living = unreported list (record n { ledgers = w
       below = living.below;
       rising = living.rising;
     })
-learnt_on list n reports h (Some why) living = unreported list n reports living
 
-speech_on : (list : TrustedList) (n : Node) (reports : List Report) (now from : ℕ) (what : Speech) → IsLiving list n reports → GoesOn list reports (hearing_speech n now from what)
-speech_on list n reports now from (Vote v) living = heard_on list n reports now from v (refusal_at n now from v) living
-speech_on list n reports now from (Header h) living = learnt_on list n reports h (add_refusal n.ledgers h) living
-
-hearing_on : (list : TrustedList) (n : Node) (reports : List Report) (now : ℕ) (said : Result Spoken Refusal) → IsLiving list n reports → GoesOn list reports (hearing n now said)
-hearing_on list n reports now (Ok said) living = speech_on list n reports now said.from said.what living
-hearing_on list n reports now (Err why) living = unreported list n reports living
+hearing_on : (list : TrustedList) (n : Node) (reports : List Report) (bytes : List ℕ) → IsLiving list n reports → GoesOn list reports (hearing n bytes)
+hearing_on list n reports bytes living =
+    hearing_either (GoesOn list reports) n bytes (λ _. unreported list n reports living) (λ said _. taking_on list n reports said.from said.what living)
 
 -- the time is set, and rows expire
 living_then : (now : ℕ) (list : TrustedList) (n : Node) (reports : List Report) → IsLiving list n reports → IsLiving list (at_moment now n) reports
@@ -225,7 +216,7 @@ happens_on list n reports (Issue now seq id full) save living =
     (λ _. issued_unless list m reports m.failed_save save (own_validation m seq id full) moved)
     (λ _. unreported list m reports moved)
 happens_on list n reports (Frame now bytes) save living =
-    hearing_on list (at_moment now n) reports (second_of (at_moment now n)) (heard n.keys n.list.members bytes) (living_then now list n reports living)
+    hearing_on list (at_moment now n) reports bytes (living_then now list n reports living)
 
 -- every life
 pub lives : (list : TrustedList) (n : Node) (reports : List Report) (life : List Happening) → IsLiving list n reports → IsLiving list (node_after n life) (reports ++ reports_in n life)

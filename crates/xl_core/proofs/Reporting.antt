@@ -1,5 +1,5 @@
 -- The law of reports: a report arises exactly where a quorum holds what wasn't reported, and sequences rise.
-use Rattle.std.proofs.Common.{◌≡◌, ℕ, ◌≤◌, true, false, List, [], ◌∷◌, ◌++◌, length, refl, arith, ap, sym, ◌∙◌, inl, inr, Option, Some, None, Result, Ok, Err, subst}
+use Rattle.std.proofs.Common.{◌≡◌, ℕ, ◌≤◌, true, false, List, [], ◌∷◌, ◌++◌, length, refl, arith, ap, sym, ◌∙◌, inl, inr, Option, Some, None, subst}
 use Rattle.std.specs.Prelude.{◌==◌, ◌&&◌, ◌||◌, ◌⊎◌, IfSome, Contains, find, filter_map, option_map, option_to_list, count_by, nat_lt, slice_index_or}
 use Rattle.std.proofs.lemmas.Option.{none-some, same_Some}
 use Rattle.std.proofs.lemmas.List.{length-map}
@@ -12,26 +12,20 @@ use Rattle.xl_lists.proofs.Agreement.{same_id-true}
 use Rattle.xl_lists.proofs.Counting.{quorums_meet}
 use Rattle.xl_wire.specs.declared.validation.Validation.{Validation}
 use Rattle.xl_validations.specs.declared.row.Row.{Row}
-use Rattle.xl_validations.specs.declared.refusal.ValRefusal.{ValRefusal}
 use Rattle.xl_validations.specs.Rows.{is_full_of, count_full}
 use Rattle.xl_core.specs.declared.report.Report.{Report}
 use Rattle.xl_core.specs.Node.Save.{Kept, Failed}
 use Rattle.xl_core.specs.declared.refusal.Refusal.TheVariants.{NotAfter}
-use Rattle.xl_core.specs.declared.refusal.Refusal.{Refusal}
-use Rattle.xl_ledger.specs.declared.header.Header.{Header as LedgerHeader}
-use Rattle.xl_ledger.specs.declared.refusal.AddRefusal.{AddRefusal}
-use Rattle.xl_ledger.specs.Registries.{add_refusal}
-use Rattle.xl_core.specs.declared.hearing.Spoken.{Spoken}
 use Rattle.xl_core.specs.declared.hearing.Speech.{Speech}
-use Rattle.xl_core.specs.declared.hearing.Speech.TheVariants.{Vote, Header}
-use Rattle.xl_core.specs.Hearing.{heard}
+use Rattle.xl_core.specs.declared.hearing.Speech.TheVariants as speech
 use Rattle.xl_core.specs.Answers.{Answer, Took, Done}
 use Rattle.xl_core.specs.declared.taken.Taken.TheVariants.{Vote as TakenVote}
-use Rattle.xl_core.specs.Node.{Node, Event, Issue, Frame, Reply, Save, issues_unless, opened, happens, hears, issues, saving, refusing, reporting, with_taken, arises, is_above, report_of, refusal_at, hearing, hearing_speech, learns, at_moment, second_of, own_validation}
+use Rattle.xl_core.specs.Node.{Node, Event, Issue, Frame, Reply, Save, issues_unless, opened, happens, issues, saving, refusing, reporting, with_taken, arises, is_above, report_of, taking, hearing, at_moment, second_of, own_validation}
 use Rattle.xl_core.specs.Lives.{node_after, reports_in, ReportsArise, ReportsRise}
 use Rattle.xl_core.proofs.Counts.{find_passes, names_it}
 use Rattle.xl_core.proofs.Arising.{parts_of, same_report}
 use Rattle.xl_core.proofs.Passing.{IsHead, is_past, still_names}
+use Rattle.xl_core.proofs.Frames.{hearing_either}
 use Rattle.xl_core.proofs.Living.{IsLiving, happens_on, living_from_opening}
 
 -- WHAT IS REPORTED
@@ -65,21 +59,13 @@ unless_news : (n : Node) (off : Option ℕ) (save : Save) (v : Validation) (r : 
 unless_news n None save v r is = issued_news n (second_of n) save v r is
 unless_news n (Some failed) save v r is = no_news n (issues_unless n (Some failed) save v) r refl is
 
-heard_news : (n : Node) (now from : ℕ) (v : Validation) (o : Option ValRefusal) (r : Report) → (hears n now from v o).report ≡ Some r → IsNews n (hears n now from v o) r
-heard_news n now from v None r is = reporting_news n (with_taken n now from v) (Took TakenVote) None r refl refl is
-heard_news n now from v (Some why) r is = no_news n (hears n now from v (Some why)) r refl is
+taking_news : (n : Node) (from : ℕ) (what : Speech) (r : Report) → (taking n from what).report ≡ Some r → IsNews n (taking n from what) r
+taking_news n from (speech.Validation v) r is = reporting_news n (with_taken n (second_of n) from v) (Took TakenVote) None r refl refl is
+taking_news n from (speech.Header h) r is = no_news n (taking n from (speech.Header h)) r refl is
 
-learnt_news : (n : Node) (h : LedgerHeader) (o : Option AddRefusal) (r : Report) → (learns n h o).report ≡ Some r → IsNews n (learns n h o) r
-learnt_news n h None r is = no_news n (learns n h None) r refl is
-learnt_news n h (Some why) r is = no_news n (learns n h (Some why)) r refl is
-
-speech_news : (n : Node) (now from : ℕ) (what : Speech) (r : Report) → (hearing_speech n now from what).report ≡ Some r → IsNews n (hearing_speech n now from what) r
-speech_news n now from (Vote v) r is = heard_news n now from v (refusal_at n now from v) r is
-speech_news n now from (Header h) r is = learnt_news n h (add_refusal n.ledgers h) r is
-
-hearing_news : (n : Node) (now : ℕ) (said : Result Spoken Refusal) (r : Report) → (hearing n now said).report ≡ Some r → IsNews n (hearing n now said) r
-hearing_news n now (Ok said) r is = speech_news n now said.from said.what r is
-hearing_news n now (Err why) r is = no_news n (refusing n why) r refl is
+hearing_news : (n : Node) (bytes : List ℕ) (r : Report) → (hearing n bytes).report ≡ Some r → IsNews n (hearing n bytes) r
+hearing_news n bytes r is =
+    hearing_either (λ reply. reply.report ≡ Some r → IsNews n reply r) n bytes (λ why e. no_news n (refusing n why) r refl e) (λ said _ e. taking_news n said.from said.what r e) is
 
 happens_news : (n : Node) (e : Event) (save : Save) (r : Report) → (happens n e save).report ≡ Some r → IsNews n (happens n e save) r
 happens_news n (Issue now seq id full) save r is =
@@ -88,7 +74,7 @@ happens_news n (Issue now seq id full) save r is =
     (λ _ e. let news = unless_news m m.failed_save save (own_validation m seq id full) r e in record { quorum = news.quorum; above = news.above })
     (λ _ e. no_news n (refusing m (NotAfter m.kept)) r refl e)
     is
-happens_news n (Frame now bytes) save r is = let news = hearing_news (at_moment now n) (second_of (at_moment now n)) (heard n.keys n.list.members bytes) r is in record { quorum = news.quorum; above = news.above }
+happens_news n (Frame now bytes) save r is = let news = hearing_news (at_moment now n) bytes r is in record { quorum = news.quorum; above = news.above }
 
 -- WHAT A QUORUM HOLDS NOW
 

@@ -1,21 +1,15 @@
 -- A step of the node, and of its queues.
-use Rattle.std.proofs.Common.{◌≡◌, ℕ, refl, ap, ◌∙◌, subst, Option, Some, None, Result, Ok, Err, List}
+use Rattle.std.proofs.Common.{◌≡◌, ℕ, refl, ap, ◌∙◌, subst, Option, Some, None, Ok, List}
 use Rattle.std.specs.Prelude.{nat_lt}
 use Rattle.std.proofs.lemmas.Bool.{cond_both}
 use Rattle.xl_queues.specs.Queues.{Backlog}
 use Rattle.xl_wire.specs.declared.validation.Validation.{Validation}
-use Rattle.xl_validations.specs.declared.refusal.ValRefusal.{ValRefusal}
-use Rattle.xl_ledger.specs.declared.header.Header.{Header}
-use Rattle.xl_ledger.specs.declared.refusal.AddRefusal.{AddRefusal}
-use Rattle.xl_ledger.specs.Registries.{add_refusal}
-use Rattle.xl_core.specs.declared.hearing.Spoken.{Spoken}
 use Rattle.xl_core.specs.declared.hearing.Speech.{Speech}
 use Rattle.xl_core.specs.declared.hearing.Speech.TheVariants as speech
 use Rattle.xl_core.specs.declared.refusal.Refusal.{Refusal}
 use Rattle.xl_core.specs.declared.refusal.Refusal.TheVariants.{NotAfter}
 use Rattle.xl_core.specs.declared.report.Report.{Report}
-use Rattle.xl_core.specs.Hearing.{heard}
-use Rattle.xl_core.specs.Node.{Node, Event, Issue, Frame, Reply, Save, happens, hears, learns, hearing, hearing_speech, issues, issues_unless, refusing, refusal_at, at_moment, second_of, own_validation}
+use Rattle.xl_core.specs.Node.{Node, Event, Issue, Frame, Reply, Save, happens, taking, hearing, issues, issues_unless, refusing, at_moment, second_of, own_validation}
 use Rattle.xl_core.specs.Node.Save.{Kept, Failed}
 use Rattle.xl_core.specs.Answers.{Refused, Took, Done}
 use Rattle.xl_core.specs.Queues.{with_report}
@@ -26,6 +20,7 @@ use Rattle.xl_core.specs.declared.item.Item.TheVariants.{Vote as VoteItem}
 use Rattle.xl_core.specs.declared.report.OwnValidation.{OwnValidation}
 use Rattle.xl_core.specs.declared.taken.Heard.{Heard}
 use Rattle.xl_queues.specs.Broadcasts.{pushed_to_all}
+use Rattle.xl_core.proofs.Frames.{hearing_either}
 
 -- THE NODE STAYS ITSELF
 
@@ -34,21 +29,12 @@ pub record IsSame (n m : Node) : Type 0 where
   pub me : m.me ≡ n.me
   pub keys : m.keys ≡ n.keys
 
-vote_same : (n : Node) (now from : ℕ) (v : Validation) (o : Option ValRefusal) → IsSame n (hears n now from v o).node
-vote_same n now from v None = record { me = refl; keys = refl }
-vote_same n now from v (Some why) = record { me = refl; keys = refl }
+taking_same : (n : Node) (from : ℕ) (what : Speech) → IsSame n (taking n from what).node
+taking_same n from (speech.Validation v) = record { me = refl; keys = refl }
+taking_same n from (speech.Header h) = record { me = refl; keys = refl }
 
-header_same : (n : Node) (h : Header) (o : Option AddRefusal) → IsSame n (learns n h o).node
-header_same n h None = record { me = refl; keys = refl }
-header_same n h (Some why) = record { me = refl; keys = refl }
-
-speech_same : (n : Node) (now from : ℕ) (what : Speech) → IsSame n (hearing_speech n now from what).node
-speech_same n now from (speech.Vote v) = vote_same n now from v (refusal_at n now from v)
-speech_same n now from (speech.Header h) = header_same n h (add_refusal n.ledgers h)
-
-hearing_same : (n : Node) (now : ℕ) (r : Result Spoken Refusal) → IsSame n (hearing n now r).node
-hearing_same n now (Ok said) = speech_same n now said.from said.what
-hearing_same n now (Err why) = record { me = refl; keys = refl }
+hearing_same : (n : Node) (bytes : List ℕ) → IsSame n (hearing n bytes).node
+hearing_same n bytes = hearing_either (λ r. IsSame n r.node) n bytes (λ _. record { me = refl; keys = refl }) (λ said _. taking_same n said.from said.what)
 
 issues_same : (n : Node) (now : ℕ) (save : Save) (v : Validation) → IsSame n (issues n now save v).node
 issues_same n now Kept v = record { me = refl; keys = refl }
@@ -63,7 +49,7 @@ same_later n m now same = record { me = same.me; keys = same.keys }
 
 pub stays_itself : (n : Node) (e : Event) (save : Save) → IsSame n (happens n e save).node
 stays_itself n (Frame now bytes) save =
-    same_later n (happens n (Frame now bytes) save).node now (hearing_same (at_moment now n) (second_of (at_moment now n)) (heard n.keys n.list.members bytes))
+    same_later n (happens n (Frame now bytes) save).node now (hearing_same (at_moment now n) bytes)
 stays_itself n (Issue now seq id full) save =
     let m : Node = at_moment now n in
     same_later n (happens n (Issue now seq id full) save).node now

@@ -1,5 +1,5 @@
 -- What a node has said stays covered by what its keeper may hold.
-use Rattle.std.proofs.Common.{◌≡◌, ◌≢◌, ℕ, zero, suc, ◌<◌, ◌≤◌, ◌/◌, Bool, true, false, cond, List, [], ◌∷◌, ◌++◌, length, drop, refl, ap, sym, ◌∙◌, subst, arith, inl, inr, Option, Some, None, Result, Ok, Err}
+use Rattle.std.proofs.Common.{◌≡◌, ◌≢◌, ℕ, zero, suc, ◌<◌, ◌≤◌, ◌/◌, Bool, true, false, cond, List, [], ◌∷◌, ◌++◌, length, drop, refl, ap, sym, ◌∙◌, subst, arith, inl, inr, Option, Some, None, Ok}
 use Rattle.std.specs.Prelude.{◌==◌, All, IfSome, map, max, nat_lt, option_map, replicate}
 use Rattle.xl_base.specs.declared.ids.LedgerId.{LedgerId}
 use Rattle.std.specs.Option.{option_and_then, is_none}
@@ -10,19 +10,15 @@ use Rattle.xl_io.specs.Keepers.{Held, MayHold, after_save}
 use Rattle.xl_queues.specs.Queues.{Backlog, no_items, with_item}
 use Rattle.xl_wire.specs.declared.validation.Validation.{Validation}
 use Rattle.xl_validations.specs.declared.row.Row.{Row}
-use Rattle.xl_validations.specs.declared.refusal.ValRefusal.{ValRefusal}
 use Rattle.xl_validations.specs.Rows.{row_of, row_at, unexpired, is_current, refusal, with_validation, at_member, empty_row}
-use Rattle.xl_ledger.specs.declared.header.Header.{Header}
-use Rattle.xl_ledger.specs.declared.refusal.AddRefusal.{AddRefusal}
-use Rattle.xl_ledger.specs.Registries.{add_refusal}
 use Rattle.xl_core.specs.declared.hearing.Spoken.{Spoken}
 use Rattle.xl_core.specs.declared.hearing.Speech.{Speech}
 use Rattle.xl_core.specs.declared.hearing.Speech.TheVariants as speech
 use Rattle.xl_core.specs.declared.refusal.Refusal.{Refusal}
 use Rattle.xl_core.specs.declared.refusal.Refusal.TheVariants.{NotAfter}
 use Rattle.xl_core.specs.Hearing.{heard}
-use Rattle.xl_core.specs.Answers.{given_in}
-use Rattle.xl_core.specs.Node.{Node, Reply, Save, hears, learns, hearing, hearing_speech, issues, issues_unless, refusing, refusal_at, at_moment, second_of, own_validation, take, unless_failed, is_kept, opened}
+use Rattle.xl_core.specs.Answers.{given_in, handed_in}
+use Rattle.xl_core.specs.Node.{Node, Reply, Save, taking, hearing, issues, issues_unless, refusing, at_moment, second_of, own_validation, take, unless_failed, is_kept, opened}
 use Rattle.xl_core.specs.Node.Save.{Kept, Failed}
 use Rattle.xl_core.specs.Items.{taken_for}
 use Rattle.xl_core.specs.Queues.{with_items, at_number, after_taking, waiting_at}
@@ -32,6 +28,7 @@ use Rattle.xl_core.specs.declared.item.Item.{Item}
 use Rattle.xl_core.specs.declared.item.Item.TheVariants.{Vote}
 use Rattle.xl_core.specs.Stops.{IsCovered, IsItemCovered, own_current}
 use Rattle.xl_queues.specs.Broadcasts.{queue_of, pushed_to_all}
+use Rattle.xl_core.proofs.Frames.{hearing_either}
 
 -- A ROW
 
@@ -110,45 +107,31 @@ pub record IsAside (n : Node) (reply : Reply) : Type 0 where
 aside : (n : Node) (why : Refusal) → IsAside n (refusing n why)
 aside n why = record { kept = refl; own = refl; items = refl }
 
-vote_aside : (n : Node) (now from : ℕ) (v : Validation) (o : Option ValRefusal) → from ≢ n.me → IsAside n (hears n now from v o)
-vote_aside n now from v None other = record {
+taking_aside : (n : Node) (from : ℕ) (what : Speech) → from ≢ n.me → IsAside n (taking n from what)
+taking_aside n from (speech.Validation v) other = record {
   kept = refl;
-  own = ap (λ (o : Option Row). option_and_then (λ row. row.current) o) (other_row from n.me (take now v) (taking_member now v) other n.rows);
+  own = ap (λ (o : Option Row). option_and_then (λ row. row.current) o) (other_row from n.me (take (second_of n) v) (taking_member (second_of n) v) other n.rows);
   items = refl;
 }
-vote_aside n now from v (Some why) other = record { kept = refl; own = refl; items = refl }
+taking_aside n from (speech.Header h) other = record { kept = refl; own = refl; items = refl }
 
-header_aside : (n : Node) (h : Header) (o : Option AddRefusal) → IsAside n (learns n h o)
-header_aside n h None = record { kept = refl; own = refl; items = refl }
-header_aside n h (Some why) = record { kept = refl; own = refl; items = refl }
+hearing_aside : (n : Node) (bytes : List ℕ) → ((said : Spoken) → heard n.keys n.list.members bytes ≡ Ok said → said.from ≢ n.me) → IsAside n (hearing n bytes)
+hearing_aside n bytes others = hearing_either (IsAside n) n bytes (aside n) (λ said is. taking_aside n said.from said.what (others said is))
 
-speech_aside : (n : Node) (now from : ℕ) (what : Speech) → from ≢ n.me → IsAside n (hearing_speech n now from what)
-speech_aside n now from (speech.Vote v) other = vote_aside n now from v (refusal_at n now from v) other
-speech_aside n now from (speech.Header h) other = header_aside n h (add_refusal n.ledgers h)
+-- hearing leaves the kept number, and hands out and gives nothing
+pub record IsHearing (n : Node) (reply : Reply) : Type 0 where
+  pub kept : reply.node.kept ≡ n.kept
+  pub given : given_in reply.answer ≡ []
+  pub handed : handed_in reply.answer ≡ []
 
-hearing_aside : (n : Node) (now : ℕ) (r : Result Spoken Refusal) → ((said : Spoken) → r ≡ Ok said → said.from ≢ n.me) → IsAside n (hearing n now r)
-hearing_aside n now (Ok said) others = speech_aside n now said.from said.what (others said refl)
-hearing_aside n now (Err why) others = aside n why
+taking_keeps : (n : Node) (from : ℕ) (what : Speech) → IsHearing n (taking n from what)
+taking_keeps n from (speech.Validation v) = record { kept = refl; given = refl; handed = refl }
+taking_keeps n from (speech.Header h) = record { kept = refl; given = refl; handed = refl }
 
--- hearing leaves the kept number, and gives no frame
-vote_keeps : (n : Node) (now from : ℕ) (v : Validation) (o : Option ValRefusal) → ((hears n now from v o).node.kept ≡ n.kept) × (given_in (hears n now from v o).answer ≡ [])
-vote_keeps n now from v None = (refl, refl)
-vote_keeps n now from v (Some why) = (refl, refl)
-
-header_keeps : (n : Node) (h : Header) (o : Option AddRefusal) → ((learns n h o).node.kept ≡ n.kept) × (given_in (learns n h o).answer ≡ [])
-header_keeps n h None = (refl, refl)
-header_keeps n h (Some why) = (refl, refl)
-
-speech_keeps : (n : Node) (now from : ℕ) (what : Speech) → ((hearing_speech n now from what).node.kept ≡ n.kept) × (given_in (hearing_speech n now from what).answer ≡ [])
-speech_keeps n now from (speech.Vote v) = vote_keeps n now from v (refusal_at n now from v)
-speech_keeps n now from (speech.Header h) = header_keeps n h (add_refusal n.ledgers h)
-
-hearing_keeps : (n : Node) (now : ℕ) (r : Result Spoken Refusal) → ((hearing n now r).node.kept ≡ n.kept) × (given_in (hearing n now r).answer ≡ [])
-hearing_keeps n now (Ok said) = speech_keeps n now said.from said.what
-hearing_keeps n now (Err why) = (refl, refl)
-
-pub heard_keeps : (n : Node) (now : ℕ) (bytes : List ℕ) → let reply = hearing (at_moment now n) (second_of (at_moment now n)) (heard n.keys n.list.members bytes) in (reply.node.kept ≡ n.kept) × (given_in reply.answer ≡ [])
-heard_keeps n now bytes = hearing_keeps (at_moment now n) (second_of (at_moment now n)) (heard n.keys n.list.members bytes)
+pub heard_keeps : (n : Node) (now : ℕ) (bytes : List ℕ) → IsHearing (at_moment now n) (hearing (at_moment now n) bytes)
+heard_keeps n now bytes =
+    let m : Node = at_moment now n in
+    hearing_either (IsHearing m) m bytes (λ _. record { kept = refl; given = refl; handed = refl }) (λ said _. taking_keeps m said.from said.what)
 
 -- a step that issues nothing
 step_covered : (held : Held) (core : Core) (reply : Reply) → reply.node.kept ≡ core.node.kept → AtMost core.node.kept (own_current reply.node) → reply.items ≡ [] → IsCovered held core → IsCovered held (stepped core reply).core
@@ -163,8 +146,8 @@ pub frame_covered : (held : Held) (core : Core) (now : ℕ) (bytes : List ℕ) �
     IsCovered held (core_happens core (Frame now bytes) Kept).core
 frame_covered held core now bytes others was =
     let m : Node = at_moment now core.node in
-    let reply : Reply = hearing m (second_of m) (heard core.node.keys core.node.list.members bytes) in
-    let beside = hearing_aside m (second_of m) (heard core.node.keys core.node.list.members bytes) others in
+    let reply : Reply = hearing m bytes in
+    let beside = hearing_aside m bytes others in
     step_covered held core reply beside.kept
     (subst (AtMost core.node.kept) (sym beside.own) (current_then core.node.kept (max core.node.time now / 1000) core.node.me core.node.rows was.own))
     beside.items was

@@ -9,10 +9,10 @@ use Rattle.xl_core.specs.declared.event.CoreEvent.TheVariants.{Issue, Frame, Dra
 use Rattle.xl_core.specs.declared.item.Item.{Item}
 use Rattle.xl_core.specs.declared.report.Report.{Report}
 use Rattle.xl_core.specs.Answers.{Answer, Done, Gave, Handed, Told}
-use Rattle.xl_core.specs.Items.{taken_for}
+use Rattle.xl_core.specs.Items.{taken_for, drained_for}
 use Rattle.xl_core.specs.Node as nodes
 use Rattle.xl_core.specs.Node.{Node, Reply, Save, happens, asks}
-use Rattle.xl_core.specs.Queues.{none_waiting, with_items, at_number, frames_in, after_taking, with_report, without}
+use Rattle.xl_core.specs.Queues.{none_waiting, with_items, frames_in, with_report, without}
 
 pub record Core : Type 0 where
   pub node : Node
@@ -36,7 +36,12 @@ pub record CoreReply : Type 0 where
 -- what came of it at the node: its items wait for every number, and what it reports to be taken
 abbrev pub stepped : Core → Reply → CoreReply
 stepped core reply = record {
-  core = record { node = reply.node; waiting = with_items core.waiting reply.items; untaken = with_report core.untaken reply.report; stopped = core.stopped };
+  core = record {
+    node = reply.node;
+    waiting = with_items core.waiting reply.items;
+    untaken = with_report core.untaken reply.report;
+    stopped = core.stopped;
+  };
   answer = reply.answer;
   issued = reply.issued;
   report = reply.report;
@@ -51,8 +56,10 @@ abbrev pub core_happens : Core → CoreEvent → Save → CoreReply
 core_happens core (Issue now seq id full) save = stepped core (happens core.node (nodes.Issue now seq id full) save)
 core_happens core (Frame now bytes) save = stepped core (happens core.node (nodes.Frame now bytes) save)
 core_happens core (Drain member room) save =
-    let taken = taken_for core.node core.waiting member room in answering (record core { waiting = at_number core.waiting member (after_taking taken) }) (Gave member (frames_in taken))
-core_happens core (Reports room) save = answering (record core { untaken = without room core.untaken }) (Handed (take room core.untaken.items))
+    answering (record core { waiting = drained_for core.node core.waiting member room })
+    (Gave member (frames_in (taken_for core.node core.waiting member room)))
+core_happens core (Reports room) save =
+    answering (record core { untaken = without room core.untaken }) (Handed (take room core.untaken.items))
 core_happens core Stop save = answering (record core { stopped = true }) Done
 core_happens core Stopped save = answering core (Told core.stopped)
 

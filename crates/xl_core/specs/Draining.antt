@@ -7,7 +7,9 @@ use Rattle.xl_base.specs.Putting.{Puts}
 use Rattle.xl_core.specs.declared.item.Item.{Item}
 use Rattle.xl_core.specs.declared.putting.Put.{Put}
 use Rattle.xl_core.specs.declared.putting.Put.TheVariants.{Written, PassedOver, NoRoom}
-use Rattle.xl_core.specs.Queues.{at_number, after_taking}
+use Rattle.xl_core.specs.Items.{frames_for}
+use Rattle.xl_core.specs.Node.{Node}
+use Rattle.xl_core.specs.Queues.{at_number, after_taking, fitting}
 
 -- what became of a frame at a place of a room, or of what has none
 abbrev pub IsPut : Option (List ℕ) → ℕ → List ℕ → List ℕ → Put → Type 0
@@ -24,9 +26,20 @@ Stands None at next old new = (next ≡ at) × (new ≡ old)
 Stands (Some frame) at next old new = (next ≡ at + length frame) × Puts at frame old new
 
 -- the oldest item for a number was taken or passed over, of these frames the first
-pub record TakesOne (frames : List (Option (List ℕ))) (waiting after : List (Backlog Item)) (number at next : ℕ) (old new : List ℕ) : Type 0 where
+pub record TakesOne (frames : List (Option (List ℕ))) (waiting after : List (Backlog Item)) (number at next : ℕ)
+    (old new : List ℕ) : Type 0 where
   pub first : Option (List ℕ)
   pub rest : List (Option (List ℕ))
   pub is : frames ≡ first ∷ rest
   pub taken : after ≡ at_number waiting number (after_taking (first ∷ []))
   pub stands : Stands first at next old new
+
+-- nothing waits for a number, or the room is too short for the first frame from a place on
+abbrev pub TakesNone : Node → ℕ → ℕ → List (Backlog Item) → List (Backlog Item) → List ℕ → List ℕ → Type 0
+TakesNone n number at waiting after old new =
+    (fitting (frames_for n waiting number) (length old - at) ≡ 0) × (after ≡ waiting) × (new ≡ old)
+
+-- the frame of the oldest item, if it has one, was put at a place, and this is where the next one goes
+abbrev pub TakesFirst : Node → ℕ → ℕ → Option ℕ → List (Backlog Item) → List (Backlog Item) → List ℕ → List ℕ → Type 0
+TakesFirst n number at result waiting after old new =
+    (next : ℕ) → result ≡ Some next → TakesOne (frames_for n waiting number) waiting after number at next old new

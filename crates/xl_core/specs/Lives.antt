@@ -21,16 +21,19 @@ node_after n (h ∷ hs) = node_after (happens n h.event h.save).node hs
 -- what it reported in them
 abbrev pub reports_in : Node → List Happening → List Report
 reports_in n [] = []
-reports_in n (h ∷ hs) = option_to_list (happens n h.event h.save).report ++ reports_in (happens n h.event h.save).node hs
+reports_in n (h ∷ hs) =
+    option_to_list (happens n h.event h.save).report ++ reports_in (happens n h.event h.save).node hs
 
--- A report arises exactly in the event after which a quorum of the list's current full validations name it, where it wasn't
--- reported since the node opened.
+-- A report arises exactly in the event after which a quorum of the list's current full validations name it, where it
+-- wasn't reported since the node opened.
 abbrev pub ReportsArise : Type 0
 ReportsArise =
-    (settings : Settings) (now kept : ℕ) (life : List Happening) (next : Happening) (r : Report) → IsValid settings.list →
+    (settings : Settings) (now kept : ℕ) (life : List Happening) (next : Happening) (r : Report) →
+    IsValid settings.list →
     let n = node_after (opened settings now kept) life in
     let reply = happens n next.event next.save in
-    (reply.report ≡ Some r) ↔ ((settings.list.quorum ≤ count_full r.seq r.id reply.node.rows) × ¬ Contains (reports_in (opened settings now kept) life) r)
+    let before = reports_in (opened settings now kept) life in
+    (reply.report ≡ Some r) ↔ ((settings.list.quorum ≤ count_full r.seq r.id reply.node.rows) × ¬ Contains before r)
 
 -- The sequences of the reports of a life rise.
 abbrev pub ReportsRise : Type 0

@@ -1,13 +1,14 @@
 -- One node: the ledgers that it knows, its rows, the last sequence that it saved, and what it reports as fully validated.
 -- Source: Chase and MacBrough, "Analysis of the XRP Ledger Consensus Protocol" (2018), and rippled's Consensus and Validations.
-use Rattle.std.specs.Prelude.{ℕ, ◌/◌, ◌&&◌, max, Bool, true, false, List, [], ◌∷◌, map, filter_map, find, option_map, nat_lt, nat_le, if◌then◌else◌}
-use Rattle.std.specs.Prelude.{Some, None, Result, Ok, Err}
+use Rattle.std.specs.Prelude.{◌≡◌, ◌≢◌, ℕ, ◌<◌, ◌/◌, ◌&&◌, max, Bool, true, false, List, [], ◌∷◌, map, filter_map, find, option_map, nat_lt, nat_le, if◌then◌else◌}
+use Rattle.std.specs.Prelude.{Some, None, Ok}
 use Rattle.std.specs.declared.option.Option.{Option}
-use Rattle.std.specs.Option.{is_none}
+use Rattle.std.specs.Option.{is_none, option_or}
 use Rattle.xl_base.specs.declared.ids.LedgerId.{LedgerId}
 use Rattle.xl_lists.specs.Lists.{TrustedList}
 use Rattle.xl_tags.specs.Rings.{Ring}
 use Rattle.xl_wire.specs.declared.validation.Validation.{Validation}
+use Rattle.xl_wire.specs.Heads.{raw_in}
 use Rattle.xl_validations.specs.declared.row.Row.{Row}
 use Rattle.xl_validations.specs.declared.refusal.ValRefusal.{ValRefusal}
 use Rattle.xl_validations.specs.Rows.{refusal, refusal_of, with_validation, at_member, count_full, empty_row, row_at}
@@ -23,13 +24,13 @@ use Rattle.xl_core.specs.declared.refusal.Refusal.{Refusal}
 use Rattle.xl_core.specs.declared.refusal.Refusal.TheVariants.{NotAfter, IssuingOff, KeepFault, Header as HeaderRefused}
 use Rattle.xl_core.specs.declared.hearing.Spoken.{Spoken}
 use Rattle.xl_core.specs.declared.hearing.Speech.{Speech}
-use Rattle.xl_core.specs.declared.hearing.Speech.TheVariants.{Vote, Header as Ledger}
+use Rattle.xl_core.specs.declared.hearing.Speech.TheVariants as speech
 use Rattle.xl_core.specs.declared.item.Item.{Item}
 use Rattle.xl_core.specs.declared.item.Item.TheVariants.{Vote as VoteItem}
 use Rattle.xl_core.specs.declared.taken.Taken.TheVariants.{Vote as TakenVote, Header as TakenHeader}
 use Rattle.xl_ledger.specs.Headers.{header_id}
 use Rattle.xl_core.specs.Answers.{Answer, Refused, Took, Done}
-use Rattle.xl_core.specs.Hearing.{heard}
+use Rattle.xl_core.specs.Hearing.{heard, unheard, said_in}
 use Rattle.xl_core.specs.Refusals.{refusal_from}
 
 pub record Node : Type 0 where
@@ -130,7 +131,13 @@ items_of (Some v) = VoteItem v ∷ []
 
 -- the rows report what arises in them
 abbrev pub reporting : Node → Answer → Option Validation → Reply
-reporting n answer issued = record { node = record n { last = later n.last (arisen n) }; answer = answer; items = items_of issued; issued = issued; report = arisen n }
+reporting n answer issued = record {
+  node = record n { last = later n.last (arisen n) };
+  answer = answer;
+  items = items_of issued;
+  issued = issued;
+  report = arisen n;
+}
 
 -- the sender's row takes the validation, unless it refuses it
 abbrev pub take : ℕ → Validation → Row → Row
@@ -138,6 +145,10 @@ take now v row = if is_none (refusal row now v) then with_validation v row else 
 
 abbrev pub with_taken : Node → ℕ → ℕ → Validation → Node
 with_taken n now from v = record n { rows = at_member from (take now v) n.rows }
+
+-- its own row takes the validation
+abbrev pub with_own : Node → Validation → Node
+with_own n v = with_taken n (second_of n) n.me v
 
 -- the node that has saved the validation's sequence: only then its own row takes it
 abbrev pub saving : Node → ℕ → Validation → Node
@@ -157,9 +168,13 @@ abbrev pub unless_failed : Option ℕ → ℕ → Option ℕ
 unless_failed None seq = Some seq
 unless_failed (Some failed) seq = None
 
+-- the save that issuing a sequence asks
+abbrev pub asks_for : Node → ℕ → Option ℕ
+asks_for n seq = if nat_lt n.kept seq then unless_failed n.failed_save seq else None
+
 -- the save that an event asks
 abbrev pub asks : Node → Event → Option ℕ
-asks n (Issue now seq id full) = if nat_lt n.kept seq then unless_failed n.failed_save seq else None
+asks n (Issue now seq id full) = asks_for n seq
 asks n (Frame now bytes) = None
 
 -- after a save that failed the node issues nothing more
@@ -171,56 +186,76 @@ abbrev pub issues_unless : Node → Option ℕ → Save → Validation → Reply
 issues_unless n None save v = issues n (second_of n) save v
 issues_unless n (Some failed) save v = refusing n (IssuingOff failed)
 
--- a member's row answers
-abbrev pub hears : Node → ℕ → ℕ → Validation → Option ValRefusal → Reply
-hears n now from v None = reporting (with_taken n now from v) (Took TakenVote) None
-hears n now from v (Some why) = refusing n (refusal_from why)
-
 -- why the row of a number doesn't take the validation
 abbrev pub refusal_at : Node → ℕ → ℕ → Validation → Option ValRefusal
 refusal_at n now from v = refusal_of n.rows from now v
 
--- a header is added to the known ledgers. Validations that waited for it are votes from then on
-abbrev pub learns : Node → Header → Option AddRefusal → Reply
-learns n h None = record { node = record n { ledgers = with_header n.ledgers h }; answer = Took (TakenHeader (header_id h)); items = []; issued = None; report = None }
-learns n h (Some why) = refusing n (HeaderRefused why)
-
--- a validation goes to its sender's row, and a header to the ledgers
-abbrev pub hearing_speech : Node → ℕ → ℕ → Speech → Reply
-hearing_speech n now from (Vote v) = hears n now from v (refusal_at n now from v)
-hearing_speech n now from (Ledger h) = learns n h (add_refusal n.ledgers h)
-
-abbrev pub hearing : Node → ℕ → Result Spoken Refusal → Reply
-hearing n now (Ok said) = hearing_speech n now said.from said.what
-hearing n now (Err why) = refusing n why
-
 -- why it refuses what a member says: the member's row does, or the ledgers do
 abbrev pub speech_refusal : Node → ℕ → Speech → Option Refusal
-speech_refusal n from (Vote v) = option_map refusal_from (refusal_at n (second_of n) from v)
-speech_refusal n from (Ledger h) = option_map HeaderRefused (add_refusal n.ledgers h)
+speech_refusal n from (speech.Validation v) = option_map refusal_from (refusal_at n (second_of n) from v)
+speech_refusal n from (speech.Header h) = option_map HeaderRefused (add_refusal n.ledgers h)
 
-abbrev pub heard_refusal : Node → Result Spoken Refusal → Option Refusal
-heard_refusal n (Ok said) = speech_refusal n said.from said.what
-heard_refusal n (Err why) = Some why
+-- a member's row takes a validation, and the ledgers a header: validations that waited for it are votes from then on
+abbrev pub taking : Node → ℕ → Speech → Reply
+taking n from (speech.Validation v) = reporting (with_taken n (second_of n) from v) (Took TakenVote) None
+taking n from (speech.Header h) = record {
+  node = record n { ledgers = with_header n.ledgers h };
+  answer = Took (TakenHeader (header_id h));
+  items = [];
+  issued = None;
+  report = None;
+}
 
--- why it refuses bytes, if it does
+-- a cause refuses, and without one this is the reply
+abbrev pub refusing_or : Node → Option Refusal → Reply → Reply
+refusing_or n None reply = reply
+refusing_or n (Some why) reply = refusing n why
+
+-- what a member says is refused or taken
+abbrev pub hears : Node → ℕ → Speech → Reply
+hears n from what = refusing_or n (speech_refusal n from what) (taking n from what)
+
+-- why it refuses bytes, if it does: it hears nothing in them, or refuses what they say
 abbrev pub frame_refusal : Node → List ℕ → Option Refusal
-frame_refusal n bytes = heard_refusal n (heard n.keys n.list.members bytes)
+frame_refusal n bytes =
+    let said = said_in (raw_in bytes) in
+    option_or (unheard n.keys n.list.members bytes) (speech_refusal n said.from said.what)
+
+-- bytes are refused for the first cause, or what they say is taken
+abbrev pub hearing : Node → List ℕ → Reply
+hearing n bytes =
+    let said = said_in (raw_in bytes) in refusing_or n (frame_refusal n bytes) (taking n said.from said.what)
 
 abbrev pub own_validation : Node → ℕ → LedgerId → Bool → Validation
 own_validation n seq id full = record { id = id; seq = seq; signed = second_of n; full = full }
 
+-- a sequence above the kept one isn't issued, since the save of this one failed
+abbrev pub IsOff : Node → ℕ → ℕ → Type 0
+IsOff n seq failed = (n.kept < seq) × (n.failed_save ≡ Some failed)
+
+-- it issues its own validation of a sequence that was saved
+abbrev pub issues_own : Node → ℕ → LedgerId → Bool → Reply
+issues_own n seq id full = issues n (second_of n) Kept (own_validation n seq id full)
+
 abbrev pub issuing : Node → ℕ → LedgerId → Bool → Save → Reply
-issuing n seq id full save = if nat_lt n.kept seq then issues_unless n n.failed_save save (own_validation n seq id full) else refusing n (NotAfter n.kept)
+issuing n seq id full save =
+    if nat_lt n.kept seq then issues_unless n n.failed_save save (own_validation n seq id full)
+    else refusing n (NotAfter n.kept)
 
 -- what came of an event, whose save was answered so: first the time is set, and rows expire
 abbrev pub happens : Node → Event → Save → Reply
 happens n (Issue now seq id full) save = issuing (at_moment now n) seq id full save
-happens n (Frame now bytes) save = hearing (at_moment now n) (second_of (at_moment now n)) (heard n.keys n.list.members bytes)
+happens n (Frame now bytes) save = hearing (at_moment now n) bytes
+
+-- whom it hears in bytes is another
+abbrev pub HearsOthers : Node → List ℕ → Type 0
+HearsOthers n bytes = (said : Spoken) → heard n.keys n.list.members bytes ≡ Ok said → said.from ≢ n.me
 
 abbrev pub report_at : List Header → ℕ → Report
 report_at ledgers ledger = record { seq = seq_at ledgers ledger; id = id_at ledgers ledger }
 
 -- the ledger that the votes prefer, if there is a vote. The largest sequence issued is the kept number
 abbrev pub preferred : Node → Option Report
-preferred n = option_map (report_at n.ledgers.headers) (preferred_of n.ledgers.headers (votes_of n.ledgers.headers n.rows) n.kept)
+preferred n =
+    let ledgers = n.ledgers.headers in
+    option_map (report_at ledgers) (preferred_of ledgers (votes_of ledgers n.rows) n.kept)

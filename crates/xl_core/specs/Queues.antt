@@ -1,4 +1,5 @@
--- What waits at a node: items for each number, and reports. Source: this profile, by which a full queue drops its oldest item.
+-- What waits at a node: items for each number, and reports.
+-- Source: this profile, by which a full queue drops its oldest item.
 use Rattle.std.specs.Prelude.{ℕ, ◌-◌, List, [], ◌∷◌, zero, suc, length, filter_map, drop, count_by, nat_le, replicate, if◌then◌else◌}
 use Rattle.std.specs.Prelude.{Some, None}
 use Rattle.std.specs.declared.option.Option.{Option}
@@ -26,11 +27,13 @@ abbrev pub waiting_at : List (Backlog Item) → ℕ → Backlog Item
 waiting_at waiting zero = no_items
 waiting_at waiting (suc place) = queue_of waiting place
 
--- how many of the oldest items a room takes: their frames go into it one behind the other, and what is passed over needs no place
+-- how many of the oldest items a room takes: their frames go into it one behind the other, and what is passed over needs
+-- no place
 abbrev pub fitting : List (Option (List ℕ)) → ℕ → ℕ
 fitting [] room = 0
 fitting (None ∷ frames) room = suc (fitting frames room)
-fitting (Some frame ∷ frames) room = if nat_le (length frame) room then suc (fitting frames (room - length frame)) else 0
+fitting (Some frame ∷ frames) room =
+    if nat_le (length frame) room then suc (fitting frames (room - length frame)) else 0
 
 -- the frames of these items
 abbrev pub frames_in : List (Option (List ℕ)) → List (List ℕ)
@@ -47,7 +50,10 @@ lost_more (suc n) lost = one_more (lost_more n lost)
 
 -- a queue after its oldest items, of these frames, were taken or passed over; what is passed over is counted as lost
 abbrev pub after_taking : List (Option (List ℕ)) → Backlog Item → Backlog Item
-after_taking frames q = record { items = drop (length frames) q.items; lost = lost_more (count_by is_none frames) q.lost }
+after_taking frames q = record {
+  items = drop (length frames) q.items;
+  lost = lost_more (count_by is_none frames) q.lost;
+}
 
 -- what waits, with the queue of a number changed
 abbrev pub at_number : List (Backlog Item) → ℕ → (Backlog Item → Backlog Item) → List (Backlog Item)

@@ -1,5 +1,5 @@
 -- The answers of a node's calls, as replies. Source: this project's own, by which a call answers what the node's step replies.
-use Rattle.std.specs.Prelude.{◌≡◌, ℕ, List, [], ◌++◌, length, drop, Result, Ok, Err, Some, None}
+use Rattle.std.specs.Prelude.{◌≡◌, ℕ, Bool, List, [], ◌++◌, length, drop, Result, Ok, Err, Some, None}
 use Rattle.std.specs.declared.option.Option.{Option}
 use Rattle.xl_core.specs.declared.report.Report.{Report}
 use Rattle.xl_core.specs.declared.report.OwnValidation.{OwnValidation}
@@ -9,19 +9,33 @@ use Rattle.xl_core.specs.declared.taken.Taken.{Taken}
 use Rattle.xl_core.specs.declared.taken.Heard.{Heard}
 use Rattle.xl_core.specs.declared.taken.Taken.TheVariants.{Vote}
 use Rattle.xl_core.specs.Answers.{Answer, Refused, Took, Done, given_in, handed_in}
-use Rattle.xl_core.specs.Core.{Core, CoreReply}
+use Rattle.xl_core.specs.declared.event.CoreEvent.{CoreEvent}
+use Rattle.xl_core.specs.declared.event.CoreEvent.TheVariants.{Drain, Reports}
+use Rattle.xl_core.specs.Core.{Core, CoreReply, core_happens}
 use Rattle.xl_core.specs.Queues.{joined}
-use Rattle.xl_core.specs.Node.{Node, Reply, Save, refusing, items_of}
+use Rattle.xl_core.specs.Node.{Node, Reply, Save, refusing, items_of, is_kept}
 use Rattle.xl_core.specs.Node.Save.{Kept, Failed}
 
 -- what a call that issues answers, with the node that it leaves
 abbrev pub issue_reply : Result OwnValidation Refusal → Node → Reply
-issue_reply (Ok done) n = record { node = n; answer = Done; items = items_of (Some done.validation); issued = Some done.validation; report = done.report }
+issue_reply (Ok done) n = record {
+  node = n;
+  answer = Done;
+  items = items_of (Some done.validation);
+  issued = Some done.validation;
+  report = done.report;
+}
 issue_reply (Err why) n = refusing n why
 
 -- what a call that hands in bytes answers
 abbrev pub hear_reply : Result Heard Refusal → Node → Reply
-hear_reply (Ok heard) n = record { node = n; answer = Took heard.taken; items = []; issued = None; report = heard.report }
+hear_reply (Ok heard) n = record {
+  node = n;
+  answer = Took heard.taken;
+  items = [];
+  issued = None;
+  report = heard.report;
+}
 hear_reply (Err why) n = refusing n why
 
 -- what a row's call answers, with what it reports
@@ -43,17 +57,25 @@ pub record Answers (reply : CoreReply) (after : Core) (told : Answer) : Type 0 w
   pub core : after ≡ reply.core
   pub answer : told ≡ reply.answer
 
+-- what came of a drain into a room of that length
+abbrev pub drain_reply : Core → ℕ → List ℕ → CoreReply
+drain_reply core member room = core_happens core (Drain member (length room)) Kept
+
 -- what a drain leaves: the core, and a room that begins with the frames that it gave
-pub record Drains (reply : CoreReply) (after : Core) (written : ℕ) (old new : List ℕ) : Type 0 where
-  pub core : after ≡ reply.core
-  pub count : written ≡ length (joined (given_in reply.answer))
-  pub room : new ≡ joined (given_in reply.answer) ++ drop written old
+pub record Drains (before : Core) (member : ℕ) (after : Core) (written : ℕ) (old new : List ℕ) : Type 0 where
+  pub core : after ≡ (drain_reply before member old).core
+  pub count : written ≡ length (joined (given_in (drain_reply before member old).answer))
+  pub room : new ≡ joined (given_in (drain_reply before member old).answer) ++ drop written old
+
+-- what came of handing out into a room of that length
+abbrev pub reports_reply : Core → List Report → CoreReply
+reports_reply core room = core_happens core (Reports (length room)) Kept
 
 -- what handing out leaves: the core, and a room that begins with the reports
-pub record HandsOut (reply : CoreReply) (after : Core) (written : ℕ) (old new : List Report) : Type 0 where
-  pub core : after ≡ reply.core
-  pub count : written ≡ length (handed_in reply.answer)
-  pub room : new ≡ handed_in reply.answer ++ drop written old
+pub record HandsOut (before : Core) (after : Core) (written : ℕ) (old new : List Report) : Type 0 where
+  pub core : after ≡ (reports_reply before old).core
+  pub count : written ≡ length (handed_in (reports_reply before old).answer)
+  pub room : new ≡ handed_in (reports_reply before old).answer ++ drop written old
 
 -- how the save was answered, as the refusal tells it
 abbrev pub save_of : Refusal → Save
@@ -74,3 +96,11 @@ save_of (node.IssuingOff failed) = Kept
 abbrev pub save_in : {X : Type 0} → Result X Refusal → Save
 save_in (Ok done) = Kept
 save_in (Err why) = save_of why
+
+-- whether the save that it asked was answered with Ok, if it asked one
+abbrev pub was_kept : {X : Type 0} → Result X Refusal → Bool
+was_kept result = is_kept (save_in result)
+
+-- what a call that issues answers, with the core that it leaves
+abbrev pub Issues : {X : Type 0} → Core → CoreEvent → Result X Refusal → Core → Type 0
+Issues core event result after = Answers (core_happens core event (save_in result)) after (done_answer result)

@@ -19,4 +19,5 @@ sealed_bytes ring from to body = raw_bytes (sealed ring (raw_of (blank_frame fro
 -- the test of `IsFrame` for a validation's frame: what its fields can't hold has no spelling
 abbrev pub has_spelling : ℕ → ℕ → Validation → Bool
 has_spelling from to v =
-    nat_lt from (2 ^ 32) && nat_lt to (2 ^ 32) && length v.id.0 == 32 && nat_lt v.seq (2 ^ 32) && nat_lt v.signed (2 ^ 32)
+    nat_lt from (2 ^ 32) && nat_lt to (2 ^ 32)
+    && length v.id.0 == 32 && nat_lt v.seq (2 ^ 32) && nat_lt v.signed (2 ^ 32)

@@ -1,6 +1,6 @@
 -- A stop at any moment: what a node has said, or has waiting to be said, is of a sequence that its keeper can't fall below.
 -- Source: this profile, by which a node saves a sequence before it says it.
-use Rattle.std.specs.Prelude.{ℕ, ◌≤◌, All, IfSome}
+use Rattle.std.specs.Prelude.{◌≡◌, ℕ, ◌≤◌, All, IfSome, Some}
 use Rattle.std.specs.declared.option.Option.{Option}
 use Rattle.std.specs.Option.{option_and_then}
 use Rattle.xl_io.specs.Keepers.{Held, MayHold}
@@ -10,6 +10,10 @@ use Rattle.xl_core.specs.declared.item.Item.{Item}
 use Rattle.xl_core.specs.declared.item.Item.TheVariants.{Vote}
 use Rattle.xl_core.specs.Node.{Node}
 use Rattle.xl_core.specs.Core.{Core}
+
+-- a stop leaves no number below this
+abbrev pub HoldsAtLeast : ℕ → Held → Type 0
+HoldsAtLeast kept held = (n : ℕ) → MayHold held n → kept ≤ n
 
 -- the validation in the node's own row, if there is one
 abbrev pub own_current : Node → Option Validation
@@ -21,6 +25,11 @@ IsItemCovered kept (Vote v) = v.seq ≤ kept
 
 -- a stop may leave no number below the kept one, and what the node has said is at most that
 pub record IsCovered (held : Held) (core : Core) : Type 0 where
-  pub saved : (n : ℕ) → MayHold held n → core.node.kept ≤ n
+  pub saved : HoldsAtLeast core.node.kept held
   pub own : IfSome (own_current core.node) (λ v. v.seq ≤ core.node.kept)
   pub waiting : All (λ q. All (IsItemCovered core.node.kept) q.items) core.waiting
+
+-- what a stop may leave then covers the core, if it did before, where the keeper tells
+abbrev pub StaysCovered : Option Held → Option Held → Core → Core → Type 0
+StaysCovered held held' old new =
+    (before after : Held) → held ≡ Some before → held' ≡ Some after → IsCovered before old → IsCovered after new

@@ -1,5 +1,5 @@
 ghost use Rattle.xl_core.specs.Lives.{ReportsArise, ReportsRise};
-ghost use Rattle.xl_core.specs.CoreLives.{SaidIsSaved};
+ghost use Rattle.xl_core.specs.CoreLives.{SaidIsSaved, ReportsAreHandedOut, NoneIsLost};
 
 /// The law of a node's reports, which has no code: it speaks of every life of a node, which is what happened since it opened.
 pub fn reports()
@@ -13,4 +13,12 @@ pub fn reports()
 /// when.
 pub fn said_is_saved()
     ensures { SaidIsSaved }
+{}
+
+/// The law of what a core hands out, which has no code: over every life of a core, into whatever rooms and when.
+pub fn reports_are_handed_out()
+    // What arose was handed out in order, or waits, or was lost and counted.
+    ensures handed { ReportsAreHandedOut }
+    // A report is lost only where more than 1,024 waited.
+    ensures none { NoneIsLost }
 {}

@@ -29,7 +29,7 @@ mod untaken;
 pub use event::CoreEvent;
 pub use hearing::{Speech, Spoken};
 pub use item::Item;
-pub use law::{reports, said_is_saved};
+pub use law::{reports, reports_are_handed_out, said_is_saved};
 pub use node::Node;
 pub use outgoing::OUTGOING;
 pub use queued::Core;

@@ -9,41 +9,34 @@ ghost use Rattle.xl_core.specs.Node.{
   Frame,
   opened,
   at_moment,
-  second_of,
   happens,
   hears,
-  refusal_at,
+  speech_refusal,
   reporting,
-  with_taken,
+  with_own,
   arisen,
   arises_in,
   is_above,
-  learns,
   preferred,
   report_if,
   settings_of,
   frame_refusal,
-  asks,
-  is_kept,
-  issues,
+  asks_for,
+  issues_own,
+  IsOff,
+  HearsOthers,
   own_validation,
 };
-ghost use Rattle.xl_core.specs.declared.refusal.Refusal.TheVariants.{NotAfter, IssuingOff, KeepFault, Header as HeaderRefused};
+ghost use Rattle.xl_core.specs.declared.refusal.Refusal.TheVariants.{NotAfter, IssuingOff, KeepFault};
 ghost use Rattle.xl_core.specs.declared.hearing.Speech.TheVariants as speech;
-ghost use Rattle.xl_ledger.specs.Registries.{add_refusal};
 ghost use Rattle.xl_ledger.specs.declared.registry.TheConstants.{LEAST_LIMIT, GREATEST_LIMIT};
 ghost use Rattle.xl_core.specs.Draining.{IsPut};
-ghost use Rattle.xl_core.specs.Hearing.{heard};
 ghost use Rattle.xl_core.specs.Items.{frame_of};
-ghost use Rattle.xl_core.specs.Refusals.{refusal_from};
 ghost use Rattle.xl_core.specs.Rest.{IsKeyed};
 ghost use Rattle.xl_core.specs.Answers.{Done};
-ghost use Rattle.xl_core.specs.Replies.{issue_reply, hear_reply, vote_reply, save_in};
-ghost use Rattle.xl_core.specs.declared.hearing.Spoken.{Spoken};
+ghost use Rattle.xl_core.specs.Replies.{issue_reply, hear_reply, vote_reply, save_in, was_kept};
 ghost use Rattle.xl_core.specs.Node.Save.{Kept};
-ghost use Rattle.xl_core.specs.Keeping.{AsksSave, Saves};
-ghost use Rattle.xl_base.specs.Faults.{Rose};
-ghost use Rattle.xl_io.specs.Keepers.{after_save};
+ghost use Rattle.xl_core.specs.Keeping.{AsksSave, CountsFault, Holds, Saves};
 
 use crate::hearing::hear;
 use crate::item::vote_in;
@@ -213,12 +206,12 @@ impl<B: Branch + Drop> Node<B> {
         requires moment { now ≤ GREATEST_MILLIS }
         ensures exact { issue_reply result self.new ≡ happens self.old (Issue now seq id full) (save_in result) }
         ensures not_after { (result ≡ Err (NotAfter self.old.kept)) ↔ (seq ≤ self.old.kept) }
-        ensures off { (failed : ℕ) → (result ≡ Err (IssuingOff failed)) ↔ ((self.old.kept < seq) × (self.old.failed_save ≡ Some failed)) }
-        ensures fault { (count : ℕ) → result ≡ Err (KeepFault count) → Rose (K.faults keeper.old) (K.faults keeper.new) × (count ≡ K.faults keeper.new) }
+        ensures off { (failed : ℕ) → (result ≡ Err (IssuingOff failed)) ↔ IsOff self.old seq failed }
+        ensures fault { CountsFault result (K.faults keeper.old) (K.faults keeper.new) }
         // At most one save is asked, of a number above the kept one.
-        ensures held { K.held keeper.new ≡ option_map (λ held. after_save held (asks self.old (Issue now seq id full)) (is_kept (save_in result))) (K.held keeper.old) }
-        ensures saves { AsksSave (asks self.old (Issue now seq id full)) (K.saves keeper.old) (K.saves keeper.new) }
-        ensures keeper { Saves K.save_gives (asks self.old (Issue now seq id full)) (is_kept (save_in result)) keeper.old keeper.new }
+        ensures held { Holds (asks_for self.old seq) (was_kept result) (K.held keeper.old) (K.held keeper.new) }
+        ensures saves { AsksSave (asks_for self.old seq) (K.saves keeper.old) (K.saves keeper.new) }
+        ensures keeper { Saves K.save_gives (asks_for self.old seq) (was_kept result) keeper.old keeper.new }
         ensures later { K.faults keeper.old ≤ K.faults keeper.new }
     {
         self.advance(now);
@@ -237,7 +230,7 @@ impl<B: Branch + Drop> Node<B> {
 
     /// Issues the validation of a sequence that was saved.
     fn issue_saved(&mut self, seq: Seq, id: LedgerId, full: bool) -> OwnValidation
-        ensures { issue_reply (Ok result) self.new ≡ issues self.old (second_of self.old) Kept (own_validation self.old seq id full) }
+        ensures { issue_reply (Ok result) self.new ≡ issues_own self.old seq id full }
     {
         let validation = Validation {
             id,
@@ -262,21 +255,21 @@ impl<B: Branch + Drop> Node<B> {
         ensures refused { result_err result ≡ frame_refusal (at_moment now self.old) bytes.now }
         ensures unchanged { OnErr result (self.new ≡ at_moment now self.old) }
         // It hears others, and not itself.
-        ensures others { (said : Spoken) → heard self.old.keys self.old.list.members bytes.now ≡ Ok said → said.from ≢ self.old.me }
+        ensures others { HearsOthers self.old bytes.now }
     {
         self.advance(now);
         let said = hear(&self.keys, &self.list, bytes)?;
         match said.what {
-            Speech::Vote(validation) => self.take_vote(said.from, &validation),
+            Speech::Validation(validation) => self.take_validation(said.from, &validation),
             Speech::Header(header) => self.learn(&header),
         }
     }
 
     /// A member's row takes a validation.
-    fn take_vote(&mut self, from: NodeNo, v: &Validation) -> Result<Heard, Refusal>
+    fn take_validation(&mut self, from: NodeNo, v: &Validation) -> Result<Heard, Refusal>
         requires listed { IsTrue (is_on self.old.list.members from) }
-        ensures exact { hear_reply result self.new ≡ hears self.old (second_of self.old) from v.now (refusal_at self.old (second_of self.old) from v.now) }
-        ensures refused { result_err result ≡ option_map refusal_from (refusal_at self.old (second_of self.old) from v.now) }
+        ensures exact { hear_reply result self.new ≡ hears self.old from (speech.Validation v.now) }
+        ensures refused { result_err result ≡ speech_refusal self.old from (speech.Validation v.now) }
         ensures unchanged { OnErr result (self.new ≡ self.old) }
     {
         match self.take(from, v) {
@@ -290,8 +283,8 @@ impl<B: Branch + Drop> Node<B> {
 
     /// Adds a header to the known ledgers. Validations that waited for it are votes from then on, and nothing is reported.
     fn learn(&mut self, h: &Header) -> Result<Heard, Refusal>
-        ensures exact { hear_reply result self.new ≡ learns self.old h.now (add_refusal self.old.ledgers h.now) }
-        ensures refused { result_err result ≡ option_map HeaderRefused (add_refusal self.old.ledgers h.now) }
+        ensures exact { (from : ℕ) → hear_reply result self.new ≡ hears self.old from (speech.Header h.now) }
+        ensures refused { (from : ℕ) → result_err result ≡ speech_refusal self.old from (speech.Header h.now) }
         ensures unchanged { OnErr result (self.new ≡ self.old) }
     {
         let ledger = self.registry.add(h)?;
@@ -327,8 +320,8 @@ impl<B: Branch + Drop> Node<B> {
 
     /// The own row takes what was issued, if the node stands on its list.
     fn take_own(&mut self, v: &Validation) -> Option<Report>
-        ensures node { self.new ≡ (reporting (with_taken self.old (second_of self.old) self.old.me v.now) Done (Some v.now)).node }
-        ensures report { result ≡ arisen (with_taken self.old (second_of self.old) self.old.me v.now) }
+        ensures node { self.new ≡ (reporting (with_own self.old v.now) Done (Some v.now)).node }
+        ensures report { result ≡ arisen (with_own self.old v.now) }
     {
         let me = self.me;
         if self.list.has(me) {
@@ -341,8 +334,8 @@ impl<B: Branch + Drop> Node<B> {
     /// A member's row takes a validation, and what that gives is reported.
     fn take(&mut self, from: NodeNo, v: &Validation) -> Result<Option<Report>, Refusal>
         requires listed { IsTrue (is_on self.old.list.members from) }
-        ensures exact { vote_reply result self.new ≡ hears self.old (second_of self.old) from v.now (refusal_at self.old (second_of self.old) from v.now) }
-        ensures refused { result_err result ≡ option_map refusal_from (refusal_at self.old (second_of self.old) from v.now) }
+        ensures exact { vote_reply result self.new ≡ hears self.old from (speech.Validation v.now) }
+        ensures refused { result_err result ≡ speech_refusal self.old from (speech.Validation v.now) }
         ensures unchanged { OnErr result (self.new ≡ self.old) }
     {
         self.table

@@ -1,9 +1,8 @@
 // What a node has yet to send, for each number that a member may have.
 ghost use Rattle.std.specs.Prelude.{◌≡◌, ◌+◌, ◌-◌, ◌≤◌, ◌++◌, ℕ, Some, None, IsSome, drop, length};
 ghost use Rattle.xl_tags.specs.Rings.{key_of};
-ghost use Rattle.xl_core.specs.Draining.{TakesOne};
-ghost use Rattle.xl_core.specs.Items.{frames_for, taken_for};
-ghost use Rattle.xl_core.specs.Queues.{after_taking, at_number, fitting, frames_in, joined, waiting_at};
+ghost use Rattle.xl_core.specs.Draining.{TakesFirst, TakesNone};
+ghost use Rattle.xl_core.specs.Items.{drained_bytes, drained_for, lost_for};
 
 use crate::putting::Put;
 use crate::{Item, Node};
@@ -37,9 +36,9 @@ pub fn drain<B: Branch + Drop>(
     room: &mut [u8],
 ) -> usize
     requires key { IsSome (key_of node.now.keys member) }
-    ensures count { result ≡ length (joined (frames_in (taken_for node.now waiting.old member (length room.old)))) }
-    ensures frames { room.new ≡ joined (frames_in (taken_for node.now waiting.old member (length room.old))) ++ drop result room.old }
-    ensures taken { waiting.new ≡ at_number waiting.old member (after_taking (taken_for node.now waiting.old member (length room.old))) }
+    ensures count { result ≡ length (drained_bytes node.now waiting.old member (length room.old)) }
+    ensures frames { room.new ≡ drained_bytes node.now waiting.old member (length room.old) ++ drop result room.old }
+    ensures taken { waiting.new ≡ drained_for node.now waiting.old member (length room.old) }
 {
     let mut at = 0;
     while let Some(next) = drain_first(waiting, node, member, at, room) {
@@ -59,8 +58,8 @@ fn drain_first<B: Branch + Drop>(
 ) -> Option<usize>
     requires key { IsSome (key_of node.now.keys member) }
     requires place { at ≤ length room.old }
-    ensures none { result ≡ None → (fitting (frames_for node.now waiting.old member) (length room.old - at) ≡ 0) × (waiting.new ≡ waiting.old) × (room.new ≡ room.old) }
-    ensures some { (next : ℕ) → result ≡ Some next → TakesOne (frames_for node.now waiting.old member) waiting.old waiting.new member at next room.old room.new }
+    ensures none { result ≡ None → TakesNone node.now member at waiting.old waiting.new room.old room.new }
+    ensures some { TakesFirst node.now member at result waiting.old waiting.new room.old room.new }
     ensures numbers { (length waiting.old ≡ 64) × (1 ≤ member) × (member ≤ 64) }
 {
     let reader = reader_of(member);
@@ -78,9 +77,13 @@ fn drain_first<B: Branch + Drop>(
     }
 }
 
-/// How many items for a member were lost.
-pub fn lost_for(waiting: &Waiting, member: NodeNo) -> u64
-    ensures { result ≡ (waiting_at waiting.now member).lost }
+/// How many items for a member were lost: none for one that is no peer.
+pub fn lost_for<B: Branch + Drop>(waiting: &Waiting, node: &Node<B>, member: NodeNo) -> u64
+    ensures { result ≡ lost_for node.now waiting.now member }
 {
-    waiting.lost(reader_of(member))
+    if node.keys().has(member) {
+        waiting.lost(reader_of(member))
+    } else {
+        0
+    }
 }

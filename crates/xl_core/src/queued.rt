@@ -1,21 +1,20 @@
 ghost use Rattle.std.specs.Prelude.{◌≡◌, ◌↔◌, ◌<◌, ◌≤◌, [], ℕ, IfOk, IsSome, OnOk, OnErr, Some, Err, length, option_map, None};
 ghost use Rattle.std.specs.Result.{result_err};
-ghost use Rattle.xl_base.specs.Faults.{Rose};
 ghost use Rattle.xl_base.specs.declared.moments.TheConstants.{GREATEST_MILLIS};
 ghost use Rattle.xl_validations.specs.Votes.{votes_of};
 ghost use Rattle.xl_ledger.specs.declared.registry.TheConstants.{LEAST_LIMIT, GREATEST_LIMIT};
-ghost use Rattle.xl_io.specs.Keepers.{Held, MayHold, after_save};
+ghost use Rattle.xl_io.specs.Keepers.{Held};
 ghost use Rattle.xl_tags.specs.Rings.{key_of};
 ghost use Rattle.xl_core.specs.Answers.{Done, Told};
-ghost use Rattle.xl_core.specs.Core.{with_queues, core_happens, core_asks};
-ghost use Rattle.xl_core.specs.Items.{frames_for};
-ghost use Rattle.xl_core.specs.Queues.{waiting_at, frames_in};
-ghost use Rattle.xl_core.specs.declared.event.CoreEvent.TheVariants.{Issue, Frame, Drain, Reports, Stop, Stopped};
-ghost use Rattle.xl_core.specs.Stops.{IsCovered};
-ghost use Rattle.xl_core.specs.Keeping.{AsksSave, Saves};
-ghost use Rattle.xl_core.specs.Replies.{Answers, Drains, HandsOut, taken_answer, done_answer, save_in};
+ghost use Rattle.xl_core.specs.Core.{with_queues, core_happens};
+ghost use Rattle.xl_core.specs.Items.{frames_for, lost_for};
+ghost use Rattle.xl_core.specs.Queues.{frames_in};
+ghost use Rattle.xl_core.specs.declared.event.CoreEvent.TheVariants.{Issue, Frame, Stop, Stopped};
+ghost use Rattle.xl_core.specs.Stops.{HoldsAtLeast, IsCovered, StaysCovered};
+ghost use Rattle.xl_core.specs.Keeping.{AsksSave, CountsFault, Holds, Saves};
+ghost use Rattle.xl_core.specs.Replies.{Answers, Drains, HandsOut, Issues, taken_answer, was_kept};
 ghost use Rattle.xl_core.specs.Rest.{IsKeyed};
-ghost use Rattle.xl_core.specs.Node.{opened, settings_of, at_moment, frame_refusal, preferred, is_kept};
+ghost use Rattle.xl_core.specs.Node.{opened, settings_of, at_moment, asks_for, frame_refusal, preferred, IsOff};
 ghost use Rattle.xl_core.specs.Node.Save.{Kept};
 ghost use Rattle.xl_wire.specs.declared.lengths.TheConstants.{LONGEST_FRAME};
 ghost use Rattle.xl_core.specs.declared.refusal.Refusal.TheVariants.{NotAfter, IssuingOff, KeepFault};
@@ -62,7 +61,7 @@ impl<B: Branch + Drop> Core<B> {
         requires moment { now ≤ GREATEST_MILLIS }
         ensures opened { IfOk result (λ core. core ≡ with_queues (opened settings now kept)) }
         // The keeper holds nothing below the number.
-        ensures stop { (held : Held) → ((n : ℕ) → MayHold held n → kept ≤ n) → IfOk result (λ core. IsCovered held core) }
+        ensures stop { (held : Held) → HoldsAtLeast kept held → IfOk result (λ core. IsCovered held core) }
     {
         let waiting = Broadcast::open(alloc)?;
         let untaken = Queue::open(alloc)?;
@@ -81,7 +80,7 @@ impl<B: Branch + Drop> Core<B> {
         ensures opened { OnOk result (self.new ≡ with_queues (opened (settings_of self.old.node) now kept)) }
         ensures err { OnErr result (self.new ≡ self.old) }
         // The keeper holds nothing below the number.
-        ensures stop { (held : Held) → ((n : ℕ) → MayHold held n → kept ≤ n) → OnOk result (IsCovered held self.new) }
+        ensures stop { (held : Held) → HoldsAtLeast kept held → OnOk result (IsCovered held self.new) }
     {
         let waiting = Broadcast::open(alloc)?;
         let untaken = Queue::open(alloc)?;
@@ -124,17 +123,17 @@ impl<B: Branch + Drop> Core<B> {
         keeper: &mut K,
     ) -> Result<(), Refusal>
         requires moment { now ≤ GREATEST_MILLIS }
-        ensures step { Answers (core_happens self.old (Issue now seq id full) (save_in result)) self.new (done_answer result) }
+        ensures step { Issues self.old (Issue now seq id full) result self.new }
         ensures unsent { OnErr result (self.new.waiting ≡ self.old.waiting) }
         ensures not_after { (result ≡ Err (NotAfter self.old.node.kept)) ↔ (seq ≤ self.old.node.kept) }
-        ensures off { (failed : ℕ) → (result ≡ Err (IssuingOff failed)) ↔ ((self.old.node.kept < seq) × (self.old.node.failed_save ≡ Some failed)) }
-        ensures fault { (count : ℕ) → result ≡ Err (KeepFault count) → Rose (K.faults keeper.old) (K.faults keeper.new) × (count ≡ K.faults keeper.new) }
+        ensures off { (failed : ℕ) → (result ≡ Err (IssuingOff failed)) ↔ IsOff self.old.node seq failed }
+        ensures fault { CountsFault result (K.faults keeper.old) (K.faults keeper.new) }
         // At most one save is asked, of a number above the kept one.
-        ensures held { K.held keeper.new ≡ option_map (λ held. after_save held (core_asks self.old (Issue now seq id full)) (is_kept (save_in result))) (K.held keeper.old) }
-        ensures saves { AsksSave (core_asks self.old (Issue now seq id full)) (K.saves keeper.old) (K.saves keeper.new) }
-        ensures keeper { Saves K.save_gives (core_asks self.old (Issue now seq id full)) (is_kept (save_in result)) keeper.old keeper.new }
+        ensures held { Holds (asks_for self.old.node seq) (was_kept result) (K.held keeper.old) (K.held keeper.new) }
+        ensures saves { AsksSave (asks_for self.old.node seq) (K.saves keeper.old) (K.saves keeper.new) }
+        ensures keeper { Saves K.save_gives (asks_for self.old.node seq) (was_kept result) keeper.old keeper.new }
         ensures later { K.faults keeper.old ≤ K.faults keeper.new }
-        ensures stop { (before after : Held) → K.held keeper.old ≡ Some before → K.held keeper.new ≡ Some after → IsCovered before self.old → IsCovered after self.new }
+        ensures stop { StaysCovered (K.held keeper.old) (K.held keeper.new) self.old self.new }
     {
         match self.node.issue(now, seq, id, full, keeper) {
             Ok(issued) => {
@@ -151,7 +150,7 @@ impl<B: Branch + Drop> Core<B> {
     pub fn drain(&mut self, member: NodeNo, room: &mut [u8]) -> usize
         requires peer { IsSome (key_of self.old.node.keys member) }
         requires room { LONGEST_FRAME ≤ length room.old }
-        ensures step { Drains (core_happens self.old (Drain member (length room.old)) Kept) self.new result room.old room.new }
+        ensures step { Drains self.old member self.new result room.old room.new }
         // It answers 0 exactly where nothing is left but items that are passed over.
         ensures nothing { (result ≡ 0) ↔ (frames_in (frames_for self.old.node self.old.waiting member) ≡ []) }
         ensures stop { (held : Held) → IsCovered held self.old → IsCovered held self.new }
@@ -159,18 +158,17 @@ impl<B: Branch + Drop> Core<B> {
         drain(&mut self.waiting, &self.node, member, room)
     }
 
-    /// How many items for a peer were lost, since its queue was full or they were passed over.
+    /// How many items for a member were lost, since its queue was full or they were passed over: none for one that is no peer.
     pub fn lost(&self, member: NodeNo) -> u64
-        requires peer { IsSome (key_of self.now.node.keys member) }
-        ensures { result ≡ (waiting_at self.now.waiting member).lost }
+        ensures { result ≡ lost_for self.now.node self.now.waiting member }
     {
-        lost_for(&self.waiting, member)
+        lost_for(&self.waiting, &self.node, member)
     }
 
     /// Takes out the oldest reports that no one has taken, as many as the room holds, and answers how many. The rest of the
     /// room is as it was.
     pub fn reports(&mut self, room: &mut [Report]) -> usize
-        ensures step { HandsOut (core_happens self.old (Reports (length room.old)) Kept) self.new result room.old room.new }
+        ensures step { HandsOut self.old self.new result room.old room.new }
         ensures stop { (held : Held) → IsCovered held self.old → IsCovered held self.new }
     {
         take_reports(&mut self.untaken, room)

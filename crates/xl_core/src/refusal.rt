@@ -39,6 +39,26 @@ pub enum Refusal {
     KeepFault(u64),
 }
 
+impl From<WireRefusal> for Refusal {
+    ghost use Rattle.xl_core.specs.declared.refusal.Refusal.TheVariants as node;
+
+    ghost from_gives = { λ why refusal. refusal ≡ node.Frame why };
+
+    fn from(why: WireRefusal) -> Refusal {
+        Refusal::Frame(why)
+    }
+}
+
+impl From<TagRefusal> for Refusal {
+    ghost use Rattle.xl_core.specs.declared.refusal.Refusal.TheVariants as node;
+
+    ghost from_gives = { λ why refusal. refusal ≡ node.Tag why };
+
+    fn from(why: TagRefusal) -> Refusal {
+        Refusal::Tag(why)
+    }
+}
+
 impl From<ValRefusal> for Refusal {
     ghost from_gives = { λ why refusal. refusal ≡ refusal_from why };
 

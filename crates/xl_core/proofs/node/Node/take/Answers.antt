@@ -3,7 +3,8 @@ use Rattle.std.specs.Prelude.{true, All}
 use Rattle.xl_lists.specs.Lists.{is_on}
 use Rattle.xl_validations.specs.declared.row.Row.{Row}
 use Rattle.xl_validations.specs.Rows.{refusal_of}
-use Rattle.xl_core.specs.Node.{Node, report_if, hears, refusal_at, arises_in, second_of}
+use Rattle.xl_core.specs.declared.hearing.Speech.TheVariants as speech
+use Rattle.xl_core.specs.Node.{Node, report_if, hears, arises_in, second_of}
 use Rattle.xl_core.specs.Rest.{IsCurrent, node_seen}
 use Rattle.xl_core.proofs.Answered.{has_row, rest_when_taken, answer_when_taken}
 use Rattle.xl_core.proofs.Current.{taken_current}
@@ -37,10 +38,10 @@ pub returns-clause-exact : goal.returns-clause-exact
 returns-clause-exact g c =
     let n : Node = node_seen c.self.inside in
     let unrefused : None ≡ refusal_of n.rows c.args.from (second_of n) c.args.v.now = subst (λ (s : ℕ). None ≡ refusal_of n.rows c.args.from s c.args.v.now) c.secs_of.ensures c.in_ok-take.ensures.answer in
-    answer_when_taken n (second_of n) c.args.from c.args.v.now c.take.new.self.rows c.report_by-report.result c.or-self-inside.result c.self.invariant.0.rest
+    answer_when_taken n c.args.from c.args.v.now c.take.new.self.rows c.report_by-report.result c.or-self-inside.result c.self.invariant.0.rest
     (subst (λ (m : Node). is_on m.list.members c.args.from ≡ true) (sym c.self.view_is) c.requires.listed)
     unrefused
     c.in_ok-take.ensures.taken
     (c.report_by-report.ensures ∙ ap (λ q. report_if (arises_in q c.take.new.self.rows c.self.inside.last c.args.v.now) c.args.v.now) c.quorum.ensures.value)
     c.or-self-inside.ensures
-    ∙ ap (λ m. hears m (second_of m) c.args.from c.args.v.now (refusal_at m (second_of m) c.args.from c.args.v.now)) c.self.view_is
+    ∙ ap (λ m. hears m c.args.from (speech.Validation c.args.v.now)) c.self.view_is

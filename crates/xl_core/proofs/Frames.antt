@@ -1,0 +1,58 @@
+-- What came of bytes: they are refused, or what they say is taken.
+use Rattle.std.proofs.Common.{◌≡◌, ℕ, List, refl, ap, sym, ◌∙◌, Option, Some, None, Result, Ok, Err}
+use Rattle.std.specs.Option.{option_or}
+use Rattle.xl_base.specs.Refusals.{unless_refused}
+use Rattle.xl_wire.specs.Heads.{raw_in}
+use Rattle.xl_core.specs.declared.hearing.Spoken.{Spoken}
+use Rattle.xl_core.specs.declared.hearing.Speech.{Speech}
+use Rattle.xl_core.specs.declared.refusal.Refusal.{Refusal}
+use Rattle.xl_core.specs.Hearing.{unheard, said_in, heard}
+use Rattle.xl_core.specs.Node.{Node, Reply, refusing, refusing_or, speech_refusal, taking, hears, frame_refusal, hearing}
+use Rattle.xl_core.proofs.Heard.{heard_where, heard_by}
+
+-- what holds of each refusal, and of what is taken of what is heard, holds of what came of bytes
+pub hearing_either : (P : Reply → Type 0) (n : Node) (bytes : List ℕ) → ((why : Refusal) → P (refusing n why)) →
+    ((said : Spoken) → heard n.keys n.list.members bytes ≡ Ok said → P (taking n said.from said.what)) → P (hearing n bytes)
+hearing_either P n bytes refuses takes =
+    let said : Spoken = said_in (raw_in bytes) in
+    by (unheard n.keys n.list.members bytes) refl (speech_refusal n said.from said.what)
+  where
+    by : (o : Option Refusal) → unheard n.keys n.list.members bytes ≡ o → (p : Option Refusal) →
+        P (refusing_or n (option_or o p) (taking n (said_in (raw_in bytes)).from (said_in (raw_in bytes)).what))
+    by (Some why) is p = refuses why
+    by None is (Some why) = refuses why
+    by None is None = takes (said_in (raw_in bytes)) (heard_where n.keys n.list.members bytes is)
+
+-- NOTHING IS HEARD
+
+abbrev refused : Refusal → Result Spoken Refusal
+refused why = Err why
+
+same_cause : (a b : Refusal) → refused a ≡ refused b → a ≡ b
+same_cause a b e = cc
+
+pub nothing_heard : (n : Node) (bytes : List ℕ) (why : Refusal) → Err why ≡ heard n.keys n.list.members bytes → (Some why ≡ frame_refusal n bytes) × (refusing n why ≡ hearing n bytes)
+nothing_heard n bytes why is =
+    let said : Spoken = said_in (raw_in bytes) in
+    let first = by (unheard n.keys n.list.members bytes) is in (
+      ap (λ (o : Option Refusal). option_or o (speech_refusal n said.from said.what)) first,
+      ap (λ (o : Option Refusal). refusing_or n (option_or o (speech_refusal n said.from said.what)) (taking n said.from said.what)) first,
+    )
+  where
+    by : (o : Option Refusal) → refused why ≡ unless_refused o (said_in (raw_in bytes)) → Some why ≡ o
+    by None e = absurd cc
+    by (Some other) e = ap (λ (r : Refusal). Some r) (same_cause why other e)
+
+-- SOMETHING IS HEARD
+
+pub something_heard : (n : Node) (bytes : List ℕ) (said : Spoken) (what : Speech) → Ok said ≡ heard n.keys n.list.members bytes → said.what ≡ what →
+    (speech_refusal n said.from what ≡ frame_refusal n bytes) × (hears n said.from what ≡ hearing n bytes)
+something_heard n bytes said what is told =
+    let found = heard_by n.keys n.list.members bytes said (sym is) in (
+      ap (speech_refusal n said.from) (sym told)
+          ∙ ap (λ (s : Spoken). speech_refusal n s.from s.what) (sym found.1)
+          ∙ ap (λ (o : Option Refusal). option_or o (speech_refusal n (said_in (raw_in bytes)).from (said_in (raw_in bytes)).what)) (sym found.0),
+      ap (hears n said.from) (sym told)
+          ∙ ap (λ (s : Spoken). hears n s.from s.what) (sym found.1)
+          ∙ ap (λ (o : Option Refusal). refusing_or n (option_or o (speech_refusal n (said_in (raw_in bytes)).from (said_in (raw_in bytes)).what)) (taking n (said_in (raw_in bytes)).from (said_in (raw_in bytes)).what)) (sym found.0),
+    )
