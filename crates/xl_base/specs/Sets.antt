@@ -1,12 +1,13 @@
 -- Sets of transactions, and the ids that name them.
 -- Source: rippled, whose ledgers name their set of transactions by a half hash; the layout and 256 are this profile's.
-use Rattle.std.specs.Prelude.{ℕ, ◌≤◌, Bool, List, [], ◌∷◌, ◌++◌, length, take, IsTrue}
+use Rattle.std.specs.Prelude.{ℕ, ◌≤◌, Bool, List, [], ◌∷◌, ◌++◌, length, IsTrue}
 use Rattle.std.specs.Ordering.{nat_cmp, is_lt}
 use Rattle.std.specs.Cmp.Lexicographic.{slice_cmp}
 use Rattle.std.specs.List.{flat_map}
-use Rattle.sha2.specs.Sha512.{sha512}
+use Rattle.xl_base.specs.Hashes.{half}
 use Rattle.xl_base.specs.declared.ids.TxId.{TxId}
 use Rattle.xl_base.specs.declared.ids.SetId.{SetId}
+use Rattle.xl_base.specs.declared.sets.TheConstants.{MOST_IDS}
 
 -- at the first byte where they differ the first list has the lower one
 abbrev pub comes_before : List ℕ → List ℕ → Bool
@@ -27,7 +28,7 @@ IsRising (a ∷ ids) = RisesFrom a ids
 -- what every set keeps
 pub record IsSet (ids : List TxId) : Type 0 where
   pub rising : IsRising ids
-  pub at_most : length ids ≤ 256
+  pub at_most : length ids ≤ MOST_IDS
 
 -- one id after the other
 abbrev pub id_bytes : List TxId → List ℕ
@@ -35,4 +36,4 @@ id_bytes ids = flat_map (λ id. id.0) ids
 
 -- the half hash of `TXS`, a zero byte, and the ids
 abbrev pub set_id_of : List TxId → SetId
-set_id_of ids = record { 0 = take 32 (sha512 ((0x54 ∷ 0x58 ∷ 0x53 ∷ 0 ∷ []) ++ id_bytes ids)) }
+set_id_of ids = record { 0 = half ((0x54 ∷ 0x58 ∷ 0x53 ∷ 0 ∷ []) ++ id_bytes ids) }

@@ -29,11 +29,4 @@ impl Bytes {
     {
         &self.bytes
     }
-
-    /// The vector. It takes no memory.
-    pub fn into_vec(self) -> Vec<u8>
-        ensures { result.items ≡ self }
-    {
-        self.bytes
-    }
 }

@@ -1,11 +1,11 @@
 ghost use Rattle.std.specs.Prelude.{◌≡◌, take};
-ghost use Rattle.sha2.specs.Sha512.{sha512};
+ghost use Rattle.xl_base.specs.Hashes.{half};
 
 use sha2::{Digest, Sha512};
 
 /// SHA-512Half: the first 32 bytes of the SHA-512 of the bytes (FIPS 180-4). Ledgers and sets are named by it.
 pub fn half512(bytes: &[u8]) -> [u8; 32]
-    ensures { result ≡ take 32 (sha512 bytes.now) }
+    ensures { result ≡ half bytes.now }
 {
     first_half(&Sha512::digest(bytes))
 }

@@ -1,7 +1,8 @@
-//! The words that all layers share: who a member is, which ledger, which set, which moment, how a run ended, and the half hash.
+//! The words that all layers share: who a member is, which ledger, which set, which moment, how a run ended, the half
+//! hash, and how fields are put into bytes.
 //!
-//! It stands on the kit's `sha2` alone. Its one contract: `half512` is the first half of SHA-512, and
-//! `set_id` is that of a set's prefix and ids.
+//! It stands on the kit's `sha2` and `byteorder`. Its one contract: `half512` is the first half of SHA-512, and `set_id`
+//! is that of a set's prefix and ids. `TxIds` is for the ids that events will name once the world's nodes have rounds.
 #![tactic(auto)]
 
 mod bytes;
@@ -10,6 +11,7 @@ mod ids;
 mod memory;
 mod moments;
 mod node_no;
+mod putting;
 mod sets;
 mod status;
 mod steps;
@@ -19,9 +21,10 @@ pub use bytes::Bytes;
 pub use hash::half512;
 pub use ids::{LedgerId, SetId, TxId};
 pub use memory::OutOfMemory;
-pub use moments::{GREATEST_MILLIS, Millis, Secs, Seq, secs_of};
-pub use node_no::{GREATEST_NODE_NO, NodeNo};
-pub use sets::set_id;
+pub use moments::{FUTURE_SECS, GREATEST_MILLIS, Millis, PAST_SECS, Secs, Seq, secs_of};
+pub use node_no::{GREATEST_NODE_NO, MOST_MEMBERS, NodeNo};
+pub use putting::{bytes_at, put, put_field, put_u16, put_u32, put_u64};
+pub use sets::{MOST_IDS, set_id};
 pub use status::Status;
 pub use steps::Steps;
 pub use tx_ids::TxIds;

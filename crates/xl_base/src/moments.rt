@@ -13,6 +13,12 @@ pub type Millis = u64;
 /// No moment is later.
 pub const GREATEST_MILLIS: Millis = 4_000_000_000_000;
 
+/// A validation is current less than so many seconds after it was signed,
+pub const PAST_SECS: Secs = 180;
+
+/// and less than so many before.
+pub const FUTURE_SECS: Secs = 300;
+
 /// The second of a moment, rounded down.
 pub fn secs_of(now: Millis) -> Secs
     requires { now ≤ GREATEST_MILLIS }

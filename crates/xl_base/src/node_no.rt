@@ -6,6 +6,9 @@ use std::marker::Model;
 /// The greatest number of a member.
 pub const GREATEST_NODE_NO: u32 = 64;
 
+/// There are at most so many members, one for each number.
+pub const MOST_MEMBERS: usize = GREATEST_NODE_NO as usize;
+
 /// A member's number, from 1 to 64.
 #[derive(Clone, Copy, Debug, PartialEq, Eq, PartialOrd, Ord)]
 pub struct NodeNo {

@@ -1,4 +1,5 @@
-ghost use Rattle.std.specs.Prelude.{◌≡◌, ◌+◌, ◌-◌, ◌^◌, ◌≤◌, min};
+ghost use Rattle.std.specs.Prelude.{◌≡◌, ◌≤◌};
+ghost use Rattle.xl_base.specs.Counts.{one_more};
 
 use std::marker::Model;
 
@@ -26,7 +27,7 @@ impl Steps {
 
     /// One step more.
     pub fn tick(&mut self)
-        ensures count { self.new ≡ min (self.old + 1) (2 ^ 64 - 1) }
+        ensures count { self.new ≡ one_more self.old }
         ensures later { self.old ≤ self.new }
     {
         self.taken = self.taken.saturating_add(1);

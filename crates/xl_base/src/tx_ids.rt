@@ -31,11 +31,4 @@ impl TxIds {
     {
         &self.ids
     }
-
-    /// The vector. It takes no memory.
-    pub fn into_vec(self) -> Vec<TxId>
-        ensures { result.items ≡ self }
-    {
-        self.ids
-    }
 }

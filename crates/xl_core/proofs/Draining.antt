@@ -9,7 +9,8 @@ use Rattle.std.proofs.lemmas.List.{length-append, length-drop, length-set, lengt
 use Rattle.std.proofs.lemmas.List.Elements.{All-head, All-tail, filter_map-append}
 use Rattle.std.proofs.lemmas.List.Sums.{sum_by-append}
 use Rattle.xl_queues.specs.Broadcasts.{queue_of}
-use Rattle.xl_queues.specs.Queues.{Backlog, no_items, one_more}
+use Rattle.xl_base.specs.Counts.{one_more}
+use Rattle.xl_queues.specs.Queues.{Backlog, no_items}
 use Rattle.xl_wire.specs.declared.validation.Validation.{Validation}
 use Rattle.xl_core.specs.declared.item.Item.{Item}
 use Rattle.xl_core.specs.declared.item.Item.TheVariants.{Vote}

@@ -5,7 +5,8 @@ use Rattle.std.specs.declared.option.Option.{Option}
 use Rattle.std.specs.List.{flat_map}
 use Rattle.std.specs.Option.{is_none}
 use Rattle.xl_queues.specs.Broadcasts.{queue_of, at_reader, pushed_to_all}
-use Rattle.xl_queues.specs.Queues.{Backlog, no_items, with_item, one_more}
+use Rattle.xl_base.specs.Counts.{one_more}
+use Rattle.xl_queues.specs.Queues.{Backlog, no_items, with_item}
 use Rattle.xl_core.specs.declared.item.Item.{Item}
 use Rattle.xl_core.specs.declared.outgoing.TheConstants.{OUTGOING, MEMBERS}
 use Rattle.xl_core.specs.declared.report.Report.{Report}

@@ -17,7 +17,7 @@ ghost use Rattle.xl_core.specs.Replies.{Answers, Drains, HandsOut, taken_answer,
 ghost use Rattle.xl_core.specs.Rest.{IsKeyed};
 ghost use Rattle.xl_core.specs.Node.{opened, settings_of, at_moment, frame_refusal, preferred, is_kept};
 ghost use Rattle.xl_core.specs.Node.Save.{Kept};
-ghost use Rattle.xl_core.specs.declared.queued.TheConstants.{LONGEST_FRAME};
+ghost use Rattle.xl_wire.specs.declared.lengths.TheConstants.{LONGEST_FRAME};
 ghost use Rattle.xl_core.specs.declared.refusal.Refusal.TheVariants.{NotAfter, IssuingOff, KeepFault};
 
 use crate::outgoing::{Waiting, drain, lost_for};
@@ -29,9 +29,6 @@ use xl_base::{LedgerId, Millis, NodeNo, OutOfMemory, Seq};
 use xl_io::Keeper;
 use xl_ledger::Branch;
 use xl_queues::{Broadcast, Queue};
-
-/// How many bytes the longest frame of all kinds has: a room that is drained into has place for one.
-pub const LONGEST_FRAME: usize = 8_240;
 
 /// A node with its queues, over whichever branch of votes: what it issues waits for each peer until it is drained, and what it
 /// reports until it is taken. A peer is a number that the node has a key for. No call after `open` and `reopen` takes memory.

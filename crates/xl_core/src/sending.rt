@@ -6,10 +6,7 @@ ghost use Rattle.xl_core.specs.Sending.{sealed_bytes, has_spelling};
 
 use xl_base::NodeNo;
 use xl_tags::{Keys, seal};
-use xl_wire::{Body, Frame, Validation, encode};
-
-/// How many bytes a validation's frame has.
-pub const VALIDATION_FRAME: usize = 87;
+use xl_wire::{Body, Frame, VALIDATION_FRAME, Validation, encode};
 
 /// The frame of a validation for another member, sealed by the key for it.
 pub fn sealed(keys: &Keys, to: NodeNo, validation: &Validation) -> [u8; VALIDATION_FRAME]

@@ -4,10 +4,10 @@ ghost use Rattle.xl_disputes.specs.Disputes.{has};
 
 use std::alloc::Global;
 use std::marker::Model;
-use xl_base::{OutOfMemory, SetId, TxId, set_id};
+use xl_base::{MOST_IDS, OutOfMemory, SetId, TxId, set_id};
 
 /// A set has at most so many ids.
-pub(crate) const SET_IDS: usize = 256;
+pub(crate) const SET_IDS: usize = MOST_IDS;
 
 /// A set of transactions and its id, which is computed once, when the set is taken. Its room is taken when it is opened.
 #[derive(Debug, Drop)]

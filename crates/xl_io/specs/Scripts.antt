@@ -1,5 +1,6 @@
 -- Which calls of a source, a sink or a keeper in memory fail. Source: this project's own, for tests of what reads and writes.
-use Rattle.std.specs.Prelude.{ℕ, ◌+◌, ◌-◌, ◌^◌, ◌==◌, min, Bool, List}
+use Rattle.std.specs.Prelude.{ℕ, ◌==◌, Bool, List}
+use Rattle.xl_base.specs.Counts.{one_more}
 use Rattle.std.specs.List.{list_any}
 
 -- the numbers of the calls that are to fail, from 1, and how many calls there were
@@ -11,9 +12,9 @@ pub record Script : Type 0 where
 abbrev pub script_of : List ℕ → Script
 script_of failing = record { failing = failing; calls = 0 }
 
--- after one call more; the count ends at the greatest `u64`
+-- after one call more
 abbrev pub called : Script → Script
-called script = record { failing = script.failing; calls = min (script.calls + 1) (2 ^ 64 - 1) }
+called script = record { failing = script.failing; calls = one_more script.calls }
 
 -- the number of the last call stands among those that are to fail
 abbrev pub is_listed : Script → Bool

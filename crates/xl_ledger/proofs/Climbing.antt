@@ -9,7 +9,8 @@ use Rattle.xl_ledger.specs.declared.header.Header.{Header}
 use Rattle.xl_ledger.specs.Registries.{Ledgers}
 use Rattle.xl_ledger.specs.Chains.{seq_at, chain, common_of, AreLedgers}
 use Rattle.xl_ledger.specs.Jumps.{ancestor_of, jump_of}
-use Rattle.xl_ledger.specs.Walks.{Walked, ticked, GoesOn, TakesStep}
+use Rattle.xl_base.specs.Counts.{one_more}
+use Rattle.xl_ledger.specs.Walks.{Walked, GoesOn, TakesStep}
 use Rattle.xl_ledger.proofs.ChainLaws.{seq_of_added, IsAt}
 use Rattle.xl_ledger.proofs.Ancestors.{double, at_ancestor, own_ancestor, is_ancestor, ancestor_twice, is_jump, jump_twice}
 use Rattle.xl_ledger.proofs.Meeting.{common_leveled_left, common_leveled_right, common_rises, common_parent}
@@ -74,7 +75,7 @@ module _ (start now : Walked) (ledger seq at s : ℕ) (c : Climbs start now ledg
       pub falls : seq_at hs up < seq_at hs at
       falls = omega (arith, jumped.seq, own, pow_pos level)
 
-      pub climbs_on : (next : Walked) → GoesOn now next → next.taken ≡ ticked now.taken → Climbs start next ledger seq up
+      pub climbs_on : (next : Walked) → GoesOn now next → next.taken ≡ one_more now.taken → Climbs start next ledger seq up
       climbs_on next goes step =
           let below : seq ≤ seq_at hs at - 2 ^ level = omega (arith, own, reaches) in
           record {

@@ -2,10 +2,11 @@
 use Rattle.std.proofs.Common.{◌≡◌, ℕ, ◌+◌, ◌<◌, ◌≤◌, List, [], ◌∷◌, ◌++◌, length, get_or, slice_index, take, drop, refl, sym, ap, ◌∙◌, append_assoc, arith, inl, inr}
 use Rattle.std.specs.Int.{w32, w64, from_be_bytes}
 use Rattle.std.proofs.lemmas.Bool.{cases_lt}
-use Rattle.std.proofs.lemmas.List.{take-append-drop, drop-drop, take_at, take_all, drop_at, length-take, length-drop, get_or-drop, get_or-take, get_or_past}
+use Rattle.std.proofs.lemmas.List.{take-append-drop, drop-drop, take_at, take_all, drop_at, length-append, length-take, length-drop, get_or-drop, get_or-take, get_or_past}
 use Rattle.std.proofs.lemmas.Nat.{be_bytes_4, be_bytes_8}
 use Rattle.byteorder.specs.Endian.{big_bytes, big_number}
 use Rattle.byteorder.specs.Numbers.{big_number-reads_back}
+use Rattle.xl_base.specs.Putting.{Puts}
 use Rattle.xl_ledger.specs.declared.header.Header.{Header}
 use Rattle.xl_ledger.specs.Headers.{IsHeader, spelling}
 use Rattle.xl_ledger.specs.Reading.{header_in}
@@ -138,6 +139,12 @@ header_again h ok =
     same
 
 -- ---- writing, field by field
+
+-- what is put behind a front
+pub puts_behind : (at next : ℕ) (bytes old new : List ℕ) → Puts at bytes old new → next ≡ at + length bytes → take next new ≡ take at old ++ bytes
+puts_behind at next bytes old new p e =
+    let front : length (take at old ++ bytes) ≡ next = omega (arith, length-append (take at old) bytes, length-take at old, p.fits, e) in
+    ap (take next) p.is ∙ take_at (take at old ++ bytes) (drop (at + length bytes) old) next front
 
 pub fronts : (a b c d e f g z r1 r2 r3 r4 r5 r6 r7 r8 : List ℕ) → take 4 r1 ≡ a → take 12 r2 ≡ take 4 r1 ++ b → take 44 r3 ≡ take 12 r2 ++ c → take 76 r4 ≡ take 44 r3 ++ d
     → take 108 r5 ≡ take 76 r4 ++ e → take 112 r6 ≡ take 108 r5 ++ f → take 116 r7 ≡ take 112 r6 ++ g → take 118 r8 ≡ take 116 r7 ++ z → length r8 ≡ 118

@@ -1,8 +1,8 @@
 -- Headers of ledgers: the one spelling of each, its id, and the header of the ledger that follows.
 -- Source: rippled's LedgerHeader and its hash; the account hash of a built ledger is this profile's.
-use Rattle.std.specs.Prelude.{◌≡◌, ℕ, ◌+◌, ◌-◌, ◌^◌, ◌<◌, ◌==◌, List, [], ◌∷◌, ◌++◌, length, take, min, if◌then◌else◌}
+use Rattle.std.specs.Prelude.{◌≡◌, ℕ, ◌+◌, ◌-◌, ◌^◌, ◌<◌, ◌==◌, List, [], ◌∷◌, ◌++◌, length, min, if◌then◌else◌}
 use Rattle.byteorder.specs.Endian.{big_bytes}
-use Rattle.sha2.specs.Sha512.{sha512}
+use Rattle.xl_base.specs.Hashes.{half}
 use Rattle.xl_base.specs.declared.ids.LedgerId.{LedgerId}
 use Rattle.xl_base.specs.declared.ids.SetId.{SetId}
 use Rattle.xl_ledger.specs.declared.header.Header.{Header}
@@ -24,10 +24,6 @@ pub record IsHeader (h : Header) : Type 0 where
   pub close : h.close < 2 ^ 32
   pub resolution : h.resolution < 2 ^ 8
   pub flags : h.flags < 2 ^ 8
-
--- the first 32 bytes of SHA-512
-abbrev pub half : List ℕ → List ℕ
-half bytes = take 32 (sha512 bytes)
 
 -- the half hash of `LWR`, a zero byte, and the header
 abbrev pub header_id : Header → LedgerId

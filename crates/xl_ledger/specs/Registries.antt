@@ -1,6 +1,6 @@
 -- Registries: which headers are added, and why others aren't. Source: rippled; the limit is this profile's.
-use Rattle.std.specs.Prelude.{ℕ, ◌+◌, ◌==◌, not, nat_le, Bool, List, [], ◌∷◌, ◌++◌, length, Option, Some, None, is_some, unwrap_or, Result, Ok, Err, if◌then◌else◌}
-use Rattle.std.specs.Option.{option_or}
+use Rattle.std.specs.Prelude.{ℕ, ◌+◌, ◌==◌, not, nat_le, List, [], ◌∷◌, ◌++◌, length, Option, is_some, unwrap_or}
+use Rattle.xl_base.specs.Refusals.{refused_if, first_of}
 use Rattle.xl_ledger.specs.declared.header.Header.{Header}
 use Rattle.xl_ledger.specs.declared.refusal.AddRefusal.{AddRefusal}
 use Rattle.xl_ledger.specs.declared.refusal.AddRefusal.TheVariants.{Known, Orphan, WrongSeq, Full}
@@ -25,15 +25,6 @@ parent_place ledgers h = unwrap_or (place_of ledgers h.parent) 0
 abbrev pub parent_seq : List Header → Header → ℕ
 parent_seq ledgers h = seq_at ledgers (parent_place ledgers h)
 
--- a cause, where it holds
-abbrev pub refused_if : Bool → AddRefusal → Option AddRefusal
-refused_if holds refusal = if holds then Some refusal else None
-
--- the first cause that holds
-abbrev pub first_of : List (Option AddRefusal) → Option AddRefusal
-first_of [] = None
-first_of (cause ∷ causes) = option_or cause (first_of causes)
-
 -- the first cause, in this order, for which a header isn't added
 abbrev pub add_refusal : Ledgers → Header → Option AddRefusal
 add_refusal r h = first_of (
@@ -42,8 +33,3 @@ add_refusal r h = first_of (
     ∷ refused_if (not (h.seq == parent_seq r.headers h + 1)) (WrongSeq (parent_seq r.headers h) h.seq)
     ∷ refused_if (nat_le r.limit (length r.headers)) (Full r.limit)
     ∷ [])
-
--- a value, where no cause holds
-abbrev pub unless_refused : {X : Type 0} → Option AddRefusal → X → Result X AddRefusal
-unless_refused None x = Ok x
-unless_refused (Some refusal) x = Err refusal

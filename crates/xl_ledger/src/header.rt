@@ -1,11 +1,11 @@
-ghost use Rattle.std.specs.Prelude.{◌≡◌, ◌+◌, ◌-◌, ◌^◌, ◌<◌, ◌≤◌, ◌++◌, length, take, drop};
+ghost use Rattle.std.specs.Prelude.{◌≡◌, ◌+◌, ◌-◌, ◌^◌, ◌<◌, ◌≤◌, [], ◌∷◌, length};
+ghost use Rattle.xl_base.specs.Putting.{Puts};
 ghost use Rattle.xl_ledger.specs.Headers.{IsHeader, spelling, header_id, account_hash_after, close_after, next_header};
 ghost use Rattle.xl_ledger.specs.Reading.{header_in};
 ghost use Rattle.xl_ledger.specs.declared.header.Header.{Header};
 
-use crate::putting::{put, put_field, put_two, put_u32, put_u64};
 use byteorder::{BigEndian, ByteOrder};
-use xl_base::{LedgerId, Secs, Seq, SetId, half512};
+use xl_base::{LedgerId, Secs, Seq, SetId, bytes_at, half512, put, put_field, put_u32, put_u64};
 
 /// What a ledger says of itself. Any values of the fields make a header.
 #[derive(Clone, Copy, Debug, PartialEq, Eq)]
@@ -44,6 +44,15 @@ pub fn header_bytes(h: &Header) -> [u8; 118]
     bytes
 }
 
+fn put_two(room: &mut [u8], at: usize, first: u8, second: u8)
+    requires { at + 2 ≤ length room.old }
+    ensures puts { Puts at (first ∷ second ∷ []) room.old room.new }
+    ensures first { first < 2 ^ 8 }
+    ensures second { second < 2 ^ 8 }
+{
+    put(room, at, &[first, second]);
+}
+
 /// The header of a spelling; each 118 bytes are one.
 pub fn read_header(bytes: &[u8; 118]) -> Header
     ensures exact { result ≡ header_in bytes.now }
@@ -78,16 +87,6 @@ fn fields_of(bytes: &[u8]) -> Header
         resolution: bytes[116],
         flags: bytes[117],
     }
-}
-
-/// The 32 bytes at a place.
-fn bytes_at(bytes: &[u8], at: usize) -> [u8; 32]
-    requires { at + 32 ≤ length bytes.now }
-    ensures { result ≡ take 32 (drop at bytes.now) }
-{
-    let mut field = [0; 32];
-    field.copy_from_slice(&bytes[at..at + 32]);
-    field
 }
 
 /// The id of a ledger: the half hash of `LWR`, a zero byte, and the header's bytes.
@@ -132,8 +131,8 @@ fn account_hash_after(parent: &Header, set: SetId) -> [u8; 32]
 {
     let mut bytes = [0; 68];
     put(&mut bytes, 0, b"STA\0");
-    put(&mut bytes, 4, &parent.account_hash);
-    put(&mut bytes, 36, &set.0);
+    put_field(&mut bytes, 4, &parent.account_hash);
+    put_field(&mut bytes, 36, &set.0);
     half512(&bytes)
 }
 

@@ -14,7 +14,6 @@ mod jumps;
 mod law;
 mod ledger;
 mod ledger_no;
-mod putting;
 mod refusal;
 mod registry;
 mod table;

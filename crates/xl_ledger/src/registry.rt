@@ -2,7 +2,8 @@ ghost use Rattle.std.specs.Prelude.{◌≡◌, ◌↔◌, ◌+◌, ◌<◌, ◌�
 ghost use Rattle.xl_ledger.specs.Headers.{header_id};
 ghost use Rattle.xl_ledger.specs.Chains.{root_id, root_header, header_at, id_at, seq_at, place_of, Joins, AreLedgers};
 ghost use Rattle.xl_ledger.specs.Jumps.{jump_of};
-ghost use Rattle.xl_ledger.specs.Registries.{only_root, with_header, parent_place, add_refusal, unless_refused};
+ghost use Rattle.xl_base.specs.Refusals.{unless_refused};
+ghost use Rattle.xl_ledger.specs.Registries.{only_root, with_header, parent_place, add_refusal};
 ghost use Rattle.xl_ledger.specs.Walks.{start_of};
 ghost use Rattle.xl_ledger.specs.declared.registry.TheConstants.{LEAST_LIMIT, GREATEST_LIMIT};
 

@@ -2,7 +2,8 @@ ghost use Rattle.std.specs.Prelude.{◌≡◌, ◌≢◌, ◌+◌, ◌<◌, ◌�
 ghost use Rattle.xl_ledger.specs.Chains.{header_at, id_at, seq_at, chain, common_of, AreLedgers};
 ghost use Rattle.xl_ledger.specs.Jumps.{jump_of};
 ghost use Rattle.xl_ledger.specs.declared.registry.TheConstants.{GREATEST_LIMIT};
-ghost use Rattle.xl_ledger.specs.Walks.{start_of, ticked, GoesOn, TakesStep};
+ghost use Rattle.xl_base.specs.Counts.{one_more};
+ghost use Rattle.xl_ledger.specs.Walks.{start_of, GoesOn, TakesStep};
 
 use crate::ledger::LEVELS;
 use crate::{Header, LedgerNo, Registry};
@@ -74,7 +75,7 @@ impl<'a> Walk<'a> {
         requires { ledger < length self.old.ledgers.headers }
         ensures value { result.now ≡ header_at self.old.ledgers.headers ledger }
         ensures goes_on { GoesOn self.old self.new }
-        ensures step { self.new.taken ≡ ticked self.old.taken }
+        ensures step { self.new.taken ≡ one_more self.old.taken }
     {
         self.steps.tick();
         self.registry.header(ledger)
@@ -174,7 +175,7 @@ impl<'a> Walk<'a> {
         requires level { level < LEVELS }
         ensures value { result ≡ jump_of self.old.ledgers.headers ledger level }
         ensures goes_on { GoesOn self.old self.new }
-        ensures step { self.new.taken ≡ ticked self.old.taken }
+        ensures step { self.new.taken ≡ one_more self.old.taken }
     {
         self.steps.tick();
         self.registry.jump(ledger, level)

@@ -1,7 +1,7 @@
 -- Lists of members: what one is, and what is refused. Source: this project's own limits.
-use Rattle.std.specs.Prelude.{ℕ, ◌*◌, ◌==◌, ◌≤◌, ◌<◌, ◌&&◌, ◌||◌, not, nat_eq, nat_lt, nat_le, Bool, List, [], ◌∷◌, ◌++◌, length, find, All, Option, Some, None, option_map, Result, Ok, Err, if◌then◌else◌}
+use Rattle.std.specs.Prelude.{ℕ, ◌*◌, ◌==◌, ◌≤◌, ◌<◌, ◌&&◌, ◌||◌, not, nat_eq, nat_lt, nat_le, Bool, List, [], ◌∷◌, ◌++◌, length, find, All, Option, Some, None, option_map, Result, if◌then◌else◌}
 use Rattle.std.specs.List.{list_any, IsDistinct}
-use Rattle.std.specs.Option.{option_or}
+use Rattle.xl_base.specs.Refusals.{refused_if, first_of, unless_refused}
 use Rattle.xl_lists.specs.declared.refusal.ListRefusal.{ListRefusal}
 use Rattle.xl_lists.specs.declared.refusal.ListRefusal.TheVariants.{Empty, TooMany, OutOfRange, Repeated, Quorum}
 
@@ -27,15 +27,6 @@ repeated_after seen (m ∷ ms) = if is_on seen m then Some m else repeated_after
 abbrev pub is_quorum : ℕ → ℕ → Bool
 is_quorum quorum n = nat_le quorum n && nat_lt n (2 * quorum)
 
--- a cause, where it holds
-abbrev pub refused_if : Bool → ListRefusal → Option ListRefusal
-refused_if holds refusal = if holds then Some refusal else None
-
--- the first cause that holds
-abbrev pub first_of : List (Option ListRefusal) → Option ListRefusal
-first_of [] = None
-first_of (cause ∷ causes) = option_or cause (first_of causes)
-
 -- the first cause, in this order, for which these are no list
 abbrev pub refusal_of : List ℕ → ℕ → Option ListRefusal
 refusal_of members quorum = first_of (
@@ -45,11 +36,6 @@ refusal_of members quorum = first_of (
     ∷ option_map Repeated (repeated_after [] members)
     ∷ refused_if (not (is_quorum quorum (length members))) (Quorum quorum (length members))
     ∷ [])
-
--- the list, where no cause holds
-abbrev pub unless_refused : Option ListRefusal → TrustedList → Result TrustedList ListRefusal
-unless_refused None list = Ok list
-unless_refused (Some refusal) list = Err refusal
 
 -- the list of these members and this quorum, or the first cause for which there is none
 abbrev pub list_of : List ℕ → ℕ → Result TrustedList ListRefusal

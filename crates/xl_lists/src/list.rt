@@ -6,9 +6,7 @@ ghost use Rattle.xl_lists.specs.Marks.{AreMarked};
 use crate::marks::Marks;
 use crate::refusal::ListRefusal;
 use std::marker::Model;
-use xl_base::NodeNo;
-
-const PLACES: usize = 64;
+use xl_base::{MOST_MEMBERS, NodeNo};
 
 /// The members that a node trusts, in the order in which they were given, and how many of them are a quorum.
 ///
@@ -16,7 +14,7 @@ const PLACES: usize = 64;
 #[derive(Debug, Drop)]
 pub struct List {
     /// The members stand at the front.
-    places: [NodeNo; PLACES],
+    places: [NodeNo; MOST_MEMBERS],
     len: usize,
     quorum: u32,
     marks: Marks,
@@ -44,7 +42,7 @@ impl List {
             return Err(ListRefusal::Empty);
         }
         let len = members.len();
-        if len > PLACES {
+        if len > MOST_MEMBERS {
             return Err(ListRefusal::TooMany(len));
         }
         let places = places_of(members)?;
@@ -109,13 +107,13 @@ impl List {
 }
 
 /// The members of these numbers, at the front of the places.
-fn places_of(numbers: &[u32]) -> Result<[NodeNo; PLACES], ListRefusal>
-    requires { length numbers.now ≤ PLACES }
+fn places_of(numbers: &[u32]) -> Result<[NodeNo; MOST_MEMBERS], ListRefusal>
+    requires { length numbers.now ≤ MOST_MEMBERS }
     ensures refused { result_err result ≡ option_map ListRefusal.OutOfRange (find is_outside numbers.now) }
     ensures placed { IfOk result (λ places. take (length numbers.now) places ≡ numbers.now) }
 {
     // No place after the last member is ever read.
-    let mut places = [NodeNo::new(1).unwrap(); PLACES];
+    let mut places = [NodeNo::new(1).unwrap(); MOST_MEMBERS];
     for (place, &number) in numbers.iter().enumerate() {
         places[place] = NodeNo::new(number).ok_or(ListRefusal::OutOfRange(number))?;
     }

@@ -4,7 +4,8 @@ use Rattle.std.proofs.lemmas.Bool.Decides.{nat_tests}
 use Rattle.std.proofs.lemmas.List.{map-append}
 use Rattle.std.proofs.lemmas.List.Elements.{filter-append}
 use Rattle.std.proofs.lemmas.List.Sums.{sum_by-append}
-use Rattle.xl_queues.specs.Queues.{Backlog, one_more, with_item, without_first, passed_over}
+use Rattle.xl_base.specs.Counts.{one_more}
+use Rattle.xl_queues.specs.Queues.{Backlog, with_item, without_first, passed_over}
 use Rattle.xl_queues.specs.Accounts.{Gone, IsAccounted, Accounts}
 
 module _ {T : Type 0} where

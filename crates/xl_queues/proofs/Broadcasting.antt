@@ -7,7 +7,8 @@ use Rattle.circular_buffer.proofs.Places.{slice_get-drop}
 use Rattle.std.proofs.lemmas.List.Elements.{All-head, All-tail, All-set, All-weaker, All-map}
 use Rattle.circular_buffer.specs.Buffer.{keep_last}
 use Rattle.xl_queues.specs.declared.broadcast.Reader.{Reader}
-use Rattle.xl_queues.specs.Queues.{Backlog, no_items, with_item, one_more}
+use Rattle.xl_base.specs.Counts.{one_more}
+use Rattle.xl_queues.specs.Queues.{Backlog, no_items, with_item}
 use Rattle.xl_queues.specs.Broadcasts.{waiting_for, KeepsUp, counted_anew, pushed_to_all, queue_of, at_reader, left_with}
 
 cons_same : {X : Type 0} {x y : X} {xs ys : List X} → x ≡ y → xs ≡ ys → x ∷ xs ≡ y ∷ ys

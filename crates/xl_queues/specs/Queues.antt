@@ -1,15 +1,12 @@
 -- Queues of a fixed length that lose their oldest items. Source: this profile.
-use Rattle.std.specs.Prelude.{ℕ, ◌+◌, ◌-◌, ◌^◌, ◌==◌, nat_lt, min, List, [], ◌∷◌, ◌++◌, length, drop, if◌then◌else◌, refl}
+use Rattle.std.specs.Prelude.{ℕ, ◌==◌, nat_lt, List, [], ◌∷◌, ◌++◌, length, drop, if◌then◌else◌, refl}
 use Rattle.std.specs.Coded.{Coded, code_by, coded×, coded_ℕ, coded_list}
+use Rattle.xl_base.specs.Counts.{one_more}
 
 -- the items that no one has taken, from the oldest on, and how many were lost
 pub record Backlog (T : Type 0) : Type 0 where
   pub items : List T
   pub lost : ℕ
-
--- one more was lost; the count ends at the greatest `u64`
-abbrev pub one_more : ℕ → ℕ
-one_more lost = min (lost + 1) (2 ^ 64 - 1)
 
 module _ {T : Type 0} where
   -- a backlog is stored as the pair of its fields

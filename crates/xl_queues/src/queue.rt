@@ -1,6 +1,7 @@
 ghost use Rattle.std.specs.Prelude.{◌≡◌, ◌≤◌, ◌==◌, [], ◌∷◌, length, slice_get, option_copied, option_to_list, is_some, if◌then◌else◌, IfOk};
 ghost use Rattle.xl_queues.specs.Accounts.{IsAccounted, Accounts};
-ghost use Rattle.xl_queues.specs.Queues.{no_items, one_more, passed_over, with_item, without_first};
+ghost use Rattle.xl_base.specs.Counts.{one_more};
+ghost use Rattle.xl_queues.specs.Queues.{no_items, passed_over, with_item, without_first};
 
 use circular_buffer::HeapCircularBuffer;
 use std::alloc::Global;

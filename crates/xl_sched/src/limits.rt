@@ -1,3 +1,5 @@
+use xl_wire::LONGEST_FRAME;
+
 /// The most lines of a schedule.
 pub const MOST_LINES: u32 = 1_000_000;
 
@@ -5,7 +7,7 @@ pub const MOST_LINES: u32 = 1_000_000;
 pub const MOST_BYTES: usize = 17_000;
 
 /// The most bytes of a frame, and so of raw ones.
-pub const MOST_RAW_BYTES: usize = 8_240;
+pub const MOST_RAW_BYTES: usize = LONGEST_FRAME;
 
 /// The most ledgers that a schedule lets a node know, the root counted.
 pub const MOST_LEDGERS: u32 = 16_384;

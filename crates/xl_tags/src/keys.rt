@@ -8,17 +8,15 @@ use crate::pair_key;
 use crate::prepared::Prepared;
 use std::marker::Model;
 use std::{array, fmt};
-use xl_base::{GREATEST_NODE_NO, NodeNo};
+use xl_base::{GREATEST_NODE_NO, MOST_MEMBERS, NodeNo};
 use xl_lists::List;
-
-const MEMBERS: usize = 64;
 
 /// The keys that a member shares with others, one with each. No call takes memory.
 #[derive(Drop)]
 pub struct Keys {
     me: NodeNo,
     /// In the order of the members, from 1 on.
-    prepared: [Option<Prepared>; MEMBERS],
+    prepared: [Option<Prepared>; MOST_MEMBERS],
 }
 
 impl Model for Keys {

@@ -8,7 +8,7 @@ use Rattle.xl_ledger.specs.declared.header.Header.{Header}
 use Rattle.xl_ledger.specs.declared.refusal.AddRefusal.{AddRefusal}
 use Rattle.xl_base.specs.Ids.{same_id}
 use Rattle.xl_ledger.specs.Chains.{ids, root_id, place_of, Joins, AreLedgers}
-use Rattle.xl_ledger.specs.Registries.{unless_refused}
+use Rattle.xl_base.specs.Refusals.{unless_refused}
 use Rattle.xl_ledger.proofs.ChainLaws.{length-ids}
 use Rattle.xl_ledger.proofs.Growing.{AreLedgers-more}
 use Rattle.xl_validations.specs.Tallies.{IsNewest}

@@ -10,7 +10,8 @@ use Rattle.xl_wire.specs.declared.frame.Frame.{Frame}
 use Rattle.xl_wire.specs.Bodies.{IsBody, IsId, IsTxSet, kind_of, flags_of, body_bytes, set_bytes}
 use Rattle.xl_wire.specs.Frames.{raw_of, frame_bytes, IsFrame, Spells}
 use Rattle.xl_base.specs.Sets.{IsSet, id_bytes}
-use Rattle.xl_wire.specs.Writing.{Puts, body_length}
+use Rattle.xl_base.specs.Putting.{Puts}
+use Rattle.xl_wire.specs.Writing.{body_length}
 use Rattle.xl_wire.proofs.BodyLaws.{length-id_bytes}
 use Rattle.xl_wire.proofs.RawLaws.{length-raw_bytes}
 

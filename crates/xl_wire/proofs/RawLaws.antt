@@ -9,7 +9,8 @@ use Rattle.xl_wire.specs.declared.refusal.WireRefusal.{WireRefusal}
 use Rattle.xl_wire.specs.declared.refusal.WireRefusal.TheVariants.{Magic, Version, Kind, Length}
 use Rattle.xl_wire.specs.Kinds.{is_kind, can_have, IsLawful, span}
 use Rattle.xl_wire.specs.Raws.{RawFrame, raw_bytes, IsRaw, SpellsRaw}
-use Rattle.xl_wire.specs.Heads.{refused_if, first_of, differs, kind_in, length_in, head_refusal, lacking, raw_in, split_unless, split_of}
+use Rattle.xl_base.specs.Refusals.{refused_if, first_of}
+use Rattle.xl_wire.specs.Heads.{differs, kind_in, length_in, head_refusal, lacking, raw_in, split_unless, split_of}
 use Rattle.xl_wire.specs.Heads.Split.{Whole}
 use Rattle.xl_wire.proofs.Numbers.{IsBytes, IsBytes-drop, IsBytes-take, cut_at, number_at_2, number_at_4, below_4}
 

@@ -9,7 +9,7 @@ use Rattle.xl_wire.specs.declared.proposal.Proposal.{Proposal}
 use Rattle.xl_wire.specs.declared.validation.Validation.{Validation}
 use Rattle.xl_wire.specs.declared.refusal.WireRefusal.{WireRefusal}
 use Rattle.xl_wire.specs.declared.refusal.WireRefusal.TheVariants.{Flags}
-use Rattle.xl_wire.specs.Heads.{refused_if, unless_refused}
+use Rattle.xl_base.specs.Refusals.{refused_if, unless_refused}
 use Rattle.xl_base.specs.Sets.{IsSet, id_bytes}
 use Rattle.xl_wire.specs.Sets.{ids_in}
 use Rattle.xl_wire.specs.SetsRead.{set_refusal}

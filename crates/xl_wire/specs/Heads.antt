@@ -1,28 +1,14 @@
 -- What bytes begin with: a refusal, as soon as they show it, or a frame, or less than one.
 -- Source: this project's own layout, and the order in which its bytes are tested.
-use Rattle.std.specs.Prelude.{ℕ, zero, suc, ◌+◌, ◌-◌, ◌==◌, ◌&&◌, not, nat_lt, Bool, List, [], ◌∷◌, length, take, drop, slice_index, Option, Some, None, Result, Ok, Err, if◌then◌else◌}
-use Rattle.std.specs.Option.{option_or}
+use Rattle.std.specs.Prelude.{ℕ, zero, suc, ◌+◌, ◌-◌, ◌==◌, ◌&&◌, not, nat_lt, Bool, List, [], ◌∷◌, length, take, drop, slice_index, Option, Some, None, if◌then◌else◌}
 use Rattle.byteorder.specs.Endian.{big_number}
+use Rattle.xl_base.specs.Refusals.{refused_if, first_of}
 use Rattle.xl_wire.specs.declared.refusal.WireRefusal.{WireRefusal}
 use Rattle.xl_wire.specs.declared.refusal.WireRefusal.TheVariants.{Magic, Version, Kind, Length}
 use Rattle.xl_wire.specs.declared.splitting.Parted.{Parted}
 use Rattle.xl_wire.specs.declared.splitting.Parted.TheVariants as parted
 use Rattle.xl_wire.specs.Kinds.{is_kind, can_have}
 use Rattle.xl_wire.specs.Raws.{RawFrame, raw_frame}
-
--- a cause, where it holds
-abbrev pub refused_if : Bool → WireRefusal → Option WireRefusal
-refused_if holds refusal = if holds then Some refusal else None
-
--- the first cause that holds
-abbrev pub first_of : List (Option WireRefusal) → Option WireRefusal
-first_of [] = None
-first_of (cause ∷ causes) = option_or cause (first_of causes)
-
--- a value, where nothing is refused
-abbrev pub unless_refused : {X : Type 0} → Option WireRefusal → X → Result X WireRefusal
-unless_refused (Some refusal) x = Err refusal
-unless_refused None x = Ok x
 
 -- the byte at this place is there, and isn't the wanted one
 abbrev pub differs : List ℕ → ℕ → ℕ → Bool

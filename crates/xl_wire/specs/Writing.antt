@@ -1,13 +1,8 @@
--- Writing: bytes that are put at a place, and how long a frame is. Source: this project's own layout.
-use Rattle.std.specs.Prelude.{◌≡◌, ℕ, ◌+◌, ◌*◌, ◌≤◌, List, ◌++◌, length, take, drop}
+-- Writing: how long a frame is. Source: this project's own layout.
+use Rattle.std.specs.Prelude.{ℕ, ◌+◌, ◌*◌, length}
 use Rattle.xl_wire.specs.declared.body.Body.{Body}
 use Rattle.xl_wire.specs.declared.body.Body.TheVariants as bodies
 use Rattle.xl_wire.specs.declared.frame.Frame.{Frame}
-
--- the bytes stand at this place in the new list, which is the old one elsewhere
-pub record Puts (at : ℕ) (bytes old new : List ℕ) : Type 0 where
-  pub fits : at + length bytes ≤ length old
-  pub is : new ≡ take at old ++ bytes ++ drop (at + length bytes) old
 
 -- how many bytes a body has, by its kind
 abbrev pub body_length : Body → ℕ

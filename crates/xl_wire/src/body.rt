@@ -1,14 +1,13 @@
 ghost use Rattle.std.specs.Prelude.{◌≡◌, ◌↔◌, Ok, length};
 ghost use Rattle.xl_wire.specs.Bodies.{body_of, proposal_in, validation_in, flags_refusal, SpellsBody};
 ghost use Rattle.xl_wire.specs.declared.body.Body.{Body};
-ghost use Rattle.xl_wire.specs.Heads.{unless_refused};
+ghost use Rattle.xl_base.specs.Refusals.{unless_refused};
 ghost use Rattle.xl_wire.specs.Kinds.{IsLawful};
 
-use crate::fields::bytes_at;
 use crate::kinds::{HEADER, PROPOSAL, TX_SET, VALIDATION};
 use crate::{Ids, Proposal, Raw, Validation, WireRefusal};
 use byteorder::{BigEndian, ByteOrder};
-use xl_base::{LedgerId, SetId, TxId};
+use xl_base::{LedgerId, SetId, TxId, bytes_at};
 
 /// What a frame says.
 #[derive(Debug, Drop)]

@@ -2,11 +2,13 @@ ghost use Rattle.std.specs.Prelude.{◌≡◌, ◌^◌, ◌+◌, ◌*◌, ◌<�
 ghost use Rattle.byteorder.specs.Endian.{big_bytes};
 ghost use Rattle.xl_wire.specs.Bodies.{IsBody, IsProposal, IsValidation, IsTxSet, body_bytes, flags_of, kind_of, proposal_bytes, validation_bytes, set_bytes};
 ghost use Rattle.xl_wire.specs.Frames.{Spells};
-ghost use Rattle.xl_wire.specs.Writing.{Puts, body_length, frame_length};
+ghost use Rattle.xl_base.specs.Putting.{Puts};
+ghost use Rattle.xl_wire.specs.Writing.{body_length, frame_length};
+ghost use Rattle.xl_wire.specs.declared.lengths.TheConstants.{LONGEST_BODY};
 
 use crate::kinds::{HEADER, PROPOSAL, TX, TX_SET, VALIDATION};
-use crate::putting::{put, put_field, put_u16, put_u32};
 use crate::{Body, Frame, Ids, Proposal, Validation};
+use xl_base::{put, put_field, put_u16, put_u32};
 
 /// Writes the frame's one spelling at the front of the room, answers its length, and leaves the rest.
 pub fn encode(frame: &Frame<'_>, room: &mut [u8]) -> usize
@@ -38,7 +40,7 @@ fn kind_of(body: &Body<'_>) -> u8
 
 fn body_length(body: &Body<'_>) -> usize
     ensures value { result ≡ body_length body.now }
-    ensures small { result ≤ 8194 }
+    ensures small { result ≤ LONGEST_BODY }
 {
     match body {
         Body::Proposal(_) => 76,

@@ -2,13 +2,10 @@ ghost use Rattle.std.specs.Prelude.{◌≡◌, ◌+◌, ◌-◌, ◌≤◌, ◌+
 ghost use Rattle.xl_wire.specs.Cuts.{IsCut};
 ghost use Rattle.xl_wire.specs.Feeding.{held_in, taken_of, after_push, offer_of};
 
-use crate::{Parted, WireRefusal, split};
+use crate::{LONGEST_FRAME, Parted, WireRefusal, split};
 use std::alloc::Global;
 use std::marker::Model;
 use xl_base::OutOfMemory;
-
-/// The greatest length of a frame.
-const ROOM: usize = 8240;
 
 /// What a feed hands out.
 #[derive(Clone, Copy, Debug)]
@@ -21,7 +18,7 @@ pub enum Next<'a> {
     Refused(WireRefusal),
 }
 
-/// Cuts a stream that comes in pieces into frames. It holds at most the bytes of the greatest frame.
+/// Cuts a stream that comes in pieces into frames. It holds at most the bytes of the longest frame.
 #[derive(Debug, Drop)]
 pub struct Feed {
     bytes: Vec<u8>,
@@ -49,7 +46,7 @@ impl Feed {
         ensures { IfOk result (λ feed. feed ≡ record { held = []; refused = false }) }
     {
         Ok(Feed {
-            bytes: vec![in alloc; 0; ROOM]?,
+            bytes: vec![in alloc; 0; LONGEST_FRAME]?,
             start: 0,
             end: 0,
             refused: false,
@@ -65,7 +62,7 @@ impl Feed {
             return 0;
         }
         let held = self.end - self.start;
-        let count = piece.len().min(ROOM - held);
+        let count = piece.len().min(LONGEST_FRAME - held);
         add(&mut self.bytes, self.start, self.end, &piece[..count]);
         self.start = 0;
         self.end = held + count;

@@ -1,16 +1,15 @@
 ghost use Rattle.std.specs.Prelude.{◌≡◌, ◌*◌, ◌/◌, ◌<◌, length, drop, slice_get, Some, IsTrue};
 ghost use Rattle.byteorder.specs.Endian.{big_number};
-ghost use Rattle.xl_wire.specs.Heads.{unless_refused};
+ghost use Rattle.xl_base.specs.Refusals.{unless_refused};
 ghost use Rattle.xl_wire.specs.Kinds.{is_set_length};
 ghost use Rattle.xl_wire.specs.SetsRead.{set_refusal};
 ghost use Rattle.xl_base.specs.Sets.{IsSet, comes_before};
 ghost use Rattle.xl_wire.specs.Sets.{first_fall, ids_in};
 
 use crate::WireRefusal;
-use crate::fields::bytes_at;
 use byteorder::{BigEndian, ByteOrder};
 use std::marker::Model;
-use xl_base::TxId;
+use xl_base::{TxId, bytes_at};
 
 /// Where the ids of a set lie.
 #[derive(Clone, Copy, Debug)]

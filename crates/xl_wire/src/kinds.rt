@@ -1,6 +1,8 @@
 ghost use Rattle.std.specs.Prelude.{◌≡◌};
 ghost use Rattle.xl_wire.specs.Kinds.{can_have, is_kind, is_set_length};
 
+use crate::lengths::LONGEST_BODY;
+
 pub const PROPOSAL: u8 = 1;
 
 pub const VALIDATION: u8 = 2;
@@ -35,5 +37,5 @@ pub fn can_have(kind: u8, length: u16) -> bool
 fn is_set_length(length: u16) -> bool
     ensures { result ≡ is_set_length length }
 {
-    2 <= length && length <= 8194 && (length - 2) % 32 == 0
+    2 <= length && length as usize <= LONGEST_BODY && (length - 2) % 32 == 0
 }

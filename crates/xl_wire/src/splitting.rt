@@ -3,10 +3,10 @@ ghost use Rattle.xl_wire.specs.Heads.{head_refusal, lacking, length_in, raw_in, 
 ghost use Rattle.xl_wire.specs.Kinds.{span};
 ghost use Rattle.xl_wire.specs.Raws.{RawFrame, SpellsRaw, raw_frame};
 
-use crate::fields::bytes_at;
 use crate::kinds::{can_have, is_kind};
 use crate::{Raw, WireRefusal};
 use byteorder::{BigEndian, ByteOrder};
+use xl_base::bytes_at;
 
 /// What bytes begin with.
 #[derive(Clone, Copy, Debug)]

@@ -9,7 +9,7 @@ use Rattle.xl_queues.specs.Queues.{Backlog, no_items}
 use Rattle.xl_wire.specs.declared.validation.Validation.{Validation}
 use Rattle.xl_core.specs.declared.event.CoreEvent.TheVariants.{Drain}
 use Rattle.xl_core.specs.declared.item.Item.{Item}
-use Rattle.xl_core.specs.declared.queued.TheConstants.{LONGEST_FRAME}
+use Rattle.xl_wire.specs.declared.lengths.TheConstants.{LONGEST_FRAME}
 use Rattle.xl_core.specs.Answers.{Gave}
 use Rattle.xl_core.specs.Core.{Core, CoreReply, answering, core_happens}
 use Rattle.xl_core.proofs.Draining.{taking_none}

@@ -6,7 +6,7 @@ use Rattle.std.proofs.lemmas.List.{take_more, drop_more, length-take}
 use Rattle.xl_wire.specs.declared.validation.Validation.{Validation}
 use Rattle.xl_tags.specs.Rings.{key_of, schedule_ring}
 use Rattle.xl_world.proofs.Lying.{key_of_another}
-use Rattle.xl_core.specs.declared.queued.TheConstants.{LONGEST_FRAME}
+use Rattle.xl_wire.specs.declared.lengths.TheConstants.{LONGEST_FRAME}
 use Rattle.xl_core.specs.Core.{Core}
 use Rattle.xl_core.specs.Items.{taken_for}
 use Rattle.xl_core.specs.Node.{items_of}

@@ -27,7 +27,7 @@ use Rattle.xl_world.specs.declared.place.Keeper.{Keeper}
 use Rattle.xl_world.specs.declared.place.Fate.{Fate}
 use Rattle.xl_world.specs.declared.place.Fate.TheVariants.{Kept, Unwritten, Written}
 use Rattle.xl_io.specs.Keepers.{MayHold}
-use Rattle.xl_queues.specs.Queues.{one_more}
+use Rattle.xl_base.specs.Counts.{one_more}
 use Rattle.xl_world.specs.Keeper.{held_by, restored, answer_of, after_failed, after_save}
 use Rattle.xl_validations.proofs.Turning.{members_then}
 use Rattle.xl_core.specs.Node.Save.{Kept as AnsweredOk, Failed as AnsweredFailed}

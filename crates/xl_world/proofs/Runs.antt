@@ -18,7 +18,7 @@ use Rattle.xl_world.specs.declared.place.Fate.{Fate}
 use Rattle.xl_world.specs.declared.plan.PlanNode.{PlanNode}
 use Rattle.xl_world.specs.declared.sent.Sent.{Sent}
 use Rattle.xl_io.specs.Keepers.{MayHold, may_hold}
-use Rattle.xl_queues.specs.Queues.{one_more}
+use Rattle.xl_base.specs.Counts.{one_more}
 use Rattle.xl_world.specs.Keeper.{held_by, resting, restored, answer_of}
 use Rattle.xl_world.specs.Plans.{planned, AreDeclared, is_declared, all_numbers}
 use Rattle.xl_world.proofs.Standing.{FrameSays}

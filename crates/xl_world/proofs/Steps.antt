@@ -33,7 +33,7 @@ use Rattle.xl_core.specs.Core.{Core, CoreReply, core_happens}
 use Rattle.xl_core.specs.Queues.{waiting_at}
 use Rattle.xl_core.specs.declared.event.CoreEvent.{CoreEvent}
 use Rattle.xl_core.specs.declared.event.CoreEvent.TheVariants.{Issue, Frame, Drain, Reports}
-use Rattle.xl_core.specs.declared.queued.TheConstants.{LONGEST_FRAME}
+use Rattle.xl_wire.specs.declared.lengths.TheConstants.{LONGEST_FRAME}
 use Rattle.xl_world.specs.declared.act.Answer.{Answer}
 use Rattle.xl_world.specs.declared.outcome.Outcome.{Outcome}
 use Rattle.xl_world.specs.declared.outcome.Outcome.TheVariants.{Refused, Full}
@@ -43,7 +43,7 @@ use Rattle.xl_world.specs.declared.sent.Sent.{Sent}
 use Rattle.xl_world.specs.declared.place.Fate.{Fate}
 use Rattle.xl_world.specs.declared.place.Fate.TheVariants.{Kept}
 use Rattle.xl_world.specs.Keeper.{answer_of}
-use Rattle.xl_queues.specs.Queues.{one_more}
+use Rattle.xl_base.specs.Counts.{one_more}
 use Rattle.xl_core.specs.Answers.{given_in, refusal_in}
 use Rattle.xl_core.specs.Node.Save.{Kept as AnsweredOk, Failed as AnsweredFailed}
 use Rattle.xl_world.specs.Forgeries.{was_sent, forges}

@@ -21,7 +21,7 @@ use Rattle.xl_wire.specs.declared.validation.Validation.{Validation}
 use Rattle.xl_core.specs.Node.{Node}
 use Rattle.xl_io.specs.Keepers.{Held}
 use Rattle.xl_io.specs.Keepers.{MayHold, may_hold, is_asked}
-use Rattle.xl_queues.specs.Queues.{one_more}
+use Rattle.xl_base.specs.Counts.{one_more}
 use Rattle.xl_world.specs.World.{World, said_by}
 use Rattle.xl_world.proofs.Standing.{said_in, FrameSays}
 use Rattle.xl_world.specs.Forgeries.{was_sent, forges}

@@ -8,7 +8,7 @@ use Rattle.xl_io.specs.Keepers.{may_hold}
 use Rattle.xl_lists.specs.Lists.{TrustedList}
 use Rattle.xl_lists.specs.Quorums.{Enough}
 use Rattle.xl_lists.specs.Agreement.{Said, Report as Reported, with_said}
-use Rattle.xl_queues.specs.Queues.{one_more}
+use Rattle.xl_base.specs.Counts.{one_more}
 use Rattle.xl_wire.specs.declared.validation.Validation.{Validation}
 use Rattle.xl_wire.specs.Heads.{split_of}
 use Rattle.xl_core.specs.declared.event.CoreEvent.{CoreEvent}

@@ -8,10 +8,9 @@ ghost use Rattle.xl_ledger.specs.Headers.{spelling};
 ghost use Rattle.xl_core.specs.Sending.{sealed_bytes};
 
 use xl_base::NodeNo;
-use xl_core::VALIDATION_FRAME;
 use xl_ledger::{Header, header_bytes};
 use xl_tags::{hmac, pair_key};
-use xl_wire::{Body, Frame, Validation, encode};
+use xl_wire::{Body, Frame, VALIDATION_FRAME, Validation, encode};
 
 /// How many bytes a header's frame has.
 pub const HEADER_FRAME: usize = 164;

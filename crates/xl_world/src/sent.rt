@@ -5,7 +5,7 @@ ghost use Rattle.xl_tags.specs.Rings.{schedule_ring};
 ghost use Rattle.xl_wire.specs.declared.validation.Validation as validation;
 ghost use Rattle.xl_core.specs.Node.{items_of};
 ghost use Rattle.xl_core.specs.Queues.{waiting_at};
-ghost use Rattle.xl_core.specs.declared.sending.TheConstants.{VALIDATION_FRAME};
+ghost use Rattle.xl_wire.specs.declared.lengths.TheConstants.{VALIDATION_FRAME};
 ghost use Rattle.xl_world.specs.declared.place.Place.{Place};
 ghost use Rattle.xl_world.specs.World.{place_at};
 ghost use Rattle.xl_world.specs.Emptying.{drained, drained_once, given, given_once, others};
@@ -18,8 +18,7 @@ use crate::act::place_of;
 use crate::place::{NodeCore, Place};
 use std::alloc::Global;
 use xl_base::{Bytes, NodeNo, OutOfMemory};
-use xl_core::{LONGEST_FRAME, VALIDATION_FRAME};
-use xl_wire::Validation;
+use xl_wire::{LONGEST_FRAME, VALIDATION_FRAME, Validation};
 
 /// A frame that a node has sent to one receiver.
 #[derive(Debug, Drop)]

@@ -1,5 +1,5 @@
 ghost use Rattle.std.specs.Prelude.{◌≡◌, if◌then◌else◌};
-ghost use Rattle.xl_queues.specs.Queues.{one_more};
+ghost use Rattle.xl_base.specs.Counts.{one_more};
 ghost use Rattle.xl_world.specs.Schedule.{node_asked, event_asked, failing};
 ghost use Rattle.xl_world.specs.Seen.{issue_seen};
 

@@ -2,7 +2,7 @@ use Rattle.std.proofs.Common.{◌≡◌, ◌+◌, ◌≤◌, ◌∙◌, ℕ, Lis
 use Rattle.std.specs.Prelude.{◌==◌, All, vec_capacity}
 use Rattle.std.proofs.lemmas.Bool.{not-true, not-false}
 use Rattle.xl_tags.specs.Rings.{schedule_ring}
-use Rattle.xl_core.specs.declared.sending.TheConstants.{VALIDATION_FRAME}
+use Rattle.xl_wire.specs.declared.lengths.TheConstants.{VALIDATION_FRAME}
 use Rattle.xl_core.specs.Core.{Core}
 use Rattle.xl_core.specs.Node.{Node}
 use Rattle.xl_world.specs.declared.sent.Sent.{Sent}

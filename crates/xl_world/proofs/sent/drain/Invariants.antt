@@ -1,6 +1,6 @@
 use Rattle.std.proofs.Common.{◌≡◌, ◌+◌, ◌-◌, ◌≤◌, [], length, vec_len}
 use Rattle.std.specs.Prelude.{All, vec_capacity}
-use Rattle.xl_core.specs.declared.sending.TheConstants.{VALIDATION_FRAME}
+use Rattle.xl_wire.specs.declared.lengths.TheConstants.{VALIDATION_FRAME}
 use Rattle.xl_world.proofs.Givings.{IsDrainedTo}
 use Rattle.xl_world.proofs.sent.drain.Given as goal
 

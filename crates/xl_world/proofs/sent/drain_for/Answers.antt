@@ -1,7 +1,7 @@
 use Rattle.std.proofs.Common.{◌≡◌, ℕ, arith, length, subst, sym}
 use Rattle.std.specs.Prelude.{IsSome}
 use Rattle.xl_tags.specs.Rings.{Ring, key_of}
-use Rattle.xl_core.specs.declared.queued.TheConstants.{LONGEST_FRAME}
+use Rattle.xl_wire.specs.declared.lengths.TheConstants.{LONGEST_FRAME}
 use Rattle.xl_core.specs.Items.{taken_for}
 use Rattle.xl_core.specs.Queues.{frames_in, joined}
 use Rattle.xl_world.proofs.Givings.{one_given, peer_of, short_take}

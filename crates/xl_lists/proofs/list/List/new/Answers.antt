@@ -9,6 +9,6 @@ not_empty n empty is told = grind (arith, nat_tests)
 
 pub invariant_of-result : goal.invariant_of-result
 invariant_of-result c =
-    is_stored _ _ _ _ (not_empty _ _ c.is_empty.ensures c.if-is_empty.false) c.if-len-gt-PLACES.false
+    is_stored _ _ _ _ (not_empty _ _ c.is_empty.ensures c.if-is_empty.false) c.if-len-gt-MOST_MEMBERS.false
     c.in_ok-places.ensures.refused c.in_ok-marks.ensures.refused c.if-quorum-len.false c.if-quorum-len-2.false
     c.in_ok-places.ensures.placed c.in_ok-marks.ensures.marked
