@@ -10,16 +10,16 @@ use Rattle.xl_lists.specs.Lists.{TrustedList, IsValid, is_on, is_outside, repeat
 use Rattle.xl_base.specs.Refusals.{refused_if, unless_refused as list_unless}
 use Rattle.xl_lists.proofs.Refusing.{distinct, all_in_range}
 use Rattle.xl_ledger.specs.declared.registry.TheConstants.{LEAST_LIMIT}
-use Rattle.xl_sched.specs.declared.event.Event.{Event}
 use Rattle.xl_sched.specs.declared.refusal.SchedRefusal.{SchedRefusal}
 use Rattle.xl_sched.specs.declared.refusal.SchedRefusal.TheVariants.{Twice, Late}
 use Rattle.xl_sched.specs.declared.limits.TheConstants.{MOST_LINES, MOST_BYTES, MOST_LEDGERS}
 use Rattle.xl_sched.specs.declared.ledger.Ledger.{Ledger}
 use Rattle.xl_sched.specs.declared.line.Line.{Line}
 use Rattle.xl_sched.specs.declared.line.Line.TheVariants as line
-use Rattle.xl_sched.specs.declared.word.Word.{Word}
-use Rattle.xl_sched.specs.declared.word.Word.TheVariants as word
-use Rattle.xl_base.specs.declared.ids.LedgerId.{LedgerId}
+use Rattle.xl_sched.specs.declared.event.What.{What}
+use Rattle.xl_sched.specs.declared.word.EventWord.{EventWord}
+use Rattle.xl_sched.specs.declared.word.SettingWord.{SettingWord}
+use Rattle.xl_sched.specs.declared.word.SettingWord.TheVariants as setting
 use Rattle.xl_base.specs.declared.moments.TheConstants.{GREATEST_MILLIS}
 use Rattle.xl_sched.specs.Refusals.{◌>>=◌}
 use Rattle.xl_sched.specs.Tokens.{tokens}
@@ -27,8 +27,11 @@ use Rattle.xl_sched.specs.Numbers.{is_number, value_of, number_within, number_of
 use Rattle.xl_sched.specs.Names.{new_name_of, id_of}
 use Rattle.xl_sched.specs.Ledgers.{parent_of, header_after}
 use Rattle.xl_sched.specs.Members.{member_of, new_member_of, members_of, trusted_of, unless_refused}
-use Rattle.xl_sched.specs.Words.{Reading, mode_of, node_of, node_line, liar_line, has_most_names, named_line, named_ledger_line, limit_line, at_line, issue_event, deliver_event, all_event, drop_event, restart_event, cut_event, fail_event, lie_event, raw_event, prefer_event, event_line, line_of, line_if_word, word_of, worded_line}
-use Rattle.xl_sched.specs.Reading.{Answer, passes, gives, refuses, is_header, header_line, is_comment, some_line, later_line, bounded_line, answer_to, reading_of}
+use Rattle.xl_sched.specs.Reading.{Reading}
+use Rattle.xl_sched.specs.Settings.{mode_of, node_of, node_line, liar_line, limit_line, at_line}
+use Rattle.xl_sched.specs.Naming.{has_most_names, named_line, named_ledger_line}
+use Rattle.xl_sched.specs.Words.{is_declaration, setting_word, event_word, set_line, setting_line, what_of, event_line, event_line_of, line_of, worded_line}
+use Rattle.xl_sched.specs.Answers.{Answer, passes, gives, refuses, is_header, header_line, is_comment, some_line, later_line, bounded_line, answer_to, reading_of}
 use Rattle.xl_world.specs.Plans.{IsDeclared}
 
 -- LISTS
@@ -145,7 +148,7 @@ liar_line_declares reading [] = tt
 liar_line_declares reading (a ∷ []) = liar_declares (new_member_of reading.nodes reading.liars a)
 liar_line_declares reading (a ∷ b ∷ rest) = tt
 
-name_declares : (name : Result (List ℕ) SchedRefusal) (id : Result LedgerId SchedRefusal) → IfOk (name >>= (λ n. id >>= (λ i. Ok (line.Name n i)))) Declares
+name_declares : (name : Result (List ℕ) SchedRefusal) (id : Result (List ℕ) SchedRefusal) → IfOk (name >>= (λ n. id >>= (λ i. Ok (line.Name n i)))) Declares
 name_declares (Err e) id = tt
 name_declares (Ok n) (Err e) = tt
 name_declares (Ok n) (Ok i) = tt
@@ -188,36 +191,28 @@ at_line_declares [] = tt
 at_line_declares (a ∷ []) = at_declares (number_within 0 GREATEST_MILLIS a)
 at_line_declares (a ∷ b ∷ rest) = tt
 
-event_declares : (r : Result Event SchedRefusal) → IfOk (event_line r) Declares
-event_declares (Err e) = tt
-event_declares (Ok event) = tt
-
-line_declares : (reading : Reading) (sent : ℕ) (w : Word) (token : List ℕ) (arguments : List (List ℕ)) → IfOk (line_of reading sent w token arguments) Declares
-line_declares reading sent word.Node token arguments =
-    cond_both reading.started (Err (Late token)) (node_line reading arguments) (λ r. IfOk r Declares) (λ _. tt) (λ _. node_line_declares reading arguments)
-line_declares reading sent word.Liar token arguments =
-    cond_both reading.started (Err (Late token)) (liar_line reading arguments) (λ r. IfOk r Declares) (λ _. tt) (λ _. liar_line_declares reading arguments)
-line_declares reading sent word.Limit token arguments =
-    cond_both reading.started (Err (Late token)) (limit_line reading arguments) (λ r. IfOk r Declares) (λ _. tt) (λ _. limit_line_declares reading arguments)
-line_declares reading sent word.Name token arguments =
+set_line_declares : (reading : Reading) (w : SettingWord) (arguments : List (List ℕ)) → IfOk (set_line reading w arguments) Declares
+set_line_declares reading setting.Limit arguments = limit_line_declares reading arguments
+set_line_declares reading setting.Node arguments = node_line_declares reading arguments
+set_line_declares reading setting.Liar arguments = liar_line_declares reading arguments
+set_line_declares reading setting.At arguments = at_line_declares arguments
+set_line_declares reading setting.Name arguments =
     cond_both (has_most_names reading) _ (named_line reading arguments) (λ r. IfOk r Declares) (λ _. tt) (λ _. named_line_declares reading arguments)
-line_declares reading sent word.Ledger token arguments =
+set_line_declares reading setting.Ledger arguments =
     cond_both (has_most_names reading) _ (named_ledger_line reading arguments) (λ r. IfOk r Declares) (λ _. tt) (λ _. ledger_line_declares reading arguments)
-line_declares reading sent word.Issue token arguments = event_declares (issue_event reading arguments)
-line_declares reading sent word.Deliver token arguments = event_declares (deliver_event reading sent arguments)
-line_declares reading sent word.Restart token arguments = event_declares (restart_event reading arguments)
-line_declares reading sent word.Lie token arguments = event_declares (lie_event reading arguments)
-line_declares reading sent word.Raw token arguments = event_declares (raw_event reading arguments)
-line_declares reading sent word.Prefer token arguments = event_declares (prefer_event reading arguments)
-line_declares reading sent word.At token arguments = at_line_declares arguments
-line_declares reading sent word.All token arguments = event_declares (all_event reading arguments)
-line_declares reading sent word.Drop token arguments = event_declares (drop_event reading arguments)
-line_declares reading sent word.Cut token arguments = event_declares (cut_event reading arguments)
-line_declares reading sent word.Fail token arguments = event_declares (fail_event reading arguments)
 
-word_declares : (reading : Reading) (sent : ℕ) (o : Option Word) (token : List ℕ) (arguments : List (List ℕ)) → IfOk (line_if_word reading sent o token arguments) Declares
-word_declares reading sent None token arguments = tt
-word_declares reading sent (Some w) token arguments = line_declares reading sent w token arguments
+event_declares : (reading : Reading) (r : Result What SchedRefusal) → IfOk (event_line reading r) Declares
+event_declares reading (Err e) = tt
+event_declares reading (Ok what) = tt
+
+event_word_declares : (reading : Reading) (sent : ℕ) (o : Option EventWord) (token : List ℕ) (arguments : List (List ℕ)) → IfOk (event_line_of reading sent o token arguments) Declares
+event_word_declares reading sent None token arguments = tt
+event_word_declares reading sent (Some w) token arguments = event_declares reading (what_of reading sent w arguments)
+
+word_declares : (reading : Reading) (sent : ℕ) (o : Option SettingWord) (token : List ℕ) (arguments : List (List ℕ)) → IfOk (line_of reading sent o token arguments) Declares
+word_declares reading sent None token arguments = event_word_declares reading sent (event_word token) token arguments
+word_declares reading sent (Some w) token arguments =
+    cond_both (reading.started && is_declaration w) (Err (Late token)) (set_line reading w arguments) (λ r. IfOk r Declares) (λ _. tt) (λ _. set_line_declares reading w arguments)
 
 some_declares : (r : Result Line SchedRefusal) → IfOk r Declares → IfOk (some_line r) (λ o. IfSome o Declares)
 some_declares (Err e) h = tt
@@ -227,7 +222,7 @@ later_declares : (reading : Reading) (sent : ℕ) (line : List (List ℕ)) → I
 later_declares reading sent [] = tt
 later_declares reading sent (token ∷ arguments) =
     cond_both (is_comment token) (Ok None) _ (λ r. IfOk r (λ o. IfSome o Declares)) (λ _. tt)
-    (λ _. some_declares (worded_line reading sent token arguments) (word_declares reading sent (word_of token) token arguments))
+    (λ _. some_declares (worded_line reading sent token arguments) (word_declares reading sent (setting_word token) token arguments))
 
 bounded_declares : (reading : Reading) (sent : ℕ) (bytes : List ℕ) → IfOk (bounded_line reading sent bytes) (λ o. IfSome o Declares)
 bounded_declares reading sent bytes =

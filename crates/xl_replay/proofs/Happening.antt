@@ -2,7 +2,7 @@
 use Rattle.std.proofs.Common.{◌≡◌, ℕ, List, [], ◌++◌, ap, ◌∙◌, Some}
 use Rattle.xl_lines.specs.Rules.{Step, goes_on}
 use Rattle.xl_sched.specs.declared.event.Event.{Event}
-use Rattle.xl_sched.specs.Words.{Reading}
+use Rattle.xl_sched.specs.Reading.{Reading}
 use Rattle.xl_world.specs.declared.outcome.Outcome.{Outcome}
 use Rattle.xl_world.specs.declared.plan.PlanNode.{PlanNode}
 use Rattle.xl_world.specs.Schedule.{after_event, outcomes}

@@ -20,13 +20,14 @@ use Rattle.xl_core.specs.Node.{Node, preferred}
 use Rattle.xl_core.specs.declared.event.CoreEvent.{CoreEvent}
 use Rattle.xl_ledger.specs.Headers.{header_id}
 use Rattle.xl_sched.specs.declared.event.Event.{Event}
-use Rattle.xl_sched.specs.declared.event.Event.TheVariants as event
+use Rattle.xl_sched.specs.declared.event.What.{What}
+use Rattle.xl_sched.specs.declared.event.What.TheVariants as what
 use Rattle.xl_sched.specs.declared.line.Line.{Line}
 use Rattle.xl_sched.specs.declared.named.Named.{Named}
 use Rattle.xl_sched.specs.declared.refusal.SchedRefusal.{SchedRefusal}
 use Rattle.xl_sched.specs.declared.line.Line.TheVariants as line
-use Rattle.xl_sched.specs.Words.{Reading}
-use Rattle.xl_sched.specs.Reading.{Answer, passes, gives, refuses, answer_to, bounded_line, reading_of}
+use Rattle.xl_sched.specs.Reading.{Reading}
+use Rattle.xl_sched.specs.Answers.{Answer, passes, gives, refuses, answer_to, bounded_line, reading_of}
 use Rattle.xl_world.specs.declared.outcome.Outcome.{Outcome}
 use Rattle.xl_world.specs.declared.outcome.Outcome.TheVariants.{Refused, Full, Preferred}
 use Rattle.xl_world.specs.declared.place.Place.{Place}
@@ -37,7 +38,7 @@ use Rattle.xl_world.specs.Keeper.{held_by, answer_of}
 use Rattle.xl_world.specs.World.{reported_by}
 use Rattle.xl_world.specs.Plans.{IsDeclared, AreDeclared}
 use Rattle.xl_world.specs.World.{World, Step as WorldStep, Act, Again, Torn, Mark, place_at, reply_at, acts, reopened, again, torn, asked_at, moment_in, step, run, start, IsRun}
-use Rattle.xl_world.specs.Schedule.{steps_of, after_event, told_of as told_at, told_by as told_by_step, told_in, preference, outcomes}
+use Rattle.xl_world.specs.Schedule.{steps_at, steps_of, after_event, told_of as told_at, told_by as told_by_step, told_in, preference, outcomes_at, outcomes}
 use Rattle.xl_world.proofs.Settling.{at_its_number}
 use Rattle.xl_world.proofs.Lists.{core_keeps}
 use Rattle.xl_world.proofs.Runs.{run_on}
@@ -136,17 +137,9 @@ preference_reported : (w : World) (i : ℕ) (o : Option Place) → All (IsReport
 preference_reported w i None = All-nil (IsReported w)
 preference_reported w i (Some p) = All-cons (IsReported w) (Preferred i (preferred p.core.node)) [] tt (All-nil (IsReported w))
 
-event_reported : (w : World) (e : Event) → All (IsReported (after_event w e)) (outcomes w e)
-event_reported w (event.Issue at node seq id full) = run_reported w (steps_of w (event.Issue at node seq id full))
-event_reported w (event.Deliver at place) = run_reported w (steps_of w (event.Deliver at place))
-event_reported w (event.All at) = run_reported w (steps_of w (event.All at))
-event_reported w (event.Drop at) = run_reported w (steps_of w (event.Drop at))
-event_reported w (event.Restart at node) = run_reported w (steps_of w (event.Restart at node))
-event_reported w (event.Cut at new ask) = run_reported w (steps_of w (event.Cut at new ask))
-event_reported w (event.Fail at new ask) = run_reported w (steps_of w (event.Fail at new ask))
-event_reported w (event.Lie at from to what) = run_reported w (steps_of w (event.Lie at from to what))
-event_reported w (event.Raw at to bytes) = run_reported w (steps_of w (event.Raw at to bytes))
-event_reported w (event.Prefer at node) = preference_reported w node (place_at node w.places)
+event_reported : (w : World) (at : ℕ) (h : What) → All (IsReported (run w (steps_at w at h))) (outcomes_at w at h)
+event_reported w at (what.Prefer node) = preference_reported w node (place_at node w.places)
+event_reported w at happening = run_reported w (steps_at w at happening)
 
 -- STEP BY STEP
 
@@ -215,7 +208,7 @@ answer_extends reading (Ok (Some (line.Limit limit))) = extends_itself reading.n
 answer_extends reading (Ok (Some (line.Node me list validating))) = extends_itself reading.names
 answer_extends reading (Ok (Some (line.Liar me))) = extends_itself reading.names
 answer_extends reading (Ok (Some (line.Name name id))) = (record { name = name; id = id; header = None } ∷ [], refl)
-answer_extends reading (Ok (Some (line.Ledger name parent header))) = (record { name = name; id = header_id header; header = Some header } ∷ [], refl)
+answer_extends reading (Ok (Some (line.Ledger name parent header))) = (record { name = name; id = (header_id header).0; header = Some header } ∷ [], refl)
 answer_extends reading (Ok (Some (line.At at))) = extends_itself reading.names
 answer_extends reading (Ok (Some (line.Event e))) = extends_itself reading.names
 
@@ -231,7 +224,7 @@ event_tells : (r : Replaying) (reading : Reading) (e : Event) → IsSound r → 
 event_tells r reading e sound extends = record {
   spoken = map (λ o. record { names = reading.names; line = reading.lines; outcome = o }) (outcomes (world_of r) e);
   written = flat_map-made reading.names reading.lines (outcomes (world_of r) e);
-  reported = All-map (λ s. IsReported (after_event (world_of r) e) s.outcome) _ (outcomes (world_of r) e) (event_reported (world_of r) e);
+  reported = All-map (λ s. IsReported (after_event (world_of r) e) s.outcome) _ (outcomes (world_of r) e) (event_reported (world_of r) e.at e.what);
   named = All-map (λ s. Extends s.names reading.names) _ (outcomes (world_of r) e) (λ k d below. extends_itself reading.names);
   extends = extends;
   grows = run_grows (world_of r) (steps_of (world_of r) e);

@@ -5,7 +5,6 @@ use Rattle.xl_ledger.specs.declared.registry.TheConstants.{LEAST_LIMIT}
 use Rattle.xl_sched.specs.declared.limits.TheConstants.{MOST_LEDGERS}
 use Rattle.xl_sched.specs.declared.line.Line.{Line}
 use Rattle.xl_sched.specs.declared.line.Line.TheVariants as line
-use Rattle.xl_world.specs.Schedule.{moment_of}
 use Rattle.xl_replay.specs.declared.replayer.Replayer.{Replayer}
 use Rattle.xl_replay.specs.Replays.{Replaying}
 
@@ -20,4 +19,4 @@ IsInRange (line.Liar me) = Unit {0}
 IsInRange (line.Name name id) = Unit {0}
 IsInRange (line.Ledger name parent header) = Unit {0}
 IsInRange (line.At at) = Unit {0}
-IsInRange (line.Event event) = moment_of event ≤ GREATEST_MILLIS
+IsInRange (line.Event event) = event.at ≤ GREATEST_MILLIS

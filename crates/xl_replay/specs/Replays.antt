@@ -15,8 +15,8 @@ use Rattle.xl_sched.specs.declared.line.Line.{Line}
 use Rattle.xl_sched.specs.declared.line.Line.TheVariants as line
 use Rattle.xl_sched.specs.declared.refusal.SchedRefusal.{SchedRefusal}
 use Rattle.xl_sched.specs.declared.refusal.SchedRefusal.TheVariants.{Header, LongLine, Limit}
-use Rattle.xl_sched.specs.Words.{Reading}
-use Rattle.xl_sched.specs.Reading.{Answer, passes, gives, refuses, reading_of, opened}
+use Rattle.xl_sched.specs.Reading.{Reading, opened}
+use Rattle.xl_sched.specs.Answers.{Answer, passes, gives, refuses, reading_of}
 use Rattle.xl_world.specs.declared.plan.PlanNode.{PlanNode}
 use Rattle.xl_world.specs.Forks.{Fork, first_fork}
 use Rattle.xl_world.specs.Schedule.{after_event, outcomes}

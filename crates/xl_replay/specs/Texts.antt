@@ -41,7 +41,7 @@ named_text (Some name) id = shown_token name
 
 -- an id is printed by the first declared name that stands for it
 abbrev pub id_text : List Named → LedgerId → List ℕ
-id_text names id = named_text (name_of names id) id
+id_text names id = named_text (name_of names id.0) id
 
 -- the values of why bytes are no frame
 abbrev pub frame_values : WireRefusal → List ℕ

@@ -33,7 +33,6 @@ impl Replayer {
     ghost use Rattle.std.specs.Prelude.{◌≤◌, length, string_bytes, OnOk, IfOk};
     ghost use Rattle.xl_base.specs.declared.moments.TheConstants.{GREATEST_MILLIS};
     ghost use Rattle.xl_lines.specs.Rules.{goes_on};
-    ghost use Rattle.xl_world.specs.Schedule.{moment_of};
     ghost use Rattle.xl_replay.specs.Replays.{after, after_line, world_of};
     ghost use Rattle.xl_replay.specs.Replayers.{state_of, IsInRange};
 
@@ -77,7 +76,7 @@ impl Replayer {
 
     /// An event is a step of the world, and what came of it is told.
     fn happen(&mut self, event: &Event, text: &mut String) -> Result<(), OutOfMemory>
-        requires timely { moment_of event.now ≤ GREATEST_MILLIS }
+        requires timely { event.now.at ≤ GREATEST_MILLIS }
         requires empty { string_bytes text.old ≡ [] }
         ensures { OnOk result (goes_on (string_bytes text.new) (state_of self.new) ≡ after (state_of self.old) self.old.reader event.now) }
     {

@@ -22,7 +22,7 @@ pub fn push_id(
 ) -> Result<(), OutOfMemory>
     ensures { OnOk result (string_bytes text.new ≡ string_bytes text.old ++ id_text reader.now.names id.now) }
 {
-    match reader.name_of(id) {
+    match reader.name_of(&id.0) {
         Some(name) => printed_token(name, text),
         None => {
             let digits = hex::encode(alloc, id.0.as_slice())?;

@@ -68,10 +68,10 @@ position-none f p xs h =
     ]
 
 -- one name more, at the end
-pub AreFirst-more : (old new : Places) (names : List Named) (named : Named) (name id : List ℕ) (place : ℕ) → HasPlaceMore old new name id place → place ≡ length names → named.name ≡ name → named.id.0 ≡ id → AreFirst old names → AreFirst new (names ++ named ∷ [])
+pub AreFirst-more : (old new : Places) (names : List Named) (named : Named) (name id : List ℕ) (place : ℕ) → HasPlaceMore old new name id place → place ≡ length names → named.name ≡ name → named.id ≡ id → AreFirst old names → AreFirst new (names ++ named ∷ [])
 AreFirst-more old new names named name id place more at same_name same first = record {
   by_name = λ t. more.by_name t ∙ ap (λ kept. with_place kept (bytes_eq t name) place) (first.by_name t) ∙ ap (λ n. with_place (position (λ n. bytes_eq t n.name) names) (bytes_eq t name) n) at ∙ ap (λ n. with_place (position (λ n. bytes_eq t n.name) names) (bytes_eq t n) (length names)) (sym same_name) ∙ sym (position-push (λ n. bytes_eq t n.name) names named);
-  by_id = λ t. more.by_id t ∙ ap (λ kept. with_place kept (bytes_eq t id) place) (first.by_id t) ∙ ap (λ n. with_place (position (λ n. bytes_eq t n.id.0) names) (bytes_eq t id) n) at ∙ ap (λ n. with_place (position (λ n. bytes_eq t n.id.0) names) (bytes_eq t n) (length names)) (sym same) ∙ sym (position-push (λ n. bytes_eq t n.id.0) names named);
+  by_id = λ t. more.by_id t ∙ ap (λ kept. with_place kept (bytes_eq t id) place) (first.by_id t) ∙ ap (λ n. with_place (position (λ n. bytes_eq t n.id) names) (bytes_eq t id) n) at ∙ ap (λ n. with_place (position (λ n. bytes_eq t n.id) names) (bytes_eq t n) (length names)) (sym same) ∙ sym (position-push (λ n. bytes_eq t n.id) names named);
 }
 
 pub AreFirst-kept : (old new : Places) (names : List Named) → HasSamePlaces old new → AreFirst old names → AreFirst new names

@@ -25,7 +25,7 @@ header_after parent close = record root_header {
 
 -- the ledger of a name that was declared by a header; a plain name has none, whatever it stands for
 abbrev pub ledger_in : Named → Option Ledger
-ledger_in named = option_map (λ header. record { id = named.id; header = header }) named.header
+ledger_in named = option_map (λ header. record { id = record { 0 = named.id }; header = header }) named.header
 
 -- the ledger that was declared by this name
 abbrev pub ledger_named : List Named → List ℕ → Option Ledger

@@ -1,10 +1,9 @@
 -- Members, and lists of them. Source: this project's schedule language.
-use Rattle.std.specs.Prelude.{ℕ, Bool, true, false, ◌||◌, List, [], ◌∷◌, decimal, Result, Ok, Err, if◌then◌else◌, codes}
-use Rattle.std.specs.Str.{bytes_eq}
+use Rattle.std.specs.Prelude.{ℕ, ◌||◌, List, [], ◌∷◌, decimal, Result, Ok, Err, if◌then◌else◌}
 use Rattle.xl_lists.specs.Lists.{TrustedList, list_of, is_on, code_of}
 use Rattle.xl_lists.specs.declared.refusal.ListRefusal.{ListRefusal}
 use Rattle.xl_sched.specs.declared.refusal.SchedRefusal.{SchedRefusal}
-use Rattle.xl_sched.specs.declared.refusal.SchedRefusal.TheVariants.{Twice, Absent, Choice, List as IsNoList}
+use Rattle.xl_sched.specs.declared.refusal.SchedRefusal.TheVariants.{Twice, Absent, List as IsNoList}
 use Rattle.xl_sched.specs.Refusals.{◌>>=◌}
 use Rattle.xl_sched.specs.Tokens.{entries}
 use Rattle.xl_sched.specs.Numbers.{number_within, number_of}
@@ -44,14 +43,3 @@ unless_refused (Err refusal) = Err (IsNoList (decimal (code_of refusal)))
 -- the list of these members and this quorum
 abbrev pub trusted_of : List ℕ → ℕ → Result TrustedList SchedRefusal
 trusted_of members quorum = unless_refused (list_of members quorum)
-
--- whether a node validates: not where `observing` is written, and nothing else may be
-abbrev pub validating_of : List ℕ → Result Bool SchedRefusal
-validating_of token = if bytes_eq token (codes "observing") then Ok false else Err (Choice token)
-
--- whether a validation is `full`, and not `partial`
-abbrev pub full_of : List ℕ → Result Bool SchedRefusal
-full_of token =
-    if bytes_eq token (codes "full") then Ok true
-    else if bytes_eq token (codes "partial") then Ok false
-    else Err (Choice token)

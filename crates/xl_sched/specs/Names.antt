@@ -1,4 +1,4 @@
--- Names that stand for ids. Source: this project's schedule language.
+-- Names that stand for ids, of ledgers, sets and transactions alike. Source: this project's schedule language.
 use Rattle.std.specs.Prelude.{ℕ, Bool, false, ◌&&◌, ◌||◌, not, nat_le, List, [], ◌∷◌, length, find, codes, Option, None, option_map, is_some, Result, Ok, Err, if◌then◌else◌}
 use Rattle.std.specs.List.{list_all}
 use Rattle.std.specs.Char.{is_ascii_digit}
@@ -6,16 +6,16 @@ use Rattle.std.specs.Option.{option_or, ok_or}
 use Rattle.std.specs.Result.{result_ok}
 use Rattle.std.specs.Str.{bytes_eq}
 use Rattle.hex.specs.Hex.{decode_sized}
-use Rattle.xl_base.specs.Ids.{same_id}
 use Rattle.xl_base.specs.declared.ids.LedgerId.{LedgerId}
 use Rattle.xl_ledger.specs.Chains.{root_id}
 use Rattle.xl_sched.specs.declared.named.Named.{Named}
 use Rattle.xl_sched.specs.declared.refusal.SchedRefusal.{SchedRefusal}
 use Rattle.xl_sched.specs.declared.refusal.SchedRefusal.TheVariants.{Id, Twice}
+use Rattle.xl_sched.specs.Refusals.{◌>>=◌}
 
 -- the name `root` stands for 32 zero bytes from the start
 abbrev pub root : Named
-root = record { name = codes "root"; id = root_id; header = None }
+root = record { name = codes "root"; id = root_id.0; header = None }
 
 -- a to z
 abbrev pub is_letter : ℕ → Bool
@@ -27,20 +27,26 @@ is_name [] = false
 is_name (first ∷ rest) = is_letter first && list_all (λ b. is_letter b || is_ascii_digit b) rest && nat_le (length rest) 15
 
 -- the id that a declared name stands for
-abbrev pub id_named : List Named → List ℕ → Option LedgerId
+abbrev pub id_named : List Named → List ℕ → Option (List ℕ)
 id_named names name = option_map (λ n. n.id) (find (λ n. bytes_eq name n.name) names)
 
 -- the first declared name that stands for the id
-abbrev pub name_of : List Named → LedgerId → Option (List ℕ)
-name_of names id = option_map (λ n. n.name) (find (λ n. same_id id n.id) names)
+abbrev pub name_of : List Named → List ℕ → Option (List ℕ)
+name_of names id = option_map (λ n. n.name) (find (λ n. bytes_eq id n.id) names)
 
 -- the id that 64 hexadecimal digits of either case write
-abbrev pub id_written : List ℕ → Option LedgerId
-id_written token = option_map (λ bytes. record { 0 = bytes }) (result_ok (decode_sized token 32))
+abbrev pub id_written : List ℕ → Option (List ℕ)
+id_written token = result_ok (decode_sized token 32)
 
 -- an id, by its digits or by its name
-abbrev pub id_of : List Named → List ℕ → Result LedgerId SchedRefusal
+abbrev pub id_of : List Named → List ℕ → Result (List ℕ) SchedRefusal
 id_of names token = ok_or (option_or (id_written token) (id_named names token)) (Id token)
+
+-- the same, of a ledger
+abbrev pub ledger_id_of : List Named → List ℕ → Result LedgerId SchedRefusal
+ledger_id_of names token = do
+  id ← id_of names token
+  Ok (record { 0 = id })
 
 -- a name that may still be declared
 abbrev pub new_name_of : List Named → List ℕ → Result (List ℕ) SchedRefusal

@@ -19,7 +19,7 @@ place_of_id places id = get_by (slice_cmp nat_cmp id) places.by_id
 -- the places of the first declarations
 pub record AreFirst (places : Places) (names : List Named) : Type 0 where
   pub by_name : (name : List ℕ) → place_of_name places name ≡ position (λ n. bytes_eq name n.name) names
-  pub by_id : (id : List ℕ) → place_of_id places id ≡ position (λ n. bytes_eq id n.id.0) names
+  pub by_id : (id : List ℕ) → place_of_id places id ≡ position (λ n. bytes_eq id n.id) names
 
 -- one place more for a key, unless it has one
 abbrev pub with_place : Option ℕ → Bool → ℕ → Option ℕ

@@ -1,93 +1,52 @@
--- What a reader answers to a line, and what it then knows. Source: this project's schedule language.
-use Rattle.std.specs.Prelude.{ℕ, ◌+◌, ◌==◌, ◌&&◌, Bool, true, false, nat_lt, List, [], ◌∷◌, ◌++◌, length, decimal, codes, Option, Some, None, Result, Ok, Err, if◌then◌else◌}
-use Rattle.std.specs.Str.{bytes_eq}
+-- What a reader knows. Source: this project's schedule language.
+use Rattle.std.specs.Prelude.{◌≡◌, ℕ, ◌+◌, Bool, true, false, List, [], ◌∷◌, ◌++◌}
+use Rattle.std.specs.Prelude.{Some, None}
 use Rattle.xl_ledger.specs.Headers.{header_id}
-use Rattle.xl_sched.specs.declared.limits.TheConstants.{MOST_LINES, MOST_BYTES}
-use Rattle.xl_sched.specs.declared.refusal.SchedRefusal.{SchedRefusal}
-use Rattle.xl_sched.specs.declared.refusal.SchedRefusal.TheVariants.{Header, LongLine, Limit}
+use Rattle.xl_lists.specs.Lists.{is_on}
 use Rattle.xl_sched.specs.declared.line.Line.{Line}
 use Rattle.xl_sched.specs.declared.line.Line.TheVariants as line
-use Rattle.xl_sched.specs.Refusals.{◌>>=◌}
-use Rattle.xl_sched.specs.Tokens.{tokens}
+use Rattle.xl_sched.specs.declared.named.Named.{Named}
 use Rattle.xl_sched.specs.Names.{root}
-use Rattle.xl_sched.specs.Words.{Reading, worded_line}
+
+-- what a reader knows of the lines that it has read
+pub record Reading : Type 0 where
+  -- how many they were
+  pub lines : ℕ
+  -- the moment in force, in milliseconds
+  pub now : ℕ
+  -- whether an event was among them
+  pub started : Bool
+  -- whether a line said how many ledgers a node may know
+  pub limited : Bool
+  -- the honest nodes in the order of their declaration
+  pub nodes : List ℕ
+  -- the liars in the order of theirs
+  pub liars : List ℕ
+  -- the names in the order of their declaration, `root` first
+  pub names : List Named
 
 -- before the first line
 abbrev pub opened : Reading
 opened = record { lines = 0; now = 1000; started = false; limited = false; nodes = []; liars = []; names = root ∷ [] }
 
--- `xl-schedule 1`
-abbrev pub is_header : List (List ℕ) → Bool
-is_header (name ∷ version ∷ []) = bytes_eq name (codes "xl-schedule") && bytes_eq version (codes "1")
-is_header line = false
-
--- the first token, or nothing
-abbrev pub first_token : List (List ℕ) → List ℕ
-first_token [] = []
-first_token (token ∷ rest) = token
-
--- line 1 must be the header
-abbrev pub header_line : List (List ℕ) → Result (Option Line) SchedRefusal
-header_line line = if is_header line then Ok None else Err (Header (first_token line))
-
--- a comment begins with `#`
-abbrev pub is_comment : List ℕ → Bool
-is_comment [] = false
-is_comment (first ∷ rest) = first == 35
-
-abbrev pub some_line : Result Line SchedRefusal → Result (Option Line) SchedRefusal
-some_line result = do
-  line ← result
-  Ok (Some line)
-
--- a later line; an empty one and a comment are passed over
-abbrev pub later_line : Reading → ℕ → List (List ℕ) → Result (Option Line) SchedRefusal
-later_line reading sent [] = Ok None
-later_line reading sent (token ∷ arguments) =
-    if is_comment token then Ok None else some_line (worded_line reading sent token arguments)
-
--- a line by its tokens
-abbrev pub line_of_tokens : Reading → ℕ → List (List ℕ) → Result (Option Line) SchedRefusal
-line_of_tokens reading sent line =
-    if reading.lines == 0 then header_line line else later_line reading sent line
-
--- a line, unless it has too many bytes or is one too many
-abbrev pub bounded_line : Reading → ℕ → List ℕ → Result (Option Line) SchedRefusal
-bounded_line reading sent bytes =
-    if nat_lt MOST_BYTES (length bytes) then Err (LongLine (decimal MOST_BYTES))
-    else if reading.lines == MOST_LINES then Err (Limit (decimal MOST_LINES))
-    else line_of_tokens reading sent (tokens bytes)
+-- a number that was declared neither as an honest node nor as a liar
+abbrev pub IsUndeclared : Reading → ℕ → Type 0
+IsUndeclared reading me = (is_on reading.nodes me ≡ false) × (is_on reading.liars me ≡ false)
 
 -- one line more was read
 abbrev pub counted : Reading → Reading
 counted reading = record reading { lines = reading.lines + 1 }
 
+-- one name more
+abbrev pub naming : Reading → Named → Reading
+naming reading named = record (counted reading) { names = reading.names ++ named ∷ [] }
+
 -- what is known after a line
 abbrev pub after : Reading → Line → Reading
 after reading (line.Node me list validating) = record (counted reading) { nodes = reading.nodes ++ me ∷ [] }
 after reading (line.Liar me) = record (counted reading) { liars = reading.liars ++ me ∷ [] }
-after reading (line.Name name id) = record (counted reading) { names = reading.names ++ record { name = name; id = id; header = None } ∷ [] }
+after reading (line.Name name id) = naming reading (record { name = name; id = id; header = None })
 after reading (line.Limit limit) = record (counted reading) { limited = true }
-after reading (line.Ledger name parent header) = record (counted reading) { names = reading.names ++ record { name = name; id = header_id header; header = Some header } ∷ [] }
+after reading (line.Ledger name parent header) = naming reading (record { name = name; id = (header_id header).0; header = Some header })
 after reading (line.At at) = record (counted reading) { now = at }
 after reading (line.Event event) = record (counted reading) { started = true }
-
--- a line that was passed over or was the header, a line that says something, or a refusal; with what is known then
-pub data Answer : Type 0 where
-  passes : Reading → Answer
-  gives : Line → Reading → Answer
-  refuses : SchedRefusal → Answer
-
-abbrev pub answer_to : Reading → Result (Option Line) SchedRefusal → Answer
-answer_to reading (Ok None) = passes (counted reading)
-answer_to reading (Ok (Some line)) = gives line (after reading line)
-answer_to reading (Err refusal) = refuses refusal
-
--- the answer of a reader that says this of a line, and knows that after it
-abbrev pub answered : Option Line → Reading → Answer
-answered None known = passes known
-answered (Some line) known = gives line known
-
--- the answer to a line where so many frames were sent; a refused line changes nothing
-abbrev pub reading_of : Reading → ℕ → List ℕ → Answer
-reading_of reading sent bytes = answer_to reading (bounded_line reading sent bytes)

@@ -8,12 +8,10 @@
 //! and a refused line changes nothing.
 #![tactic(auto)]
 
-mod ask;
-mod asked;
+mod choices;
 mod event;
 mod fault;
 mod ledger;
-mod lied;
 mod limits;
 mod line;
 mod members;
@@ -23,17 +21,13 @@ mod nodes;
 mod numbers;
 mod places;
 mod printed;
-mod raw;
 mod reader;
 mod refusal;
-mod said;
 mod tokens;
 mod word;
 
-pub use ask::Ask;
-pub use event::Event;
+pub use event::{Ask, Event, Lied, What};
 pub use ledger::Ledger;
-pub use lied::Lied;
 pub use limits::{MOST_BYTES, MOST_LEDGERS, MOST_LINES, MOST_NAMES, MOST_RAW_BYTES};
 pub use line::Line;
 pub use named::Named;

@@ -1,5 +1,5 @@
 use crate::event::Event;
-use xl_base::{Bytes, LedgerId, Millis, NodeNo};
+use xl_base::{Bytes, Millis, NodeNo};
 use xl_ledger::Header;
 use xl_lists::List;
 
@@ -16,10 +16,10 @@ pub enum Line {
     },
     /// A liar is declared, which was declared neither as one nor as a node.
     Liar(NodeNo),
-    /// A name stands for an id from here on. It stood for none before.
+    /// A name stands for an id from here on, whatever has it. It stood for none before.
     Name {
         name: Bytes,
-        id: LedgerId,
+        id: [u8; 32],
     },
     /// A name stands for a ledger with this header from here on, and for its id. It stood for none before.
     Ledger {

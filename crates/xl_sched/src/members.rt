@@ -1,5 +1,5 @@
 ghost use Rattle.std.specs.Prelude.{◌≡◌, ◌⊎◌, Ok, Err, MatchResult};
-ghost use Rattle.xl_sched.specs.Members.{member_of, members_of, trusted_of, validating_of, full_of};
+ghost use Rattle.xl_sched.specs.Members.{member_of, members_of, trusted_of};
 ghost use Rattle.xl_sched.specs.declared.refusal.SchedRefusal.TheVariants.{OutOfMemory};
 
 use crate::fault::{Cause, Fault};
@@ -36,29 +36,5 @@ pub fn trusted<'a>(members: &[u32], quorum: u32) -> Result<List, Fault<'a>>
     match List::new(members, quorum) {
         Ok(list) => Ok(list),
         Err(refusal) => Err(Fault::with_number(Cause::List, u64::from(refusal.code()))),
-    }
-}
-
-/// Whether a node validates: not where the token is `observing`.
-pub fn validating<'a>(token: &'a [u8]) -> Result<bool, Fault<'a>>
-    ensures { result ≡ validating_of token.now }
-{
-    if token == b"observing".as_slice() {
-        Ok(false)
-    } else {
-        Err(Fault::with_text(Cause::Choice, token))
-    }
-}
-
-/// Whether the token is `full`, and not `partial`.
-pub fn full<'a>(token: &'a [u8]) -> Result<bool, Fault<'a>>
-    ensures { result ≡ full_of token.now }
-{
-    if token == b"full".as_slice() {
-        Ok(true)
-    } else if token == b"partial".as_slice() {
-        Ok(false)
-    } else {
-        Err(Fault::with_text(Cause::Choice, token))
     }
 }

@@ -1,11 +1,11 @@
-use xl_base::{Bytes, LedgerId};
+use xl_base::Bytes;
 use xl_ledger::Header;
 
-/// A declared name, and the id that it stands for.
+/// A declared name, and the 32 bytes that it stands for: the id of a ledger, a set or a transaction.
 #[derive(Debug, Drop)]
 pub struct Named {
     pub name: Bytes,
-    pub id: LedgerId,
+    pub id: [u8; 32],
     /// The header, where the name was declared by one. The id is then the header's.
     pub header: Option<Header>,
 }

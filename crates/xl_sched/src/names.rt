@@ -37,7 +37,7 @@ impl Model for Names {
 impl Names {
     ghost use Rattle.std.specs.Str.{bytes_eq};
     ghost use Rattle.xl_ledger.specs.Headers.{header_id};
-    ghost use Rattle.xl_sched.specs.Names.{root, name_of, id_named, id_of, new_name_of};
+    ghost use Rattle.xl_sched.specs.Names.{root, name_of, id_named, id_of, ledger_id_of, new_name_of};
     ghost use Rattle.xl_sched.specs.Ledgers.{ledger_named, ledger_of, parent_of};
 
     /// `root` alone.
@@ -48,7 +48,7 @@ impl Names {
             declared: Vec::new(alloc),
             places: Places::new(alloc),
         };
-        names.declare(b"root", LedgerId([0; 32]), alloc)?;
+        names.declare(b"root", [0; 32], alloc)?;
         Ok(names)
     }
 
@@ -60,7 +60,7 @@ impl Names {
     }
 
     /// The first name that stands for an id.
-    pub fn name_of(&self, id: &LedgerId) -> Option<&[u8]>
+    pub fn name_of(&self, id: &[u8; 32]) -> Option<&[u8]>
         ensures { option_copied result ≡ name_of self.now id.now }
     {
         let place = self.places.of_id(id)?;
@@ -68,12 +68,22 @@ impl Names {
     }
 
     /// An id, by its digits or by its name.
-    pub fn id<'a>(&self, token: &'a [u8]) -> Result<LedgerId, Fault<'a>>
+    pub fn id<'a>(&self, token: &'a [u8]) -> Result<[u8; 32], Fault<'a>>
         ensures { result ≡ id_of self.now token.now }
     {
-        id_written(token)
-            .or(self.id_named(token))
-            .ok_or(Fault::with_text(Cause::Id, token))
+        match id_written(token) {
+            Some(id) => Ok(id),
+            None => self
+                .id_named(token)
+                .ok_or(Fault::with_text(Cause::Id, token)),
+        }
+    }
+
+    /// The id of a ledger, by its digits or by any name.
+    pub fn ledger_id<'a>(&self, token: &'a [u8]) -> Result<LedgerId, Fault<'a>>
+        ensures { result ≡ ledger_id_of self.now token.now }
+    {
+        Ok(LedgerId(self.id(token)?))
     }
 
     /// A ledger that another may follow: one that is named, or the root.
@@ -103,12 +113,12 @@ impl Names {
     {
         let named = self.named(name)?;
         Some(Ledger {
-            id: named.id,
+            id: LedgerId(named.id),
             header: named.header?,
         })
     }
 
-    fn id_named(&self, name: &[u8]) -> Option<LedgerId>
+    fn id_named(&self, name: &[u8]) -> Option<[u8; 32]>
         ensures { result ≡ id_named self.now name.now }
     {
         Some(self.named(name)?.id)
@@ -139,7 +149,7 @@ impl Names {
     }
 
     /// Declares a name for an id.
-    pub fn declare(&mut self, name: &[u8], id: LedgerId, alloc: Global) -> Result<(), OutOfMemory>
+    pub fn declare(&mut self, name: &[u8], id: [u8; 32], alloc: Global) -> Result<(), OutOfMemory>
         requires { id_named self.old name.now ≡ None }
         ensures declared { OnOk result (self.new ≡ self.old ++ record { name = name.now; id = id; header = None } ∷ []) }
         ensures kept { OnErr result (self.new ≡ self.old) }
@@ -157,16 +167,16 @@ impl Names {
         requires new { id_named self.old name.now ≡ None }
         requires low { header.now.seq ≤ length self.old + 1 }
         ensures declared { OnOk result (self.new ≡
-            self.old ++ record { name = name.now; id = header_id header.now; header = Some header.now } ∷ []) }
+            self.old ++ record { name = name.now; id = (header_id header.now).0; header = Some header.now } ∷ []) }
         ensures kept { OnErr result (self.new ≡ self.old) }
     {
-        self.put(name, id_of(header), Some(*header), alloc)
+        self.put(name, id_of(header).0, Some(*header), alloc)
     }
 
     fn put(
         &mut self,
         name: &[u8],
-        id: LedgerId,
+        id: [u8; 32],
         header: Option<Header>,
         alloc: Global,
     ) -> Result<(), OutOfMemory>
@@ -192,13 +202,10 @@ impl Names {
     }
 }
 
-fn id_written(token: &[u8]) -> Option<LedgerId>
+fn id_written(token: &[u8]) -> Option<[u8; 32]>
     ensures { result ≡ id_written token.now }
 {
-    match <[u8; 32]>::from_hex(token) {
-        Ok(bytes) => Some(LedgerId(bytes)),
-        Err(_) => None,
-    }
+    <[u8; 32]>::from_hex(token).ok()
 }
 
 fn is_name(token: &[u8]) -> bool

@@ -2,7 +2,7 @@ ghost use Rattle.std.specs.Prelude.{◌≡◌, List, ℕ, Some, None, true, fals
 
 use std::alloc::{AllocError, Global};
 use std::collections::BTreeMap;
-use xl_base::{LedgerId, OutOfMemory};
+use xl_base::OutOfMemory;
 
 /// Where each name, and the first name of each id, stands in the order of declaration.
 #[derive(Debug, Drop)]
@@ -31,22 +31,22 @@ impl Places {
         self.by_name.get(name).copied()
     }
 
-    pub fn of_id(&self, id: &LedgerId) -> Option<usize>
-        ensures { result ≡ place_of_id self.now id.now.0 }
+    pub fn of_id(&self, id: &[u8; 32]) -> Option<usize>
+        ensures { result ≡ place_of_id self.now id.now }
     {
-        self.by_id.get(&id.0).copied()
+        self.by_id.get(id).copied()
     }
 
     /// Keeps the place of a new name, and of its id unless that has one.
     pub fn insert(
         &mut self,
         name: &[u8],
-        id: &LedgerId,
+        id: &[u8; 32],
         place: usize,
         alloc: Global,
     ) -> Result<(), OutOfMemory>
         requires { place_of_name self.old name.now ≡ None }
-        ensures more { OnOk result (HasPlaceMore self.old self.new name.now id.now.0 place) }
+        ensures more { OnOk result (HasPlaceMore self.old self.new name.now id.now place) }
         ensures kept { OnErr result (HasSamePlaces self.old self.new) }
     {
         self.insert_name(name, place, alloc)?;
@@ -69,14 +69,14 @@ impl Places {
         Ok(())
     }
 
-    fn insert_id(&mut self, id: &LedgerId, place: usize) -> Result<(), AllocError>
+    fn insert_id(&mut self, id: &[u8; 32], place: usize) -> Result<(), AllocError>
         ensures ids { OnOk result ((other : List ℕ) →
-            place_of_id self.new other ≡ with_place (place_of_id self.old other) (bytes_eq other id.now.0) place) }
+            place_of_id self.new other ≡ with_place (place_of_id self.old other) (bytes_eq other id.now) place) }
         ensures kept { OnErr result (HasSamePlaces self.old self.new) }
         ensures names { (other : List ℕ) → place_of_name self.new other ≡ place_of_name self.old other }
     {
         if self.of_id(id).is_none() {
-            self.by_id.insert(id.0, place)?;
+            self.by_id.insert(*id, place)?;
         }
         Ok(())
     }

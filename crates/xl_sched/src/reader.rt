@@ -1,10 +1,12 @@
-mod keeping;
-mod ledgers;
+mod events;
 mod lies;
+mod naming;
+mod saves;
+mod settings;
 mod words;
 
 ghost use Rattle.std.specs.Prelude.{◌≡◌, ◌⊎◌, ℕ, ◌≤◌, ◌<◌, OnOk, OnErr, IfOk, IfErr, IfSome, option_copied};
-ghost use Rattle.xl_sched.specs.Reading.{header_line, is_comment};
+ghost use Rattle.xl_sched.specs.Answers.{header_line, is_comment};
 ghost use Rattle.xl_sched.specs.declared.limits.TheConstants.{MOST_LINES};
 
 use crate::fault::{Cause, Fault};
@@ -16,7 +18,7 @@ use crate::refusal::SchedRefusal;
 use crate::tokens::Tokens;
 use std::alloc::Global;
 use std::marker::Model;
-use xl_base::{LedgerId, Millis, OutOfMemory};
+use xl_base::{Millis, OutOfMemory};
 
 /// The moment in force before a line says another.
 const FIRST_MOMENT: Millis = 1_000;
@@ -38,7 +40,7 @@ impl Model for Reader {
     ghost use Rattle.std.specs.Prelude.{◌≤◌};
     ghost use Rattle.xl_base.specs.declared.moments.TheConstants.{GREATEST_MILLIS};
     ghost use Rattle.xl_sched.specs.declared.limits.TheConstants.{MOST_LINES};
-    ghost use Rattle.xl_sched.specs.Words.{Reading};
+    ghost use Rattle.xl_sched.specs.Reading.{Reading};
 
     ghost Value = { Reading };
 
@@ -57,10 +59,11 @@ impl Model for Reader {
 
 impl Reader {
     ghost use Rattle.xl_base.specs.declared.moments.TheConstants.{GREATEST_MILLIS};
-    ghost use Rattle.xl_sched.specs.Words.{IsFit};
+    ghost use Rattle.xl_sched.specs.Fits.{IsFit};
     ghost use Rattle.xl_sched.specs.Names.{name_of};
     ghost use Rattle.xl_sched.specs.Refusals.{GivenMemory};
-    ghost use Rattle.xl_sched.specs.Reading.{opened, reading_of, refuses, answered, after, line_of_tokens, later_line};
+    ghost use Rattle.xl_sched.specs.Reading.{opened, after};
+    ghost use Rattle.xl_sched.specs.Answers.{reading_of, refuses, answered, line_of_tokens, later_line};
 
     /// A reader before the first line: no node and no liar is declared, and `root` stands for 32 zero bytes.
     pub fn open(alloc: Global) -> Result<Reader, OutOfMemory>
@@ -183,7 +186,7 @@ impl Reader {
     }
 
     /// The first declared name that stands for an id.
-    pub fn name_of(&self, id: &LedgerId) -> Option<&[u8]>
+    pub fn name_of(&self, id: &[u8; 32]) -> Option<&[u8]>
         ensures { option_copied result ≡ name_of self.now.names id.now }
     {
         self.names.name_of(id)

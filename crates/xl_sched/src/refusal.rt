@@ -47,41 +47,34 @@ impl SchedRefusal {
     pub fn code(&self) -> u32
         ensures { result ≡ code_of self.now }
     {
-        match self {
-            SchedRefusal::Header(_) => 33,
-            SchedRefusal::LongLine(_) => 34,
-            SchedRefusal::Limit(_) => 35,
-            SchedRefusal::Word(_) => 36,
-            SchedRefusal::Count(_) => 37,
-            SchedRefusal::Number(_) => 38,
-            SchedRefusal::Id(_) => 39,
-            SchedRefusal::Choice(_) => 40,
-            SchedRefusal::Twice(_) => 41,
-            SchedRefusal::Late(_) => 42,
-            SchedRefusal::List(_) => 43,
-            SchedRefusal::Absent(_) => 44,
-            SchedRefusal::OutOfMemory => 0,
-        }
+        self.parts().0
     }
 
     /// The token that is to be printed, as it stands in the line; nothing for want of memory.
     pub fn token(&self) -> &[u8]
         ensures { result.now ≡ token_of self.now }
     {
+        self.parts().1
+    }
+
+    fn parts(&self) -> (u32, &[u8])
+        ensures code { result.0 ≡ code_of self.now }
+        ensures token { result.1.now ≡ token_of self.now }
+    {
         match self {
-            SchedRefusal::Header(token)
-            | SchedRefusal::LongLine(token)
-            | SchedRefusal::Limit(token)
-            | SchedRefusal::Word(token)
-            | SchedRefusal::Count(token)
-            | SchedRefusal::Number(token)
-            | SchedRefusal::Id(token)
-            | SchedRefusal::Choice(token)
-            | SchedRefusal::Twice(token)
-            | SchedRefusal::Late(token)
-            | SchedRefusal::List(token)
-            | SchedRefusal::Absent(token) => token.as_slice(),
-            SchedRefusal::OutOfMemory => &[],
+            SchedRefusal::Header(token) => (33, token.as_slice()),
+            SchedRefusal::LongLine(token) => (34, token.as_slice()),
+            SchedRefusal::Limit(token) => (35, token.as_slice()),
+            SchedRefusal::Word(token) => (36, token.as_slice()),
+            SchedRefusal::Count(token) => (37, token.as_slice()),
+            SchedRefusal::Number(token) => (38, token.as_slice()),
+            SchedRefusal::Id(token) => (39, token.as_slice()),
+            SchedRefusal::Choice(token) => (40, token.as_slice()),
+            SchedRefusal::Twice(token) => (41, token.as_slice()),
+            SchedRefusal::Late(token) => (42, token.as_slice()),
+            SchedRefusal::List(token) => (43, token.as_slice()),
+            SchedRefusal::Absent(token) => (44, token.as_slice()),
+            SchedRefusal::OutOfMemory => (0, &[]),
         }
     }
 }

@@ -44,98 +44,145 @@ impl<'a> Tokens<'a> {
         if token.is_empty() { None } else { Some(token) }
     }
 
-    /// Takes the next token, where there is one.
-    pub fn take(&mut self) -> &'a [u8]
-        requires { 0 < length self.old }
-        ensures { self.old ≡ result.now ∷ self.new }
+    /// The first token that is left, and those after it.
+    fn first(&self) -> Option<(&'a [u8], Tokens<'a>)>
+        ensures { MatchOption result (self.now ≡ []) (λ first. self.now ≡ first.0.now ∷ first.1) }
     {
-        self.next().unwrap()
+        let (token, rest) = split_at_blank(without_blanks(self.rest));
+        if token.is_empty() {
+            None
+        } else {
+            Some((token, Tokens { rest }))
+        }
+    }
+
+    /// The token that is left, where it is one.
+    pub fn only_one(&self) -> Option<&'a [u8]>
+        ensures { MatchOption result (length self.now ≢ 1) (λ token. self.now ≡ token.now ∷ []) }
+    {
+        let (token, rest) = self.first()?;
+        match rest.first() {
+            None => Some(token),
+            Some(_) => None,
+        }
+    }
+
+    fn only_two(&self) -> Option<(&'a [u8], &'a [u8])>
+        ensures { MatchOption result (length self.now ≢ 2) (λ two. self.now ≡ two.0.now ∷ two.1.now ∷ []) }
+    {
+        let (first, rest) = self.first()?;
+        let second = rest.only_one()?;
+        Some((first, second))
+    }
+
+    /// The three tokens that are left, where they are three.
+    pub fn only_three(&self) -> Option<(&'a [u8], &'a [u8], &'a [u8])>
+        ensures { MatchOption result (length self.now ≢ 3)
+            (λ three. self.now ≡ three.0.now ∷ three.1.now ∷ three.2.now ∷ []) }
+    {
+        let (first, rest) = self.first()?;
+        let (second, third) = rest.only_two()?;
+        Some((first, second, third))
+    }
+
+    /// The four tokens that are left, where they are four.
+    pub fn only_four(&self) -> Option<(&'a [u8], &'a [u8], &'a [u8], &'a [u8])>
+        ensures { MatchOption result (length self.now ≢ 4)
+            (λ four. self.now ≡ four.0.now ∷ four.1.now ∷ four.2.now ∷ four.3.now ∷ []) }
+    {
+        let (first, rest) = self.first()?;
+        let (second, third, fourth) = rest.only_three()?;
+        Some((first, second, third, fourth))
     }
 
     /// That no token is left. Refused for another count.
-    pub fn none(mut self) -> Result<(), Fault<'a>>
+    pub fn none(&self) -> Result<(), Fault<'a>>
         ensures { MatchResult result
-            (λ _. self.entry ≡ [])
-            (λ fault. (length self.entry ≢ 0) × (fault ≡ Count (decimal (length self.entry + 1)))) }
+            (λ _. self.now ≡ [])
+            (λ fault. (length self.now ≢ 0) × (fault ≡ Count (decimal (length self.now + 1)))) }
     {
-        if self.count() != 0 {
-            return Err(self.miscounted());
+        match self.first() {
+            None => Ok(()),
+            Some(_) => Err(self.miscounted()),
         }
-        Ok(())
     }
 
     /// The one token that is left. Refused for another count.
-    pub fn one(mut self) -> Result<&'a [u8], Fault<'a>>
+    pub fn one(&self) -> Result<&'a [u8], Fault<'a>>
         ensures { MatchResult result
-            (λ token. self.entry ≡ token.now ∷ [])
-            (λ fault. (length self.entry ≢ 1) × (fault ≡ Count (decimal (length self.entry + 1)))) }
+            (λ token. self.now ≡ token.now ∷ [])
+            (λ fault. (length self.now ≢ 1) × (fault ≡ Count (decimal (length self.now + 1)))) }
     {
-        if self.count() != 1 {
-            return Err(self.miscounted());
+        match self.only_one() {
+            Some(one) => Ok(one),
+            None => Err(self.miscounted()),
         }
-        Ok(self.take())
     }
 
     /// The two tokens that are left. Refused for another count.
-    pub fn two(mut self) -> Result<(&'a [u8], &'a [u8]), Fault<'a>>
+    pub fn two(&self) -> Result<(&'a [u8], &'a [u8]), Fault<'a>>
         ensures { MatchResult result
-            (λ pair. self.entry ≡ pair.0.now ∷ pair.1.now ∷ [])
-            (λ fault. (length self.entry ≢ 2) × (fault ≡ Count (decimal (length self.entry + 1)))) }
+            (λ pair. self.now ≡ pair.0.now ∷ pair.1.now ∷ [])
+            (λ fault. (length self.now ≢ 2) × (fault ≡ Count (decimal (length self.now + 1)))) }
     {
-        if self.count() != 2 {
-            return Err(self.miscounted());
+        match self.only_two() {
+            Some(two) => Ok(two),
+            None => Err(self.miscounted()),
         }
-        Ok((self.take(), self.take()))
     }
 
     /// The three tokens that are left. Refused for another count.
-    pub fn three(mut self) -> Result<(&'a [u8], &'a [u8], &'a [u8]), Fault<'a>>
+    pub fn three(&self) -> Result<(&'a [u8], &'a [u8], &'a [u8]), Fault<'a>>
         ensures { MatchResult result
-            (λ three. self.entry ≡ three.0.now ∷ three.1.now ∷ three.2.now ∷ [])
-            (λ fault. (length self.entry ≢ 3) × (fault ≡ Count (decimal (length self.entry + 1)))) }
+            (λ three. self.now ≡ three.0.now ∷ three.1.now ∷ three.2.now ∷ [])
+            (λ fault. (length self.now ≢ 3) × (fault ≡ Count (decimal (length self.now + 1)))) }
     {
-        if self.count() != 3 {
-            return Err(self.miscounted());
+        match self.only_three() {
+            Some(three) => Ok(three),
+            None => Err(self.miscounted()),
         }
-        Ok((self.take(), self.take(), self.take()))
     }
 
     /// The four tokens that are left. Refused for another count.
-    pub fn four(mut self) -> Result<(&'a [u8], &'a [u8], &'a [u8], &'a [u8]), Fault<'a>>
+    pub fn four(&self) -> Result<(&'a [u8], &'a [u8], &'a [u8], &'a [u8]), Fault<'a>>
         ensures { MatchResult result
-            (λ four. self.entry ≡ four.0.now ∷ four.1.now ∷ four.2.now ∷ four.3.now ∷ [])
-            (λ fault. (length self.entry ≢ 4) × (fault ≡ Count (decimal (length self.entry + 1)))) }
+            (λ four. self.now ≡ four.0.now ∷ four.1.now ∷ four.2.now ∷ four.3.now ∷ [])
+            (λ fault. (length self.now ≢ 4) × (fault ≡ Count (decimal (length self.now + 1)))) }
     {
-        if self.count() != 4 {
-            return Err(self.miscounted());
+        match self.only_four() {
+            Some(four) => Ok(four),
+            None => Err(self.miscounted()),
         }
-        Ok((self.take(), self.take(), self.take(), self.take()))
     }
 
     /// The first two tokens that are left, and the others. Refused where there are fewer.
-    pub fn two_and_others(mut self) -> Result<(&'a [u8], &'a [u8], Tokens<'a>), Fault<'a>>
+    pub fn two_and_others(&self) -> Result<(&'a [u8], &'a [u8], Tokens<'a>), Fault<'a>>
         ensures { MatchResult result
-            (λ two. self.entry ≡ two.0.now ∷ two.1.now ∷ two.2)
-            (λ fault. (length self.entry < 2) × (fault ≡ Count (decimal (length self.entry + 1)))) }
+            (λ two. self.now ≡ two.0.now ∷ two.1.now ∷ two.2)
+            (λ fault. (length self.now < 2) × (fault ≡ Count (decimal (length self.now + 1)))) }
     {
-        if self.count() < 2 {
+        let Some((first, rest)) = self.first() else {
             return Err(self.miscounted());
+        };
+        match rest.first() {
+            Some((second, others)) => Ok((first, second, others)),
+            None => Err(self.miscounted()),
         }
-        Ok((self.take(), self.take(), self))
     }
 
     /// The first three tokens that are left, and the others. Refused where there are fewer.
-    pub fn three_and_others(
-        mut self,
-    ) -> Result<(&'a [u8], &'a [u8], &'a [u8], Tokens<'a>), Fault<'a>>
+    pub fn three_and_others(&self) -> Result<(&'a [u8], &'a [u8], &'a [u8], Tokens<'a>), Fault<'a>>
         ensures { MatchResult result
-            (λ three. self.entry ≡ three.0.now ∷ three.1.now ∷ three.2.now ∷ three.3)
-            (λ fault. (length self.entry < 3) × (fault ≡ Count (decimal (length self.entry + 1)))) }
+            (λ three. self.now ≡ three.0.now ∷ three.1.now ∷ three.2.now ∷ three.3)
+            (λ fault. (length self.now < 3) × (fault ≡ Count (decimal (length self.now + 1)))) }
     {
-        if self.count() < 3 {
+        let Some((first, rest)) = self.first() else {
             return Err(self.miscounted());
+        };
+        match rest.two_and_others() {
+            Ok((second, third, others)) => Ok((first, second, third, others)),
+            Err(_) => Err(self.miscounted()),
         }
-        Ok((self.take(), self.take(), self.take(), self))
     }
 
     /// The refusal of so many tokens, the word before them counted.

@@ -9,13 +9,13 @@ use Rattle.std.proofs.lemmas.List.Folds.{list_any_at}
 use Rattle.std.proofs.lemmas.Slice.Eq.{bytes_eq-Decides}
 use Rattle.xl_lists.specs.Agreement.{Report}
 use Rattle.xl_core.specs.declared.event.CoreEvent.TheVariants.{Frame}
-use Rattle.xl_sched.specs.declared.event.Event.TheVariants.{All, Deliver}
+use Rattle.xl_sched.specs.declared.event.What.TheVariants.{All, Deliver}
 use Rattle.xl_world.specs.declared.outcome.Outcome.{Outcome}
 use Rattle.xl_world.specs.declared.place.Fate.TheVariants.{Kept}
 use Rattle.xl_world.specs.declared.place.Place.{Place}
 use Rattle.xl_world.specs.declared.report.WorldReport.{WorldReport}
 use Rattle.xl_world.specs.declared.sent.Sent.{Sent}
-use Rattle.xl_world.specs.Schedule.{after_event, deliveries, delivery, delivery_of, frame_at, outcomes, reply_to, told_by, told_in, told_of}
+use Rattle.xl_world.specs.Schedule.{steps_at, deliveries, delivery, delivery_of, frame_at, outcomes_at, reply_to, told_by, told_in, told_of}
 use Rattle.xl_world.specs.Seen.{Hearing, NoneUntakenAnywhere, acted_at, forged_at, hearing_seen, heard_all, heard_one, place_after, put_acted, reply_in, reported_in, reports_seen}
 use Rattle.xl_world.specs.Forgeries.{was_sent}
 use Rattle.xl_world.specs.World.{World, Step, Act, Mark, marked, place_at, reply_at, run, step}
@@ -28,12 +28,12 @@ use Rattle.xl_world.proofs.Steps.{with_lists, fair_at, heard_step, told_append, 
 
 -- the bytes of the sent frame come to its receiver
 pub delivered : (w v : World) (at place : ℕ) (f : Sent) (bytes : List ℕ) → frame_at w.sent place ≡ Some f → bytes ≡ f.bytes →
-    v ≡ run w (event_steps w f.to (Frame at bytes) Kept) → v ≡ after_event w (Deliver at place)
+    v ≡ run w (event_steps w f.to (Frame at bytes) Kept) → v ≡ run w (steps_at w at (Deliver place))
 delivered w v at place f bytes found is_bytes is =
     is ∙ (ap (λ (b : List ℕ). run w (event_steps w f.to (Frame at b) Kept)) is_bytes ∙ ap (λ o. run w (delivery_of w at o)) (sym found))
 
 pub delivered_told : (w : World) (at place : ℕ) (f : Sent) (bytes : List ℕ) (told : List Outcome) → frame_at w.sent place ≡ Some f → bytes ≡ f.bytes →
-    told ≡ told_of f.to (reply_to w (Act f.to (Frame at bytes) Kept)) → told ≡ outcomes w (Deliver at place)
+    told ≡ told_of f.to (reply_to w (Act f.to (Frame at bytes) Kept)) → told ≡ outcomes_at w at (Deliver place)
 delivered_told w at place f bytes told found is_bytes is =
     is ∙ (ap (λ (b : List ℕ). told_of f.to (reply_to w (Act f.to (Frame at b) Kept))) is_bytes
     ∙ (told_once w f.to (Frame at f.bytes) Kept ∙ ap (λ o. told_in w (delivery_of w at o)) (sym found)))
@@ -125,7 +125,7 @@ after_mark : (w : World) → AreSent w.sent (drop w.mark w.sent)
 after_mark w = All-drop (λ f. was_sent w.sent f.bytes ≡ true) w.mark w.sent (each_sent w.sent)
 
 -- the sent frames after the mark were heard, and the mark stands at the end
-pub all_delivered : (w : World) (at : ℕ) (frames : List Sent) (h : Hearing) → IsIdle w → frames ≡ drop w.mark w.sent → h ≡ heard_all at frames (heard_of w []) → marked (with_hearing w h) ≡ after_event w (All at)
+pub all_delivered : (w : World) (at : ℕ) (frames : List Sent) (h : Hearing) → IsIdle w → frames ≡ drop w.mark w.sent → h ≡ heard_all at frames (heard_of w []) → marked (with_hearing w h) ≡ run w (steps_at w at All)
 all_delivered w at frames h idle is heard =
     let fs : List Sent = drop w.mark w.sent in
     ap (λ (x : Hearing). marked (with_hearing w x)) (heard ∙ ap (λ xs. heard_all at xs (heard_of w [])) is)
@@ -133,13 +133,13 @@ all_delivered w at frames h idle is heard =
     ∙ sym (run-append w (deliveries w at fs) (Mark ∷ [])))
 
 -- and nothing waits then
-pub all_idle : (w : World) (at : ℕ) → IsIdle w → IsIdle (after_event w (All at))
+pub all_idle : (w : World) (at : ℕ) → IsIdle w → IsIdle (run w (steps_at w at All))
 all_idle w at idle =
     let fs : List Sent = drop w.mark w.sent in
     let after = deliveries_idle w at fs [] idle (after_mark w) in
     subst (λ (u : World). IsIdle u) (all_delivered w at fs (heard_all at fs (heard_of w [])) idle refl refl) (record { numbers = after.numbers; emptied = after.emptied })
 
-pub all_told : (w : World) (at : ℕ) (frames : List Sent) (h : Hearing) → IsIdle w → frames ≡ drop w.mark w.sent → h ≡ heard_all at frames (heard_of w []) → h.told ≡ outcomes w (All at)
+pub all_told : (w : World) (at : ℕ) (frames : List Sent) (h : Hearing) → IsIdle w → frames ≡ drop w.mark w.sent → h ≡ heard_all at frames (heard_of w []) → h.told ≡ outcomes_at w at All
 all_told w at frames h idle is heard =
     let fs : List Sent = drop w.mark w.sent in
     ap (λ (x : Hearing). x.told) (heard ∙ ap (λ xs. heard_all at xs (heard_of w [])) is)

@@ -2,12 +2,13 @@
 use Rattle.std.specs.Prelude.{ℕ, zero, suc, Bool, List, [], ◌∷◌, ◌++◌, drop, slice_get, option_map, option_to_list, if◌then◌else◌}
 use Rattle.std.specs.Prelude.{Some, None}
 use Rattle.std.specs.declared.option.Option.{Option}
-use Rattle.xl_sched.specs.declared.ask.Ask.{Ask}
-use Rattle.xl_sched.specs.declared.ask.Ask.TheVariants as ask
+use Rattle.xl_sched.specs.declared.event.Ask.{Ask}
+use Rattle.xl_sched.specs.declared.event.Ask.TheVariants as ask
 use Rattle.xl_sched.specs.declared.event.Event.{Event}
-use Rattle.xl_sched.specs.declared.event.Event.TheVariants as event
-use Rattle.xl_sched.specs.declared.lied.Lied.{Lied}
-use Rattle.xl_sched.specs.declared.lied.Lied.TheVariants as lied
+use Rattle.xl_sched.specs.declared.event.Lied.{Lied}
+use Rattle.xl_sched.specs.declared.event.Lied.TheVariants as lied
+use Rattle.xl_sched.specs.declared.event.What.{What}
+use Rattle.xl_sched.specs.declared.event.What.TheVariants as what
 use Rattle.xl_tags.specs.Rings.{schedule_ring}
 use Rattle.xl_core.specs.Answers.{refusal_in}
 use Rattle.xl_core.specs.Core.{CoreReply, core_asks}
@@ -77,35 +78,26 @@ abbrev pub cut_at : World → ℕ → Bool → ℕ → CoreEvent → Option Plac
 cut_at w at new i e None = []
 cut_at w at new i e (Some p) = cut_short w at new i e p (core_asks p.core e)
 
+-- the steps that it is when something happens at a moment
+abbrev pub steps_at : World → ℕ → What → List Step
+steps_at w at (what.Ask ask) = event_steps w (node_asked ask) (event_asked at ask) Kept
+steps_at w at (what.Deliver place) = delivery_of w at (frame_at w.sent place)
+steps_at w at what.All = deliveries w at (drop w.mark w.sent) ++ Mark ∷ []
+steps_at w at what.Drop = Mark ∷ []
+steps_at w at (what.Restart node) = option_to_list (option_map (restart at) (place_at node w.places))
+steps_at w at (what.Cut new ask) = cut_at w at new (node_asked ask) (event_asked at ask) (place_at (node_asked ask) w.places)
+steps_at w at (what.Fail new ask) = event_steps w (node_asked ask) (event_asked at ask) (failing new)
+steps_at w at (what.Lie from to lie) = event_steps w to (Frame at (lied_bytes from to lie)) Kept
+steps_at w at (what.Raw to bytes) = event_steps w to (Frame at bytes) Kept
+steps_at w at (what.Prefer node) = []
+
 -- the steps that an event is
 abbrev pub steps_of : World → Event → List Step
-steps_of w (event.Issue at node seq id full) = event_steps w node (Issue at seq id full) Kept
-steps_of w (event.Deliver at place) = delivery_of w at (frame_at w.sent place)
-steps_of w (event.All at) = deliveries w at (drop w.mark w.sent) ++ Mark ∷ []
-steps_of w (event.Drop at) = Mark ∷ []
-steps_of w (event.Restart at node) = option_to_list (option_map (restart at) (place_at node w.places))
-steps_of w (event.Cut at new what) = cut_at w at new (node_asked what) (event_asked at what) (place_at (node_asked what) w.places)
-steps_of w (event.Fail at new what) = event_steps w (node_asked what) (event_asked at what) (failing new)
-steps_of w (event.Lie at from to what) = event_steps w to (Frame at (lied_bytes from to what)) Kept
-steps_of w (event.Raw at to bytes) = event_steps w to (Frame at bytes) Kept
-steps_of w (event.Prefer at node) = []
+steps_of w e = steps_at w e.at e.what
 
 -- the world after an event
 abbrev pub after_event : World → Event → World
 after_event w e = run w (steps_of w e)
-
--- the moment of an event
-abbrev pub moment_of : Event → ℕ
-moment_of (event.Issue at node seq id full) = at
-moment_of (event.Deliver at place) = at
-moment_of (event.All at) = at
-moment_of (event.Drop at) = at
-moment_of (event.Restart at node) = at
-moment_of (event.Cut at new what) = at
-moment_of (event.Fail at new what) = at
-moment_of (event.Lie at from to what) = at
-moment_of (event.Raw at to bytes) = at
-moment_of (event.Prefer at node) = at
 
 -- what came of a step at a node
 abbrev pub reply_to : World → Step → Option CoreReply
@@ -138,15 +130,11 @@ told_in w (s ∷ ss) = told_by w s ++ told_in (step w s) ss
 abbrev pub preference : ℕ → Option Place → List Outcome
 preference i place = option_to_list (option_map (λ p. Preferred i (preferred p.core.node)) place)
 
--- what is told of an event: of its steps, or of what is asked
+-- what is told when something happens at a moment: of the steps that it is, or of what is asked
+abbrev pub outcomes_at : World → ℕ → What → List Outcome
+outcomes_at w at (what.Prefer node) = preference node (place_at node w.places)
+outcomes_at w at happening = told_in w (steps_at w at happening)
+
+-- what is told of an event
 abbrev pub outcomes : World → Event → List Outcome
-outcomes w (event.Issue at node seq id full) = told_in w (steps_of w (event.Issue at node seq id full))
-outcomes w (event.Deliver at place) = told_in w (steps_of w (event.Deliver at place))
-outcomes w (event.All at) = told_in w (steps_of w (event.All at))
-outcomes w (event.Drop at) = told_in w (steps_of w (event.Drop at))
-outcomes w (event.Restart at node) = told_in w (steps_of w (event.Restart at node))
-outcomes w (event.Cut at new what) = told_in w (steps_of w (event.Cut at new what))
-outcomes w (event.Fail at new what) = told_in w (steps_of w (event.Fail at new what))
-outcomes w (event.Lie at from to what) = told_in w (steps_of w (event.Lie at from to what))
-outcomes w (event.Raw at to bytes) = told_in w (steps_of w (event.Raw at to bytes))
-outcomes w (event.Prefer at node) = preference node (place_at node w.places)
+outcomes w e = outcomes_at w e.at e.what

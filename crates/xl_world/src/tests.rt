@@ -1,5 +1,4 @@
 ghost use Rattle.std.specs.Prelude.{◌≤◌, OnOk};
-ghost use Rattle.xl_world.specs.Schedule.{moment_of};
 ghost use Rattle.xl_world.specs.Plans.{AreTimely};
 ghost use Rattle.xl_base.specs.declared.moments.TheConstants.{GREATEST_MILLIS};
 
@@ -8,7 +7,7 @@ use std::alloc::Global;
 use std::test::Fail;
 use xl_base::{LedgerId, NodeNo};
 use xl_lists::List;
-use xl_sched::Event;
+use xl_sched::{Ask, Event, What};
 
 const AT: u64 = 1_000_000;
 
@@ -51,7 +50,7 @@ fn world(alloc: Global) -> Result<World, Fail> {
 
 /// How many outcomes are told of an event.
 fn told(world: &mut World, event: &Event) -> Result<usize, Fail>
-    requires { moment_of event.now ≤ GREATEST_MILLIS }
+    requires { event.now.at ≤ GREATEST_MILLIS }
 {
     Ok(world.event(event)?.as_slice().len())
 }
@@ -60,12 +59,14 @@ fn told(world: &mut World, event: &Event) -> Result<usize, Fail>
 fn issue(world: &mut World, n: u32, id: LedgerId) -> Result<usize, Fail> {
     told(
         world,
-        &Event::Issue {
+        &Event {
             at: AT,
-            node: number(n)?,
-            seq: 1,
-            id,
-            full: true,
+            what: What::Ask(Ask::Issue {
+                node: number(n)?,
+                seq: 1,
+                id,
+                full: true,
+            }),
         },
     )
 }

@@ -1,6 +1,6 @@
 ghost use Rattle.std.specs.Prelude.{◌≡◌, if◌then◌else◌};
 ghost use Rattle.xl_base.specs.Counts.{one_more};
-ghost use Rattle.xl_world.specs.Schedule.{node_asked, event_asked};
+ghost use Rattle.xl_world.specs.Schedule.{node_asked, event_asked, failing};
 ghost use Rattle.xl_world.specs.Seen.{issue_seen};
 
 use crate::act::{Asked, NodeEvent, act_at, core_at, list_at, preferred_at};
@@ -18,7 +18,7 @@ use std::alloc::Global;
 use std::marker::Model;
 use xl_base::{Millis, NodeNo, OutOfMemory, Seq};
 use xl_lists::List;
-use xl_sched::{Ask, Event, Lied};
+use xl_sched::{Ask, Event, Lied, What};
 
 /// A world: the cores, and all that they ever sent, said and reported.
 #[derive(Drop)]
@@ -58,7 +58,7 @@ impl World {
     ghost use Rattle.xl_world.specs.Plans.{AreTimely, list_at};
     ghost use Rattle.xl_world.specs.World.{Headline, list_in, core_in, start, marked, run, place_at};
     ghost use Rattle.xl_world.specs.Emptying.{event_steps};
-    ghost use Rattle.xl_world.specs.Schedule.{steps_of, told_in, moment_of, after_event, cut_at as cut_steps, outcomes, preference, lied_bytes};
+    ghost use Rattle.xl_world.specs.Schedule.{steps_at, steps_of, told_in, after_event, cut_at as cut_steps, outcomes_at, outcomes, preference, lied_bytes};
     ghost use Rattle.xl_base.specs.declared.moments.TheConstants.{GREATEST_MILLIS};
     ghost use Rattle.xl_world.specs.Seen.{reports_seen, with_again, IsFront, Steps};
     ghost use Rattle.xl_world.specs.declared.place.Fate.TheVariants.{Kept};
@@ -118,8 +118,8 @@ impl World {
     /// A sent frame is handed to its receiver; to a liar that does nothing. It isn't forged, since it was sent.
     fn deliver(&mut self, at: Millis, place: u64) -> Result<Happened, OutOfMemory>
         requires { at ≤ GREATEST_MILLIS }
-        ensures world { OnOk result (self.new ≡ after_event self.old (Event.Deliver at place)) }
-        ensures told { IfOk result (λ told. told ≡ outcomes self.old (Event.Deliver at place)) }
+        ensures world { OnOk result (self.new ≡ run self.old (steps_at self.old at (What.Deliver place))) }
+        ensures told { IfOk result (λ told. told ≡ outcomes_at self.old at (What.Deliver place)) }
         ensures err { OnErr result (self.new ≡ self.old) }
     {
         let Some(frame) = frame_at(&self.sent, place) else {
@@ -139,8 +139,8 @@ impl World {
     /// The sent frames after the mark are handed to their receivers, and the mark moves to the end.
     fn deliver_all(&mut self, at: Millis) -> Result<Happened, OutOfMemory>
         requires { at ≤ GREATEST_MILLIS }
-        ensures world { OnOk result (self.new ≡ after_event self.old (Event.All at)) }
-        ensures told { IfOk result (λ told. told ≡ outcomes self.old (Event.All at)) }
+        ensures world { OnOk result (self.new ≡ run self.old (steps_at self.old at What.All)) }
+        ensures told { IfOk result (λ told. told ≡ outcomes_at self.old at What.All) }
         ensures err { OnErr result (self.new ≡ self.old) }
     {
         let frames = &self.sent[self.mark..];
@@ -230,8 +230,8 @@ impl World {
     /// Opens a node anew with the number that its keeper holds. An `Err` changes nothing.
     fn restart(&mut self, at: Millis, node: NodeNo) -> Result<Happened, OutOfMemory>
         requires { at ≤ GREATEST_MILLIS }
-        ensures world { OnOk result (self.new ≡ after_event self.old (Event.Restart at node)) }
-        ensures told { IfOk result (λ told. told ≡ outcomes self.old (Event.Restart at node)) }
+        ensures world { OnOk result (self.new ≡ run self.old (steps_at self.old at (What.Restart node))) }
+        ensures told { IfOk result (λ told. told ≡ outcomes_at self.old at (What.Restart node)) }
         ensures err { OnErr result (self.new ≡ self.old) }
     {
         if let Some(number) = found_at(&self.places, node) {
@@ -263,63 +263,48 @@ impl World {
     /// What a node is asked while its save is cut off.
     fn cut_asked(&mut self, at: Millis, new: bool, ask: &Ask) -> Result<Happened, OutOfMemory>
         requires { at ≤ GREATEST_MILLIS }
-        ensures world { OnOk result (self.new ≡ after_event self.old (Event.Cut at new ask.now)) }
-        ensures told { IfOk result (λ told. told ≡ outcomes self.old (Event.Cut at new ask.now)) }
-        ensures err { OnErr result (IsFront self.old (steps_of self.old (Event.Cut at new ask.now)) self.new) }
+        ensures world { OnOk result (self.new ≡ run self.old (steps_at self.old at (What.Cut new ask.now))) }
+        ensures told { IfOk result (λ told. told ≡ outcomes_at self.old at (What.Cut new ask.now)) }
+        ensures err { OnErr result (IsFront self.old (steps_at self.old at (What.Cut new ask.now)) self.new) }
     {
         let (node, asked) = asked_by(at, ask);
         self.cut(node, &asked, new)
     }
 
-    /// What a node is asked while its save fails, which leaves the new number or the old one.
-    fn fail_asked(&mut self, at: Millis, new: bool, ask: &Ask) -> Result<Happened, OutOfMemory>
+    /// A node is asked something, and its save, if any, meets a fate. An `Err` changes nothing.
+    fn ask(&mut self, at: Millis, ask: &Ask, fate: Fate) -> Result<Happened, OutOfMemory>
         requires { at ≤ GREATEST_MILLIS }
-        ensures world { OnOk result (self.new ≡ after_event self.old (Event.Fail at new ask.now)) }
-        ensures told { IfOk result (λ told. told ≡ outcomes self.old (Event.Fail at new ask.now)) }
+        ensures world { OnOk result (self.new ≡ run self.old (event_steps self.old (node_asked ask.now) (event_asked at ask.now) fate)) }
+        ensures told { IfOk result (λ told. told ≡ told_in self.old (event_steps self.old (node_asked ask.now) (event_asked at ask.now) fate)) }
         ensures err { OnErr result (self.new ≡ self.old) }
     {
         let (node, asked) = asked_by(at, ask);
-        let fate = if new { Fate::Written } else { Fate::Unwritten };
         self.issue(node, &asked, fate)
     }
 
     /// An event of a schedule, and what is told of it, in order. Where memory is wanting, the world is as after the first of the
     /// event's steps, or none.
     pub fn event(&mut self, event: &Event) -> Result<Happened, OutOfMemory>
-        requires { moment_of event.now ≤ GREATEST_MILLIS }
+        requires { event.now.at ≤ GREATEST_MILLIS }
         ensures world { OnOk result (self.new ≡ after_event self.old event.now) }
         ensures told { IfOk result (λ told. told ≡ outcomes self.old event.now) }
         ensures err { OnErr result (IsFront self.old (steps_of self.old event.now) self.new) }
     {
-        match event {
-            Event::Issue {
-                at,
-                node,
-                seq,
-                id,
-                full,
-            } => self.issue(
-                *node,
-                &Asked {
-                    moment: *at,
-                    seq: *seq,
-                    id: *id,
-                    full: *full,
-                },
-                Fate::Kept,
-            ),
-            Event::Deliver { at, place } => self.deliver(*at, *place),
-            Event::All { at } => self.deliver_all(*at),
-            Event::Drop { .. } => {
+        let at = event.at;
+        match &event.what {
+            What::Ask(ask) => self.ask(at, ask, Fate::Kept),
+            What::Deliver { place } => self.deliver(at, *place),
+            What::All => self.deliver_all(at),
+            What::Drop => {
                 self.drop_all();
                 Ok(Happened::nothing(self.alloc))
             }
-            Event::Restart { at, node } => self.restart(*at, *node),
-            Event::Cut { at, new, ask } => self.cut_asked(*at, *new, ask),
-            Event::Fail { at, new, ask } => self.fail_asked(*at, *new, ask),
-            Event::Lie { at, from, to, what } => self.lie(*at, *from, *to, what),
-            Event::Raw { at, to, bytes } => self.hear(*at, *to, bytes.as_slice()),
-            Event::Prefer { node, .. } => self.prefer(*node),
+            What::Restart { node } => self.restart(at, *node),
+            What::Cut { new, ask } => self.cut_asked(at, *new, ask),
+            What::Fail { new, ask } => self.ask(at, ask, failing(*new)),
+            What::Lie { from, to, what } => self.lie(at, *from, *to, what),
+            What::Raw { to, bytes } => self.hear(at, *to, bytes.as_slice()),
+            What::Prefer { node } => self.prefer(*node),
         }
     }
 
@@ -389,6 +374,13 @@ fn counted(count: u64, forged: bool) -> u64
     } else {
         count
     }
+}
+
+/// How a save fails that leaves the new number, or the old one.
+fn failing(new: bool) -> Fate
+    ensures { result ≡ failing new }
+{
+    if new { Fate::Written } else { Fate::Unwritten }
 }
 
 /// The node that is asked, and what it is asked at a moment.

@@ -1,99 +1,59 @@
-ghost use Rattle.std.specs.Prelude.{◌≡◌, ℕ, length, true, IfOk};
+// What liars say.
+ghost use Rattle.std.specs.Prelude.{◌≡◌, ℕ, IfOk};
 
-use crate::event::Event;
+use crate::choices::full;
+use crate::event::{Lied, What};
 use crate::fault::{Cause, Fault};
-use crate::lied::Lied;
-use crate::line::Line;
-use crate::members::{full, member};
 use crate::numbers::number;
-use crate::raw::raw;
 use crate::reader::Reader;
-use crate::said::{Said, may_say};
 use crate::tokens::Tokens;
 use xl_base::{Bytes, NodeNo};
 use xl_wire::Validation;
 
 impl Reader {
     ghost use Rattle.xl_sched.specs.Refusals.{GivenMemory};
-    ghost use Rattle.xl_sched.specs.Members.{new_member_of};
-    ghost use Rattle.xl_sched.specs.Lies.{may_say, lied_of, validation_of, header_lie};
-    ghost use Rattle.xl_sched.specs.Words.{unless_late, liar_line, lie_event, raw_event, IsFit, IsFitEvent, IsUndeclared};
+    ghost use Rattle.xl_sched.specs.Fits.{IsFitWhat, IsFitPair};
+    ghost use Rattle.xl_sched.specs.Lies.{pair_of, validation_of, header_lie, lie_event};
 
-    /// A number that may still be declared.
-    pub(super) fn undeclared<'a>(&self, token: &'a [u8]) -> Result<NodeNo, Fault<'a>>
-        ensures value { result ≡ new_member_of self.now.nodes self.now.liars token.now }
-        ensures new { IfOk result (IsUndeclared self.now) }
-    {
-        let node = member(token)?;
-        if self.nodes.has(node) || self.liars.has(node) {
-            Err(Fault::with_text(Cause::Twice, token))
-        } else {
-            Ok(node)
-        }
-    }
-
-    pub(super) fn liar_in_time<'a>(
-        &self,
-        token: &'a [u8],
-        arguments: Tokens<'a>,
-    ) -> Result<Line, Fault<'a>>
-        ensures value { result ≡ unless_late self.now token.now (liar_line self.now arguments.entry) }
-        ensures fit { IfOk result (λ line. (sent : ℕ) → IsFit self.now sent line) }
-    {
-        if self.started {
-            return Err(Fault::with_text(Cause::Late, token));
-        }
-        self.liar(arguments)
-    }
-
-    /// `liar i`.
-    fn liar<'a>(&self, arguments: Tokens<'a>) -> Result<Line, Fault<'a>>
-        ensures value { result ≡ liar_line self.now arguments.entry }
-        ensures fit { IfOk result (λ line. (sent : ℕ) → IsFit self.now sent line) }
-    {
-        let number = arguments.one()?;
-        Ok(Line::Liar(self.undeclared(number)?))
-    }
-
-    /// `lie f t` and what is said.
-    pub(super) fn lie<'a>(&self, arguments: Tokens<'a>) -> Result<Event, Fault<'a>>
+    /// `lie f t` and what is said: `validation seq id signed full`, or `partial`; `header w`.
+    pub(super) fn lie<'a>(&self, arguments: Tokens<'a>) -> Result<What, Fault<'a>>
         ensures value { GivenMemory result (lie_event self.now arguments.entry) }
-        ensures fit { IfOk result (λ event. (sent : ℕ) → IsFitEvent self.now sent event) }
+        ensures fit { IfOk result (λ what. (sent : ℕ) → IsFitWhat self.now sent what) }
     {
-        let (liar, honest, word, arguments) = arguments.three_and_others()?;
-        let said = Said::of(word);
-        if !may_say(said, arguments.count()) {
-            return Err(Fault::with_number(Cause::Count, arguments.count() as u64 + 4));
+        let (liar, honest, word, said) = arguments.three_and_others()?;
+        if word == b"validation".as_slice() {
+            let Some((seq, id, signed, kind)) = said.only_four() else {
+                return Err(arguments.miscounted());
+            };
+            let (from, to) = self.pair(liar, honest)?;
+            let what = self.validation(seq, id, signed, kind)?;
+            return Ok(What::Lie { from, to, what });
         }
-        Ok(Event::Lie {
-            at: self.moment,
-            from: self.liars.declared(liar)?,
-            to: self.nodes.declared(honest)?,
-            what: self.lied(said, word, arguments)?,
-        })
+        if word == b"header".as_slice() {
+            let Some(name) = said.only_one() else {
+                return Err(arguments.miscounted());
+            };
+            let (from, to) = self.pair(liar, honest)?;
+            let what = self.header(name)?;
+            return Ok(What::Lie { from, to, what });
+        }
+        let count = said.count();
+        if count != 1 && count != 4 && count != 5 {
+            return Err(arguments.miscounted());
+        }
+        let _ = self.pair(liar, honest)?;
+        Err(Fault::with_text(Cause::Choice, word))
     }
 
-    /// What a lie of this word says. Refused for another word.
-    fn lied<'a>(
-        &self,
-        said: Option<Said>,
-        word: &'a [u8],
-        arguments: Tokens<'a>,
-    ) -> Result<Lied, Fault<'a>>
-        requires { may_say said (length arguments) ≡ true }
-        ensures { GivenMemory result (lied_of self.now.names said word.now arguments.entry) }
+    /// Who lies to whom.
+    fn pair<'a>(&self, liar: &'a [u8], honest: &'a [u8]) -> Result<(NodeNo, NodeNo), Fault<'a>>
+        ensures value { result ≡ pair_of self.now liar.now honest.now }
+        ensures fit { IfOk result (λ pair. IsFitPair self.now pair.0 pair.1) }
     {
-        match said {
-            Some(Said::Validation) => {
-                let (seq, id, signed, kind) = arguments.four()?;
-                self.validation(seq, id, signed, kind)
-            }
-            Some(Said::Header) => self.header(arguments.one()?),
-            None => Err(Fault::with_text(Cause::Choice, word)),
-        }
+        Ok((self.liars.declared(liar)?, self.nodes.declared(honest)?))
     }
 
-    /// `validation seq id signed full`, or `partial`.
+    /// The parts of a validation, from left to right.
     fn validation<'a>(
         &self,
         seq: &'a [u8],
@@ -105,13 +65,13 @@ impl Reader {
     {
         Ok(Lied::Validation(Validation {
             seq: number(seq)?,
-            id: self.names.id(id)?,
+            id: self.names.ledger_id(id)?,
             signed: number(signed)?,
             full: full(kind)?,
         }))
     }
 
-    /// `header w`.
+    /// The header of a declared ledger.
     fn header<'a>(&self, name: &'a [u8]) -> Result<Lied, Fault<'a>>
         ensures { GivenMemory result (header_lie self.now.names name.now) }
     {
@@ -120,19 +80,6 @@ impl Reader {
         Ok(Lied::Header {
             name: Bytes::from_vec(name),
             header: ledger.header,
-        })
-    }
-
-    /// `raw t digits`.
-    pub(super) fn raw<'a>(&self, arguments: Tokens<'a>) -> Result<Event, Fault<'a>>
-        ensures value { GivenMemory result (raw_event self.now arguments.entry) }
-        ensures fit { IfOk result (λ event. (sent : ℕ) → IsFitEvent self.now sent event) }
-    {
-        let (honest, digits) = arguments.two()?;
-        Ok(Event::Raw {
-            at: self.moment,
-            to: self.nodes.declared(honest)?,
-            bytes: raw(self.alloc, digits)?,
         })
     }
 }

@@ -10,7 +10,7 @@ returns-in_err-place c =
     let names = c.self.inside.declared.items in
     let id = c.args.id.now in
     ap option_copied c.from_residual.ensures
-    ∙ sym (not_found (λ n. n.name) (λ n. bytes_eq id.0 n.id.0) names (sym (c.of_id.ensures ∙ c.self.invariant.0.by_id id.0) ∙ c.in_err-place.was))
+    ∙ sym (not_found (λ n. n.name) (λ n. bytes_eq id n.id) names (sym (c.of_id.ensures ∙ c.self.invariant.0.by_id id) ∙ c.in_err-place.was))
     ∙ ap (λ ns. name_of ns id) c.self.view_is
 
 pub returns : goal.returns
@@ -18,5 +18,5 @@ returns c =
     let names = c.self.inside.declared.items in
     let id = c.args.id.now in
     ap (λ bytes. Some bytes) c.as_slice.ensures
-    ∙ sym (found (λ n. n.name) (λ n. bytes_eq id.0 n.id.0) names c.in_ok-place.place c.index.result.now (sym (c.of_id.ensures ∙ c.self.invariant.0.by_id id.0) ∙ c.in_ok-place.was) c.index.ensures)
+    ∙ sym (found (λ n. n.name) (λ n. bytes_eq id n.id) names c.in_ok-place.place c.index.result.now (sym (c.of_id.ensures ∙ c.self.invariant.0.by_id id) ∙ c.in_ok-place.was) c.index.ensures)
     ∙ ap (λ ns. name_of ns id) c.self.view_is

@@ -13,5 +13,5 @@ returns-in-Err-clause-kept c = record {
 pub returns-in-Ok-clause-more : goal.returns-in-Ok-clause-more
 returns-in-Ok-clause-more c = record {
   by_name = λ other. c.insert_id.ensures.names other ∙ c.in_ok-insert_name.ensures.names other ∙ with_place-new (place_of_name c.args.self.now other) (bytes_eq other c.args.name.now) c.args.place (none_too (place_of_name c.args.self.now) other c.args.name.now c.requires);
-  by_id = λ other. c.in-Ok.ensures.ids other ∙ ap (λ kept. with_place kept (bytes_eq other c.args.id.now.0) c.args.place) (c.in_ok-insert_name.ensures.ids other);
+  by_id = λ other. c.in-Ok.ensures.ids other ∙ ap (λ kept. with_place kept (bytes_eq other c.args.id.now) c.args.place) (c.in_ok-insert_name.ensures.ids other);
 }

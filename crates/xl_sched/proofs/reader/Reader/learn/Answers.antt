@@ -4,12 +4,11 @@ use Rattle.xl_ledger.specs.Headers.{header_id}
 use Rattle.xl_sched.specs.declared.line.Line.{Line}
 use Rattle.xl_sched.specs.declared.line.Line.TheVariants as line
 use Rattle.xl_sched.specs.declared.named.Named.{Named}
-use Rattle.xl_sched.specs.Words.{Reading}
-use Rattle.xl_sched.specs.Reading.{counted, after}
+use Rattle.xl_sched.specs.Reading.{Reading, counted, after}
 use Rattle.xl_sched.proofs.reader.Reader.learn.Goals.{in-Node+in_ok-declare-in-Node, in-Liar+in_ok-declare-in-Liar, in-Name+in_ok-declare-in-Name, in-Limit, in-Ledger+in_ok-declare_ledger-in-Ledger, in-At, in-Event}
 use Rattle.xl_sched.proofs.reader.Reader.learn.Goals as goal
 
-after_ledger : (r : Reading) (l : Line) (name parent as_slice : List ℕ) (header : Header) (names : List Named) → l ≡ line.Ledger name parent header → as_slice ≡ name → names ≡ r.names ++ record { name = as_slice; id = header_id header; header = Some header } ∷ [] → record (counted r) { names = names } ≡ after r l
+after_ledger : (r : Reading) (l : Line) (name parent as_slice : List ℕ) (header : Header) (names : List Named) → l ≡ line.Ledger name parent header → as_slice ≡ name → names ≡ r.names ++ record { name = as_slice; id = (header_id header).0; header = Some header } ∷ [] → record (counted r) { names = names } ≡ after r l
 after_ledger r l name parent as_slice header names is same known = rw (is, known, same) refl
 
 pub returns-clause-learnt : goal.returns-clause-learnt

@@ -7,9 +7,9 @@ use Rattle.xl_world.specs.Emptying.{event_steps}
 use Rattle.xl_world.specs.Idle.{IsIdle}
 use Rattle.xl_world.specs.declared.place.Fate.TheVariants.{Kept}
 use Rattle.xl_world.specs.Worlds.{world_seen}
-use Rattle.xl_world.specs.Schedule.{frame_at, after_event, outcomes}
+use Rattle.xl_world.specs.Schedule.{frame_at, steps_at, outcomes_at}
 use Rattle.xl_world.specs.Seen.{forged_at}
-use Rattle.xl_sched.specs.declared.event.Event.TheVariants.{Deliver}
+use Rattle.xl_sched.specs.declared.event.What.TheVariants.{Deliver}
 use Rattle.xl_world.proofs.Runs.{run_on}
 use Rattle.xl_world.proofs.Sending.{frame_ran}
 use Rattle.xl_world.proofs.Delivering.{idle_untaken, delivered, delivered_told}
@@ -47,13 +47,13 @@ pub returns-clause-world : goal.returns-clause-world
 returns-clause-world c =
     let d = (goal.at.returns-clause-world c).In_ok-told in
     delivered (world_seen c.self.inside) _ c.args.at c.args.place c.in-Some.frame.now c.as_slice.result.now (found d) c.as_slice.ensures (its_step d)
-    ∙ ap (λ (u : World). after_event u (Deliver c.args.at c.args.place)) c.self.view_is
+    ∙ ap (λ (u : World). run u (steps_at u c.args.at (Deliver c.args.place))) c.self.view_is
 
 pub returns-clause-told : goal.returns-clause-told
 returns-clause-told c =
     let d = (goal.at.returns-clause-told c).In_ok-told in
     delivered_told (world_seen c.self.inside) c.args.at c.args.place c.in-Some.frame.now c.as_slice.result.now c.in_ok-told.told (found d) c.as_slice.ensures c.in_ok-told.ensures.told
-    ∙ ap (λ (u : World). outcomes u (Deliver c.args.at c.args.place)) c.self.view_is
+    ∙ ap (λ (u : World). outcomes_at u c.args.at (Deliver c.args.place)) c.self.view_is
 
 pub hear_at-requires-clause-untaken : goal.hear_at-requires-clause-untaken
 hear_at-requires-clause-untaken c = idle_untaken (world_seen c.self.inside) c.self.invariant.idle c.in-Some.frame.now.to

@@ -1,13 +1,13 @@
 use Rattle.std.proofs.Common.{◌≡◌, ◌∙◌, ◌-◌, List, [], arith, ap, length, sym, subst, take}
 use Rattle.std.specs.Prelude.{drop}
 use Rattle.std.proofs.lemmas.List.{take_rest}
-use Rattle.xl_sched.specs.declared.event.Event.TheVariants.{All}
+use Rattle.xl_sched.specs.declared.event.What.TheVariants.{All}
 use Rattle.xl_world.specs.declared.outcome.Outcome.{Outcome}
 use Rattle.xl_world.specs.declared.report.WorldReport.{WorldReport}
 use Rattle.xl_world.specs.declared.sent.Sent.{Sent}
-use Rattle.xl_world.specs.Schedule.{after_event, outcomes, steps_of}
+use Rattle.xl_world.specs.Schedule.{outcomes_at, steps_at}
 use Rattle.xl_world.specs.Seen.{Hearing, hearing_seen, heard_all}
-use Rattle.xl_world.specs.World.{World}
+use Rattle.xl_world.specs.World.{World, run}
 use Rattle.xl_world.specs.Idle.{IsIdle}
 use Rattle.xl_world.specs.Worlds.{world_seen}
 use Rattle.xl_world.proofs.Delivering.{all_delivered, all_idle, idle_untaken, all_told, heard_of, with_hearing}
@@ -36,7 +36,7 @@ heard c =
 -- the lists of the code are those of the steps
 its_steps : (c : After-from_vec) →
     world_seen (record { alloc = c.self.inside.alloc; liars = c.self.inside.liars; numbers = c.self.inside.numbers; places = c.hear_each.new.places; sent = c.self.inside.sent; mark = c.len-self-inside.result; index = c.self.inside.index; said = c.self.inside.said; reports = c.hear_each.new.reports; forged = c.self.inside.forged })
-    ≡ after_event (world_seen c.self.inside) (All c.args.at)
+    ≡ run (world_seen c.self.inside) (steps_at (world_seen c.self.inside) c.args.at All)
 its_steps c =
     let all : c.len-self-inside.result ≡ length c.self.inside.sent.items = omega (arith, c.len-self-inside.ensures, c.self.inside.sent.ok.0) in
     ap (with_mark (with_hearing (world_seen c.self.inside) (hearing c))) all
@@ -45,20 +45,20 @@ its_steps c =
 pub invariant_of-self-2 : goal.invariant_of-self-2
 invariant_of-self-2 c =
     record {
-      run = run_on (world_seen c.self.inside) _ (steps_of (world_seen c.self.inside) (All c.args.at)) (its_steps c) c.self.invariant.run;
+      run = run_on (world_seen c.self.inside) _ (steps_at (world_seen c.self.inside) c.args.at All) (its_steps c) c.self.invariant.run;
       idle = subst (λ (u : World). IsIdle u) (sym (its_steps c)) (all_idle (world_seen c.self.inside) c.args.at c.self.invariant.idle);
       index = c.self.invariant.index;
       mark = omega (arith, c.len-self-inside.ensures, c.self.inside.sent.ok.0);
     }
 
 pub returns-clause-world : goal.returns-clause-world
-returns-clause-world c = its_steps c ∙ ap (λ (u : World). after_event u (All c.args.at)) c.self.view_is
+returns-clause-world c = its_steps c ∙ ap (λ (u : World). run u (steps_at u c.args.at All)) c.self.view_is
 
 pub returns-clause-told : goal.returns-clause-told
 returns-clause-told c =
     c.from_vec.ensures
     ∙ (all_told (world_seen c.self.inside) c.args.at (frames c) (hearing c) c.self.invariant.idle (are_after_mark c) (heard c)
-    ∙ ap (λ (u : World). outcomes u (All c.args.at)) c.self.view_is)
+    ∙ ap (λ (u : World). outcomes_at u c.args.at All) c.self.view_is)
 
 pub hear_each-requires-clause-untaken : goal.hear_each-requires-clause-untaken
 hear_each-requires-clause-untaken c = idle_untaken (world_seen c.self.inside) c.self.invariant.idle

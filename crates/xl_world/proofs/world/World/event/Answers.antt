@@ -15,8 +15,8 @@ none_of : {X E : Type 0} (w v : World) (steps : List Step) (r : Result X E) → 
 none_of w v steps (Ok x) same = same
 none_of w v steps (Err e) same = unmoved w v steps same
 
-pub returns-in-Issue-clause-err : goal.returns-in-Issue-clause-err
-returns-in-Issue-clause-err c = none_of c.args.self.now c.issue.new.self _ c.issue.result c.issue.ensures.err
+pub returns-in-Ask-clause-err : goal.returns-in-Ask-clause-err
+returns-in-Ask-clause-err c = none_of c.args.self.now c.ask.new.self _ c.ask.result c.ask.ensures.err
 
 pub returns-in-Deliver-clause-err : goal.returns-in-Deliver-clause-err
 returns-in-Deliver-clause-err c = none_of c.args.self.now c.deliver.new.self _ c.deliver.result c.deliver.ensures.err
@@ -28,7 +28,7 @@ pub returns-in-Restart-clause-err : goal.returns-in-Restart-clause-err
 returns-in-Restart-clause-err c = none_of c.args.self.now c.restart.new.self _ c.restart.result c.restart.ensures.err
 
 pub returns-in-Fail-clause-err : goal.returns-in-Fail-clause-err
-returns-in-Fail-clause-err c = none_of c.args.self.now c.fail_asked.new.self _ c.fail_asked.result c.fail_asked.ensures.err
+returns-in-Fail-clause-err c = none_of c.args.self.now c.ask-in-Fail.new.self _ c.ask-in-Fail.result c.ask-in-Fail.ensures.err
 
 pub returns-in-Lie-clause-err : goal.returns-in-Lie-clause-err
 returns-in-Lie-clause-err c = none_of c.args.self.now c.lie.new.self _ c.lie.result c.lie.ensures.err

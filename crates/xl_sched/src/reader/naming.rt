@@ -1,45 +1,36 @@
+// Lines that give names: to ids and to ledgers.
 ghost use Rattle.std.specs.Prelude.{◌≡◌, ◌≤◌, ℕ, length, IfOk};
 ghost use Rattle.xl_sched.specs.declared.limits.TheConstants.{MOST_NAMES};
 
-use crate::event::Event;
 use crate::fault::{Cause, Fault};
-use crate::limits::{MOST_LEDGERS, MOST_NAMES};
+use crate::limits::MOST_NAMES;
 use crate::line::Line;
-use crate::numbers::{number, number_within};
+use crate::numbers::number;
 use crate::reader::Reader;
 use crate::tokens::Tokens;
 use xl_base::Bytes;
-use xl_ledger::LEAST_LIMIT;
 
 impl Reader {
     ghost use Rattle.xl_sched.specs.Refusals.{GivenMemory};
-    ghost use Rattle.xl_sched.specs.Words.{unless_late, limit_line, named_ledger_line, ledger_line, prefer_event, IsFit, IsFitEvent};
+    ghost use Rattle.xl_sched.specs.Naming.{named_line, name_line, named_ledger_line, ledger_line};
+    ghost use Rattle.xl_sched.specs.Fits.{IsFit};
 
-    pub(super) fn limit_in_time<'a>(
-        &self,
-        token: &'a [u8],
-        arguments: Tokens<'a>,
-    ) -> Result<Line, Fault<'a>>
-        ensures value { result ≡ unless_late self.now token.now (limit_line self.now arguments.entry) }
+    /// `name w id`. Too many names are refused before all else.
+    pub(super) fn name<'a>(&self, arguments: Tokens<'a>) -> Result<Line, Fault<'a>>
+        ensures value { GivenMemory result (name_line self.now arguments.entry) }
         ensures fit { IfOk result (λ line. (sent : ℕ) → IsFit self.now sent line) }
     {
-        if self.started {
-            return Err(Fault::with_text(Cause::Late, token));
+        if self.names.len() > MOST_NAMES {
+            return Err(Fault::with_number(Cause::Limit, MOST_NAMES as u64));
         }
-        self.limit(arguments)
-    }
-
-    /// `limit n`. A second one is refused.
-    fn limit<'a>(&self, arguments: Tokens<'a>) -> Result<Line, Fault<'a>>
-        ensures value { result ≡ limit_line self.now arguments.entry }
-        ensures fit { IfOk result (λ line. (sent : ℕ) → IsFit self.now sent line) }
-    {
-        let token = arguments.one()?;
-        let limit = number_within(token, u64::from(LEAST_LIMIT), u64::from(MOST_LEDGERS))?;
-        if self.limited {
-            return Err(Fault::with_text(Cause::Twice, token));
-        }
-        Ok(Line::Limit(limit as u32))
+        let (name, id) = arguments.two()?;
+        let name = self.names.undeclared(name)?;
+        let id = self.names.id(id)?;
+        let name = Vec::from_slice(self.alloc, name)?;
+        Ok(Line::Name {
+            name: Bytes::from_vec(name),
+            id,
+        })
     }
 
     /// `ledger w p close`. Too many names are refused before all else.
@@ -68,18 +59,6 @@ impl Reader {
             name: Bytes::from_vec(name),
             parent: Bytes::from_vec(parent),
             header,
-        })
-    }
-
-    /// `prefer i`.
-    pub(super) fn prefer<'a>(&self, arguments: Tokens<'a>) -> Result<Event, Fault<'a>>
-        ensures value { result ≡ prefer_event self.now arguments.entry }
-        ensures fit { IfOk result (λ event. (sent : ℕ) → IsFitEvent self.now sent event) }
-    {
-        let node = arguments.one()?;
-        Ok(Event::Prefer {
-            at: self.moment,
-            node: self.nodes.declared(node)?,
         })
     }
 }

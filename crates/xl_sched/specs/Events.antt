@@ -1,0 +1,83 @@
+-- Events, but for disturbed saves and lies. Source: this project's schedule language.
+use Rattle.std.specs.Prelude.{ℕ, ◌&&◌, nat_le, List, [], ◌∷◌, length, Result, Ok, Err, if◌then◌else◌}
+use Rattle.std.specs.Option.{ok_or}
+use Rattle.std.specs.Result.{result_ok}
+use Rattle.hex.specs.Hex.{decode_of}
+use Rattle.xl_sched.specs.declared.event.Ask.{Ask}
+use Rattle.xl_sched.specs.declared.event.Ask.TheVariants as ask
+use Rattle.xl_sched.specs.declared.event.What.{What}
+use Rattle.xl_sched.specs.declared.event.What.TheVariants as what
+use Rattle.xl_sched.specs.declared.limits.TheConstants.{MOST_RAW_BYTES}
+use Rattle.xl_sched.specs.declared.refusal.SchedRefusal.{SchedRefusal}
+use Rattle.xl_sched.specs.declared.refusal.SchedRefusal.TheVariants.{Id}
+use Rattle.xl_sched.specs.Refusals.{◌>>=◌, miscounted}
+use Rattle.xl_sched.specs.Numbers.{number_of, place_of}
+use Rattle.xl_sched.specs.Names.{ledger_id_of}
+use Rattle.xl_sched.specs.Members.{declared_of}
+use Rattle.xl_sched.specs.Choices.{full_of}
+use Rattle.xl_sched.specs.Reading.{Reading}
+
+-- a node is asked to issue its validation, the parts from left to right
+abbrev pub issue_of : Reading → List ℕ → List ℕ → List ℕ → List ℕ → Result Ask SchedRefusal
+issue_of reading number sequence id kind = do
+  node ← declared_of reading.nodes number
+  seq ← number_of sequence
+  ledger ← ledger_id_of reading.names id
+  full ← full_of kind
+  Ok (ask.Issue node seq ledger full)
+
+-- `i seq id full`, or `partial`
+abbrev pub asked_issue : Reading → List (List ℕ) → Result Ask SchedRefusal
+asked_issue reading (number ∷ sequence ∷ id ∷ kind ∷ []) = issue_of reading number sequence id kind
+asked_issue reading arguments = miscounted arguments
+
+-- `issue i seq id full`, or `partial`
+abbrev pub issue_event : Reading → List (List ℕ) → Result What SchedRefusal
+issue_event reading arguments = do
+  asked ← asked_issue reading arguments
+  Ok (what.Ask asked)
+
+-- `deliver k`
+abbrev pub deliver_event : ℕ → List (List ℕ) → Result What SchedRefusal
+deliver_event sent (number ∷ []) = do
+  place ← place_of sent number
+  Ok (what.Deliver place)
+deliver_event sent arguments = miscounted arguments
+
+-- `all`
+abbrev pub all_event : List (List ℕ) → Result What SchedRefusal
+all_event [] = Ok what.All
+all_event arguments = miscounted arguments
+
+-- `drop`
+abbrev pub drop_event : List (List ℕ) → Result What SchedRefusal
+drop_event [] = Ok what.Drop
+drop_event arguments = miscounted arguments
+
+-- `restart i`
+abbrev pub restart_event : Reading → List (List ℕ) → Result What SchedRefusal
+restart_event reading (number ∷ []) = do
+  node ← declared_of reading.nodes number
+  Ok (what.Restart node)
+restart_event reading arguments = miscounted arguments
+
+-- 1 to 8,240 bytes, as hexadecimal digits of either case
+abbrev pub raw_bytes_of : List ℕ → Result (List ℕ) SchedRefusal
+raw_bytes_of digits = do
+  bytes ← ok_or (result_ok (decode_of digits)) (Id digits)
+  if nat_le 1 (length bytes) && nat_le (length bytes) MOST_RAW_BYTES then Ok bytes else Err (Id digits)
+
+-- `raw t digits`
+abbrev pub raw_event : Reading → List (List ℕ) → Result What SchedRefusal
+raw_event reading (honest ∷ digits ∷ []) = do
+  to ← declared_of reading.nodes honest
+  bytes ← raw_bytes_of digits
+  Ok (what.Raw to bytes)
+raw_event reading arguments = miscounted arguments
+
+-- `prefer i`
+abbrev pub prefer_event : Reading → List (List ℕ) → Result What SchedRefusal
+prefer_event reading (number ∷ []) = do
+  node ← declared_of reading.nodes number
+  Ok (what.Prefer node)
+prefer_event reading arguments = miscounted arguments

@@ -1,0 +1,46 @@
+-- Lines that fit what was read before them. Source: this project's schedule language.
+use Rattle.std.specs.Prelude.{◌≡◌, ◌≤◌, ℕ, ◌+◌, true, false, length, None}
+use Rattle.xl_base.specs.declared.moments.TheConstants.{GREATEST_MILLIS}
+use Rattle.xl_ledger.specs.declared.registry.TheConstants.{LEAST_LIMIT}
+use Rattle.xl_lists.specs.Lists.{is_on}
+use Rattle.xl_sched.specs.declared.event.Ask.{Ask}
+use Rattle.xl_sched.specs.declared.event.Ask.TheVariants as ask
+use Rattle.xl_sched.specs.declared.event.What.{What}
+use Rattle.xl_sched.specs.declared.event.What.TheVariants as what
+use Rattle.xl_sched.specs.declared.limits.TheConstants.{MOST_LEDGERS, MOST_RAW_BYTES}
+use Rattle.xl_sched.specs.declared.line.Line.{Line}
+use Rattle.xl_sched.specs.declared.line.Line.TheVariants as line
+use Rattle.xl_sched.specs.Names.{id_named}
+use Rattle.xl_sched.specs.Reading.{Reading, IsUndeclared}
+
+-- what is asked of a declared node
+abbrev pub IsFitAsk : Reading → Ask → Type 0
+IsFitAsk reading (ask.Issue node seq id full) = is_on reading.nodes node ≡ true
+
+-- a declared liar, and a declared node
+abbrev pub IsFitPair : Reading → ℕ → ℕ → Type 0
+IsFitPair reading from to = (is_on reading.liars from ≡ true) × (is_on reading.nodes to ≡ true)
+
+-- what happens to declared nodes and liars, with sent frames, and with bytes of a frame's length
+abbrev pub IsFitWhat : Reading → ℕ → What → Type 0
+IsFitWhat reading sent (what.Ask ask) = IsFitAsk reading ask
+IsFitWhat reading sent (what.Deliver place) = (1 ≤ place) × (place ≤ sent)
+IsFitWhat reading sent what.All = Unit {0}
+IsFitWhat reading sent what.Drop = Unit {0}
+IsFitWhat reading sent (what.Restart node) = is_on reading.nodes node ≡ true
+IsFitWhat reading sent (what.Cut new ask) = IsFitAsk reading ask
+IsFitWhat reading sent (what.Fail new ask) = IsFitAsk reading ask
+IsFitWhat reading sent (what.Lie from to lie) = IsFitPair reading from to
+IsFitWhat reading sent (what.Raw to bytes) =
+    (is_on reading.nodes to ≡ true) × (1 ≤ length bytes) × (length bytes ≤ MOST_RAW_BYTES)
+IsFitWhat reading sent (what.Prefer node) = is_on reading.nodes node ≡ true
+
+-- a line that declares nothing twice and no ledger above all that may be, or such an event at a moment that there may be
+abbrev pub IsFit : Reading → ℕ → Line → Type 0
+IsFit reading sent (line.Node me list validating) = IsUndeclared reading me
+IsFit reading sent (line.Liar me) = IsUndeclared reading me
+IsFit reading sent (line.Name name id) = id_named reading.names name ≡ None
+IsFit reading sent (line.Limit limit) = (LEAST_LIMIT ≤ limit) × (limit ≤ MOST_LEDGERS) × (reading.limited ≡ false)
+IsFit reading sent (line.Ledger name parent header) = (id_named reading.names name ≡ None) × (header.seq ≤ length reading.names + 1)
+IsFit reading sent (line.At at) = at ≤ GREATEST_MILLIS
+IsFit reading sent (line.Event event) = (event.at ≤ GREATEST_MILLIS) × IsFitWhat reading sent event.what
