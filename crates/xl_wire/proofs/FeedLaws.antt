@@ -1,6 +1,5 @@
 -- What is held, after a piece and after a frame.
 use Rattle.std.proofs.Common.{◌≡◌, ℕ, ◌+◌, ◌-◌, ◌≤◌, Bool, List, ◌++◌, length, take, drop, append_assoc, sym, ap, ◌∙◌, arith}
-use Rattle.std.specs.List.{copy_within}
 use Rattle.std.proofs.lemmas.List.{take_at, take-take, drop-take, drop-drop, drop-append-le, length-append, length-take, length-drop}
 use Rattle.xl_base.specs.Putting.{Puts}
 use Rattle.std.specs.Prelude.{min, false, if◌then◌else◌}
@@ -16,10 +15,6 @@ use Rattle.xl_wire.proofs.RawLaws.{length-raw_bytes}
 -- the frame that is split off is there
 pub frame_there : (bytes : List ℕ) (f : RawFrame) → SpellsRaw f (take (span f.body) bytes) → span f.body ≤ length bytes
 frame_there bytes f s = omega (arith, length-take (span f.body) bytes, ap length s.spelling, length-raw_bytes f s.frame.tag)
-
-pub moved : (xs mid : List ℕ) (start end : ℕ) → start ≤ end → end ≤ length xs → mid ≡ copy_within xs start end 0 → take (end - start) mid ≡ held_in xs start end
-moved xs mid start end ordered within e =
-    ap (take (end - start)) e ∙ take_at (held_in xs start end) (drop (0 + (end - start)) xs) (end - start) (omega (arith, length-take (end - start) (drop start xs), length-drop start xs))
 
 -- what is held, with a piece put behind it
 pub pushed : (xs ys piece : List ℕ) (start end : ℕ) → start ≤ end → Puts end piece xs ys → held_in ys start (end + length piece) ≡ held_in xs start end ++ piece
@@ -45,7 +40,7 @@ held_after xs start end n inside =
 abbrev pub fed_of : List ℕ → Bool → Fed
 fed_of held refused = record { held = held; refused = refused }
 
--- a piece that is taken, as far as there is room, behind what was moved
+-- a piece that is taken, as far as there is room, behind what is held
 pub after_pushed : (xs ys piece : List ℕ) (start end from count : ℕ) (refused : Bool) (fed : Fed) → fed_of (held_in xs start end) refused ≡ fed → IsFed xs start end → refused ≡ false
     → count ≡ min (length piece) (LONGEST_FRAME - (end - start)) → held_in ys from (from + (end - start) + length (take count piece)) ≡ held_in xs start end ++ take count piece
     → fed_of (held_in ys from (from + (end - start) + count)) refused ≡ after_push fed piece
