@@ -1,5 +1,6 @@
--- Why two quorums report one ledger, whatever the nodes are: what is kept of a network at each step.
--- Source: the counting of quorums by Chase and MacBrough, "Analysis of the XRP Ledger Consensus Protocol" (2018), with liars and restarts.
+-- Why two quorums report one ledger, whatever the nodes are: what is kept of a network at each step. Source: the
+-- counting of quorums by Chase and MacBrough, "Analysis of the XRP Ledger Consensus Protocol" (2018), with liars and
+-- restarts.
 use Rattle.std.specs.Prelude.{◌≡◌, ℕ, ◌≤◌, ◌<◌, ◌==◌, ◌&&◌, ◌||◌, ◌++◌, Bool, List, [], ◌∷◌, Option, Some, None, count_by, nat_eq, All, IsTrue, IfSome}
 use Rattle.std.specs.List.{list_any, IsDistinct}
 use Rattle.xl_base.specs.Ids.{same_id}
@@ -44,7 +45,8 @@ pub record IsBacked (liars : List ℕ) (said : List Said) (r : Report) : Type 0 
 
 -- What each step of a network keeps. `Holds m n`: the keeper of m may hold the number n.
 -- `Each P`: P holds of each validation that stands in a row, among outgoing items or among what was sent.
-pub record Kept (liars : List ℕ) (said : List Said) (reports : List Report) (Holds : ℕ → ℕ → Type 0) (Each : (Said → Type 0) → Type 0) : Type 0 where
+pub record Kept (liars : List ℕ) (said : List Said) (reports : List Report)
+    (Holds : ℕ → ℕ → Type 0) (Each : (Said → Type 0) → Type 0) : Type 0 where
   -- a keeper is never behind what its member said
   pub saved : (m s n : ℕ) (id : LedgerId) → IsTrue (has_said said m s id) → Holds m n → s ≤ n
   -- no member said two ledgers of one sequence
@@ -58,15 +60,17 @@ pub record Kept (liars : List ℕ) (said : List Said) (reports : List Report) (H
 abbrev pub Agree : List ℕ → List Report → Type 0
 Agree liars reports = All (λ r. All (λ q. Enough liars r.list q.list → r.seq ≡ q.seq → r.id ≡ q.id) reports) reports
 
--- What a step may do: say at most one thing, above a number that its member's keeper held and not above those that it may hold then;
--- keepers do not fall; and only reports with a quorum are added.
-pub record IsLawful (liars : List ℕ) (said : List Said) (spoken : Option Said) (arisen : List Report) (Holds Holds' : ℕ → ℕ → Type 0) : Type 0 where
+-- What a step may do: say at most one thing, above a number that its member's keeper held and not above those that it
+-- may hold then; keepers do not fall; and only reports with a quorum are added.
+pub record IsLawful (liars : List ℕ) (said : List Said) (spoken : Option Said) (arisen : List Report)
+    (Holds Holds' : ℕ → ℕ → Type 0) : Type 0 where
   pub rises : (m n : ℕ) → Holds' m n → (k : ℕ) × (k ≤ n) × Holds m k
   pub above : IfSome spoken (λ x. (k : ℕ) × (k < x.seq) × Holds x.member k)
   pub saved : IfSome spoken (λ x. (n : ℕ) → Holds' x.member n → x.seq ≤ n)
   pub backed : All (IsBacked liars (with_said said spoken)) arisen
 
--- The law: where these facts hold of a network, its reports agree. What a keeper may hold is told by a test here, and what stands by a list.
+-- The law: where these facts hold of a network, its reports agree. What a keeper may hold is told by a test here, and
+-- what stands by a list.
 abbrev pub KeptAgrees : Type 0
 KeptAgrees = (liars : List ℕ) (said : List Said) (reports : List Report) (holds : ℕ → ℕ → Bool) (standing : List Said) →
     Kept liars said reports (λ m n. IsTrue (holds m n)) (λ P. All P standing) → Agree liars reports

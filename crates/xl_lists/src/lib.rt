@@ -1,19 +1,20 @@
 //! Lists of members and their quorums, and what a quorum proves.
 //!
-//! A node trusts the members of a list and takes a ledger for agreed where a quorum of them named it. Two nodes with two
-//! lists can't be told different ledgers where their quorums together are large enough, counted without the liars.
+//! A node trusts the members of a list and takes a ledger for agreed where a quorum of them named it. Two nodes with
+//! two lists can't be told different ledgers where their quorums together are large enough, counted without the
+//! liars.
 //!
-//! It stands on xl_base alone, and no call takes memory. Its one contract: where two quorums are `enough`, what a network
-//! keeps at each step lets no two reports of one sequence name different ledgers.
+//! It stands on xl_base alone, and no call takes memory. Its one contract: where two quorums are `enough`, what a
+//! network keeps at each step lets no two reports of one sequence name different ledgers.
 #![tactic(auto)]
 
-mod law;
+mod laws;
 mod list;
 mod marks;
 mod quorum;
 mod refusal;
 
-pub use law::agreement_from_kept;
+pub use laws::agreement_from_kept;
 pub use list::List;
 pub use quorum::{bound, default_quorum, enough, overlap, slack};
 pub use refusal::ListRefusal;

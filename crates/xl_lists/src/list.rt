@@ -34,7 +34,8 @@ impl Model for List {
 impl List {
     /// The list of these members and this quorum.
     ///
-    /// Refused as empty, as too many, for a number outside 1 to 64, for a repeated one, or for the quorum, in this order.
+    /// Refused as empty, as too many, for a number outside 1 to 64, for a repeated one, or for the quorum, in this
+    /// order.
     pub fn new(members: &[u32], quorum: u32) -> Result<List, ListRefusal>
         ensures { result ≡ list_of members.now quorum }
     {

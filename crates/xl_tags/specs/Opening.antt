@@ -16,7 +16,8 @@ HasKeys ring members = All (λ member. member ≢ ring.me → IsSome (key_of rin
 abbrev pub is_sealed : Ring → RawFrame → Bool
 is_sealed ring f = option_map_or (λ tag. bytes_eq tag f.tag) (tag_by ring f.from f) false
 
--- why a frame isn't opened: it isn't for the ring's member, or comes from that member or an unlisted one, or its tag is another
+-- why a frame isn't opened: it isn't for the ring's member, or comes from that member or an unlisted one, or its tag
+-- is another
 abbrev pub refusal_of : Ring → List ℕ → RawFrame → Option TagRefusal
 refusal_of ring members f =
     if not (f.to == ring.me) then Some (NotForMe f.to)
@@ -24,7 +25,8 @@ refusal_of ring members f =
     else if is_sealed ring f then None
     else Some (BadTag f.tag (unwrap_or (tag_by ring f.from f) []))
 
--- The law: where two members hold one key for each other, what the one seals the other opens, if the sender stands on its list.
+-- The law: where two members hold one key for each other, what the one seals the other opens, if the sender stands on
+-- its list.
 abbrev pub SealedOpens : Type 0
 SealedOpens = (ring other : Ring) (members key : List ℕ) (f : RawFrame) →
     IsRaw f → f.from ≡ ring.me → f.to ≡ other.me → ring.me ≢ other.me → IsTrue (is_on members ring.me) →

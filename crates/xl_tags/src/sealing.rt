@@ -5,7 +5,8 @@ ghost use Rattle.xl_tags.specs.Sealing.{before_tag, sealed, IsToSeal, IsWhole};
 use crate::keys::Keys;
 use xl_wire::{Parted, Raw, split};
 
-/// Writes the tag into the last 32 bytes of a frame: that of all bytes before it, under the key of the frame's receiver.
+/// Writes the tag into the last 32 bytes of a frame: that of all bytes before it, under the key of the frame's
+/// receiver.
 pub fn seal(keys: &Keys, frame: &mut [u8])
     requires { IsToSeal keys.now frame.old }
     ensures sealed { (f : RawFrame) → SpellsRaw f frame.old → SpellsRaw (sealed keys.now f) frame.new }

@@ -1,8 +1,10 @@
 -- What is held, after a piece and after a frame.
-use Rattle.std.proofs.Common.{◌≡◌, ℕ, ◌+◌, ◌-◌, ◌≤◌, Bool, List, length, take, drop, sym, ap, ◌∙◌, arith}
-use Rattle.std.specs.List.{copy_within}
-use Rattle.std.proofs.lemmas.List.{take_at, take-take, drop-take, drop-drop, length-take, length-drop}
-use Rattle.xl_wire.specs.Feeding.{Fed, held_in, IsFed, offer_from, offer_of, after_split, after_next}
+use Rattle.std.proofs.Common.{◌≡◌, ℕ, ◌+◌, ◌-◌, ◌≤◌, Bool, List, ◌++◌, length, take, drop, append_assoc, sym, ap, ◌∙◌, arith}
+use Rattle.std.proofs.lemmas.List.{take_at, take-take, drop-take, drop-drop, drop-append-le, length-append, length-take, length-drop}
+use Rattle.xl_base.specs.Putting.{Puts}
+use Rattle.std.specs.Prelude.{min, false, if◌then◌else◌}
+use Rattle.xl_wire.specs.declared.lengths.TheConstants.{LONGEST_FRAME}
+use Rattle.xl_wire.specs.Feeding.{Fed, held_in, taken_of, after_push, IsFed, offer_from, offer_of, after_split, after_next}
 use Rattle.xl_wire.specs.Feeding.Offer.{Frame}
 use Rattle.xl_wire.specs.Heads.{Split, split_of}
 use Rattle.xl_wire.specs.Heads.Split.{Whole}
@@ -14,9 +16,20 @@ use Rattle.xl_wire.proofs.RawLaws.{length-raw_bytes}
 pub frame_there : (bytes : List ℕ) (f : RawFrame) → SpellsRaw f (take (span f.body) bytes) → span f.body ≤ length bytes
 frame_there bytes f s = omega (arith, length-take (span f.body) bytes, ap length s.spelling, length-raw_bytes f s.frame.tag)
 
-pub moved : (xs mid : List ℕ) (start end : ℕ) → start ≤ end → end ≤ length xs → mid ≡ copy_within xs start end 0 → take (end - start) mid ≡ held_in xs start end
-moved xs mid start end ordered within e =
-    ap (take (end - start)) e ∙ take_at (held_in xs start end) (drop (0 + (end - start)) xs) (end - start) (omega (arith, length-take (end - start) (drop start xs), length-drop start xs))
+-- what is held, with a piece put behind it
+pub pushed : (xs ys piece : List ℕ) (start end : ℕ) → start ≤ end → Puts end piece xs ys → held_in ys start (end + length piece) ≡ held_in xs start end ++ piece
+pushed xs ys piece start end ordered p =
+    let n = length piece in
+    let held = held_in xs start end in
+    let rest = drop (end + n) xs in
+    let long : length (take end xs) ≡ end = omega (arith, length-take end xs, p.fits) in
+    let parts : end ≡ start + (end - start) = omega (arith, ordered) in
+    let cut : drop start (take end xs) ≡ held = ap (λ (j : ℕ). drop start (take j xs)) parts ∙ drop-take start (end - start) xs in
+    let held_long : length held ≡ end - start = omega (arith, length-take (end - start) (drop start xs), length-drop start xs, p.fits, ordered) in
+    let split : drop start ys ≡ held ++ piece ++ rest =
+    ap (drop start) (p.is ∙ append_assoc (take end xs) piece rest) ∙ drop-append-le start (take end xs) (piece ++ rest) (omega (arith, long, ordered))
+    ∙ ap (λ (x : List ℕ). x ++ (piece ++ rest)) cut ∙ sym (append_assoc held piece rest) in
+    ap (take (end + n - start)) split ∙ take_at (held ++ piece) rest (end + n - start) (omega (arith, length-append held piece, held_long, ordered))
 
 -- what is held without its first bytes
 held_after : (xs : List ℕ) (start end n : ℕ) → start + n ≤ end → held_in xs (start + n) end ≡ drop n (held_in xs start end)
@@ -26,6 +39,20 @@ held_after xs start end n inside =
 
 abbrev pub fed_of : List ℕ → Bool → Fed
 fed_of held refused = record { held = held; refused = refused }
+
+-- a piece that is taken, as far as there is room, behind what is held
+pub after_pushed : (xs ys piece : List ℕ) (start end from count : ℕ) (refused : Bool) (fed : Fed) → fed_of (held_in xs start end) refused ≡ fed → IsFed xs start end → refused ≡ false
+    → count ≡ min (length piece) (LONGEST_FRAME - (end - start)) → held_in ys from (from + (end - start) + length (take count piece)) ≡ held_in xs start end ++ take count piece
+    → fed_of (held_in ys from (from + (end - start) + count)) refused ≡ after_push fed piece
+after_pushed xs ys piece start end from count refused fed view ok takes is added =
+    let held = held_in xs start end in
+    let long : length held ≡ end - start = omega (arith, length-take (end - start) (drop start xs), length-drop start xs, ok.ordered, ok.within, ok.room) in
+    let few : length (take count piece) ≡ count = omega (arith, length-take count piece, is) in
+    let now : held_in ys from (from + (end - start) + count) ≡ held ++ take count piece =
+    ap (λ (k : ℕ). held_in ys from (from + (end - start) + k)) (sym few) ∙ added in
+    let taken : count ≡ taken_of (fed_of held refused) piece =
+    is ∙ ap (λ (k : ℕ). min (length piece) (LONGEST_FRAME - k)) (sym long) ∙ sym (ap (λ (b : Bool). if b then 0 else min (length piece) (LONGEST_FRAME - length held)) takes) in
+    ap (λ (x : List ℕ). fed_of x refused) (now ∙ ap (λ (k : ℕ). held ++ take k piece) taken) ∙ ap (λ (f : Fed). after_push f piece) view
 
 -- a frame that is handed out
 pub frame_handed : (xs : List ℕ) (start end n : ℕ) (refused : Bool) (raw : RawFrame) (fed : Fed) → fed_of (held_in xs start end) refused ≡ fed → IsFed xs start end → split_of (held_in xs start end) ≡ Whole raw → n ≡ span raw.body → n ≤ length (held_in xs start end)

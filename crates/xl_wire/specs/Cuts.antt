@@ -7,6 +7,7 @@ use Rattle.xl_wire.specs.Kinds.{span}
 use Rattle.xl_wire.specs.Raws.{RawFrame}
 
 abbrev pub IsCut : Cut → List ℕ → Type 0
-IsCut (cut.Frame n) bytes = (raw : RawFrame) × (split_of bytes ≡ Split.Whole raw) × (n ≡ span raw.body) × (n ≤ length bytes)
+IsCut (cut.Frame n) bytes =
+    (raw : RawFrame) × (split_of bytes ≡ Split.Whole raw) × (n ≡ span raw.body) × (n ≤ length bytes)
 IsCut (cut.Need lack) bytes = split_of bytes ≡ Split.Need lack
 IsCut (cut.Refused refusal) bytes = split_of bytes ≡ Split.Refused refusal

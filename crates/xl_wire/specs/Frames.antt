@@ -36,7 +36,8 @@ pub record SpellsFirst (f : Frame) (n : ℕ) (bytes : List ℕ) : Type 0 where
   pub spells : Spells f (take n bytes)
 
 abbrev pub with_body : RawFrame → Result Body WireRefusal → Decoded
-with_body raw (Ok body) = decoded.Whole (record { from = raw.from; to = raw.to; body = body; tag = raw.tag }) (span raw.body)
+with_body raw (Ok body) =
+    decoded.Whole (record { from = raw.from; to = raw.to; body = body; tag = raw.tag }) (span raw.body)
 with_body raw (Err refusal) = decoded.Refused refusal
 
 abbrev pub with_bodies : Split → Decoded

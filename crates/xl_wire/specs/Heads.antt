@@ -27,7 +27,8 @@ head_refusal bytes = first_of (
     ∷ refused_if (differs bytes 1 0x4C) (Magic 1)
     ∷ refused_if (differs bytes 2 1) (Version (slice_index bytes 2))
     ∷ refused_if (nat_lt 3 (length bytes) && not (is_kind (kind_in bytes))) (Kind (kind_in bytes))
-    ∷ refused_if (nat_lt 5 (length bytes) && not (can_have (kind_in bytes) (length_in bytes))) (Length (kind_in bytes) (length_in bytes))
+    ∷ refused_if (nat_lt 5 (length bytes) && not (can_have (kind_in bytes) (length_in bytes)))
+    (Length (kind_in bytes) (length_in bytes))
     ∷ [])
 
 -- how many bytes lack: of the length, and once that is there, of the frame

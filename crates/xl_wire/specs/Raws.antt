@@ -15,7 +15,8 @@ pub record RawFrame : Type 0 where
 -- the mark, the version, the kind, the body's length, the sender, the receiver, the body, the tag
 abbrev pub raw_bytes : RawFrame → List ℕ
 raw_bytes f =
-    (0x58 ∷ 0x4C ∷ 1 ∷ f.kind ∷ []) ++ big_bytes 2 (length f.body) ++ big_bytes 4 f.from ++ big_bytes 4 f.to ++ f.body ++ f.tag
+    (0x58 ∷ 0x4C ∷ 1 ∷ f.kind ∷ []) ++ big_bytes 2 (length f.body)
+    ++ big_bytes 4 f.from ++ big_bytes 4 f.to ++ f.body ++ f.tag
 
 -- what has a spelling
 pub record IsRaw (f : RawFrame) : Type 0 where

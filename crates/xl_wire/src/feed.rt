@@ -5,7 +5,7 @@ ghost use Rattle.xl_wire.specs.Feeding.{held_in, taken_of, after_push, offer_of}
 use crate::{LONGEST_FRAME, Parted, WireRefusal, split};
 use std::alloc::Global;
 use std::marker::Model;
-use xl_base::OutOfMemory;
+use xl_base::{OutOfMemory, put};
 
 /// What a feed hands out.
 #[derive(Clone, Copy, Debug)]
@@ -63,9 +63,8 @@ impl Feed {
         }
         let held = self.end - self.start;
         let count = piece.len().min(LONGEST_FRAME - held);
-        add(&mut self.bytes, self.start, self.end, &piece[..count]);
-        self.start = 0;
-        self.end = held + count;
+        self.start = add(&mut self.bytes, self.start, self.end, &piece[..count]);
+        self.end = self.start + held + count;
         count
     }
 
@@ -109,14 +108,32 @@ fn first_cut(bytes: &[u8]) -> Cut
     }
 }
 
-/// Moves what lies between two places to the front, and the piece behind it.
-fn add(bytes: &mut [u8], start: usize, end: usize, piece: &[u8])
+/// Puts the piece behind what lies between two places, and answers where that begins then.
+fn add(bytes: &mut [u8], start: usize, end: usize, piece: &[u8]) -> usize
     requires ordered { start ≤ end }
     requires within { end ≤ length bytes.old }
     requires fits { end - start + length piece.now ≤ length bytes.old }
-    ensures { take (end - start + length piece.now) bytes.new ≡ held_in bytes.old start end ++ piece.now }
+    ensures held { held_in bytes.new result (result + (end - start) + length piece.now)
+        ≡ held_in bytes.old start end ++ piece.now }
+    ensures room { result + (end - start) + length piece.now ≤ length bytes.old }
 {
-    let held = end - start;
+    let from = make_room(bytes, start, end, piece.len());
+    put(bytes, from + (end - start), piece);
+    from
+}
+
+/// Makes room for so many bytes behind those between two places, which move to the front where room lacks, and
+/// answers where they begin then.
+fn make_room(bytes: &mut [u8], start: usize, end: usize, count: usize) -> usize
+    requires ordered { start ≤ end }
+    requires within { end ≤ length bytes.old }
+    requires fits { end - start + count ≤ length bytes.old }
+    ensures held { held_in bytes.new result (result + (end - start)) ≡ held_in bytes.old start end }
+    ensures room { result + (end - start) + count ≤ length bytes.old }
+{
+    if count <= bytes.len() - end {
+        return start;
+    }
     bytes.copy_within(start..end, 0);
-    bytes[held..held + piece.len()].copy_from_slice(piece);
+    0
 }

@@ -3,7 +3,7 @@ ghost use Rattle.byteorder.specs.Endian.{big_number};
 ghost use Rattle.xl_base.specs.Refusals.{unless_refused};
 ghost use Rattle.xl_wire.specs.Kinds.{is_set_length};
 ghost use Rattle.xl_wire.specs.SetsRead.{set_refusal};
-ghost use Rattle.xl_base.specs.Sets.{IsSet, comes_before};
+ghost use Rattle.xl_base.specs.Sets.{IsSet};
 ghost use Rattle.xl_wire.specs.Sets.{first_fall, ids_in};
 
 use crate::WireRefusal;
@@ -94,19 +94,11 @@ fn first_fall(ids: &[u8]) -> Option<usize>
     ensures { result ≡ first_fall (ids_in (length ids.now / 32) ids.now) }
 {
     for place in 1..ids.len() / 32 {
-        let (_, rest) = ids.split_at(32 * (place - 1));
-        let (before, rest) = rest.split_at(32);
-        let (id, _) = rest.split_at(32);
-        if !comes_before(before, id) {
+        let at = 32 * place;
+        let (before, id) = (&ids[at - 32..at], &ids[at..at + 32]);
+        if !(before < id) {
             return Some(place);
         }
     }
     None
-}
-
-/// Whether the first bytes come before the second in the order of ids.
-fn comes_before(a: &[u8], b: &[u8]) -> bool
-    ensures { result ≡ comes_before a.now b.now }
-{
-    a < b
 }

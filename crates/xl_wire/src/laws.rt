@@ -10,12 +10,13 @@ ghost use Rattle.xl_wire.specs.Streams.{AreFramesOf, Act, IsAct, opened, fed_aft
 /// body is read and of those whose body isn't.
 pub fn one_spelling()
     ensures frames { (f g : Frame) (x y s t : List ℕ) → Spells f x → Spells g y → x ++ s ≡ y ++ t → (x ≡ y) × (f ≡ g) }
-    ensures raws { (f g : RawFrame) (x y s t : List ℕ) → SpellsRaw f x → SpellsRaw g y → x ++ s ≡ y ++ t → (x ≡ y) × (f ≡ g) }
+    ensures raws { (f g : RawFrame) (x y s t : List ℕ) → SpellsRaw f x → SpellsRaw g y → x ++ s ≡ y ++ t
+        → (x ≡ y) × (f ≡ g) }
 {}
 
-/// A law of every feed: however a stream is cut into pieces, the frames handed out so far, and then those of what is held,
-/// are the frames of the bytes taken. Where no frame is held any more, those handed out are all of them, and what is held is
-/// the rest. Bytes have one such list of frames, with one rest.
+/// A law of every feed: however a stream is cut into pieces, the frames handed out so far, and then those of what is
+/// held, are the frames of the bytes taken. Where no frame is held any more, those handed out are all of them, and
+/// what is held is the rest. Bytes have one such list of frames, with one rest.
 pub fn cut_anywhere()
     ensures handed { (acts : List Act) (more : List RawFrame) (rest : List ℕ) → AllByRecursion IsAct acts
         → AreFramesOf (fed_after opened acts).held more rest

@@ -1,6 +1,7 @@
 //! What members say to each other, as bytes: frames are split off, read, written, and cut out of a stream.
 //!
-//! It stands on xl_base and on the kit's `byteorder`; only opening a feed takes memory. Its one contract: what is read is exactly what is spelled, each value has one spelling, and no spelling begins another.
+//! It stands on xl_base and on the kit's `byteorder`; only opening a feed takes memory. Its one contract: what is
+//! read is exactly what is spelled, each value has one spelling, and no spelling begins another.
 #![tactic(auto)]
 
 mod body;

@@ -1,7 +1,8 @@
 ghost use Rattle.std.specs.Prelude.{◌≡◌};
 ghost use Rattle.xl_wire.specs.Codes.{code_of};
 
-/// Why bytes are no frame. The causes are tested in this order, a count before an order, and the first that holds is told.
+/// Why bytes are no frame. The causes are tested in this order, a count before an order, and the first that holds is
+/// told.
 #[derive(Clone, Copy, Debug, PartialEq, Eq)]
 pub enum WireRefusal {
     /// The byte at this place, 0 or 1, is the first that isn't the mark's.
