@@ -8,13 +8,8 @@ use Rattle.xl_lists.specs.Agreement.{Said}
 use Rattle.xl_queues.specs.Broadcasts.{queue_of}
 use Rattle.xl_queues.specs.Queues.{Backlog, no_items, with_item}
 use Rattle.xl_wire.specs.declared.validation.Validation.{Validation}
-use Rattle.xl_validations.specs.declared.refusal.ValRefusal.{ValRefusal}
-use Rattle.xl_ledger.specs.declared.header.Header.{Header}
-use Rattle.xl_ledger.specs.declared.refusal.AddRefusal.{AddRefusal}
-use Rattle.xl_ledger.specs.Registries.{add_refusal}
 use Rattle.xl_core.specs.declared.event.CoreEvent.{CoreEvent}
 use Rattle.xl_core.specs.declared.event.CoreEvent.TheVariants.{Issue, Frame, Drain, Reports, Stop, Stopped}
-use Rattle.xl_core.specs.declared.hearing.Spoken.{Spoken}
 use Rattle.xl_core.specs.declared.hearing.Speech.{Speech}
 use Rattle.xl_core.specs.declared.hearing.Speech.TheVariants as speech
 use Rattle.xl_core.specs.declared.item.Item.{Item}
@@ -24,10 +19,10 @@ use Rattle.xl_core.specs.declared.settings.Settings.{Settings}
 use Rattle.xl_core.specs.declared.refusal.Refusal.TheVariants.{NotAfter}
 use Rattle.xl_core.specs.Answers.{Done, Gave}
 use Rattle.xl_core.specs.Core.{Core, CoreReply, answering, core_happens, stepped, with_queues}
-use Rattle.xl_core.specs.Hearing.{heard}
+use Rattle.xl_core.proofs.Frames.{hearing_either}
 use Rattle.xl_core.specs.Items.{frame_of, frames_for, taken_for}
 use Rattle.xl_core.specs.Node as nodes
-use Rattle.xl_core.specs.Node.{Node, Event, Reply, Save, at_moment, second_of, own_validation, issues_unless, refusing, hears, learns, refusal_at, hearing_speech, hearing, happens, items_of, opened}
+use Rattle.xl_core.specs.Node.{Node, Event, Reply, Save, at_moment, own_validation, issues_unless, refusing, taking, hearing, happens, items_of, opened}
 use Rattle.xl_core.specs.Node.Save.{Kept as AnsweredOk, Failed as AnsweredFailed}
 use Rattle.xl_core.specs.Queues.{after_taking, at_number, fitting, frames_in, waiting_at, with_items}
 use Rattle.xl_wire.specs.declared.body.Body.TheVariants as bodies
@@ -87,28 +82,18 @@ issues_plain n None AnsweredOk v = record { items = refl; sent = λ _. refl }
 issues_plain n None (AnsweredFailed count) v = record { items = refl; sent = λ _. refl }
 issues_plain n (Some failed) save v = record { items = refl; sent = λ _. refl }
 
-hears_plain : (n : Node) (now from : ℕ) (v : Validation) (o : Option ValRefusal) → IsPlain (hears n now from v o)
-hears_plain n now from v None = record { items = refl; sent = λ _. refl }
-hears_plain n now from v (Some why) = record { items = refl; sent = λ _. refl }
-
-learns_plain : (n : Node) (h : Header) (o : Option AddRefusal) → IsPlain (learns n h o)
-learns_plain n h None = record { items = refl; sent = λ _. refl }
-learns_plain n h (Some why) = record { items = refl; sent = λ _. refl }
-
-speech_plain : (n : Node) (now from : ℕ) (what : Speech) → IsPlain (hearing_speech n now from what)
-speech_plain n now from (speech.Vote v) = hears_plain n now from v (refusal_at n now from v)
-speech_plain n now from (speech.Header h) = learns_plain n h (add_refusal n.ledgers h)
-
-hearing_plain : (n : Node) (now : ℕ) (said : Result Spoken Refusal) → IsPlain (hearing n now said)
-hearing_plain n now (Ok said) = speech_plain n now said.from said.what
-hearing_plain n now (Err why) = record { items = refl; sent = λ _. refl }
+taking_plain : (n : Node) (from : ℕ) (what : Speech) → IsPlain (taking n from what)
+taking_plain n from (speech.Validation v) = record { items = refl; sent = λ _. refl }
+taking_plain n from (speech.Header h) = record { items = refl; sent = λ _. refl }
 
 pub happens_plain : (n : Node) (e : Event) (save : Save) → IsPlain (happens n e save)
 happens_plain n (nodes.Issue now seq id full) save =
     let m : Node = at_moment now n in
     cond_both (nat_lt m.kept seq) (issues_unless m m.failed_save save (own_validation m seq id full)) (refusing m (NotAfter m.kept)) IsPlain
     (λ _. issues_plain m m.failed_save save (own_validation m seq id full)) (λ _. record { items = refl; sent = λ _. refl })
-happens_plain n (nodes.Frame now bytes) save = hearing_plain (at_moment now n) (second_of (at_moment now n)) (heard n.keys n.list.members bytes)
+happens_plain n (nodes.Frame now bytes) save =
+    let m : Node = at_moment now n in
+    hearing_either IsPlain m bytes (λ _. record { items = refl; sent = λ _. refl }) (λ said _. taking_plain m said.from said.what)
 
 -- P holds of what waits
 abbrev AllSay : (Said → Type 0) → ℕ → List (Backlog Item) → Type 0

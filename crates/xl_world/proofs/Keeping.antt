@@ -8,16 +8,11 @@ use Rattle.xl_lists.specs.Agreement.{Report as Reported}
 use Rattle.xl_core.specs.declared.report.Report.{Report}
 use Rattle.xl_core.specs.declared.refusal.Refusal.TheVariants.{NotAfter}
 use Rattle.xl_core.specs.declared.refusal.Refusal.{Refusal}
-use Rattle.xl_ledger.specs.declared.header.Header.{Header}
-use Rattle.xl_ledger.specs.declared.refusal.AddRefusal.{AddRefusal}
-use Rattle.xl_ledger.specs.Registries.{add_refusal}
-use Rattle.xl_core.specs.declared.hearing.Spoken.{Spoken}
 use Rattle.xl_core.specs.declared.hearing.Speech.{Speech}
-use Rattle.xl_core.specs.declared.hearing.Speech.TheVariants.{Vote, Header as Ledger}
-use Rattle.xl_core.specs.Hearing.{heard}
-use Rattle.xl_core.specs.Node.{Node, Event, Issue, Frame, Reply, Save, at_moment, second_of, own_validation, issues_unless, issues, hears, learns, hearing_speech, hearing, refusing, refusal_at, happens}
+use Rattle.xl_core.specs.declared.hearing.Speech.TheVariants as speech
+use Rattle.xl_core.proofs.Frames.{hearing_either}
+use Rattle.xl_core.specs.Node.{Node, Event, Issue, Frame, Reply, Save, at_moment, second_of, own_validation, issues_unless, issues, taking, hearing, refusing, happens}
 use Rattle.xl_wire.specs.declared.validation.Validation.{Validation}
-use Rattle.xl_validations.specs.declared.refusal.ValRefusal.{ValRefusal}
 use Rattle.xl_core.specs.Node.Save.{Kept, Failed}
 use Rattle.xl_world.specs.declared.plan.PlanNode.{PlanNode}
 use Rattle.xl_world.specs.World.{reported_by}
@@ -40,27 +35,18 @@ unless_keep : (n : Node) (off : Option ℕ) (save : Save) (v : Validation) → K
 unless_keep n None save v = issues_keep n (second_of n) save v
 unless_keep n (Some failed) save v = (refl, refl, refl, refl)
 
-hears_keep : (n : Node) (now from : ℕ) (v : Validation) (o : Option ValRefusal) → KeepsList n (hears n now from v o)
-hears_keep n now from v None = (refl, refl, refl, refl)
-hears_keep n now from v (Some why) = (refl, refl, refl, refl)
+taking_keeps : (n : Node) (from : ℕ) (what : Speech) → KeepsList n (taking n from what)
+taking_keeps n from (speech.Validation v) = (refl, refl, refl, refl)
+taking_keeps n from (speech.Header h) = (refl, refl, refl, refl)
 
-learns_keep : (n : Node) (h : Header) (o : Option AddRefusal) → KeepsList n (learns n h o)
-learns_keep n h None = (refl, refl, refl, refl)
-learns_keep n h (Some why) = (refl, refl, refl, refl)
-
-speech_keeps : (n : Node) (now from : ℕ) (what : Speech) → KeepsList n (hearing_speech n now from what)
-speech_keeps n now from (Vote v) = hears_keep n now from v (refusal_at n now from v)
-speech_keeps n now from (Ledger h) = learns_keep n h (add_refusal n.ledgers h)
-
-hearing_keeps : (n : Node) (now : ℕ) (said : Result Spoken Refusal) → KeepsList n (hearing n now said)
-hearing_keeps n now (Ok said) = speech_keeps n now said.from said.what
-hearing_keeps n now (Err why) = (refl, refl, refl, refl)
+hearing_keeps : (n : Node) (bytes : List ℕ) → KeepsList n (hearing n bytes)
+hearing_keeps n bytes = hearing_either (KeepsList n) n bytes (λ _. (refl, refl, refl, refl)) (λ said _. taking_keeps n said.from said.what)
 
 pub happens_keeps : (n : Node) (e : Event) (save : Save) → KeepsList n (happens n e save)
 happens_keeps n (Issue now seq id full) save =
     let m : Node = at_moment now n in
     cond_both (nat_lt m.kept seq) (issues_unless m m.failed_save save (own_validation m seq id full)) (refusing m (NotAfter m.kept)) (KeepsList n) (λ _. unless_keep m m.failed_save save (own_validation m seq id full)) (λ _. (refl, refl, refl, refl))
-happens_keeps n (Frame now bytes) save = hearing_keeps (at_moment now n) (second_of (at_moment now n)) (heard n.keys n.list.members bytes)
+happens_keeps n (Frame now bytes) save = hearing_keeps (at_moment now n) bytes
 
 some_list : (a b : TrustedList) → Some a ≡ Some b → a ≡ b
 some_list a b e = cc

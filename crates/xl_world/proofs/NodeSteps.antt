@@ -8,21 +8,18 @@ use Rattle.xl_lists.specs.Lists.{IsValid}
 use Rattle.xl_lists.specs.Agreement.{Said}
 use Rattle.xl_wire.specs.declared.validation.Validation.{Validation}
 use Rattle.xl_validations.specs.declared.row.Row.{Row}
-use Rattle.xl_validations.specs.declared.refusal.ValRefusal.{ValRefusal}
 use Rattle.xl_validations.specs.Rows.{is_current, unexpired, row_at, refusal, with_validation, at_member, count_full, empty_row}
 use Rattle.xl_core.specs.declared.report.Report.{Report}
 use Rattle.xl_core.specs.declared.refusal.Refusal.TheVariants.{NotAfter, IssuingOff, KeepFault}
 use Rattle.xl_core.specs.declared.refusal.Refusal.{Refusal}
 use Rattle.xl_core.specs.declared.settings.Settings.{Settings}
-use Rattle.xl_ledger.specs.declared.header.Header.{Header}
-use Rattle.xl_ledger.specs.declared.refusal.AddRefusal.{AddRefusal}
-use Rattle.xl_ledger.specs.Registries.{add_refusal}
 use Rattle.xl_core.specs.declared.hearing.Spoken.{Spoken}
 use Rattle.xl_core.specs.declared.hearing.Speech.{Speech}
-use Rattle.xl_core.specs.declared.hearing.Speech.TheVariants.{Vote, Header as Ledger}
+use Rattle.xl_core.specs.declared.hearing.Speech.TheVariants as speech
 use Rattle.xl_core.specs.Hearing.{heard}
+use Rattle.xl_core.proofs.Frames.{hearing_either}
 use Rattle.xl_core.specs.Answers.{Done}
-use Rattle.xl_core.specs.Node.{settings_of, Node, Event, Issue, Frame, Reply, Save, at_moment, second_of, own_validation, issues_unless, unless_failed, take, with_taken, saving, arises, arisen, report_of, refusing, hears, learns, refusal_at, hearing_speech, hearing, asks, happens, opened}
+use Rattle.xl_core.specs.Node.{settings_of, Node, Event, Issue, Frame, Reply, Save, at_moment, second_of, own_validation, issues_unless, unless_failed, take, with_taken, saving, arises, arisen, report_of, refusing, taking, hearing, asks, happens, opened}
 use Rattle.xl_world.specs.declared.place.Keeper.{Keeper}
 use Rattle.xl_world.specs.declared.place.Fate.{Fate}
 use Rattle.xl_world.specs.declared.place.Fate.TheVariants.{Kept, Unwritten, Written}
@@ -142,22 +139,18 @@ issue_steps p v true None Written above well = failed_steps p v (one_more p.keep
 issue_steps p v true (Some failed) fate above well = still p (refusing p.node (IssuingOff failed)) refl refl refl well
 issue_steps p v false off fate above well = still p (refusing p.node (NotAfter p.node.kept)) refl refl refl well
 
-hears_steps : (p : Seat) (now from : ℕ) (v : Validation) (o : Option ValRefusal) → IsWell p → IsStep p (hears p.node now from v o) p.keeper
-hears_steps p now from v (Some why) well = still p (hears p.node now from v (Some why)) refl refl refl well
-hears_steps p now from v None well = record {
+-- a row takes a validation; a header changes no row and no number
+taking_steps : (p : Seat) (from : ℕ) (what : Speech) → IsWell p → IsStep p (taking p.node from what) p.keeper
+taking_steps p from (speech.Validation v) well = record {
   me = refl;
   list = refl;
-  well = record { members = members_taken now from v p.node.rows ∙ well.members; valid = well.valid; in_force = well.in_force };
+  well = record { members = members_taken (second_of p.node) from v p.node.rows ∙ well.members; valid = well.valid; in_force = well.in_force };
   rises = λ j h. (j, omega arith, h);
   above = tt;
   saved = tt;
-  quorum = arisen_quorum (with_taken p.node now from v);
+  quorum = arisen_quorum (with_taken p.node (second_of p.node) from v);
 }
-
--- a header changes no row and no number
-learns_steps : (p : Seat) (h : Header) (o : Option AddRefusal) → IsWell p → IsStep p (learns p.node h o) p.keeper
-learns_steps p h (Some why) well = still p (learns p.node h (Some why)) refl refl refl well
-learns_steps p h None well = record {
+taking_steps p from (speech.Header h) well = record {
   me = refl;
   list = refl;
   well = record { members = well.members; valid = well.valid; in_force = well.in_force };
@@ -167,13 +160,9 @@ learns_steps p h None well = record {
   quorum = tt;
 }
 
-speech_steps : (p : Seat) (now from : ℕ) (what : Speech) → IsWell p → IsStep p (hearing_speech p.node now from what) p.keeper
-speech_steps p now from (Vote v) well = hears_steps p now from v (refusal_at p.node now from v) well
-speech_steps p now from (Ledger h) well = learns_steps p h (add_refusal p.node.ledgers h) well
-
-hearing_steps : (p : Seat) (now : ℕ) (said : Result Spoken Refusal) → IsWell p → IsStep p (hearing p.node now said) p.keeper
-hearing_steps p now (Ok said) well = speech_steps p now said.from said.what well
-hearing_steps p now (Err why) well = still p (refusing p.node why) refl refl refl well
+hearing_steps : (p : Seat) (bytes : List ℕ) → IsWell p → IsStep p (hearing p.node bytes) p.keeper
+hearing_steps p bytes well =
+    hearing_either (λ r. IsStep p r p.keeper) p.node bytes (λ why. still p (refusing p.node why) refl refl refl well) (λ said _. taking_steps p said.from said.what well)
 
 -- the place at a moment: its time is set, and rows expire
 abbrev moved : ℕ → Seat → Seat
@@ -190,14 +179,14 @@ happens_steps p (Issue now seq id full) fate well =
     let m : Node = at_moment now p.node in
     from_moved now p _ _ (issue_steps (moved now p) (own_validation m seq id full) (nat_lt m.kept seq) m.failed_save fate (λ e. ltb-true _ _ e) (well_then now p well))
 happens_steps p (Frame now bytes) fate well =
-    from_moved now p _ _ (hearing_steps (moved now p) (second_of (at_moment now p.node)) (heard p.node.keys p.node.list.members bytes) (well_then now p well))
+    from_moved now p _ _ (hearing_steps (moved now p) bytes (well_then now p well))
 
 -- WHAT STANDS AT THE NODE
 
 -- P holds of what is heard
 abbrev pub HeardSays : (Said → Type 0) → Node → Event → Type 0
 HeardSays P n (Issue now seq id full) = Unit {0}
-HeardSays P n (Frame now bytes) = (from : ℕ) (v : Validation) → heard n.keys n.list.members bytes ≡ Ok (record { from = from; what = Vote v }) → P (said_by from v)
+HeardSays P n (Frame now bytes) = (from : ℕ) (v : Validation) → heard n.keys n.list.members bytes ≡ Ok (record { from = from; what = speech.Validation v }) → P (said_by from v)
 
 pub heard_weaker : (P Q : Said → Type 0) → ((x : Said) → P x → Q x) → (n : Node) (e : Event) → HeardSays P n e → HeardSays Q n e
 heard_weaker P Q h n (Issue now seq id full) says = tt
@@ -211,21 +200,16 @@ issue_says P n v true None (AnsweredFailed count) says fair = record { node = sa
 issue_says P n v true (Some failed) save says fair = record { node = says; issued = tt }
 issue_says P n v false off save says fair = record { node = says; issued = tt }
 
-hears_says : (P : Said → Type 0) (n : Node) (now from : ℕ) (v : Validation) (o : Option ValRefusal) → NodeSays P n → P (said_by from v) → ReplySays P n.me (hears n now from v o)
-hears_says P n now from v (Some why) says fair = record { node = says; issued = tt }
-hears_says P n now from v None says fair = record { node = rows_say P now from v fair n.rows says; issued = tt }
+taking_says : (P : Said → Type 0) (n : Node) (from : ℕ) (what : Speech) → NodeSays P n → ((v : Validation) → what ≡ speech.Validation v → P (said_by from v)) → ReplySays P n.me (taking n from what)
+taking_says P n from (speech.Validation v) says fair = record { node = rows_say P (second_of n) from v (fair v refl) n.rows says; issued = tt }
+taking_says P n from (speech.Header h) says fair = record { node = says; issued = tt }
 
-learns_says : (P : Said → Type 0) (n : Node) (h : Header) (o : Option AddRefusal) → NodeSays P n → ReplySays P n.me (learns n h o)
-learns_says P n h None says = record { node = says; issued = tt }
-learns_says P n h (Some why) says = record { node = says; issued = tt }
-
-speech_says : (P : Said → Type 0) (n : Node) (now from : ℕ) (what : Speech) → NodeSays P n → ((v : Validation) → what ≡ Vote v → P (said_by from v)) → ReplySays P n.me (hearing_speech n now from what)
-speech_says P n now from (Vote v) says fair = hears_says P n now from v (refusal_at n now from v) says (fair v refl)
-speech_says P n now from (Ledger h) says fair = learns_says P n h (add_refusal n.ledgers h) says
-
-hearing_says : (P : Said → Type 0) (n : Node) (now : ℕ) (r : Result Spoken Refusal) → NodeSays P n → ((from : ℕ) (v : Validation) → r ≡ Ok (record { from = from; what = Vote v }) → P (said_by from v)) → ReplySays P n.me (hearing n now r)
-hearing_says P n now (Ok said) says fair = speech_says P n now said.from said.what says (λ v is. fair said.from v (ap (λ (w : Speech). let r : Result Spoken Refusal = Ok (record { from = said.from; what = w }) in r) is))
-hearing_says P n now (Err why) says fair = record { node = says; issued = tt }
+hearing_says : (P : Said → Type 0) (n : Node) (bytes : List ℕ) → NodeSays P n →
+    ((from : ℕ) (v : Validation) → heard n.keys n.list.members bytes ≡ Ok (record { from = from; what = speech.Validation v }) → P (said_by from v)) → ReplySays P n.me (hearing n bytes)
+hearing_says P n bytes says fair =
+    hearing_either (ReplySays P n.me) n bytes (λ _. record { node = says; issued = tt })
+    (λ said is. taking_says P n said.from said.what says
+    (λ v told. fair said.from v (is ∙ ap (λ (w : Speech). let r : Result Spoken Refusal = Ok (record { from = said.from; what = w }) in r) told)))
 
 -- rows that expire say no more
 rows_then : (P : Said → Type 0) (now : ℕ) (rows : List Row) → All (RowSays P) rows → All (RowSays P) (map (row_at now) rows)
@@ -246,7 +230,7 @@ pub happens_says : (P : Said → Type 0) (n : Node) (e : Event) (save : Save) �
 happens_says P n (Issue now seq id full) save says heard fair =
     let m : Node = at_moment now n in issue_says P m (own_validation m seq id full) (nat_lt m.kept seq) m.failed_save save (says_then P now n says) fair
 happens_says P n (Frame now bytes) save says fair issued =
-    hearing_says P (at_moment now n) (second_of (at_moment now n)) (heard n.keys n.list.members bytes) (says_then P now n says) fair
+    hearing_says P (at_moment now n) bytes (says_then P now n says) fair
 
 -- a node that is opened has nothing
 pub opened_says : (P : Said → Type 0) (settings : Settings) (now kept : ℕ) → NodeSays P (opened settings now kept)

@@ -7,7 +7,7 @@ use Rattle.xl_lists.specs.Agreement.{Said, Report as Reported, IsGenuine, IsBack
 use Rattle.xl_lists.proofs.Agreement.{agreement_from_kept, vouches_still}
 use Rattle.xl_core.specs.declared.event.CoreEvent.{CoreEvent}
 use Rattle.xl_core.specs.declared.event.CoreEvent.TheVariants.{Issue, Frame, Drain, Reports, Stop, Stopped}
-use Rattle.xl_core.specs.declared.hearing.Speech.TheVariants.{Vote}
+use Rattle.xl_core.specs.declared.hearing.Speech.TheVariants as speech
 use Rattle.xl_core.specs.Answers.{Done}
 use Rattle.xl_core.specs.Core.{Core, CoreReply, answering, core_asks}
 use Rattle.xl_core.specs.Node as nodes
@@ -37,7 +37,7 @@ use Rattle.xl_world.proofs.CoreSteps.{CoreHeard, core_steps, core_says, opened_c
 heard_genuine : (w : World) (n : Node) → Stands w (IsGenuine w.liars w.said) → (e : CoreEvent) → is_forged w n e ≡ false → CoreHeard (IsGenuine w.liars w.said) n e
 heard_genuine w n stands (Issue now seq id full) fair = tt
 heard_genuine w n stands (Frame now bytes) fair = λ from v is.
-    heard_unforged w n stands.sent bytes fair from v (heard_parts n.keys n.list.members bytes (record { from = from; what = Vote v }) is)
+    heard_unforged w n stands.sent bytes fair from v (heard_parts n.keys n.list.members bytes (record { from = from; what = speech.Validation v }) is)
 heard_genuine w n stands (Drain member room) fair = tt
 heard_genuine w n stands (Reports room) fair = tt
 heard_genuine w n stands Stop fair = tt

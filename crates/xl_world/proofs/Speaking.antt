@@ -3,7 +3,6 @@ use Rattle.std.proofs.Common.{◌≡◌, ℕ, true, List, [], ap, sym, ◌∙◌
 use Rattle.std.proofs.lemmas.List.{append-nil}
 use Rattle.xl_wire.specs.declared.body.Body.TheVariants as bodies
 use Rattle.xl_wire.specs.declared.validation.Validation.{Validation}
-use Rattle.xl_wire.specs.Bodies.{body_of}
 use Rattle.xl_wire.specs.Heads.{split_of}
 use Rattle.xl_wire.specs.Heads.Split.{Whole}
 use Rattle.xl_wire.specs.Raws.{RawFrame, raw_bytes}
@@ -13,9 +12,9 @@ use Rattle.xl_tags.specs.Rings.{Ring}
 use Rattle.xl_tags.specs.Sealing.{sealed}
 use Rattle.xl_wire.specs.Frames.{raw_of}
 use Rattle.xl_core.specs.Sending.{blank_frame, sealed_bytes, has_spelling}
-use Rattle.xl_core.proofs.Heard.{IsHeard, body_from, vote_body}
+use Rattle.xl_core.proofs.Heard.{IsHeard, sender, validation_body}
 use Rattle.xl_core.proofs.Spelling.{held, sealed_raw}
-use Rattle.xl_core.specs.declared.hearing.Speech.TheVariants.{Vote}
+use Rattle.xl_core.specs.declared.hearing.Speech.TheVariants as speech
 use Rattle.xl_world.specs.World.{said_by}
 use Rattle.xl_world.proofs.Standing.{said_in, said_in_body, said_in_split}
 
@@ -27,8 +26,8 @@ sealed_said ring from to v h =
     ap said_in_split whole ∙ ap (said_in_body from) (body_again (bodies.Validation v) (held from to v h).body)
 
 -- what is heard in bytes is what they say
-pub heard_said : (ring : Ring) (members bytes : List ℕ) (from : ℕ) (v : Validation) → IsHeard ring members bytes (record { from = from; what = Vote v }) → said_in bytes ≡ Some (said_by from v)
+pub heard_said : (ring : Ring) (members bytes : List ℕ) (from : ℕ) (v : Validation) → IsHeard ring members bytes (record { from = from; what = speech.Validation v }) → said_in bytes ≡ Some (said_by from v)
 heard_said ring members bytes from v h =
     ap said_in_split h.split
-    ∙ ap (said_in_body h.frame.from) (vote_body h.frame.kind h.frame.from from v (body_of h.frame.kind h.frame.body) h.body)
-    ∙ ap (λ (m : ℕ). Some (said_by m v)) (sym (body_from h.frame.kind h.frame.from (body_of h.frame.kind h.frame.body) (record { from = from; what = Vote v }) h.body))
+    ∙ ap (said_in_body h.frame.from) (validation_body ring members bytes from v h)
+    ∙ ap (λ (m : ℕ). Some (said_by m v)) (sym (sender ring members bytes (record { from = from; what = speech.Validation v }) h))

@@ -18,17 +18,12 @@ use Rattle.xl_wire.specs.Heads.Split.{Whole, Need, Refused as NoFrame}
 use Rattle.xl_wire.specs.Kinds.{span}
 use Rattle.xl_tags.specs.Opening.{is_sealed}
 use Rattle.xl_tags.specs.Rings.{Ring}
-use Rattle.xl_validations.specs.declared.refusal.ValRefusal.{ValRefusal}
-use Rattle.xl_ledger.specs.declared.header.Header.{Header}
-use Rattle.xl_ledger.specs.declared.refusal.AddRefusal.{AddRefusal}
-use Rattle.xl_ledger.specs.Registries.{add_refusal}
-use Rattle.xl_core.specs.declared.hearing.Spoken.{Spoken}
 use Rattle.xl_core.specs.declared.hearing.Speech.{Speech}
-use Rattle.xl_core.specs.declared.hearing.Speech.TheVariants.{Vote, Header as Ledger}
+use Rattle.xl_core.specs.declared.hearing.Speech.TheVariants as speech
 use Rattle.xl_core.specs.declared.refusal.Refusal.{Refusal}
-use Rattle.xl_core.specs.Hearing.{heard}
+use Rattle.xl_core.proofs.Frames.{hearing_either}
 use Rattle.xl_core.specs.Node as nodes
-use Rattle.xl_core.specs.Node.{Node, Reply, at_moment, second_of, happens, hears, learns, hearing_speech, hearing, refusal_at}
+use Rattle.xl_core.specs.Node.{Node, Reply, at_moment, happens, taking, hearing}
 use Rattle.xl_core.specs.Core.{Core, CoreReply, core_happens}
 use Rattle.xl_core.specs.Queues.{waiting_at}
 use Rattle.xl_core.specs.declared.event.CoreEvent.{CoreEvent}
@@ -167,24 +162,13 @@ issued_nothing w i now seq id full fate places idle answers is =
 -- WHAT IS HEARD
 
 -- nothing is issued
-hears_quiet : (n : Node) (now from : ℕ) (v : Validation) (o : Option ValRefusal) → (hears n now from v o).issued ≡ None
-hears_quiet n now from v None = refl
-hears_quiet n now from v (Some why) = refl
-
-learns_quiet : (n : Node) (h : Header) (o : Option AddRefusal) → (learns n h o).issued ≡ None
-learns_quiet n h None = refl
-learns_quiet n h (Some why) = refl
-
-speech_quiet : (n : Node) (now from : ℕ) (what : Speech) → (hearing_speech n now from what).issued ≡ None
-speech_quiet n now from (Vote v) = hears_quiet n now from v (refusal_at n now from v)
-speech_quiet n now from (Ledger h) = learns_quiet n h (add_refusal n.ledgers h)
-
-hearing_quiet : (n : Node) (now : ℕ) (said : Result Spoken Refusal) → (hearing n now said).issued ≡ None
-hearing_quiet n now (Err why) = refl
-hearing_quiet n now (Ok said) = speech_quiet n now said.from said.what
+taking_quiet : (n : Node) (from : ℕ) (what : Speech) → (taking n from what).issued ≡ None
+taking_quiet n from (speech.Validation v) = refl
+taking_quiet n from (speech.Header h) = refl
 
 pub frame_quiet : (n : Node) (now : ℕ) (bytes : List ℕ) → (happens n (nodes.Frame now bytes) AnsweredOk).issued ≡ None
-frame_quiet n now bytes = hearing_quiet (at_moment now n) (second_of (at_moment now n)) (heard n.keys n.list.members bytes)
+frame_quiet n now bytes =
+    let m : Node = at_moment now n in hearing_either (λ r. r.issued ≡ None) m bytes (λ _. refl) (λ said _. taking_quiet m said.from said.what)
 
 heard_at : (w : World) (to now : ℕ) (bytes : List ℕ) (forged : ℕ) (o : Option Place) → forged ≡ (if forged_at w.liars w.sent bytes o then one_more w.forged else w.forged) → IfSome o (λ p. IsAsIssued w.numbers (reply_at p (Frame now bytes) Kept)) →
     with_lists w (put_acted (Frame now bytes) Kept o w.places) w.sent w.said (w.reports ++ reported_in (option_map (λ p. reply_at p (Frame now bytes) Kept) o)) forged ≡ emptied_acts w to (Frame now bytes) Kept o

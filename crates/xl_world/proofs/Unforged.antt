@@ -10,10 +10,9 @@ use Rattle.xl_wire.specs.Heads.{split_of}
 use Rattle.xl_wire.specs.Kinds.{span}
 use Rattle.xl_wire.specs.Raws.{RawFrame}
 use Rattle.xl_tags.specs.Opening.{is_sealed}
-use Rattle.xl_wire.specs.Bodies.{body_of}
-use Rattle.xl_core.specs.declared.hearing.Speech.TheVariants.{Vote}
+use Rattle.xl_core.specs.declared.hearing.Speech.TheVariants as speech
 use Rattle.xl_core.specs.Hearing.{heard}
-use Rattle.xl_core.proofs.Heard.{IsHeard, body_from}
+use Rattle.xl_core.proofs.Heard.{IsHeard, sender}
 use Rattle.xl_world.proofs.Speaking.{heard_said}
 use Rattle.xl_world.specs.declared.sent.Sent.{Sent}
 use Rattle.xl_lists.specs.Agreement.{Said, IsGenuine}
@@ -46,12 +45,12 @@ sent_says P frames bytes x says sent is =
     subst (λ o. IfSome o P) (ap said_in equal ∙ is) says_f)
 
 pub heard_unforged : (w : World) (n : Node) → All (FrameSays (IsGenuine w.liars w.said)) w.sent → (bytes : List ℕ) → forges w.liars w.sent n.keys bytes (split_of bytes) ≡ false →
-    (from : ℕ) (v : Validation) → IsHeard n.keys n.list.members bytes (record { from = from; what = Vote v }) → IsGenuine w.liars w.said (said_by from v)
+    (from : ℕ) (v : Validation) → IsHeard n.keys n.list.members bytes (record { from = from; what = speech.Validation v }) → IsGenuine w.liars w.said (said_by from v)
 heard_unforged w n genuine bytes fair from v heard =
     let f : RawFrame = heard.frame in
     elim (unforged (nat_le (length bytes) (span f.body)) (f.to == n.keys.me) (is_on w.liars f.from) (was_sent w.sent bytes) (is_sealed n.keys f)
     (ap (forges w.liars w.sent n.keys bytes) (sym heard.split) ∙ fair) heard.last heard.for_me heard.is_sealed) [
-      | inl liar ↦ or_left _ _ (ap (is_on w.liars) (body_from f.kind f.from (body_of f.kind f.body) (record { from = from; what = Vote v }) heard.body) ∙ liar)
+      | inl liar ↦ or_left _ _ (ap (is_on w.liars) (sender n.keys n.list.members bytes (record { from = from; what = speech.Validation v }) heard) ∙ liar)
       | inr sent ↦ sent_says (IsGenuine w.liars w.said) w.sent bytes (said_by from v) genuine sent (heard_said n.keys n.list.members bytes from v heard)
     ]
 
