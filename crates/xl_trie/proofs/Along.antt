@@ -1,7 +1,6 @@
 -- Along a span the votes go on as long as more are for it than are uncommitted.
 use Rattle.std.proofs.Common.{◌≡◌, ℕ, zero, suc, ◌+◌, ◌-◌, ◌<◌, ◌≤◌, cond, List, length, take, Option, Some, None, slice_get, refl, sym, ap, subst, ◌∙◌, arith, inl}
-use Rattle.xl_trie.proofs.Common.{nat_lt, max, ltb-true, lt-ltb, le-ltb, Header, Vote, seq_at, chain, AreLedgers, uncommitted, candidates, others, next_of, or_stay, prefer, Name, Span, In, IsKid, AreSpans, EndsAt, way, OnWay}
-use Rattle.xl_trie.proofs.Fronts.{take_len}
+use Rattle.xl_trie.proofs.Common.{nat_lt, max, ltb-true, lt-ltb, le-ltb, Header, Vote, seq_at, chain, AreLedgers, uncommitted, candidates, others, next_of, or_stay, prefer, Name, Span, In, IsKid, AreSpans, EndsAt, way, OnWay, length-take-le}
 use Rattle.xl_trie.proofs.Listing.{count_le}
 use Rattle.xl_trie.proofs.Trees.{on_self, front_of, on_through, same_ledger, begin_size, begin_on, hung, through, span_branch}
 use Rattle.xl_trie.proofs.Ways.{length_way, way_at, way_short, stop_at, parent_if, of_parent}
@@ -31,7 +30,7 @@ module _ (hs : List Header) (ok : AreLedgers hs) (votes : List Vote) (largest : 
 
   stands_at : (c k : ℕ) → c < length hs → length (way hs s.ledger) < k → k ≤ length (way hs t.ledger) → way hs c ≡ take k (way hs t.ledger) → Stands c k
   stands_at c k known lo hi is =
-      let size = ap (length {A = ℕ}) is ∙ take_len (way hs t.ledger) k hi in
+      let size = ap (length {A = ℕ}) is ∙ length-take-le k (way hs t.ledger) hi in
       record { known = known; on = (omega (arith, size, hi), ap (λ j. take j (way hs t.ledger)) size ∙ sym is); size = size; below = lo }
 
   -- inside the span there is one candidate, and all votes of the span are for it

@@ -1,14 +1,10 @@
 -- The best of the candidates, by the spans below a node.
 use Rattle.std.proofs.Common.{◌≡◌, ◌≢◌, ◌⊎◌, ℕ, ◌+◌, ◌-◌, ◌<◌, ◌≤◌, ◌==◌, ◌||◌, Bool, true, false, not, cond, List, length, Option, Some, None, refl, sym, ap, subst, ◌∙◌, arith, inl, inr}
-use Rattle.xl_trie.proofs.Common.{Ordering, Less, Equal, Greater, nat_cmp, ordering_then, ordering_reverse, is_gt, IsTotalOrder, list_all, nat_lt, nat_cmp_total, nat_list_cmp_total, on_total, then_total, exact_bytes, cases_lt, cases_Bool, eqb-true, eq-eqb, eqb-false, ne_eqb, or_cases, lt-ltb, le-ltb, not-true, not_from_false, LedgerId, Header, Vote, id_at, seq_at, AreLedgers, branch_of, uncommitted, id_rank, rank, candidates, best_of, others, margin, unless_too_few, next_of, earlier_differs, same_self, Name, Span, In, IsKid, AreSpans, leads, lead, IsBest, GoesTo}
-use Rattle.xl_trie.proofs.Listing.{or_first, or_last, some_is, true_false, all_if, all_at, find_in, find_no, in_filter, to_filter}
+use Rattle.xl_trie.proofs.Common.{Ordering, Less, Equal, Greater, nat_cmp, ordering_then, ordering_reverse, is_gt, IsTotalOrder, list_all, nat_lt, nat_cmp_total, nat_list_cmp_total, on_total, then_total, exact_bytes, cases_lt, cases_Bool, eqb-true, eq-eqb, eqb-false, ne_eqb, or_cases, lt-ltb, le-ltb, not-true, not_from_false, LedgerId, Header, Vote, id_at, seq_at, AreLedgers, branch_of, uncommitted, id_rank, rank, candidates, best_of, others, margin, unless_too_few, next_of, earlier_differs, same_self, Name, Span, In, IsKid, AreSpans, leads, lead, IsBest, GoesTo, or_left, or_right}
+use Rattle.xl_trie.proofs.Listing.{some_is, true_false, all_if, all_at, find_in, find_no, in_filter, to_filter}
 use Rattle.xl_trie.proofs.Ways.{length_way, of_parent}
+use Rattle.xl_trie.proofs.Ranks.{back}
 use Rattle.xl_trie.proofs.Firsts.{of_candidates, to_candidates, first_is, first_of}
-
-back : (r s : Ordering) → s ≡ ordering_reverse r → is_gt r ≡ true → is_gt s ≡ false
-back Less s e gt = absurd cc
-back Equal s e gt = absurd cc
-back Greater s e gt = ap is_gt e
 
 forth : (r s : Ordering) → s ≡ ordering_reverse r → is_gt r ≡ false → (r ≡ Equal → ⊥) → is_gt s ≡ true
 forth Less s e le other = ap is_gt e
@@ -55,8 +51,8 @@ module _ (hs : List Header) (ok : AreLedgers hs) (votes : List Vote) where
   best_is some c i above =
       find_in (λ x. list_all (λ d. d == x || is_gt (rank hs votes x d)) some) some c i
       (all_if (λ d. d == c || is_gt (rank hs votes c d)) some (λ d j. elim (above d j) [
-        | inl same ↦ or_first (d == c) (is_gt (rank hs votes c d)) (eq-eqb d c same)
-        | inr gt ↦ or_last (d == c) (is_gt (rank hs votes c d)) gt
+        | inl same ↦ or_left (d == c) (is_gt (rank hs votes c d)) (eq-eqb d c same)
+        | inr gt ↦ or_right (d == c) (is_gt (rank hs votes c d)) gt
       ]))
       (λ x j t. elim (or_cases (c == x) (is_gt (rank hs votes x c)) (all_at (λ d. d == x || is_gt (rank hs votes x d)) some t c i)) [
         | inl same ↦ sym (eqb-true c x same)

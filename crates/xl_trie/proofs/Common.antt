@@ -1,14 +1,15 @@
 -- What the proofs of this crate speak of: definitions of the crate and of those below it, and lemmas on numbers, truth values and lists.
-pub use Rattle.std.proofs.lemmas.Bool.{and_from, and_parts, both_ways, cases_Bool, cases_eq, cases_lt, cond_both, eq-eqb, eqb-false, eqb-true, le-ltb, lt-ltb, ltb-false, ltb-true, ne_eqb, not-true, not_from_false, or_cases}
+pub use Rattle.std.proofs.lemmas.Bool.{and_from, and_parts, both_ways, cases_Bool, cases_eq, cases_lt, cond_both, eq-eqb, eqb-false, eqb-true, le-ltb, lt-ltb, ltb-false, ltb-true, ne_eqb, not-true, not_from_false, or_cases, or_left, or_right}
 pub use Rattle.std.proofs.lemmas.Cmp.{nat_cmp_total, nat_list_cmp_total, on_total, then_total, upto}
 pub use Rattle.std.proofs.lemmas.Fn.{filter_same}
-pub use Rattle.std.proofs.lemmas.List.{drop-append-le, get_or-replicate, get_or_past, length-append, length-drop, length-map, length-replicate, take-append-le}
+pub use Rattle.std.proofs.lemmas.List.{drop-append-le, get_or-replicate, get_or_past, length-append, length-drop, length-map, length-replicate, length-take-le, take-append-le, take-take, take_all}
 pub use Rattle.std.proofs.lemmas.List.Filters.{length-filter_both}
 pub use Rattle.std.proofs.lemmas.List.Folds.{list_any_at, list_any_more}
 pub use Rattle.std.proofs.lemmas.List.FromFn.{get_or-range_with_len, length-range_with_len}
-pub use Rattle.std.proofs.lemmas.List.Sums.{sum_by-cons}
+pub use Rattle.std.proofs.lemmas.List.Sums.{count_by-le-length, sum_by-cons}
 pub use Rattle.std.proofs.lemmas.Map.Lookups.{exact_bytes}
 pub use Rattle.std.proofs.lemmas.Option.{get_or_from_slice_get, slice_get-get_or, slice_get_within}
+pub use Rattle.std.proofs.Math.Seq.{take-length}
 pub use Rattle.std.specs.Cmp.{IsTotalOrder}
 pub use Rattle.std.specs.List.{count_by, list_all, list_any, range_with_len}
 pub use Rattle.std.specs.Ordering.{is_gt, nat_cmp, ordering_reverse, ordering_then}

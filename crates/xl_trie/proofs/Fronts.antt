@@ -8,21 +8,6 @@ shared [] b = 0
 shared (x ∷ a) [] = 0
 shared (x ∷ a) (y ∷ b) = cond (eqb x y) (suc (shared a b)) 0
 
-pub take_all : (a : List ℕ) → take (length a) a ≡ a
-take_all [] = refl
-take_all (x ∷ a) = ap (λ b. x ∷ b) (take_all a)
-
-pub take_len : (a : List ℕ) (k : ℕ) → k ≤ length a → length (take k a) ≡ k
-take_len a zero h = refl
-take_len [] (suc k) h = absurd (omega arith)
-take_len (x ∷ a) (suc k) h = ap suc (take_len a k (omega arith))
-
-pub take_take : (a : List ℕ) (j k : ℕ) → j ≤ k → k ≤ length a → take j (take k a) ≡ take j a
-take_take a zero k h g = refl
-take_take a (suc j) zero h g = absurd (omega arith)
-take_take [] (suc j) (suc k) h g = absurd (omega arith)
-take_take (x ∷ a) (suc j) (suc k) h g = ap (λ b. x ∷ b) (take_take a j k (omega arith) (omega arith))
-
 pub shared_low : (a b : List ℕ) → shared a b ≤ length a
 shared_low [] b = omega arith
 shared_low (x ∷ a) [] = omega arith

@@ -1,5 +1,5 @@
 -- What stands in a list, what is found there, and how many.
-use Rattle.std.proofs.Common.{◌≡◌, ◌⊎◌, ℕ, zero, suc, ◌+◌, ◌<◌, ◌≤◌, ◌&&◌, ◌||◌, Bool, true, false, cond, List, [], ◌∷◌, ◌++◌, length, get_or, Option, Some, None, IsSome, All, refl, sym, ap, subst, ◌∙◌, ⊎_elim, arith, inl, inr}
+use Rattle.std.proofs.Common.{◌≡◌, ◌⊎◌, ℕ, zero, suc, ◌+◌, ◌<◌, ◌≤◌, ◌&&◌, Bool, true, false, cond, List, [], ◌∷◌, ◌++◌, length, get_or, Option, Some, None, IsSome, All, refl, sym, ap, subst, ◌∙◌, ⊎_elim, arith, inl, inr}
 use Rattle.xl_trie.proofs.Common.{find, map, list_all, count_by, range_with_len, cases_Bool, both_ways, sum_by-cons, length-range_with_len, get_or-range_with_len, In}
 use Rattle.std.specs.List.{filter}
 
@@ -20,14 +20,6 @@ true_false false t f = absurd cc
 pub false_if : (b : Bool) → (b ≡ true → ⊥) → b ≡ false
 false_if true h = absurd (h refl)
 false_if false h = refl
-
-pub or_first : (a b : Bool) → a ≡ true → (a || b) ≡ true
-or_first true b e = refl
-or_first false b e = absurd cc
-
-pub or_last : (a b : Bool) → b ≡ true → (a || b) ≡ true
-or_last true b e = refl
-or_last false b e = e
 
 module _ {X : Type 0} where
   pub in_at : (xs : List X) (i : ℕ) (d : X) → i < length xs → In (get_or xs i d) xs
@@ -162,7 +154,3 @@ module _ {L : Type 0} where
       (λ (t : p w ≡ true). (w, inl refl, t))
       (λ (t : p w ≡ false). let z : cond {A = ℕ} (p w) 1 0 ≡ 0 = ap (λ b. cond {A = ℕ} b 1 0) t in let r = counted p ws (omega (arith, h, z, count_cons p w ws)) in (r.0, inr r.1, r.2))
       (cases_Bool (p w))
-
-  pub count_most : (p : L → Bool) (vs : List L) → count_by p vs ≤ length vs
-  count_most p [] = omega arith
-  count_most p (v ∷ vs) = let r = count_most p vs in let b = bits (p v) true (λ e. refl) in omega (arith, r, b, count_cons p v vs)

@@ -1,7 +1,7 @@
 -- The votes of members, as one's comes or goes.
 use Rattle.std.proofs.Common.{◌≡◌, ℕ, ◌+◌, ◌==◌, ◌||◌, Bool, true, false, not, cond, List, [], ◌∷◌, ◌++◌, refl, sym, ap, subst, ◌∙◌, arith, inl, inr}
-use Rattle.xl_trie.proofs.Common.{map, count_by, cases_Bool, eqb-false, eq-eqb, ne_eqb, Vote, has_voted, without, OneMore, OneFewer, changed, IsChange, In, Apart}
-use Rattle.xl_trie.proofs.Listing.{or_last, true_false, in_either, in_filter, in_map, to_map, count_cons}
+use Rattle.xl_trie.proofs.Common.{map, count_by, cases_Bool, eqb-false, eq-eqb, ne_eqb, Vote, has_voted, without, OneMore, OneFewer, changed, IsChange, In, Apart, or_right}
+use Rattle.xl_trie.proofs.Listing.{true_false, in_either, in_filter, in_map, to_map, count_cons}
 
 abbrev pub members : List Vote → List ℕ
 members votes = map (λ v. v.member) votes
@@ -9,7 +9,7 @@ members votes = map (λ v. v.member) votes
 voted_if : (votes : List Vote) (v : Vote) → In v votes → has_voted votes v.member ≡ true
 voted_if [] v i = absurd i
 voted_if (w ∷ votes) v (inl same) = ap (λ b. b || has_voted votes v.member) (eq-eqb w.member v.member (ap (λ (x : Vote). x.member) (sym same)))
-voted_if (w ∷ votes) v (inr i) = or_last (w.member == v.member) (has_voted votes v.member) (voted_if votes v i)
+voted_if (w ∷ votes) v (inr i) = or_right (w.member == v.member) (has_voted votes v.member) (voted_if votes v i)
 
 -- ---- one more
 

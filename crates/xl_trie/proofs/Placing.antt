@@ -1,5 +1,5 @@
 -- The deepest span that ends on a way, and what its place tells of votes.
-use Rattle.std.proofs.Common.{◌≡◌, ◌≢◌, ℕ, ◌+◌, ◌<◌, ◌≤◌, ◌==◌, true, false, List, length, take, Option, Some, None, slice_get, sym, ap, subst, ◌∙◌, arith, inl, inr}
+use Rattle.std.proofs.Common.{◌≡◌, ◌≢◌, ℕ, ◌<◌, ◌≤◌, ◌==◌, true, false, List, length, take, Option, Some, None, slice_get, sym, ap, subst, ◌∙◌, arith, inl, inr}
 use Rattle.xl_trie.proofs.Common.{cases_lt, cases_Bool, eqb-true, eqb-false, slice_get_within, Header, Vote, seq_at, chain, AreLedgers, is_on_chain, tip_of, branch_of, length-chain, of_chain, Name, Span, Place, IsKid, BeginsAt, Enters, EntersAt, IsPlace, AreLinked, AreSpans, HasSpan, way, OnWay, IsBegin}
 use Rattle.xl_trie.proofs.Listing.{some_is, true_false, false_if, counted}
 use Rattle.xl_trie.proofs.Trees.{on_self, front_of, on_through, begin_up, same_ledger, hung, one_kid, leads_to, toward, toward_vote, known_vote, span_branch}
@@ -44,10 +44,7 @@ module _ (hs : List Header) (ok : AreLedgers hs) (S : Name → Option Span) (L :
     enters = λ c t kid enters. omega (arith, le, enters.0, length_way hs to, length_way hs s.ledger);
   }
 
-  module _ (next : ℕ) (at : slice_get (chain hs to) (seq_at hs s.ledger + 1) ≡ Some next) (kn : next < length hs) where
-    next_is : IsBegin hs to s.ledger next
-    next_is = way_at hs ok to (seq_at hs s.ledger + 1) next kt at ∙ ap (λ k. take (k + 1) (way hs to)) (sym (length_way hs s.ledger))
-
+  module _ (next : ℕ) (next_is : IsBegin hs to s.ledger next) (kn : next < length hs) where
     first_is : (c : Name) (t : Span) → IsKid S a c t → IsBegin hs to s.ledger t.first → t.first ≡ next
     first_is c t kid begin = way_one hs ok t.first next (L.first c t kid.0) kn (begin ∙ sym next_is)
 

@@ -1,7 +1,7 @@
 -- A span is split where the way to a ledger leaves it: t, that of a's child k, at the ledger l, under the new name d.
 use Rattle.std.proofs.Common.{◌≡◌, ◌≢◌, ◌⊎◌, ℕ, ◌+◌, ◌<◌, ◌==◌, List, length, take, Option, Some, None, refl, sym, ap, subst, ◌∙◌, arith, inl, inr}
-use Rattle.xl_trie.proofs.Common.{cases_lt, eqb-true, Header, Vote, seq_at, common_of, AreLedgers, tip_of, branch_of, Name, Span, Place, IsSplit, IsKid, hung_at, IsPlace, AreLinked, HasFork, IsHalfNeeded, AreSpans, IsRoot, way, OnWay, IsBegin}
-use Rattle.xl_trie.proofs.Fronts.{shared, take_all, take_len, shared_low, shared_low_right, shared_same, shared_most}
+use Rattle.xl_trie.proofs.Common.{cases_lt, eqb-true, Header, Vote, seq_at, common_of, AreLedgers, tip_of, branch_of, Name, Span, Place, IsSplit, IsKid, hung_at, IsPlace, AreLinked, HasFork, IsHalfNeeded, AreSpans, IsRoot, way, OnWay, IsBegin, take-length, length-take-le}
+use Rattle.xl_trie.proofs.Fronts.{shared, shared_low, shared_low_right, shared_same, shared_most}
 use Rattle.xl_trie.proofs.Listing.{some_is, none_some, counted}
 use Rattle.xl_trie.proofs.Placing.{zero_if}
 use Rattle.xl_trie.proofs.Relinking.{Other, other_at, relinked}
@@ -25,13 +25,13 @@ module _ (hs : List Header) (ok : AreLedgers hs) (S : Name → Option Span) (L :
       let n = shared (way hs t.ledger) (way hs to) in
       let low = shared_low (way hs t.ledger) (way hs to) in
       let right = shared_low_right (way hs t.ledger) (way hs to) in
-      let size : length (way hs l) ≡ n = ap (length {A = ℕ}) is ∙ take_len (way hs t.ledger) n low in
+      let size : length (way hs l) ≡ n = ap (length {A = ℕ}) is ∙ length-take-le n (way hs t.ledger) low in
       let deep = shared_most (way hs t.ledger) (way hs to) (length (way hs s.ledger) + 1) (omega (arith, h.above)) (omega (arith, P.enters.2.0)) (sym h.first ∙ P.enters.2.1) in
       let short : n < length (way hs t.ledger) = elim (cases_lt n (length (way hs t.ledger))) [
         | inl lt ↦ lt
         | inr ge ↦
             let all = shared_same (way hs t.ledger) (way hs to) (length (way hs t.ledger)) ge in
-            let far : OnWay hs t.ledger to = (omega (arith, ge, right), sym all ∙ take_all (way hs t.ledger)) in
+            let far : OnWay hs t.ledger to = (omega (arith, ge, right), sym all ∙ take-length (way hs t.ledger)) in
             absurd (let le = P.deepest k t P.enters.1.0 far in omega (arith, le, h.above))
       ] in
       record {
@@ -227,9 +227,6 @@ module _ (hs : List Header) (ok : AreLedgers hs) (votes : List Vote) (S : Name �
 
   pub deeper_under : seq_at hs l < seq_at hs under.ledger
   deeper_under = omega (arith, parted.inside, length_way hs l, length_way hs under.ledger, ap (λ (x : Span). length (way hs x.ledger)) own)
-
-  pub other_under : p.at ≢ k
-  other_under = kid_differs hs ok S V.linked p.at k inside.span inside.enters.0 inside.there inside.enters.1
 
   pub forked : (S' : Name → Option Span) (d : Name) (begin : ℕ) → l < length hs → begin < length hs → IsBegin hs under.ledger l begin → ((t : Span) → IsKid S p.at k t → IsSplit S S' p.at d k t l begin) → Forked hs votes S S' to d
   forked S' d begin kl kb starts I =

@@ -1,9 +1,9 @@
 -- The nodes are as many as the spots, and at most twice the votes and one.
 use Rattle.std.proofs.Common.{◌≡◌, ℕ, zero, suc, ◌+◌, ◌*◌, ◌<◌, ◌≤◌, ◌==◌, ◌||◌, Bool, true, false, not, cond, List, [], ◌∷◌, ◌++◌, length, take, Option, Some, None, refl, sym, ap, subst, ◌∙◌, arith, inl, inr}
-use Rattle.xl_trie.proofs.Common.{list_any, range_with_len, map, nat_lt, cases_Bool, cases_lt, eqb-true, eqb-false, eq-eqb, ne_eqb, or_cases, not-true, not_from_false, ltb-true, ltb-false, length-append, length-map, length-filter_both, length-range_with_len, get_or-range_with_len, Header, Vote, common_of, AreLedgers, Slot, live, Name, Node, Span, is_spot, spots, In, Apart, spans, IsKid, HasFork, HasSpan, AreSpans, IsRoot, way, OnWay}
+use Rattle.xl_trie.proofs.Common.{list_any, range_with_len, map, nat_lt, cases_Bool, cases_lt, eqb-true, eqb-false, eq-eqb, ne_eqb, or_cases, not-true, not_from_false, ltb-true, ltb-false, length-append, length-map, length-filter_both, length-range_with_len, get_or-range_with_len, Header, Vote, common_of, AreLedgers, Slot, live, Name, Node, Span, is_spot, spots, In, Apart, spans, IsKid, HasFork, HasSpan, AreSpans, IsRoot, way, OnWay, or_left, or_right}
 use Rattle.std.specs.Prelude.{filter}
 use Rattle.xl_trie.proofs.Fronts.{shared, shared_low, shared_low_right, shared_same, shared_most}
-use Rattle.xl_trie.proofs.Listing.{or_first, or_last, some_is, none_some, at_in, in_either, in_first, in_second, in_range, counted, in_filter, to_filter, in_map, to_map}
+use Rattle.xl_trie.proofs.Listing.{some_is, none_some, at_in, in_either, in_first, in_second, in_range, counted, in_filter, to_filter, in_map, to_map}
 use Rattle.xl_trie.proofs.Firsts.{has_vote, some_branch}
 use Rattle.xl_trie.proofs.Naming.{names_of, names_many, names_apart, has_span, span_named}
 use Rattle.xl_trie.proofs.Trees.{on_through, root_on, root_short, hung, over_of, one_kid, leads_to, toward_vote, known_vote}
@@ -52,8 +52,8 @@ module _ {X : Type 0} where
 
 in_any : {X : Type 0} (p : X → Bool) (xs : List X) (x : X) → In x xs → p x ≡ true → list_any p xs ≡ true
 in_any p [] x i e = absurd i
-in_any p (y ∷ xs) x (inl same) e = or_first (p y) (list_any p xs) (ap p (sym same) ∙ e)
-in_any p (y ∷ xs) x (inr i) e = or_last (p y) (list_any p xs) (in_any p xs x i e)
+in_any p (y ∷ xs) x (inl same) e = or_left (p y) (list_any p xs) (ap p (sym same) ∙ e)
+in_any p (y ∷ xs) x (inr i) e = or_right (p y) (list_any p xs) (in_any p xs x i e)
 
 range_low : (a n c : ℕ) → In c (range_with_len a n) → a ≤ c
 range_low a n c i = let r = at_in (range_with_len a n) c 0 i in omega (arith, r.1, r.2, length-range_with_len a n, get_or-range_with_len a n r.0 0 (omega (arith, r.1, length-range_with_len a n)))
@@ -131,10 +131,10 @@ module _ (hs : List Header) (ok : AreLedgers hs) (votes : List Vote) (nodes : Li
 
   spot_of_span : (a : Name) (s : Span) → spans nodes a ≡ Some s → is_spot hs votes s.ledger ≡ true
   spot_of_span a s e = elim (V.needed a s e (λ none. none_some a none)) [
-    | inl zero_s ↦ or_first (s.ledger == 0) (list_any (is_one s.ledger) votes) (eq-eqb s.ledger 0 zero_s)
+    | inl zero_s ↦ or_left (s.ledger == 0) (list_any (is_one s.ledger) votes) (eq-eqb s.ledger 0 zero_s)
     | inr (inl tip) ↦
         let v = counted (λ (w : Vote). w.ledger == s.ledger) votes (omega (arith, tip, V.counted.tip a s e)) in
-        or_last (s.ledger == 0) (list_any (is_one s.ledger) votes) (in_any (is_one s.ledger) votes v.0 v.1 (or_first (v.0.ledger == s.ledger) (list_any (is_two s.ledger v.0) votes) v.2))
+        or_right (s.ledger == 0) (list_any (is_one s.ledger) votes) (in_any (is_one s.ledger) votes v.0 v.1 (or_left (v.0.ledger == s.ledger) (list_any (is_two s.ledger v.0) votes) v.2))
     | inr (inr fork) ↦
         let v = below a fork.0 s fork.2 e fork.4 in
         let w = below a fork.1 s fork.3 e fork.5 in
@@ -153,7 +153,7 @@ module _ (hs : List Header) (ok : AreLedgers hs) (votes : List Vote) (nodes : Li
         let kv = known v.vote v.there in
         let kw = known w.vote w.there in
         let is : common_of hs v.vote.ledger w.vote.ledger ≡ s.ledger = way_one hs ok (common_of hs v.vote.ledger w.vote.ledger) s.ledger (common_known hs ok v.vote.ledger w.vote.ledger kv kw) (V.linked.known a s e) (common_way hs ok v.vote.ledger w.vote.ledger kv kw ∙ ap (λ k. take k (way hs v.vote.ledger)) size ∙ onv.1) in
-        or_last (s.ledger == 0) (list_any (is_one s.ledger) votes) (in_any (is_one s.ledger) votes v.vote v.there (or_last (v.vote.ledger == s.ledger) (list_any (is_two s.ledger v.vote) votes) (in_any (is_two s.ledger v.vote) votes w.vote w.there (eq-eqb (common_of hs v.vote.ledger w.vote.ledger) s.ledger is))))
+        or_right (s.ledger == 0) (list_any (is_one s.ledger) votes) (in_any (is_one s.ledger) votes v.vote v.there (or_right (v.vote.ledger == s.ledger) (list_any (is_two s.ledger v.vote) votes) (in_any (is_two s.ledger v.vote) votes w.vote w.there (eq-eqb (common_of hs v.vote.ledger w.vote.ledger) s.ledger is))))
   ]
 
   -- ---- how many they are

@@ -1,7 +1,6 @@
 -- The tree of spans: which is the nearest above another, and which child leads to one below.
 use Rattle.std.proofs.Common.{◌≡◌, ◌≢◌, ◌⊎◌, ℕ, zero, suc, ◌+◌, ◌<◌, ◌≤◌, List, [], length, take, Option, Some, sym, ap, subst, ◌∙◌, arith, inl, inr}
-use Rattle.xl_trie.proofs.Common.{cases_eq, cases_lt, Header, Vote, AreLedgers, is_on_chain, branch_of, Name, Span, In, IsKid, Hangs, AreLinked, HasFork, IsNeeded, AreSpans, way, OnWay, IsBegin}
-use Rattle.xl_trie.proofs.Fronts.{take_all, take_len, take_take}
+use Rattle.xl_trie.proofs.Common.{cases_eq, cases_lt, Header, Vote, AreLedgers, is_on_chain, branch_of, Name, Span, In, IsKid, Hangs, AreLinked, HasFork, IsNeeded, AreSpans, way, OnWay, IsBegin, take-length, length-take-le, take-take}
 use Rattle.xl_trie.proofs.Listing.{some_is, none_some, all_in, count_same}
 use Rattle.xl_trie.proofs.Ways.{way_one, way_root, on_true, on_from}
 
@@ -17,14 +16,14 @@ one_name a b = elim (cases_eq a.slot b.slot) [
 
 module _ (hs : List Header) where
   pub on_self : (x : ℕ) → OnWay hs x x
-  on_self x = (omega arith, take_all (way hs x))
+  on_self x = (omega arith, take-length (way hs x))
 
   -- a front of a front
   pub front_of : (x y to : ℕ) → OnWay hs x to → OnWay hs y to → length (way hs x) ≤ length (way hs y) → OnWay hs x y
-  front_of x y to p q le = (le, ap (take (length (way hs x))) (sym q.1) ∙ take_take (way hs to) (length (way hs x)) (length (way hs y)) le q.0 ∙ p.1)
+  front_of x y to p q le = (le, ap (take (length (way hs x))) (sym q.1) ∙ take-take (length (way hs x)) (length (way hs y)) (way hs to) le ∙ p.1)
 
   pub on_through : (x y to : ℕ) → OnWay hs x y → OnWay hs y to → OnWay hs x to
-  on_through x y to p q = (omega (arith, p.0, q.0), sym (take_take (way hs to) (length (way hs x)) (length (way hs y)) p.0 q.0) ∙ ap (take (length (way hs x))) q.1 ∙ p.1)
+  on_through x y to p q = (omega (arith, p.0, q.0), sym (take-take (length (way hs x)) (length (way hs y)) (way hs to) p.0) ∙ ap (take (length (way hs x))) q.1 ∙ p.1)
 
   -- the root is on each way
   pub empty_on : (x to : ℕ) → way hs x ≡ [] → OnWay hs x to
@@ -32,7 +31,7 @@ module _ (hs : List Header) where
 
   -- ways begin alike where one is a front of the other
   begins : (x y over : ℕ) → OnWay hs x y → length (way hs over) < length (way hs x) → take (length (way hs over) + 1) (way hs x) ≡ take (length (way hs over) + 1) (way hs y)
-  begins x y over on lt = ap (take (length (way hs over) + 1)) (sym on.1) ∙ take_take (way hs y) (length (way hs over) + 1) (length (way hs x)) (omega (arith, lt)) on.0
+  begins x y over on lt = ap (take (length (way hs over) + 1)) (sym on.1) ∙ take-take (length (way hs over) + 1) (length (way hs x)) (way hs y) (omega (arith, lt))
 
   pub begin_down : (x y over begin : ℕ) → OnWay hs x y → length (way hs over) < length (way hs x) → IsBegin hs x over begin → IsBegin hs y over begin
   begin_down x y over begin on lt is = is ∙ begins x y over on lt
@@ -42,7 +41,7 @@ module _ (hs : List Header) where
 
 module _ (hs : List Header) (ok : AreLedgers hs) where
   pub same_ledger : (x y : ℕ) → x < length hs → y < length hs → OnWay hs x y → length (way hs y) ≤ length (way hs x) → x ≡ y
-  same_ledger x y kx ky on le = way_one hs ok x y kx ky (sym on.1 ∙ ap (λ k. take k (way hs y)) (let e : length (way hs x) ≡ length (way hs y) = omega (arith, le, on.0) in e) ∙ take_all (way hs y))
+  same_ledger x y kx ky on le = way_one hs ok x y kx ky (sym on.1 ∙ ap (λ k. take k (way hs y)) (let e : length (way hs x) ≡ length (way hs y) = omega (arith, le, on.0) in e) ∙ take-length (way hs y))
 
   pub root_short : (x : ℕ) → x ≡ 0 → length (way hs x) ≡ 0
   root_short x is = ap (λ y. length (way hs y)) is ∙ ap (length {A = ℕ}) (way_root hs ok)
@@ -52,7 +51,7 @@ module _ (hs : List Header) (ok : AreLedgers hs) where
 
   -- what begins there has the next place on the way
   pub begin_size : (x over begin : ℕ) → length (way hs over) < length (way hs x) → IsBegin hs x over begin → length (way hs begin) ≡ length (way hs over) + 1
-  begin_size x over begin lt is = ap (length {A = ℕ}) is ∙ take_len (way hs x) (length (way hs over) + 1) (omega (arith, lt))
+  begin_size x over begin lt is = ap (length {A = ℕ}) is ∙ length-take-le (length (way hs over) + 1) (way hs x) (omega (arith, lt))
 
   pub begin_on : (x over begin : ℕ) → length (way hs over) < length (way hs x) → IsBegin hs x over begin → OnWay hs begin x
   begin_on x over begin lt is = let size = begin_size x over begin lt is in (omega (arith, size, lt), ap (λ k. take k (way hs x)) size ∙ sym is)

@@ -1,16 +1,8 @@
 -- The way to a ledger, and what the chains of ledgers say of it.
 use Rattle.std.proofs.Common.{◌≡◌, ℕ, zero, suc, ◌+◌, ◌<◌, ◌≤◌, ◌==◌, ◌||◌, Bool, true, false, cond, List, [], ◌∷◌, ◌++◌, length, get_or, take, drop, Some, slice_get, refl, sym, ap, ◌∙◌, arith, inl, inr}
-use Rattle.xl_trie.proofs.Common.{list_any, cases_lt, cases_Bool, eqb-true, eq-eqb, length-append, length-drop, take-append-le, drop-append-le, list_any_at, slice_get_within, slice_get-get_or, get_or_from_slice_get, Header, seq_at, parent_of, chain, last_common, common_of, AreLedgers, is_on_chain, slice_get-front, HasParent, parent_known, parent_of_known, seq_of_root, seq_of_added, chain_of_root, chain_more, length-chain, chain_ends, of_chain, way, OnWay}
+use Rattle.xl_trie.proofs.Common.{list_any, cases_lt, cases_Bool, eqb-true, eq-eqb, length-append, length-drop, take-append-le, drop-append-le, list_any_at, slice_get_within, slice_get-get_or, get_or_from_slice_get, Header, seq_at, parent_of, chain, last_common, common_of, AreLedgers, is_on_chain, slice_get-front, HasParent, parent_known, parent_of_known, seq_of_root, seq_of_added, chain_of_root, chain_more, length-chain, chain_ends, of_chain, way, OnWay, take_all}
 use Rattle.xl_trie.proofs.Fronts.{shared, shared_low}
-
-some_is : {X : Type 0} (a b : X) → Some a ≡ Some b → a ≡ b
-some_is a b e = cc
-
-pub take_long : {X : Type 0} (n : ℕ) (xs : List X) → length xs ≤ n → take n xs ≡ xs
-take_long zero [] le = refl
-take_long (suc n) [] le = refl
-take_long zero (x ∷ xs) le = absurd (omega arith)
-take_long {X = X} (suc n) (x ∷ xs) le = ap (λ (ys : List X). x ∷ ys) (take_long n xs (omega arith))
+use Rattle.xl_trie.proofs.Listing.{some_is}
 
 take_drop : {X : Type 0} (xs : List X) (n : ℕ) → drop 1 (take (suc n) xs) ≡ take n (drop 1 xs)
 take_drop [] zero = refl
@@ -62,7 +54,7 @@ module _ (hs : List Header) (ok : AreLedgers hs) where
       let inside = slice_get_within (chain hs x) s y at in
       let last : s ≡ seq_at hs x = omega (arith, length-chain hs x) in
       let same : x ≡ y = some_is x y (sym (chain_ends hs x) ∙ ap (slice_get (chain hs x)) (sym last) ∙ at) in
-      ap (chain hs) (sym same) ∙ sym (take_long (suc s) (chain hs x) (omega (arith, length-chain hs x)))
+      ap (chain hs) (sym same) ∙ sym (take_all (suc s) (chain hs x) (omega (arith, length-chain hs x)))
 
   chain_front : (n x s y : ℕ) → x ≤ n → x < length hs → slice_get (chain hs x) s ≡ Some y → chain hs y ≡ take (suc s) (chain hs x)
   chain_front n zero s y le known at = at_end zero s y (omega (arith, seq_of_root hs ok)) at
@@ -125,7 +117,7 @@ module _ (hs : List Header) (ok : AreLedgers hs) where
       let more = way_more (suc c) has.0 (omega arith) has.1 in
       let size : length (way hs p) ≡ length (way hs has.0) = omega (arith, ap (length {A = ℕ}) more, length-append (way hs has.0) (suc c ∷ [])) in
       let front : take (length (way hs p)) (way hs has.0 ++ suc c ∷ []) ≡ way hs has.0 =
-      take-append-le (length (way hs p)) (way hs has.0) (suc c ∷ []) (omega arith) ∙ take_long (length (way hs p)) (way hs has.0) (omega arith) in
+      take-append-le (length (way hs p)) (way hs has.0) (suc c ∷ []) (omega arith) ∙ take_all (length (way hs p)) (way hs has.0) (omega arith) in
       let same : has.0 ≡ p = way_one has.0 p (omega (arith, has.1.earlier)) kp (sym front ∙ ap (take (length (way hs p))) (sym more) ∙ on) in
       parent_of_known hs ok (suc c) has.0 (omega arith) has.1 ∙ ap Some same
 
@@ -143,7 +135,7 @@ module _ (hs : List Header) (ok : AreLedgers hs) where
       record {
         known = omega (arith, has.1.earlier, same);
         long = ap (length {A = ℕ}) more ∙ length-append (way hs p) (suc c ∷ []);
-        on = ap (take (length (way hs p))) more ∙ take-append-le (length (way hs p)) (way hs p) (suc c ∷ []) (omega arith) ∙ take_long (length (way hs p)) (way hs p) (omega arith);
+        on = ap (take (length (way hs p))) more ∙ take-append-le (length (way hs p)) (way hs p) (suc c ∷ []) (omega arith) ∙ take_all (length (way hs p)) (way hs p) (omega arith);
       }
 
   -- the ways of ledgers are no longer than their places

@@ -10,7 +10,7 @@ ghost use Rattle.xl_trie.specs.declared.node.Span.{Span};
 
 use crate::linking::put;
 use crate::node::{Node, node_at, span_at};
-use xl_ledger::Walk;
+use xl_ledger::Registry;
 use xl_pool::{Name, Pool};
 
 /// What a vote that comes, or one that goes, does to the counts.
@@ -45,35 +45,35 @@ fn set_counts(nodes: &mut Pool<Node>, name: Name, tip: u32, branch: u32)
     put(nodes, name, node);
 }
 
-/// Changes the counts of votes at or below a span and all spans above it, which are on the ledgers of the walk.
-fn recount_up(nodes: &mut Pool<Node>, walk: &Walk<'_>, at: Name, change: Change)
-    requires ledgers { AreLedgers walk.now.ledgers.headers }
-    requires linked { AreLinked walk.now.ledgers.headers (spans nodes.old) }
+/// Changes the counts of votes at or below a span and all spans above it.
+fn recount_up(nodes: &mut Pool<Node>, registry: &Registry, at: Name, change: Change)
+    requires ledgers { AreLedgers registry.now.headers }
+    requires linked { AreLinked registry.now.headers (spans nodes.old) }
     requires kids { AllKids nodes.old }
     requires small { (a : Name) (s o : Span) → spans nodes.old a ≡ Some s → spans nodes.old at ≡ Some o
-        → OnWay walk.now.ledgers.headers s.ledger o.ledger → s.branch + 1 < 2 ^ 32 }
+        → OnWay registry.now.headers s.ledger o.ledger → s.branch + 1 < 2 ^ 32 }
     requires stands { IsSome (spans nodes.old at) }
     ensures counts { (s : Span) → spans nodes.old at ≡ Some s
-        → AreRecounted walk.now.ledgers.headers (spans nodes.old) (spans nodes.new) change s.ledger }
+        → AreRecounted registry.now.headers (spans nodes.old) (spans nodes.new) change s.ledger }
     ensures kids { AllKids nodes.new }
     ensures slots { length nodes.new ≡ length nodes.old }
 {
     let span = span_at(nodes, at);
     set_counts(nodes, at, span.tip, change.of(span.branch));
     if let Some(over) = span.parent {
-        recount_up(nodes, walk, over, change);
+        recount_up(nodes, registry, over, change);
     }
 }
 
 /// A vote for the ledger of a span has come, or has gone.
-pub(crate) fn recount(nodes: &mut Pool<Node>, walk: &Walk<'_>, at: Name, change: Change)
-    requires ledgers { AreLedgers walk.now.ledgers.headers }
-    requires trie { (votes : List Vote) × IsTrieBut walk.now.ledgers.headers votes nodes.old (Some at)
+pub(crate) fn recount(nodes: &mut Pool<Node>, registry: &Registry, at: Name, change: Change)
+    requires ledgers { AreLedgers registry.now.headers }
+    requires trie { (votes : List Vote) × IsTrieBut registry.now.headers votes nodes.old (Some at)
         × (length votes + 1 < 2 ^ 32) }
     requires stands { IsSome (spans nodes.old at) }
-    ensures trie { (votes now : List Vote) (v : Vote) → IsTrieBut walk.now.ledgers.headers votes nodes.old (Some at)
+    ensures trie { (votes now : List Vote) (v : Vote) → IsTrieBut registry.now.headers votes nodes.old (Some at)
         → IsChange change v votes now → (s : Span) → spans nodes.old at ≡ Some s → s.ledger ≡ v.ledger
-        → IsTrieBut walk.now.ledgers.headers now nodes.new (Some at) }
+        → IsTrieBut registry.now.headers now nodes.new (Some at) }
     ensures root { (root : Name) → IsRoot (spans nodes.old) root → IsRoot (spans nodes.new) root }
     ensures there { (s : Span) → spans nodes.old at ≡ Some s
         → (n : Span) × (spans nodes.new at ≡ Some n) × (n.ledger ≡ s.ledger) }
@@ -81,5 +81,5 @@ pub(crate) fn recount(nodes: &mut Pool<Node>, walk: &Walk<'_>, at: Name, change:
 {
     let span = span_at(nodes, at);
     set_counts(nodes, at, change.of(span.tip), span.branch);
-    recount_up(nodes, walk, at, change);
+    recount_up(nodes, registry, at, change);
 }

@@ -89,6 +89,7 @@ pub(crate) fn prefer_from(
     requires trie { IsTrie walk.old.ledgers.headers votes.now nodes.now }
     requires here { spans nodes.now at ≡ Some span }
     ensures value { EndsAt walk.old.ledgers.headers votes.now largest span.ledger result }
+    ensures known { result < length walk.old.ledgers.headers }
     ensures goes_on { GoesOn walk.old walk.new }
     ensures steps { walk.new.taken ≤ walk.old.taken + 18 }
 {

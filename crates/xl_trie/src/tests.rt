@@ -1,5 +1,7 @@
 ghost use Rattle.std.specs.Prelude.{◌≡◌, ◌<◌, ◌≤◌, length, IfOk};
 
+mod forms;
+
 use super::Trie;
 use std::test::Fail;
 use xl_base::{LedgerId, NodeNo};

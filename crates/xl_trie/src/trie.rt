@@ -1,6 +1,5 @@
 ghost use Rattle.std.specs.Prelude.{◌≡◌, ◌+◌, ◌*◌, ◌<◌, ◌≤◌, List, length, vec_len, vec_capacity, IsTrue};
 ghost use Rattle.xl_ledger.specs.Chains.{AreLedgers};
-ghost use Rattle.xl_ledger.specs.Walks.{GoesOn};
 ghost use Rattle.xl_ledger.specs.declared.header.Header.{Header};
 ghost use Rattle.xl_ledger.specs.declared.vote.Vote.{Vote};
 ghost use Rattle.xl_ledger.specs.Votes.{has_voted, without};
@@ -68,16 +67,15 @@ impl Trie {
         self.nodes.live()
     }
 
-    fn place(&self, walk: &mut Walk<'_>, ledger: LedgerNo) -> Place
-        requires trie { GoesWith walk.old.ledgers.headers self.now.votes.items self.now.nodes self.now.root }
-        requires known { ledger < length walk.old.ledgers.headers }
-        ensures ledgers { AreLedgers walk.old.ledgers.headers }
-        ensures place { IsPlace walk.old.ledgers.headers (spans self.now.nodes) ledger result }
-        ensures goes_on { GoesOn walk.old walk.new }
+    fn place(&self, registry: &Registry, ledger: LedgerNo) -> Place
+        requires trie { GoesWith registry.now.headers self.now.votes.items self.now.nodes self.now.root }
+        requires known { ledger < length registry.now.headers }
+        ensures ledgers { AreLedgers registry.now.headers }
+        ensures place { IsPlace registry.now.headers (spans self.now.nodes) ledger result }
     {
         seek(
             &self.nodes,
-            walk,
+            registry,
             ledger,
             self.root,
             span_at(&self.nodes, self.root),
@@ -115,38 +113,35 @@ impl Branch for Trie {
     }
 
     fn vote(&mut self, registry: &Registry, member: NodeNo, ledger: LedgerNo) {
-        let mut walk = registry.walk();
-        let place = self.place(&mut walk, ledger);
-        let name = come(&mut self.nodes, &mut walk, place, ledger);
-        recount(&mut self.nodes, &walk, name, Change::OneMore);
+        let place = self.place(registry, ledger);
+        let name = come(&mut self.nodes, registry, place, ledger);
+        recount(&mut self.nodes, registry, name, Change::OneMore);
         self.votes.push_reserved(Vote { member, ledger });
     }
 
     fn unvote(&mut self, registry: &Registry, member: NodeNo) {
         let ledger = ledger_of(&self.votes, member);
-        let mut walk = registry.walk();
-        let place = self.place(&mut walk, ledger);
-        recount(&mut self.nodes, &walk, place.at, Change::OneFewer);
+        let place = self.place(registry, ledger);
+        recount(&mut self.nodes, registry, place.at, Change::OneFewer);
         drop_votes_of(&mut self.votes, member);
         prune(&mut self.nodes, place.at);
     }
 
     fn tip(&self, registry: &Registry, ledger: LedgerNo) -> u32 {
-        let place = self.place(&mut registry.walk(), ledger);
+        let place = self.place(registry, ledger);
         let span = span_at(&self.nodes, place.at);
         if span.ledger == ledger { span.tip } else { 0 }
     }
 
     fn branch(&self, registry: &Registry, ledger: LedgerNo) -> u32 {
-        let mut walk = registry.walk();
-        let place = self.place(&mut walk, ledger);
+        let place = self.place(registry, ledger);
         let span = span_at(&self.nodes, place.at);
         if span.ledger == ledger {
             return span.branch;
         }
         let Some(name) = place.within else { return 0 };
         let child = span_at(&self.nodes, name);
-        if is_on_chain(&mut walk, ledger, child.ledger) {
+        if is_on_chain(registry, ledger, child.ledger) {
             child.branch
         } else {
             0

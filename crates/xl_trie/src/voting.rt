@@ -1,6 +1,5 @@
 ghost use Rattle.std.specs.Prelude.{◌≡◌, ◌≢◌, ◌+◌, ◌<◌, ℕ, List, length, Some, None, IsSome};
-ghost use Rattle.xl_ledger.specs.Chains.{AreLedgers, seq_at};
-ghost use Rattle.xl_ledger.specs.Walks.{GoesOn};
+ghost use Rattle.xl_ledger.specs.Chains.{AreLedgers};
 ghost use Rattle.xl_ledger.specs.declared.vote.Vote.{Vote};
 ghost use Rattle.xl_pool.specs.Pools.{live};
 ghost use Rattle.xl_pool.specs.declared.name.Name.{Name};
@@ -8,29 +7,13 @@ ghost use Rattle.xl_trie.specs.Changing.{IsSplit};
 ghost use Rattle.xl_trie.specs.Nodes.{spans, IsKid, AllKids, AllHang};
 ghost use Rattle.xl_trie.specs.Places.{IsPlace};
 ghost use Rattle.xl_trie.specs.Tries.{IsTrie, IsTrieBut, StayTrie, IsHalfNeeded, IsRoot};
-ghost use Rattle.xl_trie.specs.Ways.{IsBegin};
 ghost use Rattle.xl_trie.specs.declared.node.Span.{Span};
 
 use crate::linking::{hang, take, unhang};
 use crate::node::{Node, Span, span_at};
-use crate::seeking::Place;
-use xl_ledger::{LedgerNo, Walk};
+use crate::seeking::{Place, begin_of};
+use xl_ledger::{LedgerNo, Registry};
 use xl_pool::{Name, Pool};
-
-/// The ledger with which a span begins that ends at a ledger and hangs at another.
-fn begin_of(walk: &mut Walk<'_>, ledger: LedgerNo, over: LedgerNo) -> LedgerNo
-    requires known { ledger < length walk.old.ledgers.headers }
-    requires over { over < length walk.old.ledgers.headers }
-    requires below { seq_at walk.old.ledgers.headers over < seq_at walk.old.ledgers.headers ledger }
-    ensures begin { IsBegin walk.old.ledgers.headers ledger over result }
-    ensures known { result < length walk.old.ledgers.headers }
-    ensures goes_on { GoesOn walk.old walk.new }
-{
-    let seq = walk.seq_of(over);
-    let below = seq < walk.seq_of(ledger);
-    prove!(below);
-    walk.ancestor(ledger, seq + 1)
-}
 
 /// A child's span is cut in two. The front, up to a ledger inside, gets a new name.
 fn split(nodes: &mut Pool<Node>, of: Name, kid: Name, ledger: LedgerNo, begin: LedgerNo) -> Name
@@ -64,50 +47,48 @@ fn split(nodes: &mut Pool<Node>, of: Name, kid: Name, ledger: LedgerNo, begin: L
 /// The span that the way to a ledger enters is split where it leaves it.
 fn fork(
     nodes: &mut Pool<Node>,
-    walk: &mut Walk<'_>,
+    registry: &Registry,
     place: Place,
     kid: Name,
     ledger: LedgerNo,
 ) -> Name
-    requires ledgers { AreLedgers walk.old.ledgers.headers }
-    requires trie { (votes : List Vote) × IsTrie walk.old.ledgers.headers votes nodes.old }
-    requires known { ledger < length walk.old.ledgers.headers }
-    requires place { IsPlace walk.old.ledgers.headers (spans nodes.old) ledger place }
+    requires ledgers { AreLedgers registry.now.headers }
+    requires trie { (votes : List Vote) × IsTrie registry.now.headers votes nodes.old }
+    requires known { ledger < length registry.now.headers }
+    requires place { IsPlace registry.now.headers (spans nodes.old) ledger place }
     requires within { place.within ≡ Some kid }
     requires room { live nodes.old < length nodes.old }
-    ensures trie { StayTrie walk.old.ledgers.headers nodes.old None nodes.new (Some result) }
-    ensures place { IsPlace walk.old.ledgers.headers (spans nodes.new) ledger (record { at = result; within = None }) }
+    ensures trie { StayTrie registry.now.headers nodes.old None nodes.new (Some result) }
+    ensures place { IsPlace registry.now.headers (spans nodes.new) ledger (record { at = result; within = None }) }
     ensures half { IsHalfNeeded (spans nodes.new) result }
     ensures root { (root : Name) → IsRoot (spans nodes.old) root → IsRoot (spans nodes.new) root }
     ensures live { live nodes.new ≡ live nodes.old + 1 }
     ensures slots { length nodes.new ≡ length nodes.old }
-    ensures goes_on { GoesOn walk.old walk.new }
 {
     let under = span_at(nodes, kid);
-    let end = walk.common(under.ledger, ledger);
-    let begin = begin_of(walk, under.ledger, end);
+    let end = registry.walk().common(under.ledger, ledger);
+    let begin = begin_of(registry, under.ledger, end);
     split(nodes, place.at, kid, end, begin)
 }
 
 /// The node of a ledger whose way enters no span below this one: it, or a new one that hangs there.
-fn end_at(nodes: &mut Pool<Node>, walk: &mut Walk<'_>, at: Name, ledger: LedgerNo) -> Name
-    requires ledgers { AreLedgers walk.old.ledgers.headers }
-    requires trie { (votes : List Vote) × IsTrieBut walk.old.ledgers.headers votes nodes.old (Some at) }
-    requires known { ledger < length walk.old.ledgers.headers }
-    requires place { IsPlace walk.old.ledgers.headers (spans nodes.old) ledger (record { at = at; within = None }) }
+fn end_at(nodes: &mut Pool<Node>, registry: &Registry, at: Name, ledger: LedgerNo) -> Name
+    requires ledgers { AreLedgers registry.now.headers }
+    requires trie { (votes : List Vote) × IsTrieBut registry.now.headers votes nodes.old (Some at) }
+    requires known { ledger < length registry.now.headers }
+    requires place { IsPlace registry.now.headers (spans nodes.old) ledger (record { at = at; within = None }) }
     requires half { IsHalfNeeded (spans nodes.old) at }
     requires room { live nodes.old < length nodes.old }
-    ensures trie { StayTrie walk.old.ledgers.headers nodes.old (Some at) nodes.new (Some result) }
+    ensures trie { StayTrie registry.now.headers nodes.old (Some at) nodes.new (Some result) }
     ensures there { (s : Span) × (spans nodes.new result ≡ Some s) × (s.ledger ≡ ledger) }
     ensures root { (root : Name) → IsRoot (spans nodes.old) root → IsRoot (spans nodes.new) root }
     ensures slots { length nodes.new ≡ length nodes.old }
-    ensures goes_on { GoesOn walk.old walk.new }
 {
     let over = span_at(nodes, at);
     if over.ledger == ledger {
         return at;
     }
-    let first = begin_of(walk, ledger, over.ledger);
+    let first = begin_of(registry, ledger, over.ledger);
     let leaf = Span {
         ledger,
         first,
@@ -124,24 +105,23 @@ fn end_at(nodes: &mut Pool<Node>, walk: &mut Walk<'_>, at: Name, ledger: LedgerN
 /// one comes there.
 pub(crate) fn come(
     nodes: &mut Pool<Node>,
-    walk: &mut Walk<'_>,
+    registry: &Registry,
     place: Place,
     ledger: LedgerNo,
 ) -> Name
-    requires ledgers { AreLedgers walk.old.ledgers.headers }
-    requires trie { (votes : List Vote) × IsTrie walk.old.ledgers.headers votes nodes.old }
-    requires known { ledger < length walk.old.ledgers.headers }
-    requires place { IsPlace walk.old.ledgers.headers (spans nodes.old) ledger place }
+    requires ledgers { AreLedgers registry.now.headers }
+    requires trie { (votes : List Vote) × IsTrie registry.now.headers votes nodes.old }
+    requires known { ledger < length registry.now.headers }
+    requires place { IsPlace registry.now.headers (spans nodes.old) ledger place }
     requires room { live nodes.old + 1 < length nodes.old }
-    ensures trie { StayTrie walk.old.ledgers.headers nodes.old None nodes.new (Some result) }
+    ensures trie { StayTrie registry.now.headers nodes.old None nodes.new (Some result) }
     ensures there { (s : Span) × (spans nodes.new result ≡ Some s) × (s.ledger ≡ ledger) }
     ensures root { (root : Name) → IsRoot (spans nodes.old) root → IsRoot (spans nodes.new) root }
     ensures slots { length nodes.new ≡ length nodes.old }
-    ensures goes_on { GoesOn walk.old walk.new }
 {
     let Some(kid) = place.within else {
-        return end_at(nodes, walk, place.at, ledger)
+        return end_at(nodes, registry, place.at, ledger)
     };
-    let at = fork(nodes, walk, place, kid, ledger);
-    end_at(nodes, walk, at, ledger)
+    let at = fork(nodes, registry, place, kid, ledger);
+    end_at(nodes, registry, at, ledger)
 }

@@ -8,7 +8,7 @@ use Rattle.xl_trie.proofs.counting.+recount_up.Goals as goal
 
 pub recount_up-requires : goal.recount_up-requires
 recount_up-requires t c =
-    let hs = c.args.walk.now.ledgers.headers in
+    let hs = c.args.registry.now.headers in
     let S = spans c.args.nodes.now in
     let S1 = spans c.set_counts.new.nodes in
     let ok = c.requires.ledgers in
@@ -42,7 +42,7 @@ recount_up-requires t c =
 
 pub returns-in-Some-clause-counts : goal.returns-in-Some-clause-counts
 returns-in-Some-clause-counts t c = λ s e.
-    let hs = c.args.walk.now.ledgers.headers in
+    let hs = c.args.registry.now.headers in
     let S = spans c.args.nodes.now in
     let S1 = spans c.set_counts.new.nodes in
     let u = c.span_at-span.result in
@@ -52,7 +52,7 @@ returns-in-Some-clause-counts t c = λ s e.
 
 pub returns-in_default-clause-counts : goal.returns-in_default-clause-counts
 returns-in_default-clause-counts t c = λ s e.
-    let hs = c.args.walk.now.ledgers.headers in
+    let hs = c.args.registry.now.headers in
     let S = spans c.args.nodes.now in
     let S1 = spans c.set_counts.new.nodes in
     let u = c.span_at-span.result in

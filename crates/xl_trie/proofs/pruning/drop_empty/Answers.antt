@@ -1,7 +1,7 @@
 use Rattle.std.proofs.Common.{◌≡◌, true, false, is_some, Option, Some, None, refl, sym, ap, ◌∙◌, arith, inl, inr}
 use Rattle.xl_trie.proofs.Common.{Span, Name, span_of, spans, IsKid, Becomes}
 use Rattle.xl_trie.proofs.Leaving.{dropped, dropped_half, dropped_root}
-use Rattle.xl_trie.proofs.Listing.{none_some}
+use Rattle.xl_trie.proofs.Listing.{none_some, some_of}
 use Rattle.xl_trie.proofs.Siblings.{is_some_if, no_kids, first_kid}
 use Rattle.xl_trie.proofs.Trees.{over_of, kid_differs}
 use Rattle.xl_trie.proofs.pruning.drop_empty.Goals.{then-node-gt0-via-then-node-gt0, then-node-gt0-via-else-node-gt0+then-is_some}
@@ -10,10 +10,6 @@ use Rattle.xl_trie.proofs.pruning.drop_empty.Goals as goal
 none_if : (o : Option Name) → is_some o ≡ false → o ≡ None
 none_if None e = refl
 none_if (Some x) e = absurd cc
-
-some_if : (o : Option Name) → is_some o ≡ true → (x : Name) × (o ≡ Some x)
-some_if None e = absurd cc
-some_if (Some x) e = (x, refl)
 
 pub returns-in_default-clause-half : goal.returns-in_default-clause-half
 returns-in_default-clause-half c =
@@ -29,7 +25,7 @@ returns-then-node-gt0-clause-half c =
       elim c.then-node-gt0.branch [
         | then-node-gt0-via-then-node-gt0 w ↦ inl (inr (inl w.if-node-gt0.true))
         | then-node-gt0-via-else-node-gt0+then-is_some w ↦
-            let k = some_if n.child (sym w.is_some.ensures ∙ w.if-is_some.true) in
+            let k = some_of n.child (sym w.is_some.ensures ∙ w.if-is_some.true) in
             let m = first_kid c.args.nodes.now c.args.name k.0 n (c.requires.trie.2.1.kids c.args.name n c.node_at-node.ensures.node) k.1 in
             inr (k.0, m.0.span, (ap span_of m.1, m.2))
       ],

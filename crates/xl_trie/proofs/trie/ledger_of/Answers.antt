@@ -1,7 +1,6 @@
 use Rattle.std.proofs.Common.{◌==◌, ◌||◌, List, get_or, refl, sym, ap, subst, ◌∙◌}
-use Rattle.xl_trie.proofs.Common.{eqb-true, list_any_more, Vote, has_voted, In}
+use Rattle.xl_trie.proofs.Common.{eqb-true, list_any_more, Vote, has_voted, In, take_all}
 use Rattle.xl_trie.proofs.Listing.{in_at, true_false}
-use Rattle.xl_trie.proofs.Ways.{take_long}
 use Rattle.xl_trie.proofs.trie.ledger_of.Goals as goal
 
 pub returns-then-eq : goal.returns-then-eq
@@ -19,4 +18,4 @@ loop-vote-preserved c =
     ∙ ap (λ (v : Vote). v.member == c.args.member) (sym c.vote-item.is) ∙ sym c.eq.ensures ∙ c.if-eq.false
 
 pub unreachable-requires : goal.unreachable-requires
-unreachable-requires c = true_false (has_voted c.args.votes.now c.args.member) c.requires (ap (λ (vs : List Vote). has_voted vs c.args.member) (sym (take_long c.loop-vote.vote-index c.args.votes.now c.loop-vote-test.false)) ∙ c.loop-vote.invariant)
+unreachable-requires c = true_false (has_voted c.args.votes.now c.args.member) c.requires (ap (λ (vs : List Vote). has_voted vs c.args.member) (sym (take_all c.loop-vote.vote-index c.args.votes.now c.loop-vote-test.false)) ∙ c.loop-vote.invariant)

@@ -9,7 +9,7 @@ use Rattle.xl_trie.proofs.voting.end_at.Goals as goal
 
 pub begin_of-first-requires-clause-below : goal.begin_of-first-requires-clause-below
 begin_of-first-requires-clause-below c =
-    let hs = c.args.walk.now.ledgers.headers in
+    let hs = c.args.registry.now.headers in
     let T = c.requires.trie in
     let P = c.requires.place in
     let own = some_is P.span c.span_at-over.result (sym P.there ∙ c.span_at-over.ensures) in
@@ -17,11 +17,11 @@ begin_of-first-requires-clause-below c =
     omega (arith, lt, length_way hs c.args.ledger, length_way hs P.span.ledger, ap (λ (x : Span). seq_at hs x.ledger) own)
 
 pub take-name-requires-clause-hang : goal.take-name-requires-clause-hang
-take-name-requires-clause-hang c = λ a s b e p. over_of c.args.walk.now.ledgers.headers c.requires.ledgers (spans c.args.nodes.now) c.requires.trie.1.spans.linked b a s (e, p)
+take-name-requires-clause-hang c = λ a s b e p. over_of c.args.registry.now.headers c.requires.ledgers (spans c.args.nodes.now) c.requires.trie.1.spans.linked b a s (e, p)
 
 pub returns-clause-trie : goal.returns-clause-trie
 returns-clause-trie c = λ votes T.
-    let hs = c.args.walk.now.ledgers.headers in
+    let hs = c.args.registry.now.headers in
     let P = c.requires.place in
     let own = some_is P.span c.span_at-over.result (sym P.there ∙ c.span_at-over.ensures) in
     let other : P.span.ledger ≢ c.args.ledger = λ h. eqb-false c.span_at-over.result.ledger c.args.ledger (sym c.eq.ensures ∙ c.if-eq.false) (ap (λ (x : Span). x.ledger) (sym own) ∙ h) in

@@ -1,5 +1,5 @@
 use Rattle.std.proofs.Common.{◌≡◌, ◌==◌, ◌∷◌, ◌++◌, List, [], Some, refl, sym, ap, subst, ◌∙◌, arith, inl, inr}
-use Rattle.xl_trie.proofs.Common.{eq-eqb, Header, Vote, AreLedgers, Walked, Span, spans, GoesWith, IsTrie, IsTrieBut}
+use Rattle.xl_trie.proofs.Common.{eq-eqb, Vote, Span, spans, GoesWith}
 use Rattle.xl_trie.proofs.Leaving.{all_needed}
 use Rattle.xl_trie.proofs.Listing.{some_is, in_second, count_some}
 use Rattle.xl_trie.proofs.Members.{one_more, members_more}
@@ -9,8 +9,7 @@ use Rattle.xl_trie.proofs.trie.TrieBranch.vote.Goals as goal
 pub come-name-requires-clause-room : goal.come-name-requires-clause-room
 come-name-requires-clause-room c =
     let goes = c.requires.goes in
-    let ok = subst AreLedgers (ap (λ (w : Walked). w.ledgers.headers) c.walk-walk.ensures) c.place-place.ensures.ledgers in
-    omega (arith, few_nodes c.args.registry.now.headers ok c.args.self.now.votes.items c.args.self.now.nodes goes.0.spans c.args.self.now.root goes.1, c.requires.fits, c.args.self.now.slots)
+    omega (arith, few_nodes c.args.registry.now.headers c.place-place.ensures.ledgers c.args.self.now.votes.items c.args.self.now.nodes goes.0.spans c.args.self.now.root goes.1, c.requires.fits, c.args.self.now.slots)
 
 pub returns-clause-goes : goal.returns-clause-goes
 returns-clause-goes c =
@@ -18,12 +17,8 @@ returns-clause-goes c =
     let votes = c.args.self.now.votes.items in
     let v : Vote = record { member = c.args.member; ledger = c.args.ledger } in
     let goes = c.requires.goes in
-    let first : c.place-place.new.walk.ledgers.headers ≡ hs = ap (λ r. r.headers) c.place-place.ensures.goes_on.stays ∙ ap (λ (w : Walked). w.ledgers.headers) c.walk-walk.ensures in
-    let second : c.come-name.new.walk.ledgers.headers ≡ hs = ap (λ r. r.headers) c.come-name.ensures.goes_on.stays ∙ first in
-    let T = c.come-name.ensures.trie votes (subst (λ (x : List Header). IsTrie x votes c.args.self.now.nodes) (sym first) goes.0) in
     let there = c.come-name.ensures.there in
-    let R = c.recount.ensures.trie votes (votes ++ v ∷ []) v (subst (λ (x : List Header). IsTrieBut x votes c.come-name.new.nodes (Some c.come-name.result)) (first ∙ sym second) T) (one_more votes v) there.0 there.1 there.2 in
-    let U = subst (λ (x : List Header). IsTrieBut x (votes ++ v ∷ []) c.recount.new.nodes (Some c.come-name.result)) second R in
+    let U = c.recount.ensures.trie votes (votes ++ v ∷ []) v (c.come-name.ensures.trie votes goes.0) (one_more votes v) there.0 there.1 there.2 in
     let now = c.recount.ensures.there there.0 there.1 in
     let voted = λ (t : Span) (f : spans c.recount.new.nodes c.come-name.result ≡ Some t). count_some (λ (w : Vote). w.ledger == t.ledger) (votes ++ v ∷ []) v (in_second votes (v ∷ []) v (inl refl)) (eq-eqb v.ledger t.ledger (sym (ap (λ (x : Span). x.ledger) (some_is t now.0 (sym f ∙ now.1)) ∙ now.2 ∙ there.2))) in
     subst (λ (x : List Vote). GoesWith hs x c.recount.new.nodes c.args.self.now.root) (sym c.push_reserved.ensures.items) (
