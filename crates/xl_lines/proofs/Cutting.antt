@@ -6,7 +6,8 @@ use Rattle.xl_lines.specs.declared.limits.Overrun.TheVariants.{LongLine}
 use Rattle.xl_lines.specs.Lines.{Line, lines_of, onto, without_return}
 use Rattle.xl_lines.specs.Rules.{Rules, refused}
 use Rattle.xl_lines.specs.Told.{told_from, told_of, told_by, step_within}
-use Rattle.xl_lines.specs.Running.{IsOneLine, told_at}
+use Rattle.xl_lines.specs.Running.{told_at}
+use Rattle.xl_lines.proofs.Newlines.{IsOneLine}
 
 -- the two parts of a test that fails
 or_false : (a b : Bool) → (a || b) ≡ false → (a ≡ false) × (b ≡ false)

@@ -3,8 +3,16 @@ use Rattle.std.proofs.Common.{◌≡◌, ◌+◌, ◌<◌, ◌≤◌, ◌==◌, 
 use Rattle.std.proofs.lemmas.Bool.Decides.{eqb_tells}
 use Rattle.std.proofs.lemmas.Bool.{cases_lt, lt-ltb, le-ltb}
 use Rattle.std.proofs.lemmas.List.{take_all}
-use Rattle.std.specs.List.{position, position_or_len}
-use Rattle.xl_lines.specs.Running.{IsOneLine, FindsNewline}
+use Rattle.std.specs.List.{list_any, position, position_or_len}
+
+-- no newline stands in the bytes
+abbrev pub IsOneLine : List ℕ → Type 0
+IsOneLine bytes = list_any (λ byte. byte == 10) bytes ≡ false
+
+-- the place of the first newline
+abbrev pub FindsNewline : List ℕ → Option ℕ → Type 0
+FindsNewline bytes None = IsOneLine bytes
+FindsNewline bytes (Some place) = (place < length bytes) × IsOneLine (take place bytes) × (bytes ≡ take place bytes ++ 10 ∷ drop (place + 1) bytes)
 
 -- no newline stands before the place, and one stands there, unless it is the end
 record NewlineAt (bytes : List ℕ) (place : ℕ) : Type 0 where

@@ -6,7 +6,8 @@ use Rattle.std.proofs.lemmas.List.Folds.{list_any-append}
 use Rattle.xl_lines.specs.declared.limits.Limits.{Limits}
 use Rattle.xl_lines.specs.declared.limits.Overrun.TheVariants.{LongLine}
 use Rattle.xl_lines.specs.Rules.{Rules, refused}
-use Rattle.xl_lines.specs.Running.{IsOneLine, FindsNewline, told_at}
+use Rattle.xl_lines.specs.Running.{told_at}
+use Rattle.xl_lines.proofs.Newlines.{IsOneLine, FindsNewline}
 use Rattle.xl_lines.proofs.Cutting.{told_at-long, told_at-moved}
 
 -- where the first line of the bytes ends, its newline left out

@@ -10,8 +10,9 @@ use Rattle.xl_lines.specs.declared.machine.Next.{Next}
 use Rattle.xl_lines.specs.declared.machine.Next.TheVariants as next
 use Rattle.xl_lines.specs.Rules.{Rules, Step, goes_on, refuses, step_given, Told, refused}
 use Rattle.xl_lines.specs.Told.{after, told_by, step_within}
-use Rattle.xl_lines.specs.Running.{Tells, TellsAll, told_at, IsOneLine, left_unless_refused, step_text}
+use Rattle.xl_lines.specs.Running.{Tells, TellsAll, told_at, left_unless_refused, step_text}
 use Rattle.xl_lines.specs.Lines.{without_return}
+use Rattle.xl_lines.proofs.Newlines.{IsOneLine}
 use Rattle.xl_lines.proofs.Cutting.{told_at-ended, told_at-last}
 
 -- nothing is written yet

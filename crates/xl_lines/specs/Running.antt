@@ -1,7 +1,6 @@
 -- How far a run has come. Source: the definitions of lines and of what is told about them.
-use Rattle.std.specs.Prelude.{◌≡◌, ℕ, ◌+◌, ◌-◌, ◌*◌, ◌<◌, ◌≤◌, ◌==◌, false, List, [], ◌∷◌, ◌++◌, length, take, drop, None, Some}
+use Rattle.std.specs.Prelude.{◌≡◌, ℕ, ◌+◌, ◌-◌, ◌*◌, ◌<◌, ◌≤◌, List, [], ◌++◌, length, drop}
 use Rattle.std.specs.declared.option.Option.{Option}
-use Rattle.std.specs.List.{list_any}
 use Rattle.std.specs.Io.KnownBytes.{append_known}
 use Rattle.xl_lines.specs.declared.limits.Limits.{Limits}
 use Rattle.xl_lines.specs.declared.machine.Verdict.{Verdict}
@@ -12,15 +11,6 @@ use Rattle.xl_lines.specs.declared.lines.Part.TheVariants as part
 use Rattle.xl_lines.specs.Lines.{lines_of}
 use Rattle.xl_lines.specs.Rules.{Rules, Step, goes_on, refuses, Told, refused}
 use Rattle.xl_lines.specs.Told.{after, told_from}
-
--- no newline stands in the bytes
-abbrev pub IsOneLine : List ℕ → Type 0
-IsOneLine bytes = list_any (λ byte. byte == 10) bytes ≡ false
-
--- the place of the first newline
-abbrev pub FindsNewline : List ℕ → Option ℕ → Type 0
-FindsNewline bytes None = IsOneLine bytes
-FindsNewline bytes (Some place) = (place < length bytes) × IsOneLine (take place bytes) × (bytes ≡ take place bytes ++ 10 ∷ drop (place + 1) bytes)
 
 -- what is told where left lines may come, these bytes of the first have come, and the rest is to come
 unfoldable pub told_at : {S : Type 0} → Limits → Rules S → ℕ → S → List ℕ → List ℕ → Told

@@ -4,3 +4,5 @@ pub mod Declaring
 pub mod Telling
 pub mod Shorts
 pub mod Headline
+pub mod WholeLines
+pub mod Fronts

@@ -1,18 +1,20 @@
 -- A report is the lines of its outcomes and those at its end, and what it reports was reported in its world.
 use Rattle.std.proofs.Common.{◌≡◌, ◌≢◌, ℕ, ◌-◌, List, [], ◌∷◌, ◌++◌, length, refl, ap, sym, ◌∙◌, append_assoc, Option, Some, None, Result, Ok, Err, subst}
-use Rattle.std.specs.Prelude.{nat_lt, All, Contains, map, option_map, option_to_list, unwrap_or}
+use Rattle.std.specs.Prelude.{◌==◌, ◌+◌, nat_lt, All, map, filter, option_map, option_to_list, unwrap_or}
 use Rattle.std.specs.List.{flat_map}
 use Rattle.std.proofs.lemmas.Bool.{cond_both}
 use Rattle.std.proofs.lemmas.Grind.{flat_map-append}
-use Rattle.std.proofs.lemmas.List.{append-nil}
-use Rattle.std.proofs.lemmas.List.Elements.{All-append, All-nil, All-cons, All-weaker, All-map, Contains-append_left, Contains-push}
+use Rattle.std.proofs.lemmas.List.{append-nil, map-append}
+use Rattle.std.proofs.lemmas.List.Elements.{All-append, All-nil, All-cons, All-weaker, All-map, filter-append}
 use Rattle.xl_lists.specs.Lists.{TrustedList}
 use Rattle.xl_lists.specs.Agreement.{Report as Reported}
 use Rattle.xl_lines.specs.declared.limits.Limits.{Limits}
 use Rattle.xl_lines.specs.declared.machine.Verdict.TheVariants.{Refused as IsRefused}
 use Rattle.xl_lines.specs.Lines.{Line as TextLine, content}
-use Rattle.xl_lines.specs.Rules.{Step, goes_on, refuses as refuses_line, Told}
+use Rattle.xl_lines.specs.declared.limits.Overrun.TheVariants.{LongLine, ManyLines}
+use Rattle.xl_lines.specs.Rules.{Step, goes_on, refuses as refuses_line, Told, closes}
 use Rattle.xl_lines.specs.Told.{after as after_text, told_by, step_within, step_at, told_from}
+use Rattle.xl_core.specs.declared.refusal.Refusal.{Refusal}
 use Rattle.xl_core.specs.declared.report.Report.{Report}
 use Rattle.xl_core.specs.Answers.{refusal_in}
 use Rattle.xl_core.specs.Core.{CoreReply}
@@ -25,6 +27,7 @@ use Rattle.xl_sched.specs.declared.event.What.TheVariants as what
 use Rattle.xl_sched.specs.declared.line.Line.{Line}
 use Rattle.xl_sched.specs.declared.named.Named.{Named}
 use Rattle.xl_sched.specs.declared.refusal.SchedRefusal.{SchedRefusal}
+use Rattle.xl_sched.specs.declared.refusal.SchedRefusal.TheVariants.{Header}
 use Rattle.xl_sched.specs.declared.line.Line.TheVariants as line
 use Rattle.xl_sched.specs.Reading.{Reading}
 use Rattle.xl_sched.specs.Answers.{Answer, passes, gives, refuses, answer_to, bounded_line, reading_of}
@@ -35,6 +38,7 @@ use Rattle.xl_world.specs.declared.plan.PlanNode.{PlanNode}
 use Rattle.xl_world.specs.declared.place.Fate.{Fate}
 use Rattle.xl_io.specs.Keepers.{may_hold}
 use Rattle.xl_world.specs.Keeper.{held_by, answer_of}
+use Rattle.xl_world.specs.Forks.{Fork, first_fork}
 use Rattle.xl_world.specs.World.{reported_by}
 use Rattle.xl_world.specs.Plans.{IsDeclared, AreDeclared}
 use Rattle.xl_world.specs.World.{World, Step as WorldStep, Act, Again, Torn, Mark, place_at, reply_at, acts, reopened, again, torn, asked_at, moment_in, step, run, start, IsRun}
@@ -42,104 +46,80 @@ use Rattle.xl_world.specs.Schedule.{steps_at, steps_of, after_event, told_of as 
 use Rattle.xl_world.proofs.Settling.{at_its_number}
 use Rattle.xl_world.proofs.Lists.{core_keeps}
 use Rattle.xl_world.proofs.Runs.{run_on}
-use Rattle.xl_replay.specs.Texts.{outcome_line, outcome_lines}
-use Rattle.xl_replay.specs.Replays.{Replaying, world_of, silent, after, after_line, after_answer, ending, rules}
-use Rattle.xl_replay.specs.Headlines.{Spoken, spoken_line, Extends, state_after, state_from}
+use Rattle.xl_replay.specs.Texts.{outcome_line, outcome_lines, bad_line, end_lines}
+use Rattle.xl_replay.specs.Replays.{Replaying, world_of, silent, after, after_line, after_answer, beyond, verdict_of, ending, rules}
+use Rattle.xl_replay.specs.Headlines.{Spoken, spoken_line, Extends, is_full, full_of, outcomes_in, state_after, state_from, IsRefusal}
 use Rattle.xl_replay.proofs.Declaring.{Declares, AnswerDeclares, reading_declares}
 
 -- WHAT IS TOLD WAS REPORTED
 
--- a `full` outcome is a report of the world
-abbrev pub IsReported : World → Outcome → Type 0
-IsReported w (Refused node refusal) = Unit {0}
-IsReported w (Full node seq id) = (list : TrustedList) × Contains w.reports (record { node = node; list = list; seq = seq; id = id })
-IsReported w (Preferred node ledger) = Unit {0}
+-- These reports are added to the world, and they are what the `full` ones of the outcomes tell.
+pub record Adds (w v : World) (outcomes : List Outcome) : Type 0 where
+  pub more : List Reported
+  pub reports : v.reports ≡ w.reports ++ more
+  pub told : filter is_full outcomes ≡ map full_of more
 
--- the reports of the one world are among those of the other
-abbrev pub Grows : World → World → Type 0
-Grows w v = (r : Reported) → Contains w.reports r → Contains v.reports r
+pub adds_none : (w v : World) → v.reports ≡ w.reports → Adds w v []
+adds_none w v same = record { more = []; reports = same ∙ sym (append-nil w.reports); told = refl }
 
-still_reported : (w v : World) → Grows w v → (o : Outcome) → IsReported w o → IsReported v o
-still_reported w v grows (Refused node refusal) h = tt
-still_reported w v grows (Full node seq id) h = (h.0, grows _ h.1)
-still_reported w v grows (Preferred node ledger) h = tt
+adds_then : (w v u : World) (os ps : List Outcome) → Adds w v os → Adds v u ps → Adds w u (os ++ ps)
+adds_then w v u os ps x y = record {
+  more = x.more ++ y.more;
+  reports = y.reports ∙ (ap (λ rs. rs ++ y.more) x.reports ∙ append_assoc w.reports x.more y.more);
+  told =
+      filter-append is_full os ps
+      ∙ (ap (λ xs. xs ++ filter is_full ps) x.told
+      ∙ (ap (λ xs. map full_of x.more ++ xs) y.told ∙ sym (map-append full_of x.more y.more)));
+}
 
-settled_grows : (w v : World) (more : List Reported) → v.reports ≡ w.reports ++ more → Grows w v
-settled_grows w v more is r h = subst (λ rs. Contains rs r) (sym is) (Contains-append_left w.reports more r h)
+-- what is told of a reply has the report that arose, and no other
+reply_told : (i : ℕ) (n : Node) → n.me ≡ i → (why : Option Refusal) (arisen : Option Report) →
+    filter is_full (option_to_list (option_map (Refused i) why) ++ option_to_list (option_map (λ q. Full i q.seq q.id) arisen)) ≡ map full_of (option_to_list (option_map (reported_by n) arisen))
+reply_told i n its None None = refl
+reply_told i n its (Some why) None = refl
+reply_told i n its None (Some q) = ap (λ (k : ℕ). Full k q.seq q.id ∷ []) (sym its)
+reply_told i n its (Some why) (Some q) = ap (λ (k : ℕ). Full k q.seq q.id ∷ []) (sym its)
 
-acts_grows : (w : World) (i : ℕ) (e : CoreEvent) (fate : Fate) (o : Option Place) → Grows w (acts w i e fate o)
-acts_grows w i e fate None = λ r h. h
-acts_grows w i e fate (Some p) =
+act_adds : (w : World) (i : ℕ) (e : CoreEvent) (fate : Fate) (o : Option Place) → place_at i w.places ≡ o →
+    Adds w (acts w i e fate o) (told_at i (option_map (λ p. reply_at p e fate) o))
+act_adds w i e fate None at = adds_none w w refl
+act_adds w i e fate (Some p) at =
     let r : CoreReply = reply_at p e fate in
-    settled_grows w (acts w i e fate (Some p)) (option_to_list (option_map (reported_by r.core.node) r.report)) refl
+    record {
+      more = option_to_list (option_map (reported_by r.core.node) r.report);
+      reports = refl;
+      told = reply_told i r.core.node ((core_keeps p.core e (answer_of p.keeper fate)).0 ∙ at_its_number i w.places p at) (refusal_in r.answer) r.report;
+    }
 
-again_grows : (w : World) (i now number : ℕ) (o : Option Place) → Grows w (again w i now number o)
-again_grows w i now number None = λ r h. h
-again_grows w i now number (Some p) = cond_both (may_hold (held_by p.keeper) number) (reopened w i p now number) w (Grows w) (λ _. settled_grows w (reopened w i p now number) [] refl) (λ _ r h. h)
+again_adds : (w : World) (i now number : ℕ) (o : Option Place) → Adds w (again w i now number o) []
+again_adds w i now number None = adds_none w w refl
+again_adds w i now number (Some p) =
+    cond_both (may_hold (held_by p.keeper) number) (reopened w i p now number) w (λ v. Adds w v [])
+    (λ _. adds_none w (reopened w i p now number) (append-nil w.reports)) (λ _. adds_none w w refl)
 
-torn_grows : (w : World) (i now number : ℕ) (o : Option Place) (asked : Option ℕ) → Grows w (torn w i now number o asked)
-torn_grows w i now number None asked = λ r h. h
-torn_grows w i now number (Some p) None = λ r h. h
-torn_grows w i now number (Some p) (Some s) = again_grows w i now number (Some (record { core = p.core; keeper = record p.keeper { asked = Some s } }))
+torn_adds : (w : World) (i now number : ℕ) (o : Option Place) (asked : Option ℕ) → Adds w (torn w i now number o asked) []
+torn_adds w i now number None asked = adds_none w w refl
+torn_adds w i now number (Some p) None = adds_none w w refl
+torn_adds w i now number (Some p) (Some s) = again_adds w i now number (Some (record { core = p.core; keeper = record p.keeper { asked = Some s } }))
 
-step_grows : (w : World) (s : WorldStep) → Grows w (step w s)
-step_grows w (Act i e fate) = acts_grows w i e fate (place_at i w.places)
-step_grows w (Again i now number) = again_grows w i now number (place_at i w.places)
-step_grows w (Torn i e number) = torn_grows w i (moment_in e) number (place_at i w.places) (asked_at (place_at i w.places) e)
-step_grows w Mark = λ r h. h
+step_adds : (w : World) (s : WorldStep) → Adds w (step w s) (told_by_step w s)
+step_adds w (Act i e fate) = act_adds w i e fate (place_at i w.places) refl
+step_adds w (Again i now number) = again_adds w i now number (place_at i w.places)
+step_adds w (Torn i e number) = torn_adds w i (moment_in e) number (place_at i w.places) (asked_at (place_at i w.places) e)
+step_adds w Mark = adds_none w (step w Mark) refl
 
-run_grows : (w : World) (ss : List WorldStep) → Grows w (run w ss)
-run_grows w [] = λ r h. h
-run_grows w (s ∷ ss) = λ r h. run_grows (step w s) ss r (step_grows w s r h)
-
-refused_reported : (v : World) (i : ℕ) (r : CoreReply) → All (IsReported v) (option_to_list (option_map (Refused i) (refusal_in r.answer)))
-refused_reported v i r = refused_at (refusal_in r.answer)
-  where
-    refused_at : (o : Option _) → All (IsReported v) (option_to_list (option_map (Refused i) o))
-    refused_at None = All-nil (IsReported v)
-    refused_at (Some why) = All-cons (IsReported v) (Refused i why) [] tt (All-nil (IsReported v))
-
-full_reported : (w : World) (i : ℕ) (n : Node) → n.me ≡ i → (o : Option Report) (v : World) → v.reports ≡ w.reports ++ option_to_list (option_map (reported_by n) o) →
-    All (IsReported v) (option_to_list (option_map (λ q. Full i q.seq q.id) o))
-full_reported w i n its None v is = All-nil (IsReported v)
-full_reported w i n its (Some q) v is =
-    All-cons (IsReported v) (Full i q.seq q.id) [] (
-      n.list,
-      subst (λ (k : ℕ). Contains v.reports (record { node = k; list = n.list; seq = q.seq; id = q.id })) its
-          (subst (λ rs. Contains rs (reported_by n q)) (sym is) (Contains-push w.reports (reported_by n q))),
-    )
-    (All-nil (IsReported v))
-
-act_reported : (w : World) (i : ℕ) (e : CoreEvent) (fate : Fate) (o : Option Place) → place_at i w.places ≡ o →
-    All (IsReported (acts w i e fate o)) (told_at i (option_map (λ p. reply_at p e fate) o))
-act_reported w i e fate None at = All-nil (IsReported w)
-act_reported w i e fate (Some p) at =
-    let r : CoreReply = reply_at p e fate in
-    let v : World = acts w i e fate (Some p) in
-    All-append (IsReported v) _ _ (refused_reported v i r)
-    (full_reported w i r.core.node ((core_keeps p.core e (answer_of p.keeper fate)).0 ∙ at_its_number i w.places p at) r.report v refl)
-
-step_reported : (w : World) (s : WorldStep) → All (IsReported (step w s)) (told_by_step w s)
-step_reported w (Act i e fate) = act_reported w i e fate (place_at i w.places) refl
-step_reported w (Again i now number) = All-nil (IsReported (step w (Again i now number)))
-step_reported w (Torn i e number) = All-nil (IsReported (step w (Torn i e number)))
-step_reported w Mark = All-nil (IsReported (step w Mark))
-
-run_reported : (w : World) (ss : List WorldStep) → All (IsReported (run w ss)) (told_in w ss)
-run_reported w [] = All-nil (IsReported w)
-run_reported w (s ∷ ss) =
-    All-append (IsReported (run (step w s) ss)) (told_by_step w s) (told_in (step w s) ss)
-    (All-weaker (IsReported (step w s)) (IsReported (run (step w s) ss)) (still_reported (step w s) (run (step w s) ss) (run_grows (step w s) ss)) (told_by_step w s) (step_reported w s))
-    (run_reported (step w s) ss)
+run_adds : (w : World) (ss : List WorldStep) → Adds w (run w ss) (told_in w ss)
+run_adds w [] = adds_none w w refl
+run_adds w (s ∷ ss) = adds_then w (step w s) (run (step w s) ss) (told_by_step w s) (told_in (step w s) ss) (step_adds w s) (run_adds (step w s) ss)
 
 -- what a node prefers is no report
-preference_reported : (w : World) (i : ℕ) (o : Option Place) → All (IsReported w) (preference i o)
-preference_reported w i None = All-nil (IsReported w)
-preference_reported w i (Some p) = All-cons (IsReported w) (Preferred i (preferred p.core.node)) [] tt (All-nil (IsReported w))
+preference_adds : (w : World) (i : ℕ) (o : Option Place) → Adds w w (preference i o)
+preference_adds w i None = adds_none w w refl
+preference_adds w i (Some p) = record { more = []; reports = sym (append-nil w.reports); told = refl }
 
-event_reported : (w : World) (at : ℕ) (h : What) → All (IsReported (run w (steps_at w at h))) (outcomes_at w at h)
-event_reported w at (what.Prefer node) = preference_reported w node (place_at node w.places)
-event_reported w at happening = run_reported w (steps_at w at happening)
+event_adds : (w : World) (at : ℕ) (h : What) → Adds w (run w (steps_at w at h)) (outcomes_at w at h)
+event_adds w at (what.Prefer node) = preference_adds w node (place_at node w.places)
+event_adds w at happening = run_adds w (steps_at w at happening)
 
 -- STEP BY STEP
 
@@ -152,39 +132,37 @@ pub record IsSound (r : Replaying) : Type 0 where
 pub record Tells (r next : Replaying) (text : List ℕ) : Type 0 where
   pub spoken : List Spoken
   pub written : text ≡ flat_map spoken_line spoken
-  pub reported : All (λ s. IsReported (world_of next) s.outcome) spoken
+  pub adds : Adds (world_of r) (world_of next) (outcomes_in spoken)
   pub named : All (λ s. Extends s.names next.reading.names) spoken
   pub extends : Extends r.reading.names next.reading.names
-  pub grows : Grows (world_of r) (world_of next)
   pub sound : IsSound next
 
 abbrev pub StepTells : Replaying → Step Replaying → Type 0
 StepTells r (goes_on text next) = Tells r next text
-StepTells r (refuses_line text) = Unit {0}
+StepTells r (refuses_line text) = (n : ℕ) × (why : SchedRefusal) × (text ≡ bad_line n why)
 
 -- a plan's own world is a run of no steps
 world_run : (limit : ℕ) (plan : List PlanNode) (liars : List ℕ) → AreDeclared plan → IsRun (start limit liars plan)
 world_run limit plan liars declared = (limit, plan, [], declared, refl)
 
-abbrev SameWorld : Replaying → Replaying → Type 0
-SameWorld r next = Grows (world_of r) (world_of next) × IsSound next
-
 quiet_tells : (r : Replaying) (reading : Reading) (limit : ℕ) (plan : List PlanNode) (liars : List ℕ) → IsSound r → Extends r.reading.names reading.names → AreDeclared plan → (o : Option World) → r.world ≡ o → StepTells r (silent r reading limit plan liars)
 quiet_tells r reading limit plan liars sound extends declared o at = record {
   spoken = [];
   written = refl;
-  reported = All-nil (λ s. IsReported (world_of (record { reading = reading; limit = limit; plan = plan; liars = liars; world = r.world })) s.outcome);
+  adds = adds_none (world_of r) (world_of next) (same_reports o at);
   named = All-nil (λ s. Extends s.names reading.names);
   extends = extends;
-  grows = grown o at;
   sound = record { declared = declared; is_run = run_at o at };
 }
   where
-    grown : (o : Option World) → r.world ≡ o → Grows (world_of r) (world_of (record { reading = reading; limit = limit; plan = plan; liars = liars; world = r.world }))
-    grown None at = subst (λ (x : Option World). Grows (unwrap_or x (start r.limit r.liars r.plan)) (unwrap_or x (start limit liars plan))) (sym at) (λ q h. h)
-    grown (Some w) at = subst (λ (x : Option World). Grows (unwrap_or x (start r.limit r.liars r.plan)) (unwrap_or x (start limit liars plan))) (sym at) (λ q h. h)
+    next : Replaying
+    next = record { reading = reading; limit = limit; plan = plan; liars = liars; world = r.world }
 
-    run_at : (o : Option World) → r.world ≡ o → IsRun (world_of (record { reading = reading; limit = limit; plan = plan; liars = liars; world = r.world }))
+    same_reports : (o : Option World) → r.world ≡ o → (world_of next).reports ≡ (world_of r).reports
+    same_reports None at = rw at refl
+    same_reports (Some w) at = rw at refl
+
+    run_at : (o : Option World) → r.world ≡ o → IsRun (world_of next)
     run_at None at = subst (λ (x : Option World). IsRun (unwrap_or x (start limit liars plan))) (sym at) (world_run limit plan liars declared)
     run_at (Some w) at = subst (λ (x : Option World). IsRun (unwrap_or x (start limit liars plan))) (sym at) (subst (λ (x : Option World). IsRun (unwrap_or x (start r.limit r.liars r.plan))) at sound.is_run)
 
@@ -216,18 +194,21 @@ reading_extends : (reading : Reading) (sent : ℕ) (bytes : List ℕ) → Answer
 reading_extends reading sent bytes = answer_extends reading (bounded_line reading sent bytes)
 
 -- the lines of outcomes, each with the names and the line
-flat_map-made : (names : List _) (n : ℕ) (os : List Outcome) → outcome_lines names n os ≡ flat_map spoken_line (map (λ o. record { names = names; line = n; outcome = o }) os)
+flat_map-made : (names : List Named) (n : ℕ) (os : List Outcome) → outcome_lines names n os ≡ flat_map spoken_line (map (λ o. record { names = names; line = n; outcome = o }) os)
 flat_map-made names n [] = refl
 flat_map-made names n (o ∷ os) = ap (λ xs. outcome_line names n o ++ xs) (flat_map-made names n os)
+
+outcomes_of-made : (names : List Named) (n : ℕ) (os : List Outcome) → outcomes_in (map (λ o. record { names = names; line = n; outcome = o }) os) ≡ os
+outcomes_of-made names n [] = refl
+outcomes_of-made names n (o ∷ os) = ap (λ xs. o ∷ xs) (outcomes_of-made names n os)
 
 event_tells : (r : Replaying) (reading : Reading) (e : Event) → IsSound r → Extends r.reading.names reading.names → StepTells r (after r reading e)
 event_tells r reading e sound extends = record {
   spoken = map (λ o. record { names = reading.names; line = reading.lines; outcome = o }) (outcomes (world_of r) e);
   written = flat_map-made reading.names reading.lines (outcomes (world_of r) e);
-  reported = All-map (λ s. IsReported (after_event (world_of r) e) s.outcome) _ (outcomes (world_of r) e) (event_reported (world_of r) e.at e.what);
+  adds = subst (Adds (world_of r) (after_event (world_of r) e)) (sym (outcomes_of-made reading.names reading.lines (outcomes (world_of r) e))) (event_adds (world_of r) e.at e.what);
   named = All-map (λ s. Extends s.names reading.names) _ (outcomes (world_of r) e) (λ k d below. extends_itself reading.names);
   extends = extends;
-  grows = run_grows (world_of r) (steps_of (world_of r) e);
   sound = record { declared = sound.declared; is_run = run_on (world_of r) _ (steps_of (world_of r) e) refl sound.is_run };
 }
 
@@ -244,13 +225,13 @@ line_tells r reading (line.Event e) sound extends declares = event_tells r readi
 answer_tells : (r : Replaying) (a : Answer) → IsSound r → AnswerExtends r.reading a → AnswerDeclares a → StepTells r (after_answer r a)
 answer_tells r (passes reading) sound extends declares = quiet_tells r reading r.limit r.plan r.liars sound extends sound.declared r.world refl
 answer_tells r (gives l reading) sound extends declares = line_tells r reading l sound extends declares
-answer_tells r (refuses why) sound extends declares = tt
+answer_tells r (refuses why) sound extends declares = (r.reading.lines + 1, why, refl)
 
 step_tells : (limits : Limits) (left : ℕ) (r : Replaying) (l : TextLine) → IsSound r → StepTells r (step_at limits rules left r l)
 step_tells limits left r l sound =
-    cond_both (nat_lt limits.bytes (length l.bytes)) _ (step_within rules left r (content l)) (StepTells r) (λ _. tt)
+    cond_both (nat_lt limits.bytes (length l.bytes)) _ (step_within rules left r (content l)) (StepTells r) (λ _. (r.reading.lines + 1, beyond LongLine, refl))
     (λ _. cond_both (nat_lt 0 left) (rules.step r (content l)) _ (StepTells r)
-    (λ _. answer_tells r _ sound (reading_extends r.reading (length (world_of r).sent) (content l)) (reading_declares r.reading (length (world_of r).sent) (content l))) (λ _. tt))
+    (λ _. answer_tells r _ sound (reading_extends r.reading (length (world_of r).sent) (content l)) (reading_declares r.reading (length (world_of r).sent) (content l))) (λ _. (r.reading.lines + 1, beyond ManyLines, refl)))
 
 -- THE WHOLE
 
@@ -259,10 +240,9 @@ pub record Ends (r : Replaying) (told : Told) (last : Replaying) : Type 0 where
   pub spoken : List Spoken
   pub written : told.text ≡ flat_map spoken_line spoken ++ (ending last).text
   pub verdict : told.verdict ≡ (ending last).verdict
-  pub reported : All (λ s. IsReported (world_of last) s.outcome) spoken
+  pub adds : Adds (world_of r) (world_of last) (outcomes_in spoken)
   pub named : All (λ s. Extends s.names last.reading.names) spoken
   pub extends : Extends r.reading.names last.reading.names
-  pub grows : Grows (world_of r) (world_of last)
   pub sound : IsSound last
 
 goes_on_ends : (r next : Replaying) (text : List ℕ) (told : Told) (last : Replaying) → Tells r next text → Ends next told last → Ends r (after_text text told) last
@@ -274,14 +254,12 @@ goes_on_ends r next text told last tells ends = record {
       ∙ (sym (append_assoc (flat_map spoken_line tells.spoken) (flat_map spoken_line ends.spoken) (ending last).text)
       ∙ ap (λ t. t ++ (ending last).text) (sym (flat_map-append spoken_line tells.spoken ends.spoken))));
   verdict = ends.verdict;
-  reported = All-append (λ s. IsReported (world_of last) s.outcome) tells.spoken ends.spoken
-      (All-weaker (λ s. IsReported (world_of next) s.outcome) _ (λ s. still_reported (world_of next) (world_of last) ends.grows s.outcome) tells.spoken tells.reported)
-      ends.reported;
+  adds = subst (Adds (world_of r) (world_of last)) (sym (map-append (λ s. s.outcome) tells.spoken ends.spoken))
+      (adds_then (world_of r) (world_of next) (world_of last) (outcomes_in tells.spoken) (outcomes_in ends.spoken) tells.adds ends.adds);
   named = All-append (λ s. Extends s.names last.reading.names) tells.spoken ends.spoken
       (All-weaker (λ s. Extends s.names next.reading.names) _ (λ s h. extends_over s.names next.reading.names last.reading.names h ends.extends) tells.spoken tells.named)
       ends.named;
   extends = extends_over r.reading.names next.reading.names last.reading.names tells.extends ends.extends;
-  grows = λ q h. ends.grows q (tells.grows q h);
   sound = ends.sound;
 }
 
@@ -291,10 +269,9 @@ told_from_ends limits left r [] sound good = record {
   spoken = [];
   written = refl;
   verdict = refl;
-  reported = All-nil (λ s. IsReported (world_of r) s.outcome);
+  adds = adds_none (world_of r) (world_of r) refl;
   named = All-nil (λ s. Extends s.names r.reading.names);
   extends = extends_itself r.reading.names;
-  grows = λ q h. h;
   sound = sound;
 }
 told_from_ends limits left r (l ∷ ls) sound good = by_step (λ (next : Replaying) sound_there good_there. told_from_ends limits (left - 1) next ls sound_there good_there) (step_at limits rules left r l) (step_tells limits left r l sound) good
@@ -304,3 +281,41 @@ told_from_ends limits left r (l ∷ ls) sound good = by_step (λ (next : Replayi
         Ends r (told_by (λ next. told_from limits rules (left - 1) next ls) s) (state_from limits (left - 1) (state_after r s) ls)
     by_step further (goes_on text next) tells good = goes_on_ends r next text (told_from limits rules (left - 1) next ls) (state_from limits (left - 1) next ls) tells (further next tells.sound good)
     by_step further (refuses_line text) tells good = absurd (good refl)
+
+-- a report that is refused: outcomes, and the line that refuses
+refused_then : (spoken : List Spoken) (text rest : List ℕ) → text ≡ flat_map spoken_line spoken → IsRefusal rest → IsRefusal (text ++ rest)
+refused_then spoken text rest written x = record {
+  spoken = spoken ++ x.spoken;
+  line = x.line;
+  refusal = x.refusal;
+  written =
+      ap (λ t. t ++ rest) written
+      ∙ (ap (λ t. flat_map spoken_line spoken ++ t) x.written
+      ∙ (sym (append_assoc (flat_map spoken_line spoken) (flat_map spoken_line x.spoken) (bad_line x.line x.refusal))
+      ∙ ap (λ t. t ++ bad_line x.line x.refusal) (sym (flat_map-append spoken_line spoken x.spoken))));
+}
+
+refused_alone : (text : List ℕ) (n : ℕ) (why : SchedRefusal) → text ≡ bad_line n why → IsRefusal text
+refused_alone text n why is = record { spoken = []; line = n; refusal = why; written = is }
+
+ending_refused : (r : Replaying) → (ending r).verdict ≡ IsRefused → IsRefusal (ending r).text
+ending_refused r =
+    cond_both (r.reading.lines == 0) (closes (bad_line 1 (Header [])) IsRefused) (closes (end_lines r.reading.names (world_of r)) (verdict_of (first_fork (world_of r).reports)))
+    (λ told. told.verdict ≡ IsRefused → IsRefusal told.text)
+    (λ _ _. refused_alone (bad_line 1 (Header [])) 1 (Header []) refl)
+    (λ _ bad. absurd (never (first_fork (world_of r).reports) bad))
+  where
+    never : (o : Option Fork) → verdict_of o ≡ IsRefused → ⊥
+    never None bad = cc
+    never (Some fork) bad = cc
+
+pub told_from_refused : (limits : Limits) (left : ℕ) (r : Replaying) (ls : List TextLine) → IsSound r → (told_from limits rules left r ls).verdict ≡ IsRefused → IsRefusal (told_from limits rules left r ls).text
+unfolding told_by
+told_from_refused limits left r [] sound bad = ending_refused r bad
+told_from_refused limits left r (l ∷ ls) sound bad = by_step (λ (next : Replaying) sound_there bad_there. told_from_refused limits (left - 1) next ls sound_there bad_there) (step_at limits rules left r l) (step_tells limits left r l sound) bad
+  where
+    by_step : ((next : Replaying) → IsSound next → (told_from limits rules (left - 1) next ls).verdict ≡ IsRefused → IsRefusal (told_from limits rules (left - 1) next ls).text) →
+        (s : Step Replaying) → StepTells r s → (told_by (λ next. told_from limits rules (left - 1) next ls) s).verdict ≡ IsRefused →
+        IsRefusal (told_by (λ next. told_from limits rules (left - 1) next ls) s).text
+    by_step further (goes_on text next) tells bad = refused_then tells.spoken text (told_from limits rules (left - 1) next ls).text tells.written (further next tells.sound bad)
+    by_step further (refuses_line text) tells bad = refused_alone text tells.0 tells.1 tells.2

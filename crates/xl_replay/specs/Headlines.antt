@@ -1,19 +1,22 @@
 -- What a report says of forks: the headline, in the words of its lines.
 -- Source: Chase and MacBrough, "Analysis of the XRP Ledger Consensus Protocol" (2018).
-use Rattle.std.specs.Prelude.{◌≡◌, ℕ, ◌-◌, List, [], ◌∷◌, ◌++◌, map, All, Contains}
+use Rattle.std.specs.Prelude.{◌≡◌, ℕ, ◌-◌, Bool, true, false, List, [], ◌∷◌, ◌++◌, map, filter, codes, All, Contains}
 use Rattle.std.specs.declared.option.Option.{Option}
 use Rattle.std.specs.List.{flat_map}
 use Rattle.std.specs.Io.KnownBytes.{append_known}
 use Rattle.xl_base.specs.declared.ids.LedgerId.{LedgerId}
+use Rattle.xl_lists.specs.Agreement.{Report}
 use Rattle.xl_sched.specs.declared.named.Named.{Named}
+use Rattle.xl_sched.specs.declared.refusal.SchedRefusal.{SchedRefusal}
 use Rattle.xl_lines.specs.declared.limits.Limits.{Limits}
 use Rattle.xl_lines.specs.Lines.{Line as TextLine, lines_of}
-use Rattle.xl_lines.specs.Rules.{Step, goes_on, refuses}
+use Rattle.xl_lines.specs.Rules.{Step, goes_on, refuses, Told}
 use Rattle.xl_lines.specs.Told.{step_at}
 use Rattle.xl_world.specs.declared.outcome.Outcome.{Outcome}
-use Rattle.xl_world.specs.declared.outcome.Outcome.TheVariants.{Full}
-use Rattle.xl_replay.specs.Replays.{Replaying, rules, limits, at_first}
-use Rattle.xl_replay.specs.Texts.{outcome_line, short_line, forged_line}
+use Rattle.xl_world.specs.declared.outcome.Outcome.TheVariants.{Refused, Full, Preferred}
+use Rattle.xl_world.specs.Forks.{first_fork}
+use Rattle.xl_replay.specs.Replays.{Replaying, rules, limits, at_first, verdict_of}
+use Rattle.xl_replay.specs.Texts.{outcome_line, bad_line, short_line, forged_line, agreement_line}
 
 -- what is told of an event: the names that are declared by then, the line of the schedule, and the outcome
 pub record Spoken : Type 0 where
@@ -56,22 +59,61 @@ state_from within left r (line ∷ rest) = state_from within (left - 1) (state_a
 abbrev pub names_of : List ℕ → List Named
 names_of bytes = (state_from limits limits.lines at_first (lines_of bytes)).reading.names
 
--- A report that no refused line cuts short is these lines. For each pair with no `short` line, where `forged` says 0, no two `full`
--- lines of that pair share a sequence and stand for different ids. A line's token stands for an id by those of the schedule's names
--- that were declared before it.
-pub record IsReport (names : List Named) (text : List ℕ) : Type 0 where
+-- whether an outcome is told by a `full` line
+abbrev pub is_full : Outcome → Bool
+is_full (Refused node refusal) = false
+is_full (Full node seq id) = true
+is_full (Preferred node ledger) = false
+
+-- the outcome that tells a report
+abbrev pub full_of : Report → Outcome
+full_of r = Full r.node r.seq r.id
+
+abbrev pub outcomes_in : List Spoken → List Outcome
+outcomes_in spoken = map (λ s. s.outcome) spoken
+
+-- the lines of a report up to the `forged` line, and with it
+abbrev pub up_to_forged : List Spoken → List Short → ℕ → List ℕ
+up_to_forged spoken shorts forged = flat_map spoken_line spoken ++ (flat_map short_text shorts ++ forged_line forged)
+
+-- A report that no refused line cuts short is these lines. Its last one says what the reports that its `full` lines tell say together.
+-- For each pair with no `short` line, where `forged` says 0, no two `full` lines of that pair share a sequence and stand for different
+-- ids. A line's token stands for an id by those of the schedule's names that were declared before it.
+pub record IsReport (names : List Named) (told : Told) : Type 0 where
   pub spoken : List Spoken
+  pub reports : List Report
   pub shorts : List Short
   pub forged : ℕ
-  pub last : List ℕ
-  pub written : text ≡ flat_map spoken_line spoken ++ (flat_map short_text shorts ++ forged_line forged ++ last)
+  pub written : told.text ≡ up_to_forged spoken shorts forged ++ agreement_line names (first_fork reports)
+  pub says : told.verdict ≡ verdict_of (first_fork reports)
+  pub fulls : filter is_full (outcomes_in spoken) ≡ map full_of reports
   pub named : All (λ s. Extends s.names names) spoken
   pub agree : (i j seq : ℕ) (a b : LedgerId) →
-      Contains (map (λ s. s.outcome) spoken) (Full i seq a) → Contains (map (λ s. s.outcome) spoken) (Full j seq b) →
+      Contains (outcomes_in spoken) (Full i seq a) → Contains (outcomes_in spoken) (Full j seq b) →
       forged ≡ 0 → All (λ s. ¬ IsPair i j s) shorts → All (λ s. ¬ IsPair j i s) shorts → a ≡ b
 
--- a report that no refused line cuts short was written after what was there
-pub record AddsReport (names : List Named) (before after : Option (List ℕ)) : Type 0 where
-  pub text : List ℕ
-  pub added : after ≡ append_known before text
-  pub report : IsReport names text
+-- A report that a refused line cuts short is lines of outcomes, and then the line that refuses.
+pub record IsRefusal (text : List ℕ) : Type 0 where
+  pub spoken : List Spoken
+  pub line : ℕ
+  pub refusal : SchedRefusal
+  pub written : text ≡ flat_map spoken_line spoken ++ bad_line line refusal
+
+-- a line stands in the text, with its newline
+abbrev pub HasLine : List ℕ → List ℕ → Type 0
+HasLine text line = Contains (lines_of text) (record { bytes = line; ended = true })
+
+-- A front of a report that has the line `forged 0`. All outcomes of the report and all its `short` lines stand in it, and before that line.
+pub record IsUnforged (names : List Named) (told : Told) (front : List ℕ) : Type 0 where
+  pub report : IsReport names told
+  pub none : report.forged ≡ 0
+  pub rest : List ℕ
+  pub has_all : front ≡ up_to_forged report.spoken report.shorts 0 ++ rest
+
+-- A front of the text was written after what was there. Where it has the line `forged 0`, it is a report's.
+pub record AddsReport (names : List Named) (before after : Option (List ℕ)) (told : Told) : Type 0 where
+  pub written : List ℕ
+  pub missing : List ℕ
+  pub parts : told.text ≡ written ++ missing
+  pub added : after ≡ append_known before written
+  pub unforged : HasLine written (codes "forged 0") → IsUnforged names told written

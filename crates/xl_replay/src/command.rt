@@ -4,7 +4,7 @@ ghost use Rattle.std.specs.Io.KnownBytes.{IsAtEnd};
 ghost use Rattle.xl_base.specs.Faults.{Rose};
 ghost use Rattle.xl_io.specs.Sinks.{GrewByFront};
 ghost use Rattle.xl_lines.specs.Running.{TellsAll};
-ghost use Rattle.xl_replay.specs.Headlines.{names_of, AddsReport};
+ghost use Rattle.xl_replay.specs.Headlines.{names_of, IsReport, IsRefusal, AddsReport};
 ghost use Rattle.xl_replay.specs.Replays.{report_of};
 ghost use Rattle.xl_replay.specs.Statuses.{IsTold, IsReplayed};
 
@@ -27,10 +27,17 @@ pub fn replay<I: Source, O: Sink>(alloc: Global, input: &mut I, output: &mut O) 
         TellsAll (O.held output.old) (O.held output.new) Verdict.Found (report_of bytes)) }
     ensures refused { result ≡ Status.InputRefused → IfSome (I.left input.old) (λ bytes.
         TellsAll (O.held output.old) (O.held output.new) Verdict.Refused (report_of bytes)) }
-    // Unless a line is refused, the whole text that was written is a report in which, where it says `forged 0`, no two `full` lines of
-    // a pair with no `short` line share a sequence and stand for different ids, by the names that the schedule declares.
-    ensures headline { IsTold result → result ≢ Status.InputRefused → IfSome (I.left input.old) (λ bytes.
-        AddsReport (names_of bytes) (O.held output.old) (O.held output.new)) }
+    // Unless a line is refused, the report is lines in which, where it says `forged 0`, no two `full` lines of a pair with no `short`
+    // line share a sequence and stand for different ids, by the names that the schedule declares. The last of them says whether the
+    // reports that the `full` lines tell agree, or names the first fork.
+    ensures headline { IfSome (I.left input.old) (λ bytes.
+        (report_of bytes).verdict ≢ Verdict.Refused → IsReport (names_of bytes) (report_of bytes)) }
+    // A report that is refused ends with a `bad` line.
+    ensures refusal { IfSome (I.left input.old) (λ bytes.
+        (report_of bytes).verdict ≡ Verdict.Refused → IsRefusal (report_of bytes).text) }
+    // However the run ends, where the line `forged 0` was written, so were all `full` and `short` lines of such a report.
+    ensures as_written { IfSome (I.left input.old) (λ bytes.
+        AddsReport (names_of bytes) (O.held output.old) (O.held output.new) (report_of bytes)) }
     // Unless a line is refused, the input was read to its end.
     ensures done_at_end { result ≡ Status.Done → IsAtEnd (I.left input.new) }
     ensures fork_at_end { result ≡ Status.Fork → IsAtEnd (I.left input.new) }

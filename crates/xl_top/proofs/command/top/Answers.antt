@@ -1,0 +1,8 @@
+use Rattle.xl_replay.proofs.Headline.{headline, refusal}
+use Rattle.xl_top.proofs.command.top.Goals as goal
+
+pub returns-else-is_replay-clause-headline : goal.returns-else-is_replay-clause-headline
+returns-else-is_replay-clause-headline g c = headline (g.I.Source.left c.args.input.now)
+
+pub returns-else-is_replay-clause-refusal : goal.returns-else-is_replay-clause-refusal
+returns-else-is_replay-clause-refusal g c = refusal (g.I.Source.left c.args.input.now)
