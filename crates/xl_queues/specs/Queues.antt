@@ -9,12 +9,6 @@ pub record Backlog (T : Type 0) : Type 0 where
   pub lost : ℕ
 
 module _ {T : Type 0} where
-  -- a backlog is stored as the pair of its fields
-  abbrev pub backlog_code : Coded T → Coded (Backlog T)
-  backlog_code code =
-      code_by (List T × ℕ) (coded× (coded_list code) coded_ℕ)
-      (λ q. (q.items, q.lost)) (λ p. record { items = p.0; lost = p.1 }) (λ _. refl)
-
   -- nothing was pushed yet
   abbrev pub no_items : Backlog T
   no_items = record { items = []; lost = 0 }
@@ -40,3 +34,9 @@ module _ {T : Type 0} where
     items = drop 1 queue.items;
     lost = if length queue.items == 0 then queue.lost else one_more queue.lost;
   }
+
+  -- a backlog is stored as the pair of its fields
+  abbrev pub backlog_code : Coded T → Coded (Backlog T)
+  backlog_code code =
+      code_by (List T × ℕ) (coded× (coded_list code) coded_ℕ)
+      (λ q. (q.items, q.lost)) (λ p. record { items = p.0; lost = p.1 }) (λ _. refl)

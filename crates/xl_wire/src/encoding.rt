@@ -1,4 +1,4 @@
-ghost use Rattle.std.specs.Prelude.{◌≡◌, ◌^◌, ◌+◌, ◌*◌, ◌<◌, ◌≤◌, [], ◌∷◌, ◌++◌, length, take, drop};
+ghost use Rattle.std.specs.Prelude.{◌≡◌, ◌+◌, ◌*◌, ◌<◌, ◌≤◌, [], ◌∷◌, ◌++◌, length, take, drop};
 ghost use Rattle.byteorder.specs.Endian.{big_bytes};
 ghost use Rattle.xl_wire.specs.Bodies.{IsBody, IsProposal, IsValidation, IsTxSet, body_bytes, flags_of, kind_of, proposal_bytes, validation_bytes, set_bytes};
 ghost use Rattle.xl_wire.specs.Frames.{Spells};

@@ -1,4 +1,4 @@
-ghost use Rattle.std.specs.Prelude.{◌≡◌, ◌+◌, ◌-◌, ◌≤◌, ◌++◌, [], false, length, take, drop, IfOk};
+ghost use Rattle.std.specs.Prelude.{◌≡◌, ◌+◌, ◌-◌, ◌≤◌, ◌++◌, [], false, length, IfOk};
 ghost use Rattle.xl_wire.specs.Cuts.{IsCut};
 ghost use Rattle.xl_wire.specs.Feeding.{held_in, taken_of, after_push, offer_of};
 
