@@ -53,12 +53,12 @@ pub record StandsBeside (votes others : List Vote) (member : ℕ) (ledger : Opti
   pub apart : has_voted others member ≡ false
   pub fits : length others < room
 
--- so they are in this branch, whatever the others' votes
+-- so it is with the votes of a branch: those of some others, and the one of this member
 abbrev pub Stands : {B : Type 0} → (B → List Vote) → (B → ℕ) → B → ℕ → Option ℕ → Type 0
 Stands votes room branch member ledger =
     (others : List Vote) × StandsBeside (votes branch) others member ledger (room branch)
 
--- the vote of a member is turned, and all others stay
+-- the vote of a member is turned, and those of the others stay, whoever they are
 abbrev pub Turns : {B : Type 0} → (B → List Vote) → (B → ℕ) → B → B → ℕ → Option ℕ → Option ℕ → Type 0
 Turns votes room old new member before after = (others : List Vote)
     → StandsBeside (votes old) others member before (room old) → StandsBeside (votes new) others member after (room new)
