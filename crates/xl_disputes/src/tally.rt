@@ -4,14 +4,14 @@ ghost use Rattle.xl_disputes.specs.Standings.{votes_by};
 
 use crate::Votes;
 
-/// Which sets have an id, and how many positions stand for one of them.
-///
-/// Each number is the sum of what the sets that have the id give: a member's set gives the member's own bit, its weight
-/// and 0, and our own gives 0, its weight and 1. So the bits of `members` are the members whose set has the id.
+/// Which sets have an id, and how many positions stand for one of them: sums over the sets that have it.
 #[derive(Clone, Copy, Debug)]
 pub(crate) struct Tally {
+    /// A member's set gives the member's own bit, so bit m - 1 says whether the set of member m has the id.
     pub(crate) members: u64,
+    /// Each set gives the positions that stand for it.
     pub(crate) yays: u32,
+    /// Our own set gives 1.
     pub(crate) ours: u32,
 }
 
