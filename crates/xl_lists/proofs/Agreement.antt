@@ -8,7 +8,9 @@ use Rattle.xl_base.specs.Ids.{same_id}
 use Rattle.xl_base.specs.declared.ids.LedgerId.{LedgerId}
 use Rattle.xl_lists.specs.Lists.{is_on}
 use Rattle.xl_lists.specs.Quorums.{Enough}
-use Rattle.xl_lists.specs.Agreement.{Said, Report, has_said, with_said, vouches, IsGenuine, IsBacked, Kept, Agree, IsLawful}
+use Rattle.xl_lists.specs.declared.said.Said.{Said}
+use Rattle.xl_lists.specs.declared.report.Report.{Report}
+use Rattle.xl_lists.specs.Agreement.{has_said, with_said, vouches, IsGenuine, IsBacked, Kept, Agree, IsLawful}
 use Rattle.xl_lists.proofs.Counting.{quorums_share, count_weaker}
 use Rattle.std.proofs.lemmas.List.Elements.{All-append, All-weaker}
 

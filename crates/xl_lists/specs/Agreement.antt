@@ -5,21 +5,10 @@ use Rattle.std.specs.Prelude.{◌≡◌, ℕ, ◌≤◌, ◌<◌, ◌==◌, ◌&
 use Rattle.std.specs.List.{list_any, IsDistinct}
 use Rattle.xl_base.specs.Ids.{same_id}
 use Rattle.xl_base.specs.declared.ids.LedgerId.{LedgerId}
-use Rattle.xl_lists.specs.Lists.{TrustedList, is_on}
+use Rattle.xl_lists.specs.Lists.{is_on}
 use Rattle.xl_lists.specs.Quorums.{Enough}
-
--- a member said that this ledger is the one of this sequence
-pub record Said : Type 0 where
-  pub member : ℕ
-  pub seq : ℕ
-  pub id : LedgerId
-
--- a node reported a ledger as fully validated, under the list and quorum that were in force
-pub record Report : Type 0 where
-  pub node : ℕ
-  pub list : TrustedList
-  pub seq : ℕ
-  pub id : LedgerId
+use Rattle.xl_lists.specs.declared.report.Report.{Report}
+use Rattle.xl_lists.specs.declared.said.Said.{Said}
 
 -- whether the member said this
 abbrev pub has_said : List Said → ℕ → ℕ → LedgerId → Bool

@@ -13,8 +13,12 @@ mod list;
 mod marks;
 mod quorum;
 mod refusal;
+mod report;
+mod said;
 
 pub use laws::agreement_from_kept;
 pub use list::List;
 pub use quorum::{bound, default_quorum, enough, overlap, slack};
 pub use refusal::ListRefusal;
+pub use report::Report;
+pub use said::Said;

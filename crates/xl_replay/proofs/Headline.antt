@@ -7,7 +7,7 @@ use Rattle.std.proofs.lemmas.List.Elements.{All-contains, All-contains_itself, A
 use Rattle.xl_base.specs.declared.ids.LedgerId.{LedgerId}
 use Rattle.xl_io.specs.Sinks.{GrewByFront}
 use Rattle.xl_io.proofs.Growing.{append_known-none}
-use Rattle.xl_lists.specs.Agreement.{Report as Reported}
+use Rattle.xl_lists.specs.declared.report.Report.{Report as Reported}
 use Rattle.xl_lines.specs.declared.machine.Verdict.TheVariants.{Refused as IsRefused}
 use Rattle.xl_lines.specs.Lines.{lines_of}
 use Rattle.xl_lines.specs.Rules.{Told, closes}
@@ -16,9 +16,10 @@ use Rattle.xl_sched.specs.declared.refusal.SchedRefusal.TheVariants.{Header}
 use Rattle.xl_world.specs.declared.outcome.Outcome.{Outcome}
 use Rattle.xl_world.specs.declared.outcome.Outcome.TheVariants.{Refused, Full, Preferred}
 use Rattle.xl_world.specs.Forks.{first_fork}
-use Rattle.xl_world.specs.World.{World, IsRun}
+use Rattle.xl_world.specs.World.{World}
+use Rattle.xl_world.specs.Starts.{IsRun}
 use Rattle.xl_world.specs.Plans.{IsDeclared}
-use Rattle.xl_world.specs.World.{AgreeAt}
+use Rattle.xl_world.specs.Headline.{AgreeAt}
 use Rattle.xl_world.proofs.Lists.{world_agrees}
 use Rattle.xl_world.proofs.Reporters.{IsReporter, world_reporters}
 use Rattle.xl_replay.specs.declared.replayer.TheConstants.{DEFAULT_LIMIT}

@@ -7,7 +7,7 @@ use Rattle.std.proofs.lemmas.Grind.{flat_map-append}
 use Rattle.std.proofs.lemmas.List.{append-nil, map-append}
 use Rattle.std.proofs.lemmas.List.Elements.{All-append, All-nil, All-cons, All-weaker, All-map, filter-append}
 use Rattle.xl_lists.specs.Lists.{TrustedList}
-use Rattle.xl_lists.specs.Agreement.{Report as Reported}
+use Rattle.xl_lists.specs.declared.report.Report.{Report as Reported}
 use Rattle.xl_lines.specs.declared.limits.Limits.{Limits}
 use Rattle.xl_lines.specs.declared.machine.Verdict.TheVariants.{Refused as IsRefused}
 use Rattle.xl_lines.specs.Lines.{Line as TextLine, content}
@@ -41,7 +41,8 @@ use Rattle.xl_world.specs.Keeper.{held_by, answer_of}
 use Rattle.xl_world.specs.Forks.{Fork, first_fork}
 use Rattle.xl_world.specs.World.{reported_by}
 use Rattle.xl_world.specs.Plans.{IsDeclared, AreDeclared}
-use Rattle.xl_world.specs.World.{World, Step as WorldStep, Act, Again, Torn, Mark, place_at, reply_at, acts, reopened, again, torn, asked_at, moment_in, step, run, start, IsRun}
+use Rattle.xl_world.specs.World.{World, Step as WorldStep, Act, Again, Torn, Mark, place_at, reply_at, acts, reopened, again, torn, asked_at, moment_in, step, run}
+use Rattle.xl_world.specs.Starts.{start, IsRun}
 use Rattle.xl_world.specs.Schedule.{steps_at, steps_of, after_event, told_of as told_at, told_by as told_by_step, told_in, preference, outcomes_at, outcomes}
 use Rattle.xl_world.proofs.Settling.{at_its_number}
 use Rattle.xl_world.proofs.Lists.{core_keeps}

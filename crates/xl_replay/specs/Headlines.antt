@@ -5,7 +5,7 @@ use Rattle.std.specs.declared.option.Option.{Option}
 use Rattle.std.specs.List.{flat_map}
 use Rattle.std.specs.Io.KnownBytes.{append_known}
 use Rattle.xl_base.specs.declared.ids.LedgerId.{LedgerId}
-use Rattle.xl_lists.specs.Agreement.{Report}
+use Rattle.xl_lists.specs.declared.report.Report.{Report}
 use Rattle.xl_sched.specs.declared.named.Named.{Named}
 use Rattle.xl_sched.specs.declared.refusal.SchedRefusal.{SchedRefusal}
 use Rattle.xl_lines.specs.declared.limits.Limits.{Limits}

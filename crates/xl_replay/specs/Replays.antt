@@ -20,7 +20,8 @@ use Rattle.xl_sched.specs.Answers.{Answer, passes, gives, refuses, reading_of}
 use Rattle.xl_world.specs.declared.plan.PlanNode.{PlanNode}
 use Rattle.xl_world.specs.Forks.{Fork, first_fork}
 use Rattle.xl_world.specs.Schedule.{after_event, outcomes}
-use Rattle.xl_world.specs.World.{World, start}
+use Rattle.xl_world.specs.World.{World}
+use Rattle.xl_world.specs.Starts.{start}
 use Rattle.xl_replay.specs.declared.replayer.TheConstants.{DEFAULT_LIMIT}
 use Rattle.xl_replay.specs.Texts.{outcome_lines, bad_line, end_lines}
 

@@ -35,12 +35,14 @@ IsFitWhat reading sent (what.Raw to bytes) =
     (is_on reading.nodes to ≡ true) × (1 ≤ length bytes) × (length bytes ≤ MOST_RAW_BYTES)
 IsFitWhat reading sent (what.Prefer node) = is_on reading.nodes node ≡ true
 
--- a line that declares nothing twice and no ledger above all that may be, or such an event at a moment that there may be
+-- a line that declares nothing twice and no ledger above all that may be, or such an event at a moment that there may
+-- be
 abbrev pub IsFit : Reading → ℕ → Line → Type 0
 IsFit reading sent (line.Node me list validating) = IsUndeclared reading me
 IsFit reading sent (line.Liar me) = IsUndeclared reading me
 IsFit reading sent (line.Name name id) = id_named reading.names name ≡ None
 IsFit reading sent (line.Limit limit) = (LEAST_LIMIT ≤ limit) × (limit ≤ MOST_LEDGERS) × (reading.limited ≡ false)
-IsFit reading sent (line.Ledger name parent header) = (id_named reading.names name ≡ None) × (header.seq ≤ length reading.names + 1)
+IsFit reading sent (line.Ledger name parent header) =
+    (id_named reading.names name ≡ None) × (header.seq ≤ length reading.names + 1)
 IsFit reading sent (line.At at) = at ≤ GREATEST_MILLIS
 IsFit reading sent (line.Event event) = (event.at ≤ GREATEST_MILLIS) × IsFitWhat reading sent event.what

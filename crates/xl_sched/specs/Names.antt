@@ -24,7 +24,8 @@ is_letter b = nat_le 97 b && nat_le b 122
 -- 1 to 16 bytes of a to z and 0 to 9, the first a letter
 abbrev pub is_name : List ℕ → Bool
 is_name [] = false
-is_name (first ∷ rest) = is_letter first && list_all (λ b. is_letter b || is_ascii_digit b) rest && nat_le (length rest) 15
+is_name (first ∷ rest) =
+    is_letter first && list_all (λ b. is_letter b || is_ascii_digit b) rest && nat_le (length rest) 15
 
 -- the id that a declared name stands for
 abbrev pub id_named : List Named → List ℕ → Option (List ℕ)

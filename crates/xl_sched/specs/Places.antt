@@ -1,4 +1,5 @@
--- Where names and ids were declared first. Source: this project's schedule language, in which an id is printed by its first name.
+-- Where names and ids were declared first. Source: this project's schedule language, in which an id is printed by its
+-- first name.
 use Rattle.std.specs.Prelude.{◌≡◌, ℕ, Bool, List, Option, Some, None, cond, position}
 use Rattle.std.specs.Ordering.{nat_cmp}
 use Rattle.std.specs.Cmp.Lexicographic.{slice_cmp}
@@ -26,7 +27,8 @@ abbrev pub with_place : Option ℕ → Bool → ℕ → Option ℕ
 with_place kept is_key place = option_or kept (cond is_key (Some place) None)
 
 pub record HasPlaceMore (old new : Places) (name id : List ℕ) (place : ℕ) : Type 0 where
-  pub by_name : (other : List ℕ) → place_of_name new other ≡ with_place (place_of_name old other) (bytes_eq other name) place
+  pub by_name : (other : List ℕ) →
+      place_of_name new other ≡ with_place (place_of_name old other) (bytes_eq other name) place
   pub by_id : (other : List ℕ) → place_of_id new other ≡ with_place (place_of_id old other) (bytes_eq other id) place
 
 pub record HasSamePlaces (old new : Places) : Type 0 where

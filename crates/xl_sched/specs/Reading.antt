@@ -47,6 +47,7 @@ after reading (line.Node me list validating) = record (counted reading) { nodes 
 after reading (line.Liar me) = record (counted reading) { liars = reading.liars ++ me ∷ [] }
 after reading (line.Name name id) = naming reading (record { name = name; id = id; header = None })
 after reading (line.Limit limit) = record (counted reading) { limited = true }
-after reading (line.Ledger name parent header) = naming reading (record { name = name; id = (header_id header).0; header = Some header })
+after reading (line.Ledger name parent header) =
+    naming reading (record { name = name; id = (header_id header).0; header = Some header })
 after reading (line.At at) = record (counted reading) { now = at }
 after reading (line.Event event) = record (counted reading) { started = true }

@@ -17,7 +17,8 @@ may_ask word count = if bytes_eq word (codes "issue") then count == 4 else count
 
 -- what is asked: the tokens of an `issue` line
 abbrev pub ask_of : Reading → List ℕ → List (List ℕ) → Result Ask SchedRefusal
-ask_of reading word arguments = if bytes_eq word (codes "issue") then asked_issue reading arguments else Err (Choice word)
+ask_of reading word arguments =
+    if bytes_eq word (codes "issue") then asked_issue reading arguments else Err (Choice word)
 
 -- the number that the keeper then holds, and what is asked, from left to right
 abbrev pub held_of : List ℕ → Result Ask SchedRefusal → Result (Bool × Ask) SchedRefusal

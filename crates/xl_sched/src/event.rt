@@ -26,8 +26,8 @@ pub enum What {
     Restart {
         node: NodeNo,
     },
-    /// What is asked stops at its save, or is done where it saves nothing, and the node is opened anew. After the save the
-    /// keeper holds the new number, or the old one.
+    /// What is asked stops at its save, or is done where it saves nothing, and the node is opened anew. After the save
+    /// the keeper holds the new number, or the old one.
     Cut {
         new: bool,
         ask: Ask,

@@ -151,7 +151,8 @@ impl Names {
     /// Declares a name for an id.
     pub fn declare(&mut self, name: &[u8], id: [u8; 32], alloc: Global) -> Result<(), OutOfMemory>
         requires { id_named self.old name.now ≡ None }
-        ensures declared { OnOk result (self.new ≡ self.old ++ record { name = name.now; id = id; header = None } ∷ []) }
+        ensures declared { OnOk result
+            (self.new ≡ self.old ++ record { name = name.now; id = id; header = None } ∷ []) }
         ensures kept { OnErr result (self.new ≡ self.old) }
     {
         self.put(name, id, None, alloc)
@@ -182,7 +183,8 @@ impl Names {
     ) -> Result<(), OutOfMemory>
         requires new { id_named self.old name.now ≡ None }
         requires low { IfSome header (λ h. h.seq ≤ length self.old + 1) }
-        ensures declared { OnOk result (self.new ≡ self.old ++ record { name = name.now; id = id; header = header } ∷ []) }
+        ensures declared { OnOk result
+            (self.new ≡ self.old ++ record { name = name.now; id = id; header = header } ∷ []) }
         ensures kept { OnErr result (self.new ≡ self.old) }
     {
         let place = self.declared.len();

@@ -8,7 +8,8 @@ use std::alloc::{AllocError, Global};
 use std::marker::Model;
 use xl_base::NodeNo;
 
-/// Declared nodes, the honest ones or the liars, in the order of their declaration. Contracts see them as a list of numbers.
+/// Declared nodes, the honest ones or the liars, in the order of their declaration. Contracts see them as a list of
+/// numbers.
 #[derive(Debug, Drop)]
 pub struct Nodes {
     numbers: Vec<NodeNo>,

@@ -89,11 +89,11 @@ impl Reader {
         self.moment
     }
 
-    /// Reads the next line, without the byte that ends it, where so many frames were sent so far. None comes exactly for
-    /// the header, an empty line and a comment.
+    /// Reads the next line, without the byte that ends it, where so many frames were sent so far. None comes exactly
+    /// for the header, an empty line and a comment.
     ///
-    /// Refused with the first of the causes that holds: the line is too long; there are too many lines, or names; line 1
-    /// is no header; the first token is no word; a declaration comes after an event; no line of the word has so many
+    /// Refused with the first of the causes that holds: the line is too long; there are too many lines, or names; line
+    /// 1 is no header; the first token is no word; a declaration comes after an event; no line of the word has so many
     /// tokens; a token, from left to right, is no number, no id, no choice, was declared before or isn't declared; the
     /// numbers are no list. Or memory was wanting.
     pub fn read_line(&mut self, line: &[u8], sent: u64) -> Result<Option<Line>, SchedRefusal>

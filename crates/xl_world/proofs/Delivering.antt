@@ -7,16 +7,15 @@ use Rattle.std.proofs.lemmas.List.{append-nil, append_assoc, take_more}
 use Rattle.std.proofs.lemmas.List.Elements.{All-drop, All-head, All-tail}
 use Rattle.std.proofs.lemmas.List.Folds.{list_any_at}
 use Rattle.std.proofs.lemmas.Slice.Eq.{bytes_eq-Decides}
-use Rattle.xl_lists.specs.Agreement.{Report}
+use Rattle.xl_lists.specs.declared.report.Report.{Report}
 use Rattle.xl_core.specs.declared.event.CoreEvent.TheVariants.{Frame}
 use Rattle.xl_sched.specs.declared.event.What.TheVariants.{All, Deliver}
 use Rattle.xl_world.specs.declared.outcome.Outcome.{Outcome}
 use Rattle.xl_world.specs.declared.place.Fate.TheVariants.{Kept}
 use Rattle.xl_world.specs.declared.place.Place.{Place}
-use Rattle.xl_world.specs.declared.report.WorldReport.{WorldReport}
 use Rattle.xl_world.specs.declared.sent.Sent.{Sent}
 use Rattle.xl_world.specs.Schedule.{steps_at, deliveries, delivery, delivery_of, frame_at, outcomes_at, reply_to, told_by, told_in, told_of}
-use Rattle.xl_world.specs.Seen.{Hearing, NoneUntakenAnywhere, acted_at, forged_at, hearing_seen, heard_all, heard_one, place_after, put_acted, reply_in, reported_in, reports_seen}
+use Rattle.xl_world.specs.Seen.{Hearing, NoneUntakenAnywhere, acted_at, forged_at, hearing_seen, heard_all, heard_one, place_after, put_acted, reply_in, reported_in}
 use Rattle.xl_world.specs.Forgeries.{was_sent}
 use Rattle.xl_world.specs.World.{World, Step, Act, Mark, marked, place_at, reply_at, run, step}
 use Rattle.xl_world.specs.Emptying.{event_steps}
@@ -103,9 +102,9 @@ same_hearing {p} {q} {r} {s} {t} {u} a b c =
     ap (λ x. h x r t) a ∙ (ap (λ y. h q y t) b ∙ ap (λ z. h q s z) c)
 
 -- what is heard of the frames so far and of the next one
-pub heard_more : (at : ℕ) (fs : List Sent) (k : ℕ) (f : Sent) (bytes : List ℕ) (first : Hearing) (places places' : List Place) (reports reports' : List WorldReport) (told told' : List Outcome) →
+pub heard_more : (at : ℕ) (fs : List Sent) (k : ℕ) (f : Sent) (bytes : List ℕ) (first : Hearing) (places places' : List Place) (reports reports' : List Report) (told told' : List Outcome) →
     k < length fs → f ≡ get_or fs k f → bytes ≡ f.bytes → hearing_seen places reports told ≡ heard_all at (take k fs) first →
-    places' ≡ acted_at f.to (Frame at bytes) Kept places → reports_seen reports' ≡ reports_seen reports ++ reported_in (reply_in f.to (Frame at bytes) places) →
+    places' ≡ acted_at f.to (Frame at bytes) Kept places → reports' ≡ reports ++ reported_in (reply_in f.to (Frame at bytes) places) →
     told' ≡ told ++ told_of f.to (reply_in f.to (Frame at bytes) places) → hearing_seen places' reports' told' ≡ heard_all at (take (k + 1) fs) first
 heard_more at fs k f bytes first places places' reports reports' told told' k_in is is_bytes before is_places is_reports is_told =
     same_hearing is_places is_reports is_told

@@ -7,7 +7,7 @@ use Rattle.std.proofs.lemmas.Bool.{cases_Bool, cond_both, eqb-true, eq-eqb, and_
 use Rattle.std.proofs.lemmas.List.{append-nil, append_assoc}
 use Rattle.std.proofs.lemmas.List.Elements.{All-nil, All-cons, All-push, All-weaker, Contains-push, Contains-append_left, Contains-append_right}
 use Rattle.xl_base.specs.Ids.{same_id}
-use Rattle.xl_lists.specs.Agreement.{Report}
+use Rattle.xl_lists.specs.declared.report.Report.{Report}
 use Rattle.xl_lists.proofs.Agreement.{same_id-true, same_id_itself}
 use Rattle.xl_world.specs.Forks.{Fork, opposed, fork_after, IsFork, NoForkAgrees, ForkDiffers}
 use Rattle.xl_world.proofs.Opposing.{fork_of}

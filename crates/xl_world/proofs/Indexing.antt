@@ -9,7 +9,7 @@ use Rattle.std.proofs.lemmas.Option.{slice_get-get_or, slice_get_within, get_or_
 use Rattle.std.proofs.lemmas.Slice.Eq.{bytes_eq-Decides}
 use Rattle.xl_world.specs.declared.index.TagIndex.{TagIndex}
 use Rattle.xl_world.specs.declared.sent.Sent.{Sent}
-use Rattle.xl_world.specs.Indexes.{tag_in, place_of_tag, IsIndex}
+use Rattle.xl_world.specs.Indexes.{tag_in, place_of_tag, is_bytes, is_at, LeadsTo, IsIndex}
 use Rattle.xl_world.specs.Forgeries.{was_sent}
 use Rattle.xl_world.proofs.Unforged.{from_found}
 
@@ -25,12 +25,24 @@ never e = cc
 pub index_none : (index : TagIndex) → index.indexed ≡ 0 → IsIndex index []
 index_none index none = record { few = omega (arith, none); placed = λ kept k d below. absurd (omega (arith, below, none)) }
 
+-- bytes stand where they stood, however many more frames were sent
+still_at : (sent more : List Sent) (place : ℕ) (bytes : List ℕ) → is_at sent place bytes ≡ true → is_at (sent ++ more) place bytes ≡ true
+still_at sent more place bytes at = still (slice_get sent place) refl (at)
+  where
+    still : (o : Option Sent) → slice_get sent place ≡ o → is_bytes bytes o ≡ true → is_bytes bytes (slice_get (sent ++ more) place) ≡ true
+    still None none is = absurd (never (sym is))
+    still (Some f) here is =
+        let below = slice_get_within sent place f here in
+        ap (is_bytes bytes) (slice_get-get_or (sent ++ more) place f (omega (arith, below, length-append sent more))
+        ∙ ap (λ (g : Sent). Some g) (get_or_append_left sent more f place below ∙ get_or_from_slice_get sent place f f here)) ∙ is
+
 -- more frames leave it as it is
 pub index_more : (index : TagIndex) (sent more : List Sent) → IsIndex index sent → IsIndex index (sent ++ more)
 index_more index sent more is = record {
   few = omega (arith, is.few, length-append sent more);
   placed = λ kept k d below.
-      subst (λ (f : Sent). place_of_tag index (tag_in f.bytes) ≡ Some k) (sym (get_or_append_left sent more d k (omega (arith, below, is.few)))) (is.placed kept k d below);
+      subst (λ (f : Sent). LeadsTo index (sent ++ more) f.bytes) (sym (get_or_append_left sent more d k (omega (arith, below, is.few))))
+      (let to = is.placed kept k d below in (to.0, to.1, still_at sent more to.0 (get_or sent k d).bytes to.2));
 }
 
 -- one that is given up need only be short enough
@@ -40,21 +52,14 @@ given_up old new sent is same up = record {
   placed = λ kept k d below. absurd (never (sym up ∙ kept));
 }
 
--- what holds of a frame that was sent: its tag leads to it
-abbrev LeadsBack : TagIndex → List Sent → Sent → Type 0
-LeadsBack index sent f = (j : ℕ) × (place_of_tag index (tag_in f.bytes) ≡ Some j) × (slice_get sent j ≡ Some f)
-
-each_leads_back : (index : TagIndex) (sent : List Sent) → IsIndex index sent → index.given_up ≡ false → index.indexed ≡ length sent → All (LeadsBack index sent) sent
-each_leads_back index sent is kept all k d below = (k, is.placed kept k d (omega (arith, below, all)), slice_get-get_or sent k d below)
+each_leads : (index : TagIndex) (sent : List Sent) → IsIndex index sent → index.given_up ≡ false → index.indexed ≡ length sent → All (λ f. LeadsTo index sent f.bytes) sent
+each_leads index sent is kept all k d below = is.placed kept k d (omega (arith, below, all))
 
 -- bytes that were sent stand at the place of their tag
-found : (index : TagIndex) (sent : List Sent) (bytes : List ℕ) → IsIndex index sent → index.given_up ≡ false → index.indexed ≡ length sent → was_sent sent bytes ≡ true →
-    (f : Sent) × (j : ℕ) × (place_of_tag index (tag_in bytes) ≡ Some j) × (slice_get sent j ≡ Some f) × (f.bytes ≡ bytes)
+found : (index : TagIndex) (sent : List Sent) (bytes : List ℕ) → IsIndex index sent → index.given_up ≡ false → index.indexed ≡ length sent → was_sent sent bytes ≡ true → LeadsTo index sent bytes
 found index sent bytes is kept all was =
-    from_found (λ f. bytes_eq f.bytes bytes) (LeadsBack index sent) _ sent was (each_leads_back index sent is kept all)
-    (λ f same back.
-    let equal : f.bytes ≡ bytes = (bytes_eq-Decides f.bytes bytes).0 same in
-    (f, back.0, ap (λ (b : List ℕ). place_of_tag index (tag_in b)) (sym equal) ∙ back.1, back.2, equal))
+    from_found (λ f. bytes_eq f.bytes bytes) (λ f. LeadsTo index sent f.bytes) _ sent was (each_leads index sent is kept all)
+    (λ f same leads. subst (LeadsTo index sent) ((bytes_eq-Decides f.bytes bytes).0 same) leads)
 
 unsent : (sent : List Sent) (bytes : List ℕ) → (was_sent sent bytes ≡ true → ⊥) → false ≡ was_sent sent bytes
 unsent sent bytes not_so = elim (cases_Bool (was_sent sent bytes)) [ inl e ↦ absurd (not_so e) | inr e ↦ sym e ]
@@ -62,57 +67,67 @@ unsent sent bytes not_so = elim (cases_Bool (was_sent sent bytes)) [ inl e ↦ a
 pub absent : (index : TagIndex) (sent : List Sent) (bytes : List ℕ) → IsIndex index sent → index.given_up ≡ false → index.indexed ≡ length sent →
     place_of_tag index (tag_in bytes) ≡ None → false ≡ was_sent sent bytes
 absent index sent bytes is kept all none =
-    unsent sent bytes (λ was. let at = found index sent bytes is kept all was in some_none at.1 (sym at.2 ∙ none))
+    unsent sent bytes (λ was. let at = found index sent bytes is kept all was in some_none at.0 (sym at.1 ∙ none))
 
-pub beyond : (index : TagIndex) (sent : List Sent) (bytes : List ℕ) (j : ℕ) → IsIndex index sent → index.given_up ≡ false → index.indexed ≡ length sent →
-    place_of_tag index (tag_in bytes) ≡ Some j → slice_get sent j ≡ None → false ≡ was_sent sent bytes
-beyond index sent bytes j is kept all at none =
-    unsent sent bytes (λ was.
-    let there = found index sent bytes is kept all was in
-    some_none there.0 (sym there.3 ∙ (ap (slice_get sent) (some_number j there.1 (sym at ∙ there.2)) ∙ none)))
+pub placed_at : (index : TagIndex) (sent : List Sent) (bytes : List ℕ) (place : ℕ) → IsIndex index sent → index.given_up ≡ false → index.indexed ≡ length sent →
+    place_of_tag index (tag_in bytes) ≡ Some place → is_at sent place bytes ≡ was_sent sent bytes
+placed_at index sent bytes place is kept all at =
+    elim (cases_Bool (is_at sent place bytes)) [
+      | inl e ↦ e ∙ sym (sent_there (slice_get sent place) refl e)
+      | inr e ↦ e ∙ unsent sent bytes (λ was.
+          let there = found index sent bytes is kept all was in
+          never (sym there.2 ∙ (ap (λ j. is_at sent j bytes) (some_number place there.0 (sym at ∙ there.1)) ∙ e)))
+    ]
+  where
+    sent_there : (o : Option Sent) → slice_get sent place ≡ o → is_bytes bytes o ≡ true → was_sent sent bytes ≡ true
+    sent_there None none is_it = absurd (never (sym is_it))
+    sent_there (Some f) here is_it = list_any_at _ sent place f (slice_get_within sent place f here) (subst (λ (g : Sent). bytes_eq g.bytes bytes ≡ true) (sym (get_or_from_slice_get sent place f f here)) is_it)
 
 same_frame : (f g : Sent) → Some f ≡ Some g → f ≡ g
 same_frame f g e = cc
 
-pub placed_at : (index : TagIndex) (sent : List Sent) (bytes : List ℕ) (j : ℕ) (f : Sent) → IsIndex index sent → index.given_up ≡ false → index.indexed ≡ length sent →
-    place_of_tag index (tag_in bytes) ≡ Some j → slice_get sent j ≡ Some f → bytes_eq f.bytes bytes ≡ was_sent sent bytes
-placed_at index sent bytes j f is kept all at here =
-    elim (cases_Bool (bytes_eq f.bytes bytes)) [
-      | inl e ↦ e ∙ sym (list_any_at _ sent j f (slice_get_within sent j f here) (subst (λ (g : Sent). bytes_eq g.bytes bytes ≡ true) (sym (get_or_from_slice_get sent j f f here)) e))
-      | inr e ↦ e ∙ unsent sent bytes (λ was.
-          let there = found index sent bytes is kept all was in
-          let same : f ≡ there.0 = same_frame f there.0 (sym here ∙ (ap (slice_get sent) (sym (some_number j there.1 (sym at ∙ there.2))) ∙ there.3)) in
-          never (sym ((bytes_eq-Decides f.bytes bytes).1 (ap (λ (g : Sent). g.bytes) same ∙ there.4)) ∙ e))
-    ]
+-- a frame of a list is the one of its place, whatever the default
+its_own : (sent : List Sent) (k : ℕ) (f d : Sent) → k < length sent → f ≡ get_or sent k f → f ≡ get_or sent k d
+its_own sent k f d below here = here ∙ same_frame _ _ (sym (slice_get-get_or sent k f below) ∙ slice_get-get_or sent k d below)
 
--- a new tag, whose frame is the next one
-pub index_next : (old new : TagIndex) (sent : List Sent) (tag : List ℕ) → IsIndex old sent → old.given_up ≡ false → old.indexed < length sent → new.indexed ≡ old.indexed + 1 →
-    (f : Sent) → f ≡ get_or sent old.indexed f → tag ≡ tag_in f.bytes → place_of_tag old tag ≡ None →
-    ((t : List ℕ) → place_of_tag new t ≡ cond (bytes_eq t tag) (Some old.indexed) (place_of_tag old t)) → IsIndex new sent
-index_next old new sent tag is kept more one_more f here its none inserted = record {
+last_or_before : (k n : ℕ) → k < n + 1 → (k < n) ⊎ (k ≡ n)
+last_or_before k n h = grind arith
+
+-- the index with one frame more, whose tag leads to its bytes, as the tags of the others still do
+pub index_next : (old new : TagIndex) (sent : List Sent) (f : Sent) → IsIndex old sent → old.given_up ≡ false → old.indexed < length sent → new.indexed ≡ old.indexed + 1 →
+    f ≡ get_or sent old.indexed f → ((bytes : List ℕ) → LeadsTo old sent bytes → LeadsTo new sent bytes) → LeadsTo new sent f.bytes → IsIndex new sent
+index_next old new sent f is kept more one_more here others its = record {
   few = omega (arith, more, one_more);
-  placed = λ _ k d below. elim (last_or_before k (omega (arith, below, one_more))) [
-    | inl before ↦
-        let t = tag_in (get_or sent k d).bytes in
-        let was : place_of_tag old t ≡ Some k = is.placed kept k d before in
-        inserted t ∙ (elim (cases_Bool (bytes_eq t tag)) [
-          | inl e ↦ absurd (some_none k (sym was ∙ (ap (place_of_tag old) ((bytes_eq-Decides t tag).0 e) ∙ none)))
-          | inr e ↦ cond-false (bytes_eq t tag) (Some old.indexed) (place_of_tag old t) e
-        ] ∙ was)
+  placed = λ _ k d below. elim (last_or_before k old.indexed (omega (arith, below, one_more))) [
+    | inl before ↦ others (get_or sent k d).bytes (is.placed kept k d before)
     | inr last ↦
-        subst (λ (i : ℕ). place_of_tag new (tag_in (get_or sent i d).bytes) ≡ Some i) (sym last)
-        (inserted (tag_in (get_or sent old.indexed d).bytes)
-        ∙ cond-true (bytes_eq (tag_in (get_or sent old.indexed d).bytes) tag) (Some old.indexed) _ ((bytes_eq-Decides (tag_in (get_or sent old.indexed d).bytes) tag).1 (sym (its_own d))))
+        subst (λ (i : ℕ). LeadsTo new sent (get_or sent i d).bytes) (sym last)
+        (subst (λ (g : Sent). LeadsTo new sent g.bytes) (its_own sent old.indexed f d more here) its)
   ];
 }
-  where
-    its_own : (d : Sent) → tag ≡ tag_in (get_or sent old.indexed d).bytes
-    its_own d =
-        let same : f ≡ get_or sent old.indexed d = here ∙ same_frame _ _ (sym (slice_get-get_or sent old.indexed f more) ∙ slice_get-get_or sent old.indexed d more) in
-        its ∙ ap (λ (g : Sent). tag_in g.bytes) same
 
-    last_or_before : (k : ℕ) → k < old.indexed + 1 → (k < old.indexed) ⊎ (k ≡ old.indexed)
-    last_or_before k h = grind arith
+-- a new tag changes no other one's place
+pub others_lead : (old new : TagIndex) (sent : List Sent) (tag : List ℕ) (place : ℕ) → place_of_tag old tag ≡ None →
+    ((t : List ℕ) → place_of_tag new t ≡ cond (bytes_eq t tag) (Some place) (place_of_tag old t)) → (bytes : List ℕ) → LeadsTo old sent bytes → LeadsTo new sent bytes
+others_lead old new sent tag place none inserted bytes to =
+    let t = tag_in bytes in (
+      to.0,
+      inserted t ∙ (elim (cases_Bool (bytes_eq t tag)) [
+        | inl e ↦ absurd (some_none to.0 (sym to.1 ∙ (ap (place_of_tag old) ((bytes_eq-Decides t tag).0 e) ∙ none)))
+        | inr e ↦ cond-false (bytes_eq t tag) (Some place) (place_of_tag old t) e
+      ] ∙ to.1),
+      to.2,
+    )
+
+-- and leads to its frame
+pub new_leads : (old new : TagIndex) (sent : List Sent) (tag : List ℕ) (f : Sent) (place : ℕ) → place < length sent → f ≡ get_or sent place f → tag ≡ tag_in f.bytes →
+    ((t : List ℕ) → place_of_tag new t ≡ cond (bytes_eq t tag) (Some place) (place_of_tag old t)) → LeadsTo new sent f.bytes
+new_leads old new sent tag f place below here its inserted =
+    let t = tag_in f.bytes in (
+      place,
+      inserted t ∙ cond-true (bytes_eq t tag) (Some place) (place_of_tag old t) ((bytes_eq-Decides t tag).1 (sym its)),
+      ap (is_bytes f.bytes) (slice_get-get_or sent place f below ∙ ap (λ (g : Sent). Some g) (sym here)) ∙ (bytes_eq-Decides f.bytes f.bytes).1 refl,
+    )
 
 pub none_of : {X : Type 0} (o : Option X) → false ≡ is_some o → o ≡ None
 none_of None e = refl

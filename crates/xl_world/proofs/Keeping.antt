@@ -4,7 +4,7 @@ use Rattle.std.specs.Prelude.{All, option_map, option_to_list, nat_lt}
 use Rattle.std.proofs.lemmas.Bool.{cond_both}
 use Rattle.std.proofs.lemmas.List.Elements.{All-nil, All-cons}
 use Rattle.xl_lists.specs.Lists.{TrustedList}
-use Rattle.xl_lists.specs.Agreement.{Report as Reported}
+use Rattle.xl_lists.specs.declared.report.Report.{Report as Reported}
 use Rattle.xl_core.specs.declared.report.Report.{Report}
 use Rattle.xl_core.specs.declared.refusal.Refusal.TheVariants.{NotAfter}
 use Rattle.xl_core.specs.declared.refusal.Refusal.{Refusal}

@@ -5,7 +5,7 @@ use Rattle.std.proofs.lemmas.Bool.{cond_both, cond-true, cond-false}
 use Rattle.std.proofs.lemmas.List.Elements.{All-append, All-nil}
 use Rattle.xl_lists.specs.Lists.{TrustedList}
 use Rattle.xl_lists.specs.Quorums.{Enough}
-use Rattle.xl_lists.specs.Agreement.{Report as Reported}
+use Rattle.xl_lists.specs.declared.report.Report.{Report as Reported}
 use Rattle.xl_core.specs.declared.event.CoreEvent.{CoreEvent}
 use Rattle.xl_core.specs.declared.event.CoreEvent.TheVariants.{Issue, Frame, Drain, Reports, Stop, Stopped}
 use Rattle.xl_core.specs.Answers.{Done}
@@ -17,10 +17,12 @@ use Rattle.xl_world.specs.declared.place.Fate.{Fate}
 use Rattle.xl_world.specs.declared.plan.PlanNode.{PlanNode}
 use Rattle.xl_io.specs.Keepers.{may_hold}
 use Rattle.xl_world.specs.Keeper.{held_by, restored, answer_of}
-use Rattle.xl_world.specs.World.{AgreeAt}
+use Rattle.xl_world.specs.Headline.{AgreeAt}
 use Rattle.xl_world.specs.Plans.{AreDeclared, list_at}
 use Rattle.xl_world.specs.declared.place.Place.{Place}
-use Rattle.xl_world.specs.World.{World, Step, Act, Again, Torn, Mark, place_at, is_forged, settled, acts, reply_at, keeper_after, core_again, reopened, again, torn, moment_in, asked_at, step, run, place_of, start, list_in, Headline, IsRun}
+use Rattle.xl_world.specs.World.{World, Step, Act, Again, Torn, Mark, place_at, is_forged, settled, acts, reply_at, keeper_after, core_again, reopened, again, torn, moment_in, asked_at, step, run, list_in}
+use Rattle.xl_world.specs.Starts.{place_of, start, IsRun}
+use Rattle.xl_world.specs.Headline.{Headline}
 use Rattle.xl_world.proofs.Keeping.{happens_keeps, its_list, reported_under}
 use Rattle.xl_world.proofs.Seats.{some_same}
 use Rattle.xl_world.proofs.Settling.{put_cases, at_its_number}

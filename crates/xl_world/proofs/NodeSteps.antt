@@ -5,7 +5,7 @@ use Rattle.std.specs.Option.{is_none}
 use Rattle.std.proofs.lemmas.Bool.{and_parts, eqb-true, cond_both, ltb-true, leb-true}
 use Rattle.std.proofs.lemmas.List.Elements.{All-map, All-head, All-tail, All-cons}
 use Rattle.xl_lists.specs.Lists.{IsValid}
-use Rattle.xl_lists.specs.Agreement.{Said}
+use Rattle.xl_lists.specs.declared.said.Said.{Said}
 use Rattle.xl_wire.specs.declared.validation.Validation.{Validation}
 use Rattle.xl_validations.specs.declared.row.Row.{Row}
 use Rattle.xl_validations.specs.Rows.{is_current, unexpired, row_at, refusal, with_validation, at_member, count_full, empty_row}

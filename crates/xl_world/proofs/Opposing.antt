@@ -5,7 +5,7 @@ use Rattle.std.specs.Option.{option_or}
 use Rattle.std.proofs.lemmas.Bool.{cases_Bool, eqb-true}
 use Rattle.std.proofs.lemmas.List.Folds.{find-append}
 use Rattle.xl_base.specs.Ids.{same_id}
-use Rattle.xl_lists.specs.Agreement.{Report}
+use Rattle.xl_lists.specs.declared.report.Report.{Report}
 use Rattle.xl_lists.proofs.Agreement.{same_id-true}
 use Rattle.xl_world.specs.Forks.{Fork, opposed, fork_after, first_fork}
 

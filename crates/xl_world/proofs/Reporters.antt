@@ -4,7 +4,7 @@ use Rattle.std.specs.Prelude.{◌==◌, ◌↔◌, All, map, find, option_map, i
 use Rattle.std.proofs.lemmas.Bool.{cond_both, cond-true, cond-false, eqb-true}
 use Rattle.std.proofs.lemmas.List.Elements.{All-head, All-tail}
 use Rattle.xl_lists.specs.Lists.{TrustedList}
-use Rattle.xl_lists.specs.Agreement.{Report as Reported}
+use Rattle.xl_lists.specs.declared.report.Report.{Report as Reported}
 use Rattle.xl_core.specs.declared.event.CoreEvent.{CoreEvent}
 use Rattle.xl_world.specs.declared.place.Place.{Place}
 use Rattle.xl_world.specs.declared.plan.PlanNode.{PlanNode}
@@ -12,7 +12,8 @@ use Rattle.xl_world.specs.declared.place.Fate.{Fate}
 use Rattle.xl_io.specs.Keepers.{may_hold}
 use Rattle.xl_world.specs.Keeper.{held_by}
 use Rattle.xl_world.specs.Plans.{IsDeclared, AreDeclared, list_at}
-use Rattle.xl_world.specs.World.{World, Step, Act, Again, Torn, Mark, place_at, put, acts, moment_in, reopened, again, torn, asked_at, step, run, place_of, start, list_in, core_in, IsRun}
+use Rattle.xl_world.specs.World.{World, Step, Act, Again, Torn, Mark, place_at, put, acts, moment_in, reopened, again, torn, asked_at, step, run, list_in, core_in}
+use Rattle.xl_world.specs.Starts.{place_of, start, IsRun}
 use Rattle.xl_world.proofs.Lists.{HasLists, run_lists, start_lists}
 
 -- a place that is put is found where one of its number was, and nowhere else

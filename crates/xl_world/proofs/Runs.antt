@@ -3,7 +3,9 @@ use Rattle.std.proofs.Common.{◌≡◌, ℕ, ◌<◌, ◌≤◌, Bool, true, fa
 use Rattle.std.specs.Prelude.{◌==◌, All, IfSome, map, filter, slice_index_or}
 use Rattle.std.proofs.lemmas.Bool.{cond_both}
 use Rattle.std.proofs.lemmas.List.Elements.{All-map, All-head, All-tail, All-nil}
-use Rattle.xl_lists.specs.Agreement.{Said, Report as Reported, IsGenuine, IsBacked, Agree}
+use Rattle.xl_lists.specs.declared.said.Said.{Said}
+use Rattle.xl_lists.specs.declared.report.Report.{Report as Reported}
+use Rattle.xl_lists.specs.Agreement.{IsGenuine, IsBacked, Agree}
 use Rattle.xl_lists.proofs.Agreement.{agreement_from_kept, vouches_still}
 use Rattle.xl_core.specs.declared.event.CoreEvent.{CoreEvent}
 use Rattle.xl_core.specs.declared.event.CoreEvent.TheVariants.{Issue, Frame, Drain, Reports, Stop, Stopped}
@@ -24,7 +26,8 @@ use Rattle.xl_world.specs.Plans.{planned, AreDeclared, is_declared, all_numbers}
 use Rattle.xl_world.proofs.Standing.{FrameSays}
 use Rattle.xl_world.specs.World.{said_by}
 use Rattle.xl_world.specs.declared.place.Place.{Place}
-use Rattle.xl_world.specs.World.{World, Step, Act, Again, Torn, Mark, place_at, is_forged, acts, reply_at, keeper_after, core_again, reopened, again, torn, moment_in, asked_at, marked, step, run, place_of, start, IsRun}
+use Rattle.xl_world.specs.World.{World, Step, Act, Again, Torn, Mark, place_at, is_forged, acts, reply_at, keeper_after, core_again, reopened, again, torn, moment_in, asked_at, marked, step, run}
+use Rattle.xl_world.specs.Starts.{place_of, start, IsRun}
 use Rattle.xl_world.proofs.Standing.{CoreSays, Stands}
 use Rattle.xl_world.proofs.NodeSteps.{asks_above, failed_rises, opened_well}
 use Rattle.xl_world.proofs.Unforged.{heard_unforged, may_hold-true, never_none}

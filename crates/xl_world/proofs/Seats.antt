@@ -5,7 +5,8 @@ use Rattle.std.proofs.lemmas.Bool.{and_parts, or_right, eqb-true}
 use Rattle.std.proofs.lemmas.List.Elements.{All-weaker, All-nil, All-cons}
 use Rattle.xl_base.specs.declared.ids.LedgerId.{LedgerId}
 use Rattle.xl_lists.specs.Lists.{IsValid}
-use Rattle.xl_lists.specs.Agreement.{Said, with_said, vouches, IsGenuine, IsBacked}
+use Rattle.xl_lists.specs.declared.said.Said.{Said}
+use Rattle.xl_lists.specs.Agreement.{with_said, vouches, IsGenuine, IsBacked}
 use Rattle.xl_lists.proofs.Agreement.{same_id-true, now_said}
 use Rattle.xl_lists.proofs.Counting.{count_image}
 use Rattle.xl_wire.specs.declared.validation.Validation.{Validation}

@@ -5,7 +5,9 @@ use Rattle.std.proofs.lemmas.Bool.{cond_both, cond-true, cond-false, eq-eqb}
 use Rattle.std.specs.List.{flat_map}
 use Rattle.std.proofs.lemmas.List.{get_or-map, length-map, map-append}
 use Rattle.std.proofs.lemmas.List.Elements.{All-cons, All-head, All-nil, All-tail}
-use Rattle.xl_lists.specs.Agreement.{Said, Report as Reported, with_said}
+use Rattle.xl_lists.specs.declared.said.Said.{Said}
+use Rattle.xl_lists.specs.declared.report.Report.{Report as Reported}
+use Rattle.xl_lists.specs.Agreement.{with_said}
 use Rattle.xl_queues.specs.Queues.{Backlog, no_items, with_item}
 use Rattle.xl_wire.specs.declared.validation.Validation.{Validation}
 use Rattle.xl_core.specs.declared.event.CoreEvent.{CoreEvent}
@@ -33,7 +35,8 @@ use Rattle.xl_base.specs.Counts.{one_more}
 use Rattle.xl_world.specs.Plans.{is_declared, all_numbers, up_from}
 use Rattle.xl_world.specs.World.{reported_by, said_by}
 use Rattle.xl_world.specs.declared.place.Place.{Place}
-use Rattle.xl_world.specs.World.{World, Act, Again, Torn, again, acts, asked_at, core_again, is_forged, keeper_after, moment_in, place_at, place_of, put, reopened, reply_at, run, sent_in, settled, start, step, torn}
+use Rattle.xl_world.specs.World.{World, Act, Again, Torn, again, acts, asked_at, core_again, is_forged, keeper_after, moment_in, place_at, put, reopened, reply_at, run, sent_in, settled, step, torn}
+use Rattle.xl_world.specs.Starts.{place_of, start}
 use Rattle.xl_world.specs.Idle.{Between, IsIdle, Waits, WaitsOnly}
 use Rattle.xl_world.specs.Emptying.{IsEmptied, drained, drained_once, drains, drains_for, emptying, emptying_at, event_steps, given, handed_out, others}
 use Rattle.xl_world.proofs.Runs.{run-append}

@@ -3,7 +3,8 @@ use Rattle.std.proofs.Common.{◌≡◌, ℕ, ◌<◌, ◌≤◌, Bool, List, []
 use Rattle.std.specs.Prelude.{◌==◌, ◌⊎◌, All}
 use Rattle.std.proofs.lemmas.Bool.{eqb-true, eqb-false, cond_both, cond-true, cond-false}
 use Rattle.std.proofs.lemmas.List.Elements.{All-append, All-weaker}
-use Rattle.xl_lists.specs.Agreement.{Said, with_said, IsGenuine}
+use Rattle.xl_lists.specs.declared.said.Said.{Said}
+use Rattle.xl_lists.specs.Agreement.{with_said, IsGenuine}
 use Rattle.xl_lists.proofs.Agreement.{kept_by_step, vouches_still}
 use Rattle.xl_queues.specs.Queues.{Backlog}
 use Rattle.xl_validations.specs.declared.row.Row.{Row}

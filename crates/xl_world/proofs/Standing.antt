@@ -3,7 +3,8 @@ use Rattle.std.specs.Prelude.{◌≡◌, ℕ, List, All, IfSome}
 use Rattle.std.specs.Prelude.{Some, None, Result, Ok, Err}
 use Rattle.std.specs.declared.option.Option.{Option}
 use Rattle.xl_io.specs.Keepers.{MayHold}
-use Rattle.xl_lists.specs.Agreement.{Said, Kept}
+use Rattle.xl_lists.specs.declared.said.Said.{Said}
+use Rattle.xl_lists.specs.Agreement.{Kept}
 use Rattle.xl_wire.specs.declared.body.Body.{Body}
 use Rattle.xl_wire.specs.declared.body.Body.TheVariants as bodies
 use Rattle.xl_wire.specs.declared.refusal.WireRefusal.{WireRefusal}

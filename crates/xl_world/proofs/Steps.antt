@@ -6,7 +6,9 @@ use Rattle.std.proofs.lemmas.Bool.{cond_both}
 use Rattle.std.proofs.lemmas.List.Folds.{list_any_at}
 use Rattle.std.proofs.lemmas.Option.{slice_get_within, get_or_from_slice_get}
 use Rattle.std.proofs.lemmas.List.{append-nil, append_assoc, map-append}
-use Rattle.xl_lists.specs.Agreement.{Said, Report, with_said}
+use Rattle.xl_lists.specs.declared.said.Said.{Said}
+use Rattle.xl_lists.specs.declared.report.Report.{Report}
+use Rattle.xl_lists.specs.Agreement.{with_said}
 use Rattle.xl_wire.specs.declared.validation.Validation.{Validation}
 use Rattle.xl_core.specs.declared.report.Report.{Report as NodeReport}
 use Rattle.xl_lists.specs.Lists.{is_on}
@@ -33,7 +35,6 @@ use Rattle.xl_world.specs.declared.act.Answer.{Answer}
 use Rattle.xl_world.specs.declared.outcome.Outcome.{Outcome}
 use Rattle.xl_world.specs.declared.outcome.Outcome.TheVariants.{Refused, Full}
 use Rattle.xl_world.specs.declared.place.Place.{Place}
-use Rattle.xl_world.specs.declared.report.WorldReport.{WorldReport}
 use Rattle.xl_world.specs.declared.sent.Sent.{Sent}
 use Rattle.xl_world.specs.declared.place.Fate.{Fate}
 use Rattle.xl_world.specs.declared.place.Fate.TheVariants.{Kept}
@@ -52,7 +53,7 @@ use Rattle.xl_world.proofs.Lists.{core_keeps}
 use Rattle.xl_world.proofs.Emptying.{drained_node}
 use Rattle.xl_world.proofs.Sending.{IsAsIssued, emptied_acts, frame_ran, issue_ran, put_at, put_put}
 use Rattle.xl_world.specs.Schedule.{frame_at, told_of, reply_to, told_by, told_in}
-use Rattle.xl_world.specs.Seen.{MayDrain, report_seen, place_after, place_drained, put_acted, put_drained, given_at, acted_at, Answers, AnswersAt, outcomes_told, forged_at, reply_in, reported_in}
+use Rattle.xl_world.specs.Seen.{MayDrain, place_after, place_drained, put_acted, put_drained, given_at, acted_at, Answers, AnswersAt, outcomes_told, forged_at, reply_in, reported_in}
 
 -- what a step changes of a world
 abbrev pub with_lists : World → List Place → List Sent → List Said → List Report → ℕ → World
@@ -112,7 +113,7 @@ issued_at : (w : World) (i : ℕ) (e : CoreEvent) (fate : Fate) (a : Answer) (o 
     n ≡ (if forged_in w e o then one_more w.forged else w.forged) →
     with_lists w (let ps : List Place = put_acted e fate o w.places in if is_some a.issued then put_drained w.numbers (place_at i ps) ps else ps)
     (w.sent ++ (if is_some a.issued then given_at w.numbers (place_at i (put_acted e fate o w.places)) else []))
-    (with_said w.said (option_map (said_by i) a.issued)) (w.reports ++ option_to_list (option_map report_seen a.report)) n
+    (with_said w.said (option_map (said_by i) a.issued)) (w.reports ++ option_to_list a.report) n
     ≡ emptied_acts w i e fate o
 issued_at w i e fate a None at answers issued n counted = absurd answers
 issued_at w i e fate a (Some p) at is issued n counted =
@@ -125,7 +126,7 @@ issued_at w i e fate a (Some p) at is issued n counted =
 pub issued_step : (w : World) (i now seq : ℕ) (id : LedgerId) (full : Bool) (fate : Fate) (a : Answer) (places : List Place) (sent : List Sent) (said : List Said) (reports : List Report) → IsIdle w →
     AnswersAt i (Issue now seq id full) fate w.places (Some a) → places ≡ places_issued w.numbers i (Issue now seq id full) fate a w.places →
     sent ≡ w.sent ++ sent_issued w.numbers i (Issue now seq id full) fate a w.places →
-    said ≡ with_said w.said (option_map (said_by i) a.issued) → reports ≡ w.reports ++ option_to_list (option_map report_seen a.report) →
+    said ≡ with_said w.said (option_map (said_by i) a.issued) → reports ≡ w.reports ++ option_to_list a.report →
     with_lists w places sent said reports w.forged ≡ run w (event_steps w i (Issue now seq id full) fate)
 issued_step w i now seq id full fate a places sent said reports idle answers is_places is_sent is_said is_reports =
     let ran = issue_ran w i now seq id full fate idle in
@@ -192,7 +193,7 @@ heard_step w to now bytes places reports forged idle is_places is_reports counte
     same_lists w is_places refl refl is_reports refl ∙ heard_at w to now bytes forged (place_at to w.places) counted ran.as_issued ∙ sym ran.ran
 
 -- what is told of an answer is what is told of its reply
-full_told : (i : ℕ) (n : Node) (a : Option WorldReport) (r : Option NodeReport) → option_map report_seen a ≡ option_map (reported_by n) r → option_map (λ w. Full i w.seq w.id) a ≡ option_map (λ q. Full i q.seq q.id) r
+full_told : (i : ℕ) (n : Node) (a : Option Report) (r : Option NodeReport) → a ≡ option_map (reported_by n) r → option_map (λ w. Full i w.seq w.id) a ≡ option_map (λ q. Full i q.seq q.id) r
 full_told i n None None is = refl
 full_told i n None (Some q) is = cc
 full_told i n (Some w) None is = cc
@@ -260,11 +261,11 @@ told_there i e a ps answers = tells_at i e Kept a (place_at i ps) answers
 pub told_nowhere : (i : ℕ) (e : CoreEvent) (ps : List Place) → AnswersAt i e Kept ps None → told_of i (reply_in i e ps) ≡ []
 told_nowhere i e ps answers = ap (λ o. told_of i (option_map (λ p. reply_at p e Kept) o)) (nothing_at e Kept (place_at i ps) answers)
 
-reports_at : (e : CoreEvent) (a : Answer) (o : Option Place) → Answers e Kept o (Some a) → option_to_list (option_map report_seen a.report) ≡ reported_in (option_map (λ p. reply_at p e Kept) o)
+reports_at : (e : CoreEvent) (a : Answer) (o : Option Place) → Answers e Kept o (Some a) → option_to_list a.report ≡ reported_in (option_map (λ p. reply_at p e Kept) o)
 reports_at e a None answers = absurd answers
 reports_at e a (Some p) is = ap option_to_list is.report
 
-pub reports_there : (i : ℕ) (e : CoreEvent) (a : Answer) (ps : List Place) → AnswersAt i e Kept ps (Some a) → option_to_list (option_map report_seen a.report) ≡ reported_in (reply_in i e ps)
+pub reports_there : (i : ℕ) (e : CoreEvent) (a : Answer) (ps : List Place) → AnswersAt i e Kept ps (Some a) → option_to_list a.report ≡ reported_in (reply_in i e ps)
 reports_there i e a ps answers = reports_at e a (place_at i ps) answers
 
 pub reports_nowhere : (i : ℕ) (e : CoreEvent) (ps : List Place) → AnswersAt i e Kept ps None → reported_in (reply_in i e ps) ≡ []

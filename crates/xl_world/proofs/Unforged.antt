@@ -15,7 +15,8 @@ use Rattle.xl_core.specs.Hearing.{heard}
 use Rattle.xl_core.proofs.Heard.{IsHeard, sender}
 use Rattle.xl_world.proofs.Speaking.{heard_said}
 use Rattle.xl_world.specs.declared.sent.Sent.{Sent}
-use Rattle.xl_lists.specs.Agreement.{Said, IsGenuine}
+use Rattle.xl_lists.specs.declared.said.Said.{Said}
+use Rattle.xl_lists.specs.Agreement.{IsGenuine}
 use Rattle.xl_wire.specs.declared.validation.Validation.{Validation}
 use Rattle.xl_core.specs.Node.{Node}
 use Rattle.xl_io.specs.Keepers.{Held}

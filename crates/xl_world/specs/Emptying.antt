@@ -1,5 +1,5 @@
--- A schedule's event at a core, after which nothing waits: the report that arose, if any, is handed out, and the core is drained for
--- each other declared number until a drain gives nothing. Source: this project's schedule language.
+-- A schedule's event at a core, after which nothing waits: the report that arose, if any, is handed out, and the core
+-- is drained for each other declared number until a drain gives nothing. Source: this project's schedule language.
 use Rattle.std.specs.Prelude.{◌≡◌, ℕ, zero, suc, ◌==◌, not, List, [], ◌∷◌, ◌++◌, All, false, filter, length, map, if◌then◌else◌}
 use Rattle.std.specs.Prelude.{Some, None}
 use Rattle.std.specs.declared.option.Option.{Option}

@@ -1,4 +1,5 @@
--- What comes forged: a sealed frame that no liar signed and nobody had sent. Source: the premise of the headline, that no tag is forged.
+-- What comes forged: a sealed frame that no liar signed and nobody had sent. Source: the premise of the headline, that
+-- no tag is forged.
 use Rattle.std.specs.Prelude.{ℕ, ◌==◌, ◌&&◌, not, nat_le, Bool, false, List, length}
 use Rattle.std.specs.List.{list_any}
 use Rattle.std.specs.Str.{bytes_eq}
@@ -15,8 +16,8 @@ use Rattle.xl_world.specs.declared.sent.Sent.{Sent}
 abbrev pub was_sent : List Sent → List ℕ → Bool
 was_sent sent bytes = list_any (λ f. bytes_eq f.bytes bytes) sent
 
--- whether the frame is to the owner of these keys, with the right tag of another member that is no liar, and nobody sent its bytes;
--- a number that isn't another member's has no key
+-- whether the frame is to the owner of these keys, with the right tag of another member that is no liar, and nobody
+-- sent its bytes; a number that isn't another member's has no key
 abbrev pub is_made_up : List ℕ → List Sent → Ring → List ℕ → RawFrame → Bool
 is_made_up liars sent keys bytes f = f.to == keys.me && not (is_on liars f.from) && not (was_sent sent bytes) && is_sealed keys f
 

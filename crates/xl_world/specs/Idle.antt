@@ -1,11 +1,14 @@
--- Worlds in which nothing waits, and cores at which only what was just issued does. Source: what the code of this crate relies on.
-use Rattle.std.specs.Prelude.{◌≡◌, ℕ, ◌<◌, ◌≤◌, List, [], ◌∷◌}
+-- Worlds in which nothing waits, and cores at which only what was just issued does. Source: what the code of this crate
+-- relies on.
+use Rattle.std.specs.Prelude.{◌≡◌, ℕ, ◌<◌, ◌≤◌, List, [], ◌∷◌, All, Vec, vec_capacity}
+use Rattle.std.specs.declared.alloc.Global.{Global}
 use Rattle.std.specs.Prelude.{Some}
 use Rattle.std.specs.declared.option.Option.{Option}
 use Rattle.xl_wire.specs.declared.validation.Validation.{Validation}
 use Rattle.xl_core.specs.Core.{Core}
 use Rattle.xl_core.specs.Node.{items_of}
 use Rattle.xl_core.specs.Queues.{waiting_at}
+use Rattle.xl_wire.specs.declared.lengths.TheConstants.{VALIDATION_FRAME}
 use Rattle.xl_world.specs.declared.place.Place.{Place}
 use Rattle.xl_world.specs.World.{World, place_at}
 use Rattle.xl_world.specs.Emptying.{IsEmptied, others}
@@ -28,3 +31,7 @@ WaitsOnly numbers core = (o : Option Validation) × Waits o core (others numbers
 pub record IsIdle (w : World) : Type 0 where
   pub numbers : Between 0 w.numbers
   pub emptied : (i : ℕ) (p : Place) → place_at i w.places ≡ Some p → IsEmptied w.numbers p.core
+
+-- empty rooms for the frame of a validation each
+abbrev pub AreRooms : List (Vec ℕ Global) → Type 0
+AreRooms rooms = All (λ room. (room.items ≡ []) × (VALIDATION_FRAME ≤ vec_capacity room)) rooms

@@ -1,5 +1,5 @@
--- What outlives a stop of a node: the number in force, and after a save that failed the one that was asked, and whether that was
--- written all the same. Source: this profile, by which a stop in a save may leave either number.
+-- What outlives a stop of a node: the number in force, and after a save that failed the one that was asked, and whether
+-- that was written all the same. Source: this profile, by which a stop in a save may leave either number.
 use Rattle.std.specs.Prelude.{ℕ, Bool, true, false, unwrap_or, if◌then◌else◌}
 use Rattle.std.specs.Prelude.{Some, None}
 use Rattle.std.specs.declared.option.Option.{Option}

@@ -2,6 +2,8 @@ pub mod Keeper
 pub mod Plans
 pub mod Forgeries
 pub mod World
+pub mod Starts
+pub mod Headline
 pub mod Emptying
 pub mod Idle
 pub mod Schedule

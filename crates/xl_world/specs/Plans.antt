@@ -22,7 +22,8 @@ is_declared liars plan k = list_any (λ d. d.me == k) plan || is_on liars k
 
 -- what a declared node is opened with, with room for so many ledgers
 abbrev pub planned : ℕ → PlanNode → Settings
-planned limit d = record { me = d.me; list = d.list; keys = schedule_ring d.me; limit = limit; validating = d.validating }
+planned limit d =
+    record { me = d.me; list = d.list; keys = schedule_ring d.me; limit = limit; validating = d.validating }
 
 -- a node is declared with a number that a member may have, and a list that may be one
 pub record IsDeclared (d : PlanNode) : Type 0 where

@@ -68,8 +68,8 @@ event_asked at (ask.Issue node seq id full) = Issue at seq id full
 abbrev pub failing : Bool → Fate
 failing new = if new then Written else Unwritten
 
--- an event whose save is cut off stops there, and leaves the new number or the old one. One that asks no save comes to its end, and
--- then the node is opened anew
+-- an event whose save is cut off stops there, and leaves the new number or the old one. One that asks no save comes to
+-- its end, and then the node is opened anew
 abbrev pub cut_short : World → ℕ → Bool → ℕ → CoreEvent → Place → Option ℕ → List Step
 cut_short w at new i e p None = event_steps w i e Kept ++ Again i at (left_by p.keeper new None) ∷ []
 cut_short w at new i e p (Some s) = Torn i e (left_by p.keeper new (Some s)) ∷ []
@@ -78,17 +78,28 @@ abbrev pub cut_at : World → ℕ → Bool → ℕ → CoreEvent → Option Plac
 cut_at w at new i e None = []
 cut_at w at new i e (Some p) = cut_short w at new i e p (core_asks p.core e)
 
+abbrev pub cut_steps : World → ℕ → Bool → ℕ → CoreEvent → List Step
+cut_steps w at new i e = cut_at w at new i e (place_at i w.places)
+
+-- a node is asked something, and its save, if any, meets a fate
+abbrev pub ask_steps : World → ℕ → Ask → Fate → List Step
+ask_steps w at ask fate = event_steps w (node_asked ask) (event_asked at ask) fate
+
+-- bytes are handed to a node
+abbrev pub hand_steps : World → ℕ → ℕ → List ℕ → List Step
+hand_steps w at to bytes = event_steps w to (Frame at bytes) Kept
+
 -- the steps that it is when something happens at a moment
 abbrev pub steps_at : World → ℕ → What → List Step
-steps_at w at (what.Ask ask) = event_steps w (node_asked ask) (event_asked at ask) Kept
+steps_at w at (what.Ask ask) = ask_steps w at ask Kept
 steps_at w at (what.Deliver place) = delivery_of w at (frame_at w.sent place)
 steps_at w at what.All = deliveries w at (drop w.mark w.sent) ++ Mark ∷ []
 steps_at w at what.Drop = Mark ∷ []
 steps_at w at (what.Restart node) = option_to_list (option_map (restart at) (place_at node w.places))
-steps_at w at (what.Cut new ask) = cut_at w at new (node_asked ask) (event_asked at ask) (place_at (node_asked ask) w.places)
-steps_at w at (what.Fail new ask) = event_steps w (node_asked ask) (event_asked at ask) (failing new)
-steps_at w at (what.Lie from to lie) = event_steps w to (Frame at (lied_bytes from to lie)) Kept
-steps_at w at (what.Raw to bytes) = event_steps w to (Frame at bytes) Kept
+steps_at w at (what.Cut new ask) = cut_steps w at new (node_asked ask) (event_asked at ask)
+steps_at w at (what.Fail new ask) = ask_steps w at ask (failing new)
+steps_at w at (what.Lie from to lie) = hand_steps w at to (lied_bytes from to lie)
+steps_at w at (what.Raw to bytes) = hand_steps w at to bytes
 steps_at w at (what.Prefer node) = []
 
 -- the steps that an event is
@@ -108,7 +119,9 @@ reply_to w Mark = None
 
 -- what is told of a reply: that it refused, and what it reports
 abbrev pub outcomes_of : ℕ → CoreReply → List Outcome
-outcomes_of i r = option_to_list (option_map (Refused i) (refusal_in r.answer)) ++ option_to_list (option_map (λ q. Full i q.seq q.id) r.report)
+outcomes_of i r =
+    option_to_list (option_map (Refused i) (refusal_in r.answer))
+    ++ option_to_list (option_map (λ q. Full i q.seq q.id) r.report)
 
 abbrev pub told_of : ℕ → Option CoreReply → List Outcome
 told_of i None = []

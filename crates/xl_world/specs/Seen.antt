@@ -4,23 +4,19 @@ use Rattle.std.specs.Prelude.{Some, None}
 use Rattle.std.specs.declared.option.Option.{Option}
 use Rattle.std.specs.List.{list_all}
 use Rattle.xl_base.specs.Ids.{same_id}
-use Rattle.xl_lists.specs.Agreement.{Said, Report}
+use Rattle.xl_lists.specs.declared.report.Report.{Report}
 use Rattle.xl_core.specs.Answers.{refusal_in}
 use Rattle.xl_core.specs.Core.{CoreReply}
 use Rattle.xl_core.specs.declared.event.CoreEvent.{CoreEvent}
 use Rattle.xl_core.specs.declared.event.CoreEvent.TheVariants.{Issue, Frame}
 use Rattle.xl_tags.specs.Rings.{schedule_ring}
 use Rattle.xl_world.specs.declared.act.Answer.{Answer}
-use Rattle.xl_world.specs.declared.act.Asked.{Asked}
-use Rattle.xl_world.specs.declared.act.NodeEvent.{NodeEvent}
-use Rattle.xl_world.specs.declared.act.NodeEvent.TheVariants as event
+use Rattle.xl_world.specs.declared.act.Issuing.{Issuing}
 use Rattle.xl_world.specs.declared.anew.Cut.{Cut}
 use Rattle.xl_world.specs.declared.fork.Fork.{Fork}
 use Rattle.xl_world.specs.declared.outcome.Outcome.{Outcome}
 use Rattle.xl_world.specs.declared.outcome.Outcome.TheVariants.{Refused, Full}
 use Rattle.xl_world.specs.declared.place.Place.{Place}
-use Rattle.xl_world.specs.declared.place.Saying.{Saying}
-use Rattle.xl_world.specs.declared.report.WorldReport.{WorldReport}
 use Rattle.xl_world.specs.declared.place.Fate.{Fate}
 use Rattle.xl_world.specs.Keeper.{left_by, restored}
 use Rattle.xl_world.specs.Forks as Forks
@@ -34,38 +30,26 @@ use Rattle.xl_world.specs.Idle.{IsIdle, WaitsOnly}
 use Rattle.xl_wire.specs.Heads.{split_of}
 use Rattle.xl_world.specs.declared.sent.Sent.{Sent}
 
-abbrev pub said_seen : Saying → Said
-said_seen s = record { member = s.member; seq = s.seq; id = s.id }
-
-abbrev pub report_seen : WorldReport → Report
-report_seen r = record { node = r.node; list = r.list; seq = r.seq; id = r.id }
-
-abbrev pub reports_seen : List WorldReport → List Report
-reports_seen reports = map report_seen reports
-
 abbrev pub fork_seen : Fork → Forks.Fork
-fork_seen f = record { earlier = report_seen f.earlier.now; later = report_seen f.later.now }
+fork_seen f = record { earlier = f.earlier.now; later = f.later.now }
 
 -- whether the second report, if it is of j and of the first one's sequence, has its id
 abbrev pub agrees_at : ℕ → Report → Report → Bool
 agrees_at j r q = not (q.node == j && (r.seq == q.seq && not (same_id r.id q.id)))
 
 -- whether all reports of j agree with this one, if it is of i
-abbrev pub accords : ℕ → ℕ → List WorldReport → WorldReport → Bool
-accords i j reports r = not (r.node == i) || list_all (λ q. agrees_at j (report_seen r) (report_seen q)) reports
+abbrev pub accords : ℕ → ℕ → List Report → Report → Bool
+accords i j reports r = not (r.node == i) || list_all (λ q. agrees_at j r q) reports
 
-abbrev pub issue_seen : Asked → CoreEvent
-issue_seen a = Issue a.moment a.seq a.id a.full
-
-abbrev pub event_seen : NodeEvent → CoreEvent
-event_seen (event.Issue asked) = issue_seen asked
-event_seen (event.Frame now bytes) = Frame now bytes.now
+-- what a core is asked, as its event
+abbrev pub issue_event : Issuing → CoreEvent
+issue_event a = Issue a.at a.seq a.id a.full
 
 -- what a node's calls answered is this reply
 pub record IsAnswer (a : Answer) (r : CoreReply) : Type 0 where
   pub refused : a.refused ≡ refusal_in r.answer
   pub issued : a.issued ≡ r.issued
-  pub report : option_map report_seen a.report ≡ option_map (reported_by r.core.node) r.report
+  pub report : a.report ≡ option_map (reported_by r.core.node) r.report
 
 -- a place after an event, of which the report was handed out
 abbrev pub place_after : Place → CoreEvent → Fate → Place
@@ -116,21 +100,13 @@ given_at numbers (Some p) = given p.core (others numbers p.core.node.me)
 
 -- what is told of an answer
 abbrev pub outcomes_told : ℕ → Answer → List Outcome
-outcomes_told i a = option_to_list (option_map (Refused i) a.refused) ++ option_to_list (option_map (λ r. Full i r.seq r.id) a.report)
+outcomes_told i a =
+    option_to_list (option_map (Refused i) a.refused) ++ option_to_list (option_map (λ r. Full i r.seq r.id) a.report)
 
 -- whether what comes to a place, where there is one, is forged
 abbrev pub forged_at : List ℕ → List Sent → List ℕ → Option Place → Bool
 forged_at liars sent bytes None = false
 forged_at liars sent bytes (Some p) = forges liars sent p.core.node.keys bytes (split_of bytes)
-
--- what is told of an answer, where there is one, and what it reports
-abbrev pub told_some : ℕ → Option Answer → List Outcome
-told_some i None = []
-told_some i (Some a) = outcomes_told i a
-
-abbrev pub reported_some : Option Answer → List Report
-reported_some None = []
-reported_some (Some a) = option_to_list (option_map report_seen a.report)
 
 -- what the node of a number replies to what comes to it, where there is one
 abbrev pub reply_in : ℕ → CoreEvent → List Place → Option CoreReply
@@ -147,8 +123,8 @@ pub record Hearing : Type 0 where
   pub reports : List Report
   pub told : List Outcome
 
-abbrev pub hearing_seen : List Place → List WorldReport → List Outcome → Hearing
-hearing_seen places reports told = record { places = places; reports = reports_seen reports; told = told }
+abbrev pub hearing_seen : List Place → List Report → List Outcome → Hearing
+hearing_seen places reports told = record { places = places; reports = reports; told = told }
 
 -- bytes come to the node of a number
 abbrev pub heard_one : ℕ → ℕ → List ℕ → Hearing → Hearing
@@ -178,16 +154,7 @@ cut_seen new p asked = record { number = left_by p.keeper new asked; torn = is_s
 
 -- the world with the node of a number opened again
 abbrev pub with_again : World → ℕ → ℕ → ℕ → World
-with_again w i now number = record {
-  liars = w.liars;
-  numbers = w.numbers;
-  places = put_again now number (place_at i w.places) w.places;
-  sent = w.sent;
-  mark = w.mark;
-  said = w.said;
-  reports = w.reports;
-  forged = w.forged;
-}
+with_again w i now number = record w { places = put_again now number (place_at i w.places) w.places }
 
 -- that is the world after one step, and nothing waits in it
 abbrev pub Steps : World → ℕ → ℕ → ℕ → Type 0

@@ -1,13 +1,16 @@
--- A network of honest nodes and liars, and its runs: a drain of a core and the handing out of its reports are steps like any other,
--- and what a drain gives is what was sent. Whatever was ever sent may come never, once or often, at any later place.
--- Source: Chase and MacBrough, "Analysis of the XRP Ledger Consensus Protocol" (2018); restarts, keepers and queues by this profile.
-use Rattle.std.specs.Prelude.{◌≡◌, ℕ, ◌==◌, Bool, false, List, [], ◌∷◌, ◌++◌, length, map, filter, All, option_map, option_to_list, find, if◌then◌else◌}
+-- A network of honest nodes and liars, and its runs: a drain of a core and the handing out of its reports are steps
+-- like any other, and what a drain gives is what was sent. Whatever was ever sent may come never, once or often, at any
+-- later place.
+-- Source: Chase and MacBrough, "Analysis of the XRP Ledger Consensus Protocol" (2018); restarts, keepers and queues by
+-- this profile.
+use Rattle.std.specs.Prelude.{ℕ, ◌==◌, Bool, false, List, [], ◌∷◌, ◌++◌, length, map, option_map, option_to_list, find, if◌then◌else◌}
 use Rattle.std.specs.Prelude.{Some, None}
 use Rattle.std.specs.declared.option.Option.{Option}
 use Rattle.xl_io.specs.Keepers.{may_hold}
 use Rattle.xl_lists.specs.Lists.{TrustedList}
-use Rattle.xl_lists.specs.Quorums.{Enough}
-use Rattle.xl_lists.specs.Agreement.{Said, Report as Reported, with_said}
+use Rattle.xl_lists.specs.declared.said.Said.{Said}
+use Rattle.xl_lists.specs.declared.report.Report.{Report as Reported}
+use Rattle.xl_lists.specs.Agreement.{with_said}
 use Rattle.xl_base.specs.Counts.{one_more}
 use Rattle.xl_wire.specs.declared.validation.Validation.{Validation}
 use Rattle.xl_wire.specs.Heads.{split_of}
@@ -21,9 +24,7 @@ use Rattle.xl_world.specs.declared.sent.Sent.{Sent}
 use Rattle.xl_world.specs.declared.place.Keeper.{Keeper}
 use Rattle.xl_world.specs.declared.place.Place.{Place}
 use Rattle.xl_world.specs.declared.place.Fate.{Fate}
-use Rattle.xl_world.specs.declared.plan.PlanNode.{PlanNode}
-use Rattle.xl_world.specs.Keeper.{held_by, resting, restored, answer_of, after_save}
-use Rattle.xl_world.specs.Plans.{AreDeclared, all_numbers, is_declared, list_at, planned}
+use Rattle.xl_world.specs.Keeper.{held_by, restored, answer_of, after_save}
 use Rattle.xl_world.specs.Forgeries.{forges}
 
 pub record World : Type 0 where
@@ -42,8 +43,8 @@ pub record World : Type 0 where
   -- how many sealed frames came that no liar signed and nobody had sent; the count ends at the greatest `u64`
   pub forged : ℕ
 
--- What may happen next: something at a node, whose save meets some fate; a node is opened again at a moment; it stops in the
--- event's save, and is opened again with what that leaves; or the mark moves to the end of what was sent.
+-- What may happen next: something at a node, whose save meets some fate; a node is opened again at a moment; it stops
+-- in the event's save, and is opened again with what that leaves; or the mark moves to the end of what was sent.
 pub data Step : Type 0 where
   Act : (i : ℕ) (event : CoreEvent) (fate : Fate) → Step
   Again : (i now number : ℕ) → Step
@@ -85,12 +86,9 @@ is_forged w n Stopped = false
 
 -- the world after what came of an event at a node, with its keeper then
 abbrev pub settled : World → ℕ → Bool → CoreReply → Keeper → World
-settled w i forged r keeper = record {
-  liars = w.liars;
-  numbers = w.numbers;
+settled w i forged r keeper = record w {
   places = put (record { core = r.core; keeper = keeper }) w.places;
   sent = w.sent ++ sent_in r.core.node.me r.answer;
-  mark = w.mark;
   said = with_said w.said (option_map (said_by i) r.issued);
   reports = w.reports ++ option_to_list (option_map (reported_by r.core.node) r.report);
   forged = if forged then one_more w.forged else w.forged;
@@ -106,7 +104,8 @@ keeper_after p event fate = after_save p.keeper (core_asks p.core event) fate
 
 abbrev pub acts : World → ℕ → CoreEvent → Fate → Option Place → World
 acts w i event fate None = w
-acts w i event fate (Some p) = settled w i (is_forged w p.core.node event) (reply_at p event fate) (keeper_after p event fate)
+acts w i event fate (Some p) =
+    settled w i (is_forged w p.core.node event) (reply_at p event fate) (keeper_after p event fate)
 
 -- the core of a place opened again with this number
 abbrev pub core_again : Place → ℕ → ℕ → Core
@@ -124,7 +123,8 @@ again w i now number (Some p) = if may_hold (held_by p.keeper) number then reope
 abbrev pub torn : World → ℕ → ℕ → ℕ → Option Place → Option ℕ → World
 torn w i now number None asked = w
 torn w i now number (Some p) None = w
-torn w i now number (Some p) (Some s) = again w i now number (Some (record { core = p.core; keeper = record p.keeper { asked = Some s } }))
+torn w i now number (Some p) (Some s) =
+    again w i now number (Some (record { core = p.core; keeper = record p.keeper { asked = Some s } }))
 
 -- the moment of an event that has one
 abbrev pub moment_in : CoreEvent → ℕ
@@ -141,55 +141,18 @@ asked_at (Some p) event = core_asks p.core event
 
 -- all that was sent stands before the mark
 abbrev pub marked : World → World
-marked w = record {
-  liars = w.liars;
-  numbers = w.numbers;
-  places = w.places;
-  sent = w.sent;
-  mark = length w.sent;
-  said = w.said;
-  reports = w.reports;
-  forged = w.forged;
-}
+marked w = record w { mark = length w.sent }
 
 abbrev pub step : World → Step → World
 step w (Act i event fate) = acts w i event fate (place_at i w.places)
 step w (Again i now number) = again w i now number (place_at i w.places)
-step w (Torn i event number) = torn w i (moment_in event) number (place_at i w.places) (asked_at (place_at i w.places) event)
+step w (Torn i event number) =
+    torn w i (moment_in event) number (place_at i w.places) (asked_at (place_at i w.places) event)
 step w Mark = marked w
 
 abbrev pub run : World → List Step → World
 run w [] = w
 run w (s ∷ ss) = run (step w s) ss
-
--- a core with room for so many ledgers, and its keeper
-abbrev pub place_of : ℕ → PlanNode → Place
-place_of limit d = record { core = with_queues (opened (planned limit d) d.moment 0); keeper = resting 0 }
-
--- the network at the start
-abbrev pub start : ℕ → List ℕ → List PlanNode → World
-start limit liars plan = record {
-  liars = liars;
-  numbers = filter (is_declared liars plan) all_numbers;
-  places = map (place_of limit) plan;
-  sent = [];
-  mark = 0;
-  said = [];
-  reports = [];
-  forged = 0;
-}
-
--- no report of i and no report of j share a sequence and differ in id
-abbrev pub AgreeAt : List Reported → ℕ → ℕ → Type 0
-AgreeAt reports i j = All (λ r. All (λ q. r.node ≡ i → q.node ≡ j → r.seq ≡ q.seq → r.id ≡ q.id) reports) reports
-
--- The headline, of every run of cores: where no frame is forged, the nodes of two numbers never report different ledgers of one
--- sequence, if their quorums together exceed the sum of both lists' sizes, minus the overlap, plus the liars in the overlap.
-abbrev pub Headline : Type 0
-Headline =
-    (limit : ℕ) (liars : List ℕ) (plan : List PlanNode) (steps : List Step) (i j : ℕ) (a b : TrustedList) →
-    AreDeclared plan → list_at plan i ≡ Some a → list_at plan j ≡ Some b → Enough liars a b →
-    (run (start limit liars plan) steps).forged ≡ 0 → AgreeAt (run (start limit liars plan) steps).reports i j
 
 -- the list of a node of the world
 abbrev pub list_in : World → ℕ → Option TrustedList
@@ -198,7 +161,3 @@ list_in w i = option_map (λ p. p.core.node.list) (place_at i w.places)
 -- the core of a node of the world
 abbrev pub core_in : World → ℕ → Option Core
 core_in w i = option_map (λ p. p.core) (place_at i w.places)
-
--- the world comes from a declared one by steps
-abbrev pub IsRun : World → Type 0
-IsRun w = (limit : ℕ) × (plan : List PlanNode) × (steps : List Step) × AreDeclared plan × (w ≡ run (start limit w.liars plan) steps)

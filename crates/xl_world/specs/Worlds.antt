@@ -1,10 +1,10 @@
 -- A world of the code, as the definitions see it. Source: what the code of this crate keeps.
-use Rattle.std.specs.Prelude.{◌≤◌, length, map}
+use Rattle.std.specs.Prelude.{◌≤◌, length}
 use Rattle.xl_world.specs.declared.world.World.TheInside.{Inside}
 use Rattle.xl_world.specs.Indexes.{IsIndex}
-use Rattle.xl_world.specs.World.{World, IsRun}
+use Rattle.xl_world.specs.World.{World}
+use Rattle.xl_world.specs.Starts.{IsRun}
 use Rattle.xl_world.specs.Idle.{IsIdle}
-use Rattle.xl_world.specs.Seen.{said_seen, reports_seen}
 
 abbrev pub world_seen : Inside → World
 world_seen w = record {
@@ -13,12 +13,13 @@ world_seen w = record {
   places = w.places.items;
   sent = w.sent.items;
   mark = w.mark;
-  said = map said_seen w.said.items;
-  reports = reports_seen w.reports.items;
+  said = w.said.items;
+  reports = w.reports.items;
   forged = w.forged;
 }
 
--- what the type keeps: the world is a run, nothing waits in it, its index is one of what was sent, and its mark stands in that
+-- what the type keeps: the world is a run, nothing waits in it, its index is one of what was sent, and its mark stands
+-- in that
 pub record IsWhole (w : Inside) : Type 0 where
   pub run : IsRun (world_seen w)
   pub idle : IsIdle (world_seen w)

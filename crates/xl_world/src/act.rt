@@ -6,9 +6,9 @@ ghost use Rattle.xl_base.specs.declared.moments.TheConstants.{GREATEST_MILLIS};
 ghost use Rattle.xl_world.specs.declared.place.Fate.TheVariants.{Kept};
 ghost use Rattle.xl_world.specs.declared.outcome.Outcome.TheVariants.{Preferred};
 ghost use Rattle.xl_world.specs.World.{reported_by};
-ghost use Rattle.xl_world.specs.World.{moment_in, place_at, reply_at};
+ghost use Rattle.xl_world.specs.World.{place_at, reply_at};
 ghost use Rattle.xl_world.specs.Emptying.{handed_out};
-ghost use Rattle.xl_world.specs.Seen.{report_seen, issue_seen, event_seen, IsAnswer, NoneUntaken, place_after, acted_at, AnswersAt};
+ghost use Rattle.xl_world.specs.Seen.{issue_event, IsAnswer, NoneUntaken, place_after, acted_at, AnswersAt};
 
 use crate::place::{Fate, NodeCore, Place};
 use crate::saving::Fated;
@@ -19,20 +19,13 @@ use xl_lists::List;
 use xl_trie::Trie;
 use xl_wire::Validation;
 
-/// The ledger of a sequence that a node is asked to issue its validation of.
+/// What a core is asked to issue, and when.
 #[derive(Clone, Copy, Debug)]
-pub struct Asked {
-    pub moment: Millis,
+pub struct Issuing {
+    pub at: Millis,
     pub seq: Seq,
     pub id: LedgerId,
     pub full: bool,
-}
-
-/// What may happen at a node.
-#[derive(Clone, Copy, Debug)]
-pub enum NodeEvent<'a> {
-    Issue(Asked),
-    Frame { now: Millis, bytes: &'a [u8] },
 }
 
 /// What came of an event at a node.
@@ -59,7 +52,7 @@ impl Answer {
 
 /// A report of a node, under its list.
 fn report_under(node: &Node<Trie>, report: Option<Report>) -> Option<WorldReport>
-    ensures { option_map report_seen result ≡ option_map (reported_by node.now) report }
+    ensures { result ≡ option_map (reported_by node.now) report }
 {
     match report {
         Some(Report { seq, id }) => Some(WorldReport {
@@ -90,24 +83,19 @@ fn taken_report(core: &mut NodeCore) -> Option<Report>
 }
 
 /// A core is asked to issue: its keeper holds the sequence before anything is said.
-fn issue(place: &mut Place, asked: &Asked, fate: Fate) -> Answer
-    requires moment { asked.now.moment ≤ GREATEST_MILLIS }
+fn issue(place: &mut Place, issuing: &Issuing, fate: Fate) -> Answer
+    requires moment { issuing.now.at ≤ GREATEST_MILLIS }
     requires untaken { place.old.core.untaken.items ≡ [] }
-    ensures place { place.new ≡ place_after place.old (issue_seen asked.now) fate }
-    ensures answer { IsAnswer result (reply_at place.old (issue_seen asked.now) fate) }
+    ensures place { place.new ≡ place_after place.old (issue_event issuing.now) fate }
+    ensures answer { IsAnswer result (reply_at place.old (issue_event issuing.now) fate) }
 {
-    let Asked {
-        moment,
-        seq,
-        id,
-        full,
-    } = *asked;
-    let validation = place.core.node().own_validation(moment, seq, id, full);
+    let Issuing { at, seq, id, full } = *issuing;
+    let validation = place.core.node().own_validation(at, seq, id, full);
     let mut fated = Fated {
         keeper: place.keeper,
         fate,
     };
-    let outcome = place.core.issue(moment, seq, id, full, &mut fated);
+    let outcome = place.core.issue(at, seq, id, full, &mut fated);
     place.keeper = fated.keeper;
     let report = taken_report(&mut place.core);
     match outcome {
@@ -136,19 +124,6 @@ fn hear(place: &mut Place, now: Millis, bytes: &[u8]) -> Answer
             report: report_under(place.core.node(), report),
         },
         Err(refusal) => Answer::refusing(refusal),
-    }
-}
-
-/// An event at a place, whose save meets a fate.
-pub fn act(place: &mut Place, event: &NodeEvent<'_>, fate: Fate) -> Answer
-    requires moment { moment_in (event_seen event.now) ≤ GREATEST_MILLIS }
-    requires untaken { place.old.core.untaken.items ≡ [] }
-    ensures place { place.new ≡ place_after place.old (event_seen event.now) fate }
-    ensures answer { IsAnswer result (reply_at place.old (event_seen event.now) fate) }
-{
-    match event {
-        NodeEvent::Issue(asked) => issue(place, asked, fate),
-        NodeEvent::Frame { now, bytes } => hear(place, *now, bytes),
     }
 }
 
@@ -201,17 +176,33 @@ pub fn preferred_at(places: &[Place], i: NodeNo) -> Option<Outcome>
     }
 }
 
-/// An event at the node of a number, where there is one.
-pub fn act_at(places: &mut [Place], i: NodeNo, event: &NodeEvent<'_>, fate: Fate) -> Option<Answer>
-    requires moment { moment_in (event_seen event.now) ≤ GREATEST_MILLIS }
+/// The core of a number, where there is one, is asked to issue.
+pub fn issue_at(places: &mut [Place], i: NodeNo, issuing: &Issuing, fate: Fate) -> Option<Answer>
+    requires moment { issuing.now.at ≤ GREATEST_MILLIS }
     requires untaken { NoneUntaken i places.old }
-    ensures places { places.new ≡ acted_at i (event_seen event.now) fate places.old }
-    ensures answer { AnswersAt i (event_seen event.now) fate places.old result }
+    ensures places { places.new ≡ acted_at i (issue_event issuing.now) fate places.old }
+    ensures answer { AnswersAt i (issue_event issuing.now) fate places.old result }
 {
     match place_of(places, i) {
         Some(k) => {
             let place = &mut places[k];
-            Some(act(place, event, fate))
+            Some(issue(place, issuing, fate))
+        }
+        None => None,
+    }
+}
+
+/// Bytes come to the core of a number, where there is one.
+pub fn hear_at(places: &mut [Place], i: NodeNo, now: Millis, bytes: &[u8]) -> Option<Answer>
+    requires moment { now ≤ GREATEST_MILLIS }
+    requires untaken { NoneUntaken i places.old }
+    ensures places { places.new ≡ acted_at i (Frame now bytes.now) Kept places.old }
+    ensures answer { AnswersAt i (Frame now bytes.now) Kept places.old result }
+{
+    match place_of(places, i) {
+        Some(k) => {
+            let place = &mut places[k];
+            Some(hear(place, now, bytes))
         }
         None => None,
     }

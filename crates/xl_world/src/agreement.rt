@@ -1,21 +1,21 @@
 // Whether reports agree. Each function is one line of the definition.
 ghost use Rattle.std.specs.Prelude.{◌≡◌};
 ghost use Rattle.std.specs.List.{list_all};
-ghost use Rattle.xl_world.specs.Seen.{report_seen, agrees_at, accords};
+ghost use Rattle.xl_world.specs.Seen.{agrees_at, accords};
 
 use crate::WorldReport;
 use xl_base::NodeNo;
 
 /// Whether the second report, if it is of `j` and of the first one's sequence, has its id.
 fn agrees(r: &WorldReport, q: &WorldReport, j: NodeNo) -> bool
-    ensures { result ≡ agrees_at j (report_seen r.now) (report_seen q.now) }
+    ensures { result ≡ agrees_at j r.now q.now }
 {
     !(q.node == j && r.seq == q.seq && r.id != q.id)
 }
 
 /// Whether all reports of `j` agree with this one.
 fn all_agree_with(r: &WorldReport, reports: &[WorldReport], j: NodeNo) -> bool
-    ensures { result ≡ list_all (λ q. agrees_at j (report_seen r.now) (report_seen q)) reports.now }
+    ensures { result ≡ list_all (λ q. agrees_at j r.now q) reports.now }
 {
     reports.iter().all(|q| agrees(r, q, j))
 }

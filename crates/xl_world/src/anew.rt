@@ -5,10 +5,10 @@ ghost use Rattle.xl_base.specs.declared.moments.TheConstants.{GREATEST_MILLIS};
 ghost use Rattle.xl_core.specs.Core.{core_asks};
 ghost use Rattle.xl_core.specs.declared.event.CoreEvent.TheVariants.{Issue};
 ghost use Rattle.xl_world.specs.Keeper.{found};
-ghost use Rattle.xl_world.specs.Seen.{issue_seen, place_again, put_again, cut_seen};
+ghost use Rattle.xl_world.specs.Seen.{issue_event, place_again, put_again, cut_seen};
 ghost use Rattle.xl_world.specs.World.{place_at};
 
-use crate::act::{Asked, place_of};
+use crate::act::{Issuing, place_of};
 use crate::place::{NodeCore, Place};
 use std::alloc::Global;
 use xl_base::{Millis, NodeNo, OutOfMemory, Seq};
@@ -45,10 +45,10 @@ fn save_asked(core: &NodeCore, seq: Seq) -> Option<Seq>
 }
 
 /// What a cut leaves: where a save is asked, that number if `new`, and else the one in force.
-fn cut_place(place: &Place, asked: &Asked, new: bool) -> Cut
-    ensures { result ≡ cut_seen new place.now (core_asks place.now.core (issue_seen asked.now)) }
+fn cut_place(place: &Place, issuing: &Issuing, new: bool) -> Cut
+    ensures { result ≡ cut_seen new place.now (core_asks place.now.core (issue_event issuing.now)) }
 {
-    let saved = save_asked(&place.core, asked.seq);
+    let saved = save_asked(&place.core, issuing.seq);
     Cut {
         number: place.keeper.left_by(new, saved),
         torn: saved.is_some(),
@@ -56,13 +56,14 @@ fn cut_place(place: &Place, asked: &Asked, new: bool) -> Cut
 }
 
 /// What a cut leaves of the node of a number, where there is one.
-pub fn cut_at(places: &[Place], i: NodeNo, asked: &Asked, new: bool) -> Option<Cut>
-    ensures { result ≡ option_map (λ p. cut_seen new p (core_asks p.core (issue_seen asked.now))) (place_at i places.now) }
+pub fn cut_at(places: &[Place], i: NodeNo, issuing: &Issuing, new: bool) -> Option<Cut>
+    ensures { result ≡
+        option_map (λ p. cut_seen new p (core_asks p.core (issue_event issuing.now))) (place_at i places.now) }
 {
     match place_of(places, i) {
         Some(k) => {
             let place = &places[k];
-            Some(cut_place(place, asked, new))
+            Some(cut_place(place, issuing, new))
         }
         None => None,
     }

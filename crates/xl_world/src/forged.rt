@@ -22,7 +22,8 @@ fn is_liar(liars: &[NodeNo], number: u32) -> bool
     liars.iter().any(|liar| number == liar.get())
 }
 
-/// Whether the frame is to the owner of the keys, from another member that is no liar, with the right tag, and nobody sent it.
+/// Whether the frame is to the owner of the keys, from another member that is no liar, with the right tag, and nobody
+/// sent it.
 fn is_made_up(
     liars: &[NodeNo],
     sent: &[Sent],

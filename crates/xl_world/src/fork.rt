@@ -1,7 +1,7 @@
 // The first two reports of one sequence that name different ledgers.
 ghost use Rattle.std.specs.Prelude.{◌≡◌, IfOk, option_map};
 ghost use Rattle.xl_world.specs.Forks.{first_fork, NoForkAgrees, ForkDiffers};
-ghost use Rattle.xl_world.specs.Seen.{reports_seen, fork_seen};
+ghost use Rattle.xl_world.specs.Seen.{fork_seen};
 
 use crate::WorldReport;
 use std::alloc::Global;
@@ -17,13 +17,13 @@ pub struct Fork<'a> {
 
 /// The first fork of these reports, in their order, or none where all reports of one sequence name one ledger.
 ///
-/// It keeps the first report of each sequence and looks at each report once: until there is a fork, all reports of a sequence
-/// name the ledger of the first.
+/// It keeps the first report of each sequence and looks at each report once: until there is a fork, all reports of a
+/// sequence name the ledger of the first.
 pub fn first_fork<'a>(
     alloc: Global,
     reports: &'a [WorldReport],
 ) -> Result<Option<Fork<'a>>, OutOfMemory>
-    ensures { IfOk result (λ fork. option_map fork_seen fork ≡ first_fork (reports_seen reports.now)) }
+    ensures { IfOk result (λ fork. option_map fork_seen fork ≡ first_fork reports.now) }
 {
     let mut firsts: BTreeMap<Seq, &WorldReport> = BTreeMap::new(alloc);
     for later in reports {

@@ -1,6 +1,6 @@
 // Whether bytes were sent, without a walk over all that was sent.
 ghost use Rattle.std.specs.Prelude.{◌≡◌, ◌+◌, ◌≤◌, ◌<◌, length, slice_get, true, false, IfSome, option_copied};
-ghost use Rattle.xl_world.specs.Indexes.{tag_in, IsIndex};
+ghost use Rattle.xl_world.specs.Indexes.{tag_in, is_at, IsIndex};
 ghost use Rattle.xl_world.specs.Forgeries.{was_sent};
 
 use crate::Sent;
@@ -8,10 +8,11 @@ use crate::sent::was_sent;
 use std::alloc::Global;
 use std::collections::BTreeMap;
 
-/// Where each sent frame stands by its tag.
+/// Where sent frames stand by their tags: the first of each tag.
 ///
-/// Frames are added when bytes are looked up, so that a schedule that hands in no bytes pays nothing. Where two frames have one tag,
-/// or memory is wanting, the index is given up, and all frames are looked at.
+/// Frames are added when bytes are looked up, so that a schedule that hands in no bytes pays nothing. A frame that was
+/// sent again is found where it was sent first. Where two different frames have one tag, or memory is wanting, the
+/// index is given up, and all frames are looked at.
 #[derive(Drop)]
 pub struct TagIndex {
     places: BTreeMap<[u8; 32], usize>,
@@ -44,7 +45,7 @@ impl TagIndex {
         }
     }
 
-    /// Whether the frame of this tag is these bytes.
+    /// Whether the first frame of this tag is these bytes.
     fn finds(&self, sent: &[Sent], bytes: &[u8], tag: &[u8; 32]) -> bool
         requires index { IsIndex self.now sent.now }
         requires kept { self.now.given_up ≡ false }
@@ -55,10 +56,7 @@ impl TagIndex {
         let Some(&place) = self.places.get(tag) else {
             return false;
         };
-        match sent_at(sent, place) {
-            Some(frame) => frame.bytes.as_slice() == bytes,
-            None => false,
-        }
+        is_at(sent, place, bytes)
     }
 
     /// Adds the frames that it hasn't, unless it is given up.
@@ -82,18 +80,33 @@ impl TagIndex {
         ensures same { self.new.given_up ≡ true → self.new.indexed ≡ self.old.indexed }
     {
         let place = self.indexed;
-        let Some(tag) = tag_of(sent[place].bytes.as_slice()) else {
+        let bytes = sent[place].bytes.as_slice();
+        let Some(tag) = tag_of(bytes) else {
             self.given_up = true;
             return;
         };
-        if self.places.contains_key(&tag) {
-            self.given_up = true;
+        if let Some(&first) = self.places.get(&tag) {
+            if is_at(sent, first, bytes) {
+                self.indexed = place + 1;
+            } else {
+                self.given_up = true;
+            }
             return;
         }
         match self.places.insert(tag, place) {
             Ok(_) => self.indexed = place + 1,
             Err(_) => self.given_up = true,
         }
+    }
+}
+
+/// Whether the frame of a place, from 0 on, is these bytes.
+fn is_at(sent: &[Sent], place: usize, bytes: &[u8]) -> bool
+    ensures { result ≡ is_at sent.now place bytes.now }
+{
+    match sent_at(sent, place) {
+        Some(frame) => frame.bytes.as_slice() == bytes,
+        None => false,
     }
 }
 

@@ -1,10 +1,13 @@
-//! Many nodes in one network: what happens at them, everything that they ever sent, said and reported, and whether they agree.
+//! Many nodes in one network: what happens at them, everything that they ever sent, said and reported, and whether they
+//! agree.
 //!
-//! A world is made of a plan of honest nodes and liars, and each event of a schedule is some steps of it. Whatever was sent may be
-//! delivered never, once or often, at any later place. So a schedule has every loss, repetition and reordering.
+//! A world is made of a plan of honest nodes and liars, and each event of a schedule is some steps of it. Whatever was
+//! sent may be delivered never, once or often, at any later place. So a schedule has every loss, repetition and
+//! reordering.
 //!
-//! It stands on xl_core, xl_lists, xl_tags and xl_sched. Its one contract: each event is the world's steps, so the world is a run from its
-//! plan, and two honest nodes whose quorums are enough never report different ledgers of one sequence.
+//! It stands on xl_core, xl_lists, xl_tags and xl_sched. Its one contract: each event is the world's steps, so the
+//! world is a run from its plan, and two honest nodes whose quorums are enough never report different ledgers of one
+//! sequence.
 #![tactic(auto)]
 
 mod act;
@@ -12,14 +15,13 @@ mod agreement;
 mod anew;
 mod forged;
 mod fork;
-mod hearing;
+mod handing;
 mod index;
 mod lie;
 mod open;
 mod outcome;
 mod place;
 mod plan;
-mod report;
 mod saving;
 mod sent;
 mod settle;
@@ -28,9 +30,9 @@ mod world;
 pub use fork::{Fork, first_fork, forks};
 pub use outcome::{Happened, Outcome};
 pub use plan::{Plan, PlanNode};
-pub use report::WorldReport;
 pub use sent::Sent;
 pub use world::World;
+pub use xl_lists::Report as WorldReport;
 
 #[cfg(test)]
 mod tests;

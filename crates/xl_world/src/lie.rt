@@ -47,7 +47,8 @@ pub fn lied_header(from: NodeNo, to: NodeNo, header: &Header) -> [u8; HEADER_FRA
     bytes
 }
 
-/// Seals a frame by the key that the schedule gives the two. There is none for one number alone: its frame stays as it is.
+/// Seals a frame by the key that the schedule gives the two. There is none for one number alone: its frame stays as it
+/// is.
 fn seal(from: NodeNo, to: NodeNo, frame: &mut [u8])
     requires { 32 ≤ length frame.old }
     ensures { (f : RawFrame) → f.to ≡ to → SpellsRaw f frame.old → SpellsRaw (sealed (schedule_ring from) f) frame.new }

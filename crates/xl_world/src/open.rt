@@ -5,7 +5,7 @@ ghost use Rattle.xl_ledger.specs.declared.registry.TheConstants.{LEAST_LIMIT, GR
 ghost use Rattle.xl_lists.specs.Lists.{is_on};
 ghost use Rattle.xl_base.specs.declared.moments.TheConstants.{GREATEST_MILLIS};
 ghost use Rattle.xl_world.specs.Plans.{is_declared, all_numbers, AreDeclared, AreTimely};
-ghost use Rattle.xl_world.specs.World.{place_of};
+ghost use Rattle.xl_world.specs.Starts.{place_of};
 
 use crate::place::{Keeper, Place};
 use crate::{Plan, PlanNode};
@@ -92,7 +92,8 @@ fn push_some(numbers: &mut Vec<NodeNo>, found: Option<NodeNo>) -> Result<(), Out
 
 /// All declared numbers, rising.
 pub fn numbers(alloc: Global, plan: &Plan) -> Result<Vec<NodeNo>, OutOfMemory>
-    ensures { IfOk result (λ numbers. numbers.items ≡ filter (is_declared plan.now.liars.items plan.now.nodes.items) all_numbers) }
+    ensures { IfOk result (λ numbers.
+        numbers.items ≡ filter (is_declared plan.now.liars.items plan.now.nodes.items) all_numbers) }
 {
     let mut numbers = Vec::new(alloc);
     for number in 1..=GREATEST_NODE_NO {

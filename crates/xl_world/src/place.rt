@@ -1,7 +1,6 @@
-use xl_base::{LedgerId, NodeNo, Seq};
+use xl_base::Seq;
 use xl_core::Core;
 use xl_trie::Trie;
-use xl_wire::Validation;
 
 /// How a save is answered, and what it leaves.
 #[derive(Clone, Copy, Debug, PartialEq, Eq)]
@@ -14,8 +13,8 @@ pub enum Fate {
     Written,
 }
 
-/// What outlives a stop of a node: the number in force; after a save that failed the one that was asked, and whether it was
-/// written all the same; and how often a save has failed, up to the greatest `u64`.
+/// What outlives a stop of a node: the number in force; after a save that failed the one that was asked, and whether it
+/// was written all the same; and how often a save has failed, up to the greatest `u64`.
 #[derive(Clone, Copy, Debug, PartialEq, Eq)]
 pub struct Keeper {
     pub in_force: Seq,
@@ -65,7 +64,8 @@ impl Keeper {
         }
     }
 
-    /// The number that is left by a cut in a save of this number, the new one or not; in no save it is the one that a restart finds.
+    /// The number that is left by a cut in a save of this number, the new one or not; in no save it is the one that a
+    /// restart finds.
     pub fn left_by(&self, new: bool, saved: Option<Seq>) -> Seq
         ensures { result ≡ left_by self.now new saved }
     {
@@ -96,28 +96,4 @@ pub type NodeCore = Core<Trie>;
 pub struct Place {
     pub core: NodeCore,
     pub keeper: Keeper,
-}
-
-/// What a member said.
-#[derive(Clone, Copy, Debug, PartialEq, Eq)]
-pub struct Saying {
-    pub member: NodeNo,
-    pub seq: Seq,
-    pub id: LedgerId,
-}
-
-impl Saying {
-    ghost use Rattle.std.specs.Prelude.{◌≡◌};
-    ghost use Rattle.xl_world.specs.World.{said_by};
-    ghost use Rattle.xl_world.specs.Seen.{said_seen};
-
-    pub fn of(member: NodeNo, validation: &Validation) -> Saying
-        ensures { said_seen result ≡ said_by member validation.now }
-    {
-        Saying {
-            member,
-            seq: validation.seq,
-            id: validation.id,
-        }
-    }
 }

@@ -12,8 +12,8 @@ pub struct PlanNode {
     pub moment: Millis,
 }
 
-/// Who is in the world: the honest nodes, in the order in which they are declared, and the liars. Each node may know so many
-/// ledgers, the root among them: 2 to 262,144.
+/// Who is in the world: the honest nodes, in the order in which they are declared, and the liars. Each node may know so
+/// many ledgers, the root among them: 2 to 262,144.
 #[derive(Debug, Drop)]
 pub struct Plan {
     pub nodes: Vec<PlanNode>,

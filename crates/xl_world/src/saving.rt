@@ -22,7 +22,8 @@ impl xl_io::Keeper for Fated {
 
     ghost faults = { λ f. f.keeper.faults };
 
-    ghost save_gives = { λ old seq ok new. (ok ≡ answers_ok old.fate) × (new.keeper ≡ after_save old.keeper (Some seq) old.fate) };
+    ghost save_gives = { λ old seq ok new.
+        (ok ≡ answers_ok old.fate) × (new.keeper ≡ after_save old.keeper (Some seq) old.fate) };
 
     fn load(&mut self) -> Result<Seq, Failed> {
         let seq = self.keeper.in_force;

@@ -1,5 +1,5 @@
 // What was sent: every frame of every node, as its bytes.
-ghost use Rattle.std.specs.Prelude.{◌≡◌, ◌≢◌, ◌+◌, ◌<◌, ◌≤◌, ◌++◌, [], All, IfOk, Some, if◌then◌else◌, is_some, length, option_copied, vec_len, vec_capacity};
+ghost use Rattle.std.specs.Prelude.{◌≡◌, ◌≢◌, ◌+◌, ◌<◌, ◌≤◌, ◌++◌, [], IfOk, Some, if◌then◌else◌, is_some, length, option_copied, vec_len, vec_capacity};
 ghost use Rattle.std.specs.declared.option.Option.{Option};
 ghost use Rattle.xl_tags.specs.Rings.{schedule_ring};
 ghost use Rattle.xl_wire.specs.declared.validation.Validation as validation;
@@ -9,7 +9,7 @@ ghost use Rattle.xl_wire.specs.declared.lengths.TheConstants.{VALIDATION_FRAME};
 ghost use Rattle.xl_world.specs.declared.place.Place.{Place};
 ghost use Rattle.xl_world.specs.World.{place_at};
 ghost use Rattle.xl_world.specs.Emptying.{drained, drained_once, given, given_once, others};
-ghost use Rattle.xl_world.specs.Idle.{Between, WaitsOnly};
+ghost use Rattle.xl_world.specs.Idle.{AreRooms, Between, WaitsOnly};
 ghost use Rattle.xl_world.specs.Schedule.{frame_at};
 ghost use Rattle.xl_world.specs.Seen.{MayDrain, given_at, put_drained};
 ghost use Rattle.xl_world.specs.Forgeries.{was_sent};
@@ -46,7 +46,7 @@ pub fn was_sent(sent: &[Sent], bytes: &[u8]) -> bool
 /// Room for a frame, so many times.
 pub fn rooms(alloc: Global, count: usize) -> Result<Vec<Vec<u8>>, OutOfMemory>
     ensures count { IfOk result (λ rooms. vec_len rooms ≡ count) }
-    ensures each { IfOk result (λ rooms. All (λ room. (room.items ≡ []) × (VALIDATION_FRAME ≤ vec_capacity room)) rooms.items) }
+    ensures each { IfOk result (λ rooms. AreRooms rooms.items) }
 {
     let mut rooms = Vec::with_capacity(alloc, count)?;
     for _ in 0..count {
@@ -58,11 +58,11 @@ pub fn rooms(alloc: Global, count: usize) -> Result<Vec<Vec<u8>>, OutOfMemory>
 /// A frame in the last of the rooms.
 fn filled(rooms: &mut Vec<Vec<u8>>, frame: &[u8]) -> Vec<u8>
     requires some { 0 < vec_len rooms.old }
-    requires each { All (λ room. (room.items ≡ []) × (VALIDATION_FRAME ≤ vec_capacity room)) rooms.old.items }
+    requires each { AreRooms rooms.old.items }
     requires short { length frame.now ≤ VALIDATION_FRAME }
     ensures bytes { result.items ≡ frame.now }
     ensures count { vec_len rooms.new + 1 ≡ vec_len rooms.old }
-    ensures each { All (λ room. (room.items ≡ []) × (VALIDATION_FRAME ≤ vec_capacity room)) rooms.new.items }
+    ensures each { AreRooms rooms.new.items }
 {
     match rooms.pop() {
         Some(mut room) => {
@@ -85,12 +85,12 @@ fn drain_for(
     requires keys { core.old.node.keys ≡ schedule_ring core.old.node.me }
     requires waits { (o : Option validation.Validation) × ((waiting_at core.old.waiting to).items ≡ items_of o) }
     requires rooms { 0 < vec_len rooms.old }
-    requires each { All (λ room. (room.items ≡ []) × (VALIDATION_FRAME ≤ vec_capacity room)) rooms.old.items }
+    requires each { AreRooms rooms.old.items }
     requires room { vec_len sent.old < vec_capacity sent.old }
     ensures core { core.new ≡ drained_once core.old to }
     ensures sent { sent.new.items ≡ sent.old.items ++ given_once core.old to }
     ensures rooms { vec_len rooms.old ≤ vec_len rooms.new + 1 }
-    ensures each { All (λ room. (room.items ≡ []) × (VALIDATION_FRAME ≤ vec_capacity room)) rooms.new.items }
+    ensures each { AreRooms rooms.new.items }
     ensures room { (vec_len sent.new ≤ vec_len sent.old + 1) × (vec_capacity sent.old ≤ vec_capacity sent.new) }
 {
     let count = core.drain(to, frame);
@@ -105,20 +105,25 @@ fn drain_for(
 }
 
 /// What waits for each other number is drained, for each in its turn, and sent.
-fn drain(core: &mut NodeCore, numbers: &[NodeNo], rooms: &mut Vec<Vec<u8>>, sent: &mut Vec<Sent>)
+fn drain(
+    core: &mut NodeCore,
+    numbers: &[NodeNo],
+    frame: &mut [u8; LONGEST_FRAME],
+    rooms: &mut Vec<Vec<u8>>,
+    sent: &mut Vec<Sent>,
+)
     requires waits { WaitsOnly numbers.now core.old }
     requires rising { Between 0 numbers.now }
     requires keys { core.old.node.keys ≡ schedule_ring core.old.node.me }
     requires rooms { length numbers.now ≤ vec_len rooms.old }
-    requires each { All (λ room. (room.items ≡ []) × (VALIDATION_FRAME ≤ vec_capacity room)) rooms.old.items }
+    requires each { AreRooms rooms.old.items }
     requires room { vec_len sent.old + length numbers.now ≤ vec_capacity sent.old }
     ensures core { core.new ≡ drained core.old (others numbers.now core.old.node.me) }
     ensures sent { sent.new.items ≡ sent.old.items ++ given core.old (others numbers.now core.old.node.me) }
 {
-    let mut frame = [0; LONGEST_FRAME];
     for &to in numbers {
         if to != core.node().me() {
-            drain_for(core, to, &mut frame, rooms, sent);
+            drain_for(core, to, frame, rooms, sent);
         }
     }
 }
@@ -128,20 +133,21 @@ fn drain_at(
     places: &mut [Place],
     i: NodeNo,
     numbers: &[NodeNo],
+    frame: &mut [u8; LONGEST_FRAME],
     rooms: &mut Vec<Vec<u8>>,
     sent: &mut Vec<Sent>,
 )
     requires waits { (p : Place) → place_at i places.old ≡ Some p → MayDrain numbers.now p }
     requires rising { Between 0 numbers.now }
     requires rooms { length numbers.now ≤ vec_len rooms.old }
-    requires each { All (λ room. (room.items ≡ []) × (VALIDATION_FRAME ≤ vec_capacity room)) rooms.old.items }
+    requires each { AreRooms rooms.old.items }
     requires room { vec_len sent.old + length numbers.now ≤ vec_capacity sent.old }
     ensures places { places.new ≡ put_drained numbers.now (place_at i places.old) places.old }
     ensures sent { sent.new.items ≡ sent.old.items ++ given_at numbers.now (place_at i places.old) }
 {
     if let Some(k) = place_of(places, i) {
         let place = &mut places[k];
-        drain(&mut place.core, numbers, rooms, sent);
+        drain(&mut place.core, numbers, frame, rooms, sent);
     }
 }
 
@@ -150,6 +156,7 @@ pub fn send_some(
     places: &mut [Place],
     i: NodeNo,
     numbers: &[NodeNo],
+    frame: &mut [u8; LONGEST_FRAME],
     rooms: &mut Vec<Vec<u8>>,
     sent: &mut Vec<Sent>,
     issued: &Option<Validation>,
@@ -157,12 +164,14 @@ pub fn send_some(
     requires waits { (p : Place) → place_at i places.old ≡ Some p → MayDrain numbers.now p }
     requires rising { Between 0 numbers.now }
     requires rooms { length numbers.now ≤ vec_len rooms.old }
-    requires each { All (λ room. (room.items ≡ []) × (VALIDATION_FRAME ≤ vec_capacity room)) rooms.old.items }
+    requires each { AreRooms rooms.old.items }
     requires room { vec_len sent.old + length numbers.now ≤ vec_capacity sent.old }
-    ensures places { places.new ≡ (if is_some issued.now then put_drained numbers.now (place_at i places.old) places.old else places.old) }
-    ensures sent { sent.new.items ≡ sent.old.items ++ (if is_some issued.now then given_at numbers.now (place_at i places.old) else []) }
+    ensures places { places.new ≡
+        (if is_some issued.now then put_drained numbers.now (place_at i places.old) places.old else places.old) }
+    ensures sent { sent.new.items ≡
+        sent.old.items ++ (if is_some issued.now then given_at numbers.now (place_at i places.old) else []) }
 {
     if issued.is_some() {
-        drain_at(places, i, numbers, rooms, sent);
+        drain_at(places, i, numbers, frame, rooms, sent);
     }
 }

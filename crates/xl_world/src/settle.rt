@@ -1,13 +1,13 @@
 // What came of an event, taken into the lists of a world. The room was made before, so no call wants memory.
-ghost use Rattle.std.specs.Prelude.{◌≡◌, ◌+◌, ◌<◌, ◌≤◌, ◌++◌, map, option_map, option_to_list, vec_len, vec_capacity};
+ghost use Rattle.std.specs.Prelude.{◌≡◌, ◌+◌, ◌<◌, ◌≤◌, ◌++◌, option_map, option_to_list, vec_len, vec_capacity};
 ghost use Rattle.xl_lists.specs.Agreement.{with_said};
 ghost use Rattle.xl_world.specs.World.{said_by};
-ghost use Rattle.xl_world.specs.Seen.{outcomes_told, said_seen, report_seen, reports_seen};
+ghost use Rattle.xl_world.specs.Seen.{outcomes_told};
 
 use crate::act::Answer;
-use crate::place::Saying;
 use crate::{Outcome, WorldReport};
 use xl_base::NodeNo;
+use xl_lists::Said;
 use xl_wire::Validation;
 
 /// Adds an element where there is one.
@@ -23,19 +23,23 @@ fn push_some<T: Drop>(list: &mut Vec<T>, element: Option<T>)
 }
 
 /// What is issued is said.
-pub fn say_some(said: &mut Vec<Saying>, member: NodeNo, issued: &Option<Validation>)
+pub fn say_some(said: &mut Vec<Said>, member: NodeNo, issued: &Option<Validation>)
     requires { vec_len said.old < vec_capacity said.old }
-    ensures { map said_seen said.new.items ≡ with_said (map said_seen said.old.items) (option_map (said_by member) issued.now) }
+    ensures { said.new.items ≡ with_said said.old.items (option_map (said_by member) issued.now) }
 {
     if let Some(validation) = issued {
-        let _ = said.push(Saying::of(member, validation));
+        let _ = said.push(Said {
+            member,
+            seq: validation.seq,
+            id: validation.id,
+        });
     }
 }
 
 /// A report, if there is one, comes after the others.
 pub fn report_some(reports: &mut Vec<WorldReport>, report: Option<WorldReport>)
     requires { vec_len reports.old < vec_capacity reports.old }
-    ensures items { reports_seen reports.new.items ≡ reports_seen reports.old.items ++ option_to_list (option_map report_seen report) }
+    ensures items { reports.new.items ≡ reports.old.items ++ option_to_list report }
     ensures len { vec_len reports.new ≤ vec_len reports.old + 1 }
     ensures capacity { vec_capacity reports.old ≤ vec_capacity reports.new }
 {

@@ -1,24 +1,25 @@
 ghost use Rattle.std.specs.Prelude.{◌≡◌, if◌then◌else◌};
 ghost use Rattle.xl_base.specs.Counts.{one_more};
 ghost use Rattle.xl_world.specs.Schedule.{node_asked, event_asked, failing};
-ghost use Rattle.xl_world.specs.Seen.{issue_seen};
+ghost use Rattle.xl_world.specs.Seen.{issue_event};
 
-use crate::act::{Asked, NodeEvent, act_at, core_at, list_at, preferred_at};
+use crate::act::{Issuing, core_at, issue_at, list_at, preferred_at};
 use crate::agreement::all_agree;
 use crate::anew::{cut_at, found_at, reopen_at};
 use crate::forged::is_forged;
-use crate::hearing::{hear_at, hear_each};
+use crate::handing::{hand_each, hand_to};
 use crate::index::TagIndex;
 use crate::lie::{lied_header, lied_validation};
-use crate::place::{Fate, NodeCore, Place, Saying};
+use crate::place::{Fate, NodeCore, Place};
 use crate::sent::{frame_at, rooms, send_some};
 use crate::settle::{report_some, say_some, tell};
 use crate::{Happened, Plan, Sent, WorldReport, open};
 use std::alloc::Global;
 use std::marker::Model;
 use xl_base::{Millis, NodeNo, OutOfMemory, Seq};
-use xl_lists::List;
+use xl_lists::{List, Said};
 use xl_sched::{Ask, Event, Lied, What};
+use xl_wire::LONGEST_FRAME;
 
 /// A world: the cores, and all that they ever sent, said and reported.
 #[derive(Drop)]
@@ -27,11 +28,13 @@ pub struct World {
     liars: Vec<NodeNo>,
     numbers: Vec<NodeNo>,
     places: Vec<Place>,
+    /// Room for one drained frame.
+    frame: Box<[u8; LONGEST_FRAME]>,
     sent: Vec<Sent>,
     /// How many sent frames stand before the mark.
     mark: usize,
     index: TagIndex,
-    said: Vec<Saying>,
+    said: Vec<Said>,
     reports: Vec<WorldReport>,
     forged: u64,
 }
@@ -54,13 +57,15 @@ impl World {
     ghost use Rattle.xl_lists.specs.Lists.{TrustedList};
     ghost use Rattle.xl_lists.specs.Quorums.{Enough};
     ghost use Rattle.xl_core.specs.declared.event.CoreEvent.TheVariants.{Frame};
-    ghost use Rattle.xl_world.specs.World.{AgreeAt};
+    ghost use Rattle.xl_world.specs.Headline.{AgreeAt};
     ghost use Rattle.xl_world.specs.Plans.{AreTimely, list_at};
-    ghost use Rattle.xl_world.specs.World.{Headline, list_in, core_in, start, marked, run, place_at};
+    ghost use Rattle.xl_world.specs.Headline.{Headline};
+    ghost use Rattle.xl_world.specs.World.{list_in, core_in, marked, run, place_at};
+    ghost use Rattle.xl_world.specs.Starts.{start};
     ghost use Rattle.xl_world.specs.Emptying.{event_steps};
-    ghost use Rattle.xl_world.specs.Schedule.{steps_at, steps_of, told_in, after_event, cut_at as cut_steps, outcomes_at, outcomes, preference, lied_bytes};
+    ghost use Rattle.xl_world.specs.Schedule.{ask_steps, cut_steps, hand_steps, steps_at, steps_of, told_in, after_event, outcomes_at, outcomes, preference, lied_bytes};
     ghost use Rattle.xl_base.specs.declared.moments.TheConstants.{GREATEST_MILLIS};
-    ghost use Rattle.xl_world.specs.Seen.{reports_seen, with_again, IsFront, Steps};
+    ghost use Rattle.xl_world.specs.Seen.{with_again, IsFront, Steps};
     ghost use Rattle.xl_world.specs.declared.place.Fate.TheVariants.{Kept};
 
     /// The world of a plan, at its start.
@@ -82,14 +87,23 @@ impl World {
             said: Vec::new(alloc),
             reports: Vec::new(alloc),
             forged: 0,
+            frame: Box::new(alloc, [0; LONGEST_FRAME])?,
         })
     }
 
-    /// A core is asked to issue, and what it issues is drained and sent. The room is made before, so an `Err` changes nothing.
-    fn issue(&mut self, node: NodeNo, asked: &Asked, fate: Fate) -> Result<Happened, OutOfMemory>
-        requires { asked.now.moment ≤ GREATEST_MILLIS }
-        ensures world { OnOk result (self.new ≡ run self.old (event_steps self.old node (issue_seen asked.now) fate)) }
-        ensures told { IfOk result (λ told. told ≡ told_in self.old (event_steps self.old node (issue_seen asked.now) fate)) }
+    /// A core is asked to issue, and what it issues is drained and sent. The room is made before, so an `Err` changes
+    /// nothing.
+    fn issue(
+        &mut self,
+        node: NodeNo,
+        issuing: &Issuing,
+        fate: Fate,
+    ) -> Result<Happened, OutOfMemory>
+        requires { issuing.now.at ≤ GREATEST_MILLIS }
+        ensures world { OnOk result
+            (self.new ≡ run self.old (event_steps self.old node (issue_event issuing.now) fate)) }
+        ensures told { IfOk result
+            (λ told. told ≡ told_in self.old (event_steps self.old node (issue_event issuing.now) fate)) }
         ensures err { OnErr result (self.new ≡ self.old) }
     {
         let mut outcomes = Vec::with_capacity(self.alloc, 2)?;
@@ -97,8 +111,7 @@ impl World {
         self.sent.reserve(self.numbers.len())?;
         self.said.reserve(1)?;
         self.reports.reserve(1)?;
-        let event = NodeEvent::Issue(*asked);
-        let Some(answer) = act_at(&mut self.places, node, &event, fate) else {
+        let Some(answer) = issue_at(&mut self.places, node, issuing, fate) else {
             return Ok(Happened::from_vec(outcomes));
         };
         tell(&mut outcomes, node, &answer);
@@ -106,6 +119,7 @@ impl World {
             &mut self.places,
             node,
             &self.numbers,
+            &mut self.frame,
             &mut rooms,
             &mut self.sent,
             &answer.issued,
@@ -125,7 +139,7 @@ impl World {
         let Some(frame) = frame_at(&self.sent, place) else {
             return Ok(Happened::nothing(self.alloc));
         };
-        let told = hear_at(
+        let told = hand_to(
             self.alloc,
             &mut self.places,
             &mut self.reports,
@@ -146,7 +160,7 @@ impl World {
         let frames = &self.sent[self.mark..];
         let mut told = Vec::with_capacity(self.alloc, 2 * frames.len())?;
         self.reports.reserve(frames.len())?;
-        hear_each(&mut self.places, &mut self.reports, &mut told, at, frames);
+        hand_each(&mut self.places, &mut self.reports, &mut told, at, frames);
         self.mark = self.sent.len();
         Ok(Happened::from_vec(told))
     }
@@ -158,11 +172,11 @@ impl World {
         self.mark = self.sent.len();
     }
 
-    /// Bytes come to a node that no node may have sent. An `Err` changes nothing.
-    fn hear(&mut self, now: Millis, to: NodeNo, bytes: &[u8]) -> Result<Happened, OutOfMemory>
+    /// Bytes are handed to a node that no node need have sent. An `Err` changes nothing.
+    fn hand_in(&mut self, now: Millis, to: NodeNo, bytes: &[u8]) -> Result<Happened, OutOfMemory>
         requires { now ≤ GREATEST_MILLIS }
-        ensures world { OnOk result (self.new ≡ run self.old (event_steps self.old to (Frame now bytes.now) Kept)) }
-        ensures told { IfOk result (λ told. told ≡ told_in self.old (event_steps self.old to (Frame now bytes.now) Kept)) }
+        ensures world { OnOk result (self.new ≡ run self.old (hand_steps self.old now to bytes.now)) }
+        ensures told { IfOk result (λ told. told ≡ told_in self.old (hand_steps self.old now to bytes.now)) }
         ensures err { OnErr result (self.new ≡ self.old) }
     {
         let forged = is_forged(
@@ -173,7 +187,7 @@ impl World {
             to,
             bytes,
         );
-        let told = hear_at(
+        let told = hand_to(
             self.alloc,
             &mut self.places,
             &mut self.reports,
@@ -194,15 +208,15 @@ impl World {
         what: &Lied,
     ) -> Result<Happened, OutOfMemory>
         requires { now ≤ GREATEST_MILLIS }
-        ensures world { OnOk result (self.new ≡ run self.old (event_steps self.old to (Frame now (lied_bytes from to what.now)) Kept)) }
-        ensures told { IfOk result (λ told. told ≡ told_in self.old (event_steps self.old to (Frame now (lied_bytes from to what.now)) Kept)) }
+        ensures world { OnOk result (self.new ≡ run self.old (hand_steps self.old now to (lied_bytes from to what.now))) }
+        ensures told { IfOk result (λ told. told ≡ told_in self.old (hand_steps self.old now to (lied_bytes from to what.now))) }
         ensures err { OnErr result (self.new ≡ self.old) }
     {
         match what {
             Lied::Validation(validation) => {
-                self.hear(now, to, &lied_validation(from, to, validation))
+                self.hand_in(now, to, &lied_validation(from, to, validation))
             }
-            Lied::Header { header, .. } => self.hear(now, to, &lied_header(from, to, header)),
+            Lied::Header { header, .. } => self.hand_in(now, to, &lied_header(from, to, header)),
         }
     }
 
@@ -217,7 +231,8 @@ impl World {
         Ok(Happened::from_vec(outcomes))
     }
 
-    /// The node of a number, where there is one, is opened anew in its place, where that is a step. An `Err` changes nothing.
+    /// The node of a number, where there is one, is opened anew in its place, where that is a step. An `Err` changes
+    /// nothing.
     fn reopen(&mut self, node: NodeNo, now: Millis, number: Seq) -> Result<(), OutOfMemory>
         requires moment { now ≤ GREATEST_MILLIS }
         requires step { Steps self.old node now number }
@@ -240,23 +255,27 @@ impl World {
         Ok(Happened::nothing(self.alloc))
     }
 
-    /// A node is asked to issue, and its save is cut off, which leaves the new number or the old one; it is opened anew then.
-    /// Where no save is asked, it is opened anew after the issue came to its end. An `Err` may come between the two.
-    fn cut(&mut self, node: NodeNo, asked: &Asked, new: bool) -> Result<Happened, OutOfMemory>
-        requires { asked.now.moment ≤ GREATEST_MILLIS }
-        ensures world { OnOk result (self.new ≡ run self.old (cut_steps self.old asked.now.moment new node (issue_seen asked.now) (place_at node self.old.places))) }
-        ensures told { IfOk result (λ told. told ≡ told_in self.old (cut_steps self.old asked.now.moment new node (issue_seen asked.now) (place_at node self.old.places))) }
-        ensures err { OnErr result (IsFront self.old (cut_steps self.old asked.now.moment new node (issue_seen asked.now) (place_at node self.old.places)) self.new) }
+    /// A node is asked to issue, and its save is cut off, which leaves the new number or the old one; it is opened anew
+    /// then. Where no save is asked, it is opened anew after the issue came to its end. An `Err` may come between the
+    /// two.
+    fn cut(&mut self, node: NodeNo, issuing: &Issuing, new: bool) -> Result<Happened, OutOfMemory>
+        requires { issuing.now.at ≤ GREATEST_MILLIS }
+        ensures world { OnOk result
+            (self.new ≡ run self.old (cut_steps self.old issuing.now.at new node (issue_event issuing.now))) }
+        ensures told { IfOk result
+            (λ told. told ≡ told_in self.old (cut_steps self.old issuing.now.at new node (issue_event issuing.now))) }
+        ensures err { OnErr result
+            (IsFront self.old (cut_steps self.old issuing.now.at new node (issue_event issuing.now)) self.new) }
     {
-        let Some(cut) = cut_at(&self.places, node, asked, new) else {
+        let Some(cut) = cut_at(&self.places, node, issuing, new) else {
             return Ok(Happened::nothing(self.alloc));
         };
         let told = if cut.torn {
             Happened::nothing(self.alloc)
         } else {
-            self.issue(node, asked, Fate::Kept)?
+            self.issue(node, issuing, Fate::Kept)?
         };
-        self.reopen(node, asked.moment, cut.number)?;
+        self.reopen(node, issuing.at, cut.number)?;
         Ok(told)
     }
 
@@ -267,23 +286,23 @@ impl World {
         ensures told { IfOk result (λ told. told ≡ outcomes_at self.old at (What.Cut new ask.now)) }
         ensures err { OnErr result (IsFront self.old (steps_at self.old at (What.Cut new ask.now)) self.new) }
     {
-        let (node, asked) = asked_by(at, ask);
-        self.cut(node, &asked, new)
+        let (node, issuing) = asked_by(at, ask);
+        self.cut(node, &issuing, new)
     }
 
     /// A node is asked something, and its save, if any, meets a fate. An `Err` changes nothing.
     fn ask(&mut self, at: Millis, ask: &Ask, fate: Fate) -> Result<Happened, OutOfMemory>
         requires { at ≤ GREATEST_MILLIS }
-        ensures world { OnOk result (self.new ≡ run self.old (event_steps self.old (node_asked ask.now) (event_asked at ask.now) fate)) }
-        ensures told { IfOk result (λ told. told ≡ told_in self.old (event_steps self.old (node_asked ask.now) (event_asked at ask.now) fate)) }
+        ensures world { OnOk result (self.new ≡ run self.old (ask_steps self.old at ask.now fate)) }
+        ensures told { IfOk result (λ told. told ≡ told_in self.old (ask_steps self.old at ask.now fate)) }
         ensures err { OnErr result (self.new ≡ self.old) }
     {
-        let (node, asked) = asked_by(at, ask);
-        self.issue(node, &asked, fate)
+        let (node, issuing) = asked_by(at, ask);
+        self.issue(node, &issuing, fate)
     }
 
-    /// An event of a schedule, and what is told of it, in order. Where memory is wanting, the world is as after the first of the
-    /// event's steps, or none.
+    /// An event of a schedule, and what is told of it, in order. Where memory is wanting, the world is as after the
+    /// first of the event's steps, or none.
     pub fn event(&mut self, event: &Event) -> Result<Happened, OutOfMemory>
         requires { event.now.at ≤ GREATEST_MILLIS }
         ensures world { OnOk result (self.new ≡ after_event self.old event.now) }
@@ -303,7 +322,7 @@ impl World {
             What::Cut { new, ask } => self.cut_asked(at, *new, ask),
             What::Fail { new, ask } => self.ask(at, ask, failing(*new)),
             What::Lie { from, to, what } => self.lie(at, *from, *to, what),
-            What::Raw { to, bytes } => self.hear(at, *to, bytes.as_slice()),
+            What::Raw { to, bytes } => self.hand_in(at, *to, bytes.as_slice()),
             What::Prefer { node } => self.prefer(*node),
         }
     }
@@ -340,7 +359,7 @@ impl World {
 
     /// Every report of a node, in order.
     pub fn reports(&self) -> &[WorldReport]
-        ensures { reports_seen result.now ≡ self.now.reports }
+        ensures { result.now ≡ self.now.reports }
     {
         &self.reports
     }
@@ -352,7 +371,8 @@ impl World {
         self.forged
     }
 
-    /// Whether no report of `i` and no report of `j` share a sequence and differ in id. `i` may be `j`: reports of all its lives count.
+    /// Whether no report of `i` and no report of `j` share a sequence and differ in id. `i` may be `j`: reports of all
+    /// its lives count.
     pub fn agreement(&self, i: NodeNo, j: NodeNo) -> bool
         ensures exact { IsTrue result ↔ AgreeAt self.now.reports i j }
         // It is so where the quorums of the two are enough and no frame was forged.
@@ -384,10 +404,10 @@ fn failing(new: bool) -> Fate
 }
 
 /// The node that is asked, and what it is asked at a moment.
-fn asked_by(at: Millis, ask: &Ask) -> (NodeNo, Asked)
+fn asked_by(at: Millis, ask: &Ask) -> (NodeNo, Issuing)
     ensures node { result.0 ≡ node_asked ask.now }
-    ensures event { issue_seen result.1 ≡ event_asked at ask.now }
-    ensures moment { result.1.moment ≡ at }
+    ensures event { issue_event result.1 ≡ event_asked at ask.now }
+    ensures moment { result.1.at ≡ at }
 {
     match *ask {
         Ask::Issue {
@@ -395,14 +415,6 @@ fn asked_by(at: Millis, ask: &Ask) -> (NodeNo, Asked)
             seq,
             id,
             full,
-        } => (
-            node,
-            Asked {
-                moment: at,
-                seq,
-                id,
-                full,
-            },
-        ),
+        } => (node, Issuing { at, seq, id, full }),
     }
 }

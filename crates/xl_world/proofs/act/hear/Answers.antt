@@ -5,7 +5,7 @@ use Rattle.xl_core.specs.Core.{Core}
 use Rattle.xl_core.specs.Node as nodes
 use Rattle.xl_core.specs.Node.{Reply, happens}
 use Rattle.xl_core.specs.Node.Save.{Kept as AnsweredOk}
-use Rattle.xl_world.specs.Seen.{report_seen}
+use Rattle.xl_world.specs.Seen.{}
 use Rattle.xl_world.specs.World.{reported_by}
 use Rattle.xl_world.proofs.Steps.{frame_quiet}
 use Rattle.xl_world.proofs.Taking.{few_untaken, quiet_report, report_handed}
@@ -38,5 +38,5 @@ returns-in-Err-clause-answer c =
     record {
       refused = c.refusing.ensures.refused ∙ ap refusal_in c.in-Err.ensures.step.answer;
       issued = c.refusing.ensures.issued ∙ sym (frame_quiet c.args.place.now.core.node c.args.now c.args.bytes.now);
-      report = ap (option_map report_seen) c.refusing.ensures.report ∙ ap (option_map (reported_by (replied d).node)) (sym quiet);
+      report = c.refusing.ensures.report ∙ ap (option_map (reported_by (replied d).node)) (sym quiet);
     }

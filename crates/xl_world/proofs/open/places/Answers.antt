@@ -1,5 +1,5 @@
 use Rattle.std.proofs.Common.{◌∙◌, arith}
-use Rattle.xl_world.specs.World.{place_of}
+use Rattle.xl_world.specs.Starts.{place_of}
 use Rattle.xl_world.specs.Plans.{IsDeclared}
 use Rattle.xl_world.proofs.Each.{all_more, map_more}
 use Rattle.xl_world.proofs.open.places.Goals as goal

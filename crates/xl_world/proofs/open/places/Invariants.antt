@@ -1,6 +1,6 @@
 use Rattle.std.proofs.Common.{◌≡◌, take}
 use Rattle.std.specs.Prelude.{map}
-use Rattle.xl_world.specs.World.{place_of}
+use Rattle.xl_world.specs.Starts.{place_of}
 use Rattle.xl_world.specs.Plans.{AreDeclared}
 use Rattle.xl_world.proofs.open.places.Given as goal
 

@@ -2,7 +2,7 @@ use Rattle.std.proofs.Common.{◌≡◌, ◌+◌, ◌≤◌, ◌∙◌, ℕ, Lis
 use Rattle.std.specs.Prelude.{◌==◌, All, vec_capacity}
 use Rattle.std.proofs.lemmas.Bool.{not-true, not-false}
 use Rattle.xl_tags.specs.Rings.{schedule_ring}
-use Rattle.xl_wire.specs.declared.lengths.TheConstants.{VALIDATION_FRAME}
+use Rattle.xl_world.specs.Idle.{AreRooms}
 use Rattle.xl_core.specs.Core.{Core}
 use Rattle.xl_core.specs.Node.{Node}
 use Rattle.xl_world.specs.declared.sent.Sent.{Sent}
@@ -40,7 +40,7 @@ loop-to-preserved c =
         drained_more c.args.numbers.now c.loop-to.to-index c.args.core.now c.loop-to.core c.if-ne.core c.args.sent.now.items c.loop-to.sent.items c.if-ne.sent.items c.to-item.result c.loop-to-test.true c.to-item.is
             (sym (tested d) ∙ not-true _ (sym c.ne.ensures ∙ w.if-ne.true)) c.loop-to.invariant.0 (w.core-is ∙ w.drain_for.ensures.core) (ap (λ v. v.items) w.sent-is ∙ w.drain_for.ensures.sent),
         omega (arith, ap (λ v. vec_len v) w.rooms-is, w.drain_for.ensures.rooms, c.loop-to.invariant.1, c.loop-to-test.true),
-        subst (λ rooms. All (λ room. (room.items ≡ []) × (VALIDATION_FRAME ≤ vec_capacity room)) rooms.items) (sym w.rooms-is) w.drain_for.ensures.each,
+        subst (λ rooms. AreRooms rooms.items) (sym w.rooms-is) w.drain_for.ensures.each,
         omega (arith, ap (λ v. vec_len v) w.sent-is, ap (λ v. vec_capacity v) w.sent-is, w.drain_for.ensures.room.0, w.drain_for.ensures.room.1, c.loop-to.invariant.3, c.loop-to-test.true),
       )
       | else-ne w ↦ (
@@ -49,7 +49,7 @@ loop-to-preserved c =
             (drained_past c.args.numbers.now c.loop-to.to-index c.args.core.now c.loop-to.core c.args.sent.now.items c.loop-to.sent.items c.to-item.result c.loop-to-test.true c.to-item.is
             (sym (tested d) ∙ not-false _ (sym c.ne.ensures ∙ w.if-ne.false)) c.loop-to.invariant.0)),
         omega (arith, ap (λ v. vec_len v) w.rooms-is, c.loop-to.invariant.1),
-        subst (λ rooms. All (λ room. (room.items ≡ []) × (VALIDATION_FRAME ≤ vec_capacity room)) rooms.items) (sym w.rooms-is) c.loop-to.invariant.2,
+        subst (λ rooms. AreRooms rooms.items) (sym w.rooms-is) c.loop-to.invariant.2,
         omega (arith, ap (λ v. vec_len v) w.sent-is, ap (λ v. vec_capacity v) w.sent-is, c.loop-to.invariant.3),
       )
     ]

@@ -1,7 +1,8 @@
 use Rattle.std.proofs.Common.{subst}
 use Rattle.std.specs.Prelude.{IsTrue, ◌↔◌}
-use Rattle.xl_world.specs.World.{World, IsRun}
-use Rattle.xl_world.specs.World.{AgreeAt}
+use Rattle.xl_world.specs.World.{World}
+use Rattle.xl_world.specs.Starts.{IsRun}
+use Rattle.xl_world.specs.Headline.{AgreeAt}
 use Rattle.xl_world.proofs.Agreeing.{answer_tells}
 use Rattle.xl_world.proofs.Lists.{core_headline, world_agrees}
 use Rattle.xl_world.proofs.world.World.agreement.Goals as goal

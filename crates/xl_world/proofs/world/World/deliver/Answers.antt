@@ -23,11 +23,11 @@ found c = ap (λ (fs : List Sent). frame_at fs c.args.place) (sym c.deref.ensure
 
 -- the lists of the code are those of the step: what was sent isn't forged
 its_step : (c : In_ok-told) →
-    world_seen (record { alloc = c.self.inside.alloc; liars = c.self.inside.liars; numbers = c.self.inside.numbers; places = c.hear_at.new.places; sent = c.self.inside.sent; mark = c.self.inside.mark; index = c.self.inside.index; said = c.self.inside.said; reports = c.hear_at.new.reports; forged = c.self.inside.forged })
+    world_seen (record { alloc = c.self.inside.alloc; frame = c.self.inside.frame; liars = c.self.inside.liars; numbers = c.self.inside.numbers; places = c.hand_to.new.places; sent = c.self.inside.sent; mark = c.self.inside.mark; index = c.self.inside.index; said = c.self.inside.said; reports = c.hand_to.new.reports; forged = c.self.inside.forged })
     ≡ run (world_seen c.self.inside) (event_steps (world_seen c.self.inside) c.in-Some.frame.now.to (Frame c.args.at c.as_slice.result.now) Kept)
 its_step c =
     let o = place_at c.in-Some.frame.now.to c.self.inside.places.items in
-    heard_step (world_seen c.self.inside) c.in-Some.frame.now.to c.args.at c.as_slice.result.now c.hear_at.new.places.items _ c.self.inside.forged c.self.invariant.idle
+    heard_step (world_seen c.self.inside) c.in-Some.frame.now.to c.args.at c.as_slice.result.now c.hand_to.new.places.items _ c.self.inside.forged c.self.invariant.idle
     c.in_ok-told.ensures.places c.in_ok-told.ensures.reports
     (sym (cond-false (forged_at c.self.inside.liars.items c.self.inside.sent.items c.as_slice.result.now o) _ _
     (ap (λ (bytes : List ℕ). forged_at c.self.inside.liars.items c.self.inside.sent.items bytes o) c.as_slice.ensures
@@ -55,5 +55,5 @@ returns-clause-told c =
     delivered_told (world_seen c.self.inside) c.args.at c.args.place c.in-Some.frame.now c.as_slice.result.now c.in_ok-told.told (found d) c.as_slice.ensures c.in_ok-told.ensures.told
     ∙ ap (λ (u : World). outcomes_at u c.args.at (Deliver c.args.place)) c.self.view_is
 
-pub hear_at-requires-clause-untaken : goal.hear_at-requires-clause-untaken
-hear_at-requires-clause-untaken c = idle_untaken (world_seen c.self.inside) c.self.invariant.idle c.in-Some.frame.now.to
+pub hand_to-requires-clause-untaken : goal.hand_to-requires-clause-untaken
+hand_to-requires-clause-untaken c = idle_untaken (world_seen c.self.inside) c.self.invariant.idle c.in-Some.frame.now.to

@@ -3,7 +3,7 @@ use Rattle.std.specs.Prelude.{drop}
 use Rattle.std.proofs.lemmas.List.{take_rest}
 use Rattle.xl_sched.specs.declared.event.What.TheVariants.{All}
 use Rattle.xl_world.specs.declared.outcome.Outcome.{Outcome}
-use Rattle.xl_world.specs.declared.report.WorldReport.{WorldReport}
+use Rattle.xl_lists.specs.declared.report.Report.{Report}
 use Rattle.xl_world.specs.declared.sent.Sent.{Sent}
 use Rattle.xl_world.specs.Schedule.{outcomes_at, steps_at}
 use Rattle.xl_world.specs.Seen.{Hearing, hearing_seen, heard_all}
@@ -25,17 +25,17 @@ are_after_mark c = take_rest c.deref.result.now c.self.inside.mark ∙ ap (drop 
 
 -- nothing was told before, and the reports were the world's
 abbrev hearing : After-from_vec → Hearing
-hearing c = hearing_seen c.hear_each.new.places.items c.hear_each.new.reports.items c.hear_each.new.told.items
+hearing c = hearing_seen c.hand_each.new.places.items c.hand_each.new.reports.items c.hand_each.new.told.items
 
 heard : (c : After-from_vec) → hearing c ≡ heard_all c.args.at (frames c) (heard_of (world_seen c.self.inside) [])
 heard c =
-    c.hear_each.ensures
-    ∙ (ap (λ (rs : List WorldReport). heard_all c.args.at (frames c) (hearing_seen c.self.inside.places.items rs c.in_ok-told.told.items)) c.in_ok-reserve.ensures.items
+    c.hand_each.ensures
+    ∙ (ap (λ (rs : List Report). heard_all c.args.at (frames c) (hearing_seen c.self.inside.places.items rs c.in_ok-told.told.items)) c.in_ok-reserve.ensures.items
     ∙ ap (λ (os : List Outcome). heard_all c.args.at (frames c) (hearing_seen c.self.inside.places.items c.self.inside.reports.items os)) c.in_ok-told.ensures.items)
 
 -- the lists of the code are those of the steps
 its_steps : (c : After-from_vec) →
-    world_seen (record { alloc = c.self.inside.alloc; liars = c.self.inside.liars; numbers = c.self.inside.numbers; places = c.hear_each.new.places; sent = c.self.inside.sent; mark = c.len-self-inside.result; index = c.self.inside.index; said = c.self.inside.said; reports = c.hear_each.new.reports; forged = c.self.inside.forged })
+    world_seen (record { alloc = c.self.inside.alloc; frame = c.self.inside.frame; liars = c.self.inside.liars; numbers = c.self.inside.numbers; places = c.hand_each.new.places; sent = c.self.inside.sent; mark = c.len-self-inside.result; index = c.self.inside.index; said = c.self.inside.said; reports = c.hand_each.new.reports; forged = c.self.inside.forged })
     ≡ run (world_seen c.self.inside) (steps_at (world_seen c.self.inside) c.args.at All)
 its_steps c =
     let all : c.len-self-inside.result ≡ length c.self.inside.sent.items = omega (arith, c.len-self-inside.ensures, c.self.inside.sent.ok.0) in
@@ -60,5 +60,5 @@ returns-clause-told c =
     ∙ (all_told (world_seen c.self.inside) c.args.at (frames c) (hearing c) c.self.invariant.idle (are_after_mark c) (heard c)
     ∙ ap (λ (u : World). outcomes_at u c.args.at All) c.self.view_is)
 
-pub hear_each-requires-clause-untaken : goal.hear_each-requires-clause-untaken
-hear_each-requires-clause-untaken c = idle_untaken (world_seen c.self.inside) c.self.invariant.idle
+pub hand_each-requires-clause-untaken : goal.hand_each-requires-clause-untaken
+hand_each-requires-clause-untaken c = idle_untaken (world_seen c.self.inside) c.self.invariant.idle

@@ -34,7 +34,7 @@ pub returns-in-Lie-clause-err : goal.returns-in-Lie-clause-err
 returns-in-Lie-clause-err c = none_of c.args.self.now c.lie.new.self _ c.lie.result c.lie.ensures.err
 
 pub returns-in-Raw-clause-err : goal.returns-in-Raw-clause-err
-returns-in-Raw-clause-err c = none_of c.args.self.now c.hear.new.self _ c.hear.result c.hear.ensures.err
+returns-in-Raw-clause-err c = none_of c.args.self.now c.hand_in.new.self _ c.hand_in.result c.hand_in.ensures.err
 
 pub returns-in-Prefer-clause-err : goal.returns-in-Prefer-clause-err
 returns-in-Prefer-clause-err c = on_err c.prefer.result (unmoved c.args.self.now c.args.self.now (steps_of c.args.self.now c.args.event.now) refl)

@@ -7,7 +7,8 @@ use Rattle.xl_core.specs.declared.event.CoreEvent.{CoreEvent}
 use Rattle.xl_world.specs.declared.outcome.Outcome.{Outcome}
 use Rattle.xl_world.specs.declared.place.Place.{Place}
 use Rattle.xl_world.specs.declared.sent.Sent.{Sent}
-use Rattle.xl_world.specs.World.{IsRun, World, place_at, run}
+use Rattle.xl_world.specs.Starts.{IsRun}
+use Rattle.xl_world.specs.World.{World, place_at, run}
 use Rattle.xl_world.specs.Emptying.{event_steps}
 use Rattle.xl_world.specs.Idle.{IsIdle}
 use Rattle.xl_world.specs.World.{said_by}
@@ -15,34 +16,34 @@ use Rattle.xl_world.specs.Indexes.{IsIndex}
 use Rattle.xl_world.proofs.Indexing.{index_more}
 use Rattle.xl_world.specs.Worlds.{world_seen}
 use Rattle.xl_world.specs.Schedule.{told_in}
-use Rattle.xl_world.specs.Seen.{MayDrain, issue_seen, said_seen, report_seen, reports_seen, acted_at, given_at, put_acted, put_drained, AnswersAt, outcomes_told}
+use Rattle.xl_world.specs.Seen.{MayDrain, issue_event, acted_at, given_at, put_acted, put_drained, AnswersAt, outcomes_told}
 use Rattle.xl_world.proofs.Runs.{run_on}
 use Rattle.xl_world.proofs.Delivering.{idle_untaken}
 use Rattle.xl_world.proofs.Sending.{issue_ran}
 use Rattle.xl_world.proofs.Steps.{with_lists, issued_step, may_drain, no_place, same_lists, told_step}
 use Rattle.xl_world.proofs.world.World.issue.Goals as goal
-use Rattle.xl_world.proofs.world.World.issue.Goals.{After-act_at, After-deref_mut-2, After-report_some}
+use Rattle.xl_world.proofs.world.World.issue.Goals.{After-issue_at, After-deref_mut-2, After-report_some}
 
 -- the places after the event
-acted : (c : After-act_at) → c.act_at.new.places ≡ acted_at c.args.node (issue_seen c.args.asked.now) c.args.fate c.self.inside.places.items
-acted c = c.act_at.ensures.places ∙ ap (acted_at c.args.node (issue_seen c.args.asked.now) c.args.fate) c.deref_mut.ensures.value
+acted : (c : After-issue_at) → c.issue_at.new.places ≡ acted_at c.args.node (issue_event c.args.issuing.now) c.args.fate c.self.inside.places.items
+acted c = c.issue_at.ensures.places ∙ ap (acted_at c.args.node (issue_event c.args.issuing.now) c.args.fate) c.deref_mut.ensures.value
 
 -- as they are drained
-before_drain : (c : After-deref_mut-2) → c.deref_mut-2.result.now ≡ acted_at c.args.node (issue_seen c.args.asked.now) c.args.fate c.self.inside.places.items
+before_drain : (c : After-deref_mut-2) → c.deref_mut-2.result.now ≡ acted_at c.args.node (issue_event c.args.issuing.now) c.args.fate c.self.inside.places.items
 before_drain c =
-    c.deref_mut-2.ensures.value ∙ (with_items_is c.self.inside.places c.act_at.new.places (c.act_at.auto.places ∙ c.deref_mut.ensures.len)
-    ∙ (c.act_at.ensures.places ∙ ap (acted_at c.args.node (issue_seen c.args.asked.now) c.args.fate) c.deref_mut.ensures.value))
+    c.deref_mut-2.ensures.value ∙ (with_items_is c.self.inside.places c.issue_at.new.places (c.issue_at.auto.places ∙ c.deref_mut.ensures.len)
+    ∙ (c.issue_at.ensures.places ∙ ap (acted_at c.args.node (issue_event c.args.issuing.now) c.args.fate) c.deref_mut.ensures.value))
 
 abbrev asked : After-report_some → CoreEvent
-asked c = issue_seen c.args.asked.now
+asked c = issue_event c.args.issuing.now
 
 answers : (c : After-report_some) → AnswersAt c.args.node (asked c) c.args.fate c.self.inside.places.items (Some c.in-Some.answer)
 answers c = subst (λ (ps : List Place). AnswersAt c.args.node (asked c) c.args.fate ps (Some c.in-Some.answer)) c.deref_mut.ensures.value c.in-Some.ensures.answer
 
 drained_from : (c : After-report_some) → c.deref_mut-2.result.now ≡ acted_at c.args.node (asked c) c.args.fate c.self.inside.places.items
 drained_from c =
-    c.deref_mut-2.ensures.value ∙ (with_items_is c.self.inside.places c.act_at.new.places (c.act_at.auto.places ∙ c.deref_mut.ensures.len)
-    ∙ (c.act_at.ensures.places ∙ ap (acted_at c.args.node (asked c) c.args.fate) c.deref_mut.ensures.value))
+    c.deref_mut-2.ensures.value ∙ (with_items_is c.self.inside.places c.issue_at.new.places (c.issue_at.auto.places ∙ c.deref_mut.ensures.len)
+    ∙ (c.issue_at.ensures.places ∙ ap (acted_at c.args.node (asked c) c.args.fate) c.deref_mut.ensures.value))
 
 -- where something was issued, the places are drained
 abbrev places_by : After-report_some → List ℕ → List Place → List Place
@@ -65,42 +66,42 @@ grown c =
 
 -- the lists of the code are those of the steps
 its_steps : (c : After-report_some) →
-    with_lists (world_seen c.self.inside) c.send_some.new.places c.send_some.new.sent.items (map said_seen c.say_some.new.said.items) (reports_seen c.report_some.new.reports.items) c.self.inside.forged
+    with_lists (world_seen c.self.inside) c.send_some.new.places c.send_some.new.sent.items c.say_some.new.said.items c.report_some.new.reports.items c.self.inside.forged
     ≡ run (world_seen c.self.inside) (event_steps (world_seen c.self.inside) c.args.node (asked c) c.args.fate)
 its_steps c =
-    issued_step (world_seen c.self.inside) c.args.node c.args.asked.now.moment c.args.asked.now.seq c.args.asked.now.id c.args.asked.now.full c.args.fate c.in-Some.answer _ _ _ _ c.self.invariant.idle (answers c)
+    issued_step (world_seen c.self.inside) c.args.node c.args.issuing.now.at c.args.issuing.now.seq c.args.issuing.now.id c.args.issuing.now.full c.args.fate c.in-Some.answer _ _ _ _ c.self.invariant.idle (answers c)
     (stand c) (grown c)
-    (c.say_some.ensures ∙ ap (λ xs. with_said (map said_seen xs) (option_map (said_by c.args.node) c.in-Some.answer.issued)) c.in_ok-reserve-2.ensures.items)
-    (c.report_some.ensures.items ∙ ap (λ rs. reports_seen rs ++ option_to_list (option_map report_seen c.in-Some.answer.report)) c.in_ok-reserve-3.ensures.items)
+    (c.say_some.ensures ∙ ap (λ xs. with_said xs (option_map (said_by c.args.node) c.in-Some.answer.issued)) c.in_ok-reserve-2.ensures.items)
+    (c.report_some.ensures.items ∙ ap (λ rs. rs ++ option_to_list c.in-Some.answer.report) c.in_ok-reserve-3.ensures.items)
 
 -- the places stand in their vector
 in_place : (c : After-report_some) →
-    world_seen (record { alloc = c.self.inside.alloc; liars = c.self.inside.liars; numbers = c.self.inside.numbers; places = with_items (with_items c.self.inside.places c.act_at.new.places) c.send_some.new.places; sent = c.send_some.new.sent; mark = c.self.inside.mark; index = c.self.inside.index; said = c.say_some.new.said; reports = c.report_some.new.reports; forged = c.self.inside.forged })
+    world_seen (record { alloc = c.self.inside.alloc; frame = c.self.inside.frame; liars = c.self.inside.liars; numbers = c.self.inside.numbers; places = with_items (with_items c.self.inside.places c.issue_at.new.places) c.send_some.new.places; sent = c.send_some.new.sent; mark = c.self.inside.mark; index = c.self.inside.index; said = c.say_some.new.said; reports = c.report_some.new.reports; forged = c.self.inside.forged })
     ≡ run (world_seen c.self.inside) (event_steps (world_seen c.self.inside) c.args.node (asked c) c.args.fate)
 in_place c =
-    ap (λ (ps : List Place). with_lists (world_seen c.self.inside) ps c.send_some.new.sent.items (map said_seen c.say_some.new.said.items) (reports_seen c.report_some.new.reports.items) c.self.inside.forged)
-    (with_items_is (with_items c.self.inside.places c.act_at.new.places) c.send_some.new.places (c.send_some.auto.places ∙ c.deref_mut-2.ensures.len))
+    ap (λ (ps : List Place). with_lists (world_seen c.self.inside) ps c.send_some.new.sent.items c.say_some.new.said.items c.report_some.new.reports.items c.self.inside.forged)
+    (with_items_is (with_items c.self.inside.places c.issue_at.new.places) c.send_some.new.places (c.send_some.auto.places ∙ c.deref_mut-2.ensures.len))
     ∙ its_steps c
 
-pub act_at-requires-clause-untaken : goal.act_at-requires-clause-untaken
-act_at-requires-clause-untaken c = λ p h. idle_untaken (world_seen c.self.inside) c.self.invariant.idle c.args.node p (ap (place_at c.args.node) (sym c.deref_mut.ensures.value) ∙ h)
+pub issue_at-requires-clause-untaken : goal.issue_at-requires-clause-untaken
+issue_at-requires-clause-untaken c = λ p h. idle_untaken (world_seen c.self.inside) c.self.invariant.idle c.args.node p (ap (place_at c.args.node) (sym c.deref_mut.ensures.value) ∙ h)
 
 pub send_some-requires-clause-waits : goal.send_some-requires-clause-waits
 send_some-requires-clause-waits c =
     let d = (goal.at.send_some-requires-clause-waits c).After-deref_mut-2 in
     λ p h. subst (λ (ns : List ℕ). MayDrain ns p) (sym c.deref.ensures.value)
-    (may_drain (world_seen c.self.inside) c.args.node c.args.asked.now.moment c.args.asked.now.seq c.args.asked.now.id c.args.asked.now.full c.args.fate c.deref_mut-2.result.now c.self.invariant.idle (before_drain d) p h)
+    (may_drain (world_seen c.self.inside) c.args.node c.args.issuing.now.at c.args.issuing.now.seq c.args.issuing.now.id c.args.issuing.now.full c.args.fate c.deref_mut-2.result.now c.self.invariant.idle (before_drain d) p h)
 
 -- there is no such node, and nothing changes
 pub invariant_of-self-in_default : goal.invariant_of-self-in_default
 invariant_of-self-in_default c =
-    let d = (goal.at.invariant_of-self-in_default c).After-act_at in
+    let d = (goal.at.invariant_of-self-in_default c).After-issue_at in
     let w : World = world_seen c.self.inside in
-    let e : CoreEvent = issue_seen c.args.asked.now in
+    let e : CoreEvent = issue_event c.args.issuing.now in
     let none = no_place w c.args.node e c.args.fate (subst (λ (ps : List Place). AnswersAt c.args.node e c.args.fate ps None) c.deref_mut.ensures.value c.in_default.ensures.answer) in
-    let same : world_seen (record { alloc = c.self.inside.alloc; liars = c.self.inside.liars; numbers = c.self.inside.numbers; places = with_items c.self.inside.places c.act_at.new.places; sent = c.reserve.new.self; mark = c.self.inside.mark; index = c.self.inside.index; said = c.reserve-2.new.self; reports = c.reserve-3.new.self; forged = c.self.inside.forged }) ≡ w =
-    same_lists w (with_items_is c.self.inside.places c.act_at.new.places (c.act_at.auto.places ∙ c.deref_mut.ensures.len) ∙ (acted d ∙ ap (λ o. put_acted e c.args.fate o c.self.inside.places.items) none))
-    c.in_ok-reserve.ensures.items (ap (map said_seen) c.in_ok-reserve-2.ensures.items) (ap reports_seen c.in_ok-reserve-3.ensures.items) refl in
+    let same : world_seen (record { alloc = c.self.inside.alloc; frame = c.self.inside.frame; liars = c.self.inside.liars; numbers = c.self.inside.numbers; places = with_items c.self.inside.places c.issue_at.new.places; sent = c.reserve.new.self; mark = c.self.inside.mark; index = c.self.inside.index; said = c.reserve-2.new.self; reports = c.reserve-3.new.self; forged = c.self.inside.forged }) ≡ w =
+    same_lists w (with_items_is c.self.inside.places c.issue_at.new.places (c.issue_at.auto.places ∙ c.deref_mut.ensures.len) ∙ (acted d ∙ ap (λ o. put_acted e c.args.fate o c.self.inside.places.items) none))
+    c.in_ok-reserve.ensures.items c.in_ok-reserve-2.ensures.items c.in_ok-reserve-3.ensures.items refl in
     record {
       run = subst (λ (u : World). IsRun u) (sym same) c.self.invariant.run;
       idle = subst (λ (u : World). IsIdle u) (sym same) c.self.invariant.idle;
@@ -114,7 +115,7 @@ invariant_of-self-2 c =
     let w : World = world_seen c.self.inside in
     record {
       run = run_on w _ (event_steps w c.args.node (asked d) c.args.fate) (in_place d) c.self.invariant.run;
-      idle = subst (λ (u : World). IsIdle u) (sym (in_place d)) (issue_ran w c.args.node c.args.asked.now.moment c.args.asked.now.seq c.args.asked.now.id c.args.asked.now.full c.args.fate c.self.invariant.idle).idle;
+      idle = subst (λ (u : World). IsIdle u) (sym (in_place d)) (issue_ran w c.args.node c.args.issuing.now.at c.args.issuing.now.seq c.args.issuing.now.id c.args.issuing.now.full c.args.fate c.self.invariant.idle).idle;
       index = subst (IsIndex c.self.inside.index) (sym (grown d)) (index_more c.self.inside.index c.self.inside.sent.items _ c.self.invariant.index);
       mark = omega (arith, c.self.invariant.mark, ap length (grown d), length-append c.self.inside.sent.items (frames_by d c.self.inside.numbers.items (acted_at c.args.node (asked d) c.args.fate c.self.inside.places.items)));
     }

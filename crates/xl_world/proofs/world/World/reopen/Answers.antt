@@ -4,7 +4,8 @@ use Rattle.std.specs.Vec.{with_items}
 use Rattle.std.proofs.lemmas.List.{with_items_is}
 use Rattle.xl_world.specs.declared.place.Place.{Place}
 use Rattle.xl_world.specs.Seen.{put_again, with_again, Steps}
-use Rattle.xl_world.specs.World.{World, IsRun, place_at}
+use Rattle.xl_world.specs.World.{World, place_at}
+use Rattle.xl_world.specs.Starts.{IsRun}
 use Rattle.xl_world.specs.Idle.{IsIdle}
 use Rattle.xl_world.specs.Worlds.{world_seen}
 use Rattle.xl_world.proofs.Runs.{run_more}
@@ -30,7 +31,7 @@ abbrev left : After-reopen_at → World
 left c = with_lists (world_seen c.self.inside) c.reopen_at.new.places (world_seen c.self.inside).sent (world_seen c.self.inside).said (world_seen c.self.inside).reports (world_seen c.self.inside).forged
 
 in_place : (c : After-reopen_at) →
-    world_seen (record { alloc = c.self.inside.alloc; liars = c.self.inside.liars; numbers = c.self.inside.numbers; places = with_items c.self.inside.places c.reopen_at.new.places; sent = c.self.inside.sent; mark = c.self.inside.mark; index = c.self.inside.index; said = c.self.inside.said; reports = c.self.inside.reports; forged = c.self.inside.forged }) ≡ left c
+    world_seen (record { alloc = c.self.inside.alloc; frame = c.self.inside.frame; liars = c.self.inside.liars; numbers = c.self.inside.numbers; places = with_items c.self.inside.places c.reopen_at.new.places; sent = c.self.inside.sent; mark = c.self.inside.mark; index = c.self.inside.index; said = c.self.inside.said; reports = c.self.inside.reports; forged = c.self.inside.forged }) ≡ left c
 in_place c =
     let w : World = world_seen c.self.inside in
     ap (λ (ps : List Place). with_lists w ps w.sent w.said w.reports w.forged) (with_items_is c.self.inside.places c.reopen_at.new.places (c.reopen_at.auto.places ∙ c.deref_mut.ensures.len))

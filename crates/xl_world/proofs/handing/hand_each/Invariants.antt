@@ -1,7 +1,7 @@
 use Rattle.std.proofs.Common.{◌≡◌, ◌+◌, ◌-◌, ◌*◌, ◌≤◌, length, take, vec_len}
 use Rattle.std.specs.Prelude.{vec_capacity}
 use Rattle.xl_world.specs.Seen.{NoneUntakenAnywhere, hearing_seen, heard_all}
-use Rattle.xl_world.proofs.hearing.hear_each.Given as goal
+use Rattle.xl_world.proofs.handing.hand_each.Given as goal
 
 -- the frames so far were heard, there is room for what is left, and no report is untaken
 abbrev pub invariant-loop-frame : goal.invariant-loop-frame

@@ -16,8 +16,8 @@ use Rattle.xl_world.proofs.Runs.{run_on}
 use Rattle.xl_world.proofs.Delivering.{idle_untaken}
 use Rattle.xl_world.proofs.Sending.{frame_ran}
 use Rattle.xl_world.proofs.Steps.{heard_step, told_once}
-use Rattle.xl_world.proofs.world.World.hear.Goals as goal
-use Rattle.xl_world.proofs.world.World.hear.Goals.{In_ok-told}
+use Rattle.xl_world.proofs.world.World.hand_in.Goals as goal
+use Rattle.xl_world.proofs.world.World.hand_in.Goals.{In_ok-told}
 
 -- whether what comes is forged
 abbrev forged : In_ok-told → Bool
@@ -32,10 +32,10 @@ tested c =
 
 -- the lists of the code are those of the step
 its_step : (c : In_ok-told) (count : ℕ) → count ≡ (if forged c then one_more c.self.inside.forged else c.self.inside.forged) →
-    world_seen (record { alloc = c.self.inside.alloc; liars = c.self.inside.liars; numbers = c.self.inside.numbers; places = c.hear_at.new.places; sent = c.self.inside.sent; mark = c.self.inside.mark; index = c.is_forged-forged.new.index; said = c.self.inside.said; reports = c.hear_at.new.reports; forged = count })
+    world_seen (record { alloc = c.self.inside.alloc; frame = c.self.inside.frame; liars = c.self.inside.liars; numbers = c.self.inside.numbers; places = c.hand_to.new.places; sent = c.self.inside.sent; mark = c.self.inside.mark; index = c.is_forged-forged.new.index; said = c.self.inside.said; reports = c.hand_to.new.reports; forged = count })
     ≡ run (world_seen c.self.inside) (event_steps (world_seen c.self.inside) c.args.to (Frame c.args.now c.args.bytes.now) Kept)
 its_step c count counted =
-    heard_step (world_seen c.self.inside) c.args.to c.args.now c.args.bytes.now c.hear_at.new.places.items _ count c.self.invariant.idle c.in_ok-told.ensures.places c.in_ok-told.ensures.reports counted
+    heard_step (world_seen c.self.inside) c.args.to c.args.now c.args.bytes.now c.hand_to.new.places.items _ count c.self.invariant.idle c.in_ok-told.ensures.places c.in_ok-told.ensures.reports counted
 
 -- the count, by what was tested
 counts : (c : In_ok-told) (count : ℕ) → count ≡ (if c.is_forged-forged.result then one_more c.self.inside.forged else c.self.inside.forged) →
@@ -63,5 +63,5 @@ returns-clause-told c =
     ∙ (told_once (world_seen c.self.inside) c.args.to (Frame c.args.now c.args.bytes.now) Kept
     ∙ ap (λ (u : World). told_in u (event_steps u c.args.to (Frame c.args.now c.args.bytes.now) Kept)) c.self.view_is)
 
-pub hear_at-requires-clause-untaken : goal.hear_at-requires-clause-untaken
-hear_at-requires-clause-untaken c = idle_untaken (world_seen c.self.inside) c.self.invariant.idle c.args.to
+pub hand_to-requires-clause-untaken : goal.hand_to-requires-clause-untaken
+hand_to-requires-clause-untaken c = idle_untaken (world_seen c.self.inside) c.self.invariant.idle c.args.to

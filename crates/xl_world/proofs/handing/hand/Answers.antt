@@ -5,7 +5,7 @@ use Rattle.xl_world.specs.declared.place.Fate.TheVariants.{Kept}
 use Rattle.xl_world.specs.declared.place.Place.{Place}
 use Rattle.xl_world.specs.Seen.{AnswersAt}
 use Rattle.xl_world.proofs.Steps.{told_there}
-use Rattle.xl_world.proofs.hearing.hear.Goals as goal
+use Rattle.xl_world.proofs.handing.hand.Goals as goal
 
 pub returns-in-Some-clause-told : goal.returns-in-Some-clause-told
 returns-in-Some-clause-told c =

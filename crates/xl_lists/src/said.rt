@@ -1,0 +1,9 @@
+use xl_base::{LedgerId, NodeNo, Seq};
+
+/// A member said that this ledger is the one of this sequence.
+#[derive(Clone, Copy, Debug, PartialEq, Eq)]
+pub struct Said {
+    pub member: NodeNo,
+    pub seq: Seq,
+    pub id: LedgerId,
+}
