@@ -1,8 +1,7 @@
 ghost use Rattle.std.specs.Prelude.{◌≡◌, ◌+◌, ◌<◌, ◌^◌};
-ghost use Rattle.xl_ledger.specs.Chains.{root_header};
 
 use xl_base::{LedgerId, Secs};
-use xl_ledger::Header;
+use xl_ledger::{Header, root_header};
 
 /// A ledger that a schedule names: its header, and the header's id. The root has an id that is no hash.
 #[derive(Clone, Copy, Debug, PartialEq, Eq)]
@@ -35,21 +34,5 @@ impl Ledger {
             close,
             ..root_header()
         }
-    }
-}
-
-fn root_header() -> Header
-    ensures { result ≡ root_header }
-{
-    Header {
-        seq: 0,
-        drops: 100_000_000_000_000_000,
-        parent: LedgerId([0; 32]),
-        tx_hash: [0; 32],
-        account_hash: [0; 32],
-        parent_close: 0,
-        close: 0,
-        resolution: 30,
-        flags: 0,
     }
 }
