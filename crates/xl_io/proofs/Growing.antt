@@ -1,8 +1,8 @@
 -- What a sink holds, as it grows.
-use Rattle.std.proofs.Common.{◌≡◌, ◌++◌, ℕ, List, [], Some, None, Option, take, drop, refl, sym, ap, ◌∙◌, append_assoc, append-nil}
+use Rattle.std.proofs.Common.{◌≡◌, ◌<◌, ◌++◌, length, ℕ, List, [], Some, None, Option, take, drop, refl, sym, ap, ◌∙◌, append_assoc, append-nil}
 use Rattle.std.proofs.lemmas.List.{take-append-drop}
 use Rattle.std.specs.Io.KnownBytes.{append_known}
-use Rattle.xl_io.specs.Sinks.{GrewByFront}
+use Rattle.xl_io.specs.Sinks.{GrewByFront, GrewByLess}
 
 -- Of all the bytes, those that aren't in the rest are held.
 pub record Written (old new : Option (List ℕ)) (all rest : List ℕ) : Type 0 where
@@ -32,6 +32,9 @@ written_more old mid new all rest n w more = record {
 
 pub front_of_written : (old new : Option (List ℕ)) (all rest : List ℕ) → Written old new all rest → GrewByFront old new all
 front_of_written old new all rest w = record { written = w.front; missing = rest; parts = w.parts; held = w.held }
+
+pub less_of_written : (old mid new : Option (List ℕ)) (all rest : List ℕ) → Written old mid all rest → new ≡ mid → 0 < length rest → GrewByLess old new all
+less_of_written old mid new all rest w same some = (record { written = w.front; missing = rest; parts = w.parts; held = same ∙ w.held }, some)
 
 pub all_written : (old new : Option (List ℕ)) (all : List ℕ) → Written old new all [] → new ≡ append_known old all
 all_written old new all w = w.held ∙ ap (append_known old) (sym (append-nil w.front) ∙ sym w.parts)

@@ -22,3 +22,7 @@ pub record GrewByFront (old new : Option (List ℕ)) (text : List ℕ) : Type 0 
   pub missing : List ℕ
   pub parts : text ≡ written ++ missing
   pub held : new ≡ append_known old written
+
+-- what is held grew by a front of the text, and some of it is missing
+abbrev pub GrewByLess : Option (List ℕ) → Option (List ℕ) → List ℕ → Type 0
+GrewByLess old new text = (front : GrewByFront old new text) × (0 < length front.missing)

@@ -2,7 +2,7 @@ ghost use Rattle.std.specs.Prelude.{◌≡◌, ℕ, ◌≤◌, List, OnOk, OnErr
 ghost use Rattle.std.specs.declared.option.Option.{Option};
 ghost use Rattle.std.specs.Io.KnownBytes.{append_known};
 ghost use Rattle.xl_base.specs.Faults.{Rose};
-ghost use Rattle.xl_io.specs.Sinks.{FitsPiece, Writes, GrewByFront};
+ghost use Rattle.xl_io.specs.Sinks.{FitsPiece, Writes, GrewByFront, GrewByLess};
 
 pub mod memory;
 pub mod standard;
@@ -34,10 +34,11 @@ pub trait Sink {
         ensures failed { result ≡ Wrote.Failed → Rose (faults self.old) (faults self.new) };
 }
 
-/// Writes all the bytes. It fails where a write of the sink does, and the sink then holds a front of them.
+/// Writes all the bytes. It fails where a write of the sink does, and the sink then holds a front of them, not all.
 pub fn write_all<K: Sink>(sink: &mut K, bytes: &[u8]) -> Result<(), Failed>
     ensures whole { OnOk result (K.held sink.new ≡ append_known (K.held sink.old) bytes.now) }
     ensures front { GrewByFront (K.held sink.old) (K.held sink.new) bytes.now }
+    ensures less { OnErr result (GrewByLess (K.held sink.old) (K.held sink.new) bytes.now) }
     ensures later { K.faults sink.old ≤ K.faults sink.new }
     ensures failed { OnErr result (Rose (K.faults sink.old) (K.faults sink.new)) }
 {
