@@ -2,6 +2,7 @@ ghost use Rattle.std.specs.Prelude.{◌≡◌, ◌<◌, ◌≤◌, ◌/◌, leng
 ghost use Rattle.std.specs.Result.{result_err};
 ghost use Rattle.xl_base.specs.Sets.{set_id_of, IsSet};
 ghost use Rattle.xl_base.specs.declared.moments.TheConstants.{GREATEST_MILLIS};
+ghost use Rattle.xl_closetime.specs.Resolutions.{IsResolution};
 ghost use Rattle.xl_rounds.specs.Pending.{submit_refusal};
 ghost use Rattle.xl_rounds.specs.Rounds.{
   opened,
@@ -154,6 +155,13 @@ impl Round {
         self.positions.own_set()
     }
 
+    /// The id of our own set.
+    pub fn own_id(&self) -> SetId
+        ensures { result ≡ set_id_of self.now.positions.own }
+    {
+        self.positions.own_id()
+    }
+
     /// Makes these ids the set that the member holds, in place of an older one, and tells their id.
     pub fn hold(&mut self, member: NodeNo, set: &[TxId]) -> SetId
         requires { IsSet set.now }
@@ -202,7 +210,8 @@ impl Round {
     /// What the round agreed on.
     pub fn agreed(&self) -> Agreed
         requires ready { IsSome self.now.ready }
-        ensures { result ≡ agreed_of self.now }
+        ensures value { result ≡ agreed_of self.now }
+        ensures valid { IsResolution result.resolution }
     {
         Agreed {
             set: self.positions.own_id(),

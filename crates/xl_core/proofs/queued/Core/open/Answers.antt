@@ -7,5 +7,5 @@ use Rattle.xl_core.proofs.queued.Core.open.Goals as goal
 
 pub returns-clause-stop : goal.returns-clause-stop
 returns-clause-stop g c = λ held holds.
-    subst (IsCovered held) (sym (emptied c.in_ok-node.node (opened c.args.settings c.args.now c.args.kept) c.in_ok-waiting.waiting c.in_ok-untaken.untaken c.in_ok-node.ensures c.in_ok-waiting.ensures c.in_ok-untaken.ensures.empty))
+    subst (IsCovered held) (sym (emptied c.in_ok-node.node (opened c.args.settings c.args.now c.args.kept) c.in_ok-waiting.waiting c.in_ok-untaken.untaken c.in_ok-node.ensures c.in_ok-waiting.ensures.empty c.in_ok-untaken.ensures.empty))
     (opened_covered held c.args.settings c.args.now c.args.kept holds)

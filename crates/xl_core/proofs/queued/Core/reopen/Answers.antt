@@ -8,5 +8,5 @@ use Rattle.xl_core.proofs.queued.Core.reopen.Goals as goal
 pub returns-clause-stop : goal.returns-clause-stop
 returns-clause-stop g c = λ held holds.
     let settings = settings_of c.self.inside.node in
-    subst (IsCovered held) (sym (emptied c.reopen.new.self (opened settings c.args.now c.args.kept) c.in_ok-waiting.waiting c.in_ok-untaken.untaken c.in_ok-reopen.ensures.opened c.in_ok-waiting.ensures c.in_ok-untaken.ensures.empty))
+    subst (IsCovered held) (sym (emptied c.reopen.new.self (opened settings c.args.now c.args.kept) c.in_ok-waiting.waiting c.in_ok-untaken.untaken c.in_ok-reopen.ensures.opened c.in_ok-waiting.ensures.empty c.in_ok-untaken.ensures.empty))
     (opened_covered held settings c.args.now c.args.kept holds)
