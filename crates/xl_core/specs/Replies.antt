@@ -93,7 +93,6 @@ save_of (node.Extra more) = Kept
 save_of (node.Tag why) = Kept
 save_of (node.Header why) = Kept
 save_of (node.Round why) = Kept
-save_of (node.NotBuilt kind) = Kept
 save_of (node.Stale now signed) = Kept
 save_of (node.Repeat id) = Kept
 save_of (node.Conflict id) = Kept

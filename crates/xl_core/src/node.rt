@@ -326,11 +326,69 @@ impl<B: Branch + Drop> Node<B> {
         ensures others { HearsOthers self.old bytes.now }
     {
         self.advance(now);
-        let said = hear(&self.keys, &self.list, bytes)?;
-        match said.what {
-            Speech::Validation(validation) => self.take_validation(said.from, &validation),
+        let Spoken { from, what } = hear(&self.keys, &self.list, bytes)?;
+        self.take_said(from, what)
+    }
+
+    /// Takes what a member says.
+    fn take_said(&mut self, from: NodeNo, what: Speech<'_>) -> Result<Heard, Refusal>
+        requires listed { IsTrue (is_on self.old.list.members from) }
+        ensures exact { hear_reply result self.new ≡ hears self.old from what.entry }
+        ensures refused { result_err result ≡ speech_refusal self.old from what.entry }
+        ensures unchanged { OnErr result (self.new ≡ self.old) }
+    {
+        match what {
+            Speech::Validation(validation) => self.take_validation(from, &validation),
             Speech::Header(header) => self.learn(&header),
+            Speech::Proposal(proposal) => self.place(from, &proposal),
+            Speech::TxSet(ids) => Ok(self.hold(from, &ids)),
+            Speech::Tx(tx) => self.take_tx(tx),
         }
+    }
+
+    /// The round places a member's proposal.
+    fn place(&mut self, from: NodeNo, p: &Proposal) -> Result<Heard, Refusal>
+        ensures exact { hear_reply result self.new ≡ hears self.old from (speech.Proposal p.now) }
+        ensures refused { result_err result ≡ speech_refusal self.old from (speech.Proposal p.now) }
+        ensures unchanged { OnErr result (self.new ≡ self.old) }
+    {
+        let second = secs_of(self.time);
+        let placed = self.round.proposal(&self.registry, from, p, second)?;
+        let taken = match placed {
+            Placed::Position => Taken::Position,
+            Placed::Later => Taken::Later,
+            Placed::Gone => Taken::Gone,
+        };
+        Ok(Heard {
+            taken,
+            report: None,
+        })
+    }
+
+    /// A set is the one that the member holds from then on. It is copied once, into room that is there.
+    fn hold(&mut self, from: NodeNo, ids: &Ids<'_>) -> Heard
+        ensures { hear_reply (Ok result) self.new ≡ hears self.old from (speech.TxSet ids.now) }
+    {
+        let mut room = [TxId([0; 32]); MOST_IDS];
+        let count = copy_ids(ids, &mut room);
+        let id = self.round.hold(from, &room[..count]);
+        Heard {
+            taken: Taken::Set(id),
+            report: None,
+        }
+    }
+
+    /// A transaction that a member sent is pending from then on, and isn't sent on.
+    fn take_tx(&mut self, tx: TxId) -> Result<Heard, Refusal>
+        ensures exact { (from : ℕ) → hear_reply result self.new ≡ hears self.old from (speech.Tx tx) }
+        ensures refused { result_err result ≡ tx_refusal self.old tx }
+        ensures unchanged { OnErr result (self.new ≡ self.old) }
+    {
+        self.round.submit(tx)?;
+        Ok(Heard {
+            taken: Taken::Pending,
+            report: None,
+        })
     }
 
     /// A member's row takes a validation.
