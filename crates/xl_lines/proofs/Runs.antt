@@ -1,10 +1,15 @@
 -- A run over an input, as far as it has come.
-use Rattle.std.proofs.Common.{◌≡◌, ◌++◌, ℕ, List, [], Option, Some, None, IfSome, refl, sym, ap, ◌∙◌, append_assoc}
+use Rattle.std.proofs.Common.{◌≡◌, ◌≢◌, Result, Ok, Err, ◌++◌, ◌<◌, length, ℕ, List, [], Option, Some, None, IfSome, refl, sym, ap, ◌∙◌, append_assoc}
 use Rattle.std.specs.Io.KnownBytes.{prepend_known, IsAtEnd}
-use Rattle.xl_io.specs.Sinks.{GrewByFront}
+use Rattle.xl_io.specs.Sinks.{GrewByFront, GrewByLess}
 use Rattle.xl_lines.specs.Rules.{Told}
+use Rattle.std.specs.Prelude.{IfErr, IsErrOf}
+use Rattle.std.specs.Result.{IsErrAnd}
+use Rattle.xl_lines.specs.declared.fault.Fault.{Fault}
+use Rattle.xl_lines.specs.declared.fault.Fault.TheVariants.{Read, Write, Memory}
+use Rattle.xl_lines.specs.Causes.{HasCause}
 use Rattle.xl_lines.specs.Running.{Tells}
-use Rattle.xl_lines.proofs.Telling.{tells_from, tells_none, tells_then, tells_front, front_of_tells}
+use Rattle.xl_lines.proofs.Telling.{tells_from, tells_none, tells_then, tells_front, front_of_tells, tells_less, less_from, less_of_tells}
 
 -- Of what all says about the bytes, a front is held, and now says what is left to tell about those that are to come.
 pub record Runs (left0 left held0 held : Option (List ℕ)) (all now : List ℕ → Told) : Type 0 where
@@ -53,3 +58,45 @@ module _ {left0 left held0 held : Option (List ℕ)} {all now : List ℕ → Tol
   runs_last_front {held' = held'} end last =
       if_left left0 left runs.consumed (λ bytes. GrewByFront held0 held' (all bytes).text) runs.source
       (λ rest e. rw (at_end left rest end e) (tells_front (runs.tells []) last))
+
+  -- and some isn't written: of what is left, or of the next piece, or of the end
+  pub runs_less : ((rest : List ℕ) → 0 < length (now rest).text) → IfSome left0 (λ bytes. GrewByLess held0 held (all bytes).text)
+  runs_less aloud = if_left left0 left runs.consumed (λ bytes. GrewByLess held0 held (all bytes).text) runs.source (λ rest e. less_of_tells (runs.tells rest) (aloud rest))
+
+  pub runs_more_less : {held' : Option (List ℕ)} (left' : Option (List ℕ)) (piece : List ℕ) → left ≡ prepend_known piece left' → ((rest : List ℕ) → GrewByLess held held' (now (piece ++ rest)).text) → IfSome left0 (λ bytes. GrewByLess held0 held' (all bytes).text)
+  runs_more_less {held' = held'} left' piece e more =
+      if_left left0 left' (runs.consumed ++ piece) (λ bytes. GrewByLess held0 held' (all bytes).text)
+      (runs.source ∙ ap (prepend_known runs.consumed) e ∙ prepend_known-twice runs.consumed piece left')
+      (λ rest e. rw append_assoc (tells_less (runs.tells (piece ++ rest)) (more rest)))
+
+  pub runs_last_less : {held' : Option (List ℕ)} → IsAtEnd left → GrewByLess held held' (now []).text → IfSome left0 (λ bytes. GrewByLess held0 held' (all bytes).text)
+  runs_last_less {held' = held'} end last =
+      if_left left0 left runs.consumed (λ bytes. GrewByLess held0 held' (all bytes).text) runs.source
+      (λ rest e. rw (at_end left rest end e) (tells_less (runs.tells []) last))
+
+-- the fault that is answered, where it isn't want of memory, is one of the sink
+pub by_fault : {T : Type 0} (result : Result T Fault) (before later : ℕ) (P : Type 0) → HasCause before later result → (IsErrOf result Write → P) → IfErr result (λ fault. fault ≢ Memory → P)
+by_fault (Ok x) before later P cause less = tt
+by_fault (Err Read) before later P cause less = absurd (cause.read refl)
+by_fault (Err Write) before later P cause less = λ _. less refl
+by_fault (Err Memory) before later P cause less = λ no. absurd (no refl)
+
+-- a write fault that is passed on was one
+pub write_from : {T U : Type 0} (r : Result T Fault) (s : Result U Fault) (e : Fault) → IsErrAnd r (λ y. y ≡ e) → s ≡ Err e → IsErrOf r Write → IsErrOf s Write
+write_from (Ok x) s e same was is = absurd same
+write_from (Err y) s e same was is = let written : y ≡ Write = cc in was ∙ ap Err (sym same ∙ written)
+
+-- and a cause of it is kept
+pub passed_on : {T U : Type 0} (r : Result T Fault) (s : Result U Fault) (e : Fault) (before later : ℕ) → IsErrAnd r (λ y. y ≡ e) → s ≡ Err e → HasCause before later s → HasCause before later r
+passed_on (Ok x) s e before later same was cause = absurd same
+passed_on (Err y) s e before later same was cause = record {
+  later = cause.later;
+  write = λ is. cause.write (write_from (Err y) s e same was is);
+  read = λ is. let read : y ≡ Read = cc in cause.read (was ∙ ap Err (sym same ∙ read));
+}
+
+pub less_same : {T : Type 0} (result : Result T Fault) (left before after : Option (List ℕ)) (f g : List ℕ → Told) → ((bytes : List ℕ) → f bytes ≡ g bytes) →
+    IfErr result (λ fault. fault ≢ Memory → IfSome left (λ bytes. GrewByLess before after (f bytes).text)) → IfErr result (λ fault. fault ≢ Memory → IfSome left (λ bytes. GrewByLess before after (g bytes).text))
+less_same (Ok x) left before after f g same less = tt
+less_same (Err e) None before after f g same less = λ other. tt
+less_same (Err e) (Some bytes) before after f g same less = λ other. less_from (sym (same bytes)) (less other)

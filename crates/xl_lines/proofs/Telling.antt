@@ -1,7 +1,7 @@
 -- What is told, part by part.
-use Rattle.std.proofs.Common.{◌≡◌, ◌<◌, ◌≤◌, ◌-◌, ◌∷◌, ◌++◌, length, ℕ, List, [], Option, refl, sym, ap, ◌∙◌, append_assoc, append-nil}
+use Rattle.std.proofs.Common.{◌≡◌, ◌<◌, ◌≤◌, ◌-◌, ◌∷◌, ◌++◌, length, length-append, arith, ℕ, List, [], Option, refl, sym, ap, ◌∙◌, append_assoc, append-nil, subst}
 use Rattle.std.specs.Io.KnownBytes.{append_known}
-use Rattle.xl_io.specs.Sinks.{GrewByFront}
+use Rattle.xl_io.specs.Sinks.{GrewByFront, GrewByLess}
 use Rattle.xl_io.proofs.Growing.{append_known-none, append_known-twice}
 use Rattle.xl_lines.specs.declared.limits.Limits.{Limits}
 use Rattle.xl_lines.specs.declared.machine.Verdict.{Verdict}
@@ -44,6 +44,19 @@ tells_from e x = record { written = x.written; held = x.held; parts = e ∙ x.pa
 pub front_from : {old new : Option (List ℕ)} {a b : Told} → a ≡ b → GrewByFront old new b.text → GrewByFront old new a.text
 front_from e x = record { written = x.written; missing = x.missing; parts = ap (λ told. told.text) e ∙ x.parts; held = x.held }
 
+-- and some of it isn't
+pub tells_less : {old mid new : Option (List ℕ)} {a b : Told} → Tells old mid a b → GrewByLess mid new b.text → GrewByLess old new a.text
+unfolding tells_front
+tells_less x y = (tells_front x y.0, y.1)
+
+pub less_from : {old new : Option (List ℕ)} {a b : Told} → a ≡ b → GrewByLess old new b.text → GrewByLess old new a.text
+unfolding front_from
+less_from e x = (front_from e x.0, x.1)
+
+pub less_of_tells : {old new : Option (List ℕ)} {a b : Told} → Tells old new a b → 0 < length b.text → GrewByLess old new a.text
+unfolding front_of_tells
+less_of_tells x some = (front_of_tells x, some)
+
 -- a last text is written
 pub tells_refused : {old new : Option (List ℕ)} (text : List ℕ) → new ≡ append_known old text → Tells old new (refused text) (refused [])
 tells_refused text held = record { written = text; held = held; parts = ap refused (sym (append-nil text)) }
@@ -65,6 +78,16 @@ front_of_step then (goes_on text state) x = record {
 }
 front_of_step then (refuses text) x = x
 
+less_of_step : {S : Type 0} {old new : Option (List ℕ)} (then : S → Told) (step : Step S) → GrewByLess old new (step_text step) → GrewByLess old new (told_by then step).text
+unfolding told_by front_of_step
+less_of_step then (goes_on text state) x = (front_of_step then (goes_on text state) x.0, omega (arith, x.1, length-append x.0.missing (then state).text))
+less_of_step then (refuses text) x = x
+
+-- some of an answer isn't written
+pub less_answered : {S : Type 0} {old new : Option (List ℕ)} (next : Next) (text : List ℕ) (state : S) (step : Step S) → step_given next text state ≡ step → GrewByLess old new text → GrewByLess old new (step_text step)
+less_answered {old = old} {new = new} next.Line text state step e x = subst (λ given. GrewByLess old new (step_text given)) e x
+less_answered {old = old} {new = new} next.Refused text state step e x = subst (λ given. GrewByLess old new (step_text given)) e x
+
 -- A line has ended, within the limits, and this of it is handed to the machine.
 pub record LineEnds (limits : Limits) (line handed : List ℕ) : Type 0 where
   pub one_line : IsOneLine line
@@ -81,6 +104,11 @@ module _ {S : Type 0} (rules : Rules S) (state : S) {limits : Limits} (left : �
   front_of_line e front rest =
       front_from (told_at-ended limits rules left state line handed rest e.one_line e.short e.handed_on)
       (front_of_step (λ s. told_at limits rules (left - 1) s [] rest) (step_within rules left state handed) front)
+
+  pub less_of_line : LineEnds limits line handed → GrewByLess old new (step_text (step_within rules left state handed)) → (rest : List ℕ) → GrewByLess old new (told_at limits rules left state line (10 ∷ rest)).text
+  less_of_line e less rest =
+      less_from (told_at-ended limits rules left state line handed rest e.one_line e.short e.handed_on)
+      (less_of_step (λ s. told_at limits rules (left - 1) s [] rest) (step_within rules left state handed) less)
 
 -- The input ends in a line, within the limits, and it is handed to the machine.
 pub record LineIsLast (limits : Limits) (line handed : List ℕ) : Type 0 where
@@ -99,6 +127,11 @@ module _ {S : Type 0} (rules : Rules S) (state : S) {limits : Limits} (left : �
   front_of_last e front =
       front_from (told_at-last limits rules left state line handed e.some e.one_line e.short e.handed_on)
       (front_of_step rules.closing (step_within rules left state handed) front)
+
+  pub less_of_last : LineIsLast limits line handed → GrewByLess old new (step_text (step_within rules left state handed)) → GrewByLess old new (told_at limits rules left state line []).text
+  less_of_last e less =
+      less_from (told_at-last limits rules left state line handed e.some e.one_line e.short e.handed_on)
+      (less_of_step rules.closing (step_within rules left state handed) less)
 
 pub tells_all_then : {old mid new : Option (List ℕ)} {a b : Told} {verdict : Verdict} → Tells old mid a b → TellsAll mid new verdict b → TellsAll old new verdict a
 tells_all_then {old} {b = b} x y = record {

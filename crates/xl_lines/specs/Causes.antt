@@ -1,11 +1,28 @@
 -- When a run answers which fault. Source: this layer's promise that no fault is invented.
-use Rattle.std.specs.Prelude.{ℕ, ◌≤◌, Result, IsErrOf}
+use Rattle.std.specs.Prelude.{ℕ, ◌<◌, ◌≤◌, List, length, Result, IsErrOf}
 use Rattle.xl_base.specs.Faults.{Rose}
 use Rattle.xl_lines.specs.declared.fault.Fault.{Fault}
 use Rattle.xl_lines.specs.declared.fault.Fault.TheVariants.{Read, Write}
+use Rattle.xl_lines.specs.declared.limits.Overrun.{Overrun}
+use Rattle.xl_lines.specs.Rules.{Rules, Step, goes_on, refuses, Told}
 
 -- the count of a sink doesn't fall, and it has risen where a write fault is answered; no read fault is
 pub record HasCause {T : Type 0} (before now : ℕ) (result : Result T Fault) : Type 0 where
   pub later : before ≤ now
   pub write : IsErrOf result Write → Rose before now
   pub read : IsErrOf result Read → ⊥
+
+-- whatever is still to come, something is told
+abbrev pub IsAloud : {T : Type 0} → (T → List ℕ → Told) → Type 0
+IsAloud {T} tells = (teller : T) (bytes : List ℕ) → 0 < length (tells teller bytes).text
+
+-- a refusal has a text
+abbrev pub RefusesAloud : {S : Type 0} → Step S → Type 0
+RefusesAloud (goes_on text state) = Unit {0}
+RefusesAloud (refuses text) = 0 < length text
+
+-- a machine whose last text is never empty
+pub record EndsAloud {S : Type 0} (rules : Rules S) : Type 0 where
+  pub step : (state : S) (line : List ℕ) → RefusesAloud (rules.step state line)
+  pub overrun : (state : S) (overrun : Overrun) → 0 < length (rules.overrun state overrun)
+  pub closing : (state : S) → 0 < length (rules.closing state).text

@@ -1,7 +1,7 @@
 // The answers of a machine, written to an output as soon as they are given.
-ghost use Rattle.std.specs.Prelude.{◌≡◌, ◌<◌, [], IfOk, OnOk, string_bytes};
+ghost use Rattle.std.specs.Prelude.{◌≡◌, ◌<◌, [], IfOk, OnOk, IsErrOf, string_bytes};
 ghost use Rattle.std.specs.Io.KnownBytes.{append_known};
-ghost use Rattle.xl_io.specs.Sinks.{GrewByFront};
+ghost use Rattle.xl_io.specs.Sinks.{GrewByFront, GrewByLess};
 ghost use Rattle.xl_lines.specs.Causes.{HasCause};
 ghost use Rattle.xl_lines.specs.Rules.{step_given};
 ghost use Rattle.xl_lines.specs.Told.{step_within};
@@ -44,6 +44,8 @@ pub fn answer<M: Machine, O: Sink>(
     ensures held { OnOk result (O.held output.new ≡ append_known (O.held output.old) (string_bytes text.new)) }
     ensures front { GrewByFront (O.held output.old) (O.held output.new)
         (step_text (step_within M.rules left (M.state machine.old) line.now)) }
+    ensures less { IsErrOf result Fault.Write → GrewByLess (O.held output.old) (O.held output.new)
+        (step_text (step_within M.rules left (M.state machine.old) line.now)) }
     ensures cause { HasCause (O.faults output.old) (O.faults output.new) result }
 {
     text.clear();
@@ -62,6 +64,8 @@ pub fn refuse_long<M: Machine, O: Sink>(
         ≡ append_known (O.held output.old) ((M.rules).overrun (M.state machine.old) Overrun.LongLine)) }
     ensures front { GrewByFront (O.held output.old) (O.held output.new)
         ((M.rules).overrun (M.state machine.old) Overrun.LongLine) }
+    ensures less { IsErrOf result Fault.Write → GrewByLess (O.held output.old) (O.held output.new)
+        ((M.rules).overrun (M.state machine.old) Overrun.LongLine) }
     ensures cause { HasCause (O.faults output.old) (O.faults output.new) result }
 {
     text.clear();
@@ -79,6 +83,8 @@ pub fn close<M: Machine, O: Sink>(
     ensures all { IfOk result (λ verdict. TellsAll (O.held output.old) (O.held output.new) verdict
         ((M.rules).closing (M.state machine.old))) }
     ensures front { GrewByFront (O.held output.old) (O.held output.new)
+        ((M.rules).closing (M.state machine.old)).text }
+    ensures less { IsErrOf result Fault.Write → GrewByLess (O.held output.old) (O.held output.new)
         ((M.rules).closing (M.state machine.old)).text }
     ensures cause { HasCause (O.faults output.old) (O.faults output.new) result }
 {

@@ -1,7 +1,8 @@
 ghost use Rattle.std.specs.Prelude.{◌≡◌, ◌≢◌, ◌≤◌, true, ℕ, List, IfOk, IfSome, IfErr, IsErrOf};
 ghost use Rattle.std.specs.Io.KnownBytes.{IsAtEnd};
 ghost use Rattle.xl_base.specs.Faults.{Rose};
-ghost use Rattle.xl_io.specs.Sinks.{GrewByFront};
+ghost use Rattle.xl_io.specs.Sinks.{GrewByFront, GrewByLess};
+ghost use Rattle.xl_lines.specs.Causes.{IsAloud, EndsAloud};
 ghost use Rattle.xl_lines.specs.Running.{TellsAll};
 ghost use Rattle.xl_lines.specs.Told.{told_of};
 
@@ -30,6 +31,9 @@ pub fn drive<T: Teller, I: Source, O: Sink>(
     // A front of the text is written, whatever happens.
     ensures front { IfSome (I.left input.old) (λ bytes.
         GrewByFront (O.held output.old) (O.held output.new) (T.tells teller.old bytes).text) }
+    // With a fault of the source or the sink some of the text isn't written, where there is always some to come.
+    ensures less { IsAloud T.tells → IfErr result (λ fault. fault ≢ Fault.Memory → IfSome (I.left input.old) (λ bytes.
+        GrewByLess (O.held output.old) (O.held output.new) (T.tells teller.old bytes).text)) }
 
     // A fault is answered only where its count rose.
     ensures read { IsErrOf result Fault.Read → Rose (I.faults input.old) (I.faults input.new) }
@@ -73,6 +77,9 @@ pub fn run<M: Machine + Drop, I: Source, O: Sink>(
     // A front of the text is written, whatever happens.
     ensures front { IfSome (I.left input.old) (λ bytes. GrewByFront (O.held output.old) (O.held output.new)
         (told_of limits M.rules (M.state machine) bytes).text) }
+    // With a fault of the source or the sink some of the text isn't written, where a last text is never empty.
+    ensures less { EndsAloud M.rules → IfErr result (λ fault. fault ≢ Fault.Memory → IfSome (I.left input.old) (λ bytes.
+        GrewByLess (O.held output.old) (O.held output.new) (told_of limits M.rules (M.state machine) bytes).text)) }
 
     // A fault is answered only where its count rose.
     ensures read { IsErrOf result Fault.Read → Rose (I.faults input.old) (I.faults input.new) }

@@ -1,9 +1,11 @@
-ghost use Rattle.std.specs.Prelude.{◌≡◌, ◌+◌, ◌<◌, ◌≤◌, ◌==◌, ℕ, List, [], ◌∷◌, ◌++◌, false, length, vec_len, IfOk, OnOk, IsTrue, ◌↔◌};
+ghost use Rattle.std.specs.Prelude.{◌≡◌, ◌+◌, ◌<◌, ◌≤◌, ◌==◌, ◌↔◌, ℕ, List, [], ◌∷◌, ◌++◌, false, length, vec_len};
+ghost use Rattle.std.specs.Prelude.{IfOk, OnOk, IsErrOf, IsTrue};
 ghost use Rattle.std.specs.List.{list_any};
-ghost use Rattle.xl_io.specs.Sinks.{GrewByFront};
+ghost use Rattle.xl_io.specs.Sinks.{GrewByFront, GrewByLess};
 ghost use Rattle.xl_lines.specs.Causes.{HasCause};
 ghost use Rattle.xl_lines.specs.Told.{told_of};
-ghost use Rattle.xl_lines.specs.Running.{Tells, TellsAll, told_at, left_after, left_unless_refused, TakesSome, bytes_to_come, FewerToCome};
+ghost use Rattle.xl_lines.specs.Running.{Tells, TellsAll, told_at, left_after, left_unless_refused};
+ghost use Rattle.xl_lines.specs.Running.{TakesSome, bytes_to_come, FewerToCome};
 
 use crate::answer::{answer, close, refuse_long};
 use crate::ends::{newline_in, without_return};
@@ -74,13 +76,13 @@ impl<M: Machine> Lines<M> {
         ensures limits { self.new.limits ≡ self.old.limits }
         ensures next { IfOk result (λ next. next ≡ Next.Line →
             (self.new.left + 1 ≡ self.old.left) × (self.new.line.items ≡ [])) }
-        ensures ok { IfOk result (λ next. (rest : List ℕ) →
-            Tells (O.held output.old) (O.held output.new)
-            (told_at self.old.limits M.rules self.old.left (M.state self.old.machine) self.old.line.items (10 ∷ rest))
-            (left_unless_refused next (told_at self.new.limits M.rules self.new.left (M.state self.new.machine) self.new.line.items rest))) }
-        ensures front { (rest : List ℕ) →
-            GrewByFront (O.held output.old) (O.held output.new)
-            (told_at self.old.limits M.rules self.old.left (M.state self.old.machine) self.old.line.items (10 ∷ rest)).text }
+        ensures ok { IfOk result (λ next. (rest : List ℕ) → Tells (O.held output.old) (O.held output.new)
+            (⟦<Lines<M> as Teller>⟧.tells self.old (10 ∷ rest))
+            (left_unless_refused next (⟦<Lines<M> as Teller>⟧.tells self.new rest))) }
+        ensures front { (rest : List ℕ) → GrewByFront (O.held output.old) (O.held output.new)
+            (⟦<Lines<M> as Teller>⟧.tells self.old (10 ∷ rest)).text }
+        ensures less { IsErrOf result Fault.Write → (rest : List ℕ) → GrewByLess (O.held output.old) (O.held output.new)
+            (⟦<Lines<M> as Teller>⟧.tells self.old (10 ∷ rest)).text }
         ensures cause { HasCause (O.faults output.old) (O.faults output.new) result }
     {
         let line = without_return(&self.line);
@@ -102,13 +104,13 @@ impl<M: Machine> Lines<M> {
         ensures fewer { IfOk result (λ part. FewerToCome part
             (bytes_to_come self.old.limits self.old.left (vec_len self.old.line))
             (bytes_to_come self.new.limits self.new.left (vec_len self.new.line))) }
-        ensures ok { IfOk result (λ part. (rest : List ℕ) →
-            Tells (O.held output.old) (O.held output.new)
-            (told_at self.old.limits M.rules self.old.left (M.state self.old.machine) self.old.line.items (bytes.now ++ rest))
-            (left_after part (λ left. told_at self.new.limits M.rules self.new.left (M.state self.new.machine) self.new.line.items (left ++ rest)) bytes.now)) }
-        ensures front { (rest : List ℕ) →
-            GrewByFront (O.held output.old) (O.held output.new)
-            (told_at self.old.limits M.rules self.old.left (M.state self.old.machine) self.old.line.items (bytes.now ++ rest)).text }
+        ensures ok { IfOk result (λ part. (rest : List ℕ) → Tells (O.held output.old) (O.held output.new)
+            (⟦<Lines<M> as Teller>⟧.tells self.old (bytes.now ++ rest))
+            (left_after part (λ left. ⟦<Lines<M> as Teller>⟧.tells self.new (left ++ rest)) bytes.now)) }
+        ensures front { (rest : List ℕ) → GrewByFront (O.held output.old) (O.held output.new)
+            (⟦<Lines<M> as Teller>⟧.tells self.old (bytes.now ++ rest)).text }
+        ensures less { IsErrOf result Fault.Write → (rest : List ℕ) → GrewByLess (O.held output.old) (O.held output.new)
+            (⟦<Lines<M> as Teller>⟧.tells self.old (bytes.now ++ rest)).text }
         ensures cause { HasCause (O.faults output.old) (O.faults output.new) result }
     {
         let newline = newline_in(bytes);
@@ -129,7 +131,8 @@ impl<M: Machine> Lines<M> {
 }
 
 impl<M: Machine> Teller for Lines<M> {
-    ghost tells = { λ lines rest. told_at lines.limits M.rules lines.left (M.state lines.machine) lines.line.items rest };
+    ghost tells = { λ lines rest.
+        told_at lines.limits M.rules lines.left (M.state lines.machine) lines.line.items rest };
 
     ghost to_come = { λ lines. bytes_to_come lines.limits lines.left (vec_len lines.line) };
 

@@ -1,5 +1,5 @@
-ghost use Rattle.std.specs.Prelude.{◌≡◌, ◌+◌, ◌≤◌, ℕ, List, [], ◌++◌, length, IfOk};
-ghost use Rattle.xl_io.specs.Sinks.{GrewByFront};
+ghost use Rattle.std.specs.Prelude.{◌≡◌, ◌+◌, ◌≤◌, ℕ, List, [], ◌++◌, length, IfOk, IsErrOf};
+ghost use Rattle.xl_io.specs.Sinks.{GrewByFront, GrewByLess};
 ghost use Rattle.xl_lines.specs.Causes.{HasCause};
 ghost use Rattle.xl_lines.specs.Rules.{Told};
 ghost use Rattle.xl_lines.specs.Running.{Tells, TellsAll, left_unless_refused};
@@ -22,6 +22,8 @@ pub trait Teller {
             (left_unless_refused next (tells self.new rest))) }
         ensures front { (rest : List ℕ) →
             GrewByFront (O.held output.old) (O.held output.new) (tells self.old (bytes.now ++ rest)).text }
+        ensures less { IsErrOf result Fault.Write → (rest : List ℕ) →
+            GrewByLess (O.held output.old) (O.held output.new) (tells self.old (bytes.now ++ rest)).text }
         ensures fewer { IfOk result (λ next. next ≡ Next.Line →
             to_come self.new + length bytes.now ≤ to_come self.old) }
         ensures cause { HasCause (O.faults output.old) (O.faults output.new) result };
@@ -31,5 +33,7 @@ pub trait Teller {
         ensures ok { IfOk result (λ verdict.
             TellsAll (O.held output.old) (O.held output.new) verdict (tells self.old [])) }
         ensures front { GrewByFront (O.held output.old) (O.held output.new) (tells self.old []).text }
+        ensures less { IsErrOf result Fault.Write →
+            GrewByLess (O.held output.old) (O.held output.new) (tells self.old []).text }
         ensures cause { HasCause (O.faults output.old) (O.faults output.new) result };
 }

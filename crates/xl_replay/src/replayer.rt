@@ -12,12 +12,13 @@ use std::alloc::Global;
 use xl_base::{Bytes, OutOfMemory};
 use xl_lines::{Machine, Next, Overrun, Verdict};
 use xl_sched::{Event, Line, MOST_BYTES, MOST_LINES, Reader, SchedRefusal};
-use xl_world::{Plan, PlanNode, World, first_fork};
+use xl_world::{Happened, Plan, PlanNode, World, first_fork};
 
 /// How many ledgers each node may know where no `limit` line says it.
 const DEFAULT_LIMIT: u32 = 1_024;
 
-/// A schedule so far: what was read, the limit, nodes and liars that are declared, and from the first event on the world.
+/// A schedule so far: what was read, the limit, nodes and liars that are declared, and from the first event on the
+/// world.
 #[derive(Drop)]
 pub struct Replayer {
     alloc: Global,
@@ -30,9 +31,10 @@ pub struct Replayer {
 }
 
 impl Replayer {
-    ghost use Rattle.std.specs.Prelude.{◌≤◌, length, string_bytes, OnOk, IfOk};
+    ghost use Rattle.std.specs.Prelude.{◌≤◌, length, string_bytes, OnOk, IfOk, Some};
     ghost use Rattle.xl_base.specs.declared.moments.TheConstants.{GREATEST_MILLIS};
     ghost use Rattle.xl_lines.specs.Rules.{goes_on};
+    ghost use Rattle.xl_world.specs.Schedule.{after_event, outcomes};
     ghost use Rattle.xl_replay.specs.Replays.{after, after_line, world_of};
     ghost use Rattle.xl_replay.specs.Replayers.{state_of, IsInRange};
 
@@ -62,27 +64,31 @@ impl Replayer {
         }
     }
 
-    /// The world so far; before the first event it is the one of the plan.
-    fn take_world(&mut self) -> Result<World, OutOfMemory>
-        ensures world { IfOk result (λ world. world ≡ world_of (state_of self.old)) }
+    /// An event is a step of the world, which is opened at the first one.
+    fn step(&mut self, event: &Event) -> Result<Happened, OutOfMemory>
+        requires { event.now.at ≤ GREATEST_MILLIS }
+        ensures world { OnOk result
+            (self.new.world ≡ Some (after_event (world_of (state_of self.old)) event.now)) }
+        ensures told { IfOk result (λ told. told ≡ outcomes (world_of (state_of self.old)) event.now) }
         ensures reader { self.new.reader ≡ self.old.reader }
         ensures plan { self.new.plan ≡ self.old.plan }
     {
-        match self.world.take() {
-            Some(world) => Ok(world),
-            None => World::open(self.alloc, &self.plan),
+        match &mut self.world {
+            Some(world) => world.event(event),
+            none => none
+                .insert(World::open(self.alloc, &self.plan)?)
+                .event(event),
         }
     }
 
-    /// An event is a step of the world, and what came of it is told.
+    /// An event happens, and what came of it is told.
     fn happen(&mut self, event: &Event, text: &mut String) -> Result<(), OutOfMemory>
         requires timely { event.now.at ≤ GREATEST_MILLIS }
         requires empty { string_bytes text.old ≡ [] }
-        ensures { OnOk result (goes_on (string_bytes text.new) (state_of self.new) ≡ after (state_of self.old) self.old.reader event.now) }
+        ensures { OnOk result (goes_on (string_bytes text.new) (state_of self.new)
+            ≡ after (state_of self.old) self.old.reader event.now) }
     {
-        let mut world = self.take_world()?;
-        let happened = world.event(event)?;
-        self.world = Some(world);
+        let happened = self.step(event)?;
         push_outcomes(
             self.alloc,
             text,
@@ -92,11 +98,23 @@ impl Replayer {
         )
     }
 
+    /// The world at the end; without any event it is the one of the plan.
+    fn last_world(&mut self) -> Result<World, OutOfMemory>
+        ensures world { IfOk result (λ world. world ≡ world_of (state_of self.old)) }
+        ensures reader { self.new.reader ≡ self.old.reader }
+    {
+        match self.world.take() {
+            Some(world) => Ok(world),
+            None => World::open(self.alloc, &self.plan),
+        }
+    }
+
     /// What a line says is taken in.
     fn take(&mut self, line: &Line, text: &mut String) -> Result<(), OutOfMemory>
         requires in_range { IsInRange line.now }
         requires empty { string_bytes text.old ≡ [] }
-        ensures { OnOk result (goes_on (string_bytes text.new) (state_of self.new) ≡ after_line (state_of self.old) self.old.reader line.now) }
+        ensures { OnOk result (goes_on (string_bytes text.new) (state_of self.new)
+            ≡ after_line (state_of self.old) self.old.reader line.now) }
     {
         match line {
             Line::Limit(limit) => {
@@ -170,7 +188,7 @@ impl Machine for Replayer {
             push_bad(text, 1, &SchedRefusal::missing_header(self.alloc))?;
             return Ok(Verdict::Refused);
         }
-        let world = self.take_world()?;
+        let world = self.last_world()?;
         let fork = first_fork(self.alloc, world.reports())?;
         push_end(self.alloc, text, &self.reader, &world, &fork)?;
         Ok(if fork.is_some() {

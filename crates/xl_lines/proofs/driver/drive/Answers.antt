@@ -1,5 +1,5 @@
 use Rattle.std.proofs.Common.{take, arith}
-use Rattle.xl_lines.proofs.Runs.{runs_none, runs_more, runs_more_front, runs_last_front}
+use Rattle.xl_lines.proofs.Runs.{runs_none, runs_more, runs_more_front, runs_last_front, runs_less, runs_more_less, runs_last_less, by_fault, write_from, passed_on}
 use Rattle.xl_lines.proofs.driver.drive.Goals as goal
 
 pub loop-count-init : goal.loop-count-init
@@ -20,3 +20,14 @@ returns-in-Refused-clause-front g c = runs_more_front c.loop-count.invariant.run
 
 pub returns-in-End-clause-front : goal.returns-in-End-clause-front
 returns-in-End-clause-front g c = runs_last_front c.loop-count.invariant.runs c.in-End.ensures.bytes.0 c.finish.ensures.front
+
+pub returns-in_err-feed-in-Got-clause-less : goal.returns-in_err-feed-in-Got-clause-less
+returns-in_err-feed-in-Got-clause-less g c aloud =
+    by_fault c.from_residual.result _ _ _ (passed_on c.from_residual.result c.feed.result c.in_err-feed-in-Got.field-0.0 _ _ c.from_residual.ensures.1 c.in_err-feed-in-Got.was c.feed.ensures.cause)
+    (λ is. runs_more_less c.loop-count.invariant.runs _ (take c.in-Got.count c.read.new.room) c.in-Got.ensures.bytes (c.feed.ensures.less (write_from c.from_residual.result c.feed.result c.in_err-feed-in-Got.field-0.0 c.from_residual.ensures.1 c.in_err-feed-in-Got.was is)))
+
+pub returns-in-End-clause-less : goal.returns-in-End-clause-less
+returns-in-End-clause-less g c aloud = by_fault c.finish.result _ _ _ c.finish.ensures.cause (λ is. runs_last_less c.loop-count.invariant.runs c.in-End.ensures.bytes.0 (c.finish.ensures.less is))
+
+pub returns-in-Failed-clause-less : goal.returns-in-Failed-clause-less
+returns-in-Failed-clause-less g c aloud other = runs_less c.loop-count.invariant.runs (aloud c.loop-count.teller)

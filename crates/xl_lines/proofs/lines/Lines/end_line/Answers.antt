@@ -1,7 +1,8 @@
 use Rattle.std.proofs.Common.{ap, ◌∙◌, arith}
 use Rattle.xl_lines.specs.declared.machine.Next.TheVariants as next
 use Rattle.xl_lines.specs.Lines.{without_return}
-use Rattle.xl_lines.proofs.Telling.{LineEnds, tells_line, front_of_line}
+use Rattle.xl_lines.proofs.Runs.{write_from}
+use Rattle.xl_lines.proofs.Telling.{LineEnds, tells_line, front_of_line, less_of_line}
 use Rattle.xl_lines.proofs.lines.Lines.end_line.Goals as goal
 use Rattle.xl_lines.proofs.lines.Lines.end_line.Goals.{After-answer}
 
@@ -33,3 +34,7 @@ returns-in-Refused-clause-ok g c rest =
 pub returns-in-Refused-clause-front : goal.returns-in-Refused-clause-front
 returns-in-Refused-clause-front g c =
     front_of_line g.M.Machine.rules _ c.args.self.now.left (ends g (goal.at.returns-in-Refused-clause-front g c).After-answer) c.answer.ensures.front
+
+pub returns-in_err-answer-clause-less : goal.returns-in_err-answer-clause-less
+returns-in_err-answer-clause-less g c is =
+    less_of_line g.M.Machine.rules _ c.args.self.now.left (ends g (goal.at.returns-in_err-answer-clause-less g c).After-answer) (c.answer.ensures.less (write_from c.from_residual.result c.answer.result c.in_err-answer.field-0.0 c.from_residual.ensures.1 c.in_err-answer.was is))

@@ -4,7 +4,8 @@ use Rattle.xl_lines.specs.Rules.{refused}
 use Rattle.xl_lines.specs.Running.{told_at}
 use Rattle.xl_lines.proofs.Newlines.{finds_newline}
 use Rattle.xl_lines.proofs.Parts.{first_end, one_line-first, told_long, told_newline, told_none}
-use Rattle.xl_lines.proofs.Telling.{tells_from, front_from, tells_refused, tells_none}
+use Rattle.xl_lines.proofs.Runs.{write_from}
+use Rattle.xl_lines.proofs.Telling.{tells_from, front_from, less_from, tells_refused, tells_none}
 use Rattle.xl_lines.proofs.lines.Lines.take_part.Goals as goal
 use Rattle.xl_lines.proofs.lines.Lines.take_part.Goals.{Then-is_long_with, Else-is_none}
 
@@ -56,3 +57,11 @@ returns-in-Refused-clause-ok g c rest = tells_from (newline g (goal.at.returns-i
 
 pub returns-in-Refused-clause-front : goal.returns-in-Refused-clause-front
 returns-in-Refused-clause-front g c rest = front_from (newline g (goal.at.returns-in-Refused-clause-front g c).Else-is_none rest) (c.end_line.ensures.front _)
+
+pub returns-in_err-refuse_long-clause-less : goal.returns-in_err-refuse_long-clause-less
+returns-in_err-refuse_long-clause-less g c is rest =
+    less_from (long g (goal.at.returns-in_err-refuse_long-clause-less g c).Then-is_long_with rest) (c.refuse_long.ensures.less (write_from c.from_residual.result c.refuse_long.result c.in_err-refuse_long.field-0.0 c.from_residual.ensures.1 c.in_err-refuse_long.was is))
+
+pub returns-in_err-end_line-clause-less : goal.returns-in_err-end_line-clause-less
+returns-in_err-end_line-clause-less g c is rest =
+    less_from (newline g (goal.at.returns-in_err-end_line-clause-less g c).Else-is_none rest) (c.end_line.ensures.less (write_from c.from_residual-in_err-end_line.result c.end_line.result c.in_err-end_line.field-0.0 c.from_residual-in_err-end_line.ensures.1 c.in_err-end_line.was is) _)

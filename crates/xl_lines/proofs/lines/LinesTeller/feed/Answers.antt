@@ -1,6 +1,7 @@
 use Rattle.std.proofs.Common.{◌∙◌, ◌+◌, ◌-◌, ◌≤◌, ℕ, arith, length-drop}
 use Rattle.std.proofs.lemmas.List.{take_rest}
-use Rattle.xl_lines.proofs.Telling.{tells_then, tells_front}
+use Rattle.xl_lines.proofs.Runs.{write_from}
+use Rattle.xl_lines.proofs.Telling.{tells_then, tells_front, tells_less}
 use Rattle.xl_lines.proofs.lines.LinesTeller.feed.Goals as goal
 
 fewer_still : (new mid old all rest count : ℕ) → new + count ≤ mid → mid + all ≤ old + rest → count ≤ rest → new + all ≤ old + (rest - count)
@@ -19,3 +20,7 @@ returns-in-Refused-clause-ok g c more = tells_then (c.loop-rest.invariant.tells 
 
 pub returns-in-Refused-clause-front : goal.returns-in-Refused-clause-front
 returns-in-Refused-clause-front g c more = tells_front (c.loop-rest.invariant.tells more) (c.take_part.ensures.front more)
+
+pub returns-in_err-count-clause-less : goal.returns-in_err-count-clause-less
+returns-in_err-count-clause-less g c is more =
+    tells_less (c.loop-rest.invariant.tells more) (c.take_part.ensures.less (write_from c.from_residual.result c.take_part.result c.in_err-count.field-0.0 c.from_residual.ensures.1 c.in_err-count.was is) more)

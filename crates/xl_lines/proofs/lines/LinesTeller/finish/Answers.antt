@@ -4,7 +4,8 @@ use Rattle.std.proofs.lemmas.Bool.Decides.{nat_tests}
 use Rattle.std.specs.Vec.{vec_len}
 use Rattle.xl_lines.specs.declared.machine.Next.TheVariants as next
 use Rattle.xl_lines.proofs.Cutting.{told_at-end}
-use Rattle.xl_lines.proofs.Telling.{LineIsLast, tells_last, front_of_last, tells_all_then, tells_all_refused, tells_front, all_from, front_from}
+use Rattle.xl_lines.proofs.Runs.{write_from}
+use Rattle.xl_lines.proofs.Telling.{LineIsLast, tells_last, front_of_last, tells_all_then, tells_all_refused, tells_front, all_from, front_from, less_from, tells_less, less_of_last}
 use Rattle.xl_lines.proofs.lines.LinesTeller.finish.Goals as goal
 use Rattle.xl_lines.proofs.lines.LinesTeller.finish.Goals.{After-answer, Then-is_empty}
 
@@ -49,3 +50,14 @@ returns-in-Refused-clause-ok g c =
 
 pub returns-in-Refused-clause-front : goal.returns-in-Refused-clause-front
 returns-in-Refused-clause-front g c = front_of_last g.M.Machine.rules _ c.args.self.now.left (last g (goal.at.returns-in-Refused-clause-front g c).After-answer) c.answer.ensures.front
+
+pub returns-then-is_empty-clause-less : goal.returns-then-is_empty-clause-less
+returns-then-is_empty-clause-less g c = λ is. less_from (told_at-end _ _ _ _ _ (none g (goal.at.returns-then-is_empty-clause-less g c).Then-is_empty)) (c.close.ensures.less is)
+
+pub returns-in_err-answer-clause-less : goal.returns-in_err-answer-clause-less
+returns-in_err-answer-clause-less g c is =
+    less_of_last g.M.Machine.rules _ c.args.self.now.left (last g (goal.at.returns-in_err-answer-clause-less g c).After-answer) (c.answer.ensures.less (write_from c.from_residual.result c.answer.result c.in_err-answer.field-0.0 c.from_residual.ensures.1 c.in_err-answer.was is))
+
+pub returns-in-Line-clause-less : goal.returns-in-Line-clause-less
+returns-in-Line-clause-less g c =
+    λ is. tells_less (tells_last g.M.Machine.rules _ c.args.self.now.left next.Line _ (g.M.Machine.state c.answer.new.machine) (last g (goal.at.returns-in-Line-clause-less g c).After-answer) (rw c.in-Line.is at c.in_ok-answer.ensures.step) c.in_ok-answer.ensures.held) (c.close-in-Line.ensures.less is)
