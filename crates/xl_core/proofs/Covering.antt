@@ -30,28 +30,32 @@ use Rattle.xl_core.specs.Node as nodes
 use Rattle.xl_core.specs.Node.{Node, Save, is_kept, issues, issues_unless, refusing, at_moment, second_of, own_validation, happens, opened}
 use Rattle.xl_core.specs.Node.Save.{Kept, Failed}
 use Rattle.xl_core.specs.Queues.{waiting_at, fitting, frames_in}
-use Rattle.xl_core.specs.Sending.{blank_frame, sealed_bytes, has_spelling}
+use Rattle.xl_core.specs.Sending.{blank_frame, sealed_bytes, has_frame}
 use Rattle.xl_core.specs.Stops.{IsCovered, IsItemCovered}
 use Rattle.xl_core.proofs.Heard.{not_itself}
-use Rattle.xl_core.proofs.Spelling.{held, sealed_raw}
+use Rattle.xl_core.proofs.Spelling.{sealed_raw}
+use Rattle.xl_wire.specs.declared.body.Body.{Body}
+use Rattle.xl_wire.proofs.FrameTests.{frame_passes}
 use Rattle.xl_core.proofs.Stepping.{stays_itself}
 use Rattle.xl_core.proofs.Stopping.{AllCovered, waiting_covered, heard_keeps, frame_covered, issue_covered, drain_covered, opened_covered}
 
 -- WHAT A DRAIN GIVES
 
 -- the frame of a validation says it
-sealed_says : (ring : Ring) (from to : ℕ) (v : Validation) → has_spelling from to v ≡ true → validation_in (sealed_bytes ring from to (bodies.Validation v)) ≡ Some v
-sealed_says ring from to v h =
-    let f : RawFrame = sealed ring (raw_of (blank_frame from to (bodies.Validation v))) in
-    let whole : split_of (raw_bytes f) ≡ Whole f = ap split_of (sym (append-nil (raw_bytes f))) ∙ split_again f [] (sealed_raw ring from to v h) in
-    ap validation_split whole ∙ ap validation_of (body_again (bodies.Validation v) (held from to v h).body)
+sealed_says : (ring : Ring) (from to : ℕ) (v : Validation) → has_frame from to (bodies.Validation v) ≡ true → validation_in (sealed_bytes ring from to (bodies.Validation v)) ≡ Some v
+sealed_says ring from to v passes =
+    let body : Body = bodies.Validation v in
+    let ok = frame_passes (blank_frame from to body) passes in
+    let f : RawFrame = sealed ring (raw_of (blank_frame from to body)) in
+    let whole : split_of (raw_bytes f) ≡ Whole f = ap split_of (sym (append-nil (raw_bytes f))) ∙ split_again f [] (sealed_raw ring from to body ok) in
+    ap validation_split whole ∙ ap validation_of (body_again body ok.body)
 
 frames_covered : (kept : ℕ) (n : Node) (to : ℕ) (items : List Item) → All (IsItemCovered kept) items → All (IsFrameCovered kept) (frames_in (map (frame_of n to) items))
 frames_covered kept n to [] covered = All-nil (IsFrameCovered kept)
 frames_covered kept n to (Vote v ∷ items) covered =
     let rest = frames_covered kept n to items (All-tail (IsItemCovered kept) (Vote v) items covered) in
     let its = All-head (IsItemCovered kept) (Vote v) items covered in
-    cond_both (has_spelling n.me to v) (Some (sealed_bytes n.keys n.me to (bodies.Validation v))) None (λ o. All (IsFrameCovered kept) (frames_in (o ∷ map (frame_of n to) items)))
+    cond_both (has_frame n.me to (bodies.Validation v)) (Some (sealed_bytes n.keys n.me to (bodies.Validation v))) None (λ o. All (IsFrameCovered kept) (frames_in (o ∷ map (frame_of n to) items)))
     (λ spelled. All-cons (IsFrameCovered kept) (sealed_bytes n.keys n.me to (bodies.Validation v)) (frames_in (map (frame_of n to) items)) (subst (λ o. IfSome o (λ u. u.seq ≤ kept)) (sym (sealed_says n.keys n.me to v spelled)) its) rest)
     (λ _. rest)
 

@@ -11,14 +11,12 @@ use Rattle.std.proofs.lemmas.List.Sums.{sum_by-append}
 use Rattle.xl_queues.specs.Broadcasts.{queue_of}
 use Rattle.xl_base.specs.Counts.{one_more}
 use Rattle.xl_queues.specs.Queues.{Backlog, no_items}
-use Rattle.xl_wire.specs.declared.validation.Validation.{Validation}
 use Rattle.xl_core.specs.declared.item.Item.{Item}
-use Rattle.xl_core.specs.declared.item.Item.TheVariants.{Vote}
-use Rattle.xl_core.specs.Items.{frame_of}
+use Rattle.xl_core.specs.Items.{body_of, frame_of}
 use Rattle.xl_core.specs.Node.{Node}
 use Rattle.xl_tags.specs.Rings.{Ring}
-use Rattle.xl_wire.specs.declared.body.Body.TheVariants as bodies
-use Rattle.xl_core.specs.Sending.{sealed_bytes, has_spelling}
+use Rattle.xl_wire.specs.declared.body.Body.{Body}
+use Rattle.xl_core.specs.Sending.{sealed_bytes, has_frame}
 use Rattle.xl_core.specs.declared.putting.Put.{Put}
 use Rattle.xl_core.specs.declared.putting.Put.TheVariants.{Written, PassedOver, NoRoom}
 use Rattle.xl_core.specs.Draining.{IsPut, Stands, TakesOne}
@@ -272,14 +270,13 @@ too_long f (x ∷ items) item frame room first its long =
     lt-not-leb : (a b : ℕ) → b < a → nat_le a b ≡ false
     lt-not-leb a b lt = grind (arith, nat_tests)
 
--- A VOTE
+-- AN ITEM
 
 -- its frame was put
-pub vote_put : (n : Node) (ring : Ring) (to : ℕ) (item : Item) (v : Validation) (frame : List ℕ) (at : ℕ) (old new : List ℕ) (r : Put) → ring ≡ n.keys → n.keys.me ≡ n.me → Vote v ≡ item →
-    frame ≡ sealed_bytes ring ring.me to (bodies.Validation v) → has_spelling ring.me to v ≡ true → IsPut (Some frame) at old new r → IsPut (frame_of n to item) at old new r
-vote_put n ring to item v frame at old new r its own same is spelled put =
-    subst (λ (x : Item). IsPut (frame_of n to x) at old new r) same
-    (subst (λ (m : ℕ). IsPut (if has_spelling m to v then Some (sealed_bytes n.keys m to (bodies.Validation v)) else None) at old new r) own
-    (subst (λ (k : Ring). IsPut (if has_spelling k.me to v then Some (sealed_bytes k k.me to (bodies.Validation v)) else None) at old new r) its
-    (subst (λ (o : Option (List ℕ)). IsPut o at old new r)
-    (ap (λ (f : List ℕ). Some f) is ∙ sym (cond-true (has_spelling ring.me to v) (Some (sealed_bytes ring ring.me to (bodies.Validation v))) None spelled)) put)))
+pub item_put : (n : Node) (ring : Ring) (to : ℕ) (item : Item) (body : Body) (at : ℕ) (old new : List ℕ) (r : Put) → ring ≡ n.keys → n.keys.me ≡ n.me → body ≡ body_of item → has_frame ring.me to body ≡ true →
+    IsPut (Some (sealed_bytes ring ring.me to body)) at old new r → IsPut (frame_of n to item) at old new r
+item_put n ring to item body at old new r its own is passes put =
+    subst (λ (m : ℕ). IsPut (if has_frame m to (body_of item) then Some (sealed_bytes n.keys m to (body_of item)) else None) at old new r) own
+    (subst (λ (k : Ring). IsPut (if has_frame k.me to (body_of item) then Some (sealed_bytes k k.me to (body_of item)) else None) at old new r) its
+    (subst (λ (b : Body). IsPut (if has_frame ring.me to b then Some (sealed_bytes ring ring.me to b) else None) at old new r) is
+    (subst (λ (o : Option (List ℕ)). IsPut o at old new r) (sym (cond-true (has_frame ring.me to body) (Some (sealed_bytes ring ring.me to body)) None passes)) put)))

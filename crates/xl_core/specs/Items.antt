@@ -8,13 +8,18 @@ use Rattle.xl_core.specs.Node.{Node}
 use Rattle.xl_core.specs.Queues.{waiting_at, fitting, joined, frames_in, at_number, after_taking}
 use Rattle.xl_queues.specs.Queues.{Backlog}
 use Rattle.xl_tags.specs.Rings.{key_of}
-use Rattle.xl_core.specs.Sending.{sealed_bytes, has_spelling}
+use Rattle.xl_core.specs.Sending.{sealed_bytes, has_frame}
+use Rattle.xl_wire.specs.declared.body.Body.{Body}
 use Rattle.xl_wire.specs.declared.body.Body.TheVariants as bodies
+
+-- the body in which an item is sent
+abbrev pub body_of : Item → Body
+body_of (Vote v) = bodies.Validation v
 
 -- the frame in which a node sends an item to a peer, or None where it passes the item over
 abbrev pub frame_of : Node → ℕ → Item → Option (List ℕ)
-frame_of n to (Vote v) =
-    if has_spelling n.me to v then Some (sealed_bytes n.keys n.me to (bodies.Validation v)) else None
+frame_of n to item =
+    if has_frame n.me to (body_of item) then Some (sealed_bytes n.keys n.me to (body_of item)) else None
 
 -- of all that waits for a number; there is None for what is passed over
 abbrev pub frames_for : Node → List (Backlog Item) → ℕ → List (Option (List ℕ))

@@ -1,9 +1,8 @@
 -- The frame in which a node sends what it says to another member. Source: this project's own layout.
-use Rattle.std.specs.Prelude.{ℕ, ◌^◌, ◌==◌, ◌&&◌, nat_lt, Bool, List, length, replicate}
+use Rattle.std.specs.Prelude.{ℕ, Bool, List, replicate}
 use Rattle.xl_wire.specs.declared.body.Body.{Body}
 use Rattle.xl_wire.specs.declared.frame.Frame.{Frame}
-use Rattle.xl_wire.specs.declared.validation.Validation.{Validation}
-use Rattle.xl_wire.specs.Frames.{raw_of}
+use Rattle.xl_wire.specs.Frames.{raw_of, is_frame}
 use Rattle.xl_wire.specs.Raws.{raw_bytes}
 use Rattle.xl_tags.specs.Rings.{Ring}
 use Rattle.xl_tags.specs.Sealing.{sealed}
@@ -16,8 +15,6 @@ blank_frame from to body = record { from = from; to = to; body = body; tag = rep
 abbrev pub sealed_bytes : Ring → ℕ → ℕ → Body → List ℕ
 sealed_bytes ring from to body = raw_bytes (sealed ring (raw_of (blank_frame from to body)))
 
--- the test of `IsFrame` for a validation's frame: what its fields can't hold has no spelling
-abbrev pub has_spelling : ℕ → ℕ → Validation → Bool
-has_spelling from to v =
-    nat_lt from (2 ^ 32) && nat_lt to (2 ^ 32)
-    && length v.id.0 == 32 && nat_lt v.seq (2 ^ 32) && nat_lt v.signed (2 ^ 32)
+-- whether a body has a frame: what the fields of one can't hold has none
+abbrev pub has_frame : ℕ → ℕ → Body → Bool
+has_frame from to body = is_frame (blank_frame from to body)

@@ -27,7 +27,8 @@ pub struct Spoken {
 
 /// Reads the frame that the bytes are, opens it, and reads what it says.
 ///
-/// Refused where the bytes are no frame or not one whole frame, where it isn't opened, or where its body is none, in this order.
+/// Refused where the bytes are no frame or not one whole frame, where it isn't opened, or where its body is none, in
+/// this order.
 pub fn hear(keys: &Keys, list: &List, bytes: &[u8]) -> Result<Spoken, Refusal>
     requires { HasKeys keys.now list.now.members }
     ensures exact { result ≡ heard keys.now list.now.members bytes.now }

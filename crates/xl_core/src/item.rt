@@ -1,6 +1,8 @@
 ghost use Rattle.std.specs.Prelude.{◌≡◌};
+ghost use Rattle.xl_wire.specs.Bodies.{IsBody};
+ghost use Rattle.xl_core.specs.Items.{body_of};
 
-use xl_wire::Validation;
+use xl_wire::{Body, Validation};
 
 /// What waits for a peer until it is sent in a frame.
 #[derive(Clone, Copy, Debug, PartialEq, Eq)]
@@ -8,11 +10,12 @@ pub enum Item {
     Vote(Validation),
 }
 
-/// The validation that waits: nothing else does yet.
-pub fn vote_in(item: &Item) -> Validation
-    ensures { Item.Vote result ≡ item.now }
+/// The body in which an item is sent.
+pub fn body_of(item: &Item) -> Body<'_>
+    ensures body { result ≡ body_of item.now }
+    ensures fits { IsBody result }
 {
     match *item {
-        Item::Vote(v) => v,
+        Item::Vote(validation) => Body::Validation(validation),
     }
 }

@@ -39,9 +39,8 @@ ghost use Rattle.xl_core.specs.Node.Save.{Kept};
 ghost use Rattle.xl_core.specs.Keeping.{AsksSave, CountsFault, Holds, Saves};
 
 use crate::hearing::hear;
-use crate::item::vote_in;
+use crate::item::body_of;
 use crate::putting::{Put, put_frame};
-use crate::sending::sealed;
 use crate::taken::Heard;
 use crate::{Item, OwnValidation, Refusal, Report, Settings, Speech, Taken};
 use std::alloc::Global;
@@ -315,7 +314,7 @@ impl<B: Branch + Drop> Node<B> {
         requires place { at ≤ length room.old }
         ensures { IsPut (frame_of self.now to item.now) at room.old room.new result }
     {
-        put_frame(&sealed(&self.keys, to, &vote_in(item)), at, room)
+        put_frame(&self.keys, to, body_of(item), at, room)
     }
 
     /// The own row takes what was issued, if the node stands on its list.

@@ -1,6 +1,13 @@
-// A frame is put at a place of a room.
-ghost use Rattle.std.specs.Prelude.{◌≤◌, Some, length};
+// A frame is put at a place of a room, and sealed there.
+ghost use Rattle.std.specs.Prelude.{◌≤◌, ◌<◌, ◌^◌, IsSome, Some, length};
+ghost use Rattle.xl_tags.specs.Rings.{key_of};
+ghost use Rattle.xl_wire.specs.Bodies.{IsBody};
 ghost use Rattle.xl_core.specs.Draining.{IsPut};
+ghost use Rattle.xl_core.specs.Sending.{sealed_bytes};
+
+use xl_base::NodeNo;
+use xl_tags::{Keys, seal};
+use xl_wire::{Body, Frame, encode, frame_length};
 
 /// What became of an item that is to be sent.
 #[derive(Clone, Copy, Debug, PartialEq, Eq)]
@@ -13,14 +20,27 @@ pub enum Put {
     NoRoom,
 }
 
-/// Puts a frame at a place of the room, unless the room is too short for it.
-pub fn put_frame(frame: &[u8], at: usize, room: &mut [u8]) -> Put
-    requires { at ≤ length room.old }
-    ensures { IsPut (Some frame.now) at room.old room.new result }
+/// Puts the frame of a body for another member at a place of the room and seals it there, by the key for that member,
+/// unless the room is too short.
+pub fn put_frame(keys: &Keys, to: NodeNo, body: Body<'_>, at: usize, room: &mut [u8]) -> Put
+    requires key { IsSome (key_of keys.now to) }
+    requires fits { IsBody body }
+    requires place { at ≤ length room.old }
+    ensures put { IsPut (Some (sealed_bytes keys.now keys.now.me to body.entry)) at room.old room.new result }
+    ensures numbers { (keys.now.me < 2 ^ 32) × (to < 2 ^ 32) }
 {
-    if room.len() - at < frame.len() {
+    let frame = Frame {
+        from: keys.me().get(),
+        to: to.get(),
+        body,
+        tag: [0; 32],
+    };
+    let length = frame_length(&frame);
+    if room.len() - at < length {
         return Put::NoRoom;
     }
-    room[at..at + frame.len()].copy_from_slice(frame);
-    Put::Written(frame.len())
+    let place = &mut room[at..at + length];
+    encode(&frame, place);
+    seal(keys, place);
+    Put::Written(length)
 }

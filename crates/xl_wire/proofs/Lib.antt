@@ -6,3 +6,4 @@ pub mod FrameLaws
 pub mod PutLaws
 pub mod FeedLaws
 pub mod StreamLaws
+pub mod FrameTests

@@ -1,6 +1,7 @@
 -- The bodies of frames: the one spelling of each, by its kind. Source: this project's own layout.
-use Rattle.std.specs.Prelude.{◌≡◌, ℕ, ◌^◌, ◌<◌, ◌==◌, nat_lt, Bool, List, [], ◌∷◌, ◌++◌, length, take, drop, slice_index, Option, None, Result, if◌then◌else◌}
-use Rattle.std.specs.List.{AllByRecursion}
+use Rattle.std.specs.Prelude.{◌≡◌, ℕ, ◌^◌, ◌<◌, ◌==◌, ◌&&◌, nat_lt, nat_le, Bool, List, [], ◌∷◌, ◌++◌, length, take, drop, slice_index, Option, None, Result, if◌then◌else◌}
+use Rattle.std.specs.List.{AllByRecursion, list_all}
+use Rattle.std.specs.Option.{is_none}
 use Rattle.byteorder.specs.Endian.{big_bytes, big_number}
 use Rattle.xl_base.specs.declared.ids.TxId.{TxId}
 use Rattle.xl_wire.specs.declared.body.Body.{Body}
@@ -11,7 +12,8 @@ use Rattle.xl_wire.specs.declared.refusal.WireRefusal.{WireRefusal}
 use Rattle.xl_wire.specs.declared.refusal.WireRefusal.TheVariants.{Flags}
 use Rattle.xl_base.specs.Refusals.{refused_if, unless_refused}
 use Rattle.xl_base.specs.Sets.{IsSet, id_bytes}
-use Rattle.xl_wire.specs.Sets.{ids_in}
+use Rattle.xl_wire.specs.Sets.{ids_in, first_fall}
+use Rattle.xl_base.specs.declared.sets.TheConstants.{MOST_IDS}
 use Rattle.xl_wire.specs.SetsRead.{set_refusal}
 
 abbrev pub kind_of : Body → ℕ
@@ -68,6 +70,29 @@ IsBody (bodies.Validation validation) = IsValidation validation
 IsBody (bodies.Header header) = length header ≡ 118
 IsBody (bodies.TxSet ids) = IsTxSet ids
 IsBody (bodies.Tx id) = IsId id
+
+-- the tests of these
+abbrev pub is_id : TxId → Bool
+is_id id = length id.0 == 32
+
+abbrev pub is_proposal : Proposal → Bool
+is_proposal p =
+    length p.prev.0 == 32 && length p.set.0 == 32
+    && nat_lt p.pseq (2 ^ 32) && nat_lt p.close (2 ^ 32) && nat_lt p.time (2 ^ 32)
+
+abbrev pub is_validation : Validation → Bool
+is_validation v = length v.id.0 == 32 && nat_lt v.seq (2 ^ 32) && nat_lt v.signed (2 ^ 32)
+
+abbrev pub is_set : List TxId → Bool
+is_set ids = list_all is_id ids && is_none (first_fall ids) && nat_le (length ids) MOST_IDS
+
+-- the test of `IsBody`
+abbrev pub is_body : Body → Bool
+is_body (bodies.Proposal proposal) = is_proposal proposal
+is_body (bodies.Validation validation) = is_validation validation
+is_body (bodies.Header header) = length header == 118
+is_body (bodies.TxSet ids) = is_set ids
+is_body (bodies.Tx id) = is_id id
 
 -- these bytes, all of them, spell the body as one of this kind
 pub record SpellsBody (body : Body) (kind : ℕ) (bytes : List ℕ) : Type 0 where

@@ -1,11 +1,11 @@
 -- Frames: the one spelling of each, and what bytes begin with. Source: this project's own layout.
-use Rattle.std.specs.Prelude.{◌≡◌, ℕ, ◌^◌, ◌<◌, ◌≤◌, List, length, take, Result, Ok, Err}
+use Rattle.std.specs.Prelude.{◌≡◌, ℕ, ◌^◌, ◌<◌, ◌≤◌, ◌==◌, ◌&&◌, nat_lt, Bool, List, length, take, Result, Ok, Err}
 use Rattle.xl_wire.specs.declared.body.Body.{Body}
 use Rattle.xl_wire.specs.declared.frame.Frame.{Frame}
 use Rattle.xl_wire.specs.declared.decoding.Decoded.{Decoded}
 use Rattle.xl_wire.specs.declared.decoding.Decoded.TheVariants as decoded
 use Rattle.xl_wire.specs.declared.refusal.WireRefusal.{WireRefusal}
-use Rattle.xl_wire.specs.Bodies.{IsBody, kind_of, body_bytes, body_of}
+use Rattle.xl_wire.specs.Bodies.{IsBody, is_body, kind_of, body_bytes, body_of}
 use Rattle.xl_wire.specs.Heads.{Split, split_of}
 use Rattle.xl_wire.specs.Heads.Split.{Whole, Need, Refused}
 use Rattle.xl_wire.specs.Kinds.{span}
@@ -24,6 +24,10 @@ pub record IsFrame (f : Frame) : Type 0 where
   pub from : f.from < 2 ^ 32
   pub to : f.to < 2 ^ 32
   pub tag : length f.tag ≡ 32
+
+-- the test of `IsFrame`
+abbrev pub is_frame : Frame → Bool
+is_frame f = is_body f.body && nat_lt f.from (2 ^ 32) && nat_lt f.to (2 ^ 32) && length f.tag == 32
 
 -- these bytes, all of them, spell the frame
 pub record Spells (f : Frame) (bytes : List ℕ) : Type 0 where

@@ -26,6 +26,13 @@ pub fn encode(frame: &Frame<'_>, room: &mut [u8]) -> usize
     46 + length
 }
 
+/// How many bytes the frame has.
+pub fn frame_length(frame: &Frame<'_>) -> usize
+    ensures { result ≡ frame_length frame.now }
+{
+    46 + body_length(&frame.body)
+}
+
 fn kind_of(body: &Body<'_>) -> u8
     ensures { result ≡ kind_of body.now }
 {

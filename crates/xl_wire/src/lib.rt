@@ -21,7 +21,7 @@ mod validation;
 
 pub use body::{Body, read_body};
 pub use decoding::{Decoded, decode};
-pub use encoding::encode;
+pub use encoding::{encode, frame_length};
 pub use feed::{Feed, Next};
 pub use frame::Frame;
 pub use ids::Ids;

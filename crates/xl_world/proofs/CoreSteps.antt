@@ -26,7 +26,7 @@ use Rattle.xl_core.specs.Node.{Node, Event, Reply, Save, at_moment, own_validati
 use Rattle.xl_core.specs.Node.Save.{Kept as AnsweredOk, Failed as AnsweredFailed}
 use Rattle.xl_core.specs.Queues.{after_taking, at_number, fitting, frames_in, waiting_at, with_items}
 use Rattle.xl_wire.specs.declared.body.Body.TheVariants as bodies
-use Rattle.xl_core.specs.Sending.{sealed_bytes, has_spelling}
+use Rattle.xl_core.specs.Sending.{sealed_bytes, has_frame}
 use Rattle.xl_world.specs.declared.place.Keeper.{Keeper}
 use Rattle.xl_world.specs.declared.place.Fate.{Fate}
 use Rattle.xl_world.specs.declared.sent.Sent.{Sent}
@@ -153,7 +153,7 @@ frames_say P n to [] says = All-nil (BytesSay P)
 frames_say P n to (Vote v ∷ items) says =
     let rest = frames_say P n to items (All-tail (ItemSays P n.me) (Vote v) items says) in
     let its = All-head (ItemSays P n.me) (Vote v) items says in
-    cond_both (has_spelling n.me to v) (Some (sealed_bytes n.keys n.me to (bodies.Validation v))) None (λ o. All (BytesSay P) (frames_in (o ∷ map (frame_of n to) items)))
+    cond_both (has_frame n.me to (bodies.Validation v)) (Some (sealed_bytes n.keys n.me to (bodies.Validation v))) None (λ o. All (BytesSay P) (frames_in (o ∷ map (frame_of n to) items)))
     (λ spelled. All-cons (BytesSay P) (sealed_bytes n.keys n.me to (bodies.Validation v)) (frames_in (map (frame_of n to) items)) (subst (λ o. IfSome o P) (sym (sealed_said n.keys n.me to v spelled)) its) rest)
     (λ _. rest)
 

@@ -12,7 +12,8 @@ use Rattle.xl_core.specs.Items.{taken_for}
 use Rattle.xl_core.specs.Node.{items_of}
 use Rattle.xl_core.specs.Queues.{waiting_at, frames_in, joined}
 use Rattle.xl_wire.specs.declared.body.Body.TheVariants as bodies
-use Rattle.xl_core.specs.Sending.{sealed_bytes, has_spelling}
+use Rattle.xl_core.specs.Sending.{blank_frame, sealed_bytes, has_frame}
+use Rattle.xl_wire.proofs.FrameTests.{frame_passes}
 use Rattle.xl_core.proofs.Spelling.{sealed_long}
 use Rattle.xl_world.specs.declared.sent.Sent.{Sent}
 use Rattle.xl_world.specs.Emptying.{drained, drained_once, given, given_once, others}
@@ -29,9 +30,9 @@ pub one_given : (core : Core) (m : ℕ) (o : Option Validation) → (waiting_at 
 one_given core m None is = inl (ap frames_in (takes_all core.node None core.waiting m is))
 one_given core m (Some v) is =
     let all = takes_all core.node (Some v) core.waiting m is in
-    cond_both (has_spelling core.node.me m v) (Some (sealed_bytes core.node.keys core.node.me m (bodies.Validation v))) None
+    cond_both (has_frame core.node.me m (bodies.Validation v)) (Some (sealed_bytes core.node.keys core.node.me m (bodies.Validation v))) None
     (λ o. taken_for core.node core.waiting m LONGEST_FRAME ≡ o ∷ [] → IsOne (frames_in (taken_for core.node core.waiting m LONGEST_FRAME)))
-    (λ spelled same. inr (sealed_bytes core.node.keys core.node.me m (bodies.Validation v), ap frames_in same, sealed_long core.node.keys core.node.me m v spelled))
+    (λ spelled same. inr (sealed_bytes core.node.keys core.node.me m (bodies.Validation v), ap frames_in same, sealed_long core.node.keys core.node.me m (bodies.Validation v) (frame_passes (blank_frame core.node.me m (bodies.Validation v)) spelled)))
     (λ _ same. inl (ap frames_in same))
     all
 
