@@ -70,7 +70,7 @@ token_one_line [] = refl
 token_one_line (b ∷ bytes) = shown_one_line (take 32 (b ∷ bytes))
 
 pub id_one_line : (names : List Named) (id : LedgerId) → IsOneLine (id_text names id)
-id_one_line names id = named_one_line (name_of names id)
+id_one_line names id = named_one_line (name_of names id.0)
   where
     named_one_line : (name : Option (List ℕ)) → IsOneLine (named_text name id)
     named_one_line None = encoded_one_line lower_digits id.0 refl
