@@ -1,22 +1,23 @@
 -- Over a life of a core, each report that arose was handed out, waits, or was lost and counted.
-use Rattle.std.proofs.Common.{◌≡◌, ℕ, zero, suc, ◌+◌, ◌≤◌, ◌<◌, Bool, true, List, [], ◌∷◌, ◌++◌, length, take, drop, refl, ap, sym, ◌∙◌, subst, arith, Option, Some, None, append_assoc}
+use Rattle.std.proofs.Common.{◌≡◌, ℕ, zero, suc, ◌+◌, ◌≤◌, true, List, [], ◌∷◌, ◌++◌, length, take, drop, refl, ap, sym, ◌∙◌, subst, arith, Option, Some, None, append_assoc}
 use Rattle.std.specs.Prelude.{nat_lt, option_to_list}
 use Rattle.std.proofs.lemmas.Bool.{cond_both, cond-true, lt-ltb}
 use Rattle.std.proofs.lemmas.List.{append-nil, length-append, take-append-drop}
 use Rattle.xl_queues.specs.Accounts.{IsAccounted, Accounts}
 use Rattle.xl_base.specs.Counts.{one_more}
-use Rattle.xl_queues.specs.Queues.{Backlog, no_items, with_item}
+use Rattle.xl_queues.specs.Queues.{Backlog, with_item}
 use Rattle.xl_queues.proofs.Accounting.{push_accounts, pop_accounts}
 use Rattle.xl_wire.specs.declared.validation.Validation.{Validation}
+use Rattle.xl_core.proofs.Timing.{timing_by, submit_either}
 use Rattle.xl_core.specs.declared.event.CoreEvent.{CoreEvent}
-use Rattle.xl_core.specs.declared.event.CoreEvent.TheVariants.{Issue, Frame, Drain, Reports, Stop, Stopped}
+use Rattle.xl_core.specs.declared.event.CoreEvent.TheVariants.{Issue, Frame, Timer, Submit, Drain, Reports, Stop, Stopped}
 use Rattle.xl_core.specs.declared.refusal.Refusal.TheVariants.{NotAfter}
 use Rattle.xl_core.specs.declared.report.Report.{Report}
 use Rattle.xl_core.specs.Answers.{handed_in}
 use Rattle.xl_core.specs.Core.{Core, core_happens, with_queues}
-use Rattle.xl_core.specs.CoreLives.{CoreHappening, core_after, arisen_over, handed_over, ReportsAreHandedOut, NeverMore, NoneIsLost}
+use Rattle.xl_core.specs.CoreLives.{CoreHappening, core_after, arisen_over, handed_over, ReportsAreHandedOut, NoneIsLost}
 use Rattle.xl_core.specs.Node as nodes
-use Rattle.xl_core.specs.Node.{Node, Event, Reply, Save, happens, issues_unless, refusing, at_moment, own_validation, opened}
+use Rattle.xl_core.specs.Node.{Node, Event, Reply, Save, happens, completed, issues_unless, refusing, at_moment, own_validation, opened}
 use Rattle.xl_core.specs.Node.Save.{Kept, Failed}
 use Rattle.xl_core.specs.Queues.{with_report, without}
 use Rattle.xl_core.proofs.Stopping.{heard_keeps}
@@ -35,6 +36,8 @@ happens_hands n (nodes.Issue now seq id full) save =
     cond_both (nat_lt m.kept seq) (issues_unless m m.failed_save save (own_validation m seq id full)) (refusing m (NotAfter m.kept)) (λ r. handed_in r.answer ≡ [])
     (λ _. unless_hands m m.failed_save save (own_validation m seq id full)) (λ _. refl)
 happens_hands n (nodes.Frame now bytes) save = (heard_keeps n now bytes).handed
+happens_hands n (nodes.Timer now) save = timing_by (λ t. handed_in (completed t save).answer ≡ []) (at_moment now n) (λ r beat said. refl) (λ ledgers r said h place moved_on _. refl)
+happens_hands n (nodes.Submit now tx) save = submit_either (λ r. handed_in r.answer ≡ []) (at_moment now n) tx (λ _. refl) refl
 
 -- A STEP
 
@@ -71,6 +74,8 @@ pub step_accounts : (core : Core) (e : CoreEvent) (save : Save) → let reply = 
     Accounts core.untaken reply.core.untaken (option_to_list reply.report) (handed_in reply.answer)
 step_accounts core (Issue now seq id full) save = node_accounts core (happens core.node (nodes.Issue now seq id full) save) (happens_hands core.node (nodes.Issue now seq id full) save)
 step_accounts core (Frame now bytes) save = node_accounts core (happens core.node (nodes.Frame now bytes) save) (happens_hands core.node (nodes.Frame now bytes) save)
+step_accounts core (Timer now) save = node_accounts core (happens core.node (nodes.Timer now) save) (happens_hands core.node (nodes.Timer now) save)
+step_accounts core (Submit now tx) save = node_accounts core (happens core.node (nodes.Submit now tx) save) (happens_hands core.node (nodes.Submit now tx) save)
 step_accounts core (Drain member room) save = stays_accounted core.untaken
 step_accounts core (Reports room) save = goes room core.untaken.items core.untaken.lost
 step_accounts core Stop save = stays_accounted core.untaken
@@ -126,6 +131,10 @@ step_whole core (Issue now seq id full) save before out few was =
     node_whole core (happens core.node (nodes.Issue now seq id full) save) before out (happens_hands core.node (nodes.Issue now seq id full) save) few was
 step_whole core (Frame now bytes) save before out few was =
     node_whole core (happens core.node (nodes.Frame now bytes) save) before out (happens_hands core.node (nodes.Frame now bytes) save) few was
+step_whole core (Timer now) save before out few was =
+    node_whole core (happens core.node (nodes.Timer now) save) before out (happens_hands core.node (nodes.Timer now) save) few was
+step_whole core (Submit now tx) save before out few was =
+    node_whole core (happens core.node (nodes.Submit now tx) save) before out (happens_hands core.node (nodes.Submit now tx) save) few was
 step_whole core (Drain member room) save before out few was = stays_whole before out core.untaken was
 step_whole core (Reports room) save before out few was = record {
   all = append-nil before ∙ was.all ∙ ap (λ xs. out ++ xs) (sym (take-append-drop room core.untaken.items)) ∙ sym (append_assoc out (take room core.untaken.items) (drop room core.untaken.items));

@@ -1,6 +1,6 @@
 -- Every frame that a core ever gave stays covered by what its keeper may hold.
-use Rattle.std.proofs.Common.{◌≡◌, ◌≢◌, ℕ, ◌≤◌, Bool, true, List, [], ◌∷◌, ◌++◌, map, ap, sym, ◌∙◌, subst, arith, Option, Some, None, Ok, append_assoc}
-use Rattle.std.specs.Prelude.{All, IfSome, nat_lt, take}
+use Rattle.std.proofs.Common.{◌≡◌, ◌≢◌, ℕ, ◌≤◌, Bool, true, List, [], ◌∷◌, ◌++◌, map, refl, ap, sym, ◌∙◌, subst, arith, Option, Some, None, Ok, append_assoc}
+use Rattle.std.specs.Prelude.{All, IfSome, nat_lt, take, option_map, ⊤}
 use Rattle.std.proofs.lemmas.Bool.{cond_both, ltb-true}
 use Rattle.std.proofs.lemmas.List.{append-nil, take-map}
 use Rattle.std.proofs.lemmas.List.Elements.{All-append, All-cons, All-head, All-nil, All-tail, All-take, All-weaker}
@@ -15,19 +15,32 @@ use Rattle.xl_wire.proofs.RawLaws.{split_again}
 use Rattle.xl_tags.specs.Rings.{Ring}
 use Rattle.xl_tags.specs.Sealing.{sealed}
 use Rattle.xl_wire.specs.Frames.{raw_of}
+use Rattle.xl_base.specs.declared.ids.LedgerId.{LedgerId}
+use Rattle.xl_ledger.specs.Headers.{header_id}
+use Rattle.xl_rounds.specs.Rounds.{is_proposing}
+use Rattle.std.specs.Option.{option_and_then}
+use Rattle.xl_base.specs.Refusals.{unless_refused}
+use Rattle.xl_wire.specs.declared.body.Body.{Body}
+use Rattle.xl_wire.specs.declared.refusal.WireRefusal.{WireRefusal}
+use Rattle.xl_wire.specs.Bodies.{set_bytes, body_refusal}
+use Rattle.xl_wire.specs.Bodies.{body_in as wire_body}
+use Rattle.xl_ledger.specs.Chains.{header_at, place_of}
+use Rattle.xl_ledger.specs.Headers.{spelling}
+use Rattle.xl_core.specs.Answers.{Done}
+use Rattle.xl_core.proofs.Timing.{timing_by, submit_either}
 use Rattle.xl_core.specs.declared.event.CoreEvent.{CoreEvent}
-use Rattle.xl_core.specs.declared.event.CoreEvent.TheVariants.{Issue, Frame, Drain, Reports, Stop, Stopped}
+use Rattle.xl_core.specs.declared.event.CoreEvent.TheVariants.{Issue, Frame, Timer, Submit, Drain, Reports, Stop, Stopped}
 use Rattle.xl_core.specs.declared.hearing.Spoken.{Spoken}
 use Rattle.xl_core.specs.declared.item.Item.{Item}
-use Rattle.xl_core.specs.declared.item.Item.TheVariants.{Vote}
+use Rattle.xl_core.specs.declared.item.Item.TheVariants.{Vote, Tx, TxSet, Proposal, Header as HeaderItem}
 use Rattle.xl_core.specs.declared.refusal.Refusal.TheVariants.{NotAfter}
 use Rattle.xl_core.specs.Answers.{given_in}
 use Rattle.xl_core.specs.Core.{Core, core_happens, core_asks, with_queues}
 use Rattle.xl_core.specs.CoreLives.{CoreHappening, core_after, held_after, given_over, validation_of, validation_split, validation_in, IsFrameCovered, SaidIsSaved}
 use Rattle.xl_core.specs.Hearing.{heard}
-use Rattle.xl_core.specs.Items.{frame_of, frames_for}
+use Rattle.xl_core.specs.Items.{is_own, body_in, framed, frame_of, frames_for}
 use Rattle.xl_core.specs.Node as nodes
-use Rattle.xl_core.specs.Node.{Node, Save, is_kept, issues, issues_unless, refusing, at_moment, second_of, own_validation, happens, opened}
+use Rattle.xl_core.specs.Node.{Node, Save, is_kept, issues, issues_unless, issuing, replying, completed, timed, validates, refusing, at_moment, second_of, own_validation, happens, opened}
 use Rattle.xl_core.specs.Node.Save.{Kept, Failed}
 use Rattle.xl_core.specs.Queues.{waiting_at, fitting, frames_in}
 use Rattle.xl_core.specs.Sending.{blank_frame, sealed_bytes, has_spelling}
@@ -35,25 +48,66 @@ use Rattle.xl_core.specs.Stops.{IsCovered, IsItemCovered}
 use Rattle.xl_core.proofs.Heard.{not_itself}
 use Rattle.xl_core.proofs.Spelling.{held, sealed_raw}
 use Rattle.xl_core.proofs.Stepping.{stays_itself}
-use Rattle.xl_core.proofs.Stopping.{AllCovered, waiting_covered, heard_keeps, frame_covered, issue_covered, drain_covered, opened_covered}
+use Rattle.xl_core.proofs.Stopping.{AllCovered, waiting_covered, heard_keeps, frame_covered, issue_covered, timer_covered, submit_covered, drain_covered, opened_covered}
 
 -- WHAT A DRAIN GIVES
 
+-- a sealed frame is split off whole
+sealed_split : (ring : Ring) (from to : ℕ) (body : Body) → has_spelling from to body ≡ true → split_of (sealed_bytes ring from to body) ≡ Whole (sealed ring (raw_of (blank_frame from to body)))
+sealed_split ring from to body h =
+    let f : RawFrame = sealed ring (raw_of (blank_frame from to body)) in
+    ap split_of (sym (append-nil (raw_bytes f))) ∙ split_again f [] (sealed_raw ring from to body h)
+
 -- the frame of a validation says it
-sealed_says : (ring : Ring) (from to : ℕ) (v : Validation) → has_spelling from to v ≡ true → validation_in (sealed_bytes ring from to (bodies.Validation v)) ≡ Some v
-sealed_says ring from to v h =
-    let f : RawFrame = sealed ring (raw_of (blank_frame from to (bodies.Validation v))) in
-    let whole : split_of (raw_bytes f) ≡ Whole f = ap split_of (sym (append-nil (raw_bytes f))) ∙ split_again f [] (sealed_raw ring from to v h) in
-    ap validation_split whole ∙ ap validation_of (body_again (bodies.Validation v) (held from to v h).body)
+sealed_says : (ring : Ring) (from to : ℕ) (v : Validation) → has_spelling from to (bodies.Validation v) ≡ true → validation_in (sealed_bytes ring from to (bodies.Validation v)) ≡ Some v
+sealed_says ring from to v h = ap validation_split (sealed_split ring from to (bodies.Validation v) h) ∙ ap validation_of (body_again (bodies.Validation v) (held from to v h).body)
+
+-- a body that a frame may say
+abbrev IsBodyCovered : ℕ → Body → Type 0
+IsBodyCovered kept (bodies.Proposal p) = ⊤
+IsBodyCovered kept (bodies.Validation v) = v.seq ≤ kept
+IsBodyCovered kept (bodies.Header header) = ⊤
+IsBodyCovered kept (bodies.TxSet ids) = ⊤
+IsBodyCovered kept (bodies.Tx id) = ⊤
+
+-- a frame of another kind says no validation
+no_validation : (o : Option WireRefusal) (bytes : List ℕ) → validation_of (unless_refused o (wire_body 4 bytes)) ≡ None
+no_validation None bytes = refl
+no_validation (Some why) bytes = refl
+
+body_covered : (kept from to : ℕ) (ring : Ring) (body : Body) → has_spelling from to body ≡ true → IsBodyCovered kept body → IsFrameCovered kept (sealed_bytes ring from to body)
+body_covered kept from to ring (bodies.Validation v) h covered = subst (λ o. IfSome o (λ u. u.seq ≤ kept)) (sym (sealed_says ring from to v h)) covered
+body_covered kept from to ring (bodies.Proposal p) h covered = subst (λ s. IfSome (validation_split s) (λ u. u.seq ≤ kept)) (sym (sealed_split ring from to (bodies.Proposal p) h)) tt
+body_covered kept from to ring (bodies.Header header) h covered = subst (λ s. IfSome (validation_split s) (λ u. u.seq ≤ kept)) (sym (sealed_split ring from to (bodies.Header header) h)) tt
+body_covered kept from to ring (bodies.TxSet ids) h covered =
+    subst (λ s. IfSome (validation_split s) (λ u. u.seq ≤ kept)) (sym (sealed_split ring from to (bodies.TxSet ids) h))
+    (subst (λ o. IfSome o (λ u. u.seq ≤ kept)) (sym (no_validation (body_refusal 4 (set_bytes ids)) (set_bytes ids))) tt)
+body_covered kept from to ring (bodies.Tx id) h covered = subst (λ s. IfSome (validation_split s) (λ u. u.seq ≤ kept)) (sym (sealed_split ring from to (bodies.Tx id) h)) tt
+
+item_body : (kept : ℕ) (n : Node) (item : Item) → IsItemCovered kept item → IfSome (body_in n item) (IsBodyCovered kept)
+item_body kept n (Vote v) covered = covered
+item_body kept n (Tx tx) covered = tt
+item_body kept n (TxSet id) covered = cond_both (is_own n id) (Some (bodies.TxSet n.round.positions.own)) None (λ o. IfSome o (IsBodyCovered kept)) (λ _. tt) (λ _. tt)
+item_body kept n (Proposal p) covered = tt
+item_body kept n (HeaderItem id) covered = by (place_of n.ledgers.headers id)
+  where
+    by : (o : Option ℕ) → IfSome (option_map (λ place. bodies.Header (spelling (header_at n.ledgers.headers place))) o) (IsBodyCovered kept)
+    by None = tt
+    by (Some place) = tt
+
+framed_covered : (kept : ℕ) (n : Node) (to : ℕ) (o : Option Body) (rest : List (Option (List ℕ))) → IfSome o (IsBodyCovered kept) → All (IsFrameCovered kept) (frames_in rest) →
+    All (IsFrameCovered kept) (frames_in (option_and_then (framed n to) o ∷ rest))
+framed_covered kept n to None rest covered each = each
+framed_covered kept n to (Some body) rest covered each =
+    cond_both (has_spelling n.me to body) (Some (sealed_bytes n.keys n.me to body)) None (λ o. All (IsFrameCovered kept) (frames_in (o ∷ rest)))
+    (λ spelled. All-cons (IsFrameCovered kept) (sealed_bytes n.keys n.me to body) (frames_in rest) (body_covered kept n.me to n.keys body spelled covered) each)
+    (λ _. each)
 
 frames_covered : (kept : ℕ) (n : Node) (to : ℕ) (items : List Item) → All (IsItemCovered kept) items → All (IsFrameCovered kept) (frames_in (map (frame_of n to) items))
 frames_covered kept n to [] covered = All-nil (IsFrameCovered kept)
-frames_covered kept n to (Vote v ∷ items) covered =
-    let rest = frames_covered kept n to items (All-tail (IsItemCovered kept) (Vote v) items covered) in
-    let its = All-head (IsItemCovered kept) (Vote v) items covered in
-    cond_both (has_spelling n.me to v) (Some (sealed_bytes n.keys n.me to (bodies.Validation v))) None (λ o. All (IsFrameCovered kept) (frames_in (o ∷ map (frame_of n to) items)))
-    (λ spelled. All-cons (IsFrameCovered kept) (sealed_bytes n.keys n.me to (bodies.Validation v)) (frames_in (map (frame_of n to) items)) (subst (λ o. IfSome o (λ u. u.seq ≤ kept)) (sym (sealed_says n.keys n.me to v spelled)) its) rest)
-    (λ _. rest)
+frames_covered kept n to (item ∷ items) covered =
+    framed_covered kept n to (body_in n item) (map (frame_of n to) items) (item_body kept n item (All-head (IsItemCovered kept) item items covered))
+    (frames_covered kept n to items (All-tail (IsItemCovered kept) item items covered))
 
 drain_gives : (kept : ℕ) (core : Core) (member room : ℕ) (save : Save) → AllCovered kept core.waiting → All (IsFrameCovered kept) (given_in (core_happens core (Drain member room) save).answer)
 drain_gives kept core member room save covered =
@@ -69,12 +123,23 @@ issued_rises n None Kept v le = le
 issued_rises n None (Failed count) v le = omega arith
 issued_rises n (Some failed) save v le = omega arith
 
-issue_rises : (n : Node) (now seq : ℕ) (id : _) (full : Bool) (save : Save) → n.kept ≤ (happens n (nodes.Issue now seq id full) save).node.kept
-issue_rises n now seq id full save =
-    let m : Node = at_moment now n in
-    cond_both (nat_lt m.kept seq) (issues_unless m m.failed_save save (own_validation m seq id full)) (refusing m (NotAfter m.kept)) (λ r. n.kept ≤ r.node.kept)
-    (λ above. issued_rises m m.failed_save save (own_validation m seq id full) (omega (arith, ltb-true m.kept seq above)))
+issuing_rises : (n : Node) (seq : ℕ) (id : LedgerId) (full : Bool) (save : Save) → n.kept ≤ (issuing n seq id full save).node.kept
+issuing_rises n seq id full save =
+    cond_both (nat_lt n.kept seq) (issues_unless n n.failed_save save (own_validation n seq id full)) (refusing n (NotAfter n.kept)) (λ r. n.kept ≤ r.node.kept)
+    (λ above. issued_rises n n.failed_save save (own_validation n seq id full) (omega (arith, ltb-true n.kept seq above)))
     (λ _. omega arith)
+
+timer_rises : (n : Node) (save : Save) → n.kept ≤ (completed (timed n) save).node.kept
+timer_rises n save =
+    timing_by (λ t. n.kept ≤ (completed t save).node.kept) n (λ r beat said. omega arith)
+    (λ ledgers r said h place moved_on _.
+    let m : Node = record n { ledgers = ledgers; round = r } in
+    cond_both (validates m moved_on) (issuing m h.seq (header_id h) (is_proposing r.setting.mode) save) (replying m Done []) (λ v. n.kept ≤ v.node.kept)
+    (λ _. issuing_rises m h.seq (header_id h) (is_proposing r.setting.mode) save) (λ _. omega arith))
+
+timer_gives : (kept : ℕ) (n : Node) (save : Save) → All (IsFrameCovered kept) (given_in (completed (timed n) save).answer)
+timer_gives kept n save =
+    timing_by (λ t. All (IsFrameCovered kept) (given_in (completed t save).answer)) n (λ r beat said. All-nil (IsFrameCovered kept)) (λ ledgers r said h place moved_on _. All-nil (IsFrameCovered kept))
 
 -- A LIFE
 
@@ -106,7 +171,7 @@ step_on held core given (Issue now seq id full) save life =
     record {
       own = ap (λ (r : Ring). r.me) same.keys ∙ life.own ∙ sym same.me;
       covered = issue_covered held core now seq id full save life.covered;
-      all = more_given core.node.kept (happens core.node e save).node.kept given (given_in (core_happens core (Issue now seq id full) save).answer) (issue_rises core.node now seq id full save) life.all (issue_gives (happens core.node e save).node.kept core.node now seq id full save);
+      all = more_given core.node.kept (happens core.node e save).node.kept given (given_in (core_happens core (Issue now seq id full) save).answer) (issuing_rises (at_moment now core.node) seq id full save) life.all (issue_gives (happens core.node e save).node.kept core.node now seq id full save);
     }
   where
     unless_gives : (kept : ℕ) (n : Node) (off : Option ℕ) (save : Save) (v : Validation) → All (IsFrameCovered kept) (given_in (issues_unless n off save v).answer)
@@ -130,6 +195,23 @@ step_on held core given (Frame now bytes) save life =
       covered = frame_covered held core now bytes others life.covered;
       all = more_given core.node.kept (happens core.node e save).node.kept given (given_in (core_happens core (Frame now bytes) save).answer) (omega (arith, keeps.kept)) life.all
           (subst (All (IsFrameCovered (happens core.node e save).node.kept)) (sym keeps.given) (All-nil (IsFrameCovered (happens core.node e save).node.kept)));
+    }
+step_on held core given (Timer now) save life =
+    let e = nodes.Timer now in
+    let same = stays_itself core.node e save in
+    record {
+      own = ap (λ (r : Ring). r.me) same.keys ∙ life.own ∙ sym same.me;
+      covered = timer_covered held core now save life.covered;
+      all = more_given core.node.kept (happens core.node e save).node.kept given (given_in (core_happens core (Timer now) save).answer) (timer_rises (at_moment now core.node) save) life.all
+          (timer_gives (happens core.node e save).node.kept (at_moment now core.node) save);
+    }
+step_on held core given (Submit now tx) save life =
+    let e = nodes.Submit now tx in
+    let same = stays_itself core.node e save in
+    record {
+      own = ap (λ (r : Ring). r.me) same.keys ∙ life.own ∙ sym same.me;
+      covered = submit_covered held core now tx save life.covered;
+      all = submit_either (λ r. All (IsFrameCovered r.node.kept) (given ++ given_in r.answer)) (at_moment now core.node) tx (λ _. none_given core.node.kept given life.all) (none_given core.node.kept given life.all);
     }
 step_on held core given (Drain member room) save life = record {
   own = life.own;

@@ -1,23 +1,21 @@
 -- What a room holds, and what still waits, while a drain goes on.
 use Rattle.std.proofs.Common.{◌≡◌, ℕ, zero, suc, ◌+◌, ◌-◌, ◌<◌, ◌≤◌, true, false, cond, List, [], ◌∷◌, ◌++◌, length, set, take, drop, map, arith, refl, ap, sym, ◌∙◌, subst, Option, Some, None}
 use Rattle.std.specs.Prelude.{if◌then◌else◌, All, IfSome, count_by, nat_le, option_to_list, slice_get}
-use Rattle.std.specs.Option.{is_none}
+use Rattle.std.specs.Option.{is_none, option_and_then}
 use Rattle.std.proofs.lemmas.Bool.{cond-true, cond-false, le-leb}
 use Rattle.std.proofs.lemmas.Bool.Decides.{nat_tests}
 use Rattle.std.proofs.lemmas.Grind.{flat_map-append}
-use Rattle.std.proofs.lemmas.List.{length-append, length-drop, length-set, length-take-le, append-nil, append_assoc, take_at, drop_at, drop-drop, set-get_or, get_or-set_same, take-append-drop, drop-map}
+use Rattle.std.proofs.lemmas.List.{length-append, length-map, length-drop, length-set, length-take-le, append-nil, append_assoc, take_at, drop_at, drop-drop, set-get_or, get_or-set_same, take-append-drop, drop-map}
 use Rattle.std.proofs.lemmas.List.Elements.{All-head, All-tail, filter_map-append}
 use Rattle.std.proofs.lemmas.List.Sums.{sum_by-append}
 use Rattle.xl_queues.specs.Broadcasts.{queue_of}
 use Rattle.xl_base.specs.Counts.{one_more}
 use Rattle.xl_queues.specs.Queues.{Backlog, no_items}
-use Rattle.xl_wire.specs.declared.validation.Validation.{Validation}
+use Rattle.xl_wire.specs.declared.body.Body.{Body}
 use Rattle.xl_core.specs.declared.item.Item.{Item}
-use Rattle.xl_core.specs.declared.item.Item.TheVariants.{Vote}
-use Rattle.xl_core.specs.Items.{frame_of}
+use Rattle.xl_core.specs.Items.{body_in, framed, frame_of}
 use Rattle.xl_core.specs.Node.{Node}
 use Rattle.xl_tags.specs.Rings.{Ring}
-use Rattle.xl_wire.specs.declared.body.Body.TheVariants as bodies
 use Rattle.xl_core.specs.Sending.{sealed_bytes, has_spelling}
 use Rattle.xl_core.specs.declared.putting.Put.{Put}
 use Rattle.xl_core.specs.declared.putting.Put.TheVariants.{Written, PassedOver, NoRoom}
@@ -272,14 +270,32 @@ too_long f (x ∷ items) item frame room first its long =
     lt-not-leb : (a b : ℕ) → b < a → nat_le a b ≡ false
     lt-not-leb a b lt = grind (arith, nat_tests)
 
--- A VOTE
+-- fewer items are left once one was taken
+pub fewer_left : (f : Item → Option (List ℕ)) (waiting after : List (Backlog Item)) (number at next : ℕ) (old new : List ℕ) → 1 ≤ number → number ≤ length waiting →
+    TakesOne (map f (waiting_at waiting number).items) waiting after number at next old new → length (waiting_at after number).items < length (waiting_at waiting number).items
+fewer_left f waiting after number at next old new least most takes =
+    let items : List Item = (waiting_at waiting number).items in
+    omega (
+      arith,
+      ap (λ (ws : List (Backlog Item)). length (waiting_at ws number).items) takes.taken,
+      ap (λ (q : Backlog Item). length q.items) (changed waiting number (after_taking (takes.first ∷ [])) least most),
+      length-drop 1 items,
+      ap length takes.is,
+      length-map items f,
+    )
 
--- its frame was put
-pub vote_put : (n : Node) (ring : Ring) (to : ℕ) (item : Item) (v : Validation) (frame : List ℕ) (at : ℕ) (old new : List ℕ) (r : Put) → ring ≡ n.keys → n.keys.me ≡ n.me → Vote v ≡ item →
-    frame ≡ sealed_bytes ring ring.me to (bodies.Validation v) → has_spelling ring.me to v ≡ true → IsPut (Some frame) at old new r → IsPut (frame_of n to item) at old new r
-vote_put n ring to item v frame at old new r its own same is spelled put =
-    subst (λ (x : Item). IsPut (frame_of n to x) at old new r) same
-    (subst (λ (m : ℕ). IsPut (if has_spelling m to v then Some (sealed_bytes n.keys m to (bodies.Validation v)) else None) at old new r) own
-    (subst (λ (k : Ring). IsPut (if has_spelling k.me to v then Some (sealed_bytes k k.me to (bodies.Validation v)) else None) at old new r) its
+-- AN ITEM
+
+-- what is said was put, sealed
+pub item_put : (n : Node) (ring : Ring) (to : ℕ) (item : Item) (body : Body) (at : ℕ) (old new : List ℕ) (r : Put) → ring ≡ n.keys → n.keys.me ≡ n.me → Some body ≡ body_in n item →
+    has_spelling ring.me to body ≡ true → IsPut (Some (sealed_bytes ring ring.me to body)) at old new r → IsPut (frame_of n to item) at old new r
+item_put n ring to item body at old new r its own said spelled put =
+    subst (λ (o : Option Body). IsPut (option_and_then (framed n to) o) at old new r) said
+    (subst (λ (m : ℕ). IsPut (if has_spelling m to body then Some (sealed_bytes n.keys m to body) else None) at old new r) own
+    (subst (λ (k : Ring). IsPut (if has_spelling k.me to body then Some (sealed_bytes k k.me to body) else None) at old new r) its
     (subst (λ (o : Option (List ℕ)). IsPut o at old new r)
-    (ap (λ (f : List ℕ). Some f) is ∙ sym (cond-true (has_spelling ring.me to v) (Some (sealed_bytes ring ring.me to (bodies.Validation v))) None spelled)) put)))
+    (sym (cond-true (has_spelling ring.me to body) (Some (sealed_bytes ring ring.me to body)) None spelled)) put)))
+
+-- what isn't said is passed over
+pub item_passed : (n : Node) (to : ℕ) (item : Item) (at : ℕ) (room : List ℕ) → None ≡ body_in n item → IsPut (frame_of n to item) at room room PassedOver
+item_passed n to item at room said = subst (λ (o : Option Body). IsPut (option_and_then (framed n to) o) at room room PassedOver) said refl

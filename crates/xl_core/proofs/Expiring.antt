@@ -42,6 +42,7 @@ ready_then now n le ready = record {
   keyed = record { own = ready.keyed.own; listed = ready.keyed.listed };
   time = omega (arith, le, ready.time);
   current = current_then (max n.time now / 1000) n.rows;
+  known = ready.known;
 }
 
 -- within a second nothing expires
@@ -59,6 +60,7 @@ ready_within now n time le time_is same ready = record {
   keyed = record { own = ready.keyed.own; listed = ready.keyed.listed };
   time = omega (arith, le, ready.time, time_is);
   current = subst (λ (s : ℕ). All (IsCurrent s) n.rows) (sym same) ready.current;
+  known = ready.known;
 }
 
 -- the time and the rows as the code has them

@@ -1,6 +1,8 @@
 pub mod Heard
 pub mod Frames
 pub mod Learning
+pub mod Building
+pub mod Switching
 pub mod SealingLaws
 pub mod Spelling
 pub mod Counts
@@ -11,11 +13,13 @@ pub mod Opening
 pub mod Passing
 pub mod Current
 pub mod Expiring
+pub mod Timing
 pub mod Living
 pub mod Reporting
 pub mod Draining
 pub mod Handing
 pub mod Stepping
 pub mod Stopping
+pub mod Concluding
 pub mod Covering
 pub mod Accounted

@@ -1,5 +1,5 @@
 -- What a node and the reports of its life so far keep, over every event.
-use Rattle.std.proofs.Common.{◌≡◌, ℕ, ◌+◌, ◌-◌, ◌<◌, ◌≤◌, false, List, [], ◌∷◌, ◌++◌, length, get_or, refl, arith, ap, sym, inl, inr, Option, Some, None, Result, Ok, Err, subst, append_assoc, length-append}
+use Rattle.std.proofs.Common.{◌≡◌, ℕ, Bool, ◌+◌, ◌-◌, ◌<◌, ◌≤◌, false, List, [], ◌∷◌, ◌++◌, length, get_or, refl, arith, ap, sym, inl, inr, Option, Some, None, subst, append_assoc, length-append}
 use Rattle.std.specs.Prelude.{◌⊎◌, All, IfSome, is_some, Contains, map, find, filter_map, option_map, option_to_list, count_by, nat_lt}
 use Rattle.std.specs.List.Sorted.{IsStrictlyIncreasing}
 use Rattle.std.proofs.lemmas.Bool.{cond_both, le-ltb}
@@ -10,18 +10,22 @@ use Rattle.xl_wire.specs.declared.validation.Validation.{Validation}
 use Rattle.xl_validations.specs.declared.row.Row.{Row}
 use Rattle.xl_validations.specs.declared.refusal.ValRefusal.{ValRefusal}
 use Rattle.xl_validations.specs.Rows.{row_of, refusal_of, with_validation, at_member, empty_row}
+use Rattle.xl_base.specs.declared.ids.LedgerId.{LedgerId}
+use Rattle.xl_ledger.specs.Headers.{header_id}
+use Rattle.xl_rounds.specs.Rounds.{Round, is_proposing, with_pending}
+use Rattle.xl_rounds.specs.Proposals.{started}
+use Rattle.xl_core.specs.Building.{usual_mode}
+use Rattle.xl_core.proofs.Timing.{timing_by, submit_either}
 use Rattle.xl_core.specs.declared.report.Report.{Report}
 use Rattle.xl_core.specs.declared.settings.Settings.{Settings}
 use Rattle.xl_core.specs.Answers.{Done}
-use Rattle.xl_core.specs.Node.{Node, Event, Issue, Frame, Reply, Save, issues_unless, opened, happens, issues, refusing, reporting, with_taken, take, arisen, arises_in, is_above, later, report_of, taking, hearing, at_moment, second_of, own_validation}
+use Rattle.xl_core.specs.Node.{Node, Event, Issue, Frame, Timer, Submit, Reply, Save, issues_unless, opened, happens, issues, issuing, refusing, replying, completed, timed, validates, validating_built, with_tx, reporting, with_taken, take, arisen, arises_in, is_above, later, report_of, taking, hearing, at_moment, second_of, own_validation}
 use Rattle.xl_core.specs.Node.Save.{Kept, Failed}
 use Rattle.xl_core.specs.declared.refusal.Refusal.TheVariants.{NotAfter}
 use Rattle.xl_ledger.specs.declared.header.Header.{Header as LedgerHeader}
-use Rattle.xl_ledger.specs.declared.refusal.AddRefusal.{AddRefusal}
-use Rattle.xl_ledger.specs.Registries.{with_header, add_refusal}
+use Rattle.xl_ledger.specs.Registries.{Ledgers, with_header}
 use Rattle.xl_core.specs.declared.hearing.Speech.{Speech}
 use Rattle.xl_core.specs.declared.hearing.Speech.TheVariants as speech
-use Rattle.xl_core.specs.declared.refusal.Refusal.{Refusal}
 use Rattle.xl_core.proofs.Frames.{hearing_either}
 use Rattle.xl_core.specs.Node.{report_if}
 use Rattle.xl_core.specs.Rest.{IsAtRest}
@@ -208,13 +212,47 @@ living_then now list n reports living = record {
   rising = living.rising;
 }
 
+issuing_on : (list : TrustedList) (n : Node) (reports : List Report) (seq : ℕ) (id : LedgerId) (full : Bool) (save : Save) → IsLiving list n reports → GoesOn list reports (issuing n seq id full save)
+issuing_on list n reports seq id full save living =
+    cond_both (nat_lt n.kept seq) (issues_unless n n.failed_save save (own_validation n seq id full)) (refusing n (NotAfter n.kept)) (GoesOn list reports)
+    (λ _. issued_unless list n reports n.failed_save save (own_validation n seq id full) living)
+    (λ _. unreported list n reports living)
+
+-- neither the round nor the ledgers are a part of it
+elsewhere : (list : TrustedList) (n : Node) (reports : List Report) (ledgers : Ledgers) (r : Round) → IsLiving list n reports → IsLiving list (record n { ledgers = ledgers; round = r }) reports
+elsewhere list n reports ledgers r living = record {
+  listed = living.listed;
+  rest = record { valid = living.rest.valid; members = living.rest.members; reported = living.rest.reported };
+  heads = living.heads;
+  past = living.past;
+  told = living.told;
+  below = living.below;
+  rising = living.rising;
+}
+
+validating_on : (list : TrustedList) (n : Node) (reports : List Report) (h : LedgerHeader) (moved_on : Bool) (save : Save) → IsLiving list n reports → GoesOn list reports (validating_built n h moved_on save)
+validating_on list n reports h moved_on save living =
+    cond_both (validates n moved_on) (issuing n h.seq (header_id h) (is_proposing n.round.setting.mode) save) (replying n Done []) (GoesOn list reports)
+    (λ _. issuing_on list n reports h.seq (header_id h) (is_proposing n.round.setting.mode) save living)
+    (λ _. unreported list n reports living)
+
+timer_on : (list : TrustedList) (n : Node) (reports : List Report) (save : Save) → IsLiving list n reports → GoesOn list reports (completed (timed n) save)
+timer_on list n reports save living =
+    timing_by (λ t. GoesOn list reports (completed t save)) n
+    (λ r beat said. unreported list (record n { round = r }) reports (elsewhere list n reports n.ledgers r living))
+    (λ ledgers r said h place moved_on _.
+    let m : Node = record n { ledgers = ledgers; round = r } in
+    let v : Reply = validating_built m h moved_on save in
+    elsewhere list v.node (reports ++ option_to_list v.report) v.node.ledgers (started v.node.ledgers.headers place (usual_mode m.validating) v.node.time v.node.round)
+    (validating_on list m reports h moved_on save (elsewhere list n reports ledgers r living)))
+
 pub happens_on : (list : TrustedList) (n : Node) (reports : List Report) (e : Event) (save : Save) → IsLiving list n reports → GoesOn list reports (happens n e save)
-happens_on list n reports (Issue now seq id full) save living =
+happens_on list n reports (Issue now seq id full) save living = issuing_on list (at_moment now n) reports seq id full save (living_then now list n reports living)
+happens_on list n reports (Timer now) save living = timer_on list (at_moment now n) reports save (living_then now list n reports living)
+happens_on list n reports (Submit now tx) save living =
     let m : Node = at_moment now n in
     let moved : IsLiving list m reports = living_then now list n reports living in
-    cond_both (nat_lt m.kept seq) (issues_unless m m.failed_save save (own_validation m seq id full)) (refusing m (NotAfter m.kept)) (GoesOn list reports)
-    (λ _. issued_unless list m reports m.failed_save save (own_validation m seq id full) moved)
-    (λ _. unreported list m reports moved)
+    submit_either (GoesOn list reports) m tx (λ _. unreported list m reports moved) (unreported list (with_tx m tx) reports (elsewhere list m reports m.ledgers (with_pending tx m.round) moved))
 happens_on list n reports (Frame now bytes) save living =
     hearing_on list (at_moment now n) reports bytes (living_then now list n reports living)
 

@@ -1,5 +1,5 @@
 -- A node at its opening is at rest: no row holds a validation.
-use Rattle.std.proofs.Common.{◌≡◌, ℕ, ◌≤◌, ◌/◌, List, [], ◌∷◌, refl, arith, ap, sym, ◌∙◌, subst, false}
+use Rattle.std.proofs.Common.{◌≡◌, ℕ, Bool, ◌≤◌, ◌/◌, List, [], ◌∷◌, refl, arith, ap, sym, ◌∙◌, subst, false}
 use Rattle.std.specs.Prelude.{map, max}
 use Rattle.xl_base.specs.declared.ids.LedgerId.{LedgerId}
 use Rattle.xl_lists.specs.Lists.{IsValid}
@@ -17,6 +17,10 @@ use Rattle.xl_core.proofs.Current.{opened_current}
 use Rattle.xl_base.specs.declared.moments.TheConstants.{GREATEST_MILLIS}
 use Rattle.xl_ledger.specs.Registries.{Ledgers, only_root}
 use Rattle.xl_tags.specs.Rings.{Ring}
+use Rattle.xl_rounds.specs.Rounds.{Round, opened as opened_round}
+use Rattle.xl_ledger.specs.declared.header.Header.{Header}
+use Rattle.xl_rounds.specs.declared.phase.Mode.{Mode}
+use Rattle.xl_core.specs.Building.{usual_mode}
 use Rattle.xl_validations.specs.declared.row.Row.{Row}
 use Rattle.xl_core.proofs.Members.{members_opened}
 
@@ -31,24 +35,34 @@ opened_at_rest settings now kept valid = record {
   reported = λ seq id enough. absurd (omega (arith, enough, none_counted settings.list.members seq id, valid.some, valid.majority));
 }
 
+-- its first round is on the root
+pub first_round : (ledgers : List Header) (root : ℕ) (mode : Mode) (validating : Bool) (time : ℕ) → root ≡ 0 → mode ≡ usual_mode validating → opened_round ledgers root mode time ≡ opened_round ledgers 0 (usual_mode validating) time
+first_round ledgers root mode validating time is_root is_mode =
+    ap (λ (r : ℕ). opened_round ledgers r mode time) is_root ∙ ap (λ (m : Mode). opened_round ledgers 0 m time) is_mode
+
 -- and ready, as the code has its parts
-pub opened_ready : (settings : Settings) (now kept time : ℕ) (ledgers : Ledgers) (rows : List Row) (keys : Ring) → IsValid settings.list → IsKeyed settings.me settings.list.members settings.keys → now ≤ GREATEST_MILLIS →
-    time ≡ max now 1000 → ledgers ≡ only_root settings.limit → rows ≡ map empty_row settings.list.members → keys ≡ settings.keys →
-    IsReady (record (opened settings now kept) { time = time; ledgers = ledgers; rows = rows; keys = keys })
-opened_ready settings now kept time ledgers rows keys valid keyed le time_is ledgers_are rows_are keys_are =
-    subst (λ (t : ℕ). IsReady (record (opened settings now kept) { time = t; ledgers = ledgers; rows = rows; keys = keys })) (sym time_same)
-    (subst (λ (r : Ledgers). IsReady (record (opened settings now kept) { ledgers = r; rows = rows; keys = keys })) (sym ledgers_are)
-    (subst (λ (rs : List Row). IsReady (record (opened settings now kept) { rows = rs; keys = keys })) (sym rows_are)
-    (subst (λ (k : Ring). IsReady (record (opened settings now kept) { keys = k })) (sym keys_are)
+pub opened_ready : (settings : Settings) (now kept time : ℕ) (ledgers : Ledgers) (rows : List Row) (round : Round) (keys : Ring) → IsValid settings.list → IsKeyed settings.me settings.list.members settings.keys → now ≤ GREATEST_MILLIS →
+    time ≡ max now 1000 → ledgers ≡ only_root settings.limit → rows ≡ map empty_row settings.list.members →
+    round ≡ opened_round ledgers.headers 0 (usual_mode settings.validating) time → keys ≡ settings.keys →
+    IsReady (record (opened settings now kept) { time = time; ledgers = ledgers; rows = rows; round = round; keys = keys })
+opened_ready settings now kept time ledgers rows round keys valid keyed le time_is ledgers_are rows_are round_is keys_are =
+    subst (λ (t : ℕ). IsReady (record (opened settings now kept) { time = t; ledgers = ledgers; rows = rows; round = round; keys = keys })) (sym time_same)
+    (subst (λ (r : Ledgers). IsReady (record (opened settings now kept) { ledgers = r; rows = rows; round = round; keys = keys })) (sym ledgers_are)
+    (subst (λ (rs : List Row). IsReady (record (opened settings now kept) { rows = rs; round = round; keys = keys })) (sym rows_are)
+    (subst (λ (k : Ring). IsReady (record (opened settings now kept) { round = round; keys = k })) (sym keys_are)
     (record {
-      rest = opened_at_rest settings now kept valid;
+      rest = record { valid = at_rest.valid; members = at_rest.members; reported = at_rest.reported };
       keyed = keyed;
       time = omega (arith, le);
       current = opened_current (max 1000 now / 1000) settings.list.members;
+      known = omega (arith, ap (λ (r : Round). r.setting.previous) round_is);
     }))))
   where
     time_same : time ≡ max 1000 now
     time_same = omega (arith, time_is)
+
+    at_rest : IsAtRest (opened settings now kept)
+    at_rest = opened_at_rest settings now kept valid
 
 -- a core of these parts has nothing waiting
 pub emptied : (m n : Node) (waiting : List (Backlog Item)) (untaken : Backlog Report) → m ≡ n → waiting ≡ none_waiting → untaken ≡ no_items →

@@ -1,5 +1,5 @@
 -- The law of reports: a report arises exactly where a quorum holds what wasn't reported, and sequences rise.
-use Rattle.std.proofs.Common.{◌≡◌, ℕ, ◌≤◌, true, false, List, [], ◌∷◌, ◌++◌, length, refl, arith, ap, sym, ◌∙◌, inl, inr, Option, Some, None, subst}
+use Rattle.std.proofs.Common.{◌≡◌, ℕ, Bool, ◌≤◌, true, false, List, [], ◌∷◌, ◌++◌, length, refl, arith, ap, sym, ◌∙◌, inl, inr, Option, Some, None, subst}
 use Rattle.std.specs.Prelude.{◌==◌, ◌&&◌, ◌||◌, ◌⊎◌, IfSome, Contains, find, filter_map, option_map, option_to_list, count_by, nat_lt, slice_index_or}
 use Rattle.std.proofs.lemmas.Option.{none-some, same_Some}
 use Rattle.std.proofs.lemmas.List.{length-map}
@@ -13,6 +13,11 @@ use Rattle.xl_lists.proofs.Counting.{quorums_meet}
 use Rattle.xl_wire.specs.declared.validation.Validation.{Validation}
 use Rattle.xl_validations.specs.declared.row.Row.{Row}
 use Rattle.xl_validations.specs.Rows.{is_full_of, count_full}
+use Rattle.xl_ledger.specs.declared.header.Header.{Header}
+use Rattle.xl_ledger.specs.Headers.{header_id}
+use Rattle.xl_rounds.specs.Rounds.{is_proposing}
+use Rattle.xl_core.specs.declared.item.Item.TheVariants.{Tx}
+use Rattle.xl_core.proofs.Timing.{timing_by, submit_either}
 use Rattle.xl_core.specs.declared.report.Report.{Report}
 use Rattle.xl_core.specs.Node.Save.{Kept, Failed}
 use Rattle.xl_core.specs.declared.refusal.Refusal.TheVariants.{NotAfter}
@@ -20,7 +25,7 @@ use Rattle.xl_core.specs.declared.hearing.Speech.{Speech}
 use Rattle.xl_core.specs.declared.hearing.Speech.TheVariants as speech
 use Rattle.xl_core.specs.Answers.{Answer, Took, Done}
 use Rattle.xl_core.specs.declared.taken.Taken.TheVariants.{Vote as TakenVote}
-use Rattle.xl_core.specs.Node.{Node, Event, Issue, Frame, Reply, Save, issues_unless, opened, happens, issues, saving, refusing, reporting, with_taken, arises, is_above, report_of, taking, hearing, at_moment, second_of, own_validation}
+use Rattle.xl_core.specs.Node.{Node, Event, Issue, Frame, Timer, Submit, Quiet, Reply, Save, issues_unless, opened, happens, issues, issuing, replying, completed, timed, validates, validating_built, with_tx, saving, refusing, reporting, with_taken, arises, is_above, report_of, taking, hearing, at_moment, second_of, own_validation}
 use Rattle.xl_core.specs.Lives.{node_after, reports_in, ReportsArise, ReportsRise}
 use Rattle.xl_core.proofs.Counts.{find_passes, names_it}
 use Rattle.xl_core.proofs.Arising.{parts_of, same_report}
@@ -67,13 +72,33 @@ hearing_news : (n : Node) (bytes : List ℕ) (r : Report) → (hearing n bytes).
 hearing_news n bytes r is =
     hearing_either (λ reply. reply.report ≡ Some r → IsNews n reply r) n bytes (λ why e. no_news n (refusing n why) r refl e) (λ said _ e. taking_news n said.from said.what r e) is
 
-happens_news : (n : Node) (e : Event) (save : Save) (r : Report) → (happens n e save).report ≡ Some r → IsNews n (happens n e save) r
-happens_news n (Issue now seq id full) save r is =
-    let m : Node = at_moment now n in
-    cond_both (nat_lt m.kept seq) (issues_unless m m.failed_save save (own_validation m seq id full)) (refusing m (NotAfter m.kept)) (λ reply. reply.report ≡ Some r → IsNews n reply r)
-    (λ _ e. let news = unless_news m m.failed_save save (own_validation m seq id full) r e in record { quorum = news.quorum; above = news.above })
-    (λ _ e. no_news n (refusing m (NotAfter m.kept)) r refl e)
+issuing_news : (n : Node) (seq : ℕ) (id : LedgerId) (full : Bool) (save : Save) (r : Report) → (issuing n seq id full save).report ≡ Some r → IsNews n (issuing n seq id full save) r
+issuing_news n seq id full save r is =
+    cond_both (nat_lt n.kept seq) (issues_unless n n.failed_save save (own_validation n seq id full)) (refusing n (NotAfter n.kept)) (λ reply. reply.report ≡ Some r → IsNews n reply r)
+    (λ _ e. unless_news n n.failed_save save (own_validation n seq id full) r e)
+    (λ _ e. no_news n (refusing n (NotAfter n.kept)) r refl e)
     is
+
+validating_news : (n : Node) (h : Header) (moved_on : Bool) (save : Save) (r : Report) → (validating_built n h moved_on save).report ≡ Some r → IsNews n (validating_built n h moved_on save) r
+validating_news n h moved_on save r is =
+    cond_both (validates n moved_on) (issuing n h.seq (header_id h) (is_proposing n.round.setting.mode) save) (replying n Done []) (λ reply. reply.report ≡ Some r → IsNews n reply r)
+    (λ _ e. issuing_news n h.seq (header_id h) (is_proposing n.round.setting.mode) save r e)
+    (λ _ e. no_news n (replying n Done []) r refl e)
+    is
+
+timer_news : (n : Node) (save : Save) (r : Report) → (completed (timed n) save).report ≡ Some r → IsNews n (completed (timed n) save) r
+timer_news n save r is =
+    timing_by (λ t. (completed t save).report ≡ Some r → IsNews n (completed t save) r) n
+    (λ round beat said e. no_news n (completed (Quiet (record n { round = round }) beat said) save) r refl e)
+    (λ ledgers round said h place moved_on _ e. let news = validating_news (record n { ledgers = ledgers; round = round }) h moved_on save r e in record { quorum = news.quorum; above = news.above })
+    is
+
+happens_news : (n : Node) (e : Event) (save : Save) (r : Report) → (happens n e save).report ≡ Some r → IsNews n (happens n e save) r
+happens_news n (Issue now seq id full) save r is = let news = issuing_news (at_moment now n) seq id full save r is in record { quorum = news.quorum; above = news.above }
+happens_news n (Timer now) save r is = let news = timer_news (at_moment now n) save r is in record { quorum = news.quorum; above = news.above }
+happens_news n (Submit now tx) save r is =
+    let m : Node = at_moment now n in
+    submit_either (λ reply. reply.report ≡ Some r → IsNews n reply r) m tx (λ why e. no_news n (refusing m why) r refl e) (λ e. no_news n (replying (with_tx m tx) Done (Tx tx ∷ [])) r refl e) is
 happens_news n (Frame now bytes) save r is = let news = hearing_news (at_moment now n) bytes r is in record { quorum = news.quorum; above = news.above }
 
 -- WHAT A QUORUM HOLDS NOW

@@ -1,15 +1,20 @@
 -- A step of the node, and of its queues.
-use Rattle.std.proofs.Common.{◌≡◌, ℕ, refl, ap, ◌∙◌, subst, Option, Some, None, Ok, List}
+use Rattle.std.proofs.Common.{◌≡◌, ℕ, Bool, [], refl, ap, ◌∙◌, subst, Option, Some, None, Ok, List}
 use Rattle.std.specs.Prelude.{nat_lt}
 use Rattle.std.proofs.lemmas.Bool.{cond_both}
 use Rattle.xl_queues.specs.Queues.{Backlog}
 use Rattle.xl_wire.specs.declared.validation.Validation.{Validation}
+use Rattle.xl_base.specs.declared.ids.LedgerId.{LedgerId}
+use Rattle.xl_ledger.specs.declared.header.Header.{Header}
+use Rattle.xl_ledger.specs.Headers.{header_id}
+use Rattle.xl_rounds.specs.Rounds.{is_proposing}
+use Rattle.xl_core.proofs.Timing.{timing_by, submit_either}
 use Rattle.xl_core.specs.declared.hearing.Speech.{Speech}
 use Rattle.xl_core.specs.declared.hearing.Speech.TheVariants as speech
 use Rattle.xl_core.specs.declared.refusal.Refusal.{Refusal}
 use Rattle.xl_core.specs.declared.refusal.Refusal.TheVariants.{NotAfter}
 use Rattle.xl_core.specs.declared.report.Report.{Report}
-use Rattle.xl_core.specs.Node.{Node, Event, Issue, Frame, Reply, Save, happens, taking, hearing, issues, issues_unless, refusing, at_moment, second_of, own_validation}
+use Rattle.xl_core.specs.Node.{Node, Event, Issue, Frame, Timer, Submit, Reply, Save, happens, issuing, replying, completed, timed, validates, validating_built, taking, hearing, issues, issues_unless, refusing, at_moment, second_of, own_validation}
 use Rattle.xl_core.specs.Node.Save.{Kept, Failed}
 use Rattle.xl_core.specs.Answers.{Refused, Took, Done}
 use Rattle.xl_core.specs.Queues.{with_report}
@@ -47,14 +52,28 @@ unless_same n (Some failed) save v = record { me = refl; keys = refl }
 same_later : (n m : Node) (now : ℕ) → IsSame (at_moment now n) m → IsSame n m
 same_later n m now same = record { me = same.me; keys = same.keys }
 
+issuing_same : (n : Node) (seq : ℕ) (id : LedgerId) (full : Bool) (save : Save) → IsSame n (issuing n seq id full save).node
+issuing_same n seq id full save =
+    cond_both (nat_lt n.kept seq) (issues_unless n n.failed_save save (own_validation n seq id full)) (refusing n (NotAfter n.kept)) (λ r. IsSame n r.node)
+    (λ _. unless_same n n.failed_save save (own_validation n seq id full)) (λ _. record { me = refl; keys = refl })
+
+validating_same : (n : Node) (h : Header) (moved_on : Bool) (save : Save) → IsSame n (validating_built n h moved_on save).node
+validating_same n h moved_on save =
+    cond_both (validates n moved_on) (issuing n h.seq (header_id h) (is_proposing n.round.setting.mode) save) (replying n Done []) (λ r. IsSame n r.node)
+    (λ _. issuing_same n h.seq (header_id h) (is_proposing n.round.setting.mode) save) (λ _. record { me = refl; keys = refl })
+
+timer_same : (n : Node) (save : Save) → IsSame n (completed (timed n) save).node
+timer_same n save =
+    timing_by (λ t. IsSame n (completed t save).node) n (λ r beat said. record { me = refl; keys = refl })
+    (λ ledgers r said h place moved_on _. let same = validating_same (record n { ledgers = ledgers; round = r }) h moved_on save in record { me = same.me; keys = same.keys })
+
 pub stays_itself : (n : Node) (e : Event) (save : Save) → IsSame n (happens n e save).node
 stays_itself n (Frame now bytes) save =
     same_later n (happens n (Frame now bytes) save).node now (hearing_same (at_moment now n) bytes)
-stays_itself n (Issue now seq id full) save =
-    let m : Node = at_moment now n in
-    same_later n (happens n (Issue now seq id full) save).node now
-    (cond_both (nat_lt m.kept seq) (issues_unless m m.failed_save save (own_validation m seq id full)) (refusing m (NotAfter m.kept)) (λ r. IsSame m r.node)
-    (λ _. unless_same m m.failed_save save (own_validation m seq id full)) (λ _. record { me = refl; keys = refl }))
+stays_itself n (Issue now seq id full) save = same_later n (happens n (Issue now seq id full) save).node now (issuing_same (at_moment now n) seq id full save)
+stays_itself n (Timer now) save = same_later n (happens n (Timer now) save).node now (timer_same (at_moment now n) save)
+stays_itself n (Submit now tx) save =
+    submit_either (λ r. IsSame n r.node) (at_moment now n) tx (λ _. record { me = refl; keys = refl }) (record { me = refl; keys = refl })
 
 -- THE CORE'S STEP
 

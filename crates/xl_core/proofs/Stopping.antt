@@ -1,10 +1,19 @@
 -- What a node has said stays covered by what its keeper may hold.
-use Rattle.std.proofs.Common.{◌≡◌, ◌≢◌, ℕ, zero, suc, ◌<◌, ◌≤◌, ◌/◌, Bool, true, false, cond, List, [], ◌∷◌, ◌++◌, length, drop, refl, ap, sym, ◌∙◌, subst, arith, inl, inr, Option, Some, None, Ok}
+use Rattle.std.proofs.Common.{◌≡◌, ◌≢◌, ℕ, zero, suc, ◌<◌, ◌≤◌, ◌/◌, Bool, true, false, cond, List, [], ◌∷◌, ◌++◌, length, drop, refl, ap, sym, ◌∙◌, subst, arith, inl, inr, Option, Some, None, Ok, append_assoc}
 use Rattle.std.specs.Prelude.{◌==◌, All, IfSome, map, max, nat_lt, option_map, replicate}
 use Rattle.xl_base.specs.declared.ids.LedgerId.{LedgerId}
 use Rattle.std.specs.Option.{option_and_then, is_none}
 use Rattle.std.proofs.lemmas.Bool.{cond_both, cond-true, cond-false, eqb-true, false_from_ne_true, ltb-true}
 use Rattle.std.proofs.lemmas.List.Elements.{All-append, All-cons, All-nil, All-head, All-tail, All-weaker, All-map, All-drop, All-set}
+use Rattle.std.proofs.lemmas.Option.{same_Some}
+use Rattle.xl_base.specs.declared.ids.TxId.{TxId}
+use Rattle.xl_ledger.specs.declared.header.Header.{Header}
+use Rattle.xl_ledger.specs.Headers.{header_id}
+use Rattle.xl_rounds.specs.declared.pulse.Said.{Said}
+use Rattle.xl_rounds.specs.Rounds.{is_proposing}
+use Rattle.xl_core.specs.Answers.{Done}
+use Rattle.xl_core.specs.Building.{said_items}
+use Rattle.xl_core.proofs.Timing.{timing_by, submit_either}
 use Rattle.xl_core.specs.declared.settings.Settings.{Settings}
 use Rattle.xl_io.specs.Keepers.{Held, MayHold, after_save}
 use Rattle.xl_queues.specs.Queues.{Backlog, no_items, with_item}
@@ -18,14 +27,14 @@ use Rattle.xl_core.specs.declared.refusal.Refusal.{Refusal}
 use Rattle.xl_core.specs.declared.refusal.Refusal.TheVariants.{NotAfter}
 use Rattle.xl_core.specs.Hearing.{heard}
 use Rattle.xl_core.specs.Answers.{given_in, handed_in}
-use Rattle.xl_core.specs.Node.{Node, Reply, Save, taking, hearing, issues, issues_unless, refusing, at_moment, second_of, own_validation, take, unless_failed, is_kept, opened}
+use Rattle.xl_core.specs.Node.{Node, Reply, Save, taking, hearing, issues, issues_unless, issuing, asks_for, asks_of, replying, completed, validates, validating_built, refusing, at_moment, second_of, own_validation, take, unless_failed, is_kept, opened}
 use Rattle.xl_core.specs.Node.Save.{Kept, Failed}
 use Rattle.xl_core.specs.Items.{taken_for}
 use Rattle.xl_core.specs.Queues.{with_items, at_number, after_taking, waiting_at}
 use Rattle.xl_core.specs.Core.{Core, stepped, with_queues, core_happens, core_asks}
-use Rattle.xl_core.specs.declared.event.CoreEvent.TheVariants.{Issue, Frame, Drain}
+use Rattle.xl_core.specs.declared.event.CoreEvent.TheVariants.{Issue, Frame, Timer, Submit, Drain}
 use Rattle.xl_core.specs.declared.item.Item.{Item}
-use Rattle.xl_core.specs.declared.item.Item.TheVariants.{Vote}
+use Rattle.xl_core.specs.declared.item.Item.TheVariants.{Vote, Tx, TxSet, Proposal, Header as HeaderItem}
 use Rattle.xl_core.specs.Stops.{IsCovered, IsItemCovered, own_current}
 use Rattle.xl_queues.specs.Broadcasts.{queue_of, pushed_to_all}
 use Rattle.xl_core.proofs.Frames.{hearing_either}
@@ -157,18 +166,40 @@ frame_covered held core now bytes others was =
 -- an item that is covered stays so as the kept number rises
 still_covered : (old kept : ℕ) → old ≤ kept → (item : Item) → IsItemCovered old item → IsItemCovered kept item
 still_covered old kept le (Vote v) covered = omega (arith, covered, le)
+still_covered old kept le (Tx tx) covered = tt
+still_covered old kept le (TxSet id) covered = tt
+still_covered old kept le (Proposal p) covered = tt
+still_covered old kept le (HeaderItem ledger) covered = tt
 
 -- each item of a queue, with this one
-items_most : (old kept : ℕ) (q : Backlog Item) (v : Validation) → old ≤ kept → v.seq ≤ kept → All (IsItemCovered old) q.items → All (IsItemCovered kept) (with_item 64 q (Vote v)).items
-items_most old kept q v le at most =
-    let all : All (IsItemCovered kept) (q.items ++ Vote v ∷ []) = All-append (IsItemCovered kept) q.items (Vote v ∷ []) (All-weaker (IsItemCovered old) (IsItemCovered kept) (still_covered old kept le) q.items most)
-    (All-cons (IsItemCovered kept) (Vote v) [] at (All-nil (IsItemCovered kept))) in
-    cond_both (nat_lt (length q.items) 64) (q.items ++ Vote v ∷ []) (drop 1 (q.items ++ Vote v ∷ [])) (All (IsItemCovered kept)) (λ _. all) (λ _. All-drop (IsItemCovered kept) 1 (q.items ++ Vote v ∷ []) all)
+items_most : (old kept : ℕ) (q : Backlog Item) (item : Item) → old ≤ kept → IsItemCovered kept item → All (IsItemCovered old) q.items → All (IsItemCovered kept) (with_item 64 q item).items
+items_most old kept q item le at most =
+    let all : All (IsItemCovered kept) (q.items ++ item ∷ []) = All-append (IsItemCovered kept) q.items (item ∷ []) (All-weaker (IsItemCovered old) (IsItemCovered kept) (still_covered old kept le) q.items most)
+    (All-cons (IsItemCovered kept) item [] at (All-nil (IsItemCovered kept))) in
+    cond_both (nat_lt (length q.items) 64) (q.items ++ item ∷ []) (drop 1 (q.items ++ item ∷ [])) (All (IsItemCovered kept)) (λ _. all) (λ _. All-drop (IsItemCovered kept) 1 (q.items ++ item ∷ []) all)
 
-queues_most : (old kept : ℕ) (v : Validation) (waiting : List (Backlog Item)) → old ≤ kept → v.seq ≤ kept → AllCovered old waiting → AllCovered kept (pushed_to_all 64 waiting (Vote v))
-queues_most old kept v waiting le at was =
-    All-map (λ q. All (IsItemCovered kept) q.items) (λ q. with_item 64 q (Vote v)) waiting
-    (All-weaker (λ q. All (IsItemCovered old) q.items) (λ q. All (IsItemCovered kept) (with_item 64 q (Vote v)).items) (λ q most. items_most old kept q v le at most) waiting was)
+queues_most : (old kept : ℕ) (item : Item) (waiting : List (Backlog Item)) → old ≤ kept → IsItemCovered kept item → AllCovered old waiting → AllCovered kept (pushed_to_all 64 waiting item)
+queues_most old kept item waiting le at was =
+    All-map (λ q. All (IsItemCovered kept) q.items) (λ q. with_item 64 q item) waiting
+    (All-weaker (λ q. All (IsItemCovered old) q.items) (λ q. All (IsItemCovered kept) (with_item 64 q item).items) (λ q most. items_most old kept q item le at most) waiting was)
+
+-- with more items
+many_most : (kept : ℕ) (items : List Item) (waiting : List (Backlog Item)) → All (IsItemCovered kept) items → AllCovered kept waiting → AllCovered kept (with_items waiting items)
+many_most kept [] waiting each was = was
+many_most kept (item ∷ items) waiting each was =
+    many_most kept items (pushed_to_all 64 waiting item) (All-tail (IsItemCovered kept) item items each) (queues_most kept kept item waiting (omega arith) (All-head (IsItemCovered kept) item items each) was)
+
+pub items_then : (xs ys : List Item) (waiting : List (Backlog Item)) → with_items (with_items waiting xs) ys ≡ with_items waiting (xs ++ ys)
+items_then [] ys waiting = refl
+items_then (x ∷ xs) ys waiting = items_then xs ys (pushed_to_all 64 waiting x)
+
+-- a position that is said
+said_covered : (kept : ℕ) (said : Option Said) → All (IsItemCovered kept) (said_items said)
+said_covered kept None = All-nil (IsItemCovered kept)
+said_covered kept (Some said) =
+    let position : All (IsItemCovered kept) (Proposal said.proposal ∷ []) = All-cons (IsItemCovered kept) (Proposal said.proposal) [] tt (All-nil (IsItemCovered kept)) in
+    cond_both said.with_set (TxSet said.proposal.set ∷ Proposal said.proposal ∷ []) (Proposal said.proposal ∷ []) (All (IsItemCovered kept))
+    (λ _. All-cons (IsItemCovered kept) (TxSet said.proposal.set) (Proposal said.proposal ∷ []) tt position) (λ _. position)
 
 -- the node's time and rows, before it issues
 later_covered : (held : Held) (core : Core) (now : ℕ) → IsCovered held core → IsCovered held (record core { node = at_moment now core.node })
@@ -187,7 +218,7 @@ saves_covered held core Kept v above was = record {
     | inr asked ↦ absurd (none_asked n asked)
   ];
   own = own_taken v.seq core.node.me (second_of core.node) v core.node.rows (omega arith) (most_later core.node.kept v.seq (own_current core.node) (omega (arith, above)) was.own);
-  waiting = queues_most core.node.kept v.seq v core.waiting (omega (arith, above)) (omega arith) was.waiting;
+  waiting = queues_most core.node.kept v.seq (Vote v) core.waiting (omega (arith, above)) (omega arith) was.waiting;
 }
   where
     none_asked : (n : ℕ) → None ≡ Some n → ⊥
@@ -221,6 +252,57 @@ pub issue_covered : (held : Held) (core : Core) (now seq : ℕ) (id : LedgerId) 
 issue_covered held core now seq id full save was =
     let m : Node = at_moment now core.node in
     issuing_covered held (record core { node = m }) seq save (own_validation m seq id full) (nat_lt m.kept seq) refl refl (later_covered held core now was)
+
+-- HANDING IN
+
+pub submit_covered : (held : Held) (core : Core) (now : ℕ) (tx : TxId) (save : Save) → IsCovered held core → IsCovered held (core_happens core (Submit now tx) save).core
+submit_covered held core now tx save was =
+    let m : Node = at_moment now core.node in
+    let moved : IsCovered held (record core { node = m }) = later_covered held core now was in
+    submit_either (λ r. IsCovered held (stepped core r).core) m tx
+    (λ _. record { saved = moved.saved; own = moved.own; waiting = moved.waiting })
+    (record { saved = moved.saved; own = moved.own; waiting = queues_most m.kept m.kept (Tx tx) core.waiting (omega arith) tt moved.waiting })
+
+-- THE TIMER
+
+-- what was built is validated, or not
+validating_covered : (held : Held) (core : Core) (h : Header) (full : Bool) (save : Save) (b : Bool) → IsCovered held core →
+    IsCovered (after_save held (cond b (asks_for core.node h.seq) None) (is_kept save)) (stepped core (cond b (issuing core.node h.seq (header_id h) full save) (replying core.node Done []))).core
+validating_covered held core h full save true was = issuing_covered held core h.seq save (own_validation core.node h.seq (header_id h) full) (nat_lt core.node.kept h.seq) refl refl was
+validating_covered held core h full save false was = record { saved = was.saved; own = was.own; waiting = was.waiting }
+
+pub timer_covered : (held : Held) (core : Core) (now : ℕ) (save : Save) → IsCovered held core →
+    IsCovered (after_save held (core_asks core (Timer now)) (is_kept save)) (core_happens core (Timer now) save).core
+timer_covered held core now save was =
+    let m : Node = at_moment now core.node in
+    let moved : IsCovered held (record core { node = m }) = later_covered held core now was in
+    timing_by (λ t. IsCovered (after_save held (asks_of t) (is_kept save)) (stepped core (completed t save)).core) m
+    (λ r beat said. record { saved = moved.saved; own = moved.own; waiting = many_most m.kept (said_items said) core.waiting (said_covered m.kept said) moved.waiting })
+    (λ ledgers r said h place moved_on _.
+    let built : Node = record m { ledgers = ledgers; round = r } in
+    let front : List Item = said_items said ++ HeaderItem (header_id h) ∷ [] in
+    let sent : Core = record core { node = built; waiting = with_items core.waiting front } in
+    let before : IsCovered held sent = record {
+      saved = moved.saved;
+      own = moved.own;
+      waiting = many_most m.kept front core.waiting
+          (All-append (IsItemCovered m.kept) (said_items said) (HeaderItem (header_id h) ∷ []) (said_covered m.kept said) (All-cons (IsItemCovered m.kept) (HeaderItem (header_id h)) [] tt (All-nil (IsItemCovered m.kept)))) moved.waiting;
+    } in
+    let v : Reply = validating_built built h moved_on save in
+    let after = validating_covered held sent h (is_proposing r.setting.mode) save (validates built moved_on) before in
+    record {
+      saved = after.saved;
+      own = after.own;
+      waiting = subst (AllCovered v.node.kept) (items_then front v.items core.waiting ∙ ap (with_items core.waiting) (append_assoc (said_items said) (HeaderItem (header_id h) ∷ []) v.items)) after.waiting;
+    })
+
+pub timer_covers : (before after : Held) (old new : Option Held) (core : Core) (now : ℕ) (save : Save) →
+    new ≡ option_map (λ held. after_save held (core_asks core (Timer now)) (is_kept save)) old → old ≡ Some before → new ≡ Some after → IsCovered before core →
+    IsCovered after (core_happens core (Timer now) save).core
+timer_covers before after old new core now save is was_told is_told was =
+    let told : Some (after_save before (core_asks core (Timer now)) (is_kept save)) ≡ Some after =
+    sym (is ∙ ap (λ (o : Option Held). option_map (λ held. after_save held (core_asks core (Timer now)) (is_kept save)) o) was_told) ∙ is_told in
+    subst (λ (h : Held). IsCovered h (core_happens core (Timer now) save).core) (same_Some (after_save before (core_asks core (Timer now)) (is_kept save)) after told) (timer_covered before core now save was)
 
 -- what the keeper was and is told to hold
 pub issue_covers : (before after : Held) (old new : Option Held) (core : Core) (now seq : ℕ) (id : LedgerId) (full : Bool) (save : Save) →

@@ -2,6 +2,7 @@
 use Rattle.std.specs.Prelude.{ℕ, Bool, List, []}
 use Rattle.std.specs.Prelude.{Some, None}
 use Rattle.std.specs.declared.option.Option.{Option}
+use Rattle.xl_core.specs.declared.beat.Beat.{Beat}
 use Rattle.xl_core.specs.declared.refusal.Refusal.{Refusal}
 use Rattle.xl_core.specs.declared.report.Report.{Report}
 use Rattle.xl_core.specs.declared.taken.Taken.{Taken}
@@ -10,6 +11,8 @@ pub data Answer : Type 0 where
   Refused : (why : Refusal) → Answer
   -- this was taken of a frame
   Took : (taken : Taken) → Answer
+  -- this came of a timer
+  Beats : (beat : Beat) → Answer
   -- it was done, and there is nothing to say
   Done : Answer
   -- these frames go to a member
@@ -23,6 +26,7 @@ pub data Answer : Type 0 where
 abbrev pub refusal_in : Answer → Option Refusal
 refusal_in (Refused why) = Some why
 refusal_in (Took taken) = None
+refusal_in (Beats beat) = None
 refusal_in Done = None
 refusal_in (Gave to frames) = None
 refusal_in (Handed reports) = None
@@ -32,6 +36,7 @@ refusal_in (Told stopped) = None
 abbrev pub handed_in : Answer → List Report
 handed_in (Refused why) = []
 handed_in (Took taken) = []
+handed_in (Beats beat) = []
 handed_in Done = []
 handed_in (Gave to frames) = []
 handed_in (Handed reports) = reports
@@ -41,6 +46,7 @@ handed_in (Told stopped) = []
 abbrev pub given_in : Answer → List (List ℕ)
 given_in (Refused why) = []
 given_in (Took taken) = []
+given_in (Beats beat) = []
 given_in Done = []
 given_in (Gave to frames) = frames
 given_in (Handed reports) = []

@@ -5,7 +5,7 @@ use Rattle.std.specs.declared.option.Option.{Option}
 use Rattle.xl_queues.specs.Queues.{Backlog, no_items}
 use Rattle.xl_wire.specs.declared.validation.Validation.{Validation}
 use Rattle.xl_core.specs.declared.event.CoreEvent.{CoreEvent}
-use Rattle.xl_core.specs.declared.event.CoreEvent.TheVariants.{Issue, Frame, Drain, Reports, Stop, Stopped}
+use Rattle.xl_core.specs.declared.event.CoreEvent.TheVariants.{Issue, Frame, Timer, Submit, Drain, Reports, Stop, Stopped}
 use Rattle.xl_core.specs.declared.item.Item.{Item}
 use Rattle.xl_core.specs.declared.report.Report.{Report}
 use Rattle.xl_core.specs.Answers.{Answer, Done, Gave, Handed, Told}
@@ -55,6 +55,8 @@ answering core answer = record { core = core; answer = answer; issued = None; re
 abbrev pub core_happens : Core → CoreEvent → Save → CoreReply
 core_happens core (Issue now seq id full) save = stepped core (happens core.node (nodes.Issue now seq id full) save)
 core_happens core (Frame now bytes) save = stepped core (happens core.node (nodes.Frame now bytes) save)
+core_happens core (Timer now) save = stepped core (happens core.node (nodes.Timer now) save)
+core_happens core (Submit now tx) save = stepped core (happens core.node (nodes.Submit now tx) save)
 core_happens core (Drain member room) save =
     answering (record core { waiting = drained_for core.node core.waiting member room })
     (Gave member (frames_in (taken_for core.node core.waiting member room)))
@@ -67,6 +69,8 @@ core_happens core Stopped save = answering core (Told core.stopped)
 abbrev pub core_asks : Core → CoreEvent → Option ℕ
 core_asks core (Issue now seq id full) = asks core.node (nodes.Issue now seq id full)
 core_asks core (Frame now bytes) = None
+core_asks core (Timer now) = asks core.node (nodes.Timer now)
+core_asks core (Submit now tx) = None
 core_asks core (Drain member room) = None
 core_asks core (Reports room) = None
 core_asks core Stop = None

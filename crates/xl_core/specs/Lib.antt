@@ -2,11 +2,13 @@ pub mod Refusals
 pub mod Hearing
 pub mod Sending
 pub mod Answers
+pub mod Building
 pub mod Node
 pub mod Queues
 pub mod Items
 pub mod Core
 pub mod Replies
+pub mod Ticks
 pub mod Draining
 pub mod Keeping
 pub mod Stops

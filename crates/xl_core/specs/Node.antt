@@ -1,35 +1,49 @@
--- One node: the ledgers that it knows, its rows, the last sequence that it saved, and what it reports as fully validated.
+-- One node: the ledgers that it knows, its rows, its round, the last sequence that it saved, and what it reports as fully
+-- validated.
 -- Source: Chase and MacBrough, "Analysis of the XRP Ledger Consensus Protocol" (2018), and rippled's Consensus and Validations.
-use Rattle.std.specs.Prelude.{◌≡◌, ◌≢◌, ℕ, ◌<◌, ◌/◌, ◌&&◌, max, Bool, true, false, List, [], ◌∷◌, map, filter_map, find, option_map, nat_lt, nat_le, if◌then◌else◌}
+use Rattle.std.specs.Prelude.{◌≡◌, ◌≢◌, ℕ, ◌<◌, ◌/◌, ◌==◌, ◌&&◌, not, max, Bool, true, false, List, [], ◌∷◌, ◌++◌, map, unwrap_or, filter_map, find, option_map, nat_lt, nat_le, if◌then◌else◌}
 use Rattle.std.specs.Prelude.{Some, None, Ok}
 use Rattle.std.specs.declared.option.Option.{Option}
 use Rattle.std.specs.Option.{is_none, option_or}
 use Rattle.xl_base.specs.declared.ids.LedgerId.{LedgerId}
+use Rattle.xl_base.specs.declared.ids.TxId.{TxId}
 use Rattle.xl_lists.specs.Lists.{TrustedList}
 use Rattle.xl_tags.specs.Rings.{Ring}
 use Rattle.xl_wire.specs.declared.validation.Validation.{Validation}
 use Rattle.xl_wire.specs.Heads.{raw_in}
 use Rattle.xl_validations.specs.declared.row.Row.{Row}
 use Rattle.xl_validations.specs.declared.refusal.ValRefusal.{ValRefusal}
-use Rattle.xl_validations.specs.Rows.{refusal, refusal_of, with_validation, at_member, count_full, empty_row, row_at}
-use Rattle.xl_validations.specs.Votes.{votes_of}
+use Rattle.xl_validations.specs.Rows.{refusal, refusal_of, with_validation, at_member, count_full, empty_row, row_at, named}
+use Rattle.xl_validations.specs.Votes.{votes_of, finished, choose}
 use Rattle.xl_ledger.specs.declared.header.Header.{Header}
-use Rattle.xl_ledger.specs.declared.refusal.AddRefusal.{AddRefusal}
 use Rattle.xl_ledger.specs.Chains.{seq_at, id_at}
 use Rattle.xl_ledger.specs.Registries.{Ledgers, only_root, with_header, add_refusal}
 use Rattle.xl_ledger.specs.Votes.{preferred_of}
+use Rattle.xl_rounds.specs.declared.phase.Mode.{Mode}
+use Rattle.xl_rounds.specs.declared.phase.Mode.TheVariants.{SwitchedLedger}
+use Rattle.xl_rounds.specs.declared.pulse.Kind.{Kind}
+use Rattle.xl_rounds.specs.declared.pulse.Kind.TheVariants as kind
+use Rattle.xl_rounds.specs.declared.pulse.Said.{Said}
+use Rattle.xl_rounds.specs.declared.pulse.Seen.{Seen}
+use Rattle.xl_rounds.specs.Rounds.{Round, opened as opened_round, is_proposing, leave, with_pending, agreed, accepted}
+use Rattle.xl_rounds.specs.Pending.{submit_refusal}
+use Rattle.xl_rounds.specs.Proposals.{started}
+use Rattle.xl_rounds.specs.Heartbeats.{Beat as RoundBeat, heartbeat}
+use Rattle.xl_core.specs.declared.beat.Beat.{Beat}
+use Rattle.xl_core.specs.declared.beat.Beat.TheVariants.{Nothing, Closed, Updated, Switched, NoRoom, Built}
 use Rattle.xl_core.specs.declared.report.Report.{Report}
 use Rattle.xl_core.specs.declared.settings.Settings.{Settings}
 use Rattle.xl_core.specs.declared.refusal.Refusal.{Refusal}
-use Rattle.xl_core.specs.declared.refusal.Refusal.TheVariants.{NotAfter, IssuingOff, KeepFault, Header as HeaderRefused}
+use Rattle.xl_core.specs.declared.refusal.Refusal.TheVariants.{NotAfter, IssuingOff, KeepFault, Header as HeaderRefused, Round as RoundRefused}
 use Rattle.xl_core.specs.declared.hearing.Spoken.{Spoken}
 use Rattle.xl_core.specs.declared.hearing.Speech.{Speech}
 use Rattle.xl_core.specs.declared.hearing.Speech.TheVariants as speech
 use Rattle.xl_core.specs.declared.item.Item.{Item}
-use Rattle.xl_core.specs.declared.item.Item.TheVariants.{Vote as VoteItem}
+use Rattle.xl_core.specs.declared.item.Item.TheVariants.{Vote as VoteItem, Tx as TxItem, Header as HeaderItem}
 use Rattle.xl_core.specs.declared.taken.Taken.TheVariants.{Vote as TakenVote, Header as TakenHeader}
 use Rattle.xl_ledger.specs.Headers.{header_id}
-use Rattle.xl_core.specs.Answers.{Answer, Refused, Took, Done}
+use Rattle.xl_core.specs.Answers.{Answer, Refused, Took, Beats, Done, refusal_in}
+use Rattle.xl_core.specs.Building.{usual_mode, said_items, alone, next_by, Knowing, knowing, how_issued}
 use Rattle.xl_core.specs.Hearing.{heard, unheard, said_in}
 use Rattle.xl_core.specs.Refusals.{refusal_from}
 
@@ -44,6 +58,7 @@ pub record Node : Type 0 where
   pub time : ℕ
   pub ledgers : Ledgers
   pub rows : List Row
+  pub round : Round
   -- the last sequence that was saved
   pub kept : ℕ
   -- the sequence whose save failed since the node opened: it issues nothing then
@@ -57,6 +72,10 @@ pub data Event : Type 0 where
   Issue : (now seq : ℕ) (id : LedgerId) (full : Bool) → Event
   -- bytes come, whatever they are
   Frame : (now : ℕ) (bytes : List ℕ) → Event
+  -- it is time to look at the votes, and to let the round go on
+  Timer : (now : ℕ) → Event
+  -- a transaction is handed in
+  Submit : (now : ℕ) (tx : TxId) → Event
 
 -- what came of it: the node then, what it answers, what waits for every peer, what it issued, and what it reports
 pub record Reply : Type 0 where
@@ -66,7 +85,7 @@ pub record Reply : Type 0 where
   pub issued : Option Validation
   pub report : Option Report
 
--- a node opened with its settings, at a moment, and with the number that its keeper holds
+-- a node opened with its settings, at a moment, and with the number that its keeper holds; its first round is on the root
 abbrev pub opened : Settings → ℕ → ℕ → Node
 opened s now kept = record {
   me = s.me;
@@ -76,6 +95,7 @@ opened s now kept = record {
   time = max 1000 now;
   ledgers = only_root s.limit;
   rows = map empty_row s.list.members;
+  round = opened_round (only_root s.limit).headers 0 (usual_mode s.validating) (max 1000 now);
   kept = kept;
   failed_save = None;
   last = None;
@@ -121,8 +141,17 @@ abbrev pub later : Option Report → Option Report → Option Report
 later last None = last
 later last (Some report) = Some report
 
+-- it answers this, and these items wait for every peer; nothing is issued or reported
+abbrev pub replying : Node → Answer → List Item → Reply
+replying n answer items = record { node = n; answer = answer; items = items; issued = None; report = None }
+
 abbrev pub refusing : Node → Refusal → Reply
-refusing n why = record { node = n; answer = Refused why; items = []; issued = None; report = None }
+refusing n why = replying n (Refused why) []
+
+-- a cause refuses, and without one this is the reply
+abbrev pub refusing_or : Node → Option Refusal → Reply → Reply
+refusing_or n None reply = reply
+refusing_or n (Some why) reply = refusing n why
 
 -- what is issued waits for every peer
 abbrev pub items_of : Option Validation → List Item
@@ -172,11 +201,6 @@ unless_failed (Some failed) seq = None
 abbrev pub asks_for : Node → ℕ → Option ℕ
 asks_for n seq = if nat_lt n.kept seq then unless_failed n.failed_save seq else None
 
--- the save that an event asks
-abbrev pub asks : Node → Event → Option ℕ
-asks n (Issue now seq id full) = asks_for n seq
-asks n (Frame now bytes) = None
-
 -- after a save that failed the node issues nothing more
 abbrev pub issues : Node → ℕ → Save → Validation → Reply
 issues n now Kept v = reporting (saving n now v) Done (Some v)
@@ -205,11 +229,6 @@ taking n from (speech.Header h) = record {
   issued = None;
   report = None;
 }
-
--- a cause refuses, and without one this is the reply
-abbrev pub refusing_or : Node → Option Refusal → Reply → Reply
-refusing_or n None reply = reply
-refusing_or n (Some why) reply = refusing n why
 
 -- what a member says is refused or taken
 abbrev pub hears : Node → ℕ → Speech → Reply
@@ -242,10 +261,124 @@ issuing n seq id full save =
     if nat_lt n.kept seq then issues_unless n n.failed_save save (own_validation n seq id full)
     else refusing n (NotAfter n.kept)
 
+-- a transaction is pending from then on, unless the round refuses it; it is sent
+abbrev pub with_tx : Node → TxId → Node
+with_tx n tx = record n { round = with_pending tx n.round }
+
+abbrev pub tx_refusal : Node → TxId → Option Refusal
+tx_refusal n tx = option_map RoundRefused (submit_refusal n.round.pending tx)
+
+abbrev pub submitting : Node → TxId → Reply
+submitting n tx = refusing_or n (tx_refusal n tx) (replying (with_tx n tx) Done (TxItem tx ∷ []))
+
+-- THE TIMER
+
+-- what it comes to, but for the save and the validation of a built ledger
+pub data Timed : Type 0 where
+  -- nothing was built; a position is said, or none
+  Quiet : (n : Node) (beat : Beat) (said : Option Said) → Timed
+  -- the ledger of this header was built and accepted, at this place among the known ones; the members may have moved on
+  Ending : (n : Node) (said : Option Said) (h : Header) (place : ℕ) (moved_on : Bool) → Timed
+
+-- the ledger that the votes choose to go on with. The largest sequence issued is the kept number
+abbrev pub chosen : Node → ℕ
+chosen n = choose n.ledgers.headers n.rows n.round.setting.previous n.kept
+
+-- a round starts on a ledger
+abbrev pub starting : Node → ℕ → Mode → Node
+starting n ledger mode = record n { round = started n.ledgers.headers ledger mode n.time n.round }
+
+-- where another ledger is chosen the node leaves its round for one on that ledger; a position by which it leaves is said
+abbrev pub switching : Node → ℕ → Timed
+switching n ledger =
+    let ledgers = n.ledgers.headers in
+    Quiet (starting n ledger SwitchedLedger) (Switched (seq_at ledgers ledger) (id_at ledgers ledger))
+    (alone (leave n.time n.round))
+
+-- what the round is told of the validations
+abbrev pub seen : Node → Seen
+seen n = record {
+  validated = named n.me (id_at n.ledgers.headers n.round.setting.previous) n.rows;
+  finished = finished n.ledgers.headers n.rows n.round.setting.previous;
+}
+
+-- the header of the next ledger, once the round is ready
+abbrev pub built : Node → Header
+built n = next_by n.ledgers.headers n.round.setting.previous (agreed n.round)
+
+-- the round accepts what it was ready for, and the ids of that leave the pending ones
+abbrev pub accepting : Node → Ledgers → Node
+accepting n ledgers = record n { ledgers = ledgers; round = accepted (unwrap_or n.round.ready 0) n.round }
+
+-- the ledger is accepted for which the round is ready, if there is room for it; it is known then
+abbrev pub building : Node → Option Said → Bool → Option Knowing → Timed
+building n said moved_on None = Quiet n (NoRoom n.ledgers.limit) said
+building n said moved_on (Some known) = Ending (accepting n known.ledgers) said (built n) known.place moved_on
+
+-- what follows a heartbeat of the round, by which a position is said, or none
+abbrev pub following : Node → Option Said → Kind → Timed
+following n said kind.Nothing = Quiet n Nothing said
+following n said kind.Closed = Quiet n Closed said
+following n said kind.Updated = Quiet n Updated said
+following n said (kind.Ready moved_on) = building n said moved_on (knowing n.ledgers (built n))
+
+abbrev pub after_beat : Node → RoundBeat → Timed
+after_beat n beat = following (record n { round = beat.round }) beat.pulse.said beat.pulse.kind
+
+-- the round goes on, or the node switches
+abbrev pub timed : Node → Timed
+timed n =
+    if chosen n == n.round.setting.previous then after_beat n (heartbeat n.time (seen n) n.round)
+    else switching n (chosen n)
+
+-- a validating node validates what it built, unless the members moved on without it
+abbrev pub validates : Node → Bool → Bool
+validates n moved_on = n.validating && not moved_on
+
+-- the validation is full exactly where it proposes
+abbrev pub validating_built : Node → Header → Bool → Save → Reply
+validating_built n h moved_on save =
+    if validates n moved_on then issuing n h.seq (header_id h) (is_proposing n.round.setting.mode) save
+    else replying n Done []
+
+-- and then a round starts on the built ledger
+abbrev pub concluding : Node → Header → ℕ → Bool → Save → Reply
+concluding n h place moved_on save =
+    let validated = validating_built n h moved_on save in
+    record validated { node = starting validated.node place (usual_mode n.validating) }
+
+-- the header is sent, and then the validation
+abbrev pub ending : List Item → Header → Bool → Reply → Reply
+ending said h moved_on done = record done {
+  answer = Beats (Built h.seq (header_id h) moved_on (how_issued (refusal_in done.answer) done.issued));
+  items = said ++ HeaderItem (header_id h) ∷ done.items;
+}
+
+abbrev pub completed : Timed → Save → Reply
+completed (Quiet n beat said) save = replying n (Beats beat) (said_items said)
+completed (Ending n said h place moved_on) save =
+    ending (said_items said) h moved_on (concluding n h place moved_on save)
+
+-- the save that it asks: that of the built ledger's sequence
+abbrev pub asks_of : Timed → Option ℕ
+asks_of (Quiet n beat said) = None
+asks_of (Ending n said h place moved_on) = if validates n moved_on then asks_for n h.seq else None
+
+-- EVERY EVENT
+
+-- the save that an event asks
+abbrev pub asks : Node → Event → Option ℕ
+asks n (Issue now seq id full) = asks_for n seq
+asks n (Frame now bytes) = None
+asks n (Timer now) = asks_of (timed (at_moment now n))
+asks n (Submit now tx) = None
+
 -- what came of an event, whose save was answered so: first the time is set, and rows expire
 abbrev pub happens : Node → Event → Save → Reply
 happens n (Issue now seq id full) save = issuing (at_moment now n) seq id full save
 happens n (Frame now bytes) save = hearing (at_moment now n) bytes
+happens n (Timer now) save = completed (timed (at_moment now n)) save
+happens n (Submit now tx) save = submitting (at_moment now n) tx
 
 -- whom it hears in bytes is another
 abbrev pub HearsOthers : Node → List ℕ → Type 0

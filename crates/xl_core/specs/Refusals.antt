@@ -3,6 +3,7 @@ use Rattle.std.specs.Prelude.{ℕ}
 use Rattle.xl_wire.specs.Codes.{code_of as frame_code}
 use Rattle.xl_tags.specs.Codes.{code_of as tag_code}
 use Rattle.xl_ledger.specs.Codes.{code_of as header_code}
+use Rattle.xl_rounds.specs.Codes.{code_of as round_code}
 use Rattle.xl_validations.specs.Codes.{code_of as row_code}
 use Rattle.xl_validations.specs.declared.refusal.ValRefusal.{ValRefusal}
 use Rattle.xl_validations.specs.declared.refusal.ValRefusal.TheVariants as row
@@ -20,6 +21,7 @@ abbrev pub code_of : Refusal → ℕ
 code_of (node.Frame why) = frame_code why
 code_of (node.Tag why) = tag_code why
 code_of (node.Header why) = header_code why
+code_of (node.Round why) = round_code why
 code_of (node.Stale now signed) = row_code (row.Stale now signed)
 code_of (node.Repeat id) = row_code (row.Repeat id)
 code_of (node.Conflict id) = row_code (row.Conflict id)

@@ -1,10 +1,12 @@
 -- The answers of a node's calls, as replies. Source: this project's own, by which a call answers what the node's step replies.
-use Rattle.std.specs.Prelude.{◌≡◌, ℕ, Bool, List, [], ◌++◌, length, drop, Result, Ok, Err, Some, None}
+use Rattle.std.specs.Prelude.{◌≡◌, ℕ, Bool, List, [], ◌∷◌, ◌++◌, length, drop, Result, Ok, Err, Some, None}
 use Rattle.std.specs.declared.option.Option.{Option}
+use Rattle.xl_base.specs.declared.ids.TxId.{TxId}
 use Rattle.xl_core.specs.declared.report.Report.{Report}
 use Rattle.xl_core.specs.declared.report.OwnValidation.{OwnValidation}
 use Rattle.xl_core.specs.declared.refusal.Refusal.{Refusal}
 use Rattle.xl_core.specs.declared.refusal.Refusal.TheVariants as node
+use Rattle.xl_core.specs.declared.item.Item.TheVariants.{Tx}
 use Rattle.xl_core.specs.declared.taken.Taken.{Taken}
 use Rattle.xl_core.specs.declared.taken.Heard.{Heard}
 use Rattle.xl_core.specs.declared.taken.Taken.TheVariants.{Vote}
@@ -13,7 +15,7 @@ use Rattle.xl_core.specs.declared.event.CoreEvent.{CoreEvent}
 use Rattle.xl_core.specs.declared.event.CoreEvent.TheVariants.{Drain, Reports}
 use Rattle.xl_core.specs.Core.{Core, CoreReply, core_happens}
 use Rattle.xl_core.specs.Queues.{joined}
-use Rattle.xl_core.specs.Node.{Node, Reply, Save, refusing, items_of, is_kept}
+use Rattle.xl_core.specs.Node.{Node, Reply, Save, replying, refusing, items_of, is_kept}
 use Rattle.xl_core.specs.Node.Save.{Kept, Failed}
 
 -- what a call that issues answers, with the node that it leaves
@@ -26,6 +28,11 @@ issue_reply (Ok done) n = record {
   report = done.report;
 }
 issue_reply (Err why) n = refusing n why
+
+-- what a call that hands in a transaction answers
+abbrev pub submit_reply : {X : Type 0} → TxId → Result X Refusal → Node → Reply
+submit_reply tx (Ok _) n = replying n Done (Tx tx ∷ [])
+submit_reply tx (Err why) n = refusing n why
 
 -- what a call that hands in bytes answers
 abbrev pub hear_reply : Result Heard Refusal → Node → Reply
@@ -85,6 +92,7 @@ save_of (node.Short lack) = Kept
 save_of (node.Extra more) = Kept
 save_of (node.Tag why) = Kept
 save_of (node.Header why) = Kept
+save_of (node.Round why) = Kept
 save_of (node.NotBuilt kind) = Kept
 save_of (node.Stale now signed) = Kept
 save_of (node.Repeat id) = Kept

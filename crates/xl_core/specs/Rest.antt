@@ -1,5 +1,5 @@
 -- What a node keeps between its events. Source: what the code of this crate relies on.
-use Rattle.std.specs.Prelude.{◌≡◌, ℕ, ◌≤◌, true, false, List, map, All, IfSome}
+use Rattle.std.specs.Prelude.{◌≡◌, ℕ, ◌<◌, ◌≤◌, true, false, List, length, map, All, IfSome}
 use Rattle.xl_tags.specs.Opening.{HasKeys}
 use Rattle.xl_tags.specs.Rings.{Ring}
 use Rattle.std.specs.declared.option.Option.{Option}
@@ -32,13 +32,14 @@ pub record IsKeyed (me : ℕ) (members : List ℕ) (keys : Ring) : Type 0 where
 abbrev pub IsCurrent : ℕ → Row → Type 0
 IsCurrent second row = IfSome row.current (λ v. is_current second v ≡ true)
 
--- what the type keeps
+-- what the type keeps; the round is on a known ledger
 pub record IsReady (n : Node) : Type 0 where
   pub rest : IsAtRest n
   pub keyed : IsKeyed n.me n.list.members n.keys
   pub time : n.time ≤ GREATEST_MILLIS
   -- no validation would expire in the second of its time
   pub current : All (IsCurrent (second_of n)) n.rows
+  pub known : n.round.setting.previous < length n.ledgers.headers
 
 -- a node of the code, as the definitions see it
 abbrev pub node_seen : {B : Type 0} → Inside B → Node
@@ -50,6 +51,7 @@ node_seen n = record {
   time = n.time;
   ledgers = n.registry;
   rows = n.table.rows;
+  round = n.round;
   kept = n.kept;
   failed_save = n.failed_save;
   last = n.last;

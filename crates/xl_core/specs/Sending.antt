@@ -1,9 +1,11 @@
 -- The frame in which a node sends what it says to another member. Source: this project's own layout.
 use Rattle.std.specs.Prelude.{ℕ, ◌^◌, ◌==◌, ◌&&◌, nat_lt, Bool, List, length, replicate}
 use Rattle.xl_wire.specs.declared.body.Body.{Body}
+use Rattle.xl_wire.specs.declared.body.Body.TheVariants as bodies
 use Rattle.xl_wire.specs.declared.frame.Frame.{Frame}
-use Rattle.xl_wire.specs.declared.validation.Validation.{Validation}
+use Rattle.xl_wire.specs.Bodies.{set_bytes}
 use Rattle.xl_wire.specs.Frames.{raw_of}
+use Rattle.xl_wire.specs.Kinds.{can_have}
 use Rattle.xl_wire.specs.Raws.{raw_bytes}
 use Rattle.xl_tags.specs.Rings.{Ring}
 use Rattle.xl_tags.specs.Sealing.{sealed}
@@ -16,8 +18,15 @@ blank_frame from to body = record { from = from; to = to; body = body; tag = rep
 abbrev pub sealed_bytes : Ring → ℕ → ℕ → Body → List ℕ
 sealed_bytes ring from to body = raw_bytes (sealed ring (raw_of (blank_frame from to body)))
 
--- the test of `IsFrame` for a validation's frame: what its fields can't hold has no spelling
-abbrev pub has_spelling : ℕ → ℕ → Validation → Bool
-has_spelling from to v =
-    nat_lt from (2 ^ 32) && nat_lt to (2 ^ 32)
-    && length v.id.0 == 32 && nat_lt v.seq (2 ^ 32) && nat_lt v.signed (2 ^ 32)
+-- whether the fields of a body can hold it
+abbrev pub fits : Body → Bool
+fits (bodies.Proposal p) =
+    length p.prev.0 == 32 && length p.set.0 == 32 && nat_lt p.pseq (2 ^ 32) && nat_lt p.close (2 ^ 32) && nat_lt p.time (2 ^ 32)
+fits (bodies.Validation v) = length v.id.0 == 32 && nat_lt v.seq (2 ^ 32) && nat_lt v.signed (2 ^ 32)
+fits (bodies.Header header) = length header == 118
+fits (bodies.TxSet ids) = can_have 4 (length (set_bytes ids))
+fits (bodies.Tx id) = length id.0 == 32
+
+-- the test of `IsFrame`: what its fields can't hold has no spelling
+abbrev pub has_spelling : ℕ → ℕ → Body → Bool
+has_spelling from to body = nat_lt from (2 ^ 32) && nat_lt to (2 ^ 32) && fits body

@@ -1,13 +1,13 @@
 -- A stop at any moment: what a node has said, or has waiting to be said, is of a sequence that its keeper can't fall below.
 -- Source: this profile, by which a node saves a sequence before it says it.
-use Rattle.std.specs.Prelude.{◌≡◌, ℕ, ◌≤◌, All, IfSome, Some}
+use Rattle.std.specs.Prelude.{◌≡◌, ℕ, ◌≤◌, All, IfSome, Some, ⊤}
 use Rattle.std.specs.declared.option.Option.{Option}
 use Rattle.std.specs.Option.{option_and_then}
 use Rattle.xl_io.specs.Keepers.{Held, MayHold}
 use Rattle.xl_wire.specs.declared.validation.Validation.{Validation}
 use Rattle.xl_validations.specs.Rows.{row_of}
 use Rattle.xl_core.specs.declared.item.Item.{Item}
-use Rattle.xl_core.specs.declared.item.Item.TheVariants.{Vote}
+use Rattle.xl_core.specs.declared.item.Item.TheVariants.{Vote, Tx, TxSet, Proposal, Header}
 use Rattle.xl_core.specs.Node.{Node}
 use Rattle.xl_core.specs.Core.{Core}
 
@@ -22,6 +22,10 @@ own_current n = option_and_then (λ row. row.current) (row_of n.rows n.me)
 -- a validation that waits is of a sequence that is at most this
 abbrev pub IsItemCovered : ℕ → Item → Type 0
 IsItemCovered kept (Vote v) = v.seq ≤ kept
+IsItemCovered kept (Tx tx) = ⊤
+IsItemCovered kept (TxSet id) = ⊤
+IsItemCovered kept (Proposal p) = ⊤
+IsItemCovered kept (Header ledger) = ⊤
 
 -- a stop may leave no number below the kept one, and what the node has said is at most that
 pub record IsCovered (held : Held) (core : Core) : Type 0 where

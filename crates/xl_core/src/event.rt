@@ -1,4 +1,4 @@
-use xl_base::{Bytes, LedgerId, Millis, NodeNo, Seq};
+use xl_base::{Bytes, LedgerId, Millis, NodeNo, Seq, TxId};
 
 /// What may happen at a core. A room stands for how much it holds.
 #[derive(Debug, Drop)]
@@ -14,6 +14,15 @@ pub enum CoreEvent {
     Frame {
         now: Millis,
         bytes: Bytes,
+    },
+    /// It is time to look at the votes, and to let the round go on.
+    Timer {
+        now: Millis,
+    },
+    /// A transaction is handed in.
+    Submit {
+        now: Millis,
+        tx: TxId,
     },
     /// What waits for a member is written into a room of so many bytes.
     Drain {

@@ -1,18 +1,16 @@
-ghost use Rattle.std.specs.Prelude.{◌≡◌};
-
-use xl_wire::Validation;
+use xl_base::{LedgerId, SetId, TxId};
+use xl_wire::{Proposal, Validation};
 
 /// What waits for a peer until it is sent in a frame.
 #[derive(Clone, Copy, Debug, PartialEq, Eq)]
 pub enum Item {
     Vote(Validation),
-}
-
-/// The validation that waits: nothing else does yet.
-pub fn vote_in(item: &Item) -> Validation
-    ensures { Item.Vote result ≡ item.now }
-{
-    match *item {
-        Item::Vote(v) => v,
-    }
+    /// A transaction that was handed in.
+    Tx(TxId),
+    /// Our set, by its id: it isn't sent once ours has another.
+    TxSet(SetId),
+    /// Our position.
+    Proposal(Proposal),
+    /// The header of a known ledger, by the ledger's id.
+    Header(LedgerId),
 }

@@ -11,6 +11,7 @@
 //! nothing is said before the keeper has saved its sequence; and no call after `open` takes memory.
 #![tactic(auto)]
 
+mod beat;
 mod event;
 mod hearing;
 mod item;
@@ -24,8 +25,10 @@ mod report;
 mod sending;
 mod settings;
 mod taken;
+mod tick;
 mod untaken;
 
+pub use beat::{Beat, Issued};
 pub use event::CoreEvent;
 pub use hearing::{Speech, Spoken};
 pub use item::Item;

@@ -7,6 +7,7 @@ ghost use Rattle.xl_validations.specs.Votes.{votes_of};
 ghost use Rattle.xl_core.specs.Node.{
   Issue,
   Frame,
+  Submit,
   opened,
   at_moment,
   happens,
@@ -21,38 +22,44 @@ ghost use Rattle.xl_core.specs.Node.{
   report_if,
   settings_of,
   frame_refusal,
+  tx_refusal,
+  issuing,
   asks_for,
   issues_own,
   IsOff,
   HearsOthers,
   own_validation,
 };
-ghost use Rattle.xl_core.specs.declared.refusal.Refusal.TheVariants.{NotAfter, IssuingOff, KeepFault};
+ghost use Rattle.xl_core.specs.declared.refusal.Refusal.TheVariants.{NotAfter, IssuingOff};
 ghost use Rattle.xl_core.specs.declared.hearing.Speech.TheVariants as speech;
 ghost use Rattle.xl_ledger.specs.declared.registry.TheConstants.{LEAST_LIMIT, GREATEST_LIMIT};
 ghost use Rattle.xl_core.specs.Draining.{IsPut};
-ghost use Rattle.xl_core.specs.Items.{frame_of};
+ghost use Rattle.xl_core.specs.Items.{frame_of, body_in as body_in_of, header_body as header_body_of};
+ghost use Rattle.xl_core.specs.declared.item.Item.TheVariants as items;
 ghost use Rattle.xl_core.specs.Rest.{IsKeyed};
 ghost use Rattle.xl_core.specs.Answers.{Done};
-ghost use Rattle.xl_core.specs.Replies.{issue_reply, hear_reply, vote_reply, save_in, was_kept};
+ghost use Rattle.xl_core.specs.Replies.{issue_reply, submit_reply, hear_reply, vote_reply, save_in, was_kept};
 ghost use Rattle.xl_core.specs.Node.Save.{Kept};
-ghost use Rattle.xl_core.specs.Keeping.{AsksSave, CountsFault, Holds, Saves};
+ghost use Rattle.xl_core.specs.Building.{usual_mode as usual_mode_of};
+ghost use Rattle.xl_core.specs.Keeping.{AsksSave, CountsFault, Holds, IsAsked, Saves};
 
 use crate::hearing::hear;
-use crate::item::vote_in;
-use crate::putting::{Put, put_frame};
-use crate::sending::sealed;
+use crate::putting::Put;
+use crate::sending::put_sealed;
 use crate::taken::Heard;
 use crate::{Item, OwnValidation, Refusal, Report, Settings, Speech, Taken};
 use std::alloc::Global;
 use std::marker::Model;
-use xl_base::{LedgerId, Millis, NodeNo, OutOfMemory, Seq, secs_of};
+use xl_base::{LedgerId, Millis, NodeNo, OutOfMemory, Seq, SetId, TxId, secs_of};
 use xl_io::Keeper;
-use xl_ledger::{Branch, Header, Registry};
+use xl_ledger::{Branch, Header, LedgerNo, Registry, header_bytes};
 use xl_lists::List;
+use xl_rounds::{Mode, Round};
 use xl_tags::Keys;
 use xl_validations::Table;
-use xl_wire::Validation;
+use xl_wire::{Body, Ids, Validation};
+
+mod timer;
 
 /// A node's time is never before its first second.
 const LEAST_TIME: Millis = 1_000;
@@ -69,6 +76,7 @@ pub struct Node<B: Branch> {
     time: Millis,
     registry: Registry,
     table: Table<B>,
+    round: Round,
     /// The last sequence that was saved.
     kept: Seq,
     /// The sequence whose save failed since the node opened.
@@ -78,6 +86,7 @@ pub struct Node<B: Branch> {
 }
 
 impl<B: Branch> Model for Node<B> {
+    ghost use Rattle.std.specs.Prelude.{◌≡◌};
     ghost use Rattle.xl_validations.specs.Tallies.{IsTallied};
     ghost use Rattle.xl_core.specs.Node.{Node};
     ghost use Rattle.xl_core.specs.Rest.{IsReady, node_seen};
@@ -87,7 +96,9 @@ impl<B: Branch> Model for Node<B> {
     ghost view = { node_seen };
 
     ghost invariant = { λ a.
-        IsReady (node_seen a) × IsTallied B.goes_with B.votes B.room a.table a.registry.headers };
+        IsReady (node_seen a)
+        × IsTallied B.goes_with B.votes B.room a.table a.registry.headers
+        × (a.table.me ≡ a.me) };
 }
 
 /// Whether a sequence is above that of the last report.
@@ -119,6 +130,17 @@ fn report_by<B: Branch>(
     }
 }
 
+/// How a node takes part in a round, unless it has switched to another ledger.
+fn usual_mode(validating: bool) -> Mode
+    ensures { result ≡ usual_mode_of validating }
+{
+    if validating {
+        Mode::Proposing
+    } else {
+        Mode::Observing
+    }
+}
+
 impl<B: Branch + Drop> Node<B> {
     /// A node with its settings, among whose keys is one for each other listed member, and the number that its keeper holds: it
     /// knows the root alone, and nothing is taken or reported yet.
@@ -144,14 +166,23 @@ impl<B: Branch + Drop> Node<B> {
         let registry = Registry::open(alloc, limit)?;
         let table = Table::open(alloc, &list, me)?;
         let keys = Box::new(alloc, keys)?;
+        let time = now.max(LEAST_TIME);
+        let round = Round::open(
+            alloc,
+            &registry,
+            LedgerNo::root(),
+            usual_mode(validating),
+            time,
+        )?;
         Ok(Node {
             me,
             list,
             keys,
             validating,
-            time: now.max(LEAST_TIME),
+            time,
             registry,
             table,
+            round,
             kept,
             failed_save: None,
             last: None,
@@ -166,9 +197,13 @@ impl<B: Branch + Drop> Node<B> {
     {
         let registry = Registry::open(alloc, self.registry.limit())?;
         let table = Table::open(alloc, &self.list, self.me)?;
+        let time = now.max(LEAST_TIME);
+        let mode = usual_mode(self.validating);
+        let round = Round::open(alloc, &registry, LedgerNo::root(), mode, time)?;
         self.registry = registry;
         self.table = table;
-        self.time = now.max(LEAST_TIME);
+        self.round = round;
+        self.time = time;
         self.kept = kept;
         self.failed_save = None;
         self.last = None;
@@ -215,6 +250,23 @@ impl<B: Branch + Drop> Node<B> {
         ensures later { K.faults keeper.old ≤ K.faults keeper.new }
     {
         self.advance(now);
+        self.issue_now(seq, id, full, keeper)
+    }
+
+    /// The same, at the time that it is.
+    fn issue_now<K: Keeper>(
+        &mut self,
+        seq: Seq,
+        id: LedgerId,
+        full: bool,
+        keeper: &mut K,
+    ) -> Result<OwnValidation, Refusal>
+        ensures exact { issue_reply result self.new ≡ issuing self.old seq id full (save_in result) }
+        ensures not_after { (result ≡ Err (NotAfter self.old.kept)) ↔ (seq ≤ self.old.kept) }
+        ensures off { (failed : ℕ) → (result ≡ Err (IssuingOff failed)) ↔ IsOff self.old seq failed }
+        ensures fault { CountsFault result (K.faults keeper.old) (K.faults keeper.new) }
+        ensures asks { IsAsked K.held K.saves K.faults K.save_gives (asks_for self.old seq) (was_kept result) keeper.old keeper.new }
+    {
         if seq <= self.kept {
             return Err(Refusal::NotAfter(self.kept));
         }
@@ -241,6 +293,21 @@ impl<B: Branch + Drop> Node<B> {
         self.kept = seq;
         let report = self.take_own(&validation);
         OwnValidation { validation, report }
+    }
+
+    /// A transaction is pending from then on.
+    ///
+    /// Refused where it is pending, or where as many are as may be, in this order. First the time is set, and rows expire;
+    /// nothing else changes then.
+    pub fn submit(&mut self, now: Millis, tx: TxId) -> Result<(), Refusal>
+        requires moment { now ≤ GREATEST_MILLIS }
+        ensures exact { submit_reply tx result self.new ≡ happens self.old (Submit now tx) Kept }
+        ensures refused { result_err result ≡ tx_refusal self.old tx }
+        ensures unchanged { OnErr result (self.new ≡ at_moment now self.old) }
+    {
+        self.advance(now);
+        self.round.submit(tx)?;
+        Ok(())
     }
 
     /// Hears bytes that come, and tells what they give to report.
@@ -315,7 +382,45 @@ impl<B: Branch + Drop> Node<B> {
         requires place { at ≤ length room.old }
         ensures { IsPut (frame_of self.now to item.now) at room.old room.new result }
     {
-        put_frame(&sealed(&self.keys, to, &vote_in(item)), at, room)
+        match self.body_in(item) {
+            Some(body) => put_sealed(&self.keys, to, body, at, room),
+            None => Put::PassedOver,
+        }
+    }
+
+    /// The body in which it says an item. None for a set that is no longer its own.
+    fn body_in(&self, item: &Item) -> Option<Body<'_>>
+        ensures { result ≡ body_in_of self.now item.now }
+    {
+        match *item {
+            Item::Vote(validation) => Some(Body::Validation(validation)),
+            Item::Tx(tx) => Some(Body::Tx(tx)),
+            Item::TxSet(id) => self.own_set_body(id),
+            Item::Proposal(proposal) => Some(Body::Proposal(proposal)),
+            Item::Header(id) => self.header_body(&id),
+        }
+    }
+
+    fn own_set_body(&self, id: SetId) -> Option<Body<'_>>
+        ensures { result ≡ body_in_of self.now (items.TxSet id) }
+    {
+        if id == self.round.own_id() {
+            Some(Body::TxSet(Ids::of(self.round.own_set())))
+        } else {
+            None
+        }
+    }
+
+    fn header_body(&self, id: &LedgerId) -> Option<Body<'_>>
+        ensures { result ≡ header_body_of self.now id.now }
+    {
+        match self.registry.find(id) {
+            Some(ledger) => {
+                let header = self.registry.walk().header(ledger);
+                Some(Body::Header(header_bytes(header)))
+            }
+            None => None,
+        }
     }
 
     /// The own row takes what was issued, if the node stands on its list.

@@ -6,28 +6,33 @@ ghost use Rattle.xl_ledger.specs.declared.registry.TheConstants.{LEAST_LIMIT, GR
 ghost use Rattle.xl_io.specs.Keepers.{Held};
 ghost use Rattle.xl_tags.specs.Rings.{key_of};
 ghost use Rattle.xl_core.specs.Answers.{Done, Told};
-ghost use Rattle.xl_core.specs.Core.{with_queues, core_happens};
+ghost use Rattle.xl_core.specs.Building.{said_items};
+ghost use Rattle.xl_core.specs.Core.{with_queues, core_happens, core_asks};
 ghost use Rattle.xl_core.specs.Items.{frames_for, lost_for};
-ghost use Rattle.xl_core.specs.Queues.{frames_in};
-ghost use Rattle.xl_core.specs.declared.event.CoreEvent.TheVariants.{Issue, Frame, Stop, Stopped};
+ghost use Rattle.xl_core.specs.Queues.{with_items, frames_in};
+ghost use Rattle.xl_core.specs.declared.event.CoreEvent.TheVariants.{Issue, Frame, Timer, Submit, Stop, Stopped};
 ghost use Rattle.xl_core.specs.Stops.{HoldsAtLeast, IsCovered, StaysCovered};
-ghost use Rattle.xl_core.specs.Keeping.{AsksSave, CountsFault, Holds, Saves};
-ghost use Rattle.xl_core.specs.Replies.{Answers, Drains, HandsOut, Issues, taken_answer, was_kept};
+ghost use Rattle.xl_core.specs.Keeping.{AsksSave, CountsFault, Holds, IsAsked, Saves};
+ghost use Rattle.xl_core.specs.Replies.{Answers, Drains, HandsOut, Issues, taken_answer, done_answer, was_kept};
 ghost use Rattle.xl_core.specs.Rest.{IsKeyed};
-ghost use Rattle.xl_core.specs.Node.{opened, settings_of, at_moment, asks_for, frame_refusal, preferred, IsOff};
+ghost use Rattle.xl_core.specs.Node.{opened, settings_of, at_moment, asks_for, frame_refusal, tx_refusal, preferred, IsOff};
+ghost use Rattle.xl_core.specs.Ticks.{Beaten, Concludes, CountsBeatFault, IsBuilt, asks_in, beat_was_kept};
 ghost use Rattle.xl_core.specs.Node.Save.{Kept};
 ghost use Rattle.xl_wire.specs.declared.lengths.TheConstants.{LONGEST_FRAME};
-ghost use Rattle.xl_core.specs.declared.refusal.Refusal.TheVariants.{NotAfter, IssuingOff, KeepFault};
+ghost use Rattle.xl_core.specs.declared.refusal.Refusal.TheVariants.{NotAfter, IssuingOff};
 
+use crate::beat::full_or_partial;
 use crate::outgoing::{Waiting, drain, lost_for};
+use crate::tick::{Built, Tick};
 use crate::untaken::{UNTAKEN, push_report, take_reports};
-use crate::{Item, Node, Refusal, Report, Settings, Taken};
+use crate::{Beat, Issued, Item, Node, Refusal, Report, Settings, Taken};
 use std::alloc::Global;
 use std::marker::Model;
-use xl_base::{LedgerId, Millis, NodeNo, OutOfMemory, Seq};
+use xl_base::{LedgerId, Millis, NodeNo, OutOfMemory, Seq, TxId};
 use xl_io::Keeper;
 use xl_ledger::Branch;
 use xl_queues::{Broadcast, Queue};
+use xl_rounds::Said;
 
 /// A node with its queues, over whichever branch of votes: what it issues waits for each peer until it is drained, and what it
 /// reports until it is taken. A peer is a number that the node has a key for. No call after `open` and `reopen` takes memory.
@@ -45,6 +50,18 @@ impl<B: Branch> Model for Core<B> {
     ghost Value = { Core };
 
     ghost view = { λ a. record { node = a.node; waiting = a.waiting; untaken = a.untaken; stopped = a.stopped } };
+}
+
+/// What is said waits for every peer: our set, where it goes with our position, and then the position.
+fn push_said(waiting: &mut Waiting, said: &Option<Said>)
+    ensures { waiting.new ≡ with_items waiting.old (said_items said.now) }
+{
+    if let Some(said) = said {
+        if said.with_set {
+            waiting.push(Item::TxSet(said.proposal.set));
+        }
+        waiting.push(Item::Proposal(said.proposal));
+    }
 }
 
 impl<B: Branch + Drop> Core<B> {
@@ -143,6 +160,74 @@ impl<B: Branch + Drop> Core<B> {
             }
             Err(why) => Err(why),
         }
+    }
+
+    /// Looks at the votes and lets the round go on; what the node says by that waits for every peer, and what it reports to be taken.
+    ///
+    /// Where the votes choose another ledger than the round's, the node leaves its round for one on that ledger. Else the round's
+    /// phase goes on; once it is ready the next ledger is built, its header is sent, the node validates it, and a round starts on
+    /// it. A validation waits only after its save. Where the save fails, the ledger and the new round stand all the same; where
+    /// there is no room for the ledger, the round stays as it is.
+    pub fn timer<K: Keeper>(&mut self, now: Millis, keeper: &mut K) -> Beat
+        requires moment { now ≤ GREATEST_MILLIS }
+        ensures step { Beaten self.old now result self.new }
+        ensures fault { CountsBeatFault result (K.faults keeper.old) (K.faults keeper.new) }
+        // At most one save is asked, of a number above the kept one.
+        ensures held { Holds (core_asks self.old (Timer now)) (beat_was_kept result) (K.held keeper.old) (K.held keeper.new) }
+        ensures saves { AsksSave (core_asks self.old (Timer now)) (K.saves keeper.old) (K.saves keeper.new) }
+        ensures keeper { Saves K.save_gives (core_asks self.old (Timer now)) (beat_was_kept result) keeper.old keeper.new }
+        ensures later { K.faults keeper.old ≤ K.faults keeper.new }
+        ensures stop { StaysCovered (K.held keeper.old) (K.held keeper.new) self.old self.new }
+    {
+        match self.node.tick(now) {
+            Tick::Quiet { beat, said } => {
+                push_said(&mut self.waiting, &said);
+                beat
+            }
+            Tick::Built(built) => self.conclude(&built, keeper),
+        }
+    }
+
+    /// Sends the header of a built ledger and validates it.
+    fn conclude<K: Keeper>(&mut self, built: &Built, keeper: &mut K) -> Beat
+        requires built { IsBuilt self.old.node built.now }
+        ensures step { Concludes self.old built.now result self.new }
+        ensures fault { CountsBeatFault result (K.faults keeper.old) (K.faults keeper.new) }
+        ensures asks { IsAsked K.held K.saves K.faults K.save_gives (asks_in self.old.node built.now) (beat_was_kept result) keeper.old keeper.new }
+    {
+        push_said(&mut self.waiting, &built.said);
+        self.waiting.push(Item::Header(built.id));
+        let issued = match self.node.conclude(built, keeper) {
+            Ok(Some(own)) => {
+                self.waiting.push(Item::Vote(own.validation));
+                push_report(&mut self.untaken, own.report);
+                full_or_partial(own.validation.full)
+            }
+            Ok(None) => Issued::Silent,
+            Err(why) => Issued::Refused(why),
+        };
+        Beat::Built {
+            seq: built.header.seq,
+            id: built.id,
+            moved_on: built.moved_on,
+            issued,
+        }
+    }
+
+    /// A transaction is pending from then on, and waits for every peer.
+    ///
+    /// Refused where it is pending, or where as many are as may be, in this order. First the time is set, and rows expire;
+    /// nothing else changes then.
+    pub fn submit(&mut self, now: Millis, tx: TxId) -> Result<(), Refusal>
+        requires moment { now ≤ GREATEST_MILLIS }
+        ensures step { Answers (core_happens self.old (Submit now tx) Kept) self.new (done_answer result) }
+        ensures refused { result_err result ≡ tx_refusal self.old.node tx }
+        ensures unchanged { OnErr result (self.new ≡ record self.old { node = at_moment now self.old.node }) }
+        ensures stop { (held : Held) → IsCovered held self.old → IsCovered held self.new }
+    {
+        self.node.submit(now, tx)?;
+        self.waiting.push(Item::Tx(tx));
+        Ok(())
     }
 
     /// Writes the frames of what waits for a peer into the room, the oldest first and as many as fit, takes what was written

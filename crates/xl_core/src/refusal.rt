@@ -3,6 +3,7 @@ ghost use Rattle.xl_core.specs.Refusals.{refusal_from, code_of};
 
 use xl_base::{LedgerId, Secs, Seq};
 use xl_ledger::AddRefusal;
+use xl_rounds::RoundRefusal;
 use xl_tags::TagRefusal;
 use xl_validations::ValRefusal;
 use xl_wire::WireRefusal;
@@ -21,6 +22,8 @@ pub enum Refusal {
     Tag(TagRefusal),
     /// The header isn't added to the known ledgers.
     Header(AddRefusal),
+    /// The round doesn't take the transaction.
+    Round(RoundRefusal),
     /// Frames of this kind aren't heard yet.
     NotBuilt(u8),
     /// The validation isn't current: the second now, and the second at which it was signed.
@@ -82,6 +85,16 @@ impl From<AddRefusal> for Refusal {
     }
 }
 
+impl From<RoundRefusal> for Refusal {
+    ghost use Rattle.xl_core.specs.declared.refusal.Refusal.TheVariants as node;
+
+    ghost from_gives = { λ why refusal. refusal ≡ node.Round why };
+
+    fn from(why: RoundRefusal) -> Refusal {
+        Refusal::Round(why)
+    }
+}
+
 impl Refusal {
     /// The number of the refusal.
     pub fn code(&self) -> u32
@@ -91,6 +104,7 @@ impl Refusal {
             Refusal::Frame(why) => why.code(),
             Refusal::Tag(why) => why.code(),
             Refusal::Header(why) => why.code(),
+            Refusal::Round(why) => why.code(),
             Refusal::Stale(now, signed) => ValRefusal::Stale(*now, *signed).code(),
             Refusal::Repeat(id) => ValRefusal::Repeat(*id).code(),
             Refusal::Conflict(id) => ValRefusal::Conflict(*id).code(),

@@ -1,27 +1,68 @@
 // The frames in which a node sends what it says.
-ghost use Rattle.std.specs.Prelude.{◌≡◌, IsSome, IsTrue};
+ghost use Rattle.std.specs.Prelude.{◌≡◌, ◌+◌, ◌≤◌, Some, IsSome, IsTrue, length};
 ghost use Rattle.xl_tags.specs.Rings.{key_of};
 ghost use Rattle.xl_wire.specs.declared.body.Body.TheVariants as bodies;
+ghost use Rattle.xl_wire.specs.Writing.{body_length as body_length_of};
+ghost use Rattle.xl_core.specs.Draining.{IsPut};
 ghost use Rattle.xl_core.specs.Sending.{sealed_bytes, has_spelling};
 
+use crate::putting::{Put, put_frame};
 use xl_base::NodeNo;
 use xl_tags::{Keys, seal};
-use xl_wire::{Body, Frame, VALIDATION_FRAME, Validation, encode};
+use xl_wire::{Body, Frame, LONGEST_FRAME, VALIDATION_FRAME, Validation, encode};
 
 /// The frame of a validation for another member, sealed by the key for it.
 pub fn sealed(keys: &Keys, to: NodeNo, validation: &Validation) -> [u8; VALIDATION_FRAME]
     requires key { IsSome (key_of keys.now to) }
     ensures bytes { result ≡ sealed_bytes keys.now keys.now.me to (bodies.Validation validation.now) }
-    ensures spelled { IsTrue (has_spelling keys.now.me to validation.now) }
+    ensures spelled { IsTrue (has_spelling keys.now.me to (bodies.Validation validation.now)) }
 {
     let mut bytes = [0; VALIDATION_FRAME];
+    seal_into(keys, to, Body::Validation(*validation), &mut bytes);
+    bytes
+}
+
+/// Puts the frame of a body for another member, sealed by the key for it, at a place of the room, unless the room is too short.
+pub fn put_sealed(keys: &Keys, to: NodeNo, body: Body<'_>, at: usize, room: &mut [u8]) -> Put
+    requires key { IsSome (key_of keys.now to) }
+    requires place { at ≤ length room.old }
+    ensures put { IsPut (Some (sealed_bytes keys.now keys.now.me to body.entry)) at room.old room.new result }
+    ensures spelled { IsTrue (has_spelling keys.now.me to body.entry) }
+{
+    let mut frame = [0; LONGEST_FRAME];
+    let count = 46 + body_length(&body);
+    seal_into(keys, to, body, &mut frame[..count]);
+    put_frame(&frame[..count], at, room)
+}
+
+/// Writes the frame of a body for another member, sealed by the key for it, into a place of its length.
+fn seal_into(keys: &Keys, to: NodeNo, body: Body<'_>, place: &mut [u8])
+    requires key { IsSome (key_of keys.now to) }
+    requires long { length place.old ≡ 46 + body_length_of body }
+    ensures sealed { place.new ≡ sealed_bytes keys.now keys.now.me to body.entry }
+    ensures long { length place.new ≡ length place.old }
+    ensures spelled { IsTrue (has_spelling keys.now.me to body.entry) }
+{
     let frame = Frame {
         from: keys.me().get(),
         to: to.get(),
-        body: Body::Validation(*validation),
+        body,
         tag: [0; 32],
     };
-    encode(&frame, &mut bytes);
-    seal(keys, &mut bytes);
-    bytes
+    encode(&frame, place);
+    seal(keys, place);
+}
+
+/// How many bytes a body has.
+fn body_length(body: &Body<'_>) -> usize
+    ensures value { result ≡ body_length_of body.now }
+    ensures most { result ≤ 8194 }
+{
+    match body {
+        Body::Proposal(_) => 76,
+        Body::Validation(_) => 41,
+        Body::Header(_) => 118,
+        Body::TxSet(ids) => 2 + 32 * ids.len(),
+        Body::Tx(_) => 32,
+    }
 }

@@ -1,5 +1,5 @@
 -- What each event at a core shows.
-use Rattle.std.proofs.Common.{◌≡◌, ℕ, zero, suc, ◌≤◌, List, [], ◌∷◌, ◌++◌, length, take, drop, map, refl, sym, Option, Some, None, Result, Ok, Err, subst}
+use Rattle.std.proofs.Common.{◌≡◌, ℕ, zero, suc, ◌≤◌, List, [], ◌∷◌, ◌++◌, length, take, drop, map, refl, sym, Option, Some, None, Result, Ok, Err, subst, Bool, true}
 use Rattle.std.specs.Prelude.{All, IfSome, nat_lt, replicate}
 use Rattle.std.proofs.lemmas.Bool.{cond_both}
 use Rattle.std.proofs.lemmas.List.{take-map}
@@ -8,21 +8,34 @@ use Rattle.xl_lists.specs.declared.said.Said.{Said}
 use Rattle.xl_queues.specs.Broadcasts.{queue_of}
 use Rattle.xl_queues.specs.Queues.{Backlog, no_items, with_item}
 use Rattle.xl_wire.specs.declared.validation.Validation.{Validation}
+use Rattle.std.specs.Prelude.{option_map}
+use Rattle.std.specs.Option.{option_and_then}
+use Rattle.xl_base.specs.declared.ids.LedgerId.{LedgerId}
+use Rattle.xl_wire.specs.declared.body.Body.{Body}
+use Rattle.xl_tags.specs.Rings.{Ring}
+use Rattle.xl_ledger.specs.declared.header.Header.{Header}
+use Rattle.xl_ledger.specs.Chains.{header_at, place_of}
+use Rattle.xl_ledger.specs.Headers.{header_id, spelling}
+use Rattle.xl_queues.specs.Broadcasts.{pushed_to_all}
+use Rattle.xl_rounds.specs.declared.pulse.Said.{Said as RoundSaid}
+use Rattle.xl_rounds.specs.Rounds.{is_proposing}
+use Rattle.xl_core.specs.Building.{said_items}
+use Rattle.xl_core.proofs.Timing.{timing_by, submit_either}
 use Rattle.xl_core.specs.declared.event.CoreEvent.{CoreEvent}
-use Rattle.xl_core.specs.declared.event.CoreEvent.TheVariants.{Issue, Frame, Drain, Reports, Stop, Stopped}
+use Rattle.xl_core.specs.declared.event.CoreEvent.TheVariants.{Issue, Frame, Timer, Submit, Drain, Reports, Stop, Stopped}
 use Rattle.xl_core.specs.declared.hearing.Speech.{Speech}
 use Rattle.xl_core.specs.declared.hearing.Speech.TheVariants as speech
 use Rattle.xl_core.specs.declared.item.Item.{Item}
-use Rattle.xl_core.specs.declared.item.Item.TheVariants.{Vote}
+use Rattle.xl_core.specs.declared.item.Item.TheVariants.{Vote, Tx, TxSet, Proposal, Header as HeaderItem}
 use Rattle.xl_core.specs.declared.refusal.Refusal.{Refusal}
 use Rattle.xl_core.specs.declared.settings.Settings.{Settings}
 use Rattle.xl_core.specs.declared.refusal.Refusal.TheVariants.{NotAfter}
 use Rattle.xl_core.specs.Answers.{Done, Gave}
 use Rattle.xl_core.specs.Core.{Core, CoreReply, answering, core_happens, stepped, with_queues}
 use Rattle.xl_core.proofs.Frames.{hearing_either}
-use Rattle.xl_core.specs.Items.{frame_of, frames_for, taken_for}
+use Rattle.xl_core.specs.Items.{is_own, body_in, framed, frame_of, frames_for, taken_for}
 use Rattle.xl_core.specs.Node as nodes
-use Rattle.xl_core.specs.Node.{Node, Event, Reply, Save, at_moment, own_validation, issues_unless, refusing, taking, hearing, happens, items_of, opened}
+use Rattle.xl_core.specs.Node.{Node, Event, Reply, Save, at_moment, own_validation, issues_unless, refusing, issuing, replying, completed, timed, validates, validating_built, taking, hearing, happens, items_of, opened}
 use Rattle.xl_core.specs.Node.Save.{Kept as AnsweredOk, Failed as AnsweredFailed}
 use Rattle.xl_core.specs.Queues.{after_taking, at_number, fitting, frames_in, waiting_at, with_items}
 use Rattle.xl_wire.specs.declared.body.Body.TheVariants as bodies
@@ -40,7 +53,7 @@ use Rattle.xl_world.proofs.Standing.{ItemSays, CoreSays}
 use Rattle.xl_world.proofs.Keeping.{happens_keeps}
 use Rattle.xl_world.proofs.NodeSteps.{HeardSays, happens_says, happens_steps, opened_says, opened_steps, still}
 use Rattle.xl_world.proofs.Seats.{IsWell, IsStep}
-use Rattle.xl_world.proofs.Speaking.{sealed_said}
+use Rattle.xl_world.proofs.Speaking.{sealed_said, sealed_else}
 use Rattle.xl_world.proofs.Settling.{ReplySays, node_reply, seat}
 
 -- THE NODE OF THE CORE
@@ -58,6 +71,10 @@ core_steps p (Issue now seq id full) fate well =
     lifted p.core p.keeper (keeper_after p (Issue now seq id full) fate) (happens p.core.node (nodes.Issue now seq id full) (answer_of p.keeper fate)) (happens_steps (seat p.core p.keeper) (nodes.Issue now seq id full) fate well)
 core_steps p (Frame now bytes) fate well =
     lifted p.core p.keeper (keeper_after p (Frame now bytes) fate) (happens p.core.node (nodes.Frame now bytes) (answer_of p.keeper fate)) (happens_steps (seat p.core p.keeper) (nodes.Frame now bytes) fate well)
+core_steps p (Timer now) fate well =
+    lifted p.core p.keeper (keeper_after p (Timer now) fate) (happens p.core.node (nodes.Timer now) (answer_of p.keeper fate)) (happens_steps (seat p.core p.keeper) (nodes.Timer now) fate well)
+core_steps p (Submit now tx) fate well =
+    lifted p.core p.keeper (keeper_after p (Submit now tx) fate) (happens p.core.node (nodes.Submit now tx) (answer_of p.keeper fate)) (happens_steps (seat p.core p.keeper) (nodes.Submit now tx) fate well)
 core_steps p (Drain member room) fate well = beside p (reply_at p (Drain member room) fate) refl refl refl well
 core_steps p (Reports room) fate well = beside p (reply_at p (Reports room) fate) refl refl refl well
 core_steps p Stop fate well = beside p (reply_at p Stop fate) refl refl refl well
@@ -72,9 +89,14 @@ opened_core_steps p now number asked well low =
 
 -- WHAT IS SAID
 
--- what waits after an event at the node is what it issued, and nothing is given
+-- what waits after an event is what it issued, and nothing is given
 pub record IsPlain (r : Reply) : Type 0 where
   pub items : r.items ≡ items_of r.issued
+  pub sent : (from : ℕ) → sent_in from r.answer ≡ []
+
+-- what waits after an event says no more than what it issued, and nothing is given
+pub record IsFair (P : Said → Type 0) (me : ℕ) (r : Reply) : Type 0 where
+  pub items : IfSome r.issued (λ v. P (said_by me v)) → All (ItemSays P me) r.items
   pub sent : (from : ℕ) → sent_in from r.answer ≡ []
 
 issues_plain : (n : Node) (off : Option ℕ) (save : Save) (v : Validation) → IsPlain (issues_unless n off save v)
@@ -86,14 +108,57 @@ taking_plain : (n : Node) (from : ℕ) (what : Speech) → IsPlain (taking n fro
 taking_plain n from (speech.Validation v) = record { items = refl; sent = λ _. refl }
 taking_plain n from (speech.Header h) = record { items = refl; sent = λ _. refl }
 
-pub happens_plain : (n : Node) (e : Event) (save : Save) → IsPlain (happens n e save)
-happens_plain n (nodes.Issue now seq id full) save =
-    let m : Node = at_moment now n in
-    cond_both (nat_lt m.kept seq) (issues_unless m m.failed_save save (own_validation m seq id full)) (refusing m (NotAfter m.kept)) IsPlain
-    (λ _. issues_plain m m.failed_save save (own_validation m seq id full)) (λ _. record { items = refl; sent = λ _. refl })
-happens_plain n (nodes.Frame now bytes) save =
+issuing_plain : (n : Node) (seq : ℕ) (id : LedgerId) (full : Bool) (save : Save) → IsPlain (issuing n seq id full save)
+issuing_plain n seq id full save =
+    cond_both (nat_lt n.kept seq) (issues_unless n n.failed_save save (own_validation n seq id full)) (refusing n (NotAfter n.kept)) IsPlain
+    (λ _. issues_plain n n.failed_save save (own_validation n seq id full)) (λ _. record { items = refl; sent = λ _. refl })
+
+validating_plain : (n : Node) (h : Header) (moved_on : Bool) (save : Save) → IsPlain (validating_built n h moved_on save)
+validating_plain n h moved_on save =
+    cond_both (validates n moved_on) (issuing n h.seq (header_id h) (is_proposing n.round.setting.mode) save) (replying n Done []) IsPlain
+    (λ _. issuing_plain n h.seq (header_id h) (is_proposing n.round.setting.mode) save) (λ _. record { items = refl; sent = λ _. refl })
+
+pub issue_plain : (n : Node) (now seq : ℕ) (id : LedgerId) (full : Bool) (save : Save) → IsPlain (happens n (nodes.Issue now seq id full) save)
+issue_plain n now seq id full save = issuing_plain (at_moment now n) seq id full save
+
+pub frame_plain : (n : Node) (now : ℕ) (bytes : List ℕ) (save : Save) → IsPlain (happens n (nodes.Frame now bytes) save)
+frame_plain n now bytes save =
     let m : Node = at_moment now n in
     hearing_either IsPlain m bytes (λ _. record { items = refl; sent = λ _. refl }) (λ said _. taking_plain m said.from said.what)
+
+plain_fair : (P : Said → Type 0) (me : ℕ) (r : Reply) → IsPlain r → IsFair P me r
+plain_fair P me r plain = record { items = λ fair. subst (All (ItemSays P me)) (sym plain.items) (of r.issued fair); sent = plain.sent }
+  where
+    of : (o : Option Validation) → IfSome o (λ v. P (said_by me v)) → All (ItemSays P me) (items_of o)
+    of None fair = All-nil (ItemSays P me)
+    of (Some v) fair = All-cons (ItemSays P me) (Vote v) [] fair (All-nil (ItemSays P me))
+
+-- a position says no validation
+position_fair : (P : Said → Type 0) (me : ℕ) (said : Option RoundSaid) → All (ItemSays P me) (said_items said)
+position_fair P me None = All-nil (ItemSays P me)
+position_fair P me (Some said) =
+    let position : All (ItemSays P me) (Proposal said.proposal ∷ []) = All-cons (ItemSays P me) (Proposal said.proposal) [] tt (All-nil (ItemSays P me)) in
+    cond_both said.with_set (TxSet said.proposal.set ∷ Proposal said.proposal ∷ []) (Proposal said.proposal ∷ []) (All (ItemSays P me))
+    (λ _. All-cons (ItemSays P me) (TxSet said.proposal.set) (Proposal said.proposal ∷ []) tt position) (λ _. position)
+
+timer_fair : (P : Said → Type 0) (me : ℕ) (n : Node) (save : Save) → IsFair P me (completed (timed n) save)
+timer_fair P me n save =
+    timing_by (λ t. IsFair P me (completed t save)) n (λ r beat said. record { items = λ _. position_fair P me said; sent = λ _. refl })
+    (λ ledgers r said h place moved_on _.
+    let v = validating_built (record n { ledgers = ledgers; round = r }) h moved_on save in
+    let fair = plain_fair P me v (validating_plain (record n { ledgers = ledgers; round = r }) h moved_on save) in
+    record {
+      items = λ issued. All-append (ItemSays P me) (said_items said) (HeaderItem (header_id h) ∷ v.items) (position_fair P me said) (All-cons (ItemSays P me) (HeaderItem (header_id h)) v.items tt (fair.items issued));
+      sent = λ _. refl;
+    })
+
+happens_fair : (P : Said → Type 0) (me : ℕ) (n : Node) (e : Event) (save : Save) → IsFair P me (happens n e save)
+happens_fair P me n (nodes.Issue now seq id full) save = plain_fair P me (happens n (nodes.Issue now seq id full) save) (issue_plain n now seq id full save)
+happens_fair P me n (nodes.Frame now bytes) save = plain_fair P me (happens n (nodes.Frame now bytes) save) (frame_plain n now bytes save)
+happens_fair P me n (nodes.Timer now) save = timer_fair P me (at_moment now n) save
+happens_fair P me n (nodes.Submit now tx) save =
+    submit_either (IsFair P me) (at_moment now n) tx (λ _. record { items = λ _. All-nil (ItemSays P me); sent = λ _. refl })
+    (record { items = λ _. All-cons (ItemSays P me) (Tx tx) [] tt (All-nil (ItemSays P me)); sent = λ _. refl })
 
 -- P holds of what waits
 abbrev AllSay : (Said → Type 0) → ℕ → List (Backlog Item) → Type 0
@@ -104,26 +169,27 @@ queue_says P me item q fair says =
     let all : All (ItemSays P me) (q.items ++ item ∷ []) = All-append (ItemSays P me) q.items (item ∷ []) says (All-cons (ItemSays P me) item [] fair (All-nil (ItemSays P me))) in
     cond_both (nat_lt (length q.items) 64) (q.items ++ item ∷ []) (drop 1 (q.items ++ item ∷ [])) (All (ItemSays P me)) (λ _. all) (λ _. All-drop (ItemSays P me) 1 (q.items ++ item ∷ []) all)
 
-issued_says : (P : Said → Type 0) (me : ℕ) (waiting : List (Backlog Item)) (o : Option Validation) → IfSome o (λ v. P (said_by me v)) → AllSay P me waiting → AllSay P me (with_items waiting (items_of o))
-issued_says P me waiting None fair says = says
-issued_says P me waiting (Some v) fair says =
-    All-map (λ q. All (ItemSays P me) q.items) (λ q. with_item 64 q (Vote v)) waiting
-    (All-weaker (λ q. All (ItemSays P me) q.items) (λ q. All (ItemSays P me) (with_item 64 q (Vote v)).items) (λ q. queue_says P me (Vote v) q fair) waiting says)
+items_say : (P : Said → Type 0) (me : ℕ) (items : List Item) (waiting : List (Backlog Item)) → All (ItemSays P me) items → AllSay P me waiting → AllSay P me (with_items waiting items)
+items_say P me [] waiting fair says = says
+items_say P me (item ∷ items) waiting fair says =
+    items_say P me items (pushed_to_all 64 waiting item) (All-tail (ItemSays P me) item items fair)
+    (All-map (λ q. All (ItemSays P me) q.items) (λ q. with_item 64 q item) waiting
+    (All-weaker (λ q. All (ItemSays P me) q.items) (λ q. All (ItemSays P me) (with_item 64 q item).items) (λ q. queue_says P me item q (All-head (ItemSays P me) item items fair)) waiting says))
 
 -- an event at the node
 node_says : (P : Said → Type 0) (core : Core) (e : Event) (save : Save) → CoreSays P core → HeardSays P core.node e → IfSome (happens core.node e save).issued (λ v. P (said_by core.node.me v)) →
     ReplySays P (stepped core (happens core.node e save))
 node_says P core e save says heard fair =
     let r : Reply = happens core.node e save in
-    let plain = happens_plain core.node e save in
+    let its = happens_fair P core.node.me core.node e save in
     let me = (happens_keeps core.node e save).0 in
     record {
       core = record {
         rows = (happens_says P core.node e save says.rows heard fair).node;
         items = subst (λ (m : ℕ). AllSay P m (with_items core.waiting r.items)) (sym me)
-            (subst (λ (xs : List Item). AllSay P core.node.me (with_items core.waiting xs)) (sym plain.items) (issued_says P core.node.me core.waiting r.issued fair says.items));
+            (items_say P core.node.me r.items core.waiting (its.items fair) says.items);
       };
-      sent = subst (All (FrameSays P)) (sym (plain.sent r.node.me)) (All-nil (FrameSays P));
+      sent = subst (All (FrameSays P)) (sym (its.sent r.node.me)) (All-nil (FrameSays P));
     }
 
 -- DRAINING
@@ -148,14 +214,45 @@ taken_says P me waiting (suc place) taken says =
 abbrev BytesSay : (Said → Type 0) → List ℕ → Type 0
 BytesSay P bytes = IfSome (said_in bytes) P
 
+-- what a body says
+abbrev BodySays : (Said → Type 0) → ℕ → Body → Type 0
+BodySays P me (bodies.Proposal p) = Unit {0}
+BodySays P me (bodies.Validation v) = P (said_by me v)
+BodySays P me (bodies.Header header) = Unit {0}
+BodySays P me (bodies.TxSet ids) = Unit {0}
+BodySays P me (bodies.Tx id) = Unit {0}
+
+item_body : (P : Said → Type 0) (n : Node) (item : Item) → ItemSays P n.me item → IfSome (body_in n item) (BodySays P n.me)
+item_body P n (Vote v) says = says
+item_body P n (Tx tx) says = tt
+item_body P n (TxSet id) says = cond_both (is_own n id) (Some (bodies.TxSet n.round.positions.own)) None (λ o. IfSome o (BodySays P n.me)) (λ _. tt) (λ _. tt)
+item_body P n (Proposal p) says = tt
+item_body P n (HeaderItem id) says = by (place_of n.ledgers.headers id)
+  where
+    by : (o : Option ℕ) → IfSome (option_map (λ place. bodies.Header (spelling (header_at n.ledgers.headers place))) o) (BodySays P n.me)
+    by None = tt
+    by (Some place) = tt
+
+-- a sealed frame says what its body says
+body_says : (P : Said → Type 0) (ring : Ring) (from to : ℕ) (body : Body) → has_spelling from to body ≡ true → BodySays P from body → BytesSay P (sealed_bytes ring from to body)
+body_says P ring from to (bodies.Validation v) h says = subst (λ o. IfSome o P) (sym (sealed_said ring from to v h)) says
+body_says P ring from to (bodies.Proposal p) h says = subst (λ o. IfSome o P) (sym (sealed_else ring from to (bodies.Proposal p) h refl)) tt
+body_says P ring from to (bodies.Header header) h says = subst (λ o. IfSome o P) (sym (sealed_else ring from to (bodies.Header header) h refl)) tt
+body_says P ring from to (bodies.TxSet ids) h says = subst (λ o. IfSome o P) (sym (sealed_else ring from to (bodies.TxSet ids) h refl)) tt
+body_says P ring from to (bodies.Tx id) h says = subst (λ o. IfSome o P) (sym (sealed_else ring from to (bodies.Tx id) h refl)) tt
+
+framed_says : (P : Said → Type 0) (n : Node) (to : ℕ) (o : Option Body) (rest : List (Option (List ℕ))) → IfSome o (BodySays P n.me) → All (BytesSay P) (frames_in rest) → All (BytesSay P) (frames_in (option_and_then (framed n to) o ∷ rest))
+framed_says P n to None rest says each = each
+framed_says P n to (Some body) rest says each =
+    cond_both (has_spelling n.me to body) (Some (sealed_bytes n.keys n.me to body)) None (λ o. All (BytesSay P) (frames_in (o ∷ rest)))
+    (λ spelled. All-cons (BytesSay P) (sealed_bytes n.keys n.me to body) (frames_in rest) (body_says P n.keys n.me to body spelled says) each)
+    (λ _. each)
+
 frames_say : (P : Said → Type 0) (n : Node) (to : ℕ) (items : List Item) → All (ItemSays P n.me) items → All (BytesSay P) (frames_in (map (frame_of n to) items))
 frames_say P n to [] says = All-nil (BytesSay P)
-frames_say P n to (Vote v ∷ items) says =
-    let rest = frames_say P n to items (All-tail (ItemSays P n.me) (Vote v) items says) in
-    let its = All-head (ItemSays P n.me) (Vote v) items says in
-    cond_both (has_spelling n.me to v) (Some (sealed_bytes n.keys n.me to (bodies.Validation v))) None (λ o. All (BytesSay P) (frames_in (o ∷ map (frame_of n to) items)))
-    (λ spelled. All-cons (BytesSay P) (sealed_bytes n.keys n.me to (bodies.Validation v)) (frames_in (map (frame_of n to) items)) (subst (λ o. IfSome o P) (sym (sealed_said n.keys n.me to v spelled)) its) rest)
-    (λ _. rest)
+frames_say P n to (item ∷ items) says =
+    framed_says P n to (body_in n item) (map (frame_of n to) items) (item_body P n item (All-head (ItemSays P n.me) item items says))
+    (frames_say P n to items (All-tail (ItemSays P n.me) item items says))
 
 sent_says : (P : Said → Type 0) (from to : ℕ) (frames : List (List ℕ)) → All (BytesSay P) frames → All (FrameSays P) (sent_in from (Gave to frames))
 sent_says P from to frames says = All-map (FrameSays P) (λ bytes. let f : Sent = record { from = from; to = to; bytes = bytes } in f) frames says
@@ -178,6 +275,8 @@ drain_says P core member room save says =
 abbrev pub CoreHeard : (Said → Type 0) → Node → CoreEvent → Type 0
 CoreHeard P n (Issue now seq id full) = Unit {0}
 CoreHeard P n (Frame now bytes) = HeardSays P n (nodes.Frame now bytes)
+CoreHeard P n (Timer now) = Unit {0}
+CoreHeard P n (Submit now tx) = Unit {0}
 CoreHeard P n (Drain member room) = Unit {0}
 CoreHeard P n (Reports room) = Unit {0}
 CoreHeard P n Stop = Unit {0}
@@ -188,6 +287,8 @@ pub core_says : (P : Said → Type 0) (core : Core) (e : CoreEvent) (save : Save
     ReplySays P (core_happens core e save)
 core_says P core (Issue now seq id full) save says heard fair = node_says P core (nodes.Issue now seq id full) save says tt fair
 core_says P core (Frame now bytes) save says heard fair = node_says P core (nodes.Frame now bytes) save says heard fair
+core_says P core (Timer now) save says heard fair = node_says P core (nodes.Timer now) save says tt fair
+core_says P core (Submit now tx) save says heard fair = node_says P core (nodes.Submit now tx) save says tt fair
 core_says P core (Drain member room) save says heard fair = drain_says P core member room save says
 core_says P core (Reports room) save says heard fair = record { core = record { rows = says.rows; items = says.items }; sent = All-nil (FrameSays P) }
 core_says P core Stop save says heard fair = record { core = record { rows = says.rows; items = says.items }; sent = All-nil (FrameSays P) }

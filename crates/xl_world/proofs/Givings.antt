@@ -29,7 +29,7 @@ pub one_given : (core : Core) (m : ℕ) (o : Option Validation) → (waiting_at 
 one_given core m None is = inl (ap frames_in (takes_all core.node None core.waiting m is))
 one_given core m (Some v) is =
     let all = takes_all core.node (Some v) core.waiting m is in
-    cond_both (has_spelling core.node.me m v) (Some (sealed_bytes core.node.keys core.node.me m (bodies.Validation v))) None
+    cond_both (has_spelling core.node.me m (bodies.Validation v)) (Some (sealed_bytes core.node.keys core.node.me m (bodies.Validation v))) None
     (λ o. taken_for core.node core.waiting m LONGEST_FRAME ≡ o ∷ [] → IsOne (frames_in (taken_for core.node core.waiting m LONGEST_FRAME)))
     (λ spelled same. inr (sealed_bytes core.node.keys core.node.me m (bodies.Validation v), ap frames_in same, sealed_long core.node.keys core.node.me m v spelled))
     (λ _ same. inl (ap frames_in same))

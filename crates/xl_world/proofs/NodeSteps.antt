@@ -9,6 +9,14 @@ use Rattle.xl_lists.specs.declared.said.Said.{Said}
 use Rattle.xl_wire.specs.declared.validation.Validation.{Validation}
 use Rattle.xl_validations.specs.declared.row.Row.{Row}
 use Rattle.xl_validations.specs.Rows.{is_current, unexpired, row_at, refusal, with_validation, at_member, count_full, empty_row}
+use Rattle.xl_base.specs.declared.ids.TxId.{TxId}
+use Rattle.xl_ledger.specs.declared.header.Header.{Header}
+use Rattle.xl_ledger.specs.Headers.{header_id}
+use Rattle.xl_ledger.specs.Registries.{Ledgers}
+use Rattle.xl_rounds.specs.Rounds.{Round, is_proposing, with_pending}
+use Rattle.xl_core.specs.Building.{said_items}
+use Rattle.xl_core.specs.declared.item.Item.TheVariants.{Tx}
+use Rattle.xl_core.proofs.Timing.{timing_by, submit_either}
 use Rattle.xl_core.specs.declared.report.Report.{Report}
 use Rattle.xl_core.specs.declared.refusal.Refusal.TheVariants.{NotAfter, IssuingOff, KeepFault}
 use Rattle.xl_core.specs.declared.refusal.Refusal.{Refusal}
@@ -18,8 +26,8 @@ use Rattle.xl_core.specs.declared.hearing.Speech.{Speech}
 use Rattle.xl_core.specs.declared.hearing.Speech.TheVariants as speech
 use Rattle.xl_core.specs.Hearing.{heard}
 use Rattle.xl_core.proofs.Frames.{hearing_either}
-use Rattle.xl_core.specs.Answers.{Done}
-use Rattle.xl_core.specs.Node.{settings_of, Node, Event, Issue, Frame, Reply, Save, at_moment, second_of, own_validation, issues_unless, unless_failed, take, with_taken, saving, arises, arisen, report_of, refusing, taking, hearing, asks, happens, opened}
+use Rattle.xl_core.specs.Answers.{Done, Beats}
+use Rattle.xl_core.specs.Node.{settings_of, Node, Event, Issue, Frame, Timer, Submit, Reply, Save, issuing, replying, submitting, completed, timed, validates, asks_for, asks_of, at_moment, second_of, own_validation, issues_unless, unless_failed, take, with_taken, saving, arises, arisen, report_of, refusing, taking, hearing, asks, happens, opened}
 use Rattle.xl_world.specs.declared.place.Keeper.{Keeper}
 use Rattle.xl_world.specs.declared.place.Fate.{Fate}
 use Rattle.xl_world.specs.declared.place.Fate.TheVariants.{Kept, Unwritten, Written}
@@ -174,10 +182,38 @@ well_then now p well = record { members = members_then (max p.node.time now / 10
 from_moved : (now : ℕ) (p : Seat) (r : Reply) (k : Keeper) → IsStep (moved now p) r k → IsStep p r k
 from_moved now p r k s = record { me = s.me; list = s.list; well = s.well; rises = s.rises; above = s.above; saved = s.saved; quorum = s.quorum }
 
+-- another round, on other ledgers
+elsewhere : (p : Seat) (r : Reply) (k : Keeper) (ledgers : Ledgers) (round : Round) → IsStep p r k → IsStep p (record r { node = record r.node { ledgers = ledgers; round = round } }) k
+elsewhere p r k ledgers round s = record { me = s.me; list = s.list; well = record { members = s.well.members; valid = s.well.valid; in_force = s.well.in_force }; rises = s.rises; above = s.above; saved = s.saved; quorum = s.quorum }
+
+validating_steps : (p : Seat) (h : Header) (full : Bool) (b : Bool) (fate : Fate) → IsWell p →
+    IsStep p (cond b (issuing p.node h.seq (header_id h) full (answer_of p.keeper fate)) (replying p.node Done [])) (after_save p.keeper (cond b (asks_for p.node h.seq) None) fate)
+validating_steps p h full true fate well =
+    issue_steps p (own_validation p.node h.seq (header_id h) full) (nat_lt p.node.kept h.seq) p.node.failed_save fate (λ e. ltb-true _ _ e) well
+validating_steps p h full false fate well = still p (replying p.node Done []) refl refl refl well
+
+timer_steps : (p : Seat) (fate : Fate) → IsWell p → IsStep p (completed (timed p.node) (answer_of p.keeper fate)) (after_save p.keeper (asks_of (timed p.node)) fate)
+timer_steps p fate well =
+    timing_by (λ t. IsStep p (completed t (answer_of p.keeper fate)) (after_save p.keeper (asks_of t) fate)) p.node
+    (λ r beat said. let s = elsewhere p (replying p.node (Beats beat) (said_items said)) p.keeper p.node.ledgers r (still p (replying p.node (Beats beat) (said_items said)) refl refl refl well) in
+    record { me = s.me; list = s.list; well = s.well; rises = s.rises; above = s.above; saved = s.saved; quorum = s.quorum })
+    (λ ledgers r said h place moved_on _.
+    let q : Seat = record { node = record p.node { ledgers = ledgers; round = r }; keeper = p.keeper } in
+    let s = validating_steps q h (is_proposing r.setting.mode) (validates q.node moved_on) fate (record { members = well.members; valid = well.valid; in_force = well.in_force }) in
+    record { me = s.me; list = s.list; well = record { members = s.well.members; valid = s.well.valid; in_force = s.well.in_force }; rises = s.rises; above = s.above; saved = s.saved; quorum = s.quorum })
+
+submit_steps : (p : Seat) (tx : TxId) → IsWell p → IsStep p (submitting p.node tx) p.keeper
+submit_steps p tx well =
+    submit_either (λ r. IsStep p r p.keeper) p.node tx (λ why. still p (refusing p.node why) refl refl refl well)
+    (let s = elsewhere p (replying p.node Done (Tx tx ∷ [])) p.keeper p.node.ledgers (with_pending tx p.node.round) (still p (replying p.node Done (Tx tx ∷ [])) refl refl refl well) in
+    record { me = s.me; list = s.list; well = s.well; rises = s.rises; above = s.above; saved = s.saved; quorum = s.quorum })
+
 pub happens_steps : (p : Seat) (e : Event) (fate : Fate) → IsWell p → IsStep p (happens p.node e (answer_of p.keeper fate)) (after_save p.keeper (asks p.node e) fate)
 happens_steps p (Issue now seq id full) fate well =
     let m : Node = at_moment now p.node in
     from_moved now p _ _ (issue_steps (moved now p) (own_validation m seq id full) (nat_lt m.kept seq) m.failed_save fate (λ e. ltb-true _ _ e) (well_then now p well))
+happens_steps p (Timer now) fate well = from_moved now p _ _ (timer_steps (moved now p) fate (well_then now p well))
+happens_steps p (Submit now tx) fate well = from_moved now p _ _ (submit_steps (moved now p) tx (well_then now p well))
 happens_steps p (Frame now bytes) fate well =
     from_moved now p _ _ (hearing_steps (moved now p) bytes (well_then now p well))
 
@@ -186,10 +222,14 @@ happens_steps p (Frame now bytes) fate well =
 -- P holds of what is heard
 abbrev pub HeardSays : (Said → Type 0) → Node → Event → Type 0
 HeardSays P n (Issue now seq id full) = Unit {0}
+HeardSays P n (Timer now) = Unit {0}
+HeardSays P n (Submit now tx) = Unit {0}
 HeardSays P n (Frame now bytes) = (from : ℕ) (v : Validation) → heard n.keys n.list.members bytes ≡ Ok (record { from = from; what = speech.Validation v }) → P (said_by from v)
 
 pub heard_weaker : (P Q : Said → Type 0) → ((x : Said) → P x → Q x) → (n : Node) (e : Event) → HeardSays P n e → HeardSays Q n e
 heard_weaker P Q h n (Issue now seq id full) says = tt
+heard_weaker P Q h n (Timer now) says = tt
+heard_weaker P Q h n (Submit now tx) says = tt
 heard_weaker P Q h n (Frame now bytes) says = λ from v is. h (said_by from v) (says from v is)
 
 issue_says : (P : Said → Type 0) (n : Node) (v : Validation) (b : Bool) (off : Option ℕ) (save : Save) → NodeSays P n →
@@ -225,10 +265,28 @@ says_then : (P : Said → Type 0) (now : ℕ) (n : Node) → NodeSays P n → No
 says_then P now n says = rows_then P (max n.time now / 1000) n.rows says
 
 -- what holds of what stands at the node, of what came and of what is issued holds of what stands there then
+validating_says : (P : Said → Type 0) (n : Node) (h : Header) (full : Bool) (b : Bool) (save : Save) → NodeSays P n →
+    IfSome (cond b (issuing n h.seq (header_id h) full save) (replying n Done [])).issued (λ u. P (said_by n.me u)) →
+    ReplySays P n.me (cond b (issuing n h.seq (header_id h) full save) (replying n Done []))
+validating_says P n h full true save says fair = issue_says P n (own_validation n h.seq (header_id h) full) (nat_lt n.kept h.seq) n.failed_save save says fair
+validating_says P n h full false save says fair = record { node = says; issued = tt }
+
+timer_says : (P : Said → Type 0) (n : Node) (save : Save) → NodeSays P n → IfSome (completed (timed n) save).issued (λ v. P (said_by n.me v)) → ReplySays P n.me (completed (timed n) save)
+timer_says P n save says fair =
+    timing_by (λ t. IfSome (completed t save).issued (λ v. P (said_by n.me v)) → ReplySays P n.me (completed t save)) n
+    (λ r beat said _. record { node = says; issued = tt })
+    (λ ledgers r said h place moved_on _ issued.
+    let m : Node = record n { ledgers = ledgers; round = r } in
+    let v = validating_says P m h (is_proposing r.setting.mode) (validates m moved_on) save says issued in record { node = v.node; issued = v.issued })
+    fair
+
 pub happens_says : (P : Said → Type 0) (n : Node) (e : Event) (save : Save) → NodeSays P n → HeardSays P n e →
     IfSome (happens n e save).issued (λ v. P (said_by n.me v)) → ReplySays P n.me (happens n e save)
 happens_says P n (Issue now seq id full) save says heard fair =
     let m : Node = at_moment now n in issue_says P m (own_validation m seq id full) (nat_lt m.kept seq) m.failed_save save (says_then P now n says) fair
+happens_says P n (Timer now) save says heard fair = timer_says P (at_moment now n) save (says_then P now n says) fair
+happens_says P n (Submit now tx) save says heard fair =
+    submit_either (ReplySays P n.me) (at_moment now n) tx (λ _. record { node = says_then P now n says; issued = tt }) (record { node = says_then P now n says; issued = tt })
 happens_says P n (Frame now bytes) save says fair issued =
     hearing_says P (at_moment now n) bytes (says_then P now n says) fair
 
@@ -239,13 +297,23 @@ opened_says P settings now kept = All-map (RowSays P) empty_row settings.list.me
 pub opened_well : (settings : Settings) (now number : ℕ) (k : Keeper) → IsValid settings.list → k.in_force ≡ number → IsWell (record { node = opened settings now number; keeper = k })
 opened_well settings now number k valid same = record { members = members_opened settings.list.members; valid = valid; in_force = sym same }
 
--- a save is asked above the number that was kept
-pub asks_above : (n : Node) (e : Event) → IfSome (asks n e) (λ s. n.kept < s)
-asks_above n (Issue now seq id full) = cond_both (nat_lt n.kept seq) (unless_failed n.failed_save seq) None (λ o. IfSome o (λ s. n.kept < s)) (λ e. unless_above n.failed_save (ltb-true _ _ e)) (λ _. tt)
+asks_for_above : (n : Node) (seq : ℕ) → IfSome (asks_for n seq) (λ s. n.kept < s)
+asks_for_above n seq = cond_both (nat_lt n.kept seq) (unless_failed n.failed_save seq) None (λ o. IfSome o (λ s. n.kept < s)) (λ e. unless_above n.failed_save (ltb-true _ _ e)) (λ _. tt)
   where
     unless_above : (off : Option ℕ) → n.kept < seq → IfSome (unless_failed off seq) (λ s. n.kept < s)
     unless_above None lt = lt
     unless_above (Some failed) lt = tt
+
+-- a save is asked above the number that was kept
+pub asks_above : (n : Node) (e : Event) → IfSome (asks n e) (λ s. n.kept < s)
+asks_above n (Issue now seq id full) = asks_for_above n seq
+asks_above n (Timer now) =
+    let m : Node = at_moment now n in
+    timing_by (λ t. IfSome (asks_of t) (λ s. n.kept < s)) m (λ r beat said. tt)
+    (λ ledgers r said h place moved_on _.
+    let b : Node = record m { ledgers = ledgers; round = r } in
+    cond_both (validates b moved_on) (asks_for b h.seq) None (λ o. IfSome o (λ s. n.kept < s)) (λ _. asks_for_above b h.seq) (λ _. tt))
+asks_above n (Submit now tx) = tt
 asks_above n (Frame now bytes) = tt
 
 -- a node that is opened says and reports nothing

@@ -41,7 +41,7 @@ use Rattle.xl_world.specs.Idle.{Between, IsIdle, Waits, WaitsOnly}
 use Rattle.xl_world.specs.Emptying.{IsEmptied, drained, drained_once, drains, drains_for, emptying, emptying_at, event_steps, given, handed_out, others}
 use Rattle.xl_world.proofs.Runs.{run-append}
 use Rattle.xl_world.proofs.Settling.{at_its_number, put_cases}
-use Rattle.xl_world.proofs.CoreSteps.{IsPlain, happens_plain}
+use Rattle.xl_world.proofs.CoreSteps.{IsPlain, issue_plain, frame_plain}
 use Rattle.xl_world.proofs.Emptying.{all_dry, none_given, drained_long, drained_node, drained_none, drained_untaken, dry, dry_then, once_long, waits_still}
 use Rattle.xl_world.proofs.Keeping.{happens_keeps}
 use Rattle.xl_world.proofs.Seats.{some_same}
@@ -325,12 +325,12 @@ pub record IsEmptiedEvent (w : World) (i : ℕ) (e : CoreEvent) (fate : Fate) (o
   pub idle : IsIdle v
 
 -- an event at the node
-node_ran : (w : World) (i : ℕ) (e : CoreEvent) (n : Event) (fate : Fate) (p : Place) → IsIdle w → place_at i w.places ≡ Some p → (forged : Bool) (k : Keeper) →
+node_ran : (w : World) (i : ℕ) (e : CoreEvent) (n : Event) (fate : Fate) (p : Place) → IsIdle w → place_at i w.places ≡ Some p → (forged : Bool) (k : Keeper) → IsPlain (happens p.core.node n (answer_of p.keeper fate)) →
     IsSettled w i forged (happens p.core.node n (answer_of p.keeper fate)) p.core k
     (run (settled w i forged (stepped p.core (happens p.core.node n (answer_of p.keeper fate))) k) (map (λ e. Act i e Kept) (emptying w.numbers (stepped p.core (happens p.core.node n (answer_of p.keeper fate))).core)))
-node_ran w i e n fate p idle at forged k =
+node_ran w i e n fate p idle at forged k plain =
     let keeps = happens_keeps p.core.node n (answer_of p.keeper fate) in
-    settled_then w i p forged (happens p.core.node n (answer_of p.keeper fate)) k at (happens_plain p.core.node n (answer_of p.keeper fate)) keeps.0 keeps.2 idle
+    settled_then w i p forged (happens p.core.node n (answer_of p.keeper fate)) k at plain keeps.0 keeps.2 idle
 
 -- the steps of an issue or of what comes to a node
 pub issue_ran : (w : World) (i now seq : ℕ) (id : LedgerId) (full : Bool) (fate : Fate) → IsIdle w →
@@ -341,7 +341,7 @@ issue_ran w i now seq id full fate idle = by_place (place_at i w.places) refl
     by_place None at = record { ran = refl; as_issued = tt; idle = idle }
     by_place (Some p) at =
         let e = Issue now seq id full in
-        let s = node_ran w i e (nodes.Issue now seq id full) fate p idle at false (keeper_after p e fate) in
+        let s = node_ran w i e (nodes.Issue now seq id full) fate p idle at false (keeper_after p e fate) (issue_plain p.core.node now seq id full (answer_of p.keeper fate)) in
         record { ran = s.ran; as_issued = s.as_issued; idle = s.idle }
 
 pub frame_ran : (w : World) (i now : ℕ) (bytes : List ℕ) → IsIdle w →
@@ -352,7 +352,7 @@ frame_ran w i now bytes idle = by_place (place_at i w.places) refl
     by_place None at = record { ran = refl; as_issued = tt; idle = idle }
     by_place (Some p) at =
         let e = Frame now bytes in
-        let s = node_ran w i e (nodes.Frame now bytes) Kept p idle at (is_forged w p.core.node e) p.keeper in
+        let s = node_ran w i e (nodes.Frame now bytes) Kept p idle at (is_forged w p.core.node e) p.keeper (frame_plain p.core.node now bytes (answer_of p.keeper Kept)) in
         record { ran = s.ran; as_issued = s.as_issued; idle = s.idle }
 
 -- A NODE THAT IS OPENED AGAIN

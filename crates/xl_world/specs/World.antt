@@ -15,9 +15,9 @@ use Rattle.xl_base.specs.Counts.{one_more}
 use Rattle.xl_wire.specs.declared.validation.Validation.{Validation}
 use Rattle.xl_wire.specs.Heads.{split_of}
 use Rattle.xl_core.specs.declared.event.CoreEvent.{CoreEvent}
-use Rattle.xl_core.specs.declared.event.CoreEvent.TheVariants.{Issue, Frame, Drain, Reports, Stop, Stopped}
+use Rattle.xl_core.specs.declared.event.CoreEvent.TheVariants.{Issue, Frame, Timer, Submit, Drain, Reports, Stop, Stopped}
 use Rattle.xl_core.specs.declared.report.Report.{Report}
-use Rattle.xl_core.specs.Answers.{Answer, Refused, Took, Done, Gave, Handed, Told}
+use Rattle.xl_core.specs.Answers.{Answer, Refused, Took, Beats, Done, Gave, Handed, Told}
 use Rattle.xl_core.specs.Core.{Core, CoreReply, answering, core_happens, core_asks, with_queues}
 use Rattle.xl_core.specs.Node.{Node, opened, settings_of}
 use Rattle.xl_world.specs.declared.sent.Sent.{Sent}
@@ -70,6 +70,7 @@ put p (x ∷ xs) = if x.core.node.me == p.core.node.me then p ∷ xs else x ∷ 
 abbrev pub sent_in : ℕ → Answer → List Sent
 sent_in from (Refused why) = []
 sent_in from (Took taken) = []
+sent_in from (Beats beat) = []
 sent_in from Done = []
 sent_in from (Gave to frames) = map (λ bytes. record { from = from; to = to; bytes = bytes }) frames
 sent_in from (Handed reports) = []
@@ -79,6 +80,8 @@ sent_in from (Told stopped) = []
 abbrev pub is_forged : World → Node → CoreEvent → Bool
 is_forged w n (Issue now seq id full) = false
 is_forged w n (Frame now bytes) = forges w.liars w.sent n.keys bytes (split_of bytes)
+is_forged w n (Timer now) = false
+is_forged w n (Submit now tx) = false
 is_forged w n (Drain member room) = false
 is_forged w n (Reports room) = false
 is_forged w n Stop = false
@@ -130,6 +133,8 @@ torn w i now number (Some p) (Some s) =
 abbrev pub moment_in : CoreEvent → ℕ
 moment_in (Issue now seq id full) = now
 moment_in (Frame now bytes) = now
+moment_in (Timer now) = now
+moment_in (Submit now tx) = now
 moment_in (Drain member room) = 0
 moment_in (Reports room) = 0
 moment_in Stop = 0

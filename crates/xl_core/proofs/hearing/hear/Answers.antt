@@ -1,4 +1,4 @@
-use Rattle.std.proofs.Common.{◌≡◌, ◌≤◌, ◌<◌, ◌∙◌, ℕ, ◌-◌, length, sym, ap, subst, refl, arith, None, Some, Ok, Err, Result}
+use Rattle.std.proofs.Common.{◌≤◌, ◌∙◌, ℕ, ◌-◌, length, sym, ap, subst, refl, arith, Ok, Err, Result}
 use Rattle.std.proofs.lemmas.List.{take_all}
 use Rattle.xl_wire.specs.declared.body.Body.{Body}
 use Rattle.xl_wire.specs.Kinds.{span}
@@ -7,7 +7,7 @@ use Rattle.xl_core.specs.declared.hearing.Spoken.{Spoken}
 use Rattle.xl_core.specs.declared.hearing.Speech.TheVariants as speech
 use Rattle.xl_core.specs.declared.refusal.Refusal.{Refusal}
 use Rattle.xl_core.specs.declared.refusal.Refusal.TheVariants.{Frame, Tag, Extra}
-use Rattle.xl_core.proofs.Heard.{no_frame, short, long, unopened, read, read_so, other_body, heard_listed, err_so}
+use Rattle.xl_core.proofs.Heard.{no_frame, short, long, unopened, read, read_so, other_body, err_so}
 use Rattle.xl_core.proofs.hearing.hear.Goals as goal
 
 pub returns-in-Need-clause-exact : goal.returns-in-Need-clause-exact

@@ -8,6 +8,7 @@ pub invariant_of-self : goal.invariant_of-self
 invariant_of-self g c = (
   ready_after c.args.now (node_seen c.self.inside) c.max-self-inside.result c.secs_of-now.result c.expire.new.self.rows c.requires c.max-self-inside.ensures c.secs_of-now.ensures c.expire.ensures.rows c.self.invariant.0,
   c.expire.ensures.tally,
+  c.expire.ensures.me ∙ c.self.invariant.2,
 )
 
 pub returns-else-now-second : goal.returns-else-now-second

@@ -1,8 +1,8 @@
-use Rattle.std.proofs.Common.{length, refl}
+use Rattle.std.proofs.Common.{length, refl, ◌∙◌}
 use Rattle.xl_ledger.specs.Registries.{add_refusal}
 use Rattle.xl_validations.proofs.Knowing.{place_added}
 use Rattle.xl_core.specs.Rest.{node_seen}
-use Rattle.xl_core.proofs.Learning.{is_newest, still_ready}
+use Rattle.xl_core.proofs.Learning.{is_newest, longer, still_ready}
 use Rattle.xl_core.proofs.node.Node.learn.Goals as goal
 
 pub header_known-requires-clause-newest : goal.header_known-requires-clause-newest
@@ -14,6 +14,7 @@ header_known-requires-clause-newest g c =
 pub invariant_of-self-2 : goal.invariant_of-self-2
 invariant_of-self-2 g c = (
   still_ready (node_seen c.self.inside)
-      c.add.new.self c.header_known.new.self.rows c.header_known.ensures.rows c.self.invariant.0,
+      c.add.new.self c.header_known.new.self.rows c.header_known.ensures.rows (longer c.self.inside.registry c.add.new.self c.args.h.now c.in_ok-ledger.ensures.added) c.self.invariant.0,
   c.header_known.ensures.tally,
+  c.header_known.ensures.me ∙ c.self.invariant.2,
 )

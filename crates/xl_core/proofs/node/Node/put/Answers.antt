@@ -1,11 +1,14 @@
-use Rattle.std.proofs.Common.{◌≡◌, ◌∙◌, ap, subst}
+use Rattle.std.proofs.Common.{◌≡◌, ◌∙◌, ap, sym, subst}
 use Rattle.xl_core.specs.Node.{Node}
-use Rattle.xl_core.proofs.Draining.{vote_put}
+use Rattle.xl_core.proofs.Draining.{item_put, item_passed}
 use Rattle.xl_core.proofs.node.Node.put.Goals as goal
 
-pub returns : goal.returns
-returns g c =
+pub returns-in-Some : goal.returns-in-Some
+returns-in-Some g c =
     let n : Node = c.args.self.now in
     let own : n.keys.me ≡ n.me = subst (λ (m : Node). m.keys.me ≡ m.me) c.self.view_is c.self.invariant.0.keyed.own in
-    vote_put n c.deref.result.now c.args.to c.args.item.now c.vote_in.result c.sealed.result c.args.at c.args.room.now c.put_frame.new.room c.put_frame.result
-    (c.deref.ensures ∙ ap (λ (m : Node). m.keys) c.self.view_is) own c.vote_in.ensures c.sealed.ensures.bytes c.sealed.ensures.spelled c.put_frame.ensures
+    item_put n c.deref.result.now c.args.to c.args.item.now c.in-Some.body c.args.at c.args.room.now c.put_sealed.new.room c.put_sealed.result
+    (c.deref.ensures ∙ ap (λ (m : Node). m.keys) c.self.view_is) own (sym c.in-Some.is ∙ c.body_in.ensures) c.put_sealed.ensures.spelled c.put_sealed.ensures.put
+
+pub returns-in-None : goal.returns-in-None
+returns-in-None g c = item_passed c.args.self.now c.args.to c.args.item.now c.args.at c.args.room.now (sym c.in-None.is ∙ c.body_in.ensures)

@@ -4,13 +4,14 @@ use Rattle.xl_ledger.specs.Chains.{AreLedgers}
 use Rattle.xl_ledger.proofs.Storing.{root_known}
 use Rattle.xl_core.specs.Node.{settings_of}
 use Rattle.xl_core.specs.Rest.{node_seen}
-use Rattle.xl_core.proofs.Opening.{opened_ready}
+use Rattle.xl_core.proofs.Opening.{first_round, opened_ready}
 use Rattle.xl_core.proofs.node.Node.reopen.Goals as goal
 
 pub invariant_of-self : goal.invariant_of-self
 invariant_of-self g c =
     let known : AreLedgers c.in_ok-registry.registry.headers = subst (λ (r : Ledgers). AreLedgers r.headers) (sym c.in_ok-registry.ensures) root_known in (
-      opened_ready (settings_of (node_seen c.self.inside)) c.args.now c.args.kept c.max-self-inside.result c.in_ok-registry.registry c.in_ok-table.table.rows c.self.inside.keys.value
-          c.in_ok-table.ensures.valid c.self.invariant.0.keyed c.requires.moment c.max-self-inside.ensures (c.in_ok-registry.ensures ∙ ap only_root c.limit.ensures.value) c.in_ok-table.ensures.rows refl,
+      opened_ready (settings_of (node_seen c.self.inside)) c.args.now c.args.kept c.max-time.result c.in_ok-registry.registry c.in_ok-table.table.rows c.in_ok-round.round c.self.inside.keys.value
+          c.in_ok-table.ensures.valid c.self.invariant.0.keyed c.requires.moment c.max-time.ensures (c.in_ok-registry.ensures ∙ ap only_root c.limit.ensures.value) c.in_ok-table.ensures.rows (c.in_ok-round.ensures ∙ first_round c.in_ok-registry.registry.headers c.root.result c.usual_mode-mode.result c.self.inside.validating c.max-time.result c.root.ensures c.usual_mode-mode.ensures) refl,
       c.in_ok-table.ensures.tally c.in_ok-registry.registry.headers known,
+      c.in_ok-table.ensures.me,
     )

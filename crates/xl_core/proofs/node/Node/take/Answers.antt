@@ -24,6 +24,7 @@ invariant_of-self-2 g c =
       record {
         keyed = c.self.invariant.0.keyed;
         time = c.self.invariant.0.time;
+        known = c.self.invariant.0.known;
         current = subst (λ (rows : List Row). All (IsCurrent (second_of n)) rows) (sym c.in_ok-take.ensures.taken) (taken_current (second_of n) c.args.from c.args.v.now n.rows (sym unrefused) c.self.invariant.0.current);
         rest = rest_when_taken n
             c.args.from c.args.v.now c.take.new.self.rows c.report_by-report.result c.or-self-inside.result c.self.invariant.0.rest
@@ -32,6 +33,7 @@ invariant_of-self-2 g c =
             c.or-self-inside.ensures;
       },
       c.take.ensures.tally,
+      c.take.ensures.me ∙ c.self.invariant.2,
     )
 
 pub returns-clause-exact : goal.returns-clause-exact

@@ -1,8 +1,6 @@
 use Rattle.std.proofs.Common.{◌∙◌, length, ap, sym, subst}
-use Rattle.xl_core.specs.declared.event.CoreEvent.TheVariants as event
-use Rattle.xl_core.specs.Core.{Core, core_happens}
+use Rattle.xl_core.specs.Core.{Core}
 use Rattle.xl_core.specs.Items.{frames_for}
-use Rattle.xl_core.specs.Node.Save.{Kept}
 use Rattle.xl_core.specs.Queues.{waiting_at}
 use Rattle.xl_core.specs.Replies.{Drains}
 use Rattle.xl_core.specs.Stops.{IsCovered}

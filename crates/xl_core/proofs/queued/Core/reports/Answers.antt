@@ -1,9 +1,7 @@
 use Rattle.std.proofs.Common.{◌∙◌, ◌++◌, length, drop, List, ap, sym, subst, arith}
 use Rattle.std.proofs.lemmas.List.{length-take}
-use Rattle.xl_core.specs.declared.event.CoreEvent.TheVariants as event
 use Rattle.xl_core.specs.declared.report.Report.{Report}
-use Rattle.xl_core.specs.Core.{Core, core_happens}
-use Rattle.xl_core.specs.Node.Save.{Kept}
+use Rattle.xl_core.specs.Core.{Core}
 use Rattle.xl_core.specs.Replies.{HandsOut}
 use Rattle.xl_core.specs.Stops.{IsCovered}
 use Rattle.xl_core.proofs.Handing.{take_most, drop_most}

@@ -1,0 +1,114 @@
+-- The core's part of a timer.
+use Rattle.std.proofs.Common.{◌≡◌, ℕ, Bool, List, [], ◌∷◌, ◌++◌, refl, ap, sym, subst, arith, Option, Some, None, Result, Ok, Err}
+use Rattle.std.specs.Prelude.{option_map, if◌then◌else◌}
+use Rattle.std.proofs.lemmas.Bool.{cond_both}
+use Rattle.xl_base.specs.declared.ids.LedgerId.{LedgerId}
+use Rattle.xl_base.specs.declared.ids.TxId.{TxId}
+use Rattle.xl_io.specs.Keepers.{Held, after_save}
+use Rattle.xl_ledger.specs.Headers.{header_id}
+use Rattle.xl_queues.specs.Broadcasts.{pushed_to_all}
+use Rattle.xl_queues.specs.Queues.{Backlog}
+use Rattle.xl_rounds.specs.declared.pulse.Said.{Said}
+use Rattle.xl_core.specs.declared.beat.Beat.{Beat}
+use Rattle.xl_core.specs.declared.beat.Beat.TheVariants.{Nothing, Closed, Updated, Switched, NoRoom, Built as BuiltBeat}
+use Rattle.xl_core.specs.declared.beat.Issued.{Issued}
+use Rattle.xl_core.specs.declared.beat.Issued.TheVariants as issued
+use Rattle.xl_core.specs.declared.item.Item.{Item}
+use Rattle.xl_core.specs.declared.item.Item.TheVariants.{Header as HeaderItem, Tx as TxItem}
+use Rattle.xl_core.specs.declared.refusal.Refusal.{Refusal}
+use Rattle.xl_core.specs.declared.report.OwnValidation.{OwnValidation}
+use Rattle.xl_core.specs.declared.tick.Built.{Built}
+use Rattle.xl_core.specs.declared.tick.Tick.TheVariants as tick
+use Rattle.xl_core.specs.Answers.{Beats, Done}
+use Rattle.xl_core.specs.Building.{said_items}
+use Rattle.xl_core.specs.Core.{Core, stepped}
+use Rattle.xl_core.specs.Keeping.{IsAsked}
+use Rattle.xl_core.specs.Node.{Node, Reply, Save, Timed, Submit, Quiet, completed, timed, ending, asks_of, happens, replying, refusing}
+use Rattle.xl_core.specs.Node.Save.{Kept}
+use Rattle.xl_core.specs.Queues.{with_items, with_report}
+use Rattle.xl_core.specs.Replies.{Answers, save_in}
+use Rattle.xl_core.specs.Stops.{IsCovered}
+use Rattle.xl_core.proofs.Stopping.{submit_covered}
+use Rattle.xl_core.specs.Ticks.{timed_by, concluded, validated_reply, save_as, Concludes, IsQuiet, CountsBeatFault}
+
+-- NOTHING WAS BUILT
+
+pub quiet_step : (core : Core) (m n : Node) (beat : Beat) (said : Option Said) (waiting : List (Backlog Item)) (save : Save) → Quiet n beat said ≡ timed m → waiting ≡ with_items core.waiting (said_items said) →
+    Answers (stepped core (completed (timed m) save)) (record core { node = n; waiting = waiting }) (Beats beat)
+quiet_step core m n beat said waiting save is pushed =
+    subst (λ (t : Timed). Answers (stepped core (completed t save)) (record core { node = n; waiting = waiting }) (Beats beat)) is
+    (record { core = ap (λ (ws : List (Backlog Item)). let c : Core = record core { node = n; waiting = ws } in c) pushed; answer = refl })
+
+same_held : (kept : Bool) (o : Option Held) → o ≡ option_map (λ held. after_save held None kept) o
+same_held kept None = refl
+same_held kept (Some held) = refl
+
+-- a keeper of which nothing was asked
+pub unasked : {K : Type 0} (held_by : K → Option Held) (saves_of : K → Option (List ℕ)) (faults_of : K → ℕ) (gives : K → ℕ → Bool → K → Type 0) (kept : Bool) (keeper : K) →
+    IsAsked held_by saves_of faults_of gives None kept keeper keeper
+unasked held_by saves_of faults_of gives kept keeper = record { held = same_held kept (held_by keeper); saves = refl; keeper = refl; later = omega arith }
+
+pub quiet_asks : {K : Type 0} (held_by : K → Option Held) (saves_of : K → Option (List ℕ)) (faults_of : K → ℕ) (gives : K → ℕ → Bool → K → Type 0) (kept : Bool) (keeper : K) (m n : Node) (beat : Beat) (said : Option Said) →
+    Quiet n beat said ≡ timed m → IsAsked held_by saves_of faults_of gives (asks_of (timed m)) kept keeper keeper
+quiet_asks held_by saves_of faults_of gives kept keeper m n beat said is =
+    subst (λ (t : Timed). IsAsked held_by saves_of faults_of gives (asks_of t) kept keeper keeper) is (unasked held_by saves_of faults_of gives kept keeper)
+
+pub quiet_fault : (told : Beat) (n : ℕ) → IsQuiet told → CountsBeatFault told n n
+quiet_fault Nothing n quiet = λ seq id moved_on count e. cc
+quiet_fault Closed n quiet = λ seq id moved_on count e. cc
+quiet_fault Updated n quiet = λ seq id moved_on count e. cc
+quiet_fault (Switched s i) n quiet = λ seq id moved_on count e. cc
+quiet_fault (NoRoom limit) n quiet = λ seq id moved_on count e. cc
+quiet_fault (BuiltBeat s i m how) n quiet = absurd quiet
+
+-- A LEDGER WAS BUILT
+
+-- how it was validated, as the code tells it
+abbrev pub how_validated : Result (Option OwnValidation) Refusal → Issued
+how_validated (Ok None) = issued.Silent
+how_validated (Ok (Some own)) = if own.validation.full then issued.Full else issued.Partial
+how_validated (Err why) = issued.Refused why
+
+-- the save is told alike
+pub same_save : (o : Result (Option OwnValidation) Refusal) → save_in o ≡ save_as (how_validated o)
+same_save (Ok None) = refl
+same_save (Ok (Some own)) = cond_both own.validation.full issued.Full issued.Partial (λ how. Kept ≡ save_as how) (λ _. refl) (λ _. refl)
+same_save (Err why) = refl
+
+-- the core once the header, and what was issued, wait
+abbrev pub core_then : Core → Built → Reply → Core
+core_then core b r = record { node = r.node; waiting = with_items core.waiting (said_items b.said ++ HeaderItem b.id ∷ r.items); untaken = with_report core.untaken r.report; stopped = core.stopped }
+
+told_ending : (core : Core) (b : Built) (n : Node) (o : Result (Option OwnValidation) Refusal) →
+    Answers (stepped core (ending (said_items b.said) b.header b.moved_on (validated_reply o n))) (core_then core (record b { id = header_id b.header }) (validated_reply o n)) (Beats (BuiltBeat b.header.seq (header_id b.header) b.moved_on (how_validated o)))
+told_ending core b n (Ok None) = record { core = refl; answer = refl }
+told_ending core b n (Ok (Some own)) = record { core = refl; answer = refl }
+told_ending core b n (Err why) = record { core = refl; answer = refl }
+
+pub conclude_step : (core : Core) (b : Built) (n : Node) (o : Result (Option OwnValidation) Refusal) → b.id ≡ header_id b.header → validated_reply o n ≡ concluded core.node b (save_in o) →
+    Concludes core b (BuiltBeat b.header.seq b.id b.moved_on (how_validated o)) (core_then core b (validated_reply o n))
+conclude_step core b n o id is =
+    subst (λ (s : Save). Answers (stepped core (completed (timed_by (tick.Built b) core.node) s)) (core_then core b (validated_reply o n)) (Beats (BuiltBeat b.header.seq b.id b.moved_on (how_validated o)))) (same_save o)
+    (subst (λ (r : Reply). Answers (stepped core (ending (said_items b.said) b.header b.moved_on r)) (core_then core b (validated_reply o n)) (Beats (BuiltBeat b.header.seq b.id b.moved_on (how_validated o)))) is
+    (subst (λ (i : LedgerId). Answers (stepped core (ending (said_items b.said) b.header b.moved_on (validated_reply o n))) (core_then core (record b { id = i }) (validated_reply o n)) (Beats (BuiltBeat b.header.seq i b.moved_on (how_validated o)))) (sym id)
+    (told_ending core b n o)))
+
+-- so the timer's step
+pub built_step : (core : Core) (m n : Node) (b : Built) (told : Beat) (after : Core) (save : Save) → timed_by (tick.Built b) n ≡ timed m →
+    Answers (stepped (record core { node = n }) (completed (timed_by (tick.Built b) n) save)) after (Beats told) → Answers (stepped core (completed (timed m) save)) after (Beats told)
+built_step core m n b told after save is done = subst (λ (t : Timed). Answers (stepped core (completed t save)) after (Beats told)) is done
+
+-- A TRANSACTION WAS HANDED IN
+
+pub submitted_covered : (held : Held) (core : Core) (now : ℕ) (tx : TxId) (n : Node) (waiting : List (Backlog Item)) → replying n Done (TxItem tx ∷ []) ≡ happens core.node (Submit now tx) Kept →
+    waiting ≡ pushed_to_all 64 core.waiting (TxItem tx) → IsCovered held core → IsCovered held (record core { node = n; waiting = waiting })
+submitted_covered held core now tx n waiting is pushed was =
+    subst (λ (ws : List (Backlog Item)). IsCovered held (record core { node = n; waiting = ws })) (sym pushed)
+    (subst (λ (r : Reply). IsCovered held (stepped core r).core) (sym is) (submit_covered held core now tx Kept was))
+
+pub refused_covered : (held : Held) (core : Core) (now : ℕ) (tx : TxId) (n : Node) (why : Refusal) → refusing n why ≡ happens core.node (Submit now tx) Kept → IsCovered held core → IsCovered held (record core { node = n })
+refused_covered held core now tx n why is was = subst (λ (r : Reply). IsCovered held (stepped core r).core) (sym is) (submit_covered held core now tx Kept was)
+
+pub built_asks : {K : Type 0} (held_by : K → Option Held) (saves_of : K → Option (List ℕ)) (faults_of : K → ℕ) (gives : K → ℕ → Bool → K → Type 0) (kept : Bool) (old new : K) (m n : Node) (b : Built) →
+    timed_by (tick.Built b) n ≡ timed m → IsAsked held_by saves_of faults_of gives (asks_of (timed_by (tick.Built b) n)) kept old new → IsAsked held_by saves_of faults_of gives (asks_of (timed m)) kept old new
+built_asks held_by saves_of faults_of gives kept old new m n b is asked = subst (λ (t : Timed). IsAsked held_by saves_of faults_of gives (asks_of t) kept old new) is asked

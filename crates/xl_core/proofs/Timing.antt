@@ -1,0 +1,69 @@
+-- What a timer comes to: a node in another round that says a position at most, or one that has built a ledger.
+use Rattle.std.proofs.Common.{◌≡◌, ℕ, ◌<◌, ◌≤◌, Bool, [], ◌∷◌, length, refl, arith, Option, Some, None, length-append}
+use Rattle.std.specs.Prelude.{◌==◌, nat_le, unwrap_or, IfSome}
+use Rattle.std.proofs.lemmas.Bool.{cond_both}
+use Rattle.xl_base.specs.declared.ids.TxId.{TxId}
+use Rattle.xl_ledger.specs.declared.header.Header.{Header}
+use Rattle.xl_ledger.specs.Chains.{seq_at, id_at, place_of}
+use Rattle.xl_ledger.specs.Headers.{header_id}
+use Rattle.xl_ledger.specs.Registries.{Ledgers, with_header}
+use Rattle.xl_validations.proofs.Knowing.{place_known}
+use Rattle.xl_rounds.specs.declared.phase.Mode.TheVariants.{SwitchedLedger}
+use Rattle.xl_rounds.specs.declared.pulse.Kind.{Kind}
+use Rattle.xl_rounds.specs.declared.pulse.Kind.TheVariants as kind
+use Rattle.xl_rounds.specs.declared.pulse.Said.{Said}
+use Rattle.xl_rounds.specs.Rounds.{Round, leave, accepted}
+use Rattle.xl_rounds.specs.Proposals.{started}
+use Rattle.xl_rounds.specs.Heartbeats.{Beat as RoundBeat, heartbeat}
+use Rattle.xl_core.specs.declared.beat.Beat.{Beat}
+use Rattle.xl_core.specs.declared.beat.Beat.TheVariants.{Nothing, Closed, Updated, Switched, NoRoom}
+use Rattle.xl_core.specs.declared.item.Item.TheVariants.{Tx}
+use Rattle.xl_core.specs.declared.refusal.Refusal.{Refusal}
+use Rattle.xl_core.specs.Answers.{Done}
+use Rattle.xl_core.specs.Building.{alone, Knowing, knowing, knowing_at}
+use Rattle.xl_core.specs.Node.{Node, Reply, Timed, Quiet, Ending, replying, refusing, refusing_or, with_tx, tx_refusal, submitting, chosen, seen, built, switching, building, following, after_beat, timed}
+
+-- no ledger is forgotten, and the place is one of them
+pub record Grows (before after : Ledgers) (place : ℕ) : Type 0 where
+  pub more : length before.headers ≤ length after.headers
+  pub within : place < length after.headers
+  pub limit : after.limit ≡ before.limit
+
+knowing_grows : (r : Ledgers) (h : Header) (o : Option ℕ) → o ≡ place_of r.headers (header_id h) → IfSome (knowing_at r h o) (λ k. Grows r k.ledgers k.place)
+knowing_grows r h None is =
+    cond_both (nat_le r.limit (length r.headers)) None (let k : Knowing = record { ledgers = with_header r h; place = length r.headers } in Some k) (λ o. IfSome o (λ k. Grows r k.ledgers k.place))
+    (λ _. tt) (λ _. record { more = omega (arith, length-append r.headers (h ∷ [])); within = omega (arith, length-append r.headers (h ∷ [])); limit = refl })
+knowing_grows r h (Some place) is = record { more = omega arith; within = place_known r.headers (header_id h) (Some place) is; limit = refl }
+
+module _ (P : Timed → Type 0) (n : Node)
+    (quiet : (r : Round) (beat : Beat) (said : Option Said) → P (Quiet (record n { round = r }) beat said))
+    (ends : (ledgers : Ledgers) (r : Round) (said : Option Said) (h : Header) (place : ℕ) (moved_on : Bool) → Grows n.ledgers ledgers place →
+    P (Ending (record n { ledgers = ledgers; round = r }) said h place moved_on)) where
+  after_building : (r : Round) (said : Option Said) (moved_on : Bool) (o : Option Knowing) → IfSome o (λ k. Grows n.ledgers k.ledgers k.place) → P (building (record n { round = r }) said moved_on o)
+  after_building r said moved_on None grows = quiet r (NoRoom n.ledgers.limit) said
+  after_building r said moved_on (Some k) grows = ends k.ledgers (accepted (unwrap_or r.ready 0) r) said (built (record n { round = r })) k.place moved_on grows
+
+  after_kind : (r : Round) (said : Option Said) (k : Kind) → P (following (record n { round = r }) said k)
+  after_kind r said kind.Nothing = quiet r Nothing said
+  after_kind r said kind.Closed = quiet r Closed said
+  after_kind r said kind.Updated = quiet r Updated said
+  after_kind r said (kind.Ready moved_on) =
+      let h : Header = built (record n { round = r }) in
+      after_building r said moved_on (knowing n.ledgers h) (knowing_grows n.ledgers h (place_of n.ledgers.headers (header_id h)) refl)
+
+  -- so what holds in these two cases holds of every timer
+  pub timing_by : P (timed n)
+  timing_by =
+      let beat : RoundBeat = heartbeat n.time (seen n) n.round in
+      let ledgers = n.ledgers.headers in
+      cond_both (chosen n == n.round.setting.previous) (after_beat n beat) (switching n (chosen n)) P
+      (λ _. after_kind beat.round beat.pulse.said beat.pulse.kind)
+      (λ _. quiet (started ledgers (chosen n) SwitchedLedger n.time n.round) (Switched (seq_at ledgers (chosen n)) (id_at ledgers (chosen n))) (alone (leave n.time n.round)))
+
+-- a transaction that is handed in is refused, or pending
+pub submit_either : (P : Reply → Type 0) (n : Node) (tx : TxId) → ((why : Refusal) → P (refusing n why)) → P (replying (with_tx n tx) Done (Tx tx ∷ [])) → P (submitting n tx)
+submit_either P n tx refuses takes = by (tx_refusal n tx)
+  where
+    by : (o : Option Refusal) → P (refusing_or n o (replying (with_tx n tx) Done (Tx tx ∷ [])))
+    by None = takes
+    by (Some why) = refuses why

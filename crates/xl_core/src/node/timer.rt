@@ -1,0 +1,233 @@
+ghost use Rattle.std.specs.Prelude.{◌≡◌, ◌<◌, ◌≤◌, IsSome, IfSome, OnOk, OnErr, is_some, None, length};
+ghost use Rattle.xl_base.specs.declared.moments.TheConstants.{GREATEST_MILLIS};
+ghost use Rattle.xl_ledger.specs.Headers.{header_id};
+ghost use Rattle.xl_ledger.specs.Registries.{add_refusal, with_header};
+ghost use Rattle.xl_base.specs.Refusals.{unless_refused};
+ghost use Rattle.xl_rounds.specs.Heartbeats.{heartbeat, is_ready};
+ghost use Rattle.xl_core.specs.Building.{knowing, alone as alone_of};
+ghost use Rattle.xl_core.specs.Keeping.{CountsFault, IsAsked};
+ghost use Rattle.xl_core.specs.Node.{
+  at_moment,
+  timed,
+  chosen,
+  switching,
+  seen as seen_of,
+  after_beat,
+  built as built_of,
+  building,
+};
+ghost use Rattle.xl_core.specs.Replies.{save_in, was_kept};
+ghost use Rattle.xl_core.specs.Ticks.{timed_by, asks_in, validated, concluded, validated_reply, IsBuilt, IsKnown, IsTicked};
+
+use super::{Node, usual_mode};
+use crate::tick::{Built, Tick};
+use crate::{Beat, OwnValidation, Refusal};
+use xl_base::{LedgerId, Millis};
+use xl_closetime::effective;
+use xl_io::Keeper;
+use xl_ledger::{AddRefusal, Branch, Header, LedgerNo, build_next, id_of};
+use xl_rounds::{Kind, Mode, Pulse, Said, Seen};
+use xl_wire::Proposal;
+
+/// A position that is said without the set.
+fn alone(position: Option<Proposal>) -> Option<Said>
+    ensures { result ≡ alone_of position }
+{
+    position.map(|proposal| Said {
+        proposal,
+        with_set: false,
+    })
+}
+
+impl<B: Branch + Drop> Node<B> {
+    /// Looks at the votes, and lets the round go on or switches to another ledger. A ledger on which the round agreed is built and
+    /// accepted, if there is room for it; `conclude` goes on from there.
+    pub(crate) fn tick(&mut self, now: Millis) -> Tick
+        requires moment { now ≤ GREATEST_MILLIS }
+        ensures exact { timed_by result self.new ≡ timed (at_moment now self.old) }
+        ensures ticked { IsTicked self.new result }
+    {
+        self.advance(now);
+        let ledger = self.chosen();
+        if ledger == self.round.previous() {
+            self.go_on()
+        } else {
+            self.switch(ledger)
+        }
+    }
+
+    /// The ledger that the votes choose to go on with.
+    fn chosen(&self) -> LedgerNo
+        ensures value { result ≡ chosen self.now }
+        ensures known { result < length self.now.ledgers.headers }
+    {
+        let mut walk = self.registry.walk();
+        self.table
+            .choose(&mut walk, self.round.previous(), self.kept)
+    }
+
+    /// Leaves the round for one on another ledger.
+    fn switch(&mut self, ledger: LedgerNo) -> Tick
+        requires known { ledger < length self.old.ledgers.headers }
+        ensures exact { timed_by result self.new ≡ switching self.old ledger }
+        ensures ticked { IsTicked self.new result }
+    {
+        let said = alone(self.round.leave(self.time));
+        self.round
+            .start(&self.registry, ledger, Mode::SwitchedLedger, self.time);
+        Tick::Quiet {
+            beat: Beat::Switched(self.registry.seq_of(ledger), self.registry.id_at(ledger)),
+            said,
+        }
+    }
+
+    /// What the round is told of the validations.
+    fn seen(&self) -> Seen
+        ensures { result ≡ seen_of self.now }
+    {
+        let previous = self.round.previous();
+        Seen {
+            validated: self.table.named(&self.registry.id_at(previous)),
+            finished: self.table.finished(&self.registry, previous),
+        }
+    }
+
+    /// The round's heartbeat.
+    fn beat(&mut self) -> Pulse
+        ensures told { result ≡ (heartbeat self.old.time (seen_of self.old) self.old.round).pulse }
+        ensures after { self.new ≡ record self.old { round = (heartbeat self.old.time (seen_of self.old) self.old.round).round } }
+        ensures ready { is_some self.new.round.ready ≡ is_ready result.kind }
+    {
+        let seen = self.seen();
+        self.round.heartbeat(self.time, seen)
+    }
+
+    /// The round's phase goes on.
+    fn go_on(&mut self) -> Tick
+        ensures exact { timed_by result self.new ≡ after_beat self.old (heartbeat self.old.time (seen_of self.old) self.old.round) }
+        ensures ticked { IsTicked self.new result }
+    {
+        let Pulse { kind, said } = self.beat();
+        match kind {
+            Kind::Nothing => Tick::Quiet {
+                beat: Beat::Nothing,
+                said,
+            },
+            Kind::Closed => Tick::Quiet {
+                beat: Beat::Closed,
+                said,
+            },
+            Kind::Updated => Tick::Quiet {
+                beat: Beat::Updated,
+                said,
+            },
+            Kind::Ready { moved_on } => self.build(said, moved_on),
+        }
+    }
+
+    /// Builds and accepts the ledger for which the round is ready, if there is room for it.
+    fn build(&mut self, said: Option<Said>, moved_on: bool) -> Tick
+        requires ready { IsSome self.old.round.ready }
+        ensures exact { timed_by result self.new ≡ building self.old said moved_on (knowing self.old.ledgers (built_of self.old)) }
+        ensures ticked { IsTicked self.new result }
+    {
+        let header = self.next_header();
+        let id = id_of(&header);
+        match self.know(&header, &id) {
+            Some(ledger) => {
+                self.round.accept();
+                Tick::Built(Built {
+                    said,
+                    header,
+                    id,
+                    ledger,
+                    moved_on,
+                })
+            }
+            None => Tick::Quiet {
+                beat: Beat::NoRoom(self.registry.limit()),
+                said,
+            },
+        }
+    }
+
+    /// The header that follows the previous ledger by what the round agreed on.
+    fn next_header(&self) -> Header
+        requires ready { IsSome self.now.round.ready }
+        ensures { result ≡ built_of self.now }
+    {
+        let previous = self.round.previous();
+        // A ledger's sequence is below the limit of ledgers, and so far below the greatest.
+        let _ = self.registry.seq_of(previous);
+        let id = self.registry.id_at(previous);
+        let parent = self.registry.walk().header(previous);
+        let agreed = self.round.agreed();
+        let close = effective(agreed.close, agreed.resolution, parent.close);
+        build_next(id, parent, agreed.set, close, agreed.resolution)
+    }
+
+    /// Adds the built ledger, unless it is known, and tells its place; None where there is no room for it.
+    fn know(&mut self, h: &Header, id: &LedgerId) -> Option<LedgerNo>
+        requires built { h.now ≡ built_of self.old }
+        requires id { id.now ≡ header_id h.now }
+        ensures none { result ≡ None → (knowing self.old.ledgers h.now ≡ None) × (self.new ≡ self.old) }
+        ensures some { IfSome result (λ ledger. IsKnown self.old self.new h.now ledger) }
+    {
+        if let Some(ledger) = self.registry.find(id) {
+            return Some(ledger);
+        }
+        match self.add(h) {
+            Ok(ledger) => Some(ledger),
+            // It follows a known ledger, so that only room can lack.
+            Err(_) => None,
+        }
+    }
+
+    /// Adds a header to the known ledgers, and takes the votes that waited for it.
+    fn add(&mut self, h: &Header) -> Result<LedgerNo, AddRefusal>
+        ensures exact { result ≡ unless_refused (add_refusal self.old.ledgers h.now) (length self.old.ledgers.headers) }
+        ensures added { OnOk result (self.new ≡ record self.old { ledgers = with_header self.old.ledgers h.now }) }
+        ensures refused { OnErr result (self.new ≡ self.old) }
+    {
+        let ledger = self.registry.add(h)?;
+        self.table.header_known(&self.registry, ledger);
+        Ok(ledger)
+    }
+
+    /// Issues the validation of a built ledger, where that is to be validated, and starts a round on the ledger.
+    pub(crate) fn conclude<K: Keeper>(
+        &mut self,
+        built: &Built,
+        keeper: &mut K,
+    ) -> Result<Option<OwnValidation>, Refusal>
+        requires built { IsBuilt self.old built.now }
+        ensures exact { validated_reply result self.new ≡ concluded self.old built.now (save_in result) }
+        ensures fault { CountsFault result (K.faults keeper.old) (K.faults keeper.new) }
+        ensures asks { IsAsked K.held K.saves K.faults K.save_gives (asks_in self.old built.now) (was_kept result) keeper.old keeper.new }
+    {
+        let outcome = self.validate(built, keeper);
+        let mode = usual_mode(self.validating);
+        self.round
+            .start(&self.registry, built.ledger, mode, self.time);
+        outcome
+    }
+
+    /// Issues the validation of a built ledger, where the node is a validator and the members haven't moved on without it.
+    fn validate<K: Keeper>(
+        &mut self,
+        built: &Built,
+        keeper: &mut K,
+    ) -> Result<Option<OwnValidation>, Refusal>
+        requires built { IsBuilt self.old built.now }
+        ensures exact { validated_reply result self.new ≡ validated self.old built.now (save_in result) }
+        ensures fault { CountsFault result (K.faults keeper.old) (K.faults keeper.new) }
+        ensures asks { IsAsked K.held K.saves K.faults K.save_gives (asks_in self.old built.now) (was_kept result) keeper.old keeper.new }
+    {
+        if !self.validating || built.moved_on {
+            return Ok(None);
+        }
+        let full = self.round.mode() == Mode::Proposing;
+        let own = self.issue_now(built.header.seq, built.id, full, keeper)?;
+        Ok(Some(own))
+    }
+}
