@@ -27,7 +27,9 @@ usual_mode validating = if validating then Proposing else Observing
 -- our set, where it goes with our position, and then the position
 abbrev pub said_items : Option Said → List Item
 said_items None = []
-said_items (Some said) = if said.with_set then TxSet said.proposal.set ∷ Position said.proposal ∷ [] else Position said.proposal ∷ []
+said_items (Some said) =
+    if said.with_set then TxSet said.proposal.set ∷ Position said.proposal ∷ []
+    else Position said.proposal ∷ []
 
 -- a position that is said without the set
 abbrev pub alone : Option Proposal → Option Said
@@ -47,7 +49,9 @@ pub record Knowing : Type 0 where
 -- a header that isn't known is added, if there is room
 abbrev pub knowing_at : Ledgers → Header → Option ℕ → Option Knowing
 knowing_at r h (Some place) = Some (record { ledgers = r; place = place })
-knowing_at r h None = if nat_le r.limit (length r.headers) then None else Some (record { ledgers = with_header r h; place = length r.headers })
+knowing_at r h None =
+    if nat_le r.limit (length r.headers) then None
+    else Some (record { ledgers = with_header r h; place = length r.headers })
 
 abbrev pub knowing : Ledgers → Header → Option Knowing
 knowing r h = knowing_at r h (place_of r.headers (header_id h))

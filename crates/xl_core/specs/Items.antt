@@ -25,7 +25,8 @@ is_own n id = bytes_eq id.0 (set_id_of n.round.positions.own).0
 
 -- the header of a ledger that it knows
 abbrev pub header_body : Node → LedgerId → Option Body
-header_body n id = option_map (λ place. bodies.Header (spelling (header_at n.ledgers.headers place))) (place_of n.ledgers.headers id)
+header_body n id =
+    option_map (λ place. bodies.Header (spelling (header_at n.ledgers.headers place))) (place_of n.ledgers.headers id)
 
 -- the body in which it says an item, or None for a set that is no longer its own
 abbrev pub body_in : Node → Item → Option Body

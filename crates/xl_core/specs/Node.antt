@@ -1,5 +1,5 @@
--- One node: the ledgers that it knows, its rows, its round, the last sequence that it saved, and what it reports as fully
--- validated.
+-- One node: the ledgers that it knows, its rows, its round, the last sequence that it saved, and what it reports as
+-- fully validated.
 -- Source: Chase and MacBrough, "Analysis of the XRP Ledger Consensus Protocol" (2018), and rippled's Consensus and Validations.
 use Rattle.std.specs.Prelude.{◌≡◌, ◌≢◌, ℕ, ◌<◌, ◌/◌, ◌==◌, ◌&&◌, not, max, Bool, true, false, List, [], ◌∷◌, ◌++◌, map, unwrap_or, filter_map, find, option_map, nat_lt, nat_le, if◌then◌else◌}
 use Rattle.std.specs.Prelude.{Some, None, Ok}
@@ -85,7 +85,8 @@ pub record Reply : Type 0 where
   pub issued : Option Validation
   pub report : Option Report
 
--- a node opened with its settings, at a moment, and with the number that its keeper holds; its first round is on the root
+-- a node opened with its settings, at a moment, and with the number that its keeper holds; its first round is on
+-- the root
 abbrev pub opened : Settings → ℕ → ℕ → Node
 opened s now kept = record {
   me = s.me;
@@ -288,7 +289,7 @@ chosen n = choose n.ledgers.headers n.rows n.round.setting.previous n.kept
 abbrev pub starting : Node → ℕ → Mode → Node
 starting n ledger mode = record n { round = started n.ledgers.headers ledger mode n.time n.round }
 
--- where another ledger is chosen the node leaves its round for one on that ledger; a position by which it leaves is said
+-- where another ledger is chosen the node leaves its round for one on that; a position by which it leaves is said
 abbrev pub switching : Node → ℕ → Timed
 switching n ledger =
     let ledgers = n.ledgers.headers in

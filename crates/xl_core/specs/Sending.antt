@@ -21,7 +21,8 @@ sealed_bytes ring from to body = raw_bytes (sealed ring (raw_of (blank_frame fro
 -- whether the fields of a body can hold it
 abbrev pub fits : Body → Bool
 fits (bodies.Proposal p) =
-    length p.prev.0 == 32 && length p.set.0 == 32 && nat_lt p.pseq (2 ^ 32) && nat_lt p.close (2 ^ 32) && nat_lt p.time (2 ^ 32)
+    length p.prev.0 == 32 && length p.set.0 == 32
+    && nat_lt p.pseq (2 ^ 32) && nat_lt p.close (2 ^ 32) && nat_lt p.time (2 ^ 32)
 fits (bodies.Validation v) = length v.id.0 == 32 && nat_lt v.seq (2 ^ 32) && nat_lt v.signed (2 ^ 32)
 fits (bodies.Header header) = length header == 118
 fits (bodies.TxSet ids) = can_have 4 (length (set_bytes ids))

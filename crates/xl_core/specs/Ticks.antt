@@ -100,4 +100,5 @@ Beaten core now told after = Answers (core_happens core (Timer now) (save_at tol
 
 -- so once a ledger was built
 abbrev pub Concludes : Core → Built → Beat → Core → Type 0
-Concludes core b told after = Answers (stepped core (completed (timed_by (tick.Built b) core.node) (save_at told))) after (Beats told)
+Concludes core b told after =
+    Answers (stepped core (completed (timed_by (tick.Built b) core.node) (save_at told))) after (Beats told)

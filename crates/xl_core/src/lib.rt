@@ -2,13 +2,17 @@
 //!
 //! `Node` issues validations, hears those of its list's members and the headers of ledgers, reports a ledger as fully
 //! validated once a quorum of the members' current full validations name it, and knows the ledger that their votes prefer.
-//! `Core` is a node with what waits at it: what it issues waits for every peer until it is drained into frames, and what it
-//! reports until it is handed out. What waits for the peers is kept once, with a place for each of them: who is overrun loses the
-//! oldest items, and they are counted. `CoreEvent` is everything that may happen to a core, drains and handing out included.
+//! It has a round of consensus on a ledger: a timer lets that go on, or switches to the ledger that the votes choose, and
+//! builds the next ledger once the round is ready.
 //!
-//! It stands on xl_validations and xl_ledger, on xl_queues, on xl_io's keepers, and on xl_wire and xl_tags, by which it reads,
-//! opens and seals frames. Its one contract: each call leaves the core and answers as `core_happens` says of its event, so that
-//! nothing is said before the keeper has saved its sequence; and no call after `open` takes memory.
+//! `Core` is a node with what waits at it: what it says waits for every peer until it is drained into frames, and what it
+//! reports until it is handed out. What waits for the peers is kept once, with a place for each of them: who is overrun
+//! loses the oldest items, and they are counted. `CoreEvent` is everything that may happen to a core, drains and handing
+//! out included.
+//!
+//! It stands on xl_validations, xl_rounds and xl_ledger, on xl_queues, on xl_io's keepers, and on xl_wire and xl_tags, by
+//! which it reads, opens and seals frames. Its one contract: each call leaves the core and answers as `core_happens` says
+//! of its event, so that nothing is said before the keeper has saved its sequence; and no call after `open` takes memory.
 #![tactic(auto)]
 
 mod beat;

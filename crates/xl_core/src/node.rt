@@ -265,7 +265,8 @@ impl<B: Branch + Drop> Node<B> {
         ensures not_after { (result ≡ Err (NotAfter self.old.kept)) ↔ (seq ≤ self.old.kept) }
         ensures off { (failed : ℕ) → (result ≡ Err (IssuingOff failed)) ↔ IsOff self.old seq failed }
         ensures fault { CountsFault result (K.faults keeper.old) (K.faults keeper.new) }
-        ensures asks { IsAsked K.held K.saves K.faults K.save_gives (asks_for self.old seq) (was_kept result) keeper.old keeper.new }
+        ensures asks { IsAsked K.held K.saves K.faults K.save_gives
+            (asks_for self.old seq) (was_kept result) keeper.old keeper.new }
     {
         if seq <= self.kept {
             return Err(Refusal::NotAfter(self.kept));
@@ -297,8 +298,8 @@ impl<B: Branch + Drop> Node<B> {
 
     /// A transaction is pending from then on.
     ///
-    /// Refused where it is pending, or where as many are as may be, in this order. First the time is set, and rows expire;
-    /// nothing else changes then.
+    /// Refused where it is pending, or where as many are as may be, in this order. First the time is set, and rows
+    /// expire; nothing else changes then.
     pub fn submit(&mut self, now: Millis, tx: TxId) -> Result<(), Refusal>
         requires moment { now ≤ GREATEST_MILLIS }
         ensures exact { submit_reply tx result self.new ≡ happens self.old (Submit now tx) Kept }

@@ -162,20 +162,23 @@ impl<B: Branch + Drop> Core<B> {
         }
     }
 
-    /// Looks at the votes and lets the round go on; what the node says by that waits for every peer, and what it reports to be taken.
+    /// Looks at the votes and lets the round go on; what the node says by that waits for every peer, and what it reports
+    /// to be taken.
     ///
-    /// Where the votes choose another ledger than the round's, the node leaves its round for one on that ledger. Else the round's
-    /// phase goes on; once it is ready the next ledger is built, its header is sent, the node validates it, and a round starts on
-    /// it. A validation waits only after its save. Where the save fails, the ledger and the new round stand all the same; where
-    /// there is no room for the ledger, the round stays as it is.
+    /// Where the votes choose another ledger than the round's, the node leaves its round for one on that ledger. Else the
+    /// round's phase goes on; once it is ready the next ledger is built, its header is sent, the node validates it, and a
+    /// round starts on it. A validation waits only after its save. Where the save fails, the ledger and the new round stand
+    /// all the same; where there is no room for the ledger, the round stays as it is.
     pub fn timer<K: Keeper>(&mut self, now: Millis, keeper: &mut K) -> Beat
         requires moment { now ≤ GREATEST_MILLIS }
         ensures step { Beaten self.old now result self.new }
         ensures fault { CountsBeatFault result (K.faults keeper.old) (K.faults keeper.new) }
         // At most one save is asked, of a number above the kept one.
-        ensures held { Holds (core_asks self.old (Timer now)) (beat_was_kept result) (K.held keeper.old) (K.held keeper.new) }
+        ensures held { Holds (core_asks self.old (Timer now)) (beat_was_kept result)
+            (K.held keeper.old) (K.held keeper.new) }
         ensures saves { AsksSave (core_asks self.old (Timer now)) (K.saves keeper.old) (K.saves keeper.new) }
-        ensures keeper { Saves K.save_gives (core_asks self.old (Timer now)) (beat_was_kept result) keeper.old keeper.new }
+        ensures keeper { Saves K.save_gives (core_asks self.old (Timer now)) (beat_was_kept result)
+            keeper.old keeper.new }
         ensures later { K.faults keeper.old ≤ K.faults keeper.new }
         ensures stop { StaysCovered (K.held keeper.old) (K.held keeper.new) self.old self.new }
     {
@@ -193,7 +196,8 @@ impl<B: Branch + Drop> Core<B> {
         requires built { IsBuilt self.old.node built.now }
         ensures step { Concludes self.old built.now result self.new }
         ensures fault { CountsBeatFault result (K.faults keeper.old) (K.faults keeper.new) }
-        ensures asks { IsAsked K.held K.saves K.faults K.save_gives (asks_in self.old.node built.now) (beat_was_kept result) keeper.old keeper.new }
+        ensures asks { IsAsked K.held K.saves K.faults K.save_gives
+            (asks_in self.old.node built.now) (beat_was_kept result) keeper.old keeper.new }
     {
         push_said(&mut self.waiting, &built.said);
         self.waiting.push(Item::Header(built.id));
@@ -216,8 +220,8 @@ impl<B: Branch + Drop> Core<B> {
 
     /// A transaction is pending from then on, and waits for every peer.
     ///
-    /// Refused where it is pending, or where as many are as may be, in this order. First the time is set, and rows expire;
-    /// nothing else changes then.
+    /// Refused where it is pending, or where as many are as may be, in this order. First the time is set, and rows
+    /// expire; nothing else changes then.
     pub fn submit(&mut self, now: Millis, tx: TxId) -> Result<(), Refusal>
         requires moment { now ≤ GREATEST_MILLIS }
         ensures step { Answers (core_happens self.old (Submit now tx) Kept) self.new (done_answer result) }

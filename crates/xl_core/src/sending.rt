@@ -22,7 +22,8 @@ pub fn sealed(keys: &Keys, to: NodeNo, validation: &Validation) -> [u8; VALIDATI
     bytes
 }
 
-/// Puts the frame of a body for another member, sealed by the key for it, at a place of the room, unless the room is too short.
+/// Puts the frame of a body for another member, sealed by the key for it, at a place of the room, unless the room is too
+/// short.
 pub fn put_sealed(keys: &Keys, to: NodeNo, body: Body<'_>, at: usize, room: &mut [u8]) -> Put
     requires key { IsSome (key_of keys.now to) }
     requires place { at ≤ length room.old }

@@ -13,6 +13,6 @@ pub struct Settings {
     pub keys: Keys,
     /// How many ledgers it may know, the root among them.
     pub limit: u32,
-    /// Whether it is a validator. One that isn't observes: it proposes no position, and validates nothing that it builds.
+    /// Whether it is a validator. One that isn't observes: it proposes no position, and validates no ledger.
     pub validating: bool,
 }

@@ -40,8 +40,8 @@ fn alone(position: Option<Proposal>) -> Option<Said>
 }
 
 impl<B: Branch + Drop> Node<B> {
-    /// Looks at the votes, and lets the round go on or switches to another ledger. A ledger on which the round agreed is built and
-    /// accepted, if there is room for it; `conclude` goes on from there.
+    /// Looks at the votes, and lets the round go on or switches to another ledger. A ledger on which the round agreed is
+    /// built and accepted, if there is room for it; `conclude` goes on from there.
     pub(crate) fn tick(&mut self, now: Millis) -> Tick
         requires moment { now ≤ GREATEST_MILLIS }
         ensures exact { timed_by result self.new ≡ timed (at_moment now self.old) }
@@ -95,7 +95,9 @@ impl<B: Branch + Drop> Node<B> {
     /// The round's heartbeat.
     fn beat(&mut self) -> Pulse
         ensures told { result ≡ (heartbeat self.old.time (seen_of self.old) self.old.round).pulse }
-        ensures after { self.new ≡ record self.old { round = (heartbeat self.old.time (seen_of self.old) self.old.round).round } }
+        ensures after { self.new ≡ record self.old {
+          round = (heartbeat self.old.time (seen_of self.old) self.old.round).round;
+        } }
         ensures ready { is_some self.new.round.ready ≡ is_ready result.kind }
     {
         let seen = self.seen();
@@ -104,7 +106,8 @@ impl<B: Branch + Drop> Node<B> {
 
     /// The round's phase goes on.
     fn go_on(&mut self) -> Tick
-        ensures exact { timed_by result self.new ≡ after_beat self.old (heartbeat self.old.time (seen_of self.old) self.old.round) }
+        ensures exact { timed_by result self.new ≡
+            after_beat self.old (heartbeat self.old.time (seen_of self.old) self.old.round) }
         ensures ticked { IsTicked self.new result }
     {
         let Pulse { kind, said } = self.beat();
@@ -128,7 +131,8 @@ impl<B: Branch + Drop> Node<B> {
     /// Builds and accepts the ledger for which the round is ready, if there is room for it.
     fn build(&mut self, said: Option<Said>, moved_on: bool) -> Tick
         requires ready { IsSome self.old.round.ready }
-        ensures exact { timed_by result self.new ≡ building self.old said moved_on (knowing self.old.ledgers (built_of self.old)) }
+        ensures exact { timed_by result self.new ≡
+            building self.old said moved_on (knowing self.old.ledgers (built_of self.old)) }
         ensures ticked { IsTicked self.new result }
     {
         let header = self.next_header();
@@ -203,7 +207,8 @@ impl<B: Branch + Drop> Node<B> {
         requires built { IsBuilt self.old built.now }
         ensures exact { validated_reply result self.new ≡ concluded self.old built.now (save_in result) }
         ensures fault { CountsFault result (K.faults keeper.old) (K.faults keeper.new) }
-        ensures asks { IsAsked K.held K.saves K.faults K.save_gives (asks_in self.old built.now) (was_kept result) keeper.old keeper.new }
+        ensures asks { IsAsked K.held K.saves K.faults K.save_gives
+            (asks_in self.old built.now) (was_kept result) keeper.old keeper.new }
     {
         let outcome = self.validate(built, keeper);
         let mode = usual_mode(self.validating);
@@ -212,7 +217,7 @@ impl<B: Branch + Drop> Node<B> {
         outcome
     }
 
-    /// Issues the validation of a built ledger, where the node is a validator and the members haven't moved on without it.
+    /// Issues the validation of a built ledger, where the node is a validator and the members haven't moved on.
     fn validate<K: Keeper>(
         &mut self,
         built: &Built,
@@ -221,7 +226,8 @@ impl<B: Branch + Drop> Node<B> {
         requires built { IsBuilt self.old built.now }
         ensures exact { validated_reply result self.new ≡ validated self.old built.now (save_in result) }
         ensures fault { CountsFault result (K.faults keeper.old) (K.faults keeper.new) }
-        ensures asks { IsAsked K.held K.saves K.faults K.save_gives (asks_in self.old built.now) (was_kept result) keeper.old keeper.new }
+        ensures asks { IsAsked K.held K.saves K.faults K.save_gives
+            (asks_in self.old built.now) (was_kept result) keeper.old keeper.new }
     {
         if !self.validating || built.moved_on {
             return Ok(None);
