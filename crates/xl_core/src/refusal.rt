@@ -1,7 +1,7 @@
 ghost use Rattle.std.specs.Prelude.{◌≡◌};
-ghost use Rattle.xl_core.specs.Refusals.{refusal_from, code_of};
+ghost use Rattle.xl_core.specs.Refusals.{refusal_from, round_from, code_of};
 
-use xl_base::{LedgerId, Secs, Seq};
+use xl_base::{LedgerId, NodeNo, Secs, Seq, TxId};
 use xl_ledger::AddRefusal;
 use xl_rounds::RoundRefusal;
 use xl_tags::TagRefusal;
@@ -22,8 +22,6 @@ pub enum Refusal {
     Tag(TagRefusal),
     /// The header isn't added to the known ledgers.
     Header(AddRefusal),
-    /// The round doesn't take the transaction.
-    Round(RoundRefusal),
     /// Frames of this kind aren't heard yet.
     NotBuilt(u8),
     /// The validation isn't current: the second now, and the second at which it was signed.
@@ -34,6 +32,19 @@ pub enum Refusal {
     Conflict(LedgerId),
     /// The sequence is at most the greatest one taken from the sender, which is given.
     OldSeq(Seq),
+    /// The transaction is pending.
+    Pending(TxId),
+    /// So many transactions are pending, as many as may be.
+    PoolFull(u32),
+    /// The proposal builds on another ledger than the round's, which is given, and on one that is known and not later than
+    /// the round's.
+    WrongPrev(LedgerId),
+    /// Its propose sequence isn't above that of the member's position, which is given.
+    OldPosition(u32),
+    /// The member left the round.
+    Left(NodeNo),
+    /// The proposal was made twenty seconds or more before the second now, which is given.
+    StaleProposal(Secs),
     /// The sequence to be issued is at most the last one that was saved, which is given.
     NotAfter(Seq),
     /// The save of this sequence failed since the node opened: it issues nothing then.
@@ -86,12 +97,17 @@ impl From<AddRefusal> for Refusal {
 }
 
 impl From<RoundRefusal> for Refusal {
-    ghost use Rattle.xl_core.specs.declared.refusal.Refusal.TheVariants as node;
-
-    ghost from_gives = { λ why refusal. refusal ≡ node.Round why };
+    ghost from_gives = { λ why refusal. refusal ≡ round_from why };
 
     fn from(why: RoundRefusal) -> Refusal {
-        Refusal::Round(why)
+        match why {
+            RoundRefusal::Pending(tx) => Refusal::Pending(tx),
+            RoundRefusal::PoolFull(most) => Refusal::PoolFull(most),
+            RoundRefusal::WrongPrev(ours) => Refusal::WrongPrev(ours),
+            RoundRefusal::OldPosition(kept) => Refusal::OldPosition(kept),
+            RoundRefusal::Left(member) => Refusal::Left(member),
+            RoundRefusal::StaleProposal(now) => Refusal::StaleProposal(now),
+        }
     }
 }
 
@@ -104,11 +120,16 @@ impl Refusal {
             Refusal::Frame(why) => why.code(),
             Refusal::Tag(why) => why.code(),
             Refusal::Header(why) => why.code(),
-            Refusal::Round(why) => why.code(),
             Refusal::Stale(now, signed) => ValRefusal::Stale(*now, *signed).code(),
             Refusal::Repeat(id) => ValRefusal::Repeat(*id).code(),
             Refusal::Conflict(id) => ValRefusal::Conflict(*id).code(),
             Refusal::OldSeq(largest) => ValRefusal::OldSeq(*largest).code(),
+            Refusal::Pending(tx) => RoundRefusal::Pending(*tx).code(),
+            Refusal::PoolFull(most) => RoundRefusal::PoolFull(*most).code(),
+            Refusal::WrongPrev(ours) => RoundRefusal::WrongPrev(*ours).code(),
+            Refusal::OldPosition(kept) => RoundRefusal::OldPosition(*kept).code(),
+            Refusal::Left(member) => RoundRefusal::Left(*member).code(),
+            Refusal::StaleProposal(now) => RoundRefusal::StaleProposal(*now).code(),
             Refusal::NotAfter(_) => 30,
             Refusal::IssuingOff(_) => 31,
             Refusal::KeepFault(_) => 32,

@@ -25,9 +25,7 @@ use Rattle.xl_tags.specs.declared.refusal.TagRefusal.{TagRefusal}
 use Rattle.xl_tags.specs.declared.refusal.TagRefusal.TheVariants.{NotForMe, Stranger, BadTag}
 use Rattle.xl_wire.specs.declared.refusal.WireRefusal.{WireRefusal}
 use Rattle.xl_wire.specs.declared.refusal.WireRefusal.TheVariants as wire
-use Rattle.xl_rounds.specs.declared.refusal.RoundRefusal.{RoundRefusal}
-use Rattle.xl_rounds.specs.declared.refusal.RoundRefusal.TheVariants as round
-use Rattle.xl_replay.specs.Texts.{space, newline, named_text, id_text, frame_values, tag_values, header_values, round_values, values_text, preferred_text}
+use Rattle.xl_replay.specs.Texts.{space, newline, named_text, id_text, frame_values, tag_values, header_values, values_text, preferred_text}
 use Rattle.xl_replay.specs.Headlines.{HasLine}
 
 -- TEXT WITH NO NEWLINE
@@ -101,26 +99,23 @@ header_one_line names (header.Orphan parent) = id_one_line names parent
 header_one_line names (header.WrongSeq parent own) = spaced (decimal parent) (decimal own) (decimal_one_line parent) (decimal_one_line own)
 header_one_line names (header.Full limit) = decimal_one_line limit
 
-round_one_line : (names : List Named) (why : RoundRefusal) → IsOneLine (round_values names why)
-round_one_line names (round.Pending tx) = id_one_line names (record { 0 = tx.0 })
-round_one_line names (round.PoolFull most) = decimal_one_line most
-round_one_line names (round.WrongPrev ours) = id_one_line names ours
-round_one_line names (round.OldPosition kept) = decimal_one_line kept
-round_one_line names (round.Left member) = decimal_one_line member
-round_one_line names (round.StaleProposal now) = decimal_one_line now
-
 pub values_one_line : (names : List Named) (why : Refusal) → IsOneLine (values_text names why)
 values_one_line names (Frame why) = frame_one_line why
 values_one_line names (Short lack) = decimal_one_line lack
 values_one_line names (Extra more) = decimal_one_line more
 values_one_line names (Tag why) = tag_one_line why
 values_one_line names (Header why) = header_one_line names why
-values_one_line names (Round why) = round_one_line names why
 values_one_line names (NotBuilt kind) = decimal_one_line kind
 values_one_line names (Stale now signed) = spaced (decimal now) (decimal signed) (decimal_one_line now) (decimal_one_line signed)
 values_one_line names (Repeat id) = id_one_line names id
 values_one_line names (Conflict id) = id_one_line names id
 values_one_line names (OldSeq largest) = decimal_one_line largest
+values_one_line names (Pending tx) = id_one_line names (record { 0 = tx.0 })
+values_one_line names (PoolFull most) = decimal_one_line most
+values_one_line names (WrongPrev ours) = id_one_line names ours
+values_one_line names (OldPosition kept) = decimal_one_line kept
+values_one_line names (Left member) = decimal_one_line member
+values_one_line names (StaleProposal now) = decimal_one_line now
 values_one_line names (NotAfter kept) = decimal_one_line kept
 values_one_line names (IssuingOff failed) = decimal_one_line failed
 values_one_line names (KeepFault count) = decimal_one_line count

@@ -10,8 +10,6 @@ use Rattle.xl_lists.specs.Quorums.{bound_of}
 use Rattle.xl_core.specs.declared.refusal.Refusal.{Refusal}
 use Rattle.xl_core.specs.declared.refusal.Refusal.TheVariants.{Frame, Short, Extra, Tag, Header, Round, NotBuilt, Stale, Repeat, Conflict, OldSeq, NotAfter, IssuingOff, KeepFault}
 use Rattle.xl_core.specs.declared.report.Report.{Report}
-use Rattle.xl_rounds.specs.declared.refusal.RoundRefusal.{RoundRefusal}
-use Rattle.xl_rounds.specs.declared.refusal.RoundRefusal.TheVariants as round
 use Rattle.xl_ledger.specs.declared.refusal.AddRefusal.{AddRefusal}
 use Rattle.xl_ledger.specs.declared.refusal.AddRefusal.TheVariants as header
 use Rattle.xl_tags.specs.declared.refusal.TagRefusal.{TagRefusal}
@@ -68,14 +66,6 @@ header_values names (header.Orphan parent) = id_text names parent
 header_values names (header.WrongSeq parent own) = decimal parent ++ space ++ decimal own
 header_values names (header.Full limit) = decimal limit
 
-abbrev pub round_values : List Named → RoundRefusal → List ℕ
-round_values names (round.Pending tx) = id_text names (record { 0 = tx.0 })
-round_values names (round.PoolFull most) = decimal most
-round_values names (round.WrongPrev ours) = id_text names ours
-round_values names (round.OldPosition kept) = decimal kept
-round_values names (round.Left member) = decimal member
-round_values names (round.StaleProposal now) = decimal now
-
 -- the values of a refusal, parted by spaces
 abbrev pub values_text : List Named → Refusal → List ℕ
 values_text names (Frame why) = frame_values why
@@ -83,12 +73,17 @@ values_text names (Short lack) = decimal lack
 values_text names (Extra more) = decimal more
 values_text names (Tag why) = tag_values why
 values_text names (Header why) = header_values names why
-values_text names (Round why) = round_values names why
 values_text names (NotBuilt kind) = decimal kind
 values_text names (Stale now signed) = decimal now ++ space ++ decimal signed
 values_text names (Repeat id) = id_text names id
 values_text names (Conflict id) = id_text names id
 values_text names (OldSeq largest) = decimal largest
+values_text names (Pending tx) = id_text names (record { 0 = tx.0 })
+values_text names (PoolFull most) = decimal most
+values_text names (WrongPrev ours) = id_text names ours
+values_text names (OldPosition kept) = decimal kept
+values_text names (Left member) = decimal member
+values_text names (StaleProposal now) = decimal now
 values_text names (NotAfter kept) = decimal kept
 values_text names (IssuingOff failed) = decimal failed
 values_text names (KeepFault count) = decimal count

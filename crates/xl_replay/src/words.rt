@@ -2,14 +2,13 @@
 ghost use Rattle.std.specs.Prelude.{◌≡◌, ◌++◌, decimal, OnOk};
 ghost use Rattle.std.specs.String.{string_bytes};
 ghost use Rattle.hex.specs.Hex.{encode_lower};
-ghost use Rattle.xl_replay.specs.Texts.{id_text, frame_values, tag_values, header_values, round_values, values_text};
+ghost use Rattle.xl_replay.specs.Texts.{id_text, frame_values, tag_values, header_values, values_text};
 
 use std::alloc::Global;
 use std::fmt::Write;
 use xl_base::{LedgerId, OutOfMemory};
 use xl_core::Refusal;
 use xl_ledger::AddRefusal;
-use xl_rounds::RoundRefusal;
 use xl_sched::{Reader, printed_token};
 use xl_tags::TagRefusal;
 use xl_wire::WireRefusal;
@@ -47,16 +46,22 @@ pub fn push_values(
         Refusal::Short(number) | Refusal::Extra(number) => push_number(text, *number as u64),
         Refusal::Tag(why) => push_tag_values(alloc, text, why),
         Refusal::Header(why) => push_header_values(alloc, text, reader, why),
-        Refusal::Round(why) => push_round_values(alloc, text, reader, why),
         Refusal::NotBuilt(kind) => push_number(text, u64::from(*kind)),
         Refusal::Stale(now, signed) => {
             write!(text, "{now} {signed}")?;
             Ok(())
         }
-        Refusal::Repeat(id) | Refusal::Conflict(id) => push_id(alloc, text, reader, id),
-        Refusal::OldSeq(number) | Refusal::NotAfter(number) | Refusal::IssuingOff(number) => {
-            push_number(text, u64::from(*number))
+        Refusal::Repeat(id) | Refusal::Conflict(id) | Refusal::WrongPrev(id) => {
+            push_id(alloc, text, reader, id)
         }
+        Refusal::Pending(tx) => push_id(alloc, text, reader, &LedgerId(tx.0)),
+        Refusal::Left(member) => push_number(text, u64::from(member.get())),
+        Refusal::OldSeq(number)
+        | Refusal::PoolFull(number)
+        | Refusal::OldPosition(number)
+        | Refusal::StaleProposal(number)
+        | Refusal::NotAfter(number)
+        | Refusal::IssuingOff(number) => push_number(text, u64::from(*number)),
         Refusal::KeepFault(count) => push_number(text, *count),
     }
 }
@@ -110,25 +115,6 @@ fn push_header_values(
             Ok(())
         }
         AddRefusal::Full(limit) => push_number(text, u64::from(*limit)),
-    }
-}
-
-/// The values of why the round doesn't take a transaction or a proposal.
-fn push_round_values(
-    alloc: Global,
-    text: &mut String,
-    reader: &Reader,
-    why: &RoundRefusal,
-) -> Result<(), OutOfMemory>
-    ensures { OnOk result (string_bytes text.new ≡ string_bytes text.old ++ round_values reader.now.names why.now) }
-{
-    match why {
-        RoundRefusal::Pending(tx) => push_id(alloc, text, reader, &LedgerId(tx.0)),
-        RoundRefusal::WrongPrev(ours) => push_id(alloc, text, reader, ours),
-        RoundRefusal::PoolFull(number)
-        | RoundRefusal::OldPosition(number)
-        | RoundRefusal::StaleProposal(number) => push_number(text, u64::from(*number)),
-        RoundRefusal::Left(member) => push_number(text, u64::from(member.get())),
     }
 }
 
