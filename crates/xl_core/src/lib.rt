@@ -42,7 +42,6 @@ pub use outgoing::OUTGOING;
 pub use queued::Core;
 pub use refusal::Refusal;
 pub use report::{OwnValidation, Report};
-pub use sending::sealed;
 pub use settings::Settings;
 pub use taken::Taken;
 pub use untaken::UNTAKEN;

@@ -1,7 +1,6 @@
 // The frames in which a node sends what it says.
 ghost use Rattle.std.specs.Prelude.{◌≡◌, ◌+◌, ◌≤◌, Some, IsSome, IsTrue, length};
 ghost use Rattle.xl_tags.specs.Rings.{key_of};
-ghost use Rattle.xl_wire.specs.declared.body.Body.TheVariants as bodies;
 ghost use Rattle.xl_wire.specs.Writing.{body_length as body_length_of};
 ghost use Rattle.xl_core.specs.Draining.{IsPut};
 ghost use Rattle.xl_core.specs.Sending.{sealed_bytes, has_spelling};
@@ -9,18 +8,10 @@ ghost use Rattle.xl_core.specs.Sending.{sealed_bytes, has_spelling};
 use crate::putting::{Put, put_frame};
 use xl_base::NodeNo;
 use xl_tags::{Keys, seal};
-use xl_wire::{Body, Frame, LONGEST_FRAME, VALIDATION_FRAME, Validation, encode};
+use xl_wire::{Body, Frame, LONGEST_FRAME, encode};
 
-/// The frame of a validation for another member, sealed by the key for it.
-pub fn sealed(keys: &Keys, to: NodeNo, validation: &Validation) -> [u8; VALIDATION_FRAME]
-    requires key { IsSome (key_of keys.now to) }
-    ensures bytes { result ≡ sealed_bytes keys.now keys.now.me to (bodies.Validation validation.now) }
-    ensures spelled { IsTrue (has_spelling keys.now.me to (bodies.Validation validation.now)) }
-{
-    let mut bytes = [0; VALIDATION_FRAME];
-    seal_into(keys, to, Body::Validation(*validation), &mut bytes);
-    bytes
-}
+/// How many bytes a frame has at most that is no set's: a header's.
+const SHORT_FRAME: usize = 164;
 
 /// Puts the frame of a body for another member, sealed by the key for it, at a place of the room, unless the room is too
 /// short.
@@ -30,10 +21,32 @@ pub fn put_sealed(keys: &Keys, to: NodeNo, body: Body<'_>, at: usize, room: &mut
     ensures put { IsPut (Some (sealed_bytes keys.now keys.now.me to body.entry)) at room.old room.new result }
     ensures spelled { IsTrue (has_spelling keys.now.me to body.entry) }
 {
-    let mut frame = [0; LONGEST_FRAME];
-    let count = 46 + body_length(&body);
-    seal_into(keys, to, body, &mut frame[..count]);
-    put_frame(&frame[..count], at, room)
+    // Few frames are a set's, so few clear the long room.
+    if 46 + body_length(&body) <= SHORT_FRAME {
+        put_through(&mut [0; SHORT_FRAME], keys, to, body, at, room)
+    } else {
+        put_through(&mut [0; LONGEST_FRAME], keys, to, body, at, room)
+    }
+}
+
+/// The same through a room of its own, in which the frame becomes whole.
+fn put_through(
+    own: &mut [u8],
+    keys: &Keys,
+    to: NodeNo,
+    body: Body<'_>,
+    at: usize,
+    room: &mut [u8],
+) -> Put
+    requires own { 46 + body_length_of body ≤ length own.old }
+    requires key { IsSome (key_of keys.now to) }
+    requires place { at ≤ length room.old }
+    ensures put { IsPut (Some (sealed_bytes keys.now keys.now.me to body.entry)) at room.old room.new result }
+    ensures spelled { IsTrue (has_spelling keys.now.me to body.entry) }
+{
+    let frame = &mut own[..46 + body_length(&body)];
+    seal_into(keys, to, body, frame);
+    put_frame(frame, at, room)
 }
 
 /// Writes the frame of a body for another member, sealed by the key for it, into a place of its length.
