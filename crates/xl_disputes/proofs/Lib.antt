@@ -14,3 +14,4 @@ pub mod Extending
 pub mod Picking
 pub mod Keeping
 pub mod Pooling
+pub mod Resetting

@@ -84,6 +84,14 @@ impl Disputes {
         })
     }
 
+    /// No held set, no position, and an empty set of our own, as when it was opened. It takes no memory.
+    pub fn reset(&mut self)
+        ensures { self.new ≡ nothing_known }
+    {
+        self.shares.reset();
+        self.positions = [None; MEMBERS];
+    }
+
     /// Makes these ids our own set.
     pub fn own(&mut self, set: &[TxId])
         requires { IsSet set.now }

@@ -115,6 +115,13 @@ impl Index {
         })
     }
 
+    /// No id any more.
+    pub(crate) fn clear(&mut self)
+        ensures { self.new ≡ [] }
+    {
+        self.rows.clear();
+    }
+
     pub(crate) fn len(&self) -> usize
         ensures value { result ≡ length self.now }
         ensures valid { IsIndex self.now }

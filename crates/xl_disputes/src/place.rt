@@ -114,6 +114,14 @@ impl Place {
         self.holds = false;
     }
 
+    /// Holds no set any more, and so stands for no position.
+    pub(crate) fn reset(&mut self)
+        ensures { self.new ≡ no_holding self.old.bit }
+    {
+        self.holds = false;
+        self.weight = 0;
+    }
+
     pub(crate) fn weigh(&mut self, weight: u32)
         ensures { self.new ≡ with_weight weight self.old }
     {

@@ -49,6 +49,18 @@ impl Rows {
         })
     }
 
+    /// No row any more. Each slot that had one is given back.
+    pub(crate) fn clear(&mut self)
+        requires apart { IsRising (ids_of self.old) }
+        ensures { self.new ≡ [] }
+    {
+        let mut left = self.len();
+        while left > 0 {
+            left -= 1;
+            self.remove(left);
+        }
+    }
+
     pub(crate) fn len(&self) -> usize
         ensures { result ≡ length self.now }
     {

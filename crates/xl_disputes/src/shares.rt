@@ -34,6 +34,7 @@ ghost use Rattle.xl_disputes.specs.Tallies.{holders};
 ghost use Rattle.xl_disputes.specs.Holdings.{
   Holding,
   member_bits,
+  no_holding,
   no_holdings,
   ids_in,
   total,
@@ -114,6 +115,15 @@ fn add_one(weights: &mut [u32; PLACES], place: usize)
     }
 }
 
+/// No place holds a set, or stands for a position, any more.
+fn reset_all(places: &mut [Place])
+    ensures { places.new ≡ map (λ h. no_holding h.bit) places.old }
+{
+    for place in places.iter_mut() {
+        place.reset();
+    }
+}
+
 impl Shares {
     /// An empty set of our own, and no other.
     pub(crate) fn open(alloc: Global) -> Result<Shares, OutOfMemory>
@@ -123,6 +133,16 @@ impl Shares {
             places: no_places(alloc)?,
             index: Index::open(alloc)?,
         })
+    }
+
+    /// An empty set of our own, and no other, as it was opened.
+    pub(crate) fn reset(&mut self)
+        requires { map (λ h. h.bit) self.old ≡ 0 ∷ member_bits }
+        ensures { self.new ≡ no_holdings }
+    {
+        self.index.clear();
+        reset_all(&mut self.places);
+        self.places[0].fill(&[]);
     }
 
     /// Our own set.

@@ -99,6 +99,13 @@ impl Pending {
         })
     }
 
+    /// No transaction is pending any more.
+    pub(crate) fn clear(&mut self)
+        ensures { self.new ≡ [] }
+    {
+        self.ids.clear();
+    }
+
     pub(crate) fn as_slice(&self) -> &[TxId]
         ensures value { result.now ≡ self.now }
         ensures set { IsSet self.now }

@@ -137,6 +137,15 @@ impl Positions {
         })
     }
 
+    /// No position, no held set, and an empty set of our own, as when it was opened.
+    pub(crate) fn reset(&mut self)
+        ensures { self.new ≡ no_positions [] }
+    {
+        self.members = [None; MEMBERS];
+        self.count = 0;
+        self.disputes.reset();
+    }
+
     /// The member's position, if it has one.
     pub(crate) fn of(&self, member: NodeNo) -> Option<Proposal>
         ensures { result ≡ position_of self.now member }

@@ -30,8 +30,19 @@ use xl_wire::Proposal;
 mod heartbeat;
 mod proposals;
 
-/// How long the round before the first one took, as far as that one counts.
-const FIRST_FORMER_MS: Millis = 15_000;
+/// What a node's first round remembers: there was none before it, and that one counts as so long.
+const FIRST_FORMER: Former = Former {
+    round_ms: 15_000,
+    proposers: 0,
+};
+
+/// No position was taken yet.
+const NO_STANCE: Stance = Stance {
+    closed: 0,
+    propose_sequence: 0,
+    close: 0,
+    time: 0,
+};
 
 /// The propose sequence that says that a member leaves.
 const LEAVING: u32 = u32::MAX;
@@ -97,23 +108,32 @@ impl Round {
     {
         Ok(Round {
             setting: setting_on(registry, root, mode, now),
-            former: Former {
-                round_ms: FIRST_FORMER_MS,
-                proposers: 0,
-            },
+            former: FIRST_FORMER,
             phase: Phase::Open,
-            stance: Stance {
-                closed: 0,
-                propose_sequence: 0,
-                close: 0,
-                time: 0,
-            },
+            stance: NO_STANCE,
             ready: None,
             positions: Positions::open(alloc)?,
             left: [false; MEMBERS],
             later: [None; MEMBERS],
             pending: Pending::open(alloc)?,
         })
+    }
+
+    /// Becomes a node's first round, on the root, as `open` makes it. It takes no memory, and gives back what is held
+    /// row by row, so that it costs little where little is.
+    pub fn reopen(&mut self, registry: &Registry, root: LedgerNo, mode: Mode, now: Millis)
+        requires known { root < length registry.now.headers }
+        ensures { self.new ≡ opened registry.now.headers root mode now }
+    {
+        self.setting = setting_on(registry, root, mode, now);
+        self.former = FIRST_FORMER;
+        self.phase = Phase::Open;
+        self.stance = NO_STANCE;
+        self.ready = None;
+        self.positions.reset();
+        self.left = [false; MEMBERS];
+        self.later = [None; MEMBERS];
+        self.pending.clear();
     }
 
     /// The ledger that the next one is to follow.
