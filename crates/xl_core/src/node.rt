@@ -199,10 +199,9 @@ impl<B: Branch + Drop> Node<B> {
         let table = Table::open(alloc, &self.list, self.me)?;
         let time = now.max(LEAST_TIME);
         let mode = usual_mode(self.validating);
-        let round = Round::open(alloc, &registry, LedgerNo::root(), mode, time)?;
+        self.round.reopen(&registry, LedgerNo::root(), mode, time);
         self.registry = registry;
         self.table = table;
-        self.round = round;
         self.time = time;
         self.kept = kept;
         self.failed_save = None;

@@ -10,8 +10,8 @@ use Rattle.xl_core.proofs.node.Node.reopen.Goals as goal
 pub invariant_of-self : goal.invariant_of-self
 invariant_of-self g c =
     let known : AreLedgers c.in_ok-registry.registry.headers = subst (λ (r : Ledgers). AreLedgers r.headers) (sym c.in_ok-registry.ensures) root_known in (
-      opened_ready (settings_of (node_seen c.self.inside)) c.args.now c.args.kept c.max-time.result c.in_ok-registry.registry c.in_ok-table.table.rows c.in_ok-round.round c.self.inside.keys.value
-          c.in_ok-table.ensures.valid c.self.invariant.0.keyed c.requires.moment c.max-time.ensures (c.in_ok-registry.ensures ∙ ap only_root c.limit.ensures.value) c.in_ok-table.ensures.rows (c.in_ok-round.ensures ∙ first_round c.in_ok-registry.registry.headers c.root.result c.usual_mode-mode.result c.self.inside.validating c.max-time.result c.root.ensures c.usual_mode-mode.ensures) refl,
+      opened_ready (settings_of (node_seen c.self.inside)) c.args.now c.args.kept c.max-time.result c.in_ok-registry.registry c.in_ok-table.table.rows c.reopen.new.self c.self.inside.keys.value
+          c.in_ok-table.ensures.valid c.self.invariant.0.keyed c.requires.moment c.max-time.ensures (c.in_ok-registry.ensures ∙ ap only_root c.limit.ensures.value) c.in_ok-table.ensures.rows (c.reopen.ensures ∙ first_round c.in_ok-registry.registry.headers c.root.result c.usual_mode-mode.result c.self.inside.validating c.max-time.result c.root.ensures c.usual_mode-mode.ensures) refl,
       c.in_ok-table.ensures.tally c.in_ok-registry.registry.headers known,
       c.in_ok-table.ensures.me,
     )
