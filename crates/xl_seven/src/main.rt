@@ -1,0 +1,134 @@
+//! Seven cores in memory, driven by hand: once a second each has its timer, and what it says is handed on to the others
+//! at once. One of them is given a transaction. They build two ledgers, and each reports both.
+//!
+//! It stands on xl_core alone, below the world and its schedules. It has no contract of its own: the gate compares what
+//! it prints.
+#![tactic(auto)]
+
+ghost use Rattle.std.specs.Prelude.{◌<◌, ◌≤◌, length};
+ghost use Rattle.xl_base.specs.declared.moments.TheConstants.{GREATEST_MILLIS};
+
+mod member;
+
+use member::Member;
+use std::alloc::Global;
+use std::io;
+use xl_base::{LedgerId, Millis, NodeNo, TxId};
+use xl_core::{Beat, Issued};
+use xl_lists::{List, default_quorum};
+use xl_wire::LONGEST_FRAME;
+
+const NUMBERS: [u32; 7] = [1, 2, 3, 4, 5, 6, 7];
+
+/// How long they run.
+const SECONDS: Millis = 60;
+
+const TX: TxId = TxId([0xA1; 32]);
+
+/// The seven, who trust each other, or None where memory is wanting.
+fn open_all(alloc: Global) -> Option<Vec<Member>> {
+    let list = List::new(&NUMBERS, default_quorum(7)).ok()?;
+    let mut members = Vec::new(alloc);
+    for number in NUMBERS {
+        let member = Member::open(alloc, NodeNo::new(number)?, &list).ok()?;
+        members.push(member).ok()?;
+    }
+    Some(members)
+}
+
+/// The first bytes of an id.
+fn brief(id: &LedgerId) -> u32 {
+    u32::from_be_bytes([id.0[0], id.0[1], id.0[2], id.0[3]])
+}
+
+/// Hands what waits at one member to another.
+fn hand_on(members: &mut [Member], from: usize, to: usize, now: Millis)
+    requires from { from < length members.old }
+    requires to { to < length members.old }
+    requires moment { now ≤ GREATEST_MILLIS }
+{
+    let mut room = [0; LONGEST_FRAME];
+    let receiver = members[to].me();
+    let count = members[from].drain(receiver, &mut room);
+    members[to].hear_all(now, &room[..count]);
+}
+
+/// Hands what waits at one member to each other.
+fn hand_around(members: &mut [Member], from: usize, now: Millis)
+    requires from { from < length members.old }
+    requires moment { now ≤ GREATEST_MILLIS }
+{
+    for to in 0..members.len() {
+        if to != from {
+            hand_on(members, from, to, now);
+        }
+    }
+}
+
+fn how(issued: &Issued) -> &'static str {
+    match issued {
+        Issued::Full => "full",
+        Issued::Partial => "partial",
+        Issued::Silent => "silent",
+        Issued::Refused(_) => "refused",
+    }
+}
+
+/// Prints what came of a member's timer, unless nothing did.
+fn tell_beat(rt: &HostRuntime, me: NodeNo, beat: &Beat) -> io::Result<()> {
+    match beat {
+        Beat::Nothing => Ok(()),
+        Beat::Closed => println!(rt; "closed {me}"),
+        Beat::Updated => println!(rt; "updated {me}"),
+        Beat::Switched(seq, id) => println!(rt; "switched {me} {seq} {:08x}", brief(id)),
+        Beat::NoRoom(known) => println!(rt; "no room {me} {known}"),
+        Beat::Built { seq, id, issued, .. } => {
+            println!(rt; "built {me} {seq} {:08x} {}", brief(id), how(issued))
+        }
+    }
+}
+
+/// Prints what a member reports.
+fn tell_reports(rt: &HostRuntime, member: &mut Member) -> io::Result<()> {
+    while let Some(report) = member.report() {
+        println!(rt; "reports {} {} {:08x}", member.me(), report.seq, brief(&report.id))?;
+    }
+    Ok(())
+}
+
+fn tell_all_reports(rt: &HostRuntime, members: &mut [Member]) -> io::Result<()> {
+    for member in members.iter_mut() {
+        tell_reports(rt, member)?;
+    }
+    Ok(())
+}
+
+/// One timer at each member, after each of which all is handed on.
+fn beat_all(rt: &HostRuntime, members: &mut [Member], now: Millis) -> io::Result<()>
+    requires { now ≤ GREATEST_MILLIS }
+{
+    for k in 0..members.len() {
+        let beat = members[k].timer(now);
+        tell_beat(rt, members[k].me(), &beat)?;
+        hand_around(members, k, now);
+    }
+    tell_all_reports(rt, members)
+}
+
+fn run(rt: &HostRuntime, members: &mut [Member]) -> io::Result<()> {
+    if let Some(first) = members.first_mut() {
+        first.submit(1_000, TX);
+        hand_around(members, 0, 1_000);
+    }
+    for second in 1..=SECONDS {
+        beat_all(rt, members, 1_000 * second)?;
+    }
+    Ok(())
+}
+
+fn main(rt: HostRuntime) -> io::Result<()> {
+    match open_all(rt.alloc()) {
+        Some(mut members) => run(&rt, &mut members),
+        None => println!(rt; "out of memory"),
+    }
+}
