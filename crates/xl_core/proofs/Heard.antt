@@ -286,10 +286,10 @@ differs m n other = grind (arith, nat_tests)
 pub carried : (ring : Ring) (members bytes : List ℕ) (f : RawFrame) (body : Body) → Carries ring members bytes f body →
     heard ring members bytes ≡ Ok (record { from = f.from; what = speech_of body })
 carried ring members bytes f body c =
-    let long : length bytes ≡ span f.body = ap length c.spelling.spelling ∙ length-raw_bytes f c.spelling.frame.tag in
+    let long : length bytes ≡ span f.body = ap length c.frame.spelling ∙ length-raw_bytes f c.frame.frame.tag in
     let all : length bytes ≤ span f.body = omega (arith, long) in
-    let whole : split_of bytes ≡ Whole f = spelled_split bytes f (subst (SpellsRaw f) (sym (take_all (span f.body) bytes all)) c.spelling) in
+    let whole : split_of bytes ≡ Whole f = spelled_split bytes f (subst (SpellsRaw f) (sym (take_all (span f.body) bytes all)) c.frame) in
     let opens : refusal_of ring members f ≡ None =
     pass (f.to == ring.me) (f.from == ring.me) (is_on members f.from) (is_sealed ring f) _ _ _
     (eq-eqb f.to ring.me c.mine) (differs f.from ring.me c.other) c.listed ((sealed_exactly ring f (is_sealed ring f) refl).1 c.tag) in
-    read ring members bytes f (Ok body) whole all opens (sym (spelled_read f.kind f.body body c.body))
+    read ring members bytes f (Ok body) whole all opens (sym (spelled_read f.kind f.body body c.says))

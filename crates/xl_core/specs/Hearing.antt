@@ -51,9 +51,9 @@ heard ring members bytes = unless_refused (unheard ring members bytes) (said_in 
 
 -- bytes are a frame to the keys' member from another listed one, with the tag of their key, and the frame has this body
 pub record Carries (ring : Ring) (members bytes : List ℕ) (f : RawFrame) (body : Body) : Type 0 where
-  pub spelling : SpellsRaw f bytes
+  pub frame : SpellsRaw f bytes
   pub mine : f.to ≡ ring.me
   pub other : f.from ≢ ring.me
   pub listed : IsTrue (is_on members f.from)
   pub tag : tag_by ring f.from f ≡ Some f.tag
-  pub body : SpellsBody body f.kind f.body
+  pub says : SpellsBody body f.kind f.body

@@ -47,7 +47,7 @@ use crate::hearing::hear;
 use crate::putting::Put;
 use crate::sending::put_sealed;
 use crate::taken::Heard;
-use crate::{Item, OwnValidation, Refusal, Report, Settings, Speech, Taken};
+use crate::{Item, OwnValidation, Refusal, Report, Settings, Speech, Spoken, Taken};
 use std::alloc::Global;
 use std::marker::Model;
 use xl_base::{LedgerId, Millis, NodeNo, OutOfMemory, Seq, SetId, TxId, secs_of};
