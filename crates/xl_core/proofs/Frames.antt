@@ -2,13 +2,15 @@
 use Rattle.std.proofs.Common.{◌≡◌, ℕ, List, refl, ap, sym, ◌∙◌, Option, Some, None, Result, Ok, Err}
 use Rattle.std.specs.Option.{option_or}
 use Rattle.xl_base.specs.Refusals.{unless_refused}
+use Rattle.xl_wire.specs.declared.body.Body.{Body}
 use Rattle.xl_wire.specs.Heads.{raw_in}
+use Rattle.xl_wire.specs.Raws.{RawFrame}
 use Rattle.xl_core.specs.declared.hearing.Spoken.{Spoken}
 use Rattle.xl_core.specs.declared.hearing.Speech.{Speech}
 use Rattle.xl_core.specs.declared.refusal.Refusal.{Refusal}
-use Rattle.xl_core.specs.Hearing.{unheard, said_in, heard}
+use Rattle.xl_core.specs.Hearing.{unheard, said_in, speech_of, heard, Carries}
 use Rattle.xl_core.specs.Node.{Node, Reply, refusing, refusing_or, speech_refusal, taking, hears, frame_refusal, hearing}
-use Rattle.xl_core.proofs.Heard.{heard_where, heard_by}
+use Rattle.xl_core.proofs.Heard.{heard_where, heard_by, carried}
 
 -- what holds of each refusal, and of what is taken of what is heard, holds of what came of bytes
 pub hearing_either : (P : Reply → Type 0) (n : Node) (bytes : List ℕ) → ((why : Refusal) → P (refusing n why)) →
@@ -56,3 +58,9 @@ something_heard n bytes said what is told =
           ∙ ap (λ (s : Spoken). hears n s.from s.what) (sym found.1)
           ∙ ap (λ (o : Option Refusal). refusing_or n (option_or o (speech_refusal n (said_in (raw_in bytes)).from (said_in (raw_in bytes)).what)) (taking n (said_in (raw_in bytes)).from (said_in (raw_in bytes)).what)) (sym found.0),
     )
+
+-- what a frame of another listed member carries is refused for what the node knows of it alone
+pub carried_refusal : (n : Node) (bytes : List ℕ) (f : RawFrame) (body : Body) → Carries n.keys n.list.members bytes f body → frame_refusal n bytes ≡ speech_refusal n f.from (speech_of body)
+carried_refusal n bytes f body c =
+    let said : Spoken = record { from = f.from; what = speech_of body } in
+    sym (something_heard n bytes said (speech_of body) (sym (carried n.keys n.list.members bytes f body c)) refl).0

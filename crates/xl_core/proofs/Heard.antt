@@ -3,30 +3,34 @@ use Rattle.std.proofs.Common.{◌≡◌, ◌≢◌, ℕ, zero, suc, ◌<◌, ◌
 use Rattle.std.specs.Prelude.{◌==◌, ◌||◌, ◌-◌, not, nat_lt, nat_le, unwrap_or, option_map, IfOk, if◌then◌else◌}
 use Rattle.std.specs.Option.{option_or}
 use Rattle.std.specs.Result.{IsErrAnd}
-use Rattle.std.proofs.lemmas.Bool.{cond_both, le-leb, lt-ltb, ltb-false, le-ltb, eqb-true}
+use Rattle.std.proofs.lemmas.List.{take_all}
+use Rattle.std.proofs.lemmas.Bool.Decides.{nat_tests}
+use Rattle.std.proofs.lemmas.Bool.{cond_both, le-leb, lt-ltb, ltb-false, le-ltb, eq-eqb}
 use Rattle.xl_base.specs.Refusals.{refused_if, first_of, unless_refused}
 use Rattle.xl_lists.specs.Lists.{is_on}
 use Rattle.xl_wire.specs.declared.body.Body.{Body}
 use Rattle.xl_wire.specs.declared.body.Body.TheVariants as bodies
 use Rattle.xl_wire.specs.declared.refusal.WireRefusal.{WireRefusal}
-use Rattle.xl_wire.specs.Bodies.{body_of, body_in, body_refusal, validation_in}
+use Rattle.xl_wire.specs.Bodies.{body_of, body_in, body_refusal}
 use Rattle.xl_wire.specs.Heads.{split_of, split_unless, head_refusal, lacking, raw_in}
 use Rattle.xl_wire.specs.Heads.Split.{Whole, Need, Refused}
 use Rattle.xl_wire.specs.Kinds.{span}
-use Rattle.xl_wire.specs.Raws.{RawFrame}
+use Rattle.xl_wire.specs.Raws.{RawFrame, SpellsRaw}
+use Rattle.xl_wire.proofs.RawLaws.{length-raw_bytes, spelled_split}
+use Rattle.xl_wire.proofs.BodyLaws.{spelled_read}
 use Rattle.xl_tags.specs.Opening.{refusal_of, is_sealed}
 use Rattle.xl_tags.specs.Sealing.{tag_by}
-use Rattle.xl_tags.proofs.OpeningLaws.{opens_alone}
+use Rattle.xl_tags.proofs.OpeningLaws.{opens_alone, sealed_exactly}
 use Rattle.xl_tags.specs.Rings.{Ring}
 use Rattle.xl_tags.specs.declared.refusal.TagRefusal.{TagRefusal}
 use Rattle.xl_tags.specs.declared.refusal.TagRefusal.TheVariants.{NotForMe, Stranger, BadTag}
 use Rattle.xl_wire.specs.declared.validation.Validation.{Validation}
-use Rattle.xl_ledger.specs.Reading.{header_in}
 use Rattle.xl_core.specs.declared.hearing.Spoken.{Spoken}
+use Rattle.xl_core.specs.declared.hearing.Speech.{Speech}
 use Rattle.xl_core.specs.declared.hearing.Speech.TheVariants as speech
 use Rattle.xl_core.specs.declared.refusal.Refusal.{Refusal}
-use Rattle.xl_core.specs.declared.refusal.Refusal.TheVariants.{Frame, Tag, Short, Extra, NotBuilt}
-use Rattle.xl_core.specs.Hearing.{is_heard, causes, unheard, speech_in, said_in, heard}
+use Rattle.xl_core.specs.declared.refusal.Refusal.TheVariants.{Frame, Tag, Short, Extra}
+use Rattle.xl_core.specs.Hearing.{causes, unheard, speech_of, said_in, heard, Carries}
 
 -- THE CAUSES
 
@@ -43,14 +47,13 @@ none_of f None e = refl
 none_of f (Some x) e = absurd (some_none (f x) e)
 
 -- none of the causes holds
-none_holds : {X : Type 0} (a b c d e f : Option X) → first_of (a ∷ b ∷ c ∷ d ∷ e ∷ f ∷ []) ≡ None → (a ≡ None) × (b ≡ None) × (c ≡ None) × (d ≡ None) × (e ≡ None) × (f ≡ None)
-none_holds None None None None None None is = (refl, refl, refl, refl, refl, refl)
-none_holds (Some x) b c d e f is = absurd (some_none x is)
-none_holds None (Some x) c d e f is = absurd (some_none x is)
-none_holds None None (Some x) d e f is = absurd (some_none x is)
-none_holds None None None (Some x) e f is = absurd (some_none x is)
-none_holds None None None None (Some x) f is = absurd (some_none x is)
-none_holds None None None None None (Some x) is = absurd (some_none x is)
+none_holds : {X : Type 0} (a b c d e : Option X) → first_of (a ∷ b ∷ c ∷ d ∷ e ∷ []) ≡ None → (a ≡ None) × (b ≡ None) × (c ≡ None) × (d ≡ None) × (e ≡ None)
+none_holds None None None None None is = (refl, refl, refl, refl, refl)
+none_holds (Some x) b c d e is = absurd (some_none x is)
+none_holds None (Some x) c d e is = absurd (some_none x is)
+none_holds None None (Some x) d e is = absurd (some_none x is)
+none_holds None None None (Some x) e is = absurd (some_none x is)
+none_holds None None None None (Some x) is = absurd (some_none x is)
 
 -- nothing is refused of these bytes
 pub record Passes (ring : Ring) (members bytes : List ℕ) (f : RawFrame) : Type 0 where
@@ -59,13 +62,12 @@ pub record Passes (ring : Ring) (members bytes : List ℕ) (f : RawFrame) : Type
   pub last : length bytes ≤ span f.body
   pub opened : refusal_of ring members f ≡ None
   pub body : body_refusal f.kind f.body ≡ None
-  pub heard : is_heard f.kind ≡ true
 
 passes : (ring : Ring) (members bytes : List ℕ) (f : RawFrame) → first_of (causes ring members bytes f) ≡ None → Passes ring members bytes f
 passes ring members bytes f none =
     let parts = none_holds (option_map Frame (head_refusal bytes)) (refused_if (nat_lt 0 (lacking bytes)) (Short (lacking bytes)))
     (refused_if (nat_lt (span f.body) (length bytes)) (Extra (length bytes - span f.body))) (option_map Tag (refusal_of ring members f))
-    (option_map Frame (body_refusal f.kind f.body)) (refused_if (not (is_heard f.kind)) (NotBuilt f.kind)) none in
+    (option_map Frame (body_refusal f.kind f.body)) none in
     let lacks : lacking bytes ≤ 0 = ltb-false 0 (lacking bytes) (no_cause (nat_lt 0 (lacking bytes)) (Short (lacking bytes)) parts.1) in
     record {
       head = none_of Frame (head_refusal bytes) parts.0;
@@ -73,12 +75,7 @@ passes ring members bytes f none =
       last = ltb-false (span f.body) (length bytes) (no_cause (nat_lt (span f.body) (length bytes)) (Extra (length bytes - span f.body)) parts.2);
       opened = none_of Tag (refusal_of ring members f) parts.3;
       body = none_of Frame (body_refusal f.kind f.body) parts.4;
-      heard = truly (is_heard f.kind) (no_cause (not (is_heard f.kind)) (NotBuilt f.kind) parts.5);
     }
-  where
-    truly : (b : Bool) → not b ≡ false → b ≡ true
-    truly true e = refl
-    truly false e = cc
 
 -- WHAT IS HEARD
 
@@ -92,7 +89,6 @@ pub record IsHeard (ring : Ring) (members bytes : List ℕ) (said : Spoken) : Ty
   pub listed : is_on members frame.from ≡ true
   pub is_sealed : is_sealed ring frame ≡ true
   pub body : body_refusal frame.kind frame.body ≡ None
-  pub is_heard : is_heard frame.kind ≡ true
   pub says : said_in frame ≡ said
 
 -- a frame that is opened is for the ring's member, and is sealed
@@ -149,7 +145,6 @@ heard_parts ring members bytes said is =
       listed = right.1;
       is_sealed = right.2;
       body = p.body;
-      is_heard = p.heard;
       says = by.1;
     }
 
@@ -170,67 +165,35 @@ not_itself ring members bytes said is =
     let parts = heard_parts ring members bytes said is in
     subst (λ (from : ℕ). from ≢ ring.me) (sym (sender ring members bytes said parts)) parts.other
 
+same_validation : (a b : Validation) → speech.Validation a ≡ speech.Validation b → a ≡ b
+same_validation a b e = cc
+
+-- a validation is said by the body of one
+validation_says : (v : Validation) (body : Body) → speech_of body ≡ speech.Validation v → body ≡ bodies.Validation v
+validation_says v (bodies.Validation u) is = ap (λ (w : Validation). (let b : Body = bodies.Validation w in b)) (same_validation u v is)
+validation_says v (bodies.Proposal p) is = cc
+validation_says v (bodies.Header header) is = cc
+validation_says v (bodies.TxSet ids) is = cc
+validation_says v (bodies.Tx id) is = cc
+
 -- a validation that is heard is the frame's body
 pub validation_body : (ring : Ring) (members bytes : List ℕ) (from : ℕ) (v : Validation) (h : IsHeard ring members bytes (record { from = from; what = speech.Validation v })) →
     body_of h.frame.kind h.frame.body ≡ Ok (bodies.Validation v)
 validation_body ring members bytes from v h =
-    by (h.frame.kind == 2) refl (ap (λ (s : Spoken). s.what) h.says)
-  where
-    same : (a b : Validation) → speech.Validation a ≡ speech.Validation b → a ≡ b
-    same a b e = cc
-
-    by : (b : Bool) → (h.frame.kind == 2) ≡ b → (if b then speech.Validation (validation_in h.frame.body) else speech.Header (header_in h.frame.body)) ≡ speech.Validation v → body_of h.frame.kind h.frame.body ≡ Ok (bodies.Validation v)
-    by true kind is =
-        ap (λ (o : Option WireRefusal). unless_refused o (body_in h.frame.kind h.frame.body)) h.body
-        ∙ ap (λ (k : ℕ). (let r : Result Body WireRefusal = Ok (body_in k h.frame.body) in r)) (eqb-true h.frame.kind 2 kind)
-        ∙ ap (λ (u : Validation). (let r : Result Body WireRefusal = Ok (bodies.Validation u) in r)) (same (validation_in h.frame.body) v is)
-    by false kind is = cc
+    let body : Body = body_in h.frame.kind h.frame.body in
+    ap (λ (o : Option WireRefusal). unless_refused o body) h.body
+    ∙ ap (λ (b : Body). (let r : Result Body WireRefusal = Ok b in r)) (validation_says v body (ap (λ (s : Spoken). s.what) h.says))
 
 -- WHAT THE TESTS FIND
 
--- what is made of a body that was read
-abbrev pub said_by : ℕ → ℕ → Body → Result Spoken Refusal
-said_by kind from (bodies.Validation v) = Ok (record { from = from; what = speech.Validation v })
-said_by kind from (bodies.Proposal proposal) = Err (NotBuilt kind)
-said_by kind from (bodies.Header bytes) = Ok (record { from = from; what = speech.Header (header_in bytes) })
-said_by kind from (bodies.TxSet ids) = Err (NotBuilt kind)
-said_by kind from (bodies.Tx id) = Err (NotBuilt kind)
+-- what is made of a body, if it was read
+abbrev pub read_so : ℕ → Result Body WireRefusal → Result Spoken Refusal
+read_so from (Ok body) = Ok (record { from = from; what = speech_of body })
+read_so from (Err why) = Err (Frame why)
 
-abbrev pub read_so : ℕ → ℕ → Result Body WireRefusal → Result Spoken Refusal
-read_so kind from (Ok body) = said_by kind from body
-read_so kind from (Err why) = Err (Frame why)
-
--- what is said in a body of a kind
-abbrev IsSaid : ℕ → List ℕ → ℕ → Type 0
-IsSaid from body kind =
-    said_by kind from (body_in kind body) ≡ unless_refused (first_of (refused_if (not (is_heard kind)) (NotBuilt kind) ∷ [])) (record { from = from; what = speech_in kind body })
-
-of_kind : (from : ℕ) (body : List ℕ) (kind : ℕ) → IsSaid from body kind
-of_kind from body kind = one (kind == 1) refl
-  where
-    at : (k : ℕ) → (kind == k) ≡ true → IsSaid from body k → IsSaid from body kind
-    at k e is = subst (IsSaid from body) (sym (eqb-true kind k e)) is
-
-    four : (b : Bool) → (kind == 4) ≡ b → (kind == 1) ≡ false → (kind == 2) ≡ false → (kind == 3) ≡ false → IsSaid from body kind
-    four true e _ _ _ = at 4 e refl
-    four false d a b c = rw (a, b, c, d) refl
-
-    three : (b : Bool) → (kind == 3) ≡ b → (kind == 1) ≡ false → (kind == 2) ≡ false → IsSaid from body kind
-    three true e _ _ = at 3 e refl
-    three false c a b = four (kind == 4) refl a b c
-
-    two : (b : Bool) → (kind == 2) ≡ b → (kind == 1) ≡ false → IsSaid from body kind
-    two true e _ = at 2 e refl
-    two false b a = three (kind == 3) refl a b
-
-    one : (b : Bool) → (kind == 1) ≡ b → IsSaid from body kind
-    one true e = at 1 e refl
-    one false a = two (kind == 2) refl a
-
-of_body : (kind from : ℕ) (body : List ℕ) (o : Option WireRefusal) → read_so kind from (unless_refused o (body_in kind body))
-    ≡ unless_refused (first_of (option_map Frame o ∷ refused_if (not (is_heard kind)) (NotBuilt kind) ∷ [])) (record { from = from; what = speech_in kind body })
-of_body kind from body None = of_kind from body kind
-of_body kind from body (Some why) = refl
+of_body : (f : RawFrame) (o : Option WireRefusal) → read_so f.from (unless_refused o (body_in f.kind f.body)) ≡ unless_refused (first_of (option_map Frame o ∷ [])) (said_in f)
+of_body f None = refl
+of_body f (Some why) = refl
 
 split_refused : (o : Option WireRefusal) (lack : ℕ) (f : RawFrame) (why : WireRefusal) → split_unless o lack f ≡ Refused why → o ≡ Some why
 split_refused None zero f why is = cc
@@ -262,7 +225,6 @@ module _ (ring : Ring) (members bytes : List ℕ) where
       ∷ refused_if more (Extra (length bytes - span f.body))
       ∷ option_map Tag tag
       ∷ option_map Frame (body_refusal f.kind f.body)
-      ∷ refused_if (not (is_heard f.kind)) (NotBuilt f.kind)
       ∷ [])) (said_in f)
 
   pub no_frame : (why : WireRefusal) → split_of bytes ≡ Refused why → heard ring members bytes ≡ Err (Frame why)
@@ -277,7 +239,7 @@ module _ (ring : Ring) (members bytes : List ℕ) where
       let more = nat_lt (span f.body) (length bytes) in
       ap (λ (o : Option WireRefusal). heard_with o (lacking bytes) f more (refusal_of ring members f)) found.0
       ∙ cond_both (nat_lt 0 (lacking bytes)) (Some (Short (lacking bytes))) None
-      (λ o. unless_refused (option_or o (first_of (refused_if more (Extra (length bytes - span f.body)) ∷ option_map Tag (refusal_of ring members f) ∷ option_map Frame (body_refusal f.kind f.body) ∷ refused_if (not (is_heard f.kind)) (NotBuilt f.kind) ∷ []))) (said_in f) ≡ Err (Short lack))
+      (λ o. unless_refused (option_or o (first_of (refused_if more (Extra (length bytes - span f.body)) ∷ option_map Tag (refusal_of ring members f) ∷ option_map Frame (body_refusal f.kind f.body) ∷ []))) (said_in f) ≡ Err (Short lack))
       (λ _. ap (λ (n : ℕ). (let r : Result Spoken Refusal = Err (Short n) in r)) found.1)
       (λ none. absurd (omega (arith, found.2, ltb-false 0 (lacking bytes) none)))
 
@@ -302,19 +264,32 @@ module _ (ring : Ring) (members bytes : List ℕ) where
 
   -- its body was read
   pub read : (f : RawFrame) (r : Result Body WireRefusal) → split_of bytes ≡ Whole f → length bytes ≤ span f.body → refusal_of ring members f ≡ None → r ≡ body_of f.kind f.body →
-      heard ring members bytes ≡ read_so f.kind f.from r
+      heard ring members bytes ≡ read_so f.from r
   read f r is fits opens body =
-      opened f is fits ∙ ap (heard_with None 0 f false) opens ∙ sym (of_body f.kind f.from f.body (body_refusal f.kind f.body)) ∙ ap (read_so f.kind f.from) (sym body)
-
--- a body of another kind than those that are heard
-pub other_body : (kind from : ℕ) (body : Body) → ((v : Validation) → body ≢ bodies.Validation v) → ((h : List ℕ) → body ≢ bodies.Header h) → Err (NotBuilt kind) ≡ said_by kind from body
-other_body kind from (bodies.Validation v) not_validation not_header = absurd (not_validation v refl)
-other_body kind from (bodies.Header h) not_validation not_header = absurd (not_header h refl)
-other_body kind from (bodies.Proposal proposal) _ _ = refl
-other_body kind from (bodies.TxSet ids) _ _ = refl
-other_body kind from (bodies.Tx id) _ _ = refl
+      opened f is fits ∙ ap (heard_with None 0 f false) opens ∙ sym (of_body f (body_refusal f.kind f.body)) ∙ ap (read_so f.from) (sym body)
 
 -- the exit of a `?`
 pub err_so : {T : Type 0} (r : Result T Refusal) (why : Refusal) → IsErrAnd r (λ x. x ≡ why) → r ≡ Err why
 err_so (Ok said) why is = absurd is
 err_so {T} (Err x) why is = ap (λ (w : Refusal). (let r : Result T Refusal = Err w in r)) is
+
+-- WHAT IS ALWAYS HEARD
+
+pass : (to from on right : Bool) (a b c : TagRefusal) → to ≡ true → from ≡ false → on ≡ true → right ≡ true →
+    (if not to then Some a else if from || not on then Some b else if right then None else Some c) ≡ None
+pass to from on right a b c p q r s = rw (p, q, r, s) refl
+
+differs : (m n : ℕ) → m ≢ n → (m == n) ≡ false
+differs m n other = grind (arith, nat_tests)
+
+-- a frame that another listed member sealed
+pub carried : (ring : Ring) (members bytes : List ℕ) (f : RawFrame) (body : Body) → Carries ring members bytes f body →
+    heard ring members bytes ≡ Ok (record { from = f.from; what = speech_of body })
+carried ring members bytes f body c =
+    let long : length bytes ≡ span f.body = ap length c.frame.spelling ∙ length-raw_bytes f c.frame.frame.tag in
+    let all : length bytes ≤ span f.body = omega (arith, long) in
+    let whole : split_of bytes ≡ Whole f = spelled_split bytes f (subst (SpellsRaw f) (sym (take_all (span f.body) bytes all)) c.frame) in
+    let opens : refusal_of ring members f ≡ None =
+    pass (f.to == ring.me) (f.from == ring.me) (is_on members f.from) (is_sealed ring f) _ _ _
+    (eq-eqb f.to ring.me c.mine) (differs f.from ring.me c.other) c.listed ((sealed_exactly ring f (is_sealed ring f) refl).1 c.tag) in
+    read ring members bytes f (Ok body) whole all opens (sym (spelled_read f.kind f.body body c.says))

@@ -12,14 +12,14 @@ use Rattle.xl_validations.specs.declared.refusal.ValRefusal.{ValRefusal}
 use Rattle.xl_validations.specs.Rows.{row_of, refusal_of, with_validation, at_member, empty_row}
 use Rattle.xl_base.specs.declared.ids.LedgerId.{LedgerId}
 use Rattle.xl_ledger.specs.Headers.{header_id}
-use Rattle.xl_rounds.specs.Rounds.{Round, is_proposing, with_pending}
-use Rattle.xl_rounds.specs.Proposals.{started}
+use Rattle.xl_rounds.specs.Rounds.{Round, is_proposing, with_pending, hold}
+use Rattle.xl_rounds.specs.Proposals.{with_answer, started}
 use Rattle.xl_core.specs.Building.{usual_mode}
 use Rattle.xl_core.proofs.Timing.{timing_by, submit_either}
 use Rattle.xl_core.specs.declared.report.Report.{Report}
 use Rattle.xl_core.specs.declared.settings.Settings.{Settings}
 use Rattle.xl_core.specs.Answers.{Done}
-use Rattle.xl_core.specs.Node.{Node, Event, Issue, Frame, Timer, Submit, Reply, Save, issues_unless, opened, happens, issues, issuing, refusing, replying, completed, timed, validates, validating_built, with_tx, reporting, with_taken, take, arisen, arises_in, is_above, later, report_of, taking, hearing, at_moment, second_of, own_validation}
+use Rattle.xl_core.specs.Node.{Node, Event, Issue, Frame, Timer, Submit, Reply, Save, issues_unless, opened, happens, issues, issuing, refusing, replying, completed, timed, validates, validating_built, with_tx, reporting, with_taken, take, arisen, arises_in, is_above, later, report_of, placing, taking, hearing, at_moment, second_of, own_validation}
 use Rattle.xl_core.specs.Node.Save.{Kept, Failed}
 use Rattle.xl_core.specs.declared.refusal.Refusal.TheVariants.{NotAfter}
 use Rattle.xl_ledger.specs.declared.header.Header.{Header as LedgerHeader}
@@ -182,19 +182,28 @@ issued_unless : (list : TrustedList) (n : Node) (reports : List Report) (off : O
 issued_unless list n reports None save v living = issued_on list n reports (second_of n) save v living
 issued_unless list n reports (Some failed) save v living = unreported list n reports living
 
--- a header changes no row
+-- neither the round nor the ledgers are a part of it
+elsewhere : (list : TrustedList) (n : Node) (reports : List Report) (ledgers : Ledgers) (r : Round) → IsLiving list n reports → IsLiving list (record n { ledgers = ledgers; round = r }) reports
+elsewhere list n reports ledgers r living = record {
+  listed = living.listed;
+  rest = record { valid = living.rest.valid; members = living.rest.members; reported = living.rest.reported };
+  heads = living.heads;
+  past = living.past;
+  told = living.told;
+  below = living.below;
+  rising = living.rising;
+}
+
 taking_on : (list : TrustedList) (n : Node) (reports : List Report) (from : ℕ) (what : Speech) → IsLiving list n reports → GoesOn list reports (taking n from what)
 taking_on list n reports from (speech.Validation v) living = reported_on list n reports (second_of n) from v None living
-taking_on list n reports from (speech.Header h) living = unreported list (record n { ledgers = with_header n.ledgers h }) reports
-    (record {
-      listed = living.listed;
-      rest = record { valid = living.rest.valid; members = living.rest.members; reported = living.rest.reported };
-      heads = living.heads;
-      past = living.past;
-      told = living.told;
-      below = living.below;
-      rising = living.rising;
-    })
+taking_on list n reports from (speech.Header h) living =
+    unreported list (record n { ledgers = with_header n.ledgers h }) reports (elsewhere list n reports (with_header n.ledgers h) n.round living)
+taking_on list n reports from (speech.Proposal p) living =
+    let r : Round = with_answer (placing n from p) from p n.round in unreported list (record n { round = r }) reports (elsewhere list n reports n.ledgers r living)
+taking_on list n reports from (speech.TxSet ids) living =
+    let r : Round = hold from ids n.round in unreported list (record n { round = r }) reports (elsewhere list n reports n.ledgers r living)
+taking_on list n reports from (speech.Tx tx) living =
+    unreported list (with_tx n tx) reports (elsewhere list n reports n.ledgers (with_pending tx n.round) living)
 
 hearing_on : (list : TrustedList) (n : Node) (reports : List Report) (bytes : List ℕ) → IsLiving list n reports → GoesOn list reports (hearing n bytes)
 hearing_on list n reports bytes living =
@@ -217,18 +226,6 @@ issuing_on list n reports seq id full save living =
     cond_both (nat_lt n.kept seq) (issues_unless n n.failed_save save (own_validation n seq id full)) (refusing n (NotAfter n.kept)) (GoesOn list reports)
     (λ _. issued_unless list n reports n.failed_save save (own_validation n seq id full) living)
     (λ _. unreported list n reports living)
-
--- neither the round nor the ledgers are a part of it
-elsewhere : (list : TrustedList) (n : Node) (reports : List Report) (ledgers : Ledgers) (r : Round) → IsLiving list n reports → IsLiving list (record n { ledgers = ledgers; round = r }) reports
-elsewhere list n reports ledgers r living = record {
-  listed = living.listed;
-  rest = record { valid = living.rest.valid; members = living.rest.members; reported = living.rest.reported };
-  heads = living.heads;
-  past = living.past;
-  told = living.told;
-  below = living.below;
-  rising = living.rising;
-}
 
 validating_on : (list : TrustedList) (n : Node) (reports : List Report) (h : LedgerHeader) (moved_on : Bool) (save : Save) → IsLiving list n reports → GoesOn list reports (validating_built n h moved_on save)
 validating_on list n reports h moved_on save living =

@@ -67,6 +67,9 @@ unless_news n (Some failed) save v r is = no_news n (issues_unless n (Some faile
 taking_news : (n : Node) (from : ℕ) (what : Speech) (r : Report) → (taking n from what).report ≡ Some r → IsNews n (taking n from what) r
 taking_news n from (speech.Validation v) r is = reporting_news n (with_taken n (second_of n) from v) (Took TakenVote) None r refl refl is
 taking_news n from (speech.Header h) r is = no_news n (taking n from (speech.Header h)) r refl is
+taking_news n from (speech.Proposal p) r is = no_news n (taking n from (speech.Proposal p)) r refl is
+taking_news n from (speech.TxSet ids) r is = no_news n (taking n from (speech.TxSet ids)) r refl is
+taking_news n from (speech.Tx tx) r is = no_news n (taking n from (speech.Tx tx)) r refl is
 
 hearing_news : (n : Node) (bytes : List ℕ) (r : Report) → (hearing n bytes).report ≡ Some r → IsNews n (hearing n bytes) r
 hearing_news n bytes r is =

@@ -1,6 +1,6 @@
 -- What a node has said stays covered by what its keeper may hold.
 use Rattle.std.proofs.Common.{◌≡◌, ◌≢◌, ℕ, zero, suc, ◌<◌, ◌≤◌, ◌/◌, Bool, true, false, cond, List, [], ◌∷◌, ◌++◌, length, drop, refl, ap, sym, ◌∙◌, subst, arith, inl, inr, Option, Some, None, Ok, append_assoc}
-use Rattle.std.specs.Prelude.{◌==◌, All, IfSome, map, max, nat_lt, option_map, replicate}
+use Rattle.std.specs.Prelude.{◌==◌, All, IfSome, map, max, nat_lt, option_map, replicate, Result, Err}
 use Rattle.xl_base.specs.declared.ids.LedgerId.{LedgerId}
 use Rattle.std.specs.Option.{option_and_then, is_none}
 use Rattle.std.proofs.lemmas.Bool.{cond_both, cond-true, cond-false, eqb-true, false_from_ne_true, ltb-true}
@@ -11,6 +11,8 @@ use Rattle.xl_ledger.specs.declared.header.Header.{Header}
 use Rattle.xl_ledger.specs.Headers.{header_id}
 use Rattle.xl_rounds.specs.declared.pulse.Said.{Said}
 use Rattle.xl_rounds.specs.Rounds.{is_proposing}
+use Rattle.xl_rounds.specs.declared.placed.Placed.{Placed}
+use Rattle.xl_rounds.specs.declared.refusal.RoundRefusal.{RoundRefusal}
 use Rattle.xl_core.specs.Answers.{Done}
 use Rattle.xl_core.specs.Building.{said_items}
 use Rattle.xl_core.proofs.Timing.{timing_by, submit_either}
@@ -27,7 +29,7 @@ use Rattle.xl_core.specs.declared.refusal.Refusal.{Refusal}
 use Rattle.xl_core.specs.declared.refusal.Refusal.TheVariants.{NotAfter}
 use Rattle.xl_core.specs.Hearing.{heard}
 use Rattle.xl_core.specs.Answers.{given_in, handed_in}
-use Rattle.xl_core.specs.Node.{Node, Reply, Save, taking, hearing, issues, issues_unless, issuing, asks_for, asks_of, replying, completed, validates, validating_built, refusing, at_moment, second_of, own_validation, take, unless_failed, is_kept, opened}
+use Rattle.xl_core.specs.Node.{Node, Reply, Save, placing, placed_as, taking, hearing, issues, issues_unless, issuing, asks_for, asks_of, replying, completed, validates, validating_built, refusing, at_moment, second_of, own_validation, take, unless_failed, is_kept, opened}
 use Rattle.xl_core.specs.Node.Save.{Kept, Failed}
 use Rattle.xl_core.specs.Items.{taken_for}
 use Rattle.xl_core.specs.Queues.{with_items, at_number, after_taking, waiting_at}
@@ -123,6 +125,9 @@ taking_aside n from (speech.Validation v) other = record {
   items = refl;
 }
 taking_aside n from (speech.Header h) other = record { kept = refl; own = refl; items = refl }
+taking_aside n from (speech.Proposal p) other = record { kept = refl; own = refl; items = refl }
+taking_aside n from (speech.TxSet ids) other = record { kept = refl; own = refl; items = refl }
+taking_aside n from (speech.Tx tx) other = record { kept = refl; own = refl; items = refl }
 
 hearing_aside : (n : Node) (bytes : List ℕ) → ((said : Spoken) → heard n.keys n.list.members bytes ≡ Ok said → said.from ≢ n.me) → IsAside n (hearing n bytes)
 hearing_aside n bytes others = hearing_either (IsAside n) n bytes (aside n) (λ said is. taking_aside n said.from said.what (others said is))
@@ -133,9 +138,24 @@ pub record IsHearing (n : Node) (reply : Reply) : Type 0 where
   pub given : given_in reply.answer ≡ []
   pub handed : handed_in reply.answer ≡ []
 
+place_given : (r : Result Placed RoundRefusal) → given_in (placed_as r) ≡ []
+place_given (Ok became) = refl
+place_given (Err why) = refl
+
+place_handed : (r : Result Placed RoundRefusal) → handed_in (placed_as r) ≡ []
+place_handed (Ok became) = refl
+place_handed (Err why) = refl
+
 taking_keeps : (n : Node) (from : ℕ) (what : Speech) → IsHearing n (taking n from what)
 taking_keeps n from (speech.Validation v) = record { kept = refl; given = refl; handed = refl }
 taking_keeps n from (speech.Header h) = record { kept = refl; given = refl; handed = refl }
+taking_keeps n from (speech.Proposal p) = record {
+  kept = refl;
+  given = place_given (placing n from p);
+  handed = place_handed (placing n from p);
+}
+taking_keeps n from (speech.TxSet ids) = record { kept = refl; given = refl; handed = refl }
+taking_keeps n from (speech.Tx tx) = record { kept = refl; given = refl; handed = refl }
 
 pub heard_keeps : (n : Node) (now : ℕ) (bytes : List ℕ) → IsHearing (at_moment now n) (hearing (at_moment now n) bytes)
 heard_keeps n now bytes =

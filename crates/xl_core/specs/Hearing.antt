@@ -1,23 +1,23 @@
 -- What a node hears in bytes: the first of a list of causes for which it hears nothing, or what is said and by whom.
 -- Source: the order of the causes is this profile's.
-use Rattle.std.specs.Prelude.{ℕ, ◌-◌, ◌==◌, ◌||◌, nat_lt, not, Bool, List, [], ◌∷◌, length, Option, option_map, Result, if◌then◌else◌}
+use Rattle.std.specs.Prelude.{◌≡◌, ◌≢◌, ℕ, ◌-◌, nat_lt, List, [], ◌∷◌, length, Option, Some, option_map, Result, IsTrue}
 use Rattle.xl_base.specs.Refusals.{refused_if, first_of, unless_refused}
-use Rattle.xl_wire.specs.Bodies.{body_refusal, validation_in}
+use Rattle.xl_lists.specs.Lists.{is_on}
+use Rattle.xl_wire.specs.declared.body.Body.{Body}
+use Rattle.xl_wire.specs.declared.body.Body.TheVariants as bodies
+use Rattle.xl_wire.specs.Bodies.{body_refusal, body_in, SpellsBody}
 use Rattle.xl_wire.specs.Heads.{head_refusal, lacking, raw_in}
 use Rattle.xl_wire.specs.Kinds.{span}
-use Rattle.xl_wire.specs.Raws.{RawFrame}
+use Rattle.xl_wire.specs.Raws.{RawFrame, SpellsRaw}
 use Rattle.xl_tags.specs.Opening.{refusal_of}
 use Rattle.xl_tags.specs.Rings.{Ring}
+use Rattle.xl_tags.specs.Sealing.{tag_by}
 use Rattle.xl_ledger.specs.Reading.{header_in}
 use Rattle.xl_core.specs.declared.hearing.Spoken.{Spoken}
 use Rattle.xl_core.specs.declared.hearing.Speech.{Speech}
 use Rattle.xl_core.specs.declared.hearing.Speech.TheVariants as speech
 use Rattle.xl_core.specs.declared.refusal.Refusal.{Refusal}
-use Rattle.xl_core.specs.declared.refusal.Refusal.TheVariants.{Frame, Tag, Short, Extra, NotBuilt}
-
--- whether frames of a kind are heard: those of validations and of headers are
-abbrev pub is_heard : ℕ → Bool
-is_heard kind = kind == 2 || kind == 3
+use Rattle.xl_core.specs.declared.refusal.Refusal.TheVariants.{Frame, Tag, Short, Extra}
 
 -- why nothing is heard in bytes, of which the first are a frame if they begin with one
 abbrev pub causes : Ring → List ℕ → List ℕ → RawFrame → List (Option Refusal)
@@ -27,21 +27,33 @@ causes ring members bytes f =
     ∷ refused_if (nat_lt (span f.body) (length bytes)) (Extra (length bytes - span f.body))
     ∷ option_map Tag (refusal_of ring members f)
     ∷ option_map Frame (body_refusal f.kind f.body)
-    ∷ refused_if (not (is_heard f.kind)) (NotBuilt f.kind)
     ∷ []
 
 -- the first of these causes decides
 abbrev pub unheard : Ring → List ℕ → List ℕ → Option Refusal
 unheard ring members bytes = first_of (causes ring members bytes (raw_in bytes))
 
--- what a body of a kind that is heard says
-abbrev pub speech_in : ℕ → List ℕ → Speech
-speech_in kind body = if kind == 2 then speech.Validation (validation_in body) else speech.Header (header_in body)
+-- what a body says
+abbrev pub speech_of : Body → Speech
+speech_of (bodies.Proposal p) = speech.Proposal p
+speech_of (bodies.Validation v) = speech.Validation v
+speech_of (bodies.Header header) = speech.Header (header_in header)
+speech_of (bodies.TxSet ids) = speech.TxSet ids
+speech_of (bodies.Tx id) = speech.Tx id
 
 -- what a frame says, and its sender
 abbrev pub said_in : RawFrame → Spoken
-said_in f = record { from = f.from; what = speech_in f.kind f.body }
+said_in f = record { from = f.from; what = speech_of (body_in f.kind f.body) }
 
 -- what a node with these keys and these listed members hears in bytes
 abbrev pub heard : Ring → List ℕ → List ℕ → Result Spoken Refusal
 heard ring members bytes = unless_refused (unheard ring members bytes) (said_in (raw_in bytes))
+
+-- bytes are a frame to the keys' member from another listed one, with the tag of their key, and the frame has this body
+pub record Carries (ring : Ring) (members bytes : List ℕ) (f : RawFrame) (body : Body) : Type 0 where
+  pub frame : SpellsRaw f bytes
+  pub mine : f.to ≡ ring.me
+  pub other : f.from ≢ ring.me
+  pub listed : IsTrue (is_on members f.from)
+  pub tag : tag_by ring f.from f ≡ Some f.tag
+  pub says : SpellsBody body f.kind f.body

@@ -2,14 +2,17 @@
 -- fully validated.
 -- Source: Chase and MacBrough, "Analysis of the XRP Ledger Consensus Protocol" (2018), and rippled's Consensus and Validations.
 use Rattle.std.specs.Prelude.{◌≡◌, ◌≢◌, ℕ, ◌<◌, ◌/◌, ◌==◌, ◌&&◌, not, max, Bool, true, false, List, [], ◌∷◌, ◌++◌, map, unwrap_or, filter_map, find, option_map, nat_lt, nat_le, if◌then◌else◌}
-use Rattle.std.specs.Prelude.{Some, None, Ok}
+use Rattle.std.specs.Prelude.{Some, None, Result, Ok, Err}
 use Rattle.std.specs.declared.option.Option.{Option}
 use Rattle.std.specs.Option.{is_none, option_or}
+use Rattle.std.specs.Result.{result_err}
 use Rattle.xl_base.specs.declared.ids.LedgerId.{LedgerId}
 use Rattle.xl_base.specs.declared.ids.TxId.{TxId}
+use Rattle.xl_base.specs.Sets.{set_id_of}
 use Rattle.xl_lists.specs.Lists.{TrustedList}
 use Rattle.xl_tags.specs.Rings.{Ring}
 use Rattle.xl_wire.specs.declared.validation.Validation.{Validation}
+use Rattle.xl_wire.specs.declared.proposal.Proposal.{Proposal}
 use Rattle.xl_wire.specs.Heads.{raw_in}
 use Rattle.xl_validations.specs.declared.row.Row.{Row}
 use Rattle.xl_validations.specs.declared.refusal.ValRefusal.{ValRefusal}
@@ -21,13 +24,16 @@ use Rattle.xl_ledger.specs.Registries.{Ledgers, only_root, with_header, add_refu
 use Rattle.xl_ledger.specs.Votes.{preferred_of}
 use Rattle.xl_rounds.specs.declared.phase.Mode.{Mode}
 use Rattle.xl_rounds.specs.declared.phase.Mode.TheVariants.{SwitchedLedger}
+use Rattle.xl_rounds.specs.declared.placed.Placed.{Placed}
+use Rattle.xl_rounds.specs.declared.placed.Placed.TheVariants as placed
 use Rattle.xl_rounds.specs.declared.pulse.Kind.{Kind}
 use Rattle.xl_rounds.specs.declared.pulse.Kind.TheVariants as kind
 use Rattle.xl_rounds.specs.declared.pulse.Said.{Said}
 use Rattle.xl_rounds.specs.declared.pulse.Seen.{Seen}
-use Rattle.xl_rounds.specs.Rounds.{Round, opened as opened_round, is_proposing, leave, with_pending, agreed, accepted}
+use Rattle.xl_rounds.specs.declared.refusal.RoundRefusal.{RoundRefusal}
+use Rattle.xl_rounds.specs.Rounds.{Round, opened as opened_round, is_proposing, leave, with_pending, hold, agreed, accepted}
 use Rattle.xl_rounds.specs.Pending.{submit_refusal}
-use Rattle.xl_rounds.specs.Proposals.{started}
+use Rattle.xl_rounds.specs.Proposals.{answer, with_answer, started}
 use Rattle.xl_rounds.specs.Heartbeats.{Beat as RoundBeat, heartbeat}
 use Rattle.xl_core.specs.declared.beat.Beat.{Beat}
 use Rattle.xl_core.specs.declared.beat.Beat.TheVariants.{Nothing, Closed, Updated, Switched, NoRoom, Built}
@@ -40,6 +46,8 @@ use Rattle.xl_core.specs.declared.hearing.Speech.{Speech}
 use Rattle.xl_core.specs.declared.hearing.Speech.TheVariants as speech
 use Rattle.xl_core.specs.declared.item.Item.{Item}
 use Rattle.xl_core.specs.declared.item.Item.TheVariants.{Vote as VoteItem, Tx as TxItem, Header as HeaderItem}
+use Rattle.xl_core.specs.declared.taken.Taken.{Taken}
+use Rattle.xl_core.specs.declared.taken.Taken.TheVariants as taken
 use Rattle.xl_core.specs.declared.taken.Taken.TheVariants.{Vote as TakenVote, Header as TakenHeader}
 use Rattle.xl_ledger.specs.Headers.{header_id}
 use Rattle.xl_core.specs.Answers.{Answer, Refused, Took, Beats, Done, refusal_in}
@@ -215,12 +223,37 @@ issues_unless n (Some failed) save v = refusing n (IssuingOff failed)
 abbrev pub refusal_at : Node → ℕ → ℕ → Validation → Option ValRefusal
 refusal_at n now from v = refusal_of n.rows from now v
 
--- why it refuses what a member says: the member's row does, or the ledgers do
+-- a transaction is pending from then on, unless the round refuses it
+abbrev pub with_tx : Node → TxId → Node
+with_tx n tx = record n { round = with_pending tx n.round }
+
+abbrev pub tx_refusal : Node → TxId → Option Refusal
+tx_refusal n tx = option_map round_from (submit_refusal n.round.pending tx)
+
+-- how the round answers a member's proposal
+abbrev pub placing : Node → ℕ → Proposal → Result Placed RoundRefusal
+placing n from p = answer n.ledgers.headers n.round from p (second_of n)
+
+-- what was taken of a proposal
+abbrev pub taken_as : Placed → Taken
+taken_as placed.Position = taken.Position
+taken_as placed.Later = taken.Later
+taken_as placed.Gone = taken.Gone
+
+abbrev pub placed_as : Result Placed RoundRefusal → Answer
+placed_as (Ok became) = Took (taken_as became)
+placed_as (Err why) = Refused (round_from why)
+
+-- why it refuses what a member says: the member's row does, or the ledgers do, or the round; a set is never refused
 abbrev pub speech_refusal : Node → ℕ → Speech → Option Refusal
 speech_refusal n from (speech.Validation v) = option_map refusal_from (refusal_at n (second_of n) from v)
 speech_refusal n from (speech.Header h) = option_map HeaderRefused (add_refusal n.ledgers h)
+speech_refusal n from (speech.Proposal p) = option_map round_from (result_err (placing n from p))
+speech_refusal n from (speech.TxSet ids) = None
+speech_refusal n from (speech.Tx tx) = tx_refusal n tx
 
--- a member's row takes a validation, and the ledgers a header: validations that waited for it are votes from then on
+-- a member's row takes a validation, the ledgers a header, and the round a proposal, a set or a transaction. Validations
+-- that waited for a header are votes from then on; a set is the one that the member holds; nothing is sent on
 abbrev pub taking : Node → ℕ → Speech → Reply
 taking n from (speech.Validation v) = reporting (with_taken n (second_of n) from v) (Took TakenVote) None
 taking n from (speech.Header h) = record {
@@ -230,6 +263,12 @@ taking n from (speech.Header h) = record {
   issued = None;
   report = None;
 }
+taking n from (speech.Proposal p) =
+    let place = placing n from p in
+    replying (record n { round = with_answer place from p n.round }) (placed_as place) []
+taking n from (speech.TxSet ids) =
+    replying (record n { round = hold from ids n.round }) (Took (taken.Set (set_id_of ids))) []
+taking n from (speech.Tx tx) = replying (with_tx n tx) (Took taken.Pending) []
 
 -- what a member says is refused or taken
 abbrev pub hears : Node → ℕ → Speech → Reply
@@ -262,13 +301,7 @@ issuing n seq id full save =
     if nat_lt n.kept seq then issues_unless n n.failed_save save (own_validation n seq id full)
     else refusing n (NotAfter n.kept)
 
--- a transaction is pending from then on, unless the round refuses it; it is sent
-abbrev pub with_tx : Node → TxId → Node
-with_tx n tx = record n { round = with_pending tx n.round }
-
-abbrev pub tx_refusal : Node → TxId → Option Refusal
-tx_refusal n tx = option_map round_from (submit_refusal n.round.pending tx)
-
+-- a transaction that is handed in is sent
 abbrev pub submitting : Node → TxId → Reply
 submitting n tx = refusing_or n (tx_refusal n tx) (replying (with_tx n tx) Done (TxItem tx ∷ []))
 

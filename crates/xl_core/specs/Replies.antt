@@ -98,7 +98,6 @@ save_of (node.WrongPrev ours) = Kept
 save_of (node.OldPosition kept) = Kept
 save_of (node.Left member) = Kept
 save_of (node.StaleProposal now) = Kept
-save_of (node.NotBuilt kind) = Kept
 save_of (node.Stale now signed) = Kept
 save_of (node.Repeat id) = Kept
 save_of (node.Conflict id) = Kept

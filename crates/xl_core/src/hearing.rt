@@ -2,33 +2,37 @@
 ghost use Rattle.std.specs.Prelude.{◌≡◌, IfOk, IsTrue};
 ghost use Rattle.xl_lists.specs.Lists.{is_on};
 ghost use Rattle.xl_tags.specs.Opening.{HasKeys};
-ghost use Rattle.xl_core.specs.Hearing.{heard};
+ghost use Rattle.xl_core.specs.Hearing.{heard, speech_of};
 
 use crate::Refusal;
-use xl_base::NodeNo;
+use xl_base::{NodeNo, TxId};
 use xl_ledger::{Header, read_header};
 use xl_lists::List;
 use xl_tags::{Keys, open_raw};
-use xl_wire::{Body, Parted, Validation, read_body, split};
+use xl_wire::{Body, Ids, Parted, Proposal, Validation, read_body, split};
 
 /// What members say.
-#[derive(Clone, Copy, Debug, PartialEq, Eq)]
-pub enum Speech {
+#[derive(Debug, Drop)]
+pub enum Speech<'a> {
     Validation(Validation),
     Header(Header),
+    Proposal(Proposal),
+    TxSet(Ids<'a>),
+    Tx(TxId),
 }
 
 /// What a frame says, and the member that says it.
-#[derive(Clone, Copy, Debug, PartialEq, Eq)]
-pub struct Spoken {
+#[derive(Debug, Drop)]
+pub struct Spoken<'a> {
     pub from: NodeNo,
-    pub what: Speech,
+    pub what: Speech<'a>,
 }
 
 /// Reads the frame that the bytes are, opens it, and reads what it says.
 ///
-/// Refused where the bytes are no frame or not one whole frame, where it isn't opened, or where its body is none, in this order.
-pub fn hear(keys: &Keys, list: &List, bytes: &[u8]) -> Result<Spoken, Refusal>
+/// Refused where the bytes are no frame or not one whole frame, where it isn't opened, or where its body is none, in
+/// this order.
+pub fn hear<'a>(keys: &Keys, list: &List, bytes: &'a [u8]) -> Result<Spoken<'a>, Refusal>
     requires { HasKeys keys.now list.now.members }
     ensures exact { result ≡ heard keys.now list.now.members bytes.now }
     ensures listed { IfOk result (λ said. IsTrue (is_on list.now.members said.from)) }
@@ -42,15 +46,21 @@ pub fn hear(keys: &Keys, list: &List, bytes: &[u8]) -> Result<Spoken, Refusal>
         return Err(Refusal::Extra(bytes.len() - raw.length));
     }
     let from = open_raw(keys, list, &raw, bytes)?;
-    match read_body(&raw)? {
-        Body::Validation(validation) => Ok(Spoken {
-            from,
-            what: Speech::Validation(validation),
-        }),
-        Body::Header(bytes) => Ok(Spoken {
-            from,
-            what: Speech::Header(read_header(&bytes)),
-        }),
-        _ => Err(Refusal::NotBuilt(raw.kind)),
+    let body = read_body(&raw)?;
+    Ok(Spoken {
+        from,
+        what: speech_of(body),
+    })
+}
+
+fn speech_of(body: Body<'_>) -> Speech<'_>
+    ensures { result ≡ speech_of body.entry }
+{
+    match body {
+        Body::Proposal(proposal) => Speech::Proposal(proposal),
+        Body::Validation(validation) => Speech::Validation(validation),
+        Body::Header(bytes) => Speech::Header(read_header(&bytes)),
+        Body::TxSet(ids) => Speech::TxSet(ids),
+        Body::Tx(tx) => Speech::Tx(tx),
     }
 }

@@ -47,7 +47,7 @@ use crate::hearing::hear;
 use crate::putting::Put;
 use crate::sending::put_sealed;
 use crate::taken::Heard;
-use crate::{Item, OwnValidation, Refusal, Report, Settings, Speech, Taken};
+use crate::{Item, OwnValidation, Refusal, Report, Settings, Speech, Spoken, Taken};
 use std::alloc::Global;
 use std::marker::Model;
 use xl_base::{LedgerId, Millis, NodeNo, OutOfMemory, Seq, SetId, TxId, secs_of};
@@ -59,6 +59,7 @@ use xl_tags::Keys;
 use xl_validations::Table;
 use xl_wire::{Body, Ids, Validation};
 
+mod deliberating;
 mod timer;
 
 /// A node's time is never before its first second.
@@ -313,9 +314,11 @@ impl<B: Branch + Drop> Node<B> {
     /// Hears bytes that come, and tells what they give to report.
     ///
     /// Refused where they are no frame, not whole or followed by more; where the frame isn't for the node, comes from a
-    /// stranger or carries another tag; where its body is none; and then as the sender's row refuses the validation: as stale,
-    /// as a repeat, as a conflict, or as old; or as the header isn't added: it is known, its parent isn't, its sequence isn't the
-    /// parent's plus one, or there is no room; all in this order. First the time is set, and rows expire; nothing else changes then.
+    /// stranger or carries another tag; where its body is none; and then by what the body is. The sender's row refuses a
+    /// validation as stale, as a repeat, as a conflict, or as old. A header isn't added where it is known, its parent isn't,
+    /// its sequence isn't the parent's plus one, or there is no room. The round refuses a proposal for its ledger, as an old
+    /// position, as of a member that left, or as stale, and a transaction where it is pending, or as many as may be are. A
+    /// set is never refused. All is in this order. First the time is set, and rows expire; nothing else changes then.
     pub fn frame(&mut self, now: Millis, bytes: &[u8]) -> Result<Heard, Refusal>
         requires moment { now ≤ GREATEST_MILLIS }
         ensures exact { hear_reply result self.new ≡ happens self.old (Frame now bytes.now) Kept }
@@ -325,10 +328,23 @@ impl<B: Branch + Drop> Node<B> {
         ensures others { HearsOthers self.old bytes.now }
     {
         self.advance(now);
-        let said = hear(&self.keys, &self.list, bytes)?;
-        match said.what {
-            Speech::Validation(validation) => self.take_validation(said.from, &validation),
+        let Spoken { from, what } = hear(&self.keys, &self.list, bytes)?;
+        self.take_said(from, what)
+    }
+
+    /// Takes what a member says.
+    fn take_said(&mut self, from: NodeNo, what: Speech<'_>) -> Result<Heard, Refusal>
+        requires listed { IsTrue (is_on self.old.list.members from) }
+        ensures exact { hear_reply result self.new ≡ hears self.old from what.entry }
+        ensures refused { result_err result ≡ speech_refusal self.old from what.entry }
+        ensures unchanged { OnErr result (self.new ≡ self.old) }
+    {
+        match what {
+            Speech::Validation(validation) => self.take_validation(from, &validation),
             Speech::Header(header) => self.learn(&header),
+            Speech::Proposal(proposal) => self.place(from, &proposal),
+            Speech::TxSet(ids) => Ok(self.hold(from, &ids)),
+            Speech::Tx(tx) => self.take_tx(tx),
         }
     }
 

@@ -15,10 +15,13 @@ ghost use Rattle.xl_core.specs.Stops.{HoldsAtLeast, IsCovered, StaysCovered};
 ghost use Rattle.xl_core.specs.Keeping.{AsksSave, CountsFault, Holds, IsAsked, Saves};
 ghost use Rattle.xl_core.specs.Replies.{Answers, Drains, HandsOut, Issues, taken_answer, done_answer, was_kept};
 ghost use Rattle.xl_core.specs.Rest.{IsKeyed};
-ghost use Rattle.xl_core.specs.Node.{opened, settings_of, at_moment, asks_for, frame_refusal, tx_refusal, preferred, IsOff};
+ghost use Rattle.xl_core.specs.Hearing.{Carries, speech_of};
+ghost use Rattle.xl_core.specs.Node.{opened, settings_of, at_moment, asks_for, frame_refusal, speech_refusal, tx_refusal, preferred, IsOff};
 ghost use Rattle.xl_core.specs.Ticks.{Beaten, Concludes, CountsBeatFault, IsBuilt, asks_in, beat_was_kept};
 ghost use Rattle.xl_core.specs.Node.Save.{Kept};
 ghost use Rattle.xl_wire.specs.declared.lengths.TheConstants.{LONGEST_FRAME};
+ghost use Rattle.xl_wire.specs.declared.body.Body.{Body};
+ghost use Rattle.xl_wire.specs.Raws.{RawFrame};
 ghost use Rattle.xl_core.specs.declared.refusal.Refusal.TheVariants.{NotAfter, IssuingOff};
 
 use crate::beat::full_or_partial;
@@ -115,6 +118,10 @@ impl<B: Branch + Drop> Core<B> {
         requires moment { now ≤ GREATEST_MILLIS }
         ensures step { Answers (core_happens self.old (Frame now bytes.now) Kept) self.new (taken_answer result) }
         ensures refused { result_err result ≡ frame_refusal (at_moment now self.old.node) bytes.now }
+        // What another listed member seals is refused for what the node knows of it alone, and else it is taken.
+        ensures complete { (f : RawFrame) (body : Body) →
+            Carries self.old.node.keys self.old.node.list.members bytes.now f body →
+            result_err result ≡ speech_refusal (at_moment now self.old.node) f.from (speech_of body) }
         ensures unchanged { OnErr result (self.new ≡ record self.old { node = at_moment now self.old.node }) }
         ensures unsent { self.new.waiting ≡ self.old.waiting }
         ensures stop { (held : Held) → IsCovered held self.old → IsCovered held self.new }

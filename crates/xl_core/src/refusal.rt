@@ -22,8 +22,6 @@ pub enum Refusal {
     Tag(TagRefusal),
     /// The header isn't added to the known ledgers.
     Header(AddRefusal),
-    /// Frames of this kind aren't heard yet.
-    NotBuilt(u8),
     /// The validation isn't current: the second now, and the second at which it was signed.
     Stale(Secs, Secs),
     /// The sender's row holds a validation of this sequence and this id.
@@ -135,7 +133,6 @@ impl Refusal {
             Refusal::KeepFault(_) => 32,
             Refusal::Short(_) => 45,
             Refusal::Extra(_) => 46,
-            Refusal::NotBuilt(_) => 47,
         }
     }
 }

@@ -1,5 +1,5 @@
 use crate::Report;
-use xl_base::LedgerId;
+use xl_base::{LedgerId, SetId};
 
 /// What a node took of a frame.
 #[derive(Clone, Copy, Debug, PartialEq, Eq)]
@@ -8,6 +8,16 @@ pub enum Taken {
     Vote,
     /// A header of this id, to the known ledgers.
     Header(LedgerId),
+    /// A proposal, as the sender's position.
+    Position,
+    /// A proposal on a later or an unknown ledger, which waits for a round on that.
+    Later,
+    /// A proposal by which the sender leaves the round.
+    Gone,
+    /// A set of this id, as the one that the sender holds.
+    Set(SetId),
+    /// A transaction, to the pending ones.
+    Pending,
 }
 
 /// What a node took of a frame, and what it reports then.

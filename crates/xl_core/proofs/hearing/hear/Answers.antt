@@ -1,13 +1,12 @@
 use Rattle.std.proofs.Common.{◌≤◌, ◌∙◌, ℕ, ◌-◌, length, sym, ap, subst, refl, arith, Ok, Err, Result}
 use Rattle.std.proofs.lemmas.List.{take_all}
-use Rattle.xl_wire.specs.declared.body.Body.{Body}
 use Rattle.xl_wire.specs.Kinds.{span}
 use Rattle.xl_wire.specs.Raws.{RawFrame, SpellsRaw, raw_frame}
 use Rattle.xl_core.specs.declared.hearing.Spoken.{Spoken}
-use Rattle.xl_core.specs.declared.hearing.Speech.TheVariants as speech
+use Rattle.xl_core.specs.declared.hearing.Speech.{Speech}
 use Rattle.xl_core.specs.declared.refusal.Refusal.{Refusal}
 use Rattle.xl_core.specs.declared.refusal.Refusal.TheVariants.{Frame, Tag, Extra}
-use Rattle.xl_core.proofs.Heard.{no_frame, short, long, unopened, read, read_so, other_body, err_so}
+use Rattle.xl_core.proofs.Heard.{no_frame, short, long, unopened, read, err_so}
 use Rattle.xl_core.proofs.hearing.hear.Goals as goal
 
 pub returns-in-Need-clause-exact : goal.returns-in-Need-clause-exact
@@ -36,36 +35,17 @@ returns-in_err-from-clause-exact c =
     err_so c.from_residual.result (Tag c.in_err-from.field-0.0) c.from_residual.ensures.1
     ∙ sym (unopened c.args.keys.now c.args.list.now.members c.args.bytes.now f c.in_err-from.field-0.0 (sym c.in-Whole.ensures.exact) all (sym c.in_err-from.ensures.refusal))
 
-pub returns-in_err-validation-clause-exact : goal.returns-in_err-validation-clause-exact
-returns-in_err-validation-clause-exact c =
+pub returns-in_err-body-clause-exact : goal.returns-in_err-body-clause-exact
+returns-in_err-body-clause-exact c =
     let f : RawFrame = raw_frame c.in-Whole.raw in
     let all : length c.args.bytes.now ≤ span f.body = omega (arith, c.if-raw-bytes.false, c.in-Whole.raw.whole) in
-    err_so c.from_residual-in_err-validation.result (Frame c.in_err-validation.field-0.0) c.from_residual-in_err-validation.ensures.1
-    ∙ sym (read c.args.keys.now c.args.list.now.members c.args.bytes.now f (Err c.in_err-validation.field-0.0) (sym c.in-Whole.ensures.exact) all (sym c.in_ok-from.ensures.refusal) c.in_err-validation.ensures.exact)
+    err_so c.from_residual-in_err-body.result (Frame c.in_err-body.field-0.0) c.from_residual-in_err-body.ensures.1
+    ∙ sym (read c.args.keys.now c.args.list.now.members c.args.bytes.now f (Err c.in_err-body.field-0.0) (sym c.in-Whole.ensures.exact) all (sym c.in_ok-from.ensures.refusal) c.in_err-body.ensures.exact)
 
-pub returns-in-Validation-clause-exact : goal.returns-in-Validation-clause-exact
-returns-in-Validation-clause-exact c =
+pub returns-clause-exact : goal.returns-clause-exact
+returns-clause-exact c =
     let f : RawFrame = raw_frame c.in-Whole.raw in
     let all : length c.args.bytes.now ≤ span f.body = omega (arith, c.if-raw-bytes.false, c.in-Whole.raw.whole) in
-    ap (λ (m : ℕ). (let r : Result Spoken Refusal = Ok (record { from = m; what = speech.Validation c.in-Validation.validation }) in r)) c.in_ok-from.ensures.sender
-    ∙ ap (λ (b : Body). read_so f.kind f.from (Ok b)) (sym c.in-Validation.is)
-    ∙ sym (read c.args.keys.now c.args.list.now.members c.args.bytes.now f (Ok c.in_ok-validation.field-0) (sym c.in-Whole.ensures.exact) all (sym c.in_ok-from.ensures.refusal) c.in_ok-validation.ensures.exact)
-
-pub returns-in-Header-clause-exact : goal.returns-in-Header-clause-exact
-returns-in-Header-clause-exact c =
-    let f : RawFrame = raw_frame c.in-Whole.raw in
-    let all : length c.args.bytes.now ≤ span f.body = omega (arith, c.if-raw-bytes.false, c.in-Whole.raw.whole) in
-    ap (λ (m : ℕ). (let r : Result Spoken Refusal = Ok (record { from = m; what = speech.Header c.read_header.result }) in r)) c.in_ok-from.ensures.sender
-    ∙ ap (λ h. (let r : Result Spoken Refusal = Ok (record { from = f.from; what = speech.Header h }) in r)) c.read_header.ensures.exact
-    ∙ ap (λ (b : Body). read_so f.kind f.from (Ok b)) (sym c.in-Header.is)
-    ∙ sym (read c.args.keys.now c.args.list.now.members c.args.bytes.now f (Ok c.in_ok-validation.field-0) (sym c.in-Whole.ensures.exact) all (sym c.in_ok-from.ensures.refusal) c.in_ok-validation.ensures.exact)
-
-pub returns-in_default : goal.returns-in_default
-returns-in_default c =
-    let f : RawFrame = raw_frame c.in-Whole.raw in
-    let all : length c.args.bytes.now ≤ span f.body = omega (arith, c.if-raw-bytes.false, c.in-Whole.raw.whole) in
-    record {
-      exact = other_body f.kind f.from c.in_ok-validation.field-0 c.in_default.not-Validation c.in_default.not-Header
-          ∙ sym (read c.args.keys.now c.args.list.now.members c.args.bytes.now f (Ok c.in_ok-validation.field-0) (sym c.in-Whole.ensures.exact) all (sym c.in_ok-from.ensures.refusal) c.in_ok-validation.ensures.exact);
-      listed = tt;
-    }
+    ap (λ (m : ℕ). (let r : Result Spoken Refusal = Ok (record { from = m; what = c.speech_of.result }) in r)) c.in_ok-from.ensures.sender
+    ∙ ap (λ (what : Speech). (let r : Result Spoken Refusal = Ok (record { from = f.from; what = what }) in r)) c.speech_of.ensures
+    ∙ sym (read c.args.keys.now c.args.list.now.members c.args.bytes.now f (Ok c.in_ok-body.body) (sym c.in-Whole.ensures.exact) all (sym c.in_ok-from.ensures.refusal) c.in_ok-body.ensures.exact)

@@ -1,7 +1,7 @@
-use Rattle.std.proofs.Common.{◌≡◌, ◌≢◌, ℕ, ◌∙◌, subst, ap, Ok, Err}
+use Rattle.std.proofs.Common.{◌≡◌, ◌≢◌, ℕ, ◌∙◌, subst, ap, refl, Ok, Err, Result}
 use Rattle.std.specs.Result.{result_err}
 use Rattle.xl_tags.specs.Rings.{Ring}
-use Rattle.xl_core.specs.declared.hearing.Speech.TheVariants as speech
+use Rattle.xl_core.specs.declared.hearing.Spoken.{Spoken}
 use Rattle.xl_core.specs.Hearing.{heard}
 use Rattle.xl_core.specs.Node.{Node, at_moment, hears, refusing, speech_refusal}
 use Rattle.xl_core.specs.Replies.{hear_reply}
@@ -9,74 +9,46 @@ use Rattle.xl_core.proofs.Frames.{nothing_heard, something_heard}
 use Rattle.xl_core.proofs.Heard.{not_itself, err_so}
 use Rattle.xl_core.proofs.node.Node.frame.Goals as goal
 
-pub returns-in_err-said-clause-exact : goal.returns-in_err-said-clause-exact
-returns-in_err-said-clause-exact g c =
+pub returns-in_err-from-clause-exact : goal.returns-in_err-from-clause-exact
+returns-in_err-from-clause-exact g c =
     let m : Node = at_moment c.args.now c.args.self.now in
-    let why = c.in_err-said.field-0.0 in
+    let why = c.in_err-from.field-0.0 in
     let is : Err why ≡ heard m.keys m.list.members c.args.bytes.now =
-    c.in_err-said.ensures.exact ∙ ap (λ (k : Ring). heard k c.self.inside.list.members c.args.bytes.now) c.deref.ensures
+    c.in_err-from.ensures.exact ∙ ap (λ (k : Ring). heard k c.self.inside.list.members c.args.bytes.now) c.deref.ensures
     ∙ ap (λ (x : Node). heard x.keys x.list.members c.args.bytes.now) (c.self.view_is ∙ c.advance.ensures) in
     ap (λ r. hear_reply r c.advance.new.self) (err_so c.from_residual.result why c.from_residual.ensures.1)
     ∙ ap (λ (x : Node). refusing x why) c.advance.ensures
     ∙ (nothing_heard m c.args.bytes.now why is).1
 
-pub returns-in_err-said-clause-refused : goal.returns-in_err-said-clause-refused
-returns-in_err-said-clause-refused g c =
+pub returns-in_err-from-clause-refused : goal.returns-in_err-from-clause-refused
+returns-in_err-from-clause-refused g c =
     let m : Node = at_moment c.args.now c.args.self.now in
-    let why = c.in_err-said.field-0.0 in
+    let why = c.in_err-from.field-0.0 in
     let is : Err why ≡ heard m.keys m.list.members c.args.bytes.now =
-    c.in_err-said.ensures.exact ∙ ap (λ (k : Ring). heard k c.self.inside.list.members c.args.bytes.now) c.deref.ensures
+    c.in_err-from.ensures.exact ∙ ap (λ (k : Ring). heard k c.self.inside.list.members c.args.bytes.now) c.deref.ensures
     ∙ ap (λ (x : Node). heard x.keys x.list.members c.args.bytes.now) (c.self.view_is ∙ c.advance.ensures) in
     ap result_err (err_so c.from_residual.result why c.from_residual.ensures.1) ∙ (nothing_heard m c.args.bytes.now why is).0
 
-pub returns-in-Validation-clause-exact : goal.returns-in-Validation-clause-exact
-returns-in-Validation-clause-exact g c =
+pub returns-clause-exact : goal.returns-clause-exact
+returns-clause-exact g c =
     let m : Node = at_moment c.args.now c.args.self.now in
-    let said = c.in_ok-said.said in
-    let what = speech.Validation c.in-Validation.validation in
+    let said : Spoken = c.in_ok-from.field-0 in
     let is : Ok said ≡ heard m.keys m.list.members c.args.bytes.now =
-    c.in_ok-said.ensures.exact ∙ ap (λ (k : Ring). heard k c.self.inside.list.members c.args.bytes.now) c.deref.ensures
+    c.in_ok-from.ensures.exact ∙ ap (λ (k : Ring). heard k c.self.inside.list.members c.args.bytes.now) c.deref.ensures
     ∙ ap (λ (x : Node). heard x.keys x.list.members c.args.bytes.now) (c.self.view_is ∙ c.advance.ensures) in
-    c.take_validation.ensures.exact ∙ ap (λ (x : Node). hears x said.from what) c.advance.ensures ∙ (something_heard m c.args.bytes.now said what is c.in-Validation.is).1
+    c.take_said.ensures.exact ∙ ap (λ (x : Node). hears x said.from said.what) c.advance.ensures ∙ (something_heard m c.args.bytes.now said said.what is refl).1
 
-pub returns-in-Validation-clause-refused : goal.returns-in-Validation-clause-refused
-returns-in-Validation-clause-refused g c =
+pub returns-clause-refused : goal.returns-clause-refused
+returns-clause-refused g c =
     let m : Node = at_moment c.args.now c.args.self.now in
-    let said = c.in_ok-said.said in
-    let what = speech.Validation c.in-Validation.validation in
+    let said : Spoken = c.in_ok-from.field-0 in
     let is : Ok said ≡ heard m.keys m.list.members c.args.bytes.now =
-    c.in_ok-said.ensures.exact ∙ ap (λ (k : Ring). heard k c.self.inside.list.members c.args.bytes.now) c.deref.ensures
+    c.in_ok-from.ensures.exact ∙ ap (λ (k : Ring). heard k c.self.inside.list.members c.args.bytes.now) c.deref.ensures
     ∙ ap (λ (x : Node). heard x.keys x.list.members c.args.bytes.now) (c.self.view_is ∙ c.advance.ensures) in
-    c.take_validation.ensures.refused ∙ ap (λ (x : Node). speech_refusal x said.from what) c.advance.ensures ∙ (something_heard m c.args.bytes.now said what is c.in-Validation.is).0
+    c.take_said.ensures.refused ∙ ap (λ (x : Node). speech_refusal x said.from said.what) c.advance.ensures ∙ (something_heard m c.args.bytes.now said said.what is refl).0
 
-pub returns-in-Header-clause-exact : goal.returns-in-Header-clause-exact
-returns-in-Header-clause-exact g c =
-    let m : Node = at_moment c.args.now c.args.self.now in
-    let said = c.in_ok-said.said in
-    let what = speech.Header c.in-Header.header in
-    let is : Ok said ≡ heard m.keys m.list.members c.args.bytes.now =
-    c.in_ok-said.ensures.exact ∙ ap (λ (k : Ring). heard k c.self.inside.list.members c.args.bytes.now) c.deref.ensures
-    ∙ ap (λ (x : Node). heard x.keys x.list.members c.args.bytes.now) (c.self.view_is ∙ c.advance.ensures) in
-    c.learn.ensures.exact said.from ∙ ap (λ (x : Node). hears x said.from what) c.advance.ensures ∙ (something_heard m c.args.bytes.now said what is c.in-Header.is).1
-
-pub returns-in-Header-clause-refused : goal.returns-in-Header-clause-refused
-returns-in-Header-clause-refused g c =
-    let m : Node = at_moment c.args.now c.args.self.now in
-    let said = c.in_ok-said.said in
-    let what = speech.Header c.in-Header.header in
-    let is : Ok said ≡ heard m.keys m.list.members c.args.bytes.now =
-    c.in_ok-said.ensures.exact ∙ ap (λ (k : Ring). heard k c.self.inside.list.members c.args.bytes.now) c.deref.ensures
-    ∙ ap (λ (x : Node). heard x.keys x.list.members c.args.bytes.now) (c.self.view_is ∙ c.advance.ensures) in
-    c.learn.ensures.refused said.from ∙ ap (λ (x : Node). speech_refusal x said.from what) c.advance.ensures ∙ (something_heard m c.args.bytes.now said what is c.in-Header.is).0
-
-pub returns-in-Validation-clause-others : goal.returns-in-Validation-clause-others
-returns-in-Validation-clause-others g c = λ said is.
-    let n : Node = c.args.self.now in
-    let own : n.keys.me ≡ n.me = subst (λ (m : Node). m.keys.me ≡ m.me) (c.self.view_is ∙ c.advance.ensures) c.self.invariant.0.keyed.own in
-    subst (λ (k : ℕ). said.from ≢ k) own (not_itself n.keys n.list.members c.args.bytes.now said is)
-
-pub returns-in-Header-clause-others : goal.returns-in-Header-clause-others
-returns-in-Header-clause-others g c = λ said is.
+pub returns-clause-others : goal.returns-clause-others
+returns-clause-others g c = λ said is.
     let n : Node = c.args.self.now in
     let own : n.keys.me ≡ n.me = subst (λ (m : Node). m.keys.me ≡ m.me) (c.self.view_is ∙ c.advance.ensures) c.self.invariant.0.keyed.own in
     subst (λ (k : ℕ). said.from ≢ k) own (not_itself n.keys n.list.members c.args.bytes.now said is)

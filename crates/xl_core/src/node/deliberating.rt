@@ -1,0 +1,80 @@
+ghost use Rattle.std.specs.Prelude.{◌≡◌, ℕ, Ok, OnErr, length, take};
+ghost use Rattle.xl_base.specs.Sets.{IsSet};
+ghost use Rattle.std.specs.Result.{result_err};
+ghost use Rattle.xl_core.specs.Node.{hears, speech_refusal, taken_as};
+ghost use Rattle.xl_core.specs.Replies.{hear_reply};
+ghost use Rattle.xl_core.specs.declared.hearing.Speech.TheVariants as speech;
+
+use super::Node;
+use crate::taken::Heard;
+use crate::{Refusal, Taken};
+use xl_base::{MOST_IDS, NodeNo, TxId, secs_of};
+use xl_ledger::Branch;
+use xl_rounds::Placed;
+use xl_wire::{Ids, Proposal};
+
+/// Copies the ids of a set to the front of a room, and tells how many they are.
+fn copy_ids(ids: &Ids<'_>, room: &mut [TxId; MOST_IDS]) -> usize
+    ensures count { result ≡ length ids.now }
+    ensures copied { take result room.new ≡ ids.now }
+    ensures set { IsSet ids.now }
+{
+    let count = ids.len();
+    for place in 0..count {
+        room[place] = ids.get(place);
+    }
+    count
+}
+
+/// What was taken of a proposal.
+fn taken_as(placed: Placed) -> Taken
+    ensures { result ≡ taken_as placed }
+{
+    match placed {
+        Placed::Position => Taken::Position,
+        Placed::Later => Taken::Later,
+        Placed::Gone => Taken::Gone,
+    }
+}
+
+impl<B: Branch + Drop> Node<B> {
+    /// The round places a member's proposal.
+    pub(super) fn place(&mut self, from: NodeNo, p: &Proposal) -> Result<Heard, Refusal>
+        ensures exact { hear_reply result self.new ≡ hears self.old from (speech.Proposal p.now) }
+        ensures refused { result_err result ≡ speech_refusal self.old from (speech.Proposal p.now) }
+        ensures unchanged { OnErr result (self.new ≡ self.old) }
+    {
+        let second = secs_of(self.time);
+        let placed = self.round.proposal(&self.registry, from, p, second)?;
+        Ok(Heard {
+            taken: taken_as(placed),
+            report: None,
+        })
+    }
+
+    /// A set is the one that the member holds from then on. It is copied once, into room that is there.
+    pub(super) fn hold(&mut self, from: NodeNo, ids: &Ids<'_>) -> Heard
+        ensures { hear_reply (Ok result) self.new ≡ hears self.old from (speech.TxSet ids.now) }
+    {
+        let mut room = [TxId([0; 32]); MOST_IDS];
+        let count = copy_ids(ids, &mut room);
+        let id = self.round.hold(from, &room[..count]);
+        Heard {
+            taken: Taken::Set(id),
+            report: None,
+        }
+    }
+
+    /// A transaction that a member sent is pending from then on, and isn't sent on.
+    pub(super) fn take_tx(&mut self, tx: TxId) -> Result<Heard, Refusal>
+        ensures exact { (from : ℕ) → hear_reply result self.new ≡ hears self.old from (speech.Tx tx) }
+        ensures refused { (from : ℕ) → result_err result ≡ speech_refusal self.old from (speech.Tx tx) }
+        ensures unchanged { OnErr result (self.new ≡ self.old) }
+    {
+        self.round.submit(tx)?;
+        Ok(Heard {
+            taken: Taken::Pending,
+            report: None,
+        })
+    }
+}
