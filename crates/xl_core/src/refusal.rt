@@ -1,7 +1,7 @@
 ghost use Rattle.std.specs.Prelude.{◌≡◌};
 ghost use Rattle.xl_core.specs.Refusals.{refusal_from, round_from, code_of};
 
-use xl_base::{LedgerId, NodeNo, Secs, Seq, TxId};
+use xl_base::{LedgerId, Secs, Seq, TxId};
 use xl_ledger::AddRefusal;
 use xl_rounds::RoundRefusal;
 use xl_tags::TagRefusal;
@@ -39,8 +39,8 @@ pub enum Refusal {
     WrongPrev(LedgerId),
     /// Its propose sequence isn't above that of the member's position, which is given.
     OldPosition(u32),
-    /// The member left the round.
-    Left(NodeNo),
+    /// The member of this number left the round.
+    Left(u32),
     /// The proposal was made twenty seconds or more before the second now, which is given.
     StaleProposal(Secs),
     /// The sequence to be issued is at most the last one that was saved, which is given.
@@ -103,7 +103,7 @@ impl From<RoundRefusal> for Refusal {
             RoundRefusal::PoolFull(most) => Refusal::PoolFull(most),
             RoundRefusal::WrongPrev(ours) => Refusal::WrongPrev(ours),
             RoundRefusal::OldPosition(kept) => Refusal::OldPosition(kept),
-            RoundRefusal::Left(member) => Refusal::Left(member),
+            RoundRefusal::Left(member) => Refusal::Left(member.get()),
             RoundRefusal::StaleProposal(now) => Refusal::StaleProposal(now),
         }
     }
@@ -126,7 +126,7 @@ impl Refusal {
             Refusal::PoolFull(most) => RoundRefusal::PoolFull(*most).code(),
             Refusal::WrongPrev(ours) => RoundRefusal::WrongPrev(*ours).code(),
             Refusal::OldPosition(kept) => RoundRefusal::OldPosition(*kept).code(),
-            Refusal::Left(member) => RoundRefusal::Left(*member).code(),
+            Refusal::Left(_) => 28,
             Refusal::StaleProposal(now) => RoundRefusal::StaleProposal(*now).code(),
             Refusal::NotAfter(_) => 30,
             Refusal::IssuingOff(_) => 31,

@@ -55,10 +55,10 @@ pub fn push_values(
             push_id(alloc, text, reader, id)
         }
         Refusal::Pending(tx) => push_id(alloc, text, reader, &LedgerId(tx.0)),
-        Refusal::Left(member) => push_number(text, u64::from(member.get())),
         Refusal::OldSeq(number)
         | Refusal::PoolFull(number)
         | Refusal::OldPosition(number)
+        | Refusal::Left(number)
         | Refusal::StaleProposal(number)
         | Refusal::NotAfter(number)
         | Refusal::IssuingOff(number) => push_number(text, u64::from(*number)),
