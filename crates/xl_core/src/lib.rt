@@ -1,7 +1,8 @@
 //! One node as a function of what happens at it, and its queues.
 //!
-//! `Node` issues validations, hears those of its list's members and the headers of ledgers, reports a ledger as fully
-//! validated once a quorum of the members' current full validations name it, and knows the ledger that their votes prefer.
+//! `Node` issues validations, hears what its list's members say, reports a ledger as fully validated once a quorum of
+//! the members' current full validations name it, and knows the ledger that their votes prefer. Members say validations,
+//! headers of ledgers, proposals, sets of transactions, and transactions.
 //! It has a round of consensus on a ledger: a timer lets that go on, or switches to the ledger that the votes choose, and
 //! builds the next ledger once the round is ready.
 //!

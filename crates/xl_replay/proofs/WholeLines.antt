@@ -17,7 +17,7 @@ use Rattle.xl_lines.proofs.Newlines.{IsOneLine}
 use Rattle.xl_lines.proofs.Parts.{one_line-append}
 use Rattle.xl_lines.proofs.Cutting.{lines_of-ended, lines_of-last}
 use Rattle.xl_core.specs.declared.refusal.Refusal.{Refusal}
-use Rattle.xl_core.specs.declared.refusal.Refusal.TheVariants.{Frame, Short, Extra, Tag, Header, NotBuilt, Stale, Repeat, Conflict, OldSeq, Pending, PoolFull, WrongPrev, OldPosition, Left, StaleProposal, NotAfter, IssuingOff, KeepFault}
+use Rattle.xl_core.specs.declared.refusal.Refusal.TheVariants.{Frame, Short, Extra, Tag, Header, Stale, Repeat, Conflict, OldSeq, Pending, PoolFull, WrongPrev, OldPosition, Left, StaleProposal, NotAfter, IssuingOff, KeepFault}
 use Rattle.xl_core.specs.declared.report.Report.{Report}
 use Rattle.xl_ledger.specs.declared.refusal.AddRefusal.{AddRefusal}
 use Rattle.xl_ledger.specs.declared.refusal.AddRefusal.TheVariants as header
@@ -105,7 +105,6 @@ values_one_line names (Short lack) = decimal_one_line lack
 values_one_line names (Extra more) = decimal_one_line more
 values_one_line names (Tag why) = tag_one_line why
 values_one_line names (Header why) = header_one_line names why
-values_one_line names (NotBuilt kind) = decimal_one_line kind
 values_one_line names (Stale now signed) = spaced (decimal now) (decimal signed) (decimal_one_line now) (decimal_one_line signed)
 values_one_line names (Repeat id) = id_one_line names id
 values_one_line names (Conflict id) = id_one_line names id

@@ -46,7 +46,6 @@ pub fn push_values(
         Refusal::Short(number) | Refusal::Extra(number) => push_number(text, *number as u64),
         Refusal::Tag(why) => push_tag_values(alloc, text, why),
         Refusal::Header(why) => push_header_values(alloc, text, reader, why),
-        Refusal::NotBuilt(kind) => push_number(text, u64::from(*kind)),
         Refusal::Stale(now, signed) => {
             write!(text, "{now} {signed}")?;
             Ok(())

@@ -19,6 +19,8 @@ use Rattle.xl_ledger.specs.Headers.{header_id, spelling}
 use Rattle.xl_queues.specs.Broadcasts.{pushed_to_all}
 use Rattle.xl_rounds.specs.declared.pulse.Said.{Said as RoundSaid}
 use Rattle.xl_rounds.specs.Rounds.{is_proposing}
+use Rattle.xl_rounds.specs.declared.placed.Placed.{Placed}
+use Rattle.xl_rounds.specs.declared.refusal.RoundRefusal.{RoundRefusal}
 use Rattle.xl_core.specs.Building.{said_items}
 use Rattle.xl_core.proofs.Timing.{timing_by, submit_either}
 use Rattle.xl_core.specs.declared.event.CoreEvent.{CoreEvent}
@@ -35,7 +37,7 @@ use Rattle.xl_core.specs.Core.{Core, CoreReply, answering, core_happens, stepped
 use Rattle.xl_core.proofs.Frames.{hearing_either}
 use Rattle.xl_core.specs.Items.{is_own, body_in, framed, frame_of, frames_for, taken_for}
 use Rattle.xl_core.specs.Node as nodes
-use Rattle.xl_core.specs.Node.{Node, Event, Reply, Save, at_moment, own_validation, issues_unless, refusing, issuing, replying, completed, timed, validates, validating_built, taking, hearing, happens, items_of, opened}
+use Rattle.xl_core.specs.Node.{Node, Event, Reply, Save, at_moment, own_validation, issues_unless, refusing, issuing, replying, completed, timed, validates, validating_built, placing, placed_as, taking, hearing, happens, items_of, opened}
 use Rattle.xl_core.specs.Node.Save.{Kept as AnsweredOk, Failed as AnsweredFailed}
 use Rattle.xl_core.specs.Queues.{after_taking, at_number, fitting, frames_in, waiting_at, with_items}
 use Rattle.xl_wire.specs.declared.body.Body.TheVariants as bodies
@@ -104,9 +106,16 @@ issues_plain n None AnsweredOk v = record { items = refl; sent = λ _. refl }
 issues_plain n None (AnsweredFailed count) v = record { items = refl; sent = λ _. refl }
 issues_plain n (Some failed) save v = record { items = refl; sent = λ _. refl }
 
+place_sends : (from : ℕ) (r : Result Placed RoundRefusal) → sent_in from (placed_as r) ≡ []
+place_sends from (Ok became) = refl
+place_sends from (Err why) = refl
+
 taking_plain : (n : Node) (from : ℕ) (what : Speech) → IsPlain (taking n from what)
 taking_plain n from (speech.Validation v) = record { items = refl; sent = λ _. refl }
 taking_plain n from (speech.Header h) = record { items = refl; sent = λ _. refl }
+taking_plain n from (speech.Proposal p) = record { items = refl; sent = λ me. place_sends me (placing n from p) }
+taking_plain n from (speech.TxSet ids) = record { items = refl; sent = λ _. refl }
+taking_plain n from (speech.Tx tx) = record { items = refl; sent = λ _. refl }
 
 issuing_plain : (n : Node) (seq : ℕ) (id : LedgerId) (full : Bool) (save : Save) → IsPlain (issuing n seq id full save)
 issuing_plain n seq id full save =

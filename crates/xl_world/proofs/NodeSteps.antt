@@ -12,8 +12,9 @@ use Rattle.xl_validations.specs.Rows.{is_current, unexpired, row_at, refusal, wi
 use Rattle.xl_base.specs.declared.ids.TxId.{TxId}
 use Rattle.xl_ledger.specs.declared.header.Header.{Header}
 use Rattle.xl_ledger.specs.Headers.{header_id}
-use Rattle.xl_ledger.specs.Registries.{Ledgers}
-use Rattle.xl_rounds.specs.Rounds.{Round, is_proposing, with_pending}
+use Rattle.xl_ledger.specs.Registries.{Ledgers, with_header}
+use Rattle.xl_rounds.specs.Rounds.{Round, is_proposing, with_pending, hold}
+use Rattle.xl_rounds.specs.Proposals.{with_answer}
 use Rattle.xl_core.specs.Building.{said_items}
 use Rattle.xl_core.specs.declared.item.Item.TheVariants.{Tx}
 use Rattle.xl_core.proofs.Timing.{timing_by, submit_either}
@@ -26,8 +27,8 @@ use Rattle.xl_core.specs.declared.hearing.Speech.{Speech}
 use Rattle.xl_core.specs.declared.hearing.Speech.TheVariants as speech
 use Rattle.xl_core.specs.Hearing.{heard}
 use Rattle.xl_core.proofs.Frames.{hearing_either}
-use Rattle.xl_core.specs.Answers.{Done, Beats}
-use Rattle.xl_core.specs.Node.{settings_of, Node, Event, Issue, Frame, Timer, Submit, Reply, Save, issuing, replying, submitting, completed, timed, validates, asks_for, asks_of, at_moment, second_of, own_validation, issues_unless, unless_failed, take, with_taken, saving, arises, arisen, report_of, refusing, taking, hearing, asks, happens, opened}
+use Rattle.xl_core.specs.Answers.{Answer, Done, Beats}
+use Rattle.xl_core.specs.Node.{settings_of, Node, Event, Issue, Frame, Timer, Submit, Reply, Save, issuing, replying, submitting, completed, timed, validates, asks_for, asks_of, at_moment, second_of, own_validation, issues_unless, unless_failed, take, with_taken, saving, arises, arisen, report_of, refusing, placing, taking, hearing, asks, happens, opened}
 use Rattle.xl_world.specs.declared.place.Keeper.{Keeper}
 use Rattle.xl_world.specs.declared.place.Fate.{Fate}
 use Rattle.xl_world.specs.declared.place.Fate.TheVariants.{Kept, Unwritten, Written}
@@ -147,6 +148,15 @@ issue_steps p v true None Written above well = failed_steps p v (one_more p.keep
 issue_steps p v true (Some failed) fate above well = still p (refusing p.node (IssuingOff failed)) refl refl refl well
 issue_steps p v false off fate above well = still p (refusing p.node (NotAfter p.node.kept)) refl refl refl well
 
+-- another round, on other ledgers
+elsewhere : (p : Seat) (r : Reply) (k : Keeper) (ledgers : Ledgers) (round : Round) → IsStep p r k → IsStep p (record r { node = record r.node { ledgers = ledgers; round = round } }) k
+elsewhere p r k ledgers round s = record { me = s.me; list = s.list; well = record { members = s.well.members; valid = s.well.valid; in_force = s.well.in_force }; rises = s.rises; above = s.above; saved = s.saved; quorum = s.quorum }
+
+in_round : (p : Seat) (a : Answer) (r : Round) → IsWell p → IsStep p (replying (record p.node { round = r }) a []) p.keeper
+in_round p a r well =
+    let s = elsewhere p (replying p.node a []) p.keeper p.node.ledgers r (still p (replying p.node a []) refl refl refl well) in
+    record { me = s.me; list = s.list; well = s.well; rises = s.rises; above = s.above; saved = s.saved; quorum = s.quorum }
+
 -- a row takes a validation; a header changes no row and no number
 taking_steps : (p : Seat) (from : ℕ) (what : Speech) → IsWell p → IsStep p (taking p.node from what) p.keeper
 taking_steps p from (speech.Validation v) well = record {
@@ -158,15 +168,13 @@ taking_steps p from (speech.Validation v) well = record {
   saved = tt;
   quorum = arisen_quorum (with_taken p.node (second_of p.node) from v);
 }
-taking_steps p from (speech.Header h) well = record {
-  me = refl;
-  list = refl;
-  well = record { members = well.members; valid = well.valid; in_force = well.in_force };
-  rises = λ j k. (j, omega arith, k);
-  above = tt;
-  saved = tt;
-  quorum = tt;
-}
+taking_steps p from (speech.Header h) well =
+    let r : Reply = taking p.node from (speech.Header h) in
+    let s = elsewhere p (replying p.node r.answer []) p.keeper (with_header p.node.ledgers h) p.node.round (still p (replying p.node r.answer []) refl refl refl well) in
+    record { me = s.me; list = s.list; well = s.well; rises = s.rises; above = s.above; saved = s.saved; quorum = s.quorum }
+taking_steps p from (speech.Proposal q) well = in_round p (taking p.node from (speech.Proposal q)).answer (with_answer (placing p.node from q) from q p.node.round) well
+taking_steps p from (speech.TxSet ids) well = in_round p (taking p.node from (speech.TxSet ids)).answer (hold from ids p.node.round) well
+taking_steps p from (speech.Tx tx) well = in_round p (taking p.node from (speech.Tx tx)).answer (with_pending tx p.node.round) well
 
 hearing_steps : (p : Seat) (bytes : List ℕ) → IsWell p → IsStep p (hearing p.node bytes) p.keeper
 hearing_steps p bytes well =
@@ -181,10 +189,6 @@ well_then now p well = record { members = members_then (max p.node.time now / 10
 
 from_moved : (now : ℕ) (p : Seat) (r : Reply) (k : Keeper) → IsStep (moved now p) r k → IsStep p r k
 from_moved now p r k s = record { me = s.me; list = s.list; well = s.well; rises = s.rises; above = s.above; saved = s.saved; quorum = s.quorum }
-
--- another round, on other ledgers
-elsewhere : (p : Seat) (r : Reply) (k : Keeper) (ledgers : Ledgers) (round : Round) → IsStep p r k → IsStep p (record r { node = record r.node { ledgers = ledgers; round = round } }) k
-elsewhere p r k ledgers round s = record { me = s.me; list = s.list; well = record { members = s.well.members; valid = s.well.valid; in_force = s.well.in_force }; rises = s.rises; above = s.above; saved = s.saved; quorum = s.quorum }
 
 validating_steps : (p : Seat) (h : Header) (full : Bool) (b : Bool) (fate : Fate) → IsWell p →
     IsStep p (cond b (issuing p.node h.seq (header_id h) full (answer_of p.keeper fate)) (replying p.node Done [])) (after_save p.keeper (cond b (asks_for p.node h.seq) None) fate)
@@ -243,6 +247,9 @@ issue_says P n v false off save says fair = record { node = says; issued = tt }
 taking_says : (P : Said → Type 0) (n : Node) (from : ℕ) (what : Speech) → NodeSays P n → ((v : Validation) → what ≡ speech.Validation v → P (said_by from v)) → ReplySays P n.me (taking n from what)
 taking_says P n from (speech.Validation v) says fair = record { node = rows_say P (second_of n) from v (fair v refl) n.rows says; issued = tt }
 taking_says P n from (speech.Header h) says fair = record { node = says; issued = tt }
+taking_says P n from (speech.Proposal p) says fair = record { node = says; issued = tt }
+taking_says P n from (speech.TxSet ids) says fair = record { node = says; issued = tt }
+taking_says P n from (speech.Tx tx) says fair = record { node = says; issued = tt }
 
 hearing_says : (P : Said → Type 0) (n : Node) (bytes : List ℕ) → NodeSays P n →
     ((from : ℕ) (v : Validation) → heard n.keys n.list.members bytes ≡ Ok (record { from = from; what = speech.Validation v }) → P (said_by from v)) → ReplySays P n.me (hearing n bytes)

@@ -166,6 +166,9 @@ issued_nothing w i now seq id full fate places idle answers is =
 taking_quiet : (n : Node) (from : ℕ) (what : Speech) → (taking n from what).issued ≡ None
 taking_quiet n from (speech.Validation v) = refl
 taking_quiet n from (speech.Header h) = refl
+taking_quiet n from (speech.Proposal p) = refl
+taking_quiet n from (speech.TxSet ids) = refl
+taking_quiet n from (speech.Tx tx) = refl
 
 pub frame_quiet : (n : Node) (now : ℕ) (bytes : List ℕ) → (happens n (nodes.Frame now bytes) AnsweredOk).issued ≡ None
 frame_quiet n now bytes =
