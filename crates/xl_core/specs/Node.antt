@@ -34,7 +34,7 @@ use Rattle.xl_core.specs.declared.beat.Beat.TheVariants.{Nothing, Closed, Update
 use Rattle.xl_core.specs.declared.report.Report.{Report}
 use Rattle.xl_core.specs.declared.settings.Settings.{Settings}
 use Rattle.xl_core.specs.declared.refusal.Refusal.{Refusal}
-use Rattle.xl_core.specs.declared.refusal.Refusal.TheVariants.{NotAfter, IssuingOff, KeepFault, Header as HeaderRefused, Round as RoundRefused}
+use Rattle.xl_core.specs.declared.refusal.Refusal.TheVariants.{NotAfter, IssuingOff, KeepFault, Header as HeaderRefused}
 use Rattle.xl_core.specs.declared.hearing.Spoken.{Spoken}
 use Rattle.xl_core.specs.declared.hearing.Speech.{Speech}
 use Rattle.xl_core.specs.declared.hearing.Speech.TheVariants as speech
@@ -45,7 +45,7 @@ use Rattle.xl_ledger.specs.Headers.{header_id}
 use Rattle.xl_core.specs.Answers.{Answer, Refused, Took, Beats, Done, refusal_in}
 use Rattle.xl_core.specs.Building.{usual_mode, said_items, alone, next_by, Knowing, knowing, how_issued}
 use Rattle.xl_core.specs.Hearing.{heard, unheard, said_in}
-use Rattle.xl_core.specs.Refusals.{refusal_from}
+use Rattle.xl_core.specs.Refusals.{refusal_from, round_from}
 
 pub record Node : Type 0 where
   pub me : ℕ
@@ -267,7 +267,7 @@ abbrev pub with_tx : Node → TxId → Node
 with_tx n tx = record n { round = with_pending tx n.round }
 
 abbrev pub tx_refusal : Node → TxId → Option Refusal
-tx_refusal n tx = option_map RoundRefused (submit_refusal n.round.pending tx)
+tx_refusal n tx = option_map round_from (submit_refusal n.round.pending tx)
 
 abbrev pub submitting : Node → TxId → Reply
 submitting n tx = refusing_or n (tx_refusal n tx) (replying (with_tx n tx) Done (TxItem tx ∷ []))

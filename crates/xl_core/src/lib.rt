@@ -17,6 +17,7 @@
 
 mod beat;
 mod event;
+mod greeting;
 mod hearing;
 mod item;
 mod law;
@@ -34,6 +35,7 @@ mod untaken;
 
 pub use beat::{Beat, Issued};
 pub use event::CoreEvent;
+pub use greeting::Greeting;
 pub use hearing::{Speech, Spoken};
 pub use item::Item;
 pub use law::{reports, reports_are_handed_out, said_is_saved};

@@ -12,9 +12,9 @@ use Rattle.xl_core.proofs.queued.Core.drain.Goals as goal
 pub returns-clause-step : goal.returns-clause-step
 returns-clause-step g c =
     let room = length c.args.room.now in
-    subst (λ (a : Core). Drains a c.args.member (let b : Core = record { node = c.self.inside.node; waiting = c.drain.new.waiting; untaken = c.self.inside.untaken; stopped = c.self.inside.stopped } in b) c.drain.result c.args.room.now c.drain.new.room) c.self.view_is
+    subst (λ (a : Core). Drains a c.args.member (let b : Core = record { node = c.self.inside.node; waiting = c.drain.new.waiting; greetings = c.self.inside.greetings; untaken = c.self.inside.untaken; stopped = c.self.inside.stopped } in b) c.drain.result c.args.room.now c.drain.new.room) c.self.view_is
     (record {
-      core = ap (λ ws. let b : Core = record { node = c.self.inside.node; waiting = ws; untaken = c.self.inside.untaken; stopped = c.self.inside.stopped } in b) c.drain.ensures.taken;
+      core = ap (λ ws. let b : Core = record { node = c.self.inside.node; waiting = ws; greetings = c.self.inside.greetings; untaken = c.self.inside.untaken; stopped = c.self.inside.stopped } in b) c.drain.ensures.taken;
       count = c.drain.ensures.count;
       room = c.drain.ensures.frames;
     })
