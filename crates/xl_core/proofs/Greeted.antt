@@ -1,13 +1,14 @@
 -- The headers of a greeting, and what waits behind them.
 use Rattle.std.proofs.Common.{◌≡◌, ℕ, zero, suc, ◌+◌, ◌-◌, ◌<◌, ◌≤◌, Bool, true, false, cond, List, [], ◌∷◌, ◌++◌, length, set, get_or, take, drop, map, arith, refl, ap, sym, ◌∙◌, subst, Option, Some, None, slice_get, append_assoc, inl, inr}
-use Rattle.std.specs.Prelude.{◌⊎◌, if◌then◌else◌, All, IfSome, nat_le, option_map, unwrap_or}
+use Rattle.std.specs.Prelude.{◌⊎◌, ◌↔◌, if◌then◌else◌, All, IfSome, nat_le, option_map, unwrap_or}
 use Rattle.std.specs.Option.{is_none}
 use Rattle.std.proofs.lemmas.Bool.{cond-true, cond-false}
 use Rattle.std.proofs.lemmas.Bool.Decides.{nat_tests}
 use Rattle.std.proofs.lemmas.Grind.{flat_map-append}
-use Rattle.std.proofs.lemmas.List.{length-append, length-map, length-drop, drop-drop, drop-map, drop_at, take_at, take-append-le}
+use Rattle.std.proofs.lemmas.List.{append-nil, length-append, length-map, length-drop, drop-drop, drop-map, drop_at, take_at, take-append-le}
 use Rattle.std.proofs.lemmas.List.Elements.{All-append, All-cons, All-nil, filter_map-append}
 use Rattle.std.proofs.lemmas.Option.{slice_get_past, same_Some}
+use Rattle.std.proofs.Math.ListN.{drop_of_length-le}
 use Rattle.std.proofs.Math.Seq.{take-append-add, take-length}
 use Rattle.xl_queues.specs.Queues.{Backlog}
 use Rattle.xl_ledger.specs.declared.header.Header.{Header}
@@ -28,7 +29,7 @@ use Rattle.xl_core.specs.Node.{Node}
 use Rattle.xl_core.specs.Queues.{waiting_at, at_number, after_taking, fitting, that_fit, frames_in, joined}
 use Rattle.xl_core.specs.Replies.{Drains}
 use Rattle.xl_core.specs.Sending.{sealed_bytes, has_spelling}
-use Rattle.xl_core.proofs.Draining.{Frames, IsWritten, written_none, written_all, written_long, written_more, taking_none}
+use Rattle.xl_core.proofs.Draining.{Frames, IsWritten, written_none, written_all, written_long, written_more, taking_none, none_left, none_given}
 use Rattle.xl_core.proofs.Spelling.{framed_fits, frames_fit}
 
 -- THE NEXT HEADER
@@ -282,13 +283,11 @@ drains_front core member written greetings old new writes further_is left =
     drop_front (f ∷ fs) (suc k) le = drop_front fs k (omega (arith, le))
 
 -- all do: what waits comes behind them, in the room that is left
-pub drains_both : (core : Core) (member first second : ℕ) (greetings : List (Option Greeting)) (waiting : List (Backlog Item)) (old mid new : List ℕ) → Writes (greeted_frames core member) first old mid →
-    greetings ≡ further_at core.greetings member (fitting (greeted_frames core member) (length old)) → is_handed core.node (greeting_at greetings member) ≡ true →
-    second ≡ length (drained_bytes core.node core.waiting member (length (drop first mid))) →
-    new ≡ take first mid ++ (drained_bytes core.node core.waiting member (length (drop first mid)) ++ drop second (drop first mid)) →
-    waiting ≡ drained_for core.node core.waiting member (length (drop first mid)) →
-    Drains core member (record core { waiting = waiting; greetings = greetings }) (first + second) old new
-drains_both core member first second greetings waiting old mid new writes further_is done count frames taken =
+pub drains_both : (core : Core) (member first second : ℕ) (greetings : List (Option Greeting)) (waiting : List (Backlog Item)) (old mid part inner back : List ℕ) → Writes (greeted_frames core member) first old mid →
+    greetings ≡ further_at core.greetings member (fitting (greeted_frames core member) (length old)) → is_handed core.node (greeting_at greetings member) ≡ true → part ≡ drop first mid → back ≡ [] →
+    second ≡ length (drained_bytes core.node core.waiting member (length part)) → inner ≡ drained_bytes core.node core.waiting member (length part) ++ drop second part →
+    waiting ≡ drained_for core.node core.waiting member (length part) → Drains core member (record core { waiting = waiting; greetings = greetings }) (first + second) old (take first mid ++ (inner ++ back))
+drains_both core member first second greetings waiting old mid part inner back writes further_is done is_part no_more count frames taken =
     let xs : Frames = greeted_frames core member in
     let ys : Frames = frames_for core.node core.waiting member in
     let room : ℕ = length old in
@@ -299,27 +298,33 @@ drains_both core member first second greetings waiting old mid new writes furthe
     let gs : List ℕ = joined (frames_in xs) in
     let place : first ≡ length gs = writes.count ∙ ap (λ (fs : Frames). length (joined (frames_in fs))) whole in
     let is : mid ≡ gs ++ drop first old = writes.room ∙ ap (λ (fs : Frames). joined (frames_in fs) ++ drop first old) whole in
-    let rest : drop first mid ≡ drop first old = ap (drop first) is ∙ drop_at gs (drop first old) first (sym place) in
+    let rest : part ≡ drop first old = is_part ∙ ap (drop first) is ∙ drop_at gs (drop first old) first (sym place) in
     let front : take first mid ≡ gs = ap (take first) is ∙ take_at gs (drop first old) first (sym place) in
-    let left : length (drop first mid) ≡ room - length gs = ap length rest ∙ length-drop first old ∙ ap (λ (k : ℕ). room - k) place in
+    let left : length part ≡ room - length gs = ap length rest ∙ length-drop first old ∙ ap (λ (k : ℕ). room - k) place in
     let zs : Frames = that_fit ys (room - length gs) in
     let given : that_fit (xs ++ ys) room ≡ xs ++ zs = both_given xs ys room all in
-    let bytes : drained_bytes core.node core.waiting member (length (drop first mid)) ≡ joined (frames_in zs) = ap (λ (k : ℕ). joined (frames_in (that_fit ys k))) left in
+    let bytes : drained_bytes core.node core.waiting member (length part) ≡ joined (frames_in zs) = ap (λ (k : ℕ). joined (frames_in (that_fit ys k))) left in
     let behind : joined (frames_in (that_fit (xs ++ ys) room)) ≡ gs ++ joined (frames_in zs) = ap (λ (fs : Frames). joined (frames_in fs)) given ∙ joined_both xs zs in
     let waits : waiting ≡ at_number core.waiting member (after_taking (drop (length xs) (that_fit (xs ++ ys) room))) =
     taken ∙ ap (λ (k : ℕ). at_number core.waiting member (after_taking (that_fit ys k))) left
     ∙ ap (λ (fs : Frames). at_number core.waiting member (after_taking fs)) (sym (ap (drop (length xs)) given ∙ drop_at xs zs (length xs) refl)) in
+    let written : inner ++ back ≡ joined (frames_in zs) ++ drop (first + second) old =
+    ap (λ (bs : List ℕ). inner ++ bs) no_more ∙ append-nil inner ∙ frames
+    ∙ ap (λ (bs : List ℕ). bs ++ drop second part) bytes
+    ∙ ap (λ (bs : List ℕ). joined (frames_in zs) ++ drop second bs) rest
+    ∙ ap (λ (bs : List ℕ). joined (frames_in zs) ++ bs) (drop-drop second first old) in
     record {
       core = ap (λ (gr : List (Option Greeting)). let c : Core = record core { waiting = waiting; greetings = gr } in c) further_is
           ∙ ap (λ (ws : List (Backlog Item)). let c : Core = record core { waiting = ws; greetings = further_at core.greetings member (fitting xs room) } in c) waits;
       count = omega (arith, place, count, ap length bytes, ap length behind, length-append gs (joined (frames_in zs)));
-      room = frames ∙ ap (λ (bs : List ℕ). bs ++ (drained_bytes core.node core.waiting member (length (drop first mid)) ++ drop second (drop first mid))) front
-          ∙ ap (λ (bs : List ℕ). gs ++ (bs ++ drop second (drop first mid))) bytes
-          ∙ ap (λ (bs : List ℕ). gs ++ (joined (frames_in zs) ++ drop second bs)) rest
-          ∙ ap (λ (bs : List ℕ). gs ++ (joined (frames_in zs) ++ bs)) (drop-drop second first old)
+      room = ap (λ (bs : List ℕ). bs ++ (inner ++ back)) front ∙ ap (λ (bs : List ℕ). gs ++ bs) written
           ∙ sym (append_assoc gs (joined (frames_in zs)) (drop (first + second) old))
           ∙ ap (λ (bs : List ℕ). bs ++ drop (first + second) old) (sym behind);
     }
+
+-- behind the end of a room there is nothing
+pub behind_end : (at : ℕ) (room : List ℕ) → drop (length room - at) (drop at room) ≡ []
+behind_end at room = drop_of_length-le (drop at room) {i = length room - at} (omega (arith, length-drop at room))
 
 -- each header's frame fits into a room that has place for the longest
 pub headers_fit : (n : Node) (to room : ℕ) (o : Option Greeting) → 8240 ≤ room → All (λ f. IfSome f (λ bytes. (0 < length bytes) × (length bytes ≤ room))) (greeting_frames n o to)
@@ -337,3 +342,10 @@ pub all_fit : (core : Core) (to room : ℕ) → 8240 ≤ room → All (λ f. IfS
 all_fit core to room enough =
     All-append (λ f. IfSome f (λ bytes. (0 < length bytes) × (length bytes ≤ room))) (greeted_frames core to) (frames_for core.node core.waiting to)
     (headers_fit core.node to room (greeting_at core.greetings to) enough) (frames_fit core.node to room (waiting_at core.waiting to).items enough)
+
+-- it gives nothing exactly where nothing is left but what is passed over
+pub nothing_left : (core after : Core) (member written : ℕ) (old new : List ℕ) → 8240 ≤ length old → Drains core member after written old new → (written ≡ 0) ↔ (frames_in (all_frames core member) ≡ [])
+nothing_left core after member written old new enough drain = (
+  λ none. none_left (all_frames core member) (length old) (all_fit core member (length old) enough) (sym drain.count ∙ none),
+  λ none. drain.count ∙ none_given (all_frames core member) (length old) none,
+)
