@@ -17,7 +17,7 @@ use Rattle.xl_lines.proofs.Newlines.{IsOneLine}
 use Rattle.xl_lines.proofs.Parts.{one_line-append}
 use Rattle.xl_lines.proofs.Cutting.{lines_of-ended, lines_of-last}
 use Rattle.xl_core.specs.declared.refusal.Refusal.{Refusal}
-use Rattle.xl_core.specs.declared.refusal.Refusal.TheVariants.{Frame, Short, Extra, Tag, Header, Round, NotBuilt, Stale, Repeat, Conflict, OldSeq, NotAfter, IssuingOff, KeepFault}
+use Rattle.xl_core.specs.declared.refusal.Refusal.TheVariants.{Frame, Short, Extra, Tag, Header, NotBuilt, Stale, Repeat, Conflict, OldSeq, Pending, PoolFull, WrongPrev, OldPosition, Left, StaleProposal, NotAfter, IssuingOff, KeepFault}
 use Rattle.xl_core.specs.declared.report.Report.{Report}
 use Rattle.xl_ledger.specs.declared.refusal.AddRefusal.{AddRefusal}
 use Rattle.xl_ledger.specs.declared.refusal.AddRefusal.TheVariants as header
