@@ -1,9 +1,9 @@
 -- Every frame that a core ever gave stays covered by what its keeper may hold.
-use Rattle.std.proofs.Common.{◌≡◌, ◌≢◌, ℕ, zero, suc, ◌≤◌, Bool, true, List, [], ◌∷◌, ◌++◌, map, refl, ap, sym, ◌∙◌, subst, arith, Option, Some, None, Ok, append_assoc}
-use Rattle.std.specs.Prelude.{All, IfSome, nat_lt, take, option_map, ⊤}
+use Rattle.std.proofs.Common.{◌≡◌, ◌≢◌, ℕ, ◌≤◌, Bool, true, List, [], ◌∷◌, ◌++◌, map, refl, ap, sym, ◌∙◌, subst, arith, Option, Some, None, Ok, append_assoc}
+use Rattle.std.specs.Prelude.{All, IfSome, nat_lt, option_map, ⊤}
 use Rattle.std.proofs.lemmas.Bool.{cond_both, ltb-true}
 use Rattle.std.proofs.lemmas.List.{append-nil}
-use Rattle.std.proofs.lemmas.List.Elements.{All-append, All-cons, All-head, All-nil, All-tail, All-weaker, filter_map-append}
+use Rattle.std.proofs.lemmas.List.Elements.{All-append, All-cons, All-head, All-nil, All-tail, All-weaker}
 use Rattle.xl_io.specs.Keepers.{Held, after_save}
 use Rattle.xl_wire.specs.declared.body.Body.TheVariants as bodies
 use Rattle.xl_wire.specs.declared.validation.Validation.{Validation}
@@ -30,23 +30,22 @@ use Rattle.xl_core.specs.Answers.{Done}
 use Rattle.xl_core.proofs.Timing.{timing_by, submit_either}
 use Rattle.xl_core.specs.declared.event.CoreEvent.{CoreEvent}
 use Rattle.xl_core.specs.declared.event.CoreEvent.TheVariants.{Issue, Frame, Timer, Submit, Greet, Drain, Reports, Stop, Stopped}
-use Rattle.xl_core.specs.declared.greeting.Greeting.{Greeting}
 use Rattle.xl_core.specs.declared.hearing.Spoken.{Spoken}
 use Rattle.xl_core.specs.declared.item.Item.{Item}
 use Rattle.xl_core.specs.declared.item.Item.TheVariants.{Vote, Tx, TxSet, Proposal, Header as HeaderItem}
 use Rattle.xl_core.specs.declared.refusal.Refusal.TheVariants.{NotAfter}
 use Rattle.xl_core.specs.Answers.{given_in}
-use Rattle.xl_core.specs.Core.{Core, greeted_frames, all_frames, core_happens, core_asks, with_queues}
+use Rattle.xl_core.specs.Core.{Core, core_happens, core_asks, with_queues}
 use Rattle.xl_core.specs.CoreLives.{CoreHappening, core_after, held_after, given_over, validation_of, validation_split, validation_in, IsFrameCovered, SaidIsSaved}
 use Rattle.xl_core.specs.Hearing.{heard}
-use Rattle.xl_core.specs.Greetings.{greeting_at, greeting_frames, yet_to_hand}
-use Rattle.xl_core.specs.Items.{is_own, body_in, framed, frame_of, frames_for, header_body_at}
+use Rattle.xl_core.specs.Items.{is_own, body_in, framed, frame_of, header_body_at}
 use Rattle.xl_core.specs.Node as nodes
 use Rattle.xl_core.specs.Node.{Node, Save, is_kept, issues, issues_unless, issuing, replying, completed, timed, validates, refusing, at_moment, second_of, own_validation, happens, opened}
 use Rattle.xl_core.specs.Node.Save.{Kept, Failed}
-use Rattle.xl_core.specs.Queues.{waiting_at, fitting, frames_in}
+use Rattle.xl_core.specs.Queues.{waiting_at, frames_in}
 use Rattle.xl_core.specs.Sending.{blank_frame, sealed_bytes, has_spelling}
 use Rattle.xl_core.specs.Stops.{IsCovered, IsItemCovered}
+use Rattle.xl_core.proofs.Greeted.{given_all}
 use Rattle.xl_core.proofs.Heard.{not_itself}
 use Rattle.xl_core.proofs.Spelling.{held, sealed_raw}
 use Rattle.xl_core.proofs.Stepping.{stays_itself}
@@ -111,35 +110,16 @@ frames_covered kept n to (item ∷ items) covered =
     framed_covered kept n to (body_in n item) (map (frame_of n to) items) (item_body kept n item (All-head (IsItemCovered kept) item items covered))
     (frames_covered kept n to items (All-tail (IsItemCovered kept) item items covered))
 
--- a greeting's headers say none
-headers_covered : (kept : ℕ) (n : Node) (to : ℕ) (ledgers : List ℕ) → All (IsFrameCovered kept) (frames_in (map (λ ledger. framed n to (header_body_at n ledger)) ledgers))
-headers_covered kept n to [] = All-nil (IsFrameCovered kept)
-headers_covered kept n to (ledger ∷ ledgers) =
-    framed_covered kept n to (Some (header_body_at n ledger)) (map (λ l. framed n to (header_body_at n l)) ledgers) tt (headers_covered kept n to ledgers)
-
-greeting_covered : (kept : ℕ) (n : Node) (to : ℕ) (o : Option Greeting) → All (IsFrameCovered kept) (frames_in (greeting_frames n o to))
-greeting_covered kept n to None = All-nil (IsFrameCovered kept)
-greeting_covered kept n to (Some g) = headers_covered kept n to (yet_to_hand n.ledgers.headers g)
-
-both_covered : (kept : ℕ) (xs ys : List (Option (List ℕ))) → All (IsFrameCovered kept) (frames_in xs) → All (IsFrameCovered kept) (frames_in ys) → All (IsFrameCovered kept) (frames_in (xs ++ ys))
-both_covered kept xs ys first second =
-    subst (All (IsFrameCovered kept)) (sym (filter_map-append (λ (o : Option (List ℕ)). o) xs ys)) (All-append (IsFrameCovered kept) (frames_in xs) (frames_in ys) first second)
-
--- and a front of frames says no more than all of them
-front_covered : (kept n : ℕ) (fs : List (Option (List ℕ))) → All (IsFrameCovered kept) (frames_in fs) → All (IsFrameCovered kept) (frames_in (take n fs))
-front_covered kept zero fs all = All-nil (IsFrameCovered kept)
-front_covered kept (suc n) [] all = all
-front_covered kept (suc n) (None ∷ fs) all = front_covered kept n fs all
-front_covered kept (suc n) (Some f ∷ fs) all =
-    All-cons (IsFrameCovered kept) f (frames_in (take n fs)) (All-head (IsFrameCovered kept) f (frames_in fs) all)
-    (front_covered kept n fs (All-tail (IsFrameCovered kept) f (frames_in fs) all))
+-- the frame of a header says none
+header_covered : (kept : ℕ) (n : Node) (to ledger : ℕ) → IfSome (framed n to (header_body_at n ledger)) (IsFrameCovered kept)
+header_covered kept n to ledger =
+    cond_both (has_spelling n.me to (header_body_at n ledger)) (Some (sealed_bytes n.keys n.me to (header_body_at n ledger))) None (λ o. IfSome o (IsFrameCovered kept))
+    (λ spelled. body_covered kept n.me to n.keys (header_body_at n ledger) spelled tt) (λ _. tt)
 
 drain_gives : (kept : ℕ) (core : Core) (member room : ℕ) (save : Save) → AllCovered kept core.waiting → All (IsFrameCovered kept) (given_in (core_happens core (Drain member room) save).answer)
 drain_gives kept core member room save covered =
-    front_covered kept (fitting (all_frames core member) room) (all_frames core member)
-    (both_covered kept (greeted_frames core member) (frames_for core.node core.waiting member)
-    (greeting_covered kept core.node member (greeting_at core.greetings member))
-    (frames_covered kept core.node member (waiting_at core.waiting member).items (waiting_covered kept core.waiting member covered)))
+    given_all (IsFrameCovered kept) core member room (header_covered kept core.node member)
+    (frames_covered kept core.node member (waiting_at core.waiting member).items (waiting_covered kept core.waiting member covered))
 
 -- THE KEPT NUMBER NEVER FALLS
 

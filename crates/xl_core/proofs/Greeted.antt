@@ -6,7 +6,7 @@ use Rattle.std.proofs.lemmas.Bool.{cond-true, cond-false}
 use Rattle.std.proofs.lemmas.Bool.Decides.{nat_tests}
 use Rattle.std.proofs.lemmas.Grind.{flat_map-append}
 use Rattle.std.proofs.lemmas.List.{append-nil, length-append, length-map, length-drop, drop-drop, drop-map, drop_at, take_at, take-append-le}
-use Rattle.std.proofs.lemmas.List.Elements.{All-append, All-cons, All-nil, filter_map-append}
+use Rattle.std.proofs.lemmas.List.Elements.{All-append, All-cons, All-head, All-nil, All-tail, filter_map-append}
 use Rattle.std.proofs.lemmas.Option.{slice_get_past, same_Some}
 use Rattle.std.proofs.Math.ListN.{drop_of_length-le}
 use Rattle.std.proofs.Math.Seq.{take-append-add, take-length}
@@ -21,7 +21,7 @@ use Rattle.xl_core.specs.declared.greeting.Greeting.{Greeting}
 use Rattle.xl_core.specs.declared.item.Item.{Item}
 use Rattle.xl_core.specs.declared.putting.Put.{Put}
 use Rattle.xl_core.specs.declared.putting.Put.TheVariants.{Written, PassedOver, NoRoom}
-use Rattle.xl_core.specs.Core.{Core, greeted_frames, all_frames}
+use Rattle.xl_core.specs.Core.{Core, greeted_frames, all_frames, given_for}
 use Rattle.xl_core.specs.Draining.{next_on, is_handed, IsPut, PutsNext, Writes}
 use Rattle.xl_core.specs.Greetings.{chain_to, yet_to_hand, greeting_at, with_greeting, greeting_frames, further, further_at}
 use Rattle.xl_core.specs.Items.{framed, frames_for, header_body_at, drained_bytes, drained_for}
@@ -349,3 +349,34 @@ nothing_left core after member written old new enough drain = (
   λ none. none_left (all_frames core member) (length old) (all_fit core member (length old) enough) (sym drain.count ∙ none),
   λ none. drain.count ∙ none_given (all_frames core member) (length old) none,
 )
+
+-- WHAT HOLDS OF WHAT IS GIVEN
+
+-- of a front of frames, as of all of them
+front_all : (P : List ℕ → Type 0) (n : ℕ) (fs : Frames) → All P (frames_in fs) → All P (frames_in (take n fs))
+front_all P zero fs all = All-nil P
+front_all P (suc n) [] all = all
+front_all P (suc n) (None ∷ fs) all = front_all P n fs all
+front_all P (suc n) (Some f ∷ fs) all = All-cons P f (frames_in (take n fs)) (All-head P f (frames_in fs) all) (front_all P n fs (All-tail P f (frames_in fs) all))
+
+both_all : (P : List ℕ → Type 0) (xs ys : Frames) → All P (frames_in xs) → All P (frames_in ys) → All P (frames_in (xs ++ ys))
+both_all P xs ys first second = subst (All P) (sym (filter_map-append (λ (o : Option (List ℕ)). o) xs ys)) (All-append P (frames_in xs) (frames_in ys) first second)
+
+headers_all : (P : List ℕ → Type 0) (n : Node) (to : ℕ) → ((ledger : ℕ) → IfSome (framed n to (header_body_at n ledger)) P) → (ledgers : List ℕ) → All P (frames_in (map (λ l. framed n to (header_body_at n l)) ledgers))
+headers_all P n to each [] = All-nil P
+headers_all P n to each (ledger ∷ ledgers) = one (framed n to (header_body_at n ledger)) (each ledger)
+  where
+    one : (o : Option (List ℕ)) → IfSome o P → All P (frames_in (o ∷ map (λ l. framed n to (header_body_at n l)) ledgers))
+    one None its = headers_all P n to each ledgers
+    one (Some f) its = All-cons P f (frames_in (map (λ l. framed n to (header_body_at n l)) ledgers)) its (headers_all P n to each ledgers)
+
+greeting_all : (P : List ℕ → Type 0) (n : Node) (to : ℕ) (o : Option Greeting) → ((ledger : ℕ) → IfSome (framed n to (header_body_at n ledger)) P) → All P (frames_in (greeting_frames n o to))
+greeting_all P n to None each = All-nil P
+greeting_all P n to (Some g) each = headers_all P n to each (yet_to_hand n.ledgers.headers g)
+
+-- it holds of all that a drain gives if it does of each header's frame, and of the frames of what waits
+pub given_all : (P : List ℕ → Type 0) (core : Core) (to room : ℕ) → ((ledger : ℕ) → IfSome (framed core.node to (header_body_at core.node ledger)) P) → All P (frames_in (frames_for core.node core.waiting to)) →
+    All P (frames_in (given_for core to room))
+given_all P core to room each waits =
+    front_all P (fitting (all_frames core to) room) (all_frames core to)
+    (both_all P (greeted_frames core to) (frames_for core.node core.waiting to) (greeting_all P core.node to (greeting_at core.greetings to) each) waits)

@@ -15,7 +15,7 @@ use Rattle.xl_core.specs.Node.{Node}
 abbrev pub none_greeted : List (Option Greeting)
 none_greeted = replicate MEMBERS None
 
--- with the chain of the ledger on which the round is, from sequence 1 on: every node knows the root
+-- the chain of the ledger on which a node's round is, from sequence 1 on: every node knows the root
 abbrev pub greeting_of : Node → Greeting
 greeting_of n = record { target = id_at n.ledgers.headers n.round.setting.previous; next = 1 }
 
@@ -24,6 +24,7 @@ abbrev pub greeting_at : List (Option Greeting) → ℕ → Option Greeting
 greeting_at greetings zero = None
 greeting_at greetings (suc place) = get_or greetings place None
 
+-- all greetings, with that of a number
 abbrev pub with_greeting : List (Option Greeting) → ℕ → Option Greeting → List (Option Greeting)
 with_greeting greetings zero greeting = greetings
 with_greeting greetings (suc place) greeting = set greetings place greeting
