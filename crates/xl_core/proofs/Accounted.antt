@@ -10,7 +10,7 @@ use Rattle.xl_queues.proofs.Accounting.{push_accounts, pop_accounts}
 use Rattle.xl_wire.specs.declared.validation.Validation.{Validation}
 use Rattle.xl_core.proofs.Timing.{timing_by, submit_either}
 use Rattle.xl_core.specs.declared.event.CoreEvent.{CoreEvent}
-use Rattle.xl_core.specs.declared.event.CoreEvent.TheVariants.{Issue, Frame, Timer, Submit, Drain, Reports, Stop, Stopped}
+use Rattle.xl_core.specs.declared.event.CoreEvent.TheVariants.{Issue, Frame, Timer, Submit, Greet, Drain, Reports, Stop, Stopped}
 use Rattle.xl_core.specs.declared.refusal.Refusal.TheVariants.{NotAfter}
 use Rattle.xl_core.specs.declared.report.Report.{Report}
 use Rattle.xl_core.specs.Answers.{handed_in}
@@ -76,6 +76,7 @@ step_accounts core (Issue now seq id full) save = node_accounts core (happens co
 step_accounts core (Frame now bytes) save = node_accounts core (happens core.node (nodes.Frame now bytes) save) (happens_hands core.node (nodes.Frame now bytes) save)
 step_accounts core (Timer now) save = node_accounts core (happens core.node (nodes.Timer now) save) (happens_hands core.node (nodes.Timer now) save)
 step_accounts core (Submit now tx) save = node_accounts core (happens core.node (nodes.Submit now tx) save) (happens_hands core.node (nodes.Submit now tx) save)
+step_accounts core (Greet member) save = stays_accounted core.untaken
 step_accounts core (Drain member room) save = stays_accounted core.untaken
 step_accounts core (Reports room) save = goes room core.untaken.items core.untaken.lost
 step_accounts core Stop save = stays_accounted core.untaken
@@ -135,6 +136,7 @@ step_whole core (Timer now) save before out few was =
     node_whole core (happens core.node (nodes.Timer now) save) before out (happens_hands core.node (nodes.Timer now) save) few was
 step_whole core (Submit now tx) save before out few was =
     node_whole core (happens core.node (nodes.Submit now tx) save) before out (happens_hands core.node (nodes.Submit now tx) save) few was
+step_whole core (Greet member) save before out few was = stays_whole before out core.untaken was
 step_whole core (Drain member room) save before out few was = stays_whole before out core.untaken was
 step_whole core (Reports room) save before out few was = record {
   all = append-nil before ∙ was.all ∙ ap (λ xs. out ++ xs) (sym (take-append-drop room core.untaken.items)) ∙ sym (append_assoc out (take room core.untaken.items) (drop room core.untaken.items));

@@ -77,7 +77,7 @@ same_save (Err why) = refl
 
 -- the core once the header, and what was issued, wait
 abbrev pub core_then : Core → Built → Reply → Core
-core_then core b r = record { node = r.node; waiting = with_items core.waiting (said_items b.said ++ HeaderItem b.id ∷ r.items); untaken = with_report core.untaken r.report; stopped = core.stopped }
+core_then core b r = record { node = r.node; waiting = with_items core.waiting (said_items b.said ++ HeaderItem b.id ∷ r.items); greetings = core.greetings; untaken = with_report core.untaken r.report; stopped = core.stopped }
 
 told_ending : (core : Core) (b : Built) (n : Node) (o : Result (Option OwnValidation) Refusal) →
     Answers (stepped core (ending (said_items b.said) b.header b.moved_on (validated_reply o n))) (core_then core (record b { id = header_id b.header }) (validated_reply o n)) (Beats (BuiltBeat b.header.seq (header_id b.header) b.moved_on (how_validated o)))

@@ -1,9 +1,9 @@
 -- Every frame that a core ever gave stays covered by what its keeper may hold.
 use Rattle.std.proofs.Common.{◌≡◌, ◌≢◌, ℕ, ◌≤◌, Bool, true, List, [], ◌∷◌, ◌++◌, map, refl, ap, sym, ◌∙◌, subst, arith, Option, Some, None, Ok, append_assoc}
-use Rattle.std.specs.Prelude.{All, IfSome, nat_lt, take, option_map, ⊤}
+use Rattle.std.specs.Prelude.{All, IfSome, nat_lt, option_map, ⊤}
 use Rattle.std.proofs.lemmas.Bool.{cond_both, ltb-true}
-use Rattle.std.proofs.lemmas.List.{append-nil, take-map}
-use Rattle.std.proofs.lemmas.List.Elements.{All-append, All-cons, All-head, All-nil, All-tail, All-take, All-weaker}
+use Rattle.std.proofs.lemmas.List.{append-nil}
+use Rattle.std.proofs.lemmas.List.Elements.{All-append, All-cons, All-head, All-nil, All-tail, All-weaker}
 use Rattle.xl_io.specs.Keepers.{Held, after_save}
 use Rattle.xl_wire.specs.declared.body.Body.TheVariants as bodies
 use Rattle.xl_wire.specs.declared.validation.Validation.{Validation}
@@ -29,7 +29,7 @@ use Rattle.xl_ledger.specs.Headers.{spelling}
 use Rattle.xl_core.specs.Answers.{Done}
 use Rattle.xl_core.proofs.Timing.{timing_by, submit_either}
 use Rattle.xl_core.specs.declared.event.CoreEvent.{CoreEvent}
-use Rattle.xl_core.specs.declared.event.CoreEvent.TheVariants.{Issue, Frame, Timer, Submit, Drain, Reports, Stop, Stopped}
+use Rattle.xl_core.specs.declared.event.CoreEvent.TheVariants.{Issue, Frame, Timer, Submit, Greet, Drain, Reports, Stop, Stopped}
 use Rattle.xl_core.specs.declared.hearing.Spoken.{Spoken}
 use Rattle.xl_core.specs.declared.item.Item.{Item}
 use Rattle.xl_core.specs.declared.item.Item.TheVariants.{Vote, Tx, TxSet, Proposal, Header as HeaderItem}
@@ -38,13 +38,14 @@ use Rattle.xl_core.specs.Answers.{given_in}
 use Rattle.xl_core.specs.Core.{Core, core_happens, core_asks, with_queues}
 use Rattle.xl_core.specs.CoreLives.{CoreHappening, core_after, held_after, given_over, validation_of, validation_split, validation_in, IsFrameCovered, SaidIsSaved}
 use Rattle.xl_core.specs.Hearing.{heard}
-use Rattle.xl_core.specs.Items.{is_own, body_in, framed, frame_of, frames_for}
+use Rattle.xl_core.specs.Items.{is_own, body_in, framed, frame_of, header_body_at}
 use Rattle.xl_core.specs.Node as nodes
 use Rattle.xl_core.specs.Node.{Node, Save, is_kept, issues, issues_unless, issuing, replying, completed, timed, validates, refusing, at_moment, second_of, own_validation, happens, opened}
 use Rattle.xl_core.specs.Node.Save.{Kept, Failed}
-use Rattle.xl_core.specs.Queues.{waiting_at, fitting, frames_in}
+use Rattle.xl_core.specs.Queues.{waiting_at, frames_in}
 use Rattle.xl_core.specs.Sending.{blank_frame, sealed_bytes, has_spelling}
 use Rattle.xl_core.specs.Stops.{IsCovered, IsItemCovered}
+use Rattle.xl_core.proofs.Greeted.{given_all}
 use Rattle.xl_core.proofs.Heard.{not_itself}
 use Rattle.xl_core.proofs.Spelling.{held, sealed_raw}
 use Rattle.xl_core.proofs.Stepping.{stays_itself}
@@ -109,12 +110,16 @@ frames_covered kept n to (item ∷ items) covered =
     framed_covered kept n to (body_in n item) (map (frame_of n to) items) (item_body kept n item (All-head (IsItemCovered kept) item items covered))
     (frames_covered kept n to items (All-tail (IsItemCovered kept) item items covered))
 
+-- the frame of a header says none
+header_covered : (kept : ℕ) (n : Node) (to ledger : ℕ) → IfSome (framed n to (header_body_at n ledger)) (IsFrameCovered kept)
+header_covered kept n to ledger =
+    cond_both (has_spelling n.me to (header_body_at n ledger)) (Some (sealed_bytes n.keys n.me to (header_body_at n ledger))) None (λ o. IfSome o (IsFrameCovered kept))
+    (λ spelled. body_covered kept n.me to n.keys (header_body_at n ledger) spelled tt) (λ _. tt)
+
 drain_gives : (kept : ℕ) (core : Core) (member room : ℕ) (save : Save) → AllCovered kept core.waiting → All (IsFrameCovered kept) (given_in (core_happens core (Drain member room) save).answer)
 drain_gives kept core member room save covered =
-    let items : List Item = (waiting_at core.waiting member).items in
-    let k : ℕ = fitting (frames_for core.node core.waiting member) room in
-    subst (λ (fs : List (Option (List ℕ))). All (IsFrameCovered kept) (frames_in fs)) (sym (take-map (frame_of core.node member) k items))
-    (frames_covered kept core.node member (take k items) (All-take (IsItemCovered kept) k items (waiting_covered kept core.waiting member covered)))
+    given_all (IsFrameCovered kept) core member room (header_covered kept core.node member)
+    (frames_covered kept core.node member (waiting_at core.waiting member).items (waiting_covered kept core.waiting member covered))
 
 -- THE KEPT NUMBER NEVER FALLS
 
@@ -213,6 +218,11 @@ step_on held core given (Submit now tx) save life =
       covered = submit_covered held core now tx save life.covered;
       all = submit_either (λ r. All (IsFrameCovered r.node.kept) (given ++ given_in r.answer)) (at_moment now core.node) tx (λ _. none_given core.node.kept given life.all) (none_given core.node.kept given life.all);
     }
+step_on held core given (Greet member) save life = record {
+  own = life.own;
+  covered = record { saved = life.covered.saved; own = life.covered.own; waiting = life.covered.waiting };
+  all = none_given core.node.kept given life.all;
+}
 step_on held core given (Drain member room) save life = record {
   own = life.own;
   covered = drain_covered held core member room life.covered;

@@ -24,7 +24,7 @@ use Rattle.xl_core.specs.Queues.{waiting_at, at_number, after_taking, fitting, f
 
 -- THE FRAMES
 
-abbrev Frames : Type 0
+abbrev pub Frames : Type 0
 Frames = List (Option (List ℕ))
 
 frames_then : (fs : Frames) (o : Option (List ℕ)) → frames_in (fs ++ o ∷ []) ≡ frames_in fs ++ option_to_list o
@@ -92,66 +92,35 @@ pub length_changed : (waiting : List (Backlog Item)) (number : ℕ) (f : Backlog
 length_changed waiting zero f = refl
 length_changed waiting (suc place) f = length-set waiting place (f (queue_of waiting place))
 
--- A DRAIN SO FAR
+-- A ROOM SO FAR
 
--- so many of the oldest items for a number were taken, of these frames
-pub record IsDrained (fs : Frames) (old now : List (Backlog Item)) (number : ℕ) (old_room room : List ℕ) (at : ℕ) : Type 0 where
-  pub count : ℕ
+-- so many of these frames stand at the front of a room
+pub record IsWritten (fs : Frames) (count : ℕ) (old_room room : List ℕ) (at : ℕ) : Type 0 where
   pub few : count ≤ length fs
-  pub waits : now ≡ at_number old number (after_taking (take count fs))
   pub written : room ≡ joined (frames_in (take count fs)) ++ drop at old_room
   pub place : at ≡ length (joined (frames_in (take count fs)))
   pub within : at ≤ length old_room
   pub fits : count + fitting (drop count fs) (length old_room - at) ≡ fitting fs (length old_room)
 
-pub drained_none : (fs : Frames) (old : List (Backlog Item)) (number : ℕ) (room : List ℕ) → IsDrained fs old old number room room 0
-drained_none fs old number room =
+pub written_none : (fs : Frames) (room : List ℕ) → IsWritten fs 0 room room 0
+written_none fs room =
     let whole : length room - 0 ≡ length room = omega arith in
     let same : fitting fs (length room - 0) ≡ fitting fs (length room) = ap (fitting fs) whole in
-    record { count = 0; few = omega arith; waits = sym (taking_none old number); written = refl; place = refl; within = omega arith; fits = omega (arith, same) }
+    record { few = omega arith; written = refl; place = refl; within = omega arith; fits = omega (arith, same) }
 
 -- the room is as long as it was
-pub drained_long : (fs : Frames) (old now : List (Backlog Item)) (number : ℕ) (old_room room : List ℕ) (at : ℕ) → IsDrained fs old now number old_room room at → length room ≡ length old_room
-drained_long fs old now number old_room room at so_far =
-    omega (arith, ap length so_far.written, length-append (joined (frames_in (take so_far.count fs))) (drop at old_room), length-drop at old_room, so_far.place, so_far.within)
+pub written_long : (fs : Frames) (count : ℕ) (old_room room : List ℕ) (at : ℕ) → IsWritten fs count old_room room at → length room ≡ length old_room
+written_long fs count old_room room at so_far =
+    omega (arith, ap length so_far.written, length-append (joined (frames_in (take count fs))) (drop at old_room), length-drop at old_room, so_far.place, so_far.within)
 
--- what the frames of the rest are
-pub frames_left : (f : Item → Option (List ℕ)) (old now : List (Backlog Item)) (number : ℕ) (old_room room : List ℕ) (at : ℕ) → 1 ≤ number → number ≤ length old →
-    (so_far : IsDrained (map f (waiting_at old number).items) old now number old_room room at) → map f (waiting_at now number).items ≡ drop so_far.count (map f (waiting_at old number).items)
-frames_left f old now number old_room room at least most so_far =
-    let items : List Item = (waiting_at old number).items in
-    let long : length (take so_far.count (map f items)) ≡ so_far.count = length-take-le so_far.count (map f items) so_far.few in
-    ap (λ (ws : List (Backlog Item)). map f (waiting_at ws number).items) so_far.waits
-    ∙ ap (λ (q : Backlog Item). map f q.items) (changed old number (after_taking (take so_far.count (map f items))) least most)
-    ∙ ap (λ (k : ℕ). map f (drop k items)) long
-    ∙ sym (drop-map f so_far.count items)
-
--- the next frame is written
-module _ (fs rest : Frames) (old now next : List (Backlog Item)) (number : ℕ) (old_room mid new : List ℕ) (at at' : ℕ) (o : Option (List ℕ)) (so_far : IsDrained fs old now number old_room mid at)
-    (first : drop so_far.count fs ≡ o ∷ rest) (taken : next ≡ at_number now number (after_taking (o ∷ []))) (least : 1 ≤ number) (most : number ≤ length old) where
-  abbrev count : ℕ
-  count = so_far.count
-
-  further : count + 1 ≤ length fs
-  further = omega (arith, ap length first, length-drop count fs)
-
-  waits_then : next ≡ at_number old number (after_taking (take (count + 1) fs))
-  waits_then =
-      taken ∙ ap (λ (ws : List (Backlog Item)). at_number ws number (after_taking (o ∷ []))) so_far.waits
-      ∙ changed_again old number (after_taking (take count fs)) (after_taking (o ∷ [])) least most
-      ∙ at_number_same old number (λ q. after_taking (o ∷ []) (after_taking (take count fs) q)) (after_taking (take count fs ++ o ∷ [])) (taking_then (take count fs) o)
-      ∙ ap (λ (xs : Frames). at_number old number (after_taking xs)) (sym (take_first fs rest count o so_far.few first))
-
-passed_more : (fs rest : Frames) (old now next : List (Backlog Item)) (number : ℕ) (old_room mid new : List ℕ) (at at' : ℕ) (so_far : IsDrained fs old now number old_room mid at) →
-    drop so_far.count fs ≡ None ∷ rest → next ≡ at_number now number (after_taking (None ∷ [])) → 1 ≤ number → number ≤ length old → Stands None at at' mid new → IsDrained fs old next number old_room new at'
-passed_more fs rest old now next number old_room mid new at at' so_far first taken least most stands =
-    let count : ℕ = so_far.count in
+-- the next frame is written, or what has none is passed over
+pub written_more : (fs rest : Frames) (count : ℕ) (old_room mid new : List ℕ) (at at' : ℕ) (o : Option (List ℕ)) → IsWritten fs count old_room mid at → drop count fs ≡ o ∷ rest → Stands o at at' mid new →
+    IsWritten fs (count + 1) old_room new at'
+written_more fs rest count old_room mid new at at' None so_far first stands =
     let frames : frames_in (take (count + 1) fs) ≡ frames_in (take count fs) = ap frames_in (take_first fs rest count None so_far.few first) ∙ frames_then (take count fs) None ∙ append-nil (frames_in (take count fs)) in
-    subst (λ (k : ℕ). IsDrained fs old next number old_room new k) (sym stands.0)
+    subst (λ (k : ℕ). IsWritten fs (count + 1) old_room new k) (sym stands.0)
     (record {
-      count = count + 1;
-      few = further fs rest old now next number old_room mid new at at' None so_far first taken least most;
-      waits = waits_then fs rest old now next number old_room mid new at at' None so_far first taken least most;
+      few = omega (arith, ap length first, length-drop count fs);
       written = stands.1 ∙ so_far.written ∙ ap (λ (xs : List (List ℕ)). joined xs ++ drop at old_room) (sym frames);
       place = so_far.place ∙ ap (λ (xs : List (List ℕ)). length (joined xs)) (sym frames);
       within = so_far.within;
@@ -160,13 +129,9 @@ passed_more fs rest old now next number old_room mid new at at' so_far first tak
           ∙ ap (λ (xs : Frames). count + fitting xs (length old_room - at)) (sym first)
           ∙ so_far.fits;
     })
-
-written_more : (fs rest : Frames) (old now next : List (Backlog Item)) (number : ℕ) (old_room mid new : List ℕ) (at at' : ℕ) (f : List ℕ) (so_far : IsDrained fs old now number old_room mid at) →
-    drop so_far.count fs ≡ Some f ∷ rest → next ≡ at_number now number (after_taking (Some f ∷ [])) → 1 ≤ number → number ≤ length old → Stands (Some f) at at' mid new → IsDrained fs old next number old_room new at'
-written_more fs rest old now next number old_room mid new at at' f so_far first taken least most stands =
-    let count : ℕ = so_far.count in
+written_more fs rest count old_room mid new at at' (Some f) so_far first stands =
     let before : List ℕ = joined (frames_in (take count fs)) in
-    let long : length mid ≡ length old_room = drained_long fs old now number old_room mid at so_far in
+    let long : length mid ≡ length old_room = written_long fs count old_room mid at so_far in
     let frames : joined (frames_in (take (count + 1) fs)) ≡ before ++ f =
     ap joined (ap frames_in (take_first fs rest count (Some f) so_far.few first) ∙ frames_then (take count fs) (Some f)) ∙ joined_then (frames_in (take count fs)) f in
     let front : take at mid ≡ before = ap (take at) so_far.written ∙ take_at before (drop at old_room) at (sym so_far.place) in
@@ -175,11 +140,9 @@ written_more fs rest old now next number old_room mid new at at' f so_far first 
     ∙ ap (drop (length f)) (drop_at before (drop at old_room) at (sym so_far.place)) ∙ drop-drop (length f) at old_room ∙ ap (λ (k : ℕ). drop k old_room) (omega arith) in
     let room : length f ≤ length old_room - at = omega (arith, stands.1.fits, long) in
     let minus : length old_room - (at + length f) ≡ length old_room - at - length f = omega arith in
-    subst (λ (k : ℕ). IsDrained fs old next number old_room new k) (sym stands.0)
+    subst (λ (k : ℕ). IsWritten fs (count + 1) old_room new k) (sym stands.0)
     (record {
-      count = count + 1;
-      few = further fs rest old now next number old_room mid new at at' (Some f) so_far first taken least most;
-      waits = waits_then fs rest old now next number old_room mid new at at' (Some f) so_far first taken least most;
+      few = omega (arith, ap length first, length-drop count fs);
       written = stands.1.is ∙ ap (λ (xs : List ℕ). xs ++ f ++ drop (at + length f) mid) front ∙ ap (λ (xs : List ℕ). before ++ f ++ xs) back
           ∙ ap (λ (xs : List ℕ). xs ++ drop (at + length f) old_room) (sym frames);
       place = omega (arith, ap length frames, length-append before f, so_far.place);
@@ -191,33 +154,64 @@ written_more fs rest old now next number old_room mid new at at' f so_far first 
           ∙ so_far.fits;
     })
 
+-- nothing more fits
+pub written_all : (fs : Frames) (count : ℕ) (old_room room : List ℕ) (at : ℕ) → IsWritten fs count old_room room at → fitting (drop count fs) (length old_room - at) ≡ 0 → count ≡ fitting fs (length old_room)
+written_all fs count old_room room at so_far none = omega (arith, so_far.fits, none)
+
+-- A DRAIN SO FAR
+
+-- so many of the oldest items for a number were taken, of these frames
+pub record IsDrained (fs : Frames) (old now : List (Backlog Item)) (number : ℕ) (old_room room : List ℕ) (at : ℕ) : Type 0 where
+  pub count : ℕ
+  pub waits : now ≡ at_number old number (after_taking (take count fs))
+  pub so_far : IsWritten fs count old_room room at
+
+pub drained_none : (fs : Frames) (old : List (Backlog Item)) (number : ℕ) (room : List ℕ) → IsDrained fs old old number room room 0
+drained_none fs old number room = record { count = 0; waits = sym (taking_none old number); so_far = written_none fs room }
+
+-- what the frames of the rest are
+pub frames_left : (f : Item → Option (List ℕ)) (old now : List (Backlog Item)) (number : ℕ) (old_room room : List ℕ) (at : ℕ) → 1 ≤ number → number ≤ length old →
+    (drain : IsDrained (map f (waiting_at old number).items) old now number old_room room at) → map f (waiting_at now number).items ≡ drop drain.count (map f (waiting_at old number).items)
+frames_left f old now number old_room room at least most drain =
+    let items : List Item = (waiting_at old number).items in
+    let long : length (take drain.count (map f items)) ≡ drain.count = length-take-le drain.count (map f items) drain.so_far.few in
+    ap (λ (ws : List (Backlog Item)). map f (waiting_at ws number).items) drain.waits
+    ∙ ap (λ (q : Backlog Item). map f q.items) (changed old number (after_taking (take drain.count (map f items))) least most)
+    ∙ ap (λ (k : ℕ). map f (drop k items)) long
+    ∙ sym (drop-map f drain.count items)
+
+-- one more is taken
+waits_then : (fs rest : Frames) (old now next : List (Backlog Item)) (number count : ℕ) (o : Option (List ℕ)) → count ≤ length fs → now ≡ at_number old number (after_taking (take count fs)) →
+    drop count fs ≡ o ∷ rest → next ≡ at_number now number (after_taking (o ∷ [])) → 1 ≤ number → number ≤ length old → next ≡ at_number old number (after_taking (take (count + 1) fs))
+waits_then fs rest old now next number count o few waits first taken least most =
+    taken ∙ ap (λ (ws : List (Backlog Item)). at_number ws number (after_taking (o ∷ []))) waits
+    ∙ changed_again old number (after_taking (take count fs)) (after_taking (o ∷ [])) least most
+    ∙ at_number_same old number (λ q. after_taking (o ∷ []) (after_taking (take count fs) q)) (after_taking (take count fs ++ o ∷ [])) (taking_then (take count fs) o)
+    ∙ ap (λ (xs : Frames). at_number old number (after_taking xs)) (sym (take_first fs rest count o few first))
+
 -- one item more was taken
 pub drained_more : (f : Item → Option (List ℕ)) (old now next : List (Backlog Item)) (number : ℕ) (old_room mid new : List ℕ) (at at' : ℕ) → 1 ≤ number → number ≤ length old →
     IsDrained (map f (waiting_at old number).items) old now number old_room mid at → TakesOne (map f (waiting_at now number).items) now next number at at' mid new →
     IsDrained (map f (waiting_at old number).items) old next number old_room new at'
-drained_more f old now next number old_room mid new at at' least most so_far one =
-    by one.first one.rest (sym (frames_left f old now number old_room mid at least most so_far) ∙ one.is) one.taken one.stands
-  where
-    by : (o : Option (List ℕ)) (rest : Frames) → drop so_far.count (map f (waiting_at old number).items) ≡ o ∷ rest → next ≡ at_number now number (after_taking (o ∷ [])) → Stands o at at' mid new →
-        IsDrained (map f (waiting_at old number).items) old next number old_room new at'
-    by None rest first taken stands = passed_more (map f (waiting_at old number).items) rest old now next number old_room mid new at at' so_far first taken least most stands
-    by (Some frame) rest first taken stands = written_more (map f (waiting_at old number).items) rest old now next number old_room mid new at at' frame so_far first taken least most stands
+drained_more f old now next number old_room mid new at at' least most drain one =
+    let fs : Frames = map f (waiting_at old number).items in
+    let first : drop drain.count fs ≡ one.first ∷ one.rest = sym (frames_left f old now number old_room mid at least most drain) ∙ one.is in
+    record {
+      count = drain.count + 1;
+      waits = waits_then fs one.rest old now next number drain.count one.first drain.so_far.few drain.waits first one.taken least most;
+      so_far = written_more fs one.rest drain.count old_room mid new at at' one.first drain.so_far first one.stands;
+    }
 
 -- THE WHOLE DRAIN
 
--- nothing more fits
-pub drained_all : (fs : Frames) (old now : List (Backlog Item)) (number : ℕ) (old_room room : List ℕ) (at : ℕ) → (so_far : IsDrained fs old now number old_room room at) →
-    fitting (drop so_far.count fs) (length old_room - at) ≡ 0 → so_far.count ≡ fitting fs (length old_room)
-drained_all fs old now number old_room room at so_far none = omega (arith, so_far.fits, none)
-
 pub drained_end : (f : Item → Option (List ℕ)) (old now : List (Backlog Item)) (number : ℕ) (old_room room : List ℕ) (at : ℕ) → 1 ≤ number → number ≤ length old →
-    (so_far : IsDrained (map f (waiting_at old number).items) old now number old_room room at) → fitting (map f (waiting_at now number).items) (length room - at) ≡ 0 →
-    so_far.count ≡ fitting (map f (waiting_at old number).items) (length old_room)
-drained_end f old now number old_room room at least most so_far none =
+    (drain : IsDrained (map f (waiting_at old number).items) old now number old_room room at) → fitting (map f (waiting_at now number).items) (length room - at) ≡ 0 →
+    drain.count ≡ fitting (map f (waiting_at old number).items) (length old_room)
+drained_end f old now number old_room room at least most drain none =
     let fs : Frames = map f (waiting_at old number).items in
-    let rest = frames_left f old now number old_room room at least most so_far in
-    let long = drained_long fs old now number old_room room at so_far in
-    drained_all fs old now number old_room room at so_far
+    let rest = frames_left f old now number old_room room at least most drain in
+    let long = written_long fs drain.count old_room room at drain.so_far in
+    written_all fs drain.count old_room room at drain.so_far
     (ap (λ (xs : Frames). fitting xs (length old_room - at)) (sym rest) ∙ ap (λ (k : ℕ). fitting (map f (waiting_at now number).items) (k - at)) (sym long) ∙ none)
 
 -- a drain gives nothing exactly where nothing is left but what is passed over: each frame fits into the room

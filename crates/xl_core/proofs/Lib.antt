@@ -18,6 +18,7 @@ pub mod Living
 pub mod Reporting
 pub mod Draining
 pub mod Handing
+pub mod Greeted
 pub mod Stepping
 pub mod Stopping
 pub mod Concluding

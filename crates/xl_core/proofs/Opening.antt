@@ -9,6 +9,7 @@ use Rattle.xl_validations.specs.Rows.{empty_row, is_full_of, count_full}
 use Rattle.xl_queues.specs.Queues.{Backlog, no_items}
 use Rattle.xl_core.specs.declared.item.Item.{Item}
 use Rattle.xl_core.specs.declared.report.Report.{Report}
+use Rattle.xl_core.specs.Greetings.{none_greeted}
 use Rattle.xl_core.specs.Queues.{none_waiting}
 use Rattle.xl_core.specs.Core.{Core, with_queues}
 use Rattle.xl_core.specs.Node.{Node, opened}
@@ -66,8 +67,8 @@ opened_ready settings now kept time ledgers rows round keys valid keyed le time_
 
 -- a core of these parts has nothing waiting
 pub emptied : (m n : Node) (waiting : List (Backlog Item)) (untaken : Backlog Report) → m ≡ n → waiting ≡ none_waiting → untaken ≡ no_items →
-    (let core : Core = record { node = m; waiting = waiting; untaken = untaken; stopped = false } in core) ≡ with_queues n
+    (let core : Core = record { node = m; waiting = waiting; greetings = none_greeted; untaken = untaken; stopped = false } in core) ≡ with_queues n
 emptied m n waiting untaken node_is waits_is untaken_is =
-    ap (λ (x : Node). let core : Core = record { node = x; waiting = waiting; untaken = untaken; stopped = false } in core) node_is
-    ∙ ap (λ (ws : List (Backlog Item)). let core : Core = record { node = n; waiting = ws; untaken = untaken; stopped = false } in core) waits_is
-    ∙ ap (λ (q : Backlog Report). let core : Core = record { node = n; waiting = none_waiting; untaken = q; stopped = false } in core) untaken_is
+    ap (λ (x : Node). let core : Core = record { node = x; waiting = waiting; greetings = none_greeted; untaken = untaken; stopped = false } in core) node_is
+    ∙ ap (λ (ws : List (Backlog Item)). let core : Core = record { node = n; waiting = ws; greetings = none_greeted; untaken = untaken; stopped = false } in core) waits_is
+    ∙ ap (λ (q : Backlog Report). let core : Core = record { node = n; waiting = none_waiting; greetings = none_greeted; untaken = q; stopped = false } in core) untaken_is

@@ -31,9 +31,8 @@ use Rattle.xl_core.specs.Hearing.{heard}
 use Rattle.xl_core.specs.Answers.{given_in, handed_in}
 use Rattle.xl_core.specs.Node.{Node, Reply, Save, placing, placed_as, taking, hearing, issues, issues_unless, issuing, asks_for, asks_of, replying, completed, validates, validating_built, refusing, at_moment, second_of, own_validation, take, unless_failed, is_kept, opened}
 use Rattle.xl_core.specs.Node.Save.{Kept, Failed}
-use Rattle.xl_core.specs.Items.{taken_for}
 use Rattle.xl_core.specs.Queues.{with_items, at_number, after_taking, waiting_at}
-use Rattle.xl_core.specs.Core.{Core, stepped, with_queues, core_happens, core_asks}
+use Rattle.xl_core.specs.Core.{Core, stepped, with_queues, greeted_frames, given_for, core_happens, core_asks}
 use Rattle.xl_core.specs.declared.event.CoreEvent.TheVariants.{Issue, Frame, Timer, Submit, Drain}
 use Rattle.xl_core.specs.declared.item.Item.{Item}
 use Rattle.xl_core.specs.declared.item.Item.TheVariants.{Vote, Tx, TxSet, Proposal, Header as HeaderItem}
@@ -355,7 +354,11 @@ drained_most kept (suc place) waiting taken was =
     (All-drop (IsItemCovered kept) (length taken) (queue_of waiting place).items (waiting_covered kept waiting (suc place) was)) was
 
 pub drain_covered : (held : Held) (core : Core) (member room : ℕ) → IsCovered held core → IsCovered held (core_happens core (Drain member room) Kept).core
-drain_covered held core member room was = record { saved = was.saved; own = was.own; waiting = drained_most core.node.kept member core.waiting (taken_for core.node core.waiting member room) was.waiting }
+drain_covered held core member room was = record {
+  saved = was.saved;
+  own = was.own;
+  waiting = drained_most core.node.kept member core.waiting (drop (length (greeted_frames core member)) (given_for core member room)) was.waiting;
+}
 
 -- OPENING
 

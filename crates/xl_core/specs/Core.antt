@@ -1,30 +1,40 @@
 -- A core: a node with what waits at it, to be sent and to be read, and everything that may happen to it. Source: this profile.
-use Rattle.std.specs.Prelude.{ℕ, Bool, true, false, List, take}
-use Rattle.std.specs.Prelude.{None}
+use Rattle.std.specs.Prelude.{ℕ, Bool, true, false, List, ◌++◌, length, take, drop}
+use Rattle.std.specs.Prelude.{Some, None}
 use Rattle.std.specs.declared.option.Option.{Option}
 use Rattle.xl_queues.specs.Queues.{Backlog, no_items}
 use Rattle.xl_wire.specs.declared.validation.Validation.{Validation}
 use Rattle.xl_core.specs.declared.event.CoreEvent.{CoreEvent}
-use Rattle.xl_core.specs.declared.event.CoreEvent.TheVariants.{Issue, Frame, Timer, Submit, Drain, Reports, Stop, Stopped}
+use Rattle.xl_core.specs.declared.event.CoreEvent.TheVariants.{Issue, Frame, Timer, Submit, Greet, Drain, Reports, Stop, Stopped}
+use Rattle.xl_core.specs.declared.greeting.Greeting.{Greeting}
 use Rattle.xl_core.specs.declared.item.Item.{Item}
 use Rattle.xl_core.specs.declared.report.Report.{Report}
 use Rattle.xl_core.specs.Answers.{Answer, Done, Gave, Handed, Told}
-use Rattle.xl_core.specs.Items.{taken_for, drained_for}
+use Rattle.xl_core.specs.Greetings.{none_greeted, greeting_of, greeting_at, with_greeting, greeting_frames, further_at}
+use Rattle.xl_core.specs.Items.{frames_for}
 use Rattle.xl_core.specs.Node as nodes
 use Rattle.xl_core.specs.Node.{Node, Reply, Save, happens, asks}
-use Rattle.xl_core.specs.Queues.{none_waiting, with_items, frames_in, with_report, without}
+use Rattle.xl_core.specs.Queues.{none_waiting, with_items, at_number, after_taking, fitting, that_fit, frames_in, with_report, without}
 
 pub record Core : Type 0 where
   pub node : Node
   -- for each number from 1 to 64, the items that weren't drained. Only a peer's are ever
   pub waiting : List (Backlog Item)
+  -- for each of these numbers, the headers that it is handed before what waits
+  pub greetings : List (Option Greeting)
   -- the reports that no one has taken
   pub untaken : Backlog Report
   pub stopped : Bool
 
 -- the node with nothing waiting
 abbrev pub with_queues : Node → Core
-with_queues n = record { node = n; waiting = none_waiting; untaken = no_items; stopped = false }
+with_queues n = record {
+  node = n;
+  waiting = none_waiting;
+  greetings = none_greeted;
+  untaken = no_items;
+  stopped = false;
+}
 
 -- what came of an event: the core then, what is answered, the validation that was issued, and the report that arose
 pub record CoreReply : Type 0 where
@@ -39,6 +49,7 @@ stepped core reply = record {
   core = record {
     node = reply.node;
     waiting = with_items core.waiting reply.items;
+    greetings = core.greetings;
     untaken = with_report core.untaken reply.report;
     stopped = core.stopped;
   };
@@ -51,15 +62,39 @@ stepped core reply = record {
 abbrev pub answering : Core → Answer → CoreReply
 answering core answer = record { core = core; answer = answer; issued = None; report = None }
 
+-- the frames for a number: of the headers with which it is greeted, and then of what waits for it
+abbrev pub greeted_frames : Core → ℕ → List (Option (List ℕ))
+greeted_frames core to = greeting_frames core.node (greeting_at core.greetings to) to
+
+abbrev pub all_frames : Core → ℕ → List (Option (List ℕ))
+all_frames core to = greeted_frames core to ++ frames_for core.node core.waiting to
+
+-- the longest front of them that fits into a room
+abbrev pub given_for : Core → ℕ → ℕ → List (Option (List ℕ))
+given_for core to room = that_fit (all_frames core to) room
+
+-- the core without that front
+abbrev pub drained : Core → ℕ → ℕ → Core
+drained core to room = record core {
+  greetings = further_at core.greetings to (fitting (greeted_frames core to) room);
+  waiting = at_number core.waiting to (after_taking (drop (length (greeted_frames core to)) (given_for core to room)));
+}
+
+-- a member is greeted anew
+abbrev pub greeted : Core → ℕ → Core
+greeted core member = record core {
+  greetings = with_greeting core.greetings member (Some (greeting_of core.node));
+}
+
 -- what came of an event, whose save was answered so
 abbrev pub core_happens : Core → CoreEvent → Save → CoreReply
 core_happens core (Issue now seq id full) save = stepped core (happens core.node (nodes.Issue now seq id full) save)
 core_happens core (Frame now bytes) save = stepped core (happens core.node (nodes.Frame now bytes) save)
 core_happens core (Timer now) save = stepped core (happens core.node (nodes.Timer now) save)
 core_happens core (Submit now tx) save = stepped core (happens core.node (nodes.Submit now tx) save)
+core_happens core (Greet member) save = answering (greeted core member) Done
 core_happens core (Drain member room) save =
-    answering (record core { waiting = drained_for core.node core.waiting member room })
-    (Gave member (frames_in (taken_for core.node core.waiting member room)))
+    answering (drained core member room) (Gave member (frames_in (given_for core member room)))
 core_happens core (Reports room) save =
     answering (record core { untaken = without room core.untaken }) (Handed (take room core.untaken.items))
 core_happens core Stop save = answering (record core { stopped = true }) Done
@@ -71,6 +106,7 @@ core_asks core (Issue now seq id full) = asks core.node (nodes.Issue now seq id 
 core_asks core (Frame now bytes) = None
 core_asks core (Timer now) = asks core.node (nodes.Timer now)
 core_asks core (Submit now tx) = None
+core_asks core (Greet member) = None
 core_asks core (Drain member room) = None
 core_asks core (Reports room) = None
 core_asks core Stop = None

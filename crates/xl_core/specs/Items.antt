@@ -1,5 +1,5 @@
 -- The frames of what waits for a peer. Source: this project's own layout.
-use Rattle.std.specs.Prelude.{ℕ, Bool, List, map, take, is_some, option_map, if◌then◌else◌}
+use Rattle.std.specs.Prelude.{ℕ, Bool, List, map, is_some, option_map, if◌then◌else◌}
 use Rattle.std.specs.Prelude.{Some, None}
 use Rattle.std.specs.declared.option.Option.{Option}
 use Rattle.std.specs.Option.{option_and_then}
@@ -13,7 +13,7 @@ use Rattle.xl_wire.specs.declared.body.Body.{Body}
 use Rattle.xl_core.specs.declared.item.Item.{Item}
 use Rattle.xl_core.specs.declared.item.Item.TheVariants.{Vote, Tx, TxSet, Proposal, Header}
 use Rattle.xl_core.specs.Node.{Node}
-use Rattle.xl_core.specs.Queues.{waiting_at, fitting, joined, frames_in, at_number, after_taking}
+use Rattle.xl_core.specs.Queues.{waiting_at, that_fit, joined, frames_in, at_number, after_taking}
 use Rattle.xl_queues.specs.Queues.{Backlog}
 use Rattle.xl_tags.specs.Rings.{key_of}
 use Rattle.xl_core.specs.Sending.{sealed_bytes, has_spelling}
@@ -23,10 +23,12 @@ use Rattle.xl_wire.specs.declared.body.Body.TheVariants as bodies
 abbrev pub is_own : Node → SetId → Bool
 is_own n id = bytes_eq id.0 (set_id_of n.round.positions.own).0
 
--- the header of a ledger that it knows
+-- the header of a ledger, by its place among those that it knows, and by its id
+abbrev pub header_body_at : Node → ℕ → Body
+header_body_at n place = bodies.Header (spelling (header_at n.ledgers.headers place))
+
 abbrev pub header_body : Node → LedgerId → Option Body
-header_body n id =
-    option_map (λ place. bodies.Header (spelling (header_at n.ledgers.headers place))) (place_of n.ledgers.headers id)
+header_body n id = option_map (header_body_at n) (place_of n.ledgers.headers id)
 
 -- the body in which it says an item, or None for a set that is no longer its own
 abbrev pub body_in : Node → Item → Option Body
@@ -54,7 +56,7 @@ lost_for n waiting to = if is_some (key_of n.keys to) then (waiting_at waiting t
 
 -- of the oldest items that a room takes
 abbrev pub taken_for : Node → List (Backlog Item) → ℕ → ℕ → List (Option (List ℕ))
-taken_for n waiting to room = take (fitting (frames_for n waiting to) room) (frames_for n waiting to)
+taken_for n waiting to room = that_fit (frames_for n waiting to) room
 
 -- the bytes that a drain gives
 abbrev pub drained_bytes : Node → List (Backlog Item) → ℕ → ℕ → List ℕ

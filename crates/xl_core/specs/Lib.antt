@@ -6,6 +6,7 @@ pub mod Building
 pub mod Node
 pub mod Queues
 pub mod Items
+pub mod Greetings
 pub mod Core
 pub mod Replies
 pub mod Ticks

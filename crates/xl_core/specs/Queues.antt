@@ -1,6 +1,6 @@
 -- What waits at a node: items for each number, and reports.
 -- Source: this profile, by which a full queue drops its oldest item.
-use Rattle.std.specs.Prelude.{ℕ, ◌-◌, List, [], ◌∷◌, zero, suc, length, filter_map, drop, count_by, nat_le, replicate, if◌then◌else◌}
+use Rattle.std.specs.Prelude.{ℕ, ◌-◌, List, [], ◌∷◌, zero, suc, length, filter_map, take, drop, count_by, nat_le, replicate, if◌then◌else◌}
 use Rattle.std.specs.Prelude.{Some, None}
 use Rattle.std.specs.declared.option.Option.{Option}
 use Rattle.std.specs.List.{flat_map}
@@ -34,6 +34,10 @@ fitting [] room = 0
 fitting (None ∷ frames) room = suc (fitting frames room)
 fitting (Some frame ∷ frames) room =
     if nat_le (length frame) room then suc (fitting frames (room - length frame)) else 0
+
+-- the longest front of these frames that fits into a room
+abbrev pub that_fit : List (Option (List ℕ)) → ℕ → List (Option (List ℕ))
+that_fit frames room = take (fitting frames room) frames
 
 -- the frames of these items
 abbrev pub frames_in : List (Option (List ℕ)) → List (List ℕ)

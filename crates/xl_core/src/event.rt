@@ -24,6 +24,10 @@ pub enum CoreEvent {
         now: Millis,
         tx: TxId,
     },
+    /// A link to a member has opened: it is greeted with the chain on which the round is.
+    Greet {
+        member: NodeNo,
+    },
     /// What waits for a member is written into a room of so many bytes.
     Drain {
         member: NodeNo,

@@ -8,8 +8,8 @@
 //!
 //! `Core` is a node with what waits at it: what it says waits for every peer until it is drained into frames, and what it
 //! reports until it is handed out. What waits for the peers is kept once, with a place for each of them: who is overrun
-//! loses the oldest items, and they are counted. `CoreEvent` is everything that may happen to a core, drains and handing
-//! out included.
+//! loses the oldest items, and they are counted. A peer that is greeted is handed the headers of a chain before them.
+//! `CoreEvent` is everything that may happen to a core, drains and handing out included.
 //!
 //! It stands on xl_validations, xl_rounds and xl_ledger, on xl_queues, on xl_io's keepers, and on xl_wire and xl_tags, by
 //! which it reads, opens and seals frames. Its one contract: each call leaves the core and answers as `core_happens` says
@@ -18,6 +18,7 @@
 
 mod beat;
 mod event;
+mod greeting;
 mod hearing;
 mod item;
 mod law;
@@ -35,6 +36,7 @@ mod untaken;
 
 pub use beat::{Beat, Issued};
 pub use event::CoreEvent;
+pub use greeting::Greeting;
 pub use hearing::{Speech, Spoken};
 pub use item::Item;
 pub use law::{reports, reports_are_handed_out, said_is_saved};

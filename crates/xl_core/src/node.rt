@@ -34,7 +34,7 @@ ghost use Rattle.xl_core.specs.declared.refusal.Refusal.TheVariants.{NotAfter, I
 ghost use Rattle.xl_core.specs.declared.hearing.Speech.TheVariants as speech;
 ghost use Rattle.xl_ledger.specs.declared.registry.TheConstants.{LEAST_LIMIT, GREATEST_LIMIT};
 ghost use Rattle.xl_core.specs.Draining.{IsPut};
-ghost use Rattle.xl_core.specs.Items.{frame_of, body_in as body_in_of, header_body as header_body_of};
+ghost use Rattle.xl_core.specs.Items.{frame_of, body_in as body_in_of, header_body as header_body_of, header_body_at as header_body_at_of};
 ghost use Rattle.xl_core.specs.declared.item.Item.TheVariants as items;
 ghost use Rattle.xl_core.specs.Rest.{IsKeyed};
 ghost use Rattle.xl_core.specs.Answers.{Done};
@@ -60,6 +60,7 @@ use xl_validations::Table;
 use xl_wire::{Body, Ids, Validation};
 
 mod deliberating;
+mod greeting;
 mod timer;
 
 /// A node's time is never before its first second.
@@ -431,12 +432,17 @@ impl<B: Branch + Drop> Node<B> {
         ensures { result ≡ header_body_of self.now id.now }
     {
         match self.registry.find(id) {
-            Some(ledger) => {
-                let header = self.registry.walk().header(ledger);
-                Some(Body::Header(header_bytes(header)))
-            }
+            Some(ledger) => Some(self.header_body_at(ledger)),
             None => None,
         }
+    }
+
+    fn header_body_at(&self, ledger: LedgerNo) -> Body<'_>
+        requires { ledger < length self.now.ledgers.headers }
+        ensures { result ≡ header_body_at_of self.now ledger }
+    {
+        let header = self.registry.walk().header(ledger);
+        Body::Header(header_bytes(header))
     }
 
     /// The own row takes what was issued, if the node stands on its list.

@@ -20,7 +20,7 @@ pub const MEMBERS: usize = 64;
 pub type Waiting = Broadcast<Item, OUTGOING, MEMBERS>;
 
 /// The place of a number among the readers.
-fn reader_of(member: NodeNo) -> usize
+pub fn reader_of(member: NodeNo) -> usize
     ensures place { result + 1 ≡ member }
     ensures most { result + 1 ≤ 64 }
 {

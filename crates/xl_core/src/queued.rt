@@ -7,10 +7,10 @@ ghost use Rattle.xl_io.specs.Keepers.{Held};
 ghost use Rattle.xl_tags.specs.Rings.{key_of};
 ghost use Rattle.xl_core.specs.Answers.{Done, Told};
 ghost use Rattle.xl_core.specs.Building.{said_items};
-ghost use Rattle.xl_core.specs.Core.{with_queues, core_happens, core_asks};
-ghost use Rattle.xl_core.specs.Items.{frames_for, lost_for};
+ghost use Rattle.xl_core.specs.Core.{all_frames, with_queues, core_happens, core_asks};
+ghost use Rattle.xl_core.specs.Items.{lost_for};
 ghost use Rattle.xl_core.specs.Queues.{with_items, frames_in};
-ghost use Rattle.xl_core.specs.declared.event.CoreEvent.TheVariants.{Issue, Frame, Timer, Submit, Stop, Stopped};
+ghost use Rattle.xl_core.specs.declared.event.CoreEvent.TheVariants.{Issue, Frame, Timer, Submit, Greet, Stop, Stopped};
 ghost use Rattle.xl_core.specs.Stops.{HoldsAtLeast, IsCovered, StaysCovered};
 ghost use Rattle.xl_core.specs.Keeping.{AsksSave, CountsFault, Holds, IsAsked, Saves};
 ghost use Rattle.xl_core.specs.Replies.{Answers, Drains, HandsOut, Issues, taken_answer, done_answer, was_kept};
@@ -25,7 +25,8 @@ ghost use Rattle.xl_wire.specs.Raws.{RawFrame};
 ghost use Rattle.xl_core.specs.declared.refusal.Refusal.TheVariants.{NotAfter, IssuingOff};
 
 use crate::beat::full_or_partial;
-use crate::outgoing::{Waiting, drain, lost_for};
+use crate::greeting::{Greetings, greet, hand_chain, is_greeted};
+use crate::outgoing::{MEMBERS, Waiting, drain, lost_for};
 use crate::tick::{Built, Tick};
 use crate::untaken::{UNTAKEN, push_report, take_reports};
 use crate::{Beat, Issued, Item, Node, Refusal, Report, Settings, Taken};
@@ -43,6 +44,7 @@ use xl_rounds::Said;
 pub struct Core<B: Branch> {
     node: Node<B>,
     waiting: Waiting,
+    greetings: Greetings,
     untaken: Queue<Report, UNTAKEN>,
     stopped: bool,
 }
@@ -52,7 +54,13 @@ impl<B: Branch> Model for Core<B> {
 
     ghost Value = { Core };
 
-    ghost view = { λ a. record { node = a.node; waiting = a.waiting; untaken = a.untaken; stopped = a.stopped } };
+    ghost view = { λ a. record {
+        node = a.node;
+        waiting = a.waiting;
+        greetings = a.greetings;
+        untaken = a.untaken;
+        stopped = a.stopped;
+    } };
 }
 
 /// What is said waits for every peer: our set, where it goes with our position, and then the position.
@@ -89,6 +97,7 @@ impl<B: Branch + Drop> Core<B> {
         Ok(Core {
             node,
             waiting,
+            greetings: [None; MEMBERS],
             untaken,
             stopped: false,
         })
@@ -106,6 +115,7 @@ impl<B: Branch + Drop> Core<B> {
         let untaken = Queue::open(alloc)?;
         self.node.reopen(alloc, now, kept)?;
         self.waiting = waiting;
+        self.greetings = [None; MEMBERS];
         self.untaken = untaken;
         self.stopped = false;
         Ok(())
@@ -241,17 +251,32 @@ impl<B: Branch + Drop> Core<B> {
         Ok(())
     }
 
-    /// Writes the frames of what waits for a peer into the room, the oldest first and as many as fit, takes what was written
-    /// out, and answers how many bytes were written. The rest of the room is as it was. A frame is sealed here and nowhere else.
+    /// A link to a peer has opened: the next drains for it begin with the headers of the chain of the ledger on which the
+    /// round is now, from sequence 1 on. What it was greeted with before is forgotten.
+    pub fn greet(&mut self, member: NodeNo)
+        requires peer { IsSome (key_of self.old.node.keys member) }
+        ensures step { Answers (core_happens self.old (Greet member) Kept) self.new Done }
+        ensures stop { (held : Held) → IsCovered held self.old → IsCovered held self.new }
+    {
+        greet(&mut self.greetings, member, self.node.greeting());
+    }
+
+    /// Writes frames for a peer into the room, as many as fit: first of the headers with which it is greeted, then of what
+    /// waits for it, the oldest first. What was written is taken out. Answers how many bytes were written; the rest of the
+    /// room is as it was. A frame is sealed here and nowhere else.
     pub fn drain(&mut self, member: NodeNo, room: &mut [u8]) -> usize
         requires peer { IsSome (key_of self.old.node.keys member) }
         requires room { LONGEST_FRAME ≤ length room.old }
         ensures step { Drains self.old member self.new result room.old room.new }
         // It answers 0 exactly where nothing is left but items that are passed over.
-        ensures nothing { (result ≡ 0) ↔ (frames_in (frames_for self.old.node self.old.waiting member) ≡ []) }
+        ensures nothing { (result ≡ 0) ↔ (frames_in (all_frames self.old member) ≡ []) }
         ensures stop { (held : Held) → IsCovered held self.old → IsCovered held self.new }
     {
-        drain(&mut self.waiting, &self.node, member, room)
+        let at = hand_chain(&mut self.greetings, &self.node, member, room);
+        if !is_greeted(&self.greetings, &self.node, member) {
+            return at;
+        }
+        at + drain(&mut self.waiting, &self.node, member, &mut room[at..])
     }
 
     /// How many items for a member were lost, since its queue was full or they were passed over: none for one that is no peer.

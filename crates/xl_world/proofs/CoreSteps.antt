@@ -2,8 +2,7 @@
 use Rattle.std.proofs.Common.{◌≡◌, ℕ, zero, suc, ◌≤◌, List, [], ◌∷◌, ◌++◌, length, take, drop, map, refl, sym, Option, Some, None, Result, Ok, Err, subst, Bool, true}
 use Rattle.std.specs.Prelude.{All, IfSome, nat_lt, replicate}
 use Rattle.std.proofs.lemmas.Bool.{cond_both}
-use Rattle.std.proofs.lemmas.List.{take-map}
-use Rattle.std.proofs.lemmas.List.Elements.{All-append, All-cons, All-drop, All-head, All-map, All-nil, All-set, All-tail, All-take, All-weaker}
+use Rattle.std.proofs.lemmas.List.Elements.{All-append, All-cons, All-drop, All-head, All-map, All-nil, All-set, All-tail, All-weaker}
 use Rattle.xl_lists.specs.declared.said.Said.{Said}
 use Rattle.xl_queues.specs.Broadcasts.{queue_of}
 use Rattle.xl_queues.specs.Queues.{Backlog, no_items, with_item}
@@ -24,7 +23,7 @@ use Rattle.xl_rounds.specs.declared.refusal.RoundRefusal.{RoundRefusal}
 use Rattle.xl_core.specs.Building.{said_items}
 use Rattle.xl_core.proofs.Timing.{timing_by, submit_either}
 use Rattle.xl_core.specs.declared.event.CoreEvent.{CoreEvent}
-use Rattle.xl_core.specs.declared.event.CoreEvent.TheVariants.{Issue, Frame, Timer, Submit, Drain, Reports, Stop, Stopped}
+use Rattle.xl_core.specs.declared.event.CoreEvent.TheVariants.{Issue, Frame, Timer, Submit, Greet, Drain, Reports, Stop, Stopped}
 use Rattle.xl_core.specs.declared.hearing.Speech.{Speech}
 use Rattle.xl_core.specs.declared.hearing.Speech.TheVariants as speech
 use Rattle.xl_core.specs.declared.item.Item.{Item}
@@ -33,13 +32,14 @@ use Rattle.xl_core.specs.declared.refusal.Refusal.{Refusal}
 use Rattle.xl_core.specs.declared.settings.Settings.{Settings}
 use Rattle.xl_core.specs.declared.refusal.Refusal.TheVariants.{NotAfter}
 use Rattle.xl_core.specs.Answers.{Done, Gave}
-use Rattle.xl_core.specs.Core.{Core, CoreReply, answering, core_happens, stepped, with_queues}
+use Rattle.xl_core.proofs.Greeted.{given_all}
+use Rattle.xl_core.specs.Core.{Core, CoreReply, greeted_frames, given_for, answering, core_happens, stepped, with_queues}
 use Rattle.xl_core.proofs.Frames.{hearing_either}
-use Rattle.xl_core.specs.Items.{is_own, body_in, framed, frame_of, frames_for, taken_for}
+use Rattle.xl_core.specs.Items.{is_own, body_in, framed, frame_of, header_body_at}
 use Rattle.xl_core.specs.Node as nodes
 use Rattle.xl_core.specs.Node.{Node, Event, Reply, Save, at_moment, own_validation, issues_unless, refusing, issuing, replying, completed, timed, validates, validating_built, placing, placed_as, taking, hearing, happens, items_of, opened}
 use Rattle.xl_core.specs.Node.Save.{Kept as AnsweredOk, Failed as AnsweredFailed}
-use Rattle.xl_core.specs.Queues.{after_taking, at_number, fitting, frames_in, waiting_at, with_items}
+use Rattle.xl_core.specs.Queues.{after_taking, at_number, frames_in, waiting_at, with_items}
 use Rattle.xl_wire.specs.declared.body.Body.TheVariants as bodies
 use Rattle.xl_core.specs.Sending.{sealed_bytes, has_spelling}
 use Rattle.xl_world.specs.declared.place.Keeper.{Keeper}
@@ -77,6 +77,7 @@ core_steps p (Timer now) fate well =
     lifted p.core p.keeper (keeper_after p (Timer now) fate) (happens p.core.node (nodes.Timer now) (answer_of p.keeper fate)) (happens_steps (seat p.core p.keeper) (nodes.Timer now) fate well)
 core_steps p (Submit now tx) fate well =
     lifted p.core p.keeper (keeper_after p (Submit now tx) fate) (happens p.core.node (nodes.Submit now tx) (answer_of p.keeper fate)) (happens_steps (seat p.core p.keeper) (nodes.Submit now tx) fate well)
+core_steps p (Greet member) fate well = beside p (reply_at p (Greet member) fate) refl refl refl well
 core_steps p (Drain member room) fate well = beside p (reply_at p (Drain member room) fate) refl refl refl well
 core_steps p (Reports room) fate well = beside p (reply_at p (Reports room) fate) refl refl refl well
 core_steps p Stop fate well = beside p (reply_at p Stop fate) refl refl refl well
@@ -263,19 +264,23 @@ frames_say P n to (item ∷ items) says =
     framed_says P n to (body_in n item) (map (frame_of n to) items) (item_body P n item (All-head (ItemSays P n.me) item items says))
     (frames_say P n to items (All-tail (ItemSays P n.me) item items says))
 
+-- the frame of a header says nothing
+header_says : (P : Said → Type 0) (n : Node) (to ledger : ℕ) → IfSome (framed n to (header_body_at n ledger)) (BytesSay P)
+header_says P n to ledger =
+    cond_both (has_spelling n.me to (header_body_at n ledger)) (Some (sealed_bytes n.keys n.me to (header_body_at n ledger))) None (λ o. IfSome o (BytesSay P))
+    (λ spelled. body_says P n.keys n.me to (header_body_at n ledger) spelled tt) (λ _. tt)
+
 sent_says : (P : Said → Type 0) (from to : ℕ) (frames : List (List ℕ)) → All (BytesSay P) frames → All (FrameSays P) (sent_in from (Gave to frames))
 sent_says P from to frames says = All-map (FrameSays P) (λ bytes. let f : Sent = record { from = from; to = to; bytes = bytes } in f) frames says
 
 drain_says : (P : Said → Type 0) (core : Core) (member room : ℕ) (save : Save) → CoreSays P core → ReplySays P (core_happens core (Drain member room) save)
 drain_says P core member room save says =
     let n : Node = core.node in
-    let items : List Item = (waiting_at core.waiting member).items in
-    let k : ℕ = fitting (frames_for n core.waiting member) room in
     record {
-      core = record { rows = says.rows; items = taken_says P n.me core.waiting member (taken_for n core.waiting member room) says.items };
-      sent = sent_says P n.me member (frames_in (take k (map (frame_of n member) items)))
-          (subst (λ (fs : List (Option (List ℕ))). All (BytesSay P) (frames_in fs)) (sym (take-map (frame_of n member) k items))
-          (frames_say P n member (take k items) (All-take (ItemSays P n.me) k items (waiting_says P n.me core.waiting member says.items))));
+      core = record { rows = says.rows; items = taken_says P n.me core.waiting member (drop (length (greeted_frames core member)) (given_for core member room)) says.items };
+      sent = sent_says P n.me member (frames_in (given_for core member room))
+          (given_all (BytesSay P) core member room (header_says P n member)
+          (frames_say P n member (waiting_at core.waiting member).items (waiting_says P n.me core.waiting member says.items)));
     }
 
 -- EVERY EVENT
@@ -286,6 +291,7 @@ CoreHeard P n (Issue now seq id full) = Unit {0}
 CoreHeard P n (Frame now bytes) = HeardSays P n (nodes.Frame now bytes)
 CoreHeard P n (Timer now) = Unit {0}
 CoreHeard P n (Submit now tx) = Unit {0}
+CoreHeard P n (Greet member) = Unit {0}
 CoreHeard P n (Drain member room) = Unit {0}
 CoreHeard P n (Reports room) = Unit {0}
 CoreHeard P n Stop = Unit {0}
@@ -298,6 +304,7 @@ core_says P core (Issue now seq id full) save says heard fair = node_says P core
 core_says P core (Frame now bytes) save says heard fair = node_says P core (nodes.Frame now bytes) save says heard fair
 core_says P core (Timer now) save says heard fair = node_says P core (nodes.Timer now) save says tt fair
 core_says P core (Submit now tx) save says heard fair = node_says P core (nodes.Submit now tx) save says tt fair
+core_says P core (Greet member) save says heard fair = record { core = record { rows = says.rows; items = says.items }; sent = All-nil (FrameSays P) }
 core_says P core (Drain member room) save says heard fair = drain_says P core member room save says
 core_says P core (Reports room) save says heard fair = record { core = record { rows = says.rows; items = says.items }; sent = All-nil (FrameSays P) }
 core_says P core Stop save says heard fair = record { core = record { rows = says.rows; items = says.items }; sent = All-nil (FrameSays P) }

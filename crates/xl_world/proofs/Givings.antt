@@ -7,17 +7,15 @@ use Rattle.xl_wire.specs.declared.validation.Validation.{Validation}
 use Rattle.xl_tags.specs.Rings.{key_of, schedule_ring}
 use Rattle.xl_world.proofs.Lying.{key_of_another}
 use Rattle.xl_wire.specs.declared.lengths.TheConstants.{LONGEST_FRAME}
-use Rattle.xl_core.specs.Core.{Core}
-use Rattle.xl_core.specs.Items.{taken_for}
-use Rattle.xl_core.specs.Node.{items_of}
-use Rattle.xl_core.specs.Queues.{waiting_at, frames_in, joined}
+use Rattle.xl_core.specs.Core.{Core, given_for}
+use Rattle.xl_core.specs.Queues.{frames_in, joined}
 use Rattle.xl_wire.specs.declared.body.Body.TheVariants as bodies
 use Rattle.xl_core.specs.Sending.{sealed_bytes, has_spelling}
 use Rattle.xl_core.proofs.Spelling.{sealed_long}
 use Rattle.xl_world.specs.declared.sent.Sent.{Sent}
 use Rattle.xl_world.specs.Emptying.{drained, drained_once, given, given_once, others}
-use Rattle.xl_world.specs.Idle.{Between, Waits, WaitsOnly}
-use Rattle.xl_world.proofs.Emptying.{drained_node, takes_all, waits_still}
+use Rattle.xl_world.specs.Idle.{Between, Waits, WaitsAt, WaitsOnly}
+use Rattle.xl_world.proofs.Emptying.{drained_node, given_alone, takes_all, waits_still}
 
 -- ONE NUMBER
 
@@ -25,12 +23,12 @@ use Rattle.xl_world.proofs.Emptying.{drained_node, takes_all, waits_still}
 abbrev pub IsOne : List (List ℕ) → Type 0
 IsOne fs = (fs ≡ []) ⊎ ((f : List ℕ) × (fs ≡ f ∷ []) × (length f ≡ 87))
 
-pub one_given : (core : Core) (m : ℕ) (o : Option Validation) → (waiting_at core.waiting m).items ≡ items_of o → IsOne (frames_in (taken_for core.node core.waiting m LONGEST_FRAME))
-one_given core m None is = inl (ap frames_in (takes_all core.node None core.waiting m is))
-one_given core m (Some v) is =
-    let all = takes_all core.node (Some v) core.waiting m is in
+pub one_given : (core : Core) (m : ℕ) (o : Option Validation) → WaitsAt o core m → IsOne (frames_in (given_for core m LONGEST_FRAME))
+one_given core m None waits = inl (ap frames_in (given_alone core m waits.ungreeted ∙ takes_all core.node None core.waiting m waits.items))
+one_given core m (Some v) waits =
+    let all = given_alone core m waits.ungreeted ∙ takes_all core.node (Some v) core.waiting m waits.items in
     cond_both (has_spelling core.node.me m (bodies.Validation v)) (Some (sealed_bytes core.node.keys core.node.me m (bodies.Validation v))) None
-    (λ o. taken_for core.node core.waiting m LONGEST_FRAME ≡ o ∷ [] → IsOne (frames_in (taken_for core.node core.waiting m LONGEST_FRAME)))
+    (λ o. given_for core m LONGEST_FRAME ≡ o ∷ [] → IsOne (frames_in (given_for core m LONGEST_FRAME)))
     (λ spelled same. inr (sealed_bytes core.node.keys core.node.me m (bodies.Validation v), ap frames_in same, sealed_long core.node.keys core.node.me m v spelled))
     (λ _ same. inl (ap frames_in same))
     all
@@ -117,7 +115,7 @@ waits_next : (o : Option Validation) (core : Core) (me m : ℕ) (rest : List ℕ
 waits_next o core me m rest other waits = subst (Waits o core) (cond-true (not (m == me)) (m ∷ others rest me) (others rest me) (ap not other)) waits
 
 pub next_waits : (numbers : List ℕ) (k : ℕ) (old new : Core) (before after : List Sent) (m : ℕ) → k < length numbers → m ≡ get_or numbers k m → (m == old.node.me) ≡ false → IsDrainedTo numbers k old new before after →
-    (o : Option Validation) × ((waiting_at new.waiting m).items ≡ items_of o)
+    (o : Option Validation) × WaitsAt o new m
 next_waits numbers k old new before after m k_in is other so =
     let there : drop k numbers ≡ m ∷ drop (k + 1) numbers = drop_more numbers k m k_in ∙ ap (λ (x : ℕ). x ∷ drop (k + 1) numbers) (sym is) in
     (so.waits.0, (waits_next so.waits.0 new old.node.me m (drop (k + 1) numbers) other (subst (λ (xs : List ℕ). Waits so.waits.0 new (others xs old.node.me)) there so.waits.1)).0)

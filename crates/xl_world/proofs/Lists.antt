@@ -7,7 +7,7 @@ use Rattle.xl_lists.specs.Lists.{TrustedList}
 use Rattle.xl_lists.specs.Quorums.{Enough}
 use Rattle.xl_lists.specs.declared.report.Report.{Report as Reported}
 use Rattle.xl_core.specs.declared.event.CoreEvent.{CoreEvent}
-use Rattle.xl_core.specs.declared.event.CoreEvent.TheVariants.{Issue, Frame, Timer, Submit, Drain, Reports, Stop, Stopped}
+use Rattle.xl_core.specs.declared.event.CoreEvent.TheVariants.{Issue, Frame, Timer, Submit, Greet, Drain, Reports, Stop, Stopped}
 use Rattle.xl_core.specs.Answers.{Done}
 use Rattle.xl_core.specs.Core.{Core, CoreReply, answering, core_happens}
 use Rattle.xl_core.specs.Node as nodes
@@ -56,6 +56,7 @@ core_keeps core (Issue now seq id full) save = let keeps = happens_keeps core.no
 core_keeps core (Frame now bytes) save = let keeps = happens_keeps core.node (nodes.Frame now bytes) save in (keeps.0, keeps.1)
 core_keeps core (Timer now) save = let keeps = happens_keeps core.node (nodes.Timer now) save in (keeps.0, keeps.1)
 core_keeps core (Submit now tx) save = let keeps = happens_keeps core.node (nodes.Submit now tx) save in (keeps.0, keeps.1)
+core_keeps core (Greet member) save = (refl, refl)
 core_keeps core (Drain member room) save = (refl, refl)
 core_keeps core (Reports room) save = (refl, refl)
 core_keeps core Stop save = (refl, refl)

@@ -8,7 +8,7 @@ use Rattle.xl_lists.specs.declared.report.Report.{Report as Reported}
 use Rattle.xl_lists.specs.Agreement.{IsGenuine, IsBacked, Agree}
 use Rattle.xl_lists.proofs.Agreement.{agreement_from_kept, vouches_still}
 use Rattle.xl_core.specs.declared.event.CoreEvent.{CoreEvent}
-use Rattle.xl_core.specs.declared.event.CoreEvent.TheVariants.{Issue, Frame, Timer, Submit, Drain, Reports, Stop, Stopped}
+use Rattle.xl_core.specs.declared.event.CoreEvent.TheVariants.{Issue, Frame, Timer, Submit, Greet, Drain, Reports, Stop, Stopped}
 use Rattle.xl_core.specs.declared.hearing.Speech.TheVariants as speech
 use Rattle.xl_core.specs.Answers.{Done}
 use Rattle.xl_core.specs.Core.{Core, CoreReply, answering, core_asks}
@@ -43,6 +43,7 @@ heard_genuine w n stands (Frame now bytes) fair = λ from v is.
     heard_unforged w n stands.sent bytes fair from v (heard_parts n.keys n.list.members bytes (record { from = from; what = speech.Validation v }) is)
 heard_genuine w n stands (Timer now) fair = tt
 heard_genuine w n stands (Submit now tx) fair = tt
+heard_genuine w n stands (Greet member) fair = tt
 heard_genuine w n stands (Drain member room) fair = tt
 heard_genuine w n stands (Reports room) fair = tt
 heard_genuine w n stands Stop fair = tt
@@ -53,6 +54,7 @@ heard_weaker P Q h n (Issue now seq id full) says = tt
 heard_weaker P Q h n (Frame now bytes) says = λ from v is. h (said_by from v) (says from v is)
 heard_weaker P Q h n (Timer now) says = tt
 heard_weaker P Q h n (Submit now tx) says = tt
+heard_weaker P Q h n (Greet member) says = tt
 heard_weaker P Q h n (Drain member room) says = tt
 heard_weaker P Q h n (Reports room) says = tt
 heard_weaker P Q h n Stop says = tt
@@ -105,6 +107,7 @@ asked_above core (Issue now seq id full) = asks_above core.node (nodes.Issue now
 asked_above core (Frame now bytes) = tt
 asked_above core (Timer now) = asks_above core.node (nodes.Timer now)
 asked_above core (Submit now tx) = tt
+asked_above core (Greet member) = tt
 asked_above core (Drain member room) = tt
 asked_above core (Reports room) = tt
 asked_above core Stop = tt

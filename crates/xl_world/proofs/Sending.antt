@@ -12,6 +12,8 @@ use Rattle.xl_queues.specs.Queues.{Backlog, no_items, with_item}
 use Rattle.xl_wire.specs.declared.validation.Validation.{Validation}
 use Rattle.xl_core.specs.declared.event.CoreEvent.{CoreEvent}
 use Rattle.xl_core.specs.declared.event.CoreEvent.TheVariants.{Issue, Frame, Drain, Reports}
+use Rattle.xl_core.specs.declared.greeting.Greeting.{Greeting}
+use Rattle.xl_core.specs.Greetings.{none_greeted, greeting_at}
 use Rattle.xl_core.specs.declared.item.Item.{Item}
 use Rattle.xl_core.specs.declared.item.Item.TheVariants.{Vote}
 use Rattle.xl_wire.specs.declared.lengths.TheConstants.{LONGEST_FRAME}
@@ -37,12 +39,12 @@ use Rattle.xl_world.specs.World.{reported_by, said_by}
 use Rattle.xl_world.specs.declared.place.Place.{Place}
 use Rattle.xl_world.specs.World.{World, Act, Again, Torn, again, acts, asked_at, core_again, is_forged, keeper_after, moment_in, place_at, put, reopened, reply_at, run, sent_in, settled, step, torn}
 use Rattle.xl_world.specs.Starts.{place_of, start}
-use Rattle.xl_world.specs.Idle.{Between, IsIdle, Waits, WaitsOnly}
+use Rattle.xl_world.specs.Idle.{Between, IsIdle, Waits, WaitsAt, WaitsOnly}
 use Rattle.xl_world.specs.Emptying.{IsEmptied, drained, drained_once, drains, drains_for, emptying, emptying_at, event_steps, given, handed_out, others}
 use Rattle.xl_world.proofs.Runs.{run-append}
 use Rattle.xl_world.proofs.Settling.{at_its_number, put_cases}
 use Rattle.xl_world.proofs.CoreSteps.{IsPlain, issue_plain, frame_plain}
-use Rattle.xl_world.proofs.Emptying.{all_dry, none_given, drained_long, drained_node, drained_none, drained_untaken, dry, dry_then, once_long, waits_still}
+use Rattle.xl_world.proofs.Emptying.{all_dry, none_given, drained_greetings, drained_long, drained_node, drained_none, drained_untaken, dry, dry_then, once_long, waits_still}
 use Rattle.xl_world.proofs.Keeping.{happens_keeps}
 use Rattle.xl_world.proofs.Seats.{some_same}
 
@@ -107,7 +109,7 @@ abbrev frames_once : Place → ℕ → List Sent
 frames_once p m = sent_in p.core.node.me (core_happens p.core (Drain m LONGEST_FRAME) AnsweredOk).answer
 
 -- one more drain gives nothing
-again_dry : (o : Option Validation) (w : World) (i m : ℕ) (p : Place) → place_at i w.places ≡ Some p → 1 ≤ m → m ≤ length p.core.waiting → (waiting_at p.core.waiting m).items ≡ items_of o →
+again_dry : (o : Option Validation) (w : World) (i m : ℕ) (p : Place) → place_at i w.places ≡ Some p → 1 ≤ m → m ≤ length p.core.waiting → WaitsAt o p.core m →
     step (moved w (once p m) (frames_once p m)) (Act i (Drain m LONGEST_FRAME) Kept) ≡ moved w (once p m) (frames_once p m)
 again_dry o w i m p at least most its =
     let q : Place = once p m in
@@ -119,7 +121,7 @@ again_dry o w i m p at least most its =
     ∙ ap (λ (fs : List Sent). with_lists w (put q w.places) fs w.reports) (append-nil (w.sent ++ frames))
 
 -- the drains for one number are as one, where at most what was issued waits
-issued_run : (o : Option Validation) (w : World) (i m : ℕ) (p : Place) (core : Core) → place_at i w.places ≡ Some p → 1 ≤ m → m ≤ length p.core.waiting → (waiting_at p.core.waiting m).items ≡ items_of o →
+issued_run : (o : Option Validation) (w : World) (i m : ℕ) (p : Place) (core : Core) → place_at i w.places ≡ Some p → 1 ≤ m → m ≤ length p.core.waiting → WaitsAt o p.core m →
     run w (map (λ e. Act i e Kept) (drains core m (length (items_of o)))) ≡ moved w (once p m) (frames_once p m)
 issued_run None w i m p core at least most its = drain_step w i m p at
 issued_run (Some v) w i m p core at least most its =
@@ -129,7 +131,7 @@ issued_run (Some v) w i m p core at least most its =
     (λ _. ap (λ (u : World). step u (Act i (Drain m LONGEST_FRAME) Kept)) (drain_step w i m p at) ∙ again_dry (Some v) w i m p at least most its)
 
 number_run : (o : Option Validation) (w : World) (i m : ℕ) (p : Place) (core : Core) → place_at i w.places ≡ Some p → 1 ≤ m → m ≤ length p.core.waiting →
-    (waiting_at core.waiting m).items ≡ items_of o → (waiting_at p.core.waiting m).items ≡ items_of o →
+    (waiting_at core.waiting m).items ≡ items_of o → WaitsAt o p.core m →
     run w (map (λ e. Act i e Kept) (drains_for core m)) ≡ moved w (once p m) (frames_once p m)
 number_run o w i m p core at least most is its_is =
     ap (λ (xs : List Item). run w (map (λ e. Act i e Kept) (drains core m (length xs)))) is ∙ issued_run o w i m p core at least most its_is
@@ -146,7 +148,7 @@ drains_run o core low (m ∷ ms) w i p at long rising waits its =
     let act = λ (e : CoreEvent). Act i e Kept in
     ap (run w) (map-append act (drains_for core m) (flat_map (drains_for core) ms))
     ∙ run-append w (map act (drains_for core m)) (map act (flat_map (drains_for core) ms))
-    ∙ ap (λ (v : World). run v (map act (flat_map (drains_for core) ms))) (number_run o w i m p core at (omega (arith, rising.0)) (omega (arith, rising.1, long)) waits.0 its.0)
+    ∙ ap (λ (v : World). run v (map act (flat_map (drains_for core) ms))) (number_run o w i m p core at (omega (arith, rising.0)) (omega (arith, rising.1, long)) waits.0.items its.0)
     ∙ drains_run o core m ms (moved w q frames) i q (put_at i q w.places p number at) (once_long p.core m ∙ long) rising.2 waits.1 (waits_still o p.core m m ms (omega arith) rising.2 its.1)
     ∙ ap (λ (ps : List Place). with_lists w ps ((w.sent ++ frames) ++ given q.core ms) w.reports) (put_put q last w.places (ap (λ (n : Node). n.me) (drained_node q.core ms)))
     ∙ ap (λ (fs : List Sent). with_lists w (put last w.places) fs w.reports) (append_assoc w.sent frames (given q.core ms))
@@ -166,13 +168,19 @@ emptying_run o numbers w i p at long rising waits =
     let ms : List ℕ = others numbers p.core.node.me in
     let last : Place = record { core = drained q.core ms; keeper = p.keeper } in
     ap (λ (v : World). run v (map (λ e. Act i e Kept) (flat_map (drains_for p.core) ms))) (reports_step w i p at)
-    ∙ drains_run o p.core 0 ms (moved w q []) i q (put_at i q w.places p (at_its_number i w.places p at) at) long rising waits (waits_alike o p.core q.core ms refl waits)
+    ∙ drains_run o p.core 0 ms (moved w q []) i q (put_at i q w.places p (at_its_number i w.places p at) at) long rising waits (waits_alike o p.core q.core ms refl refl waits)
     ∙ ap (λ (ps : List Place). with_lists w ps ((w.sent ++ []) ++ given q.core ms) w.reports) (put_put q last w.places (ap (λ (n : Node). n.me) (drained_node q.core ms)))
     ∙ ap (λ (fs : List Sent). with_lists w (put last w.places) (fs ++ given q.core ms) w.reports) (append-nil w.sent)
   where
-    waits_alike : (o : Option Validation) (a b : Core) (ms : List ℕ) → b.waiting ≡ a.waiting → Waits o a ms → Waits o b ms
-    waits_alike o a b [] same waits = tt
-    waits_alike o a b (m ∷ ms) same waits = (ap (λ (ws : List (Backlog Item)). (waiting_at ws m).items) same ∙ waits.0, waits_alike o a b ms same waits.1)
+    waits_alike : (o : Option Validation) (a b : Core) (ms : List ℕ) → b.waiting ≡ a.waiting → b.greetings ≡ a.greetings → Waits o a ms → Waits o b ms
+    waits_alike o a b [] same alike waits = tt
+    waits_alike o a b (m ∷ ms) same alike waits = (
+      record {
+        items = ap (λ (ws : List (Backlog Item)). (waiting_at ws m).items) same ∙ waits.0.items;
+        ungreeted = ap (λ (gs : List (Option Greeting)). greeting_at gs m) alike ∙ waits.0.ungreeted;
+      },
+      waits_alike o a b ms same alike waits.1,
+    )
 
 -- WHAT WAITS AFTER AN EVENT
 
@@ -197,15 +205,28 @@ between_filter p low (m ∷ ms) rising =
     cond_both (p m) (m ∷ filter p ms) (filter p ms) (Between low) (λ _. (rising.0, rising.1, between_filter p m ms rising.2))
     (λ _. between_from m low (filter p ms) (omega (arith, rising.0)) (between_filter p m ms rising.2))
 
-waits_from : (o : Option Validation) (core : Core) (waiting : List (Backlog Item)) (low : ℕ) (numbers : List ℕ) → core.waiting ≡ with_items waiting (items_of o) → length waiting ≡ 64 → Between low numbers →
+-- none is greeted
+none_greeted_at : (m : ℕ) → greeting_at none_greeted m ≡ None
+none_greeted_at zero = refl
+none_greeted_at (suc place) = nobody 64 place
+  where
+    nobody : (n k : ℕ) → get_or (replicate n (let o : Option Greeting = None in o)) k None ≡ None
+    nobody zero k = refl
+    nobody (suc n) zero = refl
+    nobody (suc n) (suc k) = nobody n k
+
+waits_from : (o : Option Validation) (core : Core) (waiting : List (Backlog Item)) (low : ℕ) (numbers : List ℕ) → core.waiting ≡ with_items waiting (items_of o) → core.greetings ≡ none_greeted → length waiting ≡ 64 → Between low numbers →
     All (λ m. (m == core.node.me) ≡ false → (waiting_at waiting m).items ≡ []) numbers → Waits o core (others numbers core.node.me)
-waits_from o core waiting low [] is long rising none = tt
-waits_from o core waiting low (m ∷ ms) is long rising none =
-    let rest = waits_from o core waiting m ms is long rising.2 (All-tail (λ k. (k == core.node.me) ≡ false → (waiting_at waiting k).items ≡ []) m ms none) in
+waits_from o core waiting low [] is ungreeted long rising none = tt
+waits_from o core waiting low (m ∷ ms) is ungreeted long rising none =
+    let rest = waits_from o core waiting m ms is ungreeted long rising.2 (All-tail (λ k. (k == core.node.me) ≡ false → (waiting_at waiting k).items ≡ []) m ms none) in
     cond_both (not (m == core.node.me)) (m ∷ others ms core.node.me) (others ms core.node.me) (Waits o core)
     (λ other. (
-      ap (λ (ws : List (Backlog Item)). (waiting_at ws m).items) is
-          ∙ issued_waits o waiting m (omega (arith, rising.0)) (omega (arith, rising.1, long)) (All-head (λ k. (k == core.node.me) ≡ false → (waiting_at waiting k).items ≡ []) m ms none (is_other m core.node.me other)),
+      record {
+        items = ap (λ (ws : List (Backlog Item)). (waiting_at ws m).items) is
+            ∙ issued_waits o waiting m (omega (arith, rising.0)) (omega (arith, rising.1, long)) (All-head (λ k. (k == core.node.me) ≡ false → (waiting_at waiting k).items ≡ []) m ms none (is_other m core.node.me other));
+        ungreeted = ap (λ (gs : List (Option Greeting)). greeting_at gs m) ungreeted ∙ none_greeted_at m;
+      },
       rest,
     ))
     (λ _. rest)
@@ -282,10 +303,10 @@ settled_then w i p forged r k at plain same_me same_keys idle =
     let waiting : core.waiting ≡ with_items p.core.waiting (items_of r.issued) = ap (with_items p.core.waiting) plain.items in
     let rising : Between 0 ms = between_filter (λ m. not (m == core.node.me)) 0 w.numbers idle.numbers in
     let none = subst (λ (me : ℕ). All (λ m. (m == me) ≡ false → (waiting_at p.core.waiting m).items ≡ []) w.numbers) (sym same_me) was.none in
-    let waits : Waits r.issued (handed_out core) ms = waits_from r.issued (handed_out core) p.core.waiting 0 w.numbers waiting was.readers idle.numbers none in
+    let waits : Waits r.issued (handed_out core) ms = waits_from r.issued (handed_out core) p.core.waiting 0 w.numbers waiting was.ungreeted was.readers idle.numbers none in
     let long : length core.waiting ≡ 64 = long_then r.issued waiting was.readers in
     let ran : run v (map (λ e. Act i e Kept) (emptying w.numbers core)) ≡ moved v last frames =
-    emptying_run r.issued w.numbers v i q (put_at i q w.places p its at) long rising (waits_from r.issued core p.core.waiting 0 w.numbers waiting was.readers idle.numbers none) in
+    emptying_run r.issued w.numbers v i q (put_at i q w.places p its at) long rising (waits_from r.issued core p.core.waiting 0 w.numbers waiting was.ungreeted was.readers idle.numbers none) in
     let all_sent : (w.sent ++ sent_in r.node.me r.answer) ++ frames ≡ w.sent ++ frames =
     ap (λ (fs : List Sent). (w.sent ++ fs) ++ frames) (plain.sent r.node.me) ∙ ap (λ (fs : List Sent). fs ++ frames) (append-nil w.sent) in
     let keyed : r.node.keys ≡ schedule_ring r.node.me = same_keys ∙ (was.keys ∙ ap schedule_ring (sym same_me)) in
@@ -294,6 +315,7 @@ settled_then w i p forged r k at plain same_me same_keys idle =
       readers = drained_long (handed_out core) ms ∙ long;
       none = subst (λ (me : ℕ). All (λ m. (m == me) ≡ false → (waiting_at last.core.waiting m).items ≡ []) w.numbers) (sym (ap (λ (n : Node). n.me) node_is))
           (none_from (λ m. (waiting_at last.core.waiting m).items ≡ []) r.node.me w.numbers (drained_none r.issued (handed_out core) 0 ms long rising waits));
+      ungreeted = drained_greetings r.issued (handed_out core) 0 ms rising waits ∙ was.ungreeted;
       untaken = ap (λ (q : Backlog NodeReport). q.items) (drained_untaken (handed_out core) ms) ∙ taken_then p.core.untaken r.report was.untaken;
       keys = ap (λ (n : Node). n.keys) node_is ∙ (keyed ∙ ap schedule_ring (sym (ap (λ (n : Node). n.me) node_is)));
     } in
@@ -370,16 +392,16 @@ none_at_all : (me : ℕ) (numbers : List ℕ) → All (λ m. (m == me) ≡ false
 none_at_all me [] = All-nil (λ m. (m == me) ≡ false → (waiting_at (replicate 64 no_items) m).items ≡ [])
 none_at_all me (m ∷ ms) = All-cons (λ k. (k == me) ≡ false → (waiting_at (replicate 64 no_items) k).items ≡ []) m ms (λ _. none_waits m) (none_at_all me ms)
 
-opened_empty : (numbers : List ℕ) (core : Core) → core.waiting ≡ replicate 64 no_items → core.untaken.items ≡ [] → core.node.keys ≡ schedule_ring core.node.me → IsEmptied numbers core
-opened_empty numbers core is untaken keys =
-    subst (λ (ws : List (Backlog Item)). IsEmptied numbers (record core { waiting = ws })) (sym is) (record { readers = refl; none = none_at_all core.node.me numbers; untaken = untaken; keys = keys })
+opened_empty : (numbers : List ℕ) (core : Core) → core.waiting ≡ replicate 64 no_items → core.greetings ≡ none_greeted → core.untaken.items ≡ [] → core.node.keys ≡ schedule_ring core.node.me → IsEmptied numbers core
+opened_empty numbers core is ungreeted untaken keys =
+    subst (λ (ws : List (Backlog Item)). IsEmptied numbers (record core { waiting = ws })) (sym is) (record { readers = refl; none = none_at_all core.node.me numbers; ungreeted = ungreeted; untaken = untaken; keys = keys })
 
 again_at : (w : World) (i now number : ℕ) → IsIdle w → (p : Place) → p.core.node.keys ≡ schedule_ring p.core.node.me → IsIdle (again w i now number (Some p))
 again_at w i now number idle p keys =
     cond_both (may_hold (held_by p.keeper) number) (reopened w i p now number) w IsIdle
     (λ _.
     let q : Place = record { core = core_again p now number; keeper = restored p.keeper number } in
-    idle_then w q (put q w.places) (w.sent ++ []) w.said (w.reports ++ []) w.mark w.forged refl (opened_empty w.numbers (core_again p now number) refl refl keys) idle)
+    idle_then w q (put q w.places) (w.sent ++ []) w.said (w.reports ++ []) w.mark w.forged refl (opened_empty w.numbers (core_again p now number) refl refl refl keys) idle)
     (λ _. idle)
 
 -- a node opened again leaves an idle world
@@ -408,7 +430,7 @@ all_opened : (limit : ℕ) (numbers : List ℕ) (plan : List PlanNode) (i : ℕ)
 all_opened limit numbers [] i p h = cc
 all_opened limit numbers (d ∷ ds) i p h =
     cond_both (d.me == i) (Some (place_of limit d)) (place_at i (map (place_of limit) ds)) (λ o. o ≡ Some p → IsEmptied numbers p.core)
-    (λ _ here. subst (λ (x : Place). IsEmptied numbers x.core) (sym (some_same (place_of limit d) p here)) (opened_empty numbers (place_of limit d).core refl refl refl))
+    (λ _ here. subst (λ (x : Place). IsEmptied numbers x.core) (sym (some_same (place_of limit d) p here)) (opened_empty numbers (place_of limit d).core refl refl refl refl))
     (λ _ there. all_opened limit numbers ds i p there) h
 
 pub start_idle : (limit : ℕ) (liars : List ℕ) (plan : List PlanNode) → IsIdle (start limit liars plan)

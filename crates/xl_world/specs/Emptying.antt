@@ -9,6 +9,7 @@ use Rattle.xl_core.specs.declared.event.CoreEvent.TheVariants.{Drain, Reports}
 use Rattle.xl_wire.specs.declared.lengths.TheConstants.{LONGEST_FRAME}
 use Rattle.xl_core.specs.Answers.{given_in}
 use Rattle.xl_core.specs.Core.{Core, core_happens}
+use Rattle.xl_core.specs.Greetings.{none_greeted}
 use Rattle.xl_core.specs.Node.Save.{Kept as AnsweredOk}
 use Rattle.xl_core.specs.Queues.{waiting_at}
 use Rattle.xl_tags.specs.Rings.{schedule_ring}
@@ -45,10 +46,11 @@ emptying_at numbers i event fate (Some p) = map (λ e. Act i e Kept) (emptying n
 abbrev pub event_steps : World → ℕ → CoreEvent → Fate → List Step
 event_steps w i event fate = Act i event fate ∷ emptying_at w.numbers i event fate (place_at i w.places)
 
--- nothing waits for another declared number, nor to be taken; the keys are those of a schedule's member
+-- nothing waits for another declared number, nor to be taken, and none is greeted; the keys are those of a schedule's member
 pub record IsEmptied (numbers : List ℕ) (core : Core) : Type 0 where
   pub readers : length core.waiting ≡ 64
   pub none : All (λ member. (member == core.node.me) ≡ false → (waiting_at core.waiting member).items ≡ []) numbers
+  pub ungreeted : core.greetings ≡ none_greeted
   pub untaken : core.untaken.items ≡ []
   pub keys : core.node.keys ≡ schedule_ring core.node.me
 

@@ -2,10 +2,11 @@
 -- relies on.
 use Rattle.std.specs.Prelude.{◌≡◌, ℕ, ◌<◌, ◌≤◌, List, [], ◌∷◌, All, Vec, vec_capacity}
 use Rattle.std.specs.declared.alloc.Global.{Global}
-use Rattle.std.specs.Prelude.{Some}
+use Rattle.std.specs.Prelude.{Some, None}
 use Rattle.std.specs.declared.option.Option.{Option}
 use Rattle.xl_wire.specs.declared.validation.Validation.{Validation}
 use Rattle.xl_core.specs.Core.{Core}
+use Rattle.xl_core.specs.Greetings.{greeting_at}
 use Rattle.xl_core.specs.Node.{items_of}
 use Rattle.xl_core.specs.Queues.{waiting_at}
 use Rattle.xl_wire.specs.declared.lengths.TheConstants.{VALIDATION_FRAME}
@@ -18,10 +19,15 @@ abbrev pub Between : ℕ → List ℕ → Type 0
 Between low [] = Unit {0}
 Between low (m ∷ ms) = (low < m) × (m ≤ 64) × Between m ms
 
--- what was issued alone waits for these numbers
+-- what was issued alone waits for a number, and it isn't greeted
+pub record WaitsAt (o : Option Validation) (core : Core) (m : ℕ) : Type 0 where
+  pub items : (waiting_at core.waiting m).items ≡ items_of o
+  pub ungreeted : greeting_at core.greetings m ≡ None
+
+-- so for each of these numbers
 abbrev pub Waits : Option Validation → Core → List ℕ → Type 0
 Waits o core [] = Unit {0}
-Waits o core (m ∷ ms) = ((waiting_at core.waiting m).items ≡ items_of o) × Waits o core ms
+Waits o core (m ∷ ms) = WaitsAt o core m × Waits o core ms
 
 -- for each other number
 abbrev pub WaitsOnly : List ℕ → Core → Type 0

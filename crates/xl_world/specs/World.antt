@@ -15,7 +15,7 @@ use Rattle.xl_base.specs.Counts.{one_more}
 use Rattle.xl_wire.specs.declared.validation.Validation.{Validation}
 use Rattle.xl_wire.specs.Heads.{split_of}
 use Rattle.xl_core.specs.declared.event.CoreEvent.{CoreEvent}
-use Rattle.xl_core.specs.declared.event.CoreEvent.TheVariants.{Issue, Frame, Timer, Submit, Drain, Reports, Stop, Stopped}
+use Rattle.xl_core.specs.declared.event.CoreEvent.TheVariants.{Issue, Frame, Timer, Submit, Greet, Drain, Reports, Stop, Stopped}
 use Rattle.xl_core.specs.declared.report.Report.{Report}
 use Rattle.xl_core.specs.Answers.{Answer, Refused, Took, Beats, Done, Gave, Handed, Told}
 use Rattle.xl_core.specs.Core.{Core, CoreReply, answering, core_happens, core_asks, with_queues}
@@ -82,6 +82,7 @@ is_forged w n (Issue now seq id full) = false
 is_forged w n (Frame now bytes) = forges w.liars w.sent n.keys bytes (split_of bytes)
 is_forged w n (Timer now) = false
 is_forged w n (Submit now tx) = false
+is_forged w n (Greet member) = false
 is_forged w n (Drain member room) = false
 is_forged w n (Reports room) = false
 is_forged w n Stop = false
@@ -135,6 +136,7 @@ moment_in (Issue now seq id full) = now
 moment_in (Frame now bytes) = now
 moment_in (Timer now) = now
 moment_in (Submit now tx) = now
+moment_in (Greet member) = 0
 moment_in (Drain member room) = 0
 moment_in (Reports room) = 0
 moment_in Stop = 0

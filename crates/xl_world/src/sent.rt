@@ -3,13 +3,11 @@ ghost use Rattle.std.specs.Prelude.{◌≡◌, ◌≢◌, ◌+◌, ◌<◌, ◌�
 ghost use Rattle.std.specs.declared.option.Option.{Option};
 ghost use Rattle.xl_tags.specs.Rings.{schedule_ring};
 ghost use Rattle.xl_wire.specs.declared.validation.Validation as validation;
-ghost use Rattle.xl_core.specs.Node.{items_of};
-ghost use Rattle.xl_core.specs.Queues.{waiting_at};
 ghost use Rattle.xl_wire.specs.declared.lengths.TheConstants.{VALIDATION_FRAME};
 ghost use Rattle.xl_world.specs.declared.place.Place.{Place};
 ghost use Rattle.xl_world.specs.World.{place_at};
 ghost use Rattle.xl_world.specs.Emptying.{drained, drained_once, given, given_once, others};
-ghost use Rattle.xl_world.specs.Idle.{AreRooms, Between, WaitsOnly};
+ghost use Rattle.xl_world.specs.Idle.{AreRooms, Between, WaitsAt, WaitsOnly};
 ghost use Rattle.xl_world.specs.Schedule.{frame_at};
 ghost use Rattle.xl_world.specs.Seen.{MayDrain, given_at, put_drained};
 ghost use Rattle.xl_world.specs.Forgeries.{was_sent};
@@ -83,7 +81,7 @@ fn drain_for(
 )
     requires other { to ≢ core.old.node.me }
     requires keys { core.old.node.keys ≡ schedule_ring core.old.node.me }
-    requires waits { (o : Option validation.Validation) × ((waiting_at core.old.waiting to).items ≡ items_of o) }
+    requires waits { (o : Option validation.Validation) × WaitsAt o core.old to }
     requires rooms { 0 < vec_len rooms.old }
     requires each { AreRooms rooms.old.items }
     requires room { vec_len sent.old < vec_capacity sent.old }

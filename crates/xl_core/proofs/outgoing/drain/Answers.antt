@@ -29,11 +29,11 @@ ended g c =
 
 pub returns-clause-count : goal.returns-clause-count
 returns-clause-count g c =
-    c.loop-next.invariant.place ∙ ap (λ (n : ℕ). length (joined (frames_in (take n (frames_for c.args.node.now c.args.waiting.now c.args.member))))) (ended g c)
+    c.loop-next.invariant.so_far.place ∙ ap (λ (n : ℕ). length (joined (frames_in (take n (frames_for c.args.node.now c.args.waiting.now c.args.member))))) (ended g c)
 
 pub returns-clause-frames : goal.returns-clause-frames
 returns-clause-frames g c =
-    (c.drain_first.ensures.none c.in_default.is).2 ∙ c.loop-next.invariant.written
+    (c.drain_first.ensures.none c.in_default.is).2 ∙ c.loop-next.invariant.so_far.written
     ∙ ap (λ (n : ℕ). joined (frames_in (take n (frames_for c.args.node.now c.args.waiting.now c.args.member))) ++ drop c.loop-next.at c.args.room.now) (ended g c)
 
 pub returns-clause-taken : goal.returns-clause-taken

@@ -18,8 +18,8 @@ use Rattle.xl_core.proofs.queued.Core.frame.Goals as goal
 
 pub returns-in-Ok-clause-step : goal.returns-in-Ok-clause-step
 returns-in-Ok-clause-step g c =
-    let old : Core = record { node = c.self.inside.node; waiting = c.self.inside.waiting; untaken = c.self.inside.untaken; stopped = c.self.inside.stopped } in
-    let new : Core = record { node = c.frame.new.self; waiting = c.self.inside.waiting; untaken = c.push_report.new.untaken; stopped = c.self.inside.stopped } in
+    let old : Core = record { node = c.self.inside.node; waiting = c.self.inside.waiting; greetings = c.self.inside.greetings; untaken = c.self.inside.untaken; stopped = c.self.inside.stopped } in
+    let new : Core = record { node = c.frame.new.self; waiting = c.self.inside.waiting; greetings = c.self.inside.greetings; untaken = c.push_report.new.untaken; stopped = c.self.inside.stopped } in
     subst (λ (a : Core). Answers (core_happens a (event.Frame c.args.now c.args.bytes.now) Kept) new (Took c.in-Ok.heard.taken)) c.self.view_is
     (heard_step old c.frame.new.self c.in-Ok.heard c.push_report.new.untaken (happens c.self.inside.node (Frame c.args.now c.args.bytes.now) Kept) c.in-Ok.ensures.exact c.push_report.ensures)
 
@@ -30,8 +30,8 @@ returns-in-Ok-clause-stop g c = λ held was.
 
 pub returns-in-Err-clause-step : goal.returns-in-Err-clause-step
 returns-in-Err-clause-step g c =
-    let old : Core = record { node = c.self.inside.node; waiting = c.self.inside.waiting; untaken = c.self.inside.untaken; stopped = c.self.inside.stopped } in
-    let new : Core = record { node = c.frame.new.self; waiting = c.self.inside.waiting; untaken = c.self.inside.untaken; stopped = c.self.inside.stopped } in
+    let old : Core = record { node = c.self.inside.node; waiting = c.self.inside.waiting; greetings = c.self.inside.greetings; untaken = c.self.inside.untaken; stopped = c.self.inside.stopped } in
+    let new : Core = record { node = c.frame.new.self; waiting = c.self.inside.waiting; greetings = c.self.inside.greetings; untaken = c.self.inside.untaken; stopped = c.self.inside.stopped } in
     subst (λ (a : Core). Answers (core_happens a (event.Frame c.args.now c.args.bytes.now) Kept) new (Refused c.in-Err.why)) c.self.view_is
     (refused_step old c.frame.new.self c.in-Err.why (happens c.self.inside.node (Frame c.args.now c.args.bytes.now) Kept) c.in-Err.ensures.exact)
 

@@ -14,8 +14,8 @@ use Rattle.xl_core.proofs.queued.Core.issue.Goals as goal
 
 pub returns-in-Ok-clause-step : goal.returns-in-Ok-clause-step
 returns-in-Ok-clause-step g c =
-    let old : Core = record { node = c.self.inside.node; waiting = c.self.inside.waiting; untaken = c.self.inside.untaken; stopped = c.self.inside.stopped } in
-    let new : Core = record { node = c.issue.new.self; waiting = c.push.new.self; untaken = c.push_report.new.untaken; stopped = c.self.inside.stopped } in
+    let old : Core = record { node = c.self.inside.node; waiting = c.self.inside.waiting; greetings = c.self.inside.greetings; untaken = c.self.inside.untaken; stopped = c.self.inside.stopped } in
+    let new : Core = record { node = c.issue.new.self; waiting = c.push.new.self; greetings = c.self.inside.greetings; untaken = c.push_report.new.untaken; stopped = c.self.inside.stopped } in
     subst (λ (a : Core). Answers (core_happens a (event.Issue c.args.now c.args.seq c.args.id c.args.full) Kept) new Done) c.self.view_is
     (issued_step old c.issue.new.self c.in-Ok.issued c.push.new.self c.push_report.new.untaken (happens c.self.inside.node (Issue c.args.now c.args.seq c.args.id c.args.full) Kept)
     c.in-Ok.ensures.exact c.push.ensures.pushed c.push_report.ensures)
@@ -30,8 +30,8 @@ returns-in-Ok-clause-stop g c = λ before after was_told is_told was.
 pub returns-in-Err-clause-step : goal.returns-in-Err-clause-step
 returns-in-Err-clause-step g c =
     let save : Save = save_of c.in-Err.why in
-    let old : Core = record { node = c.self.inside.node; waiting = c.self.inside.waiting; untaken = c.self.inside.untaken; stopped = c.self.inside.stopped } in
-    let new : Core = record { node = c.issue.new.self; waiting = c.self.inside.waiting; untaken = c.self.inside.untaken; stopped = c.self.inside.stopped } in
+    let old : Core = record { node = c.self.inside.node; waiting = c.self.inside.waiting; greetings = c.self.inside.greetings; untaken = c.self.inside.untaken; stopped = c.self.inside.stopped } in
+    let new : Core = record { node = c.issue.new.self; waiting = c.self.inside.waiting; greetings = c.self.inside.greetings; untaken = c.self.inside.untaken; stopped = c.self.inside.stopped } in
     subst (λ (a : Core). Answers (core_happens a (event.Issue c.args.now c.args.seq c.args.id c.args.full) save) new (Refused c.in-Err.why)) c.self.view_is
     (refused_step old c.issue.new.self c.in-Err.why (happens c.self.inside.node (Issue c.args.now c.args.seq c.args.id c.args.full) save) c.in-Err.ensures.exact)
 

@@ -13,10 +13,10 @@ returns-clause-step g c =
     let items : List Report = c.self.inside.untaken.items in
     let n = c.take_reports.result in
     let given = take_most items n room c.take_reports.ensures.count in
-    subst (λ (a : Core). HandsOut a (let b : Core = record { node = c.self.inside.node; waiting = c.self.inside.waiting; untaken = c.take_reports.new.untaken; stopped = c.self.inside.stopped } in b) n c.args.room.now c.take_reports.new.room) c.self.view_is
+    subst (λ (a : Core). HandsOut a (let b : Core = record { node = c.self.inside.node; waiting = c.self.inside.waiting; greetings = c.self.inside.greetings; untaken = c.take_reports.new.untaken; stopped = c.self.inside.stopped } in b) n c.args.room.now c.take_reports.new.room) c.self.view_is
     (record {
-      core = ap (λ q. let b : Core = record { node = c.self.inside.node; waiting = c.self.inside.waiting; untaken = q; stopped = c.self.inside.stopped } in b) c.take_reports.ensures.taken
-          ∙ ap (λ (xs : List Report). let b : Core = record { node = c.self.inside.node; waiting = c.self.inside.waiting; untaken = record { items = xs; lost = c.self.inside.untaken.lost }; stopped = c.self.inside.stopped } in b) (drop_most items n room c.take_reports.ensures.count);
+      core = ap (λ q. let b : Core = record { node = c.self.inside.node; waiting = c.self.inside.waiting; greetings = c.self.inside.greetings; untaken = q; stopped = c.self.inside.stopped } in b) c.take_reports.ensures.taken
+          ∙ ap (λ (xs : List Report). let b : Core = record { node = c.self.inside.node; waiting = c.self.inside.waiting; greetings = c.self.inside.greetings; untaken = record { items = xs; lost = c.self.inside.untaken.lost }; stopped = c.self.inside.stopped } in b) (drop_most items n room c.take_reports.ensures.count);
       count = omega (arith, c.take_reports.ensures.count, length-take room items);
       room = c.take_reports.ensures.given ∙ ap (λ (xs : List Report). xs ++ drop n c.args.room.now) given;
     })

@@ -11,8 +11,8 @@ use Rattle.xl_core.proofs.queued.Core.timer.Goals as goal
 
 pub returns-in-Quiet-clause-step : goal.returns-in-Quiet-clause-step
 returns-in-Quiet-clause-step g c =
-    let old : Core = record { node = c.self.inside.node; waiting = c.self.inside.waiting; untaken = c.self.inside.untaken; stopped = c.self.inside.stopped } in
-    let new : Core = record { node = c.tick.new.self; waiting = c.push_said.new.waiting; untaken = c.self.inside.untaken; stopped = c.self.inside.stopped } in
+    let old : Core = record { node = c.self.inside.node; waiting = c.self.inside.waiting; greetings = c.self.inside.greetings; untaken = c.self.inside.untaken; stopped = c.self.inside.stopped } in
+    let new : Core = record { node = c.tick.new.self; waiting = c.push_said.new.waiting; greetings = c.self.inside.greetings; untaken = c.self.inside.untaken; stopped = c.self.inside.stopped } in
     subst (λ (a : Core). Beaten a c.args.now c.in-Quiet.beat new) c.self.view_is
     (quiet_step old (at_moment c.args.now c.self.inside.node) c.tick.new.self c.in-Quiet.beat c.in-Quiet.said c.push_said.new.waiting (save_at c.in-Quiet.beat) c.in-Quiet.ensures.exact c.push_said.ensures)
 
@@ -41,7 +41,7 @@ returns-in-Quiet-clause-stop g c = λ before after was_told is_told was.
 
 pub returns-in-Built-clause-step : goal.returns-in-Built-clause-step
 returns-in-Built-clause-step g c =
-    let old : Core = record { node = c.self.inside.node; waiting = c.self.inside.waiting; untaken = c.self.inside.untaken; stopped = c.self.inside.stopped } in
+    let old : Core = record { node = c.self.inside.node; waiting = c.self.inside.waiting; greetings = c.self.inside.greetings; untaken = c.self.inside.untaken; stopped = c.self.inside.stopped } in
     subst (λ (a : Core). Beaten a c.args.now c.conclude.result c.conclude.new.self) c.self.view_is
     (built_step old (at_moment c.args.now c.self.inside.node) c.tick.new.self c.in-Built.built c.conclude.result c.conclude.new.self (save_at c.conclude.result) c.in-Built.ensures.exact c.conclude.ensures.step)
 
