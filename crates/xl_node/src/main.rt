@@ -1,7 +1,8 @@
-//! `xl`, the consensus software of the XRP Ledger. `xl replay` reads a schedule from standard input and writes what each node does.
+//! `xl`, the consensus software of the XRP Ledger. `xl replay` reads a schedule from standard input and writes what
+//! each node does.
 //!
-//! It stands on xl_top, whose `top` says what the program does. Here the words, the streams of the system and the exit status are
-//! those of a process.
+//! It stands on xl_top, whose `top` says what the program does. Here the words, the streams of the system and the
+//! exit status are those of a process.
 #![tactic(auto)]
 
 use std::process::ExitCode;

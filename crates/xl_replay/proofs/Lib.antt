@@ -6,3 +6,4 @@ pub mod Shorts
 pub mod Headline
 pub mod WholeLines
 pub mod Fronts
+pub mod Ending

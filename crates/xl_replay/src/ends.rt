@@ -6,7 +6,8 @@ ghost use Rattle.xl_world.specs.Forks.{first_fork};
 ghost use Rattle.xl_world.specs.Seen.{fork_seen};
 ghost use Rattle.xl_world.specs.World.{list_in};
 ghost use Rattle.xl_world.specs.Plans.{up_from};
-ghost use Rattle.xl_replay.specs.Texts.{short_of, short_with, shorts_of, short_lines, forged_line, agreement_line, end_lines};
+ghost use Rattle.xl_replay.specs.Texts.{short_of, short_with, shorts_of};
+ghost use Rattle.xl_replay.specs.Texts.{short_lines, forged_line, agreement_line, end_lines};
 ghost use Rattle.xl_base.specs.declared.node_no.TheConstants.{GREATEST_NODE_NO};
 
 use crate::words::push_id;
@@ -55,7 +56,8 @@ fn push_short_with(
     a: &List,
     j: NodeNo,
 ) -> Result<(), OutOfMemory>
-    ensures { OnOk result (string_bytes text.new ≡ string_bytes text.old ++ short_with world.now.liars i a.now j (list_in world.now j)) }
+    ensures { OnOk result (string_bytes text.new
+        ≡ string_bytes text.old ++ short_with world.now.liars i a.now j (list_in world.now j)) }
 {
     match world.list_of(j) {
         Some(b) => push_short(text, world.liars(), i, a, j, b),
@@ -82,7 +84,8 @@ fn push_shorts_from(
 
 /// The pairs of a number, where it is a node.
 fn push_shorts_of(text: &mut String, world: &World, i: NodeNo) -> Result<(), OutOfMemory>
-    ensures { OnOk result (string_bytes text.new ≡ string_bytes text.old ++ shorts_of world.now i (list_in world.now i)) }
+    ensures { OnOk result (string_bytes text.new
+        ≡ string_bytes text.old ++ shorts_of world.now i (list_in world.now i)) }
 {
     match world.list_of(i) {
         Some(a) => push_shorts_from(text, world, i, a),
@@ -107,7 +110,8 @@ fn push_agreement(
     reader: &Reader,
     fork: &Option<Fork<'_>>,
 ) -> Result<(), OutOfMemory>
-    ensures { OnOk result (string_bytes text.new ≡ string_bytes text.old ++ agreement_line reader.now.names (option_map fork_seen fork.now)) }
+    ensures { OnOk result (string_bytes text.new
+        ≡ string_bytes text.old ++ agreement_line reader.now.names (option_map fork_seen fork.now)) }
 {
     let Some(fork) = fork else {
         text.push_str("agree\n")?;

@@ -19,7 +19,8 @@ fn push_refused(
     node: NodeNo,
     refusal: &Refusal,
 ) -> Result<(), OutOfMemory>
-    ensures { OnOk result (string_bytes text.new ≡ string_bytes text.old ++ outcome_line reader.now.names line (Outcome.Refused node refusal.now)) }
+    ensures { OnOk result (string_bytes text.new
+        ≡ string_bytes text.old ++ outcome_line reader.now.names line (Outcome.Refused node refusal.now)) }
 {
     let number = node.get();
     let code = refusal.code();
@@ -38,7 +39,8 @@ fn push_full(
     seq: Seq,
     id: &LedgerId,
 ) -> Result<(), OutOfMemory>
-    ensures { OnOk result (string_bytes text.new ≡ string_bytes text.old ++ outcome_line reader.now.names line (Outcome.Full node seq id.now)) }
+    ensures { OnOk result (string_bytes text.new
+        ≡ string_bytes text.old ++ outcome_line reader.now.names line (Outcome.Full node seq id.now)) }
 {
     let number = node.get();
     write!(text, "full {number} {seq} ")?;
@@ -56,7 +58,8 @@ fn push_preferred(
     node: NodeNo,
     ledger: &Option<Report>,
 ) -> Result<(), OutOfMemory>
-    ensures { OnOk result (string_bytes text.new ≡ string_bytes text.old ++ outcome_line reader.now.names line (Outcome.Preferred node ledger.now)) }
+    ensures { OnOk result (string_bytes text.new
+        ≡ string_bytes text.old ++ outcome_line reader.now.names line (Outcome.Preferred node ledger.now)) }
 {
     let number = node.get();
     let Some(Report { seq, id }) = ledger else {
@@ -76,7 +79,8 @@ fn push_outcome(
     line: u64,
     outcome: &Outcome,
 ) -> Result<(), OutOfMemory>
-    ensures { OnOk result (string_bytes text.new ≡ string_bytes text.old ++ outcome_line reader.now.names line outcome.now) }
+    ensures { OnOk result (string_bytes text.new
+        ≡ string_bytes text.old ++ outcome_line reader.now.names line outcome.now) }
 {
     match outcome {
         Outcome::Refused { node, refusal } => push_refused(
@@ -95,7 +99,8 @@ pub fn push_outcomes(
     line: u64,
     outcomes: &[Outcome],
 ) -> Result<(), OutOfMemory>
-    ensures { OnOk result (string_bytes text.new ≡ string_bytes text.old ++ outcome_lines reader.now.names line outcomes.now) }
+    ensures { OnOk result (string_bytes text.new
+        ≡ string_bytes text.old ++ outcome_lines reader.now.names line outcomes.now) }
 {
     for outcome in outcomes {
         push_outcome(alloc, text, reader, line, outcome)?;

@@ -17,7 +17,8 @@ use xl_world::{Plan, PlanNode, World, first_fork};
 /// How many ledgers each node may know where no `limit` line says it.
 const DEFAULT_LIMIT: u32 = 1_024;
 
-/// A schedule so far: what was read, the limit, nodes and liars that are declared, and from the first event on the world.
+/// A schedule so far: what was read, the limit, nodes and liars that are declared, and from the first event on the
+/// world.
 #[derive(Drop)]
 pub struct Replayer {
     alloc: Global,
@@ -78,7 +79,8 @@ impl Replayer {
     fn happen(&mut self, event: &Event, text: &mut String) -> Result<(), OutOfMemory>
         requires timely { event.now.at ≤ GREATEST_MILLIS }
         requires empty { string_bytes text.old ≡ [] }
-        ensures { OnOk result (goes_on (string_bytes text.new) (state_of self.new) ≡ after (state_of self.old) self.old.reader event.now) }
+        ensures { OnOk result (goes_on (string_bytes text.new) (state_of self.new)
+            ≡ after (state_of self.old) self.old.reader event.now) }
     {
         let mut world = self.take_world()?;
         let happened = world.event(event)?;
@@ -96,7 +98,8 @@ impl Replayer {
     fn take(&mut self, line: &Line, text: &mut String) -> Result<(), OutOfMemory>
         requires in_range { IsInRange line.now }
         requires empty { string_bytes text.old ≡ [] }
-        ensures { OnOk result (goes_on (string_bytes text.new) (state_of self.new) ≡ after_line (state_of self.old) self.old.reader line.now) }
+        ensures { OnOk result (goes_on (string_bytes text.new) (state_of self.new)
+            ≡ after_line (state_of self.old) self.old.reader line.now) }
     {
         match line {
             Line::Limit(limit) => {

@@ -25,7 +25,8 @@ impl fmt::Display for Comparison {
     }
 }
 
-/// The line, from 1, in which two texts differ for the first time. Where one is a front of the other it is the line behind.
+/// The line, from 1, in which two texts differ for the first time. Where one is a front of the other it is the line
+/// behind.
 fn first_other_line(text: &[u8], wanted: &[u8]) -> u64 {
     let mut line: u64 = 1;
     for (is, should) in text.iter().zip(wanted.iter()) {

@@ -1,8 +1,9 @@
-//! The worked runs of `xl`: each gives the program its words and an input in memory, and compares what it writes, and its status,
-//! with what they should be. It prints how each went, and how many went as they should.
+//! The worked runs of `xl`: each gives the program its words and an input in memory, and compares what it writes, and
+//! its status, with what they should be. It prints how each went, and how many went as they should.
 //!
-//! The file `runs` has a line for each: its name, the status, and the command line. The input is in `NAME.in` and the text in
-//! `NAME.out`. The file `refusals` has a schedule a line, ` / ` between its lines, and behind ` -> ` the text that refuses the last.
+//! The file `runs` has a line for each: its name, the status, and the command line. The input is in `NAME.in` and the
+//! text in `NAME.out`. The file `refusals` has a schedule a line, ` / ` between its lines, and behind ` -> ` the text
+//! that refuses the last.
 //!
 //! It stands on xl_top. Its one contract: a run is called the same exactly where both the text and the status are.
 #![tactic(auto)]

@@ -6,7 +6,7 @@ ghost use Rattle.xl_lines.specs.declared.machine.Verdict.TheVariants.{Good, Foun
 ghost use Rattle.xl_lines.specs.Running.{TellsAll};
 ghost use Rattle.xl_replay.specs.Headlines.{names_of, IsReport, IsRefusal, AddsReport};
 ghost use Rattle.xl_replay.specs.Replays.{report_of};
-ghost use Rattle.xl_replay.specs.Statuses.{IsTold};
+ghost use Rattle.xl_replay.specs.Statuses.{IsTold, IsWritten, status_of};
 ghost use Rattle.xl_top.specs.Commands.{is_replay};
 
 use std::alloc::Global;
@@ -35,15 +35,16 @@ pub fn top<I: Source, O: Sink>(
         TellsAll (O.held output.old) (O.held output.new) Found (report_of bytes)) }
     ensures refused { result ≡ Status.InputRefused → IfSome (I.left input.old) (λ bytes.
         TellsAll (O.held output.old) (O.held output.new) Refused (report_of bytes)) }
-    // Unless a line is refused, the report is lines in which, where it says `forged 0`, no two `full` lines of a pair with no `short`
-    // line share a sequence and stand for different ids, by the names that the schedule declares. The last of them says whether the
-    // reports that the `full` lines tell agree, or names the first fork.
+    // Unless a line is refused, the report is lines in which, where it says `forged 0`, no two `full` lines of a pair
+    // with no `short` line share a sequence and stand for different ids, by the names that the schedule declares. The
+    // last of them says whether the reports that the `full` lines tell agree, or names the first fork.
     ensures headline { IfSome (I.left input.old) (λ bytes.
         (report_of bytes).verdict ≢ Refused → IsReport (names_of bytes) (report_of bytes)) }
     // A report that is refused ends with a `bad` line.
     ensures refusal { IfSome (I.left input.old) (λ bytes.
         (report_of bytes).verdict ≡ Refused → IsRefusal (report_of bytes).text) }
-    // However the run ends, where the line `forged 0` was written, so were all `full` and `short` lines of such a report.
+    // However the run ends, where the line `forged 0` was written, so were all `full` and `short` lines of such a
+    // report.
     ensures as_written { IfSome (I.left input.old) (λ bytes.
         AddsReport (names_of bytes) (O.held output.old) (O.held output.new) (report_of bytes)) }
     // Unless a line is refused, the input was read to its end.
@@ -53,11 +54,16 @@ pub fn top<I: Source, O: Sink>(
     ensures front { IfSome (I.left input.old) (λ bytes.
         GrewByFront (O.held output.old) (O.held output.new) (report_of bytes).text) }
 
-    // A fault is answered only where its count rose, and where neither did the whole report is written, or memory was wanting.
+    // A fault is answered only where its count rose, and where neither did the whole report is written, or memory was
+    // wanting.
     ensures read { result ≡ Status.ReadFault → Rose (I.faults input.old) (I.faults input.new) }
     ensures write { result ≡ Status.WriteFault → Rose (O.faults output.old) (O.faults output.new) }
     ensures complete { is_replay (map string_bytes words.now) ≡ true → ¬ Rose (I.faults input.old) (I.faults input.new)
         → ¬ Rose (O.faults output.old) (O.faults output.new) → IsTold result ⊎ (result ≡ Status.OutOfMemory) }
+    // Where the whole report is written, the status is the one of its end, or memory was wanting.
+    ensures whole { is_replay (map string_bytes words.now) ≡ true → IfSome (I.left input.old) (λ bytes.
+        IsWritten (O.held output.old) (O.held output.new) (report_of bytes).text
+        → (result ≡ status_of (report_of bytes).verdict) ⊎ (result ≡ Status.OutOfMemory)) }
     // No keeper, link or store is there to fail.
     ensures keeper { result ≡ Status.KeepFault → ⊥ }
     ensures net { result ≡ Status.NetFault → ⊥ }

@@ -1,4 +1,9 @@
+-- What is said of the report holds whatever is answered; a status says the report's end, or some of it is unwritten.
+use Rattle.std.proofs.Common.{refl}
+use Rattle.xl_base.specs.declared.status.Status.TheVariants.{Done, Fork, InputRefused, ReadFault, WriteFault}
+use Rattle.xl_lines.specs.declared.machine.Verdict.TheVariants.{Good, Found, Refused}
 use Rattle.xl_replay.specs.Replayers.{state_of}
+use Rattle.xl_replay.proofs.Ending.{ends_aloud, says_end, less_end, memory_end}
 use Rattle.xl_replay.proofs.Headline.{headline, refusal, as_written, nothing_written}
 use Rattle.xl_replay.proofs.command.replay.Goals as goal
 
@@ -64,3 +69,24 @@ returns-in-Err-Memory-clause-refusal g c = refusal (g.I.Source.left c.args.input
 
 pub returns-in-Err-Memory-clause-as_written : goal.returns-in-Err-Memory-clause-as_written
 returns-in-Err-Memory-clause-as_written g c = as_written (state_of c.in-Ok.replayer) c.in-Ok.ensures (g.I.Source.left c.args.input.now) (g.O.Sink.held c.args.output.now) (g.O.Sink.held c.run.new.output) c.in-Err-Memory.ensures.front
+
+pub returns-in-Ok-Good-clause-whole : goal.returns-in-Ok-Good-clause-whole
+returns-in-Ok-Good-clause-whole g c = says_end (state_of c.in-Ok.replayer) c.in-Ok.ensures (g.I.Source.left c.args.input.now) (g.O.Sink.held c.args.output.now) (g.O.Sink.held c.run.new.output) c.in-Ok-Good.field-0 Good Done c.in-Ok-Good.field-0-is refl c.in-Ok-Good.ensures.whole
+
+pub returns-in-Ok-Found-clause-whole : goal.returns-in-Ok-Found-clause-whole
+returns-in-Ok-Found-clause-whole g c = says_end (state_of c.in-Ok.replayer) c.in-Ok.ensures (g.I.Source.left c.args.input.now) (g.O.Sink.held c.args.output.now) (g.O.Sink.held c.run.new.output) c.in-Ok-Found.field-0 Found Fork c.in-Ok-Found.field-0-is refl c.in-Ok-Found.ensures.whole
+
+pub returns-in-Ok-Refused-clause-whole : goal.returns-in-Ok-Refused-clause-whole
+returns-in-Ok-Refused-clause-whole g c = says_end (state_of c.in-Ok.replayer) c.in-Ok.ensures (g.I.Source.left c.args.input.now) (g.O.Sink.held c.args.output.now) (g.O.Sink.held c.run.new.output) c.in-Ok-Refused.field-0 Refused InputRefused c.in-Ok-Refused.field-0-is refl c.in-Ok-Refused.ensures.whole
+
+pub returns-in-Err-Read-clause-whole : goal.returns-in-Err-Read-clause-whole
+returns-in-Err-Read-clause-whole g c = less_end (state_of c.in-Ok.replayer) c.in-Ok.ensures (g.I.Source.left c.args.input.now) (g.O.Sink.held c.args.output.now) (g.O.Sink.held c.run.new.output) ReadFault (c.in-Err-Read.ensures.less ends_aloud (λ is. let no = c.in-Err-Read.field-0-is in cc))
+
+pub returns-in-Err-Write-clause-whole : goal.returns-in-Err-Write-clause-whole
+returns-in-Err-Write-clause-whole g c = less_end (state_of c.in-Ok.replayer) c.in-Ok.ensures (g.I.Source.left c.args.input.now) (g.O.Sink.held c.args.output.now) (g.O.Sink.held c.run.new.output) WriteFault (c.in-Err-Write.ensures.less ends_aloud (λ is. let no = c.in-Err-Write.field-0-is in cc))
+
+pub returns-in_default-clause-whole : goal.returns-in_default-clause-whole
+returns-in_default-clause-whole g c = memory_end _ _ _
+
+pub returns-in-Err-Memory-clause-whole : goal.returns-in-Err-Memory-clause-whole
+returns-in-Err-Memory-clause-whole g c = memory_end _ _ _

@@ -1,3 +1,4 @@
+-- The pairs with the numbers before j are in the text, and each turn adds that with j.
 use Rattle.std.proofs.Common.{ℕ, List, ◌++◌, ◌≤◌, ap, sym, subst, ◌∙◌}
 use Rattle.std.specs.Prelude.{◌-◌}
 use Rattle.std.specs.List.{flat_map}
