@@ -255,3 +255,17 @@ fn our_set_goes_where_all_differ(rt: HostRuntime) -> Result<(), Fail> {
     }
     Ok(())
 }
+
+#[test]
+fn is_as_opened_after_a_reset(rt: HostRuntime) -> Result<(), Fail> {
+    for members in [0, 7, 64] {
+        let mut alike = all_alike(rt.alloc(), members)?;
+        alike.reset();
+        assert!(rt; alike.own_set().is_empty());
+        assert_eq!(rt; counts(&alike, &id_of(1, 0)), None);
+    }
+    let mut different = all_different(rt.alloc(), 64)?;
+    different.reset();
+    assert_eq!(rt; counts(&different, &id_of(64, 255)), None);
+    Ok(())
+}

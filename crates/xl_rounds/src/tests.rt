@@ -176,3 +176,16 @@ fn old_positions_go(rt: HostRuntime) -> Result<(), Fail> {
     );
     Ok(())
 }
+
+#[test]
+fn a_round_opened_again_is_a_first_one(rt: HostRuntime) -> Result<(), Fail> {
+    let (mut node, _) = Node::with_three(rt.alloc())?;
+    assert_eq!(rt; node.kind(2_999, NOTHING), Kind::Closed);
+    node.reopen(Mode::Proposing, 5_000);
+    assert_eq!(rt; (node.phase(), node.own()), (Phase::Open, (0, None, None)));
+    // Nothing is pending, no member has a position, and none is counted from before.
+    assert_eq!(rt; node.submit(1), Ok(()));
+    assert_eq!(rt; node.kind(12_499, NOTHING), Kind::Nothing);
+    assert_eq!(rt; node.brief(12_500), (Kind::Closed, Some((0, 12, 12, true))));
+    Ok(())
+}

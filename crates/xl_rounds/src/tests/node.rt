@@ -96,6 +96,12 @@ impl Node {
         Ok((node, theirs))
     }
 
+    /// The node starts anew on the root.
+    pub fn reopen(&mut self, mode: Mode, now: Millis) {
+        self.round
+            .reopen(&self.registry, LedgerNo::root(), mode, now);
+    }
+
     /// What becomes of a member's proposal.
     pub fn hear(&mut self, number: u32, p: &Proposal, now: Secs) -> Told
         requires some { 1 ≤ number }
