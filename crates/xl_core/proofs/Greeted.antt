@@ -362,13 +362,14 @@ front_all P (suc n) (Some f ∷ fs) all = All-cons P f (frames_in (take n fs)) (
 both_all : (P : List ℕ → Type 0) (xs ys : Frames) → All P (frames_in xs) → All P (frames_in ys) → All P (frames_in (xs ++ ys))
 both_all P xs ys first second = subst (All P) (sym (filter_map-append (λ (o : Option (List ℕ)). o) xs ys)) (All-append P (frames_in xs) (frames_in ys) first second)
 
+one_all : (P : List ℕ → Type 0) (o : Option (List ℕ)) (fs : Frames) → IfSome o P → All P (frames_in fs) → All P (frames_in (o ∷ fs))
+one_all P None fs its rest = rest
+one_all P (Some f) fs its rest = All-cons P f (frames_in fs) its rest
+
 headers_all : (P : List ℕ → Type 0) (n : Node) (to : ℕ) → ((ledger : ℕ) → IfSome (framed n to (header_body_at n ledger)) P) → (ledgers : List ℕ) → All P (frames_in (map (λ l. framed n to (header_body_at n l)) ledgers))
 headers_all P n to each [] = All-nil P
-headers_all P n to each (ledger ∷ ledgers) = one (framed n to (header_body_at n ledger)) (each ledger)
-  where
-    one : (o : Option (List ℕ)) → IfSome o P → All P (frames_in (o ∷ map (λ l. framed n to (header_body_at n l)) ledgers))
-    one None its = headers_all P n to each ledgers
-    one (Some f) its = All-cons P f (frames_in (map (λ l. framed n to (header_body_at n l)) ledgers)) its (headers_all P n to each ledgers)
+headers_all P n to each (ledger ∷ ledgers) =
+    one_all P (framed n to (header_body_at n ledger)) (map (λ l. framed n to (header_body_at n l)) ledgers) (each ledger) (headers_all P n to each ledgers)
 
 greeting_all : (P : List ℕ → Type 0) (n : Node) (to : ℕ) (o : Option Greeting) → ((ledger : ℕ) → IfSome (framed n to (header_body_at n ledger)) P) → All P (frames_in (greeting_frames n o to))
 greeting_all P n to None each = All-nil P
