@@ -1,4 +1,4 @@
-use Rattle.std.proofs.Common.{◌≡◌, ◌≢◌, ℕ, ◌∙◌, subst, ap, refl, Ok, Err, Result}
+use Rattle.std.proofs.Common.{◌≡◌, ◌≢◌, ℕ, ◌∙◌, subst, ap, refl, Ok, Err}
 use Rattle.std.specs.Result.{result_err}
 use Rattle.xl_tags.specs.Rings.{Ring}
 use Rattle.xl_core.specs.declared.hearing.Spoken.{Spoken}

@@ -1,4 +1,4 @@
-use Rattle.std.proofs.Common.{◌≡◌, ℕ, ◌∙◌, ◌+◌, ◌<◌, ◌++◌, ◌∷◌, [], List, length, take, ap, sym, arith, Some}
+use Rattle.std.proofs.Common.{ℕ, ◌∙◌, ◌<◌, ◌++◌, ◌∷◌, [], List, length, take, ap, sym, arith}
 use Rattle.std.proofs.lemmas.List.{length-set, take_more, take_more_set, take_all}
 use Rattle.std.proofs.lemmas.Option.{get_or_from_slice_get}
 use Rattle.xl_base.specs.declared.ids.TxId.{TxId}
