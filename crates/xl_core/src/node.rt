@@ -314,12 +314,13 @@ impl<B: Branch + Drop> Node<B> {
 
     /// Hears bytes that come, and tells what they give to report.
     ///
-    /// Refused where they are no frame, not whole or followed by more; where the frame isn't for the node, comes from a
-    /// stranger or carries another tag; where its body is none; and then by what the body is. The sender's row refuses a
-    /// validation as stale, as a repeat, as a conflict, or as old. A header isn't added where it is known, its parent isn't,
-    /// its sequence isn't the parent's plus one, or there is no room. The round refuses a proposal for its ledger, as an old
-    /// position, as of a member that left, or as stale, and a transaction where it is pending, or as many as may be are. A
-    /// set is never refused. All is in this order. First the time is set, and rows expire; nothing else changes then.
+    /// Refused where they are no frame, not whole or followed by more; where the frame isn't for the node, comes from
+    /// a stranger or carries another tag; where its body is none; and then by what it says. The sender's row refuses a
+    /// validation as stale, as a repeat, as a conflict, or as old. A header isn't added where it is known, its parent
+    /// isn't, its sequence isn't the parent's plus one, or there is no room. The round refuses a proposal for its
+    /// ledger, as an old position, as of a member that left, or as stale, and a transaction where it is pending, or as
+    /// many as may be are. A set is never refused. All is in this order. First the time is set, and rows expire;
+    /// nothing else changes then.
     pub fn frame(&mut self, now: Millis, bytes: &[u8]) -> Result<Heard, Refusal>
         requires moment { now ≤ GREATEST_MILLIS }
         ensures exact { hear_reply result self.new ≡ happens self.old (Frame now bytes.now) Kept }
