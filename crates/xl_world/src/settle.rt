@@ -11,14 +11,14 @@ use xl_lists::Said;
 use xl_wire::Validation;
 
 /// Adds an element where there is one.
-fn push_some<T: Drop>(list: &mut Vec<T>, element: Option<T>)
+pub fn push_some<T: Copy + Drop>(list: &mut Vec<T>, element: &Option<T>)
     requires { vec_len list.old < vec_capacity list.old }
-    ensures items { list.new.items ≡ list.old.items ++ option_to_list element }
+    ensures items { list.new.items ≡ list.old.items ++ option_to_list element.now }
     ensures len { vec_len list.new ≤ vec_len list.old + 1 }
     ensures capacity { vec_capacity list.old ≤ vec_capacity list.new }
 {
     if let Some(element) = element {
-        let _ = list.push(element);
+        let _ = list.push(*element);
     }
 }
 
@@ -58,11 +58,11 @@ pub fn tell(outcomes: &mut Vec<Outcome>, node: NodeNo, answer: &Answer)
     let refused = answer
         .refused
         .map(|refusal| Outcome::Refused { node, refusal });
-    push_some(outcomes, refused);
+    push_some(outcomes, &refused);
     let full = answer.report.as_ref().map(|report| Outcome::Full {
         node,
         seq: report.seq,
         id: report.id,
     });
-    push_some(outcomes, full);
+    push_some(outcomes, &full);
 }

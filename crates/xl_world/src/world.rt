@@ -12,7 +12,7 @@ use crate::index::TagIndex;
 use crate::lie::{lied_header, lied_validation};
 use crate::place::{Fate, NodeCore, Place};
 use crate::sent::{frame_at, rooms, send_some};
-use crate::settle::{report_some, say_some, tell};
+use crate::settle::{push_some, report_some, say_some, tell};
 use crate::{Happened, Plan, Sent, WorldReport, open};
 use std::alloc::Global;
 use std::marker::Model;
@@ -225,9 +225,7 @@ impl World {
         ensures { IfOk result (λ told. told ≡ preference node (place_at node self.now.places)) }
     {
         let mut outcomes = Vec::with_capacity(self.alloc, 1)?;
-        if let Some(outcome) = preferred_at(&self.places, node) {
-            outcomes.push_reserved(outcome);
-        }
+        push_some(&mut outcomes, &preferred_at(&self.places, node));
         Ok(Happened::from_vec(outcomes))
     }
 
