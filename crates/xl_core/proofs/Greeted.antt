@@ -23,7 +23,7 @@ use Rattle.xl_core.specs.declared.putting.Put.{Put}
 use Rattle.xl_core.specs.declared.putting.Put.TheVariants.{Written, PassedOver, NoRoom}
 use Rattle.xl_core.specs.Core.{Core, greeted_frames, all_frames, given_for}
 use Rattle.xl_core.specs.Draining.{next_on, is_handed, IsPut, PutsNext, Writes}
-use Rattle.xl_core.specs.Greetings.{chain_to, yet_to_hand, greeting_at, with_greeting, greeting_frames, further, further_at}
+use Rattle.xl_core.specs.Greetings.{chain_to, yet_to_hand, greeting_at, greeting_frames, further, further_at}
 use Rattle.xl_core.specs.Items.{framed, frames_for, header_body_at, drained_bytes, drained_for}
 use Rattle.xl_core.specs.Node.{Node}
 use Rattle.xl_core.specs.Queues.{waiting_at, at_number, after_taking, fitting, that_fit, frames_in, joined}

@@ -55,11 +55,11 @@ impl<B: Branch> Model for Core<B> {
     ghost Value = { Core };
 
     ghost view = { λ a. record {
-        node = a.node;
-        waiting = a.waiting;
-        greetings = a.greetings;
-        untaken = a.untaken;
-        stopped = a.stopped;
+      node = a.node;
+      waiting = a.waiting;
+      greetings = a.greetings;
+      untaken = a.untaken;
+      stopped = a.stopped;
     } };
 }
 

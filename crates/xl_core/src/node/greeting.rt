@@ -36,7 +36,13 @@ impl<B: Branch + Drop> Node<B> {
 
     /// Puts the frame of the next header of a greeting for a member at a place of the room, and answers where the next
     /// frame goes. None where all were handed out, or the room is too short: it is as it was then.
-    pub(crate) fn put_next(&self, to: NodeNo, greeting: &Greeting, at: usize, room: &mut [u8]) -> Option<usize>
+    pub(crate) fn put_next(
+        &self,
+        to: NodeNo,
+        greeting: &Greeting,
+        at: usize,
+        room: &mut [u8],
+    ) -> Option<usize>
         requires key { IsSome (key_of self.now.keys to) }
         requires place { at ≤ length room.old }
         ensures none { result ≡ None →

@@ -5,11 +5,10 @@ use Rattle.xl_core.proofs.Greeted.{none_next, puts_next, puts_none}
 use Rattle.xl_core.proofs.node.Node.put_next.Goals as goal
 
 pub returns-in_err-ledger-clause-none : goal.returns-in_err-ledger-clause-none
-returns-in_err-ledger-clause-none g c = λ _.
-    (
-      ap (λ fs. fitting fs (length c.args.room.now - c.args.at)) (none_next c.args.self.now c.args.to c.args.greeting.now (sym c.next_on_chain.ensures.value ∙ c.in_err-ledger.was)),
-      refl,
-    )
+returns-in_err-ledger-clause-none g c = λ _. (
+  ap (λ fs. fitting fs (length c.args.room.now - c.args.at)) (none_next c.args.self.now c.args.to c.args.greeting.now (sym c.next_on_chain.ensures.value ∙ c.in_err-ledger.was)),
+  refl,
+)
 
 pub returns-in-Written-clause-some : goal.returns-in-Written-clause-some
 returns-in-Written-clause-some g c = λ next is.

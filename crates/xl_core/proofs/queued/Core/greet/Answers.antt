@@ -1,5 +1,5 @@
 use Rattle.std.proofs.Common.{sym, subst}
-use Rattle.xl_core.specs.Core.{Core, greeted}
+use Rattle.xl_core.specs.Core.{Core}
 use Rattle.xl_core.specs.Stops.{IsCovered}
 use Rattle.xl_core.proofs.queued.Core.greet.Goals as goal
 
