@@ -1,11 +1,10 @@
 -- A report is never empty at its end, so a fault leaves some of it unwritten; and the status of a whole one is its verdict's.
-use Rattle.std.proofs.Common.{◌≡◌, ◌≢◌, ◌<◌, ◌++◌, length, length-append, arith, ℕ, List, [], ◌∷◌, Option, Some, None, IfSome, refl, sym, ap, subst, ◌∙◌, inl, inr, ◌⊎◌}
+use Rattle.std.proofs.Common.{◌≡◌, ◌<◌, ◌++◌, length, length-append, arith, ℕ, List, [], Option, Some, None, IfSome, refl, sym, ap, subst, ◌∙◌, inl, inr, ◌⊎◌}
 use Rattle.std.specs.Prelude.{◌==◌, ◌+◌, codes, decimal}
 use Rattle.std.specs.Io.KnownBytes.{append_known}
 use Rattle.std.proofs.lemmas.Bool.{cond_both}
 use Rattle.xl_base.specs.declared.status.Status.{Status}
 use Rattle.xl_base.specs.declared.status.Status.TheVariants.{OutOfMemory}
-use Rattle.xl_lines.specs.declared.limits.Overrun.{Overrun}
 use Rattle.xl_lines.specs.declared.machine.Verdict.{Verdict}
 use Rattle.xl_lines.specs.declared.machine.Verdict.TheVariants.{Refused as IsRefused}
 use Rattle.xl_io.specs.Sinks.{GrewByLess}

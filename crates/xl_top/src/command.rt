@@ -61,7 +61,7 @@ pub fn top<I: Source, O: Sink>(
     ensures complete { is_replay (map string_bytes words.now) ≡ true → ¬ Rose (I.faults input.old) (I.faults input.new)
         → ¬ Rose (O.faults output.old) (O.faults output.new) → IsTold result ⊎ (result ≡ Status.OutOfMemory) }
     // Where the whole report is written, the status is the one of its end, or memory was wanting.
-    ensures whole { is_replay (map string_bytes words.now) ≡ true → IfSome (I.left input.old) (λ bytes.
+    ensures whole { IfSome (I.left input.old) (λ bytes.
         IsWritten (O.held output.old) (O.held output.new) (report_of bytes).text
         → (result ≡ status_of (report_of bytes).verdict) ⊎ (result ≡ Status.OutOfMemory)) }
     // No keeper, link or store is there to fail.
