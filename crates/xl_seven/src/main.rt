@@ -78,12 +78,12 @@ fn how(issued: &Issued) -> &'static str {
 fn tell_beat(rt: &HostRuntime, me: NodeNo, beat: &Beat) -> io::Result<()> {
     match beat {
         Beat::Nothing => Ok(()),
-        Beat::Closed => println!(rt; "closed {me}"),
-        Beat::Updated => println!(rt; "updated {me}"),
-        Beat::Switched(seq, id) => println!(rt; "switched {me} {seq} {:08x}", brief(id)),
-        Beat::NoRoom(known) => println!(rt; "no room {me} {known}"),
+        Beat::Closed => println!(rt; "closed {}", me.get()),
+        Beat::Updated => println!(rt; "updated {}", me.get()),
+        Beat::Switched(seq, id) => println!(rt; "switched {} {seq} {:08x}", me.get(), brief(id)),
+        Beat::NoRoom(known) => println!(rt; "no room {} {known}", me.get()),
         Beat::Built { seq, id, issued, .. } => {
-            println!(rt; "built {me} {seq} {:08x} {}", brief(id), how(issued))
+            println!(rt; "built {} {seq} {:08x} {}", me.get(), brief(id), how(issued))
         }
     }
 }
@@ -91,7 +91,7 @@ fn tell_beat(rt: &HostRuntime, me: NodeNo, beat: &Beat) -> io::Result<()> {
 /// Prints what a member reports.
 fn tell_reports(rt: &HostRuntime, member: &mut Member) -> io::Result<()> {
     while let Some(report) = member.report() {
-        println!(rt; "reports {} {} {:08x}", member.me(), report.seq, brief(&report.id))?;
+        println!(rt; "reports {} {} {:08x}", member.me().get(), report.seq, brief(&report.id))?;
     }
     Ok(())
 }
