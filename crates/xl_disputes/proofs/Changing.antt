@@ -1,16 +1,16 @@
 -- What the code makes of the index and of a holding that it changes.
 use Rattle.std.proofs.Common.{◌≡◌, ℕ, zero, suc, ◌<◌, ◌≤◌, true, false, cond, List, [], ◌∷◌, length, map, set, get_or, refl, sym, ap, subst, ◌∙◌, arith}
-use Rattle.std.specs.Prelude.{All, Some, None}
+use Rattle.std.specs.Prelude.{All, Some, None, flat_map}
 use Rattle.std.proofs.lemmas.List.Elements.{All-nil, All-cons, All-get_or}
-use Rattle.xl_base.specs.Sets.{IsSet}
+use Rattle.xl_base.specs.Sets.{IsRising, IsSet}
 use Rattle.xl_base.specs.declared.ids.TxId.{TxId}
 use Rattle.xl_disputes.specs.declared.tally.Tally.{Tally}
 use Rattle.xl_disputes.specs.declared.rows.Row.{Row}
 use Rattle.xl_disputes.specs.Disputes.{has}
 use Rattle.xl_disputes.specs.Tallies.{no_tally, held_by}
-use Rattle.xl_disputes.specs.Rows.{IsExchangeable, Exchanges}
+use Rattle.xl_disputes.specs.Rows.{IsExchangeable, Exchanges, IsMovable, Moves}
 use Rattle.xl_disputes.specs.Holdings.{Holding, no_holding, member_bits, empty_own, no_holdings, changed, with_set, with_weight, ids_in, tally_from, IsShared}
-use Rattle.xl_disputes.proofs.Sharing.{part, can_release, can_weigh, can_fill, weight_most, still_shared}
+use Rattle.xl_disputes.proofs.Sharing.{part, can_release, can_weigh, can_fill, can_replace, weight_most, still_shared, still_shared_with}
 
 -- a change in place
 set_changed' : (f : Holding → Holding) (hs : List Holding) (place : ℕ) (d : Holding) → place < length hs → set hs place (f (get_or hs place d)) ≡ changed f place hs
@@ -69,6 +69,21 @@ module _ (hs : List Holding) (rows : List Row) (shared : IsShared hs rows) (plac
   may_fill ids from to free valid from_is to_is =
       subst (λ x. IsExchangeable rows ids x to) (sym from_is)
       (subst (λ x. IsExchangeable rows ids no_tally x) (sym to_is) (can_fill hs rows shared place h h there at ids free valid))
+
+  module _ (ids : List TxId) (valid : IsSet ids) (counted : (tx : TxId) → has ids tx ≡ true → has (flat_map ids_in hs) tx ≡ true) (old : List TxId) (old_is : old ≡ ids_in h) (part' : Tally) (part_is : part' ≡ tally_from h) where
+    pub may_replace : IsMovable rows old ids part'
+    may_replace =
+        subst (λ x. IsMovable rows x ids part') (sym old_is)
+        (subst (λ x. IsMovable rows (ids_in h) ids x) (sym part_is) (can_replace hs rows shared place h h there at ids valid counted))
+
+    pub replaced : (new : List Row) (h' : Holding) → Moves rows new old ids part' → h' ≡ with_set (Some ids) h → IsShared (set hs place h') new
+    replaced new h' moves is =
+        subst (λ x. IsShared (set hs place x) new) (sym is)
+        (still_shared_with hs rows shared place h h there at ids valid counted new
+        (subst (λ x. Moves rows new (ids_in h) ids x) part_is (subst (λ x. Moves rows new x ids part') old_is moves)))
+
+    pub leaving_rises : IsRising old
+    leaving_rises = subst IsRising (sym old_is) set_in.rising
 
   nothing_in : (tx : TxId) → ids_in h ≡ [] → part h tx ≡ no_tally
   nothing_in tx free = ap (λ xs. cond (has xs tx) (tally_from h) no_tally) free

@@ -15,3 +15,5 @@ pub mod Picking
 pub mod Keeping
 pub mod Pooling
 pub mod Resetting
+pub mod Sweeping
+pub mod Walking

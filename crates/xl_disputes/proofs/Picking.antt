@@ -1,5 +1,5 @@
 -- The ids of the index that pass are our next set.
-use Rattle.std.proofs.Common.{◌≡◌, ℕ, zero, suc, ◌+◌, ◌<◌, ◌≤◌, ◌&&◌, Bool, true, false, cond, List, [], ◌∷◌, ◌++◌, length, take, get_or, refl, sym, ap, ◌∙◌, arith, append-nil, length-append}
+use Rattle.std.proofs.Common.{◌≡◌, ℕ, zero, suc, ◌+◌, ◌<◌, ◌≤◌, ◌&&◌, ◌||◌, Bool, true, false, cond, List, [], ◌∷◌, ◌++◌, length, take, get_or, refl, sym, ap, ◌∙◌, arith, append-nil, length-append}
 use Rattle.std.specs.Prelude.{filter, flat_map, filter_map, All, Option, Some, None, unwrap_or}
 use Rattle.std.proofs.Math.Path.{fun_ext}
 use Rattle.std.proofs.lemmas.List.{take_more, take_all, take-append-le}
@@ -8,11 +8,11 @@ use Rattle.xl_base.specs.Sets.{RisesFrom, IsRising, IsSet}
 use Rattle.xl_base.specs.declared.ids.TxId.{TxId}
 use Rattle.xl_base.specs.declared.ids.SetId.{SetId}
 use Rattle.xl_disputes.specs.declared.rows.Row.{Row}
-use Rattle.xl_disputes.specs.Disputes.{votes}
+use Rattle.xl_disputes.specs.Disputes.{has, votes}
 use Rattle.xl_disputes.specs.Rising.{rising, lowest}
 use Rattle.xl_disputes.specs.Votes.{next_vote}
 use Rattle.xl_disputes.specs.Next.{winners}
-use Rattle.xl_disputes.specs.Rows.{ids_of, tally_of, IsIndex}
+use Rattle.xl_disputes.specs.Rows.{is_same, ids_of, tally_of, IsIndex}
 use Rattle.xl_disputes.specs.Holdings.{Holding, ids_in, total, IsShared}
 use Rattle.xl_disputes.specs.Standings.{voters, votes_by, wins, next_of, known_of, IsKept}
 use Rattle.xl_disputes.proofs.IdOrder.{same_itself, below_other}
@@ -68,7 +68,7 @@ lower_rows row rows (r ∷ some) rises all =
     All-cons (λ x. tally_of (row ∷ rows) x.id ≡ x.tally) r some head
     (lower_rows row rows some (RisesFrom-lower row.id r.id (ids_of some) rises.0 rises.1) (All-tail (λ x. tally_of rows x.id ≡ x.tally) r some all))
 
-own_tallies : (rows : List Row) → IsRising (ids_of rows) → All (λ r. tally_of rows r.id ≡ r.tally) rows
+pub own_tallies : (rows : List Row) → IsRising (ids_of rows) → All (λ r. tally_of rows r.id ≡ r.tally) rows
 own_tallies [] rises = All-nil (λ r. tally_of [] r.id ≡ r.tally)
 own_tallies (row ∷ rows) rises =
     let head : tally_of (row ∷ rows) row.id ≡ row.tally = rw (same_itself row.id) refl in
@@ -103,6 +103,28 @@ module _ (hs : List Holding) (rows : List Row) (shared : IsShared hs rows) (inde
 
 pub IsSet-next : (hs : List Holding) (needed : ℕ) (proposing : Bool) → IsSet (next_of hs needed proposing)
 IsSet-next hs needed proposing = IsSet-lowest (filter (λ tx. next_vote needed proposing (votes_by (voters hs) (total hs tx))) (flat_map ids_in hs))
+
+-- an id of the lowest is one of all
+has_front : (n : ℕ) (ids : List TxId) (tx : TxId) → has (take n ids) tx ≡ true → has ids tx ≡ true
+has_front zero ids tx among = absurd (cc among)
+has_front (suc n) [] tx among = among
+has_front (suc n) (id ∷ ids) tx among = step (is_same id tx) among (has_front n ids tx)
+  where
+    step : (same : Bool) → (same || has (take n ids) tx) ≡ true → (has (take n ids) tx ≡ true → has ids tx ≡ true) → (same || has ids tx) ≡ true
+    step true among more = refl
+    step false among more = more among
+
+second : (a b : Bool) → (a && b) ≡ true → b ≡ true
+second true b both = both
+second false b both = absurd (cc both)
+
+-- each id of our next set is in a set
+pub next_counted : (hs : List Holding) (needed : ℕ) (proposing : Bool) (next : List TxId) → next ≡ next_of hs needed proposing → (tx : TxId) → has next tx ≡ true → has (flat_map ids_in hs) tx ≡ true
+next_counted hs needed proposing next is tx among =
+    let p : TxId → Bool = λ t. next_vote needed proposing (votes_by (voters hs) (total hs t)) in
+    let passing : List TxId = filter p (flat_map ids_in hs) in
+    second (p tx) (has (flat_map ids_in hs) tx)
+    (sym (has_filter p tx (flat_map ids_in hs)) ∙ sym (has_rising tx passing) ∙ has_front 256 (rising passing) tx (ap (λ ids. has ids tx) (sym is) ∙ among))
 
 -- ---- our next set
 

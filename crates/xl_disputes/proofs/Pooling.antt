@@ -74,7 +74,7 @@ first_differs pool name (n ∷ order) rises =
 differs_get : (name : Name) (order : List Name) (i : ℕ) (d : Name) → i < length order → All (λ n. n ≢ name) order → name ≢ get_or order i d
 differs_get name order i d within all same = All-get_or (λ n. n ≢ name) order i d within all (sym same)
 
-before_differs : (pool : List (Slot Row)) (order : List Name) (i : ℕ) (d : Name) → IsRising (ids_of (rows_of pool order)) → i < length order → All (λ n. n ≢ get_or order i d) (take i order)
+pub before_differs : (pool : List (Slot Row)) (order : List Name) (i : ℕ) (d : Name) → IsRising (ids_of (rows_of pool order)) → i < length order → All (λ n. n ≢ get_or order i d) (take i order)
 before_differs pool [] i d rises within = absurd (omega (arith, within))
 before_differs pool (name ∷ order) zero d rises within = All-nil (λ n. n ≢ name)
 before_differs pool (name ∷ order) (suc i) d rises within =
@@ -82,7 +82,7 @@ before_differs pool (name ∷ order) (suc i) d rises within =
     All-cons (λ n. n ≢ get_or order i d) name (take i order) (differs_get name order i d few (first_differs pool name order rises))
     (before_differs pool order i d (rises_rest (row_of pool name).id (ids_of (rows_of pool order)) rises) few)
 
-after_differs : (pool : List (Slot Row)) (order : List Name) (i : ℕ) (d : Name) → IsRising (ids_of (rows_of pool order)) → i < length order → All (λ n. n ≢ get_or order i d) (drop (suc i) order)
+pub after_differs : (pool : List (Slot Row)) (order : List Name) (i : ℕ) (d : Name) → IsRising (ids_of (rows_of pool order)) → i < length order → All (λ n. n ≢ get_or order i d) (drop (suc i) order)
 after_differs pool [] i d rises within = absurd (omega (arith, within))
 after_differs pool (name ∷ order) zero d rises within = first_differs pool name order rises
 after_differs pool (name ∷ order) (suc i) d rises within =
@@ -91,7 +91,7 @@ after_differs pool (name ∷ order) (suc i) d rises within =
 -- ---- a row is written, put in, taken out
 
 module _ (pool new : List (Slot Row)) (name : Name) (value : Option Row) (updates : Updates pool new name value) where
-  others_same : (order : List Name) → All (λ n. n ≢ name) order → All (λ n. get new n ≡ get pool n) order
+  pub others_same : (order : List Name) → All (λ n. n ≢ name) order → All (λ n. get new n ≡ get pool n) order
   others_same order differ = All-weaker (λ n. n ≢ name) (λ n. get new n ≡ get pool n) (λ n other. updates.others n other) order differ
 
 module _ (pool new : List (Slot Row)) (order : List Name) (room i : ℕ) (d : Name) (pooled : IsPooled pool order room) (within : i < length order) (rises : IsRising (ids_of (rows_of pool order))) where

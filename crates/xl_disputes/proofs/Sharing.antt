@@ -13,7 +13,7 @@ use Rattle.xl_disputes.specs.declared.rows.Row.{Row}
 use Rattle.xl_disputes.specs.Disputes.{has}
 use Rattle.xl_disputes.specs.Tallies.{no_tally, held_by, exchanged, IsWithin, IsWhole}
 use Rattle.xl_disputes.specs.Rising.{rising}
-use Rattle.xl_disputes.specs.Rows.{is_same, ids_of, tally_of, IsExchangeable, Exchanges}
+use Rattle.xl_disputes.specs.Rows.{is_same, ids_of, tally_of, IsExchangeable, Exchanges, part_of, IsMovable, Moves}
 use Rattle.xl_disputes.specs.Holdings.{Holding, no_holding, with_set, with_weight, ids_in, ours_of, tally_from, amount, total, IsShared}
 use Rattle.xl_disputes.proofs.Exchanging.{Counted}
 use Rattle.xl_disputes.proofs.RisingIds.{IsRising-fold}
@@ -107,7 +107,7 @@ ours_most : (hs : List Holding) → All (λ h. ours_of h ≤ 1) hs
 ours_most [] = All-nil (λ h. ours_of h ≤ 1)
 ours_most (h ∷ hs) = All-cons (λ x. ours_of x ≤ 1) h hs (ours_one h) (ours_most hs)
 
-tally_same : (a b : Tally) → a.members ≡ b.members → a.yays ≡ b.yays → a.ours ≡ b.ours → a ≡ b
+pub tally_same : (a b : Tally) → a.members ≡ b.members → a.yays ≡ b.yays → a.ours ≡ b.ours → a ≡ b
 tally_same a b members yays ours =
     ap (λ x. record { members = x; yays = a.yays; ours = a.ours }) members ∙ ap (λ x. record { members = b.members; yays = x; ours = a.ours }) yays
     ∙ ap (λ x. record { members = b.members; yays = b.yays; ours = x }) ours
@@ -247,6 +247,75 @@ module _ (hs : List Holding) (rows : List Row) (shared : IsShared hs rows) where
           let nothing_in : length (ids_in (get_or hs place d)) ≡ 0 = ap (λ (x : Holding). length (ids_in x)) (sym at) ∙ ap length free in
           omega (arith, more, nothing_in, lengths_most filled sets, length-set hs place (with_set (Some ids) h), shared.count, rows_most hs rows shared);
     }
+
+    -- ---- the holding takes another set, of ids that are there
+    module _ (ids : List TxId) (valid : IsSet ids) (counted : (tx : TxId) → has ids tx ≡ true → has (flat_map ids_in hs) tx ≡ true) where
+      -- what an id has from the set that comes
+      abbrev coming : TxId → Tally
+      coming tx = part_of ids (tally_from h) tx
+
+      as_given : (g : Tally → ℕ) (f : Holding → ℕ) (tx : TxId) (x : Holding) → f x ≡ g (tally_from x) → g no_tally ≡ 0 → given f tx x ≡ g (part x tx)
+      as_given g f tx x is none = ap (λ n. cond (has (ids_in x) tx) n 0) is ∙ field (has (ids_in x) tx) g (tally_from x) none
+
+      members_in : (tx : TxId) → amount (λ x. x.bit) tx (others hs place) + (part h tx).members ≡ (tally_of rows tx).members
+      members_in tx = omega (arith, ap (λ (t : Tally). t.members) (shared.each tx), sum_of (λ x. x.bit) tx, as_given (λ t. t.members) (λ x. x.bit) tx h refl refl)
+
+      yays_in : (tx : TxId) → amount (λ x. x.weight) tx (others hs place) + (part h tx).yays ≡ (tally_of rows tx).yays
+      yays_in tx = omega (arith, ap (λ (t : Tally). t.yays) (shared.each tx), sum_of (λ x. x.weight) tx, as_given (λ t. t.yays) (λ x. x.weight) tx h refl refl)
+
+      ours_in : (tx : TxId) → amount ours_of tx (others hs place) + (part h tx).ours ≡ (tally_of rows tx).ours
+      ours_in tx = omega (arith, ap (λ (t : Tally). t.ours) (shared.each tx), sum_of ours_of tx, as_given (λ t. t.ours) ours_of tx h refl refl)
+
+      most_coming : (g : Tally → ℕ) (tx : TxId) → g no_tally ≡ 0 → g (coming tx) ≤ g (tally_from h)
+      most_coming g tx none = most (has ids tx)
+        where
+          most : (b : Bool) → g (cond b (tally_from h) no_tally) ≤ g (tally_from h)
+          most true = omega arith
+          most false = omega (arith, none)
+
+      -- what comes says nothing where it is in no set
+      nothing_coming : (tx : TxId) → held_by (coming tx) ≡ 0 → (coming tx).yays ≡ 0
+      nothing_coming tx = step (has ids tx)
+        where
+          step : (b : Bool) → held_by (cond b (tally_from h) no_tally) ≡ 0 → (cond b (tally_from h) no_tally).yays ≡ 0
+          step true none = absurd (omega (arith, none, some_one h))
+          step false none = refl
+
+      all_bits : sum_by (λ x. x.bit) (others hs place) + h.bit ≡ sum_by (λ x. x.bit) hs
+      all_bits = ap (λ (x : Holding). sum_by (λ y. y.bit) (others hs place) + x.bit) at ∙ omega (arith, sum_by-set (λ x. x.bit) hs place (no_holding 0) d inside)
+
+      pub can_replace : IsMovable rows (ids_in h) ids (tally_from h)
+      can_replace = record {
+        there = λ tx in_it. same_members hs rows shared tx ∙ counted tx in_it;
+        within = λ tx. record { members = omega (arith, members_in tx); yays = omega (arith, yays_in tx); ours = omega (arith, ours_in tx) };
+        fitting = λ tx. record {
+          members = omega (arith, members_in tx, most_coming (λ t. t.members) tx refl, amount_within (λ x. x.bit) tx (others hs place), all_bits, shared.bits);
+          yays = omega (arith, yays_in tx, most_coming (λ t. t.yays) tx refl, weight_most, most_yays tx);
+          ours = omega (arith, ours_in tx, most_coming (λ t. t.ours) tx refl, ours_one h, most_ours tx);
+        };
+        whole = λ tx gone.
+            let alone : amount one_of tx (others hs place) ≡ 0 = sym (amount_both tx (others hs place)) ∙ omega (arith, gone, members_in tx, ours_in tx) in
+            let none : (coming tx).yays ≡ 0 = nothing_coming tx (omega (arith, gone, members_in tx, ours_in tx)) in
+            tally_same (exchanged (part h tx) (coming tx) (tally_of rows tx)) no_tally (omega (arith, gone))
+            (omega (arith, none, yays_in tx, no_amount (λ x. x.weight) tx (others hs place) alone)) (omega (arith, gone));
+      }
+
+      pub still_shared_with : (new : List Row) → Moves rows new (ids_in h) ids (tally_from h) → IsShared (set hs place (with_set (Some ids) h)) new
+      still_shared_with new moves = record {
+        count = length-set hs place (with_set (Some ids) h) ∙ shared.count;
+        sets = All-set (λ x. IsSet (ids_in x)) hs place (with_set (Some ids) h) valid shared.sets;
+        few = All-set (λ x. x.weight ≤ 64) hs place (with_set (Some ids) h) weight_most shared.few;
+        bits = omega (arith, sum_by-set (λ x. x.bit) hs place (with_set (Some ids) h) d inside, all_bits, sum_by-set (λ x. x.bit) hs place (no_holding 0) d inside, shared.bits);
+        index = moves.index;
+        each = λ tx.
+            tally_same (tally_of new tx) (total (set hs place (with_set (Some ids) h)) tx)
+            (omega (arith, ap (λ (t : Tally). t.members) (moves.each tx), members_in tx, moved_to (λ x. x.bit) tx, sum_of (λ x. x.bit) tx, as_given (λ t. t.members) (λ x. x.bit) tx h refl refl, as_given (λ t. t.members) (λ x. x.bit) tx (with_set (Some ids) h) refl refl))
+            (omega (arith, ap (λ (t : Tally). t.yays) (moves.each tx), yays_in tx, moved_to (λ x. x.weight) tx, sum_of (λ x. x.weight) tx, as_given (λ t. t.yays) (λ x. x.weight) tx h refl refl, as_given (λ t. t.yays) (λ x. x.weight) tx (with_set (Some ids) h) refl refl))
+            (omega (arith, ap (λ (t : Tally). t.ours) (moves.each tx), ours_in tx, moved_to ours_of tx, sum_of ours_of tx, as_given (λ t. t.ours) ours_of tx h refl refl, as_given (λ t. t.ours) ours_of tx (with_set (Some ids) h) refl refl));
+      }
+        where
+          moved_to : (f : Holding → ℕ) (tx : TxId) → amount f tx (set hs place (with_set (Some ids) h)) + given f tx h ≡ amount f tx hs + given f tx (with_set (Some ids) h)
+          moved_to f tx = ap (λ x. amount f tx (set hs place (with_set (Some ids) h)) + given f tx x) at ∙ sum_by-set (given f tx) hs place (with_set (Some ids) h) d inside
 
     -- ---- the index after the holding has changed
     module _ (new : List Row) (ids : List TxId) (from to : Tally) (h' : Holding) (done : Exchanges rows new ids from to)

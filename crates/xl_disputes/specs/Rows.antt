@@ -1,6 +1,6 @@
 -- The index: the ids of our own set and of the held sets in rising order, each once, with what it has.
 -- Source: what the code of this crate keeps. No public clause cites this file.
-use Rattle.std.specs.Prelude.{◌≡◌, ℕ, ◌+◌, ◌<◌, ◌≤◌, ◌==◌, Bool, true, List, [], ◌∷◌, length, drop, map, slice_index_or, All, if◌then◌else◌}
+use Rattle.std.specs.Prelude.{◌≡◌, ℕ, ◌+◌, ◌<◌, ◌≤◌, ◌==◌, nat_lt, Bool, true, false, List, [], ◌∷◌, length, drop, map, slice_index_or, All, if◌then◌else◌}
 use Rattle.std.specs.List.{prefix_len}
 use Rattle.std.specs.Str.{bytes_eq}
 use Rattle.xl_base.specs.Sets.{is_below, IsRising}
@@ -20,6 +20,10 @@ ids_of rows = map (λ row. row.id) rows
 abbrev pub tally_of : List Row → TxId → Tally
 tally_of [] tx = no_tally
 tally_of (row ∷ rows) tx = if is_same row.id tx then row.tally else tally_of rows tx
+
+-- whether a row's id is in a set
+abbrev pub is_held : Row → Bool
+is_held row = nat_lt 0 (held_by row.tally)
 
 -- the ids rise, and each is in a set
 pub record IsIndex (rows : List Row) : Type 0 where
@@ -73,3 +77,33 @@ pub record Exchanges (old new : List Row) (ids : List TxId) (from to : Tally) : 
   pub each : (tx : TxId) →
       tally_of new tx ≡ (if has ids tx then exchanged from to (tally_of old tx) else tally_of old tx)
   pub few : length new ≤ length old + length ids
+
+-- ---- a part goes from the ids of one set to those of another
+
+-- of rising ids those that aren't below one
+abbrev pub not_below : TxId → List TxId → List TxId
+not_below tx ids = drop (prefix_len (λ id. is_below id tx) ids) ids
+
+-- whether an id is the first of some
+abbrev pub is_first : TxId → List TxId → Bool
+is_first tx [] = false
+is_first tx (id ∷ ids) = bytes_eq id.0 tx.0
+
+-- the part of an id of a set, and nothing of another
+abbrev pub part_of : List TxId → Tally → TxId → Tally
+part_of ids part tx = if has ids tx then part else no_tally
+
+abbrev pub moved : List TxId → List TxId → Tally → Row → Row
+moved from to part row = record row { tally = exchanged (part_of from part row.id) (part_of to part row.id) row.tally }
+
+-- it can go, and each id that it goes to has a row
+pub record IsMovable (rows : List Row) (from to : List TxId) (part : Tally) : Type 0 where
+  pub there : (tx : TxId) → has to tx ≡ true → has (ids_of rows) tx ≡ true
+  pub within : (tx : TxId) → IsWithin (part_of from part tx) (tally_of rows tx)
+  pub fitting : (tx : TxId) → IsFitting (exchanged (part_of from part tx) (part_of to part tx) (tally_of rows tx))
+  pub whole : (tx : TxId) → IsWhole (exchanged (part_of from part tx) (part_of to part tx) (tally_of rows tx))
+
+-- it went
+pub record Moves (old new : List Row) (from to : List TxId) (part : Tally) : Type 0 where
+  pub index : IsIndex new
+  pub each : (tx : TxId) → tally_of new tx ≡ exchanged (part_of from part tx) (part_of to part tx) (tally_of old tx)

@@ -192,7 +192,7 @@ impl Disputes {
         self.shares.pick(&mut self.next, needed, proposing);
         let changed = self.next.as_slice() != self.shares.own().ids();
         if changed {
-            self.shares.take(OWN, &self.next);
+            self.shares.replace(OWN, &self.next);
             settle(&mut self.shares, &self.positions);
         }
         changed

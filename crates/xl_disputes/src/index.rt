@@ -25,10 +25,13 @@ ghost use Rattle.xl_disputes.specs.Rows.{
   IsAbsent,
   IsExchangeable,
   Exchanges,
+  IsMovable,
+  Moves,
 };
 ghost use Rattle.xl_disputes.specs.Standings.{wins, with_row};
 ghost use Rattle.xl_base.specs.Sets.{is_below as is_below_of, IsRising};
 
+use crate::moving::move_part;
 use crate::rows::{ROWS, Row, Rows};
 use crate::set::SET_IDS;
 use crate::tally::Tally;
@@ -198,6 +201,18 @@ impl Index {
         for id in ids {
             self.exchange(*id, from, to);
         }
+    }
+
+    /// Takes a part out of what each id of one set has, and puts it into what each of another has. Each of these is
+    /// there, and those that are in no set any more go.
+    pub(crate) fn move_part(&mut self, from: &[TxId], to: &[TxId], part: Tally)
+        requires leaving { IsRising from.now }
+        requires coming { IsRising to.now }
+        requires movable { IsMovable self.old from.now to.now part }
+        ensures { Moves self.old self.new from.now to.now part }
+    {
+        move_part(&mut self.rows, from, to, part);
+        self.rows.sweep();
     }
 
     fn exchange_there(&mut self, place: usize, id: TxId, from: Tally, to: Tally)

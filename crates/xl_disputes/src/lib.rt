@@ -12,6 +12,7 @@
 
 mod disputes;
 mod index;
+mod moving;
 mod place;
 mod rows;
 mod set;

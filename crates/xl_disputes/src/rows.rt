@@ -1,7 +1,9 @@
-ghost use Rattle.std.specs.Prelude.{◌≡◌, ◌<◌, ◌≤◌, [], length, slice_index_or, slice_set, IfOk};
+ghost use Rattle.std.specs.Prelude.{◌≡◌, ◌+◌, ◌<◌, ◌≤◌, [], length, filter, slice_index_or, slice_set, All, Some, IfOk, if◌then◌else◌};
 ghost use Rattle.std.specs.List.{insert, remove};
 ghost use Rattle.xl_base.specs.Sets.{IsRising};
-ghost use Rattle.xl_disputes.specs.Rows.{ids_of};
+ghost use Rattle.xl_pool.specs.Pools.{get, live, Updates};
+ghost use Rattle.xl_disputes.specs.Rows.{ids_of, is_held};
+ghost use Rattle.xl_disputes.specs.Pooled.{row_of, rows_of, if_held, IsSwept};
 
 use crate::tally::Tally;
 use std::alloc::Global;
@@ -37,6 +39,35 @@ impl Model for Rows {
     ghost view = { λ a. rows_of a.pool a.order.items };
 
     ghost invariant = { λ a. IsPooled a.pool a.order.items (vec_capacity a.order) };
+}
+
+/// Gives the slot of a row back if its id is in no set.
+fn give_back(pool: &mut Pool<Row>, name: Name)
+    requires there { get pool.old name ≡ Some (row_of pool.old name) }
+    ensures updates { Updates pool.old pool.new name (if_held (row_of pool.old name)) }
+    ensures slots { length pool.new ≡ length pool.old }
+    ensures count { live pool.new + 1 ≡ live pool.old + (if is_held (row_of pool.old name) then 1 else 0) }
+{
+    let Some(row) = pool.get(name) else {
+        unreachable!()
+    };
+    if row.tally.is_none() {
+        match pool.give(name) {
+            Ok(_) => {}
+            Err(_) => unreachable!(),
+        }
+    }
+}
+
+/// Gives back the slots of all rows whose id is in no set.
+fn give_all_back(pool: &mut Pool<Row>, order: &[Name])
+    requires there { All (λ name. get pool.old name ≡ Some (row_of pool.old name)) order.now }
+    requires apart { IsRising (ids_of (rows_of pool.old order.now)) }
+    ensures { IsSwept pool.old pool.new order.now (length order.now) }
+{
+    for name in order {
+        give_back(pool, *name);
+    }
 }
 
 impl Rows {
@@ -100,6 +131,16 @@ impl Rows {
             Ok(()) => {}
             Err(_) => unreachable!(),
         }
+    }
+
+    /// Only rows whose id is in a set stay. Each name that stays moves once at most.
+    pub(crate) fn sweep(&mut self)
+        requires apart { IsRising (ids_of self.old) }
+        ensures { self.new ≡ filter is_held self.old }
+    {
+        give_all_back(&mut self.pool, &self.order);
+        let pool = &self.pool;
+        self.order.retain(|name| pool.get(*name).is_some());
     }
 
     pub(crate) fn remove(&mut self, place: usize)

@@ -15,7 +15,10 @@ ghost use Rattle.std.specs.Prelude.{
   All,
   IfOk,
   vec_capacity,
+  true,
+  flat_map,
 };
+ghost use Rattle.xl_base.specs.declared.ids.TxId.{TxId};
 ghost use Rattle.xl_base.specs.Sets.{set_id_of, IsSet};
 ghost use Rattle.std.specs.List.{prefix_len};
 ghost use Rattle.xl_disputes.specs.Standings.{
@@ -232,6 +235,18 @@ impl Shares {
         let _ = &self.places;
         self.release(place);
         self.fill(place, ids)
+    }
+
+    /// The place holds the set of these ids, each of which is in some set already.
+    pub(crate) fn replace(&mut self, place: usize, ids: &[TxId])
+        requires within { place < PLACES }
+        requires valid { IsSet ids.now }
+        requires counted { (tx : TxId) → has ids.now tx ≡ true → has (flat_map ids_in self.old) tx ≡ true }
+        ensures { self.new ≡ changed (with_set (Some ids.now)) place self.old }
+    {
+        let held = &mut self.places[place];
+        self.index.move_part(held.ids(), ids, held.tally());
+        held.fill(ids);
     }
 
     /// The place holds no set any more.

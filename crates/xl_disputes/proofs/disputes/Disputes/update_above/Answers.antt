@@ -4,7 +4,7 @@ use Rattle.xl_disputes.specs.Disputes.{Known, with_own}
 use Rattle.xl_disputes.specs.Next.{winners}
 use Rattle.xl_disputes.specs.Standings.{known_of}
 use Rattle.xl_disputes.proofs.Ordered.{differ}
-use Rattle.xl_disputes.proofs.Picking.{next_is}
+use Rattle.xl_disputes.proofs.Picking.{next_is, next_counted}
 use Rattle.xl_disputes.proofs.Keeping.{IsWeighable, weighable, settled, known_settled, own_weighable, own_known}
 use Rattle.xl_disputes.proofs.disputes.Disputes.update_above.Goals as goal
 use Rattle.xl_disputes.proofs.disputes.Disputes.update_above.Goals.{After-ne-changed, After-settle}
@@ -26,10 +26,14 @@ tested c =
 before : (c : After-ne-changed) → IsWeighable c.self.inside.shares c.self.inside.positions
 before c = weighable c.self.inside.shares c.self.inside.positions (vec_capacity c.self.inside.next) c.self.invariant
 
+pub replace-requires-clause-counted : goal.replace-requires-clause-counted
+replace-requires-clause-counted c =
+    next_counted c.self.inside.shares c.args.needed c.args.proposing c.deref.result.now (c.deref.ensures.value ∙ c.pick.ensures.value)
+
 pub invariant_of-self : goal.invariant_of-self
 invariant_of-self c =
-    settled c.take.new.self c.settle.new.shares c.self.inside.positions (vec_capacity c.pick.new.next)
-    (own_weighable c.deref.result.now c.self.inside.shares c.take.new.self c.self.inside.positions c.take.ensures.taken (before (goal.at.invariant_of-self c).After-ne-changed))
+    settled c.replace.new.self c.settle.new.shares c.self.inside.positions (vec_capacity c.pick.new.next)
+    (own_weighable c.deref.result.now c.self.inside.shares c.replace.new.self c.self.inside.positions c.replace.ensures (before (goal.at.invariant_of-self c).After-ne-changed))
     (omega (arith, c.self.invariant.roomy, c.pick.ensures.room)) c.settle.ensures
 
 pub returns-then-changed-clause-changed : goal.returns-then-changed-clause-changed
@@ -40,8 +44,8 @@ returns-then-changed-clause-same c = (tested (goal.at.returns-then-changed-claus
 
 pub returns-then-changed-clause-taken : goal.returns-then-changed-clause-taken
 returns-then-changed-clause-taken c =
-    known_settled c.take.new.self c.settle.new.shares c.self.inside.positions c.settle.ensures
-    ∙ own_known c.deref.result.now c.self.inside.shares c.take.new.self c.self.inside.positions c.take.ensures.taken (before (goal.at.returns-then-changed-clause-taken c).After-ne-changed)
+    known_settled c.replace.new.self c.settle.new.shares c.self.inside.positions c.settle.ensures
+    ∙ own_known c.deref.result.now c.self.inside.shares c.replace.new.self c.self.inside.positions c.replace.ensures (before (goal.at.returns-then-changed-clause-taken c).After-ne-changed)
     ∙ ap (with_own (known_of c.self.inside.shares c.self.inside.positions)) (c.deref.ensures.value ∙ is_next (goal.at.returns-then-changed-clause-taken c).After-ne-changed)
     ∙ ap (λ k. with_own k (winners c.args.self.now c.args.needed c.args.proposing)) c.self.view_is
 
