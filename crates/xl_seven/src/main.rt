@@ -14,14 +14,14 @@ use member::Member;
 use std::alloc::Global;
 use std::io;
 use xl_base::{LedgerId, Millis, NodeNo, TxId};
-use xl_core::{Beat, Issued};
+use xl_core::{Beat, Issued, UNTAKEN};
 use xl_lists::{List, default_quorum};
 use xl_wire::LONGEST_FRAME;
 
 const NUMBERS: [u32; 7] = [1, 2, 3, 4, 5, 6, 7];
 
-/// How long they run.
-const SECONDS: Millis = 60;
+/// So long two rounds take.
+const SECONDS: Millis = 14;
 
 const TX: TxId = TxId([0xA1; 32]);
 
@@ -50,7 +50,9 @@ fn hand_on(members: &mut [Member], from: usize, to: usize, now: Millis)
     let mut room = [0; LONGEST_FRAME];
     let receiver = members[to].me();
     let count = members[from].drain(receiver, &mut room);
-    members[to].hear_all(now, &room[..count]);
+    if let Some(frames) = room.get(..count) {
+        members[to].hear_all(now, frames);
+    }
 }
 
 /// Hands what waits at one member to each other.
@@ -75,30 +77,52 @@ fn how(issued: &Issued) -> &'static str {
 }
 
 /// Prints what came of a member's timer, unless nothing did.
-fn tell_beat(rt: &HostRuntime, me: NodeNo, beat: &Beat) -> io::Result<()> {
+fn tell_beat(rt: &HostRuntime, now: Millis, me: NodeNo, beat: &Beat) -> io::Result<()> {
     match beat {
         Beat::Nothing => Ok(()),
-        Beat::Closed => println!(rt; "closed {}", me.get()),
-        Beat::Updated => println!(rt; "updated {}", me.get()),
-        Beat::Switched(seq, id) => println!(rt; "switched {} {seq} {:08x}", me.get(), brief(id)),
-        Beat::NoRoom(known) => println!(rt; "no room {} {known}", me.get()),
-        Beat::Built { seq, id, issued, .. } => {
-            println!(rt; "built {} {seq} {:08x} {}", me.get(), brief(id), how(issued))
+        Beat::Closed => println!(rt; "{now} closed {}", me.get()),
+        Beat::Updated => println!(rt; "{now} updated {}", me.get()),
+        Beat::Switched(seq, id) => println!(rt;
+            "{now} switched {} {seq} {:08x}",
+            me.get(),
+            brief(id)
+        ),
+        Beat::NoRoom(known) => println!(rt; "{now} no room {} {known}", me.get()),
+        Beat::Built {
+            seq,
+            id,
+            issued,
+            ..
+        } => {
+            println!(rt;
+                "{now} built {} {seq} {:08x} {}",
+                me.get(),
+                brief(id),
+                how(issued)
+            )
         }
     }
 }
 
 /// Prints what a member reports.
-fn tell_reports(rt: &HostRuntime, member: &mut Member) -> io::Result<()> {
-    while let Some(report) = member.report() {
-        println!(rt; "reports {} {} {:08x}", member.me().get(), report.seq, brief(&report.id))?;
+fn tell_reports(rt: &HostRuntime, now: Millis, member: &mut Member) -> io::Result<()> {
+    for _ in 0..UNTAKEN {
+        let Some(report) = member.report() else {
+            break;
+        };
+        println!(rt;
+            "{now} reports {} {} {:08x}",
+            member.me().get(),
+            report.seq,
+            brief(&report.id)
+        )?;
     }
     Ok(())
 }
 
-fn tell_all_reports(rt: &HostRuntime, members: &mut [Member]) -> io::Result<()> {
+fn tell_all_reports(rt: &HostRuntime, now: Millis, members: &mut [Member]) -> io::Result<()> {
     for member in members.iter_mut() {
-        tell_reports(rt, member)?;
+        tell_reports(rt, now, member)?;
     }
     Ok(())
 }
@@ -109,10 +133,10 @@ fn beat_all(rt: &HostRuntime, members: &mut [Member], now: Millis) -> io::Result
 {
     for k in 0..members.len() {
         let beat = members[k].timer(now);
-        tell_beat(rt, members[k].me(), &beat)?;
+        tell_beat(rt, now, members[k].me(), &beat)?;
         hand_around(members, k, now);
     }
-    tell_all_reports(rt, members)
+    tell_all_reports(rt, now, members)
 }
 
 fn run(rt: &HostRuntime, members: &mut [Member]) -> io::Result<()> {

@@ -73,8 +73,14 @@ impl Member {
         requires { now ≤ GREATEST_MILLIS }
     {
         let mut rest = frames;
-        while let Parted::Whole(raw) = split(rest) {
-            let (frame, later) = rest.split_at(raw.length);
+        // Each frame has some bytes.
+        for _ in 0..frames.len() {
+            let Parted::Whole(raw) = split(rest) else {
+                break;
+            };
+            let Some((frame, later)) = rest.split_at_checked(raw.length) else {
+                break;
+            };
             // What isn't taken changes nothing but the time.
             let _ = self.core.frame(now, frame);
             rest = later;
