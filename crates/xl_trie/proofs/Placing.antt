@@ -8,23 +8,6 @@ use Rattle.xl_trie.proofs.Ways.{length_way, way_at, way_one, on_true, on_from}
 pub zero_if : (n : ℕ) → (0 < n → ⊥) → n ≡ 0
 zero_if n none = elim (cases_lt 0 n) [ inl some ↦ absurd (none some) | inr le ↦ omega (arith, le) ]
 
-module _ (hs : List Header) (ok : AreLedgers hs) where
-  -- a deeper ledger isn't on a chain
-  pub on_low : (ledger of : ℕ) → of < length hs → seq_at hs of < seq_at hs ledger → false ≡ is_on_chain hs ledger of
-  on_low ledger of ko lt = sym (false_if (is_on_chain hs ledger of) (λ t. let on = on_true hs ok ledger of ko t in omega (arith, on.0, lt, length_way hs ledger, length_way hs of)))
-
-  -- what stands where a ledger would stand tells whether it is on the chain
-  pub on_at : (ledger of x : ℕ) → ledger < length hs → of < length hs → slice_get (chain hs of) (seq_at hs ledger) ≡ Some x → (x == ledger) ≡ is_on_chain hs ledger of
-  on_at ledger of x kl ko at =
-      let is = way_at hs ok of (seq_at hs ledger) x ko at ∙ ap (λ k. take k (way hs of)) (sym (length_way hs ledger)) in
-      let low = slice_get_within (chain hs of) (seq_at hs ledger) x at in
-      elim (cases_Bool (x == ledger)) [
-        | inl same ↦ same ∙ sym (on_from hs ok ledger of kl ko (omega (arith, low, length-chain hs of, length_way hs ledger, length_way hs of), sym is ∙ ap (way hs) (eqb-true x ledger same)))
-        | inr other ↦
-            other ∙ sym (false_if (is_on_chain hs ledger of) (λ t.
-            eqb-false x ledger other (way_one hs ok x ledger (of_chain hs ok of ko (seq_at hs ledger) x at).known kl (is ∙ (on_true hs ok ledger of ko t).1))))
-      ]
-
 module _ (hs : List Header) (ok : AreLedgers hs) (S : Name → Option Span) (L : AreLinked hs S) (to : ℕ) (kt : to < length hs) (a : Name) (s : Span) (e : S a ≡ Some s) (on : OnWay hs s.ledger to) where
   -- none is deeper, where no child ends on the way
   deepest_if : ((c : Name) (t : Span) → IsKid S a c t → OnWay hs t.ledger to → ⊥) → (b : Name) (t : Span) → S b ≡ Some t → OnWay hs t.ledger to → length (way hs t.ledger) ≤ length (way hs s.ledger)

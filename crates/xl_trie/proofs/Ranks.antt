@@ -1,17 +1,12 @@
 -- The order of spans, and which child leads.
 use Rattle.std.proofs.Common.{◌≡◌, ◌≢◌, true, false, List, ◌∷◌, Option, Some, None, refl, sym, ap, subst, ◌∙◌, inl, inr}
 use Rattle.xl_trie.proofs.Common.{Ordering, Less, Equal, Greater, nat_cmp, ordering_then, ordering_reverse, is_gt, IsTotalOrder, upto, nat_cmp_total, nat_list_cmp_total, on_total, then_total, Header, id_at, id_rank, Name, Span, IsKid, leads, IsBestSoFar}
-use Rattle.xl_trie.proofs.Listing.{some_is}
+use Rattle.xl_trie.proofs.Listing.{some_is, true_false, false_if}
 
-pub back : (r s : Ordering) → s ≡ ordering_reverse r → is_gt r ≡ true → is_gt s ≡ false
+back : (r s : Ordering) → s ≡ ordering_reverse r → is_gt r ≡ true → is_gt s ≡ false
 back Less s e gt = absurd cc
 back Equal s e gt = absurd cc
 back Greater s e gt = ap is_gt e
-
-never_self : (r : Ordering) → r ≡ ordering_reverse r → is_gt r ≡ false
-never_self Less e = refl
-never_self Equal e = refl
-never_self Greater e = absurd cc
 
 module _ (hs : List Header) where
   order : IsTotalOrder (λ (a b : Span). ordering_then (nat_cmp a.branch b.branch) (id_rank hs a.first b.first))
@@ -21,7 +16,7 @@ module _ (hs : List Header) where
   lead_back a b h = back (ordering_then (nat_cmp a.branch b.branch) (id_rank hs a.first b.first)) (ordering_then (nat_cmp b.branch a.branch) (id_rank hs b.first a.first)) (order.antisymm b a) h
 
   pub lead_self : (a : Span) → leads hs a a ≡ false
-  lead_self a = never_self (ordering_then (nat_cmp a.branch a.branch) (id_rank hs a.first a.first)) (order.antisymm a a)
+  lead_self a = false_if (leads hs a a) (λ t. true_false (leads hs a a) t (lead_back a a t))
 
   -- whom no one leads is led by no one behind
   pub lead_through : (a b c : Span) → leads hs a b ≡ false → leads hs c b ≡ true → leads hs a c ≡ false
