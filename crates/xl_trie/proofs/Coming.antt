@@ -75,6 +75,3 @@ module _ (hs : List Header) (ok : AreLedgers hs) (votes : List Vote) (S S' : Nam
       ]
     ];
   }
-
-  pub leaf_root : (root : Name) → IsRoot S root → IsRoot S' root
-  leaf_root root r = (r.0, to root r.0 r.1, r.2)

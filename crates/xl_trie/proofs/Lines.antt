@@ -132,12 +132,3 @@ module _ (p0 p1 p2 : List (Slot Node)) (K : AllKids p0) (x c : Name) (xn cn v w 
       | inr is ↦ others a is.1.0 o other is.1.1 (ap (λ (y : Node). y.child) (sym (is.1.3 other)))
     ]
   ]
-
-  pub span_hung : Becomes (spans p0) (spans p2) c (Some v.span)
-  span_hung = record {
-    changed = ap span_of at_c;
-    others = λ b other. elim (one_name b x) [
-      | inl same ↦ ap (spans p2) same ∙ ap span_of up2.changed ∙ ap Some w_span ∙ sym (ap span_of e) ∙ ap (spans p0) (sym same)
-      | inr differs ↦ ap span_of (up2.others b differs ∙ up1.others b other)
-    ];
-  }

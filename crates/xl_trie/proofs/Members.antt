@@ -1,29 +1,21 @@
 -- The votes of members, as one's comes or goes.
 use Rattle.std.proofs.Common.{◌≡◌, ℕ, ◌+◌, ◌==◌, ◌||◌, Bool, true, false, not, cond, List, [], ◌∷◌, ◌++◌, refl, sym, ap, subst, ◌∙◌, arith, inl, inr}
 use Rattle.xl_trie.proofs.Common.{map, count_by, cases_Bool, eqb-false, eq-eqb, ne_eqb, Vote, has_voted, without, OneMore, OneFewer, changed, IsChange, In, Apart, or_right}
+use Rattle.std.proofs.lemmas.List.Sums.{sum_by_push}
 use Rattle.xl_trie.proofs.Listing.{true_false, in_either, in_filter, in_map, to_map, count_cons}
 
 abbrev pub members : List Vote → List ℕ
 members votes = map (λ v. v.member) votes
 
-voted_if : (votes : List Vote) (v : Vote) → In v votes → has_voted votes v.member ≡ true
-voted_if [] v i = absurd i
-voted_if (w ∷ votes) v (inl same) = ap (λ b. b || has_voted votes v.member) (eq-eqb w.member v.member (ap (λ (x : Vote). x.member) (sym same)))
-voted_if (w ∷ votes) v (inr i) = or_right (w.member == v.member) (has_voted votes v.member) (voted_if votes v i)
-
 -- ---- one more
 
-count_last : (p : Vote → Bool) (votes : List Vote) (v : Vote) → count_by p (votes ++ v ∷ []) ≡ cond (p v) 1 0 + count_by p votes
-count_last p [] v = count_cons p v []
-count_last p (w ∷ votes) v = let r = count_last p votes v in omega (arith, r, count_cons p w (votes ++ v ∷ []), count_cons p w votes)
-
-more_if : (b : Bool) (n k : ℕ) → n ≡ cond b 1 0 + k → n ≡ cond b (k + 1) k
+more_if : (b : Bool) (n k : ℕ) → n ≡ k + cond b 1 0 → n ≡ cond b (k + 1) k
 more_if true n k e = omega (arith, e)
 more_if false n k e = omega (arith, e)
 
 pub one_more : (votes : List Vote) (v : Vote) → IsChange OneMore v votes (votes ++ v ∷ [])
 one_more votes v = record {
-  counts = λ p. more_if (p v) (count_by p (votes ++ v ∷ [])) (count_by p votes) (count_last p votes v);
+  counts = λ p. more_if (p v) (count_by p (votes ++ v ∷ [])) (count_by p votes) (sum_by_push (λ x. cond (p x) 1 0) votes v);
   from = λ w i. elim (in_either votes (v ∷ []) w i) [ inl j ↦ inl j | inr (inl same) ↦ inr same | inr (inr wrong) ↦ absurd wrong ];
 }
 

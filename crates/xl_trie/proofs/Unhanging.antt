@@ -168,16 +168,3 @@ module _ (p0 p1 p2 : List (Slot Node)) (K : AllKids p0) (x c : Name) (xn cn v : 
           others a n.0 o other n.1 (ap (λ (y : Node). y.child) (some_is o s.node (sym h.1 ∙ s.there)) ∙ s.child other)
     ]
   ]
-
-  pub span_unhung : Becomes (spans p0) (spans p2) c (Some v.span)
-  span_unhung = record { changed = ap span_of up2.changed; others = λ b other. ap span_of (up2.others b other) ∙ slid_span last up1 b }
-    where
-      slid_span : (l : Option Name) → LeadsNow p0 p1 x l cn.sibling → (b : Name) → spans p1 b ≡ spans p0 b
-      slid_span None now b = elim (one_name b x) [
-        | inl same ↦ ap (spans p1) same ∙ ap span_of now.2.changed ∙ sym (ap span_of now.1) ∙ ap (spans p0) (sym same)
-        | inr other ↦ ap span_of (now.2.others b other)
-      ]
-      slid_span (Some l) now b = elim (one_name b l) [
-        | inl same ↦ ap (spans p1) same ∙ ap span_of now.2.changed ∙ sym (ap span_of now.1) ∙ ap (spans p0) (sym same)
-        | inr other ↦ ap span_of (now.2.others b other)
-      ]

@@ -1,8 +1,8 @@
 use Rattle.std.proofs.Common.{◌≡◌, true, false, is_some, Option, Some, None, refl, sym, ap, ◌∙◌, arith, inl, inr}
 use Rattle.xl_trie.proofs.Common.{Span, Name, span_of, spans, IsKid, Becomes}
 use Rattle.xl_trie.proofs.Leaving.{dropped, dropped_half, dropped_root}
-use Rattle.xl_trie.proofs.Listing.{none_some, some_of}
-use Rattle.xl_trie.proofs.Siblings.{is_some_if, no_kids, first_kid}
+use Rattle.xl_trie.proofs.Listing.{none_some, some_of, is_some_if}
+use Rattle.xl_trie.proofs.Siblings.{no_kids, first_kid}
 use Rattle.xl_trie.proofs.Trees.{over_of, kid_differs}
 use Rattle.xl_trie.proofs.pruning.drop_empty.Goals.{then-node-gt0-via-then-node-gt0, then-node-gt0-via-else-node-gt0+then-is_some}
 use Rattle.xl_trie.proofs.pruning.drop_empty.Goals as goal

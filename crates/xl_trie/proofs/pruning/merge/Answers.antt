@@ -1,8 +1,8 @@
 use Rattle.std.proofs.Common.{◌≡◌, ◌≢◌, Bool, true, false, not, is_some, List, length, Option, Some, None, IsSome, refl, sym, ap, subst, ◌∙◌, arith, inl, inr}
 use Rattle.xl_trie.proofs.Common.{Header, Vote, AreLedgers, Slot, get, Name, Node, Span, span_of, spans, IsKid, IsNeeded, IsTrieBut, way}
 use Rattle.xl_trie.proofs.Leaving.{merged, merged_root, all_needed}
-use Rattle.xl_trie.proofs.Listing.{some_is, none_some}
-use Rattle.xl_trie.proofs.Siblings.{is_some_if, no_kids, first_kid}
+use Rattle.xl_trie.proofs.Listing.{some_is, none_some, is_some_if}
+use Rattle.xl_trie.proofs.Siblings.{no_kids, first_kid}
 use Rattle.xl_trie.proofs.Trees.{hung, over_of, kid_differs}
 use Rattle.xl_trie.proofs.pruning.merge.Goals.{else-node-eq0-via-then-node-eq0+else-is_none, else-node-eq0-via-else-node-eq0}
 use Rattle.xl_trie.proofs.pruning.merge.Goals as goal
