@@ -4,7 +4,7 @@ use Rattle.xl_trie.proofs.Common.{find, map, list_all, count_by, range_with_len,
 use Rattle.std.specs.List.{filter, list_any}
 use Rattle.std.proofs.lemmas.List.Elements.{All-filter, All-map, filter-append, filter_passes}
 use Rattle.std.proofs.lemmas.List.Folds.{Any-from_list_any, list_any_at}
-use Rattle.std.proofs.lemmas.List.Sums.{length-filter}
+use Rattle.std.proofs.lemmas.List.Sums.{AllPass-from_list_all, length-filter, list_all-from_AllPass}
 
 pub some_is : {X : Type 0} (a b : X) → Some a ≡ Some b → a ≡ b
 some_is a b e = cc
@@ -68,18 +68,10 @@ module _ {X : Type 0} where
 
   module _ (p : X → Bool) where
     pub all_if : (xs : List X) → ((x : X) → In x xs → p x ≡ true) → list_all p xs ≡ true
-    all_if [] h = refl
-    all_if (x ∷ xs) h = ap (λ b. b && list_all p xs) (h x (inl refl)) ∙ all_if xs (λ y i. h y (inr i))
+    all_if xs h = list_all-from_AllPass p xs (all_of (λ x. p x ≡ true) xs h)
 
     pub all_at : (xs : List X) → list_all p xs ≡ true → (x : X) → In x xs → p x ≡ true
-    all_at [] e x i = absurd i
-    all_at (y ∷ xs) e x i = elim (cases_Bool (p y)) [
-      | inl t ↦ elim i [
-        | inl same ↦ ap p same ∙ t
-        | inr j ↦ all_at xs (sym (ap (λ b. b && list_all p xs) t) ∙ e) x j
-      ]
-      | inr f ↦ true_false (p y && list_all p xs) e (ap (λ b. b && list_all p xs) f)
-    ]
+    all_at xs e x i = all_in (λ x. p x ≡ true) xs (AllPass-from_list_all p xs e) x i
 
     -- the only element that passes is found
     pub find_in : (xs : List X) (c : X) → In c xs → p c ≡ true → ((x : X) → In x xs → p x ≡ true → x ≡ c) → find p xs ≡ Some c

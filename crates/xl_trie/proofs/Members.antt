@@ -1,8 +1,9 @@
 -- The votes of members, as one's comes or goes.
 use Rattle.std.proofs.Common.{◌≡◌, ℕ, ◌+◌, ◌==◌, ◌||◌, Bool, true, false, not, cond, List, [], ◌∷◌, ◌++◌, refl, sym, ap, subst, ◌∙◌, arith, inl, inr}
 use Rattle.xl_trie.proofs.Common.{map, count_by, cases_Bool, eqb-false, eq-eqb, ne_eqb, Vote, has_voted, without, OneMore, OneFewer, changed, IsChange, In, Apart, or_right}
+use Rattle.std.proofs.lemmas.List.{map_push}
 use Rattle.std.proofs.lemmas.List.Sums.{sum_by_push}
-use Rattle.xl_trie.proofs.Listing.{true_false, in_either, in_filter, in_map, to_map, count_cons}
+use Rattle.xl_trie.proofs.Listing.{true_false, in_any, in_either, in_filter, in_map, to_map, count_cons}
 
 abbrev pub members : List Vote → List ℕ
 members votes = map (λ v. v.member) votes
@@ -19,21 +20,19 @@ one_more votes v = record {
   from = λ w i. elim (in_either votes (v ∷ []) w i) [ inl j ↦ inl j | inr (inl same) ↦ inr same | inr (inr wrong) ↦ absurd wrong ];
 }
 
+apart_push : (ms : List ℕ) (m : ℕ) → Apart ms → (In m ms → ⊥) → Apart (ms ++ m ∷ [])
+apart_push [] m apart none = ((λ i. i), tt)
+apart_push (k ∷ ms) m apart none = (
+  (λ i. elim (in_either ms (m ∷ []) k i) [ inl j ↦ apart.0 j | inr (inl same) ↦ none (inl (sym same)) | inr (inr wrong) ↦ wrong ]),
+  apart_push ms m apart.1 (λ i. none (inr i)),
+)
+
 pub members_more : (votes : List Vote) (v : Vote) → Apart (members votes) → has_voted votes v.member ≡ false → Apart (members (votes ++ v ∷ []))
-members_more [] v apart none = ((λ i. i), tt)
-members_more (w ∷ votes) v apart none = elim (cases_Bool (w.member == v.member)) [
-  | inl t ↦ true_false (has_voted (w ∷ votes) v.member) (ap (λ b. b || has_voted votes v.member) t) none
-  | inr f ↦ (
-    (λ i.
-        let u = in_map (λ (x : Vote). x.member) (votes ++ v ∷ []) w.member i in
-        elim (in_either votes (v ∷ []) u.0 u.1) [
-          | inl j ↦ apart.0 (subst (λ m. In m (members votes)) (sym u.2) (to_map (λ (x : Vote). x.member) votes u.0 j))
-          | inr (inl same) ↦ eqb-false w.member v.member f (u.2 ∙ ap (λ (x : Vote). x.member) same)
-          | inr (inr wrong) ↦ wrong
-        ]),
-    members_more votes v apart.1 (sym (ap (λ b. b || has_voted votes v.member) f) ∙ none),
-  )
-]
+members_more votes v apart none =
+    subst (λ (ms : List ℕ). Apart ms) (sym (map_push (λ (w : Vote). w.member) votes v))
+    (apart_push (members votes) v.member apart (λ i.
+    let u = in_map (λ (w : Vote). w.member) votes v.member i in
+    true_false (has_voted votes v.member) (in_any (λ w. w.member == v.member) votes u.0 u.1 (eq-eqb u.0.member v.member (sym u.2))) none))
 
 -- ---- one fewer
 
