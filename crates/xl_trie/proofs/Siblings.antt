@@ -68,19 +68,13 @@ module _ (nodes : List (Slot Node)) (a : Name) where
     seen = start;
   }
 
-  looks_end : (Seen : List Name → Type 0) (at : Option Name) (rest : List Name) → Leads nodes at rest → at ≡ None → Seen rest → Seen []
-  looks_end Seen at [] leads none so = so
-  looks_end Seen at (b ∷ rest) leads none so = absurd (none_some b (sym none ∙ leads.0))
+  -- none is to come where the line ends, or no step is left
+  ended : (Seen : List Name → Type 0) (at : Option Name) (left : ℕ) (rest : List Name) → Leads nodes at rest → length rest ≤ left → (at ≡ None) ⊎ (left ≡ 0) → Seen rest → Seen []
+  ended Seen at left [] leads few end so = so
+  ended Seen at left (b ∷ rest) leads few end so = absurd (elim end [ inl none ↦ none_some b (sym none ∙ leads.0) | inr zero ↦ omega (arith, few, zero) ])
 
-  pub looked : (Seen : List Name → Type 0) (at : Option Name) (left : ℕ) → Looks Seen at left → at ≡ None → Seen []
-  looked Seen at left l none = looks_end Seen at l.rest l.leads none l.seen
-
-  looks_short : (Seen : List Name → Type 0) (rest : List Name) → length rest ≤ 0 → Seen rest → Seen []
-  looks_short Seen [] few so = so
-  looks_short Seen (b ∷ rest) few so = absurd (omega arith)
-
-  pub looked_all : (Seen : List Name → Type 0) (at : Option Name) (left : ℕ) → Looks Seen at left → left ≡ 0 → Seen []
-  looked_all Seen at left l none = looks_short Seen l.rest (omega (arith, l.few, none)) l.seen
+  pub looked : (Seen : List Name → Type 0) (at : Option Name) (left : ℕ) → Looks Seen at left → (at ≡ None) ⊎ (left ≡ 0) → Seen []
+  looked Seen at left l end = ended Seen at left l.rest l.leads l.few end l.seen
 
   -- the name that comes is that of a child
   pub record Comes (Seen : List Name → Type 0) (name : Name) (left : ℕ) : Type 0 where

@@ -1,7 +1,7 @@
 use Rattle.std.proofs.Common.{◌+◌, ◌-◌, inl, inr, sym, ap, ◌∙◌, arith}
 use Rattle.xl_trie.proofs.Common.{get, Node}
 use Rattle.xl_trie.proofs.Listing.{some_is, true_false}
-use Rattle.xl_trie.proofs.Siblings.{NoneLeads, none_leads, looks_from, looks_on, looked, looked_all, stands_next, comes}
+use Rattle.xl_trie.proofs.Siblings.{NoneLeads, none_leads, looks_from, looks_on, looked, stands_next, comes}
 use Rattle.xl_trie.proofs.linking.before.Goals as goal
 
 pub loop-init : goal.loop-init
@@ -10,7 +10,7 @@ loop-init c =
     looks_from c.args.nodes.now c.args.of (NoneLeads c.args.nodes.now c.args.of c.args.name) c.node_at-at.result (c.live-end.result - 0) (omega (arith, c.live-end.ensures)) has (λ b m e p. inl (has.all b m e p))
 
 pub returns-in_default : goal.returns-in_default
-returns-in_default c = none_leads c.args.nodes.now c.args.of c.args.name (looked c.args.nodes.now c.args.of (NoneLeads c.args.nodes.now c.args.of c.args.name) c.loop.at _ c.loop.invariant c.in_default.is)
+returns-in_default c = none_leads c.args.nodes.now c.args.of c.args.name (looked c.args.nodes.now c.args.of (NoneLeads c.args.nodes.now c.args.of c.args.name) c.loop.at _ c.loop.invariant (inl c.in_default.is))
 
 pub node_at-node-requires : goal.node_at-node-requires
 node_at-node-requires c = stands_next c.args.nodes.now c.args.of (NoneLeads c.args.nodes.now c.args.of c.args.name) c.loop.at _ c.in-Some.next c.loop.invariant c.in-Some.is
@@ -33,4 +33,4 @@ loop-preserved c =
     ])
 
 pub returns : goal.returns
-returns c = none_leads c.args.nodes.now c.args.of c.args.name (looked_all c.args.nodes.now c.args.of (NoneLeads c.args.nodes.now c.args.of c.args.name) c.loop.at (c.live-end.result - c.loop.counter) c.loop.invariant (omega (arith, c.loop-test.false)))
+returns c = none_leads c.args.nodes.now c.args.of c.args.name (looked c.args.nodes.now c.args.of (NoneLeads c.args.nodes.now c.args.of c.args.name) c.loop.at (c.live-end.result - c.loop.counter) c.loop.invariant (inr (omega (arith, c.loop-test.false))))
