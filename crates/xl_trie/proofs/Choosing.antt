@@ -1,14 +1,13 @@
 -- The best of the candidates, by the spans below a node.
 use Rattle.std.proofs.Common.{◌≡◌, ◌≢◌, ◌⊎◌, ℕ, ◌+◌, ◌-◌, ◌<◌, ◌≤◌, ◌==◌, ◌||◌, Bool, true, false, not, cond, List, length, Option, Some, None, refl, sym, ap, subst, ◌∙◌, arith, inl, inr}
-use Rattle.xl_trie.proofs.Common.{Ordering, Less, Equal, Greater, nat_cmp, ordering_then, ordering_reverse, is_gt, IsTotalOrder, list_all, nat_lt, nat_cmp_total, nat_list_cmp_total, on_total, then_total, exact_bytes, cases_lt, cases_Bool, eqb-true, eq-eqb, eqb-false, ne_eqb, or_cases, lt-ltb, le-ltb, not-true, not_from_false, LedgerId, Header, Vote, id_at, seq_at, AreLedgers, branch_of, uncommitted, id_rank, rank, candidates, best_of, others, margin, unless_too_few, next_of, earlier_differs, same_self, Name, Span, In, IsKid, AreSpans, leads, lead, IsBest, GoesTo, or_left, or_right}
+use Rattle.xl_trie.proofs.Common.{cases_eq, cases_Bool, Ordering, Less, Equal, Greater, nat_cmp, ordering_then, ordering_reverse, is_gt, IsTotalOrder, list_all, nat_lt, nat_cmp_total, nat_list_cmp_total, on_total, then_total, exact_bytes, cases_lt, cases_Bool, eqb-true, eq-eqb, eqb-false, ne_eqb, or_cases, lt-ltb, le-ltb, not-true, not_from_false, LedgerId, Header, Vote, id_at, seq_at, AreLedgers, branch_of, uncommitted, id_rank, rank, candidates, best_of, others, margin, unless_too_few, next_of, earlier_differs, same_self, Name, Span, In, IsKid, AreSpans, leads, lead, IsBest, GoesTo, or_left, or_right}
 use Rattle.xl_trie.proofs.Listing.{some_is, true_false, all_if, all_at, find_in, find_no, in_filter, to_filter}
 use Rattle.xl_trie.proofs.Ways.{length_way, of_parent}
 use Rattle.xl_ledger.proofs.Ranks.{gt_back, gt_or}
 use Rattle.xl_trie.proofs.Firsts.{of_candidates, to_candidates, first_is, first_of}
 
 bit_le : (b : Bool) → cond {A = ℕ} b 1 0 ≤ 1
-bit_le true = omega arith
-bit_le false = omega arith
+bit_le b = grind (arith, cases_Bool b)
 
 module _ (hs : List Header) (ok : AreLedgers hs) (votes : List Vote) where
   -- the one that ranks above each other
@@ -57,10 +56,7 @@ module _ (hs : List Header) (ok : AreLedgers hs) (votes : List Vote) (S : Name �
 
   -- whom no other child leads ranks above it
   above_other : (b d : Name) (m o : Span) → IsKid S a b m → IsKid S a d o → leads hs o m ≡ false → (o.first ≡ m.first) ⊎ (is_gt (rank hs votes m.first o.first) ≡ true)
-  above_other b d m o p q none = elim (cases_Bool (o.first == m.first)) [
-    | inl same ↦ inl (eqb-true o.first m.first same)
-    | inr other ↦ inr (gt_or hs ok (branch_of hs votes) o.first m.first (T.linked.first d o q.0) (T.linked.first b m p.0) (eqb-false o.first m.first other) (sym (alike d b o m q p) ∙ none))
-  ]
+  above_other b d m o p q none = grind (arith, cases_eq o.first m.first, gt_or hs ok (branch_of hs votes) o.first m.first (T.linked.first d o q.0) (T.linked.first b m p.0), alike d b o m q p, none)
 
   pub first_best : (b : Name) → (best : IsBest hs S a None (Some b)) → best_of hs votes (candidates hs votes n.ledger) ≡ Some best.0.first
   first_best b best =
@@ -79,12 +75,7 @@ module _ (hs : List Header) (ok : AreLedgers hs) (votes : List Vote) (S : Name �
       best_none hs ok votes (others m.first (candidates hs votes n.ledger)) (λ d i.
       let o = in_others hs ok votes m.first d (candidates hs votes n.ledger) i in
       let f = first_of hs ok votes S T a n e d (of_candidates hs ok votes n.ledger d o.0) in
-      elim (none f.name f.node f.kid) [
-        | inl empty ↦ empty
-        | inr same ↦
-            let own : f.node ≡ m = some_is f.node m (sym f.kid.0 ∙ ap S (sym (some_is b f.name same)) ∙ p.0) in
-            o.1 (sym f.is ∙ ap (λ (x : Span). x.first) own)
-      ])
+      grind (arith, none f.name f.node f.kid, o.1, f.is, f.kid.0, p.0))
 
   pub second_some : (b s : Name) (m : Span) → IsKid S a b m → (second : IsBest hs S a (Some b) (Some s)) → best_of hs votes (others m.first (candidates hs votes n.ledger)) ≡ Some second.0.first
   second_some b s m p second =

@@ -18,11 +18,7 @@ pub shared_same : (a b : List ℕ) (k : ℕ) → k ≤ shared a b → take k a �
 shared_same a b zero h = refl
 shared_same [] b (suc k) h = absurd (omega arith)
 shared_same (x ∷ a) [] (suc k) h = absurd (omega arith)
-shared_same (x ∷ a) (y ∷ b) (suc k) h = ⊎_elim
-    (λ (t : eqb x y ≡ true). let e : shared (x ∷ a) (y ∷ b) ≡ 1 + shared a b = ap (λ c. cond {A = ℕ} c (1 + shared a b) 0) t in
-    let r = shared_same a b k (omega arith) in cc (eqb-true x y t, r))
-    (λ (t : eqb x y ≡ false). let e : shared (x ∷ a) (y ∷ b) ≡ 0 = ap (λ c. cond {A = ℕ} c (1 + shared a b) 0) t in absurd (omega arith))
-    (cases_Bool (eqb x y))
+shared_same (x ∷ a) (y ∷ b) (suc k) h = grind (arith, cases_Bool (eqb x y), eqb-true x y, shared_same a b k)
 
 pub shared_most : (a b : List ℕ) (k : ℕ) → k ≤ length a → k ≤ length b → take k a ≡ take k b → k ≤ shared a b
 shared_most a b zero h g e = omega arith
@@ -31,9 +27,7 @@ shared_most (x ∷ a) [] (suc k) h g e = absurd (omega arith)
 shared_most (x ∷ a) (y ∷ b) (suc k) h g e =
     let heads : x ≡ y = cc in
     let tails : take k a ≡ take k b = cc in
-    let r = shared_most a b k (omega arith) (omega arith) tails in
-    let e : shared (x ∷ a) (y ∷ b) ≡ 1 + shared a b = ap (λ c. cond {A = ℕ} c (1 + shared a b) 0) (eq-eqb x y heads) in
-    omega arith
+    grind (arith, eq-eqb x y heads, shared_most a b k (omega arith) (omega arith) tails)
 
 turned : (a b : List ℕ) → shared a b ≤ shared b a
 turned a b = shared_most b a (shared a b) (shared_low_right a b) (shared_low a b) (sym (shared_same a b (shared a b) (omega arith)))

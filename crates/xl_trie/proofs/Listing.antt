@@ -19,13 +19,15 @@ is_some_if o x e = ap is_some e
 pub none_some : {X : Type 0} (a : X) → None ≡ Some a → ⊥
 none_some a e = cc
 
+pub none_of : {X : Type 0} (o : Option X) → is_some o ≡ false → o ≡ None
+none_of None e = refl
+none_of (Some x) e = absurd cc
+
 pub true_false : {P : Type 0} (b : Bool) → b ≡ true → b ≡ false → P
-true_false true t f = absurd cc
-true_false false t f = absurd cc
+true_false b t f = absurd cc
 
 pub false_if : (b : Bool) → (b ≡ true → ⊥) → b ≡ false
-false_if true h = absurd (h refl)
-false_if false h = refl
+false_if b h = grind (arith, cases_Bool b, h)
 
 module _ {X : Type 0} where
   pub in_at : (xs : List X) (i : ℕ) (d : X) → i < length xs → In (get_or xs i d) xs
@@ -76,13 +78,7 @@ module _ {X : Type 0} where
     -- the only element that passes is found
     pub find_in : (xs : List X) (c : X) → In c xs → p c ≡ true → ((x : X) → In x xs → p x ≡ true → x ≡ c) → find p xs ≡ Some c
     find_in [] c i e only = absurd i
-    find_in (x ∷ xs) c i e only = elim (cases_Bool (p x)) [
-      | inl t ↦ ap (λ b. cond {A = Option X} b (Some x) (find p xs)) t ∙ ap Some (only x (inl refl) t)
-      | inr f ↦ elim i [
-        | inl same ↦ true_false (p x) (ap p (sym same) ∙ e) f
-        | inr j ↦ ap (λ b. cond {A = Option X} b (Some x) (find p xs)) f ∙ find_in xs c j e (λ y k. only y (inr k))
-      ]
-    ]
+    find_in (x ∷ xs) c i e only = grind (arith, cases_Bool (p x), i, e, only x (inl refl), λ (j : In c xs). find_in xs c j e (λ y k. only y (inr k)))
 
     pub find_no : (xs : List X) → ((x : X) → In x xs → p x ≡ false) → find p xs ≡ None
     find_no [] h = refl
@@ -97,9 +93,7 @@ of_range n c i = let r = at_in (range_with_len 0 n) c 0 i in omega (arith, r.1, 
 -- ---- counts, filters, and maps
 
 bits : (a b : Bool) → (a ≡ true → b ≡ true) → cond a 1 0 ≤ cond b 1 0
-bits true true h = omega arith
-bits false b h = omega arith
-bits true false h = absurd (both_ways false refl (h refl))
+bits a b h = grind (arith, cases_Bool a, cases_Bool b, h)
 
 module _ {L : Type 0} where
   pub count_cons : (p : L → Bool) (v : L) (vs : List L) → count_by p (v ∷ vs) ≡ cond (p v) 1 0 + count_by p vs

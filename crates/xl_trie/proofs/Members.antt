@@ -11,8 +11,7 @@ members votes = map (λ v. v.member) votes
 -- ---- one more
 
 more_if : (b : Bool) (n k : ℕ) → n ≡ k + cond b 1 0 → n ≡ cond b (k + 1) k
-more_if true n k e = omega (arith, e)
-more_if false n k e = omega (arith, e)
+more_if b n k e = grind (arith, cases_Bool b, e)
 
 pub one_more : (votes : List Vote) (v : Vote) → IsChange OneMore v votes (votes ++ v ∷ [])
 one_more votes v = record {
@@ -55,8 +54,7 @@ count_without p (w ∷ votes) v (inr i) apart =
     omega (arith, r, count_cons p w votes, count_cons p w (without votes v.member), ap (count_by p) rest)
 
 fewer_if : (b : Bool) (n k : ℕ) → k ≡ cond b 1 0 + n → n ≡ cond b (changed OneFewer k) k
-fewer_if true n k e = omega (arith, e)
-fewer_if false n k e = omega (arith, e)
+fewer_if b n k e = grind (arith, cases_Bool b, e)
 
 pub one_fewer : (votes : List Vote) (v : Vote) → In v votes → Apart (members votes) → IsChange OneFewer v votes (without votes v.member)
 one_fewer votes v i apart = record {

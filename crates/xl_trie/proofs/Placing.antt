@@ -77,10 +77,7 @@ module _ (hs : List Header) (ok : AreLedgers hs) (S : Name → Option Span) (vot
       other (at_span (subst (HasSpan S) (eqb-true v.0.ledger x v.2) (V.voted v.0 v.1)))))
 
   pub below : P.span.ledger ≢ x → length (way hs P.span.ledger) < length (way hs x)
-  below other = elim (cases_lt (length (way hs P.span.ledger)) (length (way hs x))) [
-    | inl lt ↦ lt
-    | inr le ↦ absurd (other (same_ledger hs ok P.span.ledger x (V.linked.known p.at P.span P.there) kx P.on le))
-  ]
+  below other = grind (arith, cases_lt (length (way hs P.span.ledger)) (length (way hs x)), same_ledger hs ok P.span.ledger x (V.linked.known p.at P.span P.there) kx P.on, other)
 
   -- inside a span it has those of the span
   pub branch_inside : P.span.ledger ≢ x → (c : Name) (t : Span) → IsKid S p.at c t → is_on_chain hs x t.ledger ≡ true → t.branch ≡ branch_of hs votes x
@@ -101,10 +98,7 @@ module _ (hs : List Header) (ok : AreLedgers hs) (S : Name → Option Span) (vot
       let lt = below other in
       let u = toward_vote hs ok S V.linked votes but V p.at P.span v.0 P.there v.1 (on_through hs P.span.ledger x v.0.ledger P.on on) (omega (arith, lt, on.0)) in
       let h = hung hs ok S V.linked p.at u.name P.span u.span P.there u.kid in
-      let short : length (way hs x) < length (way hs u.span.ledger) = elim (cases_lt (length (way hs x)) (length (way hs u.span.ledger))) [
-        | inl gt ↦ gt
-        | inr le ↦ absurd (let d = P.deepest u.name u.span u.kid.0 (front_of hs u.span.ledger x v.0.ledger u.on on le) in omega (arith, d, h.above))
-      ] in
+      let short : length (way hs x) < length (way hs u.span.ledger) = grind (arith, cases_lt (length (way hs x)) (length (way hs u.span.ledger)), P.deepest u.name u.span u.kid.0, front_of hs u.span.ledger x v.0.ledger u.on on, h.above) in
       let inside = front_of hs x u.span.ledger v.0.ledger on u.on (omega (arith, short)) in
       record { name = u.name; span = u.span; kid = u.kid; enters = (lt, begin_up hs x u.span.ledger P.span.ledger u.span.first inside lt h.first); inside = on_from hs ok x u.span.ledger kx (V.linked.known u.name u.span u.kid.0) inside }
 
