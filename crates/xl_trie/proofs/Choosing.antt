@@ -1,6 +1,6 @@
 -- The best of the candidates, by the spans below a node.
-use Rattle.std.proofs.Common.{◌≡◌, ◌≢◌, ◌⊎◌, ℕ, ◌+◌, ◌-◌, ◌<◌, ◌≤◌, ◌==◌, ◌||◌, Bool, true, false, not, cond, List, length, Option, Some, None, refl, sym, ap, subst, ◌∙◌, arith, inl, inr}
-use Rattle.xl_trie.proofs.Common.{cases_eq, cases_Bool, Ordering, Less, Equal, Greater, nat_cmp, ordering_then, ordering_reverse, is_gt, IsTotalOrder, list_all, nat_lt, nat_cmp_total, nat_list_cmp_total, on_total, then_total, exact_bytes, cases_lt, cases_Bool, eqb-true, eq-eqb, eqb-false, ne_eqb, or_cases, lt-ltb, le-ltb, not-true, not_from_false, LedgerId, Header, Vote, id_at, seq_at, AreLedgers, branch_of, uncommitted, id_rank, rank, candidates, best_of, others, margin, unless_too_few, next_of, earlier_differs, same_self, Name, Span, In, IsKid, AreSpans, leads, lead, IsBest, GoesTo, or_left, or_right}
+use Rattle.std.proofs.Common.{◌≡◌, ◌≢◌, ◌⊎◌, ℕ, ◌+◌, ◌-◌, ◌<◌, ◌≤◌, ◌==◌, ◌||◌, Bool, true, false, not, cond, List, Option, Some, None, sym, ap, subst, ◌∙◌, arith, inl, inr}
+use Rattle.xl_trie.proofs.Common.{cases_eq, cases_Bool, nat_cmp, ordering_then, is_gt, list_all, nat_lt, cases_Bool, eqb-true, eq-eqb, eqb-false, ne_eqb, or_cases, lt-ltb, le-ltb, not-true, not_from_false, Header, Vote, seq_at, AreLedgers, branch_of, uncommitted, id_rank, rank, candidates, best_of, others, margin, unless_too_few, next_of, Name, Span, In, IsKid, AreSpans, leads, lead, IsBest, GoesTo, or_left, or_right}
 use Rattle.xl_trie.proofs.Listing.{some_is, true_false, all_if, all_at, find_in, find_no, in_filter, to_filter}
 use Rattle.xl_trie.proofs.Ways.{length_way, of_parent}
 use Rattle.xl_ledger.proofs.Ranks.{gt_back, gt_or}

@@ -1,6 +1,6 @@
 -- A span comes: as a leaf, or as the front of one that is split.
 use Rattle.std.proofs.Common.{◌≡◌, ◌≢◌, ◌⊎◌, ℕ, ◌<◌, List, length, Option, Some, None, refl, sym, ap, subst, ◌∙◌, arith, inl, inr}
-use Rattle.xl_trie.proofs.Common.{Header, Vote, AreLedgers, tip_of, branch_of, Name, Span, leaf_of, Becomes, IsKid, IsPlace, AreLinked, HasFork, IsNeeded, IsHalfNeeded, AreSpans, IsRoot, way, OnWay, IsBegin}
+use Rattle.xl_trie.proofs.Common.{Header, Vote, AreLedgers, Name, Span, leaf_of, Becomes, IsKid, IsPlace, AreLinked, HasFork, IsNeeded, IsHalfNeeded, AreSpans, way, OnWay, IsBegin}
 use Rattle.xl_trie.proofs.Listing.{some_is, none_some}
 use Rattle.xl_trie.proofs.Placing.{below, tip_none, branch_none}
 use Rattle.xl_trie.proofs.Relinking.{Other, other_at, relinked}

@@ -1,5 +1,5 @@
 -- A span without votes of its own goes: without children, or with one that takes its place.
-use Rattle.std.proofs.Common.{◌≡◌, ◌≢◌, ◌⊎◌, ◌==◌, List, Option, Some, None, refl, sym, ap, subst, ◌∙◌, arith, inl, inr}
+use Rattle.std.proofs.Common.{◌≡◌, ◌≢◌, ◌⊎◌, ◌==◌, List, Option, Some, None, refl, sym, ap, ◌∙◌, arith, inl, inr}
 use Rattle.xl_trie.proofs.Common.{eq-eqb, Header, Vote, AreLedgers, tip_of, branch_of, Slot, Name, Node, Span, IsMerged, In, spans, IsKid, Becomes, hung_at, Hangs, AreLinked, IsNeeded, IsHalfNeeded, AreSpans, IsTrie, IsTrieBut, IsRoot}
 use Rattle.xl_trie.proofs.Listing.{some_is, none_some, count_some}
 use Rattle.xl_trie.proofs.Relinking.{Other, other_at, relinked}

@@ -1,6 +1,6 @@
 -- The votes of members, as one's comes or goes.
-use Rattle.std.proofs.Common.{◌≡◌, ℕ, ◌+◌, ◌==◌, ◌||◌, Bool, true, false, not, cond, List, [], ◌∷◌, ◌++◌, refl, sym, ap, subst, ◌∙◌, arith, inl, inr}
-use Rattle.xl_trie.proofs.Common.{map, count_by, cases_Bool, eqb-false, eq-eqb, ne_eqb, Vote, has_voted, without, OneMore, OneFewer, changed, IsChange, In, Apart, or_right}
+use Rattle.std.proofs.Common.{◌≡◌, ℕ, ◌+◌, ◌==◌, Bool, true, false, not, cond, List, [], ◌∷◌, ◌++◌, refl, sym, ap, subst, ◌∙◌, arith, inl, inr}
+use Rattle.xl_trie.proofs.Common.{map, count_by, cases_Bool, eq-eqb, ne_eqb, Vote, has_voted, without, OneMore, OneFewer, changed, IsChange, In, Apart}
 use Rattle.std.proofs.lemmas.List.{map_push}
 use Rattle.std.proofs.lemmas.List.Sums.{sum_by_push}
 use Rattle.xl_trie.proofs.Listing.{true_false, in_any, in_either, in_filter, in_map, to_map, count_cons}

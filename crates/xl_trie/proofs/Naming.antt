@@ -1,10 +1,10 @@
 -- The names of all nodes of a pool, each once.
-use Rattle.std.proofs.Common.{◌≡◌, ℕ, ◌+◌, ◌≤◌, cond, Bool, List, length, get_or, is_some, Option, Some, None, IsSome, refl, sym, ap, subst, ◌∙◌, arith}
+use Rattle.std.proofs.Common.{◌≡◌, ℕ, ◌+◌, ◌≤◌, cond, Bool, List, length, is_some, Option, Some, None, refl, sym, ap, subst, ◌∙◌, arith}
 use Rattle.std.proofs.lemmas.List.FromFn.{fill_by_all}
 use Rattle.std.proofs.lemmas.List.Folds.{fold-map}
 use Rattle.std.proofs.lemmas.List.Sums.{length-filter}
 use Rattle.std.specs.Prelude.{filter}
-use Rattle.xl_trie.proofs.Common.{map, count_by, range_with_len, length-map, length-append, Slot, empty_slot, slot_at, get, live, Name, given_own, of_found, found_within, Node, Span, In, Apart, span_of, spans}
+use Rattle.xl_trie.proofs.Common.{map, range_with_len, length-map, Slot, empty_slot, slot_at, get, live, Name, given_own, of_found, found_within, Node, Span, In, Apart, span_of, spans}
 use Rattle.xl_trie.proofs.Listing.{some_is, some_of, is_some_if, in_range, in_filter, to_filter, in_map, to_map, apart_le, apart_map, filter_apart, range_apart}
 
 module _ (nodes : List (Slot Node)) where

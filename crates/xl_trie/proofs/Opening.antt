@@ -1,7 +1,7 @@
 -- Without votes the root alone has a node.
 use Rattle.std.proofs.Common.{◌≡◌, ℕ, ◌<◌, ◌==◌, List, [], length, replicate, Some, None, refl, sym, ap, subst, ◌∙◌, arith, inl, inr}
 use Rattle.xl_trie.proofs.Common.{cases_lt, cond_both, get_or-replicate, get_or_past, length-replicate, Header, AreLedgers, Slot, empty_slot, slot_at, get, Updates, Name, Node, Span, span_of, spans, GoesWith}
-use Rattle.xl_trie.proofs.Listing.{some_is, none_some}
+use Rattle.xl_trie.proofs.Listing.{none_some}
 use Rattle.xl_trie.proofs.Naming.{node_of}
 use Rattle.xl_trie.proofs.Trees.{one_name}
 use Rattle.xl_trie.proofs.Ways.{way_root}

@@ -1,9 +1,9 @@
 -- The deepest span that ends on a way, and what its place tells of votes.
-use Rattle.std.proofs.Common.{◌≡◌, ◌≢◌, ℕ, ◌<◌, ◌≤◌, ◌==◌, true, false, List, length, take, Option, Some, None, slice_get, sym, ap, subst, ◌∙◌, arith, inl, inr}
-use Rattle.xl_trie.proofs.Common.{cases_lt, cases_Bool, eqb-true, eqb-false, slice_get_within, Header, Vote, seq_at, chain, AreLedgers, is_on_chain, tip_of, branch_of, length-chain, of_chain, Name, Span, Place, IsKid, BeginsAt, Enters, EntersAt, IsPlace, AreLinked, AreSpans, HasSpan, way, OnWay, IsBegin}
-use Rattle.xl_trie.proofs.Listing.{some_is, true_false, false_if, counted}
+use Rattle.std.proofs.Common.{◌≡◌, ◌≢◌, ℕ, ◌<◌, ◌≤◌, ◌==◌, true, false, List, length, Option, Some, None, sym, ap, subst, ◌∙◌, arith, inl, inr}
+use Rattle.xl_trie.proofs.Common.{cases_lt, eqb-true, Header, Vote, seq_at, AreLedgers, is_on_chain, tip_of, branch_of, Name, Span, Place, IsKid, BeginsAt, Enters, EntersAt, IsPlace, AreLinked, AreSpans, HasSpan, way, OnWay, IsBegin}
+use Rattle.xl_trie.proofs.Listing.{some_is, true_false, counted}
 use Rattle.xl_trie.proofs.Trees.{on_self, front_of, on_through, begin_up, same_ledger, hung, one_kid, leads_to, toward, toward_vote, known_vote, span_branch}
-use Rattle.xl_trie.proofs.Ways.{length_way, way_at, way_one, on_true, on_from}
+use Rattle.xl_trie.proofs.Ways.{length_way, way_one, on_true, on_from}
 
 pub zero_if : (n : ℕ) → (0 < n → ⊥) → n ≡ 0
 zero_if n none = elim (cases_lt 0 n) [ inl some ↦ absurd (none some) | inr le ↦ omega (arith, le) ]

@@ -1,5 +1,5 @@
 -- The order of spans, and which child leads.
-use Rattle.std.proofs.Common.{arith, ◌≡◌, ◌≢◌, true, false, List, ◌∷◌, Option, Some, None, refl, sym, ap, subst, ◌∙◌, inl, inr}
+use Rattle.std.proofs.Common.{arith, ◌≡◌, ◌≢◌, true, false, List, ◌∷◌, Option, Some, None, sym, ap, ◌∙◌}
 use Rattle.xl_trie.proofs.Common.{Ordering, Less, Equal, Greater, nat_cmp, ordering_then, ordering_reverse, is_gt, IsTotalOrder, upto, nat_cmp_total, nat_list_cmp_total, on_total, then_total, Header, id_at, id_rank, Name, Span, IsKid, leads, IsBestSoFar}
 use Rattle.xl_trie.proofs.Listing.{some_is, true_false, false_if}
 

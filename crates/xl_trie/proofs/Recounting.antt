@@ -1,6 +1,6 @@
 -- Counts, as a vote comes or goes.
-use Rattle.std.proofs.Common.{◌≡◌, ◌≢◌, ◌⊎◌, ℕ, ◌<◌, ◌==◌, Bool, true, false, cond, List, length, Option, Some, None, refl, sym, ap, subst, ◌∙◌, arith, inl, inr}
-use Rattle.xl_trie.proofs.Common.{cases_lt, cases_eq, cases_Bool, ne_eqb, eqb-true, eq-eqb, Header, Vote, AreLedgers, is_on_chain, tip_of, branch_of, Name, Span, Change, changed, with_counts, AreRecounted, IsChange, In, Becomes, AreLinked, HasFork, AreSpans, way, OnWay}
+use Rattle.std.proofs.Common.{◌≡◌, ◌≢◌, ◌⊎◌, ℕ, ◌<◌, ◌==◌, List, length, Option, Some, None, refl, sym, ap, subst, ◌∙◌, arith, inl, inr}
+use Rattle.xl_trie.proofs.Common.{cases_lt, cases_eq, cases_Bool, ne_eqb, eq-eqb, Header, Vote, AreLedgers, is_on_chain, tip_of, branch_of, Name, Span, Change, changed, with_counts, AreRecounted, IsChange, In, Becomes, AreLinked, HasFork, AreSpans, way, OnWay}
 use Rattle.xl_trie.proofs.Listing.{some_is, none_some, all_of}
 use Rattle.xl_trie.proofs.Relinking.{relinked}
 use Rattle.xl_trie.proofs.Trees.{one_name, on_self, front_of, on_through, same_ledger, root_short, nearest, known_vote, needed_on}

@@ -1,6 +1,6 @@
 -- A way along siblings, and how many names may have nodes.
-use Rattle.std.proofs.Common.{◌≡◌, ◌≢◌, ◌⊎◌, ℕ, ◌+◌, ◌%◌, ◌^◌, ◌≤◌, cond, List, [], ◌∷◌, length, is_some, Option, Some, None, IsSome, refl, sym, ap, subst, ◌∙◌, arith, inl, inr}
-use Rattle.xl_trie.proofs.Common.{Slot, slot_at, get, live, without_value, Name, counts, live-set, of_found, found_within, Updates-without_value, Node, Span, In, Apart, span_of, spans, IsKid, Leads, HasKids, IsBefore}
+use Rattle.std.proofs.Common.{◌≡◌, ◌≢◌, ◌⊎◌, ℕ, ◌+◌, ◌≤◌, List, [], ◌∷◌, length, Option, Some, None, IsSome, refl, sym, ap, subst, ◌∙◌, arith, inl, inr}
+use Rattle.xl_trie.proofs.Common.{Slot, get, live, Name, Node, Span, In, Apart, span_of, spans, IsKid, Leads, HasKids, IsBefore}
 use Rattle.xl_trie.proofs.Listing.{some_is, none_some, is_some_if}
 use Rattle.xl_trie.proofs.Naming.{few_names, node_of}
 

@@ -1,6 +1,6 @@
 -- A span is split where the way to a ledger leaves it: t, that of a's child k, at the ledger l, under the new name d.
 use Rattle.std.proofs.Common.{◌≡◌, ◌≢◌, ◌⊎◌, ℕ, ◌+◌, ◌<◌, ◌==◌, List, length, take, Option, Some, None, refl, sym, ap, subst, ◌∙◌, arith, inl, inr}
-use Rattle.xl_trie.proofs.Common.{cases_lt, eqb-true, Header, Vote, seq_at, common_of, AreLedgers, tip_of, branch_of, Name, Span, Place, IsSplit, IsKid, hung_at, IsPlace, AreLinked, HasFork, IsHalfNeeded, AreSpans, IsRoot, way, OnWay, IsBegin, take-length, length-take-le}
+use Rattle.xl_trie.proofs.Common.{cases_lt, eqb-true, Header, Vote, seq_at, common_of, AreLedgers, tip_of, Name, Span, Place, IsSplit, IsKid, hung_at, IsPlace, AreLinked, HasFork, IsHalfNeeded, AreSpans, IsRoot, way, OnWay, IsBegin, take-length, length-take-le}
 use Rattle.xl_trie.proofs.Fronts.{shared, shared_low, shared_low_right, shared_same, shared_most}
 use Rattle.xl_trie.proofs.Listing.{some_is, none_some, counted}
 use Rattle.xl_trie.proofs.Placing.{zero_if}

@@ -1,7 +1,6 @@
 -- The nodes are as many as the spots, and at most twice the votes and one.
-use Rattle.std.proofs.Common.{◌≡◌, ◌⊎◌, ℕ, zero, suc, ◌+◌, ◌*◌, ◌<◌, ◌≤◌, ◌==◌, ◌||◌, Bool, true, false, not, cond, List, [], ◌∷◌, ◌++◌, length, take, Option, Some, None, refl, sym, ap, subst, ◌∙◌, arith, inl, inr}
-use Rattle.xl_trie.proofs.Common.{list_any, range_with_len, map, cases_lt, eqb-true, eq-eqb, or_cases, length-map, take_all, Header, Vote, common_of, AreLedgers, Slot, live, Name, Node, Span, is_spot, spots, In, Apart, spans, IsKid, HasSpan, AreSpans, IsRoot, way, OnWay, or_left, or_right}
-use Rattle.std.specs.Prelude.{filter}
+use Rattle.std.proofs.Common.{◌≡◌, ◌⊎◌, ℕ, zero, suc, ◌+◌, ◌*◌, ◌<◌, ◌≤◌, ◌==◌, ◌||◌, Bool, true, List, [], ◌∷◌, length, take, Option, Some, None, refl, sym, ap, subst, ◌∙◌, arith, inl, inr}
+use Rattle.xl_trie.proofs.Common.{list_any, range_with_len, map, cases_lt, eqb-true, eq-eqb, or_cases, length-map, take_all, Header, Vote, common_of, AreLedgers, Slot, live, Name, Node, Span, is_spot, spots, In, spans, IsKid, HasSpan, AreSpans, IsRoot, way, OnWay, or_left, or_right}
 use Rattle.xl_trie.proofs.Fronts.{shared, shared_low, shared_low_right, shared_same, shared_most, shared_turn, shared_through}
 use Rattle.xl_trie.proofs.Listing.{some_is, none_some, in_range, counted, in_filter, to_filter, in_map, to_map, any_in, in_any, apart_le, apart_map, filter_apart, range_apart}
 use Rattle.xl_trie.proofs.Firsts.{has_vote, some_branch}

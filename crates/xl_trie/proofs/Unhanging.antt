@@ -1,6 +1,6 @@
 -- The line of siblings without one that is taken off: c, a child of x.
 use Rattle.std.proofs.Common.{arith, ◌≡◌, ◌≢◌, ◌⊎◌, List, [], ◌∷◌, Option, Some, None, refl, sym, ap, subst, ◌∙◌, inl, inr}
-use Rattle.xl_trie.proofs.Common.{Slot, get, Updates, Name, Node, Span, In, Apart, span_of, spans, Becomes, Leads, HasKids, AllKids, IsBefore, LeadsNow}
+use Rattle.xl_trie.proofs.Common.{Slot, get, Updates, Name, Node, Span, In, Apart, Leads, HasKids, AllKids, IsBefore, LeadsNow}
 use Rattle.xl_trie.proofs.Lines.{came_from, leads_frame, kids_kept}
 use Rattle.xl_trie.proofs.Listing.{some_is, none_some}
 use Rattle.xl_trie.proofs.Trees.{one_name}

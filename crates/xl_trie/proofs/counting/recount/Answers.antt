@@ -1,4 +1,4 @@
-use Rattle.std.proofs.Common.{◌≡◌, ◌==◌, Some, sym, ap, subst, ◌∙◌, arith, inl, inr}
+use Rattle.std.proofs.Common.{◌≡◌, ◌==◌, Some, sym, subst, ◌∙◌, arith}
 use Rattle.xl_trie.proofs.Common.{Name, Vote, is_on_chain, Span, changed, with_counts, spans, Becomes, count_by-le-length}
 use Rattle.xl_trie.proofs.Listing.{some_is}
 use Rattle.xl_trie.proofs.Recounting.{counts_keep, linked_on, recounted, ends_on}

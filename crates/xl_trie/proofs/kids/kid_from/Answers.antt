@@ -1,6 +1,6 @@
 use Rattle.std.proofs.Common.{◌+◌, ◌-◌, inl, inr, sym, ap, ◌∙◌, arith}
-use Rattle.xl_trie.proofs.Common.{eqb-true, eqb-false, eq-eqb, Node, Span, spans, NoneBegins}
-use Rattle.xl_trie.proofs.Listing.{some_is, true_false}
+use Rattle.xl_trie.proofs.Common.{eqb-true, eqb-false, Node, spans, NoneBegins}
+use Rattle.xl_trie.proofs.Listing.{some_is}
 use Rattle.xl_trie.proofs.Siblings.{kid_in, looks_from, looks_on, looked, stands_next, comes}
 use Rattle.xl_trie.proofs.kids.kid_from.Goals as goal
 

@@ -1,5 +1,5 @@
 use Rattle.std.proofs.Common.{◌≢◌, Some, ◌+◌, ◌-◌, inl, inr, sym, ap, ◌∙◌, arith}
-use Rattle.xl_trie.proofs.Common.{get, Node}
+use Rattle.xl_trie.proofs.Common.{Node}
 use Rattle.xl_trie.proofs.Listing.{some_is, true_false}
 use Rattle.xl_trie.proofs.Siblings.{NoneLeads, none_leads, looks_from, looks_on, looked, stands_next, comes}
 use Rattle.xl_trie.proofs.linking.before.Goals as goal
@@ -25,8 +25,8 @@ pub loop-preserved : goal.loop-preserved
 loop-preserved c =
     looks_on c.args.nodes.now c.args.of (NoneLeads c.args.nodes.now c.args.of c.args.name) (NoneLeads c.args.nodes.now c.args.of c.args.name) c.loop.at (c.live-end.result - c.loop.counter) (c.live-end.result - (c.loop.counter + 1)) c.in-Some.next c.node_at-node.result c.loop.invariant c.in-Some.is c.node_at-node.ensures.node (omega (arith, c.loop-test.true))
     (λ rest kid so b m e p.
-        let differs : c.node_at-node.result.sibling ≢ Some c.args.name = λ h. true_false c.is_named.result (c.is_named.ensures.1 h) c.if-is_named.false in
-        grind (arith, so b m e p, e, c.node_at-node.ensures.node, differs))
+    let differs : c.node_at-node.result.sibling ≢ Some c.args.name = λ h. true_false c.is_named.result (c.is_named.ensures.1 h) c.if-is_named.false in
+    grind (arith, so b m e p, e, c.node_at-node.ensures.node, differs))
 
 pub returns : goal.returns
 returns c = none_leads c.args.nodes.now c.args.of c.args.name (looked c.args.nodes.now c.args.of (NoneLeads c.args.nodes.now c.args.of c.args.name) c.loop.at (c.live-end.result - c.loop.counter) c.loop.invariant (inr (omega (arith, c.loop-test.false))))

@@ -1,4 +1,4 @@
-use Rattle.std.proofs.Common.{◌≡◌, true, false, is_some, Option, Some, None, refl, sym, ap, ◌∙◌, arith, inl, inr}
+use Rattle.std.proofs.Common.{◌≡◌, None, sym, ap, ◌∙◌, arith, inl, inr}
 use Rattle.xl_trie.proofs.Common.{Span, Name, span_of, spans, IsKid, Becomes}
 use Rattle.xl_trie.proofs.Leaving.{dropped, dropped_half, dropped_root}
 use Rattle.xl_trie.proofs.Listing.{none_some, none_of, some_of, is_some_if}

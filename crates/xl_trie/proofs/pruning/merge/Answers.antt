@@ -1,4 +1,4 @@
-use Rattle.std.proofs.Common.{◌≡◌, ◌≢◌, Bool, true, false, not, is_some, List, length, Option, Some, None, IsSome, refl, sym, ap, subst, ◌∙◌, arith, inl, inr}
+use Rattle.std.proofs.Common.{◌≡◌, ◌≢◌, not, List, length, Option, Some, None, IsSome, sym, ap, subst, ◌∙◌, arith, inl, inr}
 use Rattle.xl_trie.proofs.Common.{Header, Vote, AreLedgers, Slot, get, Name, Node, Span, span_of, spans, IsKid, IsNeeded, IsTrieBut, way}
 use Rattle.xl_trie.proofs.Leaving.{merged, merged_root, all_needed}
 use Rattle.xl_trie.proofs.Listing.{some_is, none_some, none_of, some_of, is_some_if}
