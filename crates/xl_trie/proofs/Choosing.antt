@@ -94,9 +94,6 @@ module _ (hs : List Header) (ok : AreLedgers hs) (votes : List Vote) (S : Name �
       ])
 
   -- the lead is the margin of the definitions, and no more than the votes
-  pub lead_none : (b : Name) (m : Span) → IsKid S a b m → lead hs m None ≡ margin hs votes m.first None
-  lead_none b m p = sym (first_is hs ok votes S T a n e b m p).counted
-
   pub lead_some : (b s : Name) (m o : Span) → IsKid S a b m → IsKid S a s o → lead hs m (Some o) ≡ margin hs votes m.first (Some o.first)
   lead_some b s m o p q =
       ap (λ k. k - o.branch + cond {A = ℕ} (is_gt (id_rank hs m.first o.first)) 1 0) (sym (first_is hs ok votes S T a n e b m p).counted)
@@ -140,7 +137,7 @@ module _ (hs : List Header) (ok : AreLedgers hs) (votes : List Vote) (S : Name �
 
     pub choice_one : IsBest hs S a (Some b) None → l ≡ lead hs m None → Choice
     choice_one none ahead = record {
-      is = next_if hs ok votes largest n.ledger m.first u l None here (second_none b m kid none) below (ahead ∙ lead_none b m kid);
+      is = next_if hs ok votes largest n.ledger m.first u l None here (second_none b m kid none) below (ahead ∙ sym (first_is hs ok votes S T a n e b m kid).counted);
       more = omega (arith, ahead);
     }
 

@@ -8,13 +8,6 @@ module _ (nodes : List (Slot Node)) where
   pub kid_in : (a b : Name) (n : Node) (s : Span) → (has : HasKids nodes a n) → IsKid (spans nodes) a b s → In b has.kids
   kid_in a b n s has kid = let m = node_of nodes b s kid.0 in has.all b m.0 m.1 (ap (λ (x : Span). x.parent) m.2 ∙ kid.1)
 
-  pub no_kids : (a b : Name) (n : Node) (s : Span) → (has : HasKids nodes a n) → n.child ≡ None → IsKid (spans nodes) a b s → ⊥
-  no_kids a b n s has none kid = by_line has.kids has.leads (kid_in a b n s has kid)
-    where
-      by_line : (ks : List Name) → Leads nodes n.child ks → In b ks → ⊥
-      by_line [] leads i = i
-      by_line (k ∷ ks) leads i = none_some k (sym none ∙ leads.0)
-
   -- the first child, and the others after it
   pub first_kid : (a k : Name) (n : Node) → (has : HasKids nodes a n) → n.child ≡ Some k → (m : Node) × (get nodes k ≡ Some m) × (m.span.parent ≡ Some a)
       × (m.sibling ≡ None → (b : Name) (s : Span) → IsKid (spans nodes) a b s → b ≡ k) × ((d : Name) → m.sibling ≡ Some d → (k ≢ d) × ((o : Node) × (get nodes d ≡ Some o) × (o.span.parent ≡ Some a)))
@@ -75,6 +68,9 @@ module _ (nodes : List (Slot Node)) (a : Name) where
 
   pub looked : (Seen : List Name → Type 0) (at : Option Name) (left : ℕ) → Looks Seen at left → (at ≡ None) ⊎ (left ≡ 0) → Seen []
   looked Seen at left l end = ended Seen at left l.rest l.leads l.few end l.seen
+
+  pub no_kids : (b : Name) (n : Node) (s : Span) → (has : HasKids nodes a n) → n.child ≡ None → IsKid (spans nodes) a b s → ⊥
+  no_kids b n s has none kid = ended (λ rest. In b rest) n.child (length has.kids) has.kids has.leads (omega arith) (inl none) (kid_in nodes a b n s has kid)
 
   -- the name that comes is that of a child
   pub record Comes (Seen : List Name → Type 0) (name : Name) (left : ℕ) : Type 0 where

@@ -1,6 +1,6 @@
 -- The way to a ledger, and what the chains of ledgers say of it.
 use Rattle.std.proofs.Common.{◌≡◌, ℕ, zero, suc, ◌+◌, ◌<◌, ◌≤◌, ◌==◌, Bool, true, false, cond, List, [], ◌∷◌, ◌++◌, length, get_or, take, drop, Some, slice_get, refl, sym, ap, ◌∙◌, arith, inl, inr}
-use Rattle.xl_trie.proofs.Common.{cases_lt, eqb-true, eq-eqb, length-append, length-drop, take-append-le, drop-append-le, list_any_at, slice_get_within, slice_get-get_or, get_or_from_slice_get, Header, seq_at, parent_of, chain, last_common, common_of, AreLedgers, is_on_chain, slice_get-front, HasParent, parent_known, parent_of_known, seq_of_root, seq_of_added, chain_of_root, chain_more, length-chain, chain_ends, of_chain, way, OnWay, take_all}
+use Rattle.xl_trie.proofs.Common.{cases_Bool, cases_lt, eqb-true, eq-eqb, length-append, length-drop, take-append-le, drop-append-le, list_any_at, slice_get_within, slice_get-get_or, get_or_from_slice_get, Header, seq_at, parent_of, chain, last_common, common_of, AreLedgers, is_on_chain, slice_get-front, HasParent, parent_known, parent_of_known, seq_of_root, seq_of_added, chain_of_root, chain_more, length-chain, chain_ends, of_chain, way, OnWay, take_all}
 use Rattle.xl_trie.proofs.Fronts.{shared, shared_low}
 use Rattle.xl_trie.proofs.Listing.{some_is, at_in, any_in}
 use Rattle.std.proofs.lemmas.List.{drop-take, same_from_push}
@@ -12,11 +12,9 @@ first_of (y ∷ xs) x e = let same : y ≡ x = cc in ap (λ z. z ∷ xs) same
 common_get : (last : ℕ) (xs ys : List ℕ) → last_common last xs ys ≡ get_or (last ∷ xs) (shared xs ys) 0
 common_get last [] ys = refl
 common_get last (x ∷ xs) [] = refl
-common_get last (x ∷ xs) (y ∷ ys) = common_by (x == y) (common_get x xs ys)
-  where
-    common_by : (b : Bool) → last_common x xs ys ≡ get_or (x ∷ xs) (shared xs ys) 0 → cond b (last_common x xs ys) last ≡ get_or (last ∷ x ∷ xs) (cond b (1 + shared xs ys) 0) 0
-    common_by true rest = rest ∙ ap (λ k. get_or (last ∷ x ∷ xs) k 0) (let e : suc (shared xs ys) ≡ 1 + shared xs ys = omega arith in e)
-    common_by false rest = refl
+common_get last (x ∷ xs) (y ∷ ys) =
+    let more : suc (shared xs ys) ≡ 1 + shared xs ys = omega arith in
+    grind (arith, cases_Bool (x == y), common_get x xs ys, ap (λ k. get_or (last ∷ x ∷ xs) k 0) more)
 
 pub length_way : (hs : List Header) (x : ℕ) → length (way hs x) ≡ seq_at hs x
 unfolding way
