@@ -1,51 +1,15 @@
 -- The best of the candidates, by the spans below a node.
-use Rattle.std.proofs.Common.{◌≡◌, ◌≢◌, ◌⊎◌, ℕ, ◌+◌, ◌-◌, ◌<◌, ◌≤◌, ◌==◌, ◌||◌, Bool, true, false, not, cond, List, length, Option, Some, None, refl, sym, ap, subst, ◌∙◌, arith, inl, inr}
-use Rattle.xl_trie.proofs.Common.{Ordering, Less, Equal, Greater, nat_cmp, ordering_then, ordering_reverse, is_gt, IsTotalOrder, list_all, nat_lt, nat_cmp_total, nat_list_cmp_total, on_total, then_total, exact_bytes, cases_lt, cases_Bool, eqb-true, eq-eqb, eqb-false, ne_eqb, or_cases, lt-ltb, le-ltb, not-true, not_from_false, LedgerId, Header, Vote, id_at, seq_at, AreLedgers, branch_of, uncommitted, id_rank, rank, candidates, best_of, others, margin, unless_too_few, next_of, earlier_differs, same_self, Name, Span, In, IsKid, AreSpans, leads, lead, IsBest, GoesTo, or_left, or_right}
+use Rattle.std.proofs.Common.{◌≡◌, ◌≢◌, ◌⊎◌, ℕ, ◌+◌, ◌-◌, ◌<◌, ◌≤◌, ◌==◌, ◌||◌, Bool, true, false, not, cond, List, Option, Some, None, sym, ap, subst, ◌∙◌, arith, inl, inr}
+use Rattle.xl_trie.proofs.Common.{cases_eq, cases_Bool, nat_cmp, ordering_then, is_gt, list_all, nat_lt, cases_Bool, eqb-true, eq-eqb, eqb-false, ne_eqb, or_cases, lt-ltb, le-ltb, not-true, not_from_false, Header, Vote, seq_at, AreLedgers, branch_of, uncommitted, id_rank, rank, candidates, best_of, others, margin, unless_too_few, next_of, Name, Span, In, IsKid, AreSpans, leads, lead, IsBest, GoesTo, or_left, or_right}
 use Rattle.xl_trie.proofs.Listing.{some_is, true_false, all_if, all_at, find_in, find_no, in_filter, to_filter}
 use Rattle.xl_trie.proofs.Ways.{length_way, of_parent}
-use Rattle.xl_trie.proofs.Ranks.{back}
+use Rattle.xl_ledger.proofs.Ranks.{gt_back, gt_or}
 use Rattle.xl_trie.proofs.Firsts.{of_candidates, to_candidates, first_is, first_of}
 
-forth : (r s : Ordering) → s ≡ ordering_reverse r → is_gt r ≡ false → (r ≡ Equal → ⊥) → is_gt s ≡ true
-forth Less s e le other = ap is_gt e
-forth Equal s e le other = absurd (other refl)
-forth Greater s e le other = absurd cc
-
-second_equal : (r s : Ordering) → ordering_then r s ≡ Equal → s ≡ Equal
-second_equal Less s e = absurd cc
-second_equal Equal s e = e
-second_equal Greater s e = absurd cc
-
-bytes_of : (a b : LedgerId) → a.0 ≡ b.0 → a ≡ b
-bytes_of a b e = ap (λ (x : List ℕ). let id : LedgerId = record { 0 = x } in id) e
-
 bit_le : (b : Bool) → cond {A = ℕ} b 1 0 ≤ 1
-bit_le true = omega arith
-bit_le false = omega arith
+bit_le b = grind (arith, cases_Bool b)
 
 module _ (hs : List Header) (ok : AreLedgers hs) (votes : List Vote) where
-  order : IsTotalOrder (rank hs votes)
-  order = then_total (on_total (branch_of hs votes) nat_cmp_total) (on_total (λ (c : ℕ). (id_at hs c).0) nat_list_cmp_total)
-
-  rank_back : (a b : ℕ) → is_gt (rank hs votes a b) ≡ true → is_gt (rank hs votes b a) ≡ false
-  rank_back a b h = back (rank hs votes a b) (rank hs votes b a) (order.antisymm b a) h
-
-  ids_differ : (a b : ℕ) → a < length hs → b < length hs → a ≢ b → (id_at hs a).0 ≡ (id_at hs b).0 → ⊥
-  ids_differ a b la lb other e =
-      let same = bytes_of (id_at hs a) (id_at hs b) e in
-      elim (cases_lt a b) [
-        | inl lt ↦ let d = earlier_differs hs ok a b lt lb in let t = same_self (id_at hs b) (id_at hs a) (sym same) in cc
-        | inr ge ↦ elim (cases_lt b a) [
-          | inl lt ↦ let d = earlier_differs hs ok b a lt la in let t = same_self (id_at hs a) (id_at hs b) same in cc
-          | inr le ↦ other (omega arith)
-        ]
-      ]
-
-  rank_or : (a b : ℕ) → a < length hs → b < length hs → a ≢ b → is_gt (rank hs votes a b) ≡ false → is_gt (rank hs votes b a) ≡ true
-  rank_or a b la lb other h =
-      forth (rank hs votes a b) (rank hs votes b a) (order.antisymm b a) h
-      (λ e. ids_differ a b la lb other (exact_bytes (id_at hs a).0 (id_at hs b).0 (second_equal (nat_cmp (branch_of hs votes a) (branch_of hs votes b)) (id_rank hs a b) e)))
-
   -- the one that ranks above each other
   pub best_is : (some : List ℕ) (c : ℕ) → In c some → ((d : ℕ) → In d some → (d ≡ c) ⊎ (is_gt (rank hs votes c d) ≡ true)) → best_of hs votes some ≡ Some c
   best_is some c i above =
@@ -58,7 +22,7 @@ module _ (hs : List Header) (ok : AreLedgers hs) (votes : List Vote) where
         | inl same ↦ sym (eqb-true c x same)
         | inr gt ↦ elim (above x j) [
           | inl same ↦ same
-          | inr more ↦ true_false (is_gt (rank hs votes x c)) gt (rank_back c x more)
+          | inr more ↦ true_false (is_gt (rank hs votes x c)) gt (gt_back hs ok (branch_of hs votes) c x more)
         ]
       ])
 
@@ -92,10 +56,7 @@ module _ (hs : List Header) (ok : AreLedgers hs) (votes : List Vote) (S : Name �
 
   -- whom no other child leads ranks above it
   above_other : (b d : Name) (m o : Span) → IsKid S a b m → IsKid S a d o → leads hs o m ≡ false → (o.first ≡ m.first) ⊎ (is_gt (rank hs votes m.first o.first) ≡ true)
-  above_other b d m o p q none = elim (cases_Bool (o.first == m.first)) [
-    | inl same ↦ inl (eqb-true o.first m.first same)
-    | inr other ↦ inr (rank_or hs ok votes o.first m.first (T.linked.first d o q.0) (T.linked.first b m p.0) (eqb-false o.first m.first other) (sym (alike d b o m q p) ∙ none))
-  ]
+  above_other b d m o p q none = grind (arith, cases_eq o.first m.first, gt_or hs ok (branch_of hs votes) o.first m.first (T.linked.first d o q.0) (T.linked.first b m p.0), alike d b o m q p, none)
 
   pub first_best : (b : Name) → (best : IsBest hs S a None (Some b)) → best_of hs votes (candidates hs votes n.ledger) ≡ Some best.0.first
   first_best b best =
@@ -114,12 +75,7 @@ module _ (hs : List Header) (ok : AreLedgers hs) (votes : List Vote) (S : Name �
       best_none hs ok votes (others m.first (candidates hs votes n.ledger)) (λ d i.
       let o = in_others hs ok votes m.first d (candidates hs votes n.ledger) i in
       let f = first_of hs ok votes S T a n e d (of_candidates hs ok votes n.ledger d o.0) in
-      elim (none f.name f.node f.kid) [
-        | inl empty ↦ empty
-        | inr same ↦
-            let own : f.node ≡ m = some_is f.node m (sym f.kid.0 ∙ ap S (sym (some_is b f.name same)) ∙ p.0) in
-            o.1 (sym f.is ∙ ap (λ (x : Span). x.first) own)
-      ])
+      grind (arith, none f.name f.node f.kid, o.1, f.is, f.kid.0, p.0))
 
   pub second_some : (b s : Name) (m : Span) → IsKid S a b m → (second : IsBest hs S a (Some b) (Some s)) → best_of hs votes (others m.first (candidates hs votes n.ledger)) ≡ Some second.0.first
   second_some b s m p second =
@@ -138,9 +94,6 @@ module _ (hs : List Header) (ok : AreLedgers hs) (votes : List Vote) (S : Name �
       ])
 
   -- the lead is the margin of the definitions, and no more than the votes
-  pub lead_none : (b : Name) (m : Span) → IsKid S a b m → lead hs m None ≡ margin hs votes m.first None
-  lead_none b m p = sym (first_is hs ok votes S T a n e b m p).counted
-
   pub lead_some : (b s : Name) (m o : Span) → IsKid S a b m → IsKid S a s o → lead hs m (Some o) ≡ margin hs votes m.first (Some o.first)
   lead_some b s m o p q =
       ap (λ k. k - o.branch + cond {A = ℕ} (is_gt (id_rank hs m.first o.first)) 1 0) (sym (first_is hs ok votes S T a n e b m p).counted)
@@ -184,7 +137,7 @@ module _ (hs : List Header) (ok : AreLedgers hs) (votes : List Vote) (S : Name �
 
     pub choice_one : IsBest hs S a (Some b) None → l ≡ lead hs m None → Choice
     choice_one none ahead = record {
-      is = next_if hs ok votes largest n.ledger m.first u l None here (second_none b m kid none) below (ahead ∙ lead_none b m kid);
+      is = next_if hs ok votes largest n.ledger m.first u l None here (second_none b m kid none) below (ahead ∙ sym (first_is hs ok votes S T a n e b m kid).counted);
       more = omega (arith, ahead);
     }
 

@@ -1,6 +1,6 @@
 -- A span comes: as a leaf, or as the front of one that is split.
 use Rattle.std.proofs.Common.{◌≡◌, ◌≢◌, ◌⊎◌, ℕ, ◌<◌, List, length, Option, Some, None, refl, sym, ap, subst, ◌∙◌, arith, inl, inr}
-use Rattle.xl_trie.proofs.Common.{Header, Vote, AreLedgers, tip_of, branch_of, Name, Span, leaf_of, Becomes, IsPlace, AreLinked, HasFork, IsNeeded, IsHalfNeeded, AreSpans, IsRoot, way, OnWay, IsBegin}
+use Rattle.xl_trie.proofs.Common.{Header, Vote, AreLedgers, Name, Span, leaf_of, Becomes, IsKid, IsPlace, AreLinked, HasFork, IsNeeded, IsHalfNeeded, AreSpans, way, OnWay, IsBegin}
 use Rattle.xl_trie.proofs.Listing.{some_is, none_some}
 use Rattle.xl_trie.proofs.Placing.{below, tip_none, branch_none}
 use Rattle.xl_trie.proofs.Relinking.{Other, other_at, relinked}
@@ -8,10 +8,7 @@ use Rattle.xl_trie.proofs.Trees.{one_name, on_self, needed_on}
 
 -- what a name had before
 pub came : (old new : Name → Option Span) (d : Name) (v : Span) → Becomes old new d (Some v) → (b : Name) (u : Span) → new b ≡ Some u → ((b ≡ d) × (u ≡ v)) ⊎ ((b ≢ d) × (old b ≡ Some u))
-came old new d v B b u e = elim (one_name b d) [
-  | inl same ↦ inl (same, some_is u v (sym e ∙ ap new same ∙ B.changed))
-  | inr other ↦ inr (other, sym (B.others b other) ∙ e)
-]
+came old new d v B b u e = grind (arith, one_name b d, B.changed, B.others b)
 
 module _ (hs : List Header) (ok : AreLedgers hs) (votes : List Vote) (S S' : Name → Option Span) (a d : Name) (V : AreSpans hs votes S (Some a)) (l f : ℕ) (kl : l < length hs) (kf : f < length hs) (P : IsPlace hs S l (record { at = a; within = None })) (other : P.span.ledger ≢ l) (first : IsBegin hs l P.span.ledger f) (fresh : S d ≡ None) (B : Becomes S S' d (Some (leaf_of a l f))) where
   lower : length (way hs P.span.ledger) < length (way hs l)
@@ -38,10 +35,7 @@ module _ (hs : List Header) (ok : AreLedgers hs) (votes : List Vote) (S S' : Nam
         first = kf;
         hangs = record { name = a; over = P.span; is = refl; there = to a P.span P.there; above = lower; on = P.on; first = first };
         one = λ c w g same. elim (came S S' d (leaf_of a l f) B c w g) [ inl i ↦ i.0 | inr i ↦ absurd (new c w i.1 same) ];
-        apart = λ b c w p q same. elim (came S S' d (leaf_of a l f) B c w q.0) [
-          | inl i ↦ i.0
-          | inr i ↦ absurd (P.enters c w (i.1, q.1 ∙ sym p.1) (lower, ap (way hs) same ∙ first))
-        ];
+        apart = λ b c w p q same. grind (arith, came S S' d (leaf_of a l f) B c w q.0, λ (kid : IsKid S a c w). P.enters c w kid (lower, ap (way hs) same ∙ first), p.1, q.1);
       }
 
   fork_to : (b : Name) → HasFork S b → HasFork S' b
@@ -53,14 +47,8 @@ module _ (hs : List Header) (ok : AreLedgers hs) (votes : List Vote) (S S' : Nam
     linked = leaf_linked;
     voted = λ v i. let u = V.voted v i in (u.0, u.1, to u.0 u.1 u.2, u.3);
     counted = record {
-      tip = λ b u e. elim (came S S' d (leaf_of a l f) B b u e) [
-        | inl h ↦ subst (λ (x : Span). x.tip ≡ tip_of votes x.ledger) (sym h.1) (tip_none hs ok S votes (Some a) V l kl (record { at = a; within = None }) P other)
-        | inr h ↦ V.counted.tip b u h.1
-      ];
-      branch = λ b u e. elim (came S S' d (leaf_of a l f) B b u e) [
-        | inl h ↦ subst (λ (x : Span). x.branch ≡ branch_of hs votes x.ledger) (sym h.1) (branch_none hs ok S votes (Some a) V l kl (record { at = a; within = None }) P other refl)
-        | inr h ↦ V.counted.branch b u h.1
-      ];
+      tip = λ b u e. grind (arith, came S S' d (leaf_of a l f) B b u e, tip_none hs ok S votes (Some a) V l kl (record { at = a; within = None }) P other, V.counted.tip b u);
+      branch = λ b u e. grind (arith, came S S' d (leaf_of a l f) B b u e, branch_none hs ok S votes (Some a) V l kl (record { at = a; within = None }) P other refl, V.counted.branch b u);
     };
     needed = λ b u e but. elim (came S S' d (leaf_of a l f) B b u e) [
       | inl h ↦ absurd (but (ap Some (sym h.0)))
@@ -75,6 +63,3 @@ module _ (hs : List Header) (ok : AreLedgers hs) (votes : List Vote) (S S' : Nam
       ]
     ];
   }
-
-  pub leaf_root : (root : Name) → IsRoot S root → IsRoot S' root
-  leaf_root root r = (r.0, to root r.0 r.1, r.2)

@@ -1,5 +1,5 @@
 -- A span without votes of its own goes: without children, or with one that takes its place.
-use Rattle.std.proofs.Common.{◌≡◌, ◌≢◌, ◌⊎◌, ◌==◌, List, Option, Some, None, refl, sym, ap, subst, ◌∙◌, arith, inl, inr}
+use Rattle.std.proofs.Common.{◌≡◌, ◌≢◌, ◌⊎◌, ◌==◌, List, Option, Some, None, refl, sym, ap, ◌∙◌, arith, inl, inr}
 use Rattle.xl_trie.proofs.Common.{eq-eqb, Header, Vote, AreLedgers, tip_of, branch_of, Slot, Name, Node, Span, IsMerged, In, spans, IsKid, Becomes, hung_at, Hangs, AreLinked, IsNeeded, IsHalfNeeded, AreSpans, IsTrie, IsTrieBut, IsRoot}
 use Rattle.xl_trie.proofs.Listing.{some_is, none_some, count_some}
 use Rattle.xl_trie.proofs.Relinking.{Other, other_at, relinked}
@@ -22,10 +22,7 @@ module _ (hs : List Header) (ok : AreLedgers hs) (votes : List Vote) (S S' : Nam
   -- without children it goes
   module _ (childless : (b : Name) (u : Span) → IsKid S c b u → ⊥) (B : Becomes S S' c None) where
     from : (b : Name) (u : Span) → S' b ≡ Some u → (b ≢ c) × (S b ≡ Some u)
-    from b u e = elim (one_name b c) [
-      | inl same ↦ absurd (none_some u (sym B.changed ∙ ap S' (sym same) ∙ e))
-      | inr other ↦ (other, sym (B.others b other) ∙ e)
-    ]
+    from b u e = grind (arith, one_name b c, B.changed, B.others b)
 
     to : (b : Name) (u : Span) → S b ≡ Some u → b ≢ c → S' b ≡ Some u
     to b u e other = B.others b other ∙ e
@@ -85,20 +82,10 @@ module _ (hs : List Header) (ok : AreLedgers hs) (votes : List Vote) (S S' : Nam
       pub is : ((b ≡ k) × (u ≡ hung_at t (Some a) s.first)) ⊎ ((b ≢ k) × (u ≡ span))
 
     was : (b : Name) (u : Span) → S' b ≡ Some u → Was b u
-    was b u e =
-        let other : b ≢ c = λ same. none_some u (sym I.gone ∙ ap S' (sym same) ∙ e) in
-        elim (one_name b k) [
-          | inl same ↦
-              let is = some_is u (hung_at t (Some a) s.first) (sym e ∙ ap S' same ∙ I.rest) in
-              record { other = other; span = t; there = ap S same ∙ low.0; ledger = ap (λ (x : Span). x.ledger) is; tip = sym (ap (λ (x : Span). x.tip) is); branch = ap (λ (x : Span). x.branch) is; is = inl (same, is) }
-          | inr differs ↦ record { other = other; span = u; there = sym (I.others b other differs) ∙ e; ledger = refl; tip = refl; branch = refl; is = inr (differs, refl) }
-        ]
+    was b u e = grind (arith, one_name b c, one_name b k, I.gone, I.rest, I.others b, low.0)
 
     to_new : (b : Name) (u : Span) → S b ≡ Some u → b ≢ c → (w : Span) × (S' b ≡ Some w) × (u.ledger ≡ w.ledger)
-    to_new b u e other = elim (one_name b k) [
-      | inl same ↦ (hung_at t (Some a) s.first, ap S' same ∙ I.rest, ap (λ (x : Span). x.ledger) (some_is u t (sym e ∙ ap S same ∙ low.0)))
-      | inr differs ↦ (u, I.others b other differs ∙ e, refl)
-    ]
+    to_new b u e other = grind (arith, one_name b k, I.rest, I.others b, low.0)
 
     -- what the child hangs at
     rest_hangs : Hangs hs S' (hung_at t (Some a) s.first)
@@ -129,10 +116,7 @@ module _ (hs : List Header) (ok : AreLedgers hs) (votes : List Vote) (S S' : Nam
           first = V.linked.first c s kid.0;
           hangs = rest_hangs;
           one = λ d w g same. let n = was d w g in V.linked.one d k n.span t n.there low.0 (sym n.ledger ∙ same);
-          apart = λ b d w p q same. let n = was d w q.0 in elim n.is [
-            | inl i ↦ i.0
-            | inr i ↦ absurd (n.other (V.linked.apart a d c w s (n.there ∙ ap Some (sym i.1), q.1 ∙ sym p.1) kid same))
-          ];
+          apart = λ b d w p q same. grind (arith, was d w q.0, V.linked.apart a d c w s, kid, p.1, q.1, same);
         }
 
     pub merged : AreSpans hs votes S' None
@@ -163,10 +147,7 @@ all_needed hs votes S c V need = record {
   linked = V.linked;
   voted = V.voted;
   counted = V.counted;
-  needed = λ b u e _. elim (one_name c b) [
-    | inl same ↦ subst (λ (x : Name). IsNeeded S x u) same (need u (ap S same ∙ e))
-    | inr other ↦ V.needed b u e (λ is. other (some_is c b is))
-  ];
+  needed = λ b u e _. grind (arith, one_name c b, need u, V.needed b u e);
 }
 
 -- more may be needed than is said

@@ -2,6 +2,7 @@ pub mod Common
 pub mod Fronts
 pub mod Ways
 pub mod Listing
+pub mod Naming
 pub mod Trees
 pub mod Relinking
 pub mod Placing
@@ -16,7 +17,6 @@ pub mod Recounting
 pub mod Coming
 pub mod Splitting
 pub mod Leaving
-pub mod Naming
 pub mod Spots
 pub mod Members
 pub mod Opening

@@ -1,5 +1,5 @@
 -- Lines of siblings, as nodes come, go, hang and are taken off.
-use Rattle.std.proofs.Common.{◌≡◌, ◌≢◌, ◌⊎◌, List, [], ◌∷◌, Option, Some, None, refl, sym, ap, subst, ◌∙◌, inl, inr}
+use Rattle.std.proofs.Common.{arith, ◌≡◌, ◌≢◌, ◌⊎◌, List, [], ◌∷◌, Option, Some, None, refl, sym, ap, subst, ◌∙◌, inl, inr}
 use Rattle.xl_trie.proofs.Common.{Slot, get, Updates, Name, Node, Span, In, span_of, spans, Becomes, Leads, HasKids, AllKids, AllHang}
 use Rattle.xl_trie.proofs.Listing.{some_is, none_some}
 use Rattle.xl_trie.proofs.Trees.{one_name}
@@ -8,10 +8,7 @@ pub becomes : (old new : List (Slot Node)) (x : Name) (v : Option Node) → Upda
 becomes old new x v up = record { changed = ap span_of up.changed; others = λ b other. ap span_of (up.others b other) }
 
 pub came_from : (old new : List (Slot Node)) (x : Name) (v : Node) → Updates old new x (Some v) → (a : Name) (m : Node) → get new a ≡ Some m → ((a ≡ x) × (m ≡ v)) ⊎ ((a ≢ x) × (get old a ≡ Some m))
-came_from old new x v up a m e = elim (one_name a x) [
-  | inl same ↦ inl (same, some_is m v (sym e ∙ ap (get new) same ∙ up.changed))
-  | inr other ↦ inr (other, sym (up.others a other) ∙ e)
-]
+came_from old new x v up a m e = grind (arith, one_name a x, up.changed, up.others a)
 
 -- a line whose names lead on as before
 pub leads_frame : (old new : List (Slot Node)) (at : Option Name) (ks : List Name) → Leads old at ks → ((b : Name) (n : Node) → In b ks → get old b ≡ Some n → (m : Node) × (get new b ≡ Some m) × (m.sibling ≡ n.sibling)) → Leads new at ks
@@ -43,16 +40,10 @@ module _ (old new : List (Slot Node)) (K : AllKids old) (x : Name) where
   ]
     where
       stay : (b : Name) (m : Node) → get old b ≡ Some m → m.span.parent ≡ Some a → (k : Node) × (get new b ≡ Some k) × (k.sibling ≡ m.sibling) × (k.span.parent ≡ m.span.parent)
-      stay b m g p = elim (one_name b x) [
-        | inl same ↦ let own : n ≡ m = some_is n m (sym e ∙ ap (get old) (sym same) ∙ g) in (v, ap (get new) same ∙ up.changed, sibling ∙ ap (λ (y : Node). y.sibling) own, parent ∙ ap (λ (y : Node). y.span.parent) own)
-        | inr other ↦ (m, up.others b other ∙ g, refl, refl)
-      ]
+      stay b m g p = grind (arith, one_name b x, up.changed, up.others b)
 
       back : (b : Name) (k : Node) → get new b ≡ Some k → k.span.parent ≡ Some a → (m : Node) × (get old b ≡ Some m) × (m.span.parent ≡ Some a)
-      back b k g p = elim (came_from old new x v up b k g) [
-        | inl h ↦ (n, ap (get old) h.0 ∙ e, sym parent ∙ ap (λ (y : Node). y.span.parent) (sym h.1) ∙ p)
-        | inr h ↦ (k, h.1, p)
-      ]
+      back b k g p = grind (arith, one_name b x, up.changed, up.others b)
 
   -- a node that hangs nowhere comes
   pub kids_taken : (v : Node) → get old x ≡ None → AllHang (spans old) → Updates old new x (Some v) → v.child ≡ None → v.span.parent ≡ None → AllKids new
@@ -68,10 +59,7 @@ module _ (old new : List (Slot Node)) (K : AllKids old) (x : Name) where
   ]
     where
       back : (b : Name) (k : Node) → get new b ≡ Some k → k.span.parent ≡ Some a → (m : Node) × (get old b ≡ Some m) × (m.span.parent ≡ Some a)
-      back b k g p = elim (came_from old new x v up b k g) [
-        | inl h ↦ absurd (none_some a (sym parent ∙ ap (λ (y : Node). y.span.parent) (sym h.1) ∙ p))
-        | inr h ↦ (k, h.1, p)
-      ]
+      back b k g p = grind (arith, one_name b x, up.changed, up.others b)
 
   -- a node that hangs nowhere goes
   pub kids_given : (n : Node) → get old x ≡ Some n → n.span.parent ≡ None → Updates old new x None → AllKids new
@@ -90,16 +78,10 @@ module _ (p0 p1 p2 : List (Slot Node)) (K : AllKids p0) (x c : Name) (xn cn v w 
   at_c = up2.others c (λ same. differ (sym same)) ∙ up1.changed
 
   stay : (b : Name) (m : Node) → get p0 b ≡ Some m → b ≢ c → (k : Node) × (get p2 b ≡ Some k) × (k.sibling ≡ m.sibling) × (k.span.parent ≡ m.span.parent)
-  stay b m g other = elim (one_name b x) [
-    | inl same ↦ let own : xn ≡ m = some_is xn m (sym e ∙ ap (get p0) (sym same) ∙ g) in (w, ap (get p2) same ∙ up2.changed, w_sibling ∙ ap (λ (y : Node). y.sibling) own, ap (λ (s : Span). s.parent) w_span ∙ ap (λ (y : Node). y.span.parent) own)
-    | inr differs ↦ (m, up2.others b differs ∙ up1.others b other ∙ g, refl, refl)
-  ]
+  stay b m g other = grind (arith, one_name b x, up1.changed, up1.others b, up2.changed, up2.others b)
 
   back : (b : Name) (k : Node) → get p2 b ≡ Some k → ((b ≡ c) × (k ≡ v)) ⊎ ((b ≢ c) × ((m : Node) × (get p0 b ≡ Some m) × (m.span ≡ k.span) × (b ≢ x → m ≡ k)))
-  back b k g = elim (came_from p1 p2 x w up2 b k g) [
-    | inl h ↦ inr ((λ same. differ (sym h.0 ∙ same)), (xn, ap (get p0) h.0 ∙ e, sym w_span ∙ ap (λ (y : Node). y.span) (sym h.1), λ other. absurd (other h.0)))
-    | inr h ↦ elim (came_from p0 p1 c v up1 b k h.1) [ inl i ↦ inl i | inr i ↦ inr (i.0, (k, i.1, refl, λ _. refl)) ]
-  ]
+  back b k g = grind (arith, one_name b x, one_name b c, up1.changed, up1.others b, up2.changed, up2.others b)
 
   kid_of : (a b : Name) (m : Node) → get p0 b ≡ Some m → m.span.parent ≡ Some a → b ≢ c
   kid_of a b m g p same = none_some a (sym free ∙ ap (λ (y : Node). y.span.parent) (some_is cn m (sym f ∙ ap (get p0) (sym same) ∙ g)) ∙ p)
@@ -132,12 +114,3 @@ module _ (p0 p1 p2 : List (Slot Node)) (K : AllKids p0) (x c : Name) (xn cn v w 
       | inr is ↦ others a is.1.0 o other is.1.1 (ap (λ (y : Node). y.child) (sym (is.1.3 other)))
     ]
   ]
-
-  pub span_hung : Becomes (spans p0) (spans p2) c (Some v.span)
-  span_hung = record {
-    changed = ap span_of at_c;
-    others = λ b other. elim (one_name b x) [
-      | inl same ↦ ap (spans p2) same ∙ ap span_of up2.changed ∙ ap Some w_span ∙ sym (ap span_of e) ∙ ap (spans p0) (sym same)
-      | inr differs ↦ ap span_of (up2.others b differs ∙ up1.others b other)
-    ];
-  }

@@ -1,7 +1,10 @@
 -- What stands in a list, what is found there, and how many.
-use Rattle.std.proofs.Common.{◌≡◌, ◌⊎◌, ℕ, zero, suc, ◌+◌, ◌<◌, ◌≤◌, ◌&&◌, Bool, true, false, cond, List, [], ◌∷◌, ◌++◌, length, get_or, Option, Some, None, IsSome, All, refl, sym, ap, subst, ◌∙◌, ⊎_elim, arith, inl, inr}
-use Rattle.xl_trie.proofs.Common.{find, map, list_all, count_by, range_with_len, cases_Bool, both_ways, sum_by-cons, length-range_with_len, get_or-range_with_len, In}
-use Rattle.std.specs.List.{filter}
+use Rattle.std.proofs.Common.{◌≡◌, ◌⊎◌, ℕ, zero, suc, ◌+◌, ◌<◌, ◌≤◌, Bool, true, false, cond, List, [], ◌∷◌, ◌++◌, length, get_or, Option, Some, None, IsSome, is_some, All, refl, sym, ap, subst, ◌∙◌, ⊎_elim, arith, inl, inr}
+use Rattle.xl_trie.proofs.Common.{find, map, list_all, count_by, range_with_len, cases_Bool, sum_by-cons, length-range_with_len, get_or-range_with_len, length-append, In, Apart}
+use Rattle.std.specs.List.{filter, list_any}
+use Rattle.std.proofs.lemmas.List.Elements.{All-filter, All-map, filter-append, filter_passes}
+use Rattle.std.proofs.lemmas.List.Folds.{Any-from_list_any, list_any_at}
+use Rattle.std.proofs.lemmas.List.Sums.{AllPass-from_list_all, length-filter, list_all-from_AllPass}
 
 pub some_is : {X : Type 0} (a b : X) → Some a ≡ Some b → a ≡ b
 some_is a b e = cc
@@ -10,16 +13,21 @@ pub some_of : {X : Type 0} (o : Option X) → IsSome o → (x : X) × (o ≡ Som
 some_of None e = absurd cc
 some_of (Some x) e = (x, refl)
 
+pub is_some_if : {X : Type 0} (o : Option X) (x : X) → o ≡ Some x → IsSome o
+is_some_if o x e = ap is_some e
+
 pub none_some : {X : Type 0} (a : X) → None ≡ Some a → ⊥
 none_some a e = cc
 
+pub none_of : {X : Type 0} (o : Option X) → is_some o ≡ false → o ≡ None
+none_of None e = refl
+none_of (Some x) e = absurd cc
+
 pub true_false : {P : Type 0} (b : Bool) → b ≡ true → b ≡ false → P
-true_false true t f = absurd cc
-true_false false t f = absurd cc
+true_false b t f = absurd cc
 
 pub false_if : (b : Bool) → (b ≡ true → ⊥) → b ≡ false
-false_if true h = absurd (h refl)
-false_if false h = refl
+false_if b h = grind (arith, cases_Bool b, h)
 
 module _ {X : Type 0} where
   pub in_at : (xs : List X) (i : ℕ) (d : X) → i < length xs → In (get_or xs i d) xs
@@ -55,31 +63,22 @@ module _ {X : Type 0} where
   in_second [] ys x i = i
   in_second (y ∷ xs) ys x i = inr (in_second xs ys x i)
 
+  pub around : (ys : List X) (x : X) → In x ys → (fs : List X) × (bs : List X) × (ys ≡ fs ++ x ∷ bs)
+  around [] x i = absurd i
+  around (y ∷ ys) x (inl e) = ([], ys, ap (λ w. w ∷ ys) (sym e))
+  around (y ∷ ys) x (inr i) = let r = around ys x i in (y ∷ r.0, r.1, ap (λ w. y ∷ w) r.2)
+
   module _ (p : X → Bool) where
     pub all_if : (xs : List X) → ((x : X) → In x xs → p x ≡ true) → list_all p xs ≡ true
-    all_if [] h = refl
-    all_if (x ∷ xs) h = ap (λ b. b && list_all p xs) (h x (inl refl)) ∙ all_if xs (λ y i. h y (inr i))
+    all_if xs h = list_all-from_AllPass p xs (all_of (λ x. p x ≡ true) xs h)
 
     pub all_at : (xs : List X) → list_all p xs ≡ true → (x : X) → In x xs → p x ≡ true
-    all_at [] e x i = absurd i
-    all_at (y ∷ xs) e x i = elim (cases_Bool (p y)) [
-      | inl t ↦ elim i [
-        | inl same ↦ ap p same ∙ t
-        | inr j ↦ all_at xs (sym (ap (λ b. b && list_all p xs) t) ∙ e) x j
-      ]
-      | inr f ↦ true_false (p y && list_all p xs) e (ap (λ b. b && list_all p xs) f)
-    ]
+    all_at xs e x i = all_in (λ x. p x ≡ true) xs (AllPass-from_list_all p xs e) x i
 
     -- the only element that passes is found
     pub find_in : (xs : List X) (c : X) → In c xs → p c ≡ true → ((x : X) → In x xs → p x ≡ true → x ≡ c) → find p xs ≡ Some c
     find_in [] c i e only = absurd i
-    find_in (x ∷ xs) c i e only = elim (cases_Bool (p x)) [
-      | inl t ↦ ap (λ b. cond {A = Option X} b (Some x) (find p xs)) t ∙ ap Some (only x (inl refl) t)
-      | inr f ↦ elim i [
-        | inl same ↦ true_false (p x) (ap p (sym same) ∙ e) f
-        | inr j ↦ ap (λ b. cond {A = Option X} b (Some x) (find p xs)) f ∙ find_in xs c j e (λ y k. only y (inr k))
-      ]
-    ]
+    find_in (x ∷ xs) c i e only = grind (arith, cases_Bool (p x), i, e, only x (inl refl), λ (j : In c xs). find_in xs c j e (λ y k. only y (inr k)))
 
     pub find_no : (xs : List X) → ((x : X) → In x xs → p x ≡ false) → find p xs ≡ None
     find_no [] h = refl
@@ -94,9 +93,7 @@ of_range n c i = let r = at_in (range_with_len 0 n) c 0 i in omega (arith, r.1, 
 -- ---- counts, filters, and maps
 
 bits : (a b : Bool) → (a ≡ true → b ≡ true) → cond a 1 0 ≤ cond b 1 0
-bits true true h = omega arith
-bits false b h = omega arith
-bits true false h = absurd (both_ways false refl (h refl))
+bits a b h = grind (arith, cases_Bool a, cases_Bool b, h)
 
 module _ {L : Type 0} where
   pub count_cons : (p : L → Bool) (v : L) (vs : List L) → count_by p (v ∷ vs) ≡ cond (p v) 1 0 + count_by p vs
@@ -112,45 +109,74 @@ module _ {L : Type 0} where
   pub count_same : (p q : L → Bool) (vs : List L) → ((v : L) → In v vs → p v ≡ true → q v ≡ true) → ((v : L) → In v vs → q v ≡ true → p v ≡ true) → count_by p vs ≡ count_by q vs
   count_same p q vs h g = let a = count_le p q vs h in let b = count_le q p vs g in omega arith
 
-  pub count_some : (p : L → Bool) (vs : List L) (v : L) → In v vs → p v ≡ true → 0 < count_by p vs
-  count_some p [] v i e = absurd i
-  count_some p (w ∷ ws) v (inl i) e = let t : cond {A = ℕ} (p w) 1 0 ≡ 1 = ap (λ b. cond {A = ℕ} b 1 0) (ap p (sym i) ∙ e) in omega (arith, count_cons p w ws)
-  count_some p (w ∷ ws) v (inr i) e = let r = count_some p ws v i e in omega (arith, count_cons p w ws)
-
   pub in_filter : (p : L → Bool) (vs : List L) (v : L) → In v (filter p vs) → In v vs × (p v ≡ true)
-  in_filter p [] v i = absurd i
-  in_filter p (w ∷ ws) v i =
-      ⊎_elim
-      (λ (t : p w ≡ true). ⊎_elim
-      (λ (e : v ≡ w). (inl e, ap p e ∙ t))
-      (λ (j : In v (filter p ws)). let r = in_filter p ws v j in (inr r.0, r.1))
-      (subst (λ b. In v (cond b (w ∷ filter p ws) (filter p ws))) t i))
-      (λ (t : p w ≡ false). let r = in_filter p ws v (subst (λ b. In v (cond b (w ∷ filter p ws) (filter p ws))) t i) in (inr r.0, r.1))
-      (cases_Bool (p w))
+  in_filter p vs v i = (
+    all_in (λ x. In x vs) (filter p vs) (All-filter p (λ x. In x vs) vs (all_of (λ x. In x vs) vs (λ x j. j))) v i,
+    all_in (λ x. p x ≡ true) (filter p vs) (filter_passes p vs) v i,
+  )
 
   pub to_filter : (p : L → Bool) (vs : List L) (v : L) → In v vs → p v ≡ true → In v (filter p vs)
-  to_filter p [] v i e = absurd i
-  to_filter p (w ∷ ws) v (inl i) e = subst (λ b. In v (cond b (w ∷ filter p ws) (filter p ws))) (sym (ap p (sym i) ∙ e)) (inl i)
-  to_filter p (w ∷ ws) v (inr i) e =
-      ⊎_elim
-      (λ (t : p w ≡ true). subst (λ b. In v (cond b (w ∷ filter p ws) (filter p ws))) (sym t) (inr (to_filter p ws v i e)))
-      (λ (t : p w ≡ false). subst (λ b. In v (cond b (w ∷ filter p ws) (filter p ws))) (sym t) (to_filter p ws v i e))
-      (cases_Bool (p w))
+  to_filter p vs v i e =
+      let r = around vs v i in
+      let first : In v (filter p (v ∷ r.1)) = subst (λ b. In v (cond b (v ∷ filter p r.1) (filter p r.1))) (sym e) (inl refl) in
+      subst (λ xs. In v xs) (sym (ap (filter p) r.2 ∙ filter-append p r.0 (v ∷ r.1))) (in_second (filter p r.0) (filter p (v ∷ r.1)) v first)
 
   pub in_map : {M : Type 0} (f : L → M) (vs : List L) (x : M) → In x (map f vs) → (v : L) × In v vs × (x ≡ f v)
-  in_map f [] x i = absurd i
-  in_map f (w ∷ ws) x (inl i) = (w, inl refl, i)
-  in_map f (w ∷ ws) x (inr i) = let r = in_map f ws x i in (r.0, inr r.1, r.2)
+  in_map {M = M} f vs x i = all_in (λ (y : M). (v : L) × In v vs × (y ≡ f v)) (map f vs) (All-map (λ (y : M). (v : L) × In v vs × (y ≡ f v)) f vs (all_of (λ v. (w : L) × In w vs × (f v ≡ f w)) vs (λ v j. (v, j, refl)))) x i
 
   pub to_map : {M : Type 0} (f : L → M) (vs : List L) (v : L) → In v vs → In (f v) (map f vs)
   to_map f [] v i = absurd i
   to_map f (w ∷ ws) v (inl i) = inl (ap f i)
   to_map f (w ∷ ws) v (inr i) = inr (to_map f ws v i)
 
+  pub count_some : (p : L → Bool) (vs : List L) (v : L) → In v vs → p v ≡ true → 0 < count_by p vs
+  count_some p vs v i e = let r = at_in (filter p vs) v v (to_filter p vs v i e) in omega (arith, r.1, length-filter p vs)
+
   -- a count above 0 counts something
   pub counted : (p : L → Bool) (vs : List L) → 0 < count_by p vs → (v : L) × In v vs × (p v ≡ true)
-  counted p [] h = absurd (omega arith)
-  counted p (w ∷ ws) h = ⊎_elim
-      (λ (t : p w ≡ true). (w, inl refl, t))
-      (λ (t : p w ≡ false). let z : cond {A = ℕ} (p w) 1 0 ≡ 0 = ap (λ b. cond {A = ℕ} b 1 0) t in let r = counted p ws (omega (arith, h, z, count_cons p w ws)) in (r.0, inr r.1, r.2))
-      (cases_Bool (p w))
+  counted p vs some = by_first (filter p vs) (omega (arith, some, length-filter p vs)) (λ v i. in_filter p vs v i)
+    where
+      by_first : (xs : List L) → 0 < length xs → ((v : L) → In v xs → In v vs × (p v ≡ true)) → (v : L) × In v vs × (p v ≡ true)
+      by_first [] none each = absurd (omega (arith, none))
+      by_first (v ∷ xs) some each = let e = each v (inl refl) in (v, e.0, e.1)
+
+  -- ---- tests, and lists without repetition
+
+  pub any_in : (p : L → Bool) (xs : List L) → list_any p xs ≡ true → (x : L) × In x xs × (p x ≡ true)
+  any_in p xs e = let r = Any-from_list_any p xs e in (r.1, subst (λ y. In y xs) r.3 (in_at xs r.0 r.1 r.2), r.4)
+
+  pub in_any : (p : L → Bool) (xs : List L) (x : L) → In x xs → p x ≡ true → list_any p xs ≡ true
+  in_any p xs x i e = let r = at_in xs x x i in list_any_at p xs r.0 x r.1 (ap p r.2 ∙ e)
+
+  pub apart_le : (xs ys : List L) → Apart xs → ((x : L) → In x xs → In x ys) → length xs ≤ length ys
+  apart_le [] ys a h = omega arith
+  apart_le (x ∷ xs) ys a h =
+      let r = around ys x (h x (inl refl)) in
+      let less = apart_le xs (r.0 ++ r.1) a.1 (λ z i. elim (in_either r.0 (x ∷ r.1) z (subst (In z) r.2 (h z (inr i)))) [
+        | inl j ↦ in_first r.0 r.1 z j
+        | inr (inl e) ↦ absurd (a.0 (subst (λ w. In w xs) e i))
+        | inr (inr j) ↦ in_second r.0 r.1 z j
+      ]) in
+      omega (arith, less, length-append r.0 r.1, length-append r.0 (x ∷ r.1), ap (length {A = L}) r.2)
+
+  pub apart_map : {Y : Type 0} (f : L → Y) (xs : List L) → Apart xs → ((a b : L) → In a xs → In b xs → f a ≡ f b → a ≡ b) → Apart (map f xs)
+  apart_map f [] apart one = tt
+  apart_map f (x ∷ xs) apart one = (
+    (λ i. let y = in_map f xs (f x) i in apart.0 (subst (λ z. In z xs) (sym (one x y.0 (inl refl) (inr y.1) y.2)) y.1)),
+    apart_map f xs apart.1 (λ a b i j. one a b (inr i) (inr j)),
+  )
+
+  pub filter_apart : (p : L → Bool) (xs : List L) → Apart xs → Apart (filter p xs)
+  filter_apart p [] apart = tt
+  filter_apart p (x ∷ xs) apart = by_test (p x) (filter_apart p xs apart.1)
+    where
+      by_test : (b : Bool) → Apart (filter p xs) → Apart (cond b (x ∷ filter p xs) (filter p xs))
+      by_test true rest = ((λ i. apart.0 (in_filter p xs x i).0), rest)
+      by_test false rest = rest
+
+pub range_apart : (a n : ℕ) → Apart (range_with_len a n)
+range_apart a zero = tt
+range_apart a (suc n) = (
+  (λ i. let r = at_in (range_with_len (a + 1) n) a 0 i in omega (arith, r.1, r.2, length-range_with_len (a + 1) n, get_or-range_with_len (a + 1) n r.0 0 (omega (arith, r.1, length-range_with_len (a + 1) n)))),
+  range_apart (a + 1) n,
+)

@@ -1,47 +1,37 @@
 -- The votes of members, as one's comes or goes.
-use Rattle.std.proofs.Common.{◌≡◌, ℕ, ◌+◌, ◌==◌, ◌||◌, Bool, true, false, not, cond, List, [], ◌∷◌, ◌++◌, refl, sym, ap, subst, ◌∙◌, arith, inl, inr}
-use Rattle.xl_trie.proofs.Common.{map, count_by, cases_Bool, eqb-false, eq-eqb, ne_eqb, Vote, has_voted, without, OneMore, OneFewer, changed, IsChange, In, Apart, or_right}
-use Rattle.xl_trie.proofs.Listing.{true_false, in_either, in_filter, in_map, to_map, count_cons}
+use Rattle.std.proofs.Common.{◌≡◌, ℕ, ◌+◌, ◌==◌, Bool, true, false, not, cond, List, [], ◌∷◌, ◌++◌, refl, sym, ap, subst, ◌∙◌, arith, inl, inr}
+use Rattle.xl_trie.proofs.Common.{map, count_by, cases_Bool, eq-eqb, ne_eqb, Vote, has_voted, without, OneMore, OneFewer, changed, IsChange, In, Apart}
+use Rattle.std.proofs.lemmas.List.{map_push}
+use Rattle.std.proofs.lemmas.List.Sums.{sum_by_push}
+use Rattle.xl_trie.proofs.Listing.{true_false, in_any, in_either, in_filter, in_map, to_map, count_cons}
 
 abbrev pub members : List Vote → List ℕ
 members votes = map (λ v. v.member) votes
 
-voted_if : (votes : List Vote) (v : Vote) → In v votes → has_voted votes v.member ≡ true
-voted_if [] v i = absurd i
-voted_if (w ∷ votes) v (inl same) = ap (λ b. b || has_voted votes v.member) (eq-eqb w.member v.member (ap (λ (x : Vote). x.member) (sym same)))
-voted_if (w ∷ votes) v (inr i) = or_right (w.member == v.member) (has_voted votes v.member) (voted_if votes v i)
-
 -- ---- one more
 
-count_last : (p : Vote → Bool) (votes : List Vote) (v : Vote) → count_by p (votes ++ v ∷ []) ≡ cond (p v) 1 0 + count_by p votes
-count_last p [] v = count_cons p v []
-count_last p (w ∷ votes) v = let r = count_last p votes v in omega (arith, r, count_cons p w (votes ++ v ∷ []), count_cons p w votes)
-
-more_if : (b : Bool) (n k : ℕ) → n ≡ cond b 1 0 + k → n ≡ cond b (k + 1) k
-more_if true n k e = omega (arith, e)
-more_if false n k e = omega (arith, e)
+more_if : (b : Bool) (n k : ℕ) → n ≡ k + cond b 1 0 → n ≡ cond b (k + 1) k
+more_if b n k e = grind (arith, cases_Bool b, e)
 
 pub one_more : (votes : List Vote) (v : Vote) → IsChange OneMore v votes (votes ++ v ∷ [])
 one_more votes v = record {
-  counts = λ p. more_if (p v) (count_by p (votes ++ v ∷ [])) (count_by p votes) (count_last p votes v);
+  counts = λ p. more_if (p v) (count_by p (votes ++ v ∷ [])) (count_by p votes) (sum_by_push (λ x. cond (p x) 1 0) votes v);
   from = λ w i. elim (in_either votes (v ∷ []) w i) [ inl j ↦ inl j | inr (inl same) ↦ inr same | inr (inr wrong) ↦ absurd wrong ];
 }
 
+apart_push : (ms : List ℕ) (m : ℕ) → Apart ms → (In m ms → ⊥) → Apart (ms ++ m ∷ [])
+apart_push [] m apart none = ((λ i. i), tt)
+apart_push (k ∷ ms) m apart none = (
+  (λ i. elim (in_either ms (m ∷ []) k i) [ inl j ↦ apart.0 j | inr (inl same) ↦ none (inl (sym same)) | inr (inr wrong) ↦ wrong ]),
+  apart_push ms m apart.1 (λ i. none (inr i)),
+)
+
 pub members_more : (votes : List Vote) (v : Vote) → Apart (members votes) → has_voted votes v.member ≡ false → Apart (members (votes ++ v ∷ []))
-members_more [] v apart none = ((λ i. i), tt)
-members_more (w ∷ votes) v apart none = elim (cases_Bool (w.member == v.member)) [
-  | inl t ↦ true_false (has_voted (w ∷ votes) v.member) (ap (λ b. b || has_voted votes v.member) t) none
-  | inr f ↦ (
-    (λ i.
-        let u = in_map (λ (x : Vote). x.member) (votes ++ v ∷ []) w.member i in
-        elim (in_either votes (v ∷ []) u.0 u.1) [
-          | inl j ↦ apart.0 (subst (λ m. In m (members votes)) (sym u.2) (to_map (λ (x : Vote). x.member) votes u.0 j))
-          | inr (inl same) ↦ eqb-false w.member v.member f (u.2 ∙ ap (λ (x : Vote). x.member) same)
-          | inr (inr wrong) ↦ wrong
-        ]),
-    members_more votes v apart.1 (sym (ap (λ b. b || has_voted votes v.member) f) ∙ none),
-  )
-]
+members_more votes v apart none =
+    subst (λ (ms : List ℕ). Apart ms) (sym (map_push (λ (w : Vote). w.member) votes v))
+    (apart_push (members votes) v.member apart (λ i.
+    let u = in_map (λ (w : Vote). w.member) votes v.member i in
+    true_false (has_voted votes v.member) (in_any (λ w. w.member == v.member) votes u.0 u.1 (eq-eqb u.0.member v.member (sym u.2))) none))
 
 -- ---- one fewer
 
@@ -64,8 +54,7 @@ count_without p (w ∷ votes) v (inr i) apart =
     omega (arith, r, count_cons p w votes, count_cons p w (without votes v.member), ap (count_by p) rest)
 
 fewer_if : (b : Bool) (n k : ℕ) → k ≡ cond b 1 0 + n → n ≡ cond b (changed OneFewer k) k
-fewer_if true n k e = omega (arith, e)
-fewer_if false n k e = omega (arith, e)
+fewer_if b n k e = grind (arith, cases_Bool b, e)
 
 pub one_fewer : (votes : List Vote) (v : Vote) → In v votes → Apart (members votes) → IsChange OneFewer v votes (without votes v.member)
 one_fewer votes v i apart = record {

@@ -1,8 +1,8 @@
 -- Without votes the root alone has a node.
 use Rattle.std.proofs.Common.{◌≡◌, ℕ, ◌<◌, ◌==◌, List, [], length, replicate, Some, None, refl, sym, ap, subst, ◌∙◌, arith, inl, inr}
 use Rattle.xl_trie.proofs.Common.{cases_lt, cond_both, get_or-replicate, get_or_past, length-replicate, Header, AreLedgers, Slot, empty_slot, slot_at, get, Updates, Name, Node, Span, span_of, spans, GoesWith}
-use Rattle.xl_trie.proofs.Listing.{some_is, none_some}
-use Rattle.xl_trie.proofs.Siblings.{node_of}
+use Rattle.xl_trie.proofs.Listing.{none_some}
+use Rattle.xl_trie.proofs.Naming.{node_of}
 use Rattle.xl_trie.proofs.Trees.{one_name}
 use Rattle.xl_trie.proofs.Ways.{way_root}
 
@@ -18,10 +18,9 @@ empty_finds n a = cond_both ((slot_at {T = Node} (replicate n empty_slot) a.slot
 
 module _ (hs : List Header) (ok : AreLedgers hs) (n : ℕ) (old new : List (Slot Node)) (root : Name) (top : Node) (child : top.child ≡ None) (span : top.span ≡ record { ledger = 0; first = 0; parent = None; tip = 0; branch = 0 }) (empty : old ≡ replicate n empty_slot) (up : Updates old new root (Some top)) where
   only : (a : Name) (m : Node) → get new a ≡ Some m → (a ≡ root) × (m ≡ top)
-  only a m e = elim (one_name a root) [
-    | inl same ↦ (same, some_is m top (sym e ∙ ap (get new) same ∙ up.changed))
-    | inr other ↦ absurd (none_some m (sym (up.others a other ∙ ap (λ (p : List (Slot Node)). get p a) empty ∙ empty_finds n a) ∙ e))
-  ]
+  only a m e =
+      let none : get old a ≡ None = ap (λ (p : List (Slot Node)). get p a) empty ∙ empty_finds n a in
+      grind (arith, one_name a root, up.changed, up.others a, none)
 
   by_root : (P : Span → Type 0) → P (record { ledger = 0; first = 0; parent = None; tip = 0; branch = 0 }) → (a : Name) (s : Span) → spans new a ≡ Some s → P s
   by_root P p a s e = let m = node_of new a s e in subst P (sym span ∙ ap (λ (x : Node). x.span) (sym (only a m.0 m.1).1) ∙ m.2) p

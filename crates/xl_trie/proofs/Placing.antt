@@ -1,29 +1,12 @@
 -- The deepest span that ends on a way, and what its place tells of votes.
-use Rattle.std.proofs.Common.{◌≡◌, ◌≢◌, ℕ, ◌<◌, ◌≤◌, ◌==◌, true, false, List, length, take, Option, Some, None, slice_get, sym, ap, subst, ◌∙◌, arith, inl, inr}
-use Rattle.xl_trie.proofs.Common.{cases_lt, cases_Bool, eqb-true, eqb-false, slice_get_within, Header, Vote, seq_at, chain, AreLedgers, is_on_chain, tip_of, branch_of, length-chain, of_chain, Name, Span, Place, IsKid, BeginsAt, Enters, EntersAt, IsPlace, AreLinked, AreSpans, HasSpan, way, OnWay, IsBegin}
-use Rattle.xl_trie.proofs.Listing.{some_is, true_false, false_if, counted}
+use Rattle.std.proofs.Common.{◌≡◌, ◌≢◌, ℕ, ◌<◌, ◌≤◌, ◌==◌, true, false, List, length, Option, Some, None, sym, ap, subst, ◌∙◌, arith, inl, inr}
+use Rattle.xl_trie.proofs.Common.{cases_lt, eqb-true, Header, Vote, seq_at, AreLedgers, is_on_chain, tip_of, branch_of, Name, Span, Place, IsKid, BeginsAt, Enters, EntersAt, IsPlace, AreLinked, AreSpans, HasSpan, way, OnWay, IsBegin}
+use Rattle.xl_trie.proofs.Listing.{some_is, true_false, counted}
 use Rattle.xl_trie.proofs.Trees.{on_self, front_of, on_through, begin_up, same_ledger, hung, one_kid, leads_to, toward, toward_vote, known_vote, span_branch}
-use Rattle.xl_trie.proofs.Ways.{length_way, way_at, way_one, on_true, on_from}
+use Rattle.xl_trie.proofs.Ways.{length_way, way_one, on_true, on_from}
 
 pub zero_if : (n : ℕ) → (0 < n → ⊥) → n ≡ 0
 zero_if n none = elim (cases_lt 0 n) [ inl some ↦ absurd (none some) | inr le ↦ omega (arith, le) ]
-
-module _ (hs : List Header) (ok : AreLedgers hs) where
-  -- a deeper ledger isn't on a chain
-  pub on_low : (ledger of : ℕ) → of < length hs → seq_at hs of < seq_at hs ledger → false ≡ is_on_chain hs ledger of
-  on_low ledger of ko lt = sym (false_if (is_on_chain hs ledger of) (λ t. let on = on_true hs ok ledger of ko t in omega (arith, on.0, lt, length_way hs ledger, length_way hs of)))
-
-  -- what stands where a ledger would stand tells whether it is on the chain
-  pub on_at : (ledger of x : ℕ) → ledger < length hs → of < length hs → slice_get (chain hs of) (seq_at hs ledger) ≡ Some x → (x == ledger) ≡ is_on_chain hs ledger of
-  on_at ledger of x kl ko at =
-      let is = way_at hs ok of (seq_at hs ledger) x ko at ∙ ap (λ k. take k (way hs of)) (sym (length_way hs ledger)) in
-      let low = slice_get_within (chain hs of) (seq_at hs ledger) x at in
-      elim (cases_Bool (x == ledger)) [
-        | inl same ↦ same ∙ sym (on_from hs ok ledger of kl ko (omega (arith, low, length-chain hs of, length_way hs ledger, length_way hs of), sym is ∙ ap (way hs) (eqb-true x ledger same)))
-        | inr other ↦
-            other ∙ sym (false_if (is_on_chain hs ledger of) (λ t.
-            eqb-false x ledger other (way_one hs ok x ledger (of_chain hs ok of ko (seq_at hs ledger) x at).known kl (is ∙ (on_true hs ok ledger of ko t).1))))
-      ]
 
 module _ (hs : List Header) (ok : AreLedgers hs) (S : Name → Option Span) (L : AreLinked hs S) (to : ℕ) (kt : to < length hs) (a : Name) (s : Span) (e : S a ≡ Some s) (on : OnWay hs s.ledger to) where
   -- none is deeper, where no child ends on the way
@@ -94,10 +77,7 @@ module _ (hs : List Header) (ok : AreLedgers hs) (S : Name → Option Span) (vot
       other (at_span (subst (HasSpan S) (eqb-true v.0.ledger x v.2) (V.voted v.0 v.1)))))
 
   pub below : P.span.ledger ≢ x → length (way hs P.span.ledger) < length (way hs x)
-  below other = elim (cases_lt (length (way hs P.span.ledger)) (length (way hs x))) [
-    | inl lt ↦ lt
-    | inr le ↦ absurd (other (same_ledger hs ok P.span.ledger x (V.linked.known p.at P.span P.there) kx P.on le))
-  ]
+  below other = grind (arith, cases_lt (length (way hs P.span.ledger)) (length (way hs x)), same_ledger hs ok P.span.ledger x (V.linked.known p.at P.span P.there) kx P.on, other)
 
   -- inside a span it has those of the span
   pub branch_inside : P.span.ledger ≢ x → (c : Name) (t : Span) → IsKid S p.at c t → is_on_chain hs x t.ledger ≡ true → t.branch ≡ branch_of hs votes x
@@ -118,10 +98,7 @@ module _ (hs : List Header) (ok : AreLedgers hs) (S : Name → Option Span) (vot
       let lt = below other in
       let u = toward_vote hs ok S V.linked votes but V p.at P.span v.0 P.there v.1 (on_through hs P.span.ledger x v.0.ledger P.on on) (omega (arith, lt, on.0)) in
       let h = hung hs ok S V.linked p.at u.name P.span u.span P.there u.kid in
-      let short : length (way hs x) < length (way hs u.span.ledger) = elim (cases_lt (length (way hs x)) (length (way hs u.span.ledger))) [
-        | inl gt ↦ gt
-        | inr le ↦ absurd (let d = P.deepest u.name u.span u.kid.0 (front_of hs u.span.ledger x v.0.ledger u.on on le) in omega (arith, d, h.above))
-      ] in
+      let short : length (way hs x) < length (way hs u.span.ledger) = grind (arith, cases_lt (length (way hs x)) (length (way hs u.span.ledger)), P.deepest u.name u.span u.kid.0, front_of hs u.span.ledger x v.0.ledger u.on on, h.above) in
       let inside = front_of hs x u.span.ledger v.0.ledger on u.on (omega (arith, short)) in
       record { name = u.name; span = u.span; kid = u.kid; enters = (lt, begin_up hs x u.span.ledger P.span.ledger u.span.first inside lt h.first); inside = on_from hs ok x u.span.ledger kx (V.linked.known u.name u.span u.kid.0) inside }
 

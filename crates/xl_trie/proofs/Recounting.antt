@@ -1,6 +1,6 @@
 -- Counts, as a vote comes or goes.
-use Rattle.std.proofs.Common.{◌≡◌, ◌≢◌, ◌⊎◌, ℕ, ◌<◌, ◌==◌, Bool, true, false, cond, List, length, Option, Some, None, refl, sym, ap, subst, ◌∙◌, arith, inl, inr}
-use Rattle.xl_trie.proofs.Common.{cases_lt, cases_Bool, eqb-true, eq-eqb, Header, Vote, AreLedgers, is_on_chain, tip_of, branch_of, Name, Span, Change, changed, with_counts, AreRecounted, IsChange, In, Becomes, AreLinked, HasFork, AreSpans, way, OnWay}
+use Rattle.std.proofs.Common.{◌≡◌, ◌≢◌, ◌⊎◌, ℕ, ◌<◌, ◌==◌, List, length, Option, Some, None, refl, sym, ap, subst, ◌∙◌, arith, inl, inr}
+use Rattle.xl_trie.proofs.Common.{cases_lt, cases_eq, cases_Bool, ne_eqb, eq-eqb, Header, Vote, AreLedgers, is_on_chain, tip_of, branch_of, Name, Span, Change, changed, with_counts, AreRecounted, IsChange, In, Becomes, AreLinked, HasFork, AreSpans, way, OnWay}
 use Rattle.xl_trie.proofs.Listing.{some_is, none_some, all_of}
 use Rattle.xl_trie.proofs.Relinking.{relinked}
 use Rattle.xl_trie.proofs.Trees.{one_name, on_self, front_of, on_through, same_ledger, root_short, nearest, known_vote, needed_on}
@@ -26,14 +26,8 @@ module _ (hs : List Header) (S S' : Name → Option Span) (K : SameLinks S S') w
 -- one span's counts change
 pub counts_keep : (S S' : Name → Option Span) (a : Name) (s : Span) (tip branch : ℕ) → S a ≡ Some s → Becomes S S' a (Some (with_counts s tip branch)) → SameLinks S S'
 counts_keep S S' a s tip branch e B = record {
-  to = λ b u f. elim (one_name b a) [
-    | inl same ↦ (with_counts s tip branch, ap S' same ∙ B.changed, ap (λ (x : Span). x.ledger) (some_is u s (sym f ∙ ap S same ∙ e)))
-    | inr other ↦ (u, B.others b other ∙ f, refl)
-  ];
-  from = λ b t f. elim (one_name b a) [
-    | inl same ↦ let is = some_is (with_counts s tip branch) t (sym B.changed ∙ ap S' (sym same) ∙ f) in (s, ap S same ∙ e, ap (λ (x : Span). x.ledger) is, ap (λ (x : Span). x.first) is, ap (λ (x : Span). x.parent) is)
-    | inr other ↦ (t, sym (B.others b other) ∙ f, refl, refl, refl)
-  ];
+  to = λ b u f. grind (arith, one_name b a, B.changed, B.others b);
+  from = λ b t f. grind (arith, one_name b a, B.changed, B.others b);
 }
 
 -- ---- the counts of the spans above one
@@ -41,23 +35,14 @@ counts_keep S S' a s tip branch e B = record {
 module _ (hs : List Header) (ok : AreLedgers hs) (change : Change) (S S1 : Name → Option Span) (L : AreLinked hs S) (a : Name) (s : Span) (e : S a ≡ Some s) (B : Becomes S S1 a (Some (with_counts s s.tip (changed change s.branch)))) where
   -- the span itself, or one that is left as it was
   first_step : (b : Name) (u : Span) → S b ≡ Some u → ((b ≡ a) × (u ≡ s)) ⊎ ((b ≢ a) × (S1 b ≡ Some u))
-  first_step b u f = elim (one_name b a) [
-    | inl same ↦ inl (same, some_is u s (sym f ∙ ap S same ∙ e))
-    | inr other ↦ inr (other, B.others b other ∙ f)
-  ]
+  first_step b u f = grind (arith, one_name b a, B.others b)
 
   -- one above it is another one
   above_differs : (b : Name) (u : Span) → S b ≡ Some u → OnWay hs u.ledger s.ledger → b ≢ a → length (way hs u.ledger) < length (way hs s.ledger)
-  above_differs b u f on other = elim (cases_lt (length (way hs u.ledger)) (length (way hs s.ledger))) [
-    | inl lt ↦ lt
-    | inr le ↦ absurd (other (L.one b a u s f e (same_ledger hs ok u.ledger s.ledger (L.known b u f) (L.known a s e) on le)))
-  ]
+  above_differs b u f on other = grind (arith, cases_lt (length (way hs u.ledger)) (length (way hs s.ledger)), L.one b a u s f e, same_ledger hs ok u.ledger s.ledger (L.known b u f) (L.known a s e) on, other)
 
   back_one : (S' : Name → Option Span) → ((b : Name) (t : Span) → S' b ≡ Some t → (u : Span) × (S1 b ≡ Some u)) → (b : Name) (t : Span) → S' b ≡ Some t → (u : Span) × (S b ≡ Some u)
-  back_one S' back b t f = elim (one_name b a) [
-    | inl same ↦ (s, ap S same ∙ e)
-    | inr other ↦ let u = back b t f in (u.0, sym (B.others b other) ∙ u.1)
-  ]
+  back_one S' back b t f = grind (arith, one_name b a, B.others b, back b t f)
 
   -- where it is the highest
   pub recounted_top : s.parent ≡ None → AreRecounted hs S S1 change s.ledger
@@ -100,10 +85,6 @@ module _ (hs : List Header) (ok : AreLedgers hs) (change : Change) (S S1 : Name 
 
 -- ---- a vote for the ledger of a span comes or goes
 
-cond_is : {X : Type 0} (b : Bool) (x y z : X) → z ≡ cond b x y → (b ≡ true → z ≡ x) × (b ≡ false → z ≡ y)
-cond_is true x y z e = ((λ _. e), (λ wrong. absurd cc))
-cond_is false x y z e = ((λ wrong. absurd cc), (λ _. e))
-
 module _ (hs : List Header) (ok : AreLedgers hs) (change : Change) (v : Vote) (votes now : List Vote) (C : IsChange change v votes now) (S S1 S2 : Name → Option Span) (a : Name) (s : Span) (e : S a ≡ Some s) (for : s.ledger ≡ v.ledger) (V : AreSpans hs votes S (Some a)) (B : Becomes S S1 a (Some (with_counts s (changed change s.tip) s.branch))) (R : AreRecounted hs S1 S2 change s.ledger) where
   keep1 : SameLinks S S1
   keep1 = counts_keep S S1 a s (changed change s.tip) s.branch e B
@@ -120,13 +101,8 @@ module _ (hs : List Header) (ok : AreLedgers hs) (change : Change) (v : Vote) (v
 
   to_new : (b : Name) (u : Span) → S b ≡ Some u → (t : Span) × (S2 b ≡ Some t) × Was b t
   to_new b u f = elim (one_name b a) [
-    | inl same ↦
-        let r = R.each a (with_counts s (changed change s.tip) s.branch) B.changed in
-        let there : S2 b ≡ Some (with_counts s (changed change s.tip) r.0) = ap S2 same ∙ r.1 in
-        (with_counts s (changed change s.tip) r.0, there, record { span = s; there = ap S same ∙ e; ledger = refl; first = refl; parent = refl; tip = inl (same, refl); branch = r.2 })
-    | inr other ↦
-        let r = R.each b u (B.others b other ∙ f) in
-        (with_counts u u.tip r.0, r.1, record { span = u; there = f; ledger = refl; first = refl; parent = refl; tip = inr (other, refl); branch = r.2 })
+    | inl same ↦ let r = R.each a (with_counts s (changed change s.tip) s.branch) B.changed in (with_counts s (changed change s.tip) r.0, ap S2 same ∙ r.1, grind (arith, r.2, same, e))
+    | inr other ↦ let r = R.each b u (B.others b other ∙ f) in (with_counts u u.tip r.0, r.1, grind (arith, r.2, f, other))
   ]
 
   was : (b : Name) (t : Span) → S2 b ≡ Some t → Was b t
@@ -152,31 +128,17 @@ module _ (hs : List Header) (ok : AreLedgers hs) (change : Change) (v : Vote) (v
   tip_now b t f =
       let w = was b t f in
       let before : w.span.tip ≡ tip_of votes t.ledger = V.counted.tip b w.span w.there ∙ ap (tip_of votes) w.ledger in
-      let c = cond_is (v.ledger == t.ledger) (changed change (tip_of votes t.ledger)) (tip_of votes t.ledger) (tip_of now t.ledger) (C.counts (λ (x : Vote). x.ledger == t.ledger)) in
-      elim w.tip [
-        | inl i ↦
-            let own : w.span ≡ s = some_is w.span s (sym w.there ∙ ap S i.0 ∙ e) in
-            i.1 ∙ ap (changed change) before ∙ sym (c.0 (eq-eqb v.ledger t.ledger (sym for ∙ ap (λ (x : Span). x.ledger) (sym own) ∙ w.ledger)))
-        | inr i ↦ i.1 ∙ before ∙ sym (elim (cases_Bool (v.ledger == t.ledger)) [
-          | inl same ↦ absurd (i.0 (V.linked.one b a w.span s w.there e (w.ledger ∙ sym (eqb-true v.ledger t.ledger same) ∙ sym for)))
-          | inr other ↦ c.1 other
-        ])
-      ]
+      let counts = C.counts (λ (x : Vote). x.ledger == t.ledger) in
+      grind (arith, w.tip, before, counts, cases_eq v.ledger t.ledger, eq-eqb v.ledger t.ledger, ne_eqb v.ledger t.ledger, for, e, w.there, w.ledger, V.linked.one b a w.span s w.there e)
 
   branch_now : (b : Name) (t : Span) → S2 b ≡ Some t → t.branch ≡ branch_of hs now t.ledger
   branch_now b t f =
       let w = was b t f in
       let before : w.span.branch ≡ branch_of hs votes t.ledger = V.counted.branch b w.span w.there ∙ ap (branch_of hs votes) w.ledger in
-      let c = cond_is (is_on_chain hs t.ledger v.ledger) (changed change (branch_of hs votes t.ledger)) (branch_of hs votes t.ledger) (branch_of hs now t.ledger) (C.counts (λ (x : Vote). is_on_chain hs t.ledger x.ledger)) in
+      let counts = C.counts (λ (x : Vote). is_on_chain hs t.ledger x.ledger) in
       let kt : t.ledger < length hs = subst (λ x. x < length hs) w.ledger (V.linked.known b w.span w.there) in
       let ks : v.ledger < length hs = subst (λ x. x < length hs) for (V.linked.known a s e) in
-      elim w.branch [
-        | inl i ↦ i.1 ∙ ap (changed change) before ∙ sym (c.0 (on_from hs ok t.ledger v.ledger kt ks (subst (OnWay hs t.ledger) for i.0)))
-        | inr i ↦ i.1 ∙ before ∙ sym (elim (cases_Bool (is_on_chain hs t.ledger v.ledger)) [
-          | inl on ↦ absurd (i.0 (subst (OnWay hs t.ledger) (sym for) (on_true hs ok t.ledger v.ledger ks on)))
-          | inr off ↦ c.1 off
-        ])
-      ]
+      grind (arith, w.branch, before, counts, cases_Bool (is_on_chain hs t.ledger v.ledger), on_from hs ok t.ledger v.ledger kt ks, on_true hs ok t.ledger v.ledger ks, for)
 
   pub recounted : AreSpans hs now S2 (Some a)
   recounted = record {

@@ -1,5 +1,5 @@
 -- Spans that are as they were, and others that are linked, are linked together.
-use Rattle.std.proofs.Common.{◌≡◌, ◌⊎◌, ◌+◌, ◌<◌, List, length, take, Option, Some, sym, ap, subst, ◌∙◌, inl, inr}
+use Rattle.std.proofs.Common.{arith, ◌≡◌, ◌⊎◌, ◌+◌, ◌<◌, List, length, take, Option, Some, sym, ap, subst, ◌∙◌, inl, inr}
 use Rattle.xl_trie.proofs.Common.{Header, Name, Span, IsKid, Hangs, AreLinked, way, OnWay}
 use Rattle.xl_trie.proofs.Trees.{rehang}
 
@@ -28,10 +28,7 @@ module _ (hs : List Header) (S S' : Name → Option Span) where
   relinked L was over = record {
     known = λ b u e. elim (was b u e) [ inl k ↦ subst (λ x. x < length hs) k.ledger (L.known b k.span k.there) | inr n ↦ n.known ];
     first = λ b u e. elim (was b u e) [ inl k ↦ subst (λ x. x < length hs) k.first (L.first b k.span k.there) | inr n ↦ n.first ];
-    one = λ b c u w e g same. elim (was b u e) [
-      | inr n ↦ sym (n.one c w g (sym same))
-      | inl k ↦ elim (was c w g) [ inr m ↦ m.one b u e same | inl j ↦ L.one b c k.span j.span k.there j.there (k.ledger ∙ same ∙ sym j.ledger) ]
-    ];
+    one = λ b c u w e g same. grind (arith, was b u e, was c w g, L.one);
     hangs = λ b u e. elim (was b u e) [
       | inr n ↦ inr n.hangs
       | inl k ↦ elim (L.hangs b k.span k.there) [

@@ -1,41 +1,12 @@
 -- A way along siblings, and how many names may have nodes.
-use Rattle.std.proofs.Common.{◌≡◌, ◌≢◌, ◌⊎◌, ℕ, ◌+◌, ◌%◌, ◌^◌, ◌≤◌, cond, List, [], ◌∷◌, length, is_some, Option, Some, None, IsSome, refl, sym, ap, subst, ◌∙◌, arith, inl, inr}
-use Rattle.xl_trie.proofs.Common.{Slot, slot_at, get, live, without_value, Name, counts, live-set, of_found, found_within, Updates-without_value, Node, Span, In, Apart, span_of, spans, IsKid, Leads, HasKids, IsBefore}
-use Rattle.xl_trie.proofs.Listing.{some_is, none_some}
-
--- names with values are no more than the values
-few_names : {T : Type 0} (nodes : List (Slot T)) (ks : List Name) → Apart ks → ((b : Name) → In b ks → IsSome (get nodes b)) → length ks ≤ live nodes
-few_names nodes [] apart held = omega arith
-few_names {T = T} nodes (k ∷ ks) apart held =
-    let found = held k (inl refl) in
-    let gone = Updates-without_value nodes k found in
-    let one = live-set nodes k.slot (record { generation = (k.generation + 1) % 2 ^ 32; value = None }) (found_within nodes k found) in
-    let some : IsSome (slot_at nodes k.slot).value = (of_found (slot_at nodes k.slot) k.generation found).1 in
-    let was : counts (slot_at nodes k.slot).value ≡ 1 = ap (λ b. cond b 1 0) some in
-    let rest = few_names (without_value nodes k) ks apart.1 (λ b i. subst IsSome (sym (gone.others b (λ e. apart.0 (subst (λ (x : Name). In x ks) e i)))) (held b (inr i))) in
-    omega (arith, one, was, rest)
-
-pub is_some_if : {X : Type 0} (o : Option X) (x : X) → o ≡ Some x → IsSome o
-is_some_if o x e = ap is_some e
+use Rattle.std.proofs.Common.{◌≡◌, ◌≢◌, ◌⊎◌, ℕ, ◌+◌, ◌≤◌, List, [], ◌∷◌, length, Option, Some, None, IsSome, refl, sym, ap, subst, ◌∙◌, arith, inl, inr}
+use Rattle.xl_trie.proofs.Common.{Slot, get, live, Name, Node, Span, In, Apart, span_of, spans, IsKid, Leads, HasKids, IsBefore}
+use Rattle.xl_trie.proofs.Listing.{some_is, none_some, is_some_if}
+use Rattle.xl_trie.proofs.Naming.{few_names, node_of}
 
 module _ (nodes : List (Slot Node)) where
-  -- the node of a span
-  pub node_of : (b : Name) (s : Span) → spans nodes b ≡ Some s → (m : Node) × (get nodes b ≡ Some m) × (m.span ≡ s)
-  node_of b s e = by_node (get nodes b) e
-    where
-      by_node : (o : Option Node) → span_of o ≡ Some s → (m : Node) × (o ≡ Some m) × (m.span ≡ s)
-      by_node None e = absurd cc
-      by_node (Some m) e = (m, refl, some_is m.span s e)
-
   pub kid_in : (a b : Name) (n : Node) (s : Span) → (has : HasKids nodes a n) → IsKid (spans nodes) a b s → In b has.kids
-  kid_in a b n s has kid = let m = node_of b s kid.0 in has.all b m.0 m.1 (ap (λ (x : Span). x.parent) m.2 ∙ kid.1)
-
-  pub no_kids : (a b : Name) (n : Node) (s : Span) → (has : HasKids nodes a n) → n.child ≡ None → IsKid (spans nodes) a b s → ⊥
-  no_kids a b n s has none kid = by_line has.kids has.leads (kid_in a b n s has kid)
-    where
-      by_line : (ks : List Name) → Leads nodes n.child ks → In b ks → ⊥
-      by_line [] leads i = i
-      by_line (k ∷ ks) leads i = none_some k (sym none ∙ leads.0)
+  kid_in a b n s has kid = let m = node_of nodes b s kid.0 in has.all b m.0 m.1 (ap (λ (x : Span). x.parent) m.2 ∙ kid.1)
 
   -- the first child, and the others after it
   pub first_kid : (a k : Name) (n : Node) → (has : HasKids nodes a n) → n.child ≡ Some k → (m : Node) × (get nodes k ≡ Some m) × (m.span.parent ≡ Some a)
@@ -85,24 +56,21 @@ module _ (nodes : List (Slot Node)) (a : Name) where
   looks_from Seen n left all has start = record {
     rest = has.kids;
     leads = has.leads;
-    few = omega (arith, all, few_names nodes has.kids has.apart (λ b i. is_some_if (get nodes b) (has.each b i).0 (has.each b i).1));
+    few = omega (arith, all, few_names nodes has.kids has.apart (λ b i. ((has.each b i).0, (has.each b i).1)));
     kids = has.each;
     seen = start;
   }
 
-  looks_end : (Seen : List Name → Type 0) (at : Option Name) (rest : List Name) → Leads nodes at rest → at ≡ None → Seen rest → Seen []
-  looks_end Seen at [] leads none so = so
-  looks_end Seen at (b ∷ rest) leads none so = absurd (none_some b (sym none ∙ leads.0))
+  -- none is to come where the line ends, or no step is left
+  ended : (Seen : List Name → Type 0) (at : Option Name) (left : ℕ) (rest : List Name) → Leads nodes at rest → length rest ≤ left → (at ≡ None) ⊎ (left ≡ 0) → Seen rest → Seen []
+  ended Seen at left [] leads few end so = so
+  ended Seen at left (b ∷ rest) leads few end so = absurd (elim end [ inl none ↦ none_some b (sym none ∙ leads.0) | inr zero ↦ omega (arith, few, zero) ])
 
-  pub looked : (Seen : List Name → Type 0) (at : Option Name) (left : ℕ) → Looks Seen at left → at ≡ None → Seen []
-  looked Seen at left l none = looks_end Seen at l.rest l.leads none l.seen
+  pub looked : (Seen : List Name → Type 0) (at : Option Name) (left : ℕ) → Looks Seen at left → (at ≡ None) ⊎ (left ≡ 0) → Seen []
+  looked Seen at left l end = ended Seen at left l.rest l.leads l.few end l.seen
 
-  looks_short : (Seen : List Name → Type 0) (rest : List Name) → length rest ≤ 0 → Seen rest → Seen []
-  looks_short Seen [] few so = so
-  looks_short Seen (b ∷ rest) few so = absurd (omega arith)
-
-  pub looked_all : (Seen : List Name → Type 0) (at : Option Name) (left : ℕ) → Looks Seen at left → left ≡ 0 → Seen []
-  looked_all Seen at left l none = looks_short Seen l.rest (omega (arith, l.few, none)) l.seen
+  pub no_kids : (b : Name) (n : Node) (s : Span) → (has : HasKids nodes a n) → n.child ≡ None → IsKid (spans nodes) a b s → ⊥
+  no_kids b n s has none kid = ended (λ rest. In b rest) n.child (length has.kids) has.kids has.leads (omega arith) (inl none) (kid_in nodes a b n s has kid)
 
   -- the name that comes is that of a child
   pub record Comes (Seen : List Name → Type 0) (name : Name) (left : ℕ) : Type 0 where

@@ -1,6 +1,6 @@
 -- A span is split where the way to a ledger leaves it: t, that of a's child k, at the ledger l, under the new name d.
 use Rattle.std.proofs.Common.{◌≡◌, ◌≢◌, ◌⊎◌, ℕ, ◌+◌, ◌<◌, ◌==◌, List, length, take, Option, Some, None, refl, sym, ap, subst, ◌∙◌, arith, inl, inr}
-use Rattle.xl_trie.proofs.Common.{cases_lt, eqb-true, Header, Vote, seq_at, common_of, AreLedgers, tip_of, branch_of, Name, Span, Place, IsSplit, IsKid, hung_at, IsPlace, AreLinked, HasFork, IsHalfNeeded, AreSpans, IsRoot, way, OnWay, IsBegin, take-length, length-take-le}
+use Rattle.xl_trie.proofs.Common.{cases_lt, eqb-true, Header, Vote, seq_at, common_of, AreLedgers, tip_of, Name, Span, Place, IsSplit, IsKid, hung_at, IsPlace, AreLinked, HasFork, IsHalfNeeded, AreSpans, IsRoot, way, OnWay, IsBegin, take-length, length-take-le}
 use Rattle.xl_trie.proofs.Fronts.{shared, shared_low, shared_low_right, shared_same, shared_most}
 use Rattle.xl_trie.proofs.Listing.{some_is, none_some, counted}
 use Rattle.xl_trie.proofs.Placing.{zero_if}
@@ -79,24 +79,10 @@ module _ (hs : List Header) (ok : AreLedgers hs) (votes : List Vote) (S S' : Nam
     pub is : ((b ≡ k) × (u ≡ hung_at P.enters.0 (Some d) begin)) ⊎ ((b ≢ k) × (u ≡ span))
 
   from : (b : Name) (u : Span) → S' b ≡ Some u → ((b ≡ d) × (u ≡ front)) ⊎ ((b ≢ d) × Was b u)
-  from b u e = elim (one_name b d) [
-    | inl same ↦ inl (same, some_is u front (sym e ∙ ap S' same ∙ I.front))
-    | inr other ↦ inr (
-      other,
-      elim (one_name b k) [
-        | inl same ↦
-            let is = some_is u (hung_at P.enters.0 (Some d) begin) (sym e ∙ ap S' same ∙ I.rest) in
-            record { span = P.enters.0; there = ap S same ∙ P.enters.1.0; ledger = ap (λ (x : Span). x.ledger) is; tip = sym (ap (λ (x : Span). x.tip) is); branch = ap (λ (x : Span). x.branch) is; is = inl (same, is) }
-        | inr differs ↦ record { span = u; there = sym (I.others b other differs) ∙ e; ledger = refl; tip = refl; branch = refl; is = inr (differs, refl) }
-      ],
-    )
-  ]
+  from b u e = grind (arith, one_name b d, one_name b k, I.front, I.rest, I.others b, P.enters.1.0)
 
   to_new : (b : Name) (u : Span) → S b ≡ Some u → (w : Span) × (S' b ≡ Some w) × (u.ledger ≡ w.ledger)
-  to_new b u e = elim (one_name b k) [
-    | inl same ↦ (hung_at P.enters.0 (Some d) begin, ap S' same ∙ I.rest, ap (λ (x : Span). x.ledger) (some_is u P.enters.0 (sym e ∙ ap S same ∙ P.enters.1.0)))
-    | inr other ↦ (u, stays b u e other, refl)
-  ]
+  to_new b u e = grind (arith, one_name b k, I.rest, I.others b, off b u e, P.enters.1.0)
 
   -- the two new ones hang at different spans
   never : (b : Name) (u w : Span) → u.parent ≡ Some b → u ≡ front → w.parent ≡ Some b → w ≡ hung_at P.enters.0 (Some d) begin → ⊥
@@ -108,13 +94,7 @@ module _ (hs : List Header) (ok : AreLedgers hs) (votes : List Vote) (S S' : Nam
     first = V.linked.first k P.enters.0 P.enters.1.0;
     hangs = record { name = a; over = P.span; is = refl; there = stays a P.span P.there a_not_k; above = Q.lower; on = front_of hs P.span.ledger l to P.on Q.on_to (omega (arith, Q.lower)); first = begin_up hs l t.ledger P.span.ledger t.first Q.on_t Q.lower h.first };
     one = λ c w g same. elim (from c w g) [ inl i ↦ i.0 | inr i ↦ absurd (new c i.1.span i.1.there (sym i.1.ledger ∙ same)) ];
-    apart = λ b c w p q same. elim (from c w q.0) [
-      | inl i ↦ i.0
-      | inr i ↦ elim i.1.is [
-        | inl j ↦ absurd (never b front w p.1 refl q.1 j.1)
-        | inr j ↦ absurd (j.0 (V.linked.apart a c k w P.enters.0 (i.1.there ∙ ap Some (sym j.1), q.1 ∙ sym p.1) P.enters.1 same))
-      ]
-    ];
+    apart = λ b c w p q same. grind (arith, from c w q.0, never b front w p.1 refl q.1, V.linked.apart a c k w P.enters.0, P.enters.1, p.1, q.1, same);
   }
 
   other_rest : Other hs S S' k (hung_at P.enters.0 (Some d) begin)
@@ -122,14 +102,8 @@ module _ (hs : List Header) (ok : AreLedgers hs) (votes : List Vote) (S S' : Nam
     known = V.linked.known k P.enters.0 P.enters.1.0;
     first = kb;
     hangs = record { name = d; over = front; is = refl; there = I.front; above = Q.inside; on = Q.on_t; first = starts };
-    one = λ c w g same. elim (from c w g) [
-      | inl i ↦ absurd (new k P.enters.0 P.enters.1.0 (sym same ∙ ap (λ (x : Span). x.ledger) i.1))
-      | inr i ↦ V.linked.one c k i.1.span P.enters.0 i.1.there P.enters.1.0 (sym i.1.ledger ∙ same)
-    ];
-    apart = λ b c w p q same. elim (from c w q.0) [
-      | inl i ↦ absurd (never b w (hung_at P.enters.0 (Some d) begin) q.1 i.1 p.1 refl)
-      | inr i ↦ elim i.1.is [ inl j ↦ j.0 | inr j ↦ absurd (childless c w (i.1.there ∙ ap Some (sym j.1), q.1 ∙ sym p.1)) ]
-    ];
+    one = λ c w g same. grind (arith, from c w g, new k P.enters.0 P.enters.1.0, V.linked.one c k, P.enters.1.0, same);
+    apart = λ b c w p q same. grind (arith, from c w q.0, never b w (hung_at P.enters.0 (Some d) begin) q.1, childless c w, p.1, q.1);
   }
 
   linked : AreLinked hs S'
@@ -164,10 +138,7 @@ module _ (hs : List Header) (ok : AreLedgers hs) (votes : List Vote) (S S' : Nam
             new o.0 o.1 o.2 (o.3 ∙ eqb-true v.0.ledger l v.2))))
         | inr i ↦ sym i.1.tip ∙ V.counted.tip b i.1.span i.1.there ∙ ap (tip_of votes) (sym i.1.ledger)
       ];
-      branch = λ b u e. elim (from b u e) [
-        | inl i ↦ subst (λ (x : Span). x.branch ≡ branch_of hs votes x.ledger) (sym i.1) (sym (span_branch hs ok S V.linked votes None V a k P.span P.enters.0 l P.there P.enters.1 kl Q.on_t Q.lower))
-        | inr i ↦ i.1.branch ∙ V.counted.branch b i.1.span i.1.there ∙ ap (branch_of hs votes) (sym i.1.ledger)
-      ];
+      branch = λ b u e. grind (arith, from b u e, span_branch hs ok S V.linked votes None V a k P.span P.enters.0 l P.there P.enters.1 kl Q.on_t Q.lower, V.counted.branch b);
     };
     needed = λ b u e but. elim (from b u e) [
       | inl i ↦ absurd (but (ap Some (sym i.0)))
@@ -184,10 +155,7 @@ module _ (hs : List Header) (ok : AreLedgers hs) (votes : List Vote) (S S' : Nam
     span = front;
     there = I.front;
     on = Q.on_to;
-    deepest = λ b u e far. elim (from b u e) [
-      | inl i ↦ omega (arith, ap (λ (x : Span). length (way hs x.ledger)) i.1)
-      | inr i ↦ let le = P.deepest b i.1.span i.1.there (subst (λ x. OnWay hs x to) i.1.ledger far) in omega (arith, le, Q.lower, ap (λ x. length (way hs x)) i.1.ledger)
-    ];
+    deepest = λ b u e far. grind (arith, from b u e, P.deepest b, Q.lower);
     enters = λ c u p far. elim (from c u p.0) [
       | inl i ↦ off a P.span P.there (sym (some_is d a (sym p.1 ∙ ap (λ (x : Span). x.parent) i.1)))
       | inr i ↦ elim i.1.is [

@@ -1,66 +1,73 @@
 -- The nodes are as many as the spots, and at most twice the votes and one.
-use Rattle.std.proofs.Common.{◌≡◌, ℕ, zero, suc, ◌+◌, ◌*◌, ◌<◌, ◌≤◌, ◌==◌, ◌||◌, Bool, true, false, not, cond, List, [], ◌∷◌, ◌++◌, length, take, Option, Some, None, refl, sym, ap, subst, ◌∙◌, arith, inl, inr}
-use Rattle.xl_trie.proofs.Common.{list_any, range_with_len, map, nat_lt, cases_Bool, cases_lt, eqb-true, eqb-false, eq-eqb, ne_eqb, or_cases, not-true, not_from_false, ltb-true, ltb-false, length-append, length-map, length-filter_both, length-range_with_len, get_or-range_with_len, Header, Vote, common_of, AreLedgers, Slot, live, Name, Node, Span, is_spot, spots, In, Apart, spans, IsKid, HasFork, HasSpan, AreSpans, IsRoot, way, OnWay, or_left, or_right}
-use Rattle.std.specs.Prelude.{filter}
-use Rattle.xl_trie.proofs.Fronts.{shared, shared_low, shared_low_right, shared_same, shared_most}
-use Rattle.xl_trie.proofs.Listing.{some_is, none_some, at_in, in_either, in_first, in_second, in_range, counted, in_filter, to_filter, in_map, to_map}
+use Rattle.std.proofs.Common.{◌≡◌, ◌⊎◌, ℕ, zero, suc, ◌+◌, ◌*◌, ◌<◌, ◌≤◌, ◌==◌, ◌||◌, Bool, true, List, [], ◌∷◌, length, take, Option, Some, None, refl, sym, ap, subst, ◌∙◌, arith, inl, inr}
+use Rattle.xl_trie.proofs.Common.{list_any, range_with_len, map, cases_lt, eqb-true, eq-eqb, or_cases, length-map, take_all, Header, Vote, common_of, AreLedgers, Slot, live, Name, Node, Span, is_spot, spots, In, spans, IsKid, HasSpan, AreSpans, IsRoot, way, OnWay, or_left, or_right}
+use Rattle.xl_trie.proofs.Fronts.{shared, shared_low, shared_low_right, shared_same, shared_most, shared_turn, shared_through}
+use Rattle.xl_trie.proofs.Listing.{some_is, none_some, in_range, counted, in_filter, to_filter, in_map, to_map, any_in, in_any, apart_le, apart_map, filter_apart, range_apart}
 use Rattle.xl_trie.proofs.Firsts.{has_vote, some_branch}
 use Rattle.xl_trie.proofs.Naming.{names_of, names_many, names_apart, has_span, span_named}
-use Rattle.xl_trie.proofs.Trees.{on_through, root_on, root_short, hung, over_of, one_kid, leads_to, toward_vote, known_vote}
+use Rattle.xl_trie.proofs.Trees.{on_through, root_on, root_short, hung, one_kid, leads_to, toward_vote, known_vote}
 use Rattle.xl_trie.proofs.Ways.{way_one, common_way, common_known}
 
--- ---- lists without repetition
+-- ---- the last common ledgers of some ledgers
 
-module _ {X : Type 0} where
-  around : (ys : List X) (x : X) → In x ys → (fs : List X) × (bs : List X) × (ys ≡ fs ++ x ∷ bs)
-  around [] x i = absurd i
-  around (y ∷ ys) x (inl e) = ([], ys, ap (λ w. w ∷ ys) (sym e))
-  around (y ∷ ys) x (inr i) = let r = around ys x i in (y ∷ r.0, r.1, ap (λ w. y ∷ w) r.2)
+module _ (hs : List Header) (ok : AreLedgers hs) where
+  common_is : (a b c d : ℕ) → a < length hs → b < length hs → c < length hs → d < length hs → take (shared (way hs a) (way hs b)) (way hs a) ≡ take (shared (way hs c) (way hs d)) (way hs c) → common_of hs a b ≡ common_of hs c d
+  common_is a b c d ka kb kc kd same = way_one hs ok (common_of hs a b) (common_of hs c d) (common_known hs ok a b ka kb) (common_known hs ok c d kc kd) (common_way hs ok a b ka kb ∙ same ∙ sym (common_way hs ok c d kc kd))
 
-  apart_le : (xs ys : List X) → Apart xs → ((x : X) → In x xs → In x ys) → length xs ≤ length ys
-  apart_le [] ys a h = omega arith
-  apart_le (x ∷ xs) ys a h =
-      let r = around ys x (h x (inl refl)) in
-      let less = apart_le xs (r.0 ++ r.1) a.1 (λ z i. elim (in_either r.0 (x ∷ r.1) z (subst (In z) r.2 (h z (inr i)))) [
-        | inl j ↦ in_first r.0 r.1 z j
-        | inr (inl e) ↦ absurd (a.0 (subst (λ w. In w xs) e i))
-        | inr (inr j) ↦ in_second r.0 r.1 z j
+  common_self : (a : ℕ) → a < length hs → common_of hs a a ≡ a
+  common_self a ka = way_one hs ok (common_of hs a a) a (common_known hs ok a a ka ka) ka (common_way hs ok a a ka ka ∙ take_all (shared (way hs a) (way hs a)) (way hs a) (shared_most (way hs a) (way hs a) (length (way hs a)) (omega arith) (omega arith) refl))
+
+  -- of some ledgers, the one with which a way goes furthest
+  furthest : (v x : ℕ) (xs : List ℕ) → (f : ℕ) × In f (x ∷ xs) × ((u : ℕ) → In u (x ∷ xs) → shared (way hs v) (way hs u) ≤ shared (way hs v) (way hs f))
+  furthest v x [] = (x, inl refl, λ u i. elim i [ inl e ↦ (let same = ap (λ y. shared (way hs v) (way hs y)) e in omega arith) | inr none ↦ absurd none ])
+  furthest v x (y ∷ xs) =
+      let r = furthest v y xs in
+      elim (cases_lt (shared (way hs v) (way hs r.0)) (shared (way hs v) (way hs x))) [
+        | inl lt ↦ (x, inl refl, λ u i. elim i [ inl e ↦ (let same = ap (λ y. shared (way hs v) (way hs y)) e in omega arith) | inr j ↦ (let le = r.2 u j in omega (arith, le, lt)) ])
+        | inr ge ↦ (r.0, inr r.1, λ u i. elim i [ inl e ↦ (let same = ap (λ y. shared (way hs v) (way hs y)) e in omega (arith, same, ge)) | inr j ↦ r.2 u j ])
+      ]
+
+  -- of a ledger and others, two of which meet at known places, only one more is a place where two meet
+  record Covers (xs : List ℕ) : Type 0 where
+    pub spots : List ℕ
+    pub few : length spots + 1 ≤ 2 * length xs
+    pub meets : (a b : ℕ) → In a xs → In b xs → In (common_of hs a b) spots
+
+  covers : (x : ℕ) (xs : List ℕ) → ((y : ℕ) → In y (x ∷ xs) → y < length hs) → Covers (x ∷ xs)
+  covers x [] known = record {
+    spots = x ∷ [];
+    few = omega arith;
+    meets = λ a b i j. elim i [
+      | inl e ↦ elim j [ inl g ↦ inl (ap (λ y. common_of hs y b) e ∙ ap (common_of hs x) g ∙ common_self x (known x (inl refl))) | inr none ↦ absurd none ]
+      | inr none ↦ absurd none
+    ];
+  }
+  covers x (y ∷ xs) known =
+      let c = covers y xs (λ z i. known z (inr i)) in
+      let f = furthest x y xs in
+      let kx = known x (inl refl) in
+      let kf = known f.0 (inr f.1) in
+      let met : (u : ℕ) → In u (y ∷ xs) → In (common_of hs x u) (common_of hs x f.0 ∷ c.spots) = λ u i.
+      (let ku = known u (inr i) in
+      let le = f.2 u i in
+      elim (cases_lt (shared (way hs x) (way hs u)) (shared (way hs x) (way hs f.0))) [
+        | inl lt ↦ inr (subst (λ z. In z c.spots) (common_is f.0 u x u kf ku kx ku (ap (λ k. take k (way hs f.0)) (shared_through (way hs x) (way hs u) (way hs f.0) lt) ∙ sym (shared_same (way hs x) (way hs f.0) (shared (way hs x) (way hs u)) le))) (c.meets f.0 u f.1 i))
+        | inr ge ↦ inl (common_is x u x f.0 kx ku kx kf (ap (λ k. take k (way hs x)) (let e : shared (way hs x) (way hs u) ≡ shared (way hs x) (way hs f.0) = omega (arith, le, ge) in e)))
       ]) in
-      omega (arith, less, length-append r.0 r.1, length-append r.0 (x ∷ r.1), ap (length {A = X}) r.2)
-
-  apart_map : {Y : Type 0} (f : X → Y) (xs : List X) → Apart xs → ((a b : X) → In a xs → In b xs → f a ≡ f b → a ≡ b) → Apart (map f xs)
-  apart_map f [] apart one = tt
-  apart_map f (x ∷ xs) apart one = (
-    (λ i. let y = in_map f xs (f x) i in apart.0 (subst (λ z. In z xs) (sym (one x y.0 (inl refl) (inr y.1) y.2)) y.1)),
-    apart_map f xs apart.1 (λ a b i j. one a b (inr i) (inr j)),
-  )
-
-  filter_apart : (p : X → Bool) (xs : List X) → Apart xs → Apart (filter p xs)
-  filter_apart p [] apart = tt
-  filter_apart p (x ∷ xs) apart = by_test (p x) (filter_apart p xs apart.1)
-    where
-      by_test : (b : Bool) → Apart (filter p xs) → Apart (cond b (x ∷ filter p xs) (filter p xs))
-      by_test true rest = ((λ i. apart.0 (in_filter p xs x i).0), rest)
-      by_test false rest = rest
-
-  any_in : (p : X → Bool) (xs : List X) → list_any p xs ≡ true → (x : X) × In x xs × (p x ≡ true)
-  any_in p [] e = absurd cc
-  any_in p (x ∷ xs) e = elim (cases_Bool (p x)) [
-    | inl t ↦ (x, inl refl, t)
-    | inr f ↦ let r = any_in p xs (sym (ap (λ b. b || list_any p xs) f) ∙ e) in (r.0, inr r.1, r.2)
-  ]
-
-in_any : {X : Type 0} (p : X → Bool) (xs : List X) (x : X) → In x xs → p x ≡ true → list_any p xs ≡ true
-in_any p [] x i e = absurd i
-in_any p (y ∷ xs) x (inl same) e = or_left (p y) (list_any p xs) (ap p (sym same) ∙ e)
-in_any p (y ∷ xs) x (inr i) e = or_right (p y) (list_any p xs) (in_any p xs x i e)
-
-range_low : (a n c : ℕ) → In c (range_with_len a n) → a ≤ c
-range_low a n c i = let r = at_in (range_with_len a n) c 0 i in omega (arith, r.1, r.2, length-range_with_len a n, get_or-range_with_len a n r.0 0 (omega (arith, r.1, length-range_with_len a n)))
-
-range_apart : (a n : ℕ) → Apart (range_with_len a n)
-range_apart a zero = tt
-range_apart a (suc n) = ((λ i. let low = range_low (a + 1) n a i in omega arith), range_apart (a + 1) n)
+      record {
+        spots = x ∷ common_of hs x f.0 ∷ c.spots;
+        few = omega (arith, c.few);
+        meets = λ a b i j. elim i [
+          | inl e ↦ subst (λ z. In (common_of hs z b) (x ∷ common_of hs x f.0 ∷ c.spots)) (sym e) (elim j [ inl g ↦ inl (ap (common_of hs x) g ∙ common_self x kx) | inr h ↦ inr (met b h) ])
+          | inr h ↦ elim j [
+            | inr g ↦ inr (inr (c.meets a b h g))
+            | inl g ↦
+                let ka = known a (inr h) in
+                let turn = common_is x a a x kx ka ka kx (shared_same (way hs x) (way hs a) (shared (way hs x) (way hs a)) (omega arith) ∙ ap (λ k. take k (way hs a)) (shared_turn (way hs x) (way hs a))) in
+                inr (subst (λ z. In z (common_of hs x f.0 ∷ c.spots)) (turn ∙ ap (common_of hs a) (sym g)) (met a h))
+          ]
+        ];
+      }
 
 -- ---- a span for each spot, and a spot for each span
 
@@ -69,9 +76,6 @@ ledger_in None = 0
 ledger_in (Some s) = s.ledger
 
 module _ (hs : List Header) (ok : AreLedgers hs) (votes : List Vote) (nodes : List (Slot Node)) (V : AreSpans hs votes (spans nodes) None) (root : Name) (top : IsRoot (spans nodes) root) where
-  abbrev S : Name → Option Span
-  S = spans nodes
-
   -- a test of a vote, and of two
   abbrev is_two : ℕ → Vote → Vote → Bool
   is_two x v w = common_of hs v.ledger w.ledger == x
@@ -81,6 +85,18 @@ module _ (hs : List Header) (ok : AreLedgers hs) (votes : List Vote) (nodes : Li
 
   known : (v : Vote) → In v votes → v.ledger < length hs
   known v i = known_vote hs ok (spans nodes) V.linked votes None V v i
+
+  -- a spot is the root, or the last common ledger of two votes
+  spot_is : (x : ℕ) → is_spot hs votes x ≡ true → (x ≡ 0) ⊎ ((v : Vote) × (w : Vote) × In v votes × In w votes × (common_of hs v.ledger w.ledger ≡ x))
+  spot_is x e = elim (or_cases (x == 0) (list_any (is_one x) votes) e) [
+    | inl zero_x ↦ inl (eqb-true x 0 zero_x)
+    | inr some ↦
+        let v = any_in (is_one x) votes some in
+        elim (or_cases (v.0.ledger == x) (list_any (is_two x v.0) votes) v.2) [
+          | inl same ↦ inr (v.0, v.0, v.1, v.1, common_self hs ok v.0.ledger (known v.0 v.1) ∙ eqb-true v.0.ledger x same)
+          | inr two ↦ let w = any_in (is_two x v.0) votes two in inr (v.0, w.0, v.1, w.1, eqb-true (common_of hs v.0.ledger w.0.ledger) x w.2)
+        ]
+  ]
 
   -- the last common ledger of two votes, from a span above both on
   meet : (n : ℕ) (a : Name) (s : Span) (v w : Vote) → spans nodes a ≡ Some s → In v votes → In w votes → OnWay hs s.ledger v.ledger → OnWay hs s.ledger w.ledger → shared (way hs v.ledger) (way hs w.ledger) ≤ n + length (way hs s.ledger) → HasSpan (spans nodes) (common_of hs v.ledger w.ledger)
@@ -103,16 +119,9 @@ module _ (hs : List Header) (ok : AreLedgers hs) (votes : List Vote) (nodes : Li
   ]
 
   span_of_spot : (x : ℕ) → is_spot hs votes x ≡ true → HasSpan (spans nodes) x
-  span_of_spot x e = elim (or_cases (x == 0) (list_any (is_one x) votes) e) [
-    | inl zero_x ↦ (root, top.0, top.1, top.2 ∙ sym (eqb-true x 0 zero_x))
-    | inr some ↦
-        let v = any_in (is_one x) votes some in
-        elim (or_cases (v.0.ledger == x) (list_any (is_two x v.0) votes) v.2) [
-          | inl same ↦ subst (HasSpan (spans nodes)) (eqb-true v.0.ledger x same) (V.voted v.0 v.1)
-          | inr two ↦
-              let w = any_in (is_two x v.0) votes two in
-              subst (HasSpan (spans nodes)) (eqb-true (common_of hs v.0.ledger w.0.ledger) x w.2) (meet (shared (way hs v.0.ledger) (way hs w.0.ledger)) root top.0 v.0 w.0 top.1 v.1 w.1 (root_on hs ok top.0.ledger v.0.ledger top.2) (root_on hs ok top.0.ledger w.0.ledger top.2) (omega arith))
-        ]
+  span_of_spot x e = elim (spot_is x e) [
+    | inl zero_x ↦ (root, top.0, top.1, top.2 ∙ sym zero_x)
+    | inr t ↦ subst (HasSpan (spans nodes)) t.4 (meet (shared (way hs t.0.ledger) (way hs t.1.ledger)) root top.0 t.0 t.1 top.1 t.2 t.3 (root_on hs ok top.0.ledger t.0.ledger top.2) (root_on hs ok top.0.ledger t.1.ledger top.2) (omega arith))
   ]
 
   -- a vote below a child
@@ -172,7 +181,7 @@ module _ (hs : List Header) (ok : AreLedgers hs) (votes : List Vote) (nodes : Li
 
   pub nodes_many : live nodes ≡ length (spots hs votes)
   nodes_many =
-      let all = apart_map ledger_at (names_of nodes) (names_apart 0 nodes) one_name in
+      let all = apart_map ledger_at (names_of nodes) (names_apart nodes) one_name in
       let some = apart_le (map ledger_at (names_of nodes)) (spots hs votes) all (λ x i.
       let b = in_map ledger_at (names_of nodes) x i in
       let s = has_span nodes b.0 b.1 in
@@ -181,88 +190,17 @@ module _ (hs : List Header) (ok : AreLedgers hs) (votes : List Vote) (nodes : Li
       let more = apart_le (spots hs votes) (map ledger_at (names_of nodes)) (filter_apart (is_spot hs votes) (range_with_len 0 (length hs)) (range_apart 0 (length hs))) (λ x i.
       let s = span_of_spot x (in_filter (is_spot hs votes) (range_with_len 0 (length hs)) x i).1 in
       subst (λ y. In y (map ledger_at (names_of nodes))) (at_span s.0 s.1 s.2 ∙ s.3) (to_map ledger_at (names_of nodes) s.0 (span_named nodes s.0 s.1 s.2))) in
-      omega (arith, some, more, length-map (names_of nodes) ledger_at, names_many 0 nodes)
-
-  -- the two children of each of these
-  abbrev forks : (xs : List Name) → ((a : Name) → In a xs → HasFork (spans nodes) a) → List Name
-  forks [] f = []
-  forks (x ∷ xs) f = (f x (inl refl)).0 ∷ (f x (inl refl)).1 ∷ forks xs (λ a i. f a (inr i))
-
-  forks_many : (xs : List Name) (f : (a : Name) → In a xs → HasFork (spans nodes) a) → length (forks xs f) ≡ 2 * length xs
-  forks_many [] f = refl
-  forks_many (x ∷ xs) f = let r = forks_many xs (λ a i. f a (inr i)) in omega (arith, r)
-
-  in_forks : (xs : List Name) (f : (a : Name) → In a xs → HasFork (spans nodes) a) (b : Name) → In b (forks xs f) → (a : Name) × In a xs × ((s : Span) × IsKid (spans nodes) a b s)
-  in_forks [] f b i = absurd i
-  in_forks (x ∷ xs) f b (inl same) = let k = f x (inl refl) in (x, inl refl, (k.2, (ap (spans nodes) same ∙ k.4.0, k.4.1)))
-  in_forks (x ∷ xs) f b (inr (inl same)) = let k = f x (inl refl) in (x, inl refl, (k.3, (ap (spans nodes) same ∙ k.5.0, k.5.1)))
-  in_forks (x ∷ xs) f b (inr (inr i)) = let r = in_forks xs (λ a j. f a (inr j)) b i in (r.0, inr r.1, r.2)
-
-  forks_apart : (xs : List Name) (f : (a : Name) → In a xs → HasFork (spans nodes) a) → Apart xs → Apart (forks xs f)
-  forks_apart [] f apart = tt
-  forks_apart (x ∷ xs) f apart =
-      let k = f x (inl refl) in
-      let off : (b : Name) (s : Span) → IsKid (spans nodes) x b s → In b (forks xs (λ a i. f a (inr i))) → ⊥ = λ b s p i.
-      (let r = in_forks xs (λ a j. f a (inr j)) b i in
-      apart.0 (subst (λ (y : Name). In y xs) (some_is r.0 x (sym r.2.1.1 ∙ ap (λ (y : Span). y.parent) (some_is r.2.0 s (sym r.2.1.0 ∙ p.0)) ∙ p.1)) r.1)) in
-      ((λ i. elim i [ inl same ↦ k.6 same | inr j ↦ off k.0 k.2 k.4 j ]), ((λ i. off k.1 k.3 k.5 i), forks_apart xs (λ a i. f a (inr i)) apart.1))
-
-  abbrev tip_in : Option Span → ℕ
-  tip_in None = 0
-  tip_in (Some s) = s.tip
-
-  abbrev is_root : Name → Bool
-  is_root b = ledger_in (spans nodes b) == 0
-
-  abbrev is_voted : Name → Bool
-  is_voted b = nat_lt 0 (tip_in (spans nodes b))
-
-  abbrev lower : List Name
-  lower = filter (λ b. not (is_root b)) (names_of nodes)
-
-  -- one that is neither the root's nor voted has two children
-  fork_at : (a : Name) → In a (filter (λ b. not (is_voted b)) lower) → HasFork (spans nodes) a
-  fork_at a i =
-      let v = in_filter (λ b. not (is_voted b)) lower a i in
-      let r = in_filter (λ b. not (is_root b)) (names_of nodes) a v.0 in
-      let s = has_span nodes a r.0 in
-      elim (V.needed a s.0 s.1 (λ none. none_some a none)) [
-        | inl zero_s ↦ absurd (eqb-false (ledger_in (spans nodes a)) 0 (not-true (is_root a) r.1) (at_span a s.0 s.1 ∙ zero_s))
-        | inr (inl tip) ↦ absurd (let few = ltb-false 0 (tip_in (spans nodes a)) (not-true (is_voted a) v.1) in omega (arith, few, tip, ap tip_in s.1))
-        | inr (inr fork) ↦ fork
-      ]
+      omega (arith, some, more, length-map (names_of nodes) ledger_at, names_many nodes)
 
   pub few_nodes : live nodes ≤ 2 * length votes + 1
   few_nodes =
-      let all = names_apart 0 nodes in
-      let others = filter_apart (λ b. not (is_root b)) (names_of nodes) all in
-      let roots = apart_le (filter is_root (names_of nodes)) (root ∷ []) (filter_apart is_root (names_of nodes) all) (λ b i.
-      let f = in_filter is_root (names_of nodes) b i in
-      let s = has_span nodes b f.0 in
-      inl (V.linked.one b root s.0 top.0 s.1 top.1 (sym (at_span b s.0 s.1) ∙ eqb-true (ledger_in (spans nodes b)) 0 f.1 ∙ sym top.2))) in
-      let voted = apart_le (map ledger_at (filter is_voted lower)) (map (λ v. v.ledger) votes) (apart_map ledger_at (filter is_voted lower) (filter_apart is_voted lower others) (λ a b i j. one_name a b (in_lower a i) (in_lower b j))) (λ x i.
-      let b = in_map ledger_at (filter is_voted lower) x i in
-      let s = has_span nodes b.0 (in_lower b.0 b.1) in
-      let tip = ltb-true 0 (tip_in (spans nodes b.0)) (in_filter is_voted lower b.0 b.1).1 in
-      let v = counted (λ (w : Vote). w.ledger == s.0.ledger) votes (omega (arith, tip, ap tip_in s.1, V.counted.tip b.0 s.0 s.1)) in
-      subst (λ y. In y (map (λ (w : Vote). w.ledger) votes)) (eqb-true v.0.ledger s.0.ledger v.2 ∙ sym (b.2 ∙ at_span b.0 s.0 s.1)) (to_map (λ (w : Vote). w.ledger) votes v.0 v.1)) in
-      let two = apart_le (forks (filter (λ b. not (is_voted b)) lower) fork_at) lower (forks_apart (filter (λ b. not (is_voted b)) lower) fork_at (filter_apart (λ b. not (is_voted b)) lower others)) (λ b i.
-      let k = in_forks (filter (λ b. not (is_voted b)) lower) fork_at b i in
-      let o = over_of hs ok (spans nodes) V.linked k.0 b k.2.0 k.2.1 in
-      let h = hung hs ok (spans nodes) V.linked k.0 b o.0 k.2.0 o.1 k.2.1 in
-      to_filter (λ b. not (is_root b)) (names_of nodes) b (span_named nodes b k.2.0 k.2.1.0) (not_from_false (is_root b) (ne_eqb (ledger_in (spans nodes b)) 0 (λ is. omega (arith, h.above, root_short hs ok k.2.0.ledger (sym (at_span b k.2.0 k.2.1.0) ∙ is)))))) in
-      omega (
-        arith,
-        roots,
-        voted,
-        two,
-        forks_many (filter (λ b. not (is_voted b)) lower) fork_at,
-        names_many 0 nodes,
-        length-map (filter is_voted lower) ledger_at,
-        length-map votes (λ (v : Vote). v.ledger),
-        length-filter_both is_root (λ b. not (is_root b)) (λ b. refl) (names_of nodes),
-        length-filter_both is_voted (λ b. not (is_voted b)) (λ b. refl) lower,
-      )
-    where
-      in_lower : (b : Name) → In b (filter is_voted lower) → In b (names_of nodes)
-      in_lower b i = (in_filter (λ b. not (is_root b)) (names_of nodes) b (in_filter is_voted lower b i).0).0
+      let ledgers = map (λ (v : Vote). v.ledger) votes in
+      let c = covers hs ok 0 ledgers (λ y i. elim i [
+        | inl e ↦ subst (λ z. z < length hs) (sym e) ok.some
+        | inr j ↦ let v = in_map (λ (w : Vote). w.ledger) votes y j in subst (λ z. z < length hs) (sym v.2) (known v.0 v.1)
+      ]) in
+      let le = apart_le (spots hs votes) c.spots (filter_apart (is_spot hs votes) (range_with_len 0 (length hs)) (range_apart 0 (length hs))) (λ x i. elim (spot_is x (in_filter (is_spot hs votes) (range_with_len 0 (length hs)) x i).1) [
+        | inl zero_x ↦ subst (λ y. In y c.spots) (common_self hs ok 0 ok.some ∙ sym zero_x) (c.meets 0 0 (inl refl) (inl refl))
+        | inr t ↦ subst (λ y. In y c.spots) t.4 (c.meets t.0.ledger t.1.ledger (inr (to_map (λ (w : Vote). w.ledger) votes t.0 t.2)) (inr (to_map (λ (w : Vote). w.ledger) votes t.1 t.3)))
+      ]) in
+      omega (arith, nodes_many, le, c.few, length-map votes (λ (v : Vote). v.ledger))

@@ -6,13 +6,7 @@ use Rattle.xl_trie.proofs.Ways.{way_one, way_root, on_true, on_from}
 
 -- names are one or differ
 pub one_name : (a b : Name) → (a ≡ b) ⊎ (a ≢ b)
-one_name a b = elim (cases_eq a.slot b.slot) [
-  | inr other ↦ inr (λ e. other (ap (λ (x : Name). x.slot) e))
-  | inl slots ↦ elim (cases_eq a.generation b.generation) [
-    | inr other ↦ inr (λ e. other (ap (λ (x : Name). x.generation) e))
-    | inl generations ↦ inl (ap (λ s. let x : Name = record { slot = s; generation = a.generation } in x) slots ∙ ap (λ g. let x : Name = record { slot = b.slot; generation = g } in x) generations)
-  ]
-]
+one_name a b = grind (arith, cases_eq a.slot b.slot, cases_eq a.generation b.generation)
 
 module _ (hs : List Header) where
   pub on_self : (x : ℕ) → OnWay hs x x
@@ -64,13 +58,7 @@ pub record Hung (hs : List Header) (s t : Span) : Type 0 where
 
 module _ (hs : List Header) (ok : AreLedgers hs) (S : Name → Option Span) (L : AreLinked hs S) where
   pub hung : (a b : Name) (s t : Span) → S a ≡ Some s → IsKid S a b t → Hung hs s t
-  hung a b s t e kid = elim (L.hangs b t kid.0) [
-    | inl root ↦ absurd (none_some a (sym root.0 ∙ kid.1))
-    | inr h ↦
-        let name : h.name ≡ a = some_is h.name a (sym h.is ∙ kid.1) in
-        let over : h.over ≡ s = some_is h.over s (sym h.there ∙ ap S name ∙ e) in
-        subst (λ (o : Span). Hung hs o t) over (record { above = h.above; on = h.on; first = h.first })
-  ]
+  hung a b s t e kid = grind (arith, L.hangs b t kid.0, e, kid.1)
 
   -- a span and what it hangs at aren't the same
   pub kid_differs : (a b : Name) (s t : Span) → S a ≡ Some s → IsKid S a b t → a ≢ b
@@ -168,20 +156,10 @@ module _ (hs : List Header) (ok : AreLedgers hs) (S : Name → Option Span) (L :
 
 -- a span hangs on where the one above it ends at the same ledger
 pub rehang : (hs : List Header) (S S' : Name → Option Span) (u : Span) (h : Hangs hs S u) (o : Span) → S' h.name ≡ Some o → h.over.ledger ≡ o.ledger → Hangs hs S' u
-rehang hs S S' u h o there same = record {
-  name = h.name;
-  over = o;
-  is = h.is;
-  there = there;
-  above = subst (λ x. length (way hs x) < length (way hs u.ledger)) same h.above;
-  on = subst (λ x. OnWay hs x u.ledger) same h.on;
-  first = subst (λ x. IsBegin hs u.ledger x u.first) same h.first;
-}
+rehang hs S S' u h o there same = grind (arith, h.is, there, same, h.above, h.on, h.first)
 
 pub needed_on : (S S' : Name → Option Span) (b : Name) (s t : Span) → IsNeeded S b s → s.ledger ≡ t.ledger → s.tip ≡ t.tip → (HasFork S b → HasFork S' b) → IsNeeded S' b t
-needed_on S S' b s t (inl root) ledger tip fork = inl (sym ledger ∙ root)
-needed_on S S' b s t (inr (inl some)) ledger tip fork = inr (inl (omega (arith, some, tip)))
-needed_on S S' b s t (inr (inr two)) ledger tip fork = inr (inr (fork two))
+needed_on S S' b s t need ledger tip fork = grind (arith, need, ledger, tip, fork)
 
 -- two children stay two where at most one of them gives its place to another
 pub fork_moved : (S S' : Name → Option Span) (b e e' : Name) → ((p : Span) → IsKid S b e' p → ⊥)

@@ -1,6 +1,6 @@
 -- The line of siblings without one that is taken off: c, a child of x.
-use Rattle.std.proofs.Common.{◌≡◌, ◌≢◌, ◌⊎◌, List, [], ◌∷◌, Option, Some, None, refl, sym, ap, subst, ◌∙◌, inl, inr}
-use Rattle.xl_trie.proofs.Common.{Slot, get, Updates, Name, Node, Span, In, Apart, span_of, spans, Becomes, Leads, HasKids, AllKids, IsBefore, LeadsNow}
+use Rattle.std.proofs.Common.{arith, ◌≡◌, ◌≢◌, ◌⊎◌, List, [], ◌∷◌, Option, Some, None, refl, sym, ap, subst, ◌∙◌, inl, inr}
+use Rattle.xl_trie.proofs.Common.{Slot, get, Updates, Name, Node, Span, In, Apart, Leads, HasKids, AllKids, IsBefore, LeadsNow}
 use Rattle.xl_trie.proofs.Lines.{came_from, leads_frame, kids_kept}
 use Rattle.xl_trie.proofs.Listing.{some_is, none_some}
 use Rattle.xl_trie.proofs.Trees.{one_name}
@@ -21,18 +21,8 @@ module _ (p0 p1 p2 : List (Slot Node)) (K : AllKids p0) (x c : Name) (xn cn v : 
     pub sibling : last ≢ Some b → node.sibling ≡ n.sibling
 
   slid : (l : Option Name) → last ≡ l → LeadsNow p0 p1 x l cn.sibling → (b : Name) (n : Node) → get p0 b ≡ Some n → Slid b n
-  slid None is now b n g = elim (one_name b x) [
-    | inl same ↦
-        let own : now.0 ≡ n = some_is now.0 n (sym now.1 ∙ ap (get p0) (sym same) ∙ g) in
-        record { node = record { span = now.0.span; child = cn.sibling; sibling = now.0.sibling }; there = ap (get p1) same ∙ now.2.changed; span = ap (λ (y : Node). y.span) own; child = λ other. absurd (other same); sibling = λ _. ap (λ (y : Node). y.sibling) own }
-    | inr other ↦ record { node = n; there = now.2.others b other ∙ g; span = refl; child = λ _. refl; sibling = λ _. refl }
-  ]
-  slid (Some l) is now b n g = elim (one_name b l) [
-    | inl same ↦
-        let own : now.0 ≡ n = some_is now.0 n (sym now.1 ∙ ap (get p0) (sym same) ∙ g) in
-        record { node = record { span = now.0.span; child = now.0.child; sibling = cn.sibling }; there = ap (get p1) same ∙ now.2.changed; span = ap (λ (y : Node). y.span) own; child = λ _. ap (λ (y : Node). y.child) own; sibling = λ other. absurd (other (is ∙ ap Some (sym same))) }
-    | inr other ↦ record { node = n; there = now.2.others b other ∙ g; span = refl; child = λ _. refl; sibling = λ _. refl }
-  ]
+  slid None is now b n g = grind (arith, one_name b x, now.1, now.2.changed, now.2.others b)
+  slid (Some l) is now b n g = grind (arith, one_name b l, now.1, now.2.changed, now.2.others b)
 
   slid_from : (l : Option Name) → LeadsNow p0 p1 x l cn.sibling → (b : Name) (k : Node) → get p1 b ≡ Some k → (n : Node) × (get p0 b ≡ Some n)
   slid_from None now b k g = elim (came_from p0 p1 x (record { span = now.0.span; child = cn.sibling; sibling = now.0.sibling }) now.2 b k g) [ inl h ↦ (now.0, ap (get p0) h.0 ∙ now.1) | inr h ↦ (k, h.1) ]
@@ -42,13 +32,7 @@ module _ (p0 p1 p2 : List (Slot Node)) (K : AllKids p0) (x c : Name) (xn cn v : 
   stay b m g other = let s = slid last refl up1 b m g in (s.node, up2.others b other ∙ s.there, s.span, s.child, s.sibling)
 
   back : (b : Name) (k : Node) → get p2 b ≡ Some k → k.span.parent ≡ Some x ⊎ (b ≢ c) → (b ≢ c) × ((m : Node) × (get p0 b ≡ Some m) × (m.span ≡ k.span))
-  back b k g some = elim (came_from p1 p2 c v up2 b k g) [
-    | inl h ↦ absurd (elim some [ inl p ↦ none_some x (sym v_parent ∙ ap (λ (y : Node). y.span.parent) (sym h.1) ∙ p) | inr other ↦ other h.0 ])
-    | inr h ↦
-        let n = slid_from last up1 b k h.1 in
-        let s = slid last refl up1 b n.0 n.1 in
-        (h.0, (n.0, n.1, sym s.span ∙ ap (λ (y : Node). y.span) (some_is s.node k (sym s.there ∙ h.1))))
-  ]
+  back b k g some = grind (arith, came_from p1 p2 c v up2 b k g, some, v_parent, slid_from last up1 b k, slid last refl up1 b)
 
   -- the line without c
   record Cut (ks : List Name) (at : Option Name) : Type 0 where
@@ -130,10 +114,7 @@ module _ (p0 p1 p2 : List (Slot Node)) (K : AllKids p0) (x c : Name) (xn cn v : 
       subst (Cut has.kids) (sym child) (later_cut l there.0 is there.1 there.3 (record { span = now.0.span; child = now.0.child; sibling = cn.sibling }, now.2.changed, refl) xn.child has.kids has.leads has.apart (has.all l there.0 there.1 there.2))
     where
       same_child : (o : Node) → get p1 x ≡ Some o → o.child ≡ xn.child
-      same_child o g = elim (came_from p0 p1 l (record { span = now.0.span; child = now.0.child; sibling = cn.sibling }) now.2 x o g) [
-        | inl h ↦ ap (λ (y : Node). y.child) h.1 ∙ ap (λ (y : Node). y.child) (some_is now.0 xn (sym now.1 ∙ ap (get p0) (sym h.0) ∙ e))
-        | inr h ↦ ap (λ (y : Node). y.child) (some_is o xn (sym h.1 ∙ e))
-      ]
+      same_child o g = grind (arith, one_name x l, now.1, now.2.changed, now.2.others x)
 
   -- the child before c hangs at x
   last_kid : (l : Option Name) → IsBefore p0 x c l → (b : Name) (m : Node) → l ≡ Some b → get p0 b ≡ Some m → m.span.parent ≡ Some x
@@ -168,16 +149,3 @@ module _ (p0 p1 p2 : List (Slot Node)) (K : AllKids p0) (x c : Name) (xn cn v : 
           others a n.0 o other n.1 (ap (λ (y : Node). y.child) (some_is o s.node (sym h.1 ∙ s.there)) ∙ s.child other)
     ]
   ]
-
-  pub span_unhung : Becomes (spans p0) (spans p2) c (Some v.span)
-  span_unhung = record { changed = ap span_of up2.changed; others = λ b other. ap span_of (up2.others b other) ∙ slid_span last up1 b }
-    where
-      slid_span : (l : Option Name) → LeadsNow p0 p1 x l cn.sibling → (b : Name) → spans p1 b ≡ spans p0 b
-      slid_span None now b = elim (one_name b x) [
-        | inl same ↦ ap (spans p1) same ∙ ap span_of now.2.changed ∙ sym (ap span_of now.1) ∙ ap (spans p0) (sym same)
-        | inr other ↦ ap span_of (now.2.others b other)
-      ]
-      slid_span (Some l) now b = elim (one_name b l) [
-        | inl same ↦ ap (spans p1) same ∙ ap span_of now.2.changed ∙ sym (ap span_of now.1) ∙ ap (spans p0) (sym same)
-        | inr other ↦ ap span_of (now.2.others b other)
-      ]

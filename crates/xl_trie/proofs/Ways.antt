@@ -1,24 +1,9 @@
 -- The way to a ledger, and what the chains of ledgers say of it.
-use Rattle.std.proofs.Common.{◌≡◌, ℕ, zero, suc, ◌+◌, ◌<◌, ◌≤◌, ◌==◌, ◌||◌, Bool, true, false, cond, List, [], ◌∷◌, ◌++◌, length, get_or, take, drop, Some, slice_get, refl, sym, ap, ◌∙◌, arith, inl, inr}
-use Rattle.xl_trie.proofs.Common.{list_any, cases_lt, cases_Bool, eqb-true, eq-eqb, length-append, length-drop, take-append-le, drop-append-le, list_any_at, slice_get_within, slice_get-get_or, get_or_from_slice_get, Header, seq_at, parent_of, chain, last_common, common_of, AreLedgers, is_on_chain, slice_get-front, HasParent, parent_known, parent_of_known, seq_of_root, seq_of_added, chain_of_root, chain_more, length-chain, chain_ends, of_chain, way, OnWay, take_all}
+use Rattle.std.proofs.Common.{◌≡◌, ℕ, zero, suc, ◌+◌, ◌<◌, ◌≤◌, ◌==◌, Bool, true, false, cond, List, [], ◌∷◌, ◌++◌, length, get_or, take, drop, Some, slice_get, refl, sym, ap, ◌∙◌, arith, inl, inr}
+use Rattle.xl_trie.proofs.Common.{cases_Bool, cases_lt, eqb-true, eq-eqb, length-append, length-drop, take-append-le, drop-append-le, list_any_at, slice_get_within, slice_get-get_or, get_or_from_slice_get, Header, seq_at, parent_of, chain, last_common, common_of, AreLedgers, is_on_chain, slice_get-front, HasParent, parent_known, parent_of_known, seq_of_root, seq_of_added, chain_of_root, chain_more, length-chain, chain_ends, of_chain, way, OnWay, take_all}
 use Rattle.xl_trie.proofs.Fronts.{shared, shared_low}
-use Rattle.xl_trie.proofs.Listing.{some_is}
-
-take_drop : {X : Type 0} (xs : List X) (n : ℕ) → drop 1 (take (suc n) xs) ≡ take n (drop 1 xs)
-take_drop [] zero = refl
-take_drop [] (suc n) = refl
-take_drop (x ∷ xs) n = refl
-
-last_same : {X : Type 0} (xs ys : List X) (x y : X) → xs ++ x ∷ [] ≡ ys ++ y ∷ [] → (xs ≡ ys) × (x ≡ y)
-last_same {X = X} [] [] x y e = (refl, cc)
-last_same {X = X} [] (b ∷ ys) x y e = absurd (let l : length (x ∷ []) ≡ length ((b ∷ ys) ++ y ∷ []) = ap (length {A = X}) e in omega (arith, length-append ys (y ∷ [])))
-last_same {X = X} (a ∷ xs) [] x y e = absurd (let l : length ((a ∷ xs) ++ x ∷ []) ≡ length (y ∷ []) = ap (length {A = X}) e in omega (arith, length-append xs (x ∷ [])))
-last_same {X = X} (a ∷ xs) (b ∷ ys) x y e =
-    let heads : a ≡ b = cc in
-    let tails : xs ++ x ∷ [] ≡ ys ++ y ∷ [] = cc in
-    let r = last_same xs ys x y tails in
-    let whole : a ∷ xs ≡ b ∷ ys = ap (λ (h : X). h ∷ xs) heads ∙ ap (λ (t : List X). b ∷ t) r.0 in
-    (whole, r.1)
+use Rattle.xl_trie.proofs.Listing.{some_is, at_in, any_in}
+use Rattle.std.proofs.lemmas.List.{drop-take, same_from_push}
 
 first_of : {X : Type 0} (xs : List X) (x : X) → slice_get xs 0 ≡ Some x → xs ≡ x ∷ drop 1 xs
 first_of [] x e = absurd cc
@@ -27,21 +12,9 @@ first_of (y ∷ xs) x e = let same : y ≡ x = cc in ap (λ z. z ∷ xs) same
 common_get : (last : ℕ) (xs ys : List ℕ) → last_common last xs ys ≡ get_or (last ∷ xs) (shared xs ys) 0
 common_get last [] ys = refl
 common_get last (x ∷ xs) [] = refl
-common_get last (x ∷ xs) (y ∷ ys) = common_by (x == y) (common_get x xs ys)
-  where
-    common_by : (b : Bool) → last_common x xs ys ≡ get_or (x ∷ xs) (shared xs ys) 0 → cond b (last_common x xs ys) last ≡ get_or (last ∷ x ∷ xs) (cond b (suc (shared xs ys)) 0) 0
-    common_by true rest = rest
-    common_by false rest = refl
-
-any_get : {X : Type 0} (p : X → Bool) (xs : List X) → list_any p xs ≡ true → (s : ℕ) × (x : X) × (slice_get xs s ≡ Some x) × (p x ≡ true)
-any_get p [] e = absurd cc
-any_get p (x ∷ xs) e = elim (cases_Bool (p x)) [
-  | inl t ↦ (0, x, refl, t)
-  | inr f ↦ let r = any_get p xs (sym (ap (λ b. b || list_any p xs) f) ∙ e) in (suc r.0, r.1, r.2, r.3)
-]
-
-any_at : {X : Type 0} (p : X → Bool) (xs : List X) (s : ℕ) (x : X) → slice_get xs s ≡ Some x → p x ≡ true → list_any p xs ≡ true
-any_at p xs s x at e = list_any_at p xs s x (slice_get_within xs s x at) (ap p (get_or_from_slice_get xs s x x at) ∙ e)
+common_get last (x ∷ xs) (y ∷ ys) =
+    let more : suc (shared xs ys) ≡ 1 + shared xs ys = omega arith in
+    grind (arith, cases_Bool (x == y), common_get x xs ys, ap (λ k. get_or (last ∷ x ∷ xs) k 0) more)
 
 pub length_way : (hs : List Header) (x : ℕ) → length (way hs x) ≡ seq_at hs x
 unfolding way
@@ -72,7 +45,7 @@ module _ (hs : List Header) (ok : AreLedgers hs) where
 
   pub way_at : (x s y : ℕ) → x < length hs → slice_get (chain hs x) s ≡ Some y → way hs y ≡ take s (way hs x)
   unfolding way
-  way_at x s y known at = ap (drop 1) (chain_front x x s y (omega arith) known at) ∙ take_drop (chain hs x) s
+  way_at x s y known at = ap (drop 1) (chain_front x x s y (omega arith) known at) ∙ ap (λ n. drop 1 (take n (chain hs x))) (let e : suc s ≡ 1 + s = omega arith in e) ∙ drop-take 1 s (chain hs x)
 
   pub way_root : way hs 0 ≡ []
   unfolding way
@@ -94,7 +67,7 @@ module _ (hs : List Header) (ok : AreLedgers hs) where
   way_one (suc a) (suc b) ka kb e =
       let p = parent_known hs ok (suc a) (omega arith) ka in
       let q = parent_known hs ok (suc b) (omega arith) kb in
-      (last_same (way hs p.0) (way hs q.0) (suc a) (suc b) (sym (way_more (suc a) p.0 (omega arith) p.1) ∙ e ∙ way_more (suc b) q.0 (omega arith) q.1)).1
+      (same_from_push (way hs p.0) (way hs q.0) (suc a) (suc b) (sym (way_more (suc a) p.0 (omega arith) p.1) ∙ e ∙ way_more (suc b) q.0 (omega arith) q.1)).1
 
   -- what stands on the way
   pub record Stop (x k : ℕ) : Type 0 where
@@ -177,9 +150,9 @@ module _ (hs : List Header) (ok : AreLedgers hs) where
   -- a ledger on the chain of another, by ways
   pub on_true : (x v : ℕ) → v < length hs → is_on_chain hs x v ≡ true → OnWay hs x v
   on_true x v known e =
-      let r = any_get (λ y. y == x) (chain hs v) e in
-      let same : r.1 ≡ x = eqb-true r.1 x r.3 in
-      let at : slice_get (chain hs v) r.0 ≡ Some x = r.2 ∙ ap Some same in
+      let found = any_in (λ y. y == x) (chain hs v) e in
+      let r = at_in (chain hs v) found.0 0 found.1 in
+      let at : slice_get (chain hs v) r.0 ≡ Some x = slice_get-get_or (chain hs v) r.0 0 r.1 ∙ ap Some (r.2 ∙ eqb-true found.0 x found.2) in
       let is = way_at v r.0 x known at in
       let own = (of_chain hs ok v known r.0 x at).seq in
       let size : length (way hs x) ≡ r.0 = length_way hs x ∙ own in
@@ -190,4 +163,4 @@ module _ (hs : List Header) (ok : AreLedgers hs) where
   on_from x v kx kv on =
       let s = stop_at v (length (way hs x)) kv on.0 in
       let same : s.ledger ≡ x = way_one s.ledger x s.known kx (s.is ∙ on.1) in
-      any_at (λ y. y == x) (chain hs v) (length (way hs x)) s.ledger s.at (eq-eqb s.ledger x same)
+      list_any_at (λ y. y == x) (chain hs v) (length (way hs x)) s.ledger (slice_get_within (chain hs v) (length (way hs x)) s.ledger s.at) (eq-eqb (get_or (chain hs v) (length (way hs x)) s.ledger) x (get_or_from_slice_get (chain hs v) (length (way hs x)) s.ledger s.ledger s.at ∙ same))

@@ -1,4 +1,5 @@
--- The nodes stay those of the votes as a header is added. A law of `Trie` states it, so its proof stands here and not with the others.
+-- The nodes stay those of the votes as a header is added. `Trie` gives this as the trait's law `grows`. What a law cites must stand
+-- in the crate's specs, so its proof stands here and not with the others.
 -- Source: what the code of this crate relies on.
 use Rattle.std.proofs.Common.{◌≡◌, ℕ, suc, ◌+◌, ◌<◌, ◌≤◌, ◌==◌, Bool, List, Option, Some, [], ◌∷◌, ◌++◌, length, take, drop, cond, All, refl, sym, ap, subst, ◌∙◌, arith, inl, inr}
 use Rattle.std.specs.List.{list_any, count_by}
@@ -31,9 +32,6 @@ count_alike p q (v ∷ votes) alike =
     ∙ sym (sum_by-cons (λ x. cond (q x) 1 0) v votes)
 
 module _ (hs : List Header) (h : Header) (ok : AreLedgers hs) where
-  abbrev more : List Header
-  more = hs ++ h ∷ []
-
   longer : (x : ℕ) → x < length hs → x < length (hs ++ h ∷ [])
   longer x lt = omega (arith, lt, length-append hs (h ∷ []))
 

@@ -1,8 +1,7 @@
 use Rattle.std.proofs.Common.{◌≢◌, ◌<◌, length, Some, sym, ap, subst, ◌∙◌, arith}
 use Rattle.xl_trie.proofs.Common.{Span, AreRecounted, with_counts, spans, IsKid, Becomes, way, OnWay}
-use Rattle.xl_trie.proofs.Listing.{some_is}
+use Rattle.xl_trie.proofs.Listing.{some_is, is_some_if}
 use Rattle.xl_trie.proofs.Recounting.{depth, counts_keep, linked_on, recounted_top, recounted_on}
-use Rattle.xl_trie.proofs.Siblings.{is_some_if}
 use Rattle.xl_trie.proofs.Trees.{on_through, hung, kid_differs, over_of}
 use Rattle.xl_trie.proofs.counting.+recount_up.Goals as goal
 

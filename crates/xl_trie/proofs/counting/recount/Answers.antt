@@ -1,4 +1,4 @@
-use Rattle.std.proofs.Common.{◌≡◌, ◌==◌, Some, sym, ap, subst, ◌∙◌, arith, inl, inr}
+use Rattle.std.proofs.Common.{◌≡◌, ◌==◌, Some, sym, subst, ◌∙◌, arith}
 use Rattle.xl_trie.proofs.Common.{Name, Vote, is_on_chain, Span, changed, with_counts, spans, Becomes, count_by-le-length}
 use Rattle.xl_trie.proofs.Listing.{some_is}
 use Rattle.xl_trie.proofs.Recounting.{counts_keep, linked_on, recounted, ends_on}
@@ -20,12 +20,7 @@ recount_up-requires-clause-small c = λ a t o f g on.
     let T = c.requires.trie in
     let s = c.span_at-span.result in
     let B = c.set_counts.ensures.spans s c.span_at-span.ensures in
-    elim (one_name a c.args.at) [
-      | inl same ↦
-          let own = some_is (with_counts s c.of.result s.branch) t (sym B.changed ∙ ap (spans c.set_counts.new.nodes) (sym same) ∙ f) in
-          omega (arith, ap (λ (x : Span). x.branch) own, T.1.spans.counted.branch c.args.at s c.span_at-span.ensures, count_by-le-length (λ (v : Vote). is_on_chain hs s.ledger v.ledger) T.0, T.2)
-      | inr other ↦ omega (arith, T.1.spans.counted.branch a t (sym (B.others a other) ∙ f), count_by-le-length (λ (v : Vote). is_on_chain hs t.ledger v.ledger) T.0, T.2)
-    ]
+    grind (arith, one_name a c.args.at, f, B.changed, B.others a, T.1.spans.counted.branch a t, T.1.spans.counted.branch c.args.at s c.span_at-span.ensures, count_by-le-length (λ (v : Vote). is_on_chain hs t.ledger v.ledger) T.0, count_by-le-length (λ (v : Vote). is_on_chain hs s.ledger v.ledger) T.0, T.2)
 
 pub returns-clause-trie : goal.returns-clause-trie
 returns-clause-trie c = λ votes now v T change s e at.

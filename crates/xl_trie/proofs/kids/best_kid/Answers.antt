@@ -10,7 +10,7 @@ loop-init c = record {
 }
 
 pub returns-in_default-clause-best : goal.returns-in_default-clause-best
-returns-in_default-clause-best c = looked c.args.nodes.now c.args.of (λ (rest : List Name). IsBestSoFar c.args.walk.now.ledgers.headers (spans c.args.nodes.now) c.args.of c.args.out rest c.loop.best) c.loop.at _ c.loop.invariant.looks c.in_default.is
+returns-in_default-clause-best c = looked c.args.nodes.now c.args.of (λ (rest : List Name). IsBestSoFar c.args.walk.now.ledgers.headers (spans c.args.nodes.now) c.args.of c.args.out rest c.loop.best) c.loop.at _ c.loop.invariant.looks (inl c.in_default.is)
 
 pub better-best-requires-clause-stands : goal.better-best-requires-clause-stands
 better-best-requires-clause-stands c = stands_next c.args.nodes.now c.args.of (λ (rest : List Name). IsBestSoFar c.args.walk.now.ledgers.headers (spans c.args.nodes.now) c.args.of c.args.out rest c.loop.best) c.loop.at _ c.in-Some.name c.loop.invariant.looks c.in-Some.is

@@ -1,7 +1,7 @@
 use Rattle.std.proofs.Common.{ap, ◌∙◌}
 use Rattle.xl_trie.proofs.Common.{Span}
 use Rattle.xl_trie.proofs.Lines.{kids_given}
-use Rattle.xl_trie.proofs.Siblings.{node_of}
+use Rattle.xl_trie.proofs.Naming.{node_of}
 use Rattle.xl_trie.proofs.linking.give.Goals as goal
 
 pub returns-clause-kids : goal.returns-clause-kids

@@ -1,7 +1,7 @@
 use Rattle.std.proofs.Common.{refl, sym, ap, ◌∙◌}
 use Rattle.xl_trie.proofs.Common.{spans, Span}
 use Rattle.xl_trie.proofs.Listing.{some_is, some_of}
-use Rattle.xl_trie.proofs.Siblings.{node_of}
+use Rattle.xl_trie.proofs.Naming.{node_of}
 use Rattle.xl_trie.proofs.Unhanging.{kids_unhung}
 use Rattle.xl_trie.proofs.linking.unhang.Goals as goal
 

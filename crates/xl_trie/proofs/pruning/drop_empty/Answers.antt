@@ -1,15 +1,11 @@
-use Rattle.std.proofs.Common.{◌≡◌, true, false, is_some, Option, Some, None, refl, sym, ap, ◌∙◌, arith, inl, inr}
+use Rattle.std.proofs.Common.{◌≡◌, None, sym, ap, ◌∙◌, arith, inl, inr}
 use Rattle.xl_trie.proofs.Common.{Span, Name, span_of, spans, IsKid, Becomes}
 use Rattle.xl_trie.proofs.Leaving.{dropped, dropped_half, dropped_root}
-use Rattle.xl_trie.proofs.Listing.{none_some, some_of}
-use Rattle.xl_trie.proofs.Siblings.{is_some_if, no_kids, first_kid}
+use Rattle.xl_trie.proofs.Listing.{none_some, none_of, some_of, is_some_if}
+use Rattle.xl_trie.proofs.Siblings.{no_kids, first_kid}
 use Rattle.xl_trie.proofs.Trees.{over_of, kid_differs}
 use Rattle.xl_trie.proofs.pruning.drop_empty.Goals.{then-node-gt0-via-then-node-gt0, then-node-gt0-via-else-node-gt0+then-is_some}
 use Rattle.xl_trie.proofs.pruning.drop_empty.Goals as goal
-
-none_if : (o : Option Name) → is_some o ≡ false → o ≡ None
-none_if None e = refl
-none_if (Some x) e = absurd cc
 
 pub returns-in_default-clause-half : goal.returns-in_default-clause-half
 returns-in_default-clause-half c =
@@ -48,7 +44,7 @@ empty : (c : goal.After-give) → c.node_at-node.result.span.tip ≡ 0
 empty c = omega (arith, c.if-node-gt0.false)
 
 childless : (c : goal.After-give) (b : Name) (u : Span) → IsKid (spans c.args.nodes.now) c.args.name b u → ⊥
-childless c b u = no_kids c.args.nodes.now c.args.name b c.node_at-node.result u (c.requires.trie.2.1.kids c.args.name c.node_at-node.result c.node_at-node.ensures.node) (none_if c.node_at-node.result.child (sym c.is_some.ensures ∙ c.if-is_some.false))
+childless c b u = no_kids c.args.nodes.now c.args.name b c.node_at-node.result u (c.requires.trie.2.1.kids c.args.name c.node_at-node.result c.node_at-node.ensures.node) (none_of c.node_at-node.result.child (sym c.is_some.ensures ∙ c.if-is_some.false))
 
 goes : (c : goal.After-give) → Becomes (spans c.args.nodes.now) (spans c.give.new.nodes) c.args.name None
 goes c = record { changed = c.give.ensures.spans.changed; others = λ b other. c.give.ensures.spans.others b other ∙ (c.unhang.ensures.spans c.node_at-node.result.span c.node_at-node.ensures.span).others b other }

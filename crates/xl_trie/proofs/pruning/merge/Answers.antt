@@ -1,21 +1,11 @@
-use Rattle.std.proofs.Common.{◌≡◌, ◌≢◌, Bool, true, false, not, is_some, List, length, Option, Some, None, IsSome, refl, sym, ap, subst, ◌∙◌, arith, inl, inr}
+use Rattle.std.proofs.Common.{◌≡◌, ◌≢◌, not, List, length, Option, Some, None, IsSome, sym, ap, subst, ◌∙◌, arith, inl, inr}
 use Rattle.xl_trie.proofs.Common.{Header, Vote, AreLedgers, Slot, get, Name, Node, Span, span_of, spans, IsKid, IsNeeded, IsTrieBut, way}
 use Rattle.xl_trie.proofs.Leaving.{merged, merged_root, all_needed}
-use Rattle.xl_trie.proofs.Listing.{some_is, none_some}
-use Rattle.xl_trie.proofs.Siblings.{is_some_if, no_kids, first_kid}
+use Rattle.xl_trie.proofs.Listing.{some_is, none_some, none_of, some_of, is_some_if}
+use Rattle.xl_trie.proofs.Siblings.{no_kids, first_kid}
 use Rattle.xl_trie.proofs.Trees.{hung, over_of, kid_differs}
 use Rattle.xl_trie.proofs.pruning.merge.Goals.{else-node-eq0-via-then-node-eq0+else-is_none, else-node-eq0-via-else-node-eq0}
 use Rattle.xl_trie.proofs.pruning.merge.Goals as goal
-
-none_if : (o : Option Name) (t : Bool) → is_some o ≡ not t → t ≡ true → o ≡ None
-none_if None t e is = refl
-none_if (Some x) true e is = absurd cc
-none_if (Some x) false e is = absurd cc
-
-some_if : (o : Option Name) (t : Bool) → is_some o ≡ not t → t ≡ false → (x : Name) × (o ≡ Some x)
-some_if None true e is = absurd cc
-some_if None false e is = absurd cc
-some_if (Some x) t e is = (x, refl)
 
 -- a node is needed if this is true of the one at its name
 need_of : (S : Name → Option Span) (a : Name) (s : Span) → S a ≡ Some s → IsNeeded S a s → (t : Span) → S a ≡ Some t → IsNeeded S a t
@@ -96,7 +86,7 @@ pub returns-then-is_none-clause-trie : goal.returns-then-is_none-clause-trie
 returns-then-is_none-clause-trie c = λ hs votes ok T.
     let f = between hs ok votes c.args.nodes.now c.in-Some.over c.args.name c.in-Some-child.kid c.node_at-node.result T c.node_at-node.ensures.node c.in-Some.is c.in-Some-child.is in
     let own = some_is c.node_at.result f.0 (sym c.node_at.ensures.node ∙ f.1.there) in
-    let last = ap (λ (x : Node). x.sibling) (sym own) ∙ none_if c.node_at.result.sibling c.is_none.result c.is_none.ensures c.if-is_none.true in
+    let last = ap (λ (x : Node). x.sibling) (sym own) ∙ none_of c.node_at.result.sibling (c.is_none.ensures ∙ ap not c.if-is_none.true) in
     record {
       spans = merged hs ok votes (spans c.args.nodes.now) (spans c.lift.new.nodes) c.in-Some.over c.args.name T.spans c.node_at-node.result.span f.1.up (omega (arith, c.if-node-eq0.true)) c.in-Some-child.kid f.0.span f.1.low (f.1.lone last) (c.lift.ensures.merged c.node_at-node.result.span f.0.span f.1.up f.1.low);
       kids = c.lift.ensures.kids;
@@ -107,7 +97,7 @@ returns-then-is_none-clause-root c =
     let I = c.requires.trie in
     let f = between I.0 I.1 I.2.0 c.args.nodes.now c.in-Some.over c.args.name c.in-Some-child.kid c.node_at-node.result I.2.1 c.node_at-node.ensures.node c.in-Some.is c.in-Some-child.is in
     let own = some_is c.node_at.result f.0 (sym c.node_at.ensures.node ∙ f.1.there) in
-    let last = ap (λ (x : Node). x.sibling) (sym own) ∙ none_if c.node_at.result.sibling c.is_none.result c.is_none.ensures c.if-is_none.true in
+    let last = ap (λ (x : Node). x.sibling) (sym own) ∙ none_of c.node_at.result.sibling (c.is_none.ensures ∙ ap not c.if-is_none.true) in
     merged_root I.0 I.1 I.2.0 (spans c.args.nodes.now) (spans c.lift.new.nodes) c.in-Some.over c.args.name I.2.1.spans c.node_at-node.result.span f.1.up (omega (arith, c.if-node-eq0.true)) c.in-Some-child.kid f.0.span f.1.low (f.1.lone last) (c.lift.ensures.merged c.node_at-node.result.span f.0.span f.1.up f.1.low)
 
 pub returns-else-node-eq0-clause-trie : goal.returns-else-node-eq0-clause-trie
@@ -118,7 +108,7 @@ returns-else-node-eq0-clause-trie c = λ hs votes ok T.
       spans = all_needed hs votes (spans c.args.nodes.now) c.args.name T.spans (need_of (spans c.args.nodes.now) c.args.name n.span c.node_at-node.ensures.span (inr (elim c.else-node-eq0.branch [
         | else-node-eq0-via-then-node-eq0+else-is_none w ↦
             let own = some_is w.node_at.result f.0 (sym w.node_at.ensures.node ∙ f.1.there) in
-            let d = some_if w.node_at.result.sibling w.is_none.result w.is_none.ensures w.if-is_none.false in
+            let d = some_of w.node_at.result.sibling (w.is_none.ensures ∙ ap not w.if-is_none.false) in
             let o = f.1.next d.0 (ap (λ (x : Node). x.sibling) (sym own) ∙ d.1) in
             inr (c.in-Some-child.kid, d.0, f.0.span, o.1.0.span, f.1.low, (ap span_of o.1.1, o.1.2), o.0)
         | else-node-eq0-via-else-node-eq0 w ↦ inl (omega (arith, w.if-node-eq0.false))
