@@ -1,8 +1,9 @@
 //! The words that all layers share: who a member is, which ledger, which set, which moment, how a run ended, the half
 //! hash, and how fields are put into bytes.
 //!
-//! It stands on the kit's `sha2` and `byteorder`. Its one contract: `half512` is the first half of SHA-512, and `set_id`
-//! is that of a set's prefix and ids. `TxIds` is for the ids that events will name once the world's nodes have rounds.
+//! It stands on the kit's `sha2` and `byteorder`. Its one contract: `half512` is the first half of SHA-512, and
+//! `set_id` is that of a set's prefix and ids. `TxIds` is for the ids that events will name once the world's nodes have
+//! rounds.
 #![tactic(auto)]
 
 mod bytes;

@@ -1,4 +1,5 @@
--- A core: a node with what waits at it, to be sent and to be read, and everything that may happen to it. Source: this profile.
+-- A core: a node with what waits at it, to be sent and to be read, and everything that may happen to it. Source: this
+-- profile.
 use Rattle.std.specs.Prelude.{ℕ, Bool, true, false, List, ◌++◌, length, take, drop}
 use Rattle.std.specs.Prelude.{Some, None}
 use Rattle.std.specs.declared.option.Option.{Option}

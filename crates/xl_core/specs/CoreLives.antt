@@ -1,4 +1,5 @@
--- A core's life: what happened since it opened, what its keeper may hold then, each frame that it gave, and each report.
+-- A core's life: what happened since it opened, what its keeper may hold then, each frame that it gave, and each
+-- report.
 -- Source: this profile, by which a node saves a sequence before it says it, and a full queue drops its oldest item.
 use Rattle.std.specs.Prelude.{◌≡◌, ℕ, ◌+◌, ◌≤◌, List, [], ◌∷◌, ◌++◌, length, take, option_to_list, All, IfSome}
 use Rattle.std.specs.Prelude.{Some, None, Result, Ok, Err}
@@ -65,8 +66,8 @@ validation_in bytes = validation_split (split_of bytes)
 abbrev pub IsFrameCovered : ℕ → List ℕ → Type 0
 IsFrameCovered kept frame = IfSome (validation_in frame) (λ v. v.seq ≤ kept)
 
--- Every validation in a frame that a drain ever gave is of a sequence that is at most each number that the keeper may hold:
--- so a stop at any moment leaves no number below it.
+-- Every validation in a frame that a drain ever gave is of a sequence that is at most each number that the keeper may
+-- hold: so a stop at any moment leaves no number below it.
 abbrev pub SaidIsSaved : Type 0
 SaidIsSaved =
     (settings : Settings) (now kept : ℕ) (held : Held) (life : List CoreHappening) (n : ℕ) →

@@ -1,6 +1,7 @@
 -- One node: the ledgers that it knows, its rows, its round, the last sequence that it saved, and what it reports as
 -- fully validated.
--- Source: Chase and MacBrough, "Analysis of the XRP Ledger Consensus Protocol" (2018), and rippled's Consensus and Validations.
+-- Source: Chase and MacBrough, "Analysis of the XRP Ledger Consensus Protocol" (2018), and rippled's Consensus and
+-- Validations.
 use Rattle.std.specs.Prelude.{◌≡◌, ◌≢◌, ℕ, ◌<◌, ◌/◌, ◌==◌, ◌&&◌, not, max, Bool, true, false, List, [], ◌∷◌, ◌++◌, map, unwrap_or, filter_map, find, option_map, nat_lt, nat_le, if◌then◌else◌}
 use Rattle.std.specs.Prelude.{Some, None, Result, Ok, Err}
 use Rattle.std.specs.declared.option.Option.{Option}
@@ -252,8 +253,9 @@ speech_refusal n from (speech.Proposal p) = option_map round_from (result_err (p
 speech_refusal n from (speech.TxSet ids) = None
 speech_refusal n from (speech.Tx tx) = tx_refusal n tx
 
--- a member's row takes a validation, the ledgers a header, and the round a proposal, a set or a transaction. Validations
--- that waited for a header are votes from then on; a set is the one that the member holds; nothing is sent on
+-- a member's row takes a validation, the ledgers a header, and the round a proposal, a set or a transaction.
+-- Validations that waited for a header are votes from then on; a set is the one that the member holds; nothing is sent
+-- on
 abbrev pub taking : Node → ℕ → Speech → Reply
 taking n from (speech.Validation v) = reporting (with_taken n (second_of n) from v) (Took TakenVote) None
 taking n from (speech.Header h) = record {

@@ -27,8 +27,8 @@ abbrev pub waiting_at : List (Backlog Item) → ℕ → Backlog Item
 waiting_at waiting zero = no_items
 waiting_at waiting (suc place) = queue_of waiting place
 
--- how many of the oldest items a room takes: their frames go into it one behind the other, and what is passed over needs
--- no place
+-- how many of the oldest items a room takes: their frames go into it one behind the other, and what is passed over
+-- needs no place
 abbrev pub fitting : List (Option (List ℕ)) → ℕ → ℕ
 fitting [] room = 0
 fitting (None ∷ frames) room = suc (fitting frames room)

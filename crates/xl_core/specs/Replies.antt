@@ -1,4 +1,5 @@
--- The answers of a node's calls, as replies. Source: this project's own, by which a call answers what the node's step replies.
+-- The answers of a node's calls, as replies. Source: this project's own, by which a call answers what the node's step
+-- replies.
 use Rattle.std.specs.Prelude.{◌≡◌, ℕ, Bool, List, [], ◌∷◌, ◌++◌, length, drop, Result, Ok, Err, Some, None}
 use Rattle.std.specs.declared.option.Option.{Option}
 use Rattle.xl_base.specs.declared.ids.TxId.{TxId}

@@ -1,4 +1,5 @@
--- A stop at any moment: what a node has said, or has waiting to be said, is of a sequence that its keeper can't fall below.
+-- A stop at any moment: what a node has said, or has waiting to be said, is of a sequence that its keeper can't fall
+-- below.
 -- Source: this profile, by which a node saves a sequence before it says it.
 use Rattle.std.specs.Prelude.{◌≡◌, ℕ, ◌≤◌, All, IfSome, Some, ⊤}
 use Rattle.std.specs.declared.option.Option.{Option}

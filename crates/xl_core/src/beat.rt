@@ -13,7 +13,8 @@ pub enum Issued {
     Partial,
     /// Not at all: it isn't a validator, or the members moved on without it.
     Silent,
-    /// Its validation was refused: as not after the last saved sequence, for a save that failed, or because this one did.
+    /// Its validation was refused: as not after the last saved sequence, for a save that failed, or because this one
+    /// did.
     Refused(Refusal),
 }
 

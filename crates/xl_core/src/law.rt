@@ -1,7 +1,8 @@
 ghost use Rattle.xl_core.specs.Lives.{ReportsArise, ReportsRise};
 ghost use Rattle.xl_core.specs.CoreLives.{SaidIsSaved, ReportsAreHandedOut, NoneIsLost};
 
-/// The law of a node's reports, which has no code: it speaks of every life of a node, which is what happened since it opened.
+/// The law of a node's reports, which has no code: it speaks of every life of a node, which is what happened since it
+/// opened.
 pub fn reports()
     // A report arises exactly where a quorum holds a ledger that wasn't reported in this life.
     ensures arise { ReportsArise }
@@ -9,8 +10,8 @@ pub fn reports()
     ensures rise { ReportsRise }
 {}
 
-/// The law of what a core ever said, which has no code: over every life of a core and its keeper, whatever was drained in it and
-/// when.
+/// The law of what a core ever said, which has no code: over every life of a core and its keeper, whatever was drained
+/// in it and when.
 pub fn said_is_saved()
     ensures { SaidIsSaved }
 {}

@@ -1,19 +1,20 @@
 //! One node as a function of what happens at it, and its queues.
 //!
 //! `Node` issues validations, hears what its list's members say, reports a ledger as fully validated once a quorum of
-//! the members' current full validations name it, and knows the ledger that their votes prefer. Members say validations,
-//! headers of ledgers, proposals, sets of transactions, and transactions.
-//! It has a round of consensus on a ledger: a timer lets that go on, or switches to the ledger that the votes choose, and
-//! builds the next ledger once the round is ready.
+//! the members' current full validations name it, and knows the ledger that their votes prefer. Members say
+//! validations, headers of ledgers, proposals, sets of transactions, and transactions. It has a round of consensus on a
+//! ledger: a timer lets that go on, or switches to the ledger that the votes choose, and builds the next ledger once
+//! the round is ready.
 //!
-//! `Core` is a node with what waits at it: what it says waits for every peer until it is drained into frames, and what it
-//! reports until it is handed out. What waits for the peers is kept once, with a place for each of them: who is overrun
-//! loses the oldest items, and they are counted. A peer that is greeted is handed the headers of a chain before them.
-//! `CoreEvent` is everything that may happen to a core, drains and handing out included.
+//! `Core` is a node with what waits at it: what it says waits for every peer until it is drained into frames, and what
+//! it reports until it is handed out. What waits for the peers is kept once, with a place for each of them: who is
+//! overrun loses the oldest items, and they are counted. A peer that is greeted is handed the headers of a chain before
+//! them. `CoreEvent` is everything that may happen to a core, drains and handing out included.
 //!
-//! It stands on xl_validations, xl_rounds and xl_ledger, on xl_queues, on xl_io's keepers, and on xl_wire and xl_tags, by
-//! which it reads, opens and seals frames. Its one contract: each call leaves the core and answers as `core_happens` says
-//! of its event, so that nothing is said before the keeper has saved its sequence; and no call after `open` takes memory.
+//! It stands on xl_validations, xl_rounds and xl_ledger, on xl_queues, on xl_io's keepers, and on xl_wire and xl_tags,
+//! by which it reads, opens and seals frames. Its one contract: each call leaves the core and answers as `core_happens`
+//! says of its event, so that nothing is said before the keeper has saved its sequence; and no call after `open` takes
+//! memory.
 #![tactic(auto)]
 
 mod beat;

@@ -144,8 +144,8 @@ fn usual_mode(validating: bool) -> Mode
 }
 
 impl<B: Branch + Drop> Node<B> {
-    /// A node with its settings, among whose keys is one for each other listed member, and the number that its keeper holds: it
-    /// knows the root alone, and nothing is taken or reported yet.
+    /// A node with its settings, among whose keys is one for each other listed member, and the number that its keeper
+    /// holds: it knows the root alone, and nothing is taken or reported yet.
     pub fn open(
         alloc: Global,
         settings: Settings,
@@ -211,8 +211,8 @@ impl<B: Branch + Drop> Node<B> {
         Ok(())
     }
 
-    /// Sets the time, which never goes back, and removes the validations that are no longer current. Within a second none ceases
-    /// to be.
+    /// Sets the time, which never goes back, and removes the validations that are no longer current. Within a second
+    /// none ceases to be.
     fn advance(&mut self, now: Millis)
         requires { now ≤ GREATEST_MILLIS }
         ensures { self.new ≡ at_moment now self.old }
@@ -225,12 +225,12 @@ impl<B: Branch + Drop> Node<B> {
         }
     }
 
-    /// Saves a sequence and issues its validation, signed in the second of the node's time. Only after the save does the
-    /// node's own row take the validation, if the node stands on its list; that may give a report.
+    /// Saves a sequence and issues its validation, signed in the second of the node's time. Only after the save does
+    /// the node's own row take the validation, if the node stands on its list; that may give a report.
     ///
-    /// First the time is set, and rows expire. Refused as not after the last saved sequence; for a save that failed since
-    /// the node opened; or because the save fails now, in this order. After a save that failed the node issues nothing until
-    /// it is opened anew, and the keeper may hold the former number or the asked one.
+    /// First the time is set, and rows expire. Refused as not after the last saved sequence; for a save that failed
+    /// since the node opened; or because the save fails now, in this order. After a save that failed the node issues
+    /// nothing until it is opened anew, and the keeper may hold the former number or the asked one.
     pub fn issue<K: Keeper>(
         &mut self,
         now: Millis,
@@ -366,7 +366,8 @@ impl<B: Branch + Drop> Node<B> {
         }
     }
 
-    /// Adds a header to the known ledgers. Validations that waited for it are votes from then on, and nothing is reported.
+    /// Adds a header to the known ledgers. Validations that waited for it are votes from then on, and nothing is
+    /// reported.
     fn learn(&mut self, h: &Header) -> Result<Heard, Refusal>
         ensures exact { (from : ℕ) → hear_reply result self.new ≡ hears self.old from (speech.Header h.now) }
         ensures refused { (from : ℕ) → result_err result ≡ speech_refusal self.old from (speech.Header h.now) }
@@ -393,8 +394,8 @@ impl<B: Branch + Drop> Node<B> {
         }
     }
 
-    /// Puts the frame in which it sends an item to a member at a place of a room, where the room is long enough. What isn't sent
-    /// is passed over.
+    /// Puts the frame in which it sends an item to a member at a place of a room, where the room is long enough. What
+    /// isn't sent is passed over.
     pub(crate) fn put(&self, to: NodeNo, item: &Item, at: usize, room: &mut [u8]) -> Put
         requires key { IsSome (key_of self.now.keys to) }
         requires place { at ≤ length room.old }
@@ -526,8 +527,8 @@ impl<B: Branch + Drop> Node<B> {
         self.kept
     }
 
-    /// The ledger that the members' votes prefer, or None exactly where there is no vote. The largest sequence issued counts as
-    /// the kept number.
+    /// The ledger that the members' votes prefer, or None exactly where there is no vote. The largest sequence issued
+    /// counts as the kept number.
     pub fn preferred(&self) -> Option<Report>
         ensures value { result ≡ preferred self.now }
         ensures none { (result ≡ None) ↔ (votes_of self.now.ledgers.headers self.now.rows ≡ []) }

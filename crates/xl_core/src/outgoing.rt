@@ -27,8 +27,8 @@ pub fn reader_of(member: NodeNo) -> usize
     member.get() as usize - 1
 }
 
-/// Writes the frames of the oldest items for a member into the room, as many as fit, and takes these items out. An item that is
-/// passed over is dropped.
+/// Writes the frames of the oldest items for a member into the room, as many as fit, and takes these items out. An item
+/// that is passed over is dropped.
 pub fn drain<B: Branch + Drop>(
     waiting: &mut Waiting,
     node: &Node<B>,
@@ -47,8 +47,8 @@ pub fn drain<B: Branch + Drop>(
     at
 }
 
-/// Writes the frame of the oldest item for a member at a place of the room, takes the item out, and answers where the next frame
-/// goes. None where nothing waits or the room is too short: all is as it was then.
+/// Writes the frame of the oldest item for a member at a place of the room, takes the item out, and answers where the
+/// next frame goes. None where nothing waits or the room is too short: all is as it was then.
 fn drain_first<B: Branch + Drop>(
     waiting: &mut Waiting,
     node: &Node<B>,

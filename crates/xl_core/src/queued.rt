@@ -38,8 +38,9 @@ use xl_ledger::Branch;
 use xl_queues::{Broadcast, Queue};
 use xl_rounds::Said;
 
-/// A node with its queues, over whichever branch of votes: what it issues waits for each peer until it is drained, and what it
-/// reports until it is taken. A peer is a number that the node has a key for. No call after `open` and `reopen` takes memory.
+/// A node with its queues, over whichever branch of votes: what it issues waits for each peer until it is drained, and
+/// what it reports until it is taken. A peer is a number that the node has a key for. No call after `open` and `reopen`
+/// takes memory.
 #[derive(Drop)]
 pub struct Core<B: Branch> {
     node: Node<B>,
@@ -103,7 +104,8 @@ impl<B: Branch + Drop> Core<B> {
         })
     }
 
-    /// Opens the node anew in its place, with the number that its keeper holds and with nothing waiting. An `Err` changes nothing.
+    /// Opens the node anew in its place, with the number that its keeper holds and with nothing waiting. An `Err`
+    /// changes nothing.
     pub fn reopen(&mut self, alloc: Global, now: Millis, kept: Seq) -> Result<(), OutOfMemory>
         requires moment { now ≤ GREATEST_MILLIS }
         ensures opened { OnOk result (self.new ≡ with_queues (opened (settings_of self.old.node) now kept)) }
@@ -179,13 +181,13 @@ impl<B: Branch + Drop> Core<B> {
         }
     }
 
-    /// Looks at the votes and lets the round go on; what the node says by that waits for every peer, and what it reports
-    /// to be taken.
+    /// Looks at the votes and lets the round go on; what the node says by that waits for every peer, and what it
+    /// reports to be taken.
     ///
-    /// Where the votes choose another ledger than the round's, the node leaves its round for one on that ledger. Else the
-    /// round's phase goes on; once it is ready the next ledger is built, its header is sent, the node validates it, and a
-    /// round starts on it. A validation waits only after its save. Where the save fails, the ledger and the new round stand
-    /// all the same; where there is no room for the ledger, the round stays as it is.
+    /// Where the votes choose another ledger than the round's, the node leaves its round for one on that ledger. Else
+    /// the round's phase goes on; once it is ready the next ledger is built, its header is sent, the node validates it,
+    /// and a round starts on it. A validation waits only after its save. Where the save fails, the ledger and the new
+    /// round stand all the same; where there is no room for the ledger, the round stays as it is.
     pub fn timer<K: Keeper>(&mut self, now: Millis, keeper: &mut K) -> Beat
         requires moment { now ≤ GREATEST_MILLIS }
         ensures step { Beaten self.old now result self.new }
@@ -251,8 +253,8 @@ impl<B: Branch + Drop> Core<B> {
         Ok(())
     }
 
-    /// A link to a peer has opened: the next drains for it begin with the headers of the chain of the ledger on which the
-    /// round is now, from sequence 1 on. What it was greeted with before is forgotten.
+    /// A link to a peer has opened: the next drains for it begin with the headers of the chain of the ledger on which
+    /// the round is now, from sequence 1 on. What it was greeted with before is forgotten.
     pub fn greet(&mut self, member: NodeNo)
         requires peer { IsSome (key_of self.old.node.keys member) }
         ensures step { Answers (core_happens self.old (Greet member) Kept) self.new Done }
@@ -261,9 +263,9 @@ impl<B: Branch + Drop> Core<B> {
         greet(&mut self.greetings, member, self.node.greeting());
     }
 
-    /// Writes frames for a peer into the room, as many as fit: first of the headers with which it is greeted, then of what
-    /// waits for it, the oldest first. What was written is taken out. Answers how many bytes were written; the rest of the
-    /// room is as it was. A frame is sealed here and nowhere else.
+    /// Writes frames for a peer into the room, as many as fit: first of the headers with which it is greeted, then of
+    /// what waits for it, the oldest first. What was written is taken out. Answers how many bytes were written; the
+    /// rest of the room is as it was. A frame is sealed here and nowhere else.
     pub fn drain(&mut self, member: NodeNo, room: &mut [u8]) -> usize
         requires peer { IsSome (key_of self.old.node.keys member) }
         requires room { LONGEST_FRAME ≤ length room.old }
@@ -279,15 +281,16 @@ impl<B: Branch + Drop> Core<B> {
         at + drain(&mut self.waiting, &self.node, member, &mut room[at..])
     }
 
-    /// How many items for a member were lost, since its queue was full or they were passed over: none for one that is no peer.
+    /// How many items for a member were lost, since its queue was full or they were passed over: none for one that is
+    /// no peer.
     pub fn lost(&self, member: NodeNo) -> u64
         ensures { result ≡ lost_for self.now.node self.now.waiting member }
     {
         lost_for(&self.waiting, &self.node, member)
     }
 
-    /// Takes out the oldest reports that no one has taken, as many as the room holds, and answers how many. The rest of the
-    /// room is as it was.
+    /// Takes out the oldest reports that no one has taken, as many as the room holds, and answers how many. The rest of
+    /// the room is as it was.
     pub fn reports(&mut self, room: &mut [Report]) -> usize
         ensures step { HandsOut self.old self.new result room.old room.new }
         ensures stop { (held : Held) → IsCovered held self.old → IsCovered held self.new }

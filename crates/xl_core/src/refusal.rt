@@ -8,8 +8,8 @@ use xl_tags::TagRefusal;
 use xl_validations::ValRefusal;
 use xl_wire::WireRefusal;
 
-/// Why a node refuses an event, with the values that show it. Only its time has gone on then, and what expires by it; but a
-/// save that failed is remembered.
+/// Why a node refuses an event, with the values that show it. Only its time has gone on then, and what expires by it;
+/// but a save that failed is remembered.
 #[derive(Clone, Copy, Debug, PartialEq, Eq)]
 pub enum Refusal {
     /// The bytes begin no frame, or the frame's body is none.
@@ -34,8 +34,8 @@ pub enum Refusal {
     Pending(TxId),
     /// So many transactions are pending, as many as may be.
     PoolFull(u32),
-    /// The proposal builds on another ledger than the round's, which is given, and on one that is known and not later than
-    /// the round's.
+    /// The proposal builds on another ledger than the round's, which is given, and on one that is known and not later
+    /// than the round's.
     WrongPrev(LedgerId),
     /// Its propose sequence isn't above that of the member's position, which is given.
     OldPosition(u32),

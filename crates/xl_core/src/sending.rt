@@ -13,8 +13,8 @@ use xl_wire::{Body, Frame, LONGEST_FRAME, encode};
 /// How many bytes a frame has at most that is no set's: a header's.
 const SHORT_FRAME: usize = 164;
 
-/// Puts the frame of a body for another member, sealed by the key for it, at a place of the room, unless the room is too
-/// short.
+/// Puts the frame of a body for another member, sealed by the key for it, at a place of the room, unless the room is
+/// too short.
 pub fn put_sealed(keys: &Keys, to: NodeNo, body: Body<'_>, at: usize, room: &mut [u8]) -> Put
     requires key { IsSome (key_of keys.now to) }
     requires place { at ≤ length room.old }

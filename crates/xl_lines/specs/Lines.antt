@@ -1,4 +1,5 @@
--- The lines of a list of bytes. Source: text files of POSIX, whose last line may lack its newline, with a return dropped before a newline.
+-- The lines of a list of bytes. Source: text files of POSIX, whose last line may lack its newline, with a return
+-- dropped before a newline.
 use Rattle.std.specs.Prelude.{ℕ, ◌-◌, ◌==◌, Bool, true, false, List, [], ◌∷◌, length, take, slice_index, cond}
 
 -- a line without its newline, and whether it has one

@@ -1,4 +1,5 @@
--- What a machine tells about a whole list of bytes. Source: the limits of this profile, and the order in which they are tested.
+-- What a machine tells about a whole list of bytes. Source: the limits of this profile, and the order in which they are
+-- tested.
 use Rattle.std.specs.Prelude.{ℕ, ◌-◌, nat_lt, List, [], ◌∷◌, ◌++◌, length, cond}
 use Rattle.xl_lines.specs.declared.limits.Limits.{Limits}
 use Rattle.xl_lines.specs.declared.limits.Overrun.TheVariants.{LongLine, ManyLines}

@@ -19,8 +19,8 @@ use std::alloc::{AllocError, Global};
 use std::marker::Model;
 use xl_base::OutOfMemory;
 
-/// Values in a fixed number of slots, each under a name that the pool picks. No call after `with_slots` takes memory, and
-/// each takes a fixed number of steps.
+/// Values in a fixed number of slots, each under a name that the pool picks. No call after `with_slots` takes memory,
+/// and each takes a fixed number of steps.
 #[derive(Debug, Drop)]
 pub struct Pool<T> {
     entries: Vec<Entry<T>>,
@@ -113,8 +113,8 @@ impl<T> Pool<T> {
         entry.content.value_mut()
     }
 
-    /// Puts the value into an empty slot and tells its name. Where each slot has a value, it hands the value back, and the
-    /// pool stays.
+    /// Puts the value into an empty slot and tells its name. Where each slot has a value, it hands the value back, and
+    /// the pool stays.
     pub fn take(&mut self, value: T) -> Result<Name, Full<T>>
         // it takes the value exactly where a slot is empty
         ensures room { IsOk result ↔ (live self.old < length self.old) }

@@ -20,7 +20,7 @@ use Rattle.xl_world.specs.declared.outcome.Outcome.{Outcome}
 use Rattle.xl_world.specs.declared.outcome.Outcome.TheVariants.{Refused, Full, Preferred}
 use Rattle.xl_world.specs.Forks.{Fork, first_fork}
 use Rattle.xl_replay.specs.Texts.{space, newline, id_text, values_text, preferred_text, outcome_line, bad_line, forged_line, agreement_line}
-use Rattle.xl_replay.specs.Headlines.{Spoken, spoken_line, Short, short_text, HasLine, IsReport, IsRefusal, IsUnforged, AddsReport}
+use Rattle.xl_replay.specs.Headlines.{Announced, announced_line, Short, short_text, HasLine, IsReport, IsRefusal, IsUnforged, AddsReport}
 use Rattle.xl_replay.proofs.WholeLines.{IsOther, HasAll, past, not_alone, at_line, spaced, decimal_one_line, id_one_line, token_one_line, values_one_line, preferred_one_line}
 
 -- THE LINE
@@ -84,7 +84,7 @@ outcome_other names n (Refused node why) = refused_other names node why n
 outcome_other names n (Full node seq id) = full_other names node seq id n
 outcome_other names n (Preferred node ledger) = preferred_other names node ledger n
 
-spoken_other : (s : Spoken) → IsOther unforged_line (spoken_line s)
+spoken_other : (s : Announced) → IsOther unforged_line (announced_line s)
 spoken_other s = outcome_other s.names s.line s.outcome
 
 short_other : (s : Short) → IsOther unforged_line (short_text s)
@@ -136,7 +136,7 @@ agreement_other names (Some fork) =
 front_of_report : (names : List Named) (told : Told) (r : IsReport names told) (front rest : List ℕ) → told.text ≡ front ++ rest → HasLine front unforged_line → IsUnforged names told front
 unfolding digits
 front_of_report names told r front rest parts has =
-    let spoken = flat_map spoken_line r.spoken in
+    let spoken = flat_map announced_line r.spoken in
     let shorts = flat_map short_text r.shorts in
     let last = agreement_line names (first_fork r.reports) in
     let body = codes "forged " ++ decimal r.forged in
@@ -144,7 +144,7 @@ front_of_report names told r front rest parts has =
     let whole : spoken ++ (shorts ++ after) ≡ front ++ rest =
     ap (λ t. spoken ++ t) (ap (λ t. shorts ++ t) (sym (append_assoc body newline last)) ∙ sym (append_assoc shorts (forged_line r.forged) last))
     ∙ (sym (append_assoc spoken (shorts ++ forged_line r.forged) last) ∙ (sym r.written ∙ parts)) in
-    let first : HasAll spoken (shorts ++ after) front rest unforged_line = past unforged_line spoken_line spoken_other r.spoken (shorts ++ after) front rest whole has in
+    let first : HasAll spoken (shorts ++ after) front rest unforged_line = past unforged_line announced_line spoken_other r.spoken (shorts ++ after) front rest whole has in
     let second : HasAll shorts after first.more rest unforged_line = past unforged_line short_text short_other r.shorts after first.more rest first.parts first.has in
     let third = at_line unforged_line body last second.more rest (one_line-append (codes "forged ") (decimal r.forged) refl (decimal_one_line r.forged)) second.parts second.has in
     elim third.3 [
@@ -166,8 +166,8 @@ front_of_report names told r front rest parts has =
 -- of a report that is refused
 front_of_refusal : (text : List ℕ) → IsRefusal text → (front rest : List ℕ) → text ≡ front ++ rest → HasLine front unforged_line → ⊥
 front_of_refusal text r front rest parts has =
-    let first : HasAll (flat_map spoken_line r.spoken) (bad_line r.line r.refusal) front rest unforged_line =
-    past unforged_line spoken_line spoken_other r.spoken (bad_line r.line r.refusal) front rest (sym r.written ∙ parts) has in
+    let first : HasAll (flat_map announced_line r.spoken) (bad_line r.line r.refusal) front rest unforged_line =
+    past unforged_line announced_line spoken_other r.spoken (bad_line r.line r.refusal) front rest (sym r.written ∙ parts) has in
     not_alone unforged_line (bad_line r.line r.refusal) first.more rest (bad_other r.line r.refusal) first.parts first.has
 
 front_of_either : (names : List Named) (told : Told) (v : Verdict) → told.verdict ≡ v → (told.verdict ≢ verdict.Refused → IsReport names told) → (told.verdict ≡ verdict.Refused → IsRefusal told.text) →

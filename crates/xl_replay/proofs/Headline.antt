@@ -25,7 +25,7 @@ use Rattle.xl_world.proofs.Reporters.{IsReporter, world_reporters}
 use Rattle.xl_replay.specs.declared.replayer.TheConstants.{DEFAULT_LIMIT}
 use Rattle.xl_replay.specs.Texts.{forged_line, agreement_line, end_lines, bad_line}
 use Rattle.xl_replay.specs.Replays.{Replaying, world_of, ending, verdict_of, at_first, limits, rules, report_of}
-use Rattle.xl_replay.specs.Headlines.{spoken_line, short_text, IsPair, is_full, full_of, outcomes_in, state_from, names_of, IsReport, IsRefusal, AddsReport}
+use Rattle.xl_replay.specs.Headlines.{announced_line, short_text, IsPair, is_full, full_of, outcomes_in, state_from, names_of, IsReport, IsRefusal, AddsReport}
 use Rattle.xl_replay.proofs.Shorts.{short_pairs, short_lines-pairs, pair_enough}
 use Rattle.xl_replay.proofs.Fronts.{adds_report}
 use Rattle.xl_replay.proofs.Telling.{IsSound, Ends, told_from_ends, told_from_refused}
@@ -124,8 +124,8 @@ ends_report r last told first ends good =
       forged = w.forged;
       written =
           ends.written
-          ∙ (ap (λ t. flat_map spoken_line ends.spoken ++ t) closing.0
-          ∙ sym (append_assoc (flat_map spoken_line ends.spoken) (flat_map short_text (short_pairs w) ++ forged_line w.forged) (agreement_line last.reading.names (first_fork w.reports))));
+          ∙ (ap (λ t. flat_map announced_line ends.spoken ++ t) closing.0
+          ∙ sym (append_assoc (flat_map announced_line ends.spoken) (flat_map short_text (short_pairs w) ++ forged_line w.forged) (agreement_line last.reading.names (first_fork w.reports))));
       says = ends.verdict ∙ closing.1;
       fulls = fulls;
       named = ends.named;

@@ -49,7 +49,7 @@ use Rattle.xl_world.proofs.Lists.{core_keeps}
 use Rattle.xl_world.proofs.Runs.{run_on}
 use Rattle.xl_replay.specs.Texts.{outcome_line, outcome_lines, bad_line, end_lines}
 use Rattle.xl_replay.specs.Replays.{Replaying, world_of, silent, after, after_line, after_answer, beyond, verdict_of, ending, rules}
-use Rattle.xl_replay.specs.Headlines.{Spoken, spoken_line, Extends, is_full, full_of, outcomes_in, state_after, state_from, IsRefusal}
+use Rattle.xl_replay.specs.Headlines.{Announced, announced_line, Extends, is_full, full_of, outcomes_in, state_after, state_from, IsRefusal}
 use Rattle.xl_replay.proofs.Declaring.{Declares, AnswerDeclares, reading_declares}
 
 -- WHAT IS TOLD WAS REPORTED
@@ -131,8 +131,8 @@ pub record IsSound (r : Replaying) : Type 0 where
 
 -- what a step tells, and the state that it leads to
 pub record Tells (r next : Replaying) (text : List ℕ) : Type 0 where
-  pub spoken : List Spoken
-  pub written : text ≡ flat_map spoken_line spoken
+  pub spoken : List Announced
+  pub written : text ≡ flat_map announced_line spoken
   pub adds : Adds (world_of r) (world_of next) (outcomes_in spoken)
   pub named : All (λ s. Extends s.names next.reading.names) spoken
   pub extends : Extends r.reading.names next.reading.names
@@ -195,7 +195,7 @@ reading_extends : (reading : Reading) (sent : ℕ) (bytes : List ℕ) → Answer
 reading_extends reading sent bytes = answer_extends reading (bounded_line reading sent bytes)
 
 -- the lines of outcomes, each with the names and the line
-flat_map-made : (names : List Named) (n : ℕ) (os : List Outcome) → outcome_lines names n os ≡ flat_map spoken_line (map (λ o. record { names = names; line = n; outcome = o }) os)
+flat_map-made : (names : List Named) (n : ℕ) (os : List Outcome) → outcome_lines names n os ≡ flat_map announced_line (map (λ o. record { names = names; line = n; outcome = o }) os)
 flat_map-made names n [] = refl
 flat_map-made names n (o ∷ os) = ap (λ xs. outcome_line names n o ++ xs) (flat_map-made names n os)
 
@@ -238,8 +238,8 @@ step_tells limits left r l sound =
 
 -- what is told from a state on: outcomes, and the lines at the end of the last state
 pub record Ends (r : Replaying) (told : Told) (last : Replaying) : Type 0 where
-  pub spoken : List Spoken
-  pub written : told.text ≡ flat_map spoken_line spoken ++ (ending last).text
+  pub spoken : List Announced
+  pub written : told.text ≡ flat_map announced_line spoken ++ (ending last).text
   pub verdict : told.verdict ≡ (ending last).verdict
   pub adds : Adds (world_of r) (world_of last) (outcomes_in spoken)
   pub named : All (λ s. Extends s.names last.reading.names) spoken
@@ -251,9 +251,9 @@ goes_on_ends r next text told last tells ends = record {
   spoken = tells.spoken ++ ends.spoken;
   written =
       ap (λ t. t ++ told.text) tells.written
-      ∙ (ap (λ t. flat_map spoken_line tells.spoken ++ t) ends.written
-      ∙ (sym (append_assoc (flat_map spoken_line tells.spoken) (flat_map spoken_line ends.spoken) (ending last).text)
-      ∙ ap (λ t. t ++ (ending last).text) (sym (flat_map-append spoken_line tells.spoken ends.spoken))));
+      ∙ (ap (λ t. flat_map announced_line tells.spoken ++ t) ends.written
+      ∙ (sym (append_assoc (flat_map announced_line tells.spoken) (flat_map announced_line ends.spoken) (ending last).text)
+      ∙ ap (λ t. t ++ (ending last).text) (sym (flat_map-append announced_line tells.spoken ends.spoken))));
   verdict = ends.verdict;
   adds = subst (Adds (world_of r) (world_of last)) (sym (map-append (λ s. s.outcome) tells.spoken ends.spoken))
       (adds_then (world_of r) (world_of next) (world_of last) (outcomes_in tells.spoken) (outcomes_in ends.spoken) tells.adds ends.adds);
@@ -284,16 +284,16 @@ told_from_ends limits left r (l ∷ ls) sound good = by_step (λ (next : Replayi
     by_step further (refuses_line text) tells good = absurd (good refl)
 
 -- a report that is refused: outcomes, and the line that refuses
-refused_then : (spoken : List Spoken) (text rest : List ℕ) → text ≡ flat_map spoken_line spoken → IsRefusal rest → IsRefusal (text ++ rest)
+refused_then : (spoken : List Announced) (text rest : List ℕ) → text ≡ flat_map announced_line spoken → IsRefusal rest → IsRefusal (text ++ rest)
 refused_then spoken text rest written x = record {
   spoken = spoken ++ x.spoken;
   line = x.line;
   refusal = x.refusal;
   written =
       ap (λ t. t ++ rest) written
-      ∙ (ap (λ t. flat_map spoken_line spoken ++ t) x.written
-      ∙ (sym (append_assoc (flat_map spoken_line spoken) (flat_map spoken_line x.spoken) (bad_line x.line x.refusal))
-      ∙ ap (λ t. t ++ bad_line x.line x.refusal) (sym (flat_map-append spoken_line spoken x.spoken))));
+      ∙ (ap (λ t. flat_map announced_line spoken ++ t) x.written
+      ∙ (sym (append_assoc (flat_map announced_line spoken) (flat_map announced_line x.spoken) (bad_line x.line x.refusal))
+      ∙ ap (λ t. t ++ bad_line x.line x.refusal) (sym (flat_map-append announced_line spoken x.spoken))));
 }
 
 refused_alone : (text : List ℕ) (n : ℕ) (why : SchedRefusal) → text ≡ bad_line n why → IsRefusal text

@@ -19,13 +19,13 @@ use Rattle.xl_replay.specs.Replays.{Replaying, rules, limits, at_first, verdict_
 use Rattle.xl_replay.specs.Texts.{outcome_line, bad_line, short_line, forged_line, agreement_line}
 
 -- what is told of an event: the names that are declared by then, the line of the schedule, and the outcome
-pub record Spoken : Type 0 where
+pub record Announced : Type 0 where
   pub names : List Named
   pub line : ℕ
   pub outcome : Outcome
 
-abbrev pub spoken_line : Spoken → List ℕ
-spoken_line s = outcome_line s.names s.line s.outcome
+abbrev pub announced_line : Announced → List ℕ
+announced_line s = outcome_line s.names s.line s.outcome
 
 -- the one list begins with the other
 abbrev pub Extends : List Named → List Named → Type 0
@@ -69,18 +69,19 @@ is_full (Preferred node ledger) = false
 abbrev pub full_of : Report → Outcome
 full_of r = Full r.node r.seq r.id
 
-abbrev pub outcomes_in : List Spoken → List Outcome
+abbrev pub outcomes_in : List Announced → List Outcome
 outcomes_in spoken = map (λ s. s.outcome) spoken
 
 -- the lines of a report up to the `forged` line, and with it
-abbrev pub up_to_forged : List Spoken → List Short → ℕ → List ℕ
-up_to_forged spoken shorts forged = flat_map spoken_line spoken ++ (flat_map short_text shorts ++ forged_line forged)
+abbrev pub up_to_forged : List Announced → List Short → ℕ → List ℕ
+up_to_forged spoken shorts forged = flat_map announced_line spoken ++ (flat_map short_text shorts ++ forged_line forged)
 
--- A report that no refused line cuts short is these lines. Its last one says what the reports that its `full` lines tell say together.
--- For each pair with no `short` line, where `forged` says 0, no two `full` lines of that pair share a sequence and stand for different
--- ids. A line's token stands for an id by those of the schedule's names that were declared before it.
+-- A report that no refused line cuts short is these lines. Its last one says what the reports that its `full` lines
+-- tell say together. For each pair with no `short` line, where `forged` says 0, no two `full` lines of that pair share
+-- a sequence and stand for different ids. A line's token stands for an id by those of the schedule's names that were
+-- declared before it.
 pub record IsReport (names : List Named) (told : Told) : Type 0 where
-  pub spoken : List Spoken
+  pub spoken : List Announced
   pub reports : List Report
   pub shorts : List Short
   pub forged : ℕ
@@ -94,16 +95,17 @@ pub record IsReport (names : List Named) (told : Told) : Type 0 where
 
 -- A report that a refused line cuts short is lines of outcomes, and then the line that refuses.
 pub record IsRefusal (text : List ℕ) : Type 0 where
-  pub spoken : List Spoken
+  pub spoken : List Announced
   pub line : ℕ
   pub refusal : SchedRefusal
-  pub written : text ≡ flat_map spoken_line spoken ++ bad_line line refusal
+  pub written : text ≡ flat_map announced_line spoken ++ bad_line line refusal
 
 -- a line stands in the text, with its newline
 abbrev pub HasLine : List ℕ → List ℕ → Type 0
 HasLine text line = Contains (lines_of text) (record { bytes = line; ended = true })
 
--- A front of a report that has the line `forged 0`. All outcomes of the report and all its `short` lines stand in it, and before that line.
+-- A front of a report that has the line `forged 0`. All outcomes of the report and all its `short` lines stand in it,
+-- and before that line.
 pub record IsUnforged (names : List Named) (told : Told) (front : List ℕ) : Type 0 where
   pub report : IsReport names told
   pub none : report.forged ≡ 0

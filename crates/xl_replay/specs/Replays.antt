@@ -25,8 +25,8 @@ use Rattle.xl_world.specs.Starts.{start}
 use Rattle.xl_replay.specs.declared.replayer.TheConstants.{DEFAULT_LIMIT}
 use Rattle.xl_replay.specs.Texts.{outcome_lines, bad_line, end_lines}
 
--- what is known of a schedule so far: what was read, how many ledgers each node may know, the nodes and liars that are declared,
--- and from the first event on the world
+-- what is known of a schedule so far: what was read, how many ledgers each node may know, the nodes and liars that are
+-- declared, and from the first event on the world
 pub record Replaying : Type 0 where
   pub reading : Reading
   pub limit : ℕ

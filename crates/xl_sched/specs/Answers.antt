@@ -53,21 +53,21 @@ bounded_line reading sent bytes =
     else line_of_tokens reading sent (tokens bytes)
 
 -- a line that was passed over or was the header, a line that says something, or a refusal; with what is known then
-pub data Answer : Type 0 where
-  passes : Reading → Answer
-  gives : Line → Reading → Answer
-  refuses : SchedRefusal → Answer
+pub data LineAnswer : Type 0 where
+  passes : Reading → LineAnswer
+  gives : Line → Reading → LineAnswer
+  refuses : SchedRefusal → LineAnswer
 
-abbrev pub answer_to : Reading → Result (Option Line) SchedRefusal → Answer
+abbrev pub answer_to : Reading → Result (Option Line) SchedRefusal → LineAnswer
 answer_to reading (Ok None) = passes (counted reading)
 answer_to reading (Ok (Some line)) = gives line (after reading line)
 answer_to reading (Err refusal) = refuses refusal
 
 -- the answer of a reader that says this of a line, and knows that after it
-abbrev pub answered : Option Line → Reading → Answer
+abbrev pub answered : Option Line → Reading → LineAnswer
 answered None known = passes known
 answered (Some line) known = gives line known
 
 -- the answer to a line where so many frames were sent; a refused line changes nothing
-abbrev pub reading_of : Reading → ℕ → List ℕ → Answer
+abbrev pub reading_of : Reading → ℕ → List ℕ → LineAnswer
 reading_of reading sent bytes = answer_to reading (bounded_line reading sent bytes)

@@ -2,21 +2,21 @@
 ghost use Rattle.std.specs.Prelude.{◌≡◌};
 ghost use Rattle.xl_sched.specs.Choices.{validating_of, full_of, new_of};
 
-use crate::fault::{Cause, Fault};
+use crate::fault::{Cause, LineFault};
 
 /// Whether a node validates: not where the token is `observing`.
-pub fn validating<'a>(token: &'a [u8]) -> Result<bool, Fault<'a>>
+pub fn validating<'a>(token: &'a [u8]) -> Result<bool, LineFault<'a>>
     ensures { result ≡ validating_of token.now }
 {
     if token == b"observing".as_slice() {
         Ok(false)
     } else {
-        Err(Fault::with_text(Cause::Choice, token))
+        Err(LineFault::with_text(Cause::Choice, token))
     }
 }
 
 /// Whether the token is `full`, and not `partial`.
-pub fn full<'a>(token: &'a [u8]) -> Result<bool, Fault<'a>>
+pub fn full<'a>(token: &'a [u8]) -> Result<bool, LineFault<'a>>
     ensures { result ≡ full_of token.now }
 {
     if token == b"full".as_slice() {
@@ -24,12 +24,12 @@ pub fn full<'a>(token: &'a [u8]) -> Result<bool, Fault<'a>>
     } else if token == b"partial".as_slice() {
         Ok(false)
     } else {
-        Err(Fault::with_text(Cause::Choice, token))
+        Err(LineFault::with_text(Cause::Choice, token))
     }
 }
 
 /// Whether the token is `new`, and not `old`.
-pub fn new<'a>(token: &'a [u8]) -> Result<bool, Fault<'a>>
+pub fn new<'a>(token: &'a [u8]) -> Result<bool, LineFault<'a>>
     ensures { result ≡ new_of token.now }
 {
     if token == b"new".as_slice() {
@@ -37,6 +37,6 @@ pub fn new<'a>(token: &'a [u8]) -> Result<bool, Fault<'a>>
     } else if token == b"old".as_slice() {
         Ok(false)
     } else {
-        Err(Fault::with_text(Cause::Choice, token))
+        Err(LineFault::with_text(Cause::Choice, token))
     }
 }

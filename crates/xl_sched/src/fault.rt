@@ -70,12 +70,12 @@ impl Token<'_> {
 
 /// A refusal whose token isn't copied yet, so that it takes no memory. Contracts see it as the refusal.
 #[derive(Debug, Drop)]
-pub struct Fault<'a> {
+pub struct LineFault<'a> {
     cause: Cause,
     token: Token<'a>,
 }
 
-impl<'a> Model for Fault<'a> {
+impl<'a> Model for LineFault<'a> {
     ghost use Rattle.xl_sched.specs.declared.refusal.SchedRefusal.{SchedRefusal};
 
     ghost Value = { SchedRefusal };
@@ -85,14 +85,14 @@ impl<'a> Model for Fault<'a> {
     ghost view = { λ f. refusal_of f.cause (bytes_of f.token) };
 }
 
-impl<'a> Fault<'a> {
+impl<'a> LineFault<'a> {
     ghost use Rattle.std.specs.Prelude.{decimal};
     ghost use Rattle.xl_sched.specs.Faults.{refusal_of};
 
     pub fn with_text(cause: Cause, text: &'a [u8]) -> Self
         ensures { result ≡ refusal_of cause text.now }
     {
-        Fault {
+        LineFault {
             cause,
             token: Token::Text(text),
         }
@@ -101,7 +101,7 @@ impl<'a> Fault<'a> {
     pub fn with_number(cause: Cause, number: u64) -> Self
         ensures { result ≡ refusal_of cause (decimal number) }
     {
-        Fault {
+        LineFault {
             cause,
             token: Token::Decimal(number),
         }
@@ -110,7 +110,7 @@ impl<'a> Fault<'a> {
     pub fn out_of_memory() -> Self
         ensures { result ≡ SchedRefusal.OutOfMemory }
     {
-        Fault::with_number(Cause::OutOfMemory, 0)
+        LineFault::with_number(Cause::OutOfMemory, 0)
     }
 
     /// The refusal with its token copied, or that memory was wanting.
@@ -124,32 +124,32 @@ impl<'a> Fault<'a> {
     }
 }
 
-impl From<AllocError> for Fault<'_> {
+impl From<AllocError> for LineFault<'_> {
     ghost use Rattle.xl_sched.specs.declared.refusal.SchedRefusal.TheVariants.{OutOfMemory as WantOfMemory};
 
     ghost from_gives = { λ _ fault. fault ≡ WantOfMemory };
 
     fn from(_: AllocError) -> Self {
-        Fault::out_of_memory()
+        LineFault::out_of_memory()
     }
 }
 
-impl<T: Drop> From<AllocFailed<T>> for Fault<'_> {
+impl<T: Drop> From<AllocFailed<T>> for LineFault<'_> {
     ghost use Rattle.xl_sched.specs.declared.refusal.SchedRefusal.TheVariants.{OutOfMemory as WantOfMemory};
 
     ghost from_gives = { λ _ fault. fault ≡ WantOfMemory };
 
     fn from(_: AllocFailed<T>) -> Self {
-        Fault::out_of_memory()
+        LineFault::out_of_memory()
     }
 }
 
-impl From<OutOfMemory> for Fault<'_> {
+impl From<OutOfMemory> for LineFault<'_> {
     ghost use Rattle.xl_sched.specs.declared.refusal.SchedRefusal.TheVariants.{OutOfMemory as WantOfMemory};
 
     ghost from_gives = { λ _ fault. fault ≡ WantOfMemory };
 
     fn from(_: OutOfMemory) -> Self {
-        Fault::out_of_memory()
+        LineFault::out_of_memory()
     }
 }

@@ -3,7 +3,7 @@ ghost use Rattle.std.specs.List.{list_all};
 ghost use Rattle.std.specs.Char.{is_ascii_digit};
 ghost use Rattle.xl_sched.specs.Names.{id_written, is_name, is_letter};
 
-use crate::fault::{Cause, Fault};
+use crate::fault::{Cause, LineFault};
 use crate::ledger::Ledger;
 use crate::named::Named;
 use crate::places::Places;
@@ -68,26 +68,26 @@ impl Names {
     }
 
     /// An id, by its digits or by its name.
-    pub fn id<'a>(&self, token: &'a [u8]) -> Result<[u8; 32], Fault<'a>>
+    pub fn id<'a>(&self, token: &'a [u8]) -> Result<[u8; 32], LineFault<'a>>
         ensures { result ≡ id_of self.now token.now }
     {
         match id_written(token) {
             Some(id) => Ok(id),
             None => self
                 .id_named(token)
-                .ok_or(Fault::with_text(Cause::Id, token)),
+                .ok_or(LineFault::with_text(Cause::Id, token)),
         }
     }
 
     /// The id of a ledger, by its digits or by any name.
-    pub fn ledger_id<'a>(&self, token: &'a [u8]) -> Result<LedgerId, Fault<'a>>
+    pub fn ledger_id<'a>(&self, token: &'a [u8]) -> Result<LedgerId, LineFault<'a>>
         ensures { result ≡ ledger_id_of self.now token.now }
     {
         Ok(LedgerId(self.id(token)?))
     }
 
     /// A ledger that another may follow: one that is named, or the root.
-    pub fn parent<'a>(&self, token: &'a [u8]) -> Result<Ledger, Fault<'a>>
+    pub fn parent<'a>(&self, token: &'a [u8]) -> Result<Ledger, LineFault<'a>>
         ensures value { result ≡ parent_of self.now token.now }
         ensures low { IfOk result (λ ledger. ledger.header.seq ≤ length self.now) }
     {
@@ -99,12 +99,12 @@ impl Names {
     }
 
     /// A ledger, by its name. A name that was declared by an id is none.
-    pub fn ledger<'a>(&self, token: &'a [u8]) -> Result<Ledger, Fault<'a>>
+    pub fn ledger<'a>(&self, token: &'a [u8]) -> Result<Ledger, LineFault<'a>>
         ensures value { result ≡ ledger_of self.now token.now }
         ensures low { IfOk result (λ ledger. ledger.header.seq ≤ length self.now) }
     {
         self.ledger_named(token)
-            .ok_or(Fault::with_text(Cause::Id, token))
+            .ok_or(LineFault::with_text(Cause::Id, token))
     }
 
     fn ledger_named(&self, name: &[u8]) -> Option<Ledger>
@@ -133,17 +133,17 @@ impl Names {
     }
 
     /// A name that may still be declared.
-    pub fn undeclared<'a>(&self, token: &'a [u8]) -> Result<&'a [u8], Fault<'a>>
+    pub fn undeclared<'a>(&self, token: &'a [u8]) -> Result<&'a [u8], LineFault<'a>>
         ensures value { MatchResult result
             (λ name. new_name_of self.now token.now ≡ Ok name.now)
             (λ fault. new_name_of self.now token.now ≡ Err fault) }
         ensures new { IfOk result (λ name. id_named self.now name.now ≡ None) }
     {
         if !is_name(token) {
-            return Err(Fault::with_text(Cause::Id, token));
+            return Err(LineFault::with_text(Cause::Id, token));
         }
         if self.id_named(token).is_some() {
-            return Err(Fault::with_text(Cause::Twice, token));
+            return Err(LineFault::with_text(Cause::Twice, token));
         }
         Ok(token)
     }

@@ -2,7 +2,7 @@ ghost use Rattle.std.specs.Prelude.{◌≡◌, ◌++◌, ◌∷◌, [], true, If
 ghost use Rattle.xl_lists.specs.Lists.{is_on};
 ghost use Rattle.xl_sched.specs.Members.{declared_of};
 
-use crate::fault::{Cause, Fault};
+use crate::fault::{Cause, LineFault};
 use crate::members::member;
 use std::alloc::{AllocError, Global};
 use std::marker::Model;
@@ -39,7 +39,7 @@ impl Nodes {
     }
 
     /// A node that is declared.
-    pub fn declared<'a>(&self, token: &'a [u8]) -> Result<NodeNo, Fault<'a>>
+    pub fn declared<'a>(&self, token: &'a [u8]) -> Result<NodeNo, LineFault<'a>>
         ensures value { result ≡ declared_of self.now token.now }
         ensures declared { IfOk result (λ node. is_on self.now node ≡ true) }
     {
@@ -47,7 +47,7 @@ impl Nodes {
         if self.has(node) {
             Ok(node)
         } else {
-            Err(Fault::with_text(Cause::Absent, token))
+            Err(LineFault::with_text(Cause::Absent, token))
         }
     }
 

@@ -3,10 +3,10 @@ ghost use Rattle.std.specs.List.{list_all};
 ghost use Rattle.std.specs.Char.{is_ascii_digit};
 ghost use Rattle.xl_sched.specs.Numbers.{is_number, value_of, number_within as number_within_of, number_of, place_of};
 
-use crate::fault::{Cause, Fault};
+use crate::fault::{Cause, LineFault};
 
 /// A number from the least to the greatest.
-pub fn number_within<'a>(token: &'a [u8], least: u64, greatest: u64) -> Result<u64, Fault<'a>>
+pub fn number_within<'a>(token: &'a [u8], least: u64, greatest: u64) -> Result<u64, LineFault<'a>>
     ensures { result ≡ number_within_of least greatest token.now }
 {
     if is_number(token)
@@ -16,28 +16,28 @@ pub fn number_within<'a>(token: &'a [u8], least: u64, greatest: u64) -> Result<u
     {
         Ok(number)
     } else {
-        Err(Fault::with_text(Cause::Number, token))
+        Err(LineFault::with_text(Cause::Number, token))
     }
 }
 
 /// A number from 0 to 4,294,967,295.
-pub fn number<'a>(token: &'a [u8]) -> Result<u32, Fault<'a>>
+pub fn number<'a>(token: &'a [u8]) -> Result<u32, LineFault<'a>>
     ensures { result ≡ number_of token.now }
 {
     Ok(number_within(token, 0, u64::from(u32::MAX))? as u32)
 }
 
 /// The place of one of the frames sent so far.
-pub fn place<'a>(token: &'a [u8], sent: u64) -> Result<u64, Fault<'a>>
+pub fn place<'a>(token: &'a [u8], sent: u64) -> Result<u64, LineFault<'a>>
     ensures value { result ≡ place_of sent token.now }
     ensures sent { IfOk result (λ place. (1 ≤ place) × (place ≤ sent)) }
 {
     if !is_number(token) {
-        return Err(Fault::with_text(Cause::Number, token));
+        return Err(LineFault::with_text(Cause::Number, token));
     }
     match value(token) {
         Some(place) if 0 < place && place <= sent => Ok(place),
-        _ => Err(Fault::with_text(Cause::Absent, token)),
+        _ => Err(LineFault::with_text(Cause::Absent, token)),
     }
 }
 

@@ -9,7 +9,7 @@ ghost use Rattle.std.specs.Prelude.{◌≡◌, ◌⊎◌, ℕ, ◌≤◌, ◌<�
 ghost use Rattle.xl_sched.specs.Answers.{header_line, is_comment};
 ghost use Rattle.xl_sched.specs.declared.limits.TheConstants.{MOST_LINES};
 
-use crate::fault::{Cause, Fault};
+use crate::fault::{Cause, LineFault};
 use crate::limits::{MOST_BYTES, MOST_LINES};
 use crate::line::Line;
 use crate::names::Names;
@@ -110,7 +110,7 @@ impl Reader {
         }
     }
 
-    fn read<'a>(&mut self, line: &'a [u8], sent: u64) -> Result<Option<Line>, Fault<'a>>
+    fn read<'a>(&mut self, line: &'a [u8], sent: u64) -> Result<Option<Line>, LineFault<'a>>
         ensures read { IfOk result (λ read. reading_of self.old sent line.now ≡ answered read self.new) }
         ensures refused { IfErr result (λ refusal.
             (refusal ≡ SchedRefusal.OutOfMemory) ⊎ (reading_of self.old sent line.now ≡ refuses refusal)) }
@@ -118,10 +118,10 @@ impl Reader {
         ensures kept { OnErr result (self.new ≡ self.old) }
     {
         if line.len() > MOST_BYTES {
-            return Err(Fault::with_number(Cause::LongLine, MOST_BYTES as u64));
+            return Err(LineFault::with_number(Cause::LongLine, MOST_BYTES as u64));
         }
         if self.lines == MOST_LINES {
-            return Err(Fault::with_number(Cause::Limit, u64::from(MOST_LINES)));
+            return Err(LineFault::with_number(Cause::Limit, u64::from(MOST_LINES)));
         }
         let read = self.line(Tokens::of(line), sent)?;
         match &read {
@@ -132,7 +132,7 @@ impl Reader {
     }
 
     /// What the line of these tokens says.
-    fn line<'a>(&self, tokens: Tokens<'a>, sent: u64) -> Result<Option<Line>, Fault<'a>>
+    fn line<'a>(&self, tokens: Tokens<'a>, sent: u64) -> Result<Option<Line>, LineFault<'a>>
         ensures value { GivenMemory result (line_of_tokens self.now sent tokens.entry) }
         ensures fit { IfOk result (λ read. IfSome read (IsFit self.now sent)) }
     {
@@ -143,7 +143,11 @@ impl Reader {
         }
     }
 
-    fn later_line<'a>(&self, mut tokens: Tokens<'a>, sent: u64) -> Result<Option<Line>, Fault<'a>>
+    fn later_line<'a>(
+        &self,
+        mut tokens: Tokens<'a>,
+        sent: u64,
+    ) -> Result<Option<Line>, LineFault<'a>>
         ensures value { GivenMemory result (later_line self.now sent tokens.entry) }
         ensures fit { IfOk result (λ read. IfSome read (IsFit self.now sent)) }
     {
@@ -194,7 +198,7 @@ impl Reader {
 }
 
 /// Line 1 must be the header.
-fn header<'a>(mut tokens: Tokens<'a>) -> Result<Option<Line>, Fault<'a>>
+fn header<'a>(mut tokens: Tokens<'a>) -> Result<Option<Line>, LineFault<'a>>
     ensures { result ≡ header_line tokens.entry }
 {
     let name = tokens.next().unwrap_or(b"".as_slice());
@@ -202,7 +206,7 @@ fn header<'a>(mut tokens: Tokens<'a>) -> Result<Option<Line>, Fault<'a>>
     if name == b"xl-schedule".as_slice() && version == b"1".as_slice() && tokens.next().is_none() {
         Ok(None)
     } else {
-        Err(Fault::with_text(Cause::Header, name))
+        Err(LineFault::with_text(Cause::Header, name))
     }
 }
 

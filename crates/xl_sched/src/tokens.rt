@@ -4,7 +4,7 @@ ghost use Rattle.xl_sched.specs.Tokens.{tokens, is_blank, BeginsToken, IsTokenSp
 ghost use Rattle.xl_sched.specs.declared.limits.TheConstants.{MOST_BYTES};
 ghost use Rattle.xl_sched.specs.declared.refusal.SchedRefusal.TheVariants.{Count};
 
-use crate::fault::{Cause, Fault};
+use crate::fault::{Cause, LineFault};
 use std::marker::Model;
 
 /// The tokens of a line that aren't taken yet. Contracts see it as their list.
@@ -96,7 +96,7 @@ impl<'a> Tokens<'a> {
     }
 
     /// That no token is left. Refused for another count.
-    pub fn none(&self) -> Result<(), Fault<'a>>
+    pub fn none(&self) -> Result<(), LineFault<'a>>
         ensures { MatchResult result
             (λ _. self.now ≡ [])
             (λ fault. (length self.now ≢ 0) × (fault ≡ Count (decimal (length self.now + 1)))) }
@@ -108,7 +108,7 @@ impl<'a> Tokens<'a> {
     }
 
     /// The one token that is left. Refused for another count.
-    pub fn one(&self) -> Result<&'a [u8], Fault<'a>>
+    pub fn one(&self) -> Result<&'a [u8], LineFault<'a>>
         ensures { MatchResult result
             (λ token. self.now ≡ token.now ∷ [])
             (λ fault. (length self.now ≢ 1) × (fault ≡ Count (decimal (length self.now + 1)))) }
@@ -120,7 +120,7 @@ impl<'a> Tokens<'a> {
     }
 
     /// The two tokens that are left. Refused for another count.
-    pub fn two(&self) -> Result<(&'a [u8], &'a [u8]), Fault<'a>>
+    pub fn two(&self) -> Result<(&'a [u8], &'a [u8]), LineFault<'a>>
         ensures { MatchResult result
             (λ pair. self.now ≡ pair.0.now ∷ pair.1.now ∷ [])
             (λ fault. (length self.now ≢ 2) × (fault ≡ Count (decimal (length self.now + 1)))) }
@@ -132,7 +132,7 @@ impl<'a> Tokens<'a> {
     }
 
     /// The three tokens that are left. Refused for another count.
-    pub fn three(&self) -> Result<(&'a [u8], &'a [u8], &'a [u8]), Fault<'a>>
+    pub fn three(&self) -> Result<(&'a [u8], &'a [u8], &'a [u8]), LineFault<'a>>
         ensures { MatchResult result
             (λ three. self.now ≡ three.0.now ∷ three.1.now ∷ three.2.now ∷ [])
             (λ fault. (length self.now ≢ 3) × (fault ≡ Count (decimal (length self.now + 1)))) }
@@ -144,7 +144,7 @@ impl<'a> Tokens<'a> {
     }
 
     /// The four tokens that are left. Refused for another count.
-    pub fn four(&self) -> Result<(&'a [u8], &'a [u8], &'a [u8], &'a [u8]), Fault<'a>>
+    pub fn four(&self) -> Result<(&'a [u8], &'a [u8], &'a [u8], &'a [u8]), LineFault<'a>>
         ensures { MatchResult result
             (λ four. self.now ≡ four.0.now ∷ four.1.now ∷ four.2.now ∷ four.3.now ∷ [])
             (λ fault. (length self.now ≢ 4) × (fault ≡ Count (decimal (length self.now + 1)))) }
@@ -156,7 +156,7 @@ impl<'a> Tokens<'a> {
     }
 
     /// The first two tokens that are left, and the others. Refused where there are fewer.
-    pub fn two_and_others(&self) -> Result<(&'a [u8], &'a [u8], Tokens<'a>), Fault<'a>>
+    pub fn two_and_others(&self) -> Result<(&'a [u8], &'a [u8], Tokens<'a>), LineFault<'a>>
         ensures { MatchResult result
             (λ two. self.now ≡ two.0.now ∷ two.1.now ∷ two.2)
             (λ fault. (length self.now < 2) × (fault ≡ Count (decimal (length self.now + 1)))) }
@@ -171,7 +171,9 @@ impl<'a> Tokens<'a> {
     }
 
     /// The first three tokens that are left, and the others. Refused where there are fewer.
-    pub fn three_and_others(&self) -> Result<(&'a [u8], &'a [u8], &'a [u8], Tokens<'a>), Fault<'a>>
+    pub fn three_and_others(
+        &self,
+    ) -> Result<(&'a [u8], &'a [u8], &'a [u8], Tokens<'a>), LineFault<'a>>
         ensures { MatchResult result
             (λ three. self.now ≡ three.0.now ∷ three.1.now ∷ three.2.now ∷ three.3)
             (λ fault. (length self.now < 3) × (fault ≡ Count (decimal (length self.now + 1)))) }
@@ -186,10 +188,10 @@ impl<'a> Tokens<'a> {
     }
 
     /// The refusal of so many tokens, the word before them counted.
-    pub fn miscounted(&self) -> Fault<'a>
+    pub fn miscounted(&self) -> LineFault<'a>
         ensures { result ≡ Count (decimal (length self.now + 1)) }
     {
-        Fault::with_number(Cause::Count, self.count() as u64 + 1)
+        LineFault::with_number(Cause::Count, self.count() as u64 + 1)
     }
 
     /// How many they are.

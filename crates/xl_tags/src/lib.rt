@@ -1,8 +1,8 @@
 //! Tags: what a member signs its frames with, under a key that it shares with one other member.
 //!
 //! It stands on xl_base, xl_wire, xl_lists and the kit's `sha2`, and no call takes memory. Its one contract: a frame is
-//! opened exactly where it is for me, comes from another listed member, and carries the tag of our key. `has_all` is the
-//! test of what `open` requires, for whoever takes keys and a list from outside.
+//! opened exactly where it is for me, comes from another listed member, and carries the tag of our key. `has_all` is
+//! the test of what `open` requires, for whoever takes keys and a list from outside.
 #![tactic(auto)]
 
 mod comparing;

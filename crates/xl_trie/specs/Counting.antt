@@ -1,4 +1,5 @@
--- How counts change as a vote comes or goes. Source: rippled's LedgerTrie, whose branch support rises or falls up to the root.
+-- How counts change as a vote comes or goes. Source: rippled's LedgerTrie, whose branch support rises or falls up to
+-- the root.
 use Rattle.std.specs.Prelude.{◌≡◌, ◌⊎◌, ℕ, ◌+◌, ◌-◌, Bool, List, Option, Some, count_by, if◌then◌else◌}
 use Rattle.xl_ledger.specs.declared.header.Header.{Header}
 use Rattle.xl_ledger.specs.declared.vote.Vote.{Vote}

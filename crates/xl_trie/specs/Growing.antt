@@ -1,5 +1,5 @@
--- The nodes stay those of the votes as a header is added. `Trie` gives this as the trait's law `grows`. What a law cites must stand
--- in the crate's specs, so its proof stands here and not with the others.
+-- The nodes stay those of the votes as a header is added. `Trie` gives this as the trait's law `grows`. What a law
+-- cites must stand in the crate's specs, so its proof stands here and not with the others.
 -- Source: what the code of this crate relies on.
 use Rattle.std.proofs.Common.{◌≡◌, ℕ, suc, ◌+◌, ◌<◌, ◌≤◌, ◌==◌, Bool, List, Option, Some, [], ◌∷◌, ◌++◌, length, take, drop, cond, All, refl, sym, ap, subst, ◌∙◌, arith, inl, inr}
 use Rattle.std.specs.List.{list_any, count_by}

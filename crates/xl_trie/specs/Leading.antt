@@ -1,4 +1,5 @@
--- Which child of a node leads the others. Source: rippled's LedgerTrie, and its margin between the best child and the second.
+-- Which child of a node leads the others. Source: rippled's LedgerTrie, and its margin between the best child and the
+-- second.
 use Rattle.std.specs.Prelude.{◌≡◌, ◌≢◌, ◌⊎◌, ℕ, ◌+◌, ◌-◌, ◌<◌, ◌≤◌, List, [], length, Bool, false, Option, Some, None, if◌then◌else◌}
 use Rattle.std.specs.Ordering.{nat_cmp, ordering_then, is_gt}
 use Rattle.xl_ledger.specs.declared.header.Header.{Header}

@@ -1,4 +1,5 @@
--- Where the way to a ledger leaves the trie. Source: rippled's LedgerTrie, which finds the span that shares the longest front.
+-- Where the way to a ledger leaves the trie. Source: rippled's LedgerTrie, which finds the span that shares the longest
+-- front.
 use Rattle.std.specs.Prelude.{◌≡◌, ℕ, ◌<◌, ◌≤◌, List, length, Option, Some, None}
 use Rattle.xl_ledger.specs.declared.header.Header.{Header}
 use Rattle.xl_pool.specs.declared.name.Name.{Name}

@@ -1,5 +1,5 @@
--- The spans of a trie of votes, and what is true of them. Source: rippled's LedgerTrie, whose nodes but the root have votes of their
--- own or two children.
+-- The spans of a trie of votes, and what is true of them. Source: rippled's LedgerTrie, whose nodes but the root have
+-- votes of their own or two children.
 use Rattle.std.specs.Prelude.{◌≡◌, ◌≢◌, ◌⊎◌, ℕ, ◌<◌, List, [], length, map, Option, Some, None}
 use Rattle.xl_ledger.specs.declared.header.Header.{Header}
 use Rattle.xl_ledger.specs.declared.vote.Vote.{Vote}
@@ -22,7 +22,8 @@ pub record Hangs (ledgers : List Header) (S : Name → Option Span) (s : Span) :
   pub on : OnWay ledgers over.ledger s.ledger
   pub first : IsBegin ledgers s.ledger over.ledger s.first
 
--- spans end at known ledgers, each at another one, and but the root's each hangs at one; no two children of one begin alike
+-- spans end at known ledgers, each at another one, and but the root's each hangs at one; no two children of one begin
+-- alike
 pub record AreLinked (ledgers : List Header) (S : Name → Option Span) : Type 0 where
   pub known : (a : Name) (s : Span) → S a ≡ Some s → s.ledger < length ledgers
   pub first : (a : Name) (s : Span) → S a ≡ Some s → s.first < length ledgers
@@ -85,6 +86,7 @@ IsSomeTrie nodes but = (ledgers : List Header) × AreLedgers ledgers × ((votes 
 abbrev pub IsRoot : (Name → Option Span) → Name → Type 0
 IsRoot S a = (s : Span) × (S a ≡ Some s) × (s.ledger ≡ 0)
 
--- the nodes are those of the votes, this is the name of the root's, no ledger is above the root, and no member has two votes
+-- the nodes are those of the votes, this is the name of the root's, no ledger is above the root, and no member has two
+-- votes
 abbrev pub GoesWith : List Header → List Vote → List (Slot Node) → Name → Type 0
 GoesWith ledgers votes nodes root = IsTrie ledgers votes nodes × IsRoot (spans nodes) root × (way ledgers 0 ≡ []) × Apart (map (λ v. v.member) votes)

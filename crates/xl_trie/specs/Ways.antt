@@ -1,4 +1,5 @@
--- The way to a ledger: the ledgers below the root on its chain. Source: rippled's LedgerTrie, whose spans are parts of such ways.
+-- The way to a ledger: the ledgers below the root on its chain. Source: rippled's LedgerTrie, whose spans are parts of
+-- such ways.
 use Rattle.std.specs.Prelude.{◌≡◌, ℕ, ◌+◌, ◌≤◌, List, length, take, drop}
 use Rattle.xl_ledger.specs.declared.header.Header.{Header}
 use Rattle.xl_ledger.specs.Chains.{chain}

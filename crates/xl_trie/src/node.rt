@@ -5,8 +5,8 @@ ghost use Rattle.xl_trie.specs.Nodes.{spans};
 use xl_ledger::LedgerNo;
 use xl_pool::{Name, Pool};
 
-/// The ledgers after those of the parent's span, up to one. For all of them but the last, no vote is, and none leaves them by
-/// another child.
+/// The ledgers after those of the parent's span, up to one. For all of them but the last, no vote is, and none leaves
+/// them by another child.
 #[derive(Clone, Copy, Debug)]
 pub(crate) struct Span {
     /// The last ledger of the span.

@@ -9,8 +9,8 @@ use crate::linking::{give, hang, unhang};
 use crate::node::{Node, node_at, span_at};
 use xl_pool::{Name, Pool};
 
-/// A node without votes of its own and without children goes, but for the root. Which node may have to be merged then: the one
-/// above it, or the node itself where it stays.
+/// A node without votes of its own and without children goes, but for the root. Which node may have to be merged then:
+/// the one above it, or the node itself where it stays.
 fn drop_empty(nodes: &mut Pool<Node>, name: Name) -> Name
     requires trie { IsSomeTrie nodes.old (Some name) }
     requires stands { IsSome (spans nodes.old name) }

@@ -85,8 +85,8 @@ fn stays_above_a_tie_that_one_vote_can_turn(rt: HostRuntime) -> Result<(), Fail>
     Ok(())
 }
 
-/// Five votes along two branches: they prefer the ledger to which most go on, and the root where a later one was issued.
-/// Taken back, they leave the root alone.
+/// Five votes along two branches: they prefer the ledger to which most go on, and the root where a later one was
+/// issued. Taken back, they leave the root alone.
 #[test]
 fn five_votes_come_and_go(rt: HostRuntime) -> Result<(), Fail> {
     let mut registry = Registry::open(rt.alloc(), 8)?;
@@ -144,8 +144,8 @@ fn grow(
     Ok(last)
 }
 
-/// Two votes at the end of a long chain, and one at the end of each of two short ones: where two of four go on alone, no ledger
-/// is preferred to the one below.
+/// Two votes at the end of a long chain, and one at the end of each of two short ones: where two of four go on alone,
+/// no ledger is preferred to the one below.
 #[test]
 fn prefers_a_far_ledger_a_million_times(rt: HostRuntime) -> Result<(), Fail> {
     let mut registry = Registry::open(rt.alloc(), GREATEST_LIMIT)?;

@@ -54,8 +54,8 @@ fn drop_votes_of(votes: &mut Vec<Vote>, member: NodeNo)
 }
 
 impl Trie {
-    /// How many nodes there are: one for each spot, which are the root, each voted ledger, and the last common ledger of each
-    /// two voted ledgers.
+    /// How many nodes there are: one for each spot, which are the root, each voted ledger, and the last common ledger
+    /// of each two voted ledgers.
     pub fn nodes(&self) -> u32
         ensures spots { (ledgers : List Header) → AreLedgers ledgers
             → GoesWith ledgers self.now.votes.items self.now.nodes self.now.root

@@ -101,8 +101,8 @@ fn end_at(nodes: &mut Pool<Node>, registry: &Registry, at: Name, ledger: LedgerN
     name
 }
 
-/// The node of a ledger from its place: one that was there, or one that comes; where its way leaves a span inside, another
-/// one comes there.
+/// The node of a ledger from its place: one that was there, or one that comes; where its way leaves a span inside,
+/// another one comes there.
 pub(crate) fn come(
     nodes: &mut Pool<Node>,
     registry: &Registry,

@@ -14,7 +14,7 @@ use Rattle.xl_world.specs.declared.outcome.Outcome.{Outcome}
 use Rattle.xl_world.specs.declared.place.Fate.TheVariants.{Kept}
 use Rattle.xl_world.specs.declared.place.Place.{Place}
 use Rattle.xl_world.specs.declared.sent.Sent.{Sent}
-use Rattle.xl_world.specs.Schedule.{steps_at, deliveries, delivery, delivery_of, frame_at, outcomes_at, reply_to, told_by, told_in, told_of}
+use Rattle.xl_world.specs.Schedule.{steps_at, deliveries, delivery, delivery_of, frame_at, outcomes_at, reply_to, told_of_step, told_in, told_of_reply}
 use Rattle.xl_world.specs.Seen.{Hearing, NoneUntakenAnywhere, acted_at, forged_at, hearing_seen, heard_all, heard_one, place_after, put_acted, reply_in, reported_in}
 use Rattle.xl_world.specs.Forgeries.{was_sent}
 use Rattle.xl_world.specs.World.{World, Step, Act, Mark, marked, place_at, reply_at, run, step}
@@ -32,9 +32,9 @@ delivered w v at place f bytes found is_bytes is =
     is ∙ (ap (λ (b : List ℕ). run w (event_steps w f.to (Frame at b) Kept)) is_bytes ∙ ap (λ o. run w (delivery_of w at o)) (sym found))
 
 pub delivered_told : (w : World) (at place : ℕ) (f : Sent) (bytes : List ℕ) (told : List Outcome) → frame_at w.sent place ≡ Some f → bytes ≡ f.bytes →
-    told ≡ told_of f.to (reply_to w (Act f.to (Frame at bytes) Kept)) → told ≡ outcomes_at w at (Deliver place)
+    told ≡ told_of_reply f.to (reply_to w (Act f.to (Frame at bytes) Kept)) → told ≡ outcomes_at w at (Deliver place)
 delivered_told w at place f bytes told found is_bytes is =
-    is ∙ (ap (λ (b : List ℕ). told_of f.to (reply_to w (Act f.to (Frame at b) Kept))) is_bytes
+    is ∙ (ap (λ (b : List ℕ). told_of_reply f.to (reply_to w (Act f.to (Frame at b) Kept))) is_bytes
     ∙ (told_once w f.to (Frame at f.bytes) Kept ∙ ap (λ o. told_in w (delivery_of w at o)) (sym found)))
 
 -- all of these were sent
@@ -77,7 +77,7 @@ deliveries_told w at [] told idle sent = append-nil told
 deliveries_told w at (f ∷ fs) told idle sent =
     let one = heard_one f.to at f.bytes (heard_of w told) in
     let was = All-head (λ g. was_sent w.sent g.bytes ≡ true) f fs sent in
-    let here : List Outcome = told_of f.to (reply_to w (Act f.to (Frame at f.bytes) Kept)) in
+    let here : List Outcome = told_of_reply f.to (reply_to w (Act f.to (Frame at f.bytes) Kept)) in
     ap (λ (os : List Outcome). told ++ os)
     (told_append w (delivery w at f) (deliveries (run w (delivery w at f)) at fs)
     ∙ ap (λ (os : List Outcome). os ++ told_in (run w (delivery w at f)) (deliveries (run w (delivery w at f)) at fs)) (sym (told_once w f.to (Frame at f.bytes) Kept)))
@@ -88,7 +88,7 @@ deliveries_told w at (f ∷ fs) told idle sent =
 -- nothing is told of the mark
 pub told_marked : (w : World) (ss : List Step) → told_in w (ss ++ Mark ∷ []) ≡ told_in w ss
 told_marked w [] = refl
-told_marked w (s ∷ ss) = ap (λ os. told_by w s ++ os) (told_marked (step w s) ss)
+told_marked w (s ∷ ss) = ap (λ os. told_of_step w s ++ os) (told_marked (step w s) ss)
 
 -- ONE FRAME MORE
 
@@ -105,7 +105,7 @@ same_hearing {p} {q} {r} {s} {t} {u} a b c =
 pub heard_more : (at : ℕ) (fs : List Sent) (k : ℕ) (f : Sent) (bytes : List ℕ) (first : Hearing) (places places' : List Place) (reports reports' : List Report) (told told' : List Outcome) →
     k < length fs → f ≡ get_or fs k f → bytes ≡ f.bytes → hearing_seen places reports told ≡ heard_all at (take k fs) first →
     places' ≡ acted_at f.to (Frame at bytes) Kept places → reports' ≡ reports ++ reported_in (reply_in f.to (Frame at bytes) places) →
-    told' ≡ told ++ told_of f.to (reply_in f.to (Frame at bytes) places) → hearing_seen places' reports' told' ≡ heard_all at (take (k + 1) fs) first
+    told' ≡ told ++ told_of_reply f.to (reply_in f.to (Frame at bytes) places) → hearing_seen places' reports' told' ≡ heard_all at (take (k + 1) fs) first
 heard_more at fs k f bytes first places places' reports reports' told told' k_in is is_bytes before is_places is_reports is_told =
     same_hearing is_places is_reports is_told
     ∙ (ap (λ (b : List ℕ). heard_one f.to at b (hearing_seen places reports told)) is_bytes

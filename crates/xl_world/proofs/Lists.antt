@@ -21,7 +21,7 @@ use Rattle.xl_world.specs.Headline.{AgreeAt}
 use Rattle.xl_world.specs.Plans.{AreDeclared, list_at}
 use Rattle.xl_world.specs.declared.place.Place.{Place}
 use Rattle.xl_world.specs.World.{World, Step, Act, Again, Torn, Mark, place_at, is_forged, settled, acts, reply_at, keeper_after, core_again, reopened, again, torn, moment_in, asked_at, step, run, list_in}
-use Rattle.xl_world.specs.Starts.{place_of, start, IsRun}
+use Rattle.xl_world.specs.Starts.{start_of, start, IsRun}
 use Rattle.xl_world.specs.Headline.{Headline}
 use Rattle.xl_world.proofs.Keeping.{happens_keeps, its_list, reported_under}
 use Rattle.xl_world.proofs.Seats.{some_same}
@@ -94,10 +94,10 @@ run_lists plan w [] has = has
 run_lists plan w (s ∷ ss) has = run_lists plan (step w s) ss (step_lists plan w s has)
 
 -- the cores that are opened have the lists that are declared
-opened_under : (limit : ℕ) (plan : List PlanNode) (i : ℕ) (p : Place) → place_at i (map (place_of limit) plan) ≡ Some p → list_at plan i ≡ Some p.core.node.list
+opened_under : (limit : ℕ) (plan : List PlanNode) (i : ℕ) (p : Place) → place_at i (map (start_of limit) plan) ≡ Some p → list_at plan i ≡ Some p.core.node.list
 opened_under limit [] i p h = cc
 opened_under limit (d ∷ ds) i p h =
-    cond_both (d.me == i) (Some (place_of limit d)) (place_at i (map (place_of limit) ds)) (λ o. o ≡ Some p → list_at (d ∷ ds) i ≡ Some p.core.node.list)
+    cond_both (d.me == i) (Some (start_of limit d)) (place_at i (map (start_of limit) ds)) (λ o. o ≡ Some p → list_at (d ∷ ds) i ≡ Some p.core.node.list)
     (λ is here. ap (option_map (λ x. x.list)) (cond-true (d.me == i) (Some d) _ is) ∙ ap (λ (x : Place). Some x.core.node.list) (sym (some_same _ p here)))
     (λ is_not there. ap (option_map (λ x. x.list)) (cond-false (d.me == i) (Some d) _ is_not) ∙ opened_under limit ds i p there)
     h

@@ -7,7 +7,7 @@ use Rattle.std.proofs.lemmas.List.Sums.{fails_before_first}
 use Rattle.std.proofs.lemmas.List.Quantifiers.{position-Some}
 use Rattle.std.proofs.lemmas.Bool.{eqb-true, lt-ltb, cases_lt, cond_both, cond-true, cond-false}
 use Rattle.xl_core.specs.declared.event.CoreEvent.{CoreEvent}
-use Rattle.xl_world.specs.declared.act.Answer.{Answer}
+use Rattle.xl_world.specs.declared.act.NodeAnswer.{NodeAnswer}
 use Rattle.xl_world.specs.declared.place.Place.{Place}
 use Rattle.xl_world.specs.declared.place.Fate.{Fate}
 use Rattle.xl_world.specs.Keeper.{answer_of}
@@ -96,7 +96,7 @@ again_nowhere xs i now number none = ap (λ o. put_again now number o xs) (sym (
 pub acted_nowhere : (xs : List Place) (i : ℕ) (e : CoreEvent) (fate : Fate) → position (λ p. p.core.node.me == i) xs ≡ None → xs ≡ acted_at i e fate xs
 acted_nowhere xs i e fate none = ap (λ o. put_acted e fate o xs) (sym (none_there xs i none))
 
-pub answered_there : (xs : List Place) (i k : ℕ) (e : CoreEvent) (fate : Fate) (d : Place) (a : Answer) → position (λ p. p.core.node.me == i) xs ≡ Some k → IsAnswer a (reply_at (get_or xs k d) e fate) → AnswersAt i e fate xs (Some a)
+pub answered_there : (xs : List Place) (i k : ℕ) (e : CoreEvent) (fate : Fate) (d : Place) (a : NodeAnswer) → position (λ p. p.core.node.me == i) xs ≡ Some k → IsAnswer a (reply_at (get_or xs k d) e fate) → AnswersAt i e fate xs (Some a)
 answered_there xs i k e fate d a found is = subst (λ o. Answers e fate o (Some a)) (sym (found_there xs i k d found)) is
 
 pub answered_nowhere : (xs : List Place) (i : ℕ) (e : CoreEvent) (fate : Fate) → position (λ p. p.core.node.me == i) xs ≡ None → AnswersAt i e fate xs None

@@ -13,7 +13,7 @@ use Rattle.xl_io.specs.Keepers.{may_hold}
 use Rattle.xl_world.specs.Keeper.{held_by}
 use Rattle.xl_world.specs.Plans.{IsDeclared, AreDeclared, list_at}
 use Rattle.xl_world.specs.World.{World, Step, Act, Again, Torn, Mark, place_at, put, acts, moment_in, reopened, again, torn, asked_at, step, run, list_in, core_in}
-use Rattle.xl_world.specs.Starts.{place_of, start, IsRun}
+use Rattle.xl_world.specs.Starts.{start_of, start, IsRun}
 use Rattle.xl_world.proofs.Lists.{HasLists, run_lists, start_lists}
 
 -- a place that is put is found where one of its number was, and nowhere else
@@ -55,10 +55,10 @@ run_present : (w : World) (ss : List Step) → StandsSame w (run w ss)
 run_present w [] j = refl
 run_present w (s ∷ ss) j = run_present (step w s) ss j ∙ step_present w s j
 
-start_present : (limit i : ℕ) (plan : List PlanNode) → is_some (place_at i (map (place_of limit) plan)) ≡ is_some (list_at plan i)
+start_present : (limit i : ℕ) (plan : List PlanNode) → is_some (place_at i (map (start_of limit) plan)) ≡ is_some (list_at plan i)
 start_present limit i [] = refl
 start_present limit i (d ∷ ds) =
-    cond_both (d.me == i) (Some (place_of limit d)) (place_at i (map (place_of limit) ds)) (λ o. is_some o ≡ is_some (list_at (d ∷ ds) i))
+    cond_both (d.me == i) (Some (start_of limit d)) (place_at i (map (start_of limit) ds)) (λ o. is_some o ≡ is_some (list_at (d ∷ ds) i))
     (λ is. sym (ap (λ (o : Option PlanNode). is_some (option_map (λ x. x.list) o)) (cond-true (d.me == i) (Some d) _ is)))
     (λ is_not. start_present limit i ds ∙ sym (ap (λ (o : Option PlanNode). is_some (option_map (λ x. x.list) o)) (cond-false (d.me == i) (Some d) _ is_not)))
 

@@ -27,7 +27,7 @@ use Rattle.xl_world.proofs.Standing.{FrameSays}
 use Rattle.xl_world.specs.World.{said_by}
 use Rattle.xl_world.specs.declared.place.Place.{Place}
 use Rattle.xl_world.specs.World.{World, Step, Act, Again, Torn, Mark, place_at, is_forged, acts, reply_at, keeper_after, core_again, reopened, again, torn, moment_in, asked_at, marked, step, run}
-use Rattle.xl_world.specs.Starts.{place_of, start, IsRun}
+use Rattle.xl_world.specs.Starts.{start_of, start, IsRun}
 use Rattle.xl_world.proofs.Standing.{CoreSays, Stands}
 use Rattle.xl_world.proofs.NodeSteps.{asks_above, failed_rises, opened_well}
 use Rattle.xl_world.proofs.Unforged.{heard_unforged, may_hold-true, never_none}
@@ -188,14 +188,14 @@ start_sound limit liars plan lists = record {
     once = λ m s a b said _. cc;
     genuine = record {
       places = λ i p h. each_at (λ x. CoreSays (IsGenuine liars []) x.core) i _ p
-          (All-map (λ x. CoreSays (IsGenuine liars []) x.core) (place_of limit) plan
+          (All-map (λ x. CoreSays (IsGenuine liars []) x.core) (start_of limit) plan
           (λ k e _. let d : PlanNode = slice_index_or plan k e in opened_core_says (IsGenuine liars []) (planned limit d) d.moment 0)) h;
       sent = All-nil (FrameSays (IsGenuine liars []));
     };
     backed = All-nil (IsBacked liars []);
   };
   well = λ i p h. each_at (λ x. IsWell (seat x.core x.keeper)) i _ p
-      (All-map (λ x. IsWell (seat x.core x.keeper)) (place_of limit) plan
+      (All-map (λ x. IsWell (seat x.core x.keeper)) (start_of limit) plan
       (λ k e in_plan. let d : PlanNode = slice_index_or plan k e in opened_well (planned limit d) d.moment 0 (resting 0) (lists k e in_plan).list refl)) h;
 }
 
@@ -225,7 +225,7 @@ run_on w v (s ∷ ss) is run_w = run_on (step w s) v ss is (run_more w (step w s
 
 -- a world that has just been opened is one
 pub opened_run : (limit : ℕ) (liars declared : List ℕ) (plan : List PlanNode) (numbers : List ℕ) (places : List Place) (sent : List Sent) (said : List Said) (reports : List Reported) →
-    liars ≡ declared → numbers ≡ filter (is_declared declared plan) all_numbers → places ≡ map (place_of limit) plan → sent ≡ [] → said ≡ [] → reports ≡ [] → AreDeclared plan →
+    liars ≡ declared → numbers ≡ filter (is_declared declared plan) all_numbers → places ≡ map (start_of limit) plan → sent ≡ [] → said ≡ [] → reports ≡ [] → AreDeclared plan →
     IsRun (record { liars = liars; numbers = numbers; places = places; sent = sent; mark = 0; said = said; reports = reports; forged = 0 })
 opened_run limit liars declared plan numbers places sent said reports same is_numbers is_places is_sent is_said is_reports are =
     let its : numbers ≡ filter (is_declared liars plan) all_numbers = is_numbers ∙ ap (λ (ls : List ℕ). filter (is_declared ls plan) all_numbers) (sym same) in
@@ -235,7 +235,7 @@ opened_run limit liars declared plan numbers places sent said reports same is_nu
       [],
       are,
       ap (λ n. world n places sent said reports) its ∙ (ap (λ p. world (filter (is_declared liars plan) all_numbers) p sent said reports) is_places
-          ∙ (ap (λ f. world (filter (is_declared liars plan) all_numbers) (map (place_of limit) plan) f said reports) is_sent
-          ∙ (ap (λ s. world (filter (is_declared liars plan) all_numbers) (map (place_of limit) plan) [] s reports) is_said
-          ∙ ap (λ r. world (filter (is_declared liars plan) all_numbers) (map (place_of limit) plan) [] [] r) is_reports))),
+          ∙ (ap (λ f. world (filter (is_declared liars plan) all_numbers) (map (start_of limit) plan) f said reports) is_sent
+          ∙ (ap (λ s. world (filter (is_declared liars plan) all_numbers) (map (start_of limit) plan) [] s reports) is_said
+          ∙ ap (λ r. world (filter (is_declared liars plan) all_numbers) (map (start_of limit) plan) [] [] r) is_reports))),
     )

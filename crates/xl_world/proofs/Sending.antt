@@ -38,7 +38,7 @@ use Rattle.xl_world.specs.Plans.{is_declared, all_numbers, up_from}
 use Rattle.xl_world.specs.World.{reported_by, said_by}
 use Rattle.xl_world.specs.declared.place.Place.{Place}
 use Rattle.xl_world.specs.World.{World, Act, Again, Torn, again, acts, asked_at, core_again, is_forged, keeper_after, moment_in, place_at, put, reopened, reply_at, run, sent_in, settled, step, torn}
-use Rattle.xl_world.specs.Starts.{place_of, start}
+use Rattle.xl_world.specs.Starts.{start_of, start}
 use Rattle.xl_world.specs.Idle.{Between, IsIdle, Waits, WaitsAt, WaitsOnly}
 use Rattle.xl_world.specs.Emptying.{IsEmptied, drained, drained_once, drains, drains_for, emptying, emptying_at, event_steps, given, handed_out, others}
 use Rattle.xl_world.proofs.Runs.{run-append}
@@ -426,11 +426,11 @@ unfolding up_from
 up_between n zero le low less = tt
 up_between n (suc k) le low less = (less, omega (arith, le), up_between (n + 1) k (omega (arith, le)) n (omega arith))
 
-all_opened : (limit : ℕ) (numbers : List ℕ) (plan : List PlanNode) (i : ℕ) (p : Place) → place_at i (map (place_of limit) plan) ≡ Some p → IsEmptied numbers p.core
+all_opened : (limit : ℕ) (numbers : List ℕ) (plan : List PlanNode) (i : ℕ) (p : Place) → place_at i (map (start_of limit) plan) ≡ Some p → IsEmptied numbers p.core
 all_opened limit numbers [] i p h = cc
 all_opened limit numbers (d ∷ ds) i p h =
-    cond_both (d.me == i) (Some (place_of limit d)) (place_at i (map (place_of limit) ds)) (λ o. o ≡ Some p → IsEmptied numbers p.core)
-    (λ _ here. subst (λ (x : Place). IsEmptied numbers x.core) (sym (some_same (place_of limit d) p here)) (opened_empty numbers (place_of limit d).core refl refl refl refl))
+    cond_both (d.me == i) (Some (start_of limit d)) (place_at i (map (start_of limit) ds)) (λ o. o ≡ Some p → IsEmptied numbers p.core)
+    (λ _ here. subst (λ (x : Place). IsEmptied numbers x.core) (sym (some_same (start_of limit d) p here)) (opened_empty numbers (start_of limit d).core refl refl refl refl))
     (λ _ there. all_opened limit numbers ds i p there) h
 
 pub start_idle : (limit : ℕ) (liars : List ℕ) (plan : List PlanNode) → IsIdle (start limit liars plan)
@@ -441,7 +441,7 @@ start_idle limit liars plan = record {
 
 -- a world of these numbers and places is idle
 pub opened_idle : (limit : ℕ) (liars declared : List ℕ) (plan : List PlanNode) (numbers : List ℕ) (places : List Place) {sent : List Sent} {said : List Said} {reports : List Reported} {mark forged : ℕ} →
-    numbers ≡ filter (is_declared declared plan) all_numbers → places ≡ map (place_of limit) plan →
+    numbers ≡ filter (is_declared declared plan) all_numbers → places ≡ map (start_of limit) plan →
     IsIdle (record { liars = liars; numbers = numbers; places = places; sent = sent; mark = mark; said = said; reports = reports; forged = forged })
 opened_idle limit liars declared plan numbers places is_numbers is_places = record {
   numbers = subst (Between 0) (sym is_numbers) (start_idle limit declared plan).numbers;

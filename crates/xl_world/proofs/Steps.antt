@@ -31,7 +31,7 @@ use Rattle.xl_core.specs.Queues.{waiting_at}
 use Rattle.xl_core.specs.declared.event.CoreEvent.{CoreEvent}
 use Rattle.xl_core.specs.declared.event.CoreEvent.TheVariants.{Issue, Frame, Drain, Reports}
 use Rattle.xl_wire.specs.declared.lengths.TheConstants.{LONGEST_FRAME}
-use Rattle.xl_world.specs.declared.act.Answer.{Answer}
+use Rattle.xl_world.specs.declared.act.NodeAnswer.{NodeAnswer}
 use Rattle.xl_world.specs.declared.outcome.Outcome.{Outcome}
 use Rattle.xl_world.specs.declared.outcome.Outcome.TheVariants.{Refused, Full}
 use Rattle.xl_world.specs.declared.place.Place.{Place}
@@ -52,7 +52,7 @@ use Rattle.xl_world.proofs.Seats.{some_same}
 use Rattle.xl_world.proofs.Lists.{core_keeps}
 use Rattle.xl_world.proofs.Emptying.{drained_node}
 use Rattle.xl_world.proofs.Sending.{IsAsIssued, emptied_acts, frame_ran, issue_ran, put_at, put_put}
-use Rattle.xl_world.specs.Schedule.{frame_at, told_of, reply_to, told_by, told_in}
+use Rattle.xl_world.specs.Schedule.{frame_at, told_of_reply, reply_to, told_of_step, told_in}
 use Rattle.xl_world.specs.Seen.{MayDrain, place_after, place_drained, put_acted, put_drained, given_at, acted_at, Answers, AnswersAt, outcomes_told, forged_at, reply_in, reported_in}
 
 -- what a step changes of a world
@@ -80,10 +80,10 @@ no_place w i e fate answers = nothing_at e fate (place_at i w.places) answers
 -- WHAT IS ISSUED
 
 -- the places of the code, and what it sent
-abbrev pub places_issued : List ℕ → ℕ → CoreEvent → Fate → Answer → List Place → List Place
+abbrev pub places_issued : List ℕ → ℕ → CoreEvent → Fate → NodeAnswer → List Place → List Place
 places_issued numbers i e fate a places = let ps : List Place = acted_at i e fate places in if is_some a.issued then put_drained numbers (place_at i ps) ps else ps
 
-abbrev pub sent_issued : List ℕ → ℕ → CoreEvent → Fate → Answer → List Place → List Sent
+abbrev pub sent_issued : List ℕ → ℕ → CoreEvent → Fate → NodeAnswer → List Place → List Sent
 sent_issued numbers i e fate a places = if is_some a.issued then given_at numbers (place_at i (acted_at i e fate places)) else []
 
 -- whether what comes to a place, where there is one, is forged
@@ -109,7 +109,7 @@ drained_sent w i e fate p at (Some v) is issued =
     let q : Place = place_after p e fate in
     ap (given_at w.numbers) (put_at i q w.places p ((core_keeps p.core e (answer_of p.keeper fate)).0 ∙ at_its_number i w.places p at) at)
 
-issued_at : (w : World) (i : ℕ) (e : CoreEvent) (fate : Fate) (a : Answer) (o : Option Place) → place_at i w.places ≡ o → Answers e fate o (Some a) → IfSome o (λ p. IsAsIssued w.numbers (reply_at p e fate)) → (n : ℕ) →
+issued_at : (w : World) (i : ℕ) (e : CoreEvent) (fate : Fate) (a : NodeAnswer) (o : Option Place) → place_at i w.places ≡ o → Answers e fate o (Some a) → IfSome o (λ p. IsAsIssued w.numbers (reply_at p e fate)) → (n : ℕ) →
     n ≡ (if forged_in w e o then one_more w.forged else w.forged) →
     with_lists w (let ps : List Place = put_acted e fate o w.places in if is_some a.issued then put_drained w.numbers (place_at i ps) ps else ps)
     (w.sent ++ (if is_some a.issued then given_at w.numbers (place_at i (put_acted e fate o w.places)) else []))
@@ -123,7 +123,7 @@ issued_at w i e fate a (Some p) at is issued n counted =
     counted
 
 -- the lists of the code, with what is issued, are those of the steps
-pub issued_step : (w : World) (i now seq : ℕ) (id : LedgerId) (full : Bool) (fate : Fate) (a : Answer) (places : List Place) (sent : List Sent) (said : List Said) (reports : List Report) → IsIdle w →
+pub issued_step : (w : World) (i now seq : ℕ) (id : LedgerId) (full : Bool) (fate : Fate) (a : NodeAnswer) (places : List Place) (sent : List Sent) (said : List Said) (reports : List Report) → IsIdle w →
     AnswersAt i (Issue now seq id full) fate w.places (Some a) → places ≡ places_issued w.numbers i (Issue now seq id full) fate a w.places →
     sent ≡ w.sent ++ sent_issued w.numbers i (Issue now seq id full) fate a w.places →
     said ≡ with_said w.said (option_map (said_by i) a.issued) → reports ≡ w.reports ++ option_to_list a.report →
@@ -202,7 +202,7 @@ full_told i n None (Some q) is = cc
 full_told i n (Some w) None is = cc
 full_told i n (Some w) (Some q) is = ap (option_map (λ (x : Report). Full i x.seq x.id)) is
 
-tells_at : (i : ℕ) (e : CoreEvent) (fate : Fate) (a : Answer) (o : Option Place) → Answers e fate o (Some a) → outcomes_told i a ≡ told_of i (option_map (λ p. reply_at p e fate) o)
+tells_at : (i : ℕ) (e : CoreEvent) (fate : Fate) (a : NodeAnswer) (o : Option Place) → Answers e fate o (Some a) → outcomes_told i a ≡ told_of_reply i (option_map (λ p. reply_at p e fate) o)
 tells_at i e fate a None answers = absurd answers
 tells_at i e fate a (Some p) is =
     let r : CoreReply = reply_at p e fate in
@@ -211,17 +211,17 @@ tells_at i e fate a (Some p) is =
 
 pub told_append : (w : World) (ss ts : List Step) → told_in w (ss ++ ts) ≡ told_in w ss ++ told_in (run w ss) ts
 told_append w [] ts = refl
-told_append w (s ∷ ss) ts = ap (λ os. told_by w s ++ os) (told_append (step w s) ss ts) ∙ sym (append_assoc (told_by w s) (told_in (step w s) ss) (told_in (run (step w s) ss) ts))
+told_append w (s ∷ ss) ts = ap (λ os. told_of_step w s ++ os) (told_append (step w s) ss ts) ∙ sym (append_assoc (told_of_step w s) (told_in (step w s) ss) (told_in (run (step w s) ss) ts))
 
-drain_told : (i m room : ℕ) (o : Option Place) → told_of i (option_map (λ p. reply_at p (Drain m room) Kept) o) ≡ []
+drain_told : (i m room : ℕ) (o : Option Place) → told_of_reply i (option_map (λ p. reply_at p (Drain m room) Kept) o) ≡ []
 drain_told i m room None = refl
 drain_told i m room (Some p) = refl
 
-reports_told : (i room : ℕ) (o : Option Place) → told_of i (option_map (λ p. reply_at p (Reports room) Kept) o) ≡ []
+reports_told : (i room : ℕ) (o : Option Place) → told_of_reply i (option_map (λ p. reply_at p (Reports room) Kept) o) ≡ []
 reports_told i room None = refl
 reports_told i room (Some p) = refl
 
-nothing_more : (w : World) (s : Step) (ss : List Step) → told_by w s ≡ [] → told_in (step w s) ss ≡ [] → told_in w (s ∷ ss) ≡ []
+nothing_more : (w : World) (s : Step) (ss : List Step) → told_of_step w s ≡ [] → told_in (step w s) ss ≡ [] → told_in w (s ∷ ss) ≡ []
 nothing_more w s ss here there = ap (λ (os : List Outcome). os ++ told_in (step w s) ss) here ∙ there
 
 -- nothing is told of drains
@@ -250,25 +250,25 @@ emptying_told w v i e fate (Some p) =
     nothing_more v (Act i (Reports 1) Kept) (map (λ e. Act i e Kept) (flat_map (drains_for core) (others w.numbers core.node.me))) (reports_told i 1 (place_at i v.places)) (all_drains_told core (others w.numbers core.node.me) (step v (Act i (Reports 1) Kept)) i)
 
 -- what is told of an event and of the emptying that follows is what is told of the event
-pub told_once : (w : World) (i : ℕ) (e : CoreEvent) (fate : Fate) → told_of i (reply_to w (Act i e fate)) ≡ told_in w (event_steps w i e fate)
+pub told_once : (w : World) (i : ℕ) (e : CoreEvent) (fate : Fate) → told_of_reply i (reply_to w (Act i e fate)) ≡ told_in w (event_steps w i e fate)
 told_once w i e fate =
-    sym (ap (λ (os : List Outcome). told_of i (reply_to w (Act i e fate)) ++ os) (emptying_told w (step w (Act i e fate)) i e fate (place_at i w.places)) ∙ append-nil (told_of i (reply_to w (Act i e fate))))
+    sym (ap (λ (os : List Outcome). told_of_reply i (reply_to w (Act i e fate)) ++ os) (emptying_told w (step w (Act i e fate)) i e fate (place_at i w.places)) ∙ append-nil (told_of_reply i (reply_to w (Act i e fate))))
 
-pub told_step : (w : World) (i : ℕ) (e : CoreEvent) (fate : Fate) (a : Answer) → AnswersAt i e fate w.places (Some a) → outcomes_told i a ≡ told_in w (event_steps w i e fate)
+pub told_step : (w : World) (i : ℕ) (e : CoreEvent) (fate : Fate) (a : NodeAnswer) → AnswersAt i e fate w.places (Some a) → outcomes_told i a ≡ told_in w (event_steps w i e fate)
 told_step w i e fate a answers = tells_at i e fate a (place_at i w.places) answers ∙ told_once w i e fate
 
 -- and of what comes to a node
-pub told_there : (i : ℕ) (e : CoreEvent) (a : Answer) (ps : List Place) → AnswersAt i e Kept ps (Some a) → outcomes_told i a ≡ told_of i (reply_in i e ps)
+pub told_there : (i : ℕ) (e : CoreEvent) (a : NodeAnswer) (ps : List Place) → AnswersAt i e Kept ps (Some a) → outcomes_told i a ≡ told_of_reply i (reply_in i e ps)
 told_there i e a ps answers = tells_at i e Kept a (place_at i ps) answers
 
-pub told_nowhere : (i : ℕ) (e : CoreEvent) (ps : List Place) → AnswersAt i e Kept ps None → told_of i (reply_in i e ps) ≡ []
-told_nowhere i e ps answers = ap (λ o. told_of i (option_map (λ p. reply_at p e Kept) o)) (nothing_at e Kept (place_at i ps) answers)
+pub told_nowhere : (i : ℕ) (e : CoreEvent) (ps : List Place) → AnswersAt i e Kept ps None → told_of_reply i (reply_in i e ps) ≡ []
+told_nowhere i e ps answers = ap (λ o. told_of_reply i (option_map (λ p. reply_at p e Kept) o)) (nothing_at e Kept (place_at i ps) answers)
 
-reports_at : (e : CoreEvent) (a : Answer) (o : Option Place) → Answers e Kept o (Some a) → option_to_list a.report ≡ reported_in (option_map (λ p. reply_at p e Kept) o)
+reports_at : (e : CoreEvent) (a : NodeAnswer) (o : Option Place) → Answers e Kept o (Some a) → option_to_list a.report ≡ reported_in (option_map (λ p. reply_at p e Kept) o)
 reports_at e a None answers = absurd answers
 reports_at e a (Some p) is = ap option_to_list is.report
 
-pub reports_there : (i : ℕ) (e : CoreEvent) (a : Answer) (ps : List Place) → AnswersAt i e Kept ps (Some a) → option_to_list a.report ≡ reported_in (reply_in i e ps)
+pub reports_there : (i : ℕ) (e : CoreEvent) (a : NodeAnswer) (ps : List Place) → AnswersAt i e Kept ps (Some a) → option_to_list a.report ≡ reported_in (reply_in i e ps)
 reports_there i e a ps answers = reports_at e a (place_at i ps) answers
 
 pub reports_nowhere : (i : ℕ) (e : CoreEvent) (ps : List Place) → AnswersAt i e Kept ps None → reported_in (reply_in i e ps) ≡ []

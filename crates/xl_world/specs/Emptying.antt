@@ -46,7 +46,8 @@ emptying_at numbers i event fate (Some p) = map (λ e. Act i e Kept) (emptying n
 abbrev pub event_steps : World → ℕ → CoreEvent → Fate → List Step
 event_steps w i event fate = Act i event fate ∷ emptying_at w.numbers i event fate (place_at i w.places)
 
--- nothing waits for another declared number, nor to be taken, and none is greeted; the keys are those of a schedule's member
+-- nothing waits for another declared number, nor to be taken, and none is greeted; the keys are those of a schedule's
+-- member
 pub record IsEmptied (numbers : List ℕ) (core : Core) : Type 0 where
   pub readers : length core.waiting ≡ 64
   pub none : All (λ member. (member == core.node.me) ≡ false → (waiting_at core.waiting member).items ≡ []) numbers

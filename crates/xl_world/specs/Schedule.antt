@@ -123,21 +123,21 @@ outcomes_of i r =
     option_to_list (option_map (Refused i) (refusal_in r.answer))
     ++ option_to_list (option_map (λ q. Full i q.seq q.id) r.report)
 
-abbrev pub told_of : ℕ → Option CoreReply → List Outcome
-told_of i None = []
-told_of i (Some r) = outcomes_of i r
+abbrev pub told_of_reply : ℕ → Option CoreReply → List Outcome
+told_of_reply i None = []
+told_of_reply i (Some r) = outcomes_of i r
 
 -- what is told of a step: of one that is torn nothing is
-abbrev pub told_by : World → Step → List Outcome
-told_by w (Act i event fate) = told_of i (reply_to w (Act i event fate))
-told_by w (Again i now number) = []
-told_by w (Torn i event number) = []
-told_by w Mark = []
+abbrev pub told_of_step : World → Step → List Outcome
+told_of_step w (Act i event fate) = told_of_reply i (reply_to w (Act i event fate))
+told_of_step w (Again i now number) = []
+told_of_step w (Torn i event number) = []
+told_of_step w Mark = []
 
 -- what is told of steps, one after the other
 abbrev pub told_in : World → List Step → List Outcome
 told_in w [] = []
-told_in w (s ∷ ss) = told_by w s ++ told_in (step w s) ss
+told_in w (s ∷ ss) = told_of_step w s ++ told_in (step w s) ss
 
 -- the ledger that the node of a number prefers, where there is such a node
 abbrev pub preference : ℕ → Option Place → List Outcome

@@ -10,7 +10,7 @@ use Rattle.xl_core.specs.Core.{CoreReply}
 use Rattle.xl_core.specs.declared.event.CoreEvent.{CoreEvent}
 use Rattle.xl_core.specs.declared.event.CoreEvent.TheVariants.{Issue, Frame}
 use Rattle.xl_tags.specs.Rings.{schedule_ring}
-use Rattle.xl_world.specs.declared.act.Answer.{Answer}
+use Rattle.xl_world.specs.declared.act.NodeAnswer.{NodeAnswer}
 use Rattle.xl_world.specs.declared.act.Issuing.{Issuing}
 use Rattle.xl_world.specs.declared.anew.Cut.{Cut}
 use Rattle.xl_world.specs.declared.fork.Fork.{Fork}
@@ -21,7 +21,7 @@ use Rattle.xl_world.specs.declared.place.Fate.{Fate}
 use Rattle.xl_world.specs.Keeper.{left_by, restored}
 use Rattle.xl_world.specs.Forks as Forks
 use Rattle.xl_world.specs.declared.place.Fate.TheVariants.{Kept}
-use Rattle.xl_world.specs.Schedule.{told_of}
+use Rattle.xl_world.specs.Schedule.{told_of_reply}
 use Rattle.xl_world.specs.World.{reported_by}
 use Rattle.xl_world.specs.Forgeries.{forges}
 use Rattle.xl_world.specs.World.{run, World, Step, core_again, keeper_after, place_at, put, reply_at, step}
@@ -46,7 +46,7 @@ abbrev pub issue_event : Issuing → CoreEvent
 issue_event a = Issue a.at a.seq a.id a.full
 
 -- what a node's calls answered is this reply
-pub record IsAnswer (a : Answer) (r : CoreReply) : Type 0 where
+pub record IsAnswer (a : NodeAnswer) (r : CoreReply) : Type 0 where
   pub refused : a.refused ≡ refusal_in r.answer
   pub issued : a.issued ≡ r.issued
   pub report : a.report ≡ option_map (reported_by r.core.node) r.report
@@ -64,13 +64,13 @@ abbrev pub acted_at : ℕ → CoreEvent → Fate → List Place → List Place
 acted_at i e fate places = put_acted e fate (place_at i places) places
 
 -- what the node of a number answered, where there is one
-abbrev pub Answers : CoreEvent → Fate → Option Place → Option Answer → Type 0
+abbrev pub Answers : CoreEvent → Fate → Option Place → Option NodeAnswer → Type 0
 Answers e fate None None = Unit {0}
 Answers e fate None (Some a) = ⊥
 Answers e fate (Some p) None = ⊥
 Answers e fate (Some p) (Some a) = IsAnswer a (reply_at p e fate)
 
-abbrev pub AnswersAt : ℕ → CoreEvent → Fate → List Place → Option Answer → Type 0
+abbrev pub AnswersAt : ℕ → CoreEvent → Fate → List Place → Option NodeAnswer → Type 0
 AnswersAt i e fate places answer = Answers e fate (place_at i places) answer
 
 -- no report waits at the node of a number
@@ -99,7 +99,7 @@ given_at numbers None = []
 given_at numbers (Some p) = given p.core (others numbers p.core.node.me)
 
 -- what is told of an answer
-abbrev pub outcomes_told : ℕ → Answer → List Outcome
+abbrev pub outcomes_told : ℕ → NodeAnswer → List Outcome
 outcomes_told i a =
     option_to_list (option_map (Refused i) a.refused) ++ option_to_list (option_map (λ r. Full i r.seq r.id) a.report)
 
@@ -131,7 +131,7 @@ abbrev pub heard_one : ℕ → ℕ → List ℕ → Hearing → Hearing
 heard_one to at bytes h = record {
   places = acted_at to (Frame at bytes) Kept h.places;
   reports = h.reports ++ reported_in (reply_in to (Frame at bytes) h.places);
-  told = h.told ++ told_of to (reply_in to (Frame at bytes) h.places);
+  told = h.told ++ told_of_reply to (reply_in to (Frame at bytes) h.places);
 }
 
 -- sent frames come to their receivers

@@ -9,15 +9,15 @@ use Rattle.xl_world.specs.Plans.{AreDeclared, all_numbers, is_declared, planned}
 use Rattle.xl_world.specs.World.{World, Step, run}
 
 -- a core with room for so many ledgers, and its keeper
-abbrev pub place_of : ℕ → PlanNode → Place
-place_of limit d = record { core = with_queues (opened (planned limit d) d.moment 0); keeper = resting 0 }
+abbrev pub start_of : ℕ → PlanNode → Place
+start_of limit d = record { core = with_queues (opened (planned limit d) d.moment 0); keeper = resting 0 }
 
 -- the network at the start
 abbrev pub start : ℕ → List ℕ → List PlanNode → World
 start limit liars plan = record {
   liars = liars;
   numbers = filter (is_declared liars plan) all_numbers;
-  places = map (place_of limit) plan;
+  places = map (start_of limit) plan;
   sent = [];
   mark = 0;
   said = [];

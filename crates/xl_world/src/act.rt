@@ -30,19 +30,19 @@ pub struct Issuing {
 
 /// What came of an event at a node.
 #[derive(Debug, Drop)]
-pub struct Answer {
+pub struct NodeAnswer {
     pub refused: Option<Refusal>,
     pub issued: Option<Validation>,
     pub report: Option<WorldReport>,
 }
 
-impl Answer {
-    fn refusing(refusal: Refusal) -> Answer
+impl NodeAnswer {
+    fn refusing(refusal: Refusal) -> NodeAnswer
         ensures refused { result.refused ≡ Some refusal }
         ensures issued { result.issued ≡ None }
         ensures report { result.report ≡ None }
     {
-        Answer {
+        NodeAnswer {
             refused: Some(refusal),
             issued: None,
             report: None,
@@ -83,7 +83,7 @@ fn taken_report(core: &mut NodeCore) -> Option<Report>
 }
 
 /// A core is asked to issue: its keeper holds the sequence before anything is said.
-fn issue(place: &mut Place, issuing: &Issuing, fate: Fate) -> Answer
+fn issue(place: &mut Place, issuing: &Issuing, fate: Fate) -> NodeAnswer
     requires moment { issuing.now.at ≤ GREATEST_MILLIS }
     requires untaken { place.old.core.untaken.items ≡ [] }
     ensures place { place.new ≡ place_after place.old (issue_event issuing.now) fate }
@@ -99,17 +99,17 @@ fn issue(place: &mut Place, issuing: &Issuing, fate: Fate) -> Answer
     place.keeper = fated.keeper;
     let report = taken_report(&mut place.core);
     match outcome {
-        Ok(()) => Answer {
+        Ok(()) => NodeAnswer {
             refused: None,
             issued: Some(validation),
             report: report_under(place.core.node(), report),
         },
-        Err(refusal) => Answer::refusing(refusal),
+        Err(refusal) => NodeAnswer::refusing(refusal),
     }
 }
 
 /// Bytes come to a core.
-fn hear(place: &mut Place, now: Millis, bytes: &[u8]) -> Answer
+fn hear(place: &mut Place, now: Millis, bytes: &[u8]) -> NodeAnswer
     requires moment { now ≤ GREATEST_MILLIS }
     requires untaken { place.old.core.untaken.items ≡ [] }
     ensures place { place.new ≡ place_after place.old (Frame now bytes.now) Kept }
@@ -118,17 +118,17 @@ fn hear(place: &mut Place, now: Millis, bytes: &[u8]) -> Answer
     let outcome = place.core.frame(now, bytes);
     let report = taken_report(&mut place.core);
     match outcome {
-        Ok(_) => Answer {
+        Ok(_) => NodeAnswer {
             refused: None,
             issued: None,
             report: report_under(place.core.node(), report),
         },
-        Err(refusal) => Answer::refusing(refusal),
+        Err(refusal) => NodeAnswer::refusing(refusal),
     }
 }
 
 /// Where the node of a number stands.
-pub fn place_of(places: &[Place], i: NodeNo) -> Option<usize>
+pub fn position_of(places: &[Place], i: NodeNo) -> Option<usize>
     ensures { result ≡ position (λ p. p.core.node.me == i) places.now }
 {
     places.iter().position(|place| place.core.node().me() == i)
@@ -138,7 +138,7 @@ pub fn place_of(places: &[Place], i: NodeNo) -> Option<usize>
 pub fn list_at(places: &[Place], i: NodeNo) -> Option<&List>
     ensures { option_copied result ≡ option_map (λ p. p.core.node.list) (place_at i places.now) }
 {
-    match place_of(places, i) {
+    match position_of(places, i) {
         Some(k) => {
             let place = &places[k];
             Some(place.core.node().list())
@@ -151,7 +151,7 @@ pub fn list_at(places: &[Place], i: NodeNo) -> Option<&List>
 pub fn core_at(places: &[Place], i: NodeNo) -> Option<&NodeCore>
     ensures { option_copied result ≡ option_map (λ p. p.core) (place_at i places.now) }
 {
-    match place_of(places, i) {
+    match position_of(places, i) {
         Some(k) => {
             let place = &places[k];
             Some(&place.core)
@@ -164,7 +164,7 @@ pub fn core_at(places: &[Place], i: NodeNo) -> Option<&NodeCore>
 pub fn preferred_at(places: &[Place], i: NodeNo) -> Option<Outcome>
     ensures { result ≡ option_map (λ p. Preferred i (preferred p.core.node)) (place_at i places.now) }
 {
-    match place_of(places, i) {
+    match position_of(places, i) {
         Some(k) => {
             let place = &places[k];
             Some(Outcome::Preferred {
@@ -177,13 +177,18 @@ pub fn preferred_at(places: &[Place], i: NodeNo) -> Option<Outcome>
 }
 
 /// The core of a number, where there is one, is asked to issue.
-pub fn issue_at(places: &mut [Place], i: NodeNo, issuing: &Issuing, fate: Fate) -> Option<Answer>
+pub fn issue_at(
+    places: &mut [Place],
+    i: NodeNo,
+    issuing: &Issuing,
+    fate: Fate,
+) -> Option<NodeAnswer>
     requires moment { issuing.now.at ≤ GREATEST_MILLIS }
     requires untaken { NoneUntaken i places.old }
     ensures places { places.new ≡ acted_at i (issue_event issuing.now) fate places.old }
     ensures answer { AnswersAt i (issue_event issuing.now) fate places.old result }
 {
-    match place_of(places, i) {
+    match position_of(places, i) {
         Some(k) => {
             let place = &mut places[k];
             Some(issue(place, issuing, fate))
@@ -193,13 +198,13 @@ pub fn issue_at(places: &mut [Place], i: NodeNo, issuing: &Issuing, fate: Fate) 
 }
 
 /// Bytes come to the core of a number, where there is one.
-pub fn hear_at(places: &mut [Place], i: NodeNo, now: Millis, bytes: &[u8]) -> Option<Answer>
+pub fn hear_at(places: &mut [Place], i: NodeNo, now: Millis, bytes: &[u8]) -> Option<NodeAnswer>
     requires moment { now ≤ GREATEST_MILLIS }
     requires untaken { NoneUntaken i places.old }
     ensures places { places.new ≡ acted_at i (Frame now bytes.now) Kept places.old }
     ensures answer { AnswersAt i (Frame now bytes.now) Kept places.old result }
 {
-    match place_of(places, i) {
+    match position_of(places, i) {
         Some(k) => {
             let place = &mut places[k];
             Some(hear(place, now, bytes))

@@ -8,7 +8,7 @@ ghost use Rattle.xl_world.specs.Keeper.{found};
 ghost use Rattle.xl_world.specs.Seen.{issue_event, place_again, put_again, cut_seen};
 ghost use Rattle.xl_world.specs.World.{place_at};
 
-use crate::act::{Issuing, place_of};
+use crate::act::{Issuing, position_of};
 use crate::place::{NodeCore, Place};
 use std::alloc::Global;
 use xl_base::{Millis, NodeNo, OutOfMemory, Seq};
@@ -24,7 +24,7 @@ pub struct Cut {
 pub fn found_at(places: &[Place], i: NodeNo) -> Option<Seq>
     ensures { result ≡ option_map (λ p. found p.keeper) (place_at i places.now) }
 {
-    match place_of(places, i) {
+    match position_of(places, i) {
         Some(k) => {
             let place = &places[k];
             Some(place.keeper.found())
@@ -60,7 +60,7 @@ pub fn cut_at(places: &[Place], i: NodeNo, issuing: &Issuing, new: bool) -> Opti
     ensures { result ≡
         option_map (λ p. cut_seen new p (core_asks p.core (issue_event issuing.now))) (place_at i places.now) }
 {
-    match place_of(places, i) {
+    match position_of(places, i) {
         Some(k) => {
             let place = &places[k];
             Some(cut_place(place, issuing, new))
@@ -92,7 +92,7 @@ pub fn reopen_at(
     ensures anew { OnOk result (places.new ≡ put_again now number (place_at i places.old) places.old) }
     ensures err { OnErr result (places.new ≡ places.old) }
 {
-    match place_of(places, i) {
+    match position_of(places, i) {
         Some(k) => {
             let place = &mut places[k];
             reopen(alloc, place, now, number)

@@ -9,7 +9,7 @@ ghost use Rattle.xl_world.specs.Forgeries.{forges, is_made_up};
 ghost use Rattle.xl_world.specs.World.{place_at};
 
 use crate::Sent;
-use crate::act::place_of;
+use crate::act::position_of;
 use crate::index::TagIndex;
 use crate::place::Place;
 use xl_base::NodeNo;
@@ -70,7 +70,7 @@ pub fn is_forged(
     ensures index { IsIndex index.new sent.now }
     ensures value { result ≡ forged_at liars.now sent.now bytes.now (place_at to places.now) }
 {
-    match place_of(places, to) {
+    match position_of(places, to) {
         Some(k) => {
             let place = &places[k];
             forges(liars, sent, index, place.core.node().keys(), bytes)

@@ -3,7 +3,7 @@ ghost use Rattle.std.specs.Prelude.{◌≡◌, ◌+◌, ◌*◌, ◌≤◌, ◌<
 ghost use Rattle.xl_base.specs.declared.moments.TheConstants.{GREATEST_MILLIS};
 ghost use Rattle.xl_core.specs.declared.event.CoreEvent.TheVariants.{Frame};
 ghost use Rattle.xl_world.specs.declared.place.Fate.TheVariants.{Kept};
-ghost use Rattle.xl_world.specs.Schedule.{told_of};
+ghost use Rattle.xl_world.specs.Schedule.{told_of_reply};
 ghost use Rattle.xl_world.specs.Seen.{acted_at, reply_in, reported_in, hearing_seen, heard_all, NoneUntaken, NoneUntakenAnywhere};
 
 use crate::act::hear_at;
@@ -30,7 +30,7 @@ fn hand(
     ensures places { places.new.items ≡ acted_at to (Frame now bytes.now) Kept places.old.items }
     ensures reports { reports.new.items ≡
         reports.old.items ++ reported_in (reply_in to (Frame now bytes.now) places.old.items) }
-    ensures told { told.new.items ≡ told.old.items ++ told_of to (reply_in to (Frame now bytes.now) places.old.items) }
+    ensures told { told.new.items ≡ told.old.items ++ told_of_reply to (reply_in to (Frame now bytes.now) places.old.items) }
     ensures room { (vec_len reports.new ≤ vec_len reports.old + 1)
         × (vec_capacity reports.old ≤ vec_capacity reports.new) }
     ensures told_room { (vec_len told.new ≤ vec_len told.old + 2)
@@ -56,7 +56,7 @@ pub fn hand_to(
     ensures places { OnOk result (places.new.items ≡ acted_at to (Frame now bytes.now) Kept places.old.items) }
     ensures reports { OnOk result (reports.new.items ≡
         reports.old.items ++ reported_in (reply_in to (Frame now bytes.now) places.old.items)) }
-    ensures told { IfOk result (λ told. told ≡ told_of to (reply_in to (Frame now bytes.now) places.old.items)) }
+    ensures told { IfOk result (λ told. told ≡ told_of_reply to (reply_in to (Frame now bytes.now) places.old.items)) }
     ensures err_places { OnErr result (places.new.items ≡ places.old.items) }
     ensures err_reports { OnErr result (reports.new.items ≡ reports.old.items) }
 {

@@ -5,7 +5,7 @@ ghost use Rattle.xl_ledger.specs.declared.registry.TheConstants.{LEAST_LIMIT, GR
 ghost use Rattle.xl_lists.specs.Lists.{is_on};
 ghost use Rattle.xl_base.specs.declared.moments.TheConstants.{GREATEST_MILLIS};
 ghost use Rattle.xl_world.specs.Plans.{is_declared, all_numbers, AreDeclared, AreTimely};
-ghost use Rattle.xl_world.specs.Starts.{place_of};
+ghost use Rattle.xl_world.specs.Starts.{start_of};
 
 use crate::place::{Keeper, Place};
 use crate::{Plan, PlanNode};
@@ -19,7 +19,7 @@ fn place(alloc: Global, limit: u32, node: &PlanNode) -> Result<Place, OutOfMemor
     requires least { LEAST_LIMIT ≤ limit }
     requires most { limit ≤ GREATEST_LIMIT }
     requires moment { node.now.moment ≤ GREATEST_MILLIS }
-    ensures { IfOk result (λ place. place ≡ place_of limit node.now) }
+    ensures { IfOk result (λ place. place ≡ start_of limit node.now) }
 {
     let settings = Settings {
         me: node.me,
@@ -39,7 +39,7 @@ pub fn places(alloc: Global, limit: u32, nodes: &[PlanNode]) -> Result<Vec<Place
     requires least { LEAST_LIMIT ≤ limit }
     requires most { limit ≤ GREATEST_LIMIT }
     requires moments { AreTimely nodes.now }
-    ensures opened { IfOk result (λ places. places.items ≡ map (place_of limit) nodes.now) }
+    ensures opened { IfOk result (λ places. places.items ≡ map (start_of limit) nodes.now) }
     ensures declared { OnOk result (AreDeclared nodes.now) }
 {
     let mut places = Vec::with_capacity(alloc, nodes.len())?;

@@ -12,7 +12,7 @@ ghost use Rattle.xl_world.specs.Schedule.{frame_at};
 ghost use Rattle.xl_world.specs.Seen.{MayDrain, given_at, put_drained};
 ghost use Rattle.xl_world.specs.Forgeries.{was_sent};
 
-use crate::act::place_of;
+use crate::act::position_of;
 use crate::place::{NodeCore, Place};
 use std::alloc::Global;
 use xl_base::{Bytes, NodeNo, OutOfMemory};
@@ -143,7 +143,7 @@ fn drain_at(
     ensures places { places.new ≡ put_drained numbers.now (place_at i places.old) places.old }
     ensures sent { sent.new.items ≡ sent.old.items ++ given_at numbers.now (place_at i places.old) }
 {
-    if let Some(k) = place_of(places, i) {
+    if let Some(k) = position_of(places, i) {
         let place = &mut places[k];
         drain(&mut place.core, numbers, frame, rooms, sent);
     }

@@ -4,7 +4,7 @@ ghost use Rattle.xl_lists.specs.Agreement.{with_said};
 ghost use Rattle.xl_world.specs.World.{said_by};
 ghost use Rattle.xl_world.specs.Seen.{outcomes_told};
 
-use crate::act::Answer;
+use crate::act::NodeAnswer;
 use crate::{Outcome, WorldReport};
 use xl_base::NodeNo;
 use xl_lists::Said;
@@ -49,7 +49,7 @@ pub fn report_some(reports: &mut Vec<WorldReport>, report: Option<WorldReport>)
 }
 
 /// What is told of an answer.
-pub fn tell(outcomes: &mut Vec<Outcome>, node: NodeNo, answer: &Answer)
+pub fn tell(outcomes: &mut Vec<Outcome>, node: NodeNo, answer: &NodeAnswer)
     requires { vec_len outcomes.old + 2 ≤ vec_capacity outcomes.old }
     ensures items { outcomes.new.items ≡ outcomes.old.items ++ outcomes_told node answer.now }
     ensures len { vec_len outcomes.new ≤ vec_len outcomes.old + 2 }

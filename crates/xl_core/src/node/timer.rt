@@ -40,8 +40,8 @@ fn alone(position: Option<Proposal>) -> Option<Said>
 }
 
 impl<B: Branch + Drop> Node<B> {
-    /// Looks at the votes, and lets the round go on or switches to another ledger. A ledger on which the round agreed is
-    /// built and accepted, if there is room for it; `conclude` goes on from there.
+    /// Looks at the votes, and lets the round go on or switches to another ledger. A ledger on which the round agreed
+    /// is built and accepted, if there is room for it; `conclude` goes on from there.
     pub(crate) fn tick(&mut self, now: Millis) -> Tick
         requires moment { now ≤ GREATEST_MILLIS }
         ensures exact { timed_by result self.new ≡ timed (at_moment now self.old) }

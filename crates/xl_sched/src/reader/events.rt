@@ -6,7 +6,7 @@ ghost use Rattle.xl_sched.specs.declared.limits.TheConstants.{MOST_RAW_BYTES};
 
 use crate::choices::full;
 use crate::event::{Ask, What};
-use crate::fault::{Cause, Fault};
+use crate::fault::{Cause, LineFault};
 use crate::limits::MOST_RAW_BYTES;
 use crate::numbers::{number, place};
 use crate::reader::Reader;
@@ -20,7 +20,7 @@ impl Reader {
     ghost use Rattle.xl_sched.specs.Events.{issue_of, issue_event, deliver_event, all_event, drop_event, restart_event, raw_event, prefer_event};
 
     /// `issue i seq id full`, or `partial`.
-    pub(super) fn issue<'a>(&self, arguments: Tokens<'a>) -> Result<What, Fault<'a>>
+    pub(super) fn issue<'a>(&self, arguments: Tokens<'a>) -> Result<What, LineFault<'a>>
         ensures value { result ≡ issue_event self.now arguments.entry }
         ensures fit { IfOk result (λ what. (sent : ℕ) → IsFitWhat self.now sent what) }
     {
@@ -35,7 +35,7 @@ impl Reader {
         seq: &'a [u8],
         id: &'a [u8],
         kind: &'a [u8],
-    ) -> Result<Ask, Fault<'a>>
+    ) -> Result<Ask, LineFault<'a>>
         ensures value { result ≡ issue_of self.now node.now seq.now id.now kind.now }
         ensures fit { IfOk result (IsFitAsk self.now) }
     {
@@ -48,7 +48,11 @@ impl Reader {
     }
 
     /// `deliver k`.
-    pub(super) fn deliver<'a>(&self, arguments: Tokens<'a>, sent: u64) -> Result<What, Fault<'a>>
+    pub(super) fn deliver<'a>(
+        &self,
+        arguments: Tokens<'a>,
+        sent: u64,
+    ) -> Result<What, LineFault<'a>>
         ensures value { result ≡ deliver_event sent arguments.entry }
         ensures fit { IfOk result (IsFitWhat self.now sent) }
     {
@@ -59,7 +63,7 @@ impl Reader {
     }
 
     /// `all`.
-    pub(super) fn all<'a>(&self, arguments: Tokens<'a>) -> Result<What, Fault<'a>>
+    pub(super) fn all<'a>(&self, arguments: Tokens<'a>) -> Result<What, LineFault<'a>>
         ensures value { result ≡ all_event arguments.entry }
         ensures fit { IfOk result (λ what. (sent : ℕ) → IsFitWhat self.now sent what) }
     {
@@ -68,7 +72,7 @@ impl Reader {
     }
 
     /// `drop`.
-    pub(super) fn drop<'a>(&self, arguments: Tokens<'a>) -> Result<What, Fault<'a>>
+    pub(super) fn drop<'a>(&self, arguments: Tokens<'a>) -> Result<What, LineFault<'a>>
         ensures value { result ≡ drop_event arguments.entry }
         ensures fit { IfOk result (λ what. (sent : ℕ) → IsFitWhat self.now sent what) }
     {
@@ -77,7 +81,7 @@ impl Reader {
     }
 
     /// `restart i`.
-    pub(super) fn restart<'a>(&self, arguments: Tokens<'a>) -> Result<What, Fault<'a>>
+    pub(super) fn restart<'a>(&self, arguments: Tokens<'a>) -> Result<What, LineFault<'a>>
         ensures value { result ≡ restart_event self.now arguments.entry }
         ensures fit { IfOk result (λ what. (sent : ℕ) → IsFitWhat self.now sent what) }
     {
@@ -88,7 +92,7 @@ impl Reader {
     }
 
     /// `raw t digits`.
-    pub(super) fn raw<'a>(&self, arguments: Tokens<'a>) -> Result<What, Fault<'a>>
+    pub(super) fn raw<'a>(&self, arguments: Tokens<'a>) -> Result<What, LineFault<'a>>
         ensures value { GivenMemory result (raw_event self.now arguments.entry) }
         ensures fit { IfOk result (λ what. (sent : ℕ) → IsFitWhat self.now sent what) }
     {
@@ -100,7 +104,7 @@ impl Reader {
     }
 
     /// `prefer i`.
-    pub(super) fn prefer<'a>(&self, arguments: Tokens<'a>) -> Result<What, Fault<'a>>
+    pub(super) fn prefer<'a>(&self, arguments: Tokens<'a>) -> Result<What, LineFault<'a>>
         ensures value { result ≡ prefer_event self.now arguments.entry }
         ensures fit { IfOk result (λ what. (sent : ℕ) → IsFitWhat self.now sent what) }
     {
@@ -112,7 +116,7 @@ impl Reader {
 }
 
 /// 1 to 8,240 bytes, by their hexadecimal digits.
-fn raw_bytes<'a>(alloc: Global, digits: &'a [u8]) -> Result<Bytes, Fault<'a>>
+fn raw_bytes<'a>(alloc: Global, digits: &'a [u8]) -> Result<Bytes, LineFault<'a>>
     ensures value { GivenMemory result (raw_bytes_of digits.now) }
     ensures least { IfOk result (λ bytes. 1 ≤ length bytes) }
     ensures most { IfOk result (λ bytes. length bytes ≤ MOST_RAW_BYTES) }
@@ -121,7 +125,7 @@ fn raw_bytes<'a>(alloc: Global, digits: &'a [u8]) -> Result<Bytes, Fault<'a>>
         Ok(bytes) if !bytes.is_empty() && bytes.len() <= MOST_RAW_BYTES => {
             Ok(Bytes::from_vec(bytes))
         }
-        Err(FromHexError::OutOfMemory) => Err(Fault::out_of_memory()),
-        _ => Err(Fault::with_text(Cause::Id, digits)),
+        Err(FromHexError::OutOfMemory) => Err(LineFault::out_of_memory()),
+        _ => Err(LineFault::with_text(Cause::Id, digits)),
     }
 }

@@ -3,7 +3,7 @@ ghost use Rattle.std.specs.Prelude.{◌≡◌, ℕ, IfOk};
 
 use crate::choices::full;
 use crate::event::{Lied, What};
-use crate::fault::{Cause, Fault};
+use crate::fault::{Cause, LineFault};
 use crate::numbers::number;
 use crate::reader::Reader;
 use crate::tokens::Tokens;
@@ -16,7 +16,7 @@ impl Reader {
     ghost use Rattle.xl_sched.specs.Lies.{pair_of, validation_of, header_lie, lie_event};
 
     /// `lie f t` and what is said: `validation seq id signed full`, or `partial`; `header w`.
-    pub(super) fn lie<'a>(&self, arguments: Tokens<'a>) -> Result<What, Fault<'a>>
+    pub(super) fn lie<'a>(&self, arguments: Tokens<'a>) -> Result<What, LineFault<'a>>
         ensures value { GivenMemory result (lie_event self.now arguments.entry) }
         ensures fit { IfOk result (λ what. (sent : ℕ) → IsFitWhat self.now sent what) }
     {
@@ -42,11 +42,11 @@ impl Reader {
             return Err(arguments.miscounted());
         }
         let _ = self.pair(liar, honest)?;
-        Err(Fault::with_text(Cause::Choice, word))
+        Err(LineFault::with_text(Cause::Choice, word))
     }
 
     /// Who lies to whom.
-    fn pair<'a>(&self, liar: &'a [u8], honest: &'a [u8]) -> Result<(NodeNo, NodeNo), Fault<'a>>
+    fn pair<'a>(&self, liar: &'a [u8], honest: &'a [u8]) -> Result<(NodeNo, NodeNo), LineFault<'a>>
         ensures value { result ≡ pair_of self.now liar.now honest.now }
         ensures fit { IfOk result (λ pair. IsFitPair self.now pair.0 pair.1) }
     {
@@ -60,7 +60,7 @@ impl Reader {
         id: &'a [u8],
         signed: &'a [u8],
         kind: &'a [u8],
-    ) -> Result<Lied, Fault<'a>>
+    ) -> Result<Lied, LineFault<'a>>
         ensures { result ≡ validation_of self.now.names seq.now id.now signed.now kind.now }
     {
         Ok(Lied::Validation(Validation {
@@ -72,7 +72,7 @@ impl Reader {
     }
 
     /// The header of a declared ledger.
-    fn header<'a>(&self, name: &'a [u8]) -> Result<Lied, Fault<'a>>
+    fn header<'a>(&self, name: &'a [u8]) -> Result<Lied, LineFault<'a>>
         ensures { GivenMemory result (header_lie self.now.names name.now) }
     {
         let ledger = self.names.ledger(name)?;

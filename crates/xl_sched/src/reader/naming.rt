@@ -2,7 +2,7 @@
 ghost use Rattle.std.specs.Prelude.{◌≡◌, ◌≤◌, ℕ, length, IfOk};
 ghost use Rattle.xl_sched.specs.declared.limits.TheConstants.{MOST_NAMES};
 
-use crate::fault::{Cause, Fault};
+use crate::fault::{Cause, LineFault};
 use crate::limits::MOST_NAMES;
 use crate::line::Line;
 use crate::numbers::number;
@@ -16,12 +16,12 @@ impl Reader {
     ghost use Rattle.xl_sched.specs.Fits.{IsFit};
 
     /// `name w id`. Too many names are refused before all else.
-    pub(super) fn name<'a>(&self, arguments: Tokens<'a>) -> Result<Line, Fault<'a>>
+    pub(super) fn name<'a>(&self, arguments: Tokens<'a>) -> Result<Line, LineFault<'a>>
         ensures value { GivenMemory result (name_line self.now arguments.entry) }
         ensures fit { IfOk result (λ line. (sent : ℕ) → IsFit self.now sent line) }
     {
         if self.names.len() > MOST_NAMES {
-            return Err(Fault::with_number(Cause::Limit, MOST_NAMES as u64));
+            return Err(LineFault::with_number(Cause::Limit, MOST_NAMES as u64));
         }
         let (name, id) = arguments.two()?;
         let name = self.names.undeclared(name)?;
@@ -34,17 +34,17 @@ impl Reader {
     }
 
     /// `ledger w p close`. Too many names are refused before all else.
-    pub(super) fn ledger<'a>(&self, arguments: Tokens<'a>) -> Result<Line, Fault<'a>>
+    pub(super) fn ledger<'a>(&self, arguments: Tokens<'a>) -> Result<Line, LineFault<'a>>
         ensures value { GivenMemory result (ledger_line self.now arguments.entry) }
         ensures fit { IfOk result (λ line. (sent : ℕ) → IsFit self.now sent line) }
     {
         if self.names.len() > MOST_NAMES {
-            return Err(Fault::with_number(Cause::Limit, MOST_NAMES as u64));
+            return Err(LineFault::with_number(Cause::Limit, MOST_NAMES as u64));
         }
         self.named_ledger(arguments)
     }
 
-    fn named_ledger<'a>(&self, arguments: Tokens<'a>) -> Result<Line, Fault<'a>>
+    fn named_ledger<'a>(&self, arguments: Tokens<'a>) -> Result<Line, LineFault<'a>>
         requires { length self.now.names ≤ MOST_NAMES }
         ensures value { GivenMemory result (named_ledger_line self.now arguments.entry) }
         ensures fit { IfOk result (λ line. (sent : ℕ) → IsFit self.now sent line) }

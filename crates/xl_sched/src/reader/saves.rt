@@ -3,7 +3,7 @@ ghost use Rattle.std.specs.Prelude.{◌≡◌, ℕ, IfOk};
 
 use crate::choices::new;
 use crate::event::{Ask, What};
-use crate::fault::{Cause, Fault};
+use crate::fault::{Cause, LineFault};
 use crate::reader::Reader;
 use crate::tokens::Tokens;
 
@@ -12,7 +12,7 @@ impl Reader {
     ghost use Rattle.xl_sched.specs.Saves.{disturbed_of, cut_event, fail_event};
 
     /// `cut old E`, and `cut new E`.
-    pub(super) fn cut<'a>(&self, arguments: Tokens<'a>) -> Result<What, Fault<'a>>
+    pub(super) fn cut<'a>(&self, arguments: Tokens<'a>) -> Result<What, LineFault<'a>>
         ensures value { result ≡ cut_event self.now arguments.entry }
         ensures fit { IfOk result (λ what. (sent : ℕ) → IsFitWhat self.now sent what) }
     {
@@ -21,7 +21,7 @@ impl Reader {
     }
 
     /// `fail old E`, and `fail new E`.
-    pub(super) fn fail<'a>(&self, arguments: Tokens<'a>) -> Result<What, Fault<'a>>
+    pub(super) fn fail<'a>(&self, arguments: Tokens<'a>) -> Result<What, LineFault<'a>>
         ensures value { result ≡ fail_event self.now arguments.entry }
         ensures fit { IfOk result (λ what. (sent : ℕ) → IsFitWhat self.now sent what) }
     {
@@ -30,7 +30,7 @@ impl Reader {
     }
 
     /// `old E` and `new E`, E being what is asked.
-    fn disturbed<'a>(&self, arguments: Tokens<'a>) -> Result<(bool, Ask), Fault<'a>>
+    fn disturbed<'a>(&self, arguments: Tokens<'a>) -> Result<(bool, Ask), LineFault<'a>>
         ensures value { result ≡ disturbed_of self.now arguments.entry }
         ensures fit { IfOk result (λ save. IsFitAsk self.now save.1) }
     {
@@ -46,6 +46,6 @@ impl Reader {
             return Err(arguments.miscounted());
         }
         let _ = new(held)?;
-        Err(Fault::with_text(Cause::Choice, word))
+        Err(LineFault::with_text(Cause::Choice, word))
     }
 }

@@ -2,7 +2,7 @@
 ghost use Rattle.std.specs.Prelude.{◌≡◌, ℕ, IfOk, option_copied};
 
 use crate::choices::validating;
-use crate::fault::{Cause, Fault};
+use crate::fault::{Cause, LineFault};
 use crate::limits::MOST_LEDGERS;
 use crate::line::Line;
 use crate::members::{member, members, trusted};
@@ -20,20 +20,20 @@ impl Reader {
     ghost use Rattle.xl_sched.specs.Fits.{IsFit};
 
     /// `limit n`. A second one is refused.
-    pub(super) fn limit<'a>(&self, arguments: Tokens<'a>) -> Result<Line, Fault<'a>>
+    pub(super) fn limit<'a>(&self, arguments: Tokens<'a>) -> Result<Line, LineFault<'a>>
         ensures value { result ≡ limit_line self.now arguments.entry }
         ensures fit { IfOk result (λ line. (sent : ℕ) → IsFit self.now sent line) }
     {
         let token = arguments.one()?;
         let limit = number_within(token, u64::from(LEAST_LIMIT), u64::from(MOST_LEDGERS))?;
         if self.limited {
-            return Err(Fault::with_text(Cause::Twice, token));
+            return Err(LineFault::with_text(Cause::Twice, token));
         }
         Ok(Line::Limit(limit as u32))
     }
 
     /// `node i q list`, and `node i q list observing`.
-    pub(super) fn node<'a>(&self, arguments: Tokens<'a>) -> Result<Line, Fault<'a>>
+    pub(super) fn node<'a>(&self, arguments: Tokens<'a>) -> Result<Line, LineFault<'a>>
         ensures value { GivenMemory result (node_line self.now arguments.entry) }
         ensures fit { IfOk result (λ line. (sent : ℕ) → IsFit self.now sent line) }
     {
@@ -50,7 +50,7 @@ impl Reader {
         quorum: &'a [u8],
         list: &'a [u8],
         mode: Option<&'a [u8]>,
-    ) -> Result<Line, Fault<'a>>
+    ) -> Result<Line, LineFault<'a>>
         ensures value { GivenMemory result
             (node_of self.now me.now quorum.now list.now (mode_of (option_copied mode.entry))) }
         ensures fit { IfOk result (λ line. (sent : ℕ) → IsFit self.now sent line) }
@@ -71,7 +71,7 @@ impl Reader {
     }
 
     /// `liar i`.
-    pub(super) fn liar<'a>(&self, arguments: Tokens<'a>) -> Result<Line, Fault<'a>>
+    pub(super) fn liar<'a>(&self, arguments: Tokens<'a>) -> Result<Line, LineFault<'a>>
         ensures value { result ≡ liar_line self.now arguments.entry }
         ensures fit { IfOk result (λ line. (sent : ℕ) → IsFit self.now sent line) }
     {
@@ -80,20 +80,20 @@ impl Reader {
     }
 
     /// A number that may still be declared.
-    fn undeclared<'a>(&self, token: &'a [u8]) -> Result<NodeNo, Fault<'a>>
+    fn undeclared<'a>(&self, token: &'a [u8]) -> Result<NodeNo, LineFault<'a>>
         ensures value { result ≡ new_member_of self.now.nodes self.now.liars token.now }
         ensures new { IfOk result (IsUndeclared self.now) }
     {
         let node = member(token)?;
         if self.nodes.has(node) || self.liars.has(node) {
-            Err(Fault::with_text(Cause::Twice, token))
+            Err(LineFault::with_text(Cause::Twice, token))
         } else {
             Ok(node)
         }
     }
 
     /// `at ms`.
-    pub(super) fn at<'a>(&self, arguments: Tokens<'a>) -> Result<Line, Fault<'a>>
+    pub(super) fn at<'a>(&self, arguments: Tokens<'a>) -> Result<Line, LineFault<'a>>
         ensures value { result ≡ at_line arguments.entry }
         ensures fit { IfOk result (λ line. (sent : ℕ) → IsFit self.now sent line) }
     {

@@ -2,7 +2,7 @@
 ghost use Rattle.std.specs.Prelude.{◌≡◌, ℕ, IfOk};
 
 use crate::event::{Event, What};
-use crate::fault::{Cause, Fault};
+use crate::fault::{Cause, LineFault};
 use crate::line::Line;
 use crate::reader::Reader;
 use crate::tokens::Tokens;
@@ -19,7 +19,7 @@ impl Reader {
         token: &'a [u8],
         arguments: Tokens<'a>,
         sent: u64,
-    ) -> Result<Line, Fault<'a>>
+    ) -> Result<Line, LineFault<'a>>
         ensures value { GivenMemory result (worded_line self.now sent token.now arguments.entry) }
         ensures fit { IfOk result (IsFit self.now sent) }
     {
@@ -31,7 +31,7 @@ impl Reader {
                 at: self.moment,
                 what: self.what(word, arguments, sent)?,
             })),
-            None => Err(Fault::with_text(Cause::Word, token)),
+            None => Err(LineFault::with_text(Cause::Word, token)),
         }
     }
 
@@ -41,12 +41,12 @@ impl Reader {
         word: SettingWord,
         token: &'a [u8],
         arguments: Tokens<'a>,
-    ) -> Result<Line, Fault<'a>>
+    ) -> Result<Line, LineFault<'a>>
         ensures value { GivenMemory result (setting_line self.now word token.now arguments.entry) }
         ensures fit { IfOk result (λ line. (sent : ℕ) → IsFit self.now sent line) }
     {
         if self.started && word.is_declaration() {
-            return Err(Fault::with_text(Cause::Late, token));
+            return Err(LineFault::with_text(Cause::Late, token));
         }
         match word {
             SettingWord::Limit => self.limit(arguments),
@@ -59,7 +59,12 @@ impl Reader {
     }
 
     /// What happens at the line of a word.
-    fn what<'a>(&self, word: EventWord, arguments: Tokens<'a>, sent: u64) -> Result<What, Fault<'a>>
+    fn what<'a>(
+        &self,
+        word: EventWord,
+        arguments: Tokens<'a>,
+        sent: u64,
+    ) -> Result<What, LineFault<'a>>
         ensures value { GivenMemory result (what_of self.now sent word arguments.entry) }
         ensures fit { IfOk result (IsFitWhat self.now sent) }
     {
