@@ -8,9 +8,9 @@ use Rattle.xl_base.specs.Ids.{same_id}
 use Rattle.xl_base.specs.declared.ids.LedgerId.{LedgerId}
 use Rattle.xl_lists.specs.Lists.{is_on}
 use Rattle.xl_lists.specs.Quorums.{Enough}
-use Rattle.xl_lists.specs.declared.said.Said.{Said}
+use Rattle.xl_lists.specs.declared.said.SaidLedger.{SaidLedger}
 use Rattle.xl_lists.specs.declared.report.Report.{Report}
-use Rattle.xl_lists.specs.Agreement.{has_said, with_said, vouches, IsGenuine, IsBacked, Kept, Agree, IsLawful}
+use Rattle.xl_lists.specs.Agreement.{has_said, with_said, vouches, IsGenuine, IsBacked, KeptFacts, Agree, IsLawful}
 use Rattle.xl_lists.proofs.Counting.{quorums_share, count_weaker}
 use Rattle.std.proofs.lemmas.List.Elements.{All-append, All-weaker}
 
@@ -26,7 +26,7 @@ said_by_honest : (liar said : Bool) → liar ≡ false → (liar || said) ≡ tr
 said_by_honest liar said e h = cc
 
 -- two reports of one sequence, each with its quorum
-two_reports : (liars : List ℕ) (said : List Said) → ((m s : ℕ) (a b : LedgerId) → IsTrue (has_said said m s a) → IsTrue (has_said said m s b) → a ≡ b) →
+two_reports : (liars : List ℕ) (said : List SaidLedger) → ((m s : ℕ) (a b : LedgerId) → IsTrue (has_said said m s a) → IsTrue (has_said said m s b) → a ≡ b) →
     (r q : Report) → IsBacked liars said r → IsBacked liars said q → Enough liars r.list q.list → r.seq ≡ q.seq → r.id ≡ q.id
 two_reports liars said once r q backed_r backed_q enough same_seq =
     let found = quorums_share (vouches liars said r.seq r.id) (vouches liars said q.seq q.id) (is_on liars) r.list.members q.list.members
@@ -37,18 +37,18 @@ two_reports liars said once r q backed_r backed_q enough same_seq =
     once m q.seq r.id q.id (subst (λ (s : ℕ). has_said said m s r.id ≡ true) same_seq first) second
 
 -- Reports agree where their quorums are enough.
-pub agreement_from_kept : {liars : List ℕ} {said : List Said} {reports : List Report} {Holds : ℕ → ℕ → Type 0} {Each : (Said → Type 0) → Type 0} →
-    Kept liars said reports Holds Each → Agree liars reports
+pub agreement_from_kept : {liars : List ℕ} {said : List SaidLedger} {reports : List Report} {Holds : ℕ → ℕ → Type 0} {Each : (SaidLedger → Type 0) → Type 0} →
+    KeptFacts liars said reports Holds Each → Agree liars reports
 agreement_from_kept {liars} {said} kept i d i_in j e j_in enough same_seq =
     two_reports liars said kept.once _ _ (kept.backed i d i_in) (kept.backed j e j_in) enough same_seq
 
 -- what was said stays said
-said_stays : (said : List Said) (spoken : Option Said) (m s : ℕ) (id : LedgerId) → IsTrue (has_said said m s id) → IsTrue (has_said (with_said said spoken) m s id)
+said_stays : (said : List SaidLedger) (spoken : Option SaidLedger) (m s : ℕ) (id : LedgerId) → IsTrue (has_said said m s id) → IsTrue (has_said (with_said said spoken) m s id)
 said_stays said None m s id h = h
 said_stays said (Some x) m s id h = list_any-append (λ y. y.member == m && y.seq == s && same_id y.id id) said (x ∷ []) ∙ or_left _ _ h
 
 -- a test that passes tells all three
-is_that : (x : Said) (m s : ℕ) (id : LedgerId) → (((x.member == m && x.seq == s) && same_id x.id id) || false) ≡ true → (x.member ≡ m) × (x.seq ≡ s) × (x.id ≡ id)
+is_that : (x : SaidLedger) (m s : ℕ) (id : LedgerId) → (((x.member == m && x.seq == s) && same_id x.id id) || false) ≡ true → (x.member ≡ m) × (x.seq ≡ s) × (x.id ≡ id)
 is_that x m s id h =
     elim (or_cases _ false h) [
       | inl here ↦
@@ -59,47 +59,47 @@ is_that x m s id h =
     ]
 
 -- what was said now was said before, or is what is said in this step
-said_now : (said : List Said) (spoken : Option Said) (m s : ℕ) (id : LedgerId) → IsTrue (has_said (with_said said spoken) m s id) →
-    IsTrue (has_said said m s id) ⊎ ((x : Said) × (spoken ≡ Some x) × (x.member ≡ m) × (x.seq ≡ s) × (x.id ≡ id))
+said_now : (said : List SaidLedger) (spoken : Option SaidLedger) (m s : ℕ) (id : LedgerId) → IsTrue (has_said (with_said said spoken) m s id) →
+    IsTrue (has_said said m s id) ⊎ ((x : SaidLedger) × (spoken ≡ Some x) × (x.member ≡ m) × (x.seq ≡ s) × (x.id ≡ id))
 said_now said None m s id h = inl h
 said_now said (Some x) m s id h =
     elim (or_cases (has_said said m s id) _ (sym (list_any-append (λ y. y.member == m && y.seq == s && same_id y.id id) said (x ∷ [])) ∙ h))
     [ inl before ↦ inl before | inr here ↦ let that = is_that x m s id here in inr (x, refl, that.0, that.1, that.2) ]
 
 -- who vouched still does
-pub vouches_still : (liars : List ℕ) (said : List Said) (spoken : Option Said) (m s : ℕ) (id : LedgerId) →
+pub vouches_still : (liars : List ℕ) (said : List SaidLedger) (spoken : Option SaidLedger) (m s : ℕ) (id : LedgerId) →
     IsTrue (vouches liars said s id m) → IsTrue (vouches liars (with_said said spoken) s id m)
 vouches_still liars said spoken m s id h =
     elim (or_cases (is_on liars m) (has_said said m s id) h)
     [ inl liar ↦ or_left _ _ liar | inr said' ↦ or_right _ _ (said_stays said spoken m s id said') ]
 
 -- so a quorum is still a quorum
-pub backed_still : (liars : List ℕ) (said : List Said) (spoken : Option Said) (r : Report) → IsBacked liars said r → IsBacked liars (with_said said spoken) r
+pub backed_still : (liars : List ℕ) (said : List SaidLedger) (spoken : Option SaidLedger) (r : Report) → IsBacked liars said r → IsBacked liars (with_said said spoken) r
 backed_still liars said spoken r backed = record {
   once = backed.once;
   quorum = omega (arith, backed.quorum, count_weaker (vouches liars said r.seq r.id) (vouches liars (with_said said spoken) r.seq r.id) (λ m. vouches_still liars said spoken m r.seq r.id) r.list.members);
 }
 
 -- what is said in a step is said then
-pub now_said : (said : List Said) (x : Said) → IsTrue (has_said (with_said said (Some x)) x.member x.seq x.id)
+pub now_said : (said : List SaidLedger) (x : SaidLedger) → IsTrue (has_said (with_said said (Some x)) x.member x.seq x.id)
 now_said said x =
     list_any-append (λ y. y.member == x.member && y.seq == x.seq && same_id y.id x.id) said (x ∷ [])
     ∙ or_right _ _ (or_left _ false (and_from _ _ (and_from _ _ (eq-eqb x.member x.member refl) (eq-eqb x.seq x.seq refl)) (same_id_itself x.id)))
 
-some_once : (x y : Said) → Some x ≡ Some y → x ≡ y
+some_once : (x y : SaidLedger) → Some x ≡ Some y → x ≡ y
 some_once x y e = cc
 
 -- what a step says is above all that its member said before
-above_all : {liars : List ℕ} {said : List Said} {reports : List Report} {spoken : Option Said} {arisen : List Report} {Holds Holds' : ℕ → ℕ → Type 0} {Each : (Said → Type 0) → Type 0} →
-    Kept liars said reports Holds Each → IsLawful liars said spoken arisen Holds Holds' → (x : Said) → spoken ≡ Some x → (id : LedgerId) → ¬ IsTrue (has_said said x.member x.seq id)
+above_all : {liars : List ℕ} {said : List SaidLedger} {reports : List Report} {spoken : Option SaidLedger} {arisen : List Report} {Holds Holds' : ℕ → ℕ → Type 0} {Each : (SaidLedger → Type 0) → Type 0} →
+    KeptFacts liars said reports Holds Each → IsLawful liars said spoken arisen Holds Holds' → (x : SaidLedger) → spoken ≡ Some x → (id : LedgerId) → ¬ IsTrue (has_said said x.member x.seq id)
 above_all {Holds = Holds} kept lawful x now id before =
     let above : (k : ℕ) × (k < x.seq) × Holds x.member k = subst (λ o. IfSome o (λ y. (k : ℕ) × (k < y.seq) × Holds y.member k)) now lawful.above in
     omega (arith, kept.saved x.member x.seq above.0 id before above.2)
 
 -- A lawful step keeps what is kept, if what stands anywhere after it is genuine.
-pub kept_by_step : {liars : List ℕ} {said : List Said} {reports : List Report} {spoken : Option Said} {arisen : List Report} {Holds Holds' : ℕ → ℕ → Type 0} {Each Each' : (Said → Type 0) → Type 0} →
-    Kept liars said reports Holds Each → IsLawful liars said spoken arisen Holds Holds' → Each' (IsGenuine liars (with_said said spoken)) →
-    Kept liars (with_said said spoken) (reports ++ arisen) Holds' Each'
+pub kept_by_step : {liars : List ℕ} {said : List SaidLedger} {reports : List Report} {spoken : Option SaidLedger} {arisen : List Report} {Holds Holds' : ℕ → ℕ → Type 0} {Each Each' : (SaidLedger → Type 0) → Type 0} →
+    KeptFacts liars said reports Holds Each → IsLawful liars said spoken arisen Holds Holds' → Each' (IsGenuine liars (with_said said spoken)) →
+    KeptFacts liars (with_said said spoken) (reports ++ arisen) Holds' Each'
 kept_by_step {liars} {said} {reports} {spoken} {arisen} {Holds' = Holds'} kept lawful genuine = record {
   saved = λ m s n id h holds.
       let before = lawful.rises m n holds in
@@ -117,7 +117,7 @@ kept_by_step {liars} {said} {reports} {spoken} {arisen} {Holds' = Holds'} kept l
         ]
         | inr (x, now, same_m, same_s, same_a) ↦ elim (said_now said spoken m s b second) [
           | inl old_b ↦ absurd (above_all kept lawful x now b (rw (same_m, same_s) old_b))
-          | inr (y, also, _, _, same_b) ↦ sym same_a ∙ ap (λ (z : Said). z.id) (some_once x y (sym now ∙ also)) ∙ same_b
+          | inr (y, also, _, _, same_b) ↦ sym same_a ∙ ap (λ (z : SaidLedger). z.id) (some_once x y (sym now ∙ also)) ∙ same_b
         ]
       ];
   genuine = genuine;

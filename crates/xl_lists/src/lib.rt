@@ -8,7 +8,7 @@
 //! network keeps at each step lets no two reports of one sequence name different ledgers.
 #![tactic(auto)]
 
-mod laws;
+mod law;
 mod list;
 mod marks;
 mod quorum;
@@ -16,9 +16,9 @@ mod refusal;
 mod report;
 mod said;
 
-pub use laws::agreement_from_kept;
+pub use law::agreement_from_kept;
 pub use list::List;
 pub use quorum::{bound, default_quorum, enough, overlap, slack};
 pub use refusal::ListRefusal;
 pub use report::Report;
-pub use said::Said;
+pub use said::SaidLedger;

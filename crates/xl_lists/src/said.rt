@@ -2,7 +2,7 @@ use xl_base::{LedgerId, NodeNo, Seq};
 
 /// A member said that this ledger is the one of this sequence.
 #[derive(Clone, Copy, Debug, PartialEq, Eq)]
-pub struct Said {
+pub struct SaidLedger {
     pub member: NodeNo,
     pub seq: Seq,
     pub id: LedgerId,

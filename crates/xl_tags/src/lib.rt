@@ -7,7 +7,7 @@
 
 mod comparing;
 mod keys;
-mod laws;
+mod law;
 mod macs;
 mod opening;
 mod pair_keys;
@@ -16,7 +16,7 @@ mod refusal;
 mod sealing;
 
 pub use keys::Keys;
-pub use laws::sealed_opens;
+pub use law::sealed_opens;
 pub use macs::hmac;
 pub use opening::{is_sealed, open, open_raw};
 pub use pair_keys::pair_key;

@@ -3,7 +3,7 @@ use Rattle.std.proofs.Common.{◌≡◌, ℕ, zero, suc, ◌≤◌, List, [], �
 use Rattle.std.specs.Prelude.{All, IfSome, nat_lt, replicate}
 use Rattle.std.proofs.lemmas.Bool.{cond_both}
 use Rattle.std.proofs.lemmas.List.Elements.{All-append, All-cons, All-drop, All-head, All-map, All-nil, All-set, All-tail, All-weaker}
-use Rattle.xl_lists.specs.declared.said.Said.{Said}
+use Rattle.xl_lists.specs.declared.said.SaidLedger.{SaidLedger}
 use Rattle.xl_queues.specs.Broadcasts.{queue_of}
 use Rattle.xl_queues.specs.Queues.{Backlog, no_items, with_item}
 use Rattle.xl_wire.specs.declared.validation.Validation.{Validation}
@@ -98,7 +98,7 @@ pub record IsPlain (r : Reply) : Type 0 where
   pub sent : (from : ℕ) → sent_in from r.answer ≡ []
 
 -- what waits after an event says no more than what it issued, and nothing is given
-pub record IsFair (P : Said → Type 0) (me : ℕ) (r : Reply) : Type 0 where
+pub record IsFair (P : SaidLedger → Type 0) (me : ℕ) (r : Reply) : Type 0 where
   pub items : IfSome r.issued (λ v. P (said_by me v)) → All (ItemSays P me) r.items
   pub sent : (from : ℕ) → sent_in from r.answer ≡ []
 
@@ -136,7 +136,7 @@ frame_plain n now bytes save =
     let m : Node = at_moment now n in
     hearing_either IsPlain m bytes (λ _. record { items = refl; sent = λ _. refl }) (λ said _. taking_plain m said.from said.what)
 
-plain_fair : (P : Said → Type 0) (me : ℕ) (r : Reply) → IsPlain r → IsFair P me r
+plain_fair : (P : SaidLedger → Type 0) (me : ℕ) (r : Reply) → IsPlain r → IsFair P me r
 plain_fair P me r plain = record { items = λ fair. subst (All (ItemSays P me)) (sym plain.items) (of r.issued fair); sent = plain.sent }
   where
     of : (o : Option Validation) → IfSome o (λ v. P (said_by me v)) → All (ItemSays P me) (items_of o)
@@ -144,14 +144,14 @@ plain_fair P me r plain = record { items = λ fair. subst (All (ItemSays P me)) 
     of (Some v) fair = All-cons (ItemSays P me) (Vote v) [] fair (All-nil (ItemSays P me))
 
 -- a position says no validation
-position_fair : (P : Said → Type 0) (me : ℕ) (said : Option RoundSaid) → All (ItemSays P me) (said_items said)
+position_fair : (P : SaidLedger → Type 0) (me : ℕ) (said : Option RoundSaid) → All (ItemSays P me) (said_items said)
 position_fair P me None = All-nil (ItemSays P me)
 position_fair P me (Some said) =
     let position : All (ItemSays P me) (Proposal said.proposal ∷ []) = All-cons (ItemSays P me) (Proposal said.proposal) [] tt (All-nil (ItemSays P me)) in
     cond_both said.with_set (TxSet said.proposal.set ∷ Proposal said.proposal ∷ []) (Proposal said.proposal ∷ []) (All (ItemSays P me))
     (λ _. All-cons (ItemSays P me) (TxSet said.proposal.set) (Proposal said.proposal ∷ []) tt position) (λ _. position)
 
-timer_fair : (P : Said → Type 0) (me : ℕ) (n : Node) (save : Save) → IsFair P me (completed (timed n) save)
+timer_fair : (P : SaidLedger → Type 0) (me : ℕ) (n : Node) (save : Save) → IsFair P me (completed (timed n) save)
 timer_fair P me n save =
     timing_by (λ t. IsFair P me (completed t save)) n (λ r beat said. record { items = λ _. position_fair P me said; sent = λ _. refl })
     (λ ledgers r said h place moved_on _.
@@ -162,7 +162,7 @@ timer_fair P me n save =
       sent = λ _. refl;
     })
 
-happens_fair : (P : Said → Type 0) (me : ℕ) (n : Node) (e : Event) (save : Save) → IsFair P me (happens n e save)
+happens_fair : (P : SaidLedger → Type 0) (me : ℕ) (n : Node) (e : Event) (save : Save) → IsFair P me (happens n e save)
 happens_fair P me n (nodes.Issue now seq id full) save = plain_fair P me (happens n (nodes.Issue now seq id full) save) (issue_plain n now seq id full save)
 happens_fair P me n (nodes.Frame now bytes) save = plain_fair P me (happens n (nodes.Frame now bytes) save) (frame_plain n now bytes save)
 happens_fair P me n (nodes.Timer now) save = timer_fair P me (at_moment now n) save
@@ -171,15 +171,15 @@ happens_fair P me n (nodes.Submit now tx) save =
     (record { items = λ _. All-cons (ItemSays P me) (Tx tx) [] tt (All-nil (ItemSays P me)); sent = λ _. refl })
 
 -- P holds of what waits
-abbrev AllSay : (Said → Type 0) → ℕ → List (Backlog Item) → Type 0
+abbrev AllSay : (SaidLedger → Type 0) → ℕ → List (Backlog Item) → Type 0
 AllSay P me waiting = All (λ q. All (ItemSays P me) q.items) waiting
 
-queue_says : (P : Said → Type 0) (me : ℕ) (item : Item) (q : Backlog Item) → ItemSays P me item → All (ItemSays P me) q.items → All (ItemSays P me) (with_item 64 q item).items
+queue_says : (P : SaidLedger → Type 0) (me : ℕ) (item : Item) (q : Backlog Item) → ItemSays P me item → All (ItemSays P me) q.items → All (ItemSays P me) (with_item 64 q item).items
 queue_says P me item q fair says =
     let all : All (ItemSays P me) (q.items ++ item ∷ []) = All-append (ItemSays P me) q.items (item ∷ []) says (All-cons (ItemSays P me) item [] fair (All-nil (ItemSays P me))) in
     cond_both (nat_lt (length q.items) 64) (q.items ++ item ∷ []) (drop 1 (q.items ++ item ∷ [])) (All (ItemSays P me)) (λ _. all) (λ _. All-drop (ItemSays P me) 1 (q.items ++ item ∷ []) all)
 
-items_say : (P : Said → Type 0) (me : ℕ) (items : List Item) (waiting : List (Backlog Item)) → All (ItemSays P me) items → AllSay P me waiting → AllSay P me (with_items waiting items)
+items_say : (P : SaidLedger → Type 0) (me : ℕ) (items : List Item) (waiting : List (Backlog Item)) → All (ItemSays P me) items → AllSay P me waiting → AllSay P me (with_items waiting items)
 items_say P me [] waiting fair says = says
 items_say P me (item ∷ items) waiting fair says =
     items_say P me items (pushed_to_all 64 waiting item) (All-tail (ItemSays P me) item items fair)
@@ -187,7 +187,7 @@ items_say P me (item ∷ items) waiting fair says =
     (All-weaker (λ q. All (ItemSays P me) q.items) (λ q. All (ItemSays P me) (with_item 64 q item).items) (λ q. queue_says P me item q (All-head (ItemSays P me) item items fair)) waiting says))
 
 -- an event at the node
-node_says : (P : Said → Type 0) (core : Core) (e : Event) (save : Save) → CoreSays P core → HeardSays P core.node e → IfSome (happens core.node e save).issued (λ v. P (said_by core.node.me v)) →
+node_says : (P : SaidLedger → Type 0) (core : Core) (e : Event) (save : Save) → CoreSays P core → HeardSays P core.node e → IfSome (happens core.node e save).issued (λ v. P (said_by core.node.me v)) →
     ReplySays P (stepped core (happens core.node e save))
 node_says P core e save says heard fair =
     let r : Reply = happens core.node e save in
@@ -205,7 +205,7 @@ node_says P core e save says heard fair =
 -- DRAINING
 
 -- what waits for one number
-waiting_says : (P : Said → Type 0) (me : ℕ) (waiting : List (Backlog Item)) (number : ℕ) → AllSay P me waiting → All (ItemSays P me) (waiting_at waiting number).items
+waiting_says : (P : SaidLedger → Type 0) (me : ℕ) (waiting : List (Backlog Item)) (number : ℕ) → AllSay P me waiting → All (ItemSays P me) (waiting_at waiting number).items
 waiting_says P me waiting zero says = All-nil (ItemSays P me)
 waiting_says P me waiting (suc place) says = at_place waiting place says
   where
@@ -214,25 +214,25 @@ waiting_says P me waiting (suc place) says = at_place waiting place says
     at_place (q ∷ qs) zero each = All-head (λ x. All (ItemSays P me) x.items) q qs each
     at_place (q ∷ qs) (suc k) each = at_place qs k (All-tail (λ x. All (ItemSays P me) x.items) q qs each)
 
-taken_says : (P : Said → Type 0) (me : ℕ) (waiting : List (Backlog Item)) (number : ℕ) (taken : List (Option (List ℕ))) → AllSay P me waiting → AllSay P me (at_number waiting number (after_taking taken))
+taken_says : (P : SaidLedger → Type 0) (me : ℕ) (waiting : List (Backlog Item)) (number : ℕ) (taken : List (Option (List ℕ))) → AllSay P me waiting → AllSay P me (at_number waiting number (after_taking taken))
 taken_says P me waiting zero taken says = says
 taken_says P me waiting (suc place) taken says =
     All-set (λ q. All (ItemSays P me) q.items) waiting place (after_taking taken (queue_of waiting place))
     (All-drop (ItemSays P me) (length taken) (queue_of waiting place).items (waiting_says P me waiting (suc place) says)) says
 
 -- the frames of items say what they say
-abbrev BytesSay : (Said → Type 0) → List ℕ → Type 0
+abbrev BytesSay : (SaidLedger → Type 0) → List ℕ → Type 0
 BytesSay P bytes = IfSome (said_in bytes) P
 
 -- what a body says
-abbrev BodySays : (Said → Type 0) → ℕ → Body → Type 0
+abbrev BodySays : (SaidLedger → Type 0) → ℕ → Body → Type 0
 BodySays P me (bodies.Proposal p) = Unit {0}
 BodySays P me (bodies.Validation v) = P (said_by me v)
 BodySays P me (bodies.Header header) = Unit {0}
 BodySays P me (bodies.TxSet ids) = Unit {0}
 BodySays P me (bodies.Tx id) = Unit {0}
 
-item_body : (P : Said → Type 0) (n : Node) (item : Item) → ItemSays P n.me item → IfSome (body_in n item) (BodySays P n.me)
+item_body : (P : SaidLedger → Type 0) (n : Node) (item : Item) → ItemSays P n.me item → IfSome (body_in n item) (BodySays P n.me)
 item_body P n (Vote v) says = says
 item_body P n (Tx tx) says = tt
 item_body P n (TxSet id) says = cond_both (is_own n id) (Some (bodies.TxSet n.round.positions.own)) None (λ o. IfSome o (BodySays P n.me)) (λ _. tt) (λ _. tt)
@@ -244,36 +244,36 @@ item_body P n (HeaderItem id) says = by (place_of n.ledgers.headers id)
     by (Some place) = tt
 
 -- a sealed frame says what its body says
-body_says : (P : Said → Type 0) (ring : Ring) (from to : ℕ) (body : Body) → has_spelling from to body ≡ true → BodySays P from body → BytesSay P (sealed_bytes ring from to body)
+body_says : (P : SaidLedger → Type 0) (ring : Ring) (from to : ℕ) (body : Body) → has_spelling from to body ≡ true → BodySays P from body → BytesSay P (sealed_bytes ring from to body)
 body_says P ring from to (bodies.Validation v) h says = subst (λ o. IfSome o P) (sym (sealed_said ring from to v h)) says
 body_says P ring from to (bodies.Proposal p) h says = subst (λ o. IfSome o P) (sym (sealed_else ring from to (bodies.Proposal p) h refl)) tt
 body_says P ring from to (bodies.Header header) h says = subst (λ o. IfSome o P) (sym (sealed_else ring from to (bodies.Header header) h refl)) tt
 body_says P ring from to (bodies.TxSet ids) h says = subst (λ o. IfSome o P) (sym (sealed_else ring from to (bodies.TxSet ids) h refl)) tt
 body_says P ring from to (bodies.Tx id) h says = subst (λ o. IfSome o P) (sym (sealed_else ring from to (bodies.Tx id) h refl)) tt
 
-framed_says : (P : Said → Type 0) (n : Node) (to : ℕ) (o : Option Body) (rest : List (Option (List ℕ))) → IfSome o (BodySays P n.me) → All (BytesSay P) (frames_in rest) → All (BytesSay P) (frames_in (option_and_then (framed n to) o ∷ rest))
+framed_says : (P : SaidLedger → Type 0) (n : Node) (to : ℕ) (o : Option Body) (rest : List (Option (List ℕ))) → IfSome o (BodySays P n.me) → All (BytesSay P) (frames_in rest) → All (BytesSay P) (frames_in (option_and_then (framed n to) o ∷ rest))
 framed_says P n to None rest says each = each
 framed_says P n to (Some body) rest says each =
     cond_both (has_spelling n.me to body) (Some (sealed_bytes n.keys n.me to body)) None (λ o. All (BytesSay P) (frames_in (o ∷ rest)))
     (λ spelled. All-cons (BytesSay P) (sealed_bytes n.keys n.me to body) (frames_in rest) (body_says P n.keys n.me to body spelled says) each)
     (λ _. each)
 
-frames_say : (P : Said → Type 0) (n : Node) (to : ℕ) (items : List Item) → All (ItemSays P n.me) items → All (BytesSay P) (frames_in (map (frame_of n to) items))
+frames_say : (P : SaidLedger → Type 0) (n : Node) (to : ℕ) (items : List Item) → All (ItemSays P n.me) items → All (BytesSay P) (frames_in (map (frame_of n to) items))
 frames_say P n to [] says = All-nil (BytesSay P)
 frames_say P n to (item ∷ items) says =
     framed_says P n to (body_in n item) (map (frame_of n to) items) (item_body P n item (All-head (ItemSays P n.me) item items says))
     (frames_say P n to items (All-tail (ItemSays P n.me) item items says))
 
 -- the frame of a header says nothing
-header_says : (P : Said → Type 0) (n : Node) (to ledger : ℕ) → IfSome (framed n to (header_body_at n ledger)) (BytesSay P)
+header_says : (P : SaidLedger → Type 0) (n : Node) (to ledger : ℕ) → IfSome (framed n to (header_body_at n ledger)) (BytesSay P)
 header_says P n to ledger =
     cond_both (has_spelling n.me to (header_body_at n ledger)) (Some (sealed_bytes n.keys n.me to (header_body_at n ledger))) None (λ o. IfSome o (BytesSay P))
     (λ spelled. body_says P n.keys n.me to (header_body_at n ledger) spelled tt) (λ _. tt)
 
-sent_says : (P : Said → Type 0) (from to : ℕ) (frames : List (List ℕ)) → All (BytesSay P) frames → All (FrameSays P) (sent_in from (Gave to frames))
+sent_says : (P : SaidLedger → Type 0) (from to : ℕ) (frames : List (List ℕ)) → All (BytesSay P) frames → All (FrameSays P) (sent_in from (Gave to frames))
 sent_says P from to frames says = All-map (FrameSays P) (λ bytes. let f : Sent = record { from = from; to = to; bytes = bytes } in f) frames says
 
-drain_says : (P : Said → Type 0) (core : Core) (member room : ℕ) (save : Save) → CoreSays P core → ReplySays P (core_happens core (Drain member room) save)
+drain_says : (P : SaidLedger → Type 0) (core : Core) (member room : ℕ) (save : Save) → CoreSays P core → ReplySays P (core_happens core (Drain member room) save)
 drain_says P core member room save says =
     let n : Node = core.node in
     record {
@@ -286,7 +286,7 @@ drain_says P core member room save says =
 -- EVERY EVENT
 
 -- P holds of what is heard
-abbrev pub CoreHeard : (Said → Type 0) → Node → CoreEvent → Type 0
+abbrev pub CoreHeard : (SaidLedger → Type 0) → Node → CoreEvent → Type 0
 CoreHeard P n (Issue now seq id full) = Unit {0}
 CoreHeard P n (Frame now bytes) = HeardSays P n (nodes.Frame now bytes)
 CoreHeard P n (Timer now) = Unit {0}
@@ -298,7 +298,7 @@ CoreHeard P n Stop = Unit {0}
 CoreHeard P n Stopped = Unit {0}
 
 -- what holds of what stands at the core, of what came and of what is issued holds of what stands there then, and of what is given
-pub core_says : (P : Said → Type 0) (core : Core) (e : CoreEvent) (save : Save) → CoreSays P core → CoreHeard P core.node e → IfSome (core_happens core e save).issued (λ v. P (said_by core.node.me v)) →
+pub core_says : (P : SaidLedger → Type 0) (core : Core) (e : CoreEvent) (save : Save) → CoreSays P core → CoreHeard P core.node e → IfSome (core_happens core e save).issued (λ v. P (said_by core.node.me v)) →
     ReplySays P (core_happens core e save)
 core_says P core (Issue now seq id full) save says heard fair = node_says P core (nodes.Issue now seq id full) save says tt fair
 core_says P core (Frame now bytes) save says heard fair = node_says P core (nodes.Frame now bytes) save says heard fair
@@ -311,7 +311,7 @@ core_says P core Stop save says heard fair = record { core = record { rows = say
 core_says P core Stopped save says heard fair = record { core = says; sent = All-nil (FrameSays P) }
 
 -- a core that is opened has nothing
-pub opened_core_says : (P : Said → Type 0) (settings : Settings) (now kept : ℕ) → CoreSays P (with_queues (opened settings now kept))
+pub opened_core_says : (P : SaidLedger → Type 0) (settings : Settings) (now kept : ℕ) → CoreSays P (with_queues (opened settings now kept))
 opened_core_says P settings now kept = record { rows = opened_says P settings now kept; items = nothing_waits 64 }
   where
     nothing_waits : (n : ℕ) → AllSay P settings.me (replicate n no_items)

@@ -5,7 +5,7 @@ use Rattle.std.specs.Option.{is_none}
 use Rattle.std.proofs.lemmas.Bool.{and_parts, eqb-true, cond_both, ltb-true, leb-true}
 use Rattle.std.proofs.lemmas.List.Elements.{All-map, All-head, All-tail, All-cons}
 use Rattle.xl_lists.specs.Lists.{IsValid}
-use Rattle.xl_lists.specs.declared.said.Said.{Said}
+use Rattle.xl_lists.specs.declared.said.SaidLedger.{SaidLedger}
 use Rattle.xl_wire.specs.declared.validation.Validation.{Validation}
 use Rattle.xl_validations.specs.declared.row.Row.{Row}
 use Rattle.xl_validations.specs.Rows.{is_current, unexpired, row_at, refusal, with_validation, at_member, count_full, empty_row}
@@ -45,10 +45,10 @@ use Rattle.xl_world.proofs.Seats.{IsWell, IsStep, ReplySays, if_some}
 -- ROWS
 
 -- a validation that is taken stands under its sender's name
-take_says : (P : Said → Type 0) (now : ℕ) (v : Validation) (row : Row) → P (said_by row.member v) → RowSays P row → RowSays P (take now v row)
+take_says : (P : SaidLedger → Type 0) (now : ℕ) (v : Validation) (row : Row) → P (said_by row.member v) → RowSays P row → RowSays P (take now v row)
 take_says P now v row fair says = cond_both (is_none (refusal row now v)) (with_validation v row) row (RowSays P) (λ _. fair) (λ _. says)
 
-rows_say : (P : Said → Type 0) (now from : ℕ) (v : Validation) → P (said_by from v) → (rows : List Row) → All (RowSays P) rows → All (RowSays P) (at_member from (take now v) rows)
+rows_say : (P : SaidLedger → Type 0) (now from : ℕ) (v : Validation) → P (said_by from v) → (rows : List Row) → All (RowSays P) rows → All (RowSays P) (at_member from (take now v) rows)
 rows_say P now from v fair [] says = says
 rows_say P now from v fair (row ∷ rows) says =
     let first = All-head (RowSays P) row rows says in
@@ -224,19 +224,19 @@ happens_steps p (Frame now bytes) fate well =
 -- WHAT STANDS AT THE NODE
 
 -- P holds of what is heard
-abbrev pub HeardSays : (Said → Type 0) → Node → Event → Type 0
+abbrev pub HeardSays : (SaidLedger → Type 0) → Node → Event → Type 0
 HeardSays P n (Issue now seq id full) = Unit {0}
 HeardSays P n (Timer now) = Unit {0}
 HeardSays P n (Submit now tx) = Unit {0}
 HeardSays P n (Frame now bytes) = (from : ℕ) (v : Validation) → heard n.keys n.list.members bytes ≡ Ok (record { from = from; what = speech.Validation v }) → P (said_by from v)
 
-pub heard_weaker : (P Q : Said → Type 0) → ((x : Said) → P x → Q x) → (n : Node) (e : Event) → HeardSays P n e → HeardSays Q n e
+pub heard_weaker : (P Q : SaidLedger → Type 0) → ((x : SaidLedger) → P x → Q x) → (n : Node) (e : Event) → HeardSays P n e → HeardSays Q n e
 heard_weaker P Q h n (Issue now seq id full) says = tt
 heard_weaker P Q h n (Timer now) says = tt
 heard_weaker P Q h n (Submit now tx) says = tt
 heard_weaker P Q h n (Frame now bytes) says = λ from v is. h (said_by from v) (says from v is)
 
-issue_says : (P : Said → Type 0) (n : Node) (v : Validation) (b : Bool) (off : Option ℕ) (save : Save) → NodeSays P n →
+issue_says : (P : SaidLedger → Type 0) (n : Node) (v : Validation) (b : Bool) (off : Option ℕ) (save : Save) → NodeSays P n →
     IfSome (cond b (issues_unless n off save v) (refusing n (NotAfter n.kept))).issued (λ u. P (said_by n.me u)) →
     ReplySays P n.me (cond b (issues_unless n off save v) (refusing n (NotAfter n.kept)))
 issue_says P n v true None AnsweredOk says fair = record { node = rows_say P (second_of n) n.me v fair n.rows says; issued = fair }
@@ -244,14 +244,14 @@ issue_says P n v true None (AnsweredFailed count) says fair = record { node = sa
 issue_says P n v true (Some failed) save says fair = record { node = says; issued = tt }
 issue_says P n v false off save says fair = record { node = says; issued = tt }
 
-taking_says : (P : Said → Type 0) (n : Node) (from : ℕ) (what : Speech) → NodeSays P n → ((v : Validation) → what ≡ speech.Validation v → P (said_by from v)) → ReplySays P n.me (taking n from what)
+taking_says : (P : SaidLedger → Type 0) (n : Node) (from : ℕ) (what : Speech) → NodeSays P n → ((v : Validation) → what ≡ speech.Validation v → P (said_by from v)) → ReplySays P n.me (taking n from what)
 taking_says P n from (speech.Validation v) says fair = record { node = rows_say P (second_of n) from v (fair v refl) n.rows says; issued = tt }
 taking_says P n from (speech.Header h) says fair = record { node = says; issued = tt }
 taking_says P n from (speech.Proposal p) says fair = record { node = says; issued = tt }
 taking_says P n from (speech.TxSet ids) says fair = record { node = says; issued = tt }
 taking_says P n from (speech.Tx tx) says fair = record { node = says; issued = tt }
 
-hearing_says : (P : Said → Type 0) (n : Node) (bytes : List ℕ) → NodeSays P n →
+hearing_says : (P : SaidLedger → Type 0) (n : Node) (bytes : List ℕ) → NodeSays P n →
     ((from : ℕ) (v : Validation) → heard n.keys n.list.members bytes ≡ Ok (record { from = from; what = speech.Validation v }) → P (said_by from v)) → ReplySays P n.me (hearing n bytes)
 hearing_says P n bytes says fair =
     hearing_either (ReplySays P n.me) n bytes (λ _. record { node = says; issued = tt })
@@ -259,7 +259,7 @@ hearing_says P n bytes says fair =
     (λ v told. fair said.from v (is ∙ ap (λ (w : Speech). let r : Result Spoken Refusal = Ok (record { from = said.from; what = w }) in r) told)))
 
 -- rows that expire say no more
-rows_then : (P : Said → Type 0) (now : ℕ) (rows : List Row) → All (RowSays P) rows → All (RowSays P) (map (row_at now) rows)
+rows_then : (P : SaidLedger → Type 0) (now : ℕ) (rows : List Row) → All (RowSays P) rows → All (RowSays P) (map (row_at now) rows)
 rows_then P now [] says = says
 rows_then P now (row ∷ rows) says =
     All-cons (RowSays P) (row_at now row) (map (row_at now) rows) (row_then row.current (All-head (RowSays P) row rows says)) (rows_then P now rows (All-tail (RowSays P) row rows says))
@@ -268,17 +268,17 @@ rows_then P now (row ∷ rows) says =
     row_then None h = tt
     row_then (Some v) h = cond_both (is_current now v) (Some v) None (λ o. IfSome o (λ u. P (said_by row.member u))) (λ _. h) (λ _. tt)
 
-says_then : (P : Said → Type 0) (now : ℕ) (n : Node) → NodeSays P n → NodeSays P (at_moment now n)
+says_then : (P : SaidLedger → Type 0) (now : ℕ) (n : Node) → NodeSays P n → NodeSays P (at_moment now n)
 says_then P now n says = rows_then P (max n.time now / 1000) n.rows says
 
 -- what holds of what stands at the node, of what came and of what is issued holds of what stands there then
-validating_says : (P : Said → Type 0) (n : Node) (h : Header) (full : Bool) (b : Bool) (save : Save) → NodeSays P n →
+validating_says : (P : SaidLedger → Type 0) (n : Node) (h : Header) (full : Bool) (b : Bool) (save : Save) → NodeSays P n →
     IfSome (cond b (issuing n h.seq (header_id h) full save) (replying n Done [])).issued (λ u. P (said_by n.me u)) →
     ReplySays P n.me (cond b (issuing n h.seq (header_id h) full save) (replying n Done []))
 validating_says P n h full true save says fair = issue_says P n (own_validation n h.seq (header_id h) full) (nat_lt n.kept h.seq) n.failed_save save says fair
 validating_says P n h full false save says fair = record { node = says; issued = tt }
 
-timer_says : (P : Said → Type 0) (n : Node) (save : Save) → NodeSays P n → IfSome (completed (timed n) save).issued (λ v. P (said_by n.me v)) → ReplySays P n.me (completed (timed n) save)
+timer_says : (P : SaidLedger → Type 0) (n : Node) (save : Save) → NodeSays P n → IfSome (completed (timed n) save).issued (λ v. P (said_by n.me v)) → ReplySays P n.me (completed (timed n) save)
 timer_says P n save says fair =
     timing_by (λ t. IfSome (completed t save).issued (λ v. P (said_by n.me v)) → ReplySays P n.me (completed t save)) n
     (λ r beat said _. record { node = says; issued = tt })
@@ -287,7 +287,7 @@ timer_says P n save says fair =
     let v = validating_says P m h (is_proposing r.setting.mode) (validates m moved_on) save says issued in record { node = v.node; issued = v.issued })
     fair
 
-pub happens_says : (P : Said → Type 0) (n : Node) (e : Event) (save : Save) → NodeSays P n → HeardSays P n e →
+pub happens_says : (P : SaidLedger → Type 0) (n : Node) (e : Event) (save : Save) → NodeSays P n → HeardSays P n e →
     IfSome (happens n e save).issued (λ v. P (said_by n.me v)) → ReplySays P n.me (happens n e save)
 happens_says P n (Issue now seq id full) save says heard fair =
     let m : Node = at_moment now n in issue_says P m (own_validation m seq id full) (nat_lt m.kept seq) m.failed_save save (says_then P now n says) fair
@@ -298,7 +298,7 @@ happens_says P n (Frame now bytes) save says fair issued =
     hearing_says P (at_moment now n) bytes (says_then P now n says) fair
 
 -- a node that is opened has nothing
-pub opened_says : (P : Said → Type 0) (settings : Settings) (now kept : ℕ) → NodeSays P (opened settings now kept)
+pub opened_says : (P : SaidLedger → Type 0) (settings : Settings) (now kept : ℕ) → NodeSays P (opened settings now kept)
 opened_says P settings now kept = All-map (RowSays P) empty_row settings.list.members (λ _ _ _. tt)
 
 pub opened_well : (settings : Settings) (now number : ℕ) (k : Keeper) → IsValid settings.list → k.in_force ≡ number → IsWell (record { node = opened settings now number; keeper = k })

@@ -3,7 +3,7 @@ use Rattle.std.proofs.Common.{◌≡◌, ℕ, ◌<◌, ◌≤◌, Bool, true, fa
 use Rattle.std.specs.Prelude.{◌==◌, All, IfSome, map, filter, slice_index_or}
 use Rattle.std.proofs.lemmas.Bool.{cond_both}
 use Rattle.std.proofs.lemmas.List.Elements.{All-map, All-head, All-tail, All-nil}
-use Rattle.xl_lists.specs.declared.said.Said.{Said}
+use Rattle.xl_lists.specs.declared.said.SaidLedger.{SaidLedger}
 use Rattle.xl_lists.specs.declared.report.Report.{Report as Reported}
 use Rattle.xl_lists.specs.Agreement.{IsGenuine, IsBacked, Agree}
 use Rattle.xl_lists.proofs.Agreement.{agreement_from_kept, vouches_still}
@@ -49,7 +49,7 @@ heard_genuine w n stands (Reports room) fair = tt
 heard_genuine w n stands Stop fair = tt
 heard_genuine w n stands Stopped fair = tt
 
-heard_weaker : (P Q : Said → Type 0) → ((x : Said) → P x → Q x) → (n : Node) (e : CoreEvent) → CoreHeard P n e → CoreHeard Q n e
+heard_weaker : (P Q : SaidLedger → Type 0) → ((x : SaidLedger) → P x → Q x) → (n : Node) (e : CoreEvent) → CoreHeard P n e → CoreHeard Q n e
 heard_weaker P Q h n (Issue now seq id full) says = tt
 heard_weaker P Q h n (Frame now bytes) says = λ from v is. h (said_by from v) (says from v is)
 heard_weaker P Q h n (Timer now) says = tt
@@ -67,7 +67,7 @@ act_sound w i e fate sound None at same = sound
 act_sound w i e fate sound (Some p) at same =
     let its : p.core.node.me ≡ i = at_its_number i w.places p at in
     let r : CoreReply = reply_at p e fate in
-    let still = λ (x : Said). vouches_still w.liars w.said (spoken i r.issued) x.member x.seq x.id in
+    let still = λ (x : SaidLedger). vouches_still w.liars w.said (spoken i r.issued) x.member x.seq x.id in
     settled_sound w i (is_forged w p.core.node e) p r (keeper_after p e fate) at (core_steps p e fate (sound.well i p at))
     (core_says (GenuineThen w i r) p.core e (answer_of p.keeper fate)
     (core_weaker (IsGenuine w.liars w.said) (GenuineThen w i r) still p.core (sound.kept.genuine.places i p at))
@@ -224,12 +224,12 @@ run_on w v [] is run_w = subst (λ (u : World). IsRun u) (sym is) run_w
 run_on w v (s ∷ ss) is run_w = run_on (step w s) v ss is (run_more w (step w s) s refl run_w)
 
 -- a world that has just been opened is one
-pub opened_run : (limit : ℕ) (liars declared : List ℕ) (plan : List PlanNode) (numbers : List ℕ) (places : List Place) (sent : List Sent) (said : List Said) (reports : List Reported) →
+pub opened_run : (limit : ℕ) (liars declared : List ℕ) (plan : List PlanNode) (numbers : List ℕ) (places : List Place) (sent : List Sent) (said : List SaidLedger) (reports : List Reported) →
     liars ≡ declared → numbers ≡ filter (is_declared declared plan) all_numbers → places ≡ map (start_of limit) plan → sent ≡ [] → said ≡ [] → reports ≡ [] → AreDeclared plan →
     IsRun (record { liars = liars; numbers = numbers; places = places; sent = sent; mark = 0; said = said; reports = reports; forged = 0 })
 opened_run limit liars declared plan numbers places sent said reports same is_numbers is_places is_sent is_said is_reports are =
     let its : numbers ≡ filter (is_declared liars plan) all_numbers = is_numbers ∙ ap (λ (ls : List ℕ). filter (is_declared ls plan) all_numbers) (sym same) in
-    let world = λ (n : List ℕ) (p : List Place) (f : List Sent) (s : List Said) (r : List Reported). let w : World = record { liars = liars; numbers = n; places = p; sent = f; mark = 0; said = s; reports = r; forged = 0 } in w in (
+    let world = λ (n : List ℕ) (p : List Place) (f : List Sent) (s : List SaidLedger) (r : List Reported). let w : World = record { liars = liars; numbers = n; places = p; sent = f; mark = 0; said = s; reports = r; forged = 0 } in w in (
       limit,
       plan,
       [],

@@ -5,7 +5,7 @@ use Rattle.std.proofs.lemmas.Bool.{cond_both, cond-true, cond-false, eq-eqb}
 use Rattle.std.specs.List.{flat_map}
 use Rattle.std.proofs.lemmas.List.{get_or-map, length-map, map-append}
 use Rattle.std.proofs.lemmas.List.Elements.{All-cons, All-head, All-nil, All-tail}
-use Rattle.xl_lists.specs.declared.said.Said.{Said}
+use Rattle.xl_lists.specs.declared.said.SaidLedger.{SaidLedger}
 use Rattle.xl_lists.specs.declared.report.Report.{Report as Reported}
 use Rattle.xl_lists.specs.Agreement.{with_said}
 use Rattle.xl_queues.specs.Queues.{Backlog, no_items, with_item}
@@ -246,7 +246,7 @@ none_from P me (m ∷ ms) each =
 -- AN EVENT
 
 -- an idle world with a place changed
-idle_then : (w : World) (q : Place) (places : List Place) (sent : List Sent) (said : List Said) (reports : List Reported) (mark forged : ℕ) → places ≡ put q w.places → IsEmptied w.numbers q.core → IsIdle w →
+idle_then : (w : World) (q : Place) (places : List Place) (sent : List Sent) (said : List SaidLedger) (reports : List Reported) (mark forged : ℕ) → places ≡ put q w.places → IsEmptied w.numbers q.core → IsIdle w →
     IsIdle (record { liars = w.liars; numbers = w.numbers; places = places; sent = sent; mark = mark; said = said; reports = reports; forged = forged })
 idle_then w q places sent said reports mark forged is emptied idle = record {
   numbers = idle.numbers;
@@ -440,7 +440,7 @@ start_idle limit liars plan = record {
 }
 
 -- a world of these numbers and places is idle
-pub opened_idle : (limit : ℕ) (liars declared : List ℕ) (plan : List PlanNode) (numbers : List ℕ) (places : List Place) {sent : List Sent} {said : List Said} {reports : List Reported} {mark forged : ℕ} →
+pub opened_idle : (limit : ℕ) (liars declared : List ℕ) (plan : List PlanNode) (numbers : List ℕ) (places : List Place) {sent : List Sent} {said : List SaidLedger} {reports : List Reported} {mark forged : ℕ} →
     numbers ≡ filter (is_declared declared plan) all_numbers → places ≡ map (start_of limit) plan →
     IsIdle (record { liars = liars; numbers = numbers; places = places; sent = sent; mark = mark; said = said; reports = reports; forged = forged })
 opened_idle limit liars declared plan numbers places is_numbers is_places = record {

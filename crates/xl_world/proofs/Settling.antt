@@ -3,7 +3,7 @@ use Rattle.std.proofs.Common.{◌≡◌, ℕ, ◌<◌, ◌≤◌, Bool, List, []
 use Rattle.std.specs.Prelude.{◌==◌, ◌⊎◌, All}
 use Rattle.std.proofs.lemmas.Bool.{eqb-true, eqb-false, cond_both, cond-true, cond-false}
 use Rattle.std.proofs.lemmas.List.Elements.{All-append, All-weaker}
-use Rattle.xl_lists.specs.declared.said.Said.{Said}
+use Rattle.xl_lists.specs.declared.said.SaidLedger.{SaidLedger}
 use Rattle.xl_lists.specs.Agreement.{with_said, IsGenuine}
 use Rattle.xl_lists.proofs.Agreement.{kept_by_step, vouches_still}
 use Rattle.xl_queues.specs.Queues.{Backlog}
@@ -32,7 +32,7 @@ abbrev pub node_reply : CoreReply → Reply
 node_reply r = record { node = r.core.node; answer = r.answer; items = []; issued = r.issued; report = r.report }
 
 -- P holds of what stands at the core then, and of what is given
-pub record ReplySays (P : Said → Type 0) (r : CoreReply) : Type 0 where
+pub record ReplySays (P : SaidLedger → Type 0) (r : CoreReply) : Type 0 where
   pub core : CoreSays P r.core
   pub sent : All (FrameSays P) (sent_in r.core.node.me r.answer)
 
@@ -61,14 +61,14 @@ put_cases j x (y ∷ ys) p h =
     h
 
 -- what holds of everything at a core holds with a weaker fact
-pub item_weaker : (P Q : Said → Type 0) → ((x : Said) → P x → Q x) → (me : ℕ) (item : Item) → ItemSays P me item → ItemSays Q me item
+pub item_weaker : (P Q : SaidLedger → Type 0) → ((x : SaidLedger) → P x → Q x) → (me : ℕ) (item : Item) → ItemSays P me item → ItemSays Q me item
 item_weaker P Q h me (Vote v) says = h (said_by me v) says
 item_weaker P Q h me (Tx tx) says = tt
 item_weaker P Q h me (TxSet id) says = tt
 item_weaker P Q h me (Proposal p) says = tt
 item_weaker P Q h me (Header id) says = tt
 
-pub core_weaker : (P Q : Said → Type 0) → ((x : Said) → P x → Q x) → (core : Core) → CoreSays P core → CoreSays Q core
+pub core_weaker : (P Q : SaidLedger → Type 0) → ((x : SaidLedger) → P x → Q x) → (core : Core) → CoreSays P core → CoreSays Q core
 core_weaker P Q h core says = record {
   rows = All-weaker (RowSays P) (RowSays Q) (λ (row : Row). if_some _ _ (λ v. h (said_by row.member v)) row.current) core.node.rows says.rows;
   items = All-weaker (λ (q : Backlog Item). All (ItemSays P core.node.me) q.items) (λ q. All (ItemSays Q core.node.me) q.items)
@@ -81,7 +81,7 @@ pub record IsSound (w : World) : Type 0 where
   pub well : (i : ℕ) (p : Place) → place_at i w.places ≡ Some p → IsWell (seat p.core p.keeper)
 
 -- what each thing that stands at the core then says is genuine, in the world then
-abbrev pub GenuineThen : World → ℕ → CoreReply → Said → Type 0
+abbrev pub GenuineThen : World → ℕ → CoreReply → SaidLedger → Type 0
 GenuineThen w i r = IsGenuine w.liars (with_said w.said (spoken i r.issued))
 
 pub settled_sound : (w : World) (i : ℕ) (forged : Bool) (p : Place) (r : CoreReply) (k : Keeper) → place_at i w.places ≡ Some p → IsStep (seat p.core p.keeper) (node_reply r) k →
@@ -89,7 +89,7 @@ pub settled_sound : (w : World) (i : ℕ) (forged : Bool) (p : Place) (r : CoreR
 settled_sound w i forged p r k at steps says sound =
     let q : Place = record { core = r.core; keeper = k } in
     let its : i ≡ r.core.node.me = sym (steps.me ∙ at_its_number i w.places p at) in
-    let before = λ (x : Said). vouches_still w.liars w.said (spoken i r.issued) x.member x.seq x.id in
+    let before = λ (x : SaidLedger). vouches_still w.liars w.said (spoken i r.issued) x.member x.seq x.id in
     record {
       kept = kept_by_step sound.kept
           (record {

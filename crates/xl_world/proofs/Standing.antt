@@ -3,8 +3,8 @@ use Rattle.std.specs.Prelude.{◌≡◌, ℕ, List, All, IfSome}
 use Rattle.std.specs.Prelude.{Some, None, Result, Ok, Err}
 use Rattle.std.specs.declared.option.Option.{Option}
 use Rattle.xl_io.specs.Keepers.{MayHold}
-use Rattle.xl_lists.specs.declared.said.Said.{Said}
-use Rattle.xl_lists.specs.Agreement.{Kept}
+use Rattle.xl_lists.specs.declared.said.SaidLedger.{SaidLedger}
+use Rattle.xl_lists.specs.Agreement.{KeptFacts}
 use Rattle.xl_wire.specs.declared.body.Body.{Body}
 use Rattle.xl_wire.specs.declared.body.Body.TheVariants as bodies
 use Rattle.xl_wire.specs.declared.refusal.WireRefusal.{WireRefusal}
@@ -26,11 +26,11 @@ abbrev pub Holds : World → ℕ → ℕ → Type 0
 Holds w m k = (p : Place) × (place_at m w.places ≡ Some p) × MayHold (held_by p.keeper) k
 
 -- P holds of what the row says
-abbrev pub RowSays : (Said → Type 0) → Row → Type 0
+abbrev pub RowSays : (SaidLedger → Type 0) → Row → Type 0
 RowSays P row = IfSome row.current (λ v. P (said_by row.member v))
 
 -- what a body says under its sender's number, if it says anything
-abbrev pub said_in_body : ℕ → Result Body WireRefusal → Option Said
+abbrev pub said_in_body : ℕ → Result Body WireRefusal → Option SaidLedger
 said_in_body from (Ok (bodies.Validation v)) = Some (said_by from v)
 said_in_body from (Ok (bodies.Proposal proposal)) = None
 said_in_body from (Ok (bodies.Header header)) = None
@@ -38,25 +38,25 @@ said_in_body from (Ok (bodies.TxSet ids)) = None
 said_in_body from (Ok (bodies.Tx id)) = None
 said_in_body from (Err why) = None
 
-abbrev pub said_in_split : Split → Option Said
+abbrev pub said_in_split : Split → Option SaidLedger
 said_in_split (Whole f) = said_in_body f.from (body_of f.kind f.body)
 said_in_split (Need lack) = None
 said_in_split (Refused why) = None
 
 -- what the bytes of a frame say
-abbrev pub said_in : List ℕ → Option Said
+abbrev pub said_in : List ℕ → Option SaidLedger
 said_in bytes = said_in_split (split_of bytes)
 
 -- P holds of what a frame says
-abbrev pub FrameSays : (Said → Type 0) → Sent → Type 0
+abbrev pub FrameSays : (SaidLedger → Type 0) → Sent → Type 0
 FrameSays P f = IfSome (said_in f.bytes) P
 
 -- P holds of each validation that stands at the node
-abbrev pub NodeSays : (Said → Type 0) → Node → Type 0
+abbrev pub NodeSays : (SaidLedger → Type 0) → Node → Type 0
 NodeSays P n = All (RowSays P) n.rows
 
 -- P holds of what waits at a number to be sent
-abbrev pub ItemSays : (Said → Type 0) → ℕ → Item → Type 0
+abbrev pub ItemSays : (SaidLedger → Type 0) → ℕ → Item → Type 0
 ItemSays P me (Vote v) = P (said_by me v)
 ItemSays P me (Tx tx) = Unit {0}
 ItemSays P me (TxSet id) = Unit {0}
@@ -64,15 +64,15 @@ ItemSays P me (Proposal p) = Unit {0}
 ItemSays P me (Header id) = Unit {0}
 
 -- P holds of each validation that stands at the core, in a row or waiting
-pub record CoreSays (P : Said → Type 0) (core : Core) : Type 0 where
+pub record CoreSays (P : SaidLedger → Type 0) (core : Core) : Type 0 where
   pub rows : All (RowSays P) core.node.rows
   pub items : All (λ q. All (ItemSays P core.node.me) q.items) core.waiting
 
 -- P holds of each validation that stands at a core or was sent
-pub record Stands (w : World) (P : Said → Type 0) : Type 0 where
+pub record Stands (w : World) (P : SaidLedger → Type 0) : Type 0 where
   pub places : (i : ℕ) (p : Place) → place_at i w.places ≡ Some p → CoreSays P p.core
   pub sent : All (FrameSays P) w.sent
 
 -- what is kept of a world
 abbrev pub IsKept : World → Type 0
-IsKept w = Kept w.liars w.said w.reports (Holds w) (Stands w)
+IsKept w = KeptFacts w.liars w.said w.reports (Holds w) (Stands w)

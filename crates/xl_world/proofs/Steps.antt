@@ -6,7 +6,7 @@ use Rattle.std.proofs.lemmas.Bool.{cond_both}
 use Rattle.std.proofs.lemmas.List.Folds.{list_any_at}
 use Rattle.std.proofs.lemmas.Option.{slice_get_within, get_or_from_slice_get}
 use Rattle.std.proofs.lemmas.List.{append-nil, append_assoc, map-append}
-use Rattle.xl_lists.specs.declared.said.Said.{Said}
+use Rattle.xl_lists.specs.declared.said.SaidLedger.{SaidLedger}
 use Rattle.xl_lists.specs.declared.report.Report.{Report}
 use Rattle.xl_lists.specs.Agreement.{with_said}
 use Rattle.xl_wire.specs.declared.validation.Validation.{Validation}
@@ -56,7 +56,7 @@ use Rattle.xl_world.specs.Schedule.{frame_at, told_of_reply, reply_to, told_of_s
 use Rattle.xl_world.specs.Seen.{MayDrain, place_after, place_drained, put_acted, put_drained, given_at, acted_at, Answers, AnswersAt, outcomes_told, forged_at, reply_in, reported_in}
 
 -- what a step changes of a world
-abbrev pub with_lists : World → List Place → List Sent → List Said → List Report → ℕ → World
+abbrev pub with_lists : World → List Place → List Sent → List SaidLedger → List Report → ℕ → World
 with_lists w places sent said reports forged =
     record { liars = w.liars; numbers = w.numbers; places = places; sent = sent; mark = w.mark; said = said; reports = reports; forged = forged }
 
@@ -64,9 +64,9 @@ with_lists w places sent said reports forged =
 abbrev pub with_mark : World → ℕ → World
 with_mark w mark = record { liars = w.liars; numbers = w.numbers; places = w.places; sent = w.sent; mark = mark; said = w.said; reports = w.reports; forged = w.forged }
 
-pub same_lists : (w : World) {p p' : List Place} {f f' : List Sent} {s s' : List Said} {r r' : List Report} {n n' : ℕ} → p ≡ p' → f ≡ f' → s ≡ s' → r ≡ r' → n ≡ n' → with_lists w p f s r n ≡ with_lists w p' f' s' r' n'
+pub same_lists : (w : World) {p p' : List Place} {f f' : List Sent} {s s' : List SaidLedger} {r r' : List Report} {n n' : ℕ} → p ≡ p' → f ≡ f' → s ≡ s' → r ≡ r' → n ≡ n' → with_lists w p f s r n ≡ with_lists w p' f' s' r' n'
 same_lists w {p} {p'} {f} {f'} {s} {s'} {r} {r'} {n} {n'} a b c d e =
-    ap (λ (x : List Place). with_lists w x f s r n) a ∙ (ap (λ (x : List Sent). with_lists w p' x s r n) b ∙ (ap (λ (x : List Said). with_lists w p' f' x r n) c
+    ap (λ (x : List Place). with_lists w x f s r n) a ∙ (ap (λ (x : List Sent). with_lists w p' x s r n) b ∙ (ap (λ (x : List SaidLedger). with_lists w p' f' x r n) c
     ∙ (ap (λ (x : List Report). with_lists w p' f' s' x n) d ∙ ap (λ (x : ℕ). with_lists w p' f' s' r' x) e)))
 
 nothing_at : (e : CoreEvent) (fate : Fate) (o : Option Place) → Answers e fate o None → o ≡ None
@@ -123,7 +123,7 @@ issued_at w i e fate a (Some p) at is issued n counted =
     counted
 
 -- the lists of the code, with what is issued, are those of the steps
-pub issued_step : (w : World) (i now seq : ℕ) (id : LedgerId) (full : Bool) (fate : Fate) (a : NodeAnswer) (places : List Place) (sent : List Sent) (said : List Said) (reports : List Report) → IsIdle w →
+pub issued_step : (w : World) (i now seq : ℕ) (id : LedgerId) (full : Bool) (fate : Fate) (a : NodeAnswer) (places : List Place) (sent : List Sent) (said : List SaidLedger) (reports : List Report) → IsIdle w →
     AnswersAt i (Issue now seq id full) fate w.places (Some a) → places ≡ places_issued w.numbers i (Issue now seq id full) fate a w.places →
     sent ≡ w.sent ++ sent_issued w.numbers i (Issue now seq id full) fate a w.places →
     said ≡ with_said w.said (option_map (said_by i) a.issued) → reports ≡ w.reports ++ option_to_list a.report →

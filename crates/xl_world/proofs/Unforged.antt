@@ -15,7 +15,7 @@ use Rattle.xl_core.specs.Hearing.{heard}
 use Rattle.xl_core.proofs.Heard.{IsHeard, sender}
 use Rattle.xl_world.proofs.Speaking.{heard_said}
 use Rattle.xl_world.specs.declared.sent.Sent.{Sent}
-use Rattle.xl_lists.specs.declared.said.Said.{Said}
+use Rattle.xl_lists.specs.declared.said.SaidLedger.{SaidLedger}
 use Rattle.xl_lists.specs.Agreement.{IsGenuine}
 use Rattle.xl_wire.specs.declared.validation.Validation.{Validation}
 use Rattle.xl_core.specs.Node.{Node}
@@ -38,7 +38,7 @@ unforged : (last mine liar sent right : Bool) → (last && (mine && not liar && 
 unforged last mine liar sent right h a b c = grind arith
 
 -- what was sent says what comes
-sent_says : (P : Said → Type 0) (frames : List Sent) (bytes : List ℕ) (x : Said) → All (FrameSays P) frames → was_sent frames bytes ≡ true → said_in bytes ≡ Some x → P x
+sent_says : (P : SaidLedger → Type 0) (frames : List Sent) (bytes : List ℕ) (x : SaidLedger) → All (FrameSays P) frames → was_sent frames bytes ≡ true → said_in bytes ≡ Some x → P x
 sent_says P frames bytes x says sent is =
     from_found _ (FrameSays P) _ frames sent says
     (λ f same says_f.

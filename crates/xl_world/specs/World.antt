@@ -8,7 +8,7 @@ use Rattle.std.specs.Prelude.{Some, None}
 use Rattle.std.specs.declared.option.Option.{Option}
 use Rattle.xl_io.specs.Keepers.{may_hold}
 use Rattle.xl_lists.specs.Lists.{TrustedList}
-use Rattle.xl_lists.specs.declared.said.Said.{Said}
+use Rattle.xl_lists.specs.declared.said.SaidLedger.{SaidLedger}
 use Rattle.xl_lists.specs.declared.report.Report.{Report as Reported}
 use Rattle.xl_lists.specs.Agreement.{with_said}
 use Rattle.xl_base.specs.Counts.{one_more}
@@ -37,7 +37,7 @@ pub record World : Type 0 where
   -- how many of them stand before the mark
   pub mark : ℕ
   -- every validation that a node ever issued
-  pub said : List Said
+  pub said : List SaidLedger
   -- every report of a node, under the list that was in force
   pub reports : List Reported
   -- how many sealed frames came that no liar signed and nobody had sent; the count ends at the greatest `u64`
@@ -51,7 +51,7 @@ pub data Step : Type 0 where
   Torn : (i : ℕ) (event : CoreEvent) (number : ℕ) → Step
   Mark : Step
 
-abbrev pub said_by : ℕ → Validation → Said
+abbrev pub said_by : ℕ → Validation → SaidLedger
 said_by m v = record { member = m; seq = v.seq; id = v.id }
 
 abbrev pub reported_by : Node → Report → Reported

@@ -41,7 +41,7 @@ pub fn first_fork<'a>(
 }
 
 /// What the first fork says of any reports. It has no code.
-pub fn forks()
+pub fn law_of_forks()
     // Where there is none, no two reports of one sequence name different ledgers.
     ensures none { NoForkAgrees }
     // Where there is one, its two are among the reports, of one sequence, and name different ledgers.

@@ -27,7 +27,7 @@ mod sent;
 mod settle;
 mod world;
 
-pub use fork::{Fork, first_fork, forks};
+pub use fork::{Fork, first_fork, law_of_forks};
 pub use outcome::{Happened, Outcome};
 pub use plan::{Plan, PlanNode};
 pub use sent::Sent;

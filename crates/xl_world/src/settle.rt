@@ -7,7 +7,7 @@ ghost use Rattle.xl_world.specs.Seen.{outcomes_told};
 use crate::act::NodeAnswer;
 use crate::{Outcome, WorldReport};
 use xl_base::NodeNo;
-use xl_lists::Said;
+use xl_lists::SaidLedger;
 use xl_wire::Validation;
 
 /// Adds an element where there is one.
@@ -23,12 +23,12 @@ pub fn push_some<T: Copy + Drop>(list: &mut Vec<T>, element: &Option<T>)
 }
 
 /// What is issued is said.
-pub fn say_some(said: &mut Vec<Said>, member: NodeNo, issued: &Option<Validation>)
+pub fn say_some(said: &mut Vec<SaidLedger>, member: NodeNo, issued: &Option<Validation>)
     requires { vec_len said.old < vec_capacity said.old }
     ensures { said.new.items ≡ with_said said.old.items (option_map (said_by member) issued.now) }
 {
     if let Some(validation) = issued {
-        let _ = said.push(Said {
+        let _ = said.push(SaidLedger {
             member,
             seq: validation.seq,
             id: validation.id,

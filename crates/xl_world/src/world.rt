@@ -17,7 +17,7 @@ use crate::{Happened, Plan, Sent, WorldReport, open};
 use std::alloc::Global;
 use std::marker::Model;
 use xl_base::{Millis, NodeNo, OutOfMemory, Seq};
-use xl_lists::{List, Said};
+use xl_lists::{List, SaidLedger};
 use xl_sched::{Ask, Event, Lied, What};
 use xl_wire::LONGEST_FRAME;
 
@@ -34,7 +34,7 @@ pub struct World {
     /// How many sent frames stand before the mark.
     mark: usize,
     index: TagIndex,
-    said: Vec<Said>,
+    said: Vec<SaidLedger>,
     reports: Vec<WorldReport>,
     forged: u64,
 }

@@ -1,5 +1,5 @@
 use Rattle.xl_lists.proofs.Agreement.{agreement_from_kept, kept_by_step}
-use Rattle.xl_lists.proofs.laws.agreement_from_kept.Goals as goal
+use Rattle.xl_lists.proofs.law.agreement_from_kept.Goals as goal
 
 pub returns-clause-agree : goal.returns-clause-agree
 returns-clause-agree c liars said reports holds standing kept = agreement_from_kept kept

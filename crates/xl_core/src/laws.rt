@@ -3,7 +3,7 @@ ghost use Rattle.xl_core.specs.CoreLives.{SaidIsSaved, ReportsAreHandedOut, None
 
 /// The law of a node's reports, which has no code: it speaks of every life of a node, which is what happened since it
 /// opened.
-pub fn reports()
+pub fn law_of_reports()
     // A report arises exactly where a quorum holds a ledger that wasn't reported in this life.
     ensures arise { ReportsArise }
     // So no ledger is reported twice, nor two of one sequence.

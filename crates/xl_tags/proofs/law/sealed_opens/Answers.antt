@@ -1,5 +1,5 @@
 use Rattle.xl_tags.proofs.OpeningLaws.{sealed_opens, opens_alone}
-use Rattle.xl_tags.proofs.laws.sealed_opens.Goals as goal
+use Rattle.xl_tags.proofs.law.sealed_opens.Goals as goal
 
 pub returns-clause-opens : goal.returns-clause-opens
 returns-clause-opens c = sealed_opens
