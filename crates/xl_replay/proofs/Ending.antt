@@ -16,7 +16,7 @@ use Rattle.xl_sched.specs.declared.line.Line.{Line}
 use Rattle.xl_sched.specs.declared.line.Line.TheVariants as line
 use Rattle.xl_sched.specs.declared.refusal.SchedRefusal.{SchedRefusal}
 use Rattle.xl_sched.specs.declared.refusal.SchedRefusal.TheVariants.{Header}
-use Rattle.xl_sched.specs.Answers.{Answer, passes, gives, refuses, reading_of}
+use Rattle.xl_sched.specs.Answers.{LineAnswer, passes, gives, refuses, reading_of}
 use Rattle.xl_sched.specs.Reading.{Reading}
 use Rattle.xl_world.specs.Forks.{first_fork}
 use Rattle.xl_sched.specs.Refusals.{code_of, token_of}
@@ -41,7 +41,7 @@ line_aloud r reading (line.Ledger name parent header) = tt
 line_aloud r reading (line.At at) = tt
 line_aloud r reading (line.Event e) = tt
 
-answer_aloud : (r : Replaying) (a : Answer) → RefusesAloud (after_answer r a)
+answer_aloud : (r : Replaying) (a : LineAnswer) → RefusesAloud (after_answer r a)
 answer_aloud r (passes reading) = tt
 answer_aloud r (gives l reading) = line_aloud r reading l
 answer_aloud r (refuses why) = bad_some (r.reading.lines + 1) why

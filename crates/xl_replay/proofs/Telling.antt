@@ -30,7 +30,7 @@ use Rattle.xl_sched.specs.declared.refusal.SchedRefusal.{SchedRefusal}
 use Rattle.xl_sched.specs.declared.refusal.SchedRefusal.TheVariants.{Header}
 use Rattle.xl_sched.specs.declared.line.Line.TheVariants as line
 use Rattle.xl_sched.specs.Reading.{Reading}
-use Rattle.xl_sched.specs.Answers.{Answer, passes, gives, refuses, answer_to, bounded_line, reading_of}
+use Rattle.xl_sched.specs.Answers.{LineAnswer, passes, gives, refuses, answer_to, bounded_line, reading_of}
 use Rattle.xl_world.specs.declared.outcome.Outcome.{Outcome}
 use Rattle.xl_world.specs.declared.outcome.Outcome.TheVariants.{Refused, Full, Preferred}
 use Rattle.xl_world.specs.declared.place.Place.{Place}
@@ -43,7 +43,7 @@ use Rattle.xl_world.specs.World.{reported_by}
 use Rattle.xl_world.specs.Plans.{IsDeclared, AreDeclared}
 use Rattle.xl_world.specs.World.{World, Step as WorldStep, Act, Again, Torn, Mark, place_at, reply_at, acts, reopened, again, torn, asked_at, moment_in, step, run}
 use Rattle.xl_world.specs.Starts.{start, IsRun}
-use Rattle.xl_world.specs.Schedule.{steps_at, steps_of, after_event, told_of as told_at, told_by as told_by_step, told_in, preference, outcomes_at, outcomes}
+use Rattle.xl_world.specs.Schedule.{steps_at, steps_of, after_event, told_of_reply as told_at, told_of_step as told_by_step, told_in, preference, outcomes_at, outcomes}
 use Rattle.xl_world.proofs.Settling.{at_its_number}
 use Rattle.xl_world.proofs.Lists.{core_keeps}
 use Rattle.xl_world.proofs.Runs.{run_on}
@@ -175,7 +175,7 @@ extends_itself names = ([], sym (append-nil names))
 extends_over : (a b c : List Named) → Extends a b → Extends b c → Extends a c
 extends_over a b c ab bc = (ab.0 ++ bc.0, bc.1 ∙ (ap (λ xs. xs ++ bc.0) ab.1 ∙ append_assoc a ab.0 bc.0))
 
-abbrev AnswerExtends : Reading → Answer → Type 0
+abbrev AnswerExtends : Reading → LineAnswer → Type 0
 AnswerExtends known (passes reading) = Extends known.names reading.names
 AnswerExtends known (gives l reading) = Extends known.names reading.names
 AnswerExtends known (refuses why) = Unit {0}
@@ -223,7 +223,7 @@ line_tells r reading (line.Ledger name parent header) sound extends declares = q
 line_tells r reading (line.At at) sound extends declares = quiet_tells r reading r.limit r.plan r.liars sound extends sound.declared r.world refl
 line_tells r reading (line.Event e) sound extends declares = event_tells r reading e sound extends
 
-answer_tells : (r : Replaying) (a : Answer) → IsSound r → AnswerExtends r.reading a → AnswerDeclares a → StepTells r (after_answer r a)
+answer_tells : (r : Replaying) (a : LineAnswer) → IsSound r → AnswerExtends r.reading a → AnswerDeclares a → StepTells r (after_answer r a)
 answer_tells r (passes reading) sound extends declares = quiet_tells r reading r.limit r.plan r.liars sound extends sound.declared r.world refl
 answer_tells r (gives l reading) sound extends declares = line_tells r reading l sound extends declares
 answer_tells r (refuses why) sound extends declares = (r.reading.lines + 1, why, refl)

@@ -16,7 +16,7 @@ use Rattle.xl_sched.specs.declared.line.Line.TheVariants as line
 use Rattle.xl_sched.specs.declared.refusal.SchedRefusal.{SchedRefusal}
 use Rattle.xl_sched.specs.declared.refusal.SchedRefusal.TheVariants.{Header, LongLine, Limit}
 use Rattle.xl_sched.specs.Reading.{Reading, opened}
-use Rattle.xl_sched.specs.Answers.{Answer, passes, gives, refuses, reading_of}
+use Rattle.xl_sched.specs.Answers.{LineAnswer, passes, gives, refuses, reading_of}
 use Rattle.xl_world.specs.declared.plan.PlanNode.{PlanNode}
 use Rattle.xl_world.specs.Forks.{Fork, first_fork}
 use Rattle.xl_world.specs.Schedule.{after_event, outcomes}
@@ -58,7 +58,7 @@ after_line r reading (line.At at) = silent r reading r.limit r.plan r.liars
 after_line r reading (line.Event e) = after r reading e
 
 -- what is told of a line as it was read
-abbrev pub after_answer : Replaying → Answer → Step Replaying
+abbrev pub after_answer : Replaying → LineAnswer → Step Replaying
 after_answer r (passes reading) = silent r reading r.limit r.plan r.liars
 after_answer r (gives line reading) = after_line r reading line
 after_answer r (refuses refusal) = refuses_line (bad_line (r.reading.lines + 1) refusal)
