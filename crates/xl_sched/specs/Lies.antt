@@ -29,17 +29,13 @@ lie_word token =
     else if bytes_eq token (codes "tx") then Some word.Tx
     else None
 
--- how many tokens stand after such a word
-abbrev pub tokens_after : LieWord → ℕ
-tokens_after word.Proposal = 5
-tokens_after word.Validation = 4
-tokens_after word.Header = 1
-tokens_after word.TxSet = 1
-tokens_after word.Tx = 1
-
 -- whether so many tokens may stand after the word of a lie; after no such word as many as after any
 abbrev pub may_say : Option LieWord → ℕ → Bool
-may_say (Some word) count = count == tokens_after word
+may_say (Some word.Proposal) count = count == 5
+may_say (Some word.Validation) count = count == 4
+may_say (Some word.Header) count = count == 1
+may_say (Some word.TxSet) count = count == 1
+may_say (Some word.Tx) count = count == 1
 may_say None count = count == 1 || count == 4 || count == 5
 
 -- a proposal, its parts from left to right
