@@ -1,5 +1,8 @@
 -- The ids of a set, one after another.
 use Rattle.std.proofs.Common.{◌≡◌, ◌+◌, ◌<◌, ◌≤◌, ℕ, true, false, cond, List, [], ◌∷◌, ◌++◌, length, drop, get_or, Option, Some, None, Result, Ok, Err, refl, ap, subst, sym, ◌∙◌, arith}
+use Rattle.std.specs.Option.{unwrap_or}
+use Rattle.std.specs.Result.{result_ok, is_ok}
+use Rattle.std.proofs.lemmas.Bool.{false≢true}
 use Rattle.std.proofs.lemmas.List.{at_drop_more, at_drop_all}
 use Rattle.xl_base.specs.Sets.{IsRising, RisesFrom, IsSet}
 use Rattle.xl_base.specs.declared.ids.TxId.{TxId}
@@ -50,10 +53,10 @@ abbrev Gives : {A : Type 0} → Result A SchedRefusal → A → Type 0
 Gives result x = result ≡ Ok x
 
 gives-same : {A : Type 0} (x y : A) → Gives (Ok x) y → x ≡ y
-gives-same x y e = cc
+gives-same x y e = ap (λ result. unwrap_or (result_ok result) x) e
 
 gives-nothing : {A : Type 0} (refusal : SchedRefusal) (x : A) → Gives (Err refusal) x → ⊥
-gives-nothing refusal x e = cc
+gives-nothing refusal x e = false≢true (ap is_ok e)
 
 id-rises : (before : Option TxId) (entry : List ℕ) (read : Result TxId SchedRefusal) (id : TxId) → Gives (read >>= (λ t. cond (rises before t) (Ok t) (Err (Id entry)))) id → rises before id ≡ true
 id-rises before entry (Err e) id h = absurd (gives-nothing e id h)

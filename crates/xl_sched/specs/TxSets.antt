@@ -30,12 +30,12 @@ risen_ids_of names before (entry ∷ rest) = do
   ids ← risen_ids_of names (Some id) rest
   Ok (id ∷ ids)
 
--- no set has more ids than this
-abbrev pub unless_too_many : List ℕ → List TxId → Result (List TxId) SchedRefusal
-unless_too_many token ids = if nat_le (length ids) MOST_IDS then Ok ids else Err (Id token)
+-- ids that are joined by single commas and rise strictly, no more than a set may have
+abbrev pub joined_ids_of : List Named → List ℕ → Result (List TxId) SchedRefusal
+joined_ids_of names token = do
+  ids ← risen_ids_of names None (entries token)
+  if nat_le (length ids) MOST_IDS then Ok ids else Err (Id token)
 
--- ids that are joined by single commas and rise strictly, or `-` for none
+-- such ids, or `-` for none
 abbrev pub tx_set_of : List Named → List ℕ → Result (List TxId) SchedRefusal
-tx_set_of names token =
-    if bytes_eq token (codes "-") then Ok []
-    else risen_ids_of names None (entries token) >>= unless_too_many token
+tx_set_of names token = if bytes_eq token (codes "-") then Ok [] else joined_ids_of names token

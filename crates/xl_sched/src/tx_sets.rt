@@ -13,11 +13,7 @@ use xl_base::{MOST_IDS, TxId, TxIds};
 
 /// Ids that are joined by commas and rise strictly, at most 256, or `-` for none. The first entry that is no id or
 /// doesn't rise is refused, and the whole token where they are too many.
-pub fn tx_set<'a>(
-    alloc: Global,
-    names: &Names,
-    token: &'a [u8],
-) -> Result<TxIds, LineFault<'a>>
+pub fn tx_set<'a>(alloc: Global, names: &Names, token: &'a [u8]) -> Result<TxIds, LineFault<'a>>
     ensures value { GivenMemory result (tx_set_of names.now token.now) }
     ensures set { IfOk result IsSet }
 {
@@ -33,11 +29,7 @@ pub fn tx_set<'a>(
 }
 
 /// The ids of the entries, or the first entry that is none or doesn't rise.
-fn risen_ids<'a>(
-    alloc: Global,
-    names: &Names,
-    token: &'a [u8],
-) -> Result<Vec<TxId>, LineFault<'a>>
+fn risen_ids<'a>(alloc: Global, names: &Names, token: &'a [u8]) -> Result<Vec<TxId>, LineFault<'a>>
     ensures { MatchResult result
         (λ ids. risen_ids_of names.now None (entries token.now) ≡ Ok ids.items)
         (λ fault. (fault ≡ OutOfMemory) ⊎ (risen_ids_of names.now None (entries token.now) ≡ Err fault)) }
@@ -53,11 +45,7 @@ fn risen_ids<'a>(
 }
 
 /// The id of an entry, where it rises.
-fn risen_id<'a>(
-    names: &Names,
-    before: Option<TxId>,
-    entry: &'a [u8],
-) -> Result<TxId, LineFault<'a>>
+fn risen_id<'a>(names: &Names, before: Option<TxId>, entry: &'a [u8]) -> Result<TxId, LineFault<'a>>
     ensures { result ≡ risen_id_of names.now before entry.now }
 {
     let id = names.tx_id(entry)?;

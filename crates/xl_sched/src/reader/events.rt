@@ -1,5 +1,5 @@
 // Events, but for disturbed saves and lies.
-ghost use Rattle.std.specs.Prelude.{◌≡◌, ◌≤◌, ℕ, length, IfOk};
+ghost use Rattle.std.specs.Prelude.{◌≡◌, ◌≤◌, ℕ, true, length, IfOk};
 ghost use Rattle.xl_sched.specs.Events.{raw_bytes_of};
 ghost use Rattle.xl_sched.specs.Refusals.{GivenMemory};
 ghost use Rattle.xl_sched.specs.declared.limits.TheConstants.{MOST_RAW_BYTES};
@@ -18,7 +18,6 @@ use xl_base::{Bytes, NodeNo};
 
 impl Reader {
     ghost use Rattle.xl_sched.specs.Fits.{IsFitAsk, IsFitWhat};
-    ghost use Rattle.std.specs.Prelude.{true};
     ghost use Rattle.xl_sched.specs.Events.{issue_of, asked_issue, issue_event, submit_event, asked_timer, timer_event, timers_event, deliver_event, all_event, drop_event, is_peer, peer_of, greet_event, restart_event, raw_event, prefer_event};
 
     /// `issue i seq id full`, or `partial`.
