@@ -16,6 +16,7 @@ use Rattle.xl_sched.specs.Reading.{Reading, IsUndeclared}
 -- what is asked of a declared node
 abbrev pub IsFitAsk : Reading → Ask → Type 0
 IsFitAsk reading (ask.Issue node seq id full) = is_on reading.nodes node ≡ true
+IsFitAsk reading (ask.Timer node) = is_on reading.nodes node ≡ true
 
 -- a declared liar, and a declared node
 abbrev pub IsFitPair : Reading → ℕ → ℕ → Type 0
@@ -24,6 +25,9 @@ IsFitPair reading from to = (is_on reading.liars from ≡ true) × (is_on readin
 -- what happens to declared nodes and liars, with sent frames, and with bytes of a frame's length
 abbrev pub IsFitWhat : Reading → ℕ → What → Type 0
 IsFitWhat reading sent (what.Ask ask) = IsFitAsk reading ask
+IsFitWhat reading sent (what.Submit node tx) = is_on reading.nodes node ≡ true
+IsFitWhat reading sent what.Timers = Unit {0}
+IsFitWhat reading sent (what.Greet node peer) = is_on reading.nodes node ≡ true
 IsFitWhat reading sent (what.Deliver place) = (1 ≤ place) × (place ≤ sent)
 IsFitWhat reading sent what.All = Unit {0}
 IsFitWhat reading sent what.Drop = Unit {0}
