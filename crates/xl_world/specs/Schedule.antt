@@ -25,6 +25,7 @@ use Rattle.xl_core.specs.declared.event.CoreEvent.{CoreEvent}
 use Rattle.xl_core.specs.declared.event.CoreEvent.TheVariants.{Issue, Frame, Timer, Submit, Greet}
 use Rattle.xl_core.specs.Sending.{sealed_bytes}
 use Rattle.xl_ledger.specs.Headers.{spelling}
+use Rattle.xl_wire.specs.declared.body.Body.{Body}
 use Rattle.xl_wire.specs.declared.body.Body.TheVariants as bodies
 use Rattle.xl_world.specs.declared.outcome.Outcome.{Outcome}
 use Rattle.xl_world.specs.declared.outcome.Outcome.TheVariants.{Switched, Built, Refused, Full, Preferred}
@@ -59,13 +60,17 @@ frame_at sent (suc k) = slice_get sent k
 abbrev pub restart : ℕ → Place → Step
 restart at p = Again p.core.node.me at (found p.keeper)
 
+-- the body in which a liar says it
+abbrev pub lied_body : Lied → Body
+lied_body (lied.Proposal p) = bodies.Proposal p
+lied_body (lied.Validation v) = bodies.Validation v
+lied_body (lied.Header name h) = bodies.Header (spelling h)
+lied_body (lied.TxSet ids) = bodies.TxSet ids
+lied_body (lied.Tx tx) = bodies.Tx tx
+
 -- the frame of a lie, sealed as its sender seals
 abbrev pub lied_bytes : ℕ → ℕ → Lied → List ℕ
-lied_bytes from to (lied.Validation v) = sealed_bytes (schedule_ring from) from to (bodies.Validation v)
-lied_bytes from to (lied.Proposal p) = sealed_bytes (schedule_ring from) from to (bodies.Proposal p)
-lied_bytes from to (lied.Header name h) = sealed_bytes (schedule_ring from) from to (bodies.Header (spelling h))
-lied_bytes from to (lied.TxSet ids) = sealed_bytes (schedule_ring from) from to (bodies.TxSet ids)
-lied_bytes from to (lied.Tx tx) = sealed_bytes (schedule_ring from) from to (bodies.Tx tx)
+lied_bytes from to lie = sealed_bytes (schedule_ring from) from to (lied_body lie)
 
 -- a set that a liar says is one
 abbrev pub IsSayable : Lied → Type 0
