@@ -43,7 +43,7 @@ AreDrains [] = Unit {0}
 AreDrains (e ∷ es) = IsDrain e × AreDrains es
 
 -- what holds of each drain
-drain_by : (P : CoreEvent → Type 0) → ((m room : ℕ) → P (Drain m room)) → (e : CoreEvent) → IsDrain e → P e
+pub drain_by : (P : CoreEvent → Type 0) → ((m room : ℕ) → P (Drain m room)) → (e : CoreEvent) → IsDrain e → P e
 drain_by P each (Issue now seq id full) is = absurd is
 drain_by P each (Frame now bytes) is = absurd is
 drain_by P each (Timer now) is = absurd is

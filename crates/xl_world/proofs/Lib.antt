@@ -23,4 +23,7 @@ pub mod Putting
 pub mod Emptying
 pub mod Resting
 pub mod Acting
+pub mod Telling
+pub mod Draining
+pub mod Reopening
 pub mod Taking

@@ -1,10 +1,12 @@
 // What waits at a core is drained and sent.
-ghost use Rattle.std.specs.Prelude.{◌≡◌, ◌≢◌, ℕ, List, map, OnOk, IfOk};
+ghost use Rattle.std.specs.Prelude.{◌≡◌, ◌≢◌, ◌<◌, ◌≤◌, ℕ, List, [], None, take, map, OnOk, IfOk, IfSome};
+ghost use Rattle.xl_core.specs.Answers.{given_in};
+ghost use Rattle.xl_wire.specs.declared.lengths.TheConstants.{LONGEST_FRAME};
 ghost use Rattle.xl_core.specs.Queues.{joined};
 ghost use Rattle.xl_tags.specs.Rings.{schedule_ring};
 ghost use Rattle.xl_world.specs.declared.place.Place.{Place};
 ghost use Rattle.xl_world.specs.World.{place_at};
-ghost use Rattle.xl_world.specs.Emptying.{after_events, draining, drains_for, given_by};
+ghost use Rattle.xl_world.specs.Emptying.{after_events, draining, drained_once, drains_for, given_by};
 ghost use Rattle.xl_world.specs.Indexes.{with_frames};
 ghost use Rattle.xl_world.specs.Rested.{Between, IsRested};
 ghost use Rattle.xl_world.specs.Seen.{AreFrames, sent_from, given_at, put_drained};
@@ -44,6 +46,19 @@ fn send_each(
     Ok(())
 }
 
+/// One drain for another number: how many bytes it gave, or None where it gave nothing.
+fn drain_once(core: &mut NodeCore, to: NodeNo, room: &mut [u8; LONGEST_FRAME]) -> Option<usize>
+    requires other { to ≢ core.old.node.me }
+    requires keys { core.old.node.keys ≡ schedule_ring core.old.node.me }
+    ensures core { core.new ≡ (drained_once core.old to).core }
+    ensures none { result ≡ None → given_in (drained_once core.old to).answer ≡ [] }
+    ensures some { IfSome result (λ count.
+        (0 < count) × (count ≤ LONGEST_FRAME) × (take count room.new ≡ joined (given_in (drained_once core.old to).answer))) }
+{
+    let count = core.drain(to, room);
+    if count == 0 { None } else { Some(count) }
+}
+
 /// What waits for another number is drained and sent, until a drain gives nothing.
 fn drain_for(
     alloc: Global,
@@ -58,10 +73,8 @@ fn drain_for(
     ensures sent { OnOk result (traffic.new ≡ with_frames traffic.old (given_by core.old (drains_for core.old to))) }
 {
     let from = core.node().me();
-    let mut count = core.drain(to, room);
-    while count > 0 {
+    while let Some(count) = drain_once(core, to, room) {
         send_each(alloc, from, to, &room[..count], traffic)?;
-        count = core.drain(to, room);
     }
     Ok(())
 }

@@ -1,0 +1,117 @@
+-- Nodes that are opened anew, and events whose save is cut off.
+use Rattle.std.proofs.Common.{◌≡◌, ℕ, Bool, true, false, List, [], ◌∷◌, ◌++◌, refl, ap, sym, ◌∙◌, Option, Some, None, append-nil}
+use Rattle.std.specs.Prelude.{◌==◌, ◌||◌, if◌then◌else◌, nat_lt, option_map, unwrap_or}
+use Rattle.std.proofs.lemmas.Bool.{cond_both, cond-true, eq-eqb, or_left, or_right}
+use Rattle.xl_io.specs.Keepers.{is_asked, may_hold}
+use Rattle.xl_base.specs.declared.ids.LedgerId.{LedgerId}
+use Rattle.xl_lists.specs.declared.report.Report.{Report as Reported}
+use Rattle.xl_core.specs.Core.{Core, CoreReply, core_asks, core_happens, stepped}
+use Rattle.xl_core.specs.Building.{said_items, usual_mode}
+use Rattle.xl_core.specs.Node as nodes
+use Rattle.xl_core.specs.declared.refusal.Refusal.TheVariants.{NotAfter}
+use Rattle.xl_ledger.specs.declared.header.Header.{Header}
+use Rattle.xl_ledger.specs.Headers.{header_id}
+use Rattle.xl_rounds.specs.Rounds.{is_proposing}
+use Rattle.xl_core.specs.Answers.{Done}
+use Rattle.xl_core.specs.Node.{Node, Reply, Save, Timed, asks_for, asks_of, at_moment, completed, ending, issues_unless, issuing, own_validation, refusing, replying, starting, timed, unless_failed, validates, validating_built}
+use Rattle.xl_core.specs.Node.Timed.{Quiet, Ending}
+use Rattle.xl_core.specs.declared.event.CoreEvent.{CoreEvent}
+use Rattle.xl_core.specs.declared.event.CoreEvent.TheVariants.{Issue, Frame, Timer, Submit, Greet, Drain, Reports, Stop, Stopped}
+use Rattle.xl_world.specs.declared.place.Keeper.{Keeper}
+use Rattle.xl_world.specs.declared.place.Place.{Place}
+use Rattle.xl_world.specs.declared.sent.Sent.{Sent}
+use Rattle.xl_world.specs.Keeper.{found, held_by, left_by, restored}
+use Rattle.xl_world.specs.Schedule.{restart}
+use Rattle.xl_world.specs.Seen.{put_again, with_places}
+use Rattle.xl_world.specs.World.{Again, Step, Torn, World, again, asked_at, moment_in, place_at, put, reopened, run, step, torn}
+use Rattle.xl_world.proofs.Settling.{at_its_number}
+
+-- WHAT A KEEPER MAY HOLD
+
+-- a restart finds a number that the keeper may hold
+pub found_held : (k : Keeper) → may_hold (held_by k) (found k) ≡ true
+found_held k = by_written k.written k.asked
+  where
+    by_written : (written : Bool) (asked : Option ℕ) → (let n : ℕ = if written then unwrap_or asked k.in_force else k.in_force in (n == k.in_force || is_asked asked n) ≡ true)
+    by_written true None = or_left _ _ (eq-eqb k.in_force k.in_force refl)
+    by_written true (Some s) = or_right (s == k.in_force) (s == s) (eq-eqb s s refl)
+    by_written false asked = or_left _ _ (eq-eqb k.in_force k.in_force refl)
+
+-- a save that is cut off leaves a number that the keeper may hold then
+pub left_held : (k : Keeper) (new : Bool) (s : ℕ) → may_hold (held_by (record k { asked = Some s })) (left_by k new (Some s)) ≡ true
+left_held k true s = or_right (s == k.in_force) (s == s) (eq-eqb s s refl)
+left_held k false s = or_left _ _ (eq-eqb k.in_force k.in_force refl)
+
+-- STEPS
+
+same_lists : (w : World) {f f' : List Sent} {r r' : List Reported} (ps : List Place) → f ≡ f' → r ≡ r' → record w { places = ps; sent = f; reports = r } ≡ record w { places = ps; sent = f'; reports = r' }
+same_lists w {f} {f'} {r} {r'} ps a b = ap (λ (x : List Sent). record w { places = ps; sent = x; reports = r }) a ∙ ap (λ (x : List Reported). record w { places = ps; sent = f'; reports = x }) b
+
+-- a node opened anew with a number that its keeper may hold
+pub again_ran : (w : World) (i now number : ℕ) (p : Place) → place_at i w.places ≡ Some p → may_hold (held_by p.keeper) number ≡ true →
+    with_places w (put_again now (restored p.keeper number) (place_at i w.places) w.places) ≡ step w (Again i now number)
+again_ran w i now number p at may =
+    ap (λ o. with_places w (put_again now (restored p.keeper number) o w.places)) at
+    ∙ (same_lists w _ (sym (append-nil w.sent)) (sym (append-nil w.reports))
+    ∙ (sym (cond-true (may_hold (held_by p.keeper) number) (reopened w i p now number) w may)
+    ∙ ap (λ o. again w i now number o) (sym at)))
+
+-- a restart
+pub restart_ran : (w : World) (i now : ℕ) (p : Place) → place_at i w.places ≡ Some p →
+    with_places w (put_again now (restored p.keeper (found p.keeper)) (place_at i w.places) w.places) ≡ run w (restart now p ∷ [])
+restart_ran w i now p at =
+    again_ran w i now (found p.keeper) p at (found_held p.keeper) ∙ ap (λ (k : ℕ). step w (Again k now (found p.keeper))) (sym (at_its_number i w.places p at))
+
+-- an event that stops in its save
+pub torn_ran : (w : World) (i : ℕ) (e : CoreEvent) (new : Bool) (p : Place) (s : ℕ) → place_at i w.places ≡ Some p → core_asks p.core e ≡ Some s →
+    with_places w (put_again (moment_in e) (restored p.keeper (left_by p.keeper new (Some s))) (place_at i w.places) w.places) ≡ step w (Torn i e (left_by p.keeper new (Some s)))
+torn_ran w i e new p s at asked =
+    let n : ℕ = left_by p.keeper new (Some s) in
+    let q : Place = record { core = p.core; keeper = record p.keeper { asked = Some s } } in
+    ap (λ o. with_places w (put_again (moment_in e) (restored p.keeper n) o w.places)) at
+    ∙ (same_lists w _ (sym (append-nil w.sent)) (sym (append-nil w.reports))
+    ∙ (sym (cond-true (may_hold (held_by q.keeper) n) (reopened w i q (moment_in e) n) w (left_held p.keeper new s))
+    ∙ (ap (λ o. torn w i (moment_in e) n (Some p) o) (sym asked)
+    ∙ ap (λ o. torn w i (moment_in e) n o (asked_at o e)) (sym at))))
+
+-- WHAT ASKS NO SAVE
+
+never_some : (s : ℕ) → (let o : Option ℕ = Some s in o) ≡ None → ⊥
+never_some s e = cc
+
+-- what would be issued is refused alike, however a save were answered
+issuing_unasked : (n : Node) (seq : ℕ) (id : LedgerId) (full : Bool) (s t : Save) → asks_for n seq ≡ None → issuing n seq id full s ≡ issuing n seq id full t
+issuing_unasked n seq id full s t = by (nat_lt n.kept seq) n.failed_save
+  where
+    by : (above : Bool) (failed : Option ℕ) → (if above then unless_failed failed seq else None) ≡ None →
+        (if above then issues_unless n failed s (own_validation n seq id full) else refusing n (NotAfter n.kept))
+        ≡ (if above then issues_unless n failed t (own_validation n seq id full) else refusing n (NotAfter n.kept))
+    by true None asks = absurd (never_some seq asks)
+    by true (Some f) asks = refl
+    by false failed asks = refl
+
+validating_unasked : (n : Node) (h : Header) (moved_on : Bool) (s t : Save) → (if validates n moved_on then asks_for n h.seq else None) ≡ None → validating_built n h moved_on s ≡ validating_built n h moved_on t
+validating_unasked n h moved_on s t = by (validates n moved_on)
+  where
+    by : (speaks : Bool) → (if speaks then asks_for n h.seq else None) ≡ None →
+        (if speaks then issuing n h.seq (header_id h) (is_proposing n.round.setting.mode) s else replying n Done [])
+        ≡ (if speaks then issuing n h.seq (header_id h) (is_proposing n.round.setting.mode) t else replying n Done [])
+    by true asks = issuing_unasked n h.seq (header_id h) (is_proposing n.round.setting.mode) s t asks
+    by false asks = refl
+
+completed_unasked : (x : Timed) (s t : Save) → asks_of x ≡ None → completed x s ≡ completed x t
+completed_unasked (Quiet n beat said) s t asks = refl
+completed_unasked (Ending n said h place moved_on) s t asks =
+    ap (λ (done : Reply). ending (said_items said) h moved_on (record done { node = starting done.node place (usual_mode n.validating) })) (validating_unasked n h moved_on s t asks)
+
+-- an event that asks no save does the same however one were answered: so a cut may try it under a keeper that fails
+pub unasked_alike : (core : Core) (e : CoreEvent) (s t : Save) → core_asks core e ≡ None → core_happens core e s ≡ core_happens core e t
+unasked_alike core (Issue now seq id full) s t asks = ap (stepped core) (issuing_unasked (at_moment now core.node) seq id full s t asks)
+unasked_alike core (Frame now bytes) s t asks = refl
+unasked_alike core (Timer now) s t asks = ap (stepped core) (completed_unasked (timed (at_moment now core.node)) s t asks)
+unasked_alike core (Submit now tx) s t asks = refl
+unasked_alike core (Greet member) s t asks = refl
+unasked_alike core (Drain member room) s t asks = refl
+unasked_alike core (Reports room) s t asks = refl
+unasked_alike core Stop s t asks = refl
+unasked_alike core Stopped s t asks = refl
