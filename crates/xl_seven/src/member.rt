@@ -2,7 +2,7 @@ ghost use Rattle.std.specs.Prelude.{◌≤◌};
 ghost use Rattle.xl_base.specs.declared.moments.TheConstants.{GREATEST_MILLIS};
 
 use std::alloc::Global;
-use xl_base::{LedgerId, Millis, NodeNo, OutOfMemory, Seq, TxId};
+use xl_base::{LedgerId, Millis, NodeNo, OutOfMemory, TxId};
 use xl_core::{Beat, Core, Report, Settings};
 use xl_io::PlainKeeper;
 use xl_lists::List;
@@ -98,10 +98,5 @@ impl Member {
         } else {
             None
         }
-    }
-
-    /// The last sequence that was saved.
-    pub fn kept(&self) -> Seq {
-        self.core.kept()
     }
 }
