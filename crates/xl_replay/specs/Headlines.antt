@@ -13,7 +13,7 @@ use Rattle.xl_lines.specs.Lines.{Line as TextLine, lines_of}
 use Rattle.xl_lines.specs.Rules.{Step, goes_on, refuses, Told}
 use Rattle.xl_lines.specs.Told.{step_at}
 use Rattle.xl_world.specs.declared.outcome.Outcome.{Outcome}
-use Rattle.xl_world.specs.declared.outcome.Outcome.TheVariants.{Refused, Full, Preferred}
+use Rattle.xl_world.specs.declared.outcome.Outcome.TheVariants.{Switched, Built, Refused, Full, Preferred}
 use Rattle.xl_world.specs.Forks.{first_fork}
 use Rattle.xl_replay.specs.Replays.{Replaying, rules, limits, at_first, verdict_of}
 use Rattle.xl_replay.specs.Texts.{outcome_line, bad_line, short_line, forged_line, agreement_line}
@@ -61,6 +61,8 @@ names_of bytes = (state_from limits limits.lines at_first (lines_of bytes)).read
 
 -- whether an outcome is told by a `full` line
 abbrev pub is_full : Outcome → Bool
+is_full (Switched node seq id) = false
+is_full (Built node seq id issued) = false
 is_full (Refused node refusal) = false
 is_full (Full node seq id) = true
 is_full (Preferred node ledger) = false

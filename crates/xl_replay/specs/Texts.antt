@@ -7,6 +7,8 @@ use Rattle.hex.specs.Hex.{encode_lower}
 use Rattle.xl_base.specs.declared.ids.LedgerId.{LedgerId}
 use Rattle.xl_lists.specs.Lists.{TrustedList}
 use Rattle.xl_lists.specs.Quorums.{bound_of}
+use Rattle.xl_core.specs.declared.beat.Issued.{Issued}
+use Rattle.xl_core.specs.declared.beat.Issued.TheVariants as issued
 use Rattle.xl_core.specs.declared.refusal.Refusal.{Refusal}
 use Rattle.xl_core.specs.declared.refusal.Refusal.TheVariants.{Frame, Short, Extra, Tag, Header, Stale, Repeat, Conflict, OldSeq, Pending, PoolFull, WrongPrev, OldPosition, Left, StaleProposal, NotAfter, IssuingOff, KeepFault}
 use Rattle.xl_core.specs.declared.report.Report.{Report}
@@ -23,7 +25,7 @@ use Rattle.xl_sched.specs.Names.{name_of}
 use Rattle.xl_sched.specs.Refusals.{code_of, token_of}
 use Rattle.xl_sched.specs.Tokens.{shown_token}
 use Rattle.xl_world.specs.declared.outcome.Outcome.{Outcome}
-use Rattle.xl_world.specs.declared.outcome.Outcome.TheVariants.{Refused, Full, Preferred}
+use Rattle.xl_world.specs.declared.outcome.Outcome.TheVariants.{Switched, Built, Refused, Full, Preferred}
 use Rattle.xl_world.specs.Forks.{Fork, first_fork}
 use Rattle.xl_world.specs.World.{World, list_in}
 use Rattle.xl_world.specs.Plans.{up_from, all_numbers}
@@ -92,8 +94,18 @@ abbrev pub preferred_text : List Named → Option Report → List ℕ
 preferred_text names None = codes "none"
 preferred_text names (Some ledger) = decimal ledger.seq ++ space ++ id_text names ledger.id
 
+-- how a built ledger was validated; one that was refused wasn't, and the refusal is told in a line of its own
+abbrev pub how_text : Issued → List ℕ
+how_text issued.Full = codes "full"
+how_text issued.Partial = codes "partial"
+how_text issued.Silent = codes "none"
+how_text (issued.Refused why) = codes "none"
+
 -- what is told of the event in line n of the schedule
 abbrev pub outcome_line : List Named → ℕ → Outcome → List ℕ
+outcome_line names n (Switched node seq id) = codes "switched " ++ decimal node ++ space ++ decimal seq ++ space ++ id_text names id ++ newline
+outcome_line names n (Built node seq id issued) =
+    codes "built " ++ decimal node ++ space ++ decimal seq ++ space ++ id_text names id ++ space ++ how_text issued ++ newline
 outcome_line names n (Refused node refusal) =
     codes "refused " ++ decimal n ++ space ++ decimal node ++ space ++ decimal (refusal_code refusal) ++ space ++ values_text names refusal ++ newline
 outcome_line names n (Full node seq id) = codes "full " ++ decimal node ++ space ++ decimal seq ++ space ++ id_text names id ++ newline

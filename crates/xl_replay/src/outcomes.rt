@@ -1,15 +1,68 @@
 // What is told of one line of a schedule.
 ghost use Rattle.std.specs.Prelude.{◌≡◌, ◌++◌, OnOk};
 ghost use Rattle.std.specs.String.{string_bytes};
-ghost use Rattle.xl_replay.specs.Texts.{outcome_line, outcome_lines, bad_line};
+ghost use Rattle.xl_replay.specs.Texts.{bad_line, how_text, outcome_line, outcome_lines};
 
 use crate::words::{push_id, push_values};
 use std::alloc::Global;
 use std::fmt::Write;
 use xl_base::{LedgerId, NodeNo, OutOfMemory, Seq};
-use xl_core::{Refusal, Report};
+use xl_core::{Issued, Refusal, Report};
 use xl_sched::{Reader, SchedRefusal, printed_token};
 use xl_world::Outcome;
+
+fn push_switched(
+    alloc: Global,
+    text: &mut String,
+    reader: &Reader,
+    line: u64,
+    node: NodeNo,
+    seq: Seq,
+    id: &LedgerId,
+) -> Result<(), OutOfMemory>
+    ensures { OnOk result (string_bytes text.new
+        ≡ string_bytes text.old ++ outcome_line reader.now.names line (Outcome.Switched node seq id.now)) }
+{
+    let number = node.get();
+    write!(text, "switched {number} {seq} ")?;
+    push_id(alloc, text, reader, id)?;
+    text.push('\n')?;
+    Ok(())
+}
+
+/// How a built ledger was validated.
+fn push_how(text: &mut String, issued: &Issued) -> Result<(), OutOfMemory>
+    ensures { OnOk result (string_bytes text.new ≡ string_bytes text.old ++ how_text issued.now) }
+{
+    match issued {
+        Issued::Full => text.push_str("full")?,
+        Issued::Partial => text.push_str("partial")?,
+        Issued::Silent | Issued::Refused(_) => text.push_str("none")?,
+    }
+    Ok(())
+}
+
+fn push_built(
+    alloc: Global,
+    text: &mut String,
+    reader: &Reader,
+    line: u64,
+    node: NodeNo,
+    seq: Seq,
+    id: &LedgerId,
+    issued: &Issued,
+) -> Result<(), OutOfMemory>
+    ensures { OnOk result (string_bytes text.new
+        ≡ string_bytes text.old ++ outcome_line reader.now.names line (Outcome.Built node seq id.now issued.now)) }
+{
+    let number = node.get();
+    write!(text, "built {number} {seq} ")?;
+    push_id(alloc, text, reader, id)?;
+    text.push(' ')?;
+    push_how(text, issued)?;
+    text.push('\n')?;
+    Ok(())
+}
 
 fn push_refused(
     alloc: Global,
@@ -83,6 +136,15 @@ fn push_outcome(
         ≡ string_bytes text.old ++ outcome_line reader.now.names line outcome.now) }
 {
     match outcome {
+        Outcome::Switched { node, seq, id } => {
+            push_switched(alloc, text, reader, line, *node, *seq, id)
+        }
+        Outcome::Built {
+            node,
+            seq,
+            id,
+            issued,
+        } => push_built(alloc, text, reader, line, *node, *seq, id, issued),
         Outcome::Refused { node, refusal } => push_refused(
             alloc, text, reader, line, *node, refusal,
         ),

@@ -36,6 +36,7 @@ impl Replayer {
     ghost use Rattle.xl_lines.specs.Rules.{goes_on};
     ghost use Rattle.xl_replay.specs.Replays.{after, after_line, world_of};
     ghost use Rattle.xl_replay.specs.Replayers.{state_of, IsInRange};
+    ghost use Rattle.xl_world.specs.Schedule.{IsPlausible};
 
     /// Before the first line.
     pub fn new(alloc: Global) -> Result<Replayer, OutOfMemory>
@@ -78,6 +79,7 @@ impl Replayer {
     /// An event is a step of the world, and what came of it is told.
     fn happen(&mut self, event: &Event, text: &mut String) -> Result<(), OutOfMemory>
         requires timely { event.now.at ≤ GREATEST_MILLIS }
+        requires plausible { IsPlausible event.now.what }
         requires empty { string_bytes text.old ≡ [] }
         ensures { OnOk result (goes_on (string_bytes text.new) (state_of self.new)
             ≡ after (state_of self.old) self.old.reader event.now) }

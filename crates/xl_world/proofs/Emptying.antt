@@ -1,189 +1,180 @@
--- What was issued is sent at once, where a core is emptied after each event.
-use Rattle.std.proofs.Common.{◌≡◌, ℕ, zero, suc, ◌<◌, ◌≤◌, List, [], ◌∷◌, ◌++◌, length, get_or, take, drop, map, refl, arith, ap, sym, ◌∙◌, Option, Some, None}
-use Rattle.std.specs.Prelude.{nat_le, All, IfSome, option_map}
-use Rattle.std.proofs.lemmas.Bool.{cond-true, le-leb}
-use Rattle.std.proofs.lemmas.List.{get_or-set_other, get_or-set_same, set-get_or, length-map, length-set, drop_all}
-use Rattle.std.proofs.lemmas.List.Elements.{All-cons, All-head, All-nil}
-use Rattle.xl_queues.specs.Broadcasts.{queue_of}
-use Rattle.xl_queues.specs.Queues.{Backlog, no_items}
-use Rattle.xl_wire.specs.declared.validation.Validation.{Validation}
-use Rattle.xl_core.specs.declared.event.CoreEvent.TheVariants.{Drain}
-use Rattle.xl_core.specs.declared.item.Item.{Item}
-use Rattle.xl_wire.specs.declared.lengths.TheConstants.{LONGEST_FRAME}
-use Rattle.xl_core.specs.Answers.{Answer, Gave}
-use Rattle.xl_core.specs.declared.greeting.Greeting.{Greeting}
-use Rattle.xl_core.specs.Core.{Core, CoreReply, greeted_frames, given_for, answering, core_happens}
-use Rattle.xl_core.specs.Greetings.{greeting_at, greeting_frames, with_greeting, further, further_at}
-use Rattle.xl_core.proofs.Draining.{taking_none}
-use Rattle.xl_core.specs.Items.{frame_of, frames_for, taken_for}
-use Rattle.xl_core.specs.Node.{Node, items_of}
+-- What an event leaves in a world whose cores are emptied after each event.
+use Rattle.std.proofs.Common.{◌≡◌, ℕ, zero, suc, ◌≤◌, Bool, List, [], ◌∷◌, ◌++◌, length, drop, map, refl, arith, ap, sym, ◌∙◌, Option, Some, None, append_assoc, append-nil}
+use Rattle.std.specs.Prelude.{◌==◌, if◌then◌else◌, option_map, option_to_list}
+use Rattle.std.proofs.lemmas.Bool.{cond_both}
+use Rattle.xl_base.specs.Counts.{one_more}
+use Rattle.xl_lists.specs.Agreement.{with_said}
+use Rattle.xl_lists.specs.declared.report.Report.{Report as Reported}
+use Rattle.xl_queues.specs.Queues.{Backlog, with_item}
+use Rattle.xl_core.specs.Answers.{given_in}
+use Rattle.xl_core.specs.Core.{Core, CoreReply, core_happens}
+use Rattle.xl_core.specs.Node.{Node}
 use Rattle.xl_core.specs.Node.Save.{Kept as AnsweredOk}
-use Rattle.xl_core.specs.Queues.{after_taking, at_number, fitting, that_fit, frames_in, waiting_at}
-use Rattle.xl_world.specs.World.{sent_in}
-use Rattle.xl_world.specs.Idle.{Between, Waits, WaitsAt}
-use Rattle.xl_world.specs.Emptying.{drained, drained_once, given}
-use Rattle.xl_core.proofs.Spelling.{frames_fit}
+use Rattle.xl_core.specs.declared.event.CoreEvent.{CoreEvent}
+use Rattle.xl_core.specs.declared.event.CoreEvent.TheVariants.{Issue, Frame, Timer, Submit, Greet, Drain, Reports, Stop, Stopped}
+use Rattle.xl_wire.specs.declared.lengths.TheConstants.{LONGEST_FRAME}
+use Rattle.xl_world.specs.declared.place.Fate.{Fate}
+use Rattle.xl_world.specs.declared.place.Fate.TheVariants.{Kept}
+use Rattle.xl_world.specs.declared.place.Keeper.{Keeper}
+use Rattle.xl_world.specs.declared.place.Place.{Place}
+use Rattle.xl_world.specs.declared.sent.Sent.{Sent}
+use Rattle.xl_world.specs.Emptying.{after_events, draining, drains, drains_for, drains_in_turn, emptying, emptying_at, event_steps, given_by, handed_out}
+use Rattle.xl_world.specs.Keeper.{answer_of}
+use Rattle.xl_world.specs.World.{World, Act, acts, is_forged, keeper_after, place_at, put, reply_at, reported_by, run, said_by, sent_in, settled, step}
+use Rattle.xl_world.proofs.Lists.{core_keeps}
+use Rattle.xl_world.proofs.Putting.{put_at, put_put, put_same}
+use Rattle.xl_world.proofs.Settling.{at_its_number}
 
--- ONE NUMBER'S QUEUE
+-- DRAINS
 
--- after a change of one number's queue it has changed so, and the others are as they were
-there : (waiting : List (Backlog Item)) (m : ℕ) (f : Backlog Item → Backlog Item) → 1 ≤ m → m ≤ length waiting → waiting_at (at_number waiting m f) m ≡ f (waiting_at waiting m)
-there waiting zero f least most = absurd (omega arith)
-there waiting (suc place) f least most = get_or-set_same waiting place (f (queue_of waiting place)) no_items (omega arith)
+abbrev pub IsDrain : CoreEvent → Type 0
+IsDrain (Issue now seq id full) = ⊥
+IsDrain (Frame now bytes) = ⊥
+IsDrain (Timer now) = ⊥
+IsDrain (Submit now tx) = ⊥
+IsDrain (Greet member) = ⊥
+IsDrain (Drain member room) = Unit {0}
+IsDrain (Reports room) = ⊥
+IsDrain Stop = ⊥
+IsDrain Stopped = ⊥
 
-elsewhere : (waiting : List (Backlog Item)) (m k : ℕ) (f : Backlog Item → Backlog Item) → (k ≡ m → ⊥) → waiting_at (at_number waiting m f) k ≡ waiting_at waiting k
-elsewhere waiting zero k f other = refl
-elsewhere waiting (suc place) zero f other = refl
-elsewhere waiting (suc place) (suc k) f other = get_or-set_other waiting place k (f (queue_of waiting place)) no_items (λ e. other (ap (λ (n : ℕ). suc n) e))
+abbrev pub AreDrains : List CoreEvent → Type 0
+AreDrains [] = Unit {0}
+AreDrains (e ∷ es) = IsDrain e × AreDrains es
 
-long_still : (waiting : List (Backlog Item)) (m : ℕ) (f : Backlog Item → Backlog Item) → length (at_number waiting m f) ≡ length waiting
-long_still waiting zero f = refl
-long_still waiting (suc place) f = length-set waiting place (f (queue_of waiting place))
+-- what holds of each drain
+pub drain_by : (P : CoreEvent → Type 0) → ((m room : ℕ) → P (Drain m room)) → (e : CoreEvent) → IsDrain e → P e
+drain_by P each (Issue now seq id full) is = absurd is
+drain_by P each (Frame now bytes) is = absurd is
+drain_by P each (Timer now) is = absurd is
+drain_by P each (Submit now tx) is = absurd is
+drain_by P each (Greet member) is = absurd is
+drain_by P each (Drain member room) is = each member room
+drain_by P each (Reports room) is = absurd is
+drain_by P each Stop is = absurd is
+drain_by P each Stopped is = absurd is
 
--- all of at most one frame fits
-one_fits : (room : ℕ) (fs : List (Option (List ℕ))) → All (λ o. IfSome o (λ f. (0 < length f) × (length f ≤ room))) fs → length fs ≤ 1 → take (fitting fs room) fs ≡ fs
-one_fits room [] fits few = refl
-one_fits room (None ∷ []) fits few = refl
-one_fits room (Some f ∷ []) fits few =
-    let its = All-head (λ o. IfSome o (λ g. (0 < length g) × (length g ≤ room))) (Some f) [] fits in
-    ap (λ (k : ℕ). take k (Some f ∷ [])) (cond-true (nat_le (length f) room) 1 0 (le-leb (length f) room its.1))
-one_fits room (x ∷ y ∷ fs) fits few = absurd (omega arith)
+pub drains_are : (core : Core) (m more : ℕ) → AreDrains (drains core m more)
+drains_are core m zero = (tt, tt)
+drains_are core m (suc more) =
+    let r : CoreReply = core_happens core (Drain m LONGEST_FRAME) AnsweredOk in
+    (tt, cond_both (length (given_in r.answer) == 0) [] (drains r.core m more) AreDrains (λ _. tt) (λ _. drains_are r.core m more))
 
-few_items : (o : Option Validation) → length (items_of o) ≤ 1
-few_items None = omega arith
-few_items (Some v) = omega arith
+append_are : (es fs : List CoreEvent) → AreDrains es → AreDrains fs → AreDrains (es ++ fs)
+append_are [] fs are more = more
+append_are (e ∷ es) fs are more = (are.0, append_are es fs are.1 more)
 
--- the frames of what was issued, for one number
-abbrev frames_of : Node → Option Validation → ℕ → List (Option (List ℕ))
-frames_of n o m = map (frame_of n m) (items_of o)
+pub turns_are : (core : Core) (ms : List ℕ) → AreDrains (drains_in_turn core ms)
+turns_are core [] = tt
+turns_are core (m ∷ ms) =
+    append_are (drains_for core m) (drains_in_turn (after_events core (drains_for core m)) ms) (drains_are core m _) (turns_are (after_events core (drains_for core m)) ms)
 
--- where that alone waits, a drain takes it
-pub takes_all : (n : Node) (o : Option Validation) (waiting : List (Backlog Item)) (m : ℕ) → (waiting_at waiting m).items ≡ items_of o → taken_for n waiting m LONGEST_FRAME ≡ frames_of n o m
-takes_all n o waiting m is =
-    ap (λ (xs : List Item). take (fitting (map (frame_of n m) xs) LONGEST_FRAME) (map (frame_of n m) xs)) is
-    ∙ one_fits LONGEST_FRAME (frames_of n o m) (frames_fit n m LONGEST_FRAME (items_of o) (omega arith)) (omega (arith, few_items o, length-map (items_of o) (frame_of n m)))
+-- a drain changes neither the node nor what is untaken
+pub node_still : (core : Core) (es : List CoreEvent) → AreDrains es → (after_events core es).node ≡ core.node
+node_still core [] are = refl
+node_still core (e ∷ es) are =
+    node_still (core_happens core e AnsweredOk).core es are.1 ∙ drain_by (λ d. (core_happens core d AnsweredOk).core.node ≡ core.node) (λ m room. refl) e are.0
 
--- WHERE A NUMBER ISN'T GREETED
+pub untaken_still : (core : Core) (es : List CoreEvent) → AreDrains es → (after_events core es).untaken ≡ core.untaken
+untaken_still core [] are = refl
+untaken_still core (e ∷ es) are =
+    untaken_still (core_happens core e AnsweredOk).core es are.1 ∙ drain_by (λ d. (core_happens core d AnsweredOk).core.untaken ≡ core.untaken) (λ m room. refl) e are.0
 
--- what a drain takes of what waits
-abbrev pub taken_once : Core → ℕ → List (Option (List ℕ))
-taken_once core m = drop (length (greeted_frames core m)) (given_for core m LONGEST_FRAME)
+-- THEIR STEPS
 
--- it is all that it gives
-pub given_alone : (core : Core) (m : ℕ) → greeting_at core.greetings m ≡ None → given_for core m LONGEST_FRAME ≡ taken_for core.node core.waiting m LONGEST_FRAME
-given_alone core m none = ap (λ (o : Option Greeting). that_fit (greeting_frames core.node o m ++ frames_for core.node core.waiting m) LONGEST_FRAME) none
+-- the world with a place changed, and with these frames sent
+abbrev pub moved : World → Place → List Sent → World
+moved w q frames = record { liars = w.liars; numbers = w.numbers; places = put q w.places; sent = w.sent ++ frames; mark = w.mark; said = w.said; reports = w.reports; forged = w.forged }
 
-taken_alone : (core : Core) (m : ℕ) → greeting_at core.greetings m ≡ None → taken_once core m ≡ taken_for core.node core.waiting m LONGEST_FRAME
-taken_alone core m none =
-    ap (λ (o : Option Greeting). drop (length (greeting_frames core.node o m)) (that_fit (greeting_frames core.node o m ++ frames_for core.node core.waiting m) LONGEST_FRAME)) none
+-- what changes of a world
+abbrev with_lists : World → List Place → List Sent → List Reported → World
+with_lists w places sent reports = record { liars = w.liars; numbers = w.numbers; places = places; sent = sent; mark = w.mark; said = w.said; reports = reports; forged = w.forged }
 
-pub takes_once : (o : Option Validation) (core : Core) (m : ℕ) → WaitsAt o core m → taken_once core m ≡ frames_of core.node o m
-takes_once o core m waits = taken_alone core m waits.ungreeted ∙ takes_all core.node o core.waiting m waits.items
+abbrev once : Place → CoreEvent → Place
+once p e = record { core = (core_happens p.core e AnsweredOk).core; keeper = p.keeper }
 
--- greetings stay
-further_alone : (greetings : List (Option Greeting)) (m count : ℕ) → greeting_at greetings m ≡ None → further_at greetings m count ≡ greetings
-further_alone greetings m count none =
-    ap (λ (o : Option Greeting). with_greeting greetings m (option_map (further count) o)) none ∙ ap (with_greeting greetings m) (sym none) ∙ same greetings m
-  where
-    same : (gs : List (Option Greeting)) (k : ℕ) → with_greeting gs k (greeting_at gs k) ≡ gs
-    same gs zero = refl
-    same gs (suc place) = set-get_or gs place None
+abbrev frames_once : Place → CoreEvent → List Sent
+frames_once p e = sent_in p.core.node.me (core_happens p.core e AnsweredOk).answer
 
-greeted_elsewhere : (greetings : List (Option Greeting)) (m k count : ℕ) → (k ≡ m → ⊥) → greeting_at (further_at greetings m count) k ≡ greeting_at greetings k
-greeted_elsewhere greetings zero k count other = refl
-greeted_elsewhere greetings (suc place) zero count other = refl
-greeted_elsewhere greetings (suc place) (suc k) count other =
-    get_or-set_other greetings place k (option_map (further count) (get_or greetings place None)) None (λ e. other (ap (λ (n : ℕ). suc n) e))
+drain_step : (w : World) (i : ℕ) (p : Place) (e : CoreEvent) → place_at i w.places ≡ Some p → IsDrain e → step w (Act i e Kept) ≡ moved w (once p e) (frames_once p e)
+drain_step w i p e at is =
+    ap (λ o. acts w i e Kept o) at
+    ∙ drain_by (λ d. acts w i d Kept (Some p) ≡ moved w (once p d) (frames_once p d))
+    (λ m room. ap (λ (rs : List Reported). with_lists w (put (once p (Drain m room)) w.places) (w.sent ++ frames_once p (Drain m room)) rs) (append-nil w.reports)) e is
 
--- DRAINS, ONE NUMBER AFTER THE OTHER
+pub drains_run : (w : World) (i : ℕ) (p : Place) (es : List CoreEvent) → place_at i w.places ≡ Some p → AreDrains es →
+    run w (map (λ e. Act i e Kept) es) ≡ moved w (record { core = after_events p.core es; keeper = p.keeper }) (given_by p.core es)
+drains_run w i p [] at are =
+    ap (λ (ps : List Place). with_lists w ps w.sent w.reports) (sym (put_same i w.places p at)) ∙ ap (λ (fs : List Sent). with_lists w (put p w.places) fs w.reports) (sym (append-nil w.sent))
+drains_run w i p (e ∷ es) at are =
+    let q : Place = once p e in
+    let frames : List Sent = frames_once p e in
+    let last : Place = record { core = after_events q.core es; keeper = p.keeper } in
+    let same : q.core.node ≡ p.core.node = drain_by (λ d. (core_happens p.core d AnsweredOk).core.node ≡ p.core.node) (λ m room. refl) e are.0 in
+    let number : q.core.node.me ≡ i = ap (λ (n : Node). n.me) same ∙ at_its_number i w.places p at in
+    ap (λ (v : World). run v (map (λ d. Act i d Kept) es)) (drain_step w i p e at are.0)
+    ∙ drains_run (moved w q frames) i q es (put_at i q w.places p number at) are.1
+    ∙ ap (λ (ps : List Place). with_lists w ps ((w.sent ++ frames) ++ given_by q.core es) w.reports) (put_put q last w.places (ap (λ (n : Node). n.me) (node_still q.core es are.1)))
+    ∙ ap (λ (fs : List Sent). with_lists w (put last w.places) fs w.reports) (append_assoc w.sent frames (given_by q.core es))
 
--- a drain leaves what waits for greater numbers
-pub waits_still : (o : Option Validation) (core : Core) (m low : ℕ) (ms : List ℕ) → m ≤ low → Between low ms → Waits o core ms → Waits o (drained_once core m) ms
-waits_still o core m low [] le rising waits = tt
-waits_still o core m low (k ∷ ks) le rising waits = (
-  record {
-    items = ap (λ (q : Backlog Item). q.items) (elsewhere core.waiting m k (after_taking (taken_once core m)) (λ e. omega (arith, e, rising.0, le))) ∙ waits.0.items;
-    ungreeted = greeted_elsewhere core.greetings m k (fitting (greeted_frames core m) LONGEST_FRAME) (λ e. omega (arith, e, rising.0, le)) ∙ waits.0.ungreeted;
-  },
-  waits_still o core m k ks (omega (arith, rising.0, le)) rising.2 waits.1,
-)
+-- after the report that arose is handed out
+reports_step : (w : World) (i : ℕ) (p : Place) → place_at i w.places ≡ Some p → step w (Act i (Reports 1) Kept) ≡ moved w (record { core = handed_out p.core; keeper = p.keeper }) []
+reports_step w i p at =
+    let q : Place = record { core = handed_out p.core; keeper = p.keeper } in
+    ap (λ o. acts w i (Reports 1) Kept o) at ∙ ap (λ (rs : List Reported). with_lists w (put q w.places) (w.sent ++ []) rs) (append-nil w.reports)
 
--- WHAT WAITS THEN
+-- a core once it was emptied
+abbrev pub emptied : List ℕ → Core → Core
+emptied numbers core = after_events (handed_out core) (draining numbers (handed_out core))
 
--- a lesser number's queue stays
-drained_below : (core : Core) (k low : ℕ) (ms : List ℕ) → k ≤ low → Between low ms → waiting_at (drained core ms).waiting k ≡ waiting_at core.waiting k
-drained_below core k low [] le rising = refl
-drained_below core k low (m ∷ ms) le rising =
-    drained_below (drained_once core m) k m ms (omega (arith, le, rising.0)) rising.2
-    ∙ elsewhere core.waiting m k (after_taking (taken_once core m)) (λ e. omega (arith, e, le, rising.0))
+abbrev pub given_then : List ℕ → Core → List Sent
+given_then numbers core = given_by (handed_out core) (draining numbers (handed_out core))
 
-pub drained_long : (core : Core) (ms : List ℕ) → length (drained core ms).waiting ≡ length core.waiting
-drained_long core [] = refl
-drained_long core (m ∷ ms) = drained_long (drained_once core m) ms ∙ long_still core.waiting m (after_taking (taken_once core m))
+pub emptied_node : (numbers : List ℕ) (core : Core) → (emptied numbers core).node ≡ core.node
+emptied_node numbers core = node_still (handed_out core) (draining numbers (handed_out core)) (turns_are (handed_out core) _)
 
-pub drained_node : (core : Core) (ms : List ℕ) → (drained core ms).node ≡ core.node
-drained_node core [] = refl
-drained_node core (m ∷ ms) = drained_node (drained_once core m) ms
+emptying_run : (numbers : List ℕ) (w : World) (i : ℕ) (p : Place) → place_at i w.places ≡ Some p →
+    run w (map (λ e. Act i e Kept) (emptying numbers p.core)) ≡ moved w (record { core = emptied numbers p.core; keeper = p.keeper }) (given_then numbers p.core)
+emptying_run numbers w i p at =
+    let q : Place = record { core = handed_out p.core; keeper = p.keeper } in
+    let es : List CoreEvent = draining numbers q.core in
+    let last : Place = record { core = emptied numbers p.core; keeper = p.keeper } in
+    ap (λ (v : World). run v (map (λ e. Act i e Kept) es)) (reports_step w i p at)
+    ∙ drains_run (moved w q []) i q es (put_at i q w.places p (at_its_number i w.places p at) at) (turns_are q.core _)
+    ∙ ap (λ (ps : List Place). with_lists w ps ((w.sent ++ []) ++ given_by q.core es) w.reports) (put_put q last w.places (ap (λ (n : Node). n.me) (node_still q.core es (turns_are q.core _))))
+    ∙ ap (λ (fs : List Sent). with_lists w (put last w.places) (fs ++ given_by q.core es) w.reports) (append-nil w.sent)
 
--- once it was drained nothing waits for a number
-emptied_once : (o : Option Validation) (core : Core) (m : ℕ) → 1 ≤ m → m ≤ length core.waiting → WaitsAt o core m → (waiting_at (drained_once core m).waiting m).items ≡ []
-emptied_once o core m least most waits =
-    let taken : length (taken_once core m) ≡ length (items_of o) = ap length (takes_once o core m waits) ∙ length-map (items_of o) (frame_of core.node m) in
-    ap (λ (q : Backlog Item). q.items) (there core.waiting m (after_taking (taken_once core m)) least most)
-    ∙ ap (λ (xs : List Item). drop (length (taken_once core m)) xs) waits.items ∙ drop_all (length (taken_once core m)) (items_of o) (omega (arith, taken))
+-- AN EVENT AND WHAT FOLLOWS IT
 
--- nothing for these numbers
-pub drained_none : (o : Option Validation) (core : Core) (low : ℕ) (ms : List ℕ) → length core.waiting ≡ 64 → Between low ms → Waits o core ms → All (λ m. (waiting_at (drained core ms).waiting m).items ≡ []) ms
-drained_none o core low [] long rising waits = All-nil (λ m. (waiting_at core.waiting m).items ≡ [])
-drained_none o core low (m ∷ ms) long rising waits =
-    let change = after_taking (taken_once core m) in
-    let empty = emptied_once o core m (omega (arith, rising.0)) (omega (arith, rising.1, long)) waits.0 in
-    All-cons (λ k. (waiting_at (drained core (m ∷ ms)).waiting k).items ≡ []) m ms
-    (ap (λ (q : Backlog Item). q.items) (drained_below (drained_once core m) m m ms (omega arith) rising.2) ∙ empty)
-    (drained_none o (drained_once core m) m ms (long_still core.waiting m change ∙ long) rising.2 (waits_still o core m m ms (omega arith) rising.2 waits.1))
-
--- A DRAIN WHERE NOTHING WAITS
-
-pub dry : (core : Core) (m : ℕ) → WaitsAt None core m → core_happens core (Drain m LONGEST_FRAME) AnsweredOk ≡ answering core (Gave m [])
-dry core m waits =
-    let count : ℕ = fitting (greeted_frames core m) LONGEST_FRAME in
-    let gave : Answer = Gave m (frames_in (given_for core m LONGEST_FRAME)) in
-    ap (λ (fs : List (Option (List ℕ))). answering (record core { greetings = further_at core.greetings m count; waiting = at_number core.waiting m (after_taking fs) }) gave) (takes_once None core m waits)
-    ∙ ap (λ (ws : List (Backlog Item)). answering (record core { greetings = further_at core.greetings m count; waiting = ws }) gave) (taking_none core.waiting m)
-    ∙ ap (λ (gs : List (Option Greeting)). answering (record core { greetings = gs }) gave) (further_alone core.greetings m count waits.ungreeted)
-    ∙ ap (λ (fs : List (Option (List ℕ))). answering core (Gave m (frames_in fs))) (given_alone core m waits.ungreeted ∙ takes_all core.node None core.waiting m waits.items)
-
--- once it was drained nothing waits
-pub dry_then : (o : Option Validation) (core : Core) (m : ℕ) → 1 ≤ m → m ≤ length core.waiting → WaitsAt o core m → WaitsAt None (drained_once core m) m
-dry_then o core m least most waits = record {
-  items = emptied_once o core m least most waits;
-  ungreeted = ap (λ (gs : List (Option Greeting)). greeting_at gs m) (further_alone core.greetings m (fitting (greeted_frames core m) LONGEST_FRAME) waits.ungreeted) ∙ waits.ungreeted;
+-- the world after what came of an event at a place, once its core is emptied
+abbrev pub emptied_then : World → ℕ → Bool → CoreReply → Keeper → World
+emptied_then w i forged r keeper = record {
+  liars = w.liars;
+  numbers = w.numbers;
+  places = put (let x : Place = record { core = emptied w.numbers r.core; keeper = keeper } in x) w.places;
+  sent = (w.sent ++ sent_in r.core.node.me r.answer) ++ given_then w.numbers r.core;
+  mark = w.mark;
+  said = with_said w.said (option_map (said_by i) r.issued);
+  reports = w.reports ++ option_to_list (option_map (reported_by r.core.node) r.report);
+  forged = if forged then one_more w.forged else w.forged;
 }
 
-pub once_long : (core : Core) (m : ℕ) → length (drained_once core m).waiting ≡ length core.waiting
-once_long core m = long_still core.waiting m (after_taking (taken_once core m))
+abbrev pub emptied_acts : World → ℕ → CoreEvent → Fate → Option Place → World
+emptied_acts w i e fate None = w
+emptied_acts w i e fate (Some p) = emptied_then w i (is_forged w p.core.node e) (reply_at p e fate) (keeper_after p e fate)
 
--- what was not taken still isn't
-pub drained_untaken : (core : Core) (ms : List ℕ) → (drained core ms).untaken ≡ core.untaken
-drained_untaken core [] = refl
-drained_untaken core (m ∷ ms) = drained_untaken (drained_once core m) ms
-
--- who wasn't greeted still isn't
-pub drained_greetings : (o : Option Validation) (core : Core) (low : ℕ) (ms : List ℕ) → Between low ms → Waits o core ms → (drained core ms).greetings ≡ core.greetings
-drained_greetings o core low [] rising waits = refl
-drained_greetings o core low (m ∷ ms) rising waits =
-    drained_greetings o (drained_once core m) m ms rising.2 (waits_still o core m m ms (omega arith) rising.2 waits.1)
-    ∙ further_alone core.greetings m (fitting (greeted_frames core m) LONGEST_FRAME) waits.0.ungreeted
-
--- where nothing waits drains change nothing
-pub all_dry : (core : Core) (ms : List ℕ) → Waits None core ms → drained core ms ≡ core
-all_dry core [] waits = refl
-all_dry core (m ∷ ms) waits =
-    let same : drained_once core m ≡ core = ap (λ (r : CoreReply). r.core) (dry core m waits.0) in
-    ap (λ (c : Core). drained c ms) same ∙ all_dry core ms waits.1
-
-pub none_given : (core : Core) (ms : List ℕ) → Waits None core ms → given core ms ≡ []
-none_given core [] waits = refl
-none_given core (m ∷ ms) waits =
-    let same : core_happens core (Drain m LONGEST_FRAME) AnsweredOk ≡ answering core (Gave m []) = dry core m waits.0 in
-    ap (λ (r : CoreReply). sent_in core.node.me r.answer ++ given r.core ms) same ∙ none_given core ms waits.1
+-- the steps of an event leave that
+pub event_ran : (w : World) (i : ℕ) (e : CoreEvent) (fate : Fate) → run w (event_steps w i e fate) ≡ emptied_acts w i e fate (place_at i w.places)
+event_ran w i e fate = by_place (place_at i w.places) refl
+  where
+    by_place : (o : Option Place) → place_at i w.places ≡ o → run (acts w i e fate o) (emptying_at w.numbers i e fate o) ≡ emptied_acts w i e fate o
+    by_place None at = refl
+    by_place (Some p) at =
+        let r : CoreReply = reply_at p e fate in
+        let k : Keeper = keeper_after p e fate in
+        let q : Place = record { core = r.core; keeper = k } in
+        let last : Place = record { core = emptied w.numbers r.core; keeper = k } in
+        let v : World = settled w i (is_forged w p.core.node e) r k in
+        let its : r.core.node.me ≡ i = (core_keeps p.core e (answer_of p.keeper fate)).0 ∙ at_its_number i w.places p at in
+        emptying_run w.numbers v i q (put_at i q w.places p its at)
+        ∙ ap (λ (ps : List Place). with_lists v ps (v.sent ++ given_then w.numbers r.core) v.reports) (put_put q last w.places (ap (λ (n : Node). n.me) (emptied_node w.numbers r.core)))

@@ -12,9 +12,6 @@ pub mod Agreeing
 pub mod Numbers
 pub mod Each
 pub mod Places
-pub mod Steps
-pub mod Reopening
-pub mod Delivering
 pub mod Opposing
 pub mod Firsts
 pub mod Differing
@@ -22,7 +19,11 @@ pub mod Reporters
 pub mod Forging
 pub mod Indexing
 pub mod Lying
+pub mod Putting
 pub mod Emptying
-pub mod Sending
-pub mod Givings
+pub mod Resting
+pub mod Acting
+pub mod Telling
+pub mod Draining
+pub mod Reopening
 pub mod Taking

@@ -12,10 +12,12 @@ use Rattle.xl_world.specs.declared.place.Place.{Place}
 use Rattle.xl_world.specs.declared.place.Fate.{Fate}
 use Rattle.xl_world.specs.Keeper.{answer_of}
 use Rattle.xl_world.specs.World.{place_at, put, reply_at}
+use Rattle.xl_core.specs.Core.{core_asks}
+use Rattle.xl_world.specs.declared.place.Keeper.{Keeper}
 use Rattle.xl_world.specs.Seen.{IsAnswer, place_again, put_again, place_after, place_drained, put_acted, put_drained, given_at, acted_at, Answers, AnswersAt}
 use Rattle.xl_world.proofs.Lists.{core_keeps}
-use Rattle.xl_world.proofs.Emptying.{drained_node}
-use Rattle.xl_world.specs.Emptying.{given, others}
+use Rattle.xl_world.proofs.Emptying.{node_still, turns_are}
+use Rattle.xl_world.specs.Emptying.{draining, given_by}
 
 cons_same : {X : Type 0} (x y : X) (xs ys : List X) → x ≡ y → xs ≡ ys → x ∷ xs ≡ y ∷ ys
 cons_same x y xs ys p q = cc
@@ -72,31 +74,32 @@ acted_there xs i k e fate d y found is =
 pub drained_there : (numbers : List ℕ) (xs : List Place) (i k : ℕ) (d y : Place) → position (λ p. p.core.node.me == i) xs ≡ Some k → y ≡ place_drained numbers (get_or xs k d) → set xs k y ≡ put_drained numbers (place_at i xs) xs
 drained_there numbers xs i k d y found is =
     let p : Place = get_or xs k d in
-    put_found xs i k d y found (ap (λ (p : Place). p.core.node.me) is ∙ ap (λ n. n.me) (drained_node p.core (others numbers p.core.node.me)))
+    put_found xs i k d y found (ap (λ (p : Place). p.core.node.me) is ∙ ap (λ n. n.me) (node_still p.core (draining numbers p.core) (turns_are p.core _)))
     ∙ (ap (λ (p : Place). put p xs) is ∙ ap (λ o. put_drained numbers o xs) (sym (found_there xs i k d found)))
 
 pub drained_nowhere : (numbers : List ℕ) (xs : List Place) (i : ℕ) → position (λ p. p.core.node.me == i) xs ≡ None → xs ≡ put_drained numbers (place_at i xs) xs
 drained_nowhere numbers xs i none = ap (λ o. put_drained numbers o xs) (sym (none_there xs i none))
 
-pub given_there : (numbers : List ℕ) (xs : List Place) (i k : ℕ) (d : Place) → position (λ p. p.core.node.me == i) xs ≡ Some k → given (get_or xs k d).core (others numbers (get_or xs k d).core.node.me) ≡ given_at numbers (place_at i xs)
+pub given_there : (numbers : List ℕ) (xs : List Place) (i k : ℕ) (d : Place) → position (λ p. p.core.node.me == i) xs ≡ Some k → given_by (get_or xs k d).core (draining numbers (get_or xs k d).core) ≡ given_at numbers (place_at i xs)
 given_there numbers xs i k d found = ap (given_at numbers) (sym (found_there xs i k d found))
 
 pub given_nowhere : (numbers : List ℕ) (xs : List Place) (i : ℕ) → position (λ p. p.core.node.me == i) xs ≡ None → [] ≡ given_at numbers (place_at i xs)
 given_nowhere numbers xs i none = ap (given_at numbers) (sym (none_there xs i none))
 
 -- a node that is opened again at the place that is found
-pub again_there : (xs : List Place) (i k now number : ℕ) (d y : Place) → position (λ p. p.core.node.me == i) xs ≡ Some k → y ≡ place_again (get_or xs k d) now number → set xs k y ≡ put_again now number (place_at i xs) xs
-again_there xs i k now number d y found is =
+pub again_there : (xs : List Place) (i k now : ℕ) (keeper : Keeper) (d y : Place) → position (λ p. p.core.node.me == i) xs ≡ Some k → y ≡ place_again (get_or xs k d) now keeper → set xs k y ≡ put_again now keeper (place_at i xs) xs
+again_there xs i k now keeper d y found is =
     put_found xs i k d y found (ap (λ (p : Place). p.core.node.me) is)
-    ∙ (ap (λ (p : Place). put p xs) is ∙ ap (λ o. put_again now number o xs) (sym (found_there xs i k d found)))
+    ∙ (ap (λ (p : Place). put p xs) is ∙ ap (λ o. put_again now keeper o xs) (sym (found_there xs i k d found)))
 
-pub again_nowhere : (xs : List Place) (i now number : ℕ) → position (λ p. p.core.node.me == i) xs ≡ None → xs ≡ put_again now number (place_at i xs) xs
-again_nowhere xs i now number none = ap (λ o. put_again now number o xs) (sym (none_there xs i none))
+pub again_nowhere : (xs : List Place) (i now : ℕ) (keeper : Keeper) → position (λ p. p.core.node.me == i) xs ≡ None → xs ≡ put_again now keeper (place_at i xs) xs
+again_nowhere xs i now keeper none = ap (λ o. put_again now keeper o xs) (sym (none_there xs i none))
 
 pub acted_nowhere : (xs : List Place) (i : ℕ) (e : CoreEvent) (fate : Fate) → position (λ p. p.core.node.me == i) xs ≡ None → xs ≡ acted_at i e fate xs
 acted_nowhere xs i e fate none = ap (λ o. put_acted e fate o xs) (sym (none_there xs i none))
 
-pub answered_there : (xs : List Place) (i k : ℕ) (e : CoreEvent) (fate : Fate) (d : Place) (a : NodeAnswer) → position (λ p. p.core.node.me == i) xs ≡ Some k → IsAnswer a (reply_at (get_or xs k d) e fate) → AnswersAt i e fate xs (Some a)
+pub answered_there : (xs : List Place) (i k : ℕ) (e : CoreEvent) (fate : Fate) (d : Place) (a : NodeAnswer) → position (λ p. p.core.node.me == i) xs ≡ Some k →
+    IsAnswer (get_or xs k d).core.node.me a (reply_at (get_or xs k d) e fate) × (a.asked ≡ core_asks (get_or xs k d).core e) → AnswersAt i e fate xs (Some a)
 answered_there xs i k e fate d a found is = subst (λ o. Answers e fate o (Some a)) (sym (found_there xs i k d found)) is
 
 pub answered_nowhere : (xs : List Place) (i : ℕ) (e : CoreEvent) (fate : Fate) → position (λ p. p.core.node.me == i) xs ≡ None → AnswersAt i e fate xs None

@@ -1,5 +1,5 @@
 -- Where sent frames stand by their tags. Source: what the code of this crate keeps.
-use Rattle.std.specs.Prelude.{◌≡◌, ℕ, ◌-◌, ◌<◌, ◌≤◌, Bool, true, false, List, length, drop, get_or, slice_get, Option, Some, None}
+use Rattle.std.specs.Prelude.{◌≡◌, ℕ, ◌-◌, ◌<◌, ◌≤◌, Bool, true, false, List, [], ◌∷◌, ◌++◌, length, drop, get_or, slice_get, Option, Some, None}
 use Rattle.std.specs.Str.{bytes_eq}
 use Rattle.std.specs.Ordering.{nat_cmp}
 use Rattle.std.specs.Cmp.Lexicographic.{slice_cmp}
@@ -33,3 +33,16 @@ pub record IsIndex (index : TagIndex) (sent : List Sent) : Type 0 where
   pub few : index.indexed ≤ length sent
   pub placed : index.given_up ≡ false →
       (k : ℕ) (d : Sent) → k < index.indexed → LeadsTo index sent (get_or sent k d).bytes
+
+-- what was sent, and how much of it stands before the mark
+pub record Traffic : Type 0 where
+  pub frames : List Sent
+  pub mark : ℕ
+
+-- with a frame more
+abbrev pub with_frame : Traffic → Sent → Traffic
+with_frame t f = record { frames = t.frames ++ f ∷ []; mark = t.mark }
+
+-- with these frames
+abbrev pub with_frames : Traffic → List Sent → Traffic
+with_frames t fs = record { frames = t.frames ++ fs; mark = t.mark }

@@ -5,7 +5,7 @@ pub mod World
 pub mod Starts
 pub mod Headline
 pub mod Emptying
-pub mod Idle
+pub mod Rested
 pub mod Schedule
 pub mod Forks
 pub mod Seen

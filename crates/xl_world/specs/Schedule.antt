@@ -1,5 +1,5 @@
 -- What an event of a schedule is in a world, and what is told of it. Source: this project's schedule language.
-use Rattle.std.specs.Prelude.{ℕ, zero, suc, Bool, List, [], ◌∷◌, ◌++◌, drop, slice_get, option_map, option_to_list, if◌then◌else◌}
+use Rattle.std.specs.Prelude.{ℕ, zero, suc, ◌==◌, Bool, List, [], ◌∷◌, ◌++◌, drop, slice_get, option_map, option_to_list, if◌then◌else◌}
 use Rattle.std.specs.Prelude.{Some, None}
 use Rattle.std.specs.declared.option.Option.{Option}
 use Rattle.xl_sched.specs.declared.event.Ask.{Ask}
@@ -9,17 +9,26 @@ use Rattle.xl_sched.specs.declared.event.Lied.{Lied}
 use Rattle.xl_sched.specs.declared.event.Lied.TheVariants as lied
 use Rattle.xl_sched.specs.declared.event.What.{What}
 use Rattle.xl_sched.specs.declared.event.What.TheVariants as what
+use Rattle.xl_sched.specs.Fits.{IsFitLied}
 use Rattle.xl_tags.specs.Rings.{schedule_ring}
-use Rattle.xl_core.specs.Answers.{refusal_in}
+use Rattle.xl_ledger.specs.declared.refusal.AddRefusal.TheVariants.{Full as RegistryFull}
+use Rattle.xl_core.specs.Answers.{Answer}
+use Rattle.xl_core.specs.Answers as answer
+use Rattle.xl_core.specs.declared.beat.Beat.{Beat}
+use Rattle.xl_core.specs.declared.beat.Beat.TheVariants as beat
+use Rattle.xl_core.specs.declared.beat.Issued.{Issued}
+use Rattle.xl_core.specs.declared.beat.Issued.TheVariants as issued
+use Rattle.xl_core.specs.declared.refusal.Refusal.TheVariants.{Header as HeaderRefused}
 use Rattle.xl_core.specs.Core.{CoreReply, core_asks}
 use Rattle.xl_core.specs.Node.{preferred}
 use Rattle.xl_core.specs.declared.event.CoreEvent.{CoreEvent}
-use Rattle.xl_core.specs.declared.event.CoreEvent.TheVariants.{Issue, Frame}
+use Rattle.xl_core.specs.declared.event.CoreEvent.TheVariants.{Issue, Frame, Timer, Submit, Greet}
 use Rattle.xl_core.specs.Sending.{sealed_bytes}
 use Rattle.xl_ledger.specs.Headers.{spelling}
+use Rattle.xl_wire.specs.declared.body.Body.{Body}
 use Rattle.xl_wire.specs.declared.body.Body.TheVariants as bodies
 use Rattle.xl_world.specs.declared.outcome.Outcome.{Outcome}
-use Rattle.xl_world.specs.declared.outcome.Outcome.TheVariants.{Refused, Full, Preferred}
+use Rattle.xl_world.specs.declared.outcome.Outcome.TheVariants.{Switched, Built, Refused, Full, Preferred}
 use Rattle.xl_world.specs.declared.place.Fate.{Fate}
 use Rattle.xl_world.specs.declared.place.Fate.TheVariants.{Kept, Unwritten, Written}
 use Rattle.xl_world.specs.declared.place.Place.{Place}
@@ -51,18 +60,32 @@ frame_at sent (suc k) = slice_get sent k
 abbrev pub restart : ℕ → Place → Step
 restart at p = Again p.core.node.me at (found p.keeper)
 
+-- the body in which a liar says it
+abbrev pub lied_body : Lied → Body
+lied_body (lied.Proposal p) = bodies.Proposal p
+lied_body (lied.Validation v) = bodies.Validation v
+lied_body (lied.Header name h) = bodies.Header (spelling h)
+lied_body (lied.TxSet ids) = bodies.TxSet ids
+lied_body (lied.Tx tx) = bodies.Tx tx
+
 -- the frame of a lie, sealed as its sender seals
 abbrev pub lied_bytes : ℕ → ℕ → Lied → List ℕ
-lied_bytes from to (lied.Validation v) = sealed_bytes (schedule_ring from) from to (bodies.Validation v)
-lied_bytes from to (lied.Header name h) = sealed_bytes (schedule_ring from) from to (bodies.Header (spelling h))
+lied_bytes from to lie = sealed_bytes (schedule_ring from) from to (lied_body lie)
+
+-- what a liar says is fit to be said: a set is one
+abbrev pub IsPlausible : What → Type 0
+IsPlausible (what.Lie from to lie) = IsFitLied lie
+IsPlausible happening = Unit {0}
 
 -- the node that is asked
 abbrev pub node_asked : Ask → ℕ
 node_asked (ask.Issue node seq id full) = node
+node_asked (ask.Timer node) = node
 
 -- and what it is asked to do, at a moment
 abbrev pub event_asked : ℕ → Ask → CoreEvent
 event_asked at (ask.Issue node seq id full) = Issue at seq id full
+event_asked at (ask.Timer node) = Timer at
 
 -- how a save fails that leaves the new number, or the old one
 abbrev pub failing : Bool → Fate
@@ -89,9 +112,23 @@ ask_steps w at ask fate = event_steps w (node_asked ask) (event_asked at ask) fa
 abbrev pub hand_steps : World → ℕ → ℕ → List ℕ → List Step
 hand_steps w at to bytes = event_steps w to (Frame at bytes) Kept
 
+-- a timer at each declared number, one after the other; a liar has none
+abbrev pub timers : World → ℕ → List ℕ → List Step
+timers w at [] = []
+timers w at (i ∷ is) =
+    let steps = event_steps w i (Timer at) Kept in
+    steps ++ timers (run w steps) at is
+
+-- a node greets another; itself it doesn't greet
+abbrev pub greet_steps : World → ℕ → ℕ → List Step
+greet_steps w node peer = if node == peer then [] else event_steps w node (Greet peer) Kept
+
 -- the steps that it is when something happens at a moment
 abbrev pub steps_at : World → ℕ → What → List Step
 steps_at w at (what.Ask ask) = ask_steps w at ask Kept
+steps_at w at what.Timers = timers w at w.numbers
+steps_at w at (what.Submit node tx) = event_steps w node (Submit at tx) Kept
+steps_at w at (what.Greet node peer) = greet_steps w node peer
 steps_at w at (what.Deliver place) = delivery_of w at (frame_at w.sent place)
 steps_at w at what.All = deliveries w at (drop w.mark w.sent) ++ Mark ∷ []
 steps_at w at what.Drop = Mark ∷ []
@@ -117,11 +154,36 @@ reply_to w (Again i now number) = None
 reply_to w (Torn i event number) = None
 reply_to w Mark = None
 
--- what is told of a reply: that it refused, and what it reports
+-- what is told of how a built ledger was validated: that its validation was refused
+abbrev pub told_of_issued : ℕ → Issued → List Outcome
+told_of_issued i issued.Full = []
+told_of_issued i issued.Partial = []
+told_of_issued i issued.Silent = []
+told_of_issued i (issued.Refused why) = Refused i why ∷ []
+
+-- what is told of a timer: the ledger that the node switched to, or the one that it built, or that it has no room for
+-- one more
+abbrev pub told_of_beat : ℕ → Beat → List Outcome
+told_of_beat i beat.Nothing = []
+told_of_beat i beat.Closed = []
+told_of_beat i beat.Updated = []
+told_of_beat i (beat.Switched seq id) = Switched i seq id ∷ []
+told_of_beat i (beat.NoRoom limit) = Refused i (HeaderRefused (RegistryFull limit)) ∷ []
+told_of_beat i (beat.Built seq id moved_on how) = Built i seq id how ∷ told_of_issued i how
+
+-- what is told of an answer: that it refuses, or what came of a timer
+abbrev pub told_of_answer : ℕ → Answer → List Outcome
+told_of_answer i (answer.Refused why) = Refused i why ∷ []
+told_of_answer i (answer.Took taken) = []
+told_of_answer i (answer.Beats beat) = told_of_beat i beat
+told_of_answer i answer.Done = []
+told_of_answer i (answer.Gave to frames) = []
+told_of_answer i (answer.Handed reports) = []
+told_of_answer i (answer.Told stopped) = []
+
+-- what is told of a reply: of its answer, and then what it reports
 abbrev pub outcomes_of : ℕ → CoreReply → List Outcome
-outcomes_of i r =
-    option_to_list (option_map (Refused i) (refusal_in r.answer))
-    ++ option_to_list (option_map (λ q. Full i q.seq q.id) r.report)
+outcomes_of i r = told_of_answer i r.answer ++ option_to_list (option_map (λ q. Full i q.seq q.id) r.report)
 
 abbrev pub told_of_reply : ℕ → Option CoreReply → List Outcome
 told_of_reply i None = []

@@ -1,34 +1,45 @@
 -- How the definitions see the types of the code. Source: what the code of this crate keeps.
-use Rattle.std.specs.Prelude.{◌≡◌, ℕ, Bool, false, [], ◌∷◌, List, ◌++◌, map, is_some, option_map, option_to_list, not, ◌==◌, ◌&&◌, ◌||◌}
-use Rattle.std.specs.Prelude.{Some, None}
+use Rattle.std.specs.Prelude.{◌≡◌, ℕ, Bool, false, [], ◌∷◌, List, ◌++◌, All, option_map, option_to_list, not, ◌==◌, ◌&&◌, ◌||◌}
+use Rattle.std.specs.Prelude.{Some, None, Result, Ok, Err}
 use Rattle.std.specs.declared.option.Option.{Option}
 use Rattle.std.specs.List.{list_all}
 use Rattle.xl_base.specs.Ids.{same_id}
+use Rattle.xl_base.specs.declared.ids.LedgerId.{LedgerId}
+use Rattle.xl_lists.specs.Agreement.{with_said}
 use Rattle.xl_lists.specs.declared.report.Report.{Report}
-use Rattle.xl_core.specs.Answers.{refusal_in}
-use Rattle.xl_core.specs.Core.{CoreReply}
+use Rattle.xl_lists.specs.declared.said.SaidLedger.{SaidLedger}
+use Rattle.xl_core.specs.Answers.{Answer}
+use Rattle.xl_core.specs.Answers as answer
+use Rattle.xl_core.specs.Core.{Core, CoreReply, core_asks, core_happens}
+use Rattle.xl_core.specs.declared.beat.Beat.{Beat}
+use Rattle.xl_core.specs.declared.beat.Beat.TheVariants as beat
+use Rattle.xl_core.specs.declared.beat.Issued.{Issued}
+use Rattle.xl_core.specs.declared.beat.Issued.TheVariants as issued
 use Rattle.xl_core.specs.declared.event.CoreEvent.{CoreEvent}
-use Rattle.xl_core.specs.declared.event.CoreEvent.TheVariants.{Issue, Frame}
-use Rattle.xl_tags.specs.Rings.{schedule_ring}
+use Rattle.xl_core.specs.declared.event.CoreEvent.TheVariants.{Issue, Frame, Timer, Submit, Greet}
+use Rattle.xl_core.specs.declared.refusal.Refusal.{Refusal}
+use Rattle.xl_wire.specs.Heads.{split_of}
+use Rattle.xl_wire.specs.Raws.{RawFrame, SpellsRaw}
+use Rattle.xl_world.specs.declared.act.Deed.{Deed}
+use Rattle.xl_world.specs.declared.act.Deed.TheVariants as deed
+use Rattle.xl_world.specs.declared.act.Done.{Done}
 use Rattle.xl_world.specs.declared.act.NodeAnswer.{NodeAnswer}
-use Rattle.xl_world.specs.declared.act.Issuing.{Issuing}
-use Rattle.xl_world.specs.declared.anew.Cut.{Cut}
+use Rattle.xl_world.specs.declared.act.Reaction.{Reaction}
+use Rattle.xl_world.specs.declared.act.Reaction.TheVariants as reaction
 use Rattle.xl_world.specs.declared.fork.Fork.{Fork}
 use Rattle.xl_world.specs.declared.outcome.Outcome.{Outcome}
 use Rattle.xl_world.specs.declared.outcome.Outcome.TheVariants.{Refused, Full}
-use Rattle.xl_world.specs.declared.place.Place.{Place}
 use Rattle.xl_world.specs.declared.place.Fate.{Fate}
-use Rattle.xl_world.specs.Keeper.{left_by, restored}
-use Rattle.xl_world.specs.Forks as Forks
-use Rattle.xl_world.specs.declared.place.Fate.TheVariants.{Kept}
-use Rattle.xl_world.specs.Schedule.{told_of_reply}
-use Rattle.xl_world.specs.World.{reported_by}
-use Rattle.xl_world.specs.Forgeries.{forges}
-use Rattle.xl_world.specs.World.{run, World, Step, core_again, keeper_after, place_at, put, reply_at, step}
-use Rattle.xl_world.specs.Emptying.{drained, given, handed_out, others}
-use Rattle.xl_world.specs.Idle.{IsIdle, WaitsOnly}
-use Rattle.xl_wire.specs.Heads.{split_of}
+use Rattle.xl_world.specs.declared.place.Keeper.{Keeper}
+use Rattle.xl_world.specs.declared.place.Place.{Place}
+use Rattle.xl_world.specs.declared.saving.Fated.{Fated}
 use Rattle.xl_world.specs.declared.sent.Sent.{Sent}
+use Rattle.xl_world.specs.Emptying.{after_events, draining, given_by, handed_out}
+use Rattle.xl_world.specs.Forgeries.{forges}
+use Rattle.xl_world.specs.Forks as Forks
+use Rattle.xl_world.specs.Keeper.{after_save, answer_of}
+use Rattle.xl_world.specs.Schedule.{told_of_beat}
+use Rattle.xl_world.specs.World.{World, core_again, keeper_after, place_at, put, reply_at, reported_by, said_by}
 
 abbrev pub fork_seen : Fork → Forks.Fork
 fork_seen f = record { earlier = f.earlier.now; later = f.later.now }
@@ -41,14 +52,67 @@ agrees_at j r q = not (q.node == j && (r.seq == q.seq && not (same_id r.id q.id)
 abbrev pub accords : ℕ → ℕ → List Report → Report → Bool
 accords i j reports r = not (r.node == i) || list_all (λ q. agrees_at j r q) reports
 
--- what a core is asked, as its event
-abbrev pub issue_event : Issuing → CoreEvent
-issue_event a = Issue a.at a.seq a.id a.full
+-- what happens at a node, as its core's event
+abbrev pub deed_event : ℕ → Deed → CoreEvent
+deed_event now (deed.Issue seq id full) = Issue now seq id full
+deed_event now (deed.Frame bytes) = Frame now bytes.now
+deed_event now deed.Timer = Timer now
+deed_event now (deed.Submit tx) = Submit now tx
+deed_event now (deed.Greet peer) = Greet peer
 
--- what a node's calls answered is this reply
-pub record IsAnswer (a : NodeAnswer) (r : CoreReply) : Type 0 where
-  pub refused : a.refused ≡ refusal_in r.answer
-  pub issued : a.issued ≡ r.issued
+-- a node greets another
+abbrev pub MayDo : ℕ → Deed → Type 0
+MayDo me (deed.Issue seq id full) = Unit {0}
+MayDo me (deed.Frame bytes) = Unit {0}
+MayDo me deed.Timer = Unit {0}
+MayDo me (deed.Submit tx) = Unit {0}
+MayDo me (deed.Greet peer) = ¬ (peer ≡ me)
+
+-- what a node says in an answer of what happened at it
+abbrev pub reaction_of : Answer → Reaction
+reaction_of (answer.Refused why) = reaction.Refused why
+reaction_of (answer.Took taken) = reaction.Done
+reaction_of (answer.Beats beat) = reaction.Beat beat
+reaction_of answer.Done = reaction.Done
+reaction_of (answer.Gave to frames) = reaction.Done
+reaction_of (answer.Handed reports) = reaction.Done
+reaction_of (answer.Told stopped) = reaction.Done
+
+abbrev pub reaction_to : {X : Type 0} → Result X Refusal → Reaction
+reaction_to (Ok done) = reaction.Done
+reaction_to (Err why) = reaction.Refused why
+
+-- the validation that a node issued of a ledger that it built
+abbrev pub said_by_issued : ℕ → ℕ → LedgerId → Issued → Option SaidLedger
+said_by_issued member seq id issued.Full = Some (record { member = member; seq = seq; id = id })
+said_by_issued member seq id issued.Partial = Some (record { member = member; seq = seq; id = id })
+said_by_issued member seq id issued.Silent = None
+said_by_issued member seq id (issued.Refused why) = None
+
+abbrev pub said_by_beat : ℕ → Beat → Option SaidLedger
+said_by_beat member beat.Nothing = None
+said_by_beat member beat.Closed = None
+said_by_beat member beat.Updated = None
+said_by_beat member (beat.Switched seq id) = None
+said_by_beat member (beat.NoRoom limit) = None
+said_by_beat member (beat.Built seq id moved_on how) = said_by_issued member seq id how
+
+pub record IsBeaten (member : ℕ) (beat : Beat) (done : Done) : Type 0 where
+  pub reaction : done.reaction ≡ reaction.Beat beat
+  pub said : done.said ≡ said_by_beat member beat
+
+-- what an event does to a core, under a keeper whose save meets a fate
+pub record Does (before : Core) (event : CoreEvent) (old : Fated) (after : Core) (done : Done) (new : Fated) : Type 0 where
+  pub core : after ≡ (core_happens before event (answer_of old.keeper old.fate)).core
+  pub reaction : done.reaction ≡ reaction_of (core_happens before event (answer_of old.keeper old.fate)).answer
+  pub said : done.said ≡ option_map (said_by before.node.me) (core_happens before event (answer_of old.keeper old.fate)).issued
+  pub keeper : new.keeper ≡ after_save old.keeper (core_asks before event) old.fate
+  pub asked : old.asked ≡ None → new.asked ≡ core_asks before event
+
+-- what came of it at the node of this number is this reply
+pub record IsAnswer (member : ℕ) (a : NodeAnswer) (r : CoreReply) : Type 0 where
+  pub reaction : a.reaction ≡ reaction_of r.answer
+  pub said : a.said ≡ option_map (said_by member) r.issued
   pub report : a.report ≡ option_map (reported_by r.core.node) r.report
 
 -- a place after an event, of which the report was handed out
@@ -68,26 +132,15 @@ abbrev pub Answers : CoreEvent → Fate → Option Place → Option NodeAnswer �
 Answers e fate None None = Unit {0}
 Answers e fate None (Some a) = ⊥
 Answers e fate (Some p) None = ⊥
-Answers e fate (Some p) (Some a) = IsAnswer a (reply_at p e fate)
+Answers e fate (Some p) (Some a) =
+    IsAnswer p.core.node.me a (reply_at p e fate) × (a.asked ≡ core_asks p.core e)
 
 abbrev pub AnswersAt : ℕ → CoreEvent → Fate → List Place → Option NodeAnswer → Type 0
 AnswersAt i e fate places answer = Answers e fate (place_at i places) answer
 
--- no report waits at the node of a number
-abbrev pub NoneUntaken : ℕ → List Place → Type 0
-NoneUntaken i places = (p : Place) → place_at i places ≡ Some p → p.core.untaken.items ≡ []
-
--- nor at any
-abbrev pub NoneUntakenAnywhere : List Place → Type 0
-NoneUntakenAnywhere places = (i : ℕ) → NoneUntaken i places
-
--- only what was just issued waits at the node of a number, and its keys are those of a schedule's member
-abbrev pub MayDrain : List ℕ → Place → Type 0
-MayDrain numbers p = WaitsOnly numbers p.core × (p.core.node.keys ≡ schedule_ring p.core.node.me)
-
 -- a place that was drained for the other numbers
 abbrev pub place_drained : List ℕ → Place → Place
-place_drained numbers p = record { core = drained p.core (others numbers p.core.node.me); keeper = p.keeper }
+place_drained numbers p = record { core = after_events p.core (draining numbers p.core); keeper = p.keeper }
 
 abbrev pub put_drained : List ℕ → Option Place → List Place → List Place
 put_drained numbers None places = places
@@ -96,70 +149,57 @@ put_drained numbers (Some p) places = put (place_drained numbers p) places
 -- and what it gave
 abbrev pub given_at : List ℕ → Option Place → List Sent
 given_at numbers None = []
-given_at numbers (Some p) = given p.core (others numbers p.core.node.me)
+given_at numbers (Some p) = given_by p.core (draining numbers p.core)
 
--- what is told of an answer
+-- what is told of what a node says
+abbrev pub told_of_reaction : ℕ → Reaction → List Outcome
+told_of_reaction i reaction.Done = []
+told_of_reaction i (reaction.Refused why) = Refused i why ∷ []
+told_of_reaction i (reaction.Beat beat) = told_of_beat i beat
+
+-- and of what it reports
 abbrev pub outcomes_told : ℕ → NodeAnswer → List Outcome
 outcomes_told i a =
-    option_to_list (option_map (Refused i) a.refused) ++ option_to_list (option_map (λ r. Full i r.seq r.id) a.report)
+    told_of_reaction i a.reaction ++ option_to_list (option_map (λ r. Full i r.seq r.id) a.report)
+
+-- a world in which an answer was noted, and the core that answered was drained
+abbrev pub noted : World → ℕ → NodeAnswer → World
+noted w i a = record w {
+  places = put_drained w.numbers (place_at i w.places) w.places;
+  sent = w.sent ++ given_at w.numbers (place_at i w.places);
+  said = with_said w.said a.said;
+  reports = w.reports ++ option_to_list a.report;
+}
+
+-- a world with these places
+abbrev pub with_places : World → List Place → World
+with_places w places = record w { places = places }
+
+-- a world in which so many frames came forged
+abbrev pub with_forged : ℕ → World → World
+with_forged n w = record w { forged = n }
 
 -- whether what comes to a place, where there is one, is forged
 abbrev pub forged_at : List ℕ → List Sent → List ℕ → Option Place → Bool
 forged_at liars sent bytes None = false
 forged_at liars sent bytes (Some p) = forges liars sent p.core.node.keys bytes (split_of bytes)
 
--- what the node of a number replies to what comes to it, where there is one
-abbrev pub reply_in : ℕ → CoreEvent → List Place → Option CoreReply
-reply_in i e places = option_map (λ p. reply_at p e Kept) (place_at i places)
-
--- and what it reports
-abbrev pub reported_in : Option CoreReply → List Report
-reported_in None = []
-reported_in (Some r) = option_to_list (option_map (reported_by r.core.node) r.report)
-
--- the places, the reports and what is told, while frames come
-pub record Hearing : Type 0 where
-  pub places : List Place
-  pub reports : List Report
-  pub told : List Outcome
-
-abbrev pub hearing_seen : List Place → List Report → List Outcome → Hearing
-hearing_seen places reports told = record { places = places; reports = reports; told = told }
-
--- bytes come to the node of a number
-abbrev pub heard_one : ℕ → ℕ → List ℕ → Hearing → Hearing
-heard_one to at bytes h = record {
-  places = acted_at to (Frame at bytes) Kept h.places;
-  reports = h.reports ++ reported_in (reply_in to (Frame at bytes) h.places);
-  told = h.told ++ told_of_reply to (reply_in to (Frame at bytes) h.places);
-}
-
--- sent frames come to their receivers
-abbrev pub heard_all : ℕ → List Sent → Hearing → Hearing
-heard_all at [] h = h
-heard_all at (f ∷ fs) h = heard_all at fs (heard_one f.to at f.bytes h)
-
--- a place opened again with this number, which its keeper then holds alone
-abbrev pub place_again : Place → ℕ → ℕ → Place
-place_again p now number = record { core = core_again p now number; keeper = restored p.keeper number }
+-- a place opened again with what its keeper then holds
+abbrev pub place_again : Place → ℕ → Keeper → Place
+place_again p now keeper = record { core = core_again p now keeper.in_force; keeper = keeper }
 
 -- the places with the node of a number opened again
-abbrev pub put_again : ℕ → ℕ → Option Place → List Place → List Place
-put_again now number None places = places
-put_again now number (Some p) places = put (place_again p now number) places
+abbrev pub put_again : ℕ → Keeper → Option Place → List Place → List Place
+put_again now keeper None places = places
+put_again now keeper (Some p) places = put (place_again p now keeper) places
 
--- what a cut leaves: where the event asks a save, it was torn in it
-abbrev pub cut_seen : Bool → Place → Option ℕ → Cut
-cut_seen new p asked = record { number = left_by p.keeper new asked; torn = is_some asked }
+-- the keeper of the node of a number
+abbrev pub keeper_in : ℕ → List Place → Option Keeper
+keeper_in i places = option_map (λ p. p.keeper) (place_at i places)
 
--- the world with the node of a number opened again
-abbrev pub with_again : World → ℕ → ℕ → ℕ → World
-with_again w i now number = record w { places = put_again now number (place_at i w.places) w.places }
+-- one whole frame each
+abbrev pub AreFrames : List (List ℕ) → Type 0
+AreFrames frames = All (λ bytes. (f : RawFrame) × SpellsRaw f bytes) frames
 
--- that is the world after one step, and nothing waits in it
-abbrev pub Steps : World → ℕ → ℕ → ℕ → Type 0
-Steps w i now number = (s : Step) × (with_again w i now number ≡ step w s) × IsIdle (step w s)
-
--- the world after the first of these steps, and none of the others
-abbrev pub IsFront : World → List Step → World → Type 0
-IsFront w steps v = (first : List Step) × (rest : List Step) × (steps ≡ first ++ rest) × (v ≡ run w first)
+abbrev pub sent_from : ℕ → ℕ → List ℕ → Sent
+sent_from from to bytes = record { from = from; to = to; bytes = bytes }

@@ -1,27 +1,41 @@
 -- A world of the code, as the definitions see it. Source: what the code of this crate keeps.
-use Rattle.std.specs.Prelude.{◌≤◌, length}
+use Rattle.std.specs.Prelude.{◌≡◌, ◌≤◌, ◌×◌, [], IfSome, length, unwrap_or}
+use Rattle.xl_world.specs.declared.network.Network.TheInside.{Inside as NetworkInside}
+use Rattle.xl_world.specs.declared.traffic.Traffic.TheInside.{Inside as TrafficInside}
 use Rattle.xl_world.specs.declared.world.World.TheInside.{Inside}
-use Rattle.xl_world.specs.Indexes.{IsIndex}
+use Rattle.xl_world.specs.Indexes.{IsIndex, Traffic}
+use Rattle.xl_world.specs.Rested.{IsAtRest}
+use Rattle.xl_world.specs.Starts.{IsRun, start}
 use Rattle.xl_world.specs.World.{World}
-use Rattle.xl_world.specs.Starts.{IsRun}
-use Rattle.xl_world.specs.Idle.{IsIdle}
 
-abbrev pub world_seen : Inside → World
-world_seen w = record {
-  liars = w.liars.items;
-  numbers = w.numbers.items;
-  places = w.places.items;
-  sent = w.sent.items;
-  mark = w.mark;
-  said = w.said.items;
-  reports = w.reports.items;
-  forged = w.forged;
+abbrev pub traffic_seen : TrafficInside → Traffic
+traffic_seen t = record { frames = t.frames.items; mark = t.mark }
+
+-- the index is one of what was sent, and the mark stands in that
+pub record IsTraffic (t : TrafficInside) : Type 0 where
+  pub index : IsIndex t.index t.frames.items
+  pub mark : t.mark ≤ length t.frames.items
+
+abbrev pub network_seen : NetworkInside → World
+network_seen n = record {
+  liars = n.liars.items;
+  numbers = n.numbers.items;
+  places = n.places.items;
+  sent = n.traffic.frames;
+  mark = n.traffic.mark;
+  said = n.said.items;
+  reports = n.reports.items;
+  forged = n.forged;
 }
 
--- what the type keeps: the world is a run, nothing waits in it, its index is one of what was sent, and its mark stands
--- in that
-pub record IsWhole (w : Inside) : Type 0 where
-  pub run : IsRun (world_seen w)
-  pub idle : IsIdle (world_seen w)
-  pub index : IsIndex w.index w.sent.items
-  pub mark : w.mark ≤ length w.sent.items
+-- a world of nobody
+abbrev pub nobody : World
+nobody = start 0 [] []
+
+-- once memory was wanting nobody is left
+abbrev pub world_seen : Inside → World
+world_seen w = unwrap_or w.network nobody
+
+-- what the type keeps: the world is a run, and at rest
+abbrev pub IsWhole : Inside → Type 0
+IsWhole w = IfSome w.network (λ n. IsRun n × IsAtRest n)

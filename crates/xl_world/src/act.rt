@@ -1,51 +1,147 @@
-// What an event does to one place, and what comes of it.
-ghost use Rattle.std.specs.Prelude.{◌≡◌, ◌≤◌, ◌==◌, [], Some, None, length, option_copied, option_map, option_to_list, position};
+// What happens at one place, and what comes of it.
+ghost use Rattle.std.specs.Prelude.{◌≡◌, ◌≢◌, ◌≤◌, ◌==◌, [], Some, None, length, option_copied, option_map, option_to_list, position};
 ghost use Rattle.xl_core.specs.Node.{preferred};
-ghost use Rattle.xl_core.specs.declared.event.CoreEvent.TheVariants.{Frame};
+ghost use Rattle.xl_core.specs.Core.{core_asks, core_happens};
+ghost use Rattle.xl_tags.specs.Rings.{schedule_ring};
 ghost use Rattle.xl_base.specs.declared.moments.TheConstants.{GREATEST_MILLIS};
-ghost use Rattle.xl_world.specs.declared.place.Fate.TheVariants.{Kept};
 ghost use Rattle.xl_world.specs.declared.outcome.Outcome.TheVariants.{Preferred};
 ghost use Rattle.xl_world.specs.World.{reported_by};
 ghost use Rattle.xl_world.specs.World.{place_at, reply_at};
 ghost use Rattle.xl_world.specs.Emptying.{handed_out};
-ghost use Rattle.xl_world.specs.Seen.{issue_event, IsAnswer, NoneUntaken, place_after, acted_at, AnswersAt};
+ghost use Rattle.xl_world.specs.Rested.{IsRested};
+ghost use Rattle.xl_world.specs.Seen.{AnswersAt, Does, IsAnswer, IsBeaten, MayDo, acted_at, deed_event, place_after, reaction_to};
 
 use crate::place::{Fate, NodeCore, Place};
 use crate::saving::Fated;
 use crate::{Outcome, WorldReport};
-use xl_base::{LedgerId, Millis, NodeNo, Seq};
-use xl_core::{Node, Refusal, Report};
-use xl_lists::List;
+use xl_base::{LedgerId, Millis, NodeNo, Seq, TxId};
+use xl_core::{Beat, Issued, Node, Refusal, Report};
+use xl_lists::{List, SaidLedger};
 use xl_trie::Trie;
-use xl_wire::Validation;
 
-/// What a core is asked to issue, and when.
+/// What happens at a node.
 #[derive(Clone, Copy, Debug)]
-pub struct Issuing {
-    pub at: Millis,
-    pub seq: Seq,
-    pub id: LedgerId,
-    pub full: bool,
+pub enum Deed<'a> {
+    /// It is asked to issue its validation of a ledger.
+    Issue {
+        seq: Seq,
+        id: LedgerId,
+        full: bool,
+    },
+    /// Bytes come to it.
+    Frame(&'a [u8]),
+    Timer,
+    Submit(TxId),
+    Greet(NodeNo),
 }
 
-/// What came of an event at a node.
+/// What a node says of what happened at it.
+#[derive(Clone, Copy, Debug)]
+pub enum Reaction {
+    Done,
+    Refused(Refusal),
+    Beat(Beat),
+}
+
+/// What a node says of what happened at it, and the validation that it issued.
+#[derive(Clone, Copy, Debug)]
+pub struct Done {
+    pub reaction: Reaction,
+    pub said: Option<SaidLedger>,
+}
+
+impl Done {
+    /// Nothing was issued.
+    fn silent(reaction: Reaction) -> Done
+        ensures reaction { result.reaction ≡ reaction }
+        ensures said { result.said ≡ None }
+    {
+        Done {
+            reaction,
+            said: None,
+        }
+    }
+}
+
+/// What came of what happened at a node.
 #[derive(Debug, Drop)]
 pub struct NodeAnswer {
-    pub refused: Option<Refusal>,
-    pub issued: Option<Validation>,
+    pub reaction: Reaction,
+    /// The number that it asked to be saved.
+    pub asked: Option<Seq>,
+    pub said: Option<SaidLedger>,
     pub report: Option<WorldReport>,
 }
 
-impl NodeAnswer {
-    fn refusing(refusal: Refusal) -> NodeAnswer
-        ensures refused { result.refused ≡ Some refusal }
-        ensures issued { result.issued ≡ None }
-        ensures report { result.report ≡ None }
-    {
-        NodeAnswer {
-            refused: Some(refusal),
-            issued: None,
-            report: None,
+/// Whether there is nothing to say but why it was refused.
+fn done_or_refused<T: Drop>(outcome: Result<T, Refusal>) -> Reaction
+    ensures { result ≡ reaction_to outcome }
+{
+    match outcome {
+        Ok(_) => Reaction::Done,
+        Err(refusal) => Reaction::Refused(refusal),
+    }
+}
+
+/// What came of a timer; the validation of a built ledger is the node's, where it issued one.
+fn beaten(member: NodeNo, beat: Beat) -> Done
+    ensures { IsBeaten member beat result }
+{
+    let said = match beat {
+        Beat::Built {
+            seq,
+            id,
+            issued: Issued::Full | Issued::Partial,
+            ..
+        } => Some(SaidLedger { member, seq, id }),
+        _ => None,
+    };
+    Done {
+        reaction: Reaction::Beat(beat),
+        said,
+    }
+}
+
+/// A core is asked to issue: its keeper holds the sequence before anything is said.
+fn issue(
+    core: &mut NodeCore,
+    now: Millis,
+    seq: Seq,
+    id: LedgerId,
+    full: bool,
+    keeper: &mut Fated,
+) -> Done
+    requires { now ≤ GREATEST_MILLIS }
+    ensures { Does core.old (deed_event now (Deed.Issue seq id full)) keeper.old core.new result keeper.new }
+{
+    let member = core.node().me();
+    match core.issue(now, seq, id, full, keeper) {
+        Ok(()) => Done {
+            reaction: Reaction::Done,
+            said: Some(SaidLedger { member, seq, id }),
+        },
+        Err(refusal) => Done::silent(Reaction::Refused(refusal)),
+    }
+}
+
+/// Something happens at a core.
+fn happen(core: &mut NodeCore, now: Millis, deed: Deed<'_>, keeper: &mut Fated) -> Done
+    requires moment { now ≤ GREATEST_MILLIS }
+    requires keys { core.old.node.keys ≡ schedule_ring core.old.node.me }
+    requires may { MayDo core.old.node.me deed.entry }
+    ensures { Does core.old (deed_event now deed.entry) keeper.old core.new result keeper.new }
+{
+    match deed {
+        Deed::Issue { seq, id, full } => issue(core, now, seq, id, full, keeper),
+        Deed::Frame(bytes) => Done::silent(done_or_refused(core.frame(now, bytes))),
+        Deed::Timer => {
+            let beat = core.timer(now, keeper);
+            beaten(core.node().me(), beat)
+        }
+        Deed::Submit(tx) => Done::silent(done_or_refused(core.submit(now, tx))),
+        Deed::Greet(peer) => {
+            core.greet(peer);
+            Done::silent(Reaction::Done)
         }
     }
 }
@@ -82,48 +178,28 @@ fn taken_report(core: &mut NodeCore) -> Option<Report>
     }
 }
 
-/// A core is asked to issue: its keeper holds the sequence before anything is said.
-fn issue(place: &mut Place, issuing: &Issuing, fate: Fate) -> NodeAnswer
-    requires moment { issuing.now.at ≤ GREATEST_MILLIS }
-    requires untaken { place.old.core.untaken.items ≡ [] }
-    ensures place { place.new ≡ place_after place.old (issue_event issuing.now) fate }
-    ensures answer { IsAnswer result (reply_at place.old (issue_event issuing.now) fate) }
+/// Something happens at a place, and the save that it asks, if any, meets a fate. The report that arises is taken.
+pub fn act(place: &mut Place, now: Millis, deed: Deed<'_>, fate: Fate) -> NodeAnswer
+    requires moment { now ≤ GREATEST_MILLIS }
+    requires rested { IsRested place.old.core }
+    requires may { MayDo place.old.core.node.me deed.entry }
+    ensures place { place.new ≡ place_after place.old (deed_event now deed.entry) fate }
+    ensures answer { IsAnswer place.old.core.node.me result (reply_at place.old (deed_event now deed.entry) fate) }
+    ensures asked { result.asked ≡ core_asks place.old.core (deed_event now deed.entry) }
 {
-    let Issuing { at, seq, id, full } = *issuing;
-    let validation = place.core.node().own_validation(at, seq, id, full);
     let mut fated = Fated {
         keeper: place.keeper,
         fate,
+        asked: None,
     };
-    let outcome = place.core.issue(at, seq, id, full, &mut fated);
+    let done = happen(&mut place.core, now, deed, &mut fated);
     place.keeper = fated.keeper;
     let report = taken_report(&mut place.core);
-    match outcome {
-        Ok(()) => NodeAnswer {
-            refused: None,
-            issued: Some(validation),
-            report: report_under(place.core.node(), report),
-        },
-        Err(refusal) => NodeAnswer::refusing(refusal),
-    }
-}
-
-/// Bytes come to a core.
-fn hear(place: &mut Place, now: Millis, bytes: &[u8]) -> NodeAnswer
-    requires moment { now ≤ GREATEST_MILLIS }
-    requires untaken { place.old.core.untaken.items ≡ [] }
-    ensures place { place.new ≡ place_after place.old (Frame now bytes.now) Kept }
-    ensures answer { IsAnswer result (reply_at place.old (Frame now bytes.now) Kept) }
-{
-    let outcome = place.core.frame(now, bytes);
-    let report = taken_report(&mut place.core);
-    match outcome {
-        Ok(_) => NodeAnswer {
-            refused: None,
-            issued: None,
-            report: report_under(place.core.node(), report),
-        },
-        Err(refusal) => NodeAnswer::refusing(refusal),
+    NodeAnswer {
+        reaction: done.reaction,
+        asked: fated.asked,
+        said: done.said,
+        report: report_under(place.core.node(), report),
     }
 }
 
@@ -176,38 +252,24 @@ pub fn preferred_at(places: &[Place], i: NodeNo) -> Option<Outcome>
     }
 }
 
-/// The core of a number, where there is one, is asked to issue.
-pub fn issue_at(
+/// Something happens at the node of a number, where there is one.
+pub fn act_at(
     places: &mut [Place],
     i: NodeNo,
-    issuing: &Issuing,
+    now: Millis,
+    deed: Deed<'_>,
     fate: Fate,
 ) -> Option<NodeAnswer>
-    requires moment { issuing.now.at ≤ GREATEST_MILLIS }
-    requires untaken { NoneUntaken i places.old }
-    ensures places { places.new ≡ acted_at i (issue_event issuing.now) fate places.old }
-    ensures answer { AnswersAt i (issue_event issuing.now) fate places.old result }
-{
-    match position_of(places, i) {
-        Some(k) => {
-            let place = &mut places[k];
-            Some(issue(place, issuing, fate))
-        }
-        None => None,
-    }
-}
-
-/// Bytes come to the core of a number, where there is one.
-pub fn hear_at(places: &mut [Place], i: NodeNo, now: Millis, bytes: &[u8]) -> Option<NodeAnswer>
     requires moment { now ≤ GREATEST_MILLIS }
-    requires untaken { NoneUntaken i places.old }
-    ensures places { places.new ≡ acted_at i (Frame now bytes.now) Kept places.old }
-    ensures answer { AnswersAt i (Frame now bytes.now) Kept places.old result }
+    requires rested { (p : _) → place_at i places.old ≡ Some p → IsRested p.core }
+    requires may { MayDo i deed.entry }
+    ensures places { places.new ≡ acted_at i (deed_event now deed.entry) fate places.old }
+    ensures answer { AnswersAt i (deed_event now deed.entry) fate places.old result }
 {
     match position_of(places, i) {
         Some(k) => {
             let place = &mut places[k];
-            Some(hear(place, now, bytes))
+            Some(act(place, now, deed, fate))
         }
         None => None,
     }

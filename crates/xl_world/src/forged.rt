@@ -3,15 +3,13 @@ ghost use Rattle.std.specs.Prelude.{◌≡◌};
 ghost use Rattle.xl_lists.specs.Lists.{is_on};
 ghost use Rattle.xl_wire.specs.Heads.{split_of};
 ghost use Rattle.xl_wire.specs.Raws.{SpellsRaw, raw_frame};
-ghost use Rattle.xl_world.specs.Indexes.{IsIndex};
 ghost use Rattle.xl_world.specs.Seen.{forged_at};
 ghost use Rattle.xl_world.specs.Forgeries.{forges, is_made_up};
 ghost use Rattle.xl_world.specs.World.{place_at};
 
-use crate::Sent;
 use crate::act::position_of;
-use crate::index::TagIndex;
 use crate::place::Place;
+use crate::traffic::Traffic;
 use xl_base::NodeNo;
 use xl_tags::{Keys, is_sealed};
 use xl_wire::{Parted, Raw, split};
@@ -26,32 +24,29 @@ fn is_liar(liars: &[NodeNo], number: u32) -> bool
 /// sent it.
 fn is_made_up(
     liars: &[NodeNo],
-    sent: &[Sent],
-    index: &mut TagIndex,
+    traffic: &mut Traffic,
     keys: &Keys,
     raw: &Raw<'_>,
     bytes: &[u8],
 ) -> bool
     requires spelled { SpellsRaw (raw_frame raw.now) bytes.now }
-    requires index { IsIndex index.old sent.now }
-    ensures index { IsIndex index.new sent.now }
-    ensures value { result ≡ is_made_up liars.now sent.now keys.now bytes.now (raw_frame raw.now) }
+    ensures same { traffic.new ≡ traffic.old }
+    ensures value { result ≡ is_made_up liars.now traffic.old.frames keys.now bytes.now (raw_frame raw.now) }
 {
     raw.to == keys.me().get()
         && !is_liar(liars, raw.from)
-        && !index.has(sent, bytes)
+        && !traffic.has(bytes)
         && is_sealed(keys, raw, bytes)
 }
 
 /// Whether the bytes are one whole frame that is made up.
-fn forges(liars: &[NodeNo], sent: &[Sent], index: &mut TagIndex, keys: &Keys, bytes: &[u8]) -> bool
-    requires { IsIndex index.old sent.now }
-    ensures index { IsIndex index.new sent.now }
-    ensures value { result ≡ forges liars.now sent.now keys.now bytes.now (split_of bytes.now) }
+fn forges(liars: &[NodeNo], traffic: &mut Traffic, keys: &Keys, bytes: &[u8]) -> bool
+    ensures same { traffic.new ≡ traffic.old }
+    ensures value { result ≡ forges liars.now traffic.old.frames keys.now bytes.now (split_of bytes.now) }
 {
     match split(bytes) {
         Parted::Whole(raw) => {
-            bytes.len() <= raw.length && is_made_up(liars, sent, index, keys, &raw, bytes)
+            bytes.len() <= raw.length && is_made_up(liars, traffic, keys, &raw, bytes)
         }
         _ => false,
     }
@@ -60,20 +55,18 @@ fn forges(liars: &[NodeNo], sent: &[Sent], index: &mut TagIndex, keys: &Keys, by
 /// Whether what comes to the node of a number, where there is one, is forged.
 pub fn is_forged(
     liars: &[NodeNo],
-    sent: &[Sent],
-    index: &mut TagIndex,
+    traffic: &mut Traffic,
     places: &[Place],
     to: NodeNo,
     bytes: &[u8],
 ) -> bool
-    requires { IsIndex index.old sent.now }
-    ensures index { IsIndex index.new sent.now }
-    ensures value { result ≡ forged_at liars.now sent.now bytes.now (place_at to places.now) }
+    ensures same { traffic.new ≡ traffic.old }
+    ensures value { result ≡ forged_at liars.now traffic.old.frames bytes.now (place_at to places.now) }
 {
     match position_of(places, to) {
         Some(k) => {
             let place = &places[k];
-            forges(liars, sent, index, place.core.node().keys(), bytes)
+            forges(liars, traffic, place.core.node().keys(), bytes)
         }
         None => false,
     }

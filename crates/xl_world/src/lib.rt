@@ -13,11 +13,12 @@
 mod act;
 mod agreement;
 mod anew;
+mod draining;
 mod forged;
 mod fork;
-mod handing;
 mod index;
 mod lie;
+mod network;
 mod open;
 mod outcome;
 mod place;
@@ -25,6 +26,7 @@ mod plan;
 mod saving;
 mod sent;
 mod settle;
+mod traffic;
 mod world;
 
 pub use fork::{Fork, first_fork, law_of_forks};

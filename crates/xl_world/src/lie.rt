@@ -1,50 +1,49 @@
 // What liars say. A liar has no node: its frames are made up here, each sealed by the one key that it takes.
-ghost use Rattle.std.specs.Prelude.{◌≡◌, ◌≤◌, ◌++◌, length};
+ghost use Rattle.std.specs.Prelude.{◌≡◌, ◌≤◌, ◌++◌, length, take};
 ghost use Rattle.xl_wire.specs.Raws.{RawFrame, SpellsRaw};
 ghost use Rattle.xl_tags.specs.Rings.{schedule_ring};
 ghost use Rattle.xl_tags.specs.Sealing.{before_tag, sealed};
-ghost use Rattle.xl_wire.specs.declared.body.Body.TheVariants as bodies;
-ghost use Rattle.xl_ledger.specs.Headers.{spelling};
-ghost use Rattle.xl_core.specs.Sending.{sealed_bytes};
+ghost use Rattle.xl_wire.specs.declared.lengths.TheConstants.{LONGEST_FRAME};
+ghost use Rattle.xl_sched.specs.Fits.{IsFitLied};
+ghost use Rattle.xl_world.specs.Schedule.{lied_body, lied_bytes};
 
 use xl_base::NodeNo;
-use xl_ledger::{Header, header_bytes};
+use xl_ledger::header_bytes;
+use xl_sched::Lied;
 use xl_tags::{hmac, pair_key};
-use xl_wire::{Body, Frame, VALIDATION_FRAME, Validation, encode};
+use xl_wire::{Body, Frame, Ids, encode};
 
-/// How many bytes a header's frame has.
-pub const HEADER_FRAME: usize = 164;
-
-/// The frame of a validation, sealed by the key that the schedule gives the two.
-pub fn lied_validation(from: NodeNo, to: NodeNo, validation: &Validation) -> [u8; VALIDATION_FRAME]
-    ensures { result ≡ sealed_bytes (schedule_ring from) from to (bodies.Validation validation.now) }
+/// Writes the frame of a lie, sealed by the key that the schedule gives the two, to the front of a room, and answers
+/// how many bytes it has.
+pub fn put_lie(from: NodeNo, to: NodeNo, lie: &Lied, room: &mut [u8]) -> usize
+    requires sayable { IsFitLied lie.now }
+    requires room { LONGEST_FRAME ≤ length room.old }
+    ensures within { result ≤ length room.new }
+    ensures written { take result room.new ≡ lied_bytes from to lie.now }
 {
-    let mut bytes = [0; VALIDATION_FRAME];
     let frame = Frame {
         from: from.get(),
         to: to.get(),
-        body: Body::Validation(*validation),
+        body: body(lie),
         tag: [0; 32],
     };
-    encode(&frame, &mut bytes);
-    seal(from, to, &mut bytes);
-    bytes
+    let length = encode(&frame, room);
+    seal(from, to, &mut room[..length]);
+    length
 }
 
-/// The frame of a header, sealed alike.
-pub fn lied_header(from: NodeNo, to: NodeNo, header: &Header) -> [u8; HEADER_FRAME]
-    ensures { result ≡ sealed_bytes (schedule_ring from) from to (bodies.Header (spelling header.now)) }
+/// The body in which a liar says it.
+fn body(lie: &Lied) -> Body<'_>
+    requires { IsFitLied lie.now }
+    ensures { result ≡ lied_body lie.now }
 {
-    let mut bytes = [0; HEADER_FRAME];
-    let frame = Frame {
-        from: from.get(),
-        to: to.get(),
-        body: Body::Header(header_bytes(header)),
-        tag: [0; 32],
-    };
-    encode(&frame, &mut bytes);
-    seal(from, to, &mut bytes);
-    bytes
+    match lie {
+        Lied::Proposal(proposal) => Body::Proposal(*proposal),
+        Lied::Validation(validation) => Body::Validation(*validation),
+        Lied::Header { header, .. } => Body::Header(header_bytes(header)),
+        Lied::TxSet(ids) => Body::TxSet(Ids::of(ids.as_slice())),
+        Lied::Tx(tx) => Body::Tx(*tx),
+    }
 }
 
 /// Seals a frame by the key that the schedule gives the two. There is none for one number alone: its frame stays as it

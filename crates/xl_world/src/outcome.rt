@@ -3,12 +3,26 @@ ghost use Rattle.std.specs.Prelude.{◌≡◌, []};
 use std::alloc::Global;
 use std::marker::Model;
 use xl_base::{LedgerId, NodeNo, Seq};
-use xl_core::{Refusal, Report};
+use xl_core::{Issued, Refusal, Report};
 
 /// What is told of an event.
 #[derive(Clone, Copy, Debug, PartialEq, Eq)]
 pub enum Outcome {
-    /// The node refused it.
+    /// The node's votes chose this ledger, on which it started a round.
+    Switched {
+        node: NodeNo,
+        seq: Seq,
+        id: LedgerId,
+    },
+    /// The node built this ledger, and validated it so, or not.
+    Built {
+        node: NodeNo,
+        seq: Seq,
+        id: LedgerId,
+        issued: Issued,
+    },
+    /// The node refused it, or has no room for the ledger that it was to build, or didn't validate what it built since
+    /// that was refused.
     Refused {
         node: NodeNo,
         refusal: Refusal,

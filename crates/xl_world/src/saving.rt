@@ -5,11 +5,12 @@ use crate::place::{Fate, Keeper};
 use xl_base::Seq;
 use xl_io::Failed;
 
-/// A keeper, and the fate of its next save.
+/// A keeper, the fate of its next save, and the number that it was asked to save.
 #[derive(Clone, Copy, Debug)]
 pub struct Fated {
     pub keeper: Keeper,
     pub fate: Fate,
+    pub asked: Option<Seq>,
 }
 
 impl xl_io::Keeper for Fated {
@@ -23,7 +24,9 @@ impl xl_io::Keeper for Fated {
     ghost faults = { λ f. f.keeper.faults };
 
     ghost save_gives = { λ old seq ok new.
-        (ok ≡ answers_ok old.fate) × (new.keeper ≡ after_save old.keeper (Some seq) old.fate) };
+        (ok ≡ answers_ok old.fate)
+        × (new.keeper ≡ after_save old.keeper (Some seq) old.fate)
+        × (new.asked ≡ Some seq) };
 
     fn load(&mut self) -> Result<Seq, Failed> {
         let seq = self.keeper.in_force;
@@ -32,6 +35,7 @@ impl xl_io::Keeper for Fated {
     }
 
     fn save(&mut self, seq: Seq) -> Result<(), Failed> {
+        self.asked = Some(seq);
         match self.fate {
             Fate::Kept => {
                 self.keeper = self.keeper.restored(seq);

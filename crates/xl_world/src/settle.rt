@@ -1,68 +1,108 @@
-// What came of an event, taken into the lists of a world. The room was made before, so no call wants memory.
-ghost use Rattle.std.specs.Prelude.{◌≡◌, ◌+◌, ◌<◌, ◌≤◌, ◌++◌, option_map, option_to_list, vec_len, vec_capacity};
-ghost use Rattle.xl_lists.specs.Agreement.{with_said};
-ghost use Rattle.xl_world.specs.World.{said_by};
-ghost use Rattle.xl_world.specs.Seen.{outcomes_told};
+// What came of what happened at a node, taken into the lists of a world.
+ghost use Rattle.std.specs.Prelude.{◌≡◌, ◌++◌, [], ◌∷◌, option_map, option_to_list, OnOk};
+ghost use Rattle.xl_world.specs.Schedule.{told_of_beat, told_of_issued};
+ghost use Rattle.xl_world.specs.Seen.{outcomes_told, told_of_reaction};
 
-use crate::act::NodeAnswer;
+use crate::act::{NodeAnswer, Reaction};
 use crate::{Outcome, WorldReport};
-use xl_base::NodeNo;
-use xl_lists::SaidLedger;
-use xl_wire::Validation;
+use xl_base::{NodeNo, OutOfMemory};
+use xl_core::{Beat, Issued, Refusal};
+use xl_ledger::AddRefusal;
 
 /// Adds an element where there is one.
-pub fn push_some<T: Copy + Drop>(list: &mut Vec<T>, element: &Option<T>)
-    requires { vec_len list.old < vec_capacity list.old }
-    ensures items { list.new.items ≡ list.old.items ++ option_to_list element.now }
-    ensures len { vec_len list.new ≤ vec_len list.old + 1 }
-    ensures capacity { vec_capacity list.old ≤ vec_capacity list.new }
+pub fn push_some<T: Drop>(list: &mut Vec<T>, element: Option<T>) -> Result<(), OutOfMemory>
+    ensures { OnOk result (list.new.items ≡ list.old.items ++ option_to_list element) }
 {
     if let Some(element) = element {
-        let _ = list.push(*element);
+        list.push(element)?;
+    }
+    Ok(())
+}
+
+/// The ledger that a node built, and that its validation of it was refused, where it was.
+fn tell_built(
+    told: &mut Vec<Outcome>,
+    node: NodeNo,
+    built: Outcome,
+    issued: &Issued,
+) -> Result<(), OutOfMemory>
+    ensures { OnOk result (told.new.items ≡ told.old.items ++ built ∷ told_of_issued node issued.now) }
+{
+    told.push(built)?;
+    if let Issued::Refused(refusal) = *issued {
+        told.push(Outcome::Refused { node, refusal })?;
+    }
+    Ok(())
+}
+
+/// What came of a node's timer.
+fn tell_beat(told: &mut Vec<Outcome>, node: NodeNo, beat: &Beat) -> Result<(), OutOfMemory>
+    ensures { OnOk result (told.new.items ≡ told.old.items ++ told_of_beat node beat.now) }
+{
+    match *beat {
+        Beat::Nothing | Beat::Closed | Beat::Updated => Ok(()),
+        Beat::Switched(seq, id) => {
+            told.push(Outcome::Switched { node, seq, id })?;
+            Ok(())
+        }
+        Beat::NoRoom(limit) => {
+            let refusal = Refusal::Header(AddRefusal::Full(limit));
+            told.push(Outcome::Refused { node, refusal })?;
+            Ok(())
+        }
+        Beat::Built {
+            seq,
+            id,
+            issued,
+            ..
+        } => {
+            let built = Outcome::Built {
+                node,
+                seq,
+                id,
+                issued,
+            };
+            tell_built(told, node, built, &issued)
+        }
     }
 }
 
-/// What is issued is said.
-pub fn say_some(said: &mut Vec<SaidLedger>, member: NodeNo, issued: &Option<Validation>)
-    requires { vec_len said.old < vec_capacity said.old }
-    ensures { said.new.items ≡ with_said said.old.items (option_map (said_by member) issued.now) }
+/// What a node says of what happened at it.
+fn tell_reaction(
+    told: &mut Vec<Outcome>,
+    node: NodeNo,
+    reaction: &Reaction,
+) -> Result<(), OutOfMemory>
+    ensures { OnOk result (told.new.items ≡ told.old.items ++ told_of_reaction node reaction.now) }
 {
-    if let Some(validation) = issued {
-        let _ = said.push(SaidLedger {
-            member,
-            seq: validation.seq,
-            id: validation.id,
-        });
+    match reaction {
+        Reaction::Done => Ok(()),
+        Reaction::Refused(refusal) => {
+            told.push(Outcome::Refused {
+                node,
+                refusal: *refusal,
+            })?;
+            Ok(())
+        }
+        Reaction::Beat(beat) => tell_beat(told, node, beat),
     }
 }
 
-/// A report, if there is one, comes after the others.
-pub fn report_some(reports: &mut Vec<WorldReport>, report: Option<WorldReport>)
-    requires { vec_len reports.old < vec_capacity reports.old }
-    ensures items { reports.new.items ≡ reports.old.items ++ option_to_list report }
-    ensures len { vec_len reports.new ≤ vec_len reports.old + 1 }
-    ensures capacity { vec_capacity reports.old ≤ vec_capacity reports.new }
+/// The line that a report is told by.
+fn full(node: NodeNo, report: &Option<WorldReport>) -> Option<Outcome>
+    ensures { result ≡ option_map (λ r. Outcome.Full node r.seq r.id) report.now }
 {
-    if let Some(report) = report {
-        let _ = reports.push(report);
-    }
-}
-
-/// What is told of an answer.
-pub fn tell(outcomes: &mut Vec<Outcome>, node: NodeNo, answer: &NodeAnswer)
-    requires { vec_len outcomes.old + 2 ≤ vec_capacity outcomes.old }
-    ensures items { outcomes.new.items ≡ outcomes.old.items ++ outcomes_told node answer.now }
-    ensures len { vec_len outcomes.new ≤ vec_len outcomes.old + 2 }
-    ensures capacity { vec_capacity outcomes.old ≤ vec_capacity outcomes.new }
-{
-    let refused = answer
-        .refused
-        .map(|refusal| Outcome::Refused { node, refusal });
-    push_some(outcomes, &refused);
-    let full = answer.report.as_ref().map(|report| Outcome::Full {
+    report.as_ref().map(|report| Outcome::Full {
         node,
         seq: report.seq,
         id: report.id,
-    });
-    push_some(outcomes, &full);
+    })
+}
+
+/// What is told of an answer.
+pub fn tell(told: &mut Vec<Outcome>, node: NodeNo, answer: &NodeAnswer) -> Result<(), OutOfMemory>
+    ensures { OnOk result (told.new.items ≡ told.old.items ++ outcomes_told node answer.now) }
+{
+    tell_reaction(told, node, &answer.reaction)?;
+    push_some(told, full(node, &answer.report))
 }

@@ -1,0 +1,127 @@
+-- A world at rest stays so: no report is untaken between two events.
+use Rattle.std.proofs.Common.{◌≡◌, ℕ, zero, suc, ◌+◌, ◌<◌, ◌≤◌, Bool, List, [], ◌∷◌, ◌++◌, drop, filter, map, refl, arith, ap, sym, ◌∙◌, inl, inr, Option, Some, None, subst}
+use Rattle.std.specs.Prelude.{◌==◌}
+use Rattle.std.proofs.lemmas.Bool.{cond_both}
+use Rattle.xl_queues.specs.Queues.{Backlog, with_item}
+use Rattle.xl_core.specs.Core.{Core, CoreReply, core_happens}
+use Rattle.xl_core.specs.Node as nodes
+use Rattle.xl_core.specs.Node.{Node, Save}
+use Rattle.xl_core.specs.Queues.{with_report}
+use Rattle.xl_core.specs.declared.event.CoreEvent.{CoreEvent}
+use Rattle.xl_core.specs.declared.event.CoreEvent.TheVariants.{Issue, Frame, Timer, Submit, Greet, Drain, Reports, Stop, Stopped}
+use Rattle.xl_core.specs.declared.report.Report.{Report}
+use Rattle.xl_tags.specs.Rings.{schedule_ring}
+use Rattle.xl_io.specs.Keepers.{may_hold}
+use Rattle.xl_world.specs.declared.place.Fate.{Fate}
+use Rattle.xl_world.specs.declared.place.Place.{Place}
+use Rattle.xl_world.specs.declared.plan.PlanNode.{PlanNode}
+use Rattle.xl_world.specs.Emptying.{draining, event_steps, handed_out}
+use Rattle.xl_world.specs.Keeper.{answer_of, held_by}
+use Rattle.xl_world.specs.Plans.{all_numbers, is_declared, up_from}
+use Rattle.xl_world.specs.Rested.{Between, IsAtRest, IsRested}
+use Rattle.xl_world.specs.Starts.{start, start_of}
+use Rattle.xl_world.specs.World.{World, keeper_after, place_at, put, reply_at, run}
+use Rattle.xl_world.proofs.Emptying.{emptied, emptied_acts, emptied_node, event_ran, turns_are, untaken_still}
+use Rattle.xl_world.proofs.Keeping.{happens_keeps}
+use Rattle.xl_world.proofs.Seats.{some_same}
+use Rattle.xl_world.proofs.Settling.{put_cases}
+
+-- a report alone was untaken
+taken_then : (q : Backlog Report) (o : Option Report) → q.items ≡ [] → drop 1 (with_report q o).items ≡ []
+taken_then q None none = ap (drop 1) none
+taken_then q (Some report) none = ap (λ (xs : List Report). drop 1 (let x : Backlog Report = with_item 1024 (record { items = xs; lost = 0 }) report in x.items)) none
+
+-- a core keeps its number and its keys
+pub core_keyed : (core : Core) (e : CoreEvent) (save : Save) → let n = (core_happens core e save).core.node in (n.me ≡ core.node.me) × (n.keys ≡ core.node.keys)
+core_keyed core (Issue now seq id full) save = let keeps = happens_keeps core.node (nodes.Issue now seq id full) save in (keeps.0, keeps.2)
+core_keyed core (Frame now bytes) save = let keeps = happens_keeps core.node (nodes.Frame now bytes) save in (keeps.0, keeps.2)
+core_keyed core (Timer now) save = let keeps = happens_keeps core.node (nodes.Timer now) save in (keeps.0, keeps.2)
+core_keyed core (Submit now tx) save = let keeps = happens_keeps core.node (nodes.Submit now tx) save in (keeps.0, keeps.2)
+core_keyed core (Greet member) save = (refl, refl)
+core_keyed core (Drain member room) save = (refl, refl)
+core_keyed core (Reports room) save = (refl, refl)
+core_keyed core Stop save = (refl, refl)
+core_keyed core Stopped save = (refl, refl)
+
+dropped_twice : (room : ℕ) (xs : List Report) → xs ≡ [] → drop 1 (drop room xs) ≡ []
+dropped_twice zero xs none = ap (drop 1) none
+dropped_twice (suc room) xs none = ap (λ (ys : List Report). drop 1 (drop (suc room) ys)) none
+
+-- after what happened none is, once the one that arose was handed out
+pub taken_after : (core : Core) (e : CoreEvent) (save : Save) → core.untaken.items ≡ [] → (handed_out (core_happens core e save).core).untaken.items ≡ []
+taken_after core (Issue now seq id full) save none = taken_then core.untaken (core_happens core (Issue now seq id full) save).report none
+taken_after core (Frame now bytes) save none = taken_then core.untaken (core_happens core (Frame now bytes) save).report none
+taken_after core (Timer now) save none = taken_then core.untaken (core_happens core (Timer now) save).report none
+taken_after core (Submit now tx) save none = taken_then core.untaken (core_happens core (Submit now tx) save).report none
+taken_after core (Greet member) save none = ap (drop 1) none
+taken_after core (Drain member room) save none = ap (drop 1) none
+taken_after core (Reports room) save none = dropped_twice room core.untaken.items none
+taken_after core Stop save none = ap (drop 1) none
+taken_after core Stopped save none = ap (drop 1) none
+
+pub rested_after : (core : Core) (e : CoreEvent) (save : Save) → IsRested core → IsRested (handed_out (core_happens core e save).core)
+rested_after core e save rested =
+    let keyed = core_keyed core e save in
+    record { untaken = taken_after core e save rested.untaken; keys = keyed.1 ∙ (rested.keys ∙ ap schedule_ring (sym keyed.0)) }
+
+-- and once it is emptied
+emptied_rests : (numbers : List ℕ) (core : Core) → IsRested (handed_out core) → IsRested (emptied numbers core)
+emptied_rests numbers core rested =
+    let node : (emptied numbers core).node ≡ core.node = emptied_node numbers core in
+    record {
+      untaken = ap (λ (q : Backlog Report). q.items) (untaken_still (handed_out core) (draining numbers (handed_out core)) (turns_are (handed_out core) _)) ∙ rested.untaken;
+      keys = ap (λ (n : Node). n.keys) node ∙ (rested.keys ∙ ap schedule_ring (sym (ap (λ (n : Node). n.me) node)));
+    }
+
+-- A WORLD
+
+-- with a place that rests
+pub put_rests : (w v : World) (q : Place) → v.numbers ≡ w.numbers → v.places ≡ put q w.places → IsRested q.core → IsAtRest w → IsAtRest v
+put_rests w v q numbers is rested rest = record {
+  numbers = subst (Between 0) (sym numbers) rest.numbers;
+  cores = λ j x h. elim (put_cases j q w.places x (ap (place_at j) (sym is) ∙ h)) [
+    | inl (_, same) ↦ subst (λ (y : Place). IsRested y.core) (sym same) rested
+    | inr (_, there) ↦ rest.cores j x there
+  ];
+}
+
+-- after the steps of an event
+pub event_rests : (w : World) (i : ℕ) (e : CoreEvent) (fate : Fate) → IsAtRest w → IsAtRest (run w (event_steps w i e fate))
+event_rests w i e fate rest = subst IsAtRest (sym (event_ran w i e fate)) (by_place (place_at i w.places) refl)
+  where
+    by_place : (o : Option Place) → place_at i w.places ≡ o → IsAtRest (emptied_acts w i e fate o)
+    by_place None at = rest
+    by_place (Some p) at =
+        let r : CoreReply = reply_at p e fate in
+        let q : Place = record { core = emptied w.numbers r.core; keeper = keeper_after p e fate } in
+        put_rests w (emptied_acts w i e fate (Some p)) q refl refl (emptied_rests w.numbers r.core (rested_after p.core e (answer_of p.keeper fate) (rest.cores i p at))) rest
+
+-- AT THE START
+
+between_from : (low low' : ℕ) (ms : List ℕ) → low' ≤ low → Between low ms → Between low' ms
+between_from low low' [] le rising = tt
+between_from low low' (m ∷ ms) le rising = (omega (arith, le, rising.0), rising.1, rising.2)
+
+between_filter : (p : ℕ → Bool) (low : ℕ) (ms : List ℕ) → Between low ms → Between low (filter p ms)
+between_filter p low [] rising = tt
+between_filter p low (m ∷ ms) rising =
+    cond_both (p m) (m ∷ filter p ms) (filter p ms) (Between low) (λ _. (rising.0, rising.1, between_filter p m ms rising.2))
+    (λ _. between_from m low (filter p ms) (omega (arith, rising.0)) (between_filter p m ms rising.2))
+
+up_between : (n k : ℕ) → n + k ≤ 65 → (low : ℕ) → low < n → Between low (up_from n k)
+unfolding up_from
+up_between n zero le low less = tt
+up_between n (suc k) le low less = (less, omega (arith, le), up_between (n + 1) k (omega (arith, le)) n (omega arith))
+
+all_opened : (limit : ℕ) (plan : List PlanNode) (i : ℕ) (p : Place) → place_at i (map (start_of limit) plan) ≡ Some p → IsRested p.core
+all_opened limit [] i p h = cc
+all_opened limit (d ∷ ds) i p h =
+    cond_both (d.me == i) (Some (start_of limit d)) (place_at i (map (start_of limit) ds)) (λ o. o ≡ Some p → IsRested p.core)
+    (λ _ here. subst (λ (x : Place). IsRested x.core) (some_same (start_of limit d) p here) (record { untaken = refl; keys = refl }))
+    (λ _ there. all_opened limit ds i p there) h
+
+pub start_rests : (limit : ℕ) (liars : List ℕ) (plan : List PlanNode) → IsAtRest (start limit liars plan)
+start_rests limit liars plan = record {
+  numbers = between_filter (is_declared liars plan) 0 all_numbers (up_between 1 64 (omega arith) 0 (omega arith));
+  cores = all_opened limit plan;
+}

@@ -1,0 +1,125 @@
+// What waits at a core is drained and sent.
+ghost use Rattle.std.specs.Prelude.{◌≡◌, ◌≢◌, ◌<◌, ◌≤◌, ℕ, List, [], None, take, map, OnOk, IfOk, IfSome};
+ghost use Rattle.xl_core.specs.Answers.{given_in};
+ghost use Rattle.xl_wire.specs.declared.lengths.TheConstants.{LONGEST_FRAME};
+ghost use Rattle.xl_core.specs.Queues.{joined};
+ghost use Rattle.xl_tags.specs.Rings.{schedule_ring};
+ghost use Rattle.xl_world.specs.declared.place.Place.{Place};
+ghost use Rattle.xl_world.specs.World.{place_at};
+ghost use Rattle.xl_world.specs.Emptying.{after_events, draining, drained_once, drains_for, given_by};
+ghost use Rattle.xl_world.specs.Indexes.{with_frames};
+ghost use Rattle.xl_world.specs.Rested.{Between, IsRested};
+ghost use Rattle.xl_world.specs.Seen.{AreFrames, sent_from, given_at, put_drained};
+
+use crate::Sent;
+use crate::act::position_of;
+use crate::place::{NodeCore, Place};
+use crate::traffic::Traffic;
+use std::alloc::Global;
+use xl_base::{Bytes, NodeNo, OutOfMemory};
+use xl_wire::{LONGEST_FRAME, Parted, split};
+
+/// These bytes, in memory of their own.
+fn copied(alloc: Global, bytes: &[u8]) -> Result<Bytes, OutOfMemory>
+    ensures { IfOk result (λ copy. copy ≡ bytes.now) }
+{
+    Ok(Bytes::from_vec(Vec::from_slice(alloc, bytes)?))
+}
+
+/// Frames that stand one behind the other are sent, each as one.
+fn send_each(
+    alloc: Global,
+    from: NodeNo,
+    to: NodeNo,
+    frames: &[u8],
+    traffic: &mut Traffic,
+) -> Result<(), OutOfMemory>
+    ensures { (each : List (List ℕ)) → AreFrames each → frames.now ≡ joined each →
+        OnOk result (traffic.new ≡ with_frames traffic.old (map (sent_from from to) each)) }
+{
+    let mut rest = frames;
+    while let Parted::Whole(raw) = split(rest) {
+        let bytes = copied(alloc, &rest[..raw.length])?;
+        traffic.push(Sent { from, to, bytes })?;
+        rest = &rest[raw.length..];
+    }
+    Ok(())
+}
+
+/// One drain for another number: how many bytes it gave, or None where it gave nothing.
+fn drain_once(core: &mut NodeCore, to: NodeNo, room: &mut [u8; LONGEST_FRAME]) -> Option<usize>
+    requires other { to ≢ core.old.node.me }
+    requires keys { core.old.node.keys ≡ schedule_ring core.old.node.me }
+    ensures core { core.new ≡ (drained_once core.old to).core }
+    ensures none { result ≡ None → given_in (drained_once core.old to).answer ≡ [] }
+    ensures some { IfSome result (λ count.
+        (0 < count) × (count ≤ LONGEST_FRAME) × (take count room.new ≡ joined (given_in (drained_once core.old to).answer))) }
+{
+    let count = core.drain(to, room);
+    if count == 0 { None } else { Some(count) }
+}
+
+/// What waits for another number is drained and sent, until a drain gives nothing.
+fn drain_for(
+    alloc: Global,
+    core: &mut NodeCore,
+    to: NodeNo,
+    room: &mut [u8; LONGEST_FRAME],
+    traffic: &mut Traffic,
+) -> Result<(), OutOfMemory>
+    requires other { to ≢ core.old.node.me }
+    requires keys { core.old.node.keys ≡ schedule_ring core.old.node.me }
+    ensures core { OnOk result (core.new ≡ after_events core.old (drains_for core.old to)) }
+    ensures sent { OnOk result (traffic.new ≡ with_frames traffic.old (given_by core.old (drains_for core.old to))) }
+{
+    let from = core.node().me();
+    while let Some(count) = drain_once(core, to, room) {
+        send_each(alloc, from, to, &room[..count], traffic)?;
+    }
+    Ok(())
+}
+
+/// What waits for each other number is drained and sent, for each in its turn.
+fn drain(
+    alloc: Global,
+    core: &mut NodeCore,
+    numbers: &[NodeNo],
+    room: &mut [u8; LONGEST_FRAME],
+    traffic: &mut Traffic,
+) -> Result<(), OutOfMemory>
+    requires keys { core.old.node.keys ≡ schedule_ring core.old.node.me }
+    ensures core { OnOk result (core.new ≡ after_events core.old (draining numbers.now core.old)) }
+    ensures sent { OnOk result
+        (traffic.new ≡ with_frames traffic.old (given_by core.old (draining numbers.now core.old))) }
+{
+    for &to in numbers {
+        if to != core.node().me() {
+            drain_for(alloc, core, to, room, traffic)?;
+        }
+    }
+    Ok(())
+}
+
+/// What waits at the node of a number, where there is one, is drained for each other number and sent.
+pub fn drain_at(
+    alloc: Global,
+    places: &mut [Place],
+    i: NodeNo,
+    numbers: &[NodeNo],
+    room: &mut [u8; LONGEST_FRAME],
+    traffic: &mut Traffic,
+) -> Result<(), OutOfMemory>
+    requires rested { (p : Place) → place_at i places.old ≡ Some p → IsRested p.core }
+    ensures places { OnOk result
+        (places.new ≡ put_drained numbers.now (place_at i places.old) places.old) }
+    ensures sent { OnOk result
+        (traffic.new ≡ with_frames traffic.old (given_at numbers.now (place_at i places.old))) }
+{
+    match position_of(places, i) {
+        Some(k) => {
+            let place = &mut places[k];
+            drain(alloc, &mut place.core, numbers, room, traffic)
+        }
+        None => Ok(()),
+    }
+}

@@ -1,0 +1,401 @@
+// The nodes of a world, and each event of a schedule in it.
+ghost use Rattle.std.specs.Prelude.{if◌then◌else◌};
+ghost use Rattle.xl_base.specs.Counts.{one_more};
+ghost use Rattle.xl_world.specs.Schedule.{event_asked, failing, node_asked};
+ghost use Rattle.xl_world.specs.Seen.{MayDo, deed_event};
+ghost use Rattle.std.specs.Prelude.{◌≡◌};
+
+use crate::act::{Deed, NodeAnswer, act_at, preferred_at};
+use crate::anew::{keeper_at, reopen_at};
+use crate::draining::drain_at;
+use crate::forged::is_forged;
+use crate::lie::put_lie;
+use crate::place::{Fate, Keeper, Place};
+use crate::settle::{push_some, tell};
+use crate::traffic::Traffic;
+use crate::{Happened, Outcome, Plan, WorldReport, open};
+use std::alloc::Global;
+use std::marker::Model;
+use xl_base::{Millis, NodeNo, OutOfMemory};
+use xl_lists::SaidLedger;
+use xl_sched::{Ask, Event, Lied, What};
+use xl_wire::LONGEST_FRAME;
+
+/// The nodes of a world, and all that they ever sent, said and reported. A call that wants memory may leave it in the
+/// middle of a step: whoever has it lets it go then.
+#[derive(Drop)]
+pub struct Network {
+    pub alloc: Global,
+    pub liars: Vec<NodeNo>,
+    pub numbers: Vec<NodeNo>,
+    pub places: Vec<Place>,
+    /// What a drain writes into.
+    pub room: Box<[u8; LONGEST_FRAME]>,
+    pub traffic: Traffic,
+    pub said: Vec<SaidLedger>,
+    pub reports: Vec<WorldReport>,
+    pub forged: u64,
+}
+
+impl Model for Network {
+    ghost use Rattle.xl_world.specs.World.{World as TheWorld};
+
+    ghost Value = { TheWorld };
+
+    ghost use Rattle.xl_world.specs.Worlds.{network_seen};
+
+    ghost view = { network_seen };
+}
+
+impl Network {
+    ghost use Rattle.std.specs.Prelude.{◌≡◌, ◌≤◌, ◌++◌, slice_get, Some, IfOk, OnOk};
+    ghost use Rattle.xl_base.specs.declared.moments.TheConstants.{GREATEST_MILLIS};
+    ghost use Rattle.xl_ledger.specs.declared.registry.TheConstants.{LEAST_LIMIT, GREATEST_LIMIT};
+    ghost use Rattle.xl_sched.specs.Fits.{IsFitLied};
+    ghost use Rattle.xl_world.specs.Plans.{AreDeclared, AreTimely};
+    ghost use Rattle.xl_world.specs.Starts.{start};
+    ghost use Rattle.xl_world.specs.World.{marked, place_at, run};
+    ghost use Rattle.xl_world.specs.Emptying.{event_steps};
+    ghost use Rattle.xl_world.specs.Rested.{IsAtRest, IsRested};
+    ghost use Rattle.xl_world.specs.Schedule.{
+      IsPlausible, ask_steps, cut_steps, delivery_of, event_asked, greet_steps, hand_steps, lied_bytes,
+      node_asked, outcomes_at, steps_at, timers, told_in};
+    ghost use Rattle.xl_world.specs.Seen.{MayDo, deed_event, noted, outcomes_told, put_again, with_forged, with_places};
+    ghost use Rattle.xl_world.specs.declared.place.Fate.TheVariants.{Kept};
+
+    /// The network of a plan, at its start.
+    pub fn open(alloc: Global, plan: &Plan) -> Result<Network, OutOfMemory>
+        requires least { LEAST_LIMIT ≤ plan.now.limit }
+        requires most { plan.now.limit ≤ GREATEST_LIMIT }
+        requires moments { AreTimely plan.now.nodes.items }
+        ensures start { IfOk result (λ network.
+            network ≡ start plan.now.limit plan.now.liars.items plan.now.nodes.items) }
+        ensures declared { OnOk result (AreDeclared plan.now.nodes.items) }
+    {
+        let places = open::places(alloc, plan.limit, &plan.nodes)?;
+        Ok(Network {
+            alloc,
+            liars: Vec::from_slice(alloc, &plan.liars)?,
+            numbers: open::numbers(alloc, plan)?,
+            places,
+            room: Box::new(alloc, [0; LONGEST_FRAME])?,
+            traffic: Traffic::new(alloc),
+            said: Vec::new(alloc),
+            reports: Vec::new(alloc),
+            forged: 0,
+        })
+    }
+
+    /// What came of what happened at a node is told and noted, and what waits at it is drained and sent.
+    fn settle(
+        &mut self,
+        i: NodeNo,
+        answer: NodeAnswer,
+        told: &mut Vec<Outcome>,
+    ) -> Result<(), OutOfMemory>
+        requires rested { (p : _) → place_at i self.old.places ≡ Some p → IsRested p.core }
+        ensures world { OnOk result (self.new ≡ noted self.old i answer) }
+        ensures told { OnOk result (told.new.items ≡ told.old.items ++ outcomes_told i answer) }
+    {
+        tell(told, i, &answer)?;
+        push_some(&mut self.said, answer.said)?;
+        push_some(&mut self.reports, answer.report)?;
+        drain_at(
+            self.alloc,
+            &mut self.places,
+            i,
+            &self.numbers,
+            &mut self.room,
+            &mut self.traffic,
+        )
+    }
+
+    /// Something happens at a node, where there is one of the number. What comes forged isn't counted here.
+    fn act(
+        &mut self,
+        i: NodeNo,
+        at: Millis,
+        deed: Deed<'_>,
+        fate: Fate,
+        told: &mut Vec<Outcome>,
+    ) -> Result<(), OutOfMemory>
+        requires moment { at ≤ GREATEST_MILLIS }
+        requires rest { IsAtRest self.old }
+        requires may { MayDo i deed.entry }
+        ensures world { OnOk result (self.new
+            ≡ with_forged self.old.forged (run self.old (event_steps self.old i (deed_event at deed.entry) fate))) }
+        ensures told { OnOk result (told.new.items
+            ≡ told.old.items ++ told_in self.old (event_steps self.old i (deed_event at deed.entry) fate)) }
+    {
+        match act_at(&mut self.places, i, at, deed, fate) {
+            Some(answer) => self.settle(i, answer, told),
+            None => Ok(()),
+        }
+    }
+
+    /// A node is asked something, and its save, if any, meets a fate.
+    fn ask(
+        &mut self,
+        at: Millis,
+        ask: &Ask,
+        fate: Fate,
+        told: &mut Vec<Outcome>,
+    ) -> Result<(), OutOfMemory>
+        requires moment { at ≤ GREATEST_MILLIS }
+        requires rest { IsAtRest self.old }
+        ensures world { OnOk result (self.new ≡ run self.old (ask_steps self.old at ask.now fate)) }
+        ensures told { OnOk result (told.new.items ≡ told.old.items ++ told_in self.old (ask_steps self.old at ask.now fate)) }
+    {
+        let (node, deed) = asked_by(ask);
+        self.act(node, at, deed, fate, told)
+    }
+
+    /// A timer comes to each node, by rising number.
+    fn timers(&mut self, at: Millis, told: &mut Vec<Outcome>) -> Result<(), OutOfMemory>
+        requires moment { at ≤ GREATEST_MILLIS }
+        requires rest { IsAtRest self.old }
+        ensures world { OnOk result (self.new ≡ run self.old (timers self.old at self.old.numbers)) }
+        ensures told { OnOk result (told.new.items ≡ told.old.items ++ told_in self.old (timers self.old at self.old.numbers)) }
+    {
+        for k in 0..self.numbers.len() {
+            self.act(self.numbers[k], at, Deed::Timer, Fate::Kept, told)?;
+        }
+        Ok(())
+    }
+
+    /// A node greets another; itself it doesn't greet.
+    fn greet(
+        &mut self,
+        at: Millis,
+        node: NodeNo,
+        peer: NodeNo,
+        told: &mut Vec<Outcome>,
+    ) -> Result<(), OutOfMemory>
+        requires moment { at ≤ GREATEST_MILLIS }
+        requires rest { IsAtRest self.old }
+        ensures world { OnOk result (self.new ≡ run self.old (greet_steps self.old node peer)) }
+        ensures told { OnOk result (told.new.items ≡ told.old.items ++ told_in self.old (greet_steps self.old node peer)) }
+    {
+        if node == peer {
+            return Ok(());
+        }
+        self.act(node, at, Deed::Greet(peer), Fate::Kept, told)
+    }
+
+    /// The sent frame of a place, from 0 on, is handed to its receiver; to a liar that does nothing. It isn't forged,
+    /// since it was sent.
+    fn deliver(
+        &mut self,
+        at: Millis,
+        place: usize,
+        told: &mut Vec<Outcome>,
+    ) -> Result<(), OutOfMemory>
+        requires moment { at ≤ GREATEST_MILLIS }
+        requires rest { IsAtRest self.old }
+        ensures world { OnOk result
+            (self.new ≡ run self.old (delivery_of self.old at (slice_get self.old.sent place))) }
+        ensures told { OnOk result (told.new.items
+            ≡ told.old.items ++ told_in self.old (delivery_of self.old at (slice_get self.old.sent place))) }
+    {
+        let Some(frame) = self.traffic.frame(place) else {
+            return Ok(());
+        };
+        let to = frame.to;
+        let deed = Deed::Frame(frame.bytes.as_slice());
+        match act_at(&mut self.places, to, at, deed, Fate::Kept) {
+            Some(answer) => self.settle(to, answer, told),
+            None => Ok(()),
+        }
+    }
+
+    /// The sent frames after the mark are handed to their receivers, and the mark moves to the end.
+    fn deliver_all(&mut self, at: Millis, told: &mut Vec<Outcome>) -> Result<(), OutOfMemory>
+        requires moment { at ≤ GREATEST_MILLIS }
+        requires rest { IsAtRest self.old }
+        ensures world { OnOk result (self.new ≡ run self.old (steps_at self.old at What.All)) }
+        ensures told { OnOk result (told.new.items ≡ told.old.items ++ outcomes_at self.old at What.All) }
+    {
+        for place in self.traffic.mark()..self.traffic.as_slice().len() {
+            self.deliver(at, place, told)?;
+        }
+        self.traffic.move_mark();
+        Ok(())
+    }
+
+    /// Bytes are handed to a node that no node need have sent.
+    fn hand_in(
+        &mut self,
+        at: Millis,
+        to: NodeNo,
+        bytes: &[u8],
+        told: &mut Vec<Outcome>,
+    ) -> Result<(), OutOfMemory>
+        requires moment { at ≤ GREATEST_MILLIS }
+        requires rest { IsAtRest self.old }
+        ensures world { OnOk result (self.new ≡ run self.old (hand_steps self.old at to bytes.now)) }
+        ensures told { OnOk result (told.new.items ≡ told.old.items ++ told_in self.old (hand_steps self.old at to bytes.now)) }
+    {
+        let forged = is_forged(&self.liars, &mut self.traffic, &self.places, to, bytes);
+        self.act(to, at, Deed::Frame(bytes), Fate::Kept, told)?;
+        self.forged = counted(self.forged, forged);
+        Ok(())
+    }
+
+    /// What a liar says comes to a node.
+    fn lie(
+        &mut self,
+        at: Millis,
+        from: NodeNo,
+        to: NodeNo,
+        lie: &Lied,
+        told: &mut Vec<Outcome>,
+    ) -> Result<(), OutOfMemory>
+        requires moment { at ≤ GREATEST_MILLIS }
+        requires rest { IsAtRest self.old }
+        requires fit { IsFitLied lie.now }
+        ensures world { OnOk result (self.new ≡ run self.old (hand_steps self.old at to (lied_bytes from to lie.now))) }
+        ensures told { OnOk result (told.new.items
+            ≡ told.old.items ++ told_in self.old (hand_steps self.old at to (lied_bytes from to lie.now))) }
+    {
+        let mut room = [0; LONGEST_FRAME];
+        let length = put_lie(from, to, lie, &mut room);
+        self.hand_in(at, to, &room[..length], told)
+    }
+
+    /// The node of a number, where there is one, is opened anew in its place, with what its keeper then holds.
+    fn reopen(&mut self, at: Millis, node: NodeNo, keeper: Keeper) -> Result<(), OutOfMemory>
+        requires { at ≤ GREATEST_MILLIS }
+        ensures { OnOk result (self.new
+            ≡ with_places self.old (put_again at keeper (place_at node self.old.places) self.old.places)) }
+    {
+        reopen_at(self.alloc, &mut self.places, node, at, keeper)
+    }
+
+    /// Opens a node anew with the number that its keeper holds.
+    fn restart(&mut self, at: Millis, node: NodeNo) -> Result<(), OutOfMemory>
+        requires moment { at ≤ GREATEST_MILLIS }
+        requires rest { IsAtRest self.old }
+        ensures { OnOk result (self.new ≡ run self.old (steps_at self.old at (What.Restart node))) }
+    {
+        match keeper_at(&self.places, node) {
+            Some(keeper) => self.reopen(at, node, keeper.restored(keeper.found())),
+            None => Ok(()),
+        }
+    }
+
+    /// A node is asked something, and its save is cut off, which leaves the new number or the old one; it is opened
+    /// anew then. Where no save is asked, it is opened anew after what it was asked came to its end.
+    fn cut(
+        &mut self,
+        at: Millis,
+        new: bool,
+        ask: &Ask,
+        told: &mut Vec<Outcome>,
+    ) -> Result<(), OutOfMemory>
+        requires moment { at ≤ GREATEST_MILLIS }
+        requires rest { IsAtRest self.old }
+        ensures world { OnOk result (self.new ≡ run self.old (steps_at self.old at (What.Cut new ask.now))) }
+        ensures told { OnOk result (told.new.items ≡ told.old.items ++ outcomes_at self.old at (What.Cut new ask.now)) }
+    {
+        let (node, deed) = asked_by(ask);
+        let Some(keeper) = keeper_at(&self.places, node) else {
+            return Ok(());
+        };
+        // A save that is cut off is tried as one that fails: what comes of it ends with the node, and its keeper is as
+        // it was before.
+        let Some(answer) = act_at(&mut self.places, node, at, deed, Fate::Unwritten) else {
+            return Ok(());
+        };
+        let asked = answer.asked;
+        if asked.is_none() {
+            self.settle(node, answer, told)?;
+        }
+        self.reopen(at, node, keeper.restored(keeper.left_by(new, asked)))
+    }
+
+    /// Something happens at a moment, and what is told of it comes after what was told.
+    fn take(
+        &mut self,
+        at: Millis,
+        what: &What,
+        told: &mut Vec<Outcome>,
+    ) -> Result<(), OutOfMemory>
+        requires moment { at ≤ GREATEST_MILLIS }
+        requires rest { IsAtRest self.old }
+        requires plausible { IsPlausible what.now }
+        ensures world { OnOk result (self.new ≡ run self.old (steps_at self.old at what.now)) }
+        ensures told { OnOk result (told.new.items ≡ told.old.items ++ outcomes_at self.old at what.now) }
+    {
+        match what {
+            What::Ask(ask) => self.ask(at, ask, Fate::Kept, told),
+            What::Timers => self.timers(at, told),
+            What::Submit { node, tx } => {
+                self.act(*node, at, Deed::Submit(*tx), Fate::Kept, told)
+            }
+            What::Greet { node, peer } => self.greet(at, *node, *peer, told),
+            What::Deliver { place } => match place.checked_sub(1) {
+                Some(before) => self.deliver(at, before as usize, told),
+                None => Ok(()),
+            },
+            What::All => self.deliver_all(at, told),
+            What::Drop => {
+                self.traffic.move_mark();
+                Ok(())
+            }
+            What::Restart { node } => self.restart(at, *node),
+            What::Cut { new, ask } => self.cut(at, *new, ask, told),
+            What::Fail { new, ask } => self.ask(at, ask, failing(*new), told),
+            What::Lie { from, to, what } => self.lie(at, *from, *to, what, told),
+            What::Raw { to, bytes } => self.hand_in(at, *to, bytes.as_slice(), told),
+            What::Prefer { node } => push_some(told, preferred_at(&self.places, *node)),
+        }
+    }
+
+    /// An event of a schedule, and what is told of it, in order.
+    pub fn happen(&mut self, event: &Event) -> Result<Happened, OutOfMemory>
+        requires moment { event.now.at ≤ GREATEST_MILLIS }
+        requires rest { IsAtRest self.old }
+        requires plausible { IsPlausible event.now.what }
+        ensures world { OnOk result (self.new ≡ run self.old (steps_at self.old event.now.at event.now.what)) }
+        ensures told { IfOk result (λ told. told ≡ outcomes_at self.old event.now.at event.now.what) }
+    {
+        let mut told = Vec::new(self.alloc);
+        self.take(event.at, &event.what, &mut told)?;
+        Ok(Happened::from_vec(told))
+    }
+}
+
+/// The count, with one more where something was forged.
+fn counted(count: u64, forged: bool) -> u64
+    ensures { result ≡ (if forged then one_more count else count) }
+{
+    if forged {
+        count.saturating_add(1)
+    } else {
+        count
+    }
+}
+
+/// How a save fails that leaves the new number, or the old one.
+fn failing(new: bool) -> Fate
+    ensures { result ≡ failing new }
+{
+    if new { Fate::Written } else { Fate::Unwritten }
+}
+
+/// The node that is asked, and what then happens at it.
+fn asked_by(ask: &Ask) -> (NodeNo, Deed<'_>)
+    ensures node { result.0 ≡ node_asked ask.now }
+    ensures deed { (at : _) → deed_event at result.1 ≡ event_asked at ask.now }
+    ensures may { (me : _) → MayDo me result.1 }
+{
+    match *ask {
+        Ask::Issue {
+            node,
+            seq,
+            id,
+            full,
+        } => (node, Deed::Issue { seq, id, full }),
+        Ask::Timer { node } => (node, Deed::Timer),
+    }
+}

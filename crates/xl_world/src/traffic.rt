@@ -1,0 +1,90 @@
+// All that was sent, and how much of it stands before the mark.
+ghost use Rattle.std.specs.Prelude.{◌≡◌, ◌≤◌, [], length, drop, slice_get, option_copied, OnOk};
+ghost use Rattle.xl_world.specs.Indexes.{Traffic as TheTraffic, with_frame};
+ghost use Rattle.xl_world.specs.Forgeries.{was_sent};
+
+use crate::Sent;
+use crate::index::TagIndex;
+use std::alloc::Global;
+use std::marker::Model;
+use xl_base::OutOfMemory;
+
+/// The sent frames in order, the mark, and the index of the frames by their tags.
+#[derive(Drop)]
+pub struct Traffic {
+    frames: Vec<Sent>,
+    /// How many frames stand before the mark.
+    mark: usize,
+    index: TagIndex,
+}
+
+impl Model for Traffic {
+    ghost use Rattle.xl_world.specs.Indexes.{Traffic as TheTraffic};
+
+    ghost Value = { TheTraffic };
+
+    ghost use Rattle.xl_world.specs.Worlds.{traffic_seen, IsTraffic};
+
+    ghost view = { traffic_seen };
+
+    ghost invariant = { λ t. IsTraffic t };
+}
+
+impl Traffic {
+    /// Nothing was sent.
+    pub fn new(alloc: Global) -> Traffic
+        ensures frames { result.frames ≡ [] }
+        ensures mark { result.mark ≡ 0 }
+    {
+        Traffic {
+            frames: Vec::new(alloc),
+            mark: 0,
+            index: TagIndex::new(alloc),
+        }
+    }
+
+    /// Every sent frame, in order.
+    pub fn as_slice(&self) -> &[Sent]
+        ensures { result.now ≡ self.now.frames }
+    {
+        &self.frames
+    }
+
+    pub fn mark(&self) -> usize
+        ensures value { result ≡ self.now.mark }
+        ensures within { result ≤ length self.now.frames }
+    {
+        self.mark
+    }
+
+    /// The frame of a place, from 0 on.
+    pub fn frame(&self, place: usize) -> Option<&Sent>
+        ensures { option_copied result ≡ slice_get self.now.frames place }
+    {
+        self.frames.get(place)
+    }
+
+    /// A frame is sent.
+    pub fn push(&mut self, frame: Sent) -> Result<(), OutOfMemory>
+        ensures { OnOk result (self.new ≡ with_frame self.old frame) }
+    {
+        self.frames.push(frame)?;
+        Ok(())
+    }
+
+    /// The mark moves to the end.
+    pub fn move_mark(&mut self)
+        ensures frames { self.new.frames ≡ self.old.frames }
+        ensures mark { self.new.mark ≡ length self.old.frames }
+    {
+        self.mark = self.frames.len();
+    }
+
+    /// Whether these bytes were sent.
+    pub fn has(&mut self, bytes: &[u8]) -> bool
+        ensures value { result ≡ was_sent self.old.frames bytes.now }
+        ensures same { self.new ≡ self.old }
+    {
+        self.index.has(&self.frames, bytes)
+    }
+}
