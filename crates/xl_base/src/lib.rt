@@ -2,8 +2,7 @@
 //! hash, and how fields are put into bytes.
 //!
 //! It stands on the kit's `sha2` and `byteorder`. Its one contract: `half512` is the first half of SHA-512, and
-//! `set_id` is that of a set's prefix and ids. `TxIds` is for the ids that events will name once the world's nodes have
-//! rounds.
+//! `set_id` is that of a set's prefix and ids. `TxIds` has the ids of a set that an event of a schedule names.
 #![tactic(auto)]
 
 mod bytes;

@@ -10,13 +10,10 @@ ghost use Rattle.xl_closetime.specs.Resolutions.{IsResolution};
 ghost use Rattle.xl_closetime.specs.Frequent.{beats, IsMostFrequent};
 
 use crate::rounding::round_close;
-use xl_base::Secs;
+use xl_base::{MOST_MEMBERS, Secs};
 
 /// So many percent of the times make an agreement.
 const AGREED_PERCENT: u32 = 75;
-
-/// No round has more members' positions.
-const POSITIONS: usize = 64;
 
 /// The close time that a round takes, 0 where none is chosen, and whether the members agree on it.
 #[derive(Clone, Copy, Debug, PartialEq, Eq)]
@@ -61,7 +58,7 @@ pub fn needed(p: u32, pct: u32) -> u32
 /// in rising order, the choice is the last that occurs at least as often as `pct` percent of all need and at least as
 /// often as every time chosen before it. It is agreed on where it occurs as often as 75 percent of all need.
 pub fn choose_close(times: &[Secs], own: Secs, proposing: bool, pct: u32, r: u8) -> Choice
-    requires positions { length times.now ≤ POSITIONS }
+    requires positions { length times.now ≤ MOST_MEMBERS }
     requires percent { pct ≤ 100 }
     requires resolution { IsResolution r }
     ensures { result ≡ choose_close_of times.now own proposing pct r }
@@ -72,7 +69,7 @@ pub fn choose_close(times: &[Secs], own: Secs, proposing: bool, pct: u32, r: u8)
             agreed: true,
         };
     }
-    let mut counted = [0; POSITIONS + 1];
+    let mut counted = [0; MOST_MEMBERS + 1];
     let mut len = round_all(times, r, &mut counted);
     if proposing {
         counted[len] = round_close(own, r);
@@ -96,7 +93,7 @@ fn round_all(times: &[Secs], r: u8, room: &mut [Secs]) -> usize
 
 /// The choice among the counted times.
 fn choice_among(times: &[Secs], pct: u32) -> Choice
-    requires times { length times.now ≤ POSITIONS + 1 }
+    requires times { length times.now ≤ MOST_MEMBERS + 1 }
     requires percent { pct ≤ 100 }
     ensures { result ≡ choice_among_of times.now pct }
 {
@@ -116,7 +113,7 @@ fn choice_among(times: &[Secs], pct: u32) -> Choice
 
 /// The time that occurs most often, the last of those on a tie.
 fn most_frequent(times: &[Secs]) -> Frequent
-    requires { length times.now ≤ POSITIONS + 1 }
+    requires { length times.now ≤ MOST_MEMBERS + 1 }
     ensures { IsMostFrequent times.now times.now result }
 {
     let mut most = Frequent { time: 0, count: 0 };
@@ -128,7 +125,7 @@ fn most_frequent(times: &[Secs]) -> Frequent
 }
 
 fn occurrences(times: &[Secs], time: Secs) -> u32
-    requires { length times.now ≤ POSITIONS + 1 }
+    requires { length times.now ≤ MOST_MEMBERS + 1 }
     ensures { result ≡ occurrences_of times.now time }
 {
     times.iter().filter(|&&t| t == time).count() as u32

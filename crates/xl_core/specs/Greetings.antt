@@ -4,16 +4,16 @@ use Rattle.std.specs.Prelude.{ℕ, zero, suc, ◌+◌, List, [], map, drop, set,
 use Rattle.std.specs.Prelude.{Some, None}
 use Rattle.std.specs.declared.option.Option.{Option}
 use Rattle.xl_base.specs.declared.ids.LedgerId.{LedgerId}
+use Rattle.xl_base.specs.declared.node_no.TheConstants.{MOST_MEMBERS}
 use Rattle.xl_ledger.specs.declared.header.Header.{Header}
 use Rattle.xl_ledger.specs.Chains.{chain, id_at, place_of}
 use Rattle.xl_core.specs.declared.greeting.Greeting.{Greeting}
-use Rattle.xl_core.specs.declared.outgoing.TheConstants.{MEMBERS}
 use Rattle.xl_core.specs.Items.{framed, header_body_at}
 use Rattle.xl_core.specs.Node.{Node}
 
 -- none of the numbers from 1 to 64 is greeted
 abbrev pub none_greeted : List (Option Greeting)
-none_greeted = replicate MEMBERS None
+none_greeted = replicate MOST_MEMBERS None
 
 -- the chain of the ledger on which a node's round is, from sequence 1 on: every node knows the root
 abbrev pub greeting_of : Node → Greeting

@@ -7,15 +7,16 @@ use Rattle.std.specs.List.{flat_map}
 use Rattle.std.specs.Option.{is_none}
 use Rattle.xl_queues.specs.Broadcasts.{queue_of, at_reader, pushed_to_all}
 use Rattle.xl_base.specs.Counts.{one_more}
+use Rattle.xl_base.specs.declared.node_no.TheConstants.{MOST_MEMBERS}
 use Rattle.xl_queues.specs.Queues.{Backlog, no_items, with_item}
 use Rattle.xl_core.specs.declared.item.Item.{Item}
-use Rattle.xl_core.specs.declared.outgoing.TheConstants.{OUTGOING, MEMBERS}
+use Rattle.xl_core.specs.declared.outgoing.TheConstants.{OUTGOING}
 use Rattle.xl_core.specs.declared.report.Report.{Report}
 use Rattle.xl_core.specs.declared.untaken.TheConstants.{UNTAKEN}
 
 -- nothing waits for the numbers from 1 to 64
 abbrev pub none_waiting : List (Backlog Item)
-none_waiting = replicate MEMBERS no_items
+none_waiting = replicate MOST_MEMBERS no_items
 
 -- items wait for every number, in this order
 abbrev pub with_items : List (Backlog Item) → List Item → List (Backlog Item)

@@ -6,8 +6,8 @@ ghost use Rattle.xl_core.specs.Greetings.{further, further_at, greeting_at, gree
 ghost use Rattle.xl_core.specs.Queues.{fitting};
 
 use crate::Node;
-use crate::outgoing::{MEMBERS, reader_of};
-use xl_base::{LedgerId, NodeNo, Seq};
+use crate::outgoing::reader_of;
+use xl_base::{LedgerId, MOST_MEMBERS, NodeNo, Seq};
 use xl_ledger::Branch;
 
 /// The headers of a ledger's chain that a peer is yet to be handed.
@@ -20,7 +20,7 @@ pub struct Greeting {
 }
 
 /// For each number from 1 on, with what a member of it is greeted.
-pub type Greetings = [Option<Greeting>; MEMBERS];
+pub type Greetings = [Option<Greeting>; MOST_MEMBERS];
 
 /// A member is greeted from now on, and no longer as it was before.
 pub fn greet(greetings: &mut Greetings, member: NodeNo, greeting: Greeting)

@@ -6,18 +6,15 @@ ghost use Rattle.xl_core.specs.Items.{drained_bytes, drained_for, lost_for};
 
 use crate::putting::Put;
 use crate::{Item, Node};
-use xl_base::NodeNo;
+use xl_base::{MOST_MEMBERS, NodeNo};
 use xl_ledger::Branch;
 use xl_queues::Broadcast;
 
 /// How many items may wait for a peer.
 pub const OUTGOING: usize = 64;
 
-/// How many numbers a member may have.
-pub const MEMBERS: usize = 64;
-
 /// What waits for each number from 1 on, in this order.
-pub type Waiting = Broadcast<Item, OUTGOING, MEMBERS>;
+pub type Waiting = Broadcast<Item, OUTGOING, MOST_MEMBERS>;
 
 /// The place of a number among the readers.
 pub fn reader_of(member: NodeNo) -> usize

@@ -26,13 +26,13 @@ ghost use Rattle.xl_core.specs.declared.refusal.Refusal.TheVariants.{NotAfter, I
 
 use crate::beat::full_or_partial;
 use crate::greeting::{Greetings, greet, hand_chain, is_greeted};
-use crate::outgoing::{MEMBERS, Waiting, drain, lost_for};
+use crate::outgoing::{Waiting, drain, lost_for};
 use crate::tick::{Built, Tick};
 use crate::untaken::{UNTAKEN, push_report, take_reports};
 use crate::{Beat, Issued, Item, Node, Refusal, Report, Settings, Taken};
 use std::alloc::Global;
 use std::marker::Model;
-use xl_base::{LedgerId, Millis, NodeNo, OutOfMemory, Seq, TxId};
+use xl_base::{LedgerId, MOST_MEMBERS, Millis, NodeNo, OutOfMemory, Seq, TxId};
 use xl_io::Keeper;
 use xl_ledger::Branch;
 use xl_queues::{Broadcast, Queue};
@@ -98,7 +98,7 @@ impl<B: Branch + Drop> Core<B> {
         Ok(Core {
             node,
             waiting,
-            greetings: [None; MEMBERS],
+            greetings: [None; MOST_MEMBERS],
             untaken,
             stopped: false,
         })
@@ -117,7 +117,7 @@ impl<B: Branch + Drop> Core<B> {
         let untaken = Queue::open(alloc)?;
         self.node.reopen(alloc, now, kept)?;
         self.waiting = waiting;
-        self.greetings = [None; MEMBERS];
+        self.greetings = [None; MOST_MEMBERS];
         self.untaken = untaken;
         self.stopped = false;
         Ok(())

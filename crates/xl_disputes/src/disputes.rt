@@ -18,9 +18,7 @@ use crate::shares::{PLACES, Shares};
 use crate::{Votes, threshold};
 use std::alloc::Global;
 use std::marker::Model;
-use xl_base::{NodeNo, OutOfMemory, SetId, TxId};
-
-const MEMBERS: usize = 64;
+use xl_base::{MOST_MEMBERS, NodeNo, OutOfMemory, SetId, TxId};
 
 /// The place of our own set. A member's place is its number.
 const OWN: usize = 0;
@@ -30,7 +28,7 @@ const OWN: usize = 0;
 pub struct Disputes {
     shares: Shares,
     /// The set ids of the members' positions, from member 1 on.
-    positions: [Option<SetId>; MEMBERS],
+    positions: [Option<SetId>; MOST_MEMBERS],
     /// Room for our next set.
     next: Vec<TxId>,
 }
@@ -50,7 +48,7 @@ impl Model for Disputes {
 /// The place of a member's position.
 fn place_of(member: NodeNo) -> usize
     ensures value { result ≡ member - 1 }
-    ensures within { result < MEMBERS }
+    ensures within { result < MOST_MEMBERS }
 {
     member.get() as usize - 1
 }
@@ -65,7 +63,7 @@ fn holding_of(member: NodeNo) -> usize
 }
 
 /// Lets each set stand for the positions that name it.
-fn settle(shares: &mut Shares, positions: &[Option<SetId>; MEMBERS])
+fn settle(shares: &mut Shares, positions: &[Option<SetId>; MOST_MEMBERS])
     ensures { shares.new ≡ weighed (standings shares.old positions.now) shares.old }
 {
     let weights = shares.standings(positions);
@@ -79,7 +77,7 @@ impl Disputes {
     {
         Ok(Disputes {
             shares: Shares::open(alloc)?,
-            positions: [None; MEMBERS],
+            positions: [None; MOST_MEMBERS],
             next: Vec::with_capacity(alloc, SET_IDS)?,
         })
     }
@@ -89,7 +87,7 @@ impl Disputes {
         ensures { self.new ≡ nothing_known }
     {
         self.shares.reset();
-        self.positions = [None; MEMBERS];
+        self.positions = [None; MOST_MEMBERS];
     }
 
     /// Makes these ids our own set.
@@ -147,7 +145,7 @@ impl Disputes {
     pub fn clear(&mut self)
         ensures { self.new ≡ without_positions self.old }
     {
-        self.positions = [None; MEMBERS];
+        self.positions = [None; MOST_MEMBERS];
         settle(&mut self.shares, &self.positions);
     }
 

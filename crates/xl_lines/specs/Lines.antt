@@ -15,7 +15,8 @@ onto byte (line ∷ lines) = record { bytes = byte ∷ line.bytes; ended = line.
 -- a newline (10) ends a line; what stands after the last one is a line too, unless it is nothing
 abbrev pub lines_of : List ℕ → List Line
 lines_of [] = []
-lines_of (byte ∷ bytes) = cond (byte == 10) (record { bytes = []; ended = true } ∷ lines_of bytes) (onto byte (lines_of bytes))
+lines_of (byte ∷ bytes) =
+    cond (byte == 10) (record { bytes = []; ended = true } ∷ lines_of bytes) (onto byte (lines_of bytes))
 
 -- without the return (13) that stands at the end, if one does
 abbrev pub without_return : List ℕ → List ℕ

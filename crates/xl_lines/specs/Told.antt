@@ -17,16 +17,21 @@ told_by next (refuses text) = refused text
 
 -- the machine answers to a line where left lines may come, and where none may it is one too many
 abbrev pub step_within : {S : Type 0} → Rules S → ℕ → S → List ℕ → Step S
-step_within rules left state line = cond (nat_lt 0 left) (rules.step state line) (refuses (rules.overrun state ManyLines))
+step_within rules left state line =
+    cond (nat_lt 0 left) (rules.step state line) (refuses (rules.overrun state ManyLines))
 
 -- first the line's length is tested, its return counted, and then whether it may come
 abbrev pub step_at : {S : Type 0} → Limits → Rules S → ℕ → S → Line → Step S
-step_at limits rules left state line = cond (nat_lt limits.bytes (length line.bytes)) (refuses (rules.overrun state LongLine)) (step_within rules left state (content line))
+step_at limits rules left state line =
+    cond (nat_lt limits.bytes (length line.bytes))
+    (refuses (rules.overrun state LongLine))
+    (step_within rules left state (content line))
 
 -- line by line, where left lines may come, up to the first that is refused
 abbrev pub told_from : {S : Type 0} → Limits → Rules S → ℕ → S → List Line → Told
 told_from limits rules left state [] = rules.closing state
-told_from limits rules left state (line ∷ lines) = told_by (λ next. told_from limits rules (left - 1) next lines) (step_at limits rules left state line)
+told_from limits rules left state (line ∷ lines) =
+    told_by (λ next. told_from limits rules (left - 1) next lines) (step_at limits rules left state line)
 
 -- what is told about these bytes
 abbrev pub told_of : {S : Type 0} → Limits → Rules S → S → List ℕ → Told

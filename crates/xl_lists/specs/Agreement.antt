@@ -61,12 +61,16 @@ pub record IsLawful (liars : List ℕ) (said : List SaidLedger) (spoken : Option
 -- The law: where these facts hold of a network, its reports agree. What a keeper may hold is told by a test here, and
 -- what stands by a list.
 abbrev pub KeptAgrees : Type 0
-KeptAgrees = (liars : List ℕ) (said : List SaidLedger) (reports : List Report) (holds : ℕ → ℕ → Bool) (standing : List SaidLedger) →
+KeptAgrees =
+    (liars : List ℕ) (said : List SaidLedger) (reports : List Report) (holds : ℕ → ℕ → Bool)
+    (standing : List SaidLedger) →
     KeptFacts liars said reports (λ m n. IsTrue (holds m n)) (λ P. All P standing) → Agree liars reports
 
 -- and a lawful step keeps them, where what stands after it is genuine
 abbrev pub LawfulKeeps : Type 0
-LawfulKeeps = (liars : List ℕ) (said : List SaidLedger) (reports : List Report) (spoken : Option SaidLedger) (arisen : List Report)
+LawfulKeeps =
+    (liars : List ℕ) (said : List SaidLedger) (reports : List Report) (spoken : Option SaidLedger)
+    (arisen : List Report)
     (holds holds' : ℕ → ℕ → Bool) (standing standing' : List SaidLedger) →
     KeptFacts liars said reports (λ m n. IsTrue (holds m n)) (λ P. All P standing) →
     IsLawful liars said spoken arisen (λ m n. IsTrue (holds m n)) (λ m n. IsTrue (holds' m n)) →

@@ -9,7 +9,8 @@ use Rattle.xl_pool.specs.declared.entry.Content.TheVariants.{Free, Held}
 -- from this slot on so many free slots each lead to the next, and the last one to the end
 abbrev pub IsFreeList : List (Option ℕ) → ℕ → ℕ → Type 0
 IsFreeList links zero slot = slot ≡ length links
-IsFreeList links (suc count) slot = (next : ℕ) × (slice_index_or links slot None ≡ Some next) × IsFreeList links count next
+IsFreeList links (suc count) slot =
+    (next : ℕ) × (slice_index_or links slot None ≡ Some next) × IsFreeList links count next
 
 module _ {T : Type 0} where
   -- the value, if there is one

@@ -41,7 +41,8 @@ module _ {T : Type 0} where
 
   -- the name is that of a slot which is there and empty
   abbrev pub IsVacant : List (Slot T) → Name → Type 0
-  IsVacant pool name = (name.slot < length pool) × (slot_at pool name.slot ≡ record { generation = name.generation; value = None })
+  IsVacant pool name =
+      (name.slot < length pool) × (slot_at pool name.slot ≡ record { generation = name.generation; value = None })
 
   -- the name has the value, and each other slot stays
   abbrev pub with_value : List (Slot T) → Name → T → List (Slot T)
@@ -49,7 +50,8 @@ module _ {T : Type 0} where
 
   -- the slot of the name is empty, and its generation is the name's and one, modulo 2^32
   abbrev pub without_value : List (Slot T) → Name → List (Slot T)
-  without_value pool name = slice_set pool name.slot (record { generation = (name.generation + 1) % 2 ^ 32; value = None })
+  without_value pool name =
+      slice_set pool name.slot (record { generation = (name.generation + 1) % 2 ^ 32; value = None })
 
   -- the new pool finds this under the name, and under every other name what it found
   pub record Updates (old new : List (Slot T)) (name : Name) (value : Option T) : Type 0 where

@@ -38,10 +38,10 @@ ghost use Rattle.xl_rounds.specs.Positions.{
 };
 ghost use Rattle.xl_rounds.specs.Rest.{is_old_position as is_old_position_of, one_if as one_if_of, without_old_at};
 
-use crate::members::{MEMBERS, member_at, place_of};
+use crate::members::{member_at, place_of};
 use std::alloc::Global;
 use std::marker::Model;
-use xl_base::{NodeNo, OutOfMemory, Secs, SetId, TxId};
+use xl_base::{MOST_MEMBERS, NodeNo, OutOfMemory, Secs, SetId, TxId};
 use xl_closetime::{Choice, choose_close};
 use xl_disputes::Disputes;
 use xl_wire::Proposal;
@@ -53,7 +53,7 @@ const FRESH_SECS: Secs = 20;
 #[derive(Drop)]
 pub(crate) struct Positions {
     /// The positions, from member 1 on.
-    members: [Option<Proposal>; MEMBERS],
+    members: [Option<Proposal>; MOST_MEMBERS],
     /// How many there are.
     count: u32,
     /// The sets, and what the positions say of them.
@@ -131,7 +131,7 @@ impl Positions {
         ensures { IfOk result (λ positions. positions ≡ no_positions []) }
     {
         Ok(Positions {
-            members: [None; MEMBERS],
+            members: [None; MOST_MEMBERS],
             count: 0,
             disputes: Disputes::open(alloc)?,
         })
@@ -141,7 +141,7 @@ impl Positions {
     pub(crate) fn reset(&mut self)
         ensures { self.new ≡ no_positions [] }
     {
-        self.members = [None; MEMBERS];
+        self.members = [None; MOST_MEMBERS];
         self.count = 0;
         self.disputes.reset();
     }
@@ -179,7 +179,7 @@ impl Positions {
     pub(crate) fn clear(&mut self)
         ensures { self.new ≡ without_positions self.old }
     {
-        self.members = [None; MEMBERS];
+        self.members = [None; MOST_MEMBERS];
         self.count = 0;
         self.disputes.clear();
     }
@@ -190,13 +190,13 @@ impl Positions {
     {
         // Each member has a place.
         let _ = &self.members;
-        for place in 0..MEMBERS {
+        for place in 0..MOST_MEMBERS {
             self.remove_if_old(place, now);
         }
     }
 
     fn remove_if_old(&mut self, place: usize, now: Secs)
-        requires { place < MEMBERS }
+        requires { place < MOST_MEMBERS }
         ensures { self.new ≡ without_old_at now place self.old }
     {
         if is_old_position(now, &self.members[place]) {
@@ -269,7 +269,7 @@ impl Positions {
         requires resolution { IsResolution r }
         ensures { result ≡ choose_close_of (close_times_of self.now) own proposing threshold r }
     {
-        let mut room = [0; MEMBERS];
+        let mut room = [0; MOST_MEMBERS];
         let len = close_times(&self.members, &mut room);
         choose_close(&room[..len], own, proposing, threshold, r)
     }

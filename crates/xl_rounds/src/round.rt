@@ -16,14 +16,13 @@ ghost use Rattle.xl_rounds.specs.Rounds.{
   is_proposing as is_proposing_of,
 };
 
-use crate::members::MEMBERS;
 use crate::pending::Pending;
 use crate::positions::Positions;
 use crate::setting::{Former, Setting, Stance, setting_on};
 use crate::{Agreed, Mode, Phase, RoundRefusal};
 use std::alloc::Global;
 use std::marker::Model;
-use xl_base::{Millis, NodeNo, OutOfMemory, SetId, TxId, secs_of};
+use xl_base::{MOST_MEMBERS, Millis, NodeNo, OutOfMemory, SetId, TxId, secs_of};
 use xl_ledger::{LedgerNo, Registry};
 use xl_wire::Proposal;
 
@@ -59,9 +58,9 @@ pub struct Round {
     ready: Option<Millis>,
     positions: Positions,
     /// Which members left this round, from member 1 on.
-    left: [bool; MEMBERS],
+    left: [bool; MOST_MEMBERS],
     /// The members' proposals on later ledgers, from member 1 on.
-    later: [Option<Proposal>; MEMBERS],
+    later: [Option<Proposal>; MOST_MEMBERS],
     pending: Pending,
 }
 
@@ -113,8 +112,8 @@ impl Round {
             stance: NO_STANCE,
             ready: None,
             positions: Positions::open(alloc)?,
-            left: [false; MEMBERS],
-            later: [None; MEMBERS],
+            left: [false; MOST_MEMBERS],
+            later: [None; MOST_MEMBERS],
             pending: Pending::open(alloc)?,
         })
     }
@@ -131,8 +130,8 @@ impl Round {
         self.stance = NO_STANCE;
         self.ready = None;
         self.positions.reset();
-        self.left = [false; MEMBERS];
-        self.later = [None; MEMBERS];
+        self.left = [false; MOST_MEMBERS];
+        self.later = [None; MOST_MEMBERS];
         self.pending.clear();
     }
 

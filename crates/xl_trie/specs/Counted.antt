@@ -7,7 +7,8 @@ use Rattle.xl_ledger.specs.declared.vote.Vote.{Vote}
 use Rattle.xl_ledger.specs.Chains.{common_of}
 
 abbrev pub is_spot : List Header → List Vote → ℕ → Bool
-is_spot ledgers votes x = x == 0 || list_any (λ v. v.ledger == x || list_any (λ w. common_of ledgers v.ledger w.ledger == x) votes) votes
+is_spot ledgers votes x =
+    x == 0 || list_any (λ v. v.ledger == x || list_any (λ w. common_of ledgers v.ledger w.ledger == x) votes) votes
 
 -- each once
 abbrev pub spots : List Header → List Vote → List ℕ

@@ -20,10 +20,12 @@ with_counts s tip branch = record { ledger = s.ledger; first = s.first; parent =
 
 -- the counts of the votes at or below them have changed for the spans on the way to x, and no others
 pub record AreRecounted (ledgers : List Header) (old new : Name → Option Span) (change : Change) (x : ℕ) : Type 0 where
-  pub each : (a : Name) (s : Span) → old a ≡ Some s → (n : ℕ) × (new a ≡ Some (with_counts s s.tip n)) × ((OnWay ledgers s.ledger x × (n ≡ changed change s.branch)) ⊎ ((OnWay ledgers s.ledger x → ⊥) × (n ≡ s.branch)))
+  pub each : (a : Name) (s : Span) → old a ≡ Some s → (n : ℕ) × (new a ≡ Some (with_counts s s.tip n)) ×
+      ((OnWay ledgers s.ledger x × (n ≡ changed change s.branch)) ⊎ ((OnWay ledgers s.ledger x → ⊥) × (n ≡ s.branch)))
   pub back : (a : Name) (s : Span) → new a ≡ Some s → (t : Span) × (old a ≡ Some t)
 
 -- one vote has come, or has gone
 pub record IsChange (change : Change) (v : Vote) (votes now : List Vote) : Type 0 where
-  pub counts : (p : Vote → Bool) → count_by p now ≡ (if p v then changed change (count_by p votes) else count_by p votes)
+  pub counts : (p : Vote → Bool) →
+      count_by p now ≡ (if p v then changed change (count_by p votes) else count_by p votes)
   pub from : (w : Vote) → In w now → In w votes ⊎ (w ≡ v)

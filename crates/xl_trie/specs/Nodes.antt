@@ -64,8 +64,12 @@ IsBefore nodes a c (Some b) = (m : Node) × (get nodes b ≡ Some m) × (m.span.
 
 -- the name that led to a child of a, or a itself where it was the first, leads elsewhere
 abbrev pub LeadsNow : List (Slot Node) → List (Slot Node) → Name → Option Name → Option Name → Type 0
-LeadsNow old new a None to = (n : Node) × (get old a ≡ Some n) × Updates old new a (Some (record { span = n.span; child = to; sibling = n.sibling }))
-LeadsNow old new a (Some b) to = (n : Node) × (get old b ≡ Some n) × Updates old new b (Some (record { span = n.span; child = n.child; sibling = to }))
+LeadsNow old new a None to =
+    (n : Node) × (get old a ≡ Some n) ×
+    Updates old new a (Some (record { span = n.span; child = to; sibling = n.sibling }))
+LeadsNow old new a (Some b) to =
+    (n : Node) × (get old b ≡ Some n) ×
+    Updates old new b (Some (record { span = n.span; child = n.child; sibling = to }))
 
 -- the span, where it hangs there and begins with this ledger
 abbrev pub hung_at : Span → Option Name → ℕ → Span

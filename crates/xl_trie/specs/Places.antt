@@ -22,5 +22,6 @@ pub record IsPlace (ledgers : List Header) (S : Name → Option Span) (to : ℕ)
   pub span : Span
   pub there : S place.at ≡ Some span
   pub on : OnWay ledgers span.ledger to
-  pub deepest : (b : Name) (t : Span) → S b ≡ Some t → OnWay ledgers t.ledger to → length (way ledgers t.ledger) ≤ length (way ledgers span.ledger)
+  pub deepest : (b : Name) (t : Span) → S b ≡ Some t → OnWay ledgers t.ledger to →
+      length (way ledgers t.ledger) ≤ length (way ledgers span.ledger)
   pub enters : EntersAt ledgers S place.at span to place.within

@@ -55,7 +55,8 @@ abbrev pub IsHalfNeeded : (Name → Option Span) → Name → Type 0
 IsHalfNeeded S a = (s : Span) × (S a ≡ Some s) × (IsNeeded S a s ⊎ HasKid S a)
 
 -- the spans are those of the votes; all but one are needed
-pub record AreSpans (ledgers : List Header) (votes : List Vote) (S : Name → Option Span) (but : Option Name) : Type 0 where
+pub record AreSpans (ledgers : List Header) (votes : List Vote) (S : Name → Option Span)
+    (but : Option Name) : Type 0 where
   pub known : AreKnown ledgers votes
   pub linked : AreLinked ledgers S
   pub voted : (v : Vote) → In v votes → HasSpan S v.ledger
@@ -63,7 +64,8 @@ pub record AreSpans (ledgers : List Header) (votes : List Vote) (S : Name → Op
   pub needed : (a : Name) (s : Span) → S a ≡ Some s → but ≢ Some a → IsNeeded S a s
 
 -- so are the nodes
-pub record IsTrieBut (ledgers : List Header) (votes : List Vote) (nodes : List (Slot Node)) (but : Option Name) : Type 0 where
+pub record IsTrieBut (ledgers : List Header) (votes : List Vote) (nodes : List (Slot Node))
+    (but : Option Name) : Type 0 where
   pub spans : AreSpans ledgers votes (spans nodes) but
   pub kids : AllKids nodes
 
@@ -72,15 +74,18 @@ IsTrie ledgers votes nodes = IsTrieBut ledgers votes nodes None
 
 -- the nodes stay those of whatever votes they were, with another one that may not be needed
 abbrev pub StayTrie : List Header → List (Slot Node) → Option Name → List (Slot Node) → Option Name → Type 0
-StayTrie ledgers old but new now = (votes : List Vote) → IsTrieBut ledgers votes old but → IsTrieBut ledgers votes new now
+StayTrie ledgers old but new now =
+    (votes : List Vote) → IsTrieBut ledgers votes old but → IsTrieBut ledgers votes new now
 
 -- the same, over whatever ledgers they are
 abbrev pub StayTries : List (Slot Node) → Option Name → List (Slot Node) → Option Name → Type 0
-StayTries old but new now = (ledgers : List Header) (votes : List Vote) → AreLedgers ledgers → IsTrieBut ledgers votes old but → IsTrieBut ledgers votes new now
+StayTries old but new now = (ledgers : List Header) (votes : List Vote) → AreLedgers ledgers →
+    IsTrieBut ledgers votes old but → IsTrieBut ledgers votes new now
 
 -- the nodes are those of some votes
 abbrev pub IsSomeTrie : List (Slot Node) → Option Name → Type 0
-IsSomeTrie nodes but = (ledgers : List Header) × AreLedgers ledgers × ((votes : List Vote) × IsTrieBut ledgers votes nodes but)
+IsSomeTrie nodes but =
+    (ledgers : List Header) × AreLedgers ledgers × ((votes : List Vote) × IsTrieBut ledgers votes nodes but)
 
 -- the name of the root's span
 abbrev pub IsRoot : (Name → Option Span) → Name → Type 0
@@ -89,4 +94,5 @@ IsRoot S a = (s : Span) × (S a ≡ Some s) × (s.ledger ≡ 0)
 -- the nodes are those of the votes, this is the name of the root's, no ledger is above the root, and no member has two
 -- votes
 abbrev pub GoesWith : List Header → List Vote → List (Slot Node) → Name → Type 0
-GoesWith ledgers votes nodes root = IsTrie ledgers votes nodes × IsRoot (spans nodes) root × (way ledgers 0 ≡ []) × Apart (map (λ v. v.member) votes)
+GoesWith ledgers votes nodes root =
+    IsTrie ledgers votes nodes × IsRoot (spans nodes) root × (way ledgers 0 ≡ []) × Apart (map (λ v. v.member) votes)

@@ -10,7 +10,8 @@ way ledgers ledger = drop 1 (chain ledgers ledger)
 
 -- x stands on the way to a ledger, or is the root
 abbrev pub OnWay : List Header → ℕ → ℕ → Type 0
-OnWay ledgers x to = (length (way ledgers x) ≤ length (way ledgers to)) × (take (length (way ledgers x)) (way ledgers to) ≡ way ledgers x)
+OnWay ledgers x to = (length (way ledgers x) ≤ length (way ledgers to)) ×
+    (take (length (way ledgers x)) (way ledgers to) ≡ way ledgers x)
 
 -- the first ledger after another on the way to a ledger
 abbrev pub IsBegin : List Header → ℕ → ℕ → ℕ → Type 0

@@ -38,4 +38,9 @@ module _ {E : Type 0} where
 
   -- two passes as one: the longer list, both lists of places, both shares
   abbrev pub joined : Knowledge E → Knowledge E → Knowledge E
-  joined a b = record { seen = longer a.seen b.seen; mine = merge a.mine b.mine; drawn = max a.drawn b.drawn; share = a.share + b.share }
+  joined a b = record {
+    seen = longer a.seen b.seen;
+    mine = merge a.mine b.mine;
+    drawn = max a.drawn b.drawn;
+    share = a.share + b.share;
+  }

@@ -16,11 +16,11 @@ ghost use Rattle.xl_rounds.specs.Proposals.{
 };
 
 use super::{LEAVING, Round};
-use crate::members::{MEMBERS, member_at, place_of};
+use crate::members::{member_at, place_of};
 use crate::positions::is_old;
 use crate::setting::{Setting, setting_on};
 use crate::{Mode, Phase, Placed, RoundRefusal};
-use xl_base::{LedgerId, Millis, NodeNo, Secs, secs_of};
+use xl_base::{LedgerId, MOST_MEMBERS, Millis, NodeNo, Secs, secs_of};
 use xl_ledger::{LedgerNo, Registry};
 use xl_wire::Proposal;
 
@@ -47,7 +47,7 @@ impl Round {
     {
         self.begin(setting_on(registry, previous, mode, now));
         let second = secs_of(now);
-        for place in 0..MEMBERS {
+        for place in 0..MOST_MEMBERS {
             self.hand(registry, member_at(place), second);
         }
     }
@@ -139,7 +139,7 @@ impl Round {
         self.phase = Phase::Open;
         self.ready = None;
         self.positions.clear();
-        self.left = [false; MEMBERS];
+        self.left = [false; MOST_MEMBERS];
     }
 
     /// Hands a member's later proposal, if there is one, to the rule where it is on our ledger.
