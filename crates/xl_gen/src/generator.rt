@@ -1,0 +1,166 @@
+// The schedule, made and replayed event by event.
+ghost use Rattle.std.specs.Prelude.{◌≡◌, ◌≤◌, [], ◌∷◌, IfOk, OnOk};
+ghost use Rattle.xl_base.specs.declared.moments.TheConstants.{GREATEST_MILLIS};
+ghost use Rattle.xl_gen.specs.Schedule.{
+  at_first, events, events_at, events_of, list, moment_of, node_of, plan as plan_of, submits, submitted, tx_of};
+ghost use Rattle.xl_gen.specs.Summaries.{Comes, nothing_told};
+ghost use Rattle.xl_world.specs.Schedule.{IsPlausible};
+
+use crate::command::MOST_ROUNDS;
+use crate::counts::Counts;
+use std::alloc::Global;
+use xl_base::{Millis, NodeNo, OutOfMemory, TxId};
+use xl_lists::List;
+use xl_replay::DEFAULT_LIMIT;
+use xl_sched::{Event, What};
+use xl_world::{Plan, PlanNode, World};
+
+/// The nodes are opened at this moment.
+pub const FIRST_MOMENT: Millis = 800_000_000_000;
+
+const NUMBERS: [u32; 7] = [1, 2, 3, 4, 5, 6, 7];
+
+const QUORUM: u32 = 6;
+
+/// So many seconds the most rounds take.
+const MOST_SECONDS: u32 = 4 * MOST_ROUNDS + 7;
+
+/// The world so far, and what was told in it.
+#[derive(Drop)]
+pub struct Generator {
+    pub alloc: Global,
+    pub world: World,
+    pub counts: Counts,
+}
+
+/// The list of each of the seven.
+fn everyone() -> List
+    ensures { result ≡ list }
+{
+    List::new(&NUMBERS, QUORUM).unwrap()
+}
+
+fn node(me: NodeNo) -> PlanNode
+    ensures { result ≡ node_of me }
+{
+    PlanNode {
+        me,
+        list: everyone(),
+        validating: true,
+        moment: FIRST_MOMENT,
+    }
+}
+
+/// The seven nodes.
+fn plan(alloc: Global) -> Result<Plan, OutOfMemory>
+    ensures nodes { IfOk result (λ plan. plan.nodes.items ≡ plan_of) }
+    ensures liars { IfOk result (λ plan. plan.liars.items ≡ []) }
+    ensures limit { IfOk result (λ plan. plan.limit ≡ DEFAULT_LIMIT) }
+{
+    let mut nodes = Vec::new(alloc);
+    for number in NUMBERS {
+        nodes.push(node(NodeNo::new(number).unwrap()))?;
+    }
+    Ok(Plan {
+        nodes,
+        liars: Vec::new(alloc),
+        limit: DEFAULT_LIMIT,
+    })
+}
+
+/// The transaction of a number.
+fn tx(number: u32) -> TxId
+    ensures { result ≡ tx_of number }
+{
+    let mut bytes = [0; 32];
+    bytes[28..].copy_from_slice(&number.to_be_bytes());
+    TxId(bytes)
+}
+
+/// The moment of a second.
+fn moment(second: u32) -> Millis
+    requires { second ≤ MOST_SECONDS }
+    ensures value { result ≡ moment_of second }
+    ensures within { result ≤ GREATEST_MILLIS }
+{
+    FIRST_MOMENT + 1_000 * u64::from(second)
+}
+
+impl Generator {
+    /// Before anything happens.
+    pub fn open(alloc: Global) -> Result<Generator, OutOfMemory>
+        ensures world { IfOk result (λ generator. generator.world ≡ at_first) }
+        ensures counts { IfOk result (λ generator. generator.counts ≡ nothing_told) }
+    {
+        Ok(Generator {
+            alloc,
+            world: World::open(alloc, &plan(alloc)?)?,
+            counts: Counts {
+                refused: 0,
+                built: 0,
+                full: 0,
+            },
+        })
+    }
+
+    fn happen(&mut self, at: Millis, what: What) -> Result<(), OutOfMemory>
+        requires moment { at ≤ GREATEST_MILLIS }
+        requires plausible { IsPlausible what }
+        ensures { OnOk result (Comes self.old self.new (record { at = at; what = what } ∷ [])) }
+    {
+        let event = Event { at, what };
+        let happened = self.world.event(&event)?;
+        self.counts = self.counts.with(happened.as_slice())?;
+        Ok(())
+    }
+
+    /// The transaction of a number is submitted at the nodes up to one.
+    fn submit(&mut self, at: Millis, nodes: u32, number: u32) -> Result<(), OutOfMemory>
+        requires moment { at ≤ GREATEST_MILLIS }
+        requires nodes { nodes ≤ 7 }
+        ensures { OnOk result (Comes self.old self.new (events_at at (submits nodes number))) }
+    {
+        let tx = tx(number);
+        for node in 1..=nodes {
+            let node = NodeNo::new(node).unwrap();
+            self.happen(at, What::Submit { node, tx })?;
+        }
+        Ok(())
+    }
+
+    /// What is submitted in a second.
+    fn submit_all(&mut self, at: Millis, second: u32) -> Result<(), OutOfMemory>
+        requires moment { at ≤ GREATEST_MILLIS }
+        ensures { OnOk result (Comes self.old self.new (events_at at (submitted second))) }
+    {
+        if second == 1 {
+            self.submit(at, 1, 1)
+        } else if second >= 8 && second % 4 == 0 {
+            self.submit(at, 3, second / 4)
+        } else {
+            Ok(())
+        }
+    }
+
+    /// All that happens in a second.
+    fn pass(&mut self, second: u32) -> Result<(), OutOfMemory>
+        requires { second ≤ MOST_SECONDS }
+        ensures { OnOk result (Comes self.old self.new (events_of second)) }
+    {
+        let at = moment(second);
+        self.submit_all(at, second)?;
+        self.happen(at, What::Timers)?;
+        self.happen(at, What::All)
+    }
+
+    /// All that happens in so many rounds.
+    pub fn run(&mut self, rounds: u32) -> Result<(), OutOfMemory>
+        requires { rounds ≤ MOST_ROUNDS }
+        ensures { OnOk result (Comes self.old self.new (events rounds)) }
+    {
+        for second in 1..=4 * rounds + 7 {
+            self.pass(second)?;
+        }
+        Ok(())
+    }
+}
