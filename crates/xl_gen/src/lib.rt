@@ -13,3 +13,6 @@ mod generator;
 mod summary;
 
 pub use command::{MOST_ROUNDS, generate};
+
+#[cfg(test)]
+mod tests;

@@ -17,3 +17,5 @@ mod replayer;
 mod words;
 
 pub use command::replay;
+pub use ends::push_end;
+pub use replayer::DEFAULT_LIMIT;

@@ -15,7 +15,7 @@ use xl_sched::{Event, Line, MOST_BYTES, MOST_LINES, Reader, SchedRefusal};
 use xl_world::{Plan, PlanNode, World, first_fork};
 
 /// How many ledgers each node may know where no `limit` line says it.
-const DEFAULT_LIMIT: u32 = 1_024;
+pub const DEFAULT_LIMIT: u32 = 1_024;
 
 /// A schedule so far: what was read, the limit, nodes and liars that are declared, and from the first event on the
 /// world.
