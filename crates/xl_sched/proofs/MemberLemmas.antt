@@ -6,12 +6,12 @@ use Rattle.xl_sched.specs.Refusals.{◌>>=◌}
 use Rattle.xl_sched.specs.Numbers.{number_of}
 use Rattle.xl_sched.specs.Members.{numbers_of}
 
--- numbers that were read, and what is read after them
-abbrev pub read_on : List ℕ → Result (List ℕ) SchedRefusal → Result (List ℕ) SchedRefusal
+-- what was read, and what is read after it
+abbrev pub read_on : {A : Type 0} → List A → Result (List A) SchedRefusal → Result (List A) SchedRefusal
 read_on xs (Ok ys) = Ok (xs ++ ys)
 read_on xs (Err e) = Err e
 
-read_on-cons : (xs : List ℕ) (n : ℕ) (rest : Result (List ℕ) SchedRefusal) → read_on xs (rest >>= (λ ns. Ok (n ∷ ns))) ≡ read_on (xs ++ n ∷ []) rest
+pub read_on-cons : {A : Type 0} (xs : List A) (n : A) (rest : Result (List A) SchedRefusal) → read_on xs (rest >>= (λ ns. Ok (n ∷ ns))) ≡ read_on (xs ++ n ∷ []) rest
 read_on-cons xs n (Ok ys) = ap (λ zs. Ok zs) (sym (append_assoc xs (n ∷ []) ys))
 read_on-cons xs n (Err e) = refl
 
@@ -36,6 +36,6 @@ read_on-none xs entries i entry refusal here e =
 pub read_on-all : (xs : List ℕ) (entries : List (List ℕ)) (i : ℕ) → length entries ≤ i → read_on xs (numbers_of (drop i entries)) ≡ Ok (xs ++ [])
 read_on-all xs entries i h = at_drop_all (λ rest. read_on xs (numbers_of rest)) entries i h
 
-pub read_on-nothing : (rest : Result (List ℕ) SchedRefusal) → read_on [] rest ≡ rest
+pub read_on-nothing : {A : Type 0} (rest : Result (List A) SchedRefusal) → read_on [] rest ≡ rest
 read_on-nothing (Ok ys) = refl
 read_on-nothing (Err e) = refl

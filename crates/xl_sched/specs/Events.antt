@@ -1,19 +1,20 @@
 -- Events, but for disturbed saves and lies. Source: this project's schedule language.
-use Rattle.std.specs.Prelude.{ℕ, ◌&&◌, nat_le, List, [], ◌∷◌, length, Result, Ok, Err, if◌then◌else◌}
+use Rattle.std.specs.Prelude.{ℕ, Bool, ◌==◌, ◌&&◌, ◌||◌, not, nat_le, List, [], ◌∷◌, length, Result, Ok, Err, if◌then◌else◌}
 use Rattle.std.specs.Option.{ok_or}
 use Rattle.std.specs.Result.{result_ok}
 use Rattle.hex.specs.Hex.{decode_of}
+use Rattle.xl_lists.specs.Lists.{is_on}
 use Rattle.xl_sched.specs.declared.event.Ask.{Ask}
 use Rattle.xl_sched.specs.declared.event.Ask.TheVariants as ask
 use Rattle.xl_sched.specs.declared.event.What.{What}
 use Rattle.xl_sched.specs.declared.event.What.TheVariants as what
 use Rattle.xl_sched.specs.declared.limits.TheConstants.{MOST_RAW_BYTES}
 use Rattle.xl_sched.specs.declared.refusal.SchedRefusal.{SchedRefusal}
-use Rattle.xl_sched.specs.declared.refusal.SchedRefusal.TheVariants.{Id}
+use Rattle.xl_sched.specs.declared.refusal.SchedRefusal.TheVariants.{Id, Absent}
 use Rattle.xl_sched.specs.Refusals.{◌>>=◌, miscounted}
 use Rattle.xl_sched.specs.Numbers.{number_of, place_of}
-use Rattle.xl_sched.specs.Names.{ledger_id_of}
-use Rattle.xl_sched.specs.Members.{declared_of}
+use Rattle.xl_sched.specs.Names.{ledger_id_of, tx_id_of}
+use Rattle.xl_sched.specs.Members.{member_of, declared_of}
 use Rattle.xl_sched.specs.Choices.{full_of}
 use Rattle.xl_sched.specs.Reading.{Reading}
 
@@ -37,6 +38,32 @@ issue_event reading arguments = do
   asked ← asked_issue reading arguments
   Ok (what.Ask asked)
 
+-- `i`
+abbrev pub asked_timer : Reading → List (List ℕ) → Result Ask SchedRefusal
+asked_timer reading (number ∷ []) = do
+  node ← declared_of reading.nodes number
+  Ok (ask.Timer node)
+asked_timer reading arguments = miscounted arguments
+
+-- `timer i`
+abbrev pub timer_event : Reading → List (List ℕ) → Result What SchedRefusal
+timer_event reading arguments = do
+  asked ← asked_timer reading arguments
+  Ok (what.Ask asked)
+
+-- `timers`
+abbrev pub timers_event : List (List ℕ) → Result What SchedRefusal
+timers_event [] = Ok what.Timers
+timers_event arguments = miscounted arguments
+
+-- `submit i id`
+abbrev pub submit_event : Reading → List (List ℕ) → Result What SchedRefusal
+submit_event reading (number ∷ id ∷ []) = do
+  node ← declared_of reading.nodes number
+  tx ← tx_id_of reading.names id
+  Ok (what.Submit node tx)
+submit_event reading arguments = miscounted arguments
+
 -- `deliver k`
 abbrev pub deliver_event : ℕ → List (List ℕ) → Result What SchedRefusal
 deliver_event sent (number ∷ []) = do
@@ -53,6 +80,24 @@ all_event arguments = miscounted arguments
 abbrev pub drop_event : List (List ℕ) → Result What SchedRefusal
 drop_event [] = Ok what.Drop
 drop_event arguments = miscounted arguments
+
+-- whether a number is another than this one, and declared, as an honest node or as a liar
+abbrev pub is_peer : Reading → ℕ → ℕ → Bool
+is_peer reading node other = not (other == node) && (is_on reading.nodes other || is_on reading.liars other)
+
+-- the number of a peer
+abbrev pub peer_of : Reading → ℕ → List ℕ → Result ℕ SchedRefusal
+peer_of reading node token = do
+  other ← member_of token
+  if is_peer reading node other then Ok other else Err (Absent token)
+
+-- `greet i j`
+abbrev pub greet_event : Reading → List (List ℕ) → Result What SchedRefusal
+greet_event reading (number ∷ other ∷ []) = do
+  node ← declared_of reading.nodes number
+  peer ← peer_of reading node other
+  Ok (what.Greet node peer)
+greet_event reading arguments = miscounted arguments
 
 -- `restart i`
 abbrev pub restart_event : Reading → List (List ℕ) → Result What SchedRefusal

@@ -12,6 +12,7 @@ pub mod Settings
 pub mod Naming
 pub mod Events
 pub mod Saves
+pub mod TxSets
 pub mod Lies
 pub mod Words
 pub mod Fits

@@ -7,6 +7,8 @@ use Rattle.std.specs.Result.{result_ok}
 use Rattle.std.specs.Str.{bytes_eq}
 use Rattle.hex.specs.Hex.{decode_sized}
 use Rattle.xl_base.specs.declared.ids.LedgerId.{LedgerId}
+use Rattle.xl_base.specs.declared.ids.SetId.{SetId}
+use Rattle.xl_base.specs.declared.ids.TxId.{TxId}
 use Rattle.xl_ledger.specs.Chains.{root_id}
 use Rattle.xl_sched.specs.declared.named.Named.{Named}
 use Rattle.xl_sched.specs.declared.refusal.SchedRefusal.{SchedRefusal}
@@ -46,6 +48,18 @@ id_of names token = ok_or (option_or (id_written token) (id_named names token)) 
 -- the same, of a ledger
 abbrev pub ledger_id_of : List Named → List ℕ → Result LedgerId SchedRefusal
 ledger_id_of names token = do
+  id ← id_of names token
+  Ok (record { 0 = id })
+
+-- of a set of transactions
+abbrev pub set_id_of : List Named → List ℕ → Result SetId SchedRefusal
+set_id_of names token = do
+  id ← id_of names token
+  Ok (record { 0 = id })
+
+-- and of a transaction
+abbrev pub tx_id_of : List Named → List ℕ → Result TxId SchedRefusal
+tx_id_of names token = do
   id ← id_of names token
   Ok (record { 0 = id })
 

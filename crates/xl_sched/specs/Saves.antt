@@ -8,17 +8,22 @@ use Rattle.xl_sched.specs.declared.refusal.SchedRefusal.{SchedRefusal}
 use Rattle.xl_sched.specs.declared.refusal.SchedRefusal.TheVariants.{Choice}
 use Rattle.xl_sched.specs.Refusals.{◌>>=◌, miscounted}
 use Rattle.xl_sched.specs.Choices.{new_of}
-use Rattle.xl_sched.specs.Events.{asked_issue}
+use Rattle.xl_sched.specs.Events.{asked_issue, asked_timer}
 use Rattle.xl_sched.specs.Reading.{Reading}
 
 -- whether so many tokens may stand after the word of what is asked; after no such word as many as after any
 abbrev pub may_ask : List ℕ → ℕ → Bool
-may_ask word count = if bytes_eq word (codes "issue") then count == 4 else count == 1 || count == 4
+may_ask word count =
+    if bytes_eq word (codes "issue") then count == 4
+    else if bytes_eq word (codes "timer") then count == 1
+    else count == 1 || count == 4
 
--- what is asked: the tokens of an `issue` line
+-- what is asked: the tokens of an `issue` or a `timer` line
 abbrev pub ask_of : Reading → List ℕ → List (List ℕ) → Result Ask SchedRefusal
 ask_of reading word arguments =
-    if bytes_eq word (codes "issue") then asked_issue reading arguments else Err (Choice word)
+    if bytes_eq word (codes "issue") then asked_issue reading arguments
+    else if bytes_eq word (codes "timer") then asked_timer reading arguments
+    else Err (Choice word)
 
 -- the number that the keeper then holds, and what is asked, from left to right
 abbrev pub held_of : List ℕ → Result Ask SchedRefusal → Result (Bool × Ask) SchedRefusal

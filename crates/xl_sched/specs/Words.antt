@@ -13,7 +13,7 @@ use Rattle.xl_sched.specs.declared.word.SettingWord.TheVariants as setting
 use Rattle.xl_sched.specs.Refusals.{◌>>=◌}
 use Rattle.xl_sched.specs.Settings.{limit_line, node_line, liar_line, at_line}
 use Rattle.xl_sched.specs.Naming.{name_line, ledger_line}
-use Rattle.xl_sched.specs.Events.{issue_event, deliver_event, all_event, drop_event, restart_event, raw_event, prefer_event}
+use Rattle.xl_sched.specs.Events.{issue_event, submit_event, timer_event, timers_event, deliver_event, all_event, drop_event, greet_event, restart_event, raw_event, prefer_event}
 use Rattle.xl_sched.specs.Saves.{cut_event, fail_event}
 use Rattle.xl_sched.specs.Lies.{lie_event}
 use Rattle.xl_sched.specs.Reading.{Reading}
@@ -33,9 +33,13 @@ setting_word token =
 abbrev pub event_word : List ℕ → Option EventWord
 event_word token =
     if bytes_eq token (codes "issue") then Some event.Issue
+    else if bytes_eq token (codes "submit") then Some event.Submit
+    else if bytes_eq token (codes "timer") then Some event.Timer
+    else if bytes_eq token (codes "timers") then Some event.Timers
     else if bytes_eq token (codes "deliver") then Some event.Deliver
     else if bytes_eq token (codes "all") then Some event.All
     else if bytes_eq token (codes "drop") then Some event.Drop
+    else if bytes_eq token (codes "greet") then Some event.Greet
     else if bytes_eq token (codes "restart") then Some event.Restart
     else if bytes_eq token (codes "cut") then Some event.Cut
     else if bytes_eq token (codes "fail") then Some event.Fail
@@ -70,9 +74,13 @@ setting_line reading word token arguments =
 -- what happens at the line of a word
 abbrev pub what_of : Reading → ℕ → EventWord → List (List ℕ) → Result What SchedRefusal
 what_of reading sent event.Issue arguments = issue_event reading arguments
+what_of reading sent event.Submit arguments = submit_event reading arguments
+what_of reading sent event.Timer arguments = timer_event reading arguments
+what_of reading sent event.Timers arguments = timers_event arguments
 what_of reading sent event.Deliver arguments = deliver_event sent arguments
 what_of reading sent event.All arguments = all_event arguments
 what_of reading sent event.Drop arguments = drop_event arguments
+what_of reading sent event.Greet arguments = greet_event reading arguments
 what_of reading sent event.Restart arguments = restart_event reading arguments
 what_of reading sent event.Cut arguments = cut_event reading arguments
 what_of reading sent event.Fail arguments = fail_event reading arguments

@@ -1,6 +1,6 @@
-use xl_base::{Bytes, LedgerId, Millis, NodeNo, Seq};
+use xl_base::{Bytes, LedgerId, Millis, NodeNo, Seq, TxId, TxIds};
 use xl_ledger::Header;
-use xl_wire::Validation;
+use xl_wire::{Proposal, Validation};
 
 /// What happens in a schedule, and the moment in force at its line.
 #[derive(Debug, Drop)]
@@ -14,6 +14,13 @@ pub struct Event {
 pub enum What {
     /// A declared node does what it is asked.
     Ask(Ask),
+    /// A timer comes to each declared node, by rising number.
+    Timers,
+    /// A transaction is submitted at a declared node.
+    Submit {
+        node: NodeNo,
+        tx: TxId,
+    },
     /// A sent frame is handed to its receiver. Places begin at 1.
     Deliver {
         place: u64,
@@ -22,6 +29,11 @@ pub enum What {
     All,
     /// The mark moves to the end.
     Drop,
+    /// A declared node greets a peer: another declared number, a node's or a liar's.
+    Greet {
+        node: NodeNo,
+        peer: NodeNo,
+    },
     /// A declared node is opened anew.
     Restart {
         node: NodeNo,
@@ -54,7 +66,7 @@ pub enum What {
     },
 }
 
-/// What a declared node is asked to do.
+/// What a declared node is asked to do, and may save a number for.
 #[derive(Clone, Copy, Debug, PartialEq, Eq)]
 pub enum Ask {
     /// It issues its validation of a ledger.
@@ -64,12 +76,20 @@ pub enum Ask {
         id: LedgerId,
         full: bool,
     },
+    /// A timer comes to it.
+    Timer {
+        node: NodeNo,
+    },
 }
 
 /// What a liar says.
 #[derive(Debug, Drop)]
 pub enum Lied {
+    Proposal(Proposal),
     Validation(Validation),
     /// The header of the ledger that was declared by this name.
     Header { name: Bytes, header: Header },
+    /// The ids of a set of transactions, strictly rising and at most 256.
+    TxSet(TxIds),
+    Tx(TxId),
 }

@@ -10,7 +10,7 @@ use crate::places::Places;
 use hex::FromHex;
 use std::alloc::Global;
 use std::marker::Model;
-use xl_base::{Bytes, LedgerId, OutOfMemory};
+use xl_base::{Bytes, LedgerId, OutOfMemory, SetId, TxId};
 use xl_ledger::{Header, id_of};
 
 /// The names in the order of their declaration, `root` first. Contracts see them as a list.
@@ -37,7 +37,7 @@ impl Model for Names {
 impl Names {
     ghost use Rattle.std.specs.Str.{bytes_eq};
     ghost use Rattle.xl_ledger.specs.Headers.{header_id};
-    ghost use Rattle.xl_sched.specs.Names.{root, name_of, id_named, id_of, ledger_id_of, new_name_of};
+    ghost use Rattle.xl_sched.specs.Names.{root, name_of, id_named, id_of, ledger_id_of, set_id_of, tx_id_of, new_name_of};
     ghost use Rattle.xl_sched.specs.Ledgers.{ledger_named, ledger_of, parent_of};
 
     /// `root` alone.
@@ -84,6 +84,20 @@ impl Names {
         ensures { result ≡ ledger_id_of self.now token.now }
     {
         Ok(LedgerId(self.id(token)?))
+    }
+
+    /// The id of a set of transactions.
+    pub fn set_id<'a>(&self, token: &'a [u8]) -> Result<SetId, LineFault<'a>>
+        ensures { result ≡ set_id_of self.now token.now }
+    {
+        Ok(SetId(self.id(token)?))
+    }
+
+    /// The id of a transaction.
+    pub fn tx_id<'a>(&self, token: &'a [u8]) -> Result<TxId, LineFault<'a>>
+        ensures { result ≡ tx_id_of self.now token.now }
+    {
+        Ok(TxId(self.id(token)?))
     }
 
     /// A ledger that another may follow: one that is named, or the root.

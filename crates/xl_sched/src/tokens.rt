@@ -56,8 +56,7 @@ impl<'a> Tokens<'a> {
         }
     }
 
-    /// The token that is left, where it is one.
-    pub fn only_one(&self) -> Option<&'a [u8]>
+    fn only_one(&self) -> Option<&'a [u8]>
         ensures { MatchOption result (length self.now ≢ 1) (λ token. self.now ≡ token.now ∷ []) }
     {
         let (token, rest) = self.first()?;
@@ -85,14 +84,22 @@ impl<'a> Tokens<'a> {
         Some((first, second, third))
     }
 
-    /// The four tokens that are left, where they are four.
-    pub fn only_four(&self) -> Option<(&'a [u8], &'a [u8], &'a [u8], &'a [u8])>
+    fn only_four(&self) -> Option<(&'a [u8], &'a [u8], &'a [u8], &'a [u8])>
         ensures { MatchOption result (length self.now ≢ 4)
             (λ four. self.now ≡ four.0.now ∷ four.1.now ∷ four.2.now ∷ four.3.now ∷ []) }
     {
         let (first, rest) = self.first()?;
         let (second, third, fourth) = rest.only_three()?;
         Some((first, second, third, fourth))
+    }
+
+    fn only_five(&self) -> Option<(&'a [u8], &'a [u8], &'a [u8], &'a [u8], &'a [u8])>
+        ensures { MatchOption result (length self.now ≢ 5)
+            (λ five. self.now ≡ five.0.now ∷ five.1.now ∷ five.2.now ∷ five.3.now ∷ five.4.now ∷ []) }
+    {
+        let (first, rest) = self.first()?;
+        let (second, third, fourth, fifth) = rest.only_four()?;
+        Some((first, second, third, fourth, fifth))
     }
 
     /// That no token is left. Refused for another count.
@@ -151,6 +158,18 @@ impl<'a> Tokens<'a> {
     {
         match self.only_four() {
             Some(four) => Ok(four),
+            None => Err(self.miscounted()),
+        }
+    }
+
+    /// The five tokens that are left. Refused for another count.
+    pub fn five(&self) -> Result<(&'a [u8], &'a [u8], &'a [u8], &'a [u8], &'a [u8]), LineFault<'a>>
+        ensures { MatchResult result
+            (λ five. self.now ≡ five.0.now ∷ five.1.now ∷ five.2.now ∷ five.3.now ∷ five.4.now ∷ [])
+            (λ fault. (length self.now ≢ 5) × (fault ≡ Count (decimal (length self.now + 1)))) }
+    {
+        match self.only_five() {
+            Some(five) => Ok(five),
             None => Err(self.miscounted()),
         }
     }

@@ -1,5 +1,6 @@
 // The words that a line may begin with.
 ghost use Rattle.std.specs.Prelude.{◌≡◌};
+ghost use Rattle.xl_sched.specs.Lies.{lie_word};
 ghost use Rattle.xl_sched.specs.Words.{setting_word, event_word, is_declaration};
 
 /// The words of lines at which nothing happens.
@@ -49,9 +50,13 @@ impl SettingWord {
 #[derive(Clone, Copy, Debug, PartialEq, Eq)]
 pub enum EventWord {
     Issue,
+    Submit,
+    Timer,
+    Timers,
     Deliver,
     All,
     Drop,
+    Greet,
     Restart,
     Cut,
     Fail,
@@ -66,12 +71,20 @@ impl EventWord {
     {
         if token == b"issue".as_slice() {
             Some(EventWord::Issue)
+        } else if token == b"submit".as_slice() {
+            Some(EventWord::Submit)
+        } else if token == b"timer".as_slice() {
+            Some(EventWord::Timer)
+        } else if token == b"timers".as_slice() {
+            Some(EventWord::Timers)
         } else if token == b"deliver".as_slice() {
             Some(EventWord::Deliver)
         } else if token == b"all".as_slice() {
             Some(EventWord::All)
         } else if token == b"drop".as_slice() {
             Some(EventWord::Drop)
+        } else if token == b"greet".as_slice() {
+            Some(EventWord::Greet)
         } else if token == b"restart".as_slice() {
             Some(EventWord::Restart)
         } else if token == b"cut".as_slice() {
@@ -84,6 +97,36 @@ impl EventWord {
             Some(EventWord::Raw)
         } else if token == b"prefer".as_slice() {
             Some(EventWord::Prefer)
+        } else {
+            None
+        }
+    }
+}
+
+/// The words of what a liar says.
+#[derive(Clone, Copy, Debug, PartialEq, Eq)]
+pub enum LieWord {
+    Proposal,
+    Validation,
+    Header,
+    TxSet,
+    Tx,
+}
+
+impl LieWord {
+    pub fn of(token: &[u8]) -> Option<LieWord>
+        ensures { result ≡ lie_word token.now }
+    {
+        if token == b"proposal".as_slice() {
+            Some(LieWord::Proposal)
+        } else if token == b"validation".as_slice() {
+            Some(LieWord::Validation)
+        } else if token == b"header".as_slice() {
+            Some(LieWord::Header)
+        } else if token == b"set".as_slice() {
+            Some(LieWord::TxSet)
+        } else if token == b"tx".as_slice() {
+            Some(LieWord::Tx)
         } else {
             None
         }

@@ -1,5 +1,5 @@
 // Events, but for disturbed saves and lies.
-ghost use Rattle.std.specs.Prelude.{◌≡◌, ◌≤◌, ℕ, length, IfOk};
+ghost use Rattle.std.specs.Prelude.{◌≡◌, ◌≤◌, ℕ, true, length, IfOk};
 ghost use Rattle.xl_sched.specs.Events.{raw_bytes_of};
 ghost use Rattle.xl_sched.specs.Refusals.{GivenMemory};
 ghost use Rattle.xl_sched.specs.declared.limits.TheConstants.{MOST_RAW_BYTES};
@@ -8,28 +8,37 @@ use crate::choices::full;
 use crate::event::{Ask, What};
 use crate::fault::{Cause, LineFault};
 use crate::limits::MOST_RAW_BYTES;
+use crate::members::member;
 use crate::numbers::{number, place};
 use crate::reader::Reader;
 use crate::tokens::Tokens;
 use hex::FromHexError;
 use std::alloc::Global;
-use xl_base::Bytes;
+use xl_base::{Bytes, NodeNo};
 
 impl Reader {
     ghost use Rattle.xl_sched.specs.Fits.{IsFitAsk, IsFitWhat};
-    ghost use Rattle.xl_sched.specs.Events.{issue_of, issue_event, deliver_event, all_event, drop_event, restart_event, raw_event, prefer_event};
+    ghost use Rattle.xl_sched.specs.Events.{issue_of, asked_issue, issue_event, submit_event, asked_timer, timer_event, timers_event, deliver_event, all_event, drop_event, is_peer, peer_of, greet_event, restart_event, raw_event, prefer_event};
 
     /// `issue i seq id full`, or `partial`.
     pub(super) fn issue<'a>(&self, arguments: Tokens<'a>) -> Result<What, LineFault<'a>>
         ensures value { result ≡ issue_event self.now arguments.entry }
         ensures fit { IfOk result (λ what. (sent : ℕ) → IsFitWhat self.now sent what) }
     {
+        Ok(What::Ask(self.asked_issue(arguments)?))
+    }
+
+    /// `i seq id full`, or `partial`.
+    pub(super) fn asked_issue<'a>(&self, arguments: Tokens<'a>) -> Result<Ask, LineFault<'a>>
+        ensures value { result ≡ asked_issue self.now arguments.entry }
+        ensures fit { IfOk result (IsFitAsk self.now) }
+    {
         let (node, seq, id, kind) = arguments.four()?;
-        Ok(What::Ask(self.issue_of(node, seq, id, kind)?))
+        self.issue_of(node, seq, id, kind)
     }
 
     /// What a node is asked, its parts from left to right.
-    pub(super) fn issue_of<'a>(
+    fn issue_of<'a>(
         &self,
         node: &'a [u8],
         seq: &'a [u8],
@@ -45,6 +54,46 @@ impl Reader {
             id: self.names.ledger_id(id)?,
             full: full(kind)?,
         })
+    }
+
+    /// `submit i id`.
+    pub(super) fn submit<'a>(&self, arguments: Tokens<'a>) -> Result<What, LineFault<'a>>
+        ensures value { result ≡ submit_event self.now arguments.entry }
+        ensures fit { IfOk result (λ what. (sent : ℕ) → IsFitWhat self.now sent what) }
+    {
+        let (node, id) = arguments.two()?;
+        Ok(What::Submit {
+            node: self.nodes.declared(node)?,
+            tx: self.names.tx_id(id)?,
+        })
+    }
+
+    /// `timer i`.
+    pub(super) fn timer<'a>(&self, arguments: Tokens<'a>) -> Result<What, LineFault<'a>>
+        ensures value { result ≡ timer_event self.now arguments.entry }
+        ensures fit { IfOk result (λ what. (sent : ℕ) → IsFitWhat self.now sent what) }
+    {
+        Ok(What::Ask(self.asked_timer(arguments)?))
+    }
+
+    /// `i`.
+    pub(super) fn asked_timer<'a>(&self, arguments: Tokens<'a>) -> Result<Ask, LineFault<'a>>
+        ensures value { result ≡ asked_timer self.now arguments.entry }
+        ensures fit { IfOk result (IsFitAsk self.now) }
+    {
+        let node = arguments.one()?;
+        Ok(Ask::Timer {
+            node: self.nodes.declared(node)?,
+        })
+    }
+
+    /// `timers`.
+    pub(super) fn timers<'a>(&self, arguments: Tokens<'a>) -> Result<What, LineFault<'a>>
+        ensures value { result ≡ timers_event arguments.entry }
+        ensures fit { IfOk result (λ what. (sent : ℕ) → IsFitWhat self.now sent what) }
+    {
+        arguments.none()?;
+        Ok(What::Timers)
     }
 
     /// `deliver k`.
@@ -78,6 +127,37 @@ impl Reader {
     {
         arguments.none()?;
         Ok(What::Drop)
+    }
+
+    /// `greet i j`.
+    pub(super) fn greet<'a>(&self, arguments: Tokens<'a>) -> Result<What, LineFault<'a>>
+        ensures value { result ≡ greet_event self.now arguments.entry }
+        ensures fit { IfOk result (λ what. (sent : ℕ) → IsFitWhat self.now sent what) }
+    {
+        let (node, peer) = arguments.two()?;
+        let node = self.nodes.declared(node)?;
+        let peer = self.peer(node, peer)?;
+        Ok(What::Greet { node, peer })
+    }
+
+    /// The number of a peer.
+    fn peer<'a>(&self, node: NodeNo, token: &'a [u8]) -> Result<NodeNo, LineFault<'a>>
+        ensures value { result ≡ peer_of self.now node token.now }
+        ensures peer { IfOk result (λ other. is_peer self.now node other ≡ true) }
+    {
+        let other = member(token)?;
+        if self.is_peer(node, other) {
+            Ok(other)
+        } else {
+            Err(LineFault::with_text(Cause::Absent, token))
+        }
+    }
+
+    /// Whether a number is another than this one, and declared, as an honest node or as a liar.
+    fn is_peer(&self, node: NodeNo, other: NodeNo) -> bool
+        ensures { result ≡ is_peer self.now node other }
+    {
+        other != node && (self.nodes.has(other) || self.liars.has(other))
     }
 
     /// `restart i`.

@@ -1,5 +1,6 @@
 // What liars say.
 ghost use Rattle.std.specs.Prelude.{◌≡◌, ℕ, IfOk};
+ghost use Rattle.xl_sched.specs.Lies.{may_say};
 
 use crate::choices::full;
 use crate::event::{Lied, What};
@@ -7,42 +8,29 @@ use crate::fault::{Cause, LineFault};
 use crate::numbers::number;
 use crate::reader::Reader;
 use crate::tokens::Tokens;
+use crate::tx_sets::tx_set;
+use crate::word::LieWord;
 use xl_base::{Bytes, NodeNo};
-use xl_wire::Validation;
+use xl_wire::{Proposal, Validation};
 
 impl Reader {
     ghost use Rattle.xl_sched.specs.Refusals.{GivenMemory};
-    ghost use Rattle.xl_sched.specs.Fits.{IsFitWhat, IsFitPair};
-    ghost use Rattle.xl_sched.specs.Lies.{pair_of, validation_of, header_lie, lie_event};
+    ghost use Rattle.xl_sched.specs.Fits.{IsFitWhat, IsFitPair, IsFitLied};
+    ghost use Rattle.xl_sched.specs.Lies.{pair_of, lied_of, proposal_of, said_proposal, validation_of, said_validation, said_header, said_tx_set, said_tx, lie_event};
 
-    /// `lie f t` and what is said: `validation seq id signed full`, or `partial`; `header w`.
+    /// `lie f t` and what is said.
     pub(super) fn lie<'a>(&self, arguments: Tokens<'a>) -> Result<What, LineFault<'a>>
         ensures value { GivenMemory result (lie_event self.now arguments.entry) }
         ensures fit { IfOk result (λ what. (sent : ℕ) → IsFitWhat self.now sent what) }
     {
-        let (liar, honest, word, said) = arguments.three_and_others()?;
-        if word == b"validation".as_slice() {
-            let Some((seq, id, signed, kind)) = said.only_four() else {
-                return Err(arguments.miscounted());
-            };
-            let (from, to) = self.pair(liar, honest)?;
-            let what = self.validation(seq, id, signed, kind)?;
-            return Ok(What::Lie { from, to, what });
-        }
-        if word == b"header".as_slice() {
-            let Some(name) = said.only_one() else {
-                return Err(arguments.miscounted());
-            };
-            let (from, to) = self.pair(liar, honest)?;
-            let what = self.header(name)?;
-            return Ok(What::Lie { from, to, what });
-        }
-        let count = said.count();
-        if count != 1 && count != 4 && count != 5 {
+        let (liar, honest, token, said) = arguments.three_and_others()?;
+        let word = LieWord::of(token);
+        if !may_say(word, said.count()) {
             return Err(arguments.miscounted());
         }
-        let _ = self.pair(liar, honest)?;
-        Err(LineFault::with_text(Cause::Choice, word))
+        let (from, to) = self.pair(liar, honest)?;
+        let what = self.lied(word, token, said)?;
+        Ok(What::Lie { from, to, what })
     }
 
     /// Who lies to whom.
@@ -53,15 +41,75 @@ impl Reader {
         Ok((self.liars.declared(liar)?, self.nodes.declared(honest)?))
     }
 
+    /// What a lie of this word says.
+    fn lied<'a>(
+        &self,
+        word: Option<LieWord>,
+        token: &'a [u8],
+        said: Tokens<'a>,
+    ) -> Result<Lied, LineFault<'a>>
+        ensures value { GivenMemory result (lied_of self.now.names word token.now said.entry) }
+        ensures fit { IfOk result IsFitLied }
+    {
+        match word {
+            Some(LieWord::Proposal) => self.proposal(said),
+            Some(LieWord::Validation) => self.validation(said),
+            Some(LieWord::Header) => self.header(said),
+            Some(LieWord::TxSet) => self.tx_set(said),
+            Some(LieWord::Tx) => self.tx(said),
+            None => Err(LineFault::with_text(Cause::Choice, token)),
+        }
+    }
+
+    /// `prev set pseq close time`.
+    fn proposal<'a>(&self, said: Tokens<'a>) -> Result<Lied, LineFault<'a>>
+        ensures value { result ≡ said_proposal self.now.names said.entry }
+        ensures fit { IfOk result IsFitLied }
+    {
+        let (prev, set, pseq, close, time) = said.five()?;
+        self.proposal_of(prev, set, pseq, close, time)
+    }
+
+    /// The parts of a proposal, from left to right.
+    fn proposal_of<'a>(
+        &self,
+        prev: &'a [u8],
+        set: &'a [u8],
+        pseq: &'a [u8],
+        close: &'a [u8],
+        time: &'a [u8],
+    ) -> Result<Lied, LineFault<'a>>
+        ensures value { result ≡ proposal_of self.now.names prev.now set.now pseq.now close.now time.now }
+        ensures fit { IfOk result IsFitLied }
+    {
+        Ok(Lied::Proposal(Proposal {
+            prev: self.names.ledger_id(prev)?,
+            set: self.names.set_id(set)?,
+            pseq: number(pseq)?,
+            close: number(close)?,
+            time: number(time)?,
+        }))
+    }
+
+    /// `seq id signed full`, or `partial`.
+    fn validation<'a>(&self, said: Tokens<'a>) -> Result<Lied, LineFault<'a>>
+        ensures value { result ≡ said_validation self.now.names said.entry }
+        ensures fit { IfOk result IsFitLied }
+    {
+        let (seq, id, signed, kind) = said.four()?;
+        self.validation_of(seq, id, signed, kind)
+    }
+
     /// The parts of a validation, from left to right.
-    fn validation<'a>(
+    fn validation_of<'a>(
         &self,
         seq: &'a [u8],
         id: &'a [u8],
         signed: &'a [u8],
         kind: &'a [u8],
     ) -> Result<Lied, LineFault<'a>>
-        ensures { result ≡ validation_of self.now.names seq.now id.now signed.now kind.now }
+        ensures value { result ≡ validation_of self.now.names seq.now id.now signed.now kind.now }
+        ensures fit { IfOk result IsFitLied }
     {
         Ok(Lied::Validation(Validation {
             seq: number(seq)?,
@@ -71,15 +119,47 @@ impl Reader {
         }))
     }
 
-    /// The header of a declared ledger.
-    fn header<'a>(&self, name: &'a [u8]) -> Result<Lied, LineFault<'a>>
-        ensures { GivenMemory result (header_lie self.now.names name.now) }
+    /// `w`, which names a ledger.
+    fn header<'a>(&self, said: Tokens<'a>) -> Result<Lied, LineFault<'a>>
+        ensures value { GivenMemory result (said_header self.now.names said.entry) }
+        ensures fit { IfOk result IsFitLied }
     {
+        let name = said.one()?;
         let ledger = self.names.ledger(name)?;
         let name = Vec::from_slice(self.alloc, name)?;
         Ok(Lied::Header {
             name: Bytes::from_vec(name),
             header: ledger.header,
         })
+    }
+
+    /// `ids`, or `-`.
+    fn tx_set<'a>(&self, said: Tokens<'a>) -> Result<Lied, LineFault<'a>>
+        ensures value { GivenMemory result (said_tx_set self.now.names said.entry) }
+        ensures fit { IfOk result IsFitLied }
+    {
+        let token = said.one()?;
+        Ok(Lied::TxSet(tx_set(self.alloc, &self.names, token)?))
+    }
+
+    /// `id`.
+    fn tx<'a>(&self, said: Tokens<'a>) -> Result<Lied, LineFault<'a>>
+        ensures value { result ≡ said_tx self.now.names said.entry }
+        ensures fit { IfOk result IsFitLied }
+    {
+        let token = said.one()?;
+        Ok(Lied::Tx(self.names.tx_id(token)?))
+    }
+}
+
+/// Whether so many tokens may stand after the word of a lie; after no such word as many as after any.
+fn may_say(word: Option<LieWord>, count: usize) -> bool
+    ensures { result ≡ may_say word count }
+{
+    match word {
+        Some(LieWord::Proposal) => count == 5,
+        Some(LieWord::Validation) => count == 4,
+        Some(LieWord::Header | LieWord::TxSet | LieWord::Tx) => count == 1,
+        None => count == 1 || count == 4 || count == 5,
     }
 }

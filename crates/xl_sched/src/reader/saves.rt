@@ -1,5 +1,6 @@
 // Saves that are cut off, and saves that fail.
 ghost use Rattle.std.specs.Prelude.{◌≡◌, ℕ, IfOk};
+ghost use Rattle.xl_sched.specs.Saves.{may_ask};
 
 use crate::choices::new;
 use crate::event::{Ask, What};
@@ -9,7 +10,7 @@ use crate::tokens::Tokens;
 
 impl Reader {
     ghost use Rattle.xl_sched.specs.Fits.{IsFitAsk, IsFitWhat};
-    ghost use Rattle.xl_sched.specs.Saves.{disturbed_of, cut_event, fail_event};
+    ghost use Rattle.xl_sched.specs.Saves.{ask_of, disturbed_of, cut_event, fail_event};
 
     /// `cut old E`, and `cut new E`.
     pub(super) fn cut<'a>(&self, arguments: Tokens<'a>) -> Result<What, LineFault<'a>>
@@ -35,17 +36,36 @@ impl Reader {
         ensures fit { IfOk result (λ save. IsFitAsk self.now save.1) }
     {
         let (held, word, asked) = arguments.two_and_others()?;
-        if word == b"issue".as_slice() {
-            let Some((node, seq, id, kind)) = asked.only_four() else {
-                return Err(arguments.miscounted());
-            };
-            return Ok((new(held)?, self.issue_of(node, seq, id, kind)?));
-        }
-        let count = asked.count();
-        if count != 1 && count != 4 {
+        if !may_ask(word, asked.count()) {
             return Err(arguments.miscounted());
         }
-        let _ = new(held)?;
-        Err(LineFault::with_text(Cause::Choice, word))
+        Ok((new(held)?, self.ask(word, asked)?))
+    }
+
+    /// What is asked: the tokens of an `issue` or a `timer` line.
+    fn ask<'a>(&self, word: &'a [u8], asked: Tokens<'a>) -> Result<Ask, LineFault<'a>>
+        ensures value { result ≡ ask_of self.now word.now asked.entry }
+        ensures fit { IfOk result (IsFitAsk self.now) }
+    {
+        if word == b"issue".as_slice() {
+            self.asked_issue(asked)
+        } else if word == b"timer".as_slice() {
+            self.asked_timer(asked)
+        } else {
+            Err(LineFault::with_text(Cause::Choice, word))
+        }
+    }
+}
+
+/// Whether so many tokens may stand after the word of what is asked.
+fn may_ask(word: &[u8], count: usize) -> bool
+    ensures { result ≡ may_ask word.now count }
+{
+    if word == b"issue".as_slice() {
+        count == 4
+    } else if word == b"timer".as_slice() {
+        count == 1
+    } else {
+        count == 1 || count == 4
     }
 }

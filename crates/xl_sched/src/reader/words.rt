@@ -70,9 +70,13 @@ impl Reader {
     {
         match word {
             EventWord::Issue => self.issue(arguments),
+            EventWord::Submit => self.submit(arguments),
+            EventWord::Timer => self.timer(arguments),
+            EventWord::Timers => self.timers(arguments),
             EventWord::Deliver => self.deliver(arguments, sent),
             EventWord::All => self.all(arguments),
             EventWord::Drop => self.drop(arguments),
+            EventWord::Greet => self.greet(arguments),
             EventWord::Restart => self.restart(arguments),
             EventWord::Cut => self.cut(arguments),
             EventWord::Fail => self.fail(arguments),
