@@ -28,7 +28,14 @@ fn told(alloc: Global, rounds: u32, text: &mut String) -> Result<Verdict, OutOfM
     let mut generator = Generator::open(alloc)?;
     generator.run(rounds)?;
     let fork = first_fork(alloc, generator.world.reports())?;
-    push_summary(alloc, text, rounds, &generator.world, &generator.counts, &fork)?;
+    push_summary(
+        alloc,
+        text,
+        rounds,
+        &generator.world,
+        &generator.counts,
+        &fork,
+    )?;
     Ok(if fork.is_some() {
         Verdict::Found
     } else {

@@ -2,7 +2,18 @@
 ghost use Rattle.std.specs.Prelude.{◌≡◌, ◌≤◌, [], ◌∷◌, IfOk, OnOk};
 ghost use Rattle.xl_base.specs.declared.moments.TheConstants.{GREATEST_MILLIS};
 ghost use Rattle.xl_gen.specs.Schedule.{
-  at_first, events, events_at, events_of, list, moment_of, node_of, plan as plan_of, submits, submitted, tx_of};
+  at_first,
+  events,
+  events_at,
+  events_of,
+  list,
+  moment_of,
+  node_of,
+  plan as plan_of,
+  submits,
+  submitted,
+  tx_of,
+};
 ghost use Rattle.xl_gen.specs.Summaries.{Comes, nothing_told};
 ghost use Rattle.xl_world.specs.Schedule.{IsPlausible};
 
