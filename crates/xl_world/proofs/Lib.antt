@@ -27,3 +27,5 @@ pub mod Telling
 pub mod Draining
 pub mod Reopening
 pub mod Taking
+pub mod Doing
+pub mod Going
