@@ -24,7 +24,7 @@ pub mod Emptying
 pub mod Resting
 pub mod Acting
 pub mod Telling
-pub mod Draining
+pub mod Drains
 pub mod Reopening
 pub mod Taking
 pub mod Doing
