@@ -24,6 +24,8 @@ pub mod Emptying
 pub mod Resting
 pub mod Acting
 pub mod Telling
-pub mod Draining
+pub mod Drains
 pub mod Reopening
 pub mod Taking
+pub mod Doing
+pub mod Going
