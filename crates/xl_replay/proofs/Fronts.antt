@@ -11,15 +11,17 @@ use Rattle.xl_lines.specs.declared.machine.Verdict.TheVariants as verdict
 use Rattle.xl_lines.specs.Rules.{Told}
 use Rattle.xl_lines.proofs.Newlines.{IsOneLine}
 use Rattle.xl_lines.proofs.Parts.{one_line-append}
+use Rattle.xl_core.specs.declared.beat.Issued.{Issued}
+use Rattle.xl_core.specs.declared.beat.Issued.TheVariants as issued
 use Rattle.xl_core.specs.Refusals.{code_of as refusal_code}
 use Rattle.xl_sched.specs.declared.named.Named.{Named}
 use Rattle.xl_sched.specs.declared.refusal.SchedRefusal.{SchedRefusal}
 use Rattle.xl_sched.specs.Refusals.{code_of, token_of}
 use Rattle.xl_sched.specs.Tokens.{shown_token}
 use Rattle.xl_world.specs.declared.outcome.Outcome.{Outcome}
-use Rattle.xl_world.specs.declared.outcome.Outcome.TheVariants.{Refused, Full, Preferred}
+use Rattle.xl_world.specs.declared.outcome.Outcome.TheVariants.{Switched, Built, Refused, Full, Preferred}
 use Rattle.xl_world.specs.Forks.{Fork, first_fork}
-use Rattle.xl_replay.specs.Texts.{space, newline, id_text, values_text, preferred_text, outcome_line, bad_line, forged_line, agreement_line}
+use Rattle.xl_replay.specs.Texts.{space, newline, id_text, values_text, preferred_text, how_text, outcome_line, bad_line, forged_line, agreement_line}
 use Rattle.xl_replay.specs.Headlines.{Announced, announced_line, Short, short_text, HasLine, IsReport, IsRefusal, IsUnforged, AddsReport}
 use Rattle.xl_replay.proofs.WholeLines.{IsOther, HasAll, past, not_alone, at_line, spaced, decimal_one_line, id_one_line, token_one_line, values_one_line, preferred_one_line}
 
@@ -51,6 +53,32 @@ decimal_zero n =
 
 -- THE OTHER LINES
 
+switched_other : (names : List Named) (node seq : ℕ) (id : _) (n : ℕ) → IsOther unforged_line (outcome_line names n (Switched node seq id))
+switched_other names node seq id n = record {
+  body = codes "switched " ++ decimal node ++ space ++ decimal seq ++ space ++ id_text names id;
+  whole = refl;
+  one_line = spaced (codes "switched " ++ decimal node ++ space ++ decimal seq) (id_text names id)
+      (spaced (codes "switched " ++ decimal node) (decimal seq) (one_line-append (codes "switched ") (decimal node) refl (decimal_one_line node)) (decimal_one_line seq)) (id_one_line names id);
+  other = λ e. let wrong : 115 ≡ 102 = ap (λ xs. slice_index xs 0) e in omega (arith, wrong);
+}
+
+how_one_line : (how : Issued) → IsOneLine (how_text how)
+how_one_line issued.Full = refl
+how_one_line issued.Partial = refl
+how_one_line issued.Silent = refl
+how_one_line (issued.Refused why) = refl
+
+built_other : (names : List Named) (node seq : ℕ) (id : _) (how : Issued) (n : ℕ) → IsOther unforged_line (outcome_line names n (Built node seq id how))
+built_other names node seq id how n = record {
+  body = codes "built " ++ decimal node ++ space ++ decimal seq ++ space ++ id_text names id ++ space ++ how_text how;
+  whole = refl;
+  one_line = spaced (codes "built " ++ decimal node ++ space ++ decimal seq ++ space ++ id_text names id) (how_text how)
+      (spaced (codes "built " ++ decimal node ++ space ++ decimal seq) (id_text names id)
+      (spaced (codes "built " ++ decimal node) (decimal seq) (one_line-append (codes "built ") (decimal node) refl (decimal_one_line node)) (decimal_one_line seq)) (id_one_line names id))
+      (how_one_line how);
+  other = λ e. let wrong : 98 ≡ 102 = ap (λ xs. slice_index xs 0) e in omega (arith, wrong);
+}
+
 full_other : (names : List Named) (node seq : ℕ) (id : _) (n : ℕ) → IsOther unforged_line (outcome_line names n (Full node seq id))
 full_other names node seq id n = record {
   body = codes "full " ++ decimal node ++ space ++ decimal seq ++ space ++ id_text names id;
@@ -80,6 +108,8 @@ preferred_other names node ledger n = record {
 }
 
 outcome_other : (names : List Named) (n : ℕ) (o : Outcome) → IsOther unforged_line (outcome_line names n o)
+outcome_other names n (Switched node seq id) = switched_other names node seq id n
+outcome_other names n (Built node seq id how) = built_other names node seq id how n
 outcome_other names n (Refused node why) = refused_other names node why n
 outcome_other names n (Full node seq id) = full_other names node seq id n
 outcome_other names n (Preferred node ledger) = preferred_other names node ledger n

@@ -14,7 +14,7 @@ use Rattle.xl_lines.specs.Rules.{Told, closes}
 use Rattle.xl_lines.specs.Told.{told_of}
 use Rattle.xl_sched.specs.declared.refusal.SchedRefusal.TheVariants.{Header}
 use Rattle.xl_world.specs.declared.outcome.Outcome.{Outcome}
-use Rattle.xl_world.specs.declared.outcome.Outcome.TheVariants.{Refused, Full, Preferred}
+use Rattle.xl_world.specs.declared.outcome.Outcome.TheVariants.{Switched, Built, Refused, Full, Preferred}
 use Rattle.xl_world.specs.Forks.{first_fork}
 use Rattle.xl_world.specs.World.{World}
 use Rattle.xl_world.specs.Starts.{IsRun}
@@ -71,16 +71,22 @@ reports_agree w is_run r q has_r has_q none same forth back =
 
 -- the values of a `full` outcome
 node_in : Outcome → ℕ
+node_in (Switched node seq id) = node
+node_in (Built node seq id issued) = node
 node_in (Refused node refusal) = node
 node_in (Full node seq id) = node
 node_in (Preferred node ledger) = node
 
 seq_in : Outcome → ℕ
+seq_in (Switched node seq id) = 0
+seq_in (Built node seq id issued) = 0
 seq_in (Refused node refusal) = 0
 seq_in (Full node seq id) = seq
 seq_in (Preferred node ledger) = 0
 
 id_in : LedgerId → Outcome → LedgerId
+id_in other (Switched node seq id) = other
+id_in other (Built node seq id issued) = other
 id_in other (Refused node refusal) = other
 id_in other (Full node seq id) = id
 id_in other (Preferred node ledger) = other

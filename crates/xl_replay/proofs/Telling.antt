@@ -14,9 +14,13 @@ use Rattle.xl_lines.specs.Lines.{Line as TextLine, content}
 use Rattle.xl_lines.specs.declared.limits.Overrun.TheVariants.{LongLine, ManyLines}
 use Rattle.xl_lines.specs.Rules.{Step, goes_on, refuses as refuses_line, Told, closes}
 use Rattle.xl_lines.specs.Told.{after as after_text, told_by, step_within, step_at, told_from}
-use Rattle.xl_core.specs.declared.refusal.Refusal.{Refusal}
 use Rattle.xl_core.specs.declared.report.Report.{Report}
-use Rattle.xl_core.specs.Answers.{refusal_in}
+use Rattle.xl_core.specs.Answers.{Answer}
+use Rattle.xl_core.specs.Answers as answer
+use Rattle.xl_core.specs.declared.beat.Beat.{Beat}
+use Rattle.xl_core.specs.declared.beat.Beat.TheVariants as beat
+use Rattle.xl_core.specs.declared.beat.Issued.{Issued}
+use Rattle.xl_core.specs.declared.beat.Issued.TheVariants as issued
 use Rattle.xl_core.specs.Core.{CoreReply}
 use Rattle.xl_core.specs.Node.{Node, preferred}
 use Rattle.xl_core.specs.declared.event.CoreEvent.{CoreEvent}
@@ -32,7 +36,7 @@ use Rattle.xl_sched.specs.declared.line.Line.TheVariants as line
 use Rattle.xl_sched.specs.Reading.{Reading}
 use Rattle.xl_sched.specs.Answers.{LineAnswer, passes, gives, refuses, answer_to, bounded_line, reading_of}
 use Rattle.xl_world.specs.declared.outcome.Outcome.{Outcome}
-use Rattle.xl_world.specs.declared.outcome.Outcome.TheVariants.{Refused, Full, Preferred}
+use Rattle.xl_world.specs.declared.outcome.Outcome.TheVariants.{Full}
 use Rattle.xl_world.specs.declared.place.Place.{Place}
 use Rattle.xl_world.specs.declared.plan.PlanNode.{PlanNode}
 use Rattle.xl_world.specs.declared.place.Fate.{Fate}
@@ -43,7 +47,7 @@ use Rattle.xl_world.specs.World.{reported_by}
 use Rattle.xl_world.specs.Plans.{IsDeclared, AreDeclared}
 use Rattle.xl_world.specs.World.{World, Step as WorldStep, Act, Again, Torn, Mark, place_at, reply_at, acts, reopened, again, torn, asked_at, moment_in, step, run}
 use Rattle.xl_world.specs.Starts.{start, IsRun}
-use Rattle.xl_world.specs.Schedule.{steps_at, steps_of, after_event, told_of_reply as told_at, told_of_step as told_by_step, told_in, preference, outcomes_at, outcomes}
+use Rattle.xl_world.specs.Schedule.{steps_at, steps_of, after_event, told_of_reply as told_at, told_of_step as told_by_step, told_in, told_of_issued, told_of_beat, told_of_answer, preference, outcomes_at, outcomes}
 use Rattle.xl_world.proofs.Settling.{at_its_number}
 use Rattle.xl_world.proofs.Lists.{core_keeps}
 use Rattle.xl_world.proofs.Runs.{run_on}
@@ -63,7 +67,7 @@ pub record Adds (w v : World) (outcomes : List Outcome) : Type 0 where
 pub adds_none : (w v : World) → v.reports ≡ w.reports → Adds w v []
 adds_none w v same = record { more = []; reports = same ∙ sym (append-nil w.reports); told = refl }
 
-adds_then : (w v u : World) (os ps : List Outcome) → Adds w v os → Adds v u ps → Adds w u (os ++ ps)
+pub adds_then : (w v u : World) (os ps : List Outcome) → Adds w v os → Adds v u ps → Adds w u (os ++ ps)
 adds_then w v u os ps x y = record {
   more = x.more ++ y.more;
   reports = y.reports ∙ (ap (λ rs. rs ++ y.more) x.reports ∙ append_assoc w.reports x.more y.more);
@@ -73,13 +77,45 @@ adds_then w v u os ps x y = record {
       ∙ (ap (λ xs. map full_of x.more ++ xs) y.told ∙ sym (map-append full_of x.more y.more)));
 }
 
+-- what is told of how a built ledger was validated, of a timer, and of an answer tells no report
+issued_told : (i : ℕ) (how : Issued) → filter is_full (told_of_issued i how) ≡ []
+issued_told i issued.Full = refl
+issued_told i issued.Partial = refl
+issued_told i issued.Silent = refl
+issued_told i (issued.Refused why) = refl
+
+beat_told : (i : ℕ) (b : Beat) → filter is_full (told_of_beat i b) ≡ []
+beat_told i beat.Nothing = refl
+beat_told i beat.Closed = refl
+beat_told i beat.Updated = refl
+beat_told i (beat.Switched seq id) = refl
+beat_told i (beat.NoRoom limit) = refl
+beat_told i (beat.Built seq id moved_on how) = issued_told i how
+
+answer_told : (i : ℕ) (a : Answer) → filter is_full (told_of_answer i a) ≡ []
+answer_told i (answer.Refused why) = refl
+answer_told i (answer.Took taken) = refl
+answer_told i (answer.Beats b) = beat_told i b
+answer_told i answer.Done = refl
+answer_told i (answer.Gave to frames) = refl
+answer_told i (answer.Handed reports) = refl
+answer_told i (answer.Told stopped) = refl
+
+-- what is told of what arose is its report
+abbrev told_of_arisen : ℕ → Option Report → List Outcome
+told_of_arisen i arisen = option_to_list (option_map (λ q. Full i q.seq q.id) arisen)
+
+arisen_told : (i : ℕ) (n : Node) → n.me ≡ i → (arisen : Option Report) →
+    filter is_full (told_of_arisen i arisen) ≡ map full_of (option_to_list (option_map (reported_by n) arisen))
+arisen_told i n its None = refl
+arisen_told i n its (Some q) = ap (λ (k : ℕ). Full k q.seq q.id ∷ []) (sym its)
+
 -- what is told of a reply has the report that arose, and no other
-reply_told : (i : ℕ) (n : Node) → n.me ≡ i → (why : Option Refusal) (arisen : Option Report) →
-    filter is_full (option_to_list (option_map (Refused i) why) ++ option_to_list (option_map (λ q. Full i q.seq q.id) arisen)) ≡ map full_of (option_to_list (option_map (reported_by n) arisen))
-reply_told i n its None None = refl
-reply_told i n its (Some why) None = refl
-reply_told i n its None (Some q) = ap (λ (k : ℕ). Full k q.seq q.id ∷ []) (sym its)
-reply_told i n its (Some why) (Some q) = ap (λ (k : ℕ). Full k q.seq q.id ∷ []) (sym its)
+reply_told : (i : ℕ) (n : Node) → n.me ≡ i → (a : Answer) (arisen : Option Report) →
+    filter is_full (told_of_answer i a ++ told_of_arisen i arisen) ≡ map full_of (option_to_list (option_map (reported_by n) arisen))
+reply_told i n its a arisen =
+    filter-append is_full (told_of_answer i a) (told_of_arisen i arisen)
+    ∙ (ap (λ xs. xs ++ filter is_full (told_of_arisen i arisen)) (answer_told i a) ∙ arisen_told i n its arisen)
 
 act_adds : (w : World) (i : ℕ) (e : CoreEvent) (fate : Fate) (o : Option Place) → place_at i w.places ≡ o →
     Adds w (acts w i e fate o) (told_at i (option_map (λ p. reply_at p e fate) o))
@@ -89,7 +125,7 @@ act_adds w i e fate (Some p) at =
     record {
       more = option_to_list (option_map (reported_by r.core.node) r.report);
       reports = refl;
-      told = reply_told i r.core.node ((core_keeps p.core e (answer_of p.keeper fate)).0 ∙ at_its_number i w.places p at) (refusal_in r.answer) r.report;
+      told = reply_told i r.core.node ((core_keeps p.core e (answer_of p.keeper fate)).0 ∙ at_its_number i w.places p at) r.answer r.report;
     }
 
 again_adds : (w : World) (i now number : ℕ) (o : Option Place) → Adds w (again w i now number o) []
@@ -118,7 +154,7 @@ preference_adds : (w : World) (i : ℕ) (o : Option Place) → Adds w w (prefere
 preference_adds w i None = adds_none w w refl
 preference_adds w i (Some p) = record { more = []; reports = sym (append-nil w.reports); told = refl }
 
-event_adds : (w : World) (at : ℕ) (h : What) → Adds w (run w (steps_at w at h)) (outcomes_at w at h)
+pub event_adds : (w : World) (at : ℕ) (h : What) → Adds w (run w (steps_at w at h)) (outcomes_at w at h)
 event_adds w at (what.Prefer node) = preference_adds w node (place_at node w.places)
 event_adds w at happening = run_adds w (steps_at w at happening)
 

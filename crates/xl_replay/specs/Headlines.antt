@@ -53,7 +53,8 @@ state_after r (refuses text) = r
 -- the state after these lines
 abbrev pub state_from : Limits → ℕ → Replaying → List TextLine → Replaying
 state_from within left r [] = r
-state_from within left r (line ∷ rest) = state_from within (left - 1) (state_after r (step_at within rules left r line)) rest
+state_from within left r (line ∷ rest) =
+    state_from within (left - 1) (state_after r (step_at within rules left r line)) rest
 
 -- the names that a schedule declares, `root` first
 abbrev pub names_of : List ℕ → List Named

@@ -10,7 +10,13 @@ use Rattle.xl_replay.specs.declared.replayer.Replayer.{Replayer}
 use Rattle.xl_replay.specs.Replays.{Replaying}
 
 abbrev pub state_of : Replayer → Replaying
-state_of r = record { reading = r.reader; limit = r.plan.limit; plan = r.plan.nodes.items; liars = r.plan.liars.items; world = r.world }
+state_of r = record {
+  reading = r.reader;
+  limit = r.plan.limit;
+  plan = r.plan.nodes.items;
+  liars = r.plan.liars.items;
+  world = r.world;
+}
 
 -- a line's limit, or its event's moment and the set that a liar says in it, is one that there may be
 abbrev pub IsInRange : Line → Type 0

@@ -40,17 +40,26 @@ world_of r = unwrap_or r.world (start r.limit r.liars r.plan)
 
 -- a line that tells nothing
 abbrev pub silent : Replaying → Reading → ℕ → List PlanNode → List ℕ → Step Replaying
-silent r reading limit plan liars = goes_on [] (record { reading = reading; limit = limit; plan = plan; liars = liars; world = r.world })
+silent r reading limit plan liars =
+    goes_on [] (record { reading = reading; limit = limit; plan = plan; liars = liars; world = r.world })
 
 -- an event is a step of the world, and what came of it is told
 abbrev pub after : Replaying → Reading → Event → Step Replaying
 after r reading e =
     goes_on (outcome_lines reading.names reading.lines (outcomes (world_of r) e))
-    (record { reading = reading; limit = r.limit; plan = r.plan; liars = r.liars; world = Some (after_event (world_of r) e) })
+    (record {
+      reading = reading;
+      limit = r.limit;
+      plan = r.plan;
+      liars = r.liars;
+      world = Some (after_event (world_of r) e);
+    })
 
 abbrev pub after_line : Replaying → Reading → Line → Step Replaying
 after_line r reading (line.Limit limit) = silent r reading limit r.plan r.liars
-after_line r reading (line.Node me list validating) = silent r reading r.limit (r.plan ++ record { me = me; list = list; validating = validating; moment = reading.now } ∷ []) r.liars
+after_line r reading (line.Node me list validating) =
+    let node : PlanNode = record { me = me; list = list; validating = validating; moment = reading.now } in
+    silent r reading r.limit (r.plan ++ node ∷ []) r.liars
 after_line r reading (line.Liar me) = silent r reading r.limit r.plan (r.liars ++ me ∷ [])
 after_line r reading (line.Name name id) = silent r reading r.limit r.plan r.liars
 after_line r reading (line.Ledger name parent header) = silent r reading r.limit r.plan r.liars

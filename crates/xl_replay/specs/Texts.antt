@@ -103,28 +103,36 @@ how_text (issued.Refused why) = codes "none"
 
 -- what is told of the event in line n of the schedule
 abbrev pub outcome_line : List Named → ℕ → Outcome → List ℕ
-outcome_line names n (Switched node seq id) = codes "switched " ++ decimal node ++ space ++ decimal seq ++ space ++ id_text names id ++ newline
+outcome_line names n (Switched node seq id) =
+    codes "switched " ++ decimal node ++ space ++ decimal seq ++ space ++ id_text names id ++ newline
 outcome_line names n (Built node seq id issued) =
-    codes "built " ++ decimal node ++ space ++ decimal seq ++ space ++ id_text names id ++ space ++ how_text issued ++ newline
+    codes "built " ++ decimal node ++ space ++ decimal seq ++ space ++ id_text names id ++ space ++ how_text issued
+    ++ newline
 outcome_line names n (Refused node refusal) =
-    codes "refused " ++ decimal n ++ space ++ decimal node ++ space ++ decimal (refusal_code refusal) ++ space ++ values_text names refusal ++ newline
-outcome_line names n (Full node seq id) = codes "full " ++ decimal node ++ space ++ decimal seq ++ space ++ id_text names id ++ newline
-outcome_line names n (Preferred node ledger) = codes "preferred " ++ decimal node ++ space ++ preferred_text names ledger ++ newline
+    codes "refused " ++ decimal n ++ space ++ decimal node ++ space ++ decimal (refusal_code refusal) ++ space
+    ++ values_text names refusal ++ newline
+outcome_line names n (Full node seq id) =
+    codes "full " ++ decimal node ++ space ++ decimal seq ++ space ++ id_text names id ++ newline
+outcome_line names n (Preferred node ledger) =
+    codes "preferred " ++ decimal node ++ space ++ preferred_text names ledger ++ newline
 
 abbrev pub outcome_lines : List Named → ℕ → List Outcome → List ℕ
 outcome_lines names n outcomes = flat_map (outcome_line names n) outcomes
 
 -- a refused line
 abbrev pub bad_line : ℕ → SchedRefusal → List ℕ
-bad_line n refusal = codes "bad " ++ decimal n ++ space ++ decimal (code_of refusal) ++ space ++ shown_token (token_of refusal) ++ newline
+bad_line n refusal =
+    codes "bad " ++ decimal n ++ space ++ decimal (code_of refusal) ++ space ++ shown_token (token_of refusal) ++ newline
 
 -- two nodes whose quorums aren't enough: both together, and what they must exceed
 abbrev pub short_line : ℕ → ℕ → ℕ → ℕ → List ℕ
-short_line i j sum bound = codes "short " ++ decimal i ++ space ++ decimal j ++ space ++ decimal sum ++ space ++ decimal bound ++ newline
+short_line i j sum bound =
+    codes "short " ++ decimal i ++ space ++ decimal j ++ space ++ decimal sum ++ space ++ decimal bound ++ newline
 
 abbrev pub short_of : List ℕ → ℕ → TrustedList → ℕ → TrustedList → List ℕ
 short_of liars i a j b =
-    if nat_lt (bound_of liars a b) (a.quorum + b.quorum) then [] else short_line i j (a.quorum + b.quorum) (bound_of liars a b)
+    if nat_lt (bound_of liars a b) (a.quorum + b.quorum) then []
+    else short_line i j (a.quorum + b.quorum) (bound_of liars a b)
 
 -- the pair of a node and a number, where that is a node too
 abbrev pub short_with : List ℕ → ℕ → TrustedList → ℕ → Option TrustedList → List ℕ
@@ -147,7 +155,8 @@ forged_line n = codes "forged " ++ decimal n ++ newline
 abbrev pub agreement_line : List Named → Option Fork → List ℕ
 agreement_line names None = codes "agree" ++ newline
 agreement_line names (Some fork) =
-    codes "fork " ++ decimal fork.later.seq ++ space ++ decimal fork.earlier.node ++ space ++ id_text names fork.earlier.id ++ space
+    codes "fork " ++ decimal fork.later.seq ++ space ++ decimal fork.earlier.node ++ space
+    ++ id_text names fork.earlier.id ++ space
     ++ decimal fork.later.node ++ space ++ id_text names fork.later.id ++ newline
 
 -- the lines at the end
