@@ -24,6 +24,9 @@ pub mod Emptying
 pub mod Resting
 pub mod Acting
 pub mod Telling
-pub mod Draining
+pub mod Shortening
+pub mod Drains
 pub mod Reopening
 pub mod Taking
+pub mod Cutting
+pub mod Events

@@ -17,4 +17,4 @@ pub returns-then-bytes-raw-clause-value : goal.returns-then-bytes-raw-clause-val
 returns-then-bytes-raw-clause-value c =
     c.is_made_up.ensures.value
     ∙ passes (nat_le (length c.args.bytes.now) (span c.in-Whole.raw.body.now)) _ (le-leb _ _ (omega (arith, c.in-Whole.raw.whole)))
-    ∙ ap (forges c.args.liars.now c.args.sent.now c.args.keys.now c.args.bytes.now) c.in-Whole.ensures.exact
+    ∙ ap (forges c.args.liars.now c.args.traffic.now.frames c.args.keys.now c.args.bytes.now) c.in-Whole.ensures.exact
