@@ -77,7 +77,9 @@ pub enum Ask {
         full: bool,
     },
     /// A timer comes to it.
-    Timer { node: NodeNo },
+    Timer {
+        node: NodeNo,
+    },
 }
 
 /// What a liar says.

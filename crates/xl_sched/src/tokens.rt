@@ -163,9 +163,7 @@ impl<'a> Tokens<'a> {
     }
 
     /// The five tokens that are left. Refused for another count.
-    pub fn five(
-        &self,
-    ) -> Result<(&'a [u8], &'a [u8], &'a [u8], &'a [u8], &'a [u8]), LineFault<'a>>
+    pub fn five(&self) -> Result<(&'a [u8], &'a [u8], &'a [u8], &'a [u8], &'a [u8]), LineFault<'a>>
         ensures { MatchResult result
             (λ five. self.now ≡ five.0.now ∷ five.1.now ∷ five.2.now ∷ five.3.now ∷ five.4.now ∷ [])
             (λ fault. (length self.now ≢ 5) × (fault ≡ Count (decimal (length self.now + 1)))) }

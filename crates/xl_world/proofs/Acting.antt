@@ -1,36 +1,46 @@
 -- What the code notes of an answer is what the steps of its event leave.
-use Rattle.std.proofs.Common.{◌≡◌, ℕ, List, [], ◌++◌, refl, ap, sym, ◌∙◌, Option, Some, None, Result, Ok, Err, append-nil, append_assoc}
-use Rattle.std.specs.Prelude.{OnOk, option_map, option_to_list, map}
+use Rattle.std.proofs.Common.{◌≡◌, ℕ, Bool, true, false, List, [], ◌++◌, length, refl, arith, ap, sym, subst, ◌∙◌, Option, Some, None, append-nil}
+use Rattle.std.specs.Prelude.{◌==◌, ◌&&◌, nat_le, not, option_map, option_to_list, slice_get, if◌then◌else◌}
+use Rattle.std.specs.Str.{bytes_eq}
+use Rattle.std.proofs.lemmas.List.Folds.{list_any_at}
+use Rattle.std.proofs.lemmas.Option.{slice_get_within, get_or_from_slice_get}
+use Rattle.std.proofs.lemmas.Slice.Eq.{bytes_eq-Decides}
+use Rattle.xl_base.specs.Counts.{one_more}
+use Rattle.xl_lists.specs.Lists.{is_on}
+use Rattle.xl_tags.specs.Opening.{is_sealed}
+use Rattle.xl_tags.specs.Rings.{Ring}
+use Rattle.xl_wire.specs.Heads.{Split, split_of}
+use Rattle.xl_wire.specs.Heads.Split.{Whole, Need, Refused as NoFrame}
+use Rattle.xl_wire.specs.Kinds.{span}
 use Rattle.xl_lists.specs.Agreement.{with_said}
 use Rattle.xl_lists.specs.declared.report.Report.{Report as Reported}
 use Rattle.xl_lists.specs.declared.said.SaidLedger.{SaidLedger}
-use Rattle.xl_core.specs.Answers.{Answer}
-use Rattle.xl_core.specs.Answers as answer
 use Rattle.xl_core.specs.Core.{Core, CoreReply, core_happens}
-use Rattle.xl_core.specs.Node as nodes
-use Rattle.xl_core.specs.Node.{Node, Save, Timed, completed, timed, at_moment, with_tx, replying, refusing}
+use Rattle.xl_core.specs.Node.{Node, Save, Timed, completed, timed, at_moment}
 use Rattle.xl_core.specs.Node.Timed.{Quiet, Ending}
 use Rattle.xl_core.specs.declared.event.CoreEvent.{CoreEvent}
+use Rattle.xl_core.specs.declared.event.CoreEvent.TheVariants.{Frame}
 use Rattle.xl_core.proofs.Timing.{submit_either}
-use Rattle.xl_core.specs.declared.report.Report.{Report}
 use Rattle.xl_world.specs.declared.act.Deed.{Deed}
 use Rattle.xl_world.specs.declared.act.Deed.TheVariants as deed
 use Rattle.xl_world.specs.declared.act.NodeAnswer.{NodeAnswer}
-use Rattle.xl_world.specs.declared.outcome.Outcome.{Outcome}
-use Rattle.xl_world.specs.declared.outcome.Outcome.TheVariants.{Full}
 use Rattle.xl_world.specs.declared.place.Fate.{Fate}
 use Rattle.xl_world.specs.declared.place.Fate.TheVariants.{Kept}
 use Rattle.xl_world.specs.declared.place.Place.{Place}
 use Rattle.xl_world.specs.declared.sent.Sent.{Sent}
-use Rattle.xl_world.specs.Emptying.{draining, emptying, emptying_at, event_steps, given_by, handed_out}
+use Rattle.xl_world.specs.Emptying.{event_steps}
+use Rattle.xl_world.specs.Forgeries.{forges, was_sent}
 use Rattle.xl_world.specs.Keeper.{answer_of}
-use Rattle.xl_world.specs.Schedule.{outcomes_of, told_in, told_of_answer, told_of_beat}
-use Rattle.xl_world.specs.Seen.{Answers, AnswersAt, acted_at, deed_event, given_at, noted, outcomes_told, place_after, place_drained, put_acted, put_drained, reaction_of, told_of_reaction, with_forged, with_places}
-use Rattle.xl_world.specs.World.{Step, World, Act, keeper_after, place_at, put, reply_at, reported_by, run, said_by, sent_in}
+use Rattle.xl_world.specs.Rested.{IsAtRest, IsRested}
+use Rattle.xl_world.specs.Schedule.{delivery}
+use Rattle.xl_world.specs.Seen.{Answers, AnswersAt, acted_at, deed_event, forged_at, given_at, noted, place_after, place_drained, put_acted, put_drained, with_forged, with_places}
+use Rattle.xl_world.specs.World.{World, is_forged, keeper_after, place_at, put, reply_at, run, said_by, sent_in}
 use Rattle.xl_world.proofs.CoreSteps.{frame_plain, issue_plain}
-use Rattle.xl_world.proofs.Emptying.{emptied, emptied_acts, emptied_node, event_ran, given_then}
+use Rattle.xl_world.proofs.Emptying.{emptied_acts, emptied_node, emptied_then, event_ran, given_then}
 use Rattle.xl_world.proofs.Lists.{core_keeps}
 use Rattle.xl_world.proofs.Putting.{put_at, put_put}
+use Rattle.xl_world.proofs.Resting.{rested_after}
+use Rattle.xl_world.proofs.Seats.{some_same}
 use Rattle.xl_world.proofs.Settling.{at_its_number}
 
 -- WHAT HAPPENS GIVES NO FRAMES
@@ -86,3 +96,52 @@ nothing_ran w i e fate answers = by_place (place_at i w.places) answers ∙ ap (
     by_place : (o : Option Place) → Answers e fate o None → with_places w (put_acted e fate o w.places) ≡ with_forged w.forged (emptied_acts w i e fate o)
     by_place None is = refl
     by_place (Some p) never = absurd never
+
+-- where the places are as after an event, no report is untaken
+pub acted_rests : (w : World) (i : ℕ) (e : CoreEvent) (fate : Fate) → IsAtRest w → (q : Place) → place_at i (acted_at i e fate w.places) ≡ Some q → IsRested q.core
+acted_rests w i e fate rest q h = by_place (place_at i w.places) refl h
+  where
+    by_place : (o : Option Place) → place_at i w.places ≡ o → place_at i (put_acted e fate o w.places) ≡ Some q → IsRested q.core
+    by_place None at is = rest.cores i q is
+    by_place (Some p) at is =
+        let x : Place = place_after p e fate in
+        let its : x.core.node.me ≡ i = (core_keeps p.core e (answer_of p.keeper fate)).0 ∙ at_its_number i w.places p at in
+        let same : q ≡ x = some_same x q (sym (put_at i x w.places p its at) ∙ is) in
+        subst (λ (y : Place). IsRested y.core) (sym same) (rested_after p.core e (answer_of p.keeper fate) (rest.cores i p at))
+
+-- WHAT COMES FORGED
+
+-- what is no frame isn't forged
+pub fair_ran : (w : World) (i : ℕ) (e : CoreEvent) (fate : Fate) → ((n : Node) → is_forged w n e ≡ false) → with_forged w.forged (run w (event_steps w i e fate)) ≡ run w (event_steps w i e fate)
+fair_ran w i e fate fair = ap (with_forged w.forged) (event_ran w i e fate) ∙ (by_place (place_at i w.places) ∙ sym (event_ran w i e fate))
+  where
+    by_place : (o : Option Place) → with_forged w.forged (emptied_acts w i e fate o) ≡ emptied_acts w i e fate o
+    by_place None = refl
+    by_place (Some p) = ap (λ (b : Bool). emptied_then w i b (reply_at p e fate) (keeper_after p e fate)) (sym (fair p.core.node))
+
+-- bytes that come are counted where they are forged
+pub counted_ran : (w : World) (to at : ℕ) (bytes : List ℕ) (count : ℕ) → count ≡ (if forged_at w.liars w.sent bytes (place_at to w.places) then one_more w.forged else w.forged) →
+    with_forged count (run w (event_steps w to (Frame at bytes) Kept)) ≡ run w (event_steps w to (Frame at bytes) Kept)
+counted_ran w to at bytes count is = ap (with_forged count) (event_ran w to (Frame at bytes) Kept) ∙ (by_place (place_at to w.places) is ∙ sym (event_ran w to (Frame at bytes) Kept))
+  where
+    by_place : (o : Option Place) → count ≡ (if forged_at w.liars w.sent bytes o then one_more w.forged else w.forged) → with_forged count (emptied_acts w to (Frame at bytes) Kept o) ≡ emptied_acts w to (Frame at bytes) Kept o
+    by_place None counted = ap (λ (n : ℕ). with_forged n w) counted
+    by_place (Some p) counted = ap (λ (n : ℕ). with_forged n (emptied_acts w to (Frame at bytes) Kept (Some p))) counted
+
+-- bytes that were sent are not forged
+fair : (last mine liar right sent : Bool) → sent ≡ true → (last && (mine && not liar && not sent && right)) ≡ false
+fair last mine liar right sent h = grind arith
+
+sent_fair : (liars : List ℕ) (sent : List Sent) (keys : Ring) (bytes : List ℕ) (s : Split) → was_sent sent bytes ≡ true → forges liars sent keys bytes s ≡ false
+sent_fair liars sent keys bytes (NoFrame why) was = refl
+sent_fair liars sent keys bytes (Need lack) was = refl
+sent_fair liars sent keys bytes (Whole f) was = fair (nat_le (length bytes) (span f.body)) (f.to == keys.me) (is_on liars f.from) (is_sealed keys f) (was_sent sent bytes) was
+
+found_sent : (sent : List Sent) (f : Sent) (k : ℕ) → slice_get sent k ≡ Some f → was_sent sent f.bytes ≡ true
+found_sent sent f k at =
+    list_any_at _ sent k f (slice_get_within sent k f at)
+    (subst (λ (g : Sent). bytes_eq g.bytes f.bytes ≡ true) (sym (get_or_from_slice_get sent k f f at)) ((bytes_eq-Decides f.bytes f.bytes).1 refl))
+
+-- so the sent frame of a place is none
+pub sent_ran : (w : World) (at : ℕ) (f : Sent) (k : ℕ) → slice_get w.sent k ≡ Some f → with_forged w.forged (run w (delivery w at f)) ≡ run w (delivery w at f)
+sent_ran w at f k found = fair_ran w f.to (Frame at f.bytes) Kept (λ n. sent_fair w.liars w.sent n.keys f.bytes (split_of f.bytes) (found_sent w.sent f k found))

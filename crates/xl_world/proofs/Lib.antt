@@ -30,3 +30,5 @@ pub mod Reopening
 pub mod Taking
 pub mod Cutting
 pub mod Events
+pub mod Doing
+pub mod Going

@@ -23,7 +23,7 @@ one_taken [] room old written d few is some given = absurd (some is)
 one_taken (x ∷ []) room old written d few is some given = ap (λ (xs : List Report). get_or xs 0 d ∷ []) given
 one_taken (x ∷ y ∷ xs) room old written d few is some given = absurd (omega (arith, few))
 
-untaken_is : (q : Backlog Report) (o : Option Report) → q.items ≡ [] → (with_report q o).items ≡ option_to_list o
+pub untaken_is : (q : Backlog Report) (o : Option Report) → q.items ≡ [] → (with_report q o).items ≡ option_to_list o
 untaken_is q None none = none
 untaken_is q (Some report) none = ap (λ (xs : List Report). let x : Backlog Report = with_item 1024 (record { items = xs; lost = 0 }) report in x.items) none
 
@@ -34,7 +34,7 @@ few_reports (Some r) = omega arith
 pub few_untaken : (core a : Core) (r : Reply) → core.untaken.items ≡ [] → a ≡ (stepped core r).core → length a.untaken.items ≤ 1
 few_untaken core a r none is = omega (arith, ap length (ap (λ (k : Core). k.untaken.items) is ∙ untaken_is core.untaken r.report none), few_reports r.report)
 
-same_option : (a b : Option Report) → option_to_list a ≡ option_to_list b → a ≡ b
+pub same_option : (a b : Option Report) → option_to_list a ≡ option_to_list b → a ≡ b
 same_option None None e = refl
 same_option None (Some y) e = cc
 same_option (Some x) None e = cc

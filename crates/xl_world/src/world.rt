@@ -37,7 +37,7 @@ impl World {
     ghost use Rattle.xl_world.specs.Headline.{AgreeAt, Headline};
     ghost use Rattle.xl_world.specs.Plans.{AreTimely, list_at};
     ghost use Rattle.xl_world.specs.Schedule.{IsPlausible, after_event, outcomes};
-    ghost use Rattle.xl_world.specs.Starts.{start};
+    ghost use Rattle.xl_world.specs.Starts.{IsRun, start};
     ghost use Rattle.xl_world.specs.World.{core_in, list_in, run};
     ghost use Rattle.xl_world.specs.Worlds.{nobody};
 
@@ -116,7 +116,9 @@ impl World {
 
     /// Every report of a node, in order.
     pub fn reports(&self) -> &[WorldReport]
-        ensures { result.now ≡ self.now.reports }
+        ensures reports { result.now ≡ self.now.reports }
+        // The world comes from a declared one by steps.
+        ensures run { IsRun self.now }
     {
         match &self.network {
             Some(network) => &network.reports,

@@ -1,0 +1,272 @@
+-- What happens at a core whose keeper's save meets a fate: the core, what is said of it, and the keeper.
+use Rattle.std.proofs.Common.{◌≡◌, ◌≢◌, ℕ, ◌≤◌, Bool, true, false, List, [], length, refl, arith, ap, sym, ◌∙◌, subst, Option, Some, None, Result, Ok, Err}
+use Rattle.std.specs.Prelude.{◌==◌, ◌&&◌, IfSome, IsSome, is_some, nat_le, nat_lt, not, option_map, option_to_list, unwrap_or, if◌then◌else◌}
+use Rattle.std.proofs.lemmas.Bool.{cond_both}
+use Rattle.xl_base.specs.Faults.{Rose}
+use Rattle.xl_base.specs.declared.ids.LedgerId.{LedgerId}
+use Rattle.xl_ledger.specs.Chains.{seq_at, id_at}
+use Rattle.xl_ledger.specs.Headers.{header_id}
+use Rattle.xl_ledger.specs.Registries.{Ledgers}
+use Rattle.xl_ledger.specs.declared.header.Header.{Header}
+use Rattle.xl_lists.specs.declared.said.SaidLedger.{SaidLedger}
+use Rattle.xl_rounds.specs.Heartbeats.{Beat as RoundBeat, heartbeat}
+use Rattle.xl_rounds.specs.Proposals.{started}
+use Rattle.xl_rounds.specs.Rounds.{Round, accepted, is_proposing, leave}
+use Rattle.xl_rounds.specs.declared.phase.Mode.TheVariants.{SwitchedLedger}
+use Rattle.xl_rounds.specs.declared.pulse.Kind.{Kind}
+use Rattle.xl_rounds.specs.declared.pulse.Kind.TheVariants as kind
+use Rattle.xl_rounds.specs.declared.pulse.Said.{Said}
+use Rattle.xl_tags.specs.Rings.{key_of, schedule_ring}
+use Rattle.xl_wire.specs.declared.validation.Validation.{Validation}
+use Rattle.xl_core.specs.Answers.{Answer, Beats, Done as AnsweredDone, Refused, Took, refusal_in}
+use Rattle.xl_core.specs.Building.{Knowing, alone, how_issued, knowing, said_items}
+use Rattle.xl_core.specs.Core.{Core, CoreReply, core_asks, core_happens}
+use Rattle.xl_core.specs.Keeping.{CountsFault, Saves}
+use Rattle.xl_core.specs.Node as nodes
+use Rattle.xl_core.specs.Node.{Node, Reply, Save, Timed, after_beat, asks_for, at_moment, built, building, chosen, completed, ending, following, happens, hearing, is_kept, issues_unless, issuing, own_validation, refusing, replying, seen, switching, taking, timed, validates, validating_built}
+use Rattle.xl_core.specs.Node.Save.{Kept as AnsweredOk, Failed as AnsweredFailed}
+use Rattle.xl_core.specs.Node.Timed.{Quiet, Ending}
+use Rattle.xl_core.specs.Replies.{Answers, Issues, done_answer, save_in, save_of, taken_answer, was_kept}
+use Rattle.xl_core.specs.Ticks.{Beaten, CountsBeatFault, beat_was_kept, save_at}
+use Rattle.xl_core.specs.declared.beat.Beat.{Beat}
+use Rattle.xl_core.specs.declared.beat.Beat.TheVariants as beat
+use Rattle.xl_core.specs.declared.beat.Issued.{Issued}
+use Rattle.xl_core.specs.declared.beat.Issued.TheVariants as issued
+use Rattle.xl_core.specs.declared.event.CoreEvent.{CoreEvent}
+use Rattle.xl_core.specs.declared.event.CoreEvent.TheVariants.{Issue, Timer}
+use Rattle.xl_core.specs.declared.hearing.Speech.{Speech}
+use Rattle.xl_core.specs.declared.hearing.Speech.TheVariants as speech
+use Rattle.xl_core.specs.declared.refusal.Refusal.{Refusal}
+use Rattle.xl_core.specs.declared.refusal.Refusal.TheVariants as why
+use Rattle.xl_core.specs.declared.taken.Taken.{Taken}
+use Rattle.xl_core.proofs.Frames.{hearing_either}
+use Rattle.xl_core.proofs.Timing.{submit_either}
+use Rattle.xl_world.specs.declared.act.Deed.{Deed}
+use Rattle.xl_world.specs.declared.act.Deed.TheVariants as deed
+use Rattle.xl_world.specs.declared.act.Done.{Done}
+use Rattle.xl_world.specs.declared.act.Reaction.{Reaction}
+use Rattle.xl_world.specs.declared.act.Reaction.TheVariants as reaction
+use Rattle.xl_world.specs.declared.place.Fate.{Fate}
+use Rattle.xl_world.specs.declared.place.Fate.TheVariants.{Kept, Unwritten, Written}
+use Rattle.xl_world.specs.declared.place.Keeper.{Keeper}
+use Rattle.xl_world.specs.declared.saving.Fated.{Fated}
+use Rattle.xl_world.specs.Keeper.{after_save, answer_of, answers_ok}
+use Rattle.xl_world.specs.Seen.{Does, IsBeaten, deed_event, reaction_of, reaction_to, said_by_beat, said_by_issued}
+use Rattle.xl_world.specs.World.{said_by}
+use Rattle.xl_world.proofs.Lying.{key_of_another}
+use Rattle.xl_world.proofs.Reopening.{unasked_alike}
+use Rattle.xl_world.proofs.Taking.{done_issued, issue_tells, refused_unissued, untaken_is}
+
+-- another member's number has a key
+pub peer_of : (me m : ℕ) → 1 ≤ m → m ≤ 64 → m ≢ me → IsSome (key_of (schedule_ring me) m)
+peer_of me m low high other = ap is_some (key_of_another me m low high other)
+
+-- HOW A SAVE IS ANSWERED
+
+-- as one is that meets the fate, where it is answered so and the count of faults is the keeper's
+met : (save : Save) (k : Keeper) (s : ℕ) (fate : Fate) → is_kept save ≡ answers_ok fate → ((count : ℕ) → save ≡ AnsweredFailed count → count ≡ (after_save k (Some s) fate).faults) → save ≡ answer_of k fate
+met AnsweredOk k s Kept is counts = refl
+met AnsweredOk k s Unwritten is counts = cc
+met AnsweredOk k s Written is counts = cc
+met (AnsweredFailed n) k s Kept is counts = cc
+met (AnsweredFailed n) k s Unwritten is counts = ap (λ (m : ℕ). AnsweredFailed m) (counts n refl)
+met (AnsweredFailed n) k s Written is counts = ap (λ (m : ℕ). AnsweredFailed m) (counts n refl)
+
+-- what a save that is asked of a keeper under a fate leaves of it
+abbrev pub Gives : Fated → ℕ → Bool → Fated → Type 0
+Gives old seq ok new = (ok ≡ answers_ok old.fate) × (new.keeper ≡ after_save old.keeper (Some seq) old.fate) × (new.asked ≡ Some seq)
+
+-- the keeper after an event that asks this save, or none
+pub record IsFated (asked : Option ℕ) (save : Save) (old new : Fated) : Type 0 where
+  pub keeper : new.keeper ≡ after_save old.keeper asked old.fate
+  pub asked : old.asked ≡ None → new.asked ≡ asked
+  pub answered : IfSome asked (λ s. save ≡ answer_of old.keeper old.fate)
+
+pub fated : (asked : Option ℕ) (save : Save) (old new : Fated) → Saves Gives asked (is_kept save) old new → ((count : ℕ) → save ≡ AnsweredFailed count → count ≡ new.keeper.faults) → IsFated asked save old new
+fated None save old new same counts = record {
+  keeper = ap (λ (f : Fated). f.keeper) same;
+  asked = λ none. ap (λ (f : Fated). f.asked) same ∙ none;
+  answered = tt;
+}
+fated (Some s) save old new gives counts = record {
+  keeper = gives.1;
+  asked = λ _. gives.2;
+  answered = met save old.keeper s old.fate gives.0 (λ count is. counts count is ∙ ap (λ (k : Keeper). k.faults) gives.1);
+}
+
+-- what happens under that answer happens under the fate
+alike : (core : Core) (e : CoreEvent) (save : Save) (k : Keeper) (fate : Fate) → IfSome (core_asks core e) (λ s. save ≡ answer_of k fate) → core_happens core e save ≡ core_happens core e (answer_of k fate)
+alike core e save k fate answered = by (core_asks core e) refl answered
+  where
+    by : (asked : Option ℕ) → core_asks core e ≡ asked → IfSome asked (λ s. save ≡ answer_of k fate) → core_happens core e save ≡ core_happens core e (answer_of k fate)
+    by None asks is = unasked_alike core e save (answer_of k fate) asks
+    by (Some s) asks is = ap (core_happens core e) is
+
+-- the refusal tells the count of faults
+failed_why : (w : Refusal) (count : ℕ) → save_of w ≡ AnsweredFailed count → w ≡ why.KeepFault count
+failed_why (why.KeepFault n) count is = cc
+failed_why _ count is = cc
+
+failed_by : {X : Type 0} (r : Result X Refusal) (count : ℕ) → save_in r ≡ AnsweredFailed count → r ≡ Err (why.KeepFault count)
+failed_by (Ok x) count is = cc
+failed_by (Err w) count is = ap (λ (v : Refusal). Err v) (failed_why w count is)
+
+pub issue_counts : {X : Type 0} (r : Result X Refusal) (old new : ℕ) → CountsFault r old new → (count : ℕ) → save_in r ≡ AnsweredFailed count → count ≡ new
+issue_counts r old new counts count is = (counts count (failed_by r count is)).1
+
+pub beat_counts : (told : Beat) (old new : ℕ) → CountsBeatFault told old new → (count : ℕ) → save_at told ≡ AnsweredFailed count → count ≡ new
+beat_counts (beat.Built seq id moved_on (issued.Refused w)) old new counts count is =
+    (counts seq id moved_on count (ap (λ (v : Refusal). beat.Built seq id moved_on (issued.Refused v)) (failed_why w count is))).1
+beat_counts (beat.Built seq id moved_on issued.Full) old new counts count is = cc
+beat_counts (beat.Built seq id moved_on issued.Partial) old new counts count is = cc
+beat_counts (beat.Built seq id moved_on issued.Silent) old new counts count is = cc
+beat_counts beat.Nothing old new counts count is = cc
+beat_counts beat.Closed old new counts count is = cc
+beat_counts beat.Updated old new counts count is = cc
+beat_counts (beat.Switched seq id) old new counts count is = cc
+beat_counts (beat.NoRoom limit) old new counts count is = cc
+
+-- WHAT ASKS NO SAVE
+
+pub quiet_does : (core after : Core) (e : CoreEvent) (old : Fated) (done : Done) (told : Answer) → core_asks core e ≡ None → (core_happens core e AnsweredOk).issued ≡ None → Answers (core_happens core e AnsweredOk) after told →
+    done.reaction ≡ reaction_of told → done.said ≡ None → Does core e old after done old
+quiet_does core after e old done told asks unissued answers reacts says =
+    let same : core_happens core e AnsweredOk ≡ core_happens core e (answer_of old.keeper old.fate) = unasked_alike core e AnsweredOk (answer_of old.keeper old.fate) asks in
+    record {
+      core = answers.core ∙ ap (λ (r : CoreReply). r.core) same;
+      reaction = reacts ∙ ap reaction_of (answers.answer ∙ ap (λ (r : CoreReply). r.answer) same);
+      said = says ∙ ap (option_map (said_by core.node.me)) (sym unissued ∙ ap (λ (r : CoreReply). r.issued) same);
+      keeper = ap (λ (o : Option ℕ). after_save old.keeper o old.fate) (sym asks);
+      asked = λ none. none ∙ sym asks;
+    }
+
+-- no frame makes a node issue
+taking_quiet : (n : Node) (from : ℕ) (what : Speech) → (taking n from what).issued ≡ None
+taking_quiet n from (speech.Validation v) = refl
+taking_quiet n from (speech.Header h) = refl
+taking_quiet n from (speech.Proposal p) = refl
+taking_quiet n from (speech.TxSet ids) = refl
+taking_quiet n from (speech.Tx tx) = refl
+
+pub frame_quiet : (n : Node) (now : ℕ) (bytes : List ℕ) → (happens n (nodes.Frame now bytes) AnsweredOk).issued ≡ None
+frame_quiet n now bytes =
+    let m : Node = at_moment now n in hearing_either (λ r. r.issued ≡ None) m bytes (λ _. refl) (λ said _. taking_quiet m said.from said.what)
+
+pub reacts_as : (r : Result Taken Refusal) → reaction_to r ≡ reaction_of (taken_answer r)
+reacts_as (Ok taken) = refl
+reacts_as (Err w) = refl
+
+pub reacts_so : {X : Type 0} (r : Result X Refusal) → reaction_to r ≡ reaction_of (done_answer r)
+reacts_so (Ok done) = refl
+reacts_so (Err w) = refl
+
+-- WHAT IS ISSUED
+
+abbrev said_if : {X : Type 0} → Result X Refusal → SaidLedger → Option SaidLedger
+said_if (Ok done) s = Some s
+said_if (Err w) s = None
+
+issued_said : {X : Type 0} (r : Result X Refusal) (core : Core) (now seq : ℕ) (id : LedgerId) (full : Bool) → done_answer r ≡ (core_happens core (Issue now seq id full) (save_in r)).answer →
+    said_if r (record { member = core.node.me; seq = seq; id = id }) ≡ option_map (said_by core.node.me) (core_happens core (Issue now seq id full) (save_in r)).issued
+issued_said (Ok done) core now seq id full answers =
+    ap (option_map (said_by core.node.me)) (done_issued (own_validation (at_moment now core.node) seq id full) (happens core.node (nodes.Issue now seq id full) AnsweredOk) (issue_tells core.node now seq id full AnsweredOk) answers)
+issued_said (Err w) core now seq id full answers =
+    ap (option_map (said_by core.node.me)) (sym (refused_unissued (own_validation (at_moment now core.node) seq id full) (happens core.node (nodes.Issue now seq id full) (save_of w)) w (issue_tells core.node now seq id full (save_of w)) answers))
+
+pub issue_does : {X : Type 0} (r : Result X Refusal) (core after : Core) (now seq : ℕ) (id : LedgerId) (full : Bool) (old new : Fated) (done : Done) → Issues core (Issue now seq id full) r after →
+    CountsFault r old.keeper.faults new.keeper.faults → Saves Gives (asks_for core.node seq) (was_kept r) old new → done.reaction ≡ reaction_to r → done.said ≡ said_if r (record { member = core.node.me; seq = seq; id = id }) →
+    Does core (Issue now seq id full) old after done new
+issue_does r core after now seq id full old new done answers counts saves reacts says =
+    let is : IsFated (asks_for core.node seq) (save_in r) old new = fated (asks_for core.node seq) (save_in r) old new saves (issue_counts r old.keeper.faults new.keeper.faults counts) in
+    let same : core_happens core (Issue now seq id full) (save_in r) ≡ core_happens core (Issue now seq id full) (answer_of old.keeper old.fate) = alike core (Issue now seq id full) (save_in r) old.keeper old.fate is.answered in
+    record {
+      core = answers.core ∙ ap (λ (x : CoreReply). x.core) same;
+      reaction = reacts ∙ (reacts_so r ∙ ap reaction_of (answers.answer ∙ ap (λ (x : CoreReply). x.answer) same));
+      said = says ∙ (issued_said r core now seq id full answers.answer ∙ ap (λ (x : CoreReply). option_map (said_by core.node.me) x.issued) same);
+      keeper = is.keeper;
+      asked = is.asked;
+    }
+
+-- A TIMER
+
+-- a timer that builds nothing says nothing of a validation
+abbrev SaysNone : Beat → Type 0
+SaysNone told = (member : ℕ) → said_by_beat member told ≡ None
+
+module _ (P : Timed → Type 0) (n : Node)
+    (quiet : (r : Round) (told : Beat) (said : Option Said) → SaysNone told → P (Quiet (record n { round = r }) told said))
+    (ends : (ledgers : Ledgers) (r : Round) (said : Option Said) (h : Header) (place : ℕ) (moved_on : Bool) → P (Ending (record n { ledgers = ledgers; round = r }) said h place moved_on)) where
+  after_building : (r : Round) (said : Option Said) (moved_on : Bool) (o : Option Knowing) → P (building (record n { round = r }) said moved_on o)
+  after_building r said moved_on None = quiet r (beat.NoRoom n.ledgers.limit) said (λ _. refl)
+  after_building r said moved_on (Some k) = ends k.ledgers (accepted (unwrap_or r.ready 0) r) said (built (record n { round = r })) k.place moved_on
+
+  after_kind : (r : Round) (said : Option Said) (k : Kind) → P (following (record n { round = r }) said k)
+  after_kind r said kind.Nothing = quiet r beat.Nothing said (λ _. refl)
+  after_kind r said kind.Closed = quiet r beat.Closed said (λ _. refl)
+  after_kind r said kind.Updated = quiet r beat.Updated said (λ _. refl)
+  after_kind r said (kind.Ready moved_on) = after_building r said moved_on (knowing n.ledgers (built (record n { round = r })))
+
+  timed_by : P (timed n)
+  timed_by =
+      let turn : RoundBeat = heartbeat n.time (seen n) n.round in
+      let ledgers = n.ledgers.headers in
+      cond_both (chosen n == n.round.setting.previous) (after_beat n turn) (switching n (chosen n)) P
+      (λ _. after_kind turn.round turn.pulse.said turn.pulse.kind)
+      (λ _. quiet (started ledgers (chosen n) SwitchedLedger n.time n.round) (beat.Switched (seq_at ledgers (chosen n)) (id_at ledgers (chosen n))) (alone (leave n.time n.round)) (λ _. refl))
+
+-- what is told of a built ledger is what was issued
+abbrev TellsIssued : ℕ → LedgerId → Reply → Type 0
+TellsIssued seq id r = (member : ℕ) → said_by_issued member seq id (how_issued (refusal_in r.answer) r.issued) ≡ option_map (said_by member) r.issued
+
+unless_told : (n : Node) (off : Option ℕ) (save : Save) (seq : ℕ) (id : LedgerId) (full : Bool) → TellsIssued seq id (issues_unless n off save (own_validation n seq id full))
+unless_told n None AnsweredOk seq id true member = refl
+unless_told n None AnsweredOk seq id false member = refl
+unless_told n None (AnsweredFailed count) seq id full member = refl
+unless_told n (Some failed) save seq id full member = refl
+
+issuing_told : (n : Node) (seq : ℕ) (id : LedgerId) (full : Bool) (save : Save) → TellsIssued seq id (issuing n seq id full save)
+issuing_told n seq id full save =
+    cond_both (nat_lt n.kept seq) (issues_unless n n.failed_save save (own_validation n seq id full)) (refusing n (why.NotAfter n.kept)) (TellsIssued seq id) (λ _. unless_told n n.failed_save save seq id full) (λ _ member. refl)
+
+validating_told : (n : Node) (h : Header) (moved_on : Bool) (save : Save) → TellsIssued h.seq (header_id h) (validating_built n h moved_on save)
+validating_told n h moved_on save =
+    cond_both (validates n moved_on) (issuing n h.seq (header_id h) (is_proposing n.round.setting.mode) save) (replying n AnsweredDone []) (TellsIssued h.seq (header_id h))
+    (λ _. issuing_told n h.seq (header_id h) (is_proposing n.round.setting.mode) save) (λ _ member. refl)
+
+abbrev Tells : Reply → Type 0
+Tells r = (member : ℕ) (told : Beat) → Beats told ≡ r.answer → said_by_beat member told ≡ option_map (said_by member) r.issued
+
+same_beat : (a b : Beat) → Beats a ≡ Beats b → a ≡ b
+same_beat a b is = cc
+
+timer_tells : (n : Node) (save : Save) → Tells (completed (timed n) save)
+timer_tells n save =
+    timed_by (λ t. Tells (completed t save)) n
+    (λ r beaten said none member told is. ap (said_by_beat member) (same_beat told beaten is) ∙ none member)
+    (λ ledgers r said h place moved_on member told is.
+    let m : Node = record n { ledgers = ledgers; round = r } in
+    let v : Reply = validating_built m h moved_on save in
+    ap (said_by_beat member) (same_beat told (beat.Built h.seq (header_id h) moved_on (how_issued (refusal_in v.answer) v.issued)) is) ∙ validating_told m h moved_on save member)
+
+pub timer_does : (told : Beat) (core after : Core) (now : ℕ) (old new : Fated) (done : Done) → Beaten core now told after → CountsBeatFault told old.keeper.faults new.keeper.faults →
+    Saves Gives (core_asks core (Timer now)) (beat_was_kept told) old new → IsBeaten core.node.me told done → Does core (Timer now) old after done new
+timer_does told core after now old new done answers counts saves says =
+    let is : IsFated (core_asks core (Timer now)) (save_at told) old new = fated (core_asks core (Timer now)) (save_at told) old new saves (beat_counts told old.keeper.faults new.keeper.faults counts) in
+    let same : core_happens core (Timer now) (save_at told) ≡ core_happens core (Timer now) (answer_of old.keeper old.fate) = alike core (Timer now) (save_at told) old.keeper old.fate is.answered in
+    record {
+      core = answers.core ∙ ap (λ (x : CoreReply). x.core) same;
+      reaction = says.reaction ∙ ap reaction_of (answers.answer ∙ ap (λ (x : CoreReply). x.answer) same);
+      said = says.said ∙ (timer_tells (at_moment now core.node) (save_at told) core.node.me told answers.answer ∙ ap (λ (x : CoreReply). option_map (said_by core.node.me) x.issued) same);
+      keeper = is.keeper;
+      asked = is.asked;
+    }
+
+-- THE REPORT THAT IS LEFT
+
+-- what is untaken then is what arose
+pub untaken_then : (core : Core) (now : ℕ) (d : Deed) (save : Save) → core.untaken.items ≡ [] → let r : CoreReply = core_happens core (deed_event now d) save in r.core.untaken.items ≡ option_to_list r.report
+untaken_then core now (deed.Issue seq id full) save none = untaken_is core.untaken (happens core.node (nodes.Issue now seq id full) save).report none
+untaken_then core now (deed.Frame bytes) save none = untaken_is core.untaken (happens core.node (nodes.Frame now bytes.now) save).report none
+untaken_then core now deed.Timer save none = untaken_is core.untaken (happens core.node (nodes.Timer now) save).report none
+untaken_then core now (deed.Submit tx) save none = untaken_is core.untaken (happens core.node (nodes.Submit now tx) save).report none
+untaken_then core now (deed.Greet peer) save none = none
