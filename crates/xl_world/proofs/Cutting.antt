@@ -1,6 +1,6 @@
 -- An event whose save is cut off: what was tried ends with the node, which is opened again as it would have been before.
 use Rattle.std.proofs.Common.{◌≡◌, ℕ, Bool, false, List, [], ◌∷◌, ◌++◌, refl, ap, sym, ◌∙◌, Option, Some, None, append-nil}
-use Rattle.std.specs.Prelude.{option_map}
+use Rattle.std.specs.Prelude.{option_map, option_to_list}
 use Rattle.xl_lists.specs.Lists.{TrustedList}
 use Rattle.xl_io.specs.Keepers.{may_hold}
 use Rattle.xl_tags.specs.Rings.{Ring}
@@ -11,6 +11,9 @@ use Rattle.xl_core.specs.Node.Save.{Kept as AnsweredOk}
 use Rattle.xl_core.specs.declared.event.CoreEvent.{CoreEvent}
 use Rattle.xl_core.specs.declared.event.CoreEvent.TheVariants.{Issue, Frame, Timer, Submit, Greet, Drain, Reports, Stop, Stopped}
 use Rattle.xl_core.specs.declared.settings.Settings.{Settings}
+use Rattle.xl_sched.specs.declared.event.Ask.{Ask}
+use Rattle.xl_sched.specs.declared.event.Ask.TheVariants as ask
+use Rattle.xl_sched.specs.declared.event.What.TheVariants as what
 use Rattle.xl_world.specs.declared.act.NodeAnswer.{NodeAnswer}
 use Rattle.xl_world.specs.declared.outcome.Outcome.{Outcome}
 use Rattle.xl_world.specs.declared.place.Fate.{Fate}
@@ -19,15 +22,15 @@ use Rattle.xl_world.specs.declared.place.Keeper.{Keeper}
 use Rattle.xl_world.specs.declared.place.Place.{Place}
 use Rattle.xl_world.specs.Emptying.{event_steps}
 use Rattle.xl_world.specs.Keeper.{after_save, answer_of, found, held_by, left_by, restored}
-use Rattle.xl_world.specs.Schedule.{cut_at, cut_short, cut_steps, told_in, told_of_reply}
-use Rattle.xl_world.specs.Seen.{AnswersAt, acted_at, noted, outcomes_told, place_after, place_again, put_acted, put_again, with_forged, with_places}
+use Rattle.xl_world.specs.Schedule.{cut_at, cut_short, cut_steps, event_asked, node_asked, outcomes_at, restart, steps_at, told_in, told_of_reply}
+use Rattle.xl_world.specs.Seen.{Answers, AnswersAt, acted_at, keeper_in, noted, outcomes_told, place_after, place_again, put_acted, put_again, with_forged, with_places}
 use Rattle.xl_world.specs.World.{Again, Step, Torn, World, core_again, is_forged, keeper_after, moment_in, place_at, put, reply_at, run, sent_in, step}
 use Rattle.xl_world.proofs.Acting.{noted_ran}
 use Rattle.xl_world.proofs.Emptying.{emptied, emptied_acts, emptied_node, emptied_then, event_ran}
 use Rattle.xl_world.proofs.Keeping.{happens_keeps}
 use Rattle.xl_world.proofs.Lists.{core_keeps}
 use Rattle.xl_world.proofs.Putting.{put_at, put_put}
-use Rattle.xl_world.proofs.Reopening.{again_ran, found_held, torn_ran, unasked_alike}
+use Rattle.xl_world.proofs.Reopening.{again_ran, found_held, restart_ran, torn_ran, unasked_alike}
 use Rattle.xl_world.proofs.Runs.{run-append}
 use Rattle.xl_world.proofs.Settling.{at_its_number}
 use Rattle.xl_world.proofs.Telling.{told_append, told_once, told_ran}
@@ -134,3 +137,101 @@ cut_whole_told w i at new e fate p a here asks answers =
 -- no node of the number
 pub cut_nowhere : (w : World) (i at : ℕ) (new : Bool) (e : CoreEvent) → place_at i w.places ≡ None → cut_steps w at new i e ≡ []
 cut_nowhere w i at new e none = ap (λ o. cut_at w at new i e o) none
+
+-- AS THE CODE GOES
+
+asked_moment : (at : ℕ) (ask : Ask) → moment_in (event_asked at ask) ≡ at
+asked_moment at (ask.Issue node seq id full) = refl
+asked_moment at (ask.Timer node) = refl
+
+asked_fair : (w : World) (n : Node) (at : ℕ) (ask : Ask) → is_forged w n (event_asked at ask) ≡ false
+asked_fair w n at (ask.Issue node seq id full) = refl
+asked_fair w n at (ask.Timer node) = refl
+
+same_keeper : (k x : Keeper) → Some k ≡ Some x → k ≡ x
+same_keeper k x e = cc
+
+no_keeper : (k : Keeper) → Some k ≡ (let o : Option Keeper = None in o) → ⊥
+no_keeper k e = cc
+
+-- the save that was asked was cut off
+pub record IsTorn (w v : World) (steps : List Step) (told : List Outcome) : Type 0 where
+  pub world : v ≡ run w steps
+  pub told : [] ≡ told
+
+pub cuts_torn : (w : World) (at : ℕ) (new : Bool) (a_ask : Ask) (i : ℕ) (e : CoreEvent) (fate : Fate) (k : Keeper) (a : NodeAnswer) (s : ℕ) → i ≡ node_asked a_ask → e ≡ event_asked at a_ask → Some k ≡ keeper_in i w.places →
+    AnswersAt i e fate w.places (Some a) → a.asked ≡ Some s →
+    IsTorn w (with_places w (put_again at (restored k (left_by k new (Some s))) (place_at i (acted_at i e fate w.places)) (acted_at i e fate w.places))) (steps_at w at (what.Cut new a_ask)) (outcomes_at w at (what.Cut new a_ask))
+cuts_torn w at new a_ask i e fate k a s its is held answers asked = by_place (place_at i w.places) refl held answers
+  where
+    by_place : (o : Option Place) → place_at i w.places ≡ o → Some k ≡ option_map (λ (p : Place). p.keeper) o → Answers e fate o (Some a) →
+        IsTorn w (with_places w (put_again at (restored k (left_by k new (Some s))) (place_at i (acted_at i e fate w.places)) (acted_at i e fate w.places))) (steps_at w at (what.Cut new a_ask)) (outcomes_at w at (what.Cut new a_ask))
+    by_place None here none is_answer = absurd (no_keeper k none)
+    by_place (Some p) here kept is_answer =
+        let same : k ≡ p.keeper = same_keeper k p.keeper kept in
+        let asks : core_asks p.core e ≡ Some s = sym is_answer.1 ∙ asked in
+        let cut : cut_steps w at new i e ≡ steps_at w at (what.Cut new a_ask) = ap (λ (j : ℕ). cut_steps w at new j e) its ∙ ap (λ (x : CoreEvent). cut_steps w at new (node_asked a_ask) x) is in
+        record {
+          world = ap (λ (x : Keeper). with_places w (put_again at (restored x (left_by x new (Some s))) (place_at i (acted_at i e fate w.places)) (acted_at i e fate w.places))) same
+              ∙ (cut_torn w i at new e fate p s here asks (ap moment_in is ∙ asked_moment at a_ask) ∙ ap (run w) cut);
+          told = sym (ap (told_in w) (sym cut) ∙ cut_torn_told w i at new e p s here asks);
+        }
+
+-- no save was asked
+pub record IsUncut (w v : World) (told : List Outcome) (steps : List Step) (all : List Outcome) : Type 0 where
+  pub world : v ≡ run w steps
+  pub told : told ≡ all
+
+pub cuts_none : (w v : World) (at : ℕ) (new : Bool) (a_ask : Ask) (i : ℕ) (e : CoreEvent) (fate : Fate) (k : Keeper) (a : NodeAnswer) → i ≡ node_asked a_ask → e ≡ event_asked at a_ask → Some k ≡ keeper_in i w.places →
+    AnswersAt i e fate w.places (Some a) → a.asked ≡ None → ((x : Place) (from : ℕ) → sent_in from (reply_at x e fate).answer ≡ []) → v ≡ noted (with_places w (acted_at i e fate w.places)) i a →
+    IsUncut w (with_places v (put_again at (restored k (found k)) (place_at i v.places) v.places)) (outcomes_told i a) (steps_at w at (what.Cut new a_ask)) (outcomes_at w at (what.Cut new a_ask))
+cuts_none w v at new a_ask i e fate k a its is held answers asked unsent noted_so = by_place (place_at i w.places) refl held answers
+  where
+    by_place : (o : Option Place) → place_at i w.places ≡ o → Some k ≡ option_map (λ (p : Place). p.keeper) o → Answers e fate o (Some a) →
+        IsUncut w (with_places v (put_again at (restored k (found k)) (place_at i v.places) v.places)) (outcomes_told i a) (steps_at w at (what.Cut new a_ask)) (outcomes_at w at (what.Cut new a_ask))
+    by_place None here none is_answer = absurd (no_keeper k none)
+    by_place (Some p) here kept is_answer =
+        let same : k ≡ p.keeper = same_keeper k p.keeper kept in
+        let asks : core_asks p.core e ≡ None = sym is_answer.1 ∙ asked in
+        let fair : is_forged w p.core.node e ≡ false = ap (is_forged w p.core.node) is ∙ asked_fair w p.core.node at a_ask in
+        let cut : cut_steps w at new i e ≡ steps_at w at (what.Cut new a_ask) = ap (λ (j : ℕ). cut_steps w at new j e) its ∙ ap (λ (x : CoreEvent). cut_steps w at new (node_asked a_ask) x) is in
+        record {
+          world = ap (λ (x : Keeper). with_places v (put_again at (restored x (found x)) (place_at i v.places) v.places)) same
+              ∙ (cut_whole w v i at new e p here asks (noted_so ∙ cut_noted w i e fate p a here asks fair answers unsent) ∙ ap (run w) cut);
+          told = cut_whole_told w i at new e fate p a here asks answers ∙ ap (told_in w) cut;
+        }
+
+-- there is no node of the number
+pub cuts_nowhere : (w : World) (at : ℕ) (new : Bool) (a_ask : Ask) (i : ℕ) → i ≡ node_asked a_ask → None ≡ keeper_in i w.places → steps_at w at (what.Cut new a_ask) ≡ []
+cuts_nowhere w at new a_ask i its none = by_place (place_at i w.places) refl none
+  where
+    by_place : (o : Option Place) → place_at i w.places ≡ o → None ≡ option_map (λ (p : Place). p.keeper) o → steps_at w at (what.Cut new a_ask) ≡ []
+    by_place None here is_none = ap (λ (j : ℕ). cut_steps w at new j (event_asked at a_ask)) (sym its) ∙ cut_nowhere w i at new (event_asked at a_ask) here
+    by_place (Some p) here is_none = absurd (no_keeper p.keeper (sym is_none))
+
+-- where there is one it answers
+pub cuts_answer : (w : World) (i : ℕ) (e : CoreEvent) (fate : Fate) (k : Keeper) → Some k ≡ keeper_in i w.places → AnswersAt i e fate w.places None → ⊥
+cuts_answer w i e fate k held = by_place (place_at i w.places) held
+  where
+    by_place : (o : Option Place) → Some k ≡ option_map (λ (p : Place). p.keeper) o → Answers e fate o None → ⊥
+    by_place None none answers = no_keeper k none
+    by_place (Some p) kept answers = answers
+
+-- RESTARTS
+
+pub restarts : (w : World) (at i : ℕ) (k : Keeper) → Some k ≡ keeper_in i w.places → with_places w (put_again at (restored k (found k)) (place_at i w.places) w.places) ≡ run w (steps_at w at (what.Restart i))
+restarts w at i k held = by_place (place_at i w.places) refl held
+  where
+    by_place : (o : Option Place) → place_at i w.places ≡ o → Some k ≡ option_map (λ (p : Place). p.keeper) o →
+        with_places w (put_again at (restored k (found k)) (place_at i w.places) w.places) ≡ run w (steps_at w at (what.Restart i))
+    by_place None here none = absurd (no_keeper k none)
+    by_place (Some p) here kept =
+        ap (λ (x : Keeper). with_places w (put_again at (restored x (found x)) (place_at i w.places) w.places)) (same_keeper k p.keeper kept)
+        ∙ (restart_ran w i at p here ∙ ap (λ o. run w (option_to_list (option_map (restart at) o))) (sym here))
+
+pub restarts_nowhere : (w : World) (at i : ℕ) → None ≡ keeper_in i w.places → w ≡ run w (steps_at w at (what.Restart i))
+restarts_nowhere w at i none = by_place (place_at i w.places) refl none
+  where
+    by_place : (o : Option Place) → place_at i w.places ≡ o → None ≡ option_map (λ (p : Place). p.keeper) o → w ≡ run w (steps_at w at (what.Restart i))
+    by_place None here is_none = sym (ap (λ o. run w (option_to_list (option_map (restart at) o))) here)
+    by_place (Some p) here is_none = absurd (no_keeper p.keeper (sym is_none))

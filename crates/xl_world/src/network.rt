@@ -318,11 +318,13 @@ impl Network {
         let Some(answer) = act_at(&mut self.places, node, at, deed, Fate::Unwritten) else {
             return Ok(());
         };
-        let asked = answer.asked;
-        if asked.is_none() {
-            self.settle(node, answer, told)?;
+        match answer.asked {
+            Some(seq) => self.reopen(at, node, keeper.restored(keeper.left_by(new, seq))),
+            None => {
+                self.settle(node, answer, told)?;
+                self.reopen(at, node, keeper.restored(keeper.found()))
+            }
         }
-        self.reopen(at, node, keeper.restored(keeper.left_by(new, asked)))
     }
 
     /// Something happens at a moment, and what is told of it comes after what was told.
