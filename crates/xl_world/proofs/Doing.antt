@@ -2,13 +2,12 @@
 use Rattle.std.proofs.Common.{◌≡◌, ◌≢◌, ℕ, ◌≤◌, Bool, true, false, List, [], length, refl, arith, ap, sym, ◌∙◌, subst, Option, Some, None, Result, Ok, Err}
 use Rattle.std.specs.Prelude.{◌==◌, ◌&&◌, IfSome, IsSome, is_some, nat_le, nat_lt, not, option_map, option_to_list, unwrap_or, if◌then◌else◌}
 use Rattle.std.proofs.lemmas.Bool.{cond_both}
-use Rattle.xl_base.specs.Faults.{Rose}
 use Rattle.xl_base.specs.declared.ids.LedgerId.{LedgerId}
 use Rattle.xl_ledger.specs.Chains.{seq_at, id_at}
 use Rattle.xl_ledger.specs.Headers.{header_id}
 use Rattle.xl_ledger.specs.Registries.{Ledgers}
 use Rattle.xl_ledger.specs.declared.header.Header.{Header}
-use Rattle.xl_lists.specs.declared.said.SaidLedger.{SaidLedger}
+use Rattle.xl_lists.specs.declared.report.Report.{Report as Reported}
 use Rattle.xl_rounds.specs.Heartbeats.{Beat as RoundBeat, heartbeat}
 use Rattle.xl_rounds.specs.Proposals.{started}
 use Rattle.xl_rounds.specs.Rounds.{Round, accepted, is_proposing, leave}
@@ -21,23 +20,24 @@ use Rattle.xl_wire.specs.declared.validation.Validation.{Validation}
 use Rattle.xl_core.specs.Answers.{Answer, Beats, Done as AnsweredDone, Refused, Took, refusal_in}
 use Rattle.xl_core.specs.Building.{Knowing, alone, how_issued, knowing, said_items}
 use Rattle.xl_core.specs.Core.{Core, CoreReply, core_asks, core_happens}
-use Rattle.xl_core.specs.Keeping.{CountsFault, Saves}
+use Rattle.xl_core.specs.Keeping.{Saves}
 use Rattle.xl_core.specs.Node as nodes
-use Rattle.xl_core.specs.Node.{Node, Reply, Save, Timed, after_beat, asks_for, at_moment, built, building, chosen, completed, ending, following, happens, hearing, is_kept, issues_unless, issuing, own_validation, refusing, replying, seen, switching, taking, timed, validates, validating_built}
+use Rattle.xl_core.specs.Node.{Node, Reply, Save, Timed, after_beat, at_moment, built, building, chosen, completed, ending, following, happens, hearing, is_kept, issues_unless, issuing, own_validation, refusing, replying, seen, switching, taking, timed, validates, validating_built}
 use Rattle.xl_core.specs.Node.Save.{Kept as AnsweredOk, Failed as AnsweredFailed}
 use Rattle.xl_core.specs.Node.Timed.{Quiet, Ending}
-use Rattle.xl_core.specs.Replies.{Answers, Issues, done_answer, save_in, save_of, taken_answer, was_kept}
+use Rattle.xl_core.specs.Replies.{Answers, save_of, taken_answer}
 use Rattle.xl_core.specs.Ticks.{Beaten, CountsBeatFault, beat_was_kept, save_at}
 use Rattle.xl_core.specs.declared.beat.Beat.{Beat}
 use Rattle.xl_core.specs.declared.beat.Beat.TheVariants as beat
 use Rattle.xl_core.specs.declared.beat.Issued.{Issued}
 use Rattle.xl_core.specs.declared.beat.Issued.TheVariants as issued
 use Rattle.xl_core.specs.declared.event.CoreEvent.{CoreEvent}
-use Rattle.xl_core.specs.declared.event.CoreEvent.TheVariants.{Issue, Timer}
+use Rattle.xl_core.specs.declared.event.CoreEvent.TheVariants.{Timer}
 use Rattle.xl_core.specs.declared.hearing.Speech.{Speech}
 use Rattle.xl_core.specs.declared.hearing.Speech.TheVariants as speech
 use Rattle.xl_core.specs.declared.refusal.Refusal.{Refusal}
 use Rattle.xl_core.specs.declared.refusal.Refusal.TheVariants as why
+use Rattle.xl_core.specs.declared.report.Report.{Report}
 use Rattle.xl_core.specs.declared.taken.Taken.{Taken}
 use Rattle.xl_core.proofs.Frames.{hearing_either}
 use Rattle.xl_core.proofs.Timing.{submit_either}
@@ -50,12 +50,13 @@ use Rattle.xl_world.specs.declared.place.Fate.{Fate}
 use Rattle.xl_world.specs.declared.place.Fate.TheVariants.{Kept, Unwritten, Written}
 use Rattle.xl_world.specs.declared.place.Keeper.{Keeper}
 use Rattle.xl_world.specs.declared.saving.Fated.{Fated}
+use Rattle.xl_world.specs.Emptying.{handed_out}
 use Rattle.xl_world.specs.Keeper.{after_save, answer_of, answers_ok}
 use Rattle.xl_world.specs.Seen.{Does, IsBeaten, deed_event, reaction_of, reaction_to, said_by_beat, said_by_issued}
-use Rattle.xl_world.specs.World.{said_by}
+use Rattle.xl_world.specs.World.{reported_by, said_by}
 use Rattle.xl_world.proofs.Lying.{key_of_another}
 use Rattle.xl_world.proofs.Reopening.{unasked_alike}
-use Rattle.xl_world.proofs.Taking.{done_issued, issue_tells, refused_unissued, untaken_is}
+use Rattle.xl_world.proofs.Taking.{same_option, untaken_is}
 
 -- another member's number has a key
 pub peer_of : (me m : ℕ) → 1 ≤ m → m ≤ 64 → m ≢ me → IsSome (key_of (schedule_ring me) m)
@@ -77,10 +78,10 @@ abbrev pub Gives : Fated → ℕ → Bool → Fated → Type 0
 Gives old seq ok new = (ok ≡ answers_ok old.fate) × (new.keeper ≡ after_save old.keeper (Some seq) old.fate) × (new.asked ≡ Some seq)
 
 -- the keeper after an event that asks this save, or none
-pub record IsFated (asked : Option ℕ) (save : Save) (old new : Fated) : Type 0 where
-  pub keeper : new.keeper ≡ after_save old.keeper asked old.fate
-  pub asked : old.asked ≡ None → new.asked ≡ asked
-  pub answered : IfSome asked (λ s. save ≡ answer_of old.keeper old.fate)
+pub record IsFated (asks : Option ℕ) (save : Save) (old new : Fated) : Type 0 where
+  pub keeper : new.keeper ≡ after_save old.keeper asks old.fate
+  pub asked : old.asked ≡ None → new.asked ≡ asks
+  pub answered : IfSome asks (λ s. save ≡ answer_of old.keeper old.fate)
 
 pub fated : (asked : Option ℕ) (save : Save) (old new : Fated) → Saves Gives asked (is_kept save) old new → ((count : ℕ) → save ≡ AnsweredFailed count → count ≡ new.keeper.faults) → IsFated asked save old new
 fated None save old new same counts = record {
@@ -106,13 +107,6 @@ alike core e save k fate answered = by (core_asks core e) refl answered
 failed_why : (w : Refusal) (count : ℕ) → save_of w ≡ AnsweredFailed count → w ≡ why.KeepFault count
 failed_why (why.KeepFault n) count is = cc
 failed_why _ count is = cc
-
-failed_by : {X : Type 0} (r : Result X Refusal) (count : ℕ) → save_in r ≡ AnsweredFailed count → r ≡ Err (why.KeepFault count)
-failed_by (Ok x) count is = cc
-failed_by (Err w) count is = ap (λ (v : Refusal). Err v) (failed_why w count is)
-
-pub issue_counts : {X : Type 0} (r : Result X Refusal) (old new : ℕ) → CountsFault r old new → (count : ℕ) → save_in r ≡ AnsweredFailed count → count ≡ new
-issue_counts r old new counts count is = (counts count (failed_by r count is)).1
 
 pub beat_counts : (told : Beat) (old new : ℕ) → CountsBeatFault told old new → (count : ℕ) → save_at told ≡ AnsweredFailed count → count ≡ new
 beat_counts (beat.Built seq id moved_on (issued.Refused w)) old new counts count is =
@@ -155,37 +149,6 @@ frame_quiet n now bytes =
 pub reacts_as : (r : Result Taken Refusal) → reaction_to r ≡ reaction_of (taken_answer r)
 reacts_as (Ok taken) = refl
 reacts_as (Err w) = refl
-
-pub reacts_so : {X : Type 0} (r : Result X Refusal) → reaction_to r ≡ reaction_of (done_answer r)
-reacts_so (Ok done) = refl
-reacts_so (Err w) = refl
-
--- WHAT IS ISSUED
-
-abbrev said_if : {X : Type 0} → Result X Refusal → SaidLedger → Option SaidLedger
-said_if (Ok done) s = Some s
-said_if (Err w) s = None
-
-issued_said : {X : Type 0} (r : Result X Refusal) (core : Core) (now seq : ℕ) (id : LedgerId) (full : Bool) → done_answer r ≡ (core_happens core (Issue now seq id full) (save_in r)).answer →
-    said_if r (record { member = core.node.me; seq = seq; id = id }) ≡ option_map (said_by core.node.me) (core_happens core (Issue now seq id full) (save_in r)).issued
-issued_said (Ok done) core now seq id full answers =
-    ap (option_map (said_by core.node.me)) (done_issued (own_validation (at_moment now core.node) seq id full) (happens core.node (nodes.Issue now seq id full) AnsweredOk) (issue_tells core.node now seq id full AnsweredOk) answers)
-issued_said (Err w) core now seq id full answers =
-    ap (option_map (said_by core.node.me)) (sym (refused_unissued (own_validation (at_moment now core.node) seq id full) (happens core.node (nodes.Issue now seq id full) (save_of w)) w (issue_tells core.node now seq id full (save_of w)) answers))
-
-pub issue_does : {X : Type 0} (r : Result X Refusal) (core after : Core) (now seq : ℕ) (id : LedgerId) (full : Bool) (old new : Fated) (done : Done) → Issues core (Issue now seq id full) r after →
-    CountsFault r old.keeper.faults new.keeper.faults → Saves Gives (asks_for core.node seq) (was_kept r) old new → done.reaction ≡ reaction_to r → done.said ≡ said_if r (record { member = core.node.me; seq = seq; id = id }) →
-    Does core (Issue now seq id full) old after done new
-issue_does r core after now seq id full old new done answers counts saves reacts says =
-    let is : IsFated (asks_for core.node seq) (save_in r) old new = fated (asks_for core.node seq) (save_in r) old new saves (issue_counts r old.keeper.faults new.keeper.faults counts) in
-    let same : core_happens core (Issue now seq id full) (save_in r) ≡ core_happens core (Issue now seq id full) (answer_of old.keeper old.fate) = alike core (Issue now seq id full) (save_in r) old.keeper old.fate is.answered in
-    record {
-      core = answers.core ∙ ap (λ (x : CoreReply). x.core) same;
-      reaction = reacts ∙ (reacts_so r ∙ ap reaction_of (answers.answer ∙ ap (λ (x : CoreReply). x.answer) same));
-      said = says ∙ (issued_said r core now seq id full answers.answer ∙ ap (λ (x : CoreReply). option_map (said_by core.node.me) x.issued) same);
-      keeper = is.keeper;
-      asked = is.asked;
-    }
 
 -- A TIMER
 
@@ -270,3 +233,11 @@ untaken_then core now (deed.Frame bytes) save none = untaken_is core.untaken (ha
 untaken_then core now deed.Timer save none = untaken_is core.untaken (happens core.node (nodes.Timer now) save).report none
 untaken_then core now (deed.Submit tx) save none = untaken_is core.untaken (happens core.node (nodes.Submit now tx) save).report none
 untaken_then core now (deed.Greet peer) save none = none
+
+-- the report that is taken is the one that arose
+pub report_left : (a b : Core) (r : CoreReply) (n : Node) (given : Option Report) (told : Option Reported) → r.core.untaken.items ≡ option_to_list r.report → a ≡ r.core → option_to_list given ≡ a.untaken.items → b ≡ handed_out a → n ≡ b.node →
+    told ≡ option_map (reported_by n) given → told ≡ option_map (reported_by r.core.node) r.report
+report_left a b r n given told left is gives out node tells =
+    let same : given ≡ r.report = same_option given r.report (gives ∙ (ap (λ (k : Core). k.untaken.items) is ∙ left)) in
+    let its : n ≡ r.core.node = node ∙ (ap (λ (k : Core). k.node) out ∙ ap (λ (k : Core). k.node) is) in
+    tells ∙ (ap (λ (m : Node). option_map (reported_by m) given) its ∙ ap (option_map (reported_by r.core.node)) same)

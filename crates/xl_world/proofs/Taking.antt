@@ -27,7 +27,7 @@ pub untaken_is : (q : Backlog Report) (o : Option Report) → q.items ≡ [] →
 untaken_is q None none = none
 untaken_is q (Some report) none = ap (λ (xs : List Report). let x : Backlog Report = with_item 1024 (record { items = xs; lost = 0 }) report in x.items) none
 
-few_reports : (o : Option Report) → length (option_to_list o) ≤ 1
+pub few_reports : (o : Option Report) → length (option_to_list o) ≤ 1
 few_reports None = omega arith
 few_reports (Some r) = omega arith
 

@@ -1,5 +1,5 @@
 -- A world of the code, as the definitions see it. Source: what the code of this crate keeps.
-use Rattle.std.specs.Prelude.{◌≡◌, ◌≤◌, [], IfSome, length, unwrap_or}
+use Rattle.std.specs.Prelude.{◌≤◌, [], IfSome, length, unwrap_or}
 use Rattle.xl_world.specs.declared.network.Network.TheInside.{Inside as NetworkInside}
 use Rattle.xl_world.specs.declared.traffic.Traffic.TheInside.{Inside as TrafficInside}
 use Rattle.xl_world.specs.declared.world.World.TheInside.{Inside}

@@ -121,13 +121,13 @@ fn issue(
 }
 
 /// Something happens at a core.
-fn happen(core: &mut NodeCore, now: Millis, deed: Deed<'_>, keeper: &mut Fated) -> Done
+fn happen(core: &mut NodeCore, now: Millis, deed: &Deed<'_>, keeper: &mut Fated) -> Done
     requires moment { now ≤ GREATEST_MILLIS }
     requires keys { core.old.node.keys ≡ schedule_ring core.old.node.me }
-    requires may { MayDo core.old.node.me deed.entry }
-    ensures { Does core.old (deed_event now deed.entry) keeper.old core.new result keeper.new }
+    requires may { MayDo core.old.node.me deed.now }
+    ensures { Does core.old (deed_event now deed.now) keeper.old core.new result keeper.new }
 {
-    match deed {
+    match *deed {
         Deed::Issue { seq, id, full } => issue(core, now, seq, id, full, keeper),
         Deed::Frame(bytes) => Done::silent(done_or_refused(core.frame(now, bytes))),
         Deed::Timer => {
@@ -136,6 +136,8 @@ fn happen(core: &mut NodeCore, now: Millis, deed: Deed<'_>, keeper: &mut Fated) 
         }
         Deed::Submit(tx) => Done::silent(done_or_refused(core.submit(now, tx))),
         Deed::Greet(peer) => {
+            // A member's number, for which there is a key.
+            let _number = peer.get();
             core.greet(peer);
             Done::silent(Reaction::Done)
         }
@@ -175,13 +177,13 @@ fn taken_report(core: &mut NodeCore) -> Option<Report>
 }
 
 /// Something happens at a place, and the save that it asks, if any, meets a fate. The report that arises is taken.
-pub fn act(place: &mut Place, now: Millis, deed: Deed<'_>, fate: Fate) -> NodeAnswer
+pub fn act(place: &mut Place, now: Millis, deed: &Deed<'_>, fate: Fate) -> NodeAnswer
     requires moment { now ≤ GREATEST_MILLIS }
     requires rested { IsRested place.old.core }
-    requires may { MayDo place.old.core.node.me deed.entry }
-    ensures place { place.new ≡ place_after place.old (deed_event now deed.entry) fate }
-    ensures answer { IsAnswer place.old.core.node.me result (reply_at place.old (deed_event now deed.entry) fate) }
-    ensures asked { result.asked ≡ core_asks place.old.core (deed_event now deed.entry) }
+    requires may { MayDo place.old.core.node.me deed.now }
+    ensures place { place.new ≡ place_after place.old (deed_event now deed.now) fate }
+    ensures answer { IsAnswer place.old.core.node.me result (reply_at place.old (deed_event now deed.now) fate) }
+    ensures asked { result.asked ≡ core_asks place.old.core (deed_event now deed.now) }
 {
     let mut fated = Fated {
         keeper: place.keeper,
@@ -253,14 +255,14 @@ pub fn act_at(
     places: &mut [Place],
     i: NodeNo,
     now: Millis,
-    deed: Deed<'_>,
+    deed: &Deed<'_>,
     fate: Fate,
 ) -> Option<NodeAnswer>
     requires moment { now ≤ GREATEST_MILLIS }
     requires rested { (p : _) → place_at i places.old ≡ Some p → IsRested p.core }
-    requires may { MayDo i deed.entry }
-    ensures places { places.new ≡ acted_at i (deed_event now deed.entry) fate places.old }
-    ensures answer { AnswersAt i (deed_event now deed.entry) fate places.old result }
+    requires may { MayDo i deed.now }
+    ensures places { places.new ≡ acted_at i (deed_event now deed.now) fate places.old }
+    ensures answer { AnswersAt i (deed_event now deed.now) fate places.old result }
 {
     match position_of(places, i) {
         Some(k) => {

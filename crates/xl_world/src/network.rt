@@ -127,17 +127,17 @@ impl Network {
         &mut self,
         i: NodeNo,
         at: Millis,
-        deed: Deed<'_>,
+        deed: &Deed<'_>,
         fate: Fate,
         told: &mut Vec<Outcome>,
     ) -> Result<(), OutOfMemory>
         requires moment { at ≤ GREATEST_MILLIS }
         requires rest { IsAtRest self.old }
-        requires may { MayDo i deed.entry }
+        requires may { MayDo i deed.now }
         ensures world { OnOk result (self.new
-            ≡ with_forged self.old.forged (run self.old (event_steps self.old i (deed_event at deed.entry) fate))) }
+            ≡ with_forged self.old.forged (run self.old (event_steps self.old i (deed_event at deed.now) fate))) }
         ensures told { OnOk result (told.new.items
-            ≡ told.old.items ++ told_in self.old (event_steps self.old i (deed_event at deed.entry) fate)) }
+            ≡ told.old.items ++ told_in self.old (event_steps self.old i (deed_event at deed.now) fate)) }
     {
         match act_at(&mut self.places, i, at, deed, fate) {
             Some(answer) => self.settle(i, answer, told),
@@ -159,7 +159,7 @@ impl Network {
         ensures told { OnOk result (told.new.items ≡ told.old.items ++ told_in self.old (ask_steps self.old at ask.now fate)) }
     {
         let (node, deed) = asked_by(ask);
-        self.act(node, at, deed, fate, told)
+        self.act(node, at, &deed, fate, told)
     }
 
     /// A timer comes to each node, by rising number.
@@ -170,7 +170,7 @@ impl Network {
         ensures told { OnOk result (told.new.items ≡ told.old.items ++ told_in self.old (timers self.old at self.old.numbers)) }
     {
         for k in 0..self.numbers.len() {
-            self.act(self.numbers[k], at, Deed::Timer, Fate::Kept, told)?;
+            self.act(self.numbers[k], at, &Deed::Timer, Fate::Kept, told)?;
         }
         Ok(())
     }
@@ -191,7 +191,7 @@ impl Network {
         if node == peer {
             return Ok(());
         }
-        self.act(node, at, Deed::Greet(peer), Fate::Kept, told)
+        self.act(node, at, &Deed::Greet(peer), Fate::Kept, told)
     }
 
     /// The sent frame of a place, from 0 on, is handed to its receiver; to a liar that does nothing. It isn't forged,
@@ -214,7 +214,7 @@ impl Network {
         };
         let to = frame.to;
         let deed = Deed::Frame(frame.bytes.as_slice());
-        match act_at(&mut self.places, to, at, deed, Fate::Kept) {
+        match act_at(&mut self.places, to, at, &deed, Fate::Kept) {
             Some(answer) => self.settle(to, answer, told),
             None => Ok(()),
         }
@@ -248,7 +248,7 @@ impl Network {
         ensures told { OnOk result (told.new.items ≡ told.old.items ++ told_in self.old (hand_steps self.old at to bytes.now)) }
     {
         let forged = is_forged(&self.liars, &mut self.traffic, &self.places, to, bytes);
-        self.act(to, at, Deed::Frame(bytes), Fate::Kept, told)?;
+        self.act(to, at, &Deed::Frame(bytes), Fate::Kept, told)?;
         self.forged = counted(self.forged, forged);
         Ok(())
     }
@@ -315,7 +315,7 @@ impl Network {
         };
         // A save that is cut off is tried as one that fails: what comes of it ends with the node, and its keeper is as
         // it was before.
-        let Some(answer) = act_at(&mut self.places, node, at, deed, Fate::Unwritten) else {
+        let Some(answer) = act_at(&mut self.places, node, at, &deed, Fate::Unwritten) else {
             return Ok(());
         };
         match answer.asked {
@@ -339,7 +339,7 @@ impl Network {
             What::Ask(ask) => self.ask(at, ask, Fate::Kept, told),
             What::Timers => self.timers(at, told),
             What::Submit { node, tx } => {
-                self.act(*node, at, Deed::Submit(*tx), Fate::Kept, told)
+                self.act(*node, at, &Deed::Submit(*tx), Fate::Kept, told)
             }
             What::Greet { node, peer } => self.greet(at, *node, *peer, told),
             What::Deliver { place } => match place.checked_sub(1) {

@@ -1,0 +1,35 @@
+use Rattle.std.proofs.Common.{◌≡◌, ◌∙◌, ℕ, ap, arith, refl, subst, sym}
+use Rattle.std.specs.Prelude.{IsSome}
+use Rattle.xl_tags.specs.Rings.{Ring, key_of}
+use Rattle.xl_core.specs.Core.{Core}
+use Rattle.xl_core.specs.Node.{Node}
+use Rattle.xl_core.specs.Replies.{taken_answer}
+use Rattle.xl_core.specs.Ticks.{save_at}
+use Rattle.xl_core.specs.declared.event.CoreEvent.TheVariants.{Frame, Timer}
+use Rattle.xl_world.specs.declared.act.Deed.{Deed}
+use Rattle.xl_world.specs.Seen.{Does, IsBeaten, MayDo, deed_event}
+use Rattle.xl_world.proofs.Doing.{frame_quiet, peer_of, quiet_does, reacts_as, timer_does}
+use Rattle.xl_world.proofs.Lists.{core_keeps}
+use Rattle.xl_world.proofs.act.happen.Goals as goal
+
+pub greet-requires : goal.greet-requires
+greet-requires c =
+    let me : ℕ = c.args.core.now.node.me in
+    let other = subst (MayDo me) c.in-Greet.is c.requires.may in record {
+      peer = subst (λ (ring : Ring). IsSome (key_of ring c.in-Greet.peer)) (sym c.requires.keys)
+          (peer_of me c.in-Greet.peer (omega (arith, c.get-number.ensures.value, c.get-number.ensures.first)) (omega (arith, c.get-number.ensures.value, c.get-number.ensures.last)) other);
+    }
+
+pub returns-in-Frame : goal.returns-in-Frame
+returns-in-Frame c =
+    subst (λ (d : Deed). Does c.args.core.now (deed_event c.args.now d) c.args.keeper.now c.frame.new.self c.silent.result c.args.keeper.now) (sym c.in-Frame.is)
+    (quiet_does c.args.core.now c.frame.new.self (Frame c.args.now c.in-Frame.bytes.now) c.args.keeper.now c.silent.result (taken_answer c.frame.result) refl (frame_quiet c.args.core.now.node c.args.now c.in-Frame.bytes.now) c.frame.ensures.step
+    (c.silent.ensures.reaction ∙ (c.done_or_refused.ensures ∙ reacts_as c.frame.result)) c.silent.ensures.said)
+
+pub returns-in-Timer : goal.returns-in-Timer
+returns-in-Timer c =
+    let me : c.me.result ≡ c.args.core.now.node.me =
+    c.me.ensures ∙ (ap (λ (n : Node). n.me) c.node.ensures.value ∙ (ap (λ (k : Core). k.node.me) c.timer-beat.ensures.step.core ∙ (core_keeps c.args.core.now (Timer c.args.now) (save_at c.timer-beat.result)).0)) in
+    subst (λ (d : Deed). Does c.args.core.now (deed_event c.args.now d) c.args.keeper.now c.timer-beat.new.self c.beaten.result c.timer-beat.new.keeper) (sym c.in-Timer.is)
+    (timer_does c.timer-beat.result c.args.core.now c.timer-beat.new.self c.args.now c.args.keeper.now c.timer-beat.new.keeper c.beaten.result c.timer-beat.ensures.step c.timer-beat.ensures.fault c.timer-beat.ensures.keeper
+    (subst (λ (m : ℕ). IsBeaten m c.timer-beat.result c.beaten.result) me c.beaten.ensures))
