@@ -1,6 +1,6 @@
 -- An event whose save is cut off: what was tried ends with the node, which is opened again as it would have been before.
-use Rattle.std.proofs.Common.{◌≡◌, ℕ, Bool, false, List, [], ◌∷◌, ◌++◌, refl, ap, sym, ◌∙◌, Option, Some, None, append-nil}
-use Rattle.std.specs.Prelude.{option_map, option_to_list}
+use Rattle.std.proofs.Common.{◌≡◌, ℕ, Bool, false, List, [], ◌∷◌, ◌++◌, refl, ap, sym, ◌∙◌, Option, Some, None, Result, Ok, Err, append-nil}
+use Rattle.std.specs.Prelude.{OnOk, option_map, option_to_list}
 use Rattle.xl_lists.specs.Lists.{TrustedList}
 use Rattle.xl_io.specs.Keepers.{may_hold}
 use Rattle.xl_tags.specs.Rings.{Ring}
@@ -44,10 +44,14 @@ by_node : (a b : Node) → (a.me ≡ b.me) × (a.list ≡ b.list) × (a.keys ≡
 by_node a b keeps = same_settings a b keeps.0 keeps.1 keeps.2 keeps.3 keeps.4
 
 settings_stay : (core : Core) (e : CoreEvent) (save : Save) → settings_of (core_happens core e save).core.node ≡ settings_of core.node
-settings_stay core (Issue now seq id full) save = by_node _ core.node (happens_keeps core.node (nodes.Issue now seq id full) save)
-settings_stay core (Frame now bytes) save = by_node _ core.node (happens_keeps core.node (nodes.Frame now bytes) save)
-settings_stay core (Timer now) save = by_node _ core.node (happens_keeps core.node (nodes.Timer now) save)
-settings_stay core (Submit now tx) save = by_node _ core.node (happens_keeps core.node (nodes.Submit now tx) save)
+settings_stay core (Issue now seq id full) save =
+    by_node (core_happens core (Issue now seq id full) save).core.node core.node (happens_keeps core.node (nodes.Issue now seq id full) save)
+settings_stay core (Frame now bytes) save =
+    by_node (core_happens core (Frame now bytes) save).core.node core.node (happens_keeps core.node (nodes.Frame now bytes) save)
+settings_stay core (Timer now) save =
+    by_node (core_happens core (Timer now) save).core.node core.node (happens_keeps core.node (nodes.Timer now) save)
+settings_stay core (Submit now tx) save =
+    by_node (core_happens core (Submit now tx) save).core.node core.node (happens_keeps core.node (nodes.Submit now tx) save)
 settings_stay core (Greet member) save = refl
 settings_stay core (Drain member room) save = refl
 settings_stay core (Reports room) save = refl
@@ -157,7 +161,7 @@ no_keeper k e = cc
 -- the save that was asked was cut off
 pub record IsTorn (w v : World) (steps : List Step) (told : List Outcome) : Type 0 where
   pub world : v ≡ run w steps
-  pub told : [] ≡ told
+  pub tells : [] ≡ told
 
 pub cuts_torn : (w : World) (at : ℕ) (new : Bool) (a_ask : Ask) (i : ℕ) (e : CoreEvent) (fate : Fate) (k : Keeper) (a : NodeAnswer) (s : ℕ) → i ≡ node_asked a_ask → e ≡ event_asked at a_ask → Some k ≡ keeper_in i w.places →
     AnswersAt i e fate w.places (Some a) → a.asked ≡ Some s →
@@ -174,13 +178,13 @@ cuts_torn w at new a_ask i e fate k a s its is held answers asked = by_place (pl
         record {
           world = ap (λ (x : Keeper). with_places w (put_again at (restored x (left_by x new (Some s))) (place_at i (acted_at i e fate w.places)) (acted_at i e fate w.places))) same
               ∙ (cut_torn w i at new e fate p s here asks (ap moment_in is ∙ asked_moment at a_ask) ∙ ap (run w) cut);
-          told = sym (ap (told_in w) (sym cut) ∙ cut_torn_told w i at new e p s here asks);
+          tells = sym (ap (told_in w) (sym cut) ∙ cut_torn_told w i at new e p s here asks);
         }
 
 -- no save was asked
 pub record IsUncut (w v : World) (told : List Outcome) (steps : List Step) (all : List Outcome) : Type 0 where
   pub world : v ≡ run w steps
-  pub told : told ≡ all
+  pub tells : told ≡ all
 
 pub cuts_none : (w v : World) (at : ℕ) (new : Bool) (a_ask : Ask) (i : ℕ) (e : CoreEvent) (fate : Fate) (k : Keeper) (a : NodeAnswer) → i ≡ node_asked a_ask → e ≡ event_asked at a_ask → Some k ≡ keeper_in i w.places →
     AnswersAt i e fate w.places (Some a) → a.asked ≡ None → ((x : Place) (from : ℕ) → sent_in from (reply_at x e fate).answer ≡ []) → v ≡ noted (with_places w (acted_at i e fate w.places)) i a →
@@ -198,7 +202,7 @@ cuts_none w v at new a_ask i e fate k a its is held answers asked unsent noted_s
         record {
           world = ap (λ (x : Keeper). with_places v (put_again at (restored x (found x)) (place_at i v.places) v.places)) same
               ∙ (cut_whole w v i at new e p here asks (noted_so ∙ cut_noted w i e fate p a here asks fair answers unsent) ∙ ap (run w) cut);
-          told = cut_whole_told w i at new e fate p a here asks answers ∙ ap (told_in w) cut;
+          tells = cut_whole_told w i at new e fate p a here asks answers ∙ ap (told_in w) cut;
         }
 
 -- there is no node of the number
@@ -235,3 +239,7 @@ restarts_nowhere w at i none = by_place (place_at i w.places) refl none
     by_place : (o : Option Place) → place_at i w.places ≡ o → None ≡ option_map (λ (p : Place). p.keeper) o → w ≡ run w (steps_at w at (what.Restart i))
     by_place None here is_none = sym (ap (λ o. run w (option_to_list (option_map (restart at) o))) here)
     by_place (Some p) here is_none = absurd (no_keeper p.keeper (sym is_none))
+
+pub any_ok : {X E : Type 0} (P : Type 0) (r : Result X E) → P → OnOk r P
+any_ok P (Ok x) p = p
+any_ok P (Err e) p = tt

@@ -30,5 +30,6 @@ pub mod Reopening
 pub mod Taking
 pub mod Cutting
 pub mod Events
+pub mod Worldly
 pub mod Doing
 pub mod Going

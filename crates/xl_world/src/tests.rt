@@ -1,5 +1,6 @@
 ghost use Rattle.std.specs.Prelude.{◌≤◌, OnOk};
 ghost use Rattle.xl_world.specs.Plans.{AreTimely};
+ghost use Rattle.xl_world.specs.Schedule.{IsPlausible};
 ghost use Rattle.xl_base.specs.declared.moments.TheConstants.{GREATEST_MILLIS};
 
 use super::*;
@@ -51,7 +52,8 @@ fn world(alloc: Global) -> Result<World, Fail> {
 
 /// How many outcomes are told of an event.
 fn told(world: &mut World, event: &Event) -> Result<usize, Fail>
-    requires { event.now.at ≤ GREATEST_MILLIS }
+    requires moment { event.now.at ≤ GREATEST_MILLIS }
+    requires plausible { IsPlausible event.now.what }
 {
     Ok(world.event(event)?.as_slice().len())
 }
@@ -124,7 +126,8 @@ fn followers(alloc: Global, limit: u32) -> Result<World, Fail>
 
 /// What is told of something at a moment.
 fn happened(world: &mut World, at: u64, what: What) -> Result<Happened, Fail>
-    requires { at ≤ GREATEST_MILLIS }
+    requires moment { at ≤ GREATEST_MILLIS }
+    requires plausible { IsPlausible what }
 {
     Ok(world.event(&Event { at, what })?)
 }
