@@ -24,8 +24,12 @@ pub mod Emptying
 pub mod Resting
 pub mod Acting
 pub mod Telling
+pub mod Shortening
 pub mod Drains
 pub mod Reopening
 pub mod Taking
+pub mod Cutting
+pub mod Events
+pub mod Worldly
 pub mod Doing
 pub mod Going

@@ -117,7 +117,7 @@ all_opened : (limit : ℕ) (plan : List PlanNode) (i : ℕ) (p : Place) → plac
 all_opened limit [] i p h = cc
 all_opened limit (d ∷ ds) i p h =
     cond_both (d.me == i) (Some (start_of limit d)) (place_at i (map (start_of limit) ds)) (λ o. o ≡ Some p → IsRested p.core)
-    (λ _ here. subst (λ (x : Place). IsRested x.core) (some_same (start_of limit d) p here) (record { untaken = refl; keys = refl }))
+    (λ _ here. subst (λ (x : Place). IsRested x.core) (sym (some_same (start_of limit d) p here)) (record { untaken = refl; keys = refl }))
     (λ _ there. all_opened limit ds i p there) h
 
 pub start_rests : (limit : ℕ) (liars : List ℕ) (plan : List PlanNode) → IsAtRest (start limit liars plan)

@@ -1,5 +1,5 @@
 -- How the definitions see the types of the code. Source: what the code of this crate keeps.
-use Rattle.std.specs.Prelude.{◌≡◌, ℕ, Bool, false, [], ◌∷◌, List, ◌++◌, All, option_map, option_to_list, not, ◌==◌, ◌&&◌, ◌||◌}
+use Rattle.std.specs.Prelude.{◌≡◌, ◌<◌, ◌≤◌, ℕ, Bool, false, [], ◌∷◌, List, ◌++◌, length, All, option_map, option_to_list, not, ◌==◌, ◌&&◌, ◌||◌}
 use Rattle.std.specs.Prelude.{Some, None, Result, Ok, Err}
 use Rattle.std.specs.declared.option.Option.{Option}
 use Rattle.std.specs.List.{list_all}
@@ -19,6 +19,8 @@ use Rattle.xl_core.specs.declared.event.CoreEvent.{CoreEvent}
 use Rattle.xl_core.specs.declared.event.CoreEvent.TheVariants.{Issue, Frame, Timer, Submit, Greet}
 use Rattle.xl_core.specs.declared.refusal.Refusal.{Refusal}
 use Rattle.xl_wire.specs.Heads.{split_of}
+use Rattle.xl_wire.specs.Heads.Split.{Whole}
+use Rattle.xl_wire.specs.Kinds.{span}
 use Rattle.xl_wire.specs.Raws.{RawFrame, SpellsRaw}
 use Rattle.xl_world.specs.declared.act.Deed.{Deed}
 use Rattle.xl_world.specs.declared.act.Deed.TheVariants as deed
@@ -196,6 +198,14 @@ put_again now keeper (Some p) places = put (place_again p now keeper) places
 -- the keeper of the node of a number
 abbrev pub keeper_in : ℕ → List Place → Option Keeper
 keeper_in i places = option_map (λ p. p.keeper) (place_at i places)
+
+-- bytes begin with a whole frame of this length
+pub record IsFirstFrame (n : ℕ) (bytes : List ℕ) : Type 0 where
+  pub frame : RawFrame
+  pub splits : split_of bytes ≡ Whole frame
+  pub long : n ≡ span frame.body
+  pub within : n ≤ length bytes
+  pub some : 0 < n
 
 -- one whole frame each
 abbrev pub AreFrames : List (List ℕ) → Type 0

@@ -23,11 +23,7 @@ use xl_trie::Trie;
 #[derive(Clone, Copy, Debug)]
 pub enum Deed<'a> {
     /// It is asked to issue its validation of a ledger.
-    Issue {
-        seq: Seq,
-        id: LedgerId,
-        full: bool,
-    },
+    Issue { seq: Seq, id: LedgerId, full: bool },
     /// Bytes come to it.
     Frame(&'a [u8]),
     Timer,

@@ -23,12 +23,7 @@ pub fn keeper_at(places: &[Place], i: NodeNo) -> Option<Keeper>
 }
 
 /// The node is opened anew with the number that this keeper holds, which is its own from then on.
-fn reopen(
-    alloc: Global,
-    place: &mut Place,
-    now: Millis,
-    keeper: Keeper,
-) -> Result<(), OutOfMemory>
+fn reopen(alloc: Global, place: &mut Place, now: Millis, keeper: Keeper) -> Result<(), OutOfMemory>
     requires { now ≤ GREATEST_MILLIS }
     ensures { OnOk result (place.new ≡ place_again place.old now keeper) }
 {

@@ -1,6 +1,9 @@
 // What waits at a core is drained and sent.
 ghost use Rattle.std.specs.Prelude.{◌≡◌, ◌≢◌, ◌<◌, ◌≤◌, ℕ, List, [], None, take, map, OnOk, IfOk, IfSome};
 ghost use Rattle.xl_core.specs.Answers.{given_in};
+ghost use Rattle.xl_wire.specs.Heads.{split_of};
+ghost use Rattle.xl_wire.specs.Heads.Split.{Whole};
+ghost use Rattle.xl_wire.specs.Raws.{RawFrame};
 ghost use Rattle.xl_wire.specs.declared.lengths.TheConstants.{LONGEST_FRAME};
 ghost use Rattle.xl_core.specs.Queues.{joined};
 ghost use Rattle.xl_tags.specs.Rings.{schedule_ring};
@@ -9,7 +12,7 @@ ghost use Rattle.xl_world.specs.World.{place_at};
 ghost use Rattle.xl_world.specs.Emptying.{after_events, draining, drained_once, drains_for, given_by};
 ghost use Rattle.xl_world.specs.Indexes.{with_frames};
 ghost use Rattle.xl_world.specs.Rested.{Between, IsRested};
-ghost use Rattle.xl_world.specs.Seen.{AreFrames, sent_from, given_at, put_drained};
+ghost use Rattle.xl_world.specs.Seen.{AreFrames, IsFirstFrame, sent_from, given_at, put_drained};
 
 use crate::Sent;
 use crate::act::position_of;
@@ -26,6 +29,17 @@ fn copied(alloc: Global, bytes: &[u8]) -> Result<Bytes, OutOfMemory>
     Ok(Bytes::from_vec(Vec::from_slice(alloc, bytes)?))
 }
 
+/// How many bytes the frame has with which these begin, or None where they begin with no whole frame.
+fn first_length(bytes: &[u8]) -> Option<usize>
+    ensures some { IfSome result (λ length. IsFirstFrame length bytes.now) }
+    ensures none { result ≡ None → (f : RawFrame) → split_of bytes.now ≢ Whole f }
+{
+    match split(bytes) {
+        Parted::Whole(raw) => Some(raw.length),
+        _ => None,
+    }
+}
+
 /// Frames that stand one behind the other are sent, each as one.
 fn send_each(
     alloc: Global,
@@ -37,11 +51,11 @@ fn send_each(
     ensures { (each : List (List ℕ)) → AreFrames each → frames.now ≡ joined each →
         OnOk result (traffic.new ≡ with_frames traffic.old (map (sent_from from to) each)) }
 {
-    let mut rest = frames;
-    while let Parted::Whole(raw) = split(rest) {
-        let bytes = copied(alloc, &rest[..raw.length])?;
+    let mut at = 0;
+    while let Some(length) = first_length(&frames[at..]) {
+        let bytes = copied(alloc, &frames[at..at + length])?;
         traffic.push(Sent { from, to, bytes })?;
-        rest = &rest[raw.length..];
+        at += length;
     }
     Ok(())
 }

@@ -58,8 +58,20 @@ impl Network {
     ghost use Rattle.xl_world.specs.Emptying.{event_steps};
     ghost use Rattle.xl_world.specs.Rested.{IsAtRest, IsRested};
     ghost use Rattle.xl_world.specs.Schedule.{
-      IsPlausible, ask_steps, cut_steps, delivery_of, event_asked, greet_steps, hand_steps, lied_bytes,
-      node_asked, outcomes_at, steps_at, timers, told_in};
+      IsPlausible,
+      ask_steps,
+      cut_steps,
+      delivery_of,
+      event_asked,
+      greet_steps,
+      hand_steps,
+      lied_bytes,
+      node_asked,
+      outcomes_at,
+      steps_at,
+      timers,
+      told_in,
+    };
     ghost use Rattle.xl_world.specs.Seen.{MayDo, deed_event, noted, outcomes_told, put_again, with_forged, with_places};
     ghost use Rattle.xl_world.specs.declared.place.Fate.TheVariants.{Kept};
 
@@ -158,7 +170,8 @@ impl Network {
         ensures told { OnOk result (told.new.items ≡ told.old.items ++ told_in self.old (timers self.old at self.old.numbers)) }
     {
         for k in 0..self.numbers.len() {
-            self.act(self.numbers[k], at, &Deed::Timer, Fate::Kept, told)?;
+            let node = self.numbers[k];
+            self.act(node, at, &Deed::Timer, Fate::Kept, told)?;
         }
         Ok(())
     }
@@ -306,20 +319,17 @@ impl Network {
         let Some(answer) = act_at(&mut self.places, node, at, &deed, Fate::Unwritten) else {
             return Ok(());
         };
-        let asked = answer.asked;
-        if asked.is_none() {
-            self.settle(node, answer, told)?;
+        match answer.asked {
+            Some(seq) => self.reopen(at, node, keeper.restored(keeper.left_by(new, seq))),
+            None => {
+                self.settle(node, answer, told)?;
+                self.reopen(at, node, keeper.restored(keeper.found()))
+            }
         }
-        self.reopen(at, node, keeper.restored(keeper.left_by(new, asked)))
     }
 
     /// Something happens at a moment, and what is told of it comes after what was told.
-    fn take(
-        &mut self,
-        at: Millis,
-        what: &What,
-        told: &mut Vec<Outcome>,
-    ) -> Result<(), OutOfMemory>
+    fn take(&mut self, at: Millis, what: &What, told: &mut Vec<Outcome>) -> Result<(), OutOfMemory>
         requires moment { at ≤ GREATEST_MILLIS }
         requires rest { IsAtRest self.old }
         requires plausible { IsPlausible what.now }

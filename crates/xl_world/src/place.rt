@@ -24,7 +24,7 @@ pub struct Keeper {
 }
 
 impl Keeper {
-    ghost use Rattle.std.specs.Prelude.{◌≡◌, ◌≤◌};
+    ghost use Rattle.std.specs.Prelude.{◌≡◌, ◌≤◌, Some};
     ghost use Rattle.xl_world.specs.Keeper.{resting, restored, after_failed, found, left_by};
 
     /// A keeper that never failed, and holds this number.
@@ -64,16 +64,11 @@ impl Keeper {
         }
     }
 
-    /// The number that is left by a cut in a save of this number, the new one or not; in no save it is the one that a
-    /// restart finds.
-    pub fn left_by(&self, new: bool, saved: Option<Seq>) -> Seq
-        ensures { result ≡ left_by self.now new saved }
+    /// The number that is left by a cut in a save of this number, the new one or not.
+    pub fn left_by(&self, new: bool, saved: Seq) -> Seq
+        ensures { result ≡ left_by self.now new (Some saved) }
     {
-        match saved {
-            Some(seq) if new => seq,
-            Some(_) => self.in_force,
-            None => self.found(),
-        }
+        if new { saved } else { self.in_force }
     }
 
     /// The number that a restart finds.

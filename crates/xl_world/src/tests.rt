@@ -1,13 +1,14 @@
 ghost use Rattle.std.specs.Prelude.{◌≤◌, OnOk};
 ghost use Rattle.xl_world.specs.Plans.{AreTimely};
+ghost use Rattle.xl_world.specs.Schedule.{IsPlausible};
 ghost use Rattle.xl_base.specs.declared.moments.TheConstants.{GREATEST_MILLIS};
 
 use super::*;
 use std::alloc::Global;
 use std::test::Fail;
 use xl_base::{LedgerId, NodeNo};
-use xl_lists::List;
 use xl_core::Issued;
+use xl_lists::List;
 use xl_sched::{Ask, Event, What};
 
 const AT: u64 = 1_000_000;
@@ -51,7 +52,8 @@ fn world(alloc: Global) -> Result<World, Fail> {
 
 /// How many outcomes are told of an event.
 fn told(world: &mut World, event: &Event) -> Result<usize, Fail>
-    requires { event.now.at ≤ GREATEST_MILLIS }
+    requires moment { event.now.at ≤ GREATEST_MILLIS }
+    requires plausible { IsPlausible event.now.what }
 {
     Ok(world.event(event)?.as_slice().len())
 }
@@ -124,7 +126,8 @@ fn followers(alloc: Global, limit: u32) -> Result<World, Fail>
 
 /// What is told of something at a moment.
 fn happened(world: &mut World, at: u64, what: What) -> Result<Happened, Fail>
-    requires { at ≤ GREATEST_MILLIS }
+    requires moment { at ≤ GREATEST_MILLIS }
+    requires plausible { IsPlausible what }
 {
     Ok(world.event(&Event { at, what })?)
 }
@@ -145,20 +148,42 @@ fn a_ledger_is_built_and_greeted_with(rt: HostRuntime) -> Result<(), Fail> {
     assert!(rt; timer(&mut world, 16_000)?.as_slice().is_empty());
     assert_eq!(rt; world.sent().len(), 2);
     let told = timer(&mut world, 17_951)?;
-    let [Outcome::Built { node, seq: 1, id, issued: Issued::Full }, Outcome::Full { .. }] =
-        *told.as_slice()
+    let [
+        Outcome::Built {
+            node,
+            seq: 1,
+            id,
+            issued: Issued::Full,
+        },
+        Outcome::Full { .. },
+    ] = *told.as_slice()
     else {
         return Err(Fail::from("no ledger was built"));
     };
     assert_eq!(rt; node, one);
     assert_eq!(rt; world.sent().len(), 4);
-    let greeting = What::Greet { node: one, peer: two };
-    assert!(rt; happened(&mut world, 17_951, greeting)?.as_slice().is_empty());
+    let greeting = What::Greet {
+        node: one,
+        peer: two,
+    };
+    assert!(rt;
+        happened(&mut world, 17_951, greeting)?
+            .as_slice()
+            .is_empty()
+    );
     assert_eq!(rt; world.sent().len(), 5);
     let header = happened(&mut world, 17_951, What::Deliver { place: 5 })?;
     assert!(rt; header.as_slice().is_empty());
     let vote = happened(&mut world, 17_951, What::Deliver { place: 4 })?;
-    assert_eq!(rt; vote.as_slice(), [Outcome::Full { node: two, seq: 1, id }].as_slice());
+    assert_eq!(rt;
+        vote.as_slice(),
+        [Outcome::Full {
+            node: two,
+            seq: 1,
+            id
+        }]
+        .as_slice()
+    );
     let again = happened(&mut world, 17_951, What::Deliver { place: 3 })?;
     assert_eq!(rt; again.as_slice().len(), 1);
     Ok(())

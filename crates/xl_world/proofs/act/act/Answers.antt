@@ -11,8 +11,11 @@ pub taken_report-report-requires : goal.taken_report-report-requires
 taken_report-report-requires c =
     let place = c.args.place.now in
     let e = deed_event c.args.now c.args.deed.now in
-    omega (arith, ap length (ap (λ (k : Core). k.untaken.items) c.happen-done.ensures.core ∙ untaken_then place.core c.args.now c.args.deed.now (answer_of place.keeper c.args.fate) c.requires.rested.untaken),
-    few_reports (reply_at place e c.args.fate).report)
+    omega (
+      arith,
+      ap length (ap (λ (k : Core). k.untaken.items) c.happen-done.ensures.core ∙ untaken_then place.core c.args.now c.args.deed.now (answer_of place.keeper c.args.fate) c.requires.rested.untaken),
+      few_reports (reply_at place e c.args.fate).report,
+    )
 
 pub returns-clause-answer : goal.returns-clause-answer
 returns-clause-answer c =
