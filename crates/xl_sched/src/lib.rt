@@ -1,9 +1,9 @@
 //! The reader of schedules: a line of bytes becomes an event, a declaration, or a refusal with its cause.
 //!
 //! A schedule begins with the line `xl-schedule 1`. Its lines are tokens parted by spaces and tabs, and each begins
-//! with a word: `limit`, `node`, `liar`, `at`, `name`, `ledger`, `issue`, `submit`, `timer`, `timers`, `deliver`, `all`,
-//! `drop`, `greet`, `restart`, `cut`, `fail`, `lie`, `raw` or `prefer`. Empty lines and those that begin with `#` say
-//! nothing.
+//! with a word: `limit`, `node`, `liar`, `at`, `name`, `ledger`, `issue`, `submit`, `timer`, `timers`, `deliver`,
+//! `all`, `drop`, `greet`, `restart`, `cut`, `fail`, `lie`, `raw` or `prefer`. Empty lines and those that begin with
+//! `#` say nothing.
 //!
 //! It stands on xl_base, xl_lists, xl_ledger, xl_wire and the kit's `hex`. Its one contract: what `Reader::read_line`
 //! answers is the grammar, and a refused line changes nothing.

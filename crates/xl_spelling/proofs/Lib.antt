@@ -1,0 +1,11 @@
+mod Joins
+mod Numerals
+mod Parts
+mod Small
+mod Asks
+mod WordLemmas
+mod Saying
+mod Happening
+mod Telling
+mod Respelling
+mod Commas

@@ -1,0 +1,130 @@
+-- Parts of lines, each of which says again what it said.
+use Rattle.std.proofs.Common.{◌≡◌, ◌^◌, ◌-◌, ◌≤◌, ◌<◌, ◌&&◌, ◌||◌, ℕ, Bool, true, false, not, cond, nat_le, nat_lt, List, [], ◌∷◌, map, Result, Ok, Err, refl, ap, sym, ◌∙◌, arith, decimal, codes}
+use Rattle.std.specs.Option.{option_or, ok_or}
+use Rattle.std.specs.Str.{bytes_eq}
+use Rattle.std.proofs.lemmas.Bool.{and_parts}
+use Rattle.std.proofs.lemmas.Bool.Decides.{nat_tests}
+use Rattle.std.proofs.lemmas.List.Splits.{join_with_byte-slice_split}
+use Rattle.std.proofs.lemmas.Slice.Eq.{bytes_eq-Decides}
+use Rattle.hex.specs.Hex.{encode_lower}
+use Rattle.xl_lists.specs.Lists.{is_on}
+use Rattle.xl_sched.specs.declared.named.Named.{Named}
+use Rattle.xl_sched.specs.declared.refusal.SchedRefusal.{SchedRefusal}
+use Rattle.xl_sched.specs.declared.refusal.SchedRefusal.TheVariants as refusal
+use Rattle.xl_sched.specs.Refusals.{◌>>=◌}
+use Rattle.xl_sched.specs.Tokens.{entries}
+use Rattle.xl_sched.specs.Numbers.{is_number, value_of, number_within, number_of, place_of}
+use Rattle.xl_sched.specs.Choices.{validating_of, full_of, new_of}
+use Rattle.xl_sched.specs.Names.{id_of, id_named}
+use Rattle.xl_sched.specs.Members.{member_of, declared_of, new_member_of, numbers_of, members_of}
+use Rattle.xl_spelling.specs.Spellings.{kind_word, held_word, with_commas}
+use Rattle.xl_spelling.specs.Stored.{IsId}
+use Rattle.xl_spelling.proofs.Numerals.{id-written, decimal-value}
+
+-- what two steps gave, one after the other
+pub record Steps {A B : Type 0} (first : Result A SchedRefusal) (next : A → Result B SchedRefusal) (y : B) : Type 0 where
+  pub value : A
+  pub gave : first ≡ Ok value
+  pub rest : next value ≡ Ok y
+
+pub steps : {A B : Type 0} (first : Result A SchedRefusal) (next : A → Result B SchedRefusal) (y : B) → (first >>= next) ≡ Ok y → Steps first next y
+steps (Ok x) next y e = record { value = x; gave = refl; rest = e }
+steps (Err q) next y e = absurd (cc)
+
+abbrev pub Gives : {A : Type 0} → Result A SchedRefusal → A → Type 0
+Gives read x = read ≡ Ok x
+
+pub same-ok : {A : Type 0} (x y : A) → Gives (Ok x) y → x ≡ y
+same-ok x y e = cc
+
+-- what a test let through
+pub passed : {A : Type 0} (test : Bool) (x y : A) (q : SchedRefusal) → cond test (Ok x) (Err q) ≡ Ok y → (test ≡ true) × (x ≡ y)
+passed true x y q e = (refl, cc)
+passed false x y q e = absurd (cc)
+
+-- and what no test held back
+pub unstopped : {A : Type 0} (test : Bool) (read : Result A SchedRefusal) (y : A) (q : SchedRefusal) → cond test (Err q) read ≡ Ok y → (test ≡ false) × (read ≡ Ok y)
+unstopped true read y q e = absurd (cc)
+unstopped false read y q e = (refl, e)
+
+pub passed_by : {A : Type 0} (test : Bool) (read : Result A SchedRefusal) (y : A) (q : SchedRefusal) → cond test read (Err q) ≡ Ok y → (test ≡ true) × (read ≡ Ok y)
+passed_by true read y q e = (refl, e)
+passed_by false read y q e = absurd (cc)
+
+-- a number is written in one way
+pub number_within-same : (least greatest : ℕ) (t : List ℕ) (n : ℕ) → greatest < 2 ^ 64 → number_within least greatest t ≡ Ok n → (is_number t ≡ true) × (decimal n ≡ t) × (n ≤ greatest) × (least ≤ n)
+number_within-same least greatest t n small e =
+    let p = passed (is_number t && nat_le least (value_of t) && nat_le (value_of t) greatest) (value_of t) n (refusal.Number t) e in
+    let outer = and_parts (is_number t && nat_le least (value_of t)) (nat_le (value_of t) greatest) p.0 in
+    let inner = and_parts (is_number t) (nat_le least (value_of t)) outer.0 in
+    let most : value_of t ≤ greatest = grind (arith, nat_tests) in
+    let low : least ≤ value_of t = grind (arith, nat_tests) in
+    (inner.0, ap (λ m. decimal m) (sym p.1) ∙ decimal-value t inner.0 (omega arith), omega (arith, p.1), omega (arith, p.1))
+
+pub number-same : (t : List ℕ) (n : ℕ) → number_of t ≡ Ok n → decimal n ≡ t
+number-same t n e = (number_within-same 0 (2 ^ 32 - 1) t n (omega arith) e).1
+
+pub member-same : (t : List ℕ) (n : ℕ) → member_of t ≡ Ok n → decimal n ≡ t
+member-same t n e = (number_within-same 1 64 t n (omega arith) e).1
+
+pub declared-same : (nodes t : List ℕ) (n : ℕ) → declared_of nodes t ≡ Ok n → decimal n ≡ t
+declared-same nodes t n e =
+    let s = steps (member_of t) (λ m. cond (is_on nodes m) (Ok m) (Err (refusal.Absent t))) n e in
+    let p = passed (is_on nodes s.value) s.value n (refusal.Absent t) s.rest in
+    ap (λ m. decimal m) (sym p.1) ∙ member-same t s.value s.gave
+
+pub new_member-same : (nodes liars t : List ℕ) (n : ℕ) → new_member_of nodes liars t ≡ Ok n → decimal n ≡ t
+new_member-same nodes liars t n e =
+    let s = steps (member_of t) (λ m. cond (is_on nodes m || is_on liars m) (Err (refusal.Twice t)) (Ok m)) n e in
+    let p = unstopped (is_on nodes s.value || is_on liars s.value) (Ok s.value) n (refusal.Twice t) s.rest in
+    ap (λ m. decimal m) (sym (same-ok s.value n p.1)) ∙ member-same t s.value s.gave
+
+pub place-same : (sent : ℕ) (t : List ℕ) (n : ℕ) → n < 2 ^ 64 → place_of sent t ≡ Ok n → decimal n ≡ t
+place-same sent t n small e =
+    let number = unstopped (not (is_number t)) (cond (nat_lt 0 (value_of t) && nat_le (value_of t) sent) (Ok (value_of t)) (Err (refusal.Absent t))) n (refusal.Number t) e in
+    let p = passed (nat_lt 0 (value_of t) && nat_le (value_of t) sent) (value_of t) n (refusal.Absent t) number.1 in
+    let is : is_number t ≡ true = grind (arith, nat_tests) in
+    ap (λ m. decimal m) (sym p.1) ∙ decimal-value t is (omega (arith, p.1))
+
+pub same_bytes : (a b : List ℕ) → bytes_eq a b ≡ true → b ≡ a
+same_bytes a b e = sym ((bytes_eq-Decides a b).0 e)
+
+pub kind-same : (t : List ℕ) (full : Bool) → full_of t ≡ Ok full → kind_word full ≡ t
+kind-same t full e =
+    elim (bytes_eq t (codes "full")) as (λ b. bytes_eq t (codes "full") ≡ b → Gives (cond b (Ok true) (cond (bytes_eq t (codes "partial")) (Ok false) (Err (refusal.Choice t)))) full → kind_word full ≡ t) [
+      | true ↦ λ q h. ap kind_word (sym (same-ok true full h)) ∙ same_bytes t (codes "full") q
+      | false ↦ λ _ h.
+          let p = passed (bytes_eq t (codes "partial")) false full (refusal.Choice t) h in
+          ap kind_word (sym p.1) ∙ same_bytes t (codes "partial") p.0
+    ] refl e
+
+pub held-same : (t : List ℕ) (new : Bool) → new_of t ≡ Ok new → held_word new ≡ t
+held-same t new e =
+    elim (bytes_eq t (codes "new")) as (λ b. bytes_eq t (codes "new") ≡ b → Gives (cond b (Ok true) (cond (bytes_eq t (codes "old")) (Ok false) (Err (refusal.Choice t)))) new → held_word new ≡ t) [
+      | true ↦ λ q h. ap held_word (sym (same-ok true new h)) ∙ same_bytes t (codes "new") q
+      | false ↦ λ _ h.
+          let p = passed (bytes_eq t (codes "old")) false new (refusal.Choice t) h in
+          ap held_word (sym p.1) ∙ same_bytes t (codes "old") p.0
+    ] refl e
+
+pub mode-same : (t : List ℕ) (validating : Bool) → validating_of t ≡ Ok validating → (validating ≡ false) × (codes "observing" ≡ t)
+mode-same t validating e =
+    let p = passed (bytes_eq t (codes "observing")) false validating (refusal.Choice t) e in
+    (sym p.1, same_bytes t (codes "observing") p.0)
+
+numbers-same : (parts : List (List ℕ)) (ns : List ℕ) → numbers_of parts ≡ Ok ns → map (λ n. decimal n) ns ≡ parts
+numbers-same [] ns e = ap (map (λ n. decimal n)) (sym (same-ok [] ns e))
+numbers-same (part ∷ parts) ns e =
+    let s = steps (number_of part) (λ n. numbers_of parts >>= (λ ns. Ok (n ∷ ns))) ns e in
+    let r = steps (numbers_of parts) (λ ns. Ok (s.value ∷ ns)) ns s.rest in
+    ap (map (λ n. decimal n)) (sym (same-ok (s.value ∷ r.value) ns r.rest))
+    ∙ ap (λ t. t ∷ map (λ n. decimal n) r.value) (number-same part s.value s.gave)
+    ∙ ap (λ ts. part ∷ ts) (numbers-same parts r.value r.gave)
+
+pub members-same : (t ns : List ℕ) → members_of t ≡ Ok ns → with_commas (map (λ n. decimal n) ns) ≡ t
+members-same t ns e = ap with_commas (numbers-same (entries t) ns e) ∙ join_with_byte-slice_split 44 t
+
+-- the digits of an id are that id
+pub id-read : (names : List Named) (id : List ℕ) → IsId id → id_of names (encode_lower id) ≡ Ok id
+id-read names id h =
+    ap (λ written. ok_or (option_or written (id_named names (encode_lower id))) (refusal.Id (encode_lower id))) (id-written id h)

@@ -1,0 +1,51 @@
+-- What the types of a line keep.
+use Rattle.std.specs.Prelude.{◌≡◌, ◌<◌, ◌^◌, ℕ, List, length, All}
+use Rattle.hex.specs.Hex.{IsBytes}
+use Rattle.xl_sched.specs.declared.event.Ask.{Ask}
+use Rattle.xl_sched.specs.declared.event.Ask.TheVariants as ask
+use Rattle.xl_sched.specs.declared.event.Lied.{Lied}
+use Rattle.xl_sched.specs.declared.event.Lied.TheVariants as lied
+use Rattle.xl_sched.specs.declared.event.What.{What}
+use Rattle.xl_sched.specs.declared.event.What.TheVariants as what
+use Rattle.xl_sched.specs.declared.line.Line.{Line}
+use Rattle.xl_sched.specs.declared.line.Line.TheVariants as line
+
+-- an id is 32 bytes
+abbrev pub IsId : List ℕ → Type 0
+IsId id = (length id ≡ 32) × IsBytes id
+
+abbrev pub IsStoredAsk : Ask → Type 0
+IsStoredAsk (ask.Issue node seq id full) = IsId id.0
+IsStoredAsk (ask.Timer node) = Unit {0}
+
+abbrev pub IsStoredLied : Lied → Type 0
+IsStoredLied (lied.Proposal proposal) = IsId proposal.prev.0 × IsId proposal.set.0
+IsStoredLied (lied.Validation validation) = IsId validation.id.0
+IsStoredLied (lied.Header name header) = Unit {0}
+IsStoredLied (lied.TxSet ids) = All (λ id. IsId id.0) ids
+IsStoredLied (lied.Tx id) = IsId id.0
+
+-- a place is a 64-bit number
+abbrev pub IsStoredWhat : What → Type 0
+IsStoredWhat (what.Ask ask) = IsStoredAsk ask
+IsStoredWhat (what.Submit node tx) = IsId tx.0
+IsStoredWhat what.Timers = Unit {0}
+IsStoredWhat (what.Deliver place) = place < 2 ^ 64
+IsStoredWhat what.All = Unit {0}
+IsStoredWhat what.Drop = Unit {0}
+IsStoredWhat (what.Greet node peer) = Unit {0}
+IsStoredWhat (what.Restart node) = Unit {0}
+IsStoredWhat (what.Cut new ask) = IsStoredAsk ask
+IsStoredWhat (what.Fail new ask) = IsStoredAsk ask
+IsStoredWhat (what.Lie from to lie) = IsStoredLied lie
+IsStoredWhat (what.Raw to bytes) = IsBytes bytes
+IsStoredWhat (what.Prefer node) = Unit {0}
+
+abbrev pub IsStored : Line → Type 0
+IsStored (line.Limit limit) = Unit {0}
+IsStored (line.Node me list validating) = Unit {0}
+IsStored (line.Liar me) = Unit {0}
+IsStored (line.Name name id) = IsId id
+IsStored (line.Ledger name parent header) = Unit {0}
+IsStored (line.At at) = Unit {0}
+IsStored (line.Event event) = IsStoredWhat event.what
