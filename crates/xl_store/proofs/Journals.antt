@@ -4,14 +4,14 @@ use Rattle.std.specs.Prelude.{slice_get}
 use mathlib.Core.List.{IsPrefix}
 use Rattle.xl_turns.specs.Histories.{Runs}
 use Rattle.xl_core.specs.Core.{Core}
+use Rattle.xl_core.specs.CoreLives.{core_after}
 use Rattle.xl_store.specs.declared.entry.Entry.{Entry}
-use Rattle.xl_store.specs.Entries.{reply_of, Leads}
+use Rattle.xl_store.specs.Entries.{reply_of, life_of, Leads}
 use Rattle.xl_store.specs.Calls.{Call, calls_of, StandAt}
 
 -- the core after a history
 abbrev pub after_all : Core → List Entry → Core
-after_all c [] = c
-after_all c (e ∷ es) = after_all (reply_of c e).core es
+after_all c es = core_after c (life_of es)
 
 pub after_runs : (c d : Core) (es : List Entry) → Runs Leads c es d → after_all c es ≡ d
 after_runs c d [] r = r

@@ -65,7 +65,8 @@ one_between (Some (saved.Failed count)) a m b i h =
     (All-nil (IsBetween a b))
 
 module _ {K : Type 0}
-    (held_by : K → Option Held) (saves_of : K → Option (List ℕ)) (faults_of : K → ℕ) (gives : K → ℕ → Bool → K → Type 0) where
+    (held_by : K → Option Held) (saves_of : K → Option (List ℕ)) (faults_of : K → ℕ)
+    (gives : K → ℕ → Bool → K → Type 0) where
   keeps_none : (start : Core) (k : K) → KeepsAll held_by saves_of faults_of gives start [] k k
   keeps_none start k = record {
     held = map_same (held_by k);
@@ -76,7 +77,8 @@ module _ {K : Type 0}
   }
 
 module _ {B K : Type 0}
-    (held_by : K → Option Held) (saves_of : K → Option (List ℕ)) (faults_of : K → ℕ) (gives : K → ℕ → Bool → K → Type 0) where
+    (held_by : K → Option Held) (saves_of : K → Option (List ℕ)) (faults_of : K → ℕ)
+    (gives : K → ℕ → Bool → K → Type 0) where
   -- of core and keeper the core alone
   pub cores_run : (a b : Box (Home B K)) (es : List Entry) → Runs (LeadsHome held_by saves_of faults_of gives) a es b
       → Runs Leads a.value.core es b.value.core

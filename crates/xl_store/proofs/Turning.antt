@@ -32,7 +32,8 @@ use Rattle.xl_store.proofs.Noting.{outcome_with, is_outcome}
 use Rattle.xl_store.proofs.Peers.{peers_stay}
 
 module _ {B K : Type 0}
-    (held_by : K → Option Held) (saves_of : K → Option (List ℕ)) (faults_of : K → ℕ) (gives : K → ℕ → Bool → K → Type 0) where
+    (held_by : K → Option Held) (saves_of : K → Option (List ℕ)) (faults_of : K → ℕ)
+    (gives : K → ℕ → Bool → K → Type 0) where
   -- an event that asks no save leads from one home to the next
   pub goes_on : (before found after : Home B K) (event : CoreEvent) → found ≡ before
       → IsAllowed before.core event → core_asks before.core event ≡ None
