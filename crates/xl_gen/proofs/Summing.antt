@@ -1,0 +1,94 @@
+-- What the summary says of the reports of the schedule's world.
+use Rattle.std.proofs.Common.{◌≡◌, ◌≢◌, ℕ, ◌≤◌, Bool, true, List, [], ◌∷◌, ◌++◌, append_assoc, refl, arith, ap, sym, ◌∙◌, Option, Some, None, subst, absurd}
+use Rattle.std.specs.Prelude.{◌==◌, All, Contains, filter, find, map, option_map}
+use Rattle.std.proofs.lemmas.Bool.{cond_both}
+use Rattle.std.proofs.lemmas.List.Elements.{All-contains, All-cons, All-nil}
+use Rattle.xl_lists.specs.declared.report.Report.{Report as Reported}
+use Rattle.xl_lists.specs.Lists.{TrustedList}
+use Rattle.xl_lists.specs.Quorums.{Enough}
+use Rattle.xl_sched.specs.declared.event.Event.{Event}
+use Rattle.xl_sched.specs.Reading.{opened}
+use Rattle.xl_world.specs.declared.plan.PlanNode.{PlanNode}
+use Rattle.xl_world.specs.Forks.{Fork, IsFork, first_fork}
+use Rattle.xl_world.specs.Headline.{AgreeAt}
+use Rattle.xl_world.specs.Plans.{IsDeclared, AreDeclared, list_at, up_from}
+use Rattle.xl_world.specs.Schedule.{after_event, outcomes, steps_of}
+use Rattle.xl_world.specs.Starts.{start}
+use Rattle.xl_world.specs.World.{World, Step, run}
+use Rattle.xl_world.proofs.Differing.{fork_differs}
+use Rattle.xl_world.proofs.Lists.{HasLists, core_headline, run_lists, start_lists}
+use Rattle.xl_world.proofs.Runs.{run-append}
+use Rattle.xl_replay.specs.declared.replayer.TheConstants.{DEFAULT_LIMIT}
+use Rattle.xl_replay.specs.Headlines.{full_of, is_full}
+use Rattle.xl_replay.specs.Texts.{agreement_line, forged_line, short_lines}
+use Rattle.xl_replay.proofs.Telling.{Adds, adds_none, adds_then, event_adds}
+use Rattle.xl_gen.specs.Schedule.{after, at_first, events, everyone, list, node_of, plan, told}
+use Rattle.xl_gen.specs.Summaries.{IsSummary, at_last, counted, counts_text, nothing_told}
+
+-- events are steps
+steps_in : World → List Event → List Step
+steps_in w [] = []
+steps_in w (e ∷ es) = steps_of w e ++ steps_in (after_event w e) es
+
+are_steps : (w : World) (es : List Event) → after w es ≡ run w (steps_in w es)
+are_steps w [] = refl
+are_steps w (e ∷ es) = are_steps (after_event w e) es ∙ sym (run-append w (steps_of w e) (steps_in (after_event w e) es))
+
+-- the reports of events are what their outcomes tell
+events_add : (w : World) (es : List Event) → Adds w (after w es) (told w es)
+events_add w [] = adds_none w w refl
+events_add w (e ∷ es) =
+    adds_then w (after_event w e) (after (after_event w e) es) (outcomes w e) (told (after_event w e) es)
+    (event_adds w e.at e.what) (events_add (after_event w e) es)
+
+-- each node has the one list
+its_list : (numbers : List ℕ) (i : ℕ) (a : TrustedList) → list_at (map node_of numbers) i ≡ Some a → a ≡ list
+its_list [] i a at = cc
+its_list (n ∷ ns) i a at =
+    cond_both (n == i) (Some (node_of n)) (find (λ d. d.me == i) (map node_of ns)) (λ o. option_map (λ d. d.list) o ≡ Some a → a ≡ list)
+    (λ _ is. cc) (λ _ there. its_list ns i a there) at
+
+are_declared : AreDeclared plan
+are_declared = ?
+
+enough : Enough [] list list
+enough = ?
+
+-- no two reports of such a run fork
+no_fork : (steps : List Step) → (run (start DEFAULT_LIMIT [] plan) steps).forged ≡ 0 → first_fork (run (start DEFAULT_LIMIT [] plan) steps).reports ≡ None
+no_fork steps none = by_fork (first_fork w.reports) refl where
+  w : World
+  w = run (start DEFAULT_LIMIT [] plan) steps
+  has : HasLists plan w
+  has = run_lists plan (start DEFAULT_LIMIT [] plan) steps (start_lists DEFAULT_LIMIT [] plan)
+  at_its : (r : Reported) → Contains w.reports r → list_at plan r.node ≡ Some list
+  at_its r among =
+      let under = All-contains (λ x. list_at plan x.node ≡ Some x.list) w.reports r has.reports among in
+      under ∙ ap (λ (a : TrustedList). Some a) (its_list everyone r.node r.list under)
+  same : (r q : Reported) → Contains w.reports r → Contains w.reports q → r.seq ≡ q.seq → r.id ≡ q.id
+  same r q has_r has_q one =
+      let agree : AgreeAt w.reports r.node q.node = core_headline DEFAULT_LIMIT [] plan steps r.node q.node list list are_declared (at_its r has_r) (at_its q has_q) enough none in
+      All-contains (λ x. r.node ≡ r.node → x.node ≡ q.node → r.seq ≡ x.seq → r.id ≡ x.id) w.reports q
+      (All-contains (λ y. All (λ x. y.node ≡ r.node → x.node ≡ q.node → y.seq ≡ x.seq → y.id ≡ x.id) w.reports) w.reports r agree has_r) has_q refl refl one
+  by_fork : (o : Option Fork) → first_fork w.reports ≡ o → o ≡ None
+  by_fork None at = refl
+  by_fork (Some f) at =
+      let fork : IsFork w.reports f = fork_differs w.reports f at in
+      absurd (fork.two_ids (same f.earlier f.later fork.has_earlier fork.has_later fork.one_seq))
+
+pub summarized : (rounds : ℕ) → IsSummary rounds
+summarized rounds =
+    let w : World = at_last rounds in
+    let made : w ≡ run at_first (steps_in at_first (events rounds)) = are_steps at_first (events rounds) in
+    let adds : Adds at_first w (told at_first (events rounds)) = events_add at_first (events rounds) in
+    record {
+      reports = w.reports;
+      forged = w.forged;
+      front = counts_text rounds w (counted nothing_told (told at_first (events rounds))) ++ short_lines w;
+      written = sym (append_assoc (counts_text rounds w (counted nothing_told (told at_first (events rounds)))) (short_lines w) (forged_line w.forged ++ agreement_line opened.names (first_fork w.reports)));
+      says = refl;
+      fulls = adds.told ∙ ap (map full_of) (sym adds.reports);
+      agree = λ none.
+          ap (λ (u : World). first_fork u.reports) made
+          ∙ no_fork (steps_in at_first (events rounds)) (sym (ap (λ (u : World). u.forged) made) ∙ none);
+    }
