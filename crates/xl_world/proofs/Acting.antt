@@ -21,6 +21,8 @@ use Rattle.xl_core.specs.Node.Timed.{Quiet, Ending}
 use Rattle.xl_core.specs.declared.event.CoreEvent.{CoreEvent}
 use Rattle.xl_core.specs.declared.event.CoreEvent.TheVariants.{Frame}
 use Rattle.xl_core.proofs.Timing.{submit_either}
+use Rattle.xl_sched.specs.declared.event.Ask.{Ask}
+use Rattle.xl_sched.specs.declared.event.Ask.TheVariants as ask
 use Rattle.xl_world.specs.declared.act.Deed.{Deed}
 use Rattle.xl_world.specs.declared.act.Deed.TheVariants as deed
 use Rattle.xl_world.specs.declared.act.NodeAnswer.{NodeAnswer}
@@ -32,7 +34,7 @@ use Rattle.xl_world.specs.Emptying.{event_steps}
 use Rattle.xl_world.specs.Forgeries.{forges, was_sent}
 use Rattle.xl_world.specs.Keeper.{answer_of}
 use Rattle.xl_world.specs.Rested.{IsAtRest, IsRested}
-use Rattle.xl_world.specs.Schedule.{delivery}
+use Rattle.xl_world.specs.Schedule.{delivery, event_asked}
 use Rattle.xl_world.specs.Seen.{Answers, AnswersAt, acted_at, deed_event, forged_at, given_at, noted, place_after, place_drained, put_acted, put_drained, with_forged, with_places}
 use Rattle.xl_world.specs.World.{World, is_forged, keeper_after, place_at, put, reply_at, run, said_by, sent_in}
 use Rattle.xl_world.proofs.CoreSteps.{frame_plain, issue_plain}
@@ -145,3 +147,8 @@ found_sent sent f k at =
 -- so the sent frame of a place is none
 pub sent_ran : (w : World) (at : ℕ) (f : Sent) (k : ℕ) → slice_get w.sent k ≡ Some f → with_forged w.forged (run w (delivery w at f)) ≡ run w (delivery w at f)
 sent_ran w at f k found = fair_ran w f.to (Frame at f.bytes) Kept (λ n. sent_fair w.liars w.sent n.keys f.bytes (split_of f.bytes) (found_sent w.sent f k found))
+
+-- what is asked of a node is no frame
+pub asked_fair : (at : ℕ) (asked : Ask) (w : World) (n : Node) → is_forged w n (event_asked at asked) ≡ false
+asked_fair at (ask.Issue node seq id full) w n = refl
+asked_fair at (ask.Timer node) w n = refl

@@ -37,11 +37,11 @@ numbers_stay w i e fate None = refl
 numbers_stay w i e fate (Some p) = refl
 
 -- the timers that are left lead where all led at first
-pub record IsTimed (first : World) (at : ℕ) (before : List Outcome) (k : ℕ) (now : World) (told : List Outcome) : Type 0 where
+pub record IsTimed (first : World) (at : ℕ) (before : List Outcome) (k : ℕ) (now : World) (so_far : List Outcome) : Type 0 where
   pub numbers : now.numbers ≡ first.numbers
   pub rest : IsAtRest now
   pub world : run first (timers first at first.numbers) ≡ run now (timers now at (drop k first.numbers))
-  pub told : before ++ told_in first (timers first at first.numbers) ≡ told ++ told_in now (timers now at (drop k first.numbers))
+  pub told : before ++ told_in first (timers first at first.numbers) ≡ so_far ++ told_in now (timers now at (drop k first.numbers))
 
 pub timed_first : (w : World) (at : ℕ) (told : List Outcome) → IsAtRest w → IsTimed w at told 0 w told
 timed_first w at told rest = record { numbers = refl; rest = rest; world = refl; told = refl }
@@ -91,12 +91,12 @@ sent_grows w i e fate (Some p) =
     (here ++ then_, append_assoc w.sent here then_)
 
 -- the frames that are left lead where all led at first, and what is sent meanwhile comes after them
-pub record IsDelivered (first : World) (at : ℕ) (before : List Outcome) (k : ℕ) (now : World) (told : List Outcome) : Type 0 where
+pub record IsDelivered (first : World) (at : ℕ) (before : List Outcome) (k : ℕ) (now : World) (so_far : List Outcome) : Type 0 where
   pub more : List Sent
   pub sent : now.sent ≡ first.sent ++ more
   pub rest : IsAtRest now
   pub world : run first (deliveries first at (drop first.mark first.sent)) ≡ run now (deliveries now at (drop k first.sent))
-  pub told : before ++ told_in first (deliveries first at (drop first.mark first.sent)) ≡ told ++ told_in now (deliveries now at (drop k first.sent))
+  pub told : before ++ told_in first (deliveries first at (drop first.mark first.sent)) ≡ so_far ++ told_in now (deliveries now at (drop k first.sent))
 
 pub delivered_first : (w : World) (at : ℕ) (told : List Outcome) → IsAtRest w → IsDelivered w at told w.mark w told
 delivered_first w at told rest = record { more = []; sent = sym (append-nil w.sent); rest = rest; world = refl; told = refl }

@@ -170,7 +170,8 @@ impl Network {
         ensures told { OnOk result (told.new.items ≡ told.old.items ++ told_in self.old (timers self.old at self.old.numbers)) }
     {
         for k in 0..self.numbers.len() {
-            self.act(self.numbers[k], at, &Deed::Timer, Fate::Kept, told)?;
+            let node = self.numbers[k];
+            self.act(node, at, &Deed::Timer, Fate::Kept, told)?;
         }
         Ok(())
     }

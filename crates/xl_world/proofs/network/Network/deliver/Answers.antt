@@ -1,0 +1,76 @@
+use Rattle.std.proofs.Common.{◌≡◌, ◌++◌, ◌∙◌, ℕ, List, Option, Some, ap, subst, sym}
+use Rattle.std.specs.Prelude.{OnOk, slice_get}
+use Rattle.std.specs.Vec.{with_items}
+use Rattle.std.proofs.lemmas.List.{with_items_is}
+use Rattle.xl_core.specs.declared.event.CoreEvent.{CoreEvent}
+use Rattle.xl_core.specs.declared.event.CoreEvent.TheVariants.{Frame}
+use Rattle.xl_world.specs.declared.outcome.Outcome.{Outcome}
+use Rattle.xl_world.specs.declared.place.Fate.TheVariants.{Kept}
+use Rattle.xl_world.specs.declared.place.Place.{Place}
+use Rattle.xl_world.specs.declared.sent.Sent.{Sent}
+use Rattle.xl_world.specs.Emptying.{event_steps}
+use Rattle.xl_world.specs.Keeper.{answer_of}
+use Rattle.xl_world.specs.Schedule.{delivery_of, told_in}
+use Rattle.xl_world.specs.Seen.{AnswersAt, acted_at, noted, with_forged, with_places}
+use Rattle.xl_world.specs.World.{World, place_at, run}
+use Rattle.xl_world.proofs.Acting.{acted_rests, noted_ran, sent_ran}
+use Rattle.xl_world.proofs.CoreSteps.{frame_plain}
+use Rattle.xl_world.proofs.Telling.{told_ran}
+use Rattle.xl_world.proofs.network.Network.deliver.Goals as goal
+use Rattle.xl_world.proofs.network.Network.deliver.Goals.{After-act_at, In-Some-act_at}
+
+abbrev event : After-act_at → CoreEvent
+event c = Frame c.args.at c.as_slice.result.now
+
+-- the frame is the sent one
+found : (c : After-act_at) → slice_get c.args.self.now.sent c.args.place ≡ Some c.in-Some.frame.now
+found c = ap (λ (w : World). slice_get w.sent c.args.place) (sym c.self.view_is) ∙ sym c.in-Some.ensures
+
+-- the places after it
+placed : (c : After-act_at) → (with_items c.self.inside.places c.act_at.new.places).items ≡ acted_at c.in-Some.frame.now.to (event c) Kept c.args.self.now.places
+placed c =
+    with_items_is c.self.inside.places c.act_at.new.places (c.act_at.auto.places ∙ c.deref_mut.ensures.len)
+    ∙ (c.act_at.ensures.places ∙ ap (acted_at c.in-Some.frame.now.to (event c) Kept) (c.deref_mut.ensures.value ∙ ap (λ (w : World). w.places) c.self.view_is))
+
+-- what the node answered
+answers : (c : In-Some-act_at) → AnswersAt c.in-Some.frame.now.to (Frame c.args.at c.as_slice.result.now) Kept c.args.self.now.places (Some c.in-Some-act_at.answer)
+answers c =
+    subst (λ (ps : List Place). AnswersAt c.in-Some.frame.now.to (Frame c.args.at c.as_slice.result.now) Kept ps (Some c.in-Some-act_at.answer)) (c.deref_mut.ensures.value ∙ ap (λ (w : World). w.places) c.self.view_is)
+    c.in-Some-act_at.ensures.answer
+
+pub act_at-requires-clause-rested : goal.act_at-requires-clause-rested
+act_at-requires-clause-rested c = λ p h.
+    c.requires.rest.cores c.in-Some.frame.now.to p
+    (ap (λ (w : World). place_at c.in-Some.frame.now.to w.places) (sym c.self.view_is) ∙ (ap (place_at c.in-Some.frame.now.to) (sym c.deref_mut.ensures.value) ∙ h))
+
+pub settle-requires : goal.settle-requires
+settle-requires c =
+    let d = (goal.at.settle-requires c).After-act_at in record {
+      rested = λ p h. acted_rests c.args.self.now c.in-Some.frame.now.to (event d) Kept c.requires.rest p (ap (place_at c.in-Some.frame.now.to) (sym (placed d)) ∙ h);
+    }
+
+pub returns-in-Some-act_at-clause-world : goal.returns-in-Some-act_at-clause-world
+returns-in-Some-act_at-clause-world c =
+    let d = (goal.at.returns-in-Some-act_at-clause-world c).After-act_at in
+    let s = (goal.at.returns-in-Some-act_at-clause-world c).In-Some-act_at in
+    let w : World = c.args.self.now in
+    let f : Sent = c.in-Some.frame.now in
+    let ps : List Place = (with_items c.self.inside.places c.act_at.new.places).items in
+    subst (λ (v : World). OnOk c.settle.result (c.settle.new.self ≡ v))
+    (ap (λ (u : World). noted (with_places u ps) f.to c.in-Some-act_at.answer) c.self.view_is
+    ∙ (ap (λ (xs : List Place). noted (with_places w xs) f.to c.in-Some-act_at.answer) (placed d)
+    ∙ (noted_ran w f.to (event d) Kept c.in-Some-act_at.answer (answers s) (λ p from. (frame_plain p.core.node c.args.at c.as_slice.result.now (answer_of p.keeper Kept)).sent from)
+    ∙ (ap (λ (bytes : List ℕ). with_forged w.forged (run w (event_steps w f.to (Frame c.args.at bytes) Kept))) c.as_slice.ensures
+    ∙ (sent_ran w c.args.at f c.args.place (found d) ∙ ap (λ (o : Option Sent). run w (delivery_of w c.args.at o)) (sym (found d)))))))
+    c.settle.ensures.world
+
+pub returns-in-Some-act_at-clause-told : goal.returns-in-Some-act_at-clause-told
+returns-in-Some-act_at-clause-told c =
+    let d = (goal.at.returns-in-Some-act_at-clause-told c).After-act_at in
+    let s = (goal.at.returns-in-Some-act_at-clause-told c).In-Some-act_at in
+    let w : World = c.args.self.now in
+    let f : Sent = c.in-Some.frame.now in
+    subst (λ (os : List Outcome). OnOk c.settle.result (c.settle.new.told.items ≡ c.args.told.now.items ++ os))
+    (told_ran w f.to (event d) Kept c.in-Some-act_at.answer (answers s)
+    ∙ (ap (λ (bytes : List ℕ). told_in w (event_steps w f.to (Frame c.args.at bytes) Kept)) c.as_slice.ensures ∙ ap (λ (o : Option Sent). told_in w (delivery_of w c.args.at o)) (sym (found d))))
+    c.settle.ensures.told

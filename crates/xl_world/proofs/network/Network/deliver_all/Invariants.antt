@@ -1,0 +1,5 @@
+use Rattle.xl_world.proofs.Going.{IsDelivered}
+use Rattle.xl_world.proofs.network.Network.deliver_all.Given as goal
+
+abbrev pub invariant-loop-place : goal.invariant-loop-place
+invariant-loop-place l = IsDelivered l.initial.self l.at l.initial.told.items l.place l.self l.told.items
