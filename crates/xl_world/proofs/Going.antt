@@ -19,9 +19,9 @@ use Rattle.xl_world.proofs.Runs.{run-append}
 use Rattle.xl_world.proofs.Telling.{told_append}
 
 -- the one at a place, and what follows it
-pub at_place : {X : Type 0} (xs more : List X) (k : ℕ) → k < length xs → (x : X) × (slice_get (xs ++ more) k ≡ Some x) × (drop k xs ≡ x ∷ drop (suc k) xs)
+pub at_place : {X : Type 0} (xs more : List X) (k : ℕ) → k < length xs → (x : X) × (slice_get (xs ++ more) k ≡ Some x) × (drop k xs ≡ x ∷ drop (suc k) xs) × ((d : X) → get_or xs k d ≡ x)
 at_place [] more k less = absurd (omega arith)
-at_place (x ∷ xs) more zero less = (x, refl, refl)
+at_place (x ∷ xs) more zero less = (x, refl, refl, λ d. refl)
 at_place (x ∷ xs) more (suc k) less = at_place xs more k (omega arith)
 
 none_left : {X : Type 0} (xs : List X) (k : ℕ) → length xs ≤ k → drop k xs ≡ []
@@ -46,13 +46,13 @@ pub record IsTimed (first : World) (at : ℕ) (before : List Outcome) (k : ℕ) 
 pub timed_first : (w : World) (at : ℕ) (told : List Outcome) → IsAtRest w → IsTimed w at told 0 w told
 timed_first w at told rest = record { numbers = refl; rest = rest; world = refl; told = refl }
 
-pub timed_more : (first : World) (at : ℕ) (before : List Outcome) (k : ℕ) (now : World) (told : List Outcome) (i : ℕ) (v : World) (told' : List Outcome) → k < length first.numbers → slice_get first.numbers k ≡ Some i →
+pub timed_more : (first : World) (at : ℕ) (before : List Outcome) (k : ℕ) (now : World) (told : List Outcome) (i : ℕ) (v : World) (told' : List Outcome) → k < length first.numbers → i ≡ get_or first.numbers k i →
     IsTimed first at before k now told → v ≡ run now (event_steps now i (Timer at) Kept) → told' ≡ told ++ told_in now (event_steps now i (Timer at) Kept) → IsTimed first at before (k + 1) v told'
 timed_more first at before k now told i v told' within found timed is is_told =
     let steps : List Step = event_steps now i (Timer at) Kept in
     let left : List ℕ = drop (k + 1) first.numbers in
     let here = at_place first.numbers [] k within in
-    let its : here.0 ≡ i = same_some here.0 i (sym here.1 ∙ (ap (λ (xs : List ℕ). slice_get xs k) (append-nil first.numbers) ∙ found)) in
+    let its : here.0 ≡ i = sym (found ∙ here.3 i) in
     let next : suc k ≡ k + 1 = omega arith in
     let e : drop k first.numbers ≡ i ∷ left = here.2 ∙ (ap (λ (x : ℕ). x ∷ drop (suc k) first.numbers) its ∙ ap (λ (n : ℕ). i ∷ drop n first.numbers) next) in
     record {
@@ -68,9 +68,6 @@ timed_more first at before k now told i v told' within found timed is is_told =
           ∙ (ap (λ (u : World). (told ++ told_in now steps) ++ told_in u (timers u at left)) (sym is)
           ∙ ap (λ (os : List Outcome). os ++ told_in v (timers v at left)) (sym is_told)))));
     }
-  where
-    same_some : (a b : ℕ) → Some a ≡ Some b → a ≡ b
-    same_some a b s = cc
 
 pub timed_all : (first : World) (at : ℕ) (before : List Outcome) (k : ℕ) (now : World) (told : List Outcome) → length first.numbers ≤ k → IsTimed first at before k now told →
     (now ≡ run first (timers first at first.numbers)) × (told ≡ before ++ told_in first (timers first at first.numbers))

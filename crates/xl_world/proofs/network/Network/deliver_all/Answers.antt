@@ -1,0 +1,32 @@
+use Rattle.std.proofs.Common.{◌∙◌, List, ℕ, ap, arith, length, subst, sym}
+use Rattle.xl_world.specs.declared.sent.Sent.{Sent}
+use Rattle.xl_world.specs.World.{World, marked}
+use Rattle.xl_world.specs.Worlds.{network_seen}
+use Rattle.xl_world.proofs.Going.{IsDelivered, delivered_all, delivered_first, delivered_more}
+use Rattle.xl_world.proofs.network.Network.deliver_all.Goals as goal
+
+pub loop-place-init : goal.loop-place-init
+loop-place-init c =
+    let told = c.args.told.now.items in
+    subst (λ (k : ℕ). IsDelivered c.args.self.now c.args.at told k c.args.self.now told) (sym (c.mark-place.ensures.value ∙ ap (λ (w : World). w.mark) c.self.view_is))
+    (delivered_first c.args.self.now c.args.at told c.requires.rest)
+
+pub loop-place-preserved : goal.loop-place-preserved
+loop-place-preserved c =
+    delivered_more c.args.self.now c.args.at c.args.told.now.items c.loop-place.place c.loop-place.self c.loop-place.told.items c.deliver.new.self c.deliver.new.told.items
+    (omega (arith, c.loop-place-test.true, ap length c.as_slice-place-end.ensures, ap (λ (w : World). length w.sent) c.self.view_is))
+    c.loop-place.invariant c.in_ok-deliver.ensures.world c.in_ok-deliver.ensures.told
+
+pub returns-clause-world : goal.returns-clause-world
+returns-clause-world c =
+    let with_traffic = λ (frames : List Sent) (mark : ℕ). let w : World = record (network_seen c.self-2.inside) { sent = frames; mark = mark } in w in
+    ap (λ (frames : List Sent). with_traffic frames c.move_mark.new.self.mark) c.move_mark.ensures.frames
+    ∙ (ap (with_traffic c.self-2.inside.traffic.frames) c.move_mark.ensures.mark
+    ∙ (ap marked c.self-2.view_is
+    ∙ (delivered_all c.args.self.now c.args.at c.args.told.now.items c.loop-place.place c.loop-place.self c.loop-place.told.items
+    (omega (arith, c.loop-place-test.false, ap length c.as_slice-place-end.ensures, ap (λ (w : World). length w.sent) c.self.view_is)) c.loop-place.invariant).0))
+
+pub returns-clause-told : goal.returns-clause-told
+returns-clause-told c =
+    (delivered_all c.args.self.now c.args.at c.args.told.now.items c.loop-place.place c.loop-place.self c.loop-place.told.items
+    (omega (arith, c.loop-place-test.false, ap length c.as_slice-place-end.ensures, ap (λ (w : World). length w.sent) c.self.view_is)) c.loop-place.invariant).1

@@ -1,0 +1,41 @@
+use Rattle.std.proofs.Common.{◌≡◌, ◌∙◌, ℕ, Bool, List, ap, sym}
+use Rattle.std.specs.Prelude.{if◌then◌else◌}
+use Rattle.xl_base.specs.Counts.{one_more}
+use Rattle.xl_core.specs.declared.event.CoreEvent.TheVariants.{Frame}
+use Rattle.xl_world.specs.declared.place.Fate.TheVariants.{Kept}
+use Rattle.xl_world.specs.declared.place.Place.{Place}
+use Rattle.xl_world.specs.Emptying.{event_steps}
+use Rattle.xl_world.specs.Indexes.{Traffic}
+use Rattle.xl_world.specs.Seen.{forged_at, with_forged}
+use Rattle.xl_world.specs.World.{World, place_at, run}
+use Rattle.xl_world.specs.Worlds.{network_seen}
+use Rattle.xl_world.proofs.Acting.{counted_ran}
+use Rattle.xl_world.proofs.network.Network.hand_in.Goals as goal
+use Rattle.xl_world.proofs.network.Network.hand_in.Goals.{In_ok-act}
+
+-- looking for forged bytes changes nothing of the world
+same_world : (c : In_ok-act) → network_seen (record c.self.inside { traffic = c.is_forged-forged.new.traffic }) ≡ c.args.self.now
+same_world c =
+    ap (λ (t : Traffic). let w : World = record (network_seen c.self.inside) { sent = t.frames; mark = t.mark } in w) c.is_forged-forged.ensures.same ∙ c.self.view_is
+
+-- whether what comes is forged
+tested : (c : In_ok-act) → c.is_forged-forged.result ≡ forged_at c.args.self.now.liars c.args.self.now.sent c.args.bytes.now (place_at c.args.to c.args.self.now.places)
+tested c =
+    c.is_forged-forged.ensures.value
+    ∙ (ap (λ (liars : List ℕ). forged_at liars c.self.inside.traffic.frames c.args.bytes.now (place_at c.args.to c.deref-2.result.now)) c.deref.ensures.value
+    ∙ (ap (λ (places : List Place). forged_at c.self.inside.liars.items c.self.inside.traffic.frames c.args.bytes.now (place_at c.args.to places)) c.deref-2.ensures.value
+    ∙ ap (λ (w : World). forged_at w.liars w.sent c.args.bytes.now (place_at c.args.to w.places)) c.self.view_is))
+
+-- the world after the event, but for the count
+acted : (c : In_ok-act) → c.act.new.self ≡ with_forged c.args.self.now.forged (run c.args.self.now (event_steps c.args.self.now c.args.to (Frame c.args.at c.args.bytes.now) Kept))
+acted c = c.in_ok-act.ensures.world ∙ ap (λ (w : World). with_forged w.forged (run w (event_steps w c.args.to (Frame c.args.at c.args.bytes.now) Kept))) (same_world c)
+
+pub returns-clause-world : goal.returns-clause-world
+returns-clause-world c =
+    let d = (goal.at.returns-clause-world c).In_ok-act in
+    let w : World = c.args.self.now in
+    let before : c.self-2.inside.forged ≡ w.forged = ap (λ (v : World). v.forged) (c.self-2.view_is ∙ acted d) in
+    ap (with_forged c.counted-self-inside.result) (c.self-2.view_is ∙ acted d)
+    ∙ counted_ran w c.args.to c.args.at c.args.bytes.now c.counted-self-inside.result
+    (c.counted-self-inside.ensures
+    ∙ (ap (λ (n : ℕ). if c.is_forged-forged.result then one_more n else n) before ∙ ap (λ (b : Bool). if b then one_more w.forged else w.forged) (tested d)))
