@@ -1,5 +1,5 @@
 -- The state of the machine, as the definitions see it. Source: what the code of this crate keeps.
-use Rattle.std.specs.Prelude.{◌≤◌, ◌×◌}
+use Rattle.std.specs.Prelude.{◌≤◌}
 use Rattle.xl_base.specs.declared.moments.TheConstants.{GREATEST_MILLIS}
 use Rattle.xl_ledger.specs.declared.registry.TheConstants.{LEAST_LIMIT}
 use Rattle.xl_sched.specs.declared.limits.TheConstants.{MOST_LEDGERS}
