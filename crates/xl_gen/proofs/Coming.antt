@@ -1,28 +1,30 @@
 -- Events that come one after the other.
-use Rattle.std.proofs.Common.{◌≡◌, ℕ, suc, ◌+◌, ◌-◌, ◌≤◌, Bool, cond, List, [], ◌∷◌, ◌++◌, arith, refl, ap, sym, ◌∙◌, append_assoc, subst}
+use Rattle.std.proofs.Common.{◌≡◌, ℕ, suc, ◌+◌, ◌-◌, ◌≤◌, Bool, cond, List, [], ◌∷◌, ◌++◌, arith, refl, ap, sym, ◌∙◌, append_assoc, subst, Result, Ok, Err, OnOk}
 use Rattle.std.specs.Prelude.{map, count_by}
 use Rattle.std.specs.List.{flat_map}
 use Rattle.std.proofs.lemmas.Grind.{flat_map-append}
 use Rattle.std.proofs.lemmas.List.{append-nil, map-append}
-use Rattle.xl_lists.proofs.Counting.{count_by-cons}
+use Rattle.std.proofs.lemmas.List.Sums.{count_by-le-length, sum_by-append}
+use Rattle.xl_base.specs.declared.memory.OutOfMemory.{OutOfMemory}
 use Rattle.xl_sched.specs.declared.event.Event.{Event}
+use Rattle.xl_world.specs.declared.plan.PlanNode.{PlanNode}
+use Rattle.xl_world.specs.Plans.{up_from}
+use Rattle.xl_world.proofs.Numbers.{up_from_more}
 use Rattle.xl_world.specs.declared.outcome.Outcome.{Outcome}
 use Rattle.xl_world.specs.World.{World}
 use Rattle.xl_world.specs.Schedule.{after_event, outcomes}
 use Rattle.xl_gen.specs.declared.counts.Counts.{Counts}
 use Rattle.xl_gen.specs.declared.generator.Generator.{Generator}
-use Rattle.xl_gen.specs.Schedule.{after, told}
+use Rattle.xl_gen.specs.Schedule.{after, events_of, node_of, plan, told}
 use Rattle.xl_gen.specs.Summaries.{counted, is_built, is_refused, Comes}
 use Rattle.xl_replay.specs.Headlines.{is_full}
 
--- a count over two lists
+-- a count over two lists, and over none
 count_both : {X : Type 0} (p : X → Bool) (xs ys : List X) → count_by p (xs ++ ys) ≡ count_by p xs + count_by p ys
-count_both p [] ys = refl
-count_both p (x ∷ xs) ys =
-    let more = count_by-cons p x (xs ++ ys) in
-    let both = count_both p xs ys in
-    let one = count_by-cons p x xs in
-    omega (arith, more, both, one)
+count_both p xs ys = sum_by-append (λ x. cond (p x) 1 0) xs ys
+
+count_none : {X : Type 0} (p : X → Bool) → count_by p [] ≡ 0
+count_none p = let few = count_by-le-length p [] in omega (arith, few)
 
 -- these counts
 abbrev total : ℕ → ℕ → ℕ → Counts
@@ -41,6 +43,15 @@ counted_both c os ps =
     ∙ (ap (λ (n : ℕ). total (c.refused + count_by is_refused os + count_by is_refused ps) n (c.full + count_by is_full (os ++ ps))) built
     ∙ ap (λ (n : ℕ). total (c.refused + count_by is_refused os + count_by is_refused ps) (c.built + count_by is_built os + count_by is_built ps) n) full)
 
+pub counted_none : (c : Counts) → counted c [] ≡ c
+counted_none c =
+    let refused : c.refused + count_by is_refused [] ≡ c.refused = let none = count_none is_refused in omega (arith, none) in
+    let built : c.built + count_by is_built [] ≡ c.built = let none = count_none is_built in omega (arith, none) in
+    let full : c.full + count_by is_full [] ≡ c.full = let none = count_none is_full in omega (arith, none) in
+    ap (λ (n : ℕ). total n (c.built + count_by is_built []) (c.full + count_by is_full [])) refused
+    ∙ (ap (λ (n : ℕ). total c.refused n (c.full + count_by is_full [])) built
+    ∙ ap (λ (n : ℕ). total c.refused c.built n) full)
+
 -- the world after more events, and what is told of all
 pub after_both : (w : World) (es fs : List Event) → after w (es ++ fs) ≡ after (after w es) fs
 after_both w [] fs = refl
@@ -54,7 +65,7 @@ told_both w (e ∷ es) fs =
 
 -- no event
 pub come_none : (g : Generator) → Comes g g []
-come_none g = record { world = refl; counts = refl }
+come_none g = record { world = refl; counts = sym (counted_none g.counts) }
 
 -- one event
 pub come_one : (g h : Generator) (e : Event) (os : List Outcome) → h.world ≡ after_event g.world e → os ≡ outcomes g.world e → h.counts ≡ counted g.counts os → Comes g h (e ∷ [])
@@ -74,3 +85,48 @@ come_both g h i es fs first next = record {
       ∙ (sym (counted_both g.counts (told g.world es) (told (after g.world es) fs))
       ∙ ap (counted g.counts) (sym (told_both g.world es fs)))));
 }
+
+-- after which a last one is answered
+pub come_last : (g h i : Generator) (es fs : List Event) (r : Result (Unit {0}) OutOfMemory) → Comes g h es → OnOk r (Comes h i fs) → OnOk r (Comes g i (es ++ fs))
+come_last g h i es fs (Ok done) first next = come_both g h i es fs first next
+come_last g h i es fs (Err why) first next = tt
+
+-- one number more
+pub events_more : (n k : ℕ) → flat_map events_of (up_from n (suc k)) ≡ flat_map events_of (up_from n k) ++ events_of (n + k)
+events_more n k =
+    ap (flat_map events_of) (up_from_more n k)
+    ∙ (flat_map-append events_of (up_from n k) ((n + k) ∷ []) ∙ ap (λ xs. flat_map events_of (up_from n k) ++ xs) (append-nil (events_of (n + k))))
+
+-- the seconds before this one, and then this one
+pub come_second : (g h i : Generator) (m : ℕ) → 1 ≤ m → Comes g h (flat_map events_of (up_from 1 (m - 1))) → Comes h i (events_of m) → Comes g i (flat_map events_of (up_from 1 m))
+come_second g h i m least first next =
+    let at : 1 + (m - 1) ≡ m = omega (arith, least) in
+    let more : flat_map events_of (up_from 1 (suc (m - 1))) ≡ flat_map events_of (up_from 1 (m - 1)) ++ events_of m =
+    events_more 1 (m - 1) ∙ ap (λ (k : ℕ). flat_map events_of (up_from 1 (m - 1)) ++ events_of k) at in
+    let count : suc (m - 1) ≡ m = omega (arith, least) in
+    subst (λ (k : ℕ). Comes g i (flat_map events_of (up_from 1 k))) count
+    (subst (λ es. Comes g i es) (sym more) (come_both g h i (flat_map events_of (up_from 1 (m - 1))) (events_of m) first next))
+
+-- no second
+pub come_first : (g : Generator) → Comes g g (flat_map events_of (up_from 1 0))
+unfolding up_from
+come_first g = come_none g
+
+-- one node more
+pub nodes_more : (m : ℕ) (before now : List PlanNode) (node : PlanNode) → 1 ≤ m → before ≡ map node_of (up_from 1 (m - 1)) → now ≡ before ++ node ∷ [] → node ≡ node_of m → now ≡ map node_of (up_from 1 (m + 1 - 1))
+nodes_more m before now node least is more its =
+    let at : 1 + (m - 1) ≡ m = omega (arith, least) in
+    let count : m + 1 - 1 ≡ suc (m - 1) = omega (arith, least) in
+    more ∙ (ap (λ (xs : List PlanNode). xs ++ node ∷ []) is
+    ∙ (ap (λ (d : PlanNode). map node_of (up_from 1 (m - 1)) ++ d ∷ []) (its ∙ ap node_of (sym at))
+    ∙ (sym (map-append node_of (up_from 1 (m - 1)) ((1 + (m - 1)) ∷ []))
+    ∙ (ap (map node_of) (sym (up_from_more 1 (m - 1))) ∙ ap (λ (k : ℕ). map node_of (up_from 1 k)) (sym count)))))
+
+-- none at first, and seven at last
+pub nodes_first : [] ≡ map node_of (up_from 1 0)
+unfolding up_from
+nodes_first = refl
+
+pub nodes_last : map node_of (up_from 1 7) ≡ plan
+unfolding up_from
+nodes_last = refl

@@ -1,11 +1,11 @@
 -- What the summary says of the reports of the schedule's world.
-use Rattle.std.proofs.Common.{◌≡◌, ◌≢◌, ℕ, ◌≤◌, Bool, true, List, [], ◌∷◌, ◌++◌, append_assoc, refl, arith, ap, sym, ◌∙◌, Option, Some, None, subst, absurd}
+use Rattle.std.proofs.Common.{◌≡◌, ◌≢◌, ℕ, ◌≤◌, Bool, true, List, [], ◌∷◌, ◌++◌, append_assoc, refl, arith, ap, sym, ◌∙◌, Option, Some, None, subst}
 use Rattle.std.specs.Prelude.{◌==◌, All, Contains, filter, find, map, option_map}
 use Rattle.std.proofs.lemmas.Bool.{cond_both}
-use Rattle.std.proofs.lemmas.List.Elements.{All-contains, All-cons, All-nil}
+use Rattle.std.proofs.lemmas.List.Elements.{All-contains, All-map, All-weaker}
 use Rattle.xl_lists.specs.declared.report.Report.{Report as Reported}
-use Rattle.xl_lists.specs.Lists.{TrustedList}
-use Rattle.xl_lists.specs.Quorums.{Enough}
+use Rattle.xl_lists.specs.Lists.{IsValid, TrustedList}
+use Rattle.xl_lists.specs.Quorums.{Enough, bound_of}
 use Rattle.xl_sched.specs.declared.event.Event.{Event}
 use Rattle.xl_sched.specs.Reading.{opened}
 use Rattle.xl_world.specs.declared.plan.PlanNode.{PlanNode}
@@ -21,12 +21,14 @@ use Rattle.xl_world.proofs.Runs.{run-append}
 use Rattle.xl_replay.specs.declared.replayer.TheConstants.{DEFAULT_LIMIT}
 use Rattle.xl_replay.specs.Headlines.{full_of, is_full}
 use Rattle.xl_replay.specs.Texts.{agreement_line, forged_line, short_lines}
+use Rattle.xl_replay.proofs.Declaring.{unrefused}
 use Rattle.xl_replay.proofs.Telling.{Adds, adds_none, adds_then, event_adds}
+use Rattle.xl_gen.specs.declared.counts.Counts.{Counts}
 use Rattle.xl_gen.specs.Schedule.{after, at_first, events, everyone, list, node_of, plan, told}
-use Rattle.xl_gen.specs.Summaries.{IsSummary, at_last, counted, counts_text, nothing_told}
+use Rattle.xl_gen.specs.Summaries.{IsSummary, at_last, counted, counts_text, nothing_told, summary_of}
 
 -- events are steps
-steps_in : World → List Event → List Step
+abbrev steps_in : World → List Event → List Step
 steps_in w [] = []
 steps_in w (e ∷ es) = steps_of w e ++ steps_in (after_event w e) es
 
@@ -48,33 +50,50 @@ its_list (n ∷ ns) i a at =
     cond_both (n == i) (Some (node_of n)) (find (λ d. d.me == i) (map node_of ns)) (λ o. option_map (λ d. d.list) o ≡ Some a → a ≡ list)
     (λ _ is. cc) (λ _ there. its_list ns i a there) at
 
+valid : IsValid list
+valid = unrefused everyone 6 refl
+
+declared_of : (n : ℕ) → 1 ≤ n → n ≤ 64 → IsDeclared (node_of n)
+declared_of n least greatest = record { least = least; greatest = greatest; list = valid }
+
 are_declared : AreDeclared plan
-are_declared = ?
+are_declared = All-map IsDeclared node_of everyone (All-weaker (λ n. (1 ≤ n) × (n ≤ 64)) (λ n. IsDeclared (node_of n)) (λ n range. declared_of n range.0 range.1) everyone valid.numbers)
 
 enough : Enough [] list list
-enough = ?
+enough = let bound : bound_of [] list list ≡ 7 = refl in omega (arith, bound)
 
--- no two reports of such a run fork
-no_fork : (steps : List Step) → (run (start DEFAULT_LIMIT [] plan) steps).forged ≡ 0 → first_fork (run (start DEFAULT_LIMIT [] plan) steps).reports ≡ None
-no_fork steps none = by_fork (first_fork w.reports) refl where
-  w : World
-  w = run (start DEFAULT_LIMIT [] plan) steps
-  has : HasLists plan w
-  has = run_lists plan (start DEFAULT_LIMIT [] plan) steps (start_lists DEFAULT_LIMIT [] plan)
-  at_its : (r : Reported) → Contains w.reports r → list_at plan r.node ≡ Some list
-  at_its r among =
-      let under = All-contains (λ x. list_at plan x.node ≡ Some x.list) w.reports r has.reports among in
-      under ∙ ap (λ (a : TrustedList). Some a) (its_list everyone r.node r.list under)
-  same : (r q : Reported) → Contains w.reports r → Contains w.reports q → r.seq ≡ q.seq → r.id ≡ q.id
-  same r q has_r has_q one =
-      let agree : AgreeAt w.reports r.node q.node = core_headline DEFAULT_LIMIT [] plan steps r.node q.node list list are_declared (at_its r has_r) (at_its q has_q) enough none in
-      All-contains (λ x. r.node ≡ r.node → x.node ≡ q.node → r.seq ≡ x.seq → r.id ≡ x.id) w.reports q
-      (All-contains (λ y. All (λ x. y.node ≡ r.node → x.node ≡ q.node → y.seq ≡ x.seq → y.id ≡ x.id) w.reports) w.reports r agree has_r) has_q refl refl one
-  by_fork : (o : Option Fork) → first_fork w.reports ≡ o → o ≡ None
-  by_fork None at = refl
-  by_fork (Some f) at =
-      let fork : IsFork w.reports f = fork_differs w.reports f at in
-      absurd (fork.two_ids (same f.earlier f.later fork.has_earlier fork.has_later fork.one_seq))
+-- a run of the seven
+abbrev seven : List Step → World
+seven steps = run (start DEFAULT_LIMIT [] plan) steps
+
+-- who reports in it has the one list
+reporter_list : (steps : List Step) (r : Reported) → Contains (seven steps).reports r → list_at plan r.node ≡ Some list
+reporter_list steps r among =
+    let has : HasLists plan (seven steps) = run_lists plan (start DEFAULT_LIMIT [] plan) steps (start_lists DEFAULT_LIMIT [] plan) in
+    let under : list_at plan r.node ≡ Some r.list = All-contains (λ x. list_at plan x.node ≡ Some x.list) (seven steps).reports r has.reports among in
+    under ∙ ap (λ (a : TrustedList). Some a) (its_list everyone r.node r.list under)
+
+-- two reports of one sequence have one id
+one_id : (steps : List Step) → (seven steps).forged ≡ 0 → (r q : Reported) → Contains (seven steps).reports r → Contains (seven steps).reports q → r.seq ≡ q.seq → r.id ≡ q.id
+one_id steps none r q has_r has_q one =
+    let agree : AgreeAt (seven steps).reports r.node q.node =
+    core_headline DEFAULT_LIMIT [] plan steps r.node q.node list list are_declared (reporter_list steps r has_r) (reporter_list steps q has_q) enough none in
+    All-contains (λ x. r.node ≡ r.node → x.node ≡ q.node → r.seq ≡ x.seq → r.id ≡ x.id) (seven steps).reports q
+    (All-contains (λ y. All (λ x. y.node ≡ r.node → x.node ≡ q.node → y.seq ≡ x.seq → y.id ≡ x.id) (seven steps).reports) (seven steps).reports r agree has_r) has_q refl refl one
+
+-- so it has no fork
+no_fork_in : (steps : List Step) → (seven steps).forged ≡ 0 → (o : Option Fork) → first_fork (seven steps).reports ≡ o → o ≡ None
+no_fork_in steps none None at = refl
+no_fork_in steps none (Some f) at =
+    let fork : IsFork (seven steps).reports f = fork_differs (seven steps).reports f at in
+    absurd (fork.two_ids (one_id steps none f.earlier f.later fork.has_earlier fork.has_later fork.one_seq))
+
+no_fork : (steps : List Step) → (seven steps).forged ≡ 0 → first_fork (seven steps).reports ≡ None
+no_fork steps none = no_fork_in steps none (first_fork (seven steps).reports) refl
+
+-- the parts of a summary
+parts : (rounds : ℕ) (w : World) (c : Counts) → summary_of rounds w c ≡ (counts_text rounds w c ++ short_lines w) ++ (forged_line w.forged ++ agreement_line opened.names (first_fork w.reports))
+parts rounds w c = sym (append_assoc (counts_text rounds w c) (short_lines w) (forged_line w.forged ++ agreement_line opened.names (first_fork w.reports)))
 
 pub summarized : (rounds : ℕ) → IsSummary rounds
 summarized rounds =
@@ -84,8 +103,8 @@ summarized rounds =
     record {
       reports = w.reports;
       forged = w.forged;
-      front = counts_text rounds w (counted nothing_told (told at_first (events rounds))) ++ short_lines w;
-      written = sym (append_assoc (counts_text rounds w (counted nothing_told (told at_first (events rounds)))) (short_lines w) (forged_line w.forged ++ agreement_line opened.names (first_fork w.reports)));
+      front = counts_text rounds (at_last rounds) (counted nothing_told (told at_first (events rounds))) ++ short_lines (at_last rounds);
+      written = parts rounds (at_last rounds) (counted nothing_told (told at_first (events rounds)));
       says = refl;
       fulls = adds.told ∙ ap (map full_of) (sym adds.reports);
       agree = λ none.

@@ -1,6 +1,6 @@
 -- The schedule that is made for a number of rounds: seven nodes that trust each other, a timer at each once a second,
 -- and a transaction for each round that only three of them have at first. Source: this project's own.
-use Rattle.std.specs.Prelude.{ℕ, ◌+◌, ◌*◌, ◌/◌, ◌%◌, ◌==◌, ◌&&◌, nat_le, List, [], ◌∷◌, ◌++◌, map, length, replicate, if◌then◌else◌}
+use Rattle.std.specs.Prelude.{ℕ, ◌+◌, ◌*◌, ◌/◌, ◌%◌, ◌==◌, ◌&&◌, nat_le, List, [], ◌∷◌, ◌++◌, map, length, replicate, true, if◌then◌else◌}
 use Rattle.std.specs.Int.{w32, to_be_bytes}
 use Rattle.std.specs.List.{flat_map}
 use Rattle.xl_base.specs.declared.ids.TxId.{TxId}
@@ -29,7 +29,7 @@ tx_of number = record { 0 = replicate 28 0 ++ to_be_bytes w32 number }
 
 -- the seven, who trust each other, with the usual quorum
 abbrev pub everyone : List ℕ
-everyone = up_from 1 7
+everyone = 1 ∷ 2 ∷ 3 ∷ 4 ∷ 5 ∷ 6 ∷ 7 ∷ []
 
 abbrev pub list : TrustedList
 list = record { members = everyone; quorum = 6 }
@@ -40,24 +40,27 @@ node_of me = record { me = me; list = list; validating = true; moment = FIRST_MO
 abbrev pub plan : List PlanNode
 plan = map node_of everyone
 
--- a transaction is submitted at the nodes up to a number
-abbrev pub submits : ℕ → ℕ → List What
-submits nodes number = map (λ node. Submit node (tx_of number)) (up_from 1 nodes)
+-- the transaction of a number is submitted at nodes
+abbrev pub submits : List ℕ → ℕ → List What
+submits nodes number = map (λ node. Submit node (tx_of number)) nodes
 
 -- what is submitted in a second: the first transaction at one node, and in the second in which a round closes the one
 -- of the next round at three
 abbrev pub submitted : ℕ → List What
 submitted second =
-    if second == 1 then submits 1 1
-    else if nat_le 8 second && second % 4 == 0 then submits 3 (second / 4)
+    if second == 1 then submits (1 ∷ []) 1
+    else if nat_le 8 second && second % 4 == 0 then submits (1 ∷ 2 ∷ 3 ∷ []) (second / 4)
     else []
 
 -- what happens in a second: then all have a timer, and all that is sent arrives
 abbrev pub happening : ℕ → List What
 happening second = submitted second ++ Timers ∷ All ∷ []
 
+abbrev pub event_at : ℕ → What → Event
+event_at at what = record { at = at; what = what }
+
 abbrev pub events_at : ℕ → List What → List Event
-events_at at whats = map (λ what. record { at = at; what = what }) whats
+events_at at whats = map (event_at at) whats
 
 abbrev pub events_of : ℕ → List Event
 events_of second = events_at (moment_of second) (happening second)

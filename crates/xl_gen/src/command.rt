@@ -1,12 +1,12 @@
 // A whole run of `xl gen`.
-ghost use Rattle.std.specs.Prelude.{◌≡◌, ◌≤◌, ◌⊎◌, [], ◌++◌};
+ghost use Rattle.std.specs.Prelude.{◌≡◌, ◌≤◌, ◌⊎◌, [], IfOk};
 ghost use Rattle.std.specs.String.{string_bytes};
 ghost use Rattle.xl_base.specs.Faults.{Rose};
 ghost use Rattle.xl_io.specs.Sinks.{GrewByFront};
 ghost use Rattle.xl_lines.specs.Running.{TellsAll};
 ghost use Rattle.xl_lines.specs.Rules.{closes};
 ghost use Rattle.xl_replay.specs.Statuses.{IsWritten, status_of};
-ghost use Rattle.xl_gen.specs.Summaries.{IsSummary, summary};
+ghost use Rattle.xl_gen.specs.Summaries.{IsGenerated, IsSummary, summary};
 
 use crate::generator::Generator;
 use crate::summary::push_summary;

@@ -1,5 +1,5 @@
 // How many outcomes of a kind were told.
-ghost use Rattle.std.specs.Prelude.{◌≡◌, count_by, IfOk};
+ghost use Rattle.std.specs.Prelude.{◌≡◌, ◌+◌, count_by, IfOk};
 ghost use Rattle.xl_replay.specs.Headlines.{is_full};
 ghost use Rattle.xl_gen.specs.Summaries.{counted, is_built, is_refused};
 

@@ -1,6 +1,7 @@
 // The schedule, made and replayed event by event.
 ghost use Rattle.std.specs.Prelude.{◌≡◌, ◌≤◌, [], ◌∷◌, IfOk, OnOk};
 ghost use Rattle.xl_base.specs.declared.moments.TheConstants.{GREATEST_MILLIS};
+ghost use Rattle.xl_base.specs.declared.node_no.TheConstants.{GREATEST_NODE_NO};
 ghost use Rattle.xl_gen.specs.Schedule.{
   at_first,
   events,
@@ -29,7 +30,8 @@ use xl_world::{Plan, PlanNode, World};
 /// The nodes are opened at this moment.
 pub const FIRST_MOMENT: Millis = 800_000_000_000;
 
-const NUMBERS: [u32; 7] = [1, 2, 3, 4, 5, 6, 7];
+/// So many nodes there are.
+const NODES: u32 = 7;
 
 const QUORUM: u32 = 6;
 
@@ -48,14 +50,16 @@ pub struct Generator {
 fn everyone() -> List
     ensures { result ≡ list }
 {
-    List::new(&NUMBERS, QUORUM).unwrap()
+    List::new(&[1, 2, 3, 4, 5, 6, 7], QUORUM).unwrap()
 }
 
-fn node(me: NodeNo) -> PlanNode
-    ensures { result ≡ node_of me }
+fn node(number: u32) -> PlanNode
+    requires least { 1 ≤ number }
+    requires most { number ≤ GREATEST_NODE_NO }
+    ensures { result ≡ node_of number }
 {
     PlanNode {
-        me,
+        me: NodeNo::new(number).unwrap(),
         list: everyone(),
         validating: true,
         moment: FIRST_MOMENT,
@@ -69,8 +73,8 @@ fn plan(alloc: Global) -> Result<Plan, OutOfMemory>
     ensures limit { IfOk result (λ plan. plan.limit ≡ DEFAULT_LIMIT) }
 {
     let mut nodes = Vec::new(alloc);
-    for number in NUMBERS {
-        nodes.push(node(NodeNo::new(number).unwrap()))?;
+    for number in 1..=NODES {
+        nodes.push(node(number))?;
     }
     Ok(Plan {
         nodes,
@@ -125,18 +129,26 @@ impl Generator {
         Ok(())
     }
 
-    /// The transaction of a number is submitted at the nodes up to one.
-    fn submit(&mut self, at: Millis, nodes: u32, number: u32) -> Result<(), OutOfMemory>
+    /// The transaction of a number is submitted at a node.
+    fn submit(&mut self, at: Millis, node: u32, number: u32) -> Result<(), OutOfMemory>
         requires moment { at ≤ GREATEST_MILLIS }
-        requires nodes { nodes ≤ 7 }
-        ensures { OnOk result (Comes self.old self.new (events_at at (submits nodes number))) }
+        requires least { 1 ≤ node }
+        requires most { node ≤ GREATEST_NODE_NO }
+        ensures { OnOk result (Comes self.old self.new (events_at at (submits (node ∷ []) number))) }
     {
+        let node = NodeNo::new(node).unwrap();
         let tx = tx(number);
-        for node in 1..=nodes {
-            let node = NodeNo::new(node).unwrap();
-            self.happen(at, What::Submit { node, tx })?;
-        }
-        Ok(())
+        self.happen(at, What::Submit { node, tx })
+    }
+
+    /// The transaction of a number is submitted at the first three nodes.
+    fn submit_at_three(&mut self, at: Millis, number: u32) -> Result<(), OutOfMemory>
+        requires moment { at ≤ GREATEST_MILLIS }
+        ensures { OnOk result (Comes self.old self.new (events_at at (submits (1 ∷ 2 ∷ 3 ∷ []) number))) }
+    {
+        self.submit(at, 1, number)?;
+        self.submit(at, 2, number)?;
+        self.submit(at, 3, number)
     }
 
     /// What is submitted in a second.
@@ -147,7 +159,7 @@ impl Generator {
         if second == 1 {
             self.submit(at, 1, 1)
         } else if second >= 8 && second % 4 == 0 {
-            self.submit(at, 3, second / 4)
+            self.submit_at_three(at, second / 4)
         } else {
             Ok(())
         }
@@ -169,7 +181,7 @@ impl Generator {
         requires { rounds ≤ MOST_ROUNDS }
         ensures { OnOk result (Comes self.old self.new (events rounds)) }
     {
-        for second in 1..=4 * rounds + 7 {
+        for second in 1..4 * rounds + 8 {
             self.pass(second)?;
         }
         Ok(())

@@ -36,7 +36,7 @@ fn lines(rounds: u32) -> u32
     ensures { result ≡ 1 + length (lines_of_schedule rounds) }
 {
     let mut count = 9;
-    for second in 1..=4 * rounds + 7 {
+    for second in 1..4 * rounds + 8 {
         count += second_lines(second);
     }
     count

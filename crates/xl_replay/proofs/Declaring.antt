@@ -59,7 +59,7 @@ not_false true h = refl
 not_false false h = cc
 
 -- what no cause refuses is a list
-unrefused : (members : List ℕ) (quorum : ℕ) → refusal_of members quorum ≡ None → IsValid (record { members = members; quorum = quorum })
+pub unrefused : (members : List ℕ) (quorum : ℕ) → refusal_of members quorum ≡ None → IsValid (record { members = members; quorum = quorum })
 unrefused members quorum none =
     let a = or_none (refused_if (length members == 0) Empty) _ none in
     let b = or_none (refused_if (nat_lt 64 (length members)) (TooMany (length members))) _ a.1 in
