@@ -1,6 +1,6 @@
 -- How the code drains for one number: a drain at a time, until one gives nothing; and what it gives is whole frames.
-use Rattle.std.proofs.Common.{◌≡◌, ◌≢◌, ℕ, zero, suc, ◌+◌, ◌<◌, ◌≤◌, Bool, true, false, List, [], ◌∷◌, ◌++◌, length, get_or, take, drop, map, refl, arith, ap, sym, ◌∙◌, subst, Option, Some, None, append_assoc, append-nil}
-use Rattle.std.specs.Prelude.{◌==◌, All, IfSome, IsSome, is_some, if◌then◌else◌, not}
+use Rattle.std.proofs.Common.{◌≡◌, ℕ, zero, suc, ◌+◌, ◌<◌, ◌≤◌, Bool, true, false, List, [], ◌∷◌, ◌++◌, length, get_or, take, drop, map, refl, arith, ap, sym, ◌∙◌, subst, Option, Some, None, append_assoc, append-nil}
+use Rattle.std.specs.Prelude.{◌==◌, All, IfSome, if◌then◌else◌, not}
 use Rattle.std.specs.Option.{option_and_then}
 use Rattle.std.proofs.lemmas.Bool.{cond_both, cond-true, cond-false, eq-eqb}
 use Rattle.std.proofs.lemmas.Bool.Decides.{nat_tests}
@@ -34,9 +34,7 @@ use Rattle.xl_world.specs.Emptying.{after_events, drained_once, drains, drains_f
 use Rattle.xl_world.specs.Indexes.{Traffic, with_frame, with_frames}
 use Rattle.xl_world.specs.Seen.{AreFrames, IsFirstFrame, sent_from}
 use Rattle.xl_world.specs.World.{sent_in}
-use Rattle.xl_tags.specs.Rings.{key_of, schedule_ring}
 use Rattle.xl_world.proofs.Emptying.{drains_are, node_still}
-use Rattle.xl_world.proofs.Lying.{key_of_another}
 use Rattle.xl_world.proofs.Shortening.{fewer_left}
 
 -- FRAMES
@@ -280,10 +278,6 @@ drained_past numbers k before core sent now m k_in is mine so =
       gives = so.gives ∙ ap (λ (ms : List ℕ). with_frames sent (given_by before (drains_in_turn before ms))) (sym same);
       node = so.node;
     }
-
--- another member is a peer of a schedule's member
-pub peer_of : (me m : ℕ) → 1 ≤ m → m ≤ 64 → m ≢ me → IsSome (key_of (schedule_ring me) m)
-peer_of me m least most other = ap is_some (key_of_another me m least most other)
 
 -- what fills bytes is something
 pub some_given : (fs : List (List ℕ)) (count : ℕ) (room : List ℕ) → 0 < count → count ≤ length room → take count room ≡ joined fs → length fs ≡ 0 → ⊥
