@@ -1,9 +1,7 @@
 -- An event whose save is cut off: what was tried ends with the node, which is opened again as it would have been before.
-use Rattle.std.proofs.Common.{◌≡◌, ℕ, Bool, false, List, [], ◌∷◌, ◌++◌, refl, ap, sym, ◌∙◌, Option, Some, None, Result, Ok, Err, append-nil}
+use Rattle.std.proofs.Common.{◌≡◌, ℕ, Bool, false, List, [], ◌∷◌, refl, ap, sym, ◌∙◌, Option, Some, None, Result, Ok, Err, append-nil}
 use Rattle.std.specs.Prelude.{OnOk, option_map, option_to_list}
-use Rattle.xl_lists.specs.Lists.{TrustedList}
 use Rattle.xl_io.specs.Keepers.{may_hold}
-use Rattle.xl_tags.specs.Rings.{Ring}
 use Rattle.xl_core.specs.Core.{Core, CoreReply, core_asks, core_happens, with_queues}
 use Rattle.xl_core.specs.Node as nodes
 use Rattle.xl_core.specs.Node.{Node, Save, opened, settings_of}
@@ -17,14 +15,14 @@ use Rattle.xl_sched.specs.declared.event.What.TheVariants as what
 use Rattle.xl_world.specs.declared.act.NodeAnswer.{NodeAnswer}
 use Rattle.xl_world.specs.declared.outcome.Outcome.{Outcome}
 use Rattle.xl_world.specs.declared.place.Fate.{Fate}
-use Rattle.xl_world.specs.declared.place.Fate.TheVariants.{Kept, Unwritten}
+use Rattle.xl_world.specs.declared.place.Fate.TheVariants.{Kept}
 use Rattle.xl_world.specs.declared.place.Keeper.{Keeper}
 use Rattle.xl_world.specs.declared.place.Place.{Place}
 use Rattle.xl_world.specs.Emptying.{event_steps}
 use Rattle.xl_world.specs.Keeper.{after_save, answer_of, found, held_by, left_by, restored}
 use Rattle.xl_world.specs.Schedule.{cut_at, cut_short, cut_steps, event_asked, node_asked, outcomes_at, restart, steps_at, told_in, told_of_reply}
 use Rattle.xl_world.specs.Seen.{Answers, AnswersAt, acted_at, keeper_in, noted, outcomes_told, place_after, place_again, put_acted, put_again, with_forged, with_places}
-use Rattle.xl_world.specs.World.{Again, Step, Torn, World, core_again, is_forged, keeper_after, moment_in, place_at, put, reply_at, run, sent_in, step}
+use Rattle.xl_world.specs.World.{Again, Step, World, is_forged, keeper_after, moment_in, place_at, put, reply_at, run, sent_in, step}
 use Rattle.xl_world.proofs.Acting.{asked_fair, noted_ran}
 use Rattle.xl_world.proofs.Emptying.{emptied, emptied_acts, emptied_node, emptied_then, event_ran}
 use Rattle.xl_world.proofs.Keeping.{happens_keeps}

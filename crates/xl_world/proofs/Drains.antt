@@ -1,23 +1,22 @@
 -- How the code drains for one number: a drain at a time, until one gives nothing; and what it gives is whole frames.
-use Rattle.std.proofs.Common.{◌≡◌, ℕ, zero, suc, ◌+◌, ◌<◌, ◌≤◌, Bool, true, false, List, [], ◌∷◌, ◌++◌, length, get_or, take, drop, map, refl, arith, ap, sym, ◌∙◌, subst, Option, Some, None, append_assoc, append-nil}
+use Rattle.std.proofs.Common.{◌≡◌, ℕ, zero, suc, ◌+◌, ◌<◌, ◌≤◌, true, false, List, [], ◌∷◌, ◌++◌, length, get_or, take, drop, map, refl, arith, ap, sym, ◌∙◌, subst, Option, Some, None, append_assoc, append-nil}
 use Rattle.std.specs.Prelude.{◌==◌, All, IfSome, if◌then◌else◌, not}
 use Rattle.std.specs.Option.{option_and_then}
 use Rattle.std.proofs.lemmas.Bool.{cond_both, cond-true, cond-false, eq-eqb}
 use Rattle.std.proofs.lemmas.Bool.Decides.{nat_tests}
 use Rattle.std.proofs.lemmas.List.{drop-drop, drop_at, length-take, nil_from_length, take_at, take_more}
 use Rattle.std.proofs.lemmas.List.Elements.{All-append, All-cons, All-head, All-nil, All-tail}
-use Rattle.xl_queues.specs.Queues.{Backlog}
 use Rattle.xl_wire.specs.Frames.{raw_of}
-use Rattle.xl_wire.specs.Heads.{Split, split_of}
-use Rattle.xl_wire.specs.Heads.Split.{Whole, Need, Refused}
+use Rattle.xl_wire.specs.Heads.{split_of}
+use Rattle.xl_wire.specs.Heads.Split.{Whole}
 use Rattle.xl_wire.specs.Kinds.{span}
-use Rattle.xl_wire.specs.Raws.{RawFrame, SpellsRaw, raw_bytes}
+use Rattle.xl_wire.specs.Raws.{RawFrame, SpellsRaw}
 use Rattle.xl_wire.specs.declared.body.Body.{Body}
 use Rattle.xl_wire.specs.declared.lengths.TheConstants.{LONGEST_FRAME}
 use Rattle.xl_wire.proofs.RawLaws.{length-raw_bytes, split_again}
 use Rattle.xl_tags.specs.Sealing.{sealed}
 use Rattle.xl_core.specs.Answers.{given_in}
-use Rattle.xl_core.specs.Core.{Core, CoreReply, all_frames, core_happens, given_for, greeted_frames}
+use Rattle.xl_core.specs.Core.{Core, CoreReply, all_frames, core_happens, greeted_frames}
 use Rattle.xl_core.specs.Greetings.{greeting_at, greeting_frames, yet_to_hand}
 use Rattle.xl_core.specs.Items.{body_in, frame_of, framed, frames_for, header_body_at}
 use Rattle.xl_core.specs.Node.{Node}
