@@ -1,9 +1,7 @@
 -- An event whose save is cut off: what was tried ends with the node, which is opened again as it would have been before.
-use Rattle.std.proofs.Common.{◌≡◌, ℕ, Bool, false, List, [], ◌∷◌, ◌++◌, refl, ap, sym, ◌∙◌, Option, Some, None, Result, Ok, Err, append-nil}
+use Rattle.std.proofs.Common.{◌≡◌, ℕ, Bool, false, List, [], ◌∷◌, refl, ap, sym, ◌∙◌, Option, Some, None, Result, Ok, Err, append-nil}
 use Rattle.std.specs.Prelude.{OnOk, option_map, option_to_list}
-use Rattle.xl_lists.specs.Lists.{TrustedList}
 use Rattle.xl_io.specs.Keepers.{may_hold}
-use Rattle.xl_tags.specs.Rings.{Ring}
 use Rattle.xl_core.specs.Core.{Core, CoreReply, core_asks, core_happens, with_queues}
 use Rattle.xl_core.specs.Node as nodes
 use Rattle.xl_core.specs.Node.{Node, Save, opened, settings_of}
@@ -17,15 +15,15 @@ use Rattle.xl_sched.specs.declared.event.What.TheVariants as what
 use Rattle.xl_world.specs.declared.act.NodeAnswer.{NodeAnswer}
 use Rattle.xl_world.specs.declared.outcome.Outcome.{Outcome}
 use Rattle.xl_world.specs.declared.place.Fate.{Fate}
-use Rattle.xl_world.specs.declared.place.Fate.TheVariants.{Kept, Unwritten}
+use Rattle.xl_world.specs.declared.place.Fate.TheVariants.{Kept}
 use Rattle.xl_world.specs.declared.place.Keeper.{Keeper}
 use Rattle.xl_world.specs.declared.place.Place.{Place}
 use Rattle.xl_world.specs.Emptying.{event_steps}
 use Rattle.xl_world.specs.Keeper.{after_save, answer_of, found, held_by, left_by, restored}
 use Rattle.xl_world.specs.Schedule.{cut_at, cut_short, cut_steps, event_asked, node_asked, outcomes_at, restart, steps_at, told_in, told_of_reply}
 use Rattle.xl_world.specs.Seen.{Answers, AnswersAt, acted_at, keeper_in, noted, outcomes_told, place_after, place_again, put_acted, put_again, with_forged, with_places}
-use Rattle.xl_world.specs.World.{Again, Step, Torn, World, core_again, is_forged, keeper_after, moment_in, place_at, put, reply_at, run, sent_in, step}
-use Rattle.xl_world.proofs.Acting.{noted_ran}
+use Rattle.xl_world.specs.World.{Again, Step, World, is_forged, keeper_after, moment_in, place_at, put, reply_at, run, sent_in, step}
+use Rattle.xl_world.proofs.Acting.{asked_fair, noted_ran}
 use Rattle.xl_world.proofs.Emptying.{emptied, emptied_acts, emptied_node, emptied_then, event_ran}
 use Rattle.xl_world.proofs.Keeping.{happens_keeps}
 use Rattle.xl_world.proofs.Lists.{core_keeps}
@@ -148,10 +146,6 @@ asked_moment : (at : ℕ) (ask : Ask) → moment_in (event_asked at ask) ≡ at
 asked_moment at (ask.Issue node seq id full) = refl
 asked_moment at (ask.Timer node) = refl
 
-asked_fair : (w : World) (n : Node) (at : ℕ) (ask : Ask) → is_forged w n (event_asked at ask) ≡ false
-asked_fair w n at (ask.Issue node seq id full) = refl
-asked_fair w n at (ask.Timer node) = refl
-
 same_keeper : (k x : Keeper) → Some k ≡ Some x → k ≡ x
 same_keeper k x e = cc
 
@@ -197,7 +191,7 @@ cuts_none w v at new a_ask i e fate k a its is held answers asked unsent noted_s
     by_place (Some p) here kept is_answer =
         let same : k ≡ p.keeper = same_keeper k p.keeper kept in
         let asks : core_asks p.core e ≡ None = sym is_answer.1 ∙ asked in
-        let fair : is_forged w p.core.node e ≡ false = ap (is_forged w p.core.node) is ∙ asked_fair w p.core.node at a_ask in
+        let fair : is_forged w p.core.node e ≡ false = ap (is_forged w p.core.node) is ∙ asked_fair at a_ask w p.core.node in
         let cut : cut_steps w at new i e ≡ steps_at w at (what.Cut new a_ask) = ap (λ (j : ℕ). cut_steps w at new j e) its ∙ ap (λ (x : CoreEvent). cut_steps w at new (node_asked a_ask) x) is in
         record {
           world = ap (λ (x : Keeper). with_places v (put_again at (restored x (found x)) (place_at i v.places) v.places)) same

@@ -1,6 +1,6 @@
 -- What happens at a core whose keeper's save meets a fate: the core, what is said of it, and the keeper.
-use Rattle.std.proofs.Common.{◌≡◌, ◌≢◌, ℕ, ◌≤◌, Bool, true, false, List, [], length, refl, arith, ap, sym, ◌∙◌, subst, Option, Some, None, Result, Ok, Err}
-use Rattle.std.specs.Prelude.{◌==◌, ◌&&◌, IfSome, IsSome, is_some, nat_le, nat_lt, not, option_map, option_to_list, unwrap_or, if◌then◌else◌}
+use Rattle.std.proofs.Common.{◌≡◌, ◌≢◌, ℕ, ◌≤◌, Bool, true, false, List, [], refl, ap, sym, ◌∙◌, Option, Some, None, Result, Ok, Err}
+use Rattle.std.specs.Prelude.{◌==◌, IfSome, IsSome, is_some, nat_lt, option_map, option_to_list, unwrap_or}
 use Rattle.std.proofs.lemmas.Bool.{cond_both}
 use Rattle.xl_base.specs.declared.ids.LedgerId.{LedgerId}
 use Rattle.xl_ledger.specs.Chains.{seq_at, id_at}
@@ -16,9 +16,8 @@ use Rattle.xl_rounds.specs.declared.pulse.Kind.{Kind}
 use Rattle.xl_rounds.specs.declared.pulse.Kind.TheVariants as kind
 use Rattle.xl_rounds.specs.declared.pulse.Said.{Said}
 use Rattle.xl_tags.specs.Rings.{key_of, schedule_ring}
-use Rattle.xl_wire.specs.declared.validation.Validation.{Validation}
-use Rattle.xl_core.specs.Answers.{Answer, Beats, Done as AnsweredDone, Refused, Took, refusal_in}
-use Rattle.xl_core.specs.Building.{Knowing, alone, how_issued, knowing, said_items}
+use Rattle.xl_core.specs.Answers.{Answer, Beats, Done as AnsweredDone, refusal_in}
+use Rattle.xl_core.specs.Building.{Knowing, alone, how_issued, knowing}
 use Rattle.xl_core.specs.Core.{Core, CoreReply, core_asks, core_happens}
 use Rattle.xl_core.specs.Keeping.{Saves}
 use Rattle.xl_core.specs.Node as nodes
@@ -29,7 +28,6 @@ use Rattle.xl_core.specs.Replies.{Answers, save_of, taken_answer}
 use Rattle.xl_core.specs.Ticks.{Beaten, CountsBeatFault, beat_was_kept, save_at}
 use Rattle.xl_core.specs.declared.beat.Beat.{Beat}
 use Rattle.xl_core.specs.declared.beat.Beat.TheVariants as beat
-use Rattle.xl_core.specs.declared.beat.Issued.{Issued}
 use Rattle.xl_core.specs.declared.beat.Issued.TheVariants as issued
 use Rattle.xl_core.specs.declared.event.CoreEvent.{CoreEvent}
 use Rattle.xl_core.specs.declared.event.CoreEvent.TheVariants.{Timer}
@@ -40,12 +38,9 @@ use Rattle.xl_core.specs.declared.refusal.Refusal.TheVariants as why
 use Rattle.xl_core.specs.declared.report.Report.{Report}
 use Rattle.xl_core.specs.declared.taken.Taken.{Taken}
 use Rattle.xl_core.proofs.Frames.{hearing_either}
-use Rattle.xl_core.proofs.Timing.{submit_either}
 use Rattle.xl_world.specs.declared.act.Deed.{Deed}
 use Rattle.xl_world.specs.declared.act.Deed.TheVariants as deed
 use Rattle.xl_world.specs.declared.act.Done.{Done}
-use Rattle.xl_world.specs.declared.act.Reaction.{Reaction}
-use Rattle.xl_world.specs.declared.act.Reaction.TheVariants as reaction
 use Rattle.xl_world.specs.declared.place.Fate.{Fate}
 use Rattle.xl_world.specs.declared.place.Fate.TheVariants.{Kept, Unwritten, Written}
 use Rattle.xl_world.specs.declared.place.Keeper.{Keeper}

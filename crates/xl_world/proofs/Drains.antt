@@ -1,23 +1,22 @@
 -- How the code drains for one number: a drain at a time, until one gives nothing; and what it gives is whole frames.
-use Rattle.std.proofs.Common.{◌≡◌, ◌≢◌, ℕ, zero, suc, ◌+◌, ◌<◌, ◌≤◌, Bool, true, false, List, [], ◌∷◌, ◌++◌, length, get_or, take, drop, map, refl, arith, ap, sym, ◌∙◌, subst, Option, Some, None, append_assoc, append-nil}
-use Rattle.std.specs.Prelude.{◌==◌, All, IfSome, IsSome, is_some, if◌then◌else◌, not}
+use Rattle.std.proofs.Common.{◌≡◌, ℕ, zero, suc, ◌+◌, ◌<◌, ◌≤◌, true, false, List, [], ◌∷◌, ◌++◌, length, get_or, take, drop, map, refl, arith, ap, sym, ◌∙◌, subst, Option, Some, None, append_assoc, append-nil}
+use Rattle.std.specs.Prelude.{◌==◌, All, IfSome, if◌then◌else◌, not}
 use Rattle.std.specs.Option.{option_and_then}
 use Rattle.std.proofs.lemmas.Bool.{cond_both, cond-true, cond-false, eq-eqb}
 use Rattle.std.proofs.lemmas.Bool.Decides.{nat_tests}
 use Rattle.std.proofs.lemmas.List.{drop-drop, drop_at, length-take, nil_from_length, take_at, take_more}
 use Rattle.std.proofs.lemmas.List.Elements.{All-append, All-cons, All-head, All-nil, All-tail}
-use Rattle.xl_queues.specs.Queues.{Backlog}
 use Rattle.xl_wire.specs.Frames.{raw_of}
-use Rattle.xl_wire.specs.Heads.{Split, split_of}
-use Rattle.xl_wire.specs.Heads.Split.{Whole, Need, Refused}
+use Rattle.xl_wire.specs.Heads.{split_of}
+use Rattle.xl_wire.specs.Heads.Split.{Whole}
 use Rattle.xl_wire.specs.Kinds.{span}
-use Rattle.xl_wire.specs.Raws.{RawFrame, SpellsRaw, raw_bytes}
+use Rattle.xl_wire.specs.Raws.{RawFrame, SpellsRaw}
 use Rattle.xl_wire.specs.declared.body.Body.{Body}
 use Rattle.xl_wire.specs.declared.lengths.TheConstants.{LONGEST_FRAME}
 use Rattle.xl_wire.proofs.RawLaws.{length-raw_bytes, split_again}
 use Rattle.xl_tags.specs.Sealing.{sealed}
 use Rattle.xl_core.specs.Answers.{given_in}
-use Rattle.xl_core.specs.Core.{Core, CoreReply, all_frames, core_happens, given_for, greeted_frames}
+use Rattle.xl_core.specs.Core.{Core, CoreReply, all_frames, core_happens, greeted_frames}
 use Rattle.xl_core.specs.Greetings.{greeting_at, greeting_frames, yet_to_hand}
 use Rattle.xl_core.specs.Items.{body_in, frame_of, framed, frames_for, header_body_at}
 use Rattle.xl_core.specs.Node.{Node}
@@ -34,9 +33,7 @@ use Rattle.xl_world.specs.Emptying.{after_events, drained_once, drains, drains_f
 use Rattle.xl_world.specs.Indexes.{Traffic, with_frame, with_frames}
 use Rattle.xl_world.specs.Seen.{AreFrames, IsFirstFrame, sent_from}
 use Rattle.xl_world.specs.World.{sent_in}
-use Rattle.xl_tags.specs.Rings.{key_of, schedule_ring}
 use Rattle.xl_world.proofs.Emptying.{drains_are, node_still}
-use Rattle.xl_world.proofs.Lying.{key_of_another}
 use Rattle.xl_world.proofs.Shortening.{fewer_left}
 
 -- FRAMES
@@ -280,10 +277,6 @@ drained_past numbers k before core sent now m k_in is mine so =
       gives = so.gives ∙ ap (λ (ms : List ℕ). with_frames sent (given_by before (drains_in_turn before ms))) (sym same);
       node = so.node;
     }
-
--- another member is a peer of a schedule's member
-pub peer_of : (me m : ℕ) → 1 ≤ m → m ≤ 64 → m ≢ me → IsSome (key_of (schedule_ring me) m)
-peer_of me m least most other = ap is_some (key_of_another me m least most other)
 
 -- what fills bytes is something
 pub some_given : (fs : List (List ℕ)) (count : ℕ) (room : List ℕ) → 0 < count → count ≤ length room → take count room ≡ joined fs → length fs ≡ 0 → ⊥

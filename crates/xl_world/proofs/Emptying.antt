@@ -1,11 +1,10 @@
 -- What an event leaves in a world whose cores are emptied after each event.
-use Rattle.std.proofs.Common.{◌≡◌, ℕ, zero, suc, ◌≤◌, Bool, List, [], ◌∷◌, ◌++◌, length, drop, map, refl, arith, ap, sym, ◌∙◌, Option, Some, None, append_assoc, append-nil}
+use Rattle.std.proofs.Common.{◌≡◌, ℕ, zero, suc, Bool, List, [], ◌∷◌, ◌++◌, length, map, refl, ap, sym, ◌∙◌, Option, Some, None, append_assoc, append-nil}
 use Rattle.std.specs.Prelude.{◌==◌, if◌then◌else◌, option_map, option_to_list}
 use Rattle.std.proofs.lemmas.Bool.{cond_both}
 use Rattle.xl_base.specs.Counts.{one_more}
 use Rattle.xl_lists.specs.Agreement.{with_said}
 use Rattle.xl_lists.specs.declared.report.Report.{Report as Reported}
-use Rattle.xl_queues.specs.Queues.{Backlog, with_item}
 use Rattle.xl_core.specs.Answers.{given_in}
 use Rattle.xl_core.specs.Core.{Core, CoreReply, core_happens}
 use Rattle.xl_core.specs.Node.{Node}

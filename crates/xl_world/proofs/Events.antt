@@ -1,6 +1,6 @@
 -- Each event of a schedule leaves a world at rest.
-use Rattle.std.proofs.Common.{◌≡◌, ℕ, zero, suc, Bool, List, [], ◌∷◌, ◌++◌, drop, refl, ap, sym, ◌∙◌, Option, Some, None, subst}
-use Rattle.std.specs.Prelude.{◌==◌, if◌then◌else◌, option_map, option_to_list}
+use Rattle.std.proofs.Common.{◌≡◌, ℕ, Bool, List, [], ◌∷◌, ◌++◌, drop, refl, sym, Option, Some, None, subst}
+use Rattle.std.specs.Prelude.{◌==◌, option_map, option_to_list}
 use Rattle.std.proofs.lemmas.Bool.{cond_both}
 use Rattle.xl_io.specs.Keepers.{may_hold}
 use Rattle.xl_core.specs.Core.{core_asks}
@@ -15,7 +15,7 @@ use Rattle.xl_world.specs.Emptying.{event_steps}
 use Rattle.xl_world.specs.Keeper.{found, held_by, left_by, restored}
 use Rattle.xl_world.specs.Rested.{IsAtRest, IsRested}
 use Rattle.xl_world.specs.Schedule.{cut_at, cut_short, deliveries, delivery, delivery_of, event_asked, failing, frame_at, greet_steps, lied_bytes, node_asked, restart, steps_at, timers}
-use Rattle.xl_world.specs.World.{Again, Mark, Step, Torn, World, again, asked_at, core_again, moment_in, place_at, reopened, run, step, torn}
+use Rattle.xl_world.specs.World.{Again, Mark, Step, World, again, asked_at, core_again, moment_in, place_at, reopened, run, step, torn}
 use Rattle.xl_world.proofs.Resting.{event_rests, put_rests}
 use Rattle.xl_world.proofs.Runs.{run-append}
 use Rattle.xl_world.proofs.Seats.{some_same}

@@ -1,13 +1,12 @@
 -- Nodes that are opened anew, and events whose save is cut off.
-use Rattle.std.proofs.Common.{◌≡◌, ℕ, Bool, true, false, List, [], ◌∷◌, ◌++◌, refl, ap, sym, ◌∙◌, Option, Some, None, append-nil}
-use Rattle.std.specs.Prelude.{◌==◌, ◌||◌, if◌then◌else◌, nat_lt, option_map, unwrap_or}
-use Rattle.std.proofs.lemmas.Bool.{cond_both, cond-true, eq-eqb, or_left, or_right}
+use Rattle.std.proofs.Common.{◌≡◌, ℕ, Bool, true, false, List, [], ◌∷◌, refl, ap, sym, ◌∙◌, Option, Some, None, append-nil}
+use Rattle.std.specs.Prelude.{◌==◌, ◌||◌, if◌then◌else◌, nat_lt, unwrap_or}
+use Rattle.std.proofs.lemmas.Bool.{cond-true, eq-eqb, or_left, or_right}
 use Rattle.xl_io.specs.Keepers.{is_asked, may_hold}
 use Rattle.xl_base.specs.declared.ids.LedgerId.{LedgerId}
 use Rattle.xl_lists.specs.declared.report.Report.{Report as Reported}
-use Rattle.xl_core.specs.Core.{Core, CoreReply, core_asks, core_happens, stepped}
+use Rattle.xl_core.specs.Core.{Core, core_asks, core_happens, stepped}
 use Rattle.xl_core.specs.Building.{said_items, usual_mode}
-use Rattle.xl_core.specs.Node as nodes
 use Rattle.xl_core.specs.declared.refusal.Refusal.TheVariants.{NotAfter}
 use Rattle.xl_ledger.specs.declared.header.Header.{Header}
 use Rattle.xl_ledger.specs.Headers.{header_id}
@@ -23,7 +22,7 @@ use Rattle.xl_world.specs.declared.sent.Sent.{Sent}
 use Rattle.xl_world.specs.Keeper.{found, held_by, left_by, restored}
 use Rattle.xl_world.specs.Schedule.{restart}
 use Rattle.xl_world.specs.Seen.{put_again, with_places}
-use Rattle.xl_world.specs.World.{Again, Step, Torn, World, again, asked_at, moment_in, place_at, put, reopened, run, step, torn}
+use Rattle.xl_world.specs.World.{Again, Torn, World, again, asked_at, moment_in, place_at, reopened, run, step, torn}
 use Rattle.xl_world.proofs.Settling.{at_its_number}
 
 -- WHAT A KEEPER MAY HOLD

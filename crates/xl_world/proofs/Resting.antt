@@ -1,5 +1,5 @@
 -- A world at rest stays so: no report is untaken between two events.
-use Rattle.std.proofs.Common.{◌≡◌, ℕ, zero, suc, ◌+◌, ◌<◌, ◌≤◌, Bool, List, [], ◌∷◌, ◌++◌, drop, filter, map, refl, arith, ap, sym, ◌∙◌, inl, inr, Option, Some, None, subst}
+use Rattle.std.proofs.Common.{◌≡◌, ℕ, zero, suc, ◌+◌, ◌<◌, ◌≤◌, Bool, List, [], ◌∷◌, drop, filter, map, refl, arith, ap, sym, ◌∙◌, inl, inr, Option, Some, None, subst}
 use Rattle.std.specs.Prelude.{◌==◌}
 use Rattle.std.proofs.lemmas.Bool.{cond_both}
 use Rattle.xl_queues.specs.Queues.{Backlog, with_item}
@@ -11,12 +11,11 @@ use Rattle.xl_core.specs.declared.event.CoreEvent.{CoreEvent}
 use Rattle.xl_core.specs.declared.event.CoreEvent.TheVariants.{Issue, Frame, Timer, Submit, Greet, Drain, Reports, Stop, Stopped}
 use Rattle.xl_core.specs.declared.report.Report.{Report}
 use Rattle.xl_tags.specs.Rings.{schedule_ring}
-use Rattle.xl_io.specs.Keepers.{may_hold}
 use Rattle.xl_world.specs.declared.place.Fate.{Fate}
 use Rattle.xl_world.specs.declared.place.Place.{Place}
 use Rattle.xl_world.specs.declared.plan.PlanNode.{PlanNode}
 use Rattle.xl_world.specs.Emptying.{draining, event_steps, handed_out}
-use Rattle.xl_world.specs.Keeper.{answer_of, held_by}
+use Rattle.xl_world.specs.Keeper.{answer_of}
 use Rattle.xl_world.specs.Plans.{all_numbers, is_declared, up_from}
 use Rattle.xl_world.specs.Rested.{Between, IsAtRest, IsRested}
 use Rattle.xl_world.specs.Starts.{start, start_of}

@@ -1,5 +1,5 @@
 -- What is told of steps: of what happened at a core, and not of the emptying that follows.
-use Rattle.std.proofs.Common.{◌≡◌, ℕ, suc, zero, List, [], ◌∷◌, ◌++◌, map, refl, ap, sym, ◌∙◌, Option, Some, None, append_assoc, append-nil}
+use Rattle.std.proofs.Common.{◌≡◌, ℕ, List, [], ◌∷◌, ◌++◌, map, refl, ap, sym, ◌∙◌, Option, Some, None, append_assoc, append-nil}
 use Rattle.std.specs.Prelude.{option_map, option_to_list}
 use Rattle.xl_lists.specs.declared.report.Report.{Report as Reported}
 use Rattle.xl_core.specs.Answers.{Answer}
@@ -7,7 +7,7 @@ use Rattle.xl_core.specs.Answers as answer
 use Rattle.xl_core.specs.Core.{Core, CoreReply}
 use Rattle.xl_core.specs.Node.{Node}
 use Rattle.xl_core.specs.declared.event.CoreEvent.{CoreEvent}
-use Rattle.xl_core.specs.declared.event.CoreEvent.TheVariants.{Drain, Reports, Timer}
+use Rattle.xl_core.specs.declared.event.CoreEvent.TheVariants.{Drain, Reports}
 use Rattle.xl_core.specs.declared.report.Report.{Report}
 use Rattle.xl_world.specs.declared.act.NodeAnswer.{NodeAnswer}
 use Rattle.xl_world.specs.declared.outcome.Outcome.{Outcome}
@@ -16,7 +16,7 @@ use Rattle.xl_world.specs.declared.place.Fate.{Fate}
 use Rattle.xl_world.specs.declared.place.Fate.TheVariants.{Kept}
 use Rattle.xl_world.specs.declared.place.Place.{Place}
 use Rattle.xl_world.specs.Emptying.{draining, emptying_at, event_steps, handed_out}
-use Rattle.xl_world.specs.Schedule.{outcomes_of, timers, told_in, told_of_answer, told_of_reply, told_of_step}
+use Rattle.xl_world.specs.Schedule.{told_in, told_of_answer, told_of_reply, told_of_step}
 use Rattle.xl_world.specs.Seen.{Answers, AnswersAt, outcomes_told, reaction_of, told_of_reaction}
 use Rattle.xl_world.specs.World.{Act, Step, World, place_at, reply_at, reported_by, run, step}
 use Rattle.xl_world.proofs.Emptying.{AreDrains, drain_by, turns_are}

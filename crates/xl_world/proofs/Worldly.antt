@@ -1,5 +1,5 @@
 -- Worlds that keep what the type keeps: at the start, after an event, and where nobody is left.
-use Rattle.std.proofs.Common.{◌≡◌, ℕ, List, [], refl, ap, sym, ◌∙◌, subst, Option, Some, None}
+use Rattle.std.proofs.Common.{◌≡◌, ℕ, List, [], refl, sym, subst, Option, Some, None}
 use Rattle.std.specs.Prelude.{IfSome}
 use Rattle.std.proofs.lemmas.List.Elements.{All-nil}
 use Rattle.xl_sched.specs.declared.event.What.{What}

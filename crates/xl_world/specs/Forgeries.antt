@@ -19,7 +19,8 @@ was_sent sent bytes = list_any (λ f. bytes_eq f.bytes bytes) sent
 -- whether the frame is to the owner of these keys, with the right tag of another member that is no liar, and nobody
 -- sent its bytes; a number that isn't another member's has no key
 abbrev pub is_made_up : List ℕ → List Sent → Ring → List ℕ → RawFrame → Bool
-is_made_up liars sent keys bytes f = f.to == keys.me && not (is_on liars f.from) && not (was_sent sent bytes) && is_sealed keys f
+is_made_up liars sent keys bytes f =
+    f.to == keys.me && not (is_on liars f.from) && not (was_sent sent bytes) && is_sealed keys f
 
 -- whether the bytes are one whole frame that is made up
 abbrev pub forges : List ℕ → List Sent → Ring → List ℕ → Split → Bool

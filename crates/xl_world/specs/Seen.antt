@@ -104,10 +104,12 @@ pub record IsBeaten (member : ℕ) (beat : Beat) (done : Done) : Type 0 where
   pub said : done.said ≡ said_by_beat member beat
 
 -- what an event does to a core, under a keeper whose save meets a fate
-pub record Does (before : Core) (event : CoreEvent) (old : Fated) (after : Core) (done : Done) (new : Fated) : Type 0 where
+pub record Does (before : Core) (event : CoreEvent) (old : Fated) (after : Core) (done : Done) (new : Fated)
+    : Type 0 where
   pub core : after ≡ (core_happens before event (answer_of old.keeper old.fate)).core
   pub reaction : done.reaction ≡ reaction_of (core_happens before event (answer_of old.keeper old.fate)).answer
-  pub said : done.said ≡ option_map (said_by before.node.me) (core_happens before event (answer_of old.keeper old.fate)).issued
+  pub said : done.said
+      ≡ option_map (said_by before.node.me) (core_happens before event (answer_of old.keeper old.fate)).issued
   pub keeper : new.keeper ≡ after_save old.keeper (core_asks before event) old.fate
   pub asked : old.asked ≡ None → new.asked ≡ core_asks before event
 

@@ -28,4 +28,5 @@ start limit liars plan = record {
 -- the world comes from a declared one by steps
 abbrev pub IsRun : World → Type 0
 IsRun w =
-    (limit : ℕ) × (plan : List PlanNode) × (steps : List Step) × AreDeclared plan × (w ≡ run (start limit w.liars plan) steps)
+    (limit : ℕ) × (plan : List PlanNode) × (steps : List Step)
+    × AreDeclared plan × (w ≡ run (start limit w.liars plan) steps)

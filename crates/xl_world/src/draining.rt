@@ -67,7 +67,8 @@ fn drain_once(core: &mut NodeCore, to: NodeNo, room: &mut [u8; LONGEST_FRAME]) -
     ensures core { core.new ≡ (drained_once core.old to).core }
     ensures none { result ≡ None → given_in (drained_once core.old to).answer ≡ [] }
     ensures some { IfSome result (λ count.
-        (0 < count) × (count ≤ LONGEST_FRAME) × (take count room.new ≡ joined (given_in (drained_once core.old to).answer))) }
+        (0 < count) × (count ≤ LONGEST_FRAME)
+        × (take count room.new ≡ joined (given_in (drained_once core.old to).answer))) }
 {
     let count = core.drain(to, room);
     if count == 0 { None } else { Some(count) }

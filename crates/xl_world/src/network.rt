@@ -156,7 +156,8 @@ impl Network {
         requires moment { at ≤ GREATEST_MILLIS }
         requires rest { IsAtRest self.old }
         ensures world { OnOk result (self.new ≡ run self.old (ask_steps self.old at ask.now fate)) }
-        ensures told { OnOk result (told.new.items ≡ told.old.items ++ told_in self.old (ask_steps self.old at ask.now fate)) }
+        ensures told { OnOk result (told.new.items
+            ≡ told.old.items ++ told_in self.old (ask_steps self.old at ask.now fate)) }
     {
         let (node, deed) = asked_by(ask);
         self.act(node, at, &deed, fate, told)
@@ -167,7 +168,8 @@ impl Network {
         requires moment { at ≤ GREATEST_MILLIS }
         requires rest { IsAtRest self.old }
         ensures world { OnOk result (self.new ≡ run self.old (timers self.old at self.old.numbers)) }
-        ensures told { OnOk result (told.new.items ≡ told.old.items ++ told_in self.old (timers self.old at self.old.numbers)) }
+        ensures told { OnOk result (told.new.items
+            ≡ told.old.items ++ told_in self.old (timers self.old at self.old.numbers)) }
     {
         for k in 0..self.numbers.len() {
             let node = self.numbers[k];
@@ -187,7 +189,8 @@ impl Network {
         requires moment { at ≤ GREATEST_MILLIS }
         requires rest { IsAtRest self.old }
         ensures world { OnOk result (self.new ≡ run self.old (greet_steps self.old node peer)) }
-        ensures told { OnOk result (told.new.items ≡ told.old.items ++ told_in self.old (greet_steps self.old node peer)) }
+        ensures told { OnOk result (told.new.items
+            ≡ told.old.items ++ told_in self.old (greet_steps self.old node peer)) }
     {
         if node == peer {
             return Ok(());
@@ -246,7 +249,8 @@ impl Network {
         requires moment { at ≤ GREATEST_MILLIS }
         requires rest { IsAtRest self.old }
         ensures world { OnOk result (self.new ≡ run self.old (hand_steps self.old at to bytes.now)) }
-        ensures told { OnOk result (told.new.items ≡ told.old.items ++ told_in self.old (hand_steps self.old at to bytes.now)) }
+        ensures told { OnOk result (told.new.items
+            ≡ told.old.items ++ told_in self.old (hand_steps self.old at to bytes.now)) }
     {
         let forged = is_forged(&self.liars, &mut self.traffic, &self.places, to, bytes);
         self.act(to, at, &Deed::Frame(bytes), Fate::Kept, told)?;

@@ -21,14 +21,14 @@ fn number(n: u32) -> Result<NodeNo, Fail> {
     Ok(NodeNo::new(n).ok_or("no number of a member")?)
 }
 
-/// Declares a node that trusts itself and liar 3, one of whom is a quorum.
-fn declare(nodes: &mut Vec<PlanNode>, me: u32) -> Result<(), Fail>
+/// Declares a node that trusts this member alone.
+fn declare(nodes: &mut Vec<PlanNode>, me: u32, trusted: u32) -> Result<(), Fail>
     requires { AreTimely nodes.old.items }
     ensures { OnOk result (AreTimely nodes.new.items) }
 {
     nodes.push(PlanNode {
         me: number(me)?,
-        list: List::new(&[me], 1)?,
+        list: List::new(&[trusted], 1)?,
         validating: true,
         moment: 1_000,
     })?;
@@ -38,8 +38,8 @@ fn declare(nodes: &mut Vec<PlanNode>, me: u32) -> Result<(), Fail>
 /// Nodes 1 and 2, who trust only themselves, and liar 3.
 fn world(alloc: Global) -> Result<World, Fail> {
     let mut nodes = Vec::new(alloc);
-    declare(&mut nodes, 1)?;
-    declare(&mut nodes, 2)?;
+    declare(&mut nodes, 1, 1)?;
+    declare(&mut nodes, 2, 2)?;
     let mut liars = Vec::new(alloc);
     liars.push(number(3)?)?;
     let plan = Plan {
@@ -98,24 +98,14 @@ fn a_fork_is_found(rt: HostRuntime) -> Result<(), Fail> {
     Ok(())
 }
 
-/// A node of this number with the list of node 1 alone.
-fn follower(me: u32) -> Result<PlanNode, Fail> {
-    Ok(PlanNode {
-        me: number(me)?,
-        list: List::new(&[1], 1)?,
-        validating: true,
-        moment: 1_000,
-    })
-}
-
 /// Nodes 1 and 2, who trust node 1, with room for so many ledgers.
 fn followers(alloc: Global, limit: u32) -> Result<World, Fail>
     requires least { 2 ≤ limit }
     requires most { limit ≤ 16384 }
 {
     let mut nodes = Vec::new(alloc);
-    nodes.push(follower(1)?)?;
-    nodes.push(follower(2)?)?;
+    declare(&mut nodes, 1, 1)?;
+    declare(&mut nodes, 2, 1)?;
     let plan = Plan {
         nodes,
         liars: Vec::new(alloc),

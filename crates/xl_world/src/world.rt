@@ -9,8 +9,8 @@ use xl_base::{NodeNo, OutOfMemory};
 use xl_lists::List;
 use xl_sched::Event;
 
-/// A world: the cores, and all that they ever sent, said and reported. Once an event has wanted memory nobody is left in
-/// it, and each later event answers the same.
+/// A world: the cores, and all that they ever sent, said and reported. Once an event has wanted memory nobody is left
+/// in it, and each later event answers the same.
 #[derive(Drop)]
 pub struct World {
     network: Option<Network>,

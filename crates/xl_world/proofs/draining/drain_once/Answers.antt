@@ -4,7 +4,8 @@ use Rattle.xl_tags.specs.Rings.{Ring, key_of}
 use Rattle.xl_wire.specs.declared.lengths.TheConstants.{LONGEST_FRAME}
 use Rattle.xl_core.specs.Core.{all_frames}
 use Rattle.xl_core.specs.Queues.{fitting}
-use Rattle.xl_world.proofs.Drains.{none_in_front, peer_of}
+use Rattle.xl_world.proofs.Doing.{peer_of}
+use Rattle.xl_world.proofs.Drains.{none_in_front}
 use Rattle.xl_world.proofs.draining.drain_once.Goals as goal
 
 pub drain-count-requires-clause-peer : goal.drain-count-requires-clause-peer

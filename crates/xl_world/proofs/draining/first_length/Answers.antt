@@ -1,4 +1,4 @@
-use Rattle.std.proofs.Common.{◌≡◌, arith, ap, length, refl, sym, take, length-take}
+use Rattle.std.proofs.Common.{arith, ap, length, refl, sym, take, length-take}
 use Rattle.xl_wire.specs.Kinds.{span}
 use Rattle.xl_wire.specs.Raws.{RawFrame, SpellsRaw, raw_frame}
 use Rattle.xl_wire.proofs.RawLaws.{length-raw_bytes}

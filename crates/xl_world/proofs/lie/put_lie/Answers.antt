@@ -1,4 +1,4 @@
-use Rattle.std.proofs.Common.{◌≡◌, ◌≤◌, ◌∙◌, ℕ, List, ap, arith, drop, length, length-append, length-drop, length-take, refl, subst, sym, take, take_all, take_at}
+use Rattle.std.proofs.Common.{◌≤◌, ◌∙◌, ℕ, List, ap, arith, drop, length, length-append, length-take, refl, subst, sym, take, take_all, take_at}
 use Rattle.xl_wire.specs.declared.body.Body.{Body}
 use Rattle.xl_wire.specs.Frames.{Spells, raw_of}
 use Rattle.xl_wire.specs.Raws.{RawFrame, SpellsRaw}

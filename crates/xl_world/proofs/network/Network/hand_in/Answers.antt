@@ -1,4 +1,4 @@
-use Rattle.std.proofs.Common.{◌≡◌, ◌∙◌, ℕ, Bool, List, ap, sym}
+use Rattle.std.proofs.Common.{◌≡◌, ◌∙◌, ℕ, Bool, List, ap}
 use Rattle.std.specs.Prelude.{if◌then◌else◌}
 use Rattle.xl_base.specs.Counts.{one_more}
 use Rattle.xl_core.specs.declared.event.CoreEvent.TheVariants.{Frame}
