@@ -13,3 +13,6 @@ mod line;
 mod tokens;
 
 pub use line::print_line;
+
+#[cfg(test)]
+mod tests;

@@ -12,8 +12,8 @@ use xl_sched::Line;
 
 /// Appends the spelling of a line, without a byte that ends it. Where memory is wanting, nothing is appended.
 ///
-/// The line is one that a reader gave. To a reader in the state in which that one read it, the spelling says the same
-/// line; so it has at most 17,000 bytes. No byte below 32 is in it that wasn't in the line that was read.
+/// Where some bytes say the line to a reader, the spelling says it to a reader in the same state; so it has at most
+/// 17,000 bytes. No byte below 32 is in it that isn't in those.
 pub fn print_line(line: &Line, room: &mut Vec<u8>) -> Result<(), OutOfMemory>
     ensures spelled { OnOk result (room.new.items ≡ room.old.items ++ spelling line.now) }
     ensures kept { OnErr result (room.new.items ≡ room.old.items) }
