@@ -13,6 +13,3 @@ mod texts;
 mod words;
 
 pub use command::lists;
-
-#[cfg(test)]
-mod tests;

@@ -11,6 +11,3 @@ mod rounds;
 
 pub use command::{Command, WordsFault};
 pub use help::{push_help, push_version};
-
-#[cfg(test)]
-mod tests;
