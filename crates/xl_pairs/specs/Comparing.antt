@@ -47,7 +47,8 @@ unless_foreign c None bytes = after_answer c (reading_of c.reading 0 bytes)
 -- behind line 1, which must be the header, only a few words may begin a line
 abbrev pub step_of : Comparing → List ℕ → Step Comparing
 step_of c bytes =
-    if c.reading.lines == 0 then after_answer c (reading_of c.reading 0 bytes) else unless_foreign c (foreign_word bytes) bytes
+    if c.reading.lines == 0 then after_answer c (reading_of c.reading 0 bytes)
+    else unless_foreign c (foreign_word bytes) bytes
 
 abbrev pub beyond : Overrun → SchedRefusal
 beyond overrun.LongLine = LongLine (decimal MOST_BYTES)

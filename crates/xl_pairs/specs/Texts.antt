@@ -18,7 +18,8 @@ newline = 10 ∷ []
 -- a refused line
 abbrev pub bad_line : ℕ → SchedRefusal → List ℕ
 bad_line n refusal =
-    codes "bad " ++ decimal n ++ space ++ decimal (code_of refusal) ++ space ++ shown_token (token_of refusal) ++ newline
+    codes "bad " ++ decimal n ++ space ++ decimal (code_of refusal) ++ space ++ shown_token (token_of refusal)
+    ++ newline
 
 unfoldable pub enough_text : Bool → List ℕ
 enough_text enough = if enough then codes "ok" else codes "short"
@@ -31,11 +32,13 @@ pair_numbers i j shared lying sum bound =
 
 -- and whether they do
 abbrev pub pair_text : ℕ → ℕ → ℕ → ℕ → ℕ → ℕ → List ℕ
-pair_text i j shared lying sum bound = pair_numbers i j shared lying sum bound ++ enough_text (nat_lt bound sum) ++ newline
+pair_text i j shared lying sum bound =
+    pair_numbers i j shared lying sum bound ++ enough_text (nat_lt bound sum) ++ newline
 
 abbrev pub pair_line : List ℕ → ℕ → TrustedList → ℕ → TrustedList → List ℕ
 pair_line liars i a j b =
-    pair_text i j (overlap a.members b.members) (liars_shared liars a.members b.members) (a.quorum + b.quorum) (bound_of liars a b)
+    pair_text i j (overlap a.members b.members) (liars_shared liars a.members b.members) (a.quorum + b.quorum)
+        (bound_of liars a b)
 
 unfoldable pub yes_text : Bool → List ℕ
 yes_text holds = if holds then codes "yes" else codes "no"

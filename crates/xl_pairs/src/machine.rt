@@ -94,7 +94,8 @@ impl Comparer {
     /// The refusal of a line that begins with a word that may not stand there.
     fn refuse_word(&self, word: &[u8], text: &mut String) -> Result<(), OutOfMemory>
         requires { string_bytes text.old ≡ [] }
-        ensures { OnOk result (string_bytes text.new ≡ bad_line (self.now.reader.lines + 1) (SchedRefusal.Word word.now)) }
+        ensures { OnOk result (string_bytes text.new
+            ≡ bad_line (self.now.reader.lines + 1) (SchedRefusal.Word word.now)) }
     {
         let refusal = SchedRefusal::Word(Bytes::from_vec(word.to_vec(self.alloc)?));
         self.refuse(&refusal, text)

@@ -24,7 +24,8 @@ newline = 10 ∷ []
 -- ids are 64 lower-case digits
 abbrev pub proposal_text : Proposal → List ℕ
 proposal_text p =
-    codes "proposal " ++ encode_lower p.prev.0 ++ space ++ encode_lower p.set.0 ++ space ++ decimal p.pseq ++ space ++ decimal p.close ++ space ++ decimal p.time
+    codes "proposal " ++ encode_lower p.prev.0 ++ space ++ encode_lower p.set.0 ++ space ++ decimal p.pseq
+    ++ space ++ decimal p.close ++ space ++ decimal p.time
 
 unfoldable pub fullness_text : Bool → List ℕ
 fullness_text full = if full then codes "full" else codes "partial"
@@ -37,7 +38,8 @@ validation_text v = vote_text v ++ space ++ fullness_text v.full
 
 abbrev pub header_text : Header → List ℕ
 header_text h =
-    codes "header " ++ decimal h.seq ++ space ++ encode_lower (header_id h).0 ++ space ++ encode_lower h.parent.0 ++ space ++ decimal h.close
+    codes "header " ++ decimal h.seq ++ space ++ encode_lower (header_id h).0
+    ++ space ++ encode_lower h.parent.0 ++ space ++ decimal h.close
 
 abbrev pub body_text : Body → List ℕ
 body_text (body.Proposal proposal) = proposal_text proposal
