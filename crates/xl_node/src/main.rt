@@ -1,5 +1,4 @@
-//! `xl`, the consensus software of the XRP Ledger. `xl replay` reads a schedule from standard input and writes what
-//! each node does.
+//! `xl`, the agreement layer of the XRP Ledger. Its commands read standard input and write standard output.
 //!
 //! It stands on xl_top, whose `top` says what the program does. Here the words, the streams of the system and the
 //! exit status are those of a process.

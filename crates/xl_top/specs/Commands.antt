@@ -1,8 +1,54 @@
--- The command line. Source: this project's own.
-use Rattle.std.specs.Prelude.{ℕ, Bool, false, List, [], ◌∷◌, codes}
-use Rattle.std.specs.Str.{bytes_eq}
+-- What the program does for the words of its command line. Source: this project's own.
+use Rattle.std.specs.Prelude.{ℕ, List, [], Option, Some, None, Result, Ok, Err}
+use Rattle.xl_base.specs.declared.status.Status.{Status}
+use Rattle.xl_base.specs.declared.status.Status.TheVariants.{Done, Fork, InputRefused, ReadFault, WriteFault, OutOfMemory}
+use Rattle.xl_lines.specs.declared.fault.Fault.{Fault}
+use Rattle.xl_lines.specs.declared.fault.Fault.TheVariants.{Read, Write, Memory}
+use Rattle.xl_lines.specs.declared.machine.Verdict.{Verdict}
+use Rattle.xl_lines.specs.declared.machine.Verdict.TheVariants.{Good, Found, Refused}
+use Rattle.xl_lines.specs.Rules.{Told, closes, refused}
+use Rattle.xl_pairs.specs.Comparing.{lists_of}
+use Rattle.xl_replay.specs.Replays.{report_of}
+use Rattle.xl_show.specs.Shown.{shown_of}
+use Rattle.xl_words.specs.declared.command.Command.{Command}
+use Rattle.xl_words.specs.declared.command.Command.TheVariants.{Replay, Show, Lists, Gen, Help, Version}
+use Rattle.xl_words.specs.Commands.{command_of}
+use Rattle.xl_words.specs.Help.{help_text, version_text}
 
--- exactly the program's name and `replay`
-abbrev pub is_replay : List (List ℕ) → Bool
-is_replay (program ∷ command ∷ []) = bytes_eq command (codes "replay")
-is_replay words = false
+-- a command that is built; `gen` isn't yet
+abbrev pub built : Option Command → Option Command
+built (Some (Gen rounds)) = None
+built command = command
+
+-- what the words ask, of which the first is the program's name
+abbrev pub asked_of : List (List ℕ) → Option Command
+asked_of words = built (command_of words)
+
+-- what a command writes about the bytes of its input, of which the last two read none
+abbrev pub told_by : Command → List ℕ → Told
+told_by Replay bytes = report_of bytes
+told_by Show bytes = shown_of bytes
+told_by Lists bytes = lists_of bytes
+told_by (Gen rounds) bytes = refused []
+told_by Help bytes = closes help_text Good
+told_by Version bytes = closes version_text Good
+
+-- a command reads its input to the end
+abbrev pub IsReader : Command → Type 0
+IsReader Help = ⊥
+IsReader Version = ⊥
+IsReader command = Unit {0}
+
+-- the text of a command is never empty; that of `lists` is, where no node is declared
+abbrev pub IsNeverEmpty : Command → Type 0
+IsNeverEmpty Lists = ⊥
+IsNeverEmpty command = Unit {0}
+
+-- the status of a run by how it ended
+abbrev pub status_after : Result Verdict Fault → Status
+status_after (Ok Good) = Done
+status_after (Ok Found) = Fork
+status_after (Ok Refused) = InputRefused
+status_after (Err Read) = ReadFault
+status_after (Err Write) = WriteFault
+status_after (Err Memory) = OutOfMemory

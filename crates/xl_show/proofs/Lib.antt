@@ -1,0 +1,4 @@
+pub mod Extending
+pub mod Telling
+pub mod Ending
+pub mod Looking

@@ -1,0 +1,131 @@
+-- What a status says of the run that it stands for.
+use Rattle.std.proofs.Common.{◌≡◌, ◌≢◌, ◌<◌, ◌++◌, length, length-append, arith, ℕ, List, Option, Some, None, Result, Ok, Err, IfSome, ◌⊎◌, inl, inr, refl, sym, ap, ◌∙◌}
+use Rattle.std.specs.Prelude.{IfOk, IfErr, IsErrOf}
+use Rattle.std.specs.Io.KnownBytes.{append_known}
+use Rattle.xl_base.specs.declared.status.Status.{Status}
+use Rattle.xl_base.specs.declared.status.Status.TheVariants.{Done, Fork, WordsRefused, InputRefused, ReadFault, WriteFault, OutOfMemory}
+use Rattle.xl_io.specs.Sinks.{GrewByLess}
+use Rattle.xl_lines.specs.declared.fault.Fault.{Fault}
+use Rattle.xl_lines.specs.declared.fault.Fault.TheVariants.{Read, Write, Memory}
+use Rattle.xl_lines.specs.declared.machine.Verdict.{Verdict}
+use Rattle.xl_lines.specs.declared.machine.Verdict.TheVariants.{Good, Found, Refused}
+use Rattle.xl_lines.specs.Rules.{Told}
+use Rattle.xl_lines.specs.Running.{TellsAll}
+use Rattle.xl_replay.specs.Statuses.{IsTold, IsReplayed, IsWritten, status_of}
+use Rattle.xl_top.specs.Commands.{status_after}
+
+module _ (left held held' : Option (List ℕ)) (told : List ℕ → Told) where
+  -- the whole text is written, and the verdict is its own
+  abbrev pub Whole : Result Verdict Fault → Type 0
+  Whole r = IfOk r (λ verdict. IfSome left (λ bytes. TellsAll held held' verdict (told bytes)))
+
+  -- with a fault of the source or the sink some of it isn't
+  abbrev pub Less : Result Verdict Fault → Type 0
+  Less r = IfErr r (λ fault. fault ≢ Memory → IfSome left (λ bytes. GrewByLess held held' (told bytes).text))
+
+  pub done_after : (r : Result Verdict Fault) → Whole r → status_after r ≡ Done → IfSome left (λ bytes. TellsAll held held' Good (told bytes))
+  done_after (Ok Good) whole is = whole
+  done_after (Ok Found) whole is = cc
+  done_after (Ok Refused) whole is = cc
+  done_after (Err Read) whole is = cc
+  done_after (Err Write) whole is = cc
+  done_after (Err Memory) whole is = cc
+
+  pub fork_after : (r : Result Verdict Fault) → Whole r → status_after r ≡ Fork → IfSome left (λ bytes. TellsAll held held' Found (told bytes))
+  fork_after (Ok Good) whole is = cc
+  fork_after (Ok Found) whole is = whole
+  fork_after (Ok Refused) whole is = cc
+  fork_after (Err Read) whole is = cc
+  fork_after (Err Write) whole is = cc
+  fork_after (Err Memory) whole is = cc
+
+  pub refused_after : (r : Result Verdict Fault) → Whole r → status_after r ≡ InputRefused → IfSome left (λ bytes. TellsAll held held' Refused (told bytes))
+  refused_after (Ok Good) whole is = cc
+  refused_after (Ok Found) whole is = cc
+  refused_after (Ok Refused) whole is = whole
+  refused_after (Err Read) whole is = cc
+  refused_after (Err Write) whole is = cc
+  refused_after (Err Memory) whole is = cc
+
+pub end_after : (r : Result Verdict Fault) (E : Type 0) → IfOk r (λ verdict. verdict ≢ Refused → E) → (status_after r ≡ Done) ⊎ (status_after r ≡ Fork) → E
+end_after (Ok Good) E end is = end (λ no. cc)
+end_after (Ok Found) E end is = end (λ no. cc)
+end_after (Ok Refused) E end (inl is) = absurd cc
+end_after (Ok Refused) E end (inr is) = absurd cc
+end_after (Err Read) E end (inl is) = absurd cc
+end_after (Err Read) E end (inr is) = absurd cc
+end_after (Err Write) E end (inl is) = absurd cc
+end_after (Err Write) E end (inr is) = absurd cc
+end_after (Err Memory) E end (inl is) = absurd cc
+end_after (Err Memory) E end (inr is) = absurd cc
+
+pub read_after : (r : Result Verdict Fault) (P : Type 0) → (IsErrOf r Read → P) → status_after r ≡ ReadFault → P
+read_after (Ok Good) P cause is = absurd cc
+read_after (Ok Found) P cause is = absurd cc
+read_after (Ok Refused) P cause is = absurd cc
+read_after (Err Read) P cause is = cause refl
+read_after (Err Write) P cause is = absurd cc
+read_after (Err Memory) P cause is = absurd cc
+
+pub write_after : (r : Result Verdict Fault) (P : Type 0) → (IsErrOf r Write → P) → status_after r ≡ WriteFault → P
+write_after (Ok Good) P cause is = absurd cc
+write_after (Ok Found) P cause is = absurd cc
+write_after (Ok Refused) P cause is = absurd cc
+write_after (Err Read) P cause is = absurd cc
+write_after (Err Write) P cause is = cause refl
+write_after (Err Memory) P cause is = absurd cc
+
+pub complete_after : (r : Result Verdict Fault) (A B : Type 0) → IfErr r (λ fault. (A → ⊥) → (B → ⊥) → fault ≡ Memory) → (A → ⊥) → (B → ⊥) → IsTold (status_after r) ⊎ (status_after r ≡ OutOfMemory)
+complete_after (Ok Good) A B only a b = inl tt
+complete_after (Ok Found) A B only a b = inl tt
+complete_after (Ok Refused) A B only a b = inl tt
+complete_after (Err Read) A B only a b = let no = only a b in absurd cc
+complete_after (Err Write) A B only a b = let no = only a b in absurd cc
+complete_after (Err Memory) A B only a b = inr refl
+
+pub known_after : (r : Result Verdict Fault) → IsReplayed (status_after r)
+known_after (Ok Good) = tt
+known_after (Ok Found) = tt
+known_after (Ok Refused) = tt
+known_after (Err Read) = tt
+known_after (Err Write) = tt
+known_after (Err Memory) = tt
+
+pub taken_after : (r : Result Verdict Fault) → status_after r ≢ WordsRefused
+taken_after (Ok Good) = λ is. cc
+taken_after (Ok Found) = λ is. cc
+taken_after (Ok Refused) = λ is. cc
+taken_after (Err Read) = λ is. cc
+taken_after (Err Write) = λ is. cc
+taken_after (Err Memory) = λ is. cc
+
+abbrev len_known : Option (List ℕ) → ℕ
+len_known None = 0
+len_known (Some xs) = length xs
+
+-- a text of which some is missing isn't written whole
+less_says : (before after : Option (List ℕ)) (text : List ℕ) → GrewByLess before after text → IsWritten before after text → ⊥
+less_says before after text less whole =
+    let held = whole.0 in
+    let front = less.0 in
+    let some : 0 < length front.missing = less.1 in
+    let same : Some (held ++ text) ≡ Some (held ++ front.written) = sym whole.2 ∙ (front.held ∙ ap (λ known. append_known known front.written) whole.1) in
+    let equal : length (held ++ text) ≡ length (held ++ front.written) = ap len_known same in
+    let long : length text ≡ length (front.written ++ front.missing) = ap length front.parts in
+    omega (arith, some, equal, long, length-append held text, length-append held front.written, length-append front.written front.missing)
+
+says : (v : Verdict) → status_after (Ok v) ≡ status_of v
+says Good = refl
+says Found = refl
+says Refused = refl
+
+-- a status says this of a text, where it is written whole
+abbrev pub SaysEnd : Option (List ℕ) → Option (List ℕ) → Option (List ℕ) → (List ℕ → Told) → Status → Type 0
+SaysEnd left held held' told s = IfSome left (λ bytes. IsWritten held held' (told bytes).text → (s ≡ status_of (told bytes).verdict) ⊎ (s ≡ OutOfMemory))
+
+pub whole_after : (left held held' : Option (List ℕ)) (told : List ℕ → Told) (r : Result Verdict Fault) → Whole left held held' told r → Less left held held' told r → SaysEnd left held held' told (status_after r)
+whole_after None held held' told r whole less = tt
+whole_after (Some bytes) held held' told (Ok v) whole less = λ written. inl (says v ∙ ap status_of (sym whole.says))
+whole_after (Some bytes) held held' told (Err Read) whole less = λ written. absurd (less_says held held' (told bytes).text (less (λ is. cc)) written)
+whole_after (Some bytes) held held' told (Err Write) whole less = λ written. absurd (less_says held held' (told bytes).text (less (λ is. cc)) written)
+whole_after (Some bytes) held held' told (Err Memory) whole less = λ written. inr refl

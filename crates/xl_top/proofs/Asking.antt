@@ -1,0 +1,67 @@
+-- What the words ask, and what holds where nothing was done.
+use Rattle.std.proofs.Common.{◌≡◌, ◌≢◌, ℕ, List, [], Option, Some, None, Result, Ok, Err, IfSome, ◌⊎◌, inl, inr, refl, sym, subst}
+use Rattle.std.specs.Prelude.{IfOk, IfErr, IsErrOf}
+use Rattle.xl_base.specs.declared.status.Status.TheVariants.{OutOfMemory}
+use Rattle.xl_io.specs.Sinks.{GrewByFront, GrewByLess}
+use Rattle.xl_io.proofs.Growing.{append_known-none}
+use Rattle.xl_lines.specs.declared.fault.Fault.{Fault}
+use Rattle.xl_lines.specs.declared.fault.Fault.TheVariants.{Read, Write, Memory}
+use Rattle.xl_lines.specs.declared.machine.Verdict.{Verdict}
+use Rattle.xl_lines.specs.Rules.{Told}
+use Rattle.xl_lines.specs.Running.{TellsAll}
+use Rattle.xl_top.specs.Commands.{built}
+use Rattle.xl_top.proofs.After.{Whole, Less}
+use Rattle.xl_words.specs.declared.command.Command.{Command}
+use Rattle.xl_words.specs.declared.command.Command.TheVariants.{Replay, Show, Lists, Gen, Help, Version}
+use Rattle.xl_words.specs.declared.command.WordsFault.{WordsFault}
+use Rattle.xl_words.specs.declared.command.WordsFault.TheVariants.{Refused as WordsRefused, Memory as NoMemory}
+
+pub if_any : {X : Type 0} (o : Option X) (P : X → Type 0) → ((x : X) → P x) → IfSome o P
+if_any None P all = tt
+if_any (Some x) P all = all x
+
+-- the command that is asked
+pub by_asked : (o : Option Command) (c : Command) (P : Command → Type 0) → o ≡ Some c → IfSome (built (Some c)) P → IfSome (built o) P
+by_asked o c P is holds = subst (λ (x : Option Command). IfSome (built x) P) (sym is) holds
+
+-- nothing is asked where the words are refused
+pub unasked : (o : Option Command) (r : Result Command WordsFault) → r ≡ Err WordsRefused → ((c : Command) → o ≡ Some c → (r ≡ Ok c) ⊎ (r ≡ Err NoMemory)) → built o ≡ None
+unasked None r is given = refl
+unasked (Some c) r is given = go (given c refl)
+  where
+    go : (r ≡ Ok c) ⊎ (r ≡ Err NoMemory) → built (Some c) ≡ None
+    go (inl ok) = cc
+    go (inr memory) = cc
+
+pub by_none : (o : Option Command) (P : Command → Type 0) → built o ≡ None → IfSome (built o) P
+by_none o P none = rw none tt
+
+-- a command that is asked isn't refused as one
+pub taken : (o : Option Command) (c : Command) (P : Type 0) → o ≡ Some c → IfSome (built (Some c)) (λ _. P → ⊥) → P → built o ≡ None
+taken o Replay P is not_refused was = absurd (not_refused was)
+taken o Show P is not_refused was = absurd (not_refused was)
+taken o Lists P is not_refused was = absurd (not_refused was)
+taken o (Gen rounds) P is not_refused was = rw is refl
+taken o Help P is not_refused was = absurd (not_refused was)
+taken o Version P is not_refused was = absurd (not_refused was)
+
+-- nothing is written
+pub front_none : (held : Option (List ℕ)) (text : List ℕ) → GrewByFront held held text
+front_none held text = record { written = []; missing = text; parts = refl; held = sym (append_known-none held) }
+
+-- a text that no bytes are read for
+pub whole_of : (left held held' : Option (List ℕ)) (told : Told) (r : Result Verdict Fault) → IfOk r (λ verdict. TellsAll held held' verdict told) → Whole left held held' (λ bytes. told) r
+whole_of left held held' told (Ok v) whole = if_any left _ (λ bytes. whole)
+whole_of left held held' told (Err fault) whole = tt
+
+pub less_of : (left held held' : Option (List ℕ)) (told : Told) (r : Result Verdict Fault) → (IsErrOf r Read → ⊥) → (IsErrOf r Write → GrewByLess held held' told.text) → Less left held held' (λ bytes. told) r
+less_of left held held' told (Ok v) read less = tt
+less_of left held held' told (Err Read) read less = absurd (read refl)
+less_of left held held' told (Err Write) read less = λ other. if_any left _ (λ bytes. less refl)
+less_of left held held' told (Err Memory) read less = λ other. absurd (other refl)
+
+pub only_of : (r : Result Verdict Fault) (A B : Type 0) → (IsErrOf r Read → ⊥) → (IsErrOf r Write → B) → IfErr r (λ fault. (A → ⊥) → (B → ⊥) → fault ≡ Memory)
+only_of (Ok v) A B read write = tt
+only_of (Err Read) A B read write = absurd (read refl)
+only_of (Err Write) A B read write = λ a b. absurd (b (write refl))
+only_of (Err Memory) A B read write = λ a b. refl

@@ -1,0 +1,180 @@
+-- What `clap` finds in the words that are exactly those of a command.
+use Rattle.std.proofs.Common.{zero, suc, ◌+◌, ◌-◌, subst, true, false, Result, Ok, Err, IfOk, ◌⊎◌, ◌<◌, inl, inr, ◌==◌, ◌≡◌, ◌∙◌, ℕ, List, [], ◌∷◌, Option, Some, None, refl, sym, ap, codes, arith}
+use Rattle.std.specs.Result.{result_ok}
+use Rattle.std.specs.Option.{ok_or}
+use Rattle.clap.proofs.OnLiterals.{clap_on_literals}
+use Rattle.std.proofs.lemmas.Option.{same_Some}
+use Rattle.std.proofs.lemmas.Str.Parse.{digit_from_value}
+use Rattle.std.proofs.lemmas.Bool.{ne_eqb}
+use Rattle.std.specs.Str.Parse.{digits_value, without_leading_plus}
+use Rattle.clap.specs.ValueTests.{is_unsigned_in}
+use Rattle.clap.proofs.ValueTestLemmas.{Accepts-accepts}
+use Rattle.clap.specs.declared.builder.value_parser.ValueParser.TheVariants as vp
+use Rattle.clap.specs.declared.error.Error.{Error}
+use Rattle.clap.specs.declared.error.kind.ErrorKind.{ErrorKind}
+use Rattle.clap.specs.declared.error.kind.ErrorKind.TheVariants.{OutOfMemory}
+use Rattle.clap.specs.Words.{HasKind, IsAmong, Kinds, kind_of, Text, is_simple, is_simple_and_free}
+use Rattle.xl_words.specs.declared.command.Command.{Command}
+use Rattle.xl_words.specs.declared.command.Command.TheVariants.{Replay, Show, Lists, Gen, Help, Version}
+use Rattle.xl_words.specs.declared.command.WordsFault.{WordsFault}
+use Rattle.xl_words.specs.declared.command.WordsFault.TheVariants.{Refused, Memory}
+use Rattle.xl_words.specs.Programs.{program}
+use Rattle.xl_words.proofs.Alone.{StandAlone}
+use Rattle.xl_words.specs.Commands.{command_of, reply_to, unless_error, IsExactly, IsRounds}
+
+pub simple : is_simple program ≡ true
+unfolding clap_on_literals
+simple = refl
+
+pub simple_and_free : is_simple_and_free program ≡ true
+unfolding clap_on_literals
+simple_and_free = refl
+
+-- words that are written out
+replay_is : (name : Text) → command_of (name ∷ codes "replay" ∷ []) ≡ Some Replay
+unfolding clap_on_literals
+replay_is name = refl
+
+show_is : (name : Text) → command_of (name ∷ codes "show" ∷ []) ≡ Some Show
+unfolding clap_on_literals
+show_is name = refl
+
+lists_is : (name : Text) → command_of (name ∷ codes "lists" ∷ []) ≡ Some Lists
+unfolding clap_on_literals
+lists_is name = refl
+
+help_is : (name : Text) → command_of (name ∷ codes "--help" ∷ []) ≡ Some Help
+unfolding clap_on_literals
+help_is name = refl
+
+short_help_is : (name : Text) → command_of (name ∷ codes "-h" ∷ []) ≡ Some Help
+unfolding clap_on_literals
+short_help_is name = refl
+
+version_is : (name : Text) → command_of (name ∷ codes "--version" ∷ []) ≡ Some Version
+unfolding clap_on_literals
+version_is name = refl
+
+short_version_is : (name : Text) → command_of (name ∷ codes "-V" ∷ []) ≡ Some Version
+unfolding clap_on_literals
+short_version_is name = refl
+
+-- other words that may be met
+help_of_a_command : (name : Text) → command_of (name ∷ codes "show" ∷ codes "--help" ∷ []) ≡ Some Help
+unfolding clap_on_literals
+help_of_a_command name = refl
+
+dashes_behind : (name : Text) → command_of (name ∷ codes "replay" ∷ codes "--" ∷ []) ≡ Some Replay
+unfolding clap_on_literals
+dashes_behind name = refl
+
+zero_in_front : (name : Text) → command_of (name ∷ codes "gen" ∷ codes "05" ∷ []) ≡ None
+unfolding clap_on_literals
+zero_in_front name = refl
+
+no_round : (name : Text) → command_of (name ∷ codes "gen" ∷ codes "0" ∷ []) ≡ None
+unfolding clap_on_literals
+no_round name = refl
+
+a_round_too_many : (name : Text) → command_of (name ∷ codes "gen" ∷ codes "1001" ∷ []) ≡ None
+unfolding clap_on_literals
+a_round_too_many name = refl
+
+a_word_more : (name : Text) → command_of (name ∷ codes "replay" ∷ codes "x" ∷ []) ≡ None
+unfolding clap_on_literals
+a_word_more name = refl
+
+another_word : (name : Text) → command_of (name ∷ codes "Replay" ∷ []) ≡ None
+unfolding clap_on_literals
+another_word name = refl
+
+name_alone : (name : Text) → command_of (name ∷ []) ≡ None
+unfolding clap_on_literals
+name_alone name = refl
+
+no_words : command_of [] ≡ None
+unfolding clap_on_literals
+no_words = refl
+
+gen_at : (name : Text) (k : ℕ) (ds : List ℕ) (n : ℕ) → k < 9 → is_unsigned_in 1 1000 ((49 + k) ∷ ds) ≡ true → digits_value 10 ((49 + k) ∷ ds) ≡ n
+    → command_of (name ∷ codes "gen" ∷ ((49 + k) ∷ ds) ∷ []) ≡ Some (Gen n)
+unfolding clap_on_literals
+gen_at name zero ds n small ok value = rw ok (ap (λ (m : ℕ). Some (Gen m)) value)
+gen_at name (suc zero) ds n small ok value = rw ok (ap (λ (m : ℕ). Some (Gen m)) value)
+gen_at name (suc (suc zero)) ds n small ok value = rw ok (ap (λ (m : ℕ). Some (Gen m)) value)
+gen_at name (suc (suc (suc zero))) ds n small ok value = rw ok (ap (λ (m : ℕ). Some (Gen m)) value)
+gen_at name (suc (suc (suc (suc zero)))) ds n small ok value = rw ok (ap (λ (m : ℕ). Some (Gen m)) value)
+gen_at name (suc (suc (suc (suc (suc zero))))) ds n small ok value = rw ok (ap (λ (m : ℕ). Some (Gen m)) value)
+gen_at name (suc (suc (suc (suc (suc (suc zero)))))) ds n small ok value = rw ok (ap (λ (m : ℕ). Some (Gen m)) value)
+gen_at name (suc (suc (suc (suc (suc (suc (suc zero))))))) ds n small ok value = rw ok (ap (λ (m : ℕ). Some (Gen m)) value)
+gen_at name (suc (suc (suc (suc (suc (suc (suc (suc zero)))))))) ds n small ok value = rw ok (ap (λ (m : ℕ). Some (Gen m)) value)
+gen_at name (suc (suc (suc (suc (suc (suc (suc (suc (suc k))))))))) ds n small ok value = absurd (omega (arith, small))
+
+gen_is : (name : Text) (d : ℕ) (ds : List ℕ) (n : ℕ) → IsRounds (d ∷ ds) n → command_of (name ∷ codes "gen" ∷ (d ∷ ds) ∷ []) ≡ Some (Gen n)
+gen_is name d ds n h =
+    let digit = digit_from_value d h.digits.1.0 in
+    let plus : (d == 43) ≡ false = ne_eqb d 43 (λ e. omega (arith, digit)) in
+    let same : without_leading_plus (d ∷ ds) ≡ d ∷ ds = rw plus refl in
+    let value = h.value in
+    let least = h.least in
+    let most = h.most in
+    let leading = h.leading in
+    let first : d ≡ 49 + (d - 49) = grind (arith, digit, leading) in
+    let small : d - 49 < 9 = omega (arith, digit) in
+    let ok : is_unsigned_in 1 1000 (d ∷ ds) ≡ true = Accepts-accepts false (vp.Unsigned 1 1000) (d ∷ ds)
+    (rw same h.digits, rw (same, value) (omega (arith, most)), rw (same, value) least, rw (same, value) most) in
+    subst (λ (x : ℕ). command_of (name ∷ codes "gen" ∷ (x ∷ ds) ∷ []) ≡ Some (Gen n)) (sym first)
+    (gen_at name (d - 49) ds n small (subst (λ (x : ℕ). is_unsigned_in 1 1000 (x ∷ ds) ≡ true) first ok)
+    (subst (λ (x : ℕ). digits_value 10 (x ∷ ds) ≡ n) first value))
+
+gen_text : (name t : Text) (n : ℕ) → IsRounds t n → command_of (name ∷ codes "gen" ∷ t ∷ []) ≡ Some (Gen n)
+gen_text name [] n h = let bad = h.digits.0 in absurd (omega (arith, bad))
+gen_text name (d ∷ ds) n h = gen_is name d ds n h
+
+-- exact words are what they say
+pub exactly : (words : List Text) (c : Command) → IsExactly words c → command_of words ≡ Some c
+exactly [] Replay w = absurd cc
+exactly [] Show w = absurd cc
+exactly [] Lists w = absurd cc
+exactly [] (Gen n) w = let bad = w.1 in absurd cc
+exactly [] Help (inl w) = absurd cc
+exactly [] Help (inr w) = absurd cc
+exactly [] Version (inl w) = absurd cc
+exactly [] Version (inr w) = absurd cc
+exactly (name ∷ rest) Replay w = rw w (replay_is name)
+exactly (name ∷ rest) Show w = rw w (show_is name)
+exactly (name ∷ rest) Lists w = rw w (lists_is name)
+exactly (name ∷ rest) (Gen n) w = rw w.1 (gen_text name w.0 n w.2)
+exactly (name ∷ rest) Help (inl w) = rw w (help_is name)
+exactly (name ∷ rest) Help (inr w) = rw w (short_help_is name)
+exactly (name ∷ rest) Version (inl w) = rw w (version_is name)
+exactly (name ∷ rest) Version (inr w) = rw w (short_version_is name)
+
+ok_of : (r : Result Command WordsFault) (c : Command) → result_ok r ≡ Some c → r ≡ Ok c
+ok_of (Ok d) c e = ap Ok (same_Some _ _ e)
+ok_of (Err fault) c e = absurd cc
+
+-- where `clap` answers an error
+pub given_by_error : (kinds : Kinds) (found : Option Command) (e : Error) (r : Result Command WordsFault) → HasKind kinds e → r ≡ reply_to (kind_of e) → (c : Command) → unless_error kinds found ≡ Some c → (r ≡ Ok c) ⊎ (r ≡ Err Memory)
+given_by_error kinds found e r (inl memory) is c asked = inr (is ∙ ap reply_to memory)
+given_by_error [] found e r (inr none) is c asked = absurd none
+given_by_error (kind ∷ []) found e r (inr (inl same)) is c asked = inl (is ∙ ap reply_to same ∙ ok_of (reply_to kind) c asked)
+given_by_error (kind ∷ []) found e r (inr (inr none)) is c asked = absurd none
+given_by_error (kind ∷ next ∷ kinds) found e r (inr among) is c asked = absurd cc
+
+pub found_by_error : (kinds : Kinds) (found : Option Command) (e : Error) (r : Result Command WordsFault) → StandAlone kinds → HasKind kinds e → r ≡ reply_to (kind_of e) → IfOk r (λ c. unless_error kinds found ≡ Some c)
+found_by_error kinds found e (Ok c) alone (inl memory) is = cc (is ∙ ap reply_to memory)
+found_by_error kinds found e (Ok c) alone (inr among) is = rw (alone c (kind_of e) among (sym is)) (ap result_ok (sym is))
+found_by_error kinds found e (Err fault) alone has is = tt
+
+-- where it finds a command
+pub given_by_match : (o : Option Command) (r : Result Command WordsFault) → r ≡ ok_or o Refused → (c : Command) → o ≡ Some c → (r ≡ Ok c) ⊎ (r ≡ Err Memory)
+given_by_match o r is c e = inl (is ∙ rw e refl)
+
+pub found_by_match : (o : Option Command) (P : Command → Type 0) (r : Result Command WordsFault) → r ≡ ok_or o Refused → ((c : Command) → o ≡ Some c → P c) → IfOk r P
+found_by_match (Some d) P r is gives = rw is (gives d refl)
+found_by_match None P r is gives = rw is tt
+
+-- where there is no error, the command is the one that was found
+pub found_is : (kinds : Kinds) (found : Option Command) → kinds ≡ [] → unless_error kinds found ≡ found
+found_is kinds found none = rw none refl

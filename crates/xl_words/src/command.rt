@@ -1,0 +1,105 @@
+ghost use Rattle.std.specs.Prelude.{◌≡◌, ◌⊎◌, Ok, Err, Some, IfOk};
+ghost use Rattle.clap.specs.Words.{rows_of, found_of, subcommand_rows_of};
+ghost use Rattle.xl_words.specs.Commands.{command_of, command_found, command_named, reply_to, words_of};
+ghost use Rattle.xl_words.specs.Commands.{IsExactly};
+
+use crate::program::program;
+use crate::rounds::rounds_of;
+use clap::ArgMatches;
+use clap::error::ErrorKind;
+use std::alloc::Global;
+
+/// What the words ask the program to do.
+#[derive(Clone, Copy, Debug, PartialEq, Eq)]
+pub enum Command {
+    /// Runs a schedule, and writes what each node does.
+    Replay,
+    /// Writes what the frames of a stream say.
+    Show,
+    /// Compares the lists of a schedule, pair by pair.
+    Lists,
+    /// Makes a schedule of so many rounds, 1 to 1,000, and runs it.
+    Gen(u32),
+    Help,
+    Version,
+}
+
+/// Why the words ask nothing.
+#[derive(Clone, Copy, Debug, PartialEq, Eq)]
+pub enum WordsFault {
+    /// They are no command.
+    Refused,
+    /// Memory was wanting.
+    Memory,
+}
+
+impl Command {
+    /// What the words ask, of which the first is the program's name.
+    pub fn of(alloc: Global, words: &[String]) -> Result<Command, WordsFault>
+        // Where the words are exactly those of a command, or of help or the version, it is answered.
+        ensures exact { (command : Command) → IsExactly (words_of words.now) command
+            → (result ≡ Ok command) ⊎ (result ≡ Err WordsFault.Memory) }
+        // So is whatever `clap` gives, and nothing else.
+        ensures given { (command : Command) → command_of (words_of words.now) ≡ Some command
+            → (result ≡ Ok command) ⊎ (result ≡ Err WordsFault.Memory) }
+        ensures found { IfOk result (λ command. command_of (words_of words.now) ≡ Some command) }
+    {
+        found(alloc, words)
+    }
+}
+
+/// What `clap` finds in the words, or what it says in place of a command.
+fn found(alloc: Global, words: &[String]) -> Result<Command, WordsFault>
+    ensures given { (command : Command) → command_of (words_of words.now) ≡ Some command
+        → (result ≡ Ok command) ⊎ (result ≡ Err WordsFault.Memory) }
+    ensures found { IfOk result (λ command. command_of (words_of words.now) ≡ Some command) }
+{
+    let Ok(program) = program(alloc) else {
+        return Err(WordsFault::Memory);
+    };
+    match program.try_get_matches_from(words) {
+        Ok(matches) => named_in(&matches).ok_or(WordsFault::Refused),
+        Err(error) => reply_to(error.kind()),
+    }
+}
+
+/// The command of what `clap` found.
+fn named_in(matches: &ArgMatches<'_>) -> Option<Command>
+    ensures { result ≡ command_found (subcommand_rows_of matches.now) }
+{
+    match matches.subcommand() {
+        Some((name, inner)) => named(name, inner),
+        None => None,
+    }
+}
+
+/// The command of this name and these matches of its own.
+fn named(name: &str, matches: &ArgMatches<'_>) -> Option<Command>
+    ensures { result ≡ command_named name.now (rows_of (found_of matches.now)) }
+{
+    if name == "replay" {
+        return Some(Command::Replay);
+    }
+    if name == "show" {
+        return Some(Command::Show);
+    }
+    if name == "lists" {
+        return Some(Command::Lists);
+    }
+    if name == "gen" {
+        return rounds_of(matches).map(Command::Gen);
+    }
+    None
+}
+
+/// What is answered where `clap` gives this kind of error.
+fn reply_to(kind: ErrorKind) -> Result<Command, WordsFault>
+    ensures { result ≡ reply_to kind }
+{
+    match kind {
+        ErrorKind::DisplayHelp => Ok(Command::Help),
+        ErrorKind::DisplayVersion => Ok(Command::Version),
+        ErrorKind::OutOfMemory => Err(WordsFault::Memory),
+        _ => Err(WordsFault::Refused),
+    }
+}

@@ -1,0 +1,68 @@
+// What the program says of itself.
+ghost use Rattle.std.specs.Prelude.{◌≡◌, ◌++◌, OnOk};
+ghost use Rattle.std.specs.String.{string_bytes};
+ghost use Rattle.xl_words.specs.Help.{usage_text, commands_text, streams_text, statuses_text, help_text, version_text};
+
+use std::alloc::AllocError;
+
+/// Adds what each command does, what it reads and writes, how it may end, and where to read on.
+pub fn push_help(text: &mut String) -> Result<(), AllocError>
+    ensures { OnOk result (string_bytes text.new ≡ string_bytes text.old ++ help_text) }
+{
+    push_usage(text)?;
+    push_commands(text)?;
+    push_streams(text)?;
+    push_statuses(text)?;
+    Ok(())
+}
+
+#[tactic(auto, unfolding(crate::specs::Help::usage_text))]
+fn push_usage(text: &mut String) -> Result<(), AllocError>
+    ensures { OnOk result (string_bytes text.new ≡ string_bytes text.old ++ usage_text) }
+{
+    text.push_str("xl is the agreement layer of the XRP Ledger.\n\n")?;
+    text.push_str("usage: xl COMMAND\n\n")?;
+    Ok(())
+}
+
+#[tactic(auto, unfolding(crate::specs::Help::commands_text))]
+fn push_commands(text: &mut String) -> Result<(), AllocError>
+    ensures { OnOk result (string_bytes text.new ≡ string_bytes text.old ++ commands_text) }
+{
+    text.push_str("  replay         runs a schedule, and writes what each node does\n")?;
+    text.push_str("  lists          compares the trusted lists of a schedule, pair by pair\n")?;
+    text.push_str("  show           writes what each frame of a stream says\n")?;
+    text.push_str("  -h, --help     writes this\n")?;
+    text.push_str("  -V, --version  writes the version\n\n")
+}
+
+#[tactic(auto, unfolding(crate::specs::Help::streams_text))]
+fn push_streams(text: &mut String) -> Result<(), AllocError>
+    ensures { OnOk result (string_bytes text.new ≡ string_bytes text.old ++ streams_text) }
+{
+    text.push_str(
+        "A command reads standard input and writes standard output. replay and lists read\n",
+    )?;
+    text.push_str("a schedule, which is text and begins with the line: xl-schedule 1\n")?;
+    text.push_str("show reads the bytes of frames.\n\n")?;
+    Ok(())
+}
+
+#[tactic(auto, unfolding(crate::specs::Help::statuses_text))]
+fn push_statuses(text: &mut String) -> Result<(), AllocError>
+    ensures { OnOk result (string_bytes text.new ≡ string_bytes text.old ++ statuses_text) }
+{
+    text.push_str("status 0  all is written\n")?;
+    text.push_str("       1  all is written, and two nodes forked\n")?;
+    text.push_str("       2  the words are no command\n")?;
+    text.push_str("       3  the input is refused, and the last line says where and why\n")?;
+    text.push_str("       4  a read failed; 5  a write failed; 6  memory was wanting\n\n")?;
+    text.push_str("More is in the manual page docs/xl.1, and all formats are in docs/FORMATS.md.\n")
+}
+
+/// Adds the program's name and version.
+pub fn push_version(text: &mut String) -> Result<(), AllocError>
+    ensures { OnOk result (string_bytes text.new ≡ string_bytes text.old ++ version_text) }
+{
+    text.push_str("xl 0.1.0\n")
+}

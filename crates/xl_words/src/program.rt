@@ -1,0 +1,32 @@
+// The program as `clap` sees it: its commands, and that it has help and a version.
+ghost use Rattle.std.specs.Prelude.{◌≡◌, IfOk, false};
+ghost use Rattle.clap.specs.Words.{app_of, rule_of};
+ghost use Rattle.xl_words.specs.Programs.{program, rounds_rule};
+
+use clap::{Arg, ArgAction, Command};
+use std::alloc::{AllocError, Global};
+
+/// The number of rounds, as an argument.
+fn rounds_argument<'a>(alloc: Global) -> Arg<'a>
+    ensures rule { rule_of result ≡ rounds_rule }
+    ensures local { result.global ≡ false }
+{
+    Arg::new(alloc, "rounds")
+        .required(true)
+        .action(ArgAction::Set)
+        .value_parser(clap::value_parser!(u64).range(1..=1000))
+}
+
+pub fn program<'a>(alloc: Global) -> Result<Command<'a>, AllocError>
+    ensures { IfOk result (λ command. app_of command ≡ program) }
+{
+    let rounds = Command::new(alloc, "gen").arg(rounds_argument(alloc))?;
+    Command::new(alloc, "xl")
+        .version("0.1.0")
+        .subcommand_required(true)
+        .disable_help_subcommand(true)
+        .subcommand(Command::new(alloc, "replay"))?
+        .subcommand(Command::new(alloc, "show"))?
+        .subcommand(Command::new(alloc, "lists"))?
+        .subcommand(rounds)
+}
