@@ -1,12 +1,14 @@
 -- Events that come one after the other.
 use Rattle.std.proofs.Common.{◌≡◌, ℕ, suc, ◌+◌, ◌-◌, ◌≤◌, Bool, cond, List, [], ◌∷◌, ◌++◌, arith, refl, ap, sym, ◌∙◌, append_assoc, subst, Result, Ok, Err, OnOk}
-use Rattle.std.specs.Prelude.{map, count_by}
+use Rattle.std.specs.Prelude.{map, count_by, length}
 use Rattle.std.specs.List.{flat_map}
 use Rattle.std.proofs.lemmas.Grind.{flat_map-append}
-use Rattle.std.proofs.lemmas.List.{append-nil, map-append}
+use Rattle.std.proofs.lemmas.List.{append-nil, length-append, map-append}
 use Rattle.std.proofs.lemmas.List.Sums.{count_by-le-length, sum_by-append}
 use Rattle.xl_base.specs.declared.memory.OutOfMemory.{OutOfMemory}
+use Rattle.xl_base.specs.declared.ids.TxId.{TxId}
 use Rattle.xl_sched.specs.declared.event.Event.{Event}
+use Rattle.xl_sched.specs.declared.event.What.TheVariants.{Timers, Submit, All}
 use Rattle.xl_world.specs.declared.plan.PlanNode.{PlanNode}
 use Rattle.xl_world.specs.Plans.{up_from}
 use Rattle.xl_world.proofs.Numbers.{up_from_more}
@@ -15,7 +17,7 @@ use Rattle.xl_world.specs.World.{World}
 use Rattle.xl_world.specs.Schedule.{after_event, outcomes}
 use Rattle.xl_gen.specs.declared.counts.Counts.{Counts}
 use Rattle.xl_gen.specs.declared.generator.Generator.{Generator}
-use Rattle.xl_gen.specs.Schedule.{after, events_of, node_of, plan, told}
+use Rattle.xl_gen.specs.Schedule.{after, event_at, events_at, events_of, happening, moment_of, node_of, plan, second_lines, submits, submitted, told, tx_of}
 use Rattle.xl_gen.specs.Summaries.{counted, is_built, is_refused, Comes}
 use Rattle.xl_replay.specs.Headlines.{is_full}
 
@@ -130,3 +132,36 @@ nodes_first = refl
 pub nodes_last : map node_of (up_from 1 7) ≡ plan
 unfolding up_from
 nodes_last = refl
+
+-- all that happens in a second
+pub come_all : (g h i j : Generator) (m s : ℕ) (r : Result (Unit {0}) OutOfMemory) → m ≡ moment_of s → Comes g h (events_at m (submitted s)) → Comes h i (event_at m Timers ∷ []) → OnOk r (Comes i j (event_at m All ∷ [])) → OnOk r (Comes g j (events_of s))
+come_all g h i j m s r at first timers all =
+    let parts : (events_at m (submitted s) ++ event_at m Timers ∷ []) ++ event_at m All ∷ [] ≡ events_at m (happening s) =
+    append_assoc (events_at m (submitted s)) (event_at m Timers ∷ []) (event_at m All ∷ []) ∙ sym (map-append (event_at m) (submitted s) (Timers ∷ All ∷ [])) in
+    subst (λ (k : ℕ). OnOk r (Comes g j (events_at k (happening s)))) at
+    (subst (λ es. OnOk r (Comes g j es)) parts
+    (come_last g i j (events_at m (submitted s) ++ event_at m Timers ∷ []) (event_at m All ∷ []) r
+    (come_both g h i (events_at m (submitted s)) (event_at m Timers ∷ []) first timers) all))
+
+-- what is submitted at a node, by what the calls of the code answered
+pub come_submit : (g h : Generator) (at node number k : ℕ) (t : TxId) (r : Result (Unit {0}) OutOfMemory) → k ≡ node → t ≡ tx_of number → OnOk r (Comes g h (event_at at (Submit k t) ∷ [])) → OnOk r (Comes g h (events_at at (submits (node ∷ []) number)))
+come_submit g h at node number k t r is_node is_tx comes =
+    subst (λ (n : ℕ). OnOk r (Comes g h (event_at at (Submit n (tx_of number)) ∷ []))) is_node
+    (subst (λ (x : TxId). OnOk r (Comes g h (event_at at (Submit k x) ∷ []))) is_tx comes)
+
+-- how many lines there are before the first second, and with one more
+pub lines_first : 9 ≡ 9 + length (flat_map second_lines (up_from 1 0))
+unfolding up_from
+lines_first = refl
+
+pub lines_more : (m count now more : ℕ) → 1 ≤ m → count ≡ 9 + length (flat_map second_lines (up_from 1 (m - 1))) → more ≡ length (second_lines m) → now ≡ count + more → now ≡ 9 + length (flat_map second_lines (up_from 1 (m + 1 - 1)))
+lines_more m count now more least is its sum =
+    let at : 1 + (m - 1) ≡ m = omega (arith, least) in
+    let next : m + 1 - 1 ≡ suc (m - 1) = omega (arith, least) in
+    let all : flat_map second_lines (up_from 1 (suc (m - 1))) ≡ flat_map second_lines (up_from 1 (m - 1)) ++ second_lines (1 + (m - 1)) =
+    ap (flat_map second_lines) (up_from_more 1 (m - 1))
+    ∙ (flat_map-append second_lines (up_from 1 (m - 1)) ((1 + (m - 1)) ∷ []) ∙ ap (λ xs. flat_map second_lines (up_from 1 (m - 1)) ++ xs) (append-nil (second_lines (1 + (m - 1))))) in
+    let long : length (flat_map second_lines (up_from 1 (suc (m - 1)))) ≡ length (flat_map second_lines (up_from 1 (m - 1))) + length (second_lines m) =
+    ap length all ∙ (length-append (flat_map second_lines (up_from 1 (m - 1))) (second_lines (1 + (m - 1))) ∙ ap (λ (k : ℕ). length (flat_map second_lines (up_from 1 (m - 1))) + length (second_lines k)) at) in
+    let total : now ≡ 9 + length (flat_map second_lines (up_from 1 (suc (m - 1)))) = omega (arith, is, its, sum, long) in
+    total ∙ ap (λ (k : ℕ). 9 + length (flat_map second_lines (up_from 1 k))) (sym next)

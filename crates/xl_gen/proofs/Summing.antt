@@ -93,7 +93,10 @@ no_fork steps none = no_fork_in steps none (first_fork (seven steps).reports) re
 
 -- the parts of a summary
 parts : (rounds : ℕ) (w : World) (c : Counts) → summary_of rounds w c ≡ (counts_text rounds w c ++ short_lines w) ++ (forged_line w.forged ++ agreement_line opened.names (first_fork w.reports))
-parts rounds w c = sym (append_assoc (counts_text rounds w c) (short_lines w) (forged_line w.forged ++ agreement_line opened.names (first_fork w.reports)))
+parts rounds w c =
+    let agreement : List ℕ = agreement_line opened.names (first_fork w.reports) in
+    ap (λ (xs : List ℕ). counts_text rounds w c ++ xs) (append_assoc (short_lines w) (forged_line w.forged) agreement)
+    ∙ sym (append_assoc (counts_text rounds w c) (short_lines w) (forged_line w.forged ++ agreement))
 
 pub summarized : (rounds : ℕ) → IsSummary rounds
 summarized rounds =

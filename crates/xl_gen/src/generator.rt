@@ -53,13 +53,22 @@ fn everyone() -> List
     List::new(&[1, 2, 3, 4, 5, 6, 7], QUORUM).unwrap()
 }
 
+/// The member of a number that one may have.
+fn member(number: u32) -> NodeNo
+    requires least { 1 ≤ number }
+    requires greatest { number ≤ GREATEST_NODE_NO }
+    ensures { result ≡ number }
+{
+    NodeNo::new(number).unwrap()
+}
+
 fn node(number: u32) -> PlanNode
     requires least { 1 ≤ number }
     requires most { number ≤ GREATEST_NODE_NO }
     ensures { result ≡ node_of number }
 {
     PlanNode {
-        me: NodeNo::new(number).unwrap(),
+        me: member(number),
         list: everyone(),
         validating: true,
         moment: FIRST_MOMENT,
@@ -136,7 +145,7 @@ impl Generator {
         requires most { node ≤ GREATEST_NODE_NO }
         ensures { OnOk result (Comes self.old self.new (events_at at (submits (node ∷ []) number))) }
     {
-        let node = NodeNo::new(node).unwrap();
+        let node = member(node);
         let tx = tx(number);
         self.happen(at, What::Submit { node, tx })
     }

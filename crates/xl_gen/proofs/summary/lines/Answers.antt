@@ -1,25 +1,35 @@
-use Rattle.std.proofs.Common.{rules, ◌≡◌, ◌≤◌, ◌++◌, ◌+◌, length, option_map, OnOk, ℕ, ◌-◌, ◌*◌, ◌<◌, ◌/◌, ◌%◌, Bool, true, false, nat_eq, nat_lt, List, [], ◌∷◌, slice_index_or, slice_set, bit_and, bit_or, Fits, w8, w32, w64, Bor, MutBor}
-use Rattle.std.specs.String.{string_bytes}
-use Rattle.xl_gen.specs.Schedule.{lines as lines_of_schedule}
+use Rattle.std.proofs.Common.{◌≡◌, ◌≤◌, ℕ, ◌+◌, ◌-◌, ◌*◌, arith, refl, length, ap, ◌∙◌}
+use Rattle.std.specs.List.{flat_map}
+use Rattle.xl_world.specs.Plans.{up_from}
 use Rattle.xl_gen.specs.Schedule.{second_lines}
-use Rattle.xl_gen.specs.Summaries.{counts_text, summary_of}
-use Rattle.xl_sched.specs.Reading.{opened}
-use Rattle.xl_world.specs.Forks.{first_fork}
-use Rattle.xl_world.specs.Seen.{fork_seen}
+use Rattle.xl_gen.proofs.Coming.{lines_first, lines_more}
 use Rattle.xl_gen.proofs.summary.lines.Goals as goal
 
--- src/summary.rt:39:5
 pub loop-second-init : goal.loop-second-init
-loop-second-init c = ?
+loop-second-init c = (lines_first, omega arith)
 
--- src/summary.rt:40:9
 pub overflow_add-count : goal.overflow_add-count
-overflow_add-count c = ?
+overflow_add-count c =
+    let few = c.loop-second.invariant.1 in
+    let most = c.second_lines-count.ensures.most in
+    let below = c.loop-second-test.true in
+    let rounds = c.requires in
+    omega (arith, few, most, below, rounds)
 
--- src/summary.rt:39:5
 pub loop-second-preserved : goal.loop-second-preserved
-loop-second-preserved c = ?
+loop-second-preserved c =
+    let few = c.loop-second.invariant.1 in
+    let most = c.second_lines-count.ensures.most in
+    let least = c.loop-second.auto.second in (
+      lines_more c.loop-second.second c.loop-second.count (c.loop-second.count + c.second_lines-count.result) c.second_lines-count.result least c.loop-second.invariant.0 c.second_lines-count.ensures.value refl,
+      omega (arith, few, most, least),
+    )
 
--- src/summary.rt:34:1
 pub returns : goal.returns
-returns c = ?
+returns c =
+    let above = c.loop-second-test.false in
+    let end = c.loop-second.auto.second-end (omega arith) in
+    let last : c.loop-second.second - 1 ≡ 4 * c.args.rounds + 7 = omega (arith, above, end) in
+    let all : c.loop-second.count ≡ 9 + length (flat_map second_lines (up_from 1 (4 * c.args.rounds + 7))) =
+    c.loop-second.invariant.0 ∙ ap (λ (k : ℕ). 9 + length (flat_map second_lines (up_from 1 k))) last in
+    omega (arith, all)

@@ -16,4 +16,8 @@ loop-second-preserved c =
     (come_second c.args.self.now c.loop-second.self c.pass.new.self c.loop-second.second c.loop-second.auto.second c.loop-second.invariant c.in_ok-pass.ensures)
 
 pub returns : goal.returns
-returns c = ?
+returns c =
+    let above = c.loop-second-test.false in
+    let end = c.loop-second.auto.second-end (omega arith) in
+    let last : c.loop-second.second - 1 ≡ 4 * c.args.rounds + 7 = omega (arith, above, end) in
+    subst (λ (k : ℕ). Comes c.args.self.now c.loop-second.self (flat_map events_of (up_from 1 k))) last c.loop-second.invariant
