@@ -1,5 +1,5 @@
 // A whole run of `xl gen`.
-ghost use Rattle.std.specs.Prelude.{◌≡◌, ◌≤◌, ◌⊎◌, [], IfOk};
+ghost use Rattle.std.specs.Prelude.{◌≡◌, ◌≢◌, ◌≤◌, ◌⊎◌, [], IfOk};
 ghost use Rattle.std.specs.String.{string_bytes};
 ghost use Rattle.xl_base.specs.Faults.{Rose};
 ghost use Rattle.xl_io.specs.Sinks.{GrewByFront};
@@ -12,7 +12,7 @@ use crate::generator::Generator;
 use crate::summary::push_summary;
 use std::alloc::Global;
 use xl_base::{OutOfMemory, Status};
-use xl_io::{Failed, Sink, write_all};
+use xl_io::{Sink, write_all};
 use xl_lines::Verdict;
 use xl_world::first_fork;
 
@@ -23,7 +23,8 @@ pub const MOST_ROUNDS: u32 = 1_000;
 fn told(alloc: Global, rounds: u32, text: &mut String) -> Result<Verdict, OutOfMemory>
     requires rounds { rounds ≤ MOST_ROUNDS }
     requires empty { string_bytes text.old ≡ [] }
-    ensures { IfOk result (λ verdict. closes (string_bytes text.new) verdict ≡ summary rounds) }
+    ensures told { IfOk result (λ verdict. closes (string_bytes text.new) verdict ≡ summary rounds) }
+    ensures good { IfOk result (λ verdict. verdict ≢ Verdict.Refused) }
 {
     let mut generator = Generator::open(alloc)?;
     generator.run(rounds)?;
@@ -46,6 +47,7 @@ fn told(alloc: Global, rounds: u32, text: &mut String) -> Result<Verdict, OutOfM
 /// Makes the schedule of so many rounds, 1 to 1,000, replays it in memory, and writes its summary to the output.
 ///
 /// The status says what the summary says, or why it wasn't written whole.
+#[tactic(auto, using(crate::proofs::Summing::summarized))]
 pub fn generate<O: Sink>(alloc: Global, rounds: u32, output: &mut O) -> Status
     requires { rounds ≤ MOST_ROUNDS }
     // The whole summary is written, and it says what the status says.
@@ -71,9 +73,12 @@ pub fn generate<O: Sink>(alloc: Global, rounds: u32, output: &mut O) -> Status
         Ok(verdict) => verdict,
         Err(OutOfMemory) => return Status::OutOfMemory,
     };
-    match (write_all(output, text.as_bytes()), verdict) {
-        (Err(Failed), _) => Status::WriteFault,
-        (Ok(()), Verdict::Found) => Status::Fork,
-        (Ok(()), _) => Status::Done,
+    let Ok(()) = write_all(output, text.as_bytes()) else {
+        return Status::WriteFault;
+    };
+    match verdict {
+        Verdict::Good => Status::Done,
+        Verdict::Found => Status::Fork,
+        Verdict::Refused => unreachable!(),
     }
 }

@@ -81,7 +81,8 @@ abbrev len_known : Option (List ℕ) → ℕ
 len_known None = 0
 len_known (Some xs) = length xs
 
-less_says : (before after : Option (List ℕ)) (text : List ℕ) → GrewByLess before after text → IsWritten before after text → ⊥
+-- a text of which some is missing isn't written whole
+pub less_says : (before after : Option (List ℕ)) (text : List ℕ) → GrewByLess before after text → IsWritten before after text → ⊥
 less_says before after text less whole =
     let held = whole.0 in
     let front = less.0 in
