@@ -27,6 +27,7 @@ pub(crate) fn draw<O, E, P: History<O, E>, R: Wait>(
     ensures drawn { IfSome result (λ t. seat.new.me ≡ (waiting seat.old.me.0 t, seat.old.me.1)) }
     ensures range { IfSome result (λ t. (seat.old.me.0.knows.drawn ≤ t) × (t < limit)) }
     ensures full { IfNone result (seat.new.me ≡ (counting seat.old.me.0 limit, seat.old.me.1)) }
+    ensures within { IfNone result (seat.old.me.0.knows.drawn ≤ limit) }
 {
     let mut ticket = top.load::<Brand>(seat, TICKET);
     for _ in rt.forever() {

@@ -55,6 +55,7 @@ impl<O: Drop, E: Drop, P: History<O, E>> TicketLock<O, E, P> {
         ensures known { IfOk result (λ turn. knows turn ≡ with_drawn (known pass.old) (length turn.journal + 1)) }
 
         ensures full { IfErr result (λ full. full.0 ≡ limit_of self.now) }
+        ensures within { OnErr result ((known pass.old).drawn ≤ limit_of self.now) }
         ensures pass { OnErr result (IsPassOf self.now pass.new) }
         ensures refused { OnErr result (known pass.new ≡ with_drawn (known pass.old) (limit_of self.now)) }
     {

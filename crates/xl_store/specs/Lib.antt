@@ -1,0 +1,6 @@
+pub mod Entries
+pub mod Outcomes
+pub mod Homes
+pub mod Calls
+pub mod Stores
+pub mod Closing

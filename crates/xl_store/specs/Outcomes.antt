@@ -1,0 +1,44 @@
+-- How a save was answered, as the answer of the call tells that asked it.
+-- Source: what the code of this crate relies on. No public clause cites this file.
+use Rattle.std.specs.Prelude.{ℕ, Result, Ok, Err, Some, None}
+use Rattle.std.specs.declared.option.Option.{Option}
+use Rattle.xl_core.specs.declared.beat.Beat.{Beat}
+use Rattle.xl_core.specs.declared.beat.Beat.TheVariants as beat
+use Rattle.xl_core.specs.declared.beat.Issued.{Issued}
+use Rattle.xl_core.specs.declared.beat.Issued.TheVariants as issued
+use Rattle.xl_core.specs.declared.refusal.Refusal.{Refusal}
+use Rattle.xl_core.specs.Node.{Save}
+use Rattle.xl_core.specs.Node.Save.{Kept, Failed}
+use Rattle.xl_core.specs.Replies as replies
+use Rattle.xl_store.specs.declared.entry.Saved.{Saved}
+use Rattle.xl_store.specs.declared.entry.Saved.TheVariants as saved
+
+-- a failure, if there was one
+abbrev pub failure_in : Save → Option Saved
+failure_in Kept = None
+failure_in (Failed count) = Some (saved.Failed count)
+
+-- a refusal tells a failure, or that no save was asked
+abbrev pub outcome_told : Refusal → Option Saved
+outcome_told why = failure_in (replies.save_of why)
+
+-- of a call that issues
+abbrev pub outcome_in : {X : Type 0} → Result X Refusal → Option Saved
+outcome_in (Ok done) = Some saved.Ok
+outcome_in (Err why) = outcome_told why
+
+-- of a ledger that was built and validated so
+abbrev pub outcome_as : Issued → Option Saved
+outcome_as issued.Full = Some saved.Ok
+outcome_as issued.Partial = Some saved.Ok
+outcome_as issued.Silent = None
+outcome_as (issued.Refused why) = outcome_told why
+
+-- of a timer
+abbrev pub outcome_at : Beat → Option Saved
+outcome_at beat.Nothing = None
+outcome_at beat.Closed = None
+outcome_at beat.Updated = None
+outcome_at (beat.Switched seq id) = None
+outcome_at (beat.NoRoom limit) = None
+outcome_at (beat.Built seq id moved_on how) = outcome_as how

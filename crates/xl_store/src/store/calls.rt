@@ -1,0 +1,211 @@
+ghost use Rattle.std.specs.Prelude.{◌≡◌, ◌≤◌, length, IfOk, IfErr, IsSome};
+ghost use Rattle.xl_base.specs.declared.moments.TheConstants.{GREATEST_MILLIS};
+ghost use Rattle.xl_tags.specs.Rings.{key_of};
+ghost use Rattle.xl_wire.specs.declared.lengths.TheConstants.{LONGEST_FRAME};
+ghost use Rattle.xl_core.specs.Answers.{Beats, Done, Told};
+ghost use Rattle.xl_core.specs.Replies.{taken_answer, done_answer};
+ghost use Rattle.xl_core.specs.declared.event.CoreEvent.TheVariants.{Issue, Frame, Timer, Submit, Greet, Stop, Stopped};
+ghost use Rattle.xl_store.specs.Stores.{start_of, IsOf, Called, Drained, HandedOut, Refused};
+
+use super::{Pass, Store, StoreEnd};
+use crate::entry::{copy_of, note};
+use crate::outcome;
+use std::sync::Wait;
+use xl_base::{LedgerId, Millis, NodeNo, Seq, TxId};
+use xl_core::{Beat, CoreEvent, Refusal, Report, Taken};
+use xl_io::Keeper;
+use xl_ledger::Branch;
+
+/// The core's calls. Each takes one turn, which may have to wait for others, and answers what the core's step answers
+/// after all that the pass has then seen. Where there is no turn nothing happens at the core.
+impl<B: Branch + Drop, K: Keeper + Drop> Store<B, K> {
+    /// Hears bytes that come, and tells what was taken, or why they are refused.
+    pub fn frame<W: Wait>(
+        &self,
+        rt: &W,
+        pass: &mut Pass,
+        now: Millis,
+        bytes: &[u8],
+    ) -> Result<Result<Taken, Refusal>, StoreEnd>
+        requires pass { IsOf self.now pass.old }
+        requires moment { now ≤ GREATEST_MILLIS }
+        ensures pass { IsOf self.now pass.new }
+        ensures called { IfOk result (λ answer.
+            Called self.now pass.old (Frame now bytes.now) (taken_answer answer) pass.new) }
+        ensures refused { IfErr result (λ end. Refused self.now pass.old end pass.new) }
+    {
+        let copy = copy_of(self.alloc, bytes)?;
+        let (mut turn, page) = self.enter(rt, pass, CoreEvent::Frame { now, bytes: copy })?;
+        let answer = turn.object.core.frame(now, bytes);
+        self.lock.finish(pass, turn, page);
+        Ok(answer)
+    }
+
+    /// Looks at the votes and lets the round go on. What is validated then is first saved with the keeper.
+    pub fn timer<W: Wait>(
+        &self,
+        rt: &W,
+        pass: &mut Pass,
+        now: Millis,
+    ) -> Result<Beat, StoreEnd>
+        requires pass { IsOf self.now pass.old }
+        requires moment { now ≤ GREATEST_MILLIS }
+        ensures pass { IsOf self.now pass.new }
+        ensures called { IfOk result (λ beat. Called self.now pass.old (Timer now) (Beats beat) pass.new) }
+        ensures refused { IfErr result (λ end. Refused self.now pass.old end pass.new) }
+    {
+        let (mut turn, mut page) = self.enter(rt, pass, CoreEvent::Timer { now })?;
+        let beat = turn.object.timer(now);
+        note(&mut page, outcome::of_beat(&beat));
+        self.lock.finish(pass, turn, page);
+        Ok(beat)
+    }
+
+    /// Hands a transaction in, which is pending from then on, or tells why it is refused.
+    pub fn submit<W: Wait>(
+        &self,
+        rt: &W,
+        pass: &mut Pass,
+        now: Millis,
+        tx: TxId,
+    ) -> Result<Result<(), Refusal>, StoreEnd>
+        requires pass { IsOf self.now pass.old }
+        requires moment { now ≤ GREATEST_MILLIS }
+        ensures pass { IsOf self.now pass.new }
+        ensures called { IfOk result (λ answer.
+            Called self.now pass.old (Submit now tx) (done_answer answer) pass.new) }
+        ensures refused { IfErr result (λ end. Refused self.now pass.old end pass.new) }
+    {
+        let (mut turn, page) = self.enter(rt, pass, CoreEvent::Submit { now, tx })?;
+        let answer = turn.object.core.submit(now, tx);
+        self.lock.finish(pass, turn, page);
+        Ok(answer)
+    }
+
+    /// Saves a sequence with the keeper and issues its validation, or tells why it is refused.
+    pub fn issue<W: Wait>(
+        &self,
+        rt: &W,
+        pass: &mut Pass,
+        now: Millis,
+        seq: Seq,
+        id: LedgerId,
+        full: bool,
+    ) -> Result<Result<(), Refusal>, StoreEnd>
+        requires pass { IsOf self.now pass.old }
+        requires moment { now ≤ GREATEST_MILLIS }
+        ensures pass { IsOf self.now pass.new }
+        ensures called { IfOk result (λ answer.
+            Called self.now pass.old (Issue now seq id full) (done_answer answer) pass.new) }
+        ensures refused { IfErr result (λ end. Refused self.now pass.old end pass.new) }
+    {
+        let event = CoreEvent::Issue { now, seq, id, full };
+        let (mut turn, mut page) = self.enter(rt, pass, event)?;
+        let answer = turn.object.issue(now, seq, id, full);
+        note(&mut page, outcome::of_issue(&answer));
+        self.lock.finish(pass, turn, page);
+        Ok(answer)
+    }
+
+    /// Greets a peer, a link to which has opened, with the chain on which the round is. A peer is one of the core that
+    /// the store was opened with.
+    pub fn greet<W: Wait>(
+        &self,
+        rt: &W,
+        pass: &mut Pass,
+        member: NodeNo,
+    ) -> Result<(), StoreEnd>
+        requires pass { IsOf self.now pass.old }
+        requires peer { IsSome (key_of (start_of self.now).node.keys member) }
+        ensures pass { IsOf self.now pass.new }
+        ensures called { IfOk result (λ _. Called self.now pass.old (Greet member) Done pass.new) }
+        ensures refused { IfErr result (λ end. Refused self.now pass.old end pass.new) }
+    {
+        let (mut turn, page) = self.enter(rt, pass, CoreEvent::Greet { member })?;
+        turn.object.core.greet(member);
+        self.lock.finish(pass, turn, page);
+        Ok(())
+    }
+
+    /// Writes the frames of what waits for a peer into the room, as many as fit, and answers how many bytes they are. The
+    /// rest of the room is as it was.
+    pub fn drain<W: Wait>(
+        &self,
+        rt: &W,
+        pass: &mut Pass,
+        member: NodeNo,
+        room: &mut [u8],
+    ) -> Result<usize, StoreEnd>
+        requires pass { IsOf self.now pass.old }
+        requires peer { IsSome (key_of (start_of self.now).node.keys member) }
+        requires room { LONGEST_FRAME ≤ length room.old }
+        ensures pass { IsOf self.now pass.new }
+        ensures called { IfOk result (λ written. Drained self.now pass.old member written room.old room.new pass.new) }
+        ensures refused { IfErr result (λ end. Refused self.now pass.old end pass.new) }
+        ensures room { IfErr result (λ _. room.new ≡ room.old) }
+    {
+        let event = CoreEvent::Drain {
+            member,
+            room: room.len(),
+        };
+        let (mut turn, page) = self.enter(rt, pass, event)?;
+        let written = turn.object.core.drain(member, room);
+        self.lock.finish(pass, turn, page);
+        Ok(written)
+    }
+
+    /// Takes out the oldest reports that no one has taken, as many as the room holds, and answers how many. The rest of
+    /// the room is as it was.
+    pub fn reports<W: Wait>(
+        &self,
+        rt: &W,
+        pass: &mut Pass,
+        room: &mut [Report],
+    ) -> Result<usize, StoreEnd>
+        requires pass { IsOf self.now pass.old }
+        ensures pass { IsOf self.now pass.new }
+        ensures called { IfOk result (λ written. HandedOut self.now pass.old written room.old room.new pass.new) }
+        ensures refused { IfErr result (λ end. Refused self.now pass.old end pass.new) }
+        ensures room { IfErr result (λ _. room.new ≡ room.old) }
+    {
+        let event = CoreEvent::Reports { room: room.len() };
+        let (mut turn, page) = self.enter(rt, pass, event)?;
+        let written = turn.object.core.reports(room);
+        self.lock.finish(pass, turn, page);
+        Ok(written)
+    }
+
+    /// Notes that the node is to stop: whoever runs it asks `stopped`.
+    pub fn stop<W: Wait>(
+        &self,
+        rt: &W,
+        pass: &mut Pass,
+    ) -> Result<(), StoreEnd>
+        requires pass { IsOf self.now pass.old }
+        ensures pass { IsOf self.now pass.new }
+        ensures called { IfOk result (λ _. Called self.now pass.old Stop Done pass.new) }
+        ensures refused { IfErr result (λ end. Refused self.now pass.old end pass.new) }
+    {
+        let (mut turn, page) = self.enter(rt, pass, CoreEvent::Stop)?;
+        turn.object.core.stop();
+        self.lock.finish(pass, turn, page);
+        Ok(())
+    }
+
+    /// Whether the node is to stop.
+    pub fn stopped<W: Wait>(
+        &self,
+        rt: &W,
+        pass: &mut Pass,
+    ) -> Result<bool, StoreEnd>
+        requires pass { IsOf self.now pass.old }
+        ensures pass { IsOf self.now pass.new }
+        ensures called { IfOk result (λ stopped. Called self.now pass.old Stopped (Told stopped) pass.new) }
+        ensures refused { IfErr result (λ end. Refused self.now pass.old end pass.new) }
+    {
+        let (turn, page) = self.enter(rt, pass, CoreEvent::Stopped)?;
+        let stopped = turn.object.core.stopped();
+        self.lock.finish(pass, turn, page);
+        Ok(stopped)
+    }
+}
