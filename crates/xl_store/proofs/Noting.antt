@@ -134,6 +134,7 @@ issuing_with n seq id full save = by (nat_lt n.kept seq)
   where
     v : Validation
     v = own_validation n seq id full
+
     by : (above : Bool) → outcome_as (how_told (if above then issues_unless n n.failed_save save v else refusing n (why.NotAfter n.kept)))
         ≡ outcome_with (if above then unless_failed n.failed_save seq else None) save
     by true = unless_with n n.failed_save save v
@@ -215,9 +216,11 @@ issue_with r n seq id full save same = by (nat_lt n.kept seq)
   where
     v : Validation
     v = own_validation n seq id full
+
     unless : (off : Option ℕ) → done_answer r ≡ (issues_unless n off save v).answer → outcome_in r ≡ outcome_with (unless_failed off seq) save
     unless None e = saved_with r n seq (second_of n) save v same e
     unless (Some failed) e = off_with r save (why.IssuingOff failed) same e refl
+
     by : (above : Bool) → done_answer r ≡ (if above then issues_unless n n.failed_save save v else refusing n (why.NotAfter n.kept)).answer
         → outcome_in r ≡ outcome_with (if above then unless_failed n.failed_save seq else None) save
     by true e = unless n.failed_save e

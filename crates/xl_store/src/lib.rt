@@ -16,6 +16,8 @@ mod home;
 mod journal;
 mod outcome;
 mod store;
+#[cfg(test)]
+mod tests;
 
 pub use entry::{Entry, Saved};
 pub use history::Histories;

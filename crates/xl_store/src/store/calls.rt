@@ -42,12 +42,7 @@ impl<B: Branch + Drop, K: Keeper + Drop> Store<B, K> {
     }
 
     /// Looks at the votes and lets the round go on. What is validated then is first saved with the keeper.
-    pub fn timer<W: Wait>(
-        &self,
-        rt: &W,
-        pass: &mut Pass,
-        now: Millis,
-    ) -> Result<Beat, StoreEnd>
+    pub fn timer<W: Wait>(&self, rt: &W, pass: &mut Pass, now: Millis) -> Result<Beat, StoreEnd>
         requires pass { IsOf self.now pass.old }
         requires moment { now ≤ GREATEST_MILLIS }
         ensures pass { IsOf self.now pass.new }
@@ -109,12 +104,7 @@ impl<B: Branch + Drop, K: Keeper + Drop> Store<B, K> {
 
     /// Greets a peer, a link to which has opened, with the chain on which the round is. A peer is one of the core that
     /// the store was opened with.
-    pub fn greet<W: Wait>(
-        &self,
-        rt: &W,
-        pass: &mut Pass,
-        member: NodeNo,
-    ) -> Result<(), StoreEnd>
+    pub fn greet<W: Wait>(&self, rt: &W, pass: &mut Pass, member: NodeNo) -> Result<(), StoreEnd>
         requires pass { IsOf self.now pass.old }
         requires peer { IsSome (key_of (start_of self.now).node.keys member) }
         ensures pass { IsOf self.now pass.new }
@@ -176,11 +166,7 @@ impl<B: Branch + Drop, K: Keeper + Drop> Store<B, K> {
     }
 
     /// Notes that the node is to stop: whoever runs it asks `stopped`.
-    pub fn stop<W: Wait>(
-        &self,
-        rt: &W,
-        pass: &mut Pass,
-    ) -> Result<(), StoreEnd>
+    pub fn stop<W: Wait>(&self, rt: &W, pass: &mut Pass) -> Result<(), StoreEnd>
         requires pass { IsOf self.now pass.old }
         ensures pass { IsOf self.now pass.new }
         ensures called { IfOk result (λ _. Called self.now pass.old Stop Done pass.new) }
@@ -193,11 +179,7 @@ impl<B: Branch + Drop, K: Keeper + Drop> Store<B, K> {
     }
 
     /// Whether the node is to stop.
-    pub fn stopped<W: Wait>(
-        &self,
-        rt: &W,
-        pass: &mut Pass,
-    ) -> Result<bool, StoreEnd>
+    pub fn stopped<W: Wait>(&self, rt: &W, pass: &mut Pass) -> Result<bool, StoreEnd>
         requires pass { IsOf self.now pass.old }
         ensures pass { IsOf self.now pass.new }
         ensures called { IfOk result (λ stopped. Called self.now pass.old Stopped (Told stopped) pass.new) }

@@ -11,7 +11,7 @@ pub returns : goal.returns
 returns g c =
     let done = c.issue.ensures in
     answers_home g.K.Keeper.held g.K.Keeper.saves g.K.Keeper.faults g.K.Keeper.save_gives c.args.self.now _ (Issue c.args.now c.args.seq c.args.id c.args.full)
-    (save_in c.issue.result) (outcome_in c.issue.result) (done_answer c.issue.result) c.requires (same_in c.issue.result)
+    (save_in c.issue.result) (outcome_in c.issue.result) (done_answer c.issue.result) c.requires.moment (same_in c.issue.result)
     (issue_with c.issue.result (at_moment c.args.now c.args.self.now.core.node) c.args.seq c.args.id c.args.full
     (save_in c.issue.result) refl done.step.answer) done.step
     (record { held = done.held; saves = done.saves; keeper = done.keeper; later = done.later })

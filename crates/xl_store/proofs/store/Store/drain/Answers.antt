@@ -21,9 +21,12 @@ finish-requires-clause-leads g c =
       entry_of event None,
       b.found,
       goes_on g.K.Keeper.held g.K.Keeper.saves g.K.Keeper.faults g.K.Keeper.save_gives
-          c.in_ok-turn.turn.object.value c.deref_mut.result.now _ event c.deref_mut.ensures.value ((still_peer g.K.Keeper.held g.K.Keeper.saves g.K.Keeper.faults g.K.Keeper.save_gives
-          c.args.self.now c.args.pass.now event c.in_ok-turn.turn c.in_ok-turn.page c.args.member c.in_ok-turn.turn.object.value refl
-          b c.requires.peer), c.requires.room) refl
+          c.in_ok-turn.turn.object.value c.deref_mut.result.now _ event c.deref_mut.ensures.value (
+            (still_peer g.K.Keeper.held g.K.Keeper.saves g.K.Keeper.faults g.K.Keeper.save_gives
+                c.args.self.now c.args.pass.now event c.in_ok-turn.turn c.in_ok-turn.page c.args.member c.in_ok-turn.turn.object.value refl
+                b c.requires.peer),
+            c.requires.room,
+          ) refl
           c.drain-written.ensures.step.core refl,
       b.written,
     )

@@ -6,10 +6,11 @@ use Rattle.xl_store.proofs.Turning.{goes_on, called, still_peer}
 use Rattle.xl_store.proofs.store.Store.greet.Goals as goal
 
 pub greet-requires : goal.greet-requires
-greet-requires g c =
-    still_peer g.K.Keeper.held g.K.Keeper.saves g.K.Keeper.faults g.K.Keeper.save_gives
-    c.args.self.now c.args.pass.now _ c.in_ok-turn.turn c.in_ok-turn.page c.args.member c.deref_mut.result.now c.deref_mut.ensures.value
-    c.in_ok-turn.ensures.begun c.requires.peer
+greet-requires g c = record {
+  peer = still_peer g.K.Keeper.held g.K.Keeper.saves g.K.Keeper.faults g.K.Keeper.save_gives
+      c.args.self.now c.args.pass.now _ c.in_ok-turn.turn c.in_ok-turn.page c.args.member c.deref_mut.result.now c.deref_mut.ensures.value
+      c.in_ok-turn.ensures.begun c.requires.peer;
+}
 
 pub finish-requires-clause-leads : goal.finish-requires-clause-leads
 finish-requires-clause-leads g c =
