@@ -24,7 +24,7 @@ use Rattle.xl_store.proofs.Making.{made_none, made_both}
 use Rattle.xl_peers.specs.declared.ends.End.{End}
 use Rattle.xl_peers.specs.declared.ends.End.TheVariants as end
 use Rattle.xl_peers.specs.Steps.{Step, drain, call_in, read_in, drained_in, calls, bytes_read, bytes_drained}
-use Rattle.xl_peers.specs.Sessions.{Phase, IsSession, EndsBy, IsCause, IsTalk, Session}
+use Rattle.xl_peers.specs.Sessions.{Phase, IsSession, EndsBy, IsCutOff, IsCause, IsTalk, Session}
 use Rattle.xl_peers.specs.Going.{SoFar, Sent, SentFront, end_of}
 use Rattle.xl_peers.proofs.Stepping.{more, so_none}
 use Rattle.xl_peers.proofs.Growing.{append_known-none, append_known-twice, prepend_known-none}
@@ -60,7 +60,7 @@ module _ (start : Core) (turns : ℕ) (may_give : ℕ → Bool) (member : ℕ) (
       let step = drain member frames in
       let given : bytes_drained (s.steps ++ step ∷ []) ≡ bytes_drained s.steps ++ joined frames = more drained_in s.steps step in
       let rose : Rose w0.faults new_link.faults = (let a = s.later in let b = sent.failed in omega arith) in
-      let cut = record { earlier = s.steps; frames = frames; front = sent.written; last = refl; part = sent.front; is = refl } in
+      let cut : IsCutOff member (s.steps ++ step ∷ []) (bytes_drained s.steps ++ sent.written) = record { earlier = s.steps; frames = frames; front = sent.written; last = refl; part = sent.front; is = refl } in
       record {
         steps = s.steps ++ step ∷ [];
         written = bytes_drained s.steps ++ sent.written;
@@ -68,8 +68,11 @@ module _ (start : Core) (turns : ℕ) (may_give : ℕ → Bool) (member : ℕ) (
           phase = p;
           run = run;
           ends = inr cut;
-          front = (sent.front.0, append_assoc (bytes_drained s.steps) sent.written sent.front.0
-              ∙ ap (λ l. bytes_drained s.steps ++ l) sent.front.1 ∙ sym given);
+          front = (
+            sent.front.0,
+            append_assoc (bytes_drained s.steps) sent.written sent.front.0
+                ∙ ap (λ l. bytes_drained s.steps ++ l) sent.front.1 ∙ sym given,
+          );
           all = inr (refl, cut);
         };
         made = subst (λ cs. Made start k0 new cs) (sym (more call_in s.steps step)) (made_both start k0 k new (calls s.steps) _ s.made made);
@@ -123,6 +126,6 @@ module _ {B K : Type 0} (store : Store B K) (may_give : ℕ → Bool) (member : 
       → Session (start_of store) (turns_of store) may_give member k0 w0 (end_of e) (known new) w
   ends_refused p old new w held e s r =
       let t = so_none (start_of store) may_give member k0 w0 p (known old) (known new) w held s r.made
-          (refused_later (known old) (known new) e r.why) in
+      (refused_later (known old) (known new) e r.why) in
       ends (start_of store) (turns_of store) may_give member k0 w0 p (known new) w held (end_of e) t
       (refused_ends t.steps p (bytes_drained t.steps) e) (refused_cause (known old) (known new) e w0.faults w.faults r.why)

@@ -1,6 +1,8 @@
 -- A frame is handed over, and pieces go into a feed.
-use Rattle.std.proofs.Common.{◌≡◌, Bool, ◌≤◌, ◌<◌, ◌++◌, ◌∷◌, ℕ, zero, suc, true, List, [], length, take, drop, Result, Ok, Err, refl, sym, ap, ◌∙◌, subst, append_assoc, append-nil, arith}
+use Rattle.std.specs.Prelude.{min, if◌then◌else◌}
+use Rattle.std.proofs.Common.{◌≡◌, Bool, false, ◌-◌, ◌≤◌, ◌<◌, ◌++◌, ◌∷◌, ℕ, zero, suc, true, List, [], length, take, drop, Result, Ok, Err, refl, sym, ap, ◌∙◌, subst, append_assoc, append-nil, arith}
 use Rattle.std.proofs.lemmas.List.{take-append-drop}
+use Rattle.xl_wire.specs.declared.lengths.TheConstants.{LONGEST_FRAME}
 use Rattle.xl_wire.specs.Raws.{RawFrame, raw_bytes}
 use Rattle.xl_wire.specs.Heads.{Split}
 use Rattle.xl_wire.specs.Feeding.{Fed, Offer, offer_of, taken_of, after_push, after_next}
@@ -19,12 +21,12 @@ use Rattle.xl_store.specs.declared.store.Store.{Store}
 use Rattle.xl_store.specs.Calls.{Made}
 use Rattle.xl_store.specs.Stores.{start_of, turns_of, Called}
 use Rattle.xl_peers.specs.declared.ends.End.TheVariants as end
-use Rattle.xl_peers.specs.Sessions.{Session}
+use Rattle.xl_peers.specs.Sessions.{Session, NeedsMore}
 use Rattle.xl_peers.specs.Sessions.Phase.{Hands}
 use Rattle.xl_peers.specs.Going.{SoFar}
 use Rattle.xl_peers.proofs.Stepping.{so_handed}
 use Rattle.xl_peers.proofs.Finishing.{ends}
-use Rattle.xl_peers.proofs.Splitting.{refused_longer}
+use Rattle.xl_peers.proofs.Splitting.{refused_longer, needs_room}
 use Rattle.xl_peers.proofs.Feeding.{next_frame, next_refused, front_bytes, rest_bytes}
 
 -- all of a piece stands behind what is held, some of it in the feed
@@ -64,3 +66,11 @@ module _ {B K : Type 0} (store : Store B K) (may : ℕ → Bool) (member : ℕ) 
   refuses r offer =
       ends (start_of store) (turns_of store) may member k0 w0 Hands (known old) w (fed.held ++ later) (end.Framing r) s
       (refl, fed.held ++ later, s.first, refused_longer fed.held later r (next_refused fed r offer)) tt
+
+-- a feed that needs more takes some of a piece
+pub takes_some : (fed : Fed) (piece : List ℕ) (count : ℕ) → fed.refused ≡ false → NeedsMore fed.held → 0 < length piece → count ≡ taken_of fed piece
+    → (0 < count) × (count ≤ length piece)
+takes_some fed piece count takes needs some is =
+    let room = needs_room fed.held needs in
+    let taken : count ≡ min (length piece) (LONGEST_FRAME - length fed.held) = is ∙ ap (λ (b : Bool). if b then 0 else min (length piece) (LONGEST_FRAME - length fed.held)) takes in
+    (omega (arith, room, some, taken), omega (arith, taken))

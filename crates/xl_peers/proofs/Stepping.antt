@@ -1,5 +1,5 @@
 -- A session goes on by one step.
-use Rattle.std.proofs.Common.{◌≡◌, ◌≢◌, Bool, ◌<◌, ◌≤◌, ◌++◌, ◌∷◌, ℕ, Option, List, [], map, true, false, refl, sym, ap, ◌∙◌, append_assoc, append-nil, arith, subst}
+use Rattle.std.proofs.Common.{◌≡◌, ◌≢◌, Bool, ◌<◌, ◌≤◌, ◌++◌, ◌∷◌, ℕ, zero, suc, length, Option, List, [], map, true, false, refl, sym, ap, ◌∙◌, append_assoc, append-nil, arith, subst}
 use Rattle.std.specs.List.{flat_map, AllByRecursion}
 use Rattle.std.proofs.lemmas.List.{map-append}
 use Rattle.std.proofs.lemmas.Grind.{flat_map-append}
@@ -7,7 +7,8 @@ use Rattle.std.specs.Io.KnownBytes.{prepend_known, append_known}
 use Rattle.xl_wire.specs.Raws.{RawFrame, raw_bytes, IsRaw}
 use Rattle.xl_turns.specs.declared.view.Knowledge.{Knowledge}
 use Rattle.xl_links.specs.declared.link.LinkRead.{LinkRead}
-use Rattle.xl_links.specs.Links.{Wire, Reading, Reads, bytes_of, reading_in}
+use Rattle.xl_links.specs.declared.link.LinkRead.TheVariants as read
+use Rattle.xl_links.specs.Links.{Wire, Reading, Reads, FitsRoom, bytes_of, reading_in}
 use Rattle.xl_core.specs.declared.event.CoreEvent.TheVariants.{Frame}
 use Rattle.xl_core.specs.Answers.{Answer, given_in}
 use Rattle.xl_core.specs.Core.{Core}
@@ -61,6 +62,12 @@ first_handed steps now answer f rest ok h =
           ∙ ap (λ l. l ++ rest) (sym (flat_map-append raw_bytes h.frames (f ∷ []) ∙ ap (λ l. flat_map raw_bytes h.frames ++ l) (append-nil (raw_bytes f))));
       each = each_more h.frames f h.each ok;
     }
+
+-- a read into a room that isn't empty gives some bytes, if any
+pub some_got : (n : ℕ) (room : List ℕ) → 0 < length room → FitsRoom (read.Got n) room → reading_in room (read.Got n) ≢ Reading.Got []
+some_got zero room some fits e = let h = fits.1 some in absurd (omega (arith, h))
+some_got (suc n) [] some fits e = absurd (omega (arith, some))
+some_got (suc n) (b ∷ room) some fits e = absurd cc
 
 module _ (start : Core) (may_give : ℕ → Bool) (member : ℕ) (k0 : Knowledge Entry) (w0 : Wire) where
   -- a call that hands nothing over, and whose drained bytes were written
