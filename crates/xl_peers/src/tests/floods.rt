@@ -36,7 +36,7 @@ fn of_seventy_transactions_the_last_sixty_four_are_sent(rt: HostRuntime) -> Resu
     let mut room = [0; LONGEST_FRAME];
     assert_eq!(rt; store.drain(&rt, &mut pass, member, &mut room), Ok(4_992));
     // the first is of the seventh transaction
-    assert_eq!(rt; room[14..46], [6; 32].as_slice());
+    assert!(rt; room.get(14..46) == Some([6; 32].as_slice()));
     assert_eq!(rt; store.drain(&rt, &mut pass, member, &mut room), Ok(0));
     assert!(rt; pass.is_whole());
     assert_eq!(rt; store.close(pass).core.lost(member), 6);
@@ -90,14 +90,30 @@ fn hear<W: Wait>(
     }
 }
 
+/// The same of so many sequences.
+fn hear_all<W: Wait>(
+    rt: &W,
+    alloc: Global,
+    store: &Stored,
+    pass: &mut Pass,
+    speaker: &mut Core<Trie>,
+    last: Seq,
+) -> Result<(), Fail>
+    requires pass { IsOf store.now pass.old }
+    ensures pass { IsOf store.now pass.new }
+{
+    for seq in 1..=last {
+        hear(rt, alloc, store, pass, speaker, seq)?;
+    }
+    Ok(())
+}
+
 #[test]
 fn of_more_reports_than_there_is_room_for_the_oldest_is_lost(rt: HostRuntime) -> Result<(), Fail> {
     let alloc = rt.alloc();
     let (store, mut pass) = stored(alloc, 2_000, NodeNo::new(2).ok_or("no member")?)?;
     let mut speaker = core_of(alloc, 2)?;
-    for seq in 1..=1_025 {
-        hear(&rt, alloc, &store, &mut pass, &mut speaker, seq)?;
-    }
+    hear_all(&rt, alloc, &store, &mut pass, &mut speaker, 1_025)?;
     let none = Report {
         seq: 0,
         id: LedgerId([0; 32]),

@@ -15,6 +15,7 @@ use xl_links::{Gate, LinkScript, MemClock, MemLink};
 use xl_store::Pass;
 
 /// Holds the first call of its session until the first call of another was answered.
+#[derive(Drop)]
 struct Holding<'a> {
     answered: &'a AtomicU64,
     missed: &'a AtomicU64,
@@ -35,6 +36,7 @@ impl Gate for Holding<'_> {
 }
 
 /// Tells that the first call of its session was answered.
+#[derive(Drop)]
 struct Telling<'a> {
     answered: &'a AtomicU64,
 }
