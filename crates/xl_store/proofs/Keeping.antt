@@ -1,5 +1,5 @@
 -- What a history leaves of the core and of the keeper.
-use Rattle.std.proofs.Common.{◌≡◌, ℕ, ◌≤◌, ◌⊎◌, inl, inr, Bool, List, [], ◌∷◌, ◌++◌, map, refl, sym, ap, ◌∙◌, subst, arith, append_assoc, append-nil, Option, Some, None}
+use Rattle.std.proofs.Common.{◌≡◌, ℕ, ◌≤◌, inl, inr, Bool, List, [], ◌∷◌, ◌++◌, refl, sym, ap, ◌∙◌, subst, arith, append_assoc, append-nil, Option, Some, None}
 use Rattle.std.specs.Prelude.{All, option_map, option_to_list}
 use Rattle.std.proofs.lemmas.List.Elements.{All-append, All-cons, All-nil, All-weaker}
 use Rattle.std.specs.Io.KnownBytes.{append_known}
@@ -7,8 +7,8 @@ use Rattle.std.specs.Global.{Box}
 use Rattle.xl_base.specs.Faults.{Rose}
 use Rattle.xl_io.specs.Keepers.{Held, AddsSave, after_save}
 use Rattle.xl_core.specs.Core.{Core, core_asks}
-use Rattle.xl_core.specs.CoreLives.{CoreHappening, held_after}
-use Rattle.xl_core.specs.Keeping.{AsksSave, IsAsked}
+use Rattle.xl_core.specs.CoreLives.{held_after}
+use Rattle.xl_core.specs.Keeping.{AsksSave}
 use Rattle.xl_core.specs.Node.{is_kept}
 use Rattle.xl_turns.specs.Histories.{Runs}
 use Rattle.xl_store.specs.declared.entry.Entry.{Entry}
@@ -17,7 +17,7 @@ use Rattle.xl_store.specs.declared.entry.Saved.TheVariants as saved
 use Rattle.xl_store.specs.declared.home.Home.{Home}
 use Rattle.xl_store.specs.Entries.{Leads, reply_of, save_of, life_of}
 use Rattle.xl_store.specs.Homes.{IsCounted, Goes, LeadsHome}
-use Rattle.xl_store.specs.Closing.{asked_over, AddsSaves, count_in, counts_of, IsBetween, SavesAll, KeepsAll}
+use Rattle.xl_store.specs.Closing.{asked_over, AddsSaves, count_in, counts_of, IsBetween, KeepsAll}
 
 map_same : (o : Option Held) → o ≡ option_map (λ held. held) o
 map_same None = refl
@@ -27,21 +27,28 @@ known_same : (o : Option (List ℕ)) → o ≡ append_known o []
 known_same None = refl
 known_same (Some xs) = ap Some (sym (append-nil xs))
 
-known_assoc : (o : Option (List ℕ)) (s : ℕ) (seqs : List ℕ) → append_known (append_known o (s ∷ [])) seqs ≡ append_known o (s ∷ seqs)
+known_assoc : (o : Option (List ℕ)) (s : ℕ) (seqs : List ℕ)
+    → append_known (append_known o (s ∷ [])) seqs ≡ append_known o (s ∷ seqs)
 known_assoc None s seqs = refl
 known_assoc (Some xs) s seqs = ap Some (append_assoc xs (s ∷ []) seqs)
 
+-- what may be held after an event
+abbrev held_then : Core → Entry → Held → Held
+held_then core e held = after_save held (core_asks core e.event) (is_kept (save_of e.outcome))
+
 -- one event, and then a history: what may be held
 held_both : (core : Core) (e : Entry) (es : List Entry) (o : Option Held)
-    → option_map (λ held. held_after held (reply_of core e).core (life_of es)) (option_map (λ held. after_save held (core_asks core e.event) (is_kept (save_of e.outcome))) o)
+    → option_map (λ held. held_after held (reply_of core e).core (life_of es)) (option_map (held_then core e) o)
     ≡ option_map (λ held. held_after held core (life_of (e ∷ es))) o
 held_both core e es None = refl
 held_both core e es (Some held) = refl
 
-adds_some : (s : ℕ) (seqs : List ℕ) (x y z : Option (List ℕ)) → AddsSave x y s → AddsSaves y z seqs → AddsSaves x z (s ∷ seqs)
+adds_some : (s : ℕ) (seqs : List ℕ) (x y z : Option (List ℕ)) → AddsSave x y s → AddsSaves y z seqs
+    → AddsSaves x z (s ∷ seqs)
 adds_some s seqs x y z a (inl b) = inl b
 adds_some s seqs x y z (inl a) (inr b) = inl (b ∙ ap (λ (o : Option (List ℕ)). append_known o seqs) a)
-adds_some s seqs x y z (inr a) (inr b) = inr (b ∙ (ap (λ (o : Option (List ℕ)). append_known o seqs) a ∙ known_assoc x s seqs))
+adds_some s seqs x y z (inr a) (inr b) =
+    inr (b ∙ (ap (λ (o : Option (List ℕ)). append_known o seqs) a ∙ known_assoc x s seqs))
 
 -- the numbers that were asked
 adds_both : (asked : Option ℕ) (rest : List ℕ) (x y z : Option (List ℕ)) → AsksSave asked x y → AddsSaves y z rest
@@ -56,7 +63,8 @@ rose_before a m c h r = omega (arith, h, r)
 between_before : (a m b c : ℕ) → a ≤ m → IsBetween m b c → IsBetween a b c
 between_before a m b c h i = (rose_before a m c h i.0, i.1)
 
-one_between : (outcome : Option Saved) (a m b : ℕ) → IsCounted outcome a m → m ≤ b → All (IsBetween a b) (count_in outcome)
+one_between : (outcome : Option Saved) (a m b : ℕ) → IsCounted outcome a m → m ≤ b
+    → All (IsBetween a b) (count_in outcome)
 one_between None a m b i h = All-nil (IsBetween a b)
 one_between (Some saved.Ok) a m b i h = All-nil (IsBetween a b)
 one_between (Some (saved.Failed count)) a m b i h =
@@ -65,7 +73,8 @@ one_between (Some (saved.Failed count)) a m b i h =
     (All-nil (IsBetween a b))
 
 module _ {K : Type 0}
-    (held_by : K → Option Held) (saves_of : K → Option (List ℕ)) (faults_of : K → ℕ) (gives : K → ℕ → Bool → K → Type 0) where
+    (held_by : K → Option Held) (saves_of : K → Option (List ℕ)) (faults_of : K → ℕ)
+    (gives : K → ℕ → Bool → K → Type 0) where
   keeps_none : (start : Core) (k : K) → KeepsAll held_by saves_of faults_of gives start [] k k
   keeps_none start k = record {
     held = map_same (held_by k);
@@ -76,7 +85,8 @@ module _ {K : Type 0}
   }
 
 module _ {B K : Type 0}
-    (held_by : K → Option Held) (saves_of : K → Option (List ℕ)) (faults_of : K → ℕ) (gives : K → ℕ → Bool → K → Type 0) where
+    (held_by : K → Option Held) (saves_of : K → Option (List ℕ)) (faults_of : K → ℕ)
+    (gives : K → ℕ → Bool → K → Type 0) where
   -- of core and keeper the core alone
   pub cores_run : (a b : Box (Home B K)) (es : List Entry) → Runs (LeadsHome held_by saves_of faults_of gives) a es b
       → Runs Leads a.value.core es b.value.core
@@ -94,8 +104,10 @@ module _ {B K : Type 0}
       let asked : Option ℕ = core_asks core e.event in
       record {
         held = rest.held
-            ∙ (ap (option_map (λ held. held_after held (reply_of core e).core (life_of es))) one.keeper.held ∙ held_both core e es (held_by a));
-        saves = adds_both asked (asked_over (reply_of core e).core es) (saves_of a) (saves_of m) (saves_of b) one.keeper.saves rest.saves;
+            ∙ ap (option_map (λ held. held_after held (reply_of core e).core (life_of es))) one.keeper.held
+            ∙ held_both core e es (held_by a);
+        saves = adds_both asked (asked_over (reply_of core e).core es) (saves_of a) (saves_of m) (saves_of b)
+            one.keeper.saves rest.saves;
         keeper = (m, one.keeper.keeper, rest.keeper);
         later = omega (arith, one.keeper.later, rest.later);
         counts = All-append (IsBetween (faults_of a) (faults_of b)) (count_in e.outcome) (counts_of es)
@@ -107,8 +119,10 @@ module _ {B K : Type 0}
   pub keeps_run : (a b : Box (Home B K)) (es : List Entry) → Runs (LeadsHome held_by saves_of faults_of gives) a es b
       → KeepsAll held_by saves_of faults_of gives a.value.core es a.value.keeper b.value.keeper
   keeps_run a b [] r =
-      subst (λ (x : Box (Home B K)). KeepsAll held_by saves_of faults_of gives a.value.core [] a.value.keeper x.value.keeper) r
+      subst
+      (λ (x : Box (Home B K)). KeepsAll held_by saves_of faults_of gives a.value.core [] a.value.keeper x.value.keeper) r
       (keeps_none held_by saves_of faults_of gives a.value.core a.value.keeper)
   keeps_run a b (e ∷ es) r =
       keeps_more a.value r.0.value e es b.value.keeper r.1
-      (subst (λ (c : Core). KeepsAll held_by saves_of faults_of gives c es r.0.value.keeper b.value.keeper) r.1.core.core (keeps_run r.0 b es r.2))
+      (subst (λ (c : Core). KeepsAll held_by saves_of faults_of gives c es r.0.value.keeper b.value.keeper)
+      r.1.core.core (keeps_run r.0 b es r.2))

@@ -1,5 +1,5 @@
 -- The outcome that is noted of a call is the one that its event can have there.
-use Rattle.std.proofs.Common.{◌≡◌, ℕ, ◌<◌, Bool, true, false, [], refl, sym, ap, ◌∙◌, subst, arith, Option, Some, None, Result, Ok, Err}
+use Rattle.std.proofs.Common.{◌≡◌, ℕ, Bool, true, false, [], refl, sym, ap, ◌∙◌, subst, arith, Option, Some, None, Result, Ok, Err}
 use Rattle.std.specs.Prelude.{◌==◌, nat_lt, if◌then◌else◌}
 use Rattle.std.proofs.lemmas.Bool.{cond_both}
 use Rattle.xl_base.specs.Faults.{Rose}
@@ -20,7 +20,7 @@ use Rattle.xl_core.specs.declared.refusal.Refusal.{Refusal}
 use Rattle.xl_core.specs.declared.refusal.Refusal.TheVariants as why
 use Rattle.xl_core.specs.Answers.{Refused, Beats, Done, refusal_in}
 use Rattle.xl_core.specs.Building.{Knowing, knowing, how_issued}
-use Rattle.xl_core.specs.Node.{Node, Reply, Save, Timed, Quiet, Ending, replying, refusing, issuing, issues_unless, own_validation, unless_failed, issues, second_of, asks_for, asks_of, validates, validating_built, completed, timed, chosen, seen, built, switching, building, following, after_beat, at_moment}
+use Rattle.xl_core.specs.Node.{Node, Reply, Save, Timed, Quiet, Ending, replying, refusing, issuing, issues_unless, own_validation, unless_failed, issues, second_of, asks_for, asks_of, validates, validating_built, completed, timed, chosen, seen, built, switching, building, following, after_beat}
 use Rattle.xl_core.specs.Node.Save.{Kept, Failed}
 use Rattle.xl_core.specs.Keeping.{CountsFault}
 use Rattle.xl_core.specs.Replies as replies
@@ -83,7 +83,8 @@ told_counted (why.OldSeq largest) old new h = tt
 told_counted (why.NotAfter kept) old new h = tt
 told_counted (why.IssuingOff failed) old new h = tt
 
-pub issue_counted : {X : Type 0} (r : Result X Refusal) (old new : ℕ) → CountsFault r old new → IsCounted (outcome_in r) old new
+pub issue_counted : {X : Type 0} (r : Result X Refusal) (old new : ℕ) → CountsFault r old new
+    → IsCounted (outcome_in r) old new
 issue_counted (Ok done) old new h = tt
 issue_counted (Err w) old new h = told_counted w old new (λ count e. h count (ap Err e))
 
@@ -97,7 +98,8 @@ beat_counted (beat.Built seq id moved_on issued.Full) old new h = tt
 beat_counted (beat.Built seq id moved_on issued.Partial) old new h = tt
 beat_counted (beat.Built seq id moved_on issued.Silent) old new h = tt
 beat_counted (beat.Built seq id moved_on (issued.Refused w)) old new h =
-    told_counted w old new (λ count e. h seq id moved_on count (ap (λ (x : Refusal). beat.Built seq id moved_on (issued.Refused x)) e))
+    told_counted w old new
+    (λ count e. h seq id moved_on count (ap (λ (x : Refusal). beat.Built seq id moved_on (issued.Refused x)) e))
 
 -- THE OUTCOME IS ONE OF THE EVENT'S
 
@@ -108,8 +110,8 @@ outcome_with (Some seq) Kept = Some saved.Ok
 outcome_with (Some seq) (Failed count) = Some (saved.Failed count)
 
 -- where it was counted, a failure's count is above 0
-pub is_outcome : (asked : Option ℕ) (save : Save) (outcome : Option Saved) (old new : ℕ) → outcome ≡ outcome_with asked save
-    → IsCounted outcome old new → IsOutcome asked outcome
+pub is_outcome : (asked : Option ℕ) (save : Save) (outcome : Option Saved) (old new : ℕ)
+    → outcome ≡ outcome_with asked save → IsCounted outcome old new → IsOutcome asked outcome
 is_outcome None save outcome old new e counted = e
 is_outcome (Some seq) Kept outcome old new e counted = subst (IsOutcome (Some seq)) (sym e) tt
 is_outcome (Some seq) (Failed count) outcome old new e counted =
@@ -135,16 +137,21 @@ issuing_with n seq id full save = by (nat_lt n.kept seq)
     v : Validation
     v = own_validation n seq id full
 
-    by : (above : Bool) → outcome_as (how_told (if above then issues_unless n n.failed_save save v else refusing n (why.NotAfter n.kept)))
+    by : (above : Bool)
+        → outcome_as (how_told (if above then issues_unless n n.failed_save save v else refusing n (why.NotAfter n.kept)))
         ≡ outcome_with (if above then unless_failed n.failed_save seq else None) save
     by true = unless_with n n.failed_save save v
     by false = refl
 
 built_with : (n : Node) (h : Header) (moved_on : Bool) (save : Save)
-    → outcome_as (how_told (validating_built n h moved_on save)) ≡ outcome_with (asks_of (Ending n None h 0 moved_on)) save
+    → outcome_as (how_told (validating_built n h moved_on save))
+    ≡ outcome_with (asks_of (Ending n None h 0 moved_on)) save
 built_with n h moved_on save = by (validates n moved_on)
   where
-    by : (does : Bool) → outcome_as (how_told (if does then issuing n h.seq (header_id h) (is_proposing n.round.setting.mode) save else replying n Done []))
+    issued_so : Reply
+    issued_so = issuing n h.seq (header_id h) (is_proposing n.round.setting.mode) save
+
+    by : (does : Bool) → outcome_as (how_told (if does then issued_so else replying n Done []))
         ≡ outcome_with (if does then asks_for n h.seq else None) save
     by true = issuing_with n h.seq (header_id h) (is_proposing n.round.setting.mode) save
     by false = refl
@@ -154,7 +161,8 @@ abbrev IsTimedQuiet : Timed → Type 0
 IsTimedQuiet (Quiet n told said) = IsQuiet told
 IsTimedQuiet (Ending n said h place moved_on) = Unit {0}
 
-building_quiet : (n : Node) (said : Option Said) (moved_on : Bool) (o : Option Knowing) → IsTimedQuiet (building n said moved_on o)
+building_quiet : (n : Node) (said : Option Said) (moved_on : Bool) (o : Option Knowing)
+    → IsTimedQuiet (building n said moved_on o)
 building_quiet n said moved_on None = tt
 building_quiet n said moved_on (Some known) = tt
 
@@ -186,7 +194,8 @@ completed_with : (t : Timed) (save : Save) (told : Beat) → IsTimedQuiet t → 
 completed_with (Quiet n quiet said) save told q e =
     ap outcome_at (same_beat told quiet e) ∙ quiet_at quiet q
 completed_with (Ending n said h place moved_on) save told q e =
-    ap outcome_at (same_beat told (beat.Built h.seq (header_id h) moved_on (how_told (validating_built n h moved_on save))) e)
+    ap outcome_at
+    (same_beat told (beat.Built h.seq (header_id h) moved_on (how_told (validating_built n h moved_on save))) e)
     ∙ built_with n h moved_on save
 
 -- of a timer
@@ -197,31 +206,34 @@ beat_with n save told e = completed_with (timed n) save told (timed_quiet n) e
 refused_same : (v w : Refusal) → Refused v ≡ Refused w → v ≡ w
 refused_same v w e = cc
 
-off_with : {X : Type 0} (r : Result X Refusal) (save : Save) (w : Refusal) → save ≡ save_in r → done_answer r ≡ Refused w → replies.save_of w ≡ Kept
+off_with : {X : Type 0} (r : Result X Refusal) (save : Save) (w : Refusal) → save ≡ save_in r
+    → done_answer r ≡ Refused w → replies.save_of w ≡ Kept
     → outcome_in r ≡ None
 off_with (Ok done) save w same e kept = absurd (cc e)
 off_with (Err v) save w same e kept = ap failure_in (ap replies.save_of (refused_same v w e) ∙ kept)
 
-saved_with : {X : Type 0} (r : Result X Refusal) (n : Node) (seq now : ℕ) (save : Save) (v : Validation) → save ≡ save_in r
-    → done_answer r ≡ (issues n now save v).answer → outcome_in r ≡ outcome_with (Some seq) save
+saved_with : {X : Type 0} (r : Result X Refusal) (n : Node) (seq now : ℕ) (save : Save) (v : Validation)
+    → save ≡ save_in r → done_answer r ≡ (issues n now save v).answer → outcome_in r ≡ outcome_with (Some seq) save
 saved_with (Ok done) n seq now Kept v same e = refl
 saved_with (Ok done) n seq now (Failed count) v same e = absurd (cc e)
 saved_with (Err w) n seq now Kept v same e = absurd (cc e)
 saved_with (Err w) n seq now (Failed count) v same e = ap failure_in (sym same)
 
 -- of a call that issues
-pub issue_with : {X : Type 0} (r : Result X Refusal) (n : Node) (seq : ℕ) (id : LedgerId) (full : Bool) (save : Save) → save ≡ save_in r
-    → done_answer r ≡ (issuing n seq id full save).answer → outcome_in r ≡ outcome_with (asks_for n seq) save
+pub issue_with : {X : Type 0} (r : Result X Refusal) (n : Node) (seq : ℕ) (id : LedgerId) (full : Bool) (save : Save)
+    → save ≡ save_in r → done_answer r ≡ (issuing n seq id full save).answer → outcome_in r ≡ outcome_with (asks_for n seq) save
 issue_with r n seq id full save same = by (nat_lt n.kept seq)
   where
     v : Validation
     v = own_validation n seq id full
 
-    unless : (off : Option ℕ) → done_answer r ≡ (issues_unless n off save v).answer → outcome_in r ≡ outcome_with (unless_failed off seq) save
+    unless : (off : Option ℕ) → done_answer r ≡ (issues_unless n off save v).answer
+        → outcome_in r ≡ outcome_with (unless_failed off seq) save
     unless None e = saved_with r n seq (second_of n) save v same e
     unless (Some failed) e = off_with r save (why.IssuingOff failed) same e refl
 
-    by : (above : Bool) → done_answer r ≡ (if above then issues_unless n n.failed_save save v else refusing n (why.NotAfter n.kept)).answer
+    by : (above : Bool)
+        → done_answer r ≡ (if above then issues_unless n n.failed_save save v else refusing n (why.NotAfter n.kept)).answer
         → outcome_in r ≡ outcome_with (if above then unless_failed n.failed_save seq else None) save
     by true e = unless n.failed_save e
     by false e = off_with r save (why.NotAfter n.kept) same e refl

@@ -1,19 +1,19 @@
 -- One call in one turn.
-use Rattle.std.proofs.Common.{◌≡◌, ℕ, ◌+◌, ◌<◌, Bool, List, [], ◌∷◌, ◌++◌, length, refl, sym, ap, ◌∙◌, subst, arith, length-append, Option, None}
+use Rattle.std.proofs.Common.{◌≡◌, ℕ, ◌+◌, Bool, List, [], ◌∷◌, ◌++◌, length, refl, sym, ap, ◌∙◌, subst, arith, length-append, Option, None}
 use Rattle.std.specs.Prelude.{IsSome}
 use Rattle.std.specs.Global.{Box}
 use Rattle.xl_tags.specs.Rings.{Ring, key_of}
 use Rattle.xl_turns.specs.declared.view.Knowledge.{Knowledge}
 use Rattle.xl_turns.specs.declared.pass.Pass.{Pass}
 use Rattle.xl_turns.specs.declared.pass.Turn.{Turn}
-use Rattle.xl_turns.specs.Histories.{Runs, IsLegal}
+use Rattle.xl_turns.specs.Histories.{IsLegal}
 use Rattle.xl_turns.specs.Knowing.{with_drawn, after_turn}
 use Rattle.xl_turns.specs.Passes.{known, knows, opening}
 use Rattle.xl_io.specs.Keepers.{Held}
 use Rattle.xl_core.specs.declared.event.CoreEvent.{CoreEvent}
 use Rattle.xl_core.specs.declared.event.CoreEvent.TheVariants.{Frame}
 use Rattle.xl_core.specs.Answers.{Answer}
-use Rattle.xl_core.specs.Core.{Core, core_happens, core_asks}
+use Rattle.xl_core.specs.Core.{core_happens, core_asks}
 use Rattle.xl_core.specs.Node.{Save, is_kept}
 use Rattle.xl_core.specs.Node.Save.{Kept}
 use Rattle.xl_core.specs.Keeping.{IsAsked}
@@ -32,7 +32,8 @@ use Rattle.xl_store.proofs.Noting.{outcome_with, is_outcome}
 use Rattle.xl_store.proofs.Peers.{peers_stay}
 
 module _ {B K : Type 0}
-    (held_by : K → Option Held) (saves_of : K → Option (List ℕ)) (faults_of : K → ℕ) (gives : K → ℕ → Bool → K → Type 0) where
+    (held_by : K → Option Held) (saves_of : K → Option (List ℕ)) (faults_of : K → ℕ)
+    (gives : K → ℕ → Bool → K → Type 0) where
   -- an event that asks no save leads from one home to the next
   pub goes_on : (before found after : Home B K) (event : CoreEvent) → found ≡ before
       → IsAllowed before.core event → core_asks before.core event ≡ None
@@ -63,11 +64,13 @@ module _ {B K : Type 0}
     goes = record {
       core = record {
         allowed = allowed;
-        outcome = is_outcome (core_asks before.core event) save outcome (faults_of before.keeper) (faults_of after.keeper) with_save counted;
+        outcome = is_outcome (core_asks before.core event) save outcome
+            (faults_of before.keeper) (faults_of after.keeper) with_save counted;
         core = does.core ∙ ap (λ (s : Save). (core_happens before.core event s).core) (sym same);
       };
       keeper = subst
-          (λ (s : Save). IsAsked held_by saves_of faults_of gives (core_asks before.core event) (is_kept s) before.keeper after.keeper)
+          (λ (s : Save). IsAsked held_by saves_of faults_of gives
+          (core_asks before.core event) (is_kept s) before.keeper after.keeper)
           (sym same) asked;
       counted = counted;
     };
@@ -110,7 +113,8 @@ module _ {B K : Type 0}
       → Called store old event answer new
   called store old new event outcome answer turn page done found same b written left legal said =
       let e : Entry = entry_of event outcome in
-      let is : known new ≡ after_turn (with_drawn (known old) (length turn.journal + 1)) (length turn.journal) (turn.journal ++ e ∷ []) =
+      let is : known new
+      ≡ after_turn (with_drawn (known old) (length turn.journal + 1)) (length turn.journal) (turn.journal ++ e ∷ []) =
       left ∙ (λ i. after_turn (b.entered i) (length turn.journal) (turn.journal ++ written i)) in
       let seen : (known new).seen ≡ turn.journal ++ e ∷ [] = ap (λ (k : Knowledge Entry). k.seen) is in
       let long : length (known new).seen ≡ length turn.journal + 1 =
@@ -118,10 +122,17 @@ module _ {B K : Type 0}
       let drawn : (known new).drawn ≡ length turn.journal + 1 = ap (λ (k : Knowledge Entry). k.drawn) is in
       let runs = cores_run held_by saves_of faults_of gives (opening store.lock) turn.object turn.journal b.found in
       record {
-        made = made_one (start_of store) turn.object.value.core (known old) (known new) turn.journal e answer b.begins runs is
+        made = made_one (start_of store) turn.object.value.core (known old) (known new) turn.journal e answer
+            b.begins runs is
             (ap (λ (h : Home B K). (reply_of h.core e).answer) (sym same) ∙ said);
         legal = seen_legal store new legal;
-        last = record { earlier = turn.journal; entry = e; seen = seen; tells = refl; mine = ap (λ (k : Knowledge Entry). k.mine) is };
+        last = record {
+          earlier = turn.journal;
+          entry = e;
+          seen = seen;
+          tells = refl;
+          mine = ap (λ (k : Knowledge Entry). k.mine) is;
+        };
         drawn = omega (arith, drawn, long);
         later = omega (arith, drawn, b.drawn);
         within = omega (arith, drawn, b.below);

@@ -38,7 +38,8 @@ abbrev pub IsBetween : ℕ → ℕ → ℕ → Type 0
 IsBetween old new count = Rose old count × (count ≤ new)
 
 module _ {K : Type 0}
-    (held_by : K → Option Held) (saves_of : K → Option (List ℕ)) (faults_of : K → ℕ) (gives : K → ℕ → Bool → K → Type 0) where
+    (held_by : K → Option Held) (saves_of : K → Option (List ℕ)) (faults_of : K → ℕ)
+    (gives : K → ℕ → Bool → K → Type 0) where
   -- the saves of a history lead from one keeper to the other, as it says of each save
   abbrev pub SavesAll : Core → List Entry → K → K → Type 0
   SavesAll core [] old new = new ≡ old

@@ -21,7 +21,8 @@ IsCounted (Some saved.Ok) old new = Unit {0}
 IsCounted (Some (saved.Failed count)) old new = Rose old new × (count ≡ new)
 
 module _ {B K : Type 0}
-    (held_by : K → Option Held) (saves_of : K → Option (List ℕ)) (faults_of : K → ℕ) (gives : K → ℕ → Bool → K → Type 0) where
+    (held_by : K → Option Held) (saves_of : K → Option (List ℕ)) (faults_of : K → ℕ)
+    (gives : K → ℕ → Bool → K → Type 0) where
   -- the entry leads from one core and keeper to the next
   pub record Goes (before : Home B K) (e : Entry) (after : Home B K) : Type 0 where
     pub core : Leads before.core e after.core

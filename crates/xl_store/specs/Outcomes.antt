@@ -1,6 +1,6 @@
 -- How a save was answered, as the answer of the call tells that asked it.
 -- Source: what the code of this crate relies on. No public clause cites this file.
-use Rattle.std.specs.Prelude.{ℕ, Result, Ok, Err, Some, None}
+use Rattle.std.specs.Prelude.{Result, Ok, Err, Some, None}
 use Rattle.std.specs.declared.option.Option.{Option}
 use Rattle.xl_core.specs.declared.beat.Beat.{Beat}
 use Rattle.xl_core.specs.declared.beat.Beat.TheVariants as beat

@@ -44,7 +44,8 @@ module _ {B K : Type 0} where
 
   -- The pass made this one call. What it has seen then is a legal history, of which the call's entry is the last; and
   -- its ticket, whose number is that place, was none that the pass knew of, and one of the store's turns
-  pub record Called (store : Store B K) (old : Pass Entry) (event : CoreEvent) (answer : Answer) (new : Pass Entry) : Type 0 where
+  pub record Called (store : Store B K) (old : Pass Entry) (event : CoreEvent) (answer : Answer) (new : Pass Entry)
+      : Type 0 where
     pub made : Made (start_of store) (known old) (known new) (record { event = event; answer = answer } ∷ [])
     pub legal : IsLegal Leads (start_of store) (known new).seen
     pub last : IsLast event (known old) (known new)
@@ -53,14 +54,16 @@ module _ {B K : Type 0} where
     pub within : (known new).drawn ≤ turns_of store
 
   -- the pass made one call that gave frames, with which the room begins
-  pub record Drained (store : Store B K) (old : Pass Entry) (member written : ℕ) (before after : List ℕ) (new : Pass Entry) : Type 0 where
+  pub record Drained (store : Store B K) (old : Pass Entry) (member written : ℕ) (before after : List ℕ)
+      (new : Pass Entry) : Type 0 where
     pub frames : List (List ℕ)
     pub called : Called store old (Drain member (length before)) (Gave member frames) new
     pub count : written ≡ length (joined frames)
     pub room : after ≡ joined frames ++ drop written before
 
   -- the pass made one call that handed out reports, with which the room begins
-  pub record HandedOut (store : Store B K) (old : Pass Entry) (written : ℕ) (before after : List Report) (new : Pass Entry) : Type 0 where
+  pub record HandedOut (store : Store B K) (old : Pass Entry) (written : ℕ) (before after : List Report)
+      (new : Pass Entry) : Type 0 where
     pub reports : List Report
     pub called : Called store old (Reports (length before)) (Handed reports) new
     pub count : written ≡ length reports
@@ -78,9 +81,11 @@ module _ {B K : Type 0} where
     pub why : IsWhy store (known old) end (known new)
 
 module _ {B K : Type 0}
-    (held_by : K → Option Held) (saves_of : K → Option (List ℕ)) (faults_of : K → ℕ) (gives : K → ℕ → Bool → K → Type 0) where
+    (held_by : K → Option Held) (saves_of : K → Option (List ℕ)) (faults_of : K → ℕ)
+    (gives : K → ℕ → Bool → K → Type 0) where
   -- in its turn the pass has a legal history that begins with all that it had seen, and a page with the event
-  pub record Begun (store : Store B K) (old : Pass Entry) (event : CoreEvent) (turn : Turn (Box (Home B K)) Entry) (page : List Entry) : Type 0 where
+  pub record Begun (store : Store B K) (old : Pass Entry) (event : CoreEvent) (turn : Turn (Box (Home B K)) Entry)
+      (page : List Entry) : Type 0 where
     pub written : page ≡ page_of event None
     pub begins : IsPrefix (known old).seen turn.journal
     pub found : Runs (LeadsHome held_by saves_of faults_of gives) (opening store.lock) turn.journal turn.object

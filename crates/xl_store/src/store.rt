@@ -4,7 +4,8 @@ ghost use Rattle.xl_turns.specs.Histories.{Runs};
 ghost use Rattle.xl_turns.specs.Knowing.{newcomer, first_part, second_part, joined};
 ghost use Rattle.xl_turns.specs.Places.{all_below};
 ghost use Rattle.xl_turns.specs.Passes.{known, HasTurn};
-ghost use Rattle.xl_store.specs.Entries.{Leads};
+ghost use Rattle.xl_core.specs.CoreLives.{core_after};
+ghost use Rattle.xl_store.specs.Entries.{Leads, life_of};
 ghost use Rattle.xl_store.specs.Stores.{start_of, keeper_of, turns_of, IsOf, Begun, Refused};
 ghost use Rattle.xl_store.specs.Closing.{KeepsAll};
 
@@ -120,8 +121,9 @@ impl<B: Branch + Drop, K: Keeper + Drop> Store<B, K> {
     pub fn close(self, pass: Pass) -> Closed<B, K>
         requires pass { IsOf self pass }
         requires whole { (known pass).share ≡ 2 ^ 126 }
-        // the journal is one legal history, which leads to the core; the places of the pass are all of its places
+        // the journal is one legal history, and the core is the one after it as a life; the pass has all of its places
         ensures legal { Runs Leads (start_of self) result.journal result.core }
+        ensures life { result.core ≡ core_after (start_of self) (life_of result.journal) }
         ensures keeper { KeepsAll K.held K.saves K.faults K.save_gives
             (start_of self) result.journal (keeper_of self) result.keeper }
         ensures begins { IsPrefix (known pass).seen result.journal }

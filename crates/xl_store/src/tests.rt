@@ -87,21 +87,20 @@ fn beat_in_two<W: Threads + Wait + Sync>(
     Some(store.join(left?, right?))
 }
 
-/// How many of the entries that are left are timers at this moment without a save.
-fn count_timers(entries: &mut Entries, most: u64) -> u64 {
-    let mut count = 0;
-    for _ in 0..most {
-        match entries.next() {
-            Some(
-                Entry {
-                    event: CoreEvent::Timer { now: 1_000 },
-                    outcome: None,
-                },
-            ) => count += 1,
-            _ => break,
-        }
+/// Whether so many of the entries that are left are timers, which asked no save.
+fn begin_with_timers(entries: &mut Entries, times: u32) -> bool {
+    for _ in 0..times {
+        let Some(
+            Entry {
+                event: CoreEvent::Timer { now: 1_000 },
+                outcome: None,
+            },
+        ) = entries.next()
+        else {
+            return false;
+        };
     }
-    count
+    true
 }
 
 #[test]
@@ -113,7 +112,7 @@ fn two_threads_make_one_history(rt: HostRuntime) -> Result<(), Fail> {
     let closed = store.close(pass);
     assert_eq!(rt; closed.journal.len(), 200);
     let mut entries = closed.journal.oldest();
-    assert_eq!(rt; count_timers(&mut entries, 1_000), 200);
+    assert!(rt; begin_with_timers(&mut entries, 200));
     assert!(rt; entries.next().is_none());
     Ok(())
 }
@@ -172,9 +171,15 @@ fn what_is_handed_in_is_drained(rt: HostRuntime) -> Result<(), Fail> {
 #[test]
 fn a_failed_save_stands_in_the_journal(rt: HostRuntime) -> Result<(), Fail> {
     let (store, mut pass) = stored(rt.alloc(), core_of(rt.alloc())?, 10)?;
-    for seq in 1..=3 {
-        assert!(rt; store.issue(&rt, &mut pass, 1_000, seq, X, true).is_ok());
-    }
+    assert_eq!(rt; store.issue(&rt, &mut pass, 1_000, 1, X, true), Ok(Ok(())));
+    assert_eq!(rt;
+        store.issue(&rt, &mut pass, 1_000, 2, X, true),
+        Ok(Err(Refusal::KeepFault(1)))
+    );
+    assert_eq!(rt;
+        store.issue(&rt, &mut pass, 1_000, 3, X, true),
+        Ok(Err(Refusal::IssuingOff(2)))
+    );
     assert_eq!(rt; store.stop(&rt, &mut pass), Ok(()));
     assert!(rt; pass.is_whole());
     let closed = store.close(pass);

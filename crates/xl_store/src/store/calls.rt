@@ -117,8 +117,8 @@ impl<B: Branch + Drop, K: Keeper + Drop> Store<B, K> {
         Ok(())
     }
 
-    /// Writes the frames of what waits for a peer into the room, as many as fit, and answers how many bytes they are. The
-    /// rest of the room is as it was.
+    /// Writes the frames of what waits for a peer into the room, as many as fit, and answers how many bytes they are.
+    /// The rest of the room is as it was.
     pub fn drain<W: Wait>(
         &self,
         rt: &W,

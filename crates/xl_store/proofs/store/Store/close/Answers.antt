@@ -5,6 +5,7 @@ use Rattle.xl_store.specs.declared.home.Home.{Home}
 use Rattle.xl_store.specs.Closing.{KeepsAll}
 use Rattle.xl_store.specs.Entries.{Leads}
 use Rattle.xl_store.specs.Stores.{start_of, keeper_of}
+use Rattle.xl_store.proofs.Journals.{after_runs}
 use Rattle.xl_store.proofs.Keeping.{cores_run, keeps_run}
 use Rattle.xl_store.proofs.store.Store.close.Goals as goal
 
@@ -13,6 +14,9 @@ returns-clause-legal g c =
     subst (λ (h : Home g.row.B.Denot g.row.K.Denot). Runs Leads (start_of c.args.self) c.close-object.result.journal h.core)
     (sym c.into_inner-core.ensures)
     (cores_run g.K.Keeper.held g.K.Keeper.saves g.K.Keeper.faults g.K.Keeper.save_gives (opening c.args.self.lock) _ _ c.close-object.ensures.legal)
+
+pub returns-clause-life : goal.returns-clause-life
+returns-clause-life g c = sym (after_runs (start_of c.args.self) _ c.close-object.result.journal (returns-clause-legal g c))
 
 pub returns-clause-keeper : goal.returns-clause-keeper
 returns-clause-keeper g c =
