@@ -12,8 +12,8 @@ use Rattle.xl_links.specs.declared.link.Opening.TheVariants as opening
 use Rattle.xl_links.specs.declared.link.LinkRead.{LinkRead}
 use Rattle.xl_links.specs.declared.link.LinkRead.TheVariants as read
 
--- what a link shows: the bytes that it still has to give, those that it took, and what its openings answered, each where
--- the link tells it; and how often a call has failed, up to the greatest `u64`
+-- what a link shows: the bytes that it still has to give, those that it took, and what its openings answered, each
+-- where the link tells it; and how often a call has failed, up to the greatest `u64`
 pub record Wire : Type 0 where
   pub left : Option (List ℕ)
   pub took : Option (List ℕ)

@@ -22,7 +22,8 @@ AreBytes bytes = (i : ℕ) → get_or bytes i 0 < 256
 -- A session in this phase, all of whose drained bytes were written, and which has these bytes still to hand over
 pub record SoFar
     (start : Core) (may_give : ℕ → Bool) (member : ℕ)
-    (old : Knowledge Entry) (old_link : Wire) (phase : Phase) (new : Knowledge Entry) (new_link : Wire) (held : List ℕ) : Type 0 where
+    (old : Knowledge Entry) (old_link : Wire) (phase : Phase)
+    (new : Knowledge Entry) (new_link : Wire) (held : List ℕ) : Type 0 where
   pub steps : List Step
   pub run : IsSession may_give member steps phase
   pub made : Made start old new (calls steps)

@@ -135,7 +135,8 @@ pub record Serves
   pub reason : IsReason turns serving.deeds new why
 
 -- it goes on, or is over
-abbrev pub Follows : Core → ℕ → (ℕ → Bool) → ℕ → Knowledge Entry → Wire → Option Served → Knowledge Entry → Wire → Type 0
+abbrev pub Follows : Core → ℕ → (ℕ → Bool) → ℕ
+    → Knowledge Entry → Wire → Option Served → Knowledge Entry → Wire → Type 0
 Follows start turns may_give member old old_link None new new_link =
     Serving start may_give member old old_link Asks new new_link
 Follows start turns may_give member old old_link (Some why) new new_link =

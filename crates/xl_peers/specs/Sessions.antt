@@ -38,8 +38,8 @@ pub data Phase : Type 0 where
   Hands : Phase
   Ended : Phase
 
--- after a read that gave bytes their frames are handed over, after an idle one the next turn begins, and else the session
--- ends
+-- after a read that gave bytes their frames are handed over, after an idle one the next turn begins, and else the
+-- session ends
 abbrev pub after_read : Reading → Phase
 after_read (Reading.Got bytes) = Hands
 after_read Reading.Idle = Asks
@@ -95,8 +95,8 @@ EndsBy member steps phase written end.LinkFault = IsLast steps (Read Reading.Fai
 EndsBy member steps phase written end.OutOfMemory = Unit {0}
 EndsBy member steps phase written (end.StoreFull n) = Unit {0}
 
--- A whole session by its steps, with the bytes that were written and its end. All that the drains gave was written, unless
--- a write failed
+-- A whole session by its steps, with the bytes that were written and its end. All that the drains gave was written,
+-- unless a write failed
 pub record IsTalk (may_give : ℕ → Bool) (member : ℕ) (steps : List Step) (written : List ℕ) (e : End) : Type 0 where
   pub phase : Phase
   pub run : IsSession may_give member steps phase
@@ -113,9 +113,9 @@ IsCause turns before after drawn end.LinkFault = Rose before after
 IsCause turns before after drawn end.OutOfMemory = Unit {0}
 IsCause turns before after drawn (end.StoreFull n) = (n ≡ turns) × (drawn ≡ turns)
 
--- A whole session of a pass over a link, at a store that was opened with this core and has so many turns: its calls stand
--- in the history at the places that the pass gained, the link gave the bytes that were read and took those that were
--- written, and no call of it opened the link
+-- A whole session of a pass over a link, at a store that was opened with this core and has so many turns: its calls
+-- stand in the history at the places that the pass gained, the link gave the bytes that were read and took those that
+-- were written, and no call of it opened the link
 pub record Session
     (start : Core) (turns : ℕ) (may_give : ℕ → Bool) (member : ℕ)
     (old : Knowledge Entry) (old_link : Wire) (e : End) (new : Knowledge Entry) (new_link : Wire) : Type 0 where

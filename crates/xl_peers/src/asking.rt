@@ -26,7 +26,8 @@ pub(crate) fn greet<W: Wait, B: Branch + Drop, K: Keeper + Drop>(
     ensures on { OnOk result ((may : ℕ → Bool) (w : Wire) (held : List ℕ)
         → Goes (start_of store.now) may member Greets Asks (known pass.old) w held (known pass.new) w held) }
     ensures ends { IfErr result (λ end. (may : ℕ → Bool) (w : Wire) (held : List ℕ)
-        → Ends (start_of store.now) may member (turns_of store.now) Greets (known pass.old) w held (known pass.new) w end) }
+        → Ends (start_of store.now) may member (turns_of store.now) Greets
+        (known pass.old) w held (known pass.new) w end) }
 {
     match store.greet(rt, pass, member) {
         Ok(()) => Ok(()),
@@ -45,7 +46,8 @@ pub(crate) fn ask<W: Wait, B: Branch + Drop, K: Keeper + Drop>(
     ensures on { OnOk result ((may : ℕ → Bool) (member : ℕ) (w : Wire) (held : List ℕ)
         → Goes (start_of store.now) may member Asks Drains (known pass.old) w held (known pass.new) w held) }
     ensures ends { IfErr result (λ end. (may : ℕ → Bool) (member : ℕ) (w : Wire) (held : List ℕ)
-        → Ends (start_of store.now) may member (turns_of store.now) Asks (known pass.old) w held (known pass.new) w end) }
+        → Ends (start_of store.now) may member (turns_of store.now) Asks
+        (known pass.old) w held (known pass.new) w end) }
 {
     match store.stopped(rt, pass) {
         Ok(answer) => {

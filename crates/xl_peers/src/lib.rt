@@ -1,5 +1,5 @@
-//! Sessions with the members: one connection's bytes become calls of the store, and what the store has for the member is
-//! written to the connection.
+//! Sessions with the members: one connection's bytes become calls of the store, and what the store has for the member
+//! is written to the connection.
 //!
 //! A session greets the member. In each turn it asks whether the node is to stop, writes all that waits for the member,
 //! reads once, and hands each frame that this read made whole to the core, between two passes of a gate that lets a

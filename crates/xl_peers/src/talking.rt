@@ -23,8 +23,8 @@ use xl_wire::{Feed, LONGEST_FRAME};
 
 /// Serves one connection on a link whose `open` answered Open.
 ///
-/// It ends where the link ends or fails, where the node is to stop, where what comes begins no frame, for want of memory,
-/// and where all turns of the store are drawn. The member is a peer of the core that the store was opened with.
+/// It ends where the link ends or fails, where the node is to stop, where what comes begins no frame, for want of
+/// memory, and where all turns of the store are drawn. The member is a peer of the core that the store was opened with.
 pub fn session<W: Wait, B: Branch + Drop, K: Keeper + Drop, L: Link, G: Gate, C: Clock>(
     rt: &W,
     alloc: Global,
@@ -118,7 +118,8 @@ fn turn<W: Wait, B: Branch + Drop, K: Keeper + Drop, L: Link, G: Gate, C: Clock>
     ensures room { length room.new ≡ LONGEST_FRAME }
     ensures on { OnOk result (Goes (start_of store.now) (C.may_give clock.now) member Asks Asks
         (known pass.old) (L.shows link.old) feed.old.held (known pass.new) (L.shows link.new) feed.new.held) }
-    ensures ends { IfErr result (λ end. Ends (start_of store.now) (C.may_give clock.now) member (turns_of store.now) Asks
+    ensures ends { IfErr result (λ end.
+        Ends (start_of store.now) (C.may_give clock.now) member (turns_of store.now) Asks
         (known pass.old) (L.shows link.old) feed.old.held (known pass.new) (L.shows link.new) end) }
 {
     match ask(rt, store, pass) {
