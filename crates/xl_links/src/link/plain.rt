@@ -34,12 +34,15 @@ impl PlainLink {
 
 impl Link for PlainLink {
     ghost use Rattle.xl_links.specs.declared.script.Course.TheVariants as course;
-    ghost use Rattle.xl_links.specs.Links.{Reads};
+    ghost use Rattle.xl_links.specs.Links.{Opens, Reads};
     ghost use Rattle.xl_links.specs.Memory.{course_of, course_over, plain_left, plain_wire};
 
     ghost shows = { plain_wire };
 
-    fn open(&mut self) -> Opening {
+    fn open(&mut self) -> Opening
+        ensures opens { Opens (plain_wire self.old) result (plain_wire self.new) }
+        ensures open { result ≡ Opening.Open }
+    {
         Opening::Open
     }
 
