@@ -16,7 +16,7 @@ use Rattle.xl_store.specs.Calls.{Made}
 use Rattle.xl_store.specs.Stores.{start_of, turns_of, Drained}
 use Rattle.xl_peers.specs.declared.ends.End.TheVariants as end
 use Rattle.xl_peers.specs.Steps.{Step, drain}
-use Rattle.xl_peers.specs.Sessions.{Phase, IsSession, Session}
+use Rattle.xl_peers.specs.Sessions.{IsSession, Session}
 use Rattle.xl_peers.specs.Sessions.Phase.{Drains}
 use Rattle.xl_peers.specs.Going.{SoFar, Sent, SentFront, after_drain}
 use Rattle.xl_peers.proofs.Stepping.{so_called}

@@ -1,12 +1,10 @@
 -- How a session ends.
 use Rattle.std.proofs.Common.{◌≡◌, Bool, ◌≤◌, ◌++◌, ◌∷◌, ℕ, Option, List, [], refl, sym, ap, ◌∙◌, append_assoc, append-nil, arith, subst, inl, inr}
 use Rattle.std.specs.Io.KnownBytes.{prepend_known, append_known}
-use mathlib.Core.List.{IsPrefix}
 use Rattle.xl_base.specs.Faults.{Rose}
 use Rattle.xl_wire.specs.declared.lengths.TheConstants.{LONGEST_FRAME}
 use Rattle.xl_turns.specs.declared.view.Knowledge.{Knowledge}
 use Rattle.xl_turns.specs.declared.pass.Pass.{Pass}
-use Rattle.xl_turns.specs.Knowing.{with_drawn}
 use Rattle.xl_turns.specs.Passes.{known}
 use Rattle.xl_turns.proofs.Prefixes.{prefix_all}
 use Rattle.xl_links.specs.Links.{Wire}
@@ -24,8 +22,8 @@ use Rattle.xl_store.proofs.Making.{made_none, made_both}
 use Rattle.xl_peers.specs.declared.ends.End.{End}
 use Rattle.xl_peers.specs.declared.ends.End.TheVariants as end
 use Rattle.xl_peers.specs.Steps.{Step, drain, call_in, read_in, drained_in, calls, bytes_read, bytes_drained}
-use Rattle.xl_peers.specs.Sessions.{Phase, IsSession, EndsBy, IsCutOff, IsCause, IsTalk, Session}
-use Rattle.xl_peers.specs.Going.{SoFar, Sent, SentFront, end_of}
+use Rattle.xl_peers.specs.Sessions.{Phase, IsSession, EndsBy, IsCutOff, IsCause, Session}
+use Rattle.xl_peers.specs.Going.{SoFar, SentFront, end_of}
 use Rattle.xl_peers.proofs.Stepping.{more, so_none}
 use Rattle.xl_peers.proofs.Growing.{append_known-none, append_known-twice, prepend_known-none}
 

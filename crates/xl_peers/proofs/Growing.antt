@@ -1,9 +1,7 @@
 -- What a link took, as it grows.
-use Rattle.std.proofs.Common.{◌≡◌, ◌≤◌, ◌++◌, ℕ, List, [], Some, None, Option, take, drop, refl, sym, ap, ◌∙◌, append_assoc, append-nil, arith, subst}
+use Rattle.std.proofs.Common.{◌≡◌, ◌++◌, ℕ, List, [], Some, None, Option, take, drop, refl, sym, ap, ◌∙◌, append_assoc, append-nil, arith, subst}
 use Rattle.std.proofs.lemmas.List.{take-append-drop}
 use Rattle.std.specs.Io.KnownBytes.{prepend_known, append_known}
-use mathlib.Core.List.{IsPrefix}
-use Rattle.xl_base.specs.Faults.{Rose}
 use Rattle.xl_io.specs.declared.sink.Wrote.TheVariants.{Took, Failed}
 use Rattle.xl_links.specs.Links.{Wire, Writes}
 use Rattle.xl_peers.specs.Going.{Sent, SentFront}

@@ -1,10 +1,9 @@
 -- A frame is handed over, and pieces go into a feed.
 use Rattle.std.specs.Prelude.{min, if◌then◌else◌}
-use Rattle.std.proofs.Common.{◌≡◌, Bool, false, ◌-◌, ◌≤◌, ◌<◌, ◌++◌, ◌∷◌, ℕ, zero, suc, true, List, [], length, take, drop, Result, Ok, Err, refl, sym, ap, ◌∙◌, subst, append_assoc, append-nil, arith}
+use Rattle.std.proofs.Common.{◌≡◌, Bool, false, ◌-◌, ◌≤◌, ◌<◌, ◌++◌, ◌∷◌, ℕ, true, List, [], length, take, drop, Result, Ok, Err, refl, sym, ap, ◌∙◌, subst, append_assoc, arith}
 use Rattle.std.proofs.lemmas.List.{take-append-drop}
 use Rattle.xl_wire.specs.declared.lengths.TheConstants.{LONGEST_FRAME}
-use Rattle.xl_wire.specs.Raws.{RawFrame, raw_bytes}
-use Rattle.xl_wire.specs.Heads.{Split}
+use Rattle.xl_wire.specs.Raws.{raw_bytes}
 use Rattle.xl_wire.specs.Feeding.{Fed, Offer, offer_of, taken_of, after_push, after_next}
 use Rattle.xl_wire.specs.declared.refusal.WireRefusal.{WireRefusal}
 use Rattle.xl_turns.specs.declared.view.Knowledge.{Knowledge}
@@ -14,7 +13,7 @@ use Rattle.xl_links.specs.Links.{Wire}
 use Rattle.xl_core.specs.declared.event.CoreEvent.TheVariants.{Frame}
 use Rattle.xl_core.specs.declared.refusal.Refusal.{Refusal}
 use Rattle.xl_core.specs.declared.taken.Taken.{Taken}
-use Rattle.xl_core.specs.Answers.{Answer, given_in}
+use Rattle.xl_core.specs.Answers.{given_in}
 use Rattle.xl_core.specs.Replies.{taken_answer}
 use Rattle.xl_store.specs.declared.entry.Entry.{Entry}
 use Rattle.xl_store.specs.declared.store.Store.{Store}

@@ -1,9 +1,8 @@
 -- Serving goes on by one deed.
-use Rattle.std.proofs.Common.{◌≡◌, Bool, ◌≤◌, ◌++◌, ◌∷◌, ◌⊎◌, ℕ, Option, Some, None, List, [], true, false, refl, sym, ap, ap₂, ◌∙◌, append_assoc, append-nil, arith, subst, inl, inr}
+use Rattle.std.proofs.Common.{◌≡◌, Bool, ◌≤◌, ◌++◌, ◌∷◌, ◌⊎◌, ℕ, Option, Some, None, List, [], true, refl, sym, ap, ap₂, ◌∙◌, append_assoc, append-nil, arith, subst, inl, inr}
 use Rattle.std.specs.List.{flat_map}
 use Rattle.std.proofs.lemmas.Grind.{flat_map-append}
 use Rattle.std.specs.Io.KnownBytes.{prepend_known, append_known}
-use mathlib.Core.List.{IsPrefix}
 use Rattle.xl_base.specs.Faults.{Rose}
 use Rattle.xl_turns.specs.declared.view.Knowledge.{Knowledge}
 use Rattle.xl_turns.specs.declared.pass.Pass.{Pass}
@@ -19,14 +18,14 @@ use Rattle.xl_store.specs.declared.store.Store.{Store}
 use Rattle.xl_store.specs.declared.store.StoreEnd.{StoreEnd}
 use Rattle.xl_store.specs.declared.store.StoreEnd.TheVariants as refused
 use Rattle.xl_store.specs.Calls.{Made}
-use Rattle.xl_store.specs.Stores.{start_of, turns_of, Called, Refused}
+use Rattle.xl_store.specs.Stores.{start_of, turns_of, Refused}
 use Rattle.xl_store.proofs.Making.{made_none, made_both}
 use Rattle.xl_peers.specs.declared.ends.End.{End}
 use Rattle.xl_peers.specs.declared.ends.End.TheVariants as end
 use Rattle.xl_peers.specs.declared.ends.Served.TheVariants as served
-use Rattle.xl_peers.specs.Sessions.{Session, IsTalk, IsCutOff, IsCause}
+use Rattle.xl_peers.specs.Sessions.{Session, IsCutOff, IsCause}
 use Rattle.xl_peers.specs.Steps.{bytes_drained}
-use Rattle.xl_peers.specs.Serving.{Deed, Asked, Opened, Talked, calls_in, read_in, drained_in, written_in, opened_in, Round, after_answer, after_opening, after_session, served_of, refused_of, IsServing, Serving, Serves, IsReason, Follows}
+use Rattle.xl_peers.specs.Serving.{Deed, Asked, Opened, Talked, calls_in, read_in, drained_in, written_in, opened_in, Round, after_answer, after_opening, after_session, served_of, refused_of, IsServing, Serving, Follows}
 use Rattle.xl_peers.proofs.Growing.{append_known-none, append_known-twice, prepend_known-none, prepend_known-twice}
 use Rattle.xl_peers.proofs.Finishing.{refused_later}
 

@@ -1,6 +1,6 @@
 -- What the parts of a session keep, and how each leads on. Source: what the code of this crate relies on. No public
 -- clause cites this file.
-use Rattle.std.specs.Prelude.{◌≡◌, Bool, ℕ, zero, suc, ◌<◌, ◌≤◌, List, ◌++◌, get_or}
+use Rattle.std.specs.Prelude.{◌≡◌, Bool, ℕ, zero, suc, ◌<◌, ◌≤◌, List, get_or}
 use Rattle.std.specs.Io.KnownBytes.{prepend_known, append_known}
 use mathlib.Core.List.{IsPrefix}
 use Rattle.xl_base.specs.Faults.{Rose}

@@ -1,4 +1,4 @@
-use Rattle.std.proofs.Common.{sym, subst, arith}
+use Rattle.std.proofs.Common.{sym, subst}
 use Rattle.xl_turns.specs.Passes.{known}
 use Rattle.xl_store.specs.Stores.{start_of, turns_of}
 use Rattle.xl_peers.specs.Sessions.{Session}

@@ -1,4 +1,4 @@
-use Rattle.std.proofs.Common.{◌≡◌, ℕ, List, ◌++◌, length, false}
+use Rattle.std.proofs.Common.{◌≡◌, ℕ, ◌++◌, length, false}
 use Rattle.xl_turns.specs.Passes.{known}
 use Rattle.xl_links.specs.Links.{Wire}
 use Rattle.xl_store.specs.Stores.{start_of, IsOf}

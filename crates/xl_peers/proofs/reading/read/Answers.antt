@@ -1,5 +1,4 @@
-use Rattle.std.proofs.Common.{◌≡◌, ◌≢◌, ◌<◌, List, ℕ, [], length, take, refl, subst, append-nil, arith, inl}
-use Rattle.std.proofs.lemmas.List.{length-take}
+use Rattle.std.proofs.Common.{◌≢◌, [], take, refl, subst, append-nil, arith, inl}
 use Rattle.xl_wire.proofs.Numbers.{IsBytes-take}
 use Rattle.xl_links.specs.declared.link.LinkRead.TheVariants as read
 use Rattle.xl_links.specs.Links.{Reading}

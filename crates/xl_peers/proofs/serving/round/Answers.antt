@@ -1,4 +1,4 @@
-use Rattle.std.proofs.Common.{◌≤◌, sym, subst, false, arith}
+use Rattle.std.proofs.Common.{sym, subst, false, arith}
 use Rattle.xl_turns.specs.Passes.{known}
 use Rattle.xl_core.specs.declared.event.CoreEvent.TheVariants.{Stopped}
 use Rattle.xl_core.specs.Answers.{Told}

@@ -1,4 +1,4 @@
-use Rattle.std.proofs.Common.{◌≡◌, ◌++◌, ℕ, List, [], length, take, drop, refl, sym, ap, subst, arith}
+use Rattle.std.proofs.Common.{◌++◌, [], length, drop, refl, sym, ap, subst, arith}
 use Rattle.std.proofs.lemmas.List.{length-append, length-take}
 use Rattle.xl_wire.specs.Feeding.{Fed}
 use Rattle.xl_turns.specs.Passes.{known}
