@@ -1,0 +1,100 @@
+-- What links and clocks in memory show: their content, their faults and their script. Source: this project's own, for
+-- tests of what is said over links.
+use Rattle.std.specs.Prelude.{ℕ, ◌&&◌, nat_le, Bool, List, [], ◌∷◌, Some, None, drop}
+use Rattle.xl_base.specs.Counts.{one_more}
+use Rattle.xl_base.specs.declared.moments.TheConstants.{GREATEST_MILLIS}
+use Rattle.xl_links.specs.declared.link.Opening.{Opening}
+use Rattle.xl_links.specs.declared.link.LinkRead.{LinkRead}
+use Rattle.xl_links.specs.declared.link.LinkRead.TheVariants as read
+use Rattle.xl_links.specs.declared.script.LinkScript.{LinkScript}
+use Rattle.xl_links.specs.declared.script.Course.{Course}
+use Rattle.xl_links.specs.declared.script.Course.TheVariants as course
+use Rattle.xl_links.specs.declared.link.plain.PlainLink.{PlainLink}
+use Rattle.xl_links.specs.declared.link.scripted.Calls.{Calls}
+use Rattle.xl_links.specs.declared.link.scripted.MemLink.{MemLink}
+use Rattle.xl_links.specs.declared.clock.MemClock.{MemClock}
+use Rattle.xl_links.specs.Links.{Wire}
+use Rattle.xl_links.specs.Openings.{OpeningList}
+use Rattle.xl_links.specs.Scripts.{opening_at, course_at, is_listed}
+
+-- the bytes that a link which never fails still has to give
+abbrev pub plain_left : PlainLink → List ℕ
+plain_left link = drop link.source.given link.source.bytes.items
+
+-- it tells nothing of what it takes, nor of its openings
+abbrev pub plain_wire : PlainLink → Wire
+plain_wire link = record { left = Some (plain_left link); took = None; openings = None; faults = 0 }
+
+-- the bytes that a link in memory still has to give
+abbrev pub bytes_left : MemLink → List ℕ
+bytes_left link = plain_left link.source
+
+-- the bytes that it took
+abbrev pub bytes_taken : MemLink → List ℕ
+bytes_taken link = link.taken.items
+
+abbrev pub list_of_openings : MemLink → OpeningList
+list_of_openings link = link.openings
+
+abbrev pub wire_of : MemLink → Wire
+wire_of link = record {
+  left = Some (bytes_left link);
+  took = Some (bytes_taken link);
+  openings = (list_of_openings link).told;
+  faults = link.faults;
+}
+
+-- how its calls are to be answered
+abbrev pub script_of : MemLink → LinkScript
+script_of link = link.script
+
+-- how many calls of each kind there were
+abbrev pub calls_of : MemLink → Calls
+calls_of link = link.calls
+
+abbrev pub no_calls : Calls
+no_calls = record { openings = 0; reads = 0; writes = 0 }
+
+abbrev pub with_opening_call : Calls → Calls
+with_opening_call calls = record calls { openings = one_more calls.openings }
+
+abbrev pub with_read_call : Calls → Calls
+with_read_call calls = record calls { reads = one_more calls.reads }
+
+abbrev pub with_write_call : Calls → Calls
+with_write_call calls = record calls { writes = one_more calls.writes }
+
+-- what the next opening answers
+abbrev pub next_opening : MemLink → Opening
+next_opening link = opening_at (script_of link) (one_more (calls_of link).openings)
+
+-- where no byte is left, a read that would give some ends the connection
+abbrev pub course_over : List ℕ → Course → Course
+course_over [] course.Gives = course.Ends
+course_over (b ∷ bytes) course.Gives = course.Gives
+course_over bytes course.Idles = course.Idles
+course_over bytes course.Ends = course.Ends
+course_over bytes course.Fails = course.Fails
+
+-- how the next read goes
+abbrev pub next_course : MemLink → Course
+next_course link = course_over (bytes_left link) (course_at (script_of link) (one_more (calls_of link).reads))
+
+-- how a read went
+abbrev pub course_of : LinkRead → Course
+course_of (read.Got n) = course.Gives
+course_of read.Idle = course.Idles
+course_of read.End = course.Ends
+course_of read.Failed = course.Fails
+
+-- the next write is to fail
+abbrev pub next_write_fails : MemLink → Bool
+next_write_fails link = is_listed (script_of link).failing_writes.items (one_more (calls_of link).writes)
+
+-- the moment that a clock in memory began with
+abbrev pub first_moment : MemClock → ℕ
+first_moment clock = clock.first
+
+-- it may give that moment, and each later one
+abbrev pub is_moment : MemClock → ℕ → Bool
+is_moment clock moment = nat_le (first_moment clock) moment && nat_le moment GREATEST_MILLIS

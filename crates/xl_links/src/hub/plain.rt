@@ -1,0 +1,33 @@
+ghost use Rattle.std.specs.Prelude.{◌≡◌, Some};
+
+use crate::hub::{Hub, Way};
+use crate::link::plain::PlainLink;
+use std::alloc::Global;
+use xl_base::NodeNo;
+use xl_io::Failed;
+
+/// A hub in memory that never fails: its count of faults is 0. Its links are to members that say nothing.
+#[derive(Drop)]
+pub struct PlainHub {
+    alloc: Global,
+}
+
+impl PlainHub {
+    pub fn new(alloc: Global) -> Self {
+        PlainHub { alloc }
+    }
+}
+
+impl Hub for PlainHub {
+    ghost use Rattle.xl_links.specs.Hubs.{silent_wire};
+
+    type L = PlainLink;
+
+    ghost gives = { λ _ _. Some silent_wire };
+
+    ghost faults = { λ _. 0 };
+
+    fn open_link(&mut self, _member: NodeNo, _way: Way) -> Result<PlainLink, Failed> {
+        Ok(PlainLink::silent(self.alloc))
+    }
+}

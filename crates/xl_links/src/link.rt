@@ -1,0 +1,50 @@
+ghost use Rattle.std.specs.Prelude.{◌≡◌, length};
+ghost use Rattle.xl_links.specs.Links.{Wire, Opens, Reads, Writes};
+
+mod openings;
+pub mod plain;
+pub mod scripted;
+
+use xl_io::Wrote;
+
+/// What an opening answers.
+#[derive(Clone, Copy, Debug, PartialEq, Eq)]
+pub enum Opening {
+    Open,
+    /// No peer is there now.
+    NotYet,
+    /// The count of faults rose.
+    Failed,
+}
+
+/// What a read answers.
+#[derive(Clone, Copy, Debug, PartialEq, Eq)]
+pub enum LinkRead {
+    /// So many bytes stand at the front of the room.
+    Got(usize),
+    /// No byte came within one second.
+    Idle,
+    /// No more bytes come on this connection.
+    End,
+    /// The count of faults rose, and no byte was given.
+    Failed,
+}
+
+/// A link to one member, over which one connection after the other may be held.
+pub trait Link {
+    /// What it has left, took and answered, where it tells it, and how often a call has failed.
+    ghost shows: { Self → Wire };
+
+    /// Begins a connection.
+    fn open(&mut self) -> Opening
+        ensures { Opens (shows self.old) result (shows self.new) };
+
+    /// Reads the next bytes to the front of the room, at least one where there is room.
+    fn read(&mut self, room: &mut [u8]) -> LinkRead
+        ensures same { length room.new ≡ length room.old }
+        ensures read { Reads (shows self.old) result room.new (shows self.new) };
+
+    /// Takes bytes from the front of the piece, at least one where there is one.
+    fn write(&mut self, piece: &[u8]) -> Wrote
+        ensures { Writes (shows self.old) result piece.now (shows self.new) };
+}

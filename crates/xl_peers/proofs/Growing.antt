@@ -1,0 +1,72 @@
+-- What a link took, as it grows.
+use Rattle.std.proofs.Common.{◌≡◌, ◌++◌, ℕ, List, [], Some, None, Option, take, drop, refl, sym, ap, ◌∙◌, append_assoc, append-nil, arith, subst}
+use Rattle.std.proofs.lemmas.List.{take-append-drop}
+use Rattle.std.specs.Io.KnownBytes.{prepend_known, append_known}
+use Rattle.xl_io.specs.declared.sink.Wrote.TheVariants.{Took, Failed}
+use Rattle.xl_links.specs.Links.{Wire, Writes}
+use Rattle.xl_peers.specs.Going.{Sent, SentFront}
+
+pub append_known-none : (known : Option (List ℕ)) → append_known known [] ≡ known
+append_known-none None = refl
+append_known-none (Some xs) = ap Some (append-nil xs)
+
+pub append_known-twice : (known : Option (List ℕ)) (xs ys : List ℕ)
+    → append_known (append_known known xs) ys ≡ append_known known (xs ++ ys)
+append_known-twice None xs ys = refl
+append_known-twice (Some bytes) xs ys = ap Some (append_assoc bytes xs ys)
+
+pub prepend_known-none : (known : Option (List ℕ)) → prepend_known [] known ≡ known
+prepend_known-none None = refl
+prepend_known-none (Some xs) = refl
+
+pub prepend_known-twice : (xs ys : List ℕ) (known : Option (List ℕ))
+    → prepend_known xs (prepend_known ys known) ≡ prepend_known (xs ++ ys) known
+prepend_known-twice xs ys None = refl
+prepend_known-twice xs ys (Some bytes) = ap Some (sym (append_assoc xs ys bytes))
+
+-- of all the bytes, those that aren't in the rest were sent
+pub record Sending (old new : Wire) (all rest : List ℕ) : Type 0 where
+  pub front : List ℕ
+  pub parts : all ≡ front ++ rest
+  pub sent : Sent old front new
+
+pub sent_none : (w : Wire) → Sent w [] w
+sent_none w = record { took = sym (append_known-none w.took); left = refl; openings = refl; later = omega arith }
+
+pub sent_both : (old mid new : Wire) (xs ys : List ℕ) → Sent old xs mid → Sent mid ys new → Sent old (xs ++ ys) new
+sent_both old mid new xs ys a b = record {
+  took = b.took ∙ ap (λ known. append_known known ys) a.took ∙ append_known-twice old.took xs ys;
+  left = b.left ∙ a.left;
+  openings = b.openings ∙ a.openings;
+  later = let p = a.later in let q = b.later in omega arith;
+}
+
+pub sending_none : (w : Wire) (all : List ℕ) → Sending w w all all
+sending_none w all = record { front = []; parts = refl; sent = sent_none w }
+
+pub sending_more : (old mid new : Wire) (all rest : List ℕ) (n : ℕ) → Sending old mid all rest
+    → Sent mid (take n rest) new → Sending old new all (drop n rest)
+sending_more old mid new all rest n s more = record {
+  front = s.front ++ take n rest;
+  parts = s.parts ∙ ap (λ xs. s.front ++ xs) (sym (take-append-drop n rest)) ∙ sym (append_assoc s.front (take n rest) (drop n rest));
+  sent = sent_both old mid new s.front (take n rest) s.sent more;
+}
+
+pub sent_took : (old new : Wire) (n : ℕ) (rest : List ℕ) → Writes old (Took n) rest new → Sent old (take n rest) new
+sent_took old new n rest w = record { took = w.took; left = w.left; openings = w.openings; later = w.later }
+
+-- a failed write changes nothing but the count
+pub sent_front : (start old new : Wire) (all rest : List ℕ) → Sending start old all rest → Writes old Failed rest new
+    → SentFront start all new
+sent_front start old new all rest s w =
+    let none : Sent old [] new = record { took = w.took; left = w.left; openings = w.openings; later = w.later } in
+    let sent : Sent start s.front new = subst (λ xs. Sent start xs new) (append-nil s.front) (sent_both start old new s.front [] s.sent none) in
+    record {
+      written = s.front;
+      front = (rest, sym s.parts);
+      sent = sent;
+      failed = let r = w.failed refl in let p = s.sent.later in omega arith;
+    }
+
+pub sent_all : (old new : Wire) (all : List ℕ) → Sending old new all [] → Sent old all new
+sent_all old new all s = subst (λ xs. Sent old xs new) (sym (append-nil s.front) ∙ sym s.parts) s.sent

@@ -1,0 +1,4 @@
+pub mod Steps
+pub mod Sessions
+pub mod Serving
+pub mod Going

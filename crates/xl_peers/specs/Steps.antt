@@ -1,0 +1,77 @@
+-- What a session does, step by step: calls of the store, and reads of its link. Source: this project's own.
+use Rattle.std.specs.Prelude.{◌≡◌, ℕ, Bool, List, [], ◌∷◌, ◌++◌}
+use Rattle.std.specs.List.{flat_map}
+use Rattle.xl_wire.specs.declared.lengths.TheConstants.{LONGEST_FRAME}
+use Rattle.xl_links.specs.Links.{Reading, bytes_of}
+use Rattle.xl_core.specs.declared.event.CoreEvent.{CoreEvent}
+use Rattle.xl_core.specs.declared.event.CoreEvent.TheVariants.{Issue, Frame, Timer, Submit, Greet, Drain, Reports, Stop, Stopped}
+use Rattle.xl_core.specs.Answers.{Answer, Done, Gave, Told, given_in}
+use Rattle.xl_core.specs.Queues.{joined}
+use Rattle.xl_store.specs.Calls.{Call}
+
+pub data Step : Type 0 where
+  Called : Call → Step
+  Read : Reading → Step
+
+abbrev pub greet : ℕ → Step
+greet member = Called (record { event = Greet member; answer = Done })
+
+-- whether the node is to stop
+abbrev pub stopped : Bool → Step
+stopped answer = Called (record { event = Stopped; answer = Told answer })
+
+-- a drain into a room for the longest frame, and the frames that it gave
+abbrev pub drain : ℕ → List (List ℕ) → Step
+drain member frames = Called (record { event = Drain member LONGEST_FRAME; answer = Gave member frames })
+
+-- bytes are handed to the core, whatever it answers
+abbrev pub frame : ℕ → List ℕ → Answer → Step
+frame now bytes answer = Called (record { event = Frame now bytes; answer = answer })
+
+abbrev pub call_in : Step → List Call
+call_in (Called call) = call ∷ []
+call_in (Read reading) = []
+
+abbrev pub read_in : Step → List ℕ
+read_in (Called call) = []
+read_in (Read reading) = bytes_of reading
+
+abbrev pub drained_in : Step → List ℕ
+drained_in (Called call) = joined (given_in call.answer)
+drained_in (Read reading) = []
+
+-- the bytes that an event hands to the core
+abbrev pub handed_by : CoreEvent → List (List ℕ)
+handed_by (Issue now seq id full) = []
+handed_by (Frame now bytes) = bytes ∷ []
+handed_by (Timer now) = []
+handed_by (Submit now tx) = []
+handed_by (Greet member) = []
+handed_by (Drain member room) = []
+handed_by (Reports room) = []
+handed_by Stop = []
+handed_by Stopped = []
+
+abbrev pub handed_in : Step → List (List ℕ)
+handed_in (Called call) = handed_by call.event
+handed_in (Read reading) = []
+
+-- its calls of the store, in order
+abbrev pub calls : List Step → List Call
+calls steps = flat_map call_in steps
+
+-- all bytes that its reads gave
+abbrev pub bytes_read : List Step → List ℕ
+bytes_read steps = flat_map read_in steps
+
+-- all bytes that its drains gave
+abbrev pub bytes_drained : List Step → List ℕ
+bytes_drained steps = flat_map drained_in steps
+
+-- what it handed to the core, call by call
+abbrev pub frames_handed : List Step → List (List ℕ)
+frames_handed steps = flat_map handed_in steps
+
+-- it was the last step
+abbrev pub IsLast : List Step → Step → Type 0
+IsLast steps step = (earlier : List Step) × (steps ≡ earlier ++ step ∷ [])

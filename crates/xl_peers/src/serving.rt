@@ -1,0 +1,132 @@
+ghost use Rattle.std.specs.Prelude.{◌≡◌, IsSome};
+ghost use Rattle.xl_tags.specs.Rings.{key_of};
+ghost use Rattle.xl_turns.specs.declared.view.Knowledge.{Knowledge};
+ghost use Rattle.xl_turns.specs.Passes.{known};
+ghost use Rattle.xl_links.specs.Links.{Wire};
+ghost use Rattle.xl_store.specs.declared.entry.Entry.{Entry};
+ghost use Rattle.xl_store.specs.Stores.{start_of, turns_of, IsOf};
+ghost use Rattle.xl_peers.specs.Serving.{Serving, Serves, Follows};
+ghost use Rattle.xl_peers.specs.Serving.Round.{Asks, Opens};
+
+use crate::ends::{Served, refused_of, served_of};
+use crate::talking::talk;
+use std::alloc::Global;
+use std::sync::Wait;
+use xl_base::NodeNo;
+use xl_io::Keeper;
+use xl_ledger::Branch;
+use xl_links::{Clock, Gate, Link, Opening};
+use xl_store::{Pass, Store};
+
+/// How long to wait before the store is asked again, in milliseconds.
+const PAUSE: u32 = 1000;
+
+/// Serves one connection after the other over the link, until the node is to stop or all turns of the store are drawn.
+///
+/// The store is asked whether to stop before each opening. It is asked again a second after an opening that found no
+/// peer or failed, after a session's end that isn't one of these two, and where memory is wanting. The member is a peer
+/// of the core that the store was opened with.
+pub fn serve<W: Wait, B: Branch + Drop, K: Keeper + Drop, L: Link, G: Gate, C: Clock>(
+    rt: &W,
+    alloc: Global,
+    store: &Store<B, K>,
+    mut pass: Pass,
+    member: NodeNo,
+    link: &mut L,
+    gate: &G,
+    clock: &C,
+) -> (Pass, Served)
+    requires pass { IsOf store.now pass }
+    requires peer { IsSome (key_of (start_of store.now).node.keys member) }
+    ensures pass { IsOf store.now result.0 }
+    ensures serves { Serves (start_of store.now) (turns_of store.now) (C.may_give clock.now) member
+        (known pass) (L.shows link.old) result.1 (known result.0) (L.shows link.new) }
+{
+    let served = attend(rt, alloc, store, &mut pass, member, link, gate, clock);
+    (pass, served)
+}
+
+/// A serving, whose pass is lent.
+pub fn attend<W: Wait, B: Branch + Drop, K: Keeper + Drop, L: Link, G: Gate, C: Clock>(
+    rt: &W,
+    alloc: Global,
+    store: &Store<B, K>,
+    pass: &mut Pass,
+    member: NodeNo,
+    link: &mut L,
+    gate: &G,
+    clock: &C,
+) -> Served
+    requires pass { IsOf store.now pass.old }
+    requires peer { IsSome (key_of (start_of store.now).node.keys member) }
+    ensures pass { IsOf store.now pass.new }
+    ensures serves { Serves (start_of store.now) (turns_of store.now) (C.may_give clock.now) member
+        (known pass.old) (L.shows link.old) result (known pass.new) (L.shows link.new) }
+{
+    for _ in rt.forever() {
+        match round(rt, alloc, store, pass, member, link, gate, clock) {
+            None => clock.wait(PAUSE),
+            Some(served) => return served,
+        }
+    }
+    unreachable!()
+}
+
+/// Asks whether to stop, and connects where the node isn't to.
+fn round<W: Wait, B: Branch + Drop, K: Keeper + Drop, L: Link, G: Gate, C: Clock>(
+    rt: &W,
+    alloc: Global,
+    store: &Store<B, K>,
+    pass: &mut Pass,
+    member: NodeNo,
+    link: &mut L,
+    gate: &G,
+    clock: &C,
+) -> Option<Served>
+    requires pass { IsOf store.now pass.old }
+    requires peer { IsSome (key_of (start_of store.now).node.keys member) }
+    ensures pass { IsOf store.now pass.new }
+    ensures follows { (k : Knowledge Entry) (w : Wire)
+        → Serving (start_of store.now) (C.may_give clock.now) member k w Asks (known pass.old) (L.shows link.old)
+        → Follows (start_of store.now) (turns_of store.now) (C.may_give clock.now) member k w result
+        (known pass.new) (L.shows link.new) }
+{
+    match store.stopped(rt, pass) {
+        Ok(answer) => {
+            if answer {
+                return Some(Served::Stopped);
+            }
+            connect(rt, alloc, store, pass, member, link, gate, clock)
+        }
+        Err(end) => refused_of(end),
+    }
+}
+
+/// Opens the link, and holds a session where that answers Open.
+fn connect<W: Wait, B: Branch + Drop, K: Keeper + Drop, L: Link, G: Gate, C: Clock>(
+    rt: &W,
+    alloc: Global,
+    store: &Store<B, K>,
+    pass: &mut Pass,
+    member: NodeNo,
+    link: &mut L,
+    gate: &G,
+    clock: &C,
+) -> Option<Served>
+    requires pass { IsOf store.now pass.old }
+    requires peer { IsSome (key_of (start_of store.now).node.keys member) }
+    ensures pass { IsOf store.now pass.new }
+    ensures follows { (k : Knowledge Entry) (w : Wire)
+        → Serving (start_of store.now) (C.may_give clock.now) member k w Opens (known pass.old) (L.shows link.old)
+        → Follows (start_of store.now) (turns_of store.now) (C.may_give clock.now) member k w result
+        (known pass.new) (L.shows link.new) }
+{
+    match link.open() {
+        Opening::Open => {
+            let end = talk(rt, alloc, store, pass, member, link, gate, clock);
+            served_of(end)
+        }
+        Opening::NotYet => None,
+        Opening::Failed => None,
+    }
+}

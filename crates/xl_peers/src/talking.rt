@@ -1,0 +1,143 @@
+ghost use Rattle.std.specs.Prelude.{◌≡◌, ◌<◌, ℕ, List, length, false, OnOk, IfErr, IsSome};
+ghost use Rattle.xl_tags.specs.Rings.{key_of};
+ghost use Rattle.xl_wire.specs.declared.lengths.TheConstants.{LONGEST_FRAME};
+ghost use Rattle.xl_turns.specs.Passes.{known};
+ghost use Rattle.xl_store.specs.Stores.{start_of, turns_of, IsOf};
+ghost use Rattle.xl_peers.specs.Sessions.{Session, NeedsMore};
+ghost use Rattle.xl_peers.specs.Sessions.Phase.{Asks};
+ghost use Rattle.xl_peers.specs.Going.{Goes, Ends};
+
+use crate::asking::{ask, greet};
+use crate::draining::drain;
+use crate::ends::End;
+use crate::handing::hand;
+use crate::reading::read;
+use std::alloc::Global;
+use std::sync::Wait;
+use xl_base::NodeNo;
+use xl_io::Keeper;
+use xl_ledger::Branch;
+use xl_links::{Clock, Gate, Link};
+use xl_store::{Pass, Store};
+use xl_wire::{Feed, LONGEST_FRAME};
+
+/// Serves one connection on a link whose `open` answered Open.
+///
+/// It ends where the link ends or fails, where the node is to stop, where what comes begins no frame, for want of
+/// memory, and where all turns of the store are drawn. The member is a peer of the core that the store was opened with.
+pub fn session<W: Wait, B: Branch + Drop, K: Keeper + Drop, L: Link, G: Gate, C: Clock>(
+    rt: &W,
+    alloc: Global,
+    store: &Store<B, K>,
+    mut pass: Pass,
+    member: NodeNo,
+    link: &mut L,
+    gate: &G,
+    clock: &C,
+) -> (Pass, End)
+    requires pass { IsOf store.now pass }
+    requires peer { IsSome (key_of (start_of store.now).node.keys member) }
+    ensures pass { IsOf store.now result.0 }
+    ensures session { Session (start_of store.now) (turns_of store.now) (C.may_give clock.now) member
+        (known pass) (L.shows link.old) result.1 (known result.0) (L.shows link.new) }
+{
+    let end = talk(rt, alloc, store, &mut pass, member, link, gate, clock);
+    (pass, end)
+}
+
+/// A session, whose pass is lent.
+pub fn talk<W: Wait, B: Branch + Drop, K: Keeper + Drop, L: Link, G: Gate, C: Clock>(
+    rt: &W,
+    alloc: Global,
+    store: &Store<B, K>,
+    pass: &mut Pass,
+    member: NodeNo,
+    link: &mut L,
+    gate: &G,
+    clock: &C,
+) -> End
+    requires pass { IsOf store.now pass.old }
+    requires peer { IsSome (key_of (start_of store.now).node.keys member) }
+    ensures pass { IsOf store.now pass.new }
+    ensures session { Session (start_of store.now) (turns_of store.now) (C.may_give clock.now) member
+        (known pass.old) (L.shows link.old) result (known pass.new) (L.shows link.new) }
+{
+    let Ok(mut feed) = Feed::open(alloc) else {
+        return End::OutOfMemory;
+    };
+    let Ok(mut room) = vec![in alloc; 0; LONGEST_FRAME] else {
+        return End::OutOfMemory;
+    };
+    match greet(rt, store, pass, member) {
+        Ok(()) => {}
+        Err(end) => return end,
+    }
+    let mut passes = 0;
+    for _ in rt.forever() {
+        let turned = turn(
+            rt,
+            store,
+            pass,
+            member,
+            link,
+            gate,
+            clock,
+            &mut passes,
+            &mut feed,
+            &mut room,
+        );
+        match turned {
+            Ok(()) => {}
+            Err(end) => return end,
+        }
+    }
+    unreachable!()
+}
+
+/// Asks whether to stop, writes what waits for the member, reads once, and hands over the frames that came.
+fn turn<W: Wait, B: Branch + Drop, K: Keeper + Drop, L: Link, G: Gate, C: Clock>(
+    rt: &W,
+    store: &Store<B, K>,
+    pass: &mut Pass,
+    member: NodeNo,
+    link: &mut L,
+    gate: &G,
+    clock: &C,
+    passes: &mut u64,
+    feed: &mut Feed,
+    room: &mut [u8],
+) -> Result<(), End>
+    requires pass { IsOf store.now pass.old }
+    requires peer { IsSome (key_of (start_of store.now).node.keys member) }
+    requires takes { feed.old.refused ≡ false }
+    requires needs { NeedsMore feed.old.held }
+    requires room { length room.old ≡ LONGEST_FRAME }
+    ensures pass { IsOf store.now pass.new }
+    ensures takes { OnOk result (feed.new.refused ≡ false) }
+    ensures needs { OnOk result (NeedsMore feed.new.held) }
+    ensures room { length room.new ≡ LONGEST_FRAME }
+    ensures on { OnOk result (Goes (start_of store.now) (C.may_give clock.now) member Asks Asks
+        (known pass.old) (L.shows link.old) feed.old.held (known pass.new) (L.shows link.new) feed.new.held) }
+    ensures ends { IfErr result (λ end.
+        Ends (start_of store.now) (C.may_give clock.now) member (turns_of store.now) Asks
+        (known pass.old) (L.shows link.old) feed.old.held (known pass.new) (L.shows link.new) end) }
+{
+    match ask(rt, store, pass) {
+        Ok(()) => {}
+        Err(end) => return Err(end),
+    }
+    match drain(rt, store, pass, member, link, room) {
+        Ok(()) => {}
+        Err(end) => return Err(end),
+    }
+    match read(link, room) {
+        Ok(None) => Ok(()),
+        Ok(Some(count)) => {
+            match hand(rt, store, pass, gate, clock, passes, feed, &room[..count]) {
+                Ok(()) => Ok(()),
+                Err(end) => Err(end),
+            }
+        }
+        Err(end) => Err(end),
+    }
+}
