@@ -1,7 +1,5 @@
 -- The summary of a schedule that is made and replayed. Source: this project's own formats.
 use Rattle.std.specs.Prelude.{◌≡◌, ℕ, ◌+◌, Bool, true, false, List, [], ◌∷◌, ◌++◌, codes, count_by, decimal, filter, length, map, None}
-use Rattle.xl_base.specs.declared.status.Status.{Status}
-use Rattle.xl_base.specs.declared.status.Status.TheVariants.{Done, Fork, WordsRefused, InputRefused, ReadFault, WriteFault, OutOfMemory, KeepFault, NetFault, StoreFull}
 use Rattle.xl_lists.specs.declared.report.Report.{Report}
 use Rattle.xl_lines.specs.Rules.{Told, closes}
 use Rattle.xl_sched.specs.declared.event.Event.{Event}
@@ -86,16 +84,3 @@ pub record IsSummary (rounds : ℕ) : Type 0 where
   pub says : (summary rounds).verdict ≡ verdict_of (first_fork reports)
   pub fulls : filter is_full (told at_first (events rounds)) ≡ map full_of reports
   pub agree : forged ≡ 0 → first_fork reports ≡ None
-
--- a run may answer it
-abbrev pub IsGenerated : Status → Type 0
-IsGenerated Done = Unit {0}
-IsGenerated Fork = Unit {0}
-IsGenerated WriteFault = Unit {0}
-IsGenerated OutOfMemory = Unit {0}
-IsGenerated WordsRefused = ⊥
-IsGenerated InputRefused = ⊥
-IsGenerated ReadFault = ⊥
-IsGenerated KeepFault = ⊥
-IsGenerated NetFault = ⊥
-IsGenerated StoreFull = ⊥

@@ -9,7 +9,6 @@ use Rattle.xl_lines.specs.declared.fault.Fault.TheVariants.{Read, Write, Memory}
 use Rattle.xl_lines.specs.declared.machine.Verdict.{Verdict}
 use Rattle.xl_lines.specs.Rules.{Told}
 use Rattle.xl_lines.specs.Running.{TellsAll}
-use Rattle.xl_top.specs.Commands.{built}
 use Rattle.xl_top.proofs.After.{Whole, Less}
 use Rattle.xl_words.specs.declared.command.Command.{Command}
 use Rattle.xl_words.specs.declared.command.Command.TheVariants.{Replay, Show, Lists, Gen, Help, Version}
@@ -21,29 +20,24 @@ if_any None P all = tt
 if_any (Some x) P all = all x
 
 -- the command that is asked
-pub by_asked : (o : Option Command) (c : Command) (P : Command → Type 0) → o ≡ Some c → IfSome (built (Some c)) P → IfSome (built o) P
-by_asked o c P is holds = subst (λ (x : Option Command). IfSome (built x) P) (sym is) holds
+pub by_asked : (o : Option Command) (c : Command) (P : Command → Type 0) → o ≡ Some c → P c → IfSome o P
+by_asked o c P is holds = subst (λ (x : Option Command). IfSome x P) (sym is) holds
 
 -- nothing is asked where the words are refused
-pub unasked : (o : Option Command) (r : Result Command WordsFault) → r ≡ Err WordsRefused → ((c : Command) → o ≡ Some c → (r ≡ Ok c) ⊎ (r ≡ Err NoMemory)) → built o ≡ None
+pub unasked : (o : Option Command) (r : Result Command WordsFault) → r ≡ Err WordsRefused → ((c : Command) → o ≡ Some c → (r ≡ Ok c) ⊎ (r ≡ Err NoMemory)) → o ≡ None
 unasked None r is given = refl
 unasked (Some c) r is given = go (given c refl)
   where
-    go : (r ≡ Ok c) ⊎ (r ≡ Err NoMemory) → built (Some c) ≡ None
+    go : (r ≡ Ok c) ⊎ (r ≡ Err NoMemory) → Some c ≡ None
     go (inl ok) = cc
     go (inr memory) = cc
 
-pub by_none : (o : Option Command) (P : Command → Type 0) → built o ≡ None → IfSome (built o) P
+pub by_none : (o : Option Command) (P : Command → Type 0) → o ≡ None → IfSome o P
 by_none o P none = rw none tt
 
 -- a command that is asked isn't refused as one
-pub taken : (o : Option Command) (c : Command) (P : Type 0) → o ≡ Some c → IfSome (built (Some c)) (λ _. P → ⊥) → P → built o ≡ None
-taken o Replay P is not_refused was = absurd (not_refused was)
-taken o Show P is not_refused was = absurd (not_refused was)
-taken o Lists P is not_refused was = absurd (not_refused was)
-taken o (Gen rounds) P is not_refused was = rw is refl
-taken o Help P is not_refused was = absurd (not_refused was)
-taken o Version P is not_refused was = absurd (not_refused was)
+pub taken : (o : Option Command) (P : Type 0) → (P → ⊥) → P → o ≡ None
+taken o P not_refused was = absurd (not_refused was)
 
 -- nothing is written
 pub front_none : (held : Option (List ℕ)) (text : List ℕ) → GrewByFront held held text

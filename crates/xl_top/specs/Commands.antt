@@ -1,12 +1,14 @@
 -- What the program does for the words of its command line. Source: this project's own.
-use Rattle.std.specs.Prelude.{ℕ, List, [], Option, Some, None, Result, Ok, Err}
+use Rattle.std.specs.Prelude.{◌≡◌, ℕ, min, List, Option, Result, Ok, Err}
 use Rattle.xl_base.specs.declared.status.Status.{Status}
 use Rattle.xl_base.specs.declared.status.Status.TheVariants.{Done, Fork, InputRefused, ReadFault, WriteFault, OutOfMemory}
+use Rattle.xl_gen.specs.declared.command.TheConstants.{MOST_ROUNDS}
+use Rattle.xl_gen.specs.Summaries.{summary}
 use Rattle.xl_lines.specs.declared.fault.Fault.{Fault}
 use Rattle.xl_lines.specs.declared.fault.Fault.TheVariants.{Read, Write, Memory}
 use Rattle.xl_lines.specs.declared.machine.Verdict.{Verdict}
 use Rattle.xl_lines.specs.declared.machine.Verdict.TheVariants.{Good, Found, Refused}
-use Rattle.xl_lines.specs.Rules.{Told, closes, refused}
+use Rattle.xl_lines.specs.Rules.{Told, closes}
 use Rattle.xl_pairs.specs.Comparing.{lists_of}
 use Rattle.xl_replay.specs.Replays.{report_of}
 use Rattle.xl_show.specs.Shown.{shown_of}
@@ -15,26 +17,23 @@ use Rattle.xl_words.specs.declared.command.Command.TheVariants.{Replay, Show, Li
 use Rattle.xl_words.specs.Commands.{command_of}
 use Rattle.xl_words.specs.Help.{help_text, version_text}
 
--- a command that is built; `gen` isn't yet
-abbrev pub built : Option Command → Option Command
-built (Some (Gen rounds)) = None
-built command = command
-
 -- what the words ask, of which the first is the program's name
 abbrev pub asked_of : List (List ℕ) → Option Command
-asked_of words = built (command_of words)
+asked_of words = command_of words
 
--- what a command writes about the bytes of its input, of which the last two read none
+-- what a command writes about the bytes of its input, of which the last three read none; the words ask for no more
+-- rounds than the most
 abbrev pub told_by : Command → List ℕ → Told
 told_by Replay bytes = report_of bytes
 told_by Show bytes = shown_of bytes
 told_by Lists bytes = lists_of bytes
-told_by (Gen rounds) bytes = refused []
+told_by (Gen rounds) bytes = summary (min rounds MOST_ROUNDS)
 told_by Help bytes = closes help_text Good
 told_by Version bytes = closes version_text Good
 
 -- a command reads its input to the end
 abbrev pub IsReader : Command → Type 0
+IsReader (Gen rounds) = ⊥
 IsReader Help = ⊥
 IsReader Version = ⊥
 IsReader command = Unit {0}

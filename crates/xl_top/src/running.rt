@@ -1,57 +1,54 @@
 // A command, from its input to its status.
-ghost use Rattle.std.specs.Prelude.{◌≡◌, ◌≢◌, ◌≤◌, ◌⊎◌, Some, None, IfSome};
+ghost use Rattle.std.specs.Prelude.{◌≡◌, ◌≢◌, ◌≤◌, ◌⊎◌, min, IfOk, IfSome, IsErrOf};
 ghost use Rattle.std.specs.Io.KnownBytes.{IsAtEnd};
 ghost use Rattle.xl_base.specs.Faults.{Rose};
-ghost use Rattle.xl_io.specs.Sinks.{GrewByFront};
+ghost use Rattle.xl_gen.specs.Summaries.{summary};
+ghost use Rattle.xl_io.specs.Sinks.{GrewByFront, GrewByLess};
 ghost use Rattle.xl_lines.specs.Running.{TellsAll};
 ghost use Rattle.xl_replay.specs.Headlines.{names_of, AddsReport};
 ghost use Rattle.xl_replay.specs.Replays.{report_of};
 ghost use Rattle.xl_replay.specs.Statuses.{IsTold, IsReplayed, IsWritten, status_of};
-ghost use Rattle.xl_top.specs.Commands.{built, told_by, IsReader, IsNeverEmpty};
+ghost use Rattle.xl_top.specs.Commands.{told_by, IsReader, IsNeverEmpty};
 
 use crate::ending::status_after;
 use crate::telling::{help, version};
 use std::alloc::Global;
 use xl_base::Status;
+use xl_gen::{MOST_ROUNDS, generate};
 use xl_io::{Sink, Source};
-use xl_lines::Verdict;
+use xl_lines::{Fault, Verdict};
 use xl_pairs::lists;
 use xl_replay::replay;
 use xl_show::show;
 use xl_words::Command;
 
-/// Runs a command that is built, and refuses another.
+/// Runs a command.
 pub fn run<I: Source, O: Sink>(
     alloc: Global,
     command: Command,
     input: &mut I,
     output: &mut O,
 ) -> Status
-    ensures words { IfSome (built (Some command)) (λ _. result ≢ Status.WordsRefused) }
-    ensures unbuilt { built (Some command) ≡ None → result ≡ Status.WordsRefused }
-    ensures unread { result ≡ Status.WordsRefused → input.new ≡ input.old }
-    ensures unwritten { result ≡ Status.WordsRefused → output.new ≡ output.old }
-    ensures done { result ≡ Status.Done → IfSome (built (Some command)) (λ c. IfSome (I.left input.old) (λ bytes.
-        TellsAll (O.held output.old) (O.held output.new) Verdict.Good (told_by c bytes))) }
-    ensures fork { result ≡ Status.Fork → IfSome (built (Some command)) (λ c. IfSome (I.left input.old) (λ bytes.
-        TellsAll (O.held output.old) (O.held output.new) Verdict.Found (told_by c bytes))) }
-    ensures refused { result ≡ Status.InputRefused → IfSome (built (Some command)) (λ c.
-        IfSome (I.left input.old) (λ bytes.
-        TellsAll (O.held output.old) (O.held output.new) Verdict.Refused (told_by c bytes))) }
-    ensures as_written { IfSome (built (Some command)) (λ c. c ≡ Command.Replay → IfSome (I.left input.old) (λ bytes.
-        AddsReport (names_of bytes) (O.held output.old) (O.held output.new) (report_of bytes))) }
-    ensures at_end { (result ≡ Status.Done) ⊎ (result ≡ Status.Fork) → IfSome (built (Some command)) (λ c.
-        IsReader c → IsAtEnd (I.left input.new)) }
-    ensures front { IfSome (built (Some command)) (λ c. IfSome (I.left input.old) (λ bytes.
-        GrewByFront (O.held output.old) (O.held output.new) (told_by c bytes).text)) }
+    ensures words { result ≢ Status.WordsRefused }
+    ensures done { result ≡ Status.Done → IfSome (I.left input.old) (λ bytes.
+        TellsAll (O.held output.old) (O.held output.new) Verdict.Good (told_by command bytes)) }
+    ensures fork { result ≡ Status.Fork → IfSome (I.left input.old) (λ bytes.
+        TellsAll (O.held output.old) (O.held output.new) Verdict.Found (told_by command bytes)) }
+    ensures refused { result ≡ Status.InputRefused → IfSome (I.left input.old) (λ bytes.
+        TellsAll (O.held output.old) (O.held output.new) Verdict.Refused (told_by command bytes)) }
+    ensures as_written { command ≡ Command.Replay → IfSome (I.left input.old) (λ bytes.
+        AddsReport (names_of bytes) (O.held output.old) (O.held output.new) (report_of bytes)) }
+    ensures at_end { (result ≡ Status.Done) ⊎ (result ≡ Status.Fork) → IsReader command → IsAtEnd (I.left input.new) }
+    ensures front { IfSome (I.left input.old) (λ bytes.
+        GrewByFront (O.held output.old) (O.held output.new) (told_by command bytes).text) }
     ensures read { result ≡ Status.ReadFault → Rose (I.faults input.old) (I.faults input.new) }
     ensures write { result ≡ Status.WriteFault → Rose (O.faults output.old) (O.faults output.new) }
-    ensures complete { IfSome (built (Some command)) (λ _. ¬ Rose (I.faults input.old) (I.faults input.new)
-        → ¬ Rose (O.faults output.old) (O.faults output.new) → IsTold result ⊎ (result ≡ Status.OutOfMemory)) }
-    ensures whole { IfSome (built (Some command)) (λ c. IsNeverEmpty c → IfSome (I.left input.old) (λ bytes.
-        IsWritten (O.held output.old) (O.held output.new) (told_by c bytes).text
-        → (result ≡ status_of (told_by c bytes).verdict) ⊎ (result ≡ Status.OutOfMemory))) }
-    ensures known { (result ≡ Status.WordsRefused) ⊎ IsReplayed result }
+    ensures complete { ¬ Rose (I.faults input.old) (I.faults input.new)
+        → ¬ Rose (O.faults output.old) (O.faults output.new) → IsTold result ⊎ (result ≡ Status.OutOfMemory) }
+    ensures whole { IsNeverEmpty command → IfSome (I.left input.old) (λ bytes.
+        IsWritten (O.held output.old) (O.held output.new) (told_by command bytes).text
+        → (result ≡ status_of (told_by command bytes).verdict) ⊎ (result ≡ Status.OutOfMemory)) }
+    ensures known { IsReplayed result }
 {
     match command {
         Command::Replay => replay(alloc, input, output),
@@ -59,6 +56,19 @@ pub fn run<I: Source, O: Sink>(
         Command::Lists => status_after(lists(alloc, input, output)),
         Command::Help => status_after(help(alloc, output)),
         Command::Version => status_after(version(alloc, output)),
-        Command::Gen(_) => Status::WordsRefused,
+        Command::Gen(rounds) => status_after(make(alloc, rounds, output)),
     }
+}
+
+/// Makes the schedule of so many rounds, or of the most.
+fn make<O: Sink>(alloc: Global, rounds: u32, output: &mut O) -> Result<Verdict, Fault>
+    ensures whole { IfOk result (λ verdict. TellsAll (O.held output.old) (O.held output.new) verdict
+        (summary (min rounds MOST_ROUNDS))) }
+    ensures front { GrewByFront (O.held output.old) (O.held output.new) (summary (min rounds MOST_ROUNDS)).text }
+    ensures less { IsErrOf result Fault.Write → GrewByLess (O.held output.old) (O.held output.new)
+        (summary (min rounds MOST_ROUNDS)).text }
+    ensures read { IsErrOf result Fault.Read → ⊥ }
+    ensures write { IsErrOf result Fault.Write → Rose (O.faults output.old) (O.faults output.new) }
+{
+    generate(alloc, rounds.min(MOST_ROUNDS), output)
 }

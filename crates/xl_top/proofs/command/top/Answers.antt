@@ -1,16 +1,15 @@
 use Rattle.std.proofs.Common.{◌≡◌, Err, inl, inr, refl, sym, ap, subst, ◌∙◌, ⊎_elim}
 use Rattle.xl_replay.specs.Statuses.{IsReplayed}
 use Rattle.xl_replay.proofs.Headline.{headline, refusal, nothing_written}
-use Rattle.xl_top.specs.Commands.{built}
 use Rattle.xl_top.proofs.Asking.{if_any, by_asked, unasked, by_none, taken, front_none}
 use Rattle.xl_words.specs.Commands.{command_of, words_of}
 use Rattle.xl_top.proofs.command.top.Goals as goal
 
 pub returns-in-Ok-clause-words : goal.returns-in-Ok-clause-words
-returns-in-Ok-clause-words g c = λ is. taken (command_of (words_of c.args.words.now)) c.in-Ok.command _ c.in-Ok.ensures.found c.run.ensures.words is
+returns-in-Ok-clause-words g c = λ is. taken (command_of (words_of c.args.words.now)) _ c.run.ensures.words is
 
 pub returns-in-Ok-clause-unasked : goal.returns-in-Ok-clause-unasked
-returns-in-Ok-clause-unasked g c = λ none. inl (c.run.ensures.unbuilt (sym (ap built c.in-Ok.ensures.found) ∙ none))
+returns-in-Ok-clause-unasked g c = λ none. let no = sym c.in-Ok.ensures.found ∙ none in absurd cc
 
 pub returns-in-Ok-clause-done : goal.returns-in-Ok-clause-done
 returns-in-Ok-clause-done g c = λ is. by_asked (command_of (words_of c.args.words.now)) c.in-Ok.command _ c.in-Ok.ensures.found (c.run.ensures.done is)
@@ -43,13 +42,13 @@ pub returns-in-Ok-clause-whole : goal.returns-in-Ok-clause-whole
 returns-in-Ok-clause-whole g c = by_asked (command_of (words_of c.args.words.now)) c.in-Ok.command _ c.in-Ok.ensures.found c.run.ensures.whole
 
 pub returns-in-Ok-clause-keeper : goal.returns-in-Ok-clause-keeper
-returns-in-Ok-clause-keeper g c = λ is. ⊎_elim (λ no. absurd cc) (λ known. subst IsReplayed is known) c.run.ensures.known
+returns-in-Ok-clause-keeper g c = λ is. subst IsReplayed is c.run.ensures.known
 
 pub returns-in-Ok-clause-net : goal.returns-in-Ok-clause-net
-returns-in-Ok-clause-net g c = λ is. ⊎_elim (λ no. absurd cc) (λ known. subst IsReplayed is known) c.run.ensures.known
+returns-in-Ok-clause-net g c = λ is. subst IsReplayed is c.run.ensures.known
 
 pub returns-in-Ok-clause-store : goal.returns-in-Ok-clause-store
-returns-in-Ok-clause-store g c = λ is. ⊎_elim (λ no. absurd cc) (λ known. subst IsReplayed is known) c.run.ensures.known
+returns-in-Ok-clause-store g c = λ is. subst IsReplayed is c.run.ensures.known
 
 pub returns-in-Err-Refused-clause-words : goal.returns-in-Err-Refused-clause-words
 returns-in-Err-Refused-clause-words g c = λ _. (unasked (command_of (words_of c.args.words.now)) (Err c.in-Err-Refused.field-0) (ap Err c.in-Err-Refused.field-0-is) c.in-Err-Refused.ensures.given)
@@ -82,16 +81,16 @@ pub returns-in-Err-Memory-clause-refusal : goal.returns-in-Err-Memory-clause-ref
 returns-in-Err-Memory-clause-refusal g c = refusal (g.I.Source.left c.args.input.now)
 
 pub returns-in-Err-Memory-clause-as_written : goal.returns-in-Err-Memory-clause-as_written
-returns-in-Err-Memory-clause-as_written g c = if_any (built (command_of (words_of c.args.words.now))) _ (λ command _. nothing_written (g.I.Source.left c.args.input.now) (g.O.Sink.held c.args.output.now))
+returns-in-Err-Memory-clause-as_written g c = if_any (command_of (words_of c.args.words.now)) _ (λ command _. nothing_written (g.I.Source.left c.args.input.now) (g.O.Sink.held c.args.output.now))
 
 pub returns-in-Err-Memory-clause-at_end : goal.returns-in-Err-Memory-clause-at_end
 returns-in-Err-Memory-clause-at_end g c = λ ends. ⊎_elim (λ no. absurd cc) (λ no. absurd cc) ends
 
 pub returns-in-Err-Memory-clause-front : goal.returns-in-Err-Memory-clause-front
-returns-in-Err-Memory-clause-front g c = if_any (built (command_of (words_of c.args.words.now))) _ (λ command. if_any (g.I.Source.left c.args.input.now) _ (λ bytes. front_none (g.O.Sink.held c.args.output.now) _))
+returns-in-Err-Memory-clause-front g c = if_any (command_of (words_of c.args.words.now)) _ (λ command. if_any (g.I.Source.left c.args.input.now) _ (λ bytes. front_none (g.O.Sink.held c.args.output.now) _))
 
 pub returns-in-Err-Memory-clause-complete : goal.returns-in-Err-Memory-clause-complete
-returns-in-Err-Memory-clause-complete g c = if_any (built (command_of (words_of c.args.words.now))) _ (λ command a b. inr refl)
+returns-in-Err-Memory-clause-complete g c = if_any (command_of (words_of c.args.words.now)) _ (λ command a b. inr refl)
 
 pub returns-in-Err-Memory-clause-whole : goal.returns-in-Err-Memory-clause-whole
-returns-in-Err-Memory-clause-whole g c = if_any (built (command_of (words_of c.args.words.now))) _ (λ command _. if_any (g.I.Source.left c.args.input.now) _ (λ bytes _. inr refl))
+returns-in-Err-Memory-clause-whole g c = if_any (command_of (words_of c.args.words.now)) _ (λ command _. if_any (g.I.Source.left c.args.input.now) _ (λ bytes _. inr refl))

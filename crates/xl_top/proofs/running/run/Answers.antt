@@ -1,12 +1,14 @@
+use Rattle.std.specs.Prelude.{min}
 use Rattle.std.proofs.Common.{◌≡◌, Option, Some, None, ◌⊎◌, inl, inr, sym, subst, ◌∙◌, ⊎_elim}
 use Rattle.xl_base.specs.declared.status.Status.{Status}
 use Rattle.xl_base.specs.declared.status.Status.TheVariants.{OutOfMemory}
+use Rattle.xl_gen.specs.declared.command.TheConstants.{MOST_ROUNDS}
+use Rattle.xl_gen.specs.Summaries.{summary}
 use Rattle.xl_lines.specs.declared.machine.Verdict.TheVariants.{Good}
 use Rattle.xl_lines.specs.Rules.{closes}
 use Rattle.xl_pairs.specs.Comparing.{lists_of}
 use Rattle.xl_replay.specs.Statuses.{IsTold, IsReplayed}
 use Rattle.xl_show.specs.Shown.{shown_of}
-use Rattle.xl_top.specs.Commands.{built}
 use Rattle.xl_top.proofs.After.{SaysEnd, done_after, fork_after, refused_after, end_after, read_after, write_after, complete_after, known_after, taken_after, whole_after}
 use Rattle.xl_top.proofs.Asking.{if_any, whole_of, less_of, only_of}
 use Rattle.xl_words.specs.declared.command.Command.TheVariants.{Replay, Show, Lists, Help, Version}
@@ -14,16 +16,7 @@ use Rattle.xl_words.specs.Help.{help_text, version_text}
 use Rattle.xl_top.proofs.running.run.Goals as goal
 
 pub returns-in-Replay-clause-words : goal.returns-in-Replay-clause-words
-returns-in-Replay-clause-words g c = rw c.in-Replay.is (λ is. subst IsReplayed is c.replay.ensures.known)
-
-pub returns-in-Replay-clause-unbuilt : goal.returns-in-Replay-clause-unbuilt
-returns-in-Replay-clause-unbuilt g c = λ none. let no : built (Some Replay) ≡ None = rw c.in-Replay.is at none in absurd cc
-
-pub returns-in-Replay-clause-unread : goal.returns-in-Replay-clause-unread
-returns-in-Replay-clause-unread g c = λ is. absurd (subst IsReplayed is c.replay.ensures.known)
-
-pub returns-in-Replay-clause-unwritten : goal.returns-in-Replay-clause-unwritten
-returns-in-Replay-clause-unwritten g c = λ is. absurd (subst IsReplayed is c.replay.ensures.known)
+returns-in-Replay-clause-words g c = λ is. subst IsReplayed is c.replay.ensures.known
 
 pub returns-in-Replay-clause-done : goal.returns-in-Replay-clause-done
 returns-in-Replay-clause-done g c = λ is. rw c.in-Replay.is (c.replay.ensures.done is)
@@ -44,25 +37,16 @@ pub returns-in-Replay-clause-front : goal.returns-in-Replay-clause-front
 returns-in-Replay-clause-front g c = rw c.in-Replay.is c.replay.ensures.front
 
 pub returns-in-Replay-clause-complete : goal.returns-in-Replay-clause-complete
-returns-in-Replay-clause-complete g c = rw c.in-Replay.is c.replay.ensures.complete
+returns-in-Replay-clause-complete g c = c.replay.ensures.complete
 
 pub returns-in-Replay-clause-whole : goal.returns-in-Replay-clause-whole
 returns-in-Replay-clause-whole g c = rw c.in-Replay.is (λ _. c.replay.ensures.whole)
 
 pub returns-in-Replay-clause-known : goal.returns-in-Replay-clause-known
-returns-in-Replay-clause-known g c = inr c.replay.ensures.known
+returns-in-Replay-clause-known g c = c.replay.ensures.known
 
 pub returns-in-Show-clause-words : goal.returns-in-Show-clause-words
-returns-in-Show-clause-words g c = rw c.in-Show.is (λ is. taken_after c.show.result (sym c.status_after.ensures ∙ is))
-
-pub returns-in-Show-clause-unbuilt : goal.returns-in-Show-clause-unbuilt
-returns-in-Show-clause-unbuilt g c = λ none. let no : built (Some Show) ≡ None = rw c.in-Show.is at none in absurd cc
-
-pub returns-in-Show-clause-unread : goal.returns-in-Show-clause-unread
-returns-in-Show-clause-unread g c = λ is. absurd (taken_after c.show.result (sym c.status_after.ensures ∙ is))
-
-pub returns-in-Show-clause-unwritten : goal.returns-in-Show-clause-unwritten
-returns-in-Show-clause-unwritten g c = λ is. absurd (taken_after c.show.result (sym c.status_after.ensures ∙ is))
+returns-in-Show-clause-words g c = λ is. taken_after c.show.result (sym c.status_after.ensures ∙ is)
 
 pub returns-in-Show-clause-done : goal.returns-in-Show-clause-done
 returns-in-Show-clause-done g c = λ is. rw c.in-Show.is (done_after (g.I.Source.left c.args.input.now) (g.O.Sink.held c.args.output.now) (g.O.Sink.held c.show.new.output) shown_of c.show.result c.show.ensures.whole (sym c.status_after.ensures ∙ is))
@@ -89,25 +73,16 @@ pub returns-in-Show-clause-write : goal.returns-in-Show-clause-write
 returns-in-Show-clause-write g c = λ is. write_after c.show.result _ c.show.ensures.write (sym c.status_after.ensures ∙ is)
 
 pub returns-in-Show-clause-complete : goal.returns-in-Show-clause-complete
-returns-in-Show-clause-complete g c = rw c.in-Show.is (λ a b. subst (λ (x : Status). IsTold x ⊎ (x ≡ OutOfMemory)) (sym c.status_after.ensures) (complete_after c.show.result _ _ c.show.ensures.complete a b))
+returns-in-Show-clause-complete g c = λ a b. subst (λ (x : Status). IsTold x ⊎ (x ≡ OutOfMemory)) (sym c.status_after.ensures) (complete_after c.show.result _ _ c.show.ensures.complete a b)
 
 pub returns-in-Show-clause-whole : goal.returns-in-Show-clause-whole
 returns-in-Show-clause-whole g c = rw c.in-Show.is (λ _. subst (λ (x : Status). SaysEnd (g.I.Source.left c.args.input.now) (g.O.Sink.held c.args.output.now) (g.O.Sink.held c.show.new.output) shown_of x) (sym c.status_after.ensures) (whole_after (g.I.Source.left c.args.input.now) (g.O.Sink.held c.args.output.now) (g.O.Sink.held c.show.new.output) shown_of c.show.result c.show.ensures.whole c.show.ensures.less))
 
 pub returns-in-Show-clause-known : goal.returns-in-Show-clause-known
-returns-in-Show-clause-known g c = inr (subst IsReplayed (sym c.status_after.ensures) (known_after c.show.result))
+returns-in-Show-clause-known g c = subst IsReplayed (sym c.status_after.ensures) (known_after c.show.result)
 
 pub returns-in-Lists-clause-words : goal.returns-in-Lists-clause-words
-returns-in-Lists-clause-words g c = rw c.in-Lists.is (λ is. taken_after c.lists.result (sym c.status_after-in-Lists.ensures ∙ is))
-
-pub returns-in-Lists-clause-unbuilt : goal.returns-in-Lists-clause-unbuilt
-returns-in-Lists-clause-unbuilt g c = λ none. let no : built (Some Lists) ≡ None = rw c.in-Lists.is at none in absurd cc
-
-pub returns-in-Lists-clause-unread : goal.returns-in-Lists-clause-unread
-returns-in-Lists-clause-unread g c = λ is. absurd (taken_after c.lists.result (sym c.status_after-in-Lists.ensures ∙ is))
-
-pub returns-in-Lists-clause-unwritten : goal.returns-in-Lists-clause-unwritten
-returns-in-Lists-clause-unwritten g c = λ is. absurd (taken_after c.lists.result (sym c.status_after-in-Lists.ensures ∙ is))
+returns-in-Lists-clause-words g c = λ is. taken_after c.lists.result (sym c.status_after-in-Lists.ensures ∙ is)
 
 pub returns-in-Lists-clause-done : goal.returns-in-Lists-clause-done
 returns-in-Lists-clause-done g c = λ is. rw c.in-Lists.is (done_after (g.I.Source.left c.args.input.now) (g.O.Sink.held c.args.output.now) (g.O.Sink.held c.lists.new.output) lists_of c.lists.result c.lists.ensures.whole (sym c.status_after-in-Lists.ensures ∙ is))
@@ -134,25 +109,16 @@ pub returns-in-Lists-clause-write : goal.returns-in-Lists-clause-write
 returns-in-Lists-clause-write g c = λ is. write_after c.lists.result _ c.lists.ensures.write (sym c.status_after-in-Lists.ensures ∙ is)
 
 pub returns-in-Lists-clause-complete : goal.returns-in-Lists-clause-complete
-returns-in-Lists-clause-complete g c = rw c.in-Lists.is (λ a b. subst (λ (x : Status). IsTold x ⊎ (x ≡ OutOfMemory)) (sym c.status_after-in-Lists.ensures) (complete_after c.lists.result _ _ c.lists.ensures.complete a b))
+returns-in-Lists-clause-complete g c = λ a b. subst (λ (x : Status). IsTold x ⊎ (x ≡ OutOfMemory)) (sym c.status_after-in-Lists.ensures) (complete_after c.lists.result _ _ c.lists.ensures.complete a b)
 
 pub returns-in-Lists-clause-whole : goal.returns-in-Lists-clause-whole
 returns-in-Lists-clause-whole g c = rw c.in-Lists.is (λ no. absurd no)
 
 pub returns-in-Lists-clause-known : goal.returns-in-Lists-clause-known
-returns-in-Lists-clause-known g c = inr (subst IsReplayed (sym c.status_after-in-Lists.ensures) (known_after c.lists.result))
+returns-in-Lists-clause-known g c = subst IsReplayed (sym c.status_after-in-Lists.ensures) (known_after c.lists.result)
 
 pub returns-in-Help-clause-words : goal.returns-in-Help-clause-words
-returns-in-Help-clause-words g c = rw c.in-Help.is (λ is. taken_after c.help.result (sym c.status_after-in-Help.ensures ∙ is))
-
-pub returns-in-Help-clause-unbuilt : goal.returns-in-Help-clause-unbuilt
-returns-in-Help-clause-unbuilt g c = λ none. let no : built (Some Help) ≡ None = rw c.in-Help.is at none in absurd cc
-
-pub returns-in-Help-clause-unread : goal.returns-in-Help-clause-unread
-returns-in-Help-clause-unread g c = λ is. absurd (taken_after c.help.result (sym c.status_after-in-Help.ensures ∙ is))
-
-pub returns-in-Help-clause-unwritten : goal.returns-in-Help-clause-unwritten
-returns-in-Help-clause-unwritten g c = λ is. absurd (taken_after c.help.result (sym c.status_after-in-Help.ensures ∙ is))
+returns-in-Help-clause-words g c = λ is. taken_after c.help.result (sym c.status_after-in-Help.ensures ∙ is)
 
 pub returns-in-Help-clause-done : goal.returns-in-Help-clause-done
 returns-in-Help-clause-done g c = λ is. rw c.in-Help.is (done_after (g.I.Source.left c.args.input.now) (g.O.Sink.held c.args.output.now) (g.O.Sink.held c.help.new.output) (λ bytes. closes help_text Good) c.help.result (whole_of (g.I.Source.left c.args.input.now) (g.O.Sink.held c.args.output.now) (g.O.Sink.held c.help.new.output) (closes help_text Good) c.help.result c.help.ensures.whole) (sym c.status_after-in-Help.ensures ∙ is))
@@ -179,25 +145,16 @@ pub returns-in-Help-clause-write : goal.returns-in-Help-clause-write
 returns-in-Help-clause-write g c = λ is. write_after c.help.result _ c.help.ensures.write (sym c.status_after-in-Help.ensures ∙ is)
 
 pub returns-in-Help-clause-complete : goal.returns-in-Help-clause-complete
-returns-in-Help-clause-complete g c = rw c.in-Help.is (λ a b. subst (λ (x : Status). IsTold x ⊎ (x ≡ OutOfMemory)) (sym c.status_after-in-Help.ensures) (complete_after c.help.result _ _ (only_of c.help.result _ _ c.help.ensures.read c.help.ensures.write) a b))
+returns-in-Help-clause-complete g c = λ a b. subst (λ (x : Status). IsTold x ⊎ (x ≡ OutOfMemory)) (sym c.status_after-in-Help.ensures) (complete_after c.help.result _ _ (only_of c.help.result _ _ c.help.ensures.read c.help.ensures.write) a b)
 
 pub returns-in-Help-clause-whole : goal.returns-in-Help-clause-whole
 returns-in-Help-clause-whole g c = rw c.in-Help.is (λ _. subst (λ (x : Status). SaysEnd (g.I.Source.left c.args.input.now) (g.O.Sink.held c.args.output.now) (g.O.Sink.held c.help.new.output) (λ bytes. closes help_text Good) x) (sym c.status_after-in-Help.ensures) (whole_after (g.I.Source.left c.args.input.now) (g.O.Sink.held c.args.output.now) (g.O.Sink.held c.help.new.output) (λ bytes. closes help_text Good) c.help.result (whole_of (g.I.Source.left c.args.input.now) (g.O.Sink.held c.args.output.now) (g.O.Sink.held c.help.new.output) (closes help_text Good) c.help.result c.help.ensures.whole) (less_of (g.I.Source.left c.args.input.now) (g.O.Sink.held c.args.output.now) (g.O.Sink.held c.help.new.output) (closes help_text Good) c.help.result c.help.ensures.read c.help.ensures.less)))
 
 pub returns-in-Help-clause-known : goal.returns-in-Help-clause-known
-returns-in-Help-clause-known g c = inr (subst IsReplayed (sym c.status_after-in-Help.ensures) (known_after c.help.result))
+returns-in-Help-clause-known g c = subst IsReplayed (sym c.status_after-in-Help.ensures) (known_after c.help.result)
 
 pub returns-in-Version-clause-words : goal.returns-in-Version-clause-words
-returns-in-Version-clause-words g c = rw c.in-Version.is (λ is. taken_after c.version.result (sym c.status_after-in-Version.ensures ∙ is))
-
-pub returns-in-Version-clause-unbuilt : goal.returns-in-Version-clause-unbuilt
-returns-in-Version-clause-unbuilt g c = λ none. let no : built (Some Version) ≡ None = rw c.in-Version.is at none in absurd cc
-
-pub returns-in-Version-clause-unread : goal.returns-in-Version-clause-unread
-returns-in-Version-clause-unread g c = λ is. absurd (taken_after c.version.result (sym c.status_after-in-Version.ensures ∙ is))
-
-pub returns-in-Version-clause-unwritten : goal.returns-in-Version-clause-unwritten
-returns-in-Version-clause-unwritten g c = λ is. absurd (taken_after c.version.result (sym c.status_after-in-Version.ensures ∙ is))
+returns-in-Version-clause-words g c = λ is. taken_after c.version.result (sym c.status_after-in-Version.ensures ∙ is)
 
 pub returns-in-Version-clause-done : goal.returns-in-Version-clause-done
 returns-in-Version-clause-done g c = λ is. rw c.in-Version.is (done_after (g.I.Source.left c.args.input.now) (g.O.Sink.held c.args.output.now) (g.O.Sink.held c.version.new.output) (λ bytes. closes version_text Good) c.version.result (whole_of (g.I.Source.left c.args.input.now) (g.O.Sink.held c.args.output.now) (g.O.Sink.held c.version.new.output) (closes version_text Good) c.version.result c.version.ensures.whole) (sym c.status_after-in-Version.ensures ∙ is))
@@ -224,25 +181,46 @@ pub returns-in-Version-clause-write : goal.returns-in-Version-clause-write
 returns-in-Version-clause-write g c = λ is. write_after c.version.result _ c.version.ensures.write (sym c.status_after-in-Version.ensures ∙ is)
 
 pub returns-in-Version-clause-complete : goal.returns-in-Version-clause-complete
-returns-in-Version-clause-complete g c = rw c.in-Version.is (λ a b. subst (λ (x : Status). IsTold x ⊎ (x ≡ OutOfMemory)) (sym c.status_after-in-Version.ensures) (complete_after c.version.result _ _ (only_of c.version.result _ _ c.version.ensures.read c.version.ensures.write) a b))
+returns-in-Version-clause-complete g c = λ a b. subst (λ (x : Status). IsTold x ⊎ (x ≡ OutOfMemory)) (sym c.status_after-in-Version.ensures) (complete_after c.version.result _ _ (only_of c.version.result _ _ c.version.ensures.read c.version.ensures.write) a b)
 
 pub returns-in-Version-clause-whole : goal.returns-in-Version-clause-whole
 returns-in-Version-clause-whole g c = rw c.in-Version.is (λ _. subst (λ (x : Status). SaysEnd (g.I.Source.left c.args.input.now) (g.O.Sink.held c.args.output.now) (g.O.Sink.held c.version.new.output) (λ bytes. closes version_text Good) x) (sym c.status_after-in-Version.ensures) (whole_after (g.I.Source.left c.args.input.now) (g.O.Sink.held c.args.output.now) (g.O.Sink.held c.version.new.output) (λ bytes. closes version_text Good) c.version.result (whole_of (g.I.Source.left c.args.input.now) (g.O.Sink.held c.args.output.now) (g.O.Sink.held c.version.new.output) (closes version_text Good) c.version.result c.version.ensures.whole) (less_of (g.I.Source.left c.args.input.now) (g.O.Sink.held c.args.output.now) (g.O.Sink.held c.version.new.output) (closes version_text Good) c.version.result c.version.ensures.read c.version.ensures.less)))
 
 pub returns-in-Version-clause-known : goal.returns-in-Version-clause-known
-returns-in-Version-clause-known g c = inr (subst IsReplayed (sym c.status_after-in-Version.ensures) (known_after c.version.result))
+returns-in-Version-clause-known g c = subst IsReplayed (sym c.status_after-in-Version.ensures) (known_after c.version.result)
 
 pub returns-in-Gen-clause-words : goal.returns-in-Gen-clause-words
-returns-in-Gen-clause-words g c = rw c.in-Gen.is tt
+returns-in-Gen-clause-words g c = λ is. taken_after c.make.result (sym c.status_after-in-Gen.ensures ∙ is)
+
+pub returns-in-Gen-clause-done : goal.returns-in-Gen-clause-done
+returns-in-Gen-clause-done g c = λ is. rw c.in-Gen.is (done_after (g.I.Source.left c.args.input.now) (g.O.Sink.held c.args.output.now) (g.O.Sink.held c.make.new.output) (λ bytes. summary (min c.in-Gen.rounds MOST_ROUNDS)) c.make.result (whole_of (g.I.Source.left c.args.input.now) (g.O.Sink.held c.args.output.now) (g.O.Sink.held c.make.new.output) (summary (min c.in-Gen.rounds MOST_ROUNDS)) c.make.result c.make.ensures.whole) (sym c.status_after-in-Gen.ensures ∙ is))
+
+pub returns-in-Gen-clause-fork : goal.returns-in-Gen-clause-fork
+returns-in-Gen-clause-fork g c = λ is. rw c.in-Gen.is (fork_after (g.I.Source.left c.args.input.now) (g.O.Sink.held c.args.output.now) (g.O.Sink.held c.make.new.output) (λ bytes. summary (min c.in-Gen.rounds MOST_ROUNDS)) c.make.result (whole_of (g.I.Source.left c.args.input.now) (g.O.Sink.held c.args.output.now) (g.O.Sink.held c.make.new.output) (summary (min c.in-Gen.rounds MOST_ROUNDS)) c.make.result c.make.ensures.whole) (sym c.status_after-in-Gen.ensures ∙ is))
+
+pub returns-in-Gen-clause-refused : goal.returns-in-Gen-clause-refused
+returns-in-Gen-clause-refused g c = λ is. rw c.in-Gen.is (refused_after (g.I.Source.left c.args.input.now) (g.O.Sink.held c.args.output.now) (g.O.Sink.held c.make.new.output) (λ bytes. summary (min c.in-Gen.rounds MOST_ROUNDS)) c.make.result (whole_of (g.I.Source.left c.args.input.now) (g.O.Sink.held c.args.output.now) (g.O.Sink.held c.make.new.output) (summary (min c.in-Gen.rounds MOST_ROUNDS)) c.make.result c.make.ensures.whole) (sym c.status_after-in-Gen.ensures ∙ is))
 
 pub returns-in-Gen-clause-as_written : goal.returns-in-Gen-clause-as_written
-returns-in-Gen-clause-as_written g c = rw c.in-Gen.is tt
+returns-in-Gen-clause-as_written g c = rw c.in-Gen.is (λ no. absurd cc)
+
+pub returns-in-Gen-clause-at_end : goal.returns-in-Gen-clause-at_end
+returns-in-Gen-clause-at_end g c = λ ends. rw c.in-Gen.is (λ no. absurd no)
 
 pub returns-in-Gen-clause-front : goal.returns-in-Gen-clause-front
-returns-in-Gen-clause-front g c = rw c.in-Gen.is tt
+returns-in-Gen-clause-front g c = rw c.in-Gen.is (if_any (g.I.Source.left c.args.input.now) _ (λ bytes. c.make.ensures.front))
+
+pub returns-in-Gen-clause-read : goal.returns-in-Gen-clause-read
+returns-in-Gen-clause-read g c = λ is. read_after c.make.result _ (λ e. absurd (c.make.ensures.read e)) (sym c.status_after-in-Gen.ensures ∙ is)
+
+pub returns-in-Gen-clause-write : goal.returns-in-Gen-clause-write
+returns-in-Gen-clause-write g c = λ is. write_after c.make.result _ c.make.ensures.write (sym c.status_after-in-Gen.ensures ∙ is)
 
 pub returns-in-Gen-clause-complete : goal.returns-in-Gen-clause-complete
-returns-in-Gen-clause-complete g c = rw c.in-Gen.is tt
+returns-in-Gen-clause-complete g c = λ a b. subst (λ (x : Status). IsTold x ⊎ (x ≡ OutOfMemory)) (sym c.status_after-in-Gen.ensures) (complete_after c.make.result _ _ (only_of c.make.result _ _ c.make.ensures.read c.make.ensures.write) a b)
 
 pub returns-in-Gen-clause-whole : goal.returns-in-Gen-clause-whole
-returns-in-Gen-clause-whole g c = rw c.in-Gen.is tt
+returns-in-Gen-clause-whole g c = rw c.in-Gen.is (λ _. subst (λ (x : Status). SaysEnd (g.I.Source.left c.args.input.now) (g.O.Sink.held c.args.output.now) (g.O.Sink.held c.make.new.output) (λ bytes. summary (min c.in-Gen.rounds MOST_ROUNDS)) x) (sym c.status_after-in-Gen.ensures) (whole_after (g.I.Source.left c.args.input.now) (g.O.Sink.held c.args.output.now) (g.O.Sink.held c.make.new.output) (λ bytes. summary (min c.in-Gen.rounds MOST_ROUNDS)) c.make.result (whole_of (g.I.Source.left c.args.input.now) (g.O.Sink.held c.args.output.now) (g.O.Sink.held c.make.new.output) (summary (min c.in-Gen.rounds MOST_ROUNDS)) c.make.result c.make.ensures.whole) (less_of (g.I.Source.left c.args.input.now) (g.O.Sink.held c.args.output.now) (g.O.Sink.held c.make.new.output) (summary (min c.in-Gen.rounds MOST_ROUNDS)) c.make.result c.make.ensures.read c.make.ensures.less)))
+
+pub returns-in-Gen-clause-known : goal.returns-in-Gen-clause-known
+returns-in-Gen-clause-known g c = subst IsReplayed (sym c.status_after-in-Gen.ensures) (known_after c.make.result)
