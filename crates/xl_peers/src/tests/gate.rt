@@ -14,16 +14,31 @@ use xl_base::NodeNo;
 use xl_links::{Gate, LinkScript, MemClock, MemLink};
 use xl_store::Pass;
 
-/// Holds the first call of its session until the first call of another was answered.
+/// One gate of two sessions. It holds the first call of whichever comes first until the first call of the other was
+/// answered.
 #[derive(Drop)]
-struct Holding<'a> {
-    answered: &'a AtomicU64,
-    missed: &'a AtomicU64,
+struct Turnstile {
+    came: AtomicU64,
+    answered: AtomicU64,
+    missed: AtomicU64,
 }
 
-impl Gate for Holding<'_> {
+impl Turnstile {
+    fn new() -> Self {
+        Turnstile {
+            came: AtomicU64::new(0),
+            answered: AtomicU64::new(0),
+            missed: AtomicU64::new(0),
+        }
+    }
+}
+
+impl Gate for Turnstile {
     fn pass(&self, call: u64) {
-        if call != 1 {
+        if call == 2 {
+            self.answered.store(1, Ordering::SeqCst);
+        }
+        if call != 1 || self.came.swap(1, Ordering::SeqCst) == 1 {
             return;
         }
         for _ in 0..100_000_000u32 {
@@ -35,18 +50,22 @@ impl Gate for Holding<'_> {
     }
 }
 
-/// Tells that the first call of its session was answered.
-#[derive(Drop)]
-struct Telling<'a> {
-    answered: &'a AtomicU64,
-}
-
-impl Gate for Telling<'_> {
-    fn pass(&self, call: u64) {
-        if call == 2 {
-            self.answered.store(1, Ordering::SeqCst);
-        }
-    }
+/// A session of a test.
+fn hold<W: Wait>(
+    rt: &W,
+    alloc: Global,
+    store: &Stored,
+    pass: Pass,
+    member: NodeNo,
+    mut link: MemLink,
+    gate: &Turnstile,
+) -> (Pass, End)
+    requires pass { IsOf store.now pass }
+    requires peer { IsSome (key_of (start_of store.now).node.keys member) }
+    ensures { IsOf store.now result.0 }
+{
+    let clock = MemClock::new(1_000);
+    session(rt, alloc, store, pass, member, &mut link, gate, &clock)
 }
 
 /// Two sessions, each in a thread of its own.
@@ -56,9 +75,9 @@ fn hold_two<W: Threads + Wait + Sync>(
     store: &Stored,
     pass: Pass,
     member: NodeNo,
-    links: (MemLink, MemLink),
-    gates: (&Holding<'_>, &Telling<'_>),
-    clock: &MemClock,
+    left: MemLink,
+    right: MemLink,
+    gate: &Turnstile,
 ) -> Option<(Pass, End, End)>
     requires pass { IsOf store.now pass }
     requires peer { IsSome (key_of (start_of store.now).node.keys member) }
@@ -68,20 +87,18 @@ fn hold_two<W: Threads + Wait + Sync>(
         return None;
     }
     let (one, other) = store.split(pass);
-    let (mut left, mut right) = links;
-    let (holding, telling) = gates;
     let (first, second) = thread::join(
         rt,
         move || -> (Pass, End)
             requires pass { IsOf store.now one }
             requires peer { IsSome (key_of (start_of store.now).node.keys member) }
             ensures { IsOf store.entry.now result.0 }
-        { session(rt, alloc, store, one, member, &mut left, holding, clock) },
+        { hold(rt, alloc, store, one, member, left, gate) },
         move || -> (Pass, End)
             requires pass { IsOf store.now other }
             requires peer { IsSome (key_of (start_of store.now).node.keys member) }
             ensures { IsOf store.entry.now result.0 }
-        { session(rt, alloc, store, other, member, &mut right, telling, clock) },
+        { hold(rt, alloc, store, other, member, right, gate) },
     );
     Some((store.join(first.0, second.0), first.1, second.1))
 }
@@ -91,27 +108,18 @@ fn link(alloc: Global) -> Result<MemLink, Fail> {
     Ok(MemLink::new(alloc, frame(alloc)?, 78, LinkScript::new(alloc), 0)?)
 }
 
-/// The first session waits in its gate for the second, which is answered meanwhile.
+/// The session that comes first waits in its gate for the other, which is answered meanwhile.
 #[test]
 fn a_session_that_waits_keeps_no_turn(rt: HostRuntime) -> Result<(), Fail> {
     let alloc = rt.alloc();
     let member = NodeNo::new(2).ok_or("no member")?;
     let (store, pass) = stored(alloc, 100, member)?;
-    let (answered, missed) = (AtomicU64::new(0), AtomicU64::new(0));
-    let holding = Holding {
-        answered: &answered,
-        missed: &missed,
-    };
-    let telling = Telling {
-        answered: &answered,
-    };
-    let links = (link(alloc)?, link(alloc)?);
-    let gates = (&holding, &telling);
-    let clock = MemClock::new(1_000);
-    let done = hold_two(&rt, alloc, &store, pass, member, links, gates, &clock);
+    let gate = Turnstile::new();
+    let (left, right) = (link(alloc)?, link(alloc)?);
+    let done = hold_two(&rt, alloc, &store, pass, member, left, right, &gate);
     let (pass, first, second) = done.ok_or("no share")?;
     assert!(rt; first == End::End && second == End::End);
-    assert_eq!(rt; missed.load(Ordering::SeqCst), 0);
+    assert_eq!(rt; gate.missed.load(Ordering::SeqCst), 0);
     assert!(rt; pass.is_whole());
     assert_eq!(rt; frames_and_greetings(store.close(pass).journal), (2, 2));
     Ok(())
