@@ -22,3 +22,6 @@ mod talking;
 pub use ends::{End, Served};
 pub use serving::{attend, serve};
 pub use talking::{session, talk};
+
+#[cfg(test)]
+mod tests;
