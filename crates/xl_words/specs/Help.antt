@@ -12,6 +12,7 @@ commands_text =
     codes "  replay         runs a schedule, and writes what each node does\n"
     ++ codes "  lists          compares the trusted lists of a schedule, pair by pair\n"
     ++ codes "  show           writes what each frame of a stream says\n"
+    ++ codes "  gen N          makes a schedule of N rounds, runs it, and sums it up\n"
     ++ codes "  -h, --help     writes this\n"
     ++ codes "  -V, --version  writes the version\n\n"
 

@@ -32,6 +32,7 @@ fn push_commands(text: &mut String) -> Result<(), AllocError>
     text.push_str("  replay         runs a schedule, and writes what each node does\n")?;
     text.push_str("  lists          compares the trusted lists of a schedule, pair by pair\n")?;
     text.push_str("  show           writes what each frame of a stream says\n")?;
+    text.push_str("  gen N          makes a schedule of N rounds, runs it, and sums it up\n")?;
     text.push_str("  -h, --help     writes this\n")?;
     text.push_str("  -V, --version  writes the version\n\n")
 }
