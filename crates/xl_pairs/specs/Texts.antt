@@ -38,7 +38,7 @@ pair_text i j shared lying sum bound =
 abbrev pub pair_line : List ℕ → ℕ → TrustedList → ℕ → TrustedList → List ℕ
 pair_line liars i a j b =
     pair_text i j (overlap a.members b.members) (liars_shared liars a.members b.members) (a.quorum + b.quorum)
-        (bound_of liars a b)
+    (bound_of liars a b)
 
 unfoldable pub yes_text : Bool → List ℕ
 yes_text holds = if holds then codes "yes" else codes "no"

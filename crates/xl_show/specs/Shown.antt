@@ -27,7 +27,7 @@ unfoldable pub told_frames : ℕ → Bool → ℕ → ℕ → List ℕ → Told
 told_frames zero beyond place count bytes = ending beyond place count 0 bytes
 told_frames (suc most) beyond place count bytes =
     told_by (λ n. told_frames most beyond (place + n) (count + 1) (drop n bytes)) beyond place count bytes
-        (decoded_of bytes)
+    (decoded_of bytes)
 
 -- What is told from a place on, behind so many frames. Bytes beyond the limit aren't looked at, and no more frames than
 -- bytes can stand there.

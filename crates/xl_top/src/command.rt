@@ -1,6 +1,7 @@
-ghost use Rattle.std.specs.Prelude.{◌≡◌, ◌≢◌, ◌≤◌, ◌⊎◌, None, IfSome};
+ghost use Rattle.std.specs.Prelude.{◌≡◌, ◌≢◌, ◌≤◌, ◌⊎◌, ℕ, None, IfSome};
 ghost use Rattle.std.specs.Io.KnownBytes.{IsAtEnd};
 ghost use Rattle.xl_base.specs.Faults.{Rose};
+ghost use Rattle.xl_gen.specs.Summaries.{IsSummary};
 ghost use Rattle.xl_io.specs.Sinks.{GrewByFront};
 ghost use Rattle.xl_lines.specs.declared.machine.Verdict.TheVariants.{Good, Found, Refused};
 ghost use Rattle.xl_lines.specs.Running.{TellsAll};
@@ -18,7 +19,7 @@ use xl_words::{Command, WordsFault};
 
 /// The program: what the words of the command line ask is read from the input and written to the output.
 ///
-/// The words begin with the program's name. They may ask for `replay`, `show` or `lists`, for help, or for the version.
+/// The words begin with the program's name. They may ask for `replay`, `show`, `lists` or `gen`, for help, or for the version.
 pub fn top<I: Source, O: Sink>(
     alloc: Global,
     words: &[String],
@@ -50,6 +51,9 @@ pub fn top<I: Source, O: Sink>(
     // A report that is refused ends with a `bad` line.
     ensures refusal { IfSome (I.left input.old) (λ bytes.
         (report_of bytes).verdict ≡ Refused → IsRefusal (report_of bytes).text) }
+    // The last line of each summary that `gen` makes says whether the reports of its schedule agree, and where no frame
+    // was forged they do.
+    ensures summaries { (rounds : ℕ) → IsSummary rounds }
     // However a replay ends, where the line `forged 0` was written, so were all `full` and `short` lines of such a
     // report.
     ensures as_written { IfSome (asked_of (words_of words.now)) (λ command. command ≡ Command.Replay

@@ -1,6 +1,7 @@
 use Rattle.std.proofs.Common.{◌≡◌, Err, inl, inr, refl, sym, ap, subst, ◌∙◌, ⊎_elim}
 use Rattle.xl_replay.specs.Statuses.{IsReplayed}
 use Rattle.xl_replay.proofs.Headline.{headline, refusal, nothing_written}
+use Rattle.xl_gen.proofs.Summing.{summarized}
 use Rattle.xl_top.proofs.Asking.{if_any, by_asked, unasked, by_none, taken, front_none}
 use Rattle.xl_words.specs.Commands.{command_of, words_of}
 use Rattle.xl_top.proofs.command.top.Goals as goal
@@ -94,3 +95,12 @@ returns-in-Err-Memory-clause-complete g c = if_any (command_of (words_of c.args.
 
 pub returns-in-Err-Memory-clause-whole : goal.returns-in-Err-Memory-clause-whole
 returns-in-Err-Memory-clause-whole g c = if_any (command_of (words_of c.args.words.now)) _ (λ command _. if_any (g.I.Source.left c.args.input.now) _ (λ bytes _. inr refl))
+
+pub returns-in-Ok-clause-summaries : goal.returns-in-Ok-clause-summaries
+returns-in-Ok-clause-summaries g c = summarized
+
+pub returns-in-Err-Refused-clause-summaries : goal.returns-in-Err-Refused-clause-summaries
+returns-in-Err-Refused-clause-summaries g c = summarized
+
+pub returns-in-Err-Memory-clause-summaries : goal.returns-in-Err-Memory-clause-summaries
+returns-in-Err-Memory-clause-summaries g c = summarized
