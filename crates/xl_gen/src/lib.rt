@@ -13,6 +13,3 @@ mod generator;
 mod summary;
 
 pub use command::{MOST_ROUNDS, generate};
-
-#[cfg(test)]
-mod tests;
