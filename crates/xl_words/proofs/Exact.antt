@@ -15,7 +15,7 @@ use Rattle.clap.specs.declared.error.kind.ErrorKind.{ErrorKind}
 use Rattle.clap.specs.declared.error.kind.ErrorKind.TheVariants.{OutOfMemory}
 use Rattle.clap.specs.Words.{HasKind, IsAmong, Kinds, kind_of, Text, is_simple, is_simple_and_free}
 use Rattle.xl_words.specs.declared.command.Command.{Command}
-use Rattle.xl_words.specs.declared.command.Command.TheVariants.{Replay, Show, Lists, Gen, Help, Version}
+use Rattle.xl_words.specs.declared.command.Command.TheVariants.{Replay, Node, Show, Lists, Gen, Help, Version}
 use Rattle.xl_words.specs.declared.command.WordsFault.{WordsFault}
 use Rattle.xl_words.specs.declared.command.WordsFault.TheVariants.{Refused, Memory}
 use Rattle.xl_words.specs.Programs.{program}
@@ -34,6 +34,10 @@ simple_and_free = refl
 replay_is : (name : Text) → command_of (name ∷ codes "replay" ∷ []) ≡ Some Replay
 unfolding clap_on_literals
 replay_is name = refl
+
+node_is : (name : Text) → command_of (name ∷ codes "node" ∷ []) ≡ Some Node
+unfolding clap_on_literals
+node_is name = refl
 
 show_is : (name : Text) → command_of (name ∷ codes "show" ∷ []) ≡ Some Show
 unfolding clap_on_literals
@@ -134,6 +138,7 @@ gen_text name (d ∷ ds) n h = gen_is name d ds n h
 -- exact words are what they say
 pub exactly : (words : List Text) (c : Command) → IsExactly words c → command_of words ≡ Some c
 exactly [] Replay w = absurd cc
+exactly [] Node w = absurd cc
 exactly [] Show w = absurd cc
 exactly [] Lists w = absurd cc
 exactly [] (Gen n) w = let bad = w.1 in absurd cc
@@ -142,6 +147,7 @@ exactly [] Help (inr w) = absurd cc
 exactly [] Version (inl w) = absurd cc
 exactly [] Version (inr w) = absurd cc
 exactly (name ∷ rest) Replay w = rw w (replay_is name)
+exactly (name ∷ rest) Node w = rw w (node_is name)
 exactly (name ∷ rest) Show w = rw w (show_is name)
 exactly (name ∷ rest) Lists w = rw w (lists_is name)
 exactly (name ∷ rest) (Gen n) w = rw w.1 (gen_text name w.0 n w.2)

@@ -10,7 +10,7 @@ use Rattle.clap.specs.ValueTests.{is_unsigned_in}
 use Rattle.clap.specs.declared.error.kind.ErrorKind.{ErrorKind}
 use Rattle.clap.specs.declared.error.kind.ErrorKind.TheVariants.{DisplayHelp, DisplayVersion, OutOfMemory}
 use Rattle.xl_words.specs.declared.command.Command.{Command}
-use Rattle.xl_words.specs.declared.command.Command.TheVariants.{Replay, Show, Lists, Gen, Help, Version}
+use Rattle.xl_words.specs.declared.command.Command.TheVariants.{Replay, Node, Show, Lists, Gen, Help, Version}
 use Rattle.xl_words.specs.declared.command.WordsFault.{WordsFault}
 use Rattle.xl_words.specs.declared.command.WordsFault.TheVariants.{Refused, Memory}
 use Rattle.xl_words.specs.Programs.{program}
@@ -41,6 +41,7 @@ rounds_in rows =
 abbrev pub command_named : Text → List Row → Option Command
 command_named name rows =
     if bytes_eq name (codes "replay") then Some Replay
+    else if bytes_eq name (codes "node") then Some Node
     else if bytes_eq name (codes "show") then Some Show
     else if bytes_eq name (codes "lists") then Some Lists
     else if bytes_eq name (codes "gen") then option_map Gen (rounds_in rows)
@@ -78,6 +79,7 @@ pub record IsRounds (text : Text) (n : ℕ) : Type 0 where
 -- the words after the program's name are exactly these
 abbrev pub IsExactly : List Text → Command → Type 0
 IsExactly words Replay = drop 1 words ≡ codes "replay" ∷ []
+IsExactly words Node = drop 1 words ≡ codes "node" ∷ []
 IsExactly words Show = drop 1 words ≡ codes "show" ∷ []
 IsExactly words Lists = drop 1 words ≡ codes "lists" ∷ []
 IsExactly words (Gen n) = (text : Text) × (drop 1 words ≡ codes "gen" ∷ text ∷ []) × IsRounds text n

@@ -10,6 +10,7 @@ usage_text =
 unfoldable pub commands_text : List ℕ
 commands_text =
     codes "  replay         runs a schedule, and writes what each node does\n"
+    ++ codes "  node           runs a validator by the settings that it reads\n"
     ++ codes "  lists          compares the trusted lists of a schedule, pair by pair\n"
     ++ codes "  show           writes what each frame of a stream says\n"
     ++ codes "  gen N          makes a schedule of N rounds, runs it, and sums it up\n"
@@ -21,7 +22,7 @@ unfoldable pub streams_text : List ℕ
 streams_text =
     codes "A command reads standard input and writes standard output. replay and lists read\n"
     ++ codes "a schedule, which is text and begins with the line: xl-schedule 1\n"
-    ++ codes "show reads the bytes of frames.\n\n"
+    ++ codes "show reads the bytes of frames, and node its settings, which are TOML.\n\n"
 
 -- how it may end, and where to read on
 unfoldable pub statuses_text : List ℕ
@@ -30,7 +31,8 @@ statuses_text =
     ++ codes "       1  all is written, and two nodes forked\n"
     ++ codes "       2  the words are no command\n"
     ++ codes "       3  the input is refused, and the last line says where and why\n"
-    ++ codes "       4  a read failed; 5  a write failed; 6  memory was wanting\n\n"
+    ++ codes "       4  a read failed; 5  a write failed; 6  memory was wanting\n"
+    ++ codes "       7  the keeper's file failed; 8  the network failed; 9  all turns are spent\n\n"
     ++ codes "More is in the manual page docs/xl.1, and all formats are in docs/FORMATS.md.\n"
 
 abbrev pub help_text : List ℕ

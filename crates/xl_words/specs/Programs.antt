@@ -29,7 +29,7 @@ bare = record (new_app (codes "xl")) {
   };
 }
 
--- the program with its four commands
+-- the program with its five commands
 abbrev pub program : App
-program = with_subcommand (with_subcommand (with_subcommand (with_subcommand bare
-    (plain (codes "replay"))) (plain (codes "show"))) (plain (codes "lists"))) with_rounds
+program = with_subcommand (with_subcommand (with_subcommand (with_subcommand (with_subcommand bare
+    (plain (codes "replay"))) (plain (codes "node"))) (plain (codes "show"))) (plain (codes "lists"))) with_rounds

@@ -14,6 +14,8 @@ use std::alloc::Global;
 pub enum Command {
     /// Runs a schedule, and writes what each node does.
     Replay,
+    /// Runs a validator by the settings that it reads.
+    Node,
     /// Writes what the frames of a stream say.
     Show,
     /// Compares the lists of a schedule, pair by pair.
@@ -79,6 +81,9 @@ fn named(name: &str, matches: &ArgMatches<'_>) -> Option<Command>
 {
     if name == "replay" {
         return Some(Command::Replay);
+    }
+    if name == "node" {
+        return Some(Command::Node);
     }
     if name == "show" {
         return Some(Command::Show);

@@ -30,6 +30,7 @@ fn push_commands(text: &mut String) -> Result<(), AllocError>
     ensures { OnOk result (string_bytes text.new ≡ string_bytes text.old ++ commands_text) }
 {
     text.push_str("  replay         runs a schedule, and writes what each node does\n")?;
+    text.push_str("  node           runs a validator by the settings that it reads\n")?;
     text.push_str("  lists          compares the trusted lists of a schedule, pair by pair\n")?;
     text.push_str("  show           writes what each frame of a stream says\n")?;
     text.push_str("  gen N          makes a schedule of N rounds, runs it, and sums it up\n")?;
@@ -45,7 +46,7 @@ fn push_streams(text: &mut String) -> Result<(), AllocError>
         "A command reads standard input and writes standard output. replay and lists read\n",
     )?;
     text.push_str("a schedule, which is text and begins with the line: xl-schedule 1\n")?;
-    text.push_str("show reads the bytes of frames.\n\n")?;
+    text.push_str("show reads the bytes of frames, and node its settings, which are TOML.\n\n")?;
     Ok(())
 }
 
@@ -57,7 +58,8 @@ fn push_statuses(text: &mut String) -> Result<(), AllocError>
     text.push_str("       1  all is written, and two nodes forked\n")?;
     text.push_str("       2  the words are no command\n")?;
     text.push_str("       3  the input is refused, and the last line says where and why\n")?;
-    text.push_str("       4  a read failed; 5  a write failed; 6  memory was wanting\n\n")?;
+    text.push_str("       4  a read failed; 5  a write failed; 6  memory was wanting\n")?;
+    text.push_str("       7  the keeper's file failed; 8  the network failed; 9  all turns are spent\n\n")?;
     text.push_str("More is in the manual page docs/xl.1, and all formats are in docs/FORMATS.md.\n")
 }
 

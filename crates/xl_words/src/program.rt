@@ -26,6 +26,7 @@ pub fn program<'a>(alloc: Global) -> Result<Command<'a>, AllocError>
         .subcommand_required(true)
         .disable_help_subcommand(true)
         .subcommand(Command::new(alloc, "replay"))?
+        .subcommand(Command::new(alloc, "node"))?
         .subcommand(Command::new(alloc, "show"))?
         .subcommand(Command::new(alloc, "lists"))?
         .subcommand(rounds)

@@ -9,6 +9,6 @@ returns c =
     let old = string_bytes c.args.text.now in
     let a : List ℕ = codes "A command reads standard input and writes standard output. replay and lists read\n" in
     let b : List ℕ = codes "a schedule, which is text and begins with the line: xl-schedule 1\n" in
-    let d : List ℕ = codes "show reads the bytes of frames.\n\n" in
+    let d : List ℕ = codes "show reads the bytes of frames, and node its settings, which are TOML.\n\n" in
     c.in_ok-push_str-3.ensures.bytes ∙ ap (λ (xs : List ℕ). xs ++ d) (c.in_ok-push_str-2.ensures.bytes ∙ ap (λ (xs : List ℕ). xs ++ b) c.in_ok-push_str.ensures.bytes ∙ append_assoc old a b)
     ∙ append_assoc old (a ++ b) d

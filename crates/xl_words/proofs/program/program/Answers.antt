@@ -12,5 +12,6 @@ returns c =
     let one = c.in_ok-subcommand.ensures.shape c.new-3.ensures.local ∙ ap₂ with_subcommand top (ap (λ (a : App). a.top) c.new-3.ensures.app) in
     let two = c.in_ok-subcommand-2.ensures.shape c.new-4.ensures.local ∙ ap₂ with_subcommand one (ap (λ (a : App). a.top) c.new-4.ensures.app) in
     let three = c.in_ok-subcommand-3.ensures.shape c.new-5.ensures.local ∙ ap₂ with_subcommand two (ap (λ (a : App). a.top) c.new-5.ensures.app) in
-    IfOk-weaker c.subcommand-4.result _ _
-    (λ command adds. adds.shape (search rules) ∙ ap₂ with_subcommand three (ap (λ (a : App). a.top) rounds)) c.subcommand-4.ensures
+    let four = c.in_ok-subcommand-4.ensures.shape c.new-6.ensures.local ∙ ap₂ with_subcommand three (ap (λ (a : App). a.top) c.new-6.ensures.app) in
+    IfOk-weaker c.subcommand-5.result _ _
+    (λ command adds. adds.shape (search rules) ∙ ap₂ with_subcommand four (ap (λ (a : App). a.top) rounds)) c.subcommand-5.ensures
