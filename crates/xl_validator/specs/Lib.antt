@@ -1,0 +1,4 @@
+pub mod Openings
+pub mod Contacts
+pub mod Preparing
+pub mod Validators

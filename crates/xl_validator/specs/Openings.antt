@@ -1,0 +1,54 @@
+-- What settings say of the core that a node is opened with, and of what is run with it. Source: this project's own.
+use Rattle.std.specs.Prelude.{ℕ, List, map, fold}
+use Rattle.xl_base.specs.declared.ids.TxId.{TxId}
+use Rattle.xl_tags.specs.Rings.{Ring, no_keys, with_key}
+use Rattle.xl_core.specs.declared.settings.Settings.{Settings as CoreSettings}
+use Rattle.xl_core.specs.Core.{Core, with_queues}
+use Rattle.xl_core.specs.Node.{opened}
+use Rattle.xl_heartbeat.specs.declared.timing.Timing.{Timing}
+use Rattle.xl_settings.specs.declared.settings.Settings.{Settings}
+use Rattle.xl_settings.specs.Peers.{PeerSetting}
+
+abbrev pub with_peer : Ring → PeerSetting → Ring
+with_peer ring peer = with_key ring peer.number peer.key
+
+-- the keys that a member shares with its peers
+abbrev pub ring_of : ℕ → List PeerSetting → Ring
+ring_of me peers = fold with_peer (no_keys me) peers
+
+abbrev pub core_settings : Settings → CoreSettings
+core_settings s = record {
+  me = s.me;
+  list = s.list;
+  keys = ring_of s.me s.peers;
+  limit = s.limit;
+  validating = s.validating;
+}
+
+-- the core at its opening, at a moment and with the number that was kept
+abbrev pub opening_core : Settings → ℕ → ℕ → Core
+opening_core s moment kept = with_queues (opened (core_settings s) moment kept)
+
+abbrev pub timing_of : Settings → ℕ → Timing
+timing_of s moment = record { opened = moment; every = s.heartbeat_ms; run = s.run_ms }
+
+abbrev pub number_of : PeerSetting → ℕ
+number_of peer = peer.number
+
+abbrev pub members_of : Settings → List ℕ
+members_of s = map number_of s.peers
+
+-- what a run is to do: its turns, the ids that it submits, the members that it serves, and when it beats
+pub record Task : Type 0 where
+  pub turns : ℕ
+  pub submits : List TxId
+  pub members : List ℕ
+  pub timing : Timing
+
+abbrev pub task_of : Settings → ℕ → Task
+task_of s moment = record {
+  turns = s.turns;
+  submits = s.submit;
+  members = members_of s;
+  timing = timing_of s moment;
+}

@@ -1,0 +1,80 @@
+-- A whole run of the command `node`. Source: this project's own.
+use Rattle.std.specs.Prelude.{◌≡◌, ℕ, ◌≤◌, ◌⊎◌, Bool, true, List, length, IfSome, option_map}
+use Rattle.std.specs.declared.option.Option.{Option}
+use Rattle.std.specs.Io.KnownBytes.{append_known}
+use Rattle.xl_base.specs.declared.status.Status.{Status}
+use Rattle.xl_base.specs.declared.status.Status.TheVariants as status
+use Rattle.xl_io.specs.Keepers.{Held, MayHold, holding}
+use Rattle.xl_io.specs.Sinks.{GrewByFront}
+use Rattle.xl_links.specs.Links.{Wire}
+use Rattle.xl_turns.specs.Histories.{IsLegal}
+use Rattle.xl_store.specs.declared.entry.Entry.{Entry}
+use Rattle.xl_store.specs.Closing.{KeepsAll}
+use Rattle.xl_store.specs.Entries.{Leads}
+use Rattle.xl_heartbeat.specs.Outputs.{Output}
+use Rattle.xl_settings.specs.declared.settings.Settings.{Settings}
+use Rattle.xl_workers.specs.declared.ends.RunEnd.{RunEnd}
+use Rattle.xl_workers.specs.Runs.{NodeRun, doing, status_of_end}
+use Rattle.xl_workers.specs.Sharing.{setting}
+use Rattle.xl_core.specs.Core.{Core}
+use Rattle.xl_validator.specs.Openings.{Task, opening_core, task_of}
+
+-- of the line that tells a refusal a front is written, and with the status of a refusal all of it
+pub record IsRefused (line : List ℕ) (end : Status) (old new : Option (List ℕ)) : Type 0 where
+  pub front : GrewByFront old new line
+  pub whole : end ≡ status.InputRefused → new ≡ append_known old line
+
+-- what a run stands between: the hub and the output before it and after it
+pub record Between : Type 0 where
+  pub old_faults : ℕ
+  pub new_faults : ℕ
+  pub old_output : Output
+  pub new_output : Output
+
+abbrev pub between : ℕ → ℕ → Output → Output → Between
+between old_faults new_faults old_output new_output = record {
+  old_faults = old_faults;
+  new_faults = new_faults;
+  old_output = old_output;
+  new_output = new_output;
+}
+
+module _ {K : Type 0}
+    (held_by : K → Option Held) (saves_of : K → Option (List ℕ)) (faults_of : K → ℕ)
+    (gives : K → ℕ → Bool → K → Type 0) where
+  -- a keeper answers a number that it may hold, and holds that one alone from then on
+  pub record Loads (old : K) (kept : ℕ) (new : K) : Type 0 where
+    pub held : IfSome (held_by old) (λ held. MayHold held kept)
+    pub alone : held_by new ≡ option_map (λ _. holding kept) (held_by old)
+    pub saves : saves_of new ≡ saves_of old
+    pub later : faults_of old ≤ faults_of new
+
+  -- A run over an open core: the journal of its store is a legal history of the core, whose places are shared out; it
+  -- leaves the keeper; and its end is the status
+  pub record Goes (start : Core) (task : Task) (may_give : ℕ → Bool) (links : ℕ → Option Wire) (outside : Between)
+      (old new : K) (end : Status) (history : List Entry) : Type 0 where
+    pub run_end : RunEnd
+    pub legal : IsLegal Leads start history
+    pub run : NodeRun (setting start task.turns may_give links)
+        (doing task.submits task.members task.timing
+        outside.old_faults outside.new_faults outside.old_output outside.new_output) run_end history
+    pub keeps : KeepsAll held_by saves_of faults_of gives start history old new
+    pub limit : length history ≤ task.turns
+    pub is : end ≡ status_of_end run_end
+
+  -- A node ran by these settings: it was opened at a moment that the clock may give, with the number that its keeper
+  -- loaded
+  pub record HasRun (s : Settings) (may_give : ℕ → Bool) (links : ℕ → Option Wire) (outside : Between)
+      (old new : K) (end : Status) (history : List Entry) : Type 0 where
+    pub moment : ℕ
+    pub kept : ℕ
+    pub loaded : K
+    pub given : may_give moment ≡ true
+    pub loads : Loads old kept loaded
+    pub goes : Goes (opening_core s moment kept) (task_of s moment) may_give links outside loaded new end history
+
+-- a status of this command: it finds no fork, and no words are refused
+abbrev pub IsKnown : Status → Type 0
+IsKnown status.Fork = ⊥
+IsKnown status.WordsRefused = ⊥
+IsKnown other = Unit {0}

@@ -1,0 +1,41 @@
+// The members that are served.
+ghost use Rattle.std.specs.Prelude.{◌≡◌, map, IfOk};
+ghost use Rattle.std.specs.List.{All};
+ghost use Rattle.xl_validator.specs.Contacts.{contact_seen, peer_seen, IsNumber};
+
+use std::alloc::Global;
+use xl_base::OutOfMemory;
+use xl_settings::Peer;
+use xl_workers::Contact;
+
+/// A contact for each peer, in order.
+pub(crate) fn contacts_of(alloc: Global, peers: Vec<Peer>) -> Result<Vec<Contact>, OutOfMemory>
+    ensures each { IfOk result (λ contacts. map contact_seen contacts.items ≡ map peer_seen peers.items) }
+    ensures numbers { IfOk result (λ contacts. All IsNumber contacts.items) }
+{
+    let mut contacts = Vec::with_capacity(alloc, peers.len())?;
+    let mut rest = peers;
+    while !rest.is_empty() {
+        let peer = rest.remove(0);
+        contacts.push_reserved(contact_of(peer));
+    }
+    Ok(contacts)
+}
+
+/// The contact of a peer.
+fn contact_of(peer: Peer) -> Contact
+    ensures same { contact_seen result ≡ peer_seen peer }
+    ensures number { IsNumber result }
+{
+    let Peer {
+        number,
+        key: _,
+        way,
+    } = peer;
+    // A member's number, 1 to 64.
+    let _number = number.get();
+    Contact {
+        member: number,
+        way,
+    }
+}

@@ -1,0 +1,73 @@
+// What a node is opened with, and what it is to do.
+ghost use Rattle.std.specs.Prelude.{◌≡◌, ◌≤◌, IfOk};
+ghost use Rattle.xl_base.specs.declared.moments.TheConstants.{GREATEST_MILLIS};
+ghost use Rattle.xl_settings.specs.Runnable.{AreRunnable};
+ghost use Rattle.xl_validator.specs.Openings.{opening_core, task_of};
+ghost use Rattle.xl_validator.specs.Preparing.{IsReady, task_in};
+
+use crate::contacts::contacts_of;
+use crate::keys::keys_of;
+use std::alloc::Global;
+use xl_base::{Millis, OutOfMemory, Seq};
+use xl_core::Core;
+use xl_heartbeat::Timing;
+use xl_settings::Settings;
+use xl_trie::Trie;
+use xl_workers::Plan;
+
+/// A core at its opening, and what is run with it.
+#[derive(Drop)]
+pub(crate) struct Prepared {
+    pub core: Core<Trie>,
+    pub plan: Plan,
+}
+
+/// Opens the core of the settings at a moment, with the number that was kept.
+pub(crate) fn prepare(
+    alloc: Global,
+    settings: Settings,
+    now: Millis,
+    kept: Seq,
+) -> Result<Prepared, OutOfMemory>
+    requires runnable { AreRunnable settings }
+    requires moment { now ≤ GREATEST_MILLIS }
+    ensures core { IfOk result (λ prepared. prepared.core ≡ opening_core settings now kept) }
+    ensures task { IfOk result (λ prepared. task_in prepared.plan ≡ task_of settings now) }
+    ensures ready { IfOk result IsReady }
+{
+    let Settings {
+        me,
+        list,
+        validating,
+        limit,
+        turns,
+        heartbeat_ms,
+        run_ms,
+        submit,
+        peers,
+    } = settings;
+    let keys = keys_of(me, peers.as_slice());
+    let core = Core::open(
+        alloc,
+        xl_core::Settings {
+            me,
+            list,
+            keys,
+            limit,
+            validating,
+        },
+        now,
+        kept,
+    )?;
+    let plan = Plan {
+        turns,
+        submits: Vec::from_slice(alloc, submit.as_slice())?,
+        contacts: contacts_of(alloc, peers.into_vec())?,
+        timing: Timing {
+            opened: now,
+            every: heartbeat_ms as u32,
+            run: run_ms,
+        },
+    };
+    Ok(Prepared { core, plan })
+}

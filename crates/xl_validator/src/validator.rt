@@ -1,0 +1,146 @@
+ghost use Rattle.std.specs.Prelude.{◌≡◌, ◌≤◌, ◌⊎◌, None, IfSome, IfOk, IfErr, IsErr, Ok};
+ghost use Rattle.xl_base.specs.Faults.{Rose};
+ghost use Rattle.xl_heartbeat.specs.Outputs.{output};
+ghost use Rattle.xl_settings.specs.declared.settings.Settings.{Settings as TheSettings};
+ghost use Rattle.xl_settings.specs.Lines.{refusal_line};
+ghost use Rattle.xl_settings.specs.Runnable.{AreRunnable};
+ghost use Rattle.xl_settings.specs.Settings.{settings_of};
+ghost use Rattle.xl_validator.specs.Preparing.{IsReady, task_in};
+ghost use Rattle.xl_validator.specs.Validators.{Goes, HasRun, IsRefused, IsKnown, between};
+
+use crate::ended::Ended;
+use crate::preparing::{Prepared, prepare};
+use std::alloc::Global;
+use std::sync::Wait;
+use std::thread::Threads;
+use xl_base::Status;
+use xl_io::{Keeper, Sink, Source};
+use xl_links::{Clock, Hub, OpenGate};
+use xl_settings::{Settings, SettingsFault, SettingsRefusal, settings_from, write_refusal};
+use xl_workers::node;
+
+/// Tells why settings are refused.
+fn refuse<O: Sink>(output: &mut O, refusal: &SettingsRefusal) -> Status
+    ensures refused { IsRefused (refusal_line refusal.now) result (O.held output.old) (O.held output.new) }
+    ensures told { (result ≡ Status.InputRefused) ⊎ (result ≡ Status.WriteFault) }
+    ensures write { result ≡ Status.WriteFault → Rose (O.faults output.old) (O.faults output.new) }
+    ensures later { O.faults output.old ≤ O.faults output.new }
+{
+    match write_refusal(output, refusal) {
+        Ok(()) => Status::InputRefused,
+        Err(_) => Status::WriteFault,
+    }
+}
+
+/// Runs what is prepared, over a keeper.
+fn run<W: Threads + Wait + Sync, O: Sink + Send, K: Keeper + Drop + Send, H: Hub, C: Clock + Sync>(
+    rt: &W,
+    alloc: Global,
+    prepared: Prepared,
+    output: &mut O,
+    keeper: K,
+    hub: &mut H,
+    clock: &C,
+) -> Ended<K>
+    requires ready { IsReady prepared }
+    ensures goes { IfSome result.journal (λ history. Goes K.held K.saves K.faults K.save_gives
+        prepared.core (task_in prepared.plan) (C.may_give clock.now) (H.gives hub.old)
+        (between (H.faults hub.old) (H.faults hub.new)
+        (output (O.held output.old) (O.faults output.old)) (output (O.held output.new) (O.faults output.new)))
+        keeper result.keeper result.status history) }
+    ensures unopened { result.journal ≡ None → (result.status ≡ Status.OutOfMemory) × (output.new ≡ output.old) }
+{
+    let Prepared { core, plan } = prepared;
+    match node(rt, alloc, core, keeper, plan, hub, &OpenGate, clock, output) {
+        Ok(ran) => Ended {
+            status: ran.end.status(),
+            keeper: ran.closed.keeper,
+            journal: Some(ran.closed.journal),
+        },
+        Err(spared) => Ended::unopened(Status::OutOfMemory, spared.keeper),
+    }
+}
+
+/// Opens a node by its settings, and runs it.
+fn start<W: Threads + Wait + Sync, O: Sink + Send, K: Keeper + Drop + Send, H: Hub, C: Clock + Sync>(
+    rt: &W,
+    alloc: Global,
+    settings: Settings,
+    output: &mut O,
+    keeper: K,
+    hub: &mut H,
+    clock: &C,
+) -> Ended<K>
+    requires runnable { AreRunnable settings }
+    ensures ran { IfSome result.journal (λ history. HasRun K.held K.saves K.faults K.save_gives
+        settings (C.may_give clock.now) (H.gives hub.old)
+        (between (H.faults hub.old) (H.faults hub.new)
+        (output (O.held output.old) (O.faults output.old)) (output (O.held output.new) (O.faults output.new)))
+        keeper result.keeper result.status history) }
+    ensures unopened { result.journal ≡ None
+        → ((result.status ≡ Status.OutOfMemory) ⊎ (result.status ≡ Status.KeepFault)) × (output.new ≡ output.old) }
+    ensures keeper { result.status ≡ Status.KeepFault → Rose (K.faults keeper) (K.faults result.keeper) }
+{
+    let mut keeper = keeper;
+    let Ok(kept) = keeper.load() else {
+        return Ended::unopened(Status::KeepFault, keeper);
+    };
+    match prepare(alloc, settings, clock.now(), kept) {
+        Ok(prepared) => run(rt, alloc, prepared, output, keeper, hub, clock),
+        Err(_) => Ended::unopened(Status::OutOfMemory, keeper),
+    }
+}
+
+/// Runs a validator by the settings that the input holds.
+///
+/// It reads the settings, loads the kept number, opens the core at the clock's moment, submits the ids, opens a link to
+/// each peer, and serves all peers beside the heartbeat until the run is over. The keeper comes back, and so does the
+/// journal of the node's store, where one was opened.
+///
+/// Refused settings end it with `InputRefused` and the one line that names the key.
+pub fn validator<
+    W: Threads + Wait + Sync,
+    I: Source,
+    O: Sink + Send,
+    K: Keeper + Drop + Send,
+    H: Hub,
+    C: Clock + Sync,
+>(
+    rt: &W,
+    alloc: Global,
+    input: &mut I,
+    output: &mut O,
+    keeper: K,
+    hub: &mut H,
+    clock: &C,
+) -> Ended<K>
+    // Refused settings open no store, and of their line a front is written.
+    ensures refused { IfSome (I.left input.old) (λ bytes. IfErr (settings_of bytes) (λ refusal. (result.journal ≡ None)
+        × IsRefused (refusal_line refusal) result.status (O.held output.old) (O.held output.new))) }
+    // Other settings run a node, or nothing is written.
+    ensures ran { IfSome result.journal (λ history. (settings : TheSettings)
+        × IfSome (I.left input.old) (λ bytes. settings_of bytes ≡ Ok settings)
+        × HasRun K.held K.saves K.faults K.save_gives settings (C.may_give clock.now) (H.gives hub.old)
+        (between (H.faults hub.old) (H.faults hub.new)
+        (output (O.held output.old) (O.faults output.old)) (output (O.held output.new) (O.faults output.new)))
+        keeper result.keeper result.status history) }
+    ensures unopened { IfSome (I.left input.old) (λ bytes. IfOk (settings_of bytes) (λ _.
+        result.journal ≡ None → output.new ≡ output.old)) }
+    // Each status has its cause.
+    ensures known { IsKnown result.status }
+    ensures input { result.status ≡ Status.InputRefused
+        → IfSome (I.left input.old) (λ bytes. IsErr (settings_of bytes)) }
+    ensures read { result.status ≡ Status.ReadFault → Rose (I.faults input.old) (I.faults input.new) }
+    ensures write { result.status ≡ Status.WriteFault → Rose (O.faults output.old) (O.faults output.new) }
+    ensures keeper { result.status ≡ Status.KeepFault → Rose (K.faults keeper) (K.faults result.keeper) }
+    ensures net { result.status ≡ Status.NetFault → Rose (H.faults hub.old) (H.faults hub.new) }
+{
+    match settings_from(alloc, input) {
+        Ok(settings) => start(rt, alloc, settings, output, keeper, hub, clock),
+        Err(SettingsFault::Refused(refusal)) => {
+            Ended::unopened(refuse(output, &refusal), keeper)
+        }
+        Err(SettingsFault::Read) => Ended::unopened(Status::ReadFault, keeper),
+        Err(SettingsFault::OutOfMemory) => Ended::unopened(Status::OutOfMemory, keeper),
+    }
+}
