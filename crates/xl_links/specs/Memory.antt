@@ -1,6 +1,6 @@
 -- What links and clocks in memory show: their content, their faults and their script. Source: this project's own, for
 -- tests of what is said over links.
-use Rattle.std.specs.Prelude.{ℕ, ◌&&◌, nat_le, Bool, List, [], ◌∷◌, Some, None, drop}
+use Rattle.std.specs.Prelude.{ℕ, ◌&&◌, nat_le, min, max, Bool, List, [], ◌∷◌, Some, None, drop}
 use Rattle.xl_base.specs.Counts.{one_more}
 use Rattle.xl_base.specs.declared.moments.TheConstants.{GREATEST_MILLIS}
 use Rattle.xl_links.specs.declared.link.Opening.{Opening}
@@ -19,7 +19,15 @@ use Rattle.xl_links.specs.Scripts.{opening_at, course_at, is_listed}
 
 -- the bytes that a link which never fails still has to give
 abbrev pub plain_left : PlainLink → List ℕ
-plain_left link = drop link.source.given link.source.bytes.items
+plain_left link = drop link.given link.bytes.items
+
+-- the most bytes that a read gives or a write takes, 0 being read as 1
+abbrev pub plain_piece : PlainLink → ℕ
+plain_piece link = link.piece
+
+-- a piece, of so many bytes that there are
+abbrev pub piece_of : ℕ → ℕ → ℕ
+piece_of most bytes = min bytes (max most 1)
 
 -- it tells nothing of what it takes, nor of its openings
 abbrev pub plain_wire : PlainLink → Wire
@@ -28,6 +36,9 @@ plain_wire link = record { left = Some (plain_left link); took = None; openings 
 -- the bytes that a link in memory still has to give
 abbrev pub bytes_left : MemLink → List ℕ
 bytes_left link = plain_left link.source
+
+abbrev pub link_piece : MemLink → ℕ
+link_piece link = plain_piece link.source
 
 -- the bytes that it took
 abbrev pub bytes_taken : MemLink → List ℕ

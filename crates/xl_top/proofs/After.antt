@@ -114,6 +114,13 @@ less_says before after text less whole =
     let long : length text ≡ length (front.written ++ front.missing) = ap length front.parts in
     omega (arith, some, equal, long, length-append held text, length-append held front.written, length-append front.written front.missing)
 
+-- nor is one of which nothing is, unless it is empty
+nothing_says : (before after : Option (List ℕ)) (text : List ℕ) → after ≡ before → 0 < length text → IsWritten before after text → ⊥
+nothing_says before after text same some whole =
+    let held = whole.0 in
+    let equal : length (held ++ text) ≡ length held = ap len_known (sym whole.2 ∙ (same ∙ whole.1)) in
+    omega (arith, some, equal, length-append held text)
+
 says : (v : Verdict) → status_after (Ok v) ≡ status_of v
 says Good = refl
 says Found = refl
@@ -129,3 +136,29 @@ whole_after (Some bytes) held held' told (Ok v) whole less = λ written. inl (sa
 whole_after (Some bytes) held held' told (Err Read) whole less = λ written. absurd (less_says held held' (told bytes).text (less (λ is. cc)) written)
 whole_after (Some bytes) held held' told (Err Write) whole less = λ written. absurd (less_says held held' (told bytes).text (less (λ is. cc)) written)
 whole_after (Some bytes) held held' told (Err Memory) whole less = λ written. inr refl
+
+-- where some of it is missing after a fault of the sink, and nothing is written with any other
+abbrev pub Unwritten : Option (List ℕ) → Option (List ℕ) → Result Verdict Fault → Type 0
+Unwritten held held' r = IfErr r (λ fault. fault ≢ Write → held' ≡ held)
+
+abbrev pub LessWritten : Option (List ℕ) → Option (List ℕ) → Option (List ℕ) → (List ℕ → Told) → Result Verdict Fault → Type 0
+LessWritten left held held' told r = IsErrOf r Write → IfSome left (λ bytes. GrewByLess held held' (told bytes).text)
+
+abbrev pub SaysSome : Option (List ℕ) → Option (List ℕ) → Option (List ℕ) → (List ℕ → Told) → Status → Type 0
+SaysSome left held held' told s = IfSome left (λ bytes. 0 < length (told bytes).text → IsWritten held held' (told bytes).text → (s ≡ status_of (told bytes).verdict) ⊎ (s ≡ OutOfMemory))
+
+pub some_after : (left held held' : Option (List ℕ)) (told : List ℕ → Told) (r : Result Verdict Fault) → Whole left held held' told r → Unwritten held held' r → LessWritten left held held' told r → SaysSome left held held' told (status_after r)
+some_after None held held' told r whole unwritten less = tt
+some_after (Some bytes) held held' told (Ok v) whole unwritten less = λ some written. inl (says v ∙ ap status_of (sym whole.says))
+some_after (Some bytes) held held' told (Err Read) whole unwritten less = λ some written. absurd (nothing_says held held' (told bytes).text (unwritten (λ is. cc)) some written)
+some_after (Some bytes) held held' told (Err Write) whole unwritten less = λ some written. absurd (less_says held held' (told bytes).text (less refl) written)
+some_after (Some bytes) held held' told (Err Memory) whole unwritten less = λ some written. inr refl
+
+-- so it is whatever else is said of that text
+pub said : (left : Option (List ℕ)) (P : List ℕ → Type 0) → IfSome left P → IfSome left (λ bytes. Unit {0} → P bytes)
+said None P says = tt
+said (Some bytes) P says = λ _. says
+
+pub held_same : {K : Type 0} (r : Result Verdict Fault) (old new : K) (held : K → Option (List ℕ)) → IfErr r (λ fault. fault ≢ Write → new ≡ old) → Unwritten (held old) (held new) r
+held_same (Ok v) old new held same = tt
+held_same (Err fault) old new held same = λ other. ap held (same other)

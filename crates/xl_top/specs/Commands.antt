@@ -1,5 +1,5 @@
 -- What the program does for the words of its command line. Source: this project's own.
-use Rattle.std.specs.Prelude.{◌≡◌, ℕ, min, List, Option, Result, Ok, Err}
+use Rattle.std.specs.Prelude.{◌≡◌, ◌<◌, ℕ, min, List, length, Option, Result, Ok, Err}
 use Rattle.xl_base.specs.declared.status.Status.{Status}
 use Rattle.xl_base.specs.declared.status.Status.TheVariants.{Done, Fork, InputRefused, ReadFault, WriteFault, OutOfMemory}
 use Rattle.xl_gen.specs.declared.command.TheConstants.{MOST_ROUNDS}
@@ -38,10 +38,10 @@ IsReader Help = ⊥
 IsReader Version = ⊥
 IsReader command = Unit {0}
 
--- the text of a command is never empty; that of `lists` is, where no node is declared
-abbrev pub IsNeverEmpty : Command → Type 0
-IsNeverEmpty Lists = ⊥
-IsNeverEmpty command = Unit {0}
+-- a command has a text to write; that of `lists` is empty where no node is declared, and no other ever is
+abbrev pub HasText : Command → List ℕ → Type 0
+HasText Lists text = 0 < length text
+HasText command text = Unit {0}
 
 -- the status of a run by how it ended
 abbrev pub status_after : Result Verdict Fault → Status

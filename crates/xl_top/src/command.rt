@@ -8,7 +8,7 @@ ghost use Rattle.xl_lines.specs.Running.{TellsAll};
 ghost use Rattle.xl_replay.specs.Headlines.{names_of, IsReport, IsRefusal, AddsReport};
 ghost use Rattle.xl_replay.specs.Replays.{report_of};
 ghost use Rattle.xl_replay.specs.Statuses.{IsTold, IsWritten, status_of};
-ghost use Rattle.xl_top.specs.Commands.{asked_of, told_by, IsReader, IsNeverEmpty};
+ghost use Rattle.xl_top.specs.Commands.{asked_of, told_by, IsReader, HasText};
 ghost use Rattle.xl_words.specs.Commands.{words_of};
 
 use crate::running::run;
@@ -73,10 +73,10 @@ pub fn top<I: Source, O: Sink>(
     ensures complete { IfSome (asked_of (words_of words.now)) (λ _.
         ¬ Rose (I.faults input.old) (I.faults input.new) → ¬ Rose (O.faults output.old) (O.faults output.new)
         → IsTold result ⊎ (result ≡ Status.OutOfMemory)) }
-    // Where a whole text is written that is never empty, the status is the one of its end, or memory was wanting.
-    ensures whole { IfSome (asked_of (words_of words.now)) (λ command. IsNeverEmpty command
-        → IfSome (I.left input.old) (λ bytes.
-        IsWritten (O.held output.old) (O.held output.new) (told_by command bytes).text
+    // Where a whole text is written that isn't empty, the status is the one of its end, or memory was wanting.
+    ensures whole { IfSome (asked_of (words_of words.now)) (λ command. IfSome (I.left input.old) (λ bytes.
+        HasText command (told_by command bytes).text
+        → IsWritten (O.held output.old) (O.held output.new) (told_by command bytes).text
         → (result ≡ status_of (told_by command bytes).verdict) ⊎ (result ≡ Status.OutOfMemory))) }
     // No keeper, link or store is there to fail.
     ensures keeper { result ≡ Status.KeepFault → ⊥ }

@@ -8,7 +8,7 @@ ghost use Rattle.xl_lines.specs.Running.{TellsAll};
 ghost use Rattle.xl_replay.specs.Headlines.{names_of, AddsReport};
 ghost use Rattle.xl_replay.specs.Replays.{report_of};
 ghost use Rattle.xl_replay.specs.Statuses.{IsTold, IsReplayed, IsWritten, status_of};
-ghost use Rattle.xl_top.specs.Commands.{told_by, IsReader, IsNeverEmpty};
+ghost use Rattle.xl_top.specs.Commands.{told_by, IsReader, HasText};
 
 use crate::ending::status_after;
 use crate::telling::{help, version};
@@ -45,8 +45,8 @@ pub fn run<I: Source, O: Sink>(
     ensures write { result ≡ Status.WriteFault → Rose (O.faults output.old) (O.faults output.new) }
     ensures complete { ¬ Rose (I.faults input.old) (I.faults input.new)
         → ¬ Rose (O.faults output.old) (O.faults output.new) → IsTold result ⊎ (result ≡ Status.OutOfMemory) }
-    ensures whole { IsNeverEmpty command → IfSome (I.left input.old) (λ bytes.
-        IsWritten (O.held output.old) (O.held output.new) (told_by command bytes).text
+    ensures whole { IfSome (I.left input.old) (λ bytes. HasText command (told_by command bytes).text
+        → IsWritten (O.held output.old) (O.held output.new) (told_by command bytes).text
         → (result ≡ status_of (told_by command bytes).verdict) ⊎ (result ≡ Status.OutOfMemory)) }
     ensures known { IsReplayed result }
 {

@@ -1,4 +1,5 @@
-ghost use Rattle.std.specs.Prelude.{◌≡◌, Some};
+ghost use Rattle.std.specs.Prelude.{◌≡◌, ℕ, Some};
+ghost use Rattle.xl_links.specs.Hubs.{silent_wire};
 
 use crate::hub::{Hub, Way};
 use crate::link::plain::PlainLink;
@@ -13,14 +14,16 @@ pub struct PlainHub {
 }
 
 impl PlainHub {
-    pub fn new(alloc: Global) -> Self {
+    /// A hub for any member.
+    pub fn new(alloc: Global) -> Self
+        ensures gives { (member : ℕ) → ⟦<PlainHub as Hub>⟧.gives result member ≡ Some silent_wire }
+        ensures faults { ⟦<PlainHub as Hub>⟧.faults result ≡ 0 }
+    {
         PlainHub { alloc }
     }
 }
 
 impl Hub for PlainHub {
-    ghost use Rattle.xl_links.specs.Hubs.{silent_wire};
-
     type L = PlainLink;
 
     ghost gives = { λ _ _. Some silent_wire };

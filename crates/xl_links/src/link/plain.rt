@@ -1,26 +1,32 @@
-ghost use Rattle.std.specs.Prelude.{◌≡◌, ◌<◌, Some, length};
+ghost use Rattle.std.specs.Prelude.{◌≡◌, ◌<◌, ◌≤◌, length, vec_len};
 
 use crate::link::{Link, LinkRead, Opening};
 use std::alloc::Global;
-use xl_io::{Discard, Piece, PlainSource, Sink, Source, Wrote};
+use xl_io::{Discard, Sink, Wrote};
 
 /// A link in memory that never fails: its count of faults is 0. It is open at once, a connection ends where no byte is
 /// left, and it takes what is written and tells nothing of it.
 #[derive(Drop)]
 pub struct PlainLink {
-    source: PlainSource,
+    bytes: Vec<u8>,
+    given: usize,
+    piece: usize,
+    ghost in_range: { given ≤ vec_len bytes },
 }
 
 impl PlainLink {
     ghost use Rattle.std.specs.Prelude.{[]};
-    ghost use Rattle.xl_links.specs.Memory.{plain_left};
+    ghost use Rattle.xl_links.specs.Memory.{piece_of, plain_left, plain_piece};
 
     /// A link with these bytes to give, in pieces of at most `piece` bytes, 0 being read as 1.
     pub fn new(bytes: Vec<u8>, piece: usize) -> Self
-        ensures { plain_left result ≡ bytes.items }
+        ensures left { plain_left result ≡ bytes.items }
+        ensures piece { plain_piece result ≡ piece }
     {
         PlainLink {
-            source: PlainSource::new(bytes, piece),
+            bytes,
+            given: 0,
+            piece,
         }
     }
 
@@ -30,18 +36,28 @@ impl PlainLink {
     {
         Self::new(Vec::new(alloc), 1)
     }
+
+    /// How long a piece is, of so many bytes that there are.
+    pub(crate) fn piece_of(&self, bytes: usize) -> usize
+        ensures { result ≡ piece_of (plain_piece self.now) bytes }
+    {
+        bytes.min(self.piece.max(1))
+    }
 }
 
 impl Link for PlainLink {
+    ghost use Rattle.std.specs.Prelude.{ℕ, min};
+    ghost use Rattle.xl_links.specs.declared.link.LinkRead.TheVariants as read;
     ghost use Rattle.xl_links.specs.declared.script.Course.TheVariants as course;
     ghost use Rattle.xl_links.specs.Links.{Opens, Reads};
-    ghost use Rattle.xl_links.specs.Memory.{course_of, course_over, plain_left, plain_wire};
+    ghost use Rattle.xl_links.specs.Memory.{course_of, course_over, piece_of, plain_left, plain_piece, plain_wire};
 
     ghost shows = { plain_wire };
 
     fn open(&mut self) -> Opening
         ensures opens { Opens (plain_wire self.old) result (plain_wire self.new) }
         ensures open { result ≡ Opening.Open }
+        ensures kept { plain_piece self.new ≡ plain_piece self.old }
     {
         Opening::Open
     }
@@ -50,12 +66,18 @@ impl Link for PlainLink {
         ensures same { length room.new ≡ length room.old }
         ensures read { Reads (plain_wire self.old) result room.new (plain_wire self.new) }
         ensures course { 0 < length room.old → course_of result ≡ course_over (plain_left self.old) course.Gives }
+        ensures piece { (n : ℕ) → result ≡ read.Got n
+            → n ≡ piece_of (plain_piece self.old) (min (length (plain_left self.old)) (length room.old)) }
+        ensures kept { plain_piece self.new ≡ plain_piece self.old }
     {
-        match self.source.read(room) {
-            Piece::Got(count) => LinkRead::Got(count),
-            Piece::End => LinkRead::End,
-            Piece::Failed => LinkRead::Failed,
+        let left = &self.bytes[self.given..];
+        if left.is_empty() {
+            return LinkRead::End;
         }
+        let count = self.piece_of(left.len().min(room.len()));
+        room[..count].copy_from_slice(&left[..count]);
+        self.given += count;
+        LinkRead::Got(count)
     }
 
     fn write(&mut self, piece: &[u8]) -> Wrote {

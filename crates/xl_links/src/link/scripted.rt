@@ -24,7 +24,6 @@ struct Calls {
 pub struct MemLink {
     source: PlainLink,
     taken: Vec<u8>,
-    piece: usize,
     script: LinkScript,
     openings: Openings,
     calls: Calls,
@@ -32,7 +31,8 @@ pub struct MemLink {
 }
 
 impl MemLink {
-    ghost use Rattle.xl_links.specs.Memory.{bytes_taken, calls_of, list_of_openings, no_calls, script_of, wire_of};
+    ghost use Rattle.xl_links.specs.Memory.{bytes_taken, calls_of, link_piece, list_of_openings, no_calls};
+    ghost use Rattle.xl_links.specs.Memory.{script_of, wire_of};
 
     /// A link with these bytes to give, and with room to tell so many openings. Reads give and writes take at most
     /// `piece` bytes, 0 being read as 1. Where no byte is left, a read that would give some ends the connection.
@@ -44,6 +44,7 @@ impl MemLink {
         room: usize,
     ) -> Result<Self, OutOfMemory>
         ensures left { IfOk result (λ link. (wire_of link).left ≡ Some bytes.items) }
+        ensures piece { IfOk result (λ link. link_piece link ≡ piece) }
         ensures taken { IfOk result (λ link. bytes_taken link ≡ []) }
         ensures openings { IfOk result (λ link. list_of_openings link ≡ no_openings room) }
         ensures faults { IfOk result (λ link. (wire_of link).faults ≡ 0) }
@@ -53,7 +54,6 @@ impl MemLink {
         Ok(MemLink {
             source: PlainLink::new(bytes, piece),
             taken: Vec::new(alloc),
-            piece,
             script,
             openings: Openings::with_room(alloc, room)?,
             calls: Calls {
@@ -88,16 +88,20 @@ impl MemLink {
 }
 
 impl Link for MemLink {
-    ghost use Rattle.std.specs.Prelude.{◌<◌, length, IsTrue};
+    ghost use Rattle.std.specs.Prelude.{ℕ, ◌<◌, min, length, IsTrue};
+    ghost use Rattle.xl_links.specs.declared.link.LinkRead.TheVariants as read;
     ghost use Rattle.xl_io.specs.declared.sink.Wrote.TheVariants as wrote;
     ghost use Rattle.xl_links.specs.Links.{Opens, Reads, Writes};
     ghost use Rattle.xl_links.specs.Memory.{
+      bytes_left,
       calls_of,
       course_of,
+      link_piece,
       list_of_openings,
       next_course,
       next_opening,
       next_write_fails,
+      piece_of,
       script_of,
       wire_of,
       with_opening_call,
@@ -116,6 +120,7 @@ impl Link for MemLink {
         ensures list { list_of_openings self.new ≡ with_opening (list_of_openings self.old) result }
         ensures calls { calls_of self.new ≡ with_opening_call (calls_of self.old) }
         ensures script { script_of self.new ≡ script_of self.old }
+        ensures kept { link_piece self.new ≡ link_piece self.old }
     {
         self.calls.openings = self.calls.openings.saturating_add(1);
         let answer = self.script.opening(self.calls.openings);
@@ -132,9 +137,12 @@ impl Link for MemLink {
 
         // What the script makes of it.
         ensures course { 0 < length room.old → course_of result ≡ next_course self.old }
+        ensures piece { (n : ℕ) → result ≡ read.Got n
+            → n ≡ piece_of (link_piece self.old) (min (length (bytes_left self.old)) (length room.old)) }
         ensures list { list_of_openings self.new ≡ list_of_openings self.old }
         ensures calls { calls_of self.new ≡ with_read_call (calls_of self.old) }
         ensures script { script_of self.new ≡ script_of self.old }
+        ensures kept { link_piece self.new ≡ link_piece self.old }
     {
         self.calls.reads = self.calls.reads.saturating_add(1);
         match self.script.course(self.calls.reads) {
@@ -153,12 +161,14 @@ impl Link for MemLink {
 
         // What the script makes of it.
         ensures fails { IsTrue (next_write_fails self.old) → result ≡ wrote.Failed }
+        ensures piece { (n : ℕ) → result ≡ wrote.Took n → n ≡ piece_of (link_piece self.old) (length piece.now) }
         ensures list { list_of_openings self.new ≡ list_of_openings self.old }
         ensures calls { calls_of self.new ≡ with_write_call (calls_of self.old) }
         ensures script { script_of self.new ≡ script_of self.old }
+        ensures kept { link_piece self.new ≡ link_piece self.old }
     {
         self.calls.writes = self.calls.writes.saturating_add(1);
-        let count = piece.len().min(self.piece.max(1));
+        let count = self.source.piece_of(piece.len());
         if !self.script.write_fails(self.calls.writes)
             && self.taken.extend_from_slice(&piece[..count]).is_ok()
         {

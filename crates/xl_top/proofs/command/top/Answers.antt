@@ -94,7 +94,7 @@ pub returns-in-Err-Memory-clause-complete : goal.returns-in-Err-Memory-clause-co
 returns-in-Err-Memory-clause-complete g c = if_any (command_of (words_of c.args.words.now)) _ (λ command a b. inr refl)
 
 pub returns-in-Err-Memory-clause-whole : goal.returns-in-Err-Memory-clause-whole
-returns-in-Err-Memory-clause-whole g c = if_any (command_of (words_of c.args.words.now)) _ (λ command _. if_any (g.I.Source.left c.args.input.now) _ (λ bytes _. inr refl))
+returns-in-Err-Memory-clause-whole g c = if_any (command_of (words_of c.args.words.now)) _ (λ command. if_any (g.I.Source.left c.args.input.now) _ (λ bytes _ _. inr refl))
 
 pub returns-in-Ok-clause-summaries : goal.returns-in-Ok-clause-summaries
 returns-in-Ok-clause-summaries g c = summarized

@@ -9,7 +9,7 @@ use Rattle.xl_lines.specs.Rules.{closes}
 use Rattle.xl_pairs.specs.Comparing.{lists_of}
 use Rattle.xl_replay.specs.Statuses.{IsTold, IsReplayed}
 use Rattle.xl_show.specs.Shown.{shown_of}
-use Rattle.xl_top.proofs.After.{SaysEnd, done_after, fork_after, refused_after, end_after, read_after, write_after, complete_after, known_after, taken_after, whole_after}
+use Rattle.xl_top.proofs.After.{SaysEnd, done_after, fork_after, refused_after, end_after, read_after, write_after, complete_after, known_after, taken_after, whole_after, SaysSome, some_after, said, held_same}
 use Rattle.xl_top.proofs.Asking.{if_any, whole_of, less_of, only_of}
 use Rattle.xl_words.specs.declared.command.Command.TheVariants.{Replay, Show, Lists, Help, Version}
 use Rattle.xl_words.specs.Help.{help_text, version_text}
@@ -40,7 +40,7 @@ pub returns-in-Replay-clause-complete : goal.returns-in-Replay-clause-complete
 returns-in-Replay-clause-complete g c = c.replay.ensures.complete
 
 pub returns-in-Replay-clause-whole : goal.returns-in-Replay-clause-whole
-returns-in-Replay-clause-whole g c = rw c.in-Replay.is (λ _. c.replay.ensures.whole)
+returns-in-Replay-clause-whole g c = rw c.in-Replay.is (said (g.I.Source.left c.args.input.now) _ (c.replay.ensures.whole))
 
 pub returns-in-Replay-clause-known : goal.returns-in-Replay-clause-known
 returns-in-Replay-clause-known g c = c.replay.ensures.known
@@ -76,7 +76,7 @@ pub returns-in-Show-clause-complete : goal.returns-in-Show-clause-complete
 returns-in-Show-clause-complete g c = λ a b. subst (λ (x : Status). IsTold x ⊎ (x ≡ OutOfMemory)) (sym c.status_after.ensures) (complete_after c.show.result _ _ c.show.ensures.complete a b)
 
 pub returns-in-Show-clause-whole : goal.returns-in-Show-clause-whole
-returns-in-Show-clause-whole g c = rw c.in-Show.is (λ _. subst (λ (x : Status). SaysEnd (g.I.Source.left c.args.input.now) (g.O.Sink.held c.args.output.now) (g.O.Sink.held c.show.new.output) shown_of x) (sym c.status_after.ensures) (whole_after (g.I.Source.left c.args.input.now) (g.O.Sink.held c.args.output.now) (g.O.Sink.held c.show.new.output) shown_of c.show.result c.show.ensures.whole c.show.ensures.less))
+returns-in-Show-clause-whole g c = rw c.in-Show.is (said (g.I.Source.left c.args.input.now) _ (subst (λ (x : Status). SaysEnd (g.I.Source.left c.args.input.now) (g.O.Sink.held c.args.output.now) (g.O.Sink.held c.show.new.output) shown_of x) (sym c.status_after.ensures) (whole_after (g.I.Source.left c.args.input.now) (g.O.Sink.held c.args.output.now) (g.O.Sink.held c.show.new.output) shown_of c.show.result c.show.ensures.whole c.show.ensures.less)))
 
 pub returns-in-Show-clause-known : goal.returns-in-Show-clause-known
 returns-in-Show-clause-known g c = subst IsReplayed (sym c.status_after.ensures) (known_after c.show.result)
@@ -112,7 +112,7 @@ pub returns-in-Lists-clause-complete : goal.returns-in-Lists-clause-complete
 returns-in-Lists-clause-complete g c = λ a b. subst (λ (x : Status). IsTold x ⊎ (x ≡ OutOfMemory)) (sym c.status_after-in-Lists.ensures) (complete_after c.lists.result _ _ c.lists.ensures.complete a b)
 
 pub returns-in-Lists-clause-whole : goal.returns-in-Lists-clause-whole
-returns-in-Lists-clause-whole g c = rw c.in-Lists.is (λ no. absurd no)
+returns-in-Lists-clause-whole g c = rw c.in-Lists.is (subst (λ (x : Status). SaysSome (g.I.Source.left c.args.input.now) (g.O.Sink.held c.args.output.now) (g.O.Sink.held c.lists.new.output) lists_of x) (sym c.status_after-in-Lists.ensures) (some_after (g.I.Source.left c.args.input.now) (g.O.Sink.held c.args.output.now) (g.O.Sink.held c.lists.new.output) lists_of c.lists.result c.lists.ensures.whole (held_same c.lists.result _ _ g.O.Sink.held c.lists.ensures.unwritten) c.lists.ensures.less))
 
 pub returns-in-Lists-clause-known : goal.returns-in-Lists-clause-known
 returns-in-Lists-clause-known g c = subst IsReplayed (sym c.status_after-in-Lists.ensures) (known_after c.lists.result)
@@ -148,7 +148,7 @@ pub returns-in-Help-clause-complete : goal.returns-in-Help-clause-complete
 returns-in-Help-clause-complete g c = λ a b. subst (λ (x : Status). IsTold x ⊎ (x ≡ OutOfMemory)) (sym c.status_after-in-Help.ensures) (complete_after c.help.result _ _ (only_of c.help.result _ _ c.help.ensures.read c.help.ensures.write) a b)
 
 pub returns-in-Help-clause-whole : goal.returns-in-Help-clause-whole
-returns-in-Help-clause-whole g c = rw c.in-Help.is (λ _. subst (λ (x : Status). SaysEnd (g.I.Source.left c.args.input.now) (g.O.Sink.held c.args.output.now) (g.O.Sink.held c.help.new.output) (λ bytes. closes help_text Good) x) (sym c.status_after-in-Help.ensures) (whole_after (g.I.Source.left c.args.input.now) (g.O.Sink.held c.args.output.now) (g.O.Sink.held c.help.new.output) (λ bytes. closes help_text Good) c.help.result (whole_of (g.I.Source.left c.args.input.now) (g.O.Sink.held c.args.output.now) (g.O.Sink.held c.help.new.output) (closes help_text Good) c.help.result c.help.ensures.whole) (less_of (g.I.Source.left c.args.input.now) (g.O.Sink.held c.args.output.now) (g.O.Sink.held c.help.new.output) (closes help_text Good) c.help.result c.help.ensures.read c.help.ensures.less)))
+returns-in-Help-clause-whole g c = rw c.in-Help.is (said (g.I.Source.left c.args.input.now) _ (subst (λ (x : Status). SaysEnd (g.I.Source.left c.args.input.now) (g.O.Sink.held c.args.output.now) (g.O.Sink.held c.help.new.output) (λ bytes. closes help_text Good) x) (sym c.status_after-in-Help.ensures) (whole_after (g.I.Source.left c.args.input.now) (g.O.Sink.held c.args.output.now) (g.O.Sink.held c.help.new.output) (λ bytes. closes help_text Good) c.help.result (whole_of (g.I.Source.left c.args.input.now) (g.O.Sink.held c.args.output.now) (g.O.Sink.held c.help.new.output) (closes help_text Good) c.help.result c.help.ensures.whole) (less_of (g.I.Source.left c.args.input.now) (g.O.Sink.held c.args.output.now) (g.O.Sink.held c.help.new.output) (closes help_text Good) c.help.result c.help.ensures.read c.help.ensures.less))))
 
 pub returns-in-Help-clause-known : goal.returns-in-Help-clause-known
 returns-in-Help-clause-known g c = subst IsReplayed (sym c.status_after-in-Help.ensures) (known_after c.help.result)
@@ -184,7 +184,7 @@ pub returns-in-Version-clause-complete : goal.returns-in-Version-clause-complete
 returns-in-Version-clause-complete g c = λ a b. subst (λ (x : Status). IsTold x ⊎ (x ≡ OutOfMemory)) (sym c.status_after-in-Version.ensures) (complete_after c.version.result _ _ (only_of c.version.result _ _ c.version.ensures.read c.version.ensures.write) a b)
 
 pub returns-in-Version-clause-whole : goal.returns-in-Version-clause-whole
-returns-in-Version-clause-whole g c = rw c.in-Version.is (λ _. subst (λ (x : Status). SaysEnd (g.I.Source.left c.args.input.now) (g.O.Sink.held c.args.output.now) (g.O.Sink.held c.version.new.output) (λ bytes. closes version_text Good) x) (sym c.status_after-in-Version.ensures) (whole_after (g.I.Source.left c.args.input.now) (g.O.Sink.held c.args.output.now) (g.O.Sink.held c.version.new.output) (λ bytes. closes version_text Good) c.version.result (whole_of (g.I.Source.left c.args.input.now) (g.O.Sink.held c.args.output.now) (g.O.Sink.held c.version.new.output) (closes version_text Good) c.version.result c.version.ensures.whole) (less_of (g.I.Source.left c.args.input.now) (g.O.Sink.held c.args.output.now) (g.O.Sink.held c.version.new.output) (closes version_text Good) c.version.result c.version.ensures.read c.version.ensures.less)))
+returns-in-Version-clause-whole g c = rw c.in-Version.is (said (g.I.Source.left c.args.input.now) _ (subst (λ (x : Status). SaysEnd (g.I.Source.left c.args.input.now) (g.O.Sink.held c.args.output.now) (g.O.Sink.held c.version.new.output) (λ bytes. closes version_text Good) x) (sym c.status_after-in-Version.ensures) (whole_after (g.I.Source.left c.args.input.now) (g.O.Sink.held c.args.output.now) (g.O.Sink.held c.version.new.output) (λ bytes. closes version_text Good) c.version.result (whole_of (g.I.Source.left c.args.input.now) (g.O.Sink.held c.args.output.now) (g.O.Sink.held c.version.new.output) (closes version_text Good) c.version.result c.version.ensures.whole) (less_of (g.I.Source.left c.args.input.now) (g.O.Sink.held c.args.output.now) (g.O.Sink.held c.version.new.output) (closes version_text Good) c.version.result c.version.ensures.read c.version.ensures.less))))
 
 pub returns-in-Version-clause-known : goal.returns-in-Version-clause-known
 returns-in-Version-clause-known g c = subst IsReplayed (sym c.status_after-in-Version.ensures) (known_after c.version.result)
@@ -220,7 +220,7 @@ pub returns-in-Gen-clause-complete : goal.returns-in-Gen-clause-complete
 returns-in-Gen-clause-complete g c = λ a b. subst (λ (x : Status). IsTold x ⊎ (x ≡ OutOfMemory)) (sym c.status_after-in-Gen.ensures) (complete_after c.make.result _ _ (only_of c.make.result _ _ c.make.ensures.read c.make.ensures.write) a b)
 
 pub returns-in-Gen-clause-whole : goal.returns-in-Gen-clause-whole
-returns-in-Gen-clause-whole g c = rw c.in-Gen.is (λ _. subst (λ (x : Status). SaysEnd (g.I.Source.left c.args.input.now) (g.O.Sink.held c.args.output.now) (g.O.Sink.held c.make.new.output) (λ bytes. summary (min c.in-Gen.rounds MOST_ROUNDS)) x) (sym c.status_after-in-Gen.ensures) (whole_after (g.I.Source.left c.args.input.now) (g.O.Sink.held c.args.output.now) (g.O.Sink.held c.make.new.output) (λ bytes. summary (min c.in-Gen.rounds MOST_ROUNDS)) c.make.result (whole_of (g.I.Source.left c.args.input.now) (g.O.Sink.held c.args.output.now) (g.O.Sink.held c.make.new.output) (summary (min c.in-Gen.rounds MOST_ROUNDS)) c.make.result c.make.ensures.whole) (less_of (g.I.Source.left c.args.input.now) (g.O.Sink.held c.args.output.now) (g.O.Sink.held c.make.new.output) (summary (min c.in-Gen.rounds MOST_ROUNDS)) c.make.result c.make.ensures.read c.make.ensures.less)))
+returns-in-Gen-clause-whole g c = rw c.in-Gen.is (said (g.I.Source.left c.args.input.now) _ (subst (λ (x : Status). SaysEnd (g.I.Source.left c.args.input.now) (g.O.Sink.held c.args.output.now) (g.O.Sink.held c.make.new.output) (λ bytes. summary (min c.in-Gen.rounds MOST_ROUNDS)) x) (sym c.status_after-in-Gen.ensures) (whole_after (g.I.Source.left c.args.input.now) (g.O.Sink.held c.args.output.now) (g.O.Sink.held c.make.new.output) (λ bytes. summary (min c.in-Gen.rounds MOST_ROUNDS)) c.make.result (whole_of (g.I.Source.left c.args.input.now) (g.O.Sink.held c.args.output.now) (g.O.Sink.held c.make.new.output) (summary (min c.in-Gen.rounds MOST_ROUNDS)) c.make.result c.make.ensures.whole) (less_of (g.I.Source.left c.args.input.now) (g.O.Sink.held c.args.output.now) (g.O.Sink.held c.make.new.output) (summary (min c.in-Gen.rounds MOST_ROUNDS)) c.make.result c.make.ensures.read c.make.ensures.less))))
 
 pub returns-in-Gen-clause-known : goal.returns-in-Gen-clause-known
 returns-in-Gen-clause-known g c = subst IsReplayed (sym c.status_after-in-Gen.ensures) (known_after c.make.result)
