@@ -1,20 +1,23 @@
 -- A heartbeat goes on by one call.
-use Rattle.std.proofs.Common.{◌≡◌, ◌<◌, ◌≤◌, Bool, true, false, ◌++◌, ◌∷◌, ℕ, List, [], Some, None, refl, sym, ap, ◌∙◌, append-nil, subst, arith}
+use Rattle.std.proofs.Common.{◌≡◌, ◌<◌, ◌≤◌, Bool, true, false, ◌++◌, ◌∷◌, ℕ, List, [], Some, None, length, take, refl, sym, ap, ◌∙◌, append-nil, subst, arith}
+use Rattle.std.specs.Prelude.{drop}
 use Rattle.std.specs.List.{flat_map}
 use Rattle.std.proofs.lemmas.Grind.{flat_map-append}
+use Rattle.std.proofs.Math.Seq.{take-append_seam}
 use Rattle.xl_turns.specs.declared.view.Knowledge.{Knowledge}
 use Rattle.xl_turns.specs.declared.pass.Pass.{Pass}
 use Rattle.xl_turns.specs.Passes.{known}
 use Rattle.xl_core.specs.declared.beat.Beat.{Beat}
-use Rattle.xl_core.specs.declared.event.CoreEvent.TheVariants.{Timer, Stop}
-use Rattle.xl_core.specs.Answers.{Beats, Done, handed_in}
+use Rattle.xl_core.specs.declared.report.Report.{Report}
+use Rattle.xl_core.specs.declared.event.CoreEvent.TheVariants.{Timer, Reports, Stop}
+use Rattle.xl_core.specs.Answers.{Beats, Done, Handed, handed_in}
 use Rattle.xl_core.specs.Core.{Core}
 use Rattle.xl_store.specs.declared.entry.Entry.{Entry}
 use Rattle.xl_store.specs.declared.store.Store.{Store}
 use Rattle.xl_store.specs.declared.store.StoreEnd.{StoreEnd}
 use Rattle.xl_store.specs.declared.store.StoreEnd.TheVariants as refused
 use Rattle.xl_store.specs.Calls.{Call, Made}
-use Rattle.xl_store.specs.Stores.{start_of, turns_of, IsWhy, Called, Refused}
+use Rattle.xl_store.specs.Stores.{start_of, turns_of, IsWhy, Called, HandedOut, Refused}
 use Rattle.xl_store.proofs.Making.{made_none, made_both}
 use Rattle.xl_heartbeat.specs.declared.timing.Timing.{Timing}
 use Rattle.xl_heartbeat.specs.declared.ends.Ending.{Ending}
@@ -22,8 +25,9 @@ use Rattle.xl_heartbeat.specs.declared.ends.Ending.TheVariants as ending
 use Rattle.xl_heartbeat.specs.declared.ends.Stopping.{Stopping}
 use Rattle.xl_heartbeat.specs.declared.ends.Stopping.TheVariants as stopping
 use Rattle.xl_heartbeat.specs.declared.ends.BeatEnd.{BeatEnd}
-use Rattle.xl_heartbeat.specs.Lines.{report_line}
-use Rattle.xl_heartbeat.specs.Outputs.{Output, Adds, IsWritten}
+use Rattle.xl_heartbeat.specs.declared.room.TheConstants.{ROOM}
+use Rattle.xl_heartbeat.specs.Lines.{report_line, report_lines}
+use Rattle.xl_heartbeat.specs.Outputs.{Output, Adds, AddsLess, IsWritten}
 use Rattle.xl_heartbeat.specs.Beats.{timer, reports, Phase, after_beat, is_over, IsBeating, IsReason, Heartbeat, TakesReports, lines_of, taking_calls, stop_calls}
 use Rattle.xl_heartbeat.specs.Going.{Beating, Beaten, Follows, Stops, ending_of, after_reports}
 use Rattle.xl_heartbeat.proofs.Writing.{adds_none, adds_both, written_both}
@@ -150,7 +154,7 @@ module _ (start : Core) (turns : ℕ) (may : ℕ → Bool) (timing : Timing) (k0
     made = made_both start k0 k new b.calls [] b.made t.made;
     drawn = let p = b.drawn in let q = t.drawn in omega arith;
     written = subst (λ l. Adds l o0 o') (sym (lines_more b.calls [])) (adds_both o0 o o' (lines_of b.calls) [] b.adds t.written);
-    reason = (tt, t.full);
+    reason = (tt, t.full.0, t.full.1);
   }
 
   pub finished : (end : BeatEnd) (mid new : Knowledge Entry) (o : Output)
@@ -213,15 +217,56 @@ module _ {B K : Type 0} (store : Store B K) where
       subst (λ (k : Knowledge Entry). Stops (start_of store) (turns_of store) k stopping.Done (known new)) same
       (record { made = c.made; drawn = omega arith; stopped = tt; full = λ e. absurd (omega (arith, e, more, most)) })
 
-  pub not_told : (n : ℕ) (old : Knowledge Entry) (mid new : Pass Entry) → known mid ≡ old
-      → Refused store mid (refused.StoreFull n) new
+  -- memory was wanting
+  pub again : (old : Knowledge Entry) (mid new : Pass Entry) (e : StoreEnd) → e ≡ refused.OutOfMemory → known mid ≡ old
+      → Refused store mid e new → known new ≡ old
+  again old mid new e is same r = (subst (λ (x : StoreEnd). IsWhy store (known mid) x (known new)) is r.why) ∙ same
+
+  pub not_told : (n : ℕ) (old : Knowledge Entry) (mid new : Pass Entry) (e : StoreEnd) → e ≡ refused.StoreFull n
+      → known mid ≡ old → Refused store mid e new
       → Stops (start_of store) (turns_of store) old (stopping.StoreFull n) (known new)
-  not_told n old mid new same r =
-      let all = ap (λ (k : Knowledge Entry). k.drawn) r.why.2 in
+  not_told n old mid new e is same r =
+      let why = subst (λ (x : StoreEnd). IsWhy store (known mid) x (known new)) is r.why in
+      let all = ap (λ (k : Knowledge Entry). k.drawn) why.2 in
       subst (λ (k : Knowledge Entry). Stops (start_of store) (turns_of store) k (stopping.StoreFull n) (known new)) same
       (record {
         made = r.made;
-        drawn = refused_later (known mid) (known new) (refused.StoreFull n) r.why;
-        stopped = (r.why.0, all);
+        drawn = refused_later (known mid) (known new) e r.why;
+        stopped = (why.0, all);
         full = λ e. all;
       })
+
+
+  -- the reports that were handed out stand at the front of the room, and their lines were written
+  module _ (old new : Pass Entry) (o o' : Output) (count : ℕ) (before after : List Report)
+      (out : HandedOut store old count before after new) (full : length before ≡ ROOM) where
+    front : take count after ≡ out.reports
+    front = ap (take count) out.room
+        ∙ ap (λ (n : ℕ). take n (out.reports ++ drop count before)) out.count
+        ∙ take-append_seam out.reports (drop count before)
+
+    made : Made (start_of store) (known old) (known new) (reports out.reports ∷ [])
+    made = subst (λ (n : ℕ). Made (start_of store) (known old) (known new) (record { event = Reports n; answer = Handed out.reports } ∷ [])) full out.called.made
+
+    lines : report_lines (take count after) ≡ lines_of (reports out.reports ∷ [])
+    lines = ap report_lines front ∙ ap report_lines (sym (append-nil out.reports))
+
+    pub all_taken : Adds (report_lines (take count after)) o o'
+        → TakesReports (start_of store) (turns_of store) (known old) o ending.Done (known new) o'
+    all_taken a = record {
+      handed = out.reports;
+      made = made;
+      drawn = let more = out.called.later in omega arith;
+      written = subst (λ t. Adds t o o') lines a;
+      full = tt;
+    }
+
+    pub some_written : AddsLess (report_lines (take count after)) o o'
+        → TakesReports (start_of store) (turns_of store) (known old) o ending.WriteFault (known new) o'
+    some_written a = record {
+      handed = out.reports;
+      made = made;
+      drawn = let more = out.called.later in omega arith;
+      written = subst (λ t. AddsLess t o o') lines a;
+      full = tt;
+    }

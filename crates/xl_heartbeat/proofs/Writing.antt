@@ -1,10 +1,17 @@
 -- A text is written in parts.
-use Rattle.std.proofs.Common.{◌≡◌, ◌<◌, ◌≤◌, ◌++◌, length, ℕ, List, [], refl, sym, ap, ◌∙◌, append_assoc, length-append, arith}
+use Rattle.std.proofs.Common.{◌≡◌, ◌+◌, ◌<◌, ◌≤◌, ◌++◌, ◌∷◌, length, take, get_or, ℕ, List, [], refl, sym, ap, ◌∙◌, subst, append_assoc, append-nil, length-append, arith, OnErr, Ok, Err}
+use Rattle.std.specs.Prelude.{drop}
+use Rattle.std.specs.declared.result.Result.{Result}
+use Rattle.std.proofs.lemmas.List.{take_more, take-append-drop}
+use Rattle.std.proofs.lemmas.Grind.{flat_map-append}
 use Rattle.std.specs.Io.KnownBytes.{append_known}
-use Rattle.xl_io.specs.Sinks.{GrewByFront}
+use Rattle.xl_base.specs.Faults.{Rose}
+use Rattle.xl_io.specs.Sinks.{GrewByFront, GrewByLess}
 use Rattle.xl_io.proofs.Growing.{append_known-none, append_known-twice}
+use Rattle.xl_core.specs.declared.report.Report.{Report}
 use Rattle.xl_heartbeat.specs.declared.ends.Ending.{Ending}
 use Rattle.xl_heartbeat.specs.declared.ends.Ending.TheVariants as ending
+use Rattle.xl_heartbeat.specs.Lines.{report_line, report_lines}
 use Rattle.xl_heartbeat.specs.Outputs.{Output, Adds, AddsLess, IsWritten}
 
 pub adds_none : (o : Output) → Adds [] o o
@@ -49,3 +56,32 @@ less_of_more old new xs ys b =
     } in
     let some = b.held.1 in
     record { held = (front, omega (arith, some, length-append f.missing ys)); failed = b.failed }
+
+-- a write of all bytes failed
+pub less_on_err : {T E : Type 0} (result : Result T E) (text : List ℕ) (old new : Output)
+    → OnErr result (GrewByLess old.held new.held text) → OnErr result (Rose old.faults new.faults)
+    → OnErr result (AddsLess text old new)
+less_on_err (Ok done) text old new less rose = tt
+less_on_err (Err e) text old new less rose = record { held = less; failed = rose }
+
+-- one report more
+module _ (reports : List Report) (i : ℕ) (report : Report) (before : i < length reports) where
+  abbrev up_to : List ℕ
+  up_to = report_lines (take i reports) ++ report_line (get_or reports i report)
+
+  lines_up_to : up_to ≡ report_lines (take (i + 1) reports)
+  lines_up_to = sym (ap report_lines (take_more reports i report before)
+      ∙ flat_map-append report_line (take i reports) (get_or reports i report ∷ [])
+      ∙ ap (λ t. report_lines (take i reports) ++ t) (append-nil (report_line (get_or reports i report))))
+
+  lines_all : up_to ++ report_lines (drop (i + 1) reports) ≡ report_lines reports
+  lines_all = ap (λ t. t ++ report_lines (drop (i + 1) reports)) lines_up_to
+      ∙ sym (flat_map-append report_line (take (i + 1) reports) (drop (i + 1) reports))
+      ∙ ap report_lines (take-append-drop (i + 1) reports)
+
+  pub less_at : (old mid new : Output) → Adds (report_lines (take i reports)) old mid
+      → AddsLess (report_line (get_or reports i report)) mid new → AddsLess (report_lines reports) old new
+  less_at old mid new a b =
+      subst (λ t. AddsLess t old new) lines_all
+      (less_of_more old new up_to (report_lines (drop (i + 1) reports))
+      (adds_then_less old mid new (report_lines (take i reports)) (report_line (get_or reports i report)) a b))
