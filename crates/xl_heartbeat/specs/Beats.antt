@@ -1,0 +1,126 @@
+-- The heartbeat of a running node, and how reports are taken. Source: this project's own.
+use Rattle.std.specs.Prelude.{◌≡◌, ℕ, ◌+◌, ◌==◌, ◌&&◌, ◌≤◌, nat_le, Bool, true, not, List, [], ◌∷◌, ◌++◌, if◌then◌else◌}
+use Rattle.std.specs.List.{flat_map}
+use Rattle.xl_turns.specs.declared.view.Knowledge.{Knowledge}
+use Rattle.xl_core.specs.declared.beat.Beat.{Beat}
+use Rattle.xl_core.specs.declared.report.Report.{Report}
+use Rattle.xl_core.specs.declared.event.CoreEvent.TheVariants.{Timer, Reports, Stop}
+use Rattle.xl_core.specs.Answers as answer
+use Rattle.xl_core.specs.Core.{Core}
+use Rattle.xl_store.specs.declared.entry.Entry.{Entry}
+use Rattle.xl_store.specs.Calls.{Call, Made}
+use Rattle.xl_heartbeat.specs.declared.timing.Timing.{Timing}
+use Rattle.xl_heartbeat.specs.declared.room.TheConstants.{ROOM}
+use Rattle.xl_heartbeat.specs.declared.ends.Ending.{Ending}
+use Rattle.xl_heartbeat.specs.declared.ends.Ending.TheVariants as ending
+use Rattle.xl_heartbeat.specs.declared.ends.Stopping.{Stopping}
+use Rattle.xl_heartbeat.specs.declared.ends.Stopping.TheVariants as stopping
+use Rattle.xl_heartbeat.specs.declared.ends.BeatEnd.{BeatEnd}
+use Rattle.xl_heartbeat.specs.Lines.{report_lines}
+use Rattle.xl_heartbeat.specs.Outputs.{Output, IsWritten}
+
+abbrev pub timer : ℕ → Beat → Call
+timer now beat = record { event = Timer now; answer = answer.Beats beat }
+
+-- reports are taken into a room for 1,024
+abbrev pub reports : List Report → Call
+reports handed = record { event = Reports ROOM; answer = answer.Handed handed }
+
+abbrev pub stop : Call
+stop = record { event = Stop; answer = answer.Done }
+
+-- the lines of all reports that these calls handed out
+abbrev pub lines_of : List Call → List ℕ
+lines_of calls = report_lines (flat_map (λ call. answer.handed_in call.answer) calls)
+
+-- at this moment the time of the run is over; a run of 0 has no end
+abbrev pub is_over : Timing → ℕ → Bool
+is_over timing now = not (timing.run == 0) && nat_le (timing.opened + timing.run) now
+
+-- what is to be done next: a timer, reports after the timer of this moment, or nothing, since the time is over
+pub data Phase : Type 0 where
+  Beats : Phase
+  Takes : (now : ℕ) → Phase
+  Over : Phase
+
+abbrev pub after_beat : Timing → ℕ → Phase
+after_beat timing now = if is_over timing now then Over else Beats
+
+-- a call is to be made next
+abbrev pub IsDue : Phase → Type 0
+IsDue Beats = Unit {0}
+IsDue (Takes now) = Unit {0}
+IsDue Over = ⊥
+
+-- Beats, as far as they came: each is a timer at a moment that the clock may give, and then reports. The first beat at
+-- whose moment the time is over is the last
+pub data IsBeating (may_give : ℕ → Bool) (timing : Timing) : List Call → Phase → Type 0 where
+  begins : IsBeating may_give timing [] Beats
+  beats : (calls : List Call) (now : ℕ) (beat : Beat) → IsBeating may_give timing calls Beats
+      → may_give now ≡ true
+      → IsBeating may_give timing (calls ++ timer now beat ∷ []) (Takes now)
+  takes : (calls : List Call) (now : ℕ) (handed : List Report) → IsBeating may_give timing calls (Takes now)
+      → IsBeating may_give timing (calls ++ reports handed ∷ []) (after_beat timing now)
+
+-- it was the last call
+abbrev pub IsLast : List Call → Call → Type 0
+IsLast calls call = (earlier : List Call) × (calls ≡ earlier ++ call ∷ [])
+
+-- why no further beat came: the time is over; a write of the reports just taken failed; or the next call had no turn,
+-- for want of memory, or since all turns of the store are drawn
+abbrev pub IsReason : ℕ → List Call → Phase → ℕ → Ending → Type 0
+IsReason turns calls phase drawn ending.Done = phase ≡ Over
+IsReason turns calls phase drawn ending.WriteFault = (handed : List Report) × IsLast calls (reports handed)
+IsReason turns calls phase drawn ending.OutOfMemory = IsDue phase
+IsReason turns calls phase drawn (ending.StoreFull n) = IsDue phase × (n ≡ turns) × (drawn ≡ turns)
+
+-- the one stop, unless all turns are drawn
+abbrev pub stop_calls : Stopping → List Call
+stop_calls stopping.Done = stop ∷ []
+stop_calls (stopping.StoreFull n) = []
+
+abbrev pub IsStop : ℕ → ℕ → Stopping → Type 0
+IsStop turns drawn stopping.Done = Unit {0}
+IsStop turns drawn (stopping.StoreFull n) = (n ≡ turns) × (drawn ≡ turns)
+
+-- A whole heartbeat of a pass, at a store that was opened with this core and has so many turns: its calls stand in the
+-- history at the places that the pass gained, and to the output were added the lines of the reports that they handed
+-- out, in order, and where a write's fault ended it a front of them
+pub record Heartbeat
+    (start : Core) (turns : ℕ) (may_give : ℕ → Bool) (timing : Timing)
+    (old : Knowledge Entry) (old_output : Output) (end : BeatEnd) (new : Knowledge Entry) (new_output : Output)
+    : Type 0 where
+  pub calls : List Call
+  pub phase : Phase
+  pub run : IsBeating may_give timing calls phase
+  pub made : Made start old new (calls ++ stop_calls end.stop)
+  pub drawn : old.drawn ≤ new.drawn
+  pub written : IsWritten end.run (lines_of calls) old_output new_output
+  pub reason : IsReason turns calls phase new.drawn end.run
+  pub stopped : IsStop turns new.drawn end.stop
+
+-- the one call that takes reports, which handed these out, unless it had no turn
+abbrev pub taking_calls : Ending → List Report → List Call
+taking_calls ending.Done handed = reports handed ∷ []
+taking_calls ending.WriteFault handed = reports handed ∷ []
+taking_calls ending.OutOfMemory handed = []
+taking_calls (ending.StoreFull n) handed = []
+
+-- a full store is named only where all turns are drawn
+abbrev pub IsFull : ℕ → ℕ → Ending → Type 0
+IsFull turns drawn ending.Done = Unit {0}
+IsFull turns drawn ending.WriteFault = Unit {0}
+IsFull turns drawn ending.OutOfMemory = Unit {0}
+IsFull turns drawn (ending.StoreFull n) = (n ≡ turns) × (drawn ≡ turns)
+
+-- A pass takes reports: its one call stands in the history at the place that the pass gained, and the lines of what it
+-- handed out were added to the output
+pub record TakesReports
+    (start : Core) (turns : ℕ)
+    (old : Knowledge Entry) (old_output : Output) (end : Ending) (new : Knowledge Entry) (new_output : Output)
+    : Type 0 where
+  pub handed : List Report
+  pub made : Made start old new (taking_calls end handed)
+  pub drawn : old.drawn ≤ new.drawn
+  pub written : IsWritten end (lines_of (taking_calls end handed)) old_output new_output
+  pub full : IsFull turns new.drawn end

@@ -1,0 +1,5 @@
+pub mod Lines
+pub mod Outputs
+pub mod Beats
+pub mod Statuses
+pub mod Going
