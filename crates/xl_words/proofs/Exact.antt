@@ -15,12 +15,13 @@ use Rattle.clap.specs.declared.error.kind.ErrorKind.{ErrorKind}
 use Rattle.clap.specs.declared.error.kind.ErrorKind.TheVariants.{OutOfMemory}
 use Rattle.clap.specs.Words.{HasKind, IsAmong, Kinds, kind_of, Text, is_simple, is_simple_and_free}
 use Rattle.xl_words.specs.declared.command.Command.{Command}
-use Rattle.xl_words.specs.declared.command.Command.TheVariants.{Replay, Node, Show, Lists, Gen, Help, Version}
+use Rattle.xl_words.specs.declared.command.Command.TheVariants.{Node, Tell}
+use Rattle.xl_words.specs.declared.command.Telling.TheVariants.{Replay, Show, Lists, Gen, Help, Version}
 use Rattle.xl_words.specs.declared.command.WordsFault.{WordsFault}
 use Rattle.xl_words.specs.declared.command.WordsFault.TheVariants.{Refused, Memory}
 use Rattle.xl_words.specs.Programs.{program}
 use Rattle.xl_words.proofs.Alone.{StandAlone}
-use Rattle.xl_words.specs.Commands.{command_of, reply_to, unless_error, IsExactly, IsRounds}
+use Rattle.xl_words.specs.Commands.{command_of, gen, reply_to, unless_error, IsExactly, IsRounds}
 
 pub simple : is_simple program ≡ true
 unfolding clap_on_literals
@@ -31,7 +32,7 @@ unfolding clap_on_literals
 simple_and_free = refl
 
 -- words that are written out
-replay_is : (name : Text) → command_of (name ∷ codes "replay" ∷ []) ≡ Some Replay
+replay_is : (name : Text) → command_of (name ∷ codes "replay" ∷ []) ≡ Some (Tell Replay)
 unfolding clap_on_literals
 replay_is name = refl
 
@@ -39,36 +40,36 @@ node_is : (name : Text) → command_of (name ∷ codes "node" ∷ []) ≡ Some N
 unfolding clap_on_literals
 node_is name = refl
 
-show_is : (name : Text) → command_of (name ∷ codes "show" ∷ []) ≡ Some Show
+show_is : (name : Text) → command_of (name ∷ codes "show" ∷ []) ≡ Some (Tell Show)
 unfolding clap_on_literals
 show_is name = refl
 
-lists_is : (name : Text) → command_of (name ∷ codes "lists" ∷ []) ≡ Some Lists
+lists_is : (name : Text) → command_of (name ∷ codes "lists" ∷ []) ≡ Some (Tell Lists)
 unfolding clap_on_literals
 lists_is name = refl
 
-help_is : (name : Text) → command_of (name ∷ codes "--help" ∷ []) ≡ Some Help
+help_is : (name : Text) → command_of (name ∷ codes "--help" ∷ []) ≡ Some (Tell Help)
 unfolding clap_on_literals
 help_is name = refl
 
-short_help_is : (name : Text) → command_of (name ∷ codes "-h" ∷ []) ≡ Some Help
+short_help_is : (name : Text) → command_of (name ∷ codes "-h" ∷ []) ≡ Some (Tell Help)
 unfolding clap_on_literals
 short_help_is name = refl
 
-version_is : (name : Text) → command_of (name ∷ codes "--version" ∷ []) ≡ Some Version
+version_is : (name : Text) → command_of (name ∷ codes "--version" ∷ []) ≡ Some (Tell Version)
 unfolding clap_on_literals
 version_is name = refl
 
-short_version_is : (name : Text) → command_of (name ∷ codes "-V" ∷ []) ≡ Some Version
+short_version_is : (name : Text) → command_of (name ∷ codes "-V" ∷ []) ≡ Some (Tell Version)
 unfolding clap_on_literals
 short_version_is name = refl
 
 -- other words that may be met
-help_of_a_command : (name : Text) → command_of (name ∷ codes "show" ∷ codes "--help" ∷ []) ≡ Some Help
+help_of_a_command : (name : Text) → command_of (name ∷ codes "show" ∷ codes "--help" ∷ []) ≡ Some (Tell Help)
 unfolding clap_on_literals
 help_of_a_command name = refl
 
-dashes_behind : (name : Text) → command_of (name ∷ codes "replay" ∷ codes "--" ∷ []) ≡ Some Replay
+dashes_behind : (name : Text) → command_of (name ∷ codes "replay" ∷ codes "--" ∷ []) ≡ Some (Tell Replay)
 unfolding clap_on_literals
 dashes_behind name = refl
 
@@ -101,20 +102,20 @@ unfolding clap_on_literals
 no_words = refl
 
 gen_at : (name : Text) (k : ℕ) (ds : List ℕ) (n : ℕ) → k < 9 → is_unsigned_in 1 1000 ((49 + k) ∷ ds) ≡ true → digits_value 10 ((49 + k) ∷ ds) ≡ n
-    → command_of (name ∷ codes "gen" ∷ ((49 + k) ∷ ds) ∷ []) ≡ Some (Gen n)
+    → command_of (name ∷ codes "gen" ∷ ((49 + k) ∷ ds) ∷ []) ≡ Some (gen n)
 unfolding clap_on_literals
-gen_at name zero ds n small ok value = rw ok (ap (λ (m : ℕ). Some (Gen m)) value)
-gen_at name (suc zero) ds n small ok value = rw ok (ap (λ (m : ℕ). Some (Gen m)) value)
-gen_at name (suc (suc zero)) ds n small ok value = rw ok (ap (λ (m : ℕ). Some (Gen m)) value)
-gen_at name (suc (suc (suc zero))) ds n small ok value = rw ok (ap (λ (m : ℕ). Some (Gen m)) value)
-gen_at name (suc (suc (suc (suc zero)))) ds n small ok value = rw ok (ap (λ (m : ℕ). Some (Gen m)) value)
-gen_at name (suc (suc (suc (suc (suc zero))))) ds n small ok value = rw ok (ap (λ (m : ℕ). Some (Gen m)) value)
-gen_at name (suc (suc (suc (suc (suc (suc zero)))))) ds n small ok value = rw ok (ap (λ (m : ℕ). Some (Gen m)) value)
-gen_at name (suc (suc (suc (suc (suc (suc (suc zero))))))) ds n small ok value = rw ok (ap (λ (m : ℕ). Some (Gen m)) value)
-gen_at name (suc (suc (suc (suc (suc (suc (suc (suc zero)))))))) ds n small ok value = rw ok (ap (λ (m : ℕ). Some (Gen m)) value)
+gen_at name zero ds n small ok value = rw ok (ap (λ (m : ℕ). Some (gen m)) value)
+gen_at name (suc zero) ds n small ok value = rw ok (ap (λ (m : ℕ). Some (gen m)) value)
+gen_at name (suc (suc zero)) ds n small ok value = rw ok (ap (λ (m : ℕ). Some (gen m)) value)
+gen_at name (suc (suc (suc zero))) ds n small ok value = rw ok (ap (λ (m : ℕ). Some (gen m)) value)
+gen_at name (suc (suc (suc (suc zero)))) ds n small ok value = rw ok (ap (λ (m : ℕ). Some (gen m)) value)
+gen_at name (suc (suc (suc (suc (suc zero))))) ds n small ok value = rw ok (ap (λ (m : ℕ). Some (gen m)) value)
+gen_at name (suc (suc (suc (suc (suc (suc zero)))))) ds n small ok value = rw ok (ap (λ (m : ℕ). Some (gen m)) value)
+gen_at name (suc (suc (suc (suc (suc (suc (suc zero))))))) ds n small ok value = rw ok (ap (λ (m : ℕ). Some (gen m)) value)
+gen_at name (suc (suc (suc (suc (suc (suc (suc (suc zero)))))))) ds n small ok value = rw ok (ap (λ (m : ℕ). Some (gen m)) value)
 gen_at name (suc (suc (suc (suc (suc (suc (suc (suc (suc k))))))))) ds n small ok value = absurd (omega (arith, small))
 
-gen_is : (name : Text) (d : ℕ) (ds : List ℕ) (n : ℕ) → IsRounds (d ∷ ds) n → command_of (name ∷ codes "gen" ∷ (d ∷ ds) ∷ []) ≡ Some (Gen n)
+gen_is : (name : Text) (d : ℕ) (ds : List ℕ) (n : ℕ) → IsRounds (d ∷ ds) n → command_of (name ∷ codes "gen" ∷ (d ∷ ds) ∷ []) ≡ Some (gen n)
 gen_is name d ds n h =
     let digit = digit_from_value d h.digits.1.0 in
     let plus : (d == 43) ≡ false = ne_eqb d 43 (λ e. omega (arith, digit)) in
@@ -127,34 +128,34 @@ gen_is name d ds n h =
     let small : d - 49 < 9 = omega (arith, digit) in
     let ok : is_unsigned_in 1 1000 (d ∷ ds) ≡ true = Accepts-accepts false (vp.Unsigned 1 1000) (d ∷ ds)
     (rw same h.digits, rw (same, value) (omega (arith, most)), rw (same, value) least, rw (same, value) most) in
-    subst (λ (x : ℕ). command_of (name ∷ codes "gen" ∷ (x ∷ ds) ∷ []) ≡ Some (Gen n)) (sym first)
+    subst (λ (x : ℕ). command_of (name ∷ codes "gen" ∷ (x ∷ ds) ∷ []) ≡ Some (gen n)) (sym first)
     (gen_at name (d - 49) ds n small (subst (λ (x : ℕ). is_unsigned_in 1 1000 (x ∷ ds) ≡ true) first ok)
     (subst (λ (x : ℕ). digits_value 10 (x ∷ ds) ≡ n) first value))
 
-gen_text : (name t : Text) (n : ℕ) → IsRounds t n → command_of (name ∷ codes "gen" ∷ t ∷ []) ≡ Some (Gen n)
+gen_text : (name t : Text) (n : ℕ) → IsRounds t n → command_of (name ∷ codes "gen" ∷ t ∷ []) ≡ Some (gen n)
 gen_text name [] n h = let bad = h.digits.0 in absurd (omega (arith, bad))
 gen_text name (d ∷ ds) n h = gen_is name d ds n h
 
 -- exact words are what they say
 pub exactly : (words : List Text) (c : Command) → IsExactly words c → command_of words ≡ Some c
-exactly [] Replay w = absurd cc
+exactly [] (Tell Replay) w = absurd cc
 exactly [] Node w = absurd cc
-exactly [] Show w = absurd cc
-exactly [] Lists w = absurd cc
-exactly [] (Gen n) w = let bad = w.1 in absurd cc
-exactly [] Help (inl w) = absurd cc
-exactly [] Help (inr w) = absurd cc
-exactly [] Version (inl w) = absurd cc
-exactly [] Version (inr w) = absurd cc
-exactly (name ∷ rest) Replay w = rw w (replay_is name)
+exactly [] (Tell Show) w = absurd cc
+exactly [] (Tell Lists) w = absurd cc
+exactly [] (Tell (Gen n)) w = let bad = w.1 in absurd cc
+exactly [] (Tell Help) (inl w) = absurd cc
+exactly [] (Tell Help) (inr w) = absurd cc
+exactly [] (Tell Version) (inl w) = absurd cc
+exactly [] (Tell Version) (inr w) = absurd cc
+exactly (name ∷ rest) (Tell Replay) w = rw w (replay_is name)
 exactly (name ∷ rest) Node w = rw w (node_is name)
-exactly (name ∷ rest) Show w = rw w (show_is name)
-exactly (name ∷ rest) Lists w = rw w (lists_is name)
-exactly (name ∷ rest) (Gen n) w = rw w.1 (gen_text name w.0 n w.2)
-exactly (name ∷ rest) Help (inl w) = rw w (help_is name)
-exactly (name ∷ rest) Help (inr w) = rw w (short_help_is name)
-exactly (name ∷ rest) Version (inl w) = rw w (version_is name)
-exactly (name ∷ rest) Version (inr w) = rw w (short_version_is name)
+exactly (name ∷ rest) (Tell Show) w = rw w (show_is name)
+exactly (name ∷ rest) (Tell Lists) w = rw w (lists_is name)
+exactly (name ∷ rest) (Tell (Gen n)) w = rw w.1 (gen_text name w.0 n w.2)
+exactly (name ∷ rest) (Tell Help) (inl w) = rw w (help_is name)
+exactly (name ∷ rest) (Tell Help) (inr w) = rw w (short_help_is name)
+exactly (name ∷ rest) (Tell Version) (inl w) = rw w (version_is name)
+exactly (name ∷ rest) (Tell Version) (inr w) = rw w (short_version_is name)
 
 ok_of : (r : Result Command WordsFault) (c : Command) → result_ok r ≡ Some c → r ≡ Ok c
 ok_of (Ok d) c e = ap Ok (same_Some _ _ e)

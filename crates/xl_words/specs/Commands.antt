@@ -10,7 +10,8 @@ use Rattle.clap.specs.ValueTests.{is_unsigned_in}
 use Rattle.clap.specs.declared.error.kind.ErrorKind.{ErrorKind}
 use Rattle.clap.specs.declared.error.kind.ErrorKind.TheVariants.{DisplayHelp, DisplayVersion, OutOfMemory}
 use Rattle.xl_words.specs.declared.command.Command.{Command}
-use Rattle.xl_words.specs.declared.command.Command.TheVariants.{Replay, Node, Show, Lists, Gen, Help, Version}
+use Rattle.xl_words.specs.declared.command.Command.TheVariants.{Node, Tell}
+use Rattle.xl_words.specs.declared.command.Telling.TheVariants.{Replay, Show, Lists, Gen, Help, Version}
 use Rattle.xl_words.specs.declared.command.WordsFault.{WordsFault}
 use Rattle.xl_words.specs.declared.command.WordsFault.TheVariants.{Refused, Memory}
 use Rattle.xl_words.specs.Programs.{program}
@@ -38,13 +39,17 @@ abbrev pub rounds_in : List Row → Option ℕ
 rounds_in rows =
     option_and_then (λ text. if is_plain text then number_in rows else None) (first_of (codes "rounds") rows)
 
+-- the command that makes so many rounds
+abbrev pub gen : ℕ → Command
+gen rounds = Tell (Gen rounds)
+
 abbrev pub command_named : Text → List Row → Option Command
 command_named name rows =
-    if bytes_eq name (codes "replay") then Some Replay
+    if bytes_eq name (codes "replay") then Some (Tell Replay)
     else if bytes_eq name (codes "node") then Some Node
-    else if bytes_eq name (codes "show") then Some Show
-    else if bytes_eq name (codes "lists") then Some Lists
-    else if bytes_eq name (codes "gen") then option_map Gen (rounds_in rows)
+    else if bytes_eq name (codes "show") then Some (Tell Show)
+    else if bytes_eq name (codes "lists") then Some (Tell Lists)
+    else if bytes_eq name (codes "gen") then option_map gen (rounds_in rows)
     else None
 
 -- the command of what was found
@@ -53,8 +58,8 @@ command_found found = option_and_then (λ named. command_named named.0 named.1) 
 
 -- what is answered where `clap` gives this kind of error
 abbrev pub reply_to : ErrorKind → Result Command WordsFault
-reply_to DisplayHelp = Ok Help
-reply_to DisplayVersion = Ok Version
+reply_to DisplayHelp = Ok (Tell Help)
+reply_to DisplayVersion = Ok (Tell Version)
 reply_to OutOfMemory = Err Memory
 reply_to kind = Err Refused
 
@@ -78,10 +83,10 @@ pub record IsRounds (text : Text) (n : ℕ) : Type 0 where
 
 -- the words after the program's name are exactly these
 abbrev pub IsExactly : List Text → Command → Type 0
-IsExactly words Replay = drop 1 words ≡ codes "replay" ∷ []
 IsExactly words Node = drop 1 words ≡ codes "node" ∷ []
-IsExactly words Show = drop 1 words ≡ codes "show" ∷ []
-IsExactly words Lists = drop 1 words ≡ codes "lists" ∷ []
-IsExactly words (Gen n) = (text : Text) × (drop 1 words ≡ codes "gen" ∷ text ∷ []) × IsRounds text n
-IsExactly words Help = (drop 1 words ≡ codes "--help" ∷ []) ⊎ (drop 1 words ≡ codes "-h" ∷ [])
-IsExactly words Version = (drop 1 words ≡ codes "--version" ∷ []) ⊎ (drop 1 words ≡ codes "-V" ∷ [])
+IsExactly words (Tell Replay) = drop 1 words ≡ codes "replay" ∷ []
+IsExactly words (Tell Show) = drop 1 words ≡ codes "show" ∷ []
+IsExactly words (Tell Lists) = drop 1 words ≡ codes "lists" ∷ []
+IsExactly words (Tell (Gen n)) = (text : Text) × (drop 1 words ≡ codes "gen" ∷ text ∷ []) × IsRounds text n
+IsExactly words (Tell Help) = (drop 1 words ≡ codes "--help" ∷ []) ⊎ (drop 1 words ≡ codes "-h" ∷ [])
+IsExactly words (Tell Version) = (drop 1 words ≡ codes "--version" ∷ []) ⊎ (drop 1 words ≡ codes "-V" ∷ [])

@@ -1,6 +1,6 @@
-ghost use Rattle.std.specs.Prelude.{◌≡◌, ◌⊎◌, Ok, Err, Some, IfOk};
+ghost use Rattle.std.specs.Prelude.{◌≡◌, ◌⊎◌, Ok, Err, Some, IfOk, option_map};
 ghost use Rattle.clap.specs.Words.{rows_of, found_of, subcommand_rows_of};
-ghost use Rattle.xl_words.specs.Commands.{command_of, command_found, command_named, reply_to, words_of};
+ghost use Rattle.xl_words.specs.Commands.{command_of, command_found, command_named, gen, reply_to, words_of};
 ghost use Rattle.xl_words.specs.Commands.{IsExactly};
 
 use crate::program::program;
@@ -12,10 +12,17 @@ use std::alloc::Global;
 /// What the words ask the program to do.
 #[derive(Clone, Copy, Debug, PartialEq, Eq)]
 pub enum Command {
-    /// Runs a schedule, and writes what each node does.
-    Replay,
     /// Runs a validator by the settings that it reads.
     Node,
+    /// Writes a text.
+    Tell(Telling),
+}
+
+/// A command that writes a text, which what it reads decides.
+#[derive(Clone, Copy, Debug, PartialEq, Eq)]
+pub enum Telling {
+    /// Runs a schedule, and writes what each node does.
+    Replay,
     /// Writes what the frames of a stream say.
     Show,
     /// Compares the lists of a schedule, pair by pair.
@@ -80,21 +87,28 @@ fn named(name: &str, matches: &ArgMatches<'_>) -> Option<Command>
     ensures { result ≡ command_named name.now (rows_of (found_of matches.now)) }
 {
     if name == "replay" {
-        return Some(Command::Replay);
+        return Some(Command::Tell(Telling::Replay));
     }
     if name == "node" {
         return Some(Command::Node);
     }
     if name == "show" {
-        return Some(Command::Show);
+        return Some(Command::Tell(Telling::Show));
     }
     if name == "lists" {
-        return Some(Command::Lists);
+        return Some(Command::Tell(Telling::Lists));
     }
     if name == "gen" {
-        return rounds_of(matches).map(Command::Gen);
+        return made(rounds_of(matches));
     }
     None
+}
+
+/// The command that makes so many rounds, if that is a number that it takes.
+fn made(rounds: Option<u32>) -> Option<Command>
+    ensures { result ≡ option_map gen rounds }
+{
+    rounds.map(|rounds| Command::Tell(Telling::Gen(rounds)))
 }
 
 /// What is answered where `clap` gives this kind of error.
@@ -102,8 +116,8 @@ fn reply_to(kind: ErrorKind) -> Result<Command, WordsFault>
     ensures { result ≡ reply_to kind }
 {
     match kind {
-        ErrorKind::DisplayHelp => Ok(Command::Help),
-        ErrorKind::DisplayVersion => Ok(Command::Version),
+        ErrorKind::DisplayHelp => Ok(Command::Tell(Telling::Help)),
+        ErrorKind::DisplayVersion => Ok(Command::Tell(Telling::Version)),
         ErrorKind::OutOfMemory => Err(WordsFault::Memory),
         _ => Err(WordsFault::Refused),
     }

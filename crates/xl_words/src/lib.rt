@@ -9,5 +9,5 @@ mod help;
 mod program;
 mod rounds;
 
-pub use command::{Command, WordsFault};
+pub use command::{Command, Telling, WordsFault};
 pub use help::{push_help, push_version};
