@@ -1,0 +1,5 @@
+pub mod Documents
+pub mod Least
+pub mod Reading
+pub mod Sources
+pub mod Written
