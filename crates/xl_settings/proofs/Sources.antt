@@ -86,7 +86,7 @@ left_nothing bytes left result ended said = go (nat_lt MOST_BYTES (length bytes)
     go false e = read_out_of result (settings_of bytes) left said (inr (ended (below (length bytes) e)))
 
 -- a fault that refuses nothing says nothing of the bytes
-pub by_fault : (old left : Option (List ℕ)) (fault : SettingsFault) → IsNoRefusal fault → IfSome old (λ all. GivenBytes {Settings} (Err fault) (settings_of all)) × IsReadOut {Settings} (Err fault) left
+pub by_fault : (old left : Option (List ℕ)) (fault : SettingsFault) → IsNoRefusal fault → IfSome old (λ all. GivenBytes {A = Settings} (Err fault) (settings_of all)) × IsReadOut {A = Settings} (Err fault) left
 by_fault old left (Refused refusal) h = absurd h
 by_fault None left Read h = (tt, tt)
 by_fault (Some all) left Read h = (tt, tt)

@@ -15,6 +15,7 @@ front_of_first old new a b f = record {
 }
 
 pub less_of_first : (old new : Option (List ℕ)) (a b : List ℕ) → GrewByLess old new a → GrewByLess old new (a ++ b)
+unfolding front_of_first
 less_of_first old new a b less = (front_of_first old new a b less.0, omega (arith, less.1, length-append less.0.missing b))
 
 -- the first text, and a front of the second
@@ -27,6 +28,7 @@ front_of_second old mid new a b first f = record {
 }
 
 pub less_of_second : (old mid new : Option (List ℕ)) (a b : List ℕ) → mid ≡ append_known old a → GrewByLess mid new b → GrewByLess old new (a ++ b)
+unfolding front_of_second
 less_of_second old mid new a b first less = (front_of_second old mid new a b first less.0, less.1)
 
 -- both

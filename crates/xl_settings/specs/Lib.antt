@@ -7,3 +7,4 @@ pub mod Settings
 pub mod Answers
 pub mod Lines
 pub mod First
+pub mod Runnable

@@ -55,7 +55,7 @@ abbrev pub peer_in : Data → Option PeerSetting
 peer_in value = option_and_then peer_at (as_table value)
 
 abbrev pub is_peer : List PeerSetting → ℕ → Bool
-is_peer peers number = list_any (λ peer. peer.number == number) peers
+is_peer peers number = list_any (λ peer. number == peer.number) peers
 
 -- no peer is me, no number stands twice, and each listed member but me is a peer
 abbrev pub are_peers : ℕ → List ℕ → List PeerSetting → Bool

@@ -1,6 +1,7 @@
-ghost use Rattle.std.specs.Prelude.{Some};
+ghost use Rattle.std.specs.Prelude.{IfOk, Some};
 ghost use Rattle.toml.specs.View.{table_view};
 ghost use Rattle.xl_settings.specs.Answers.{GivenMemory, NamesKey};
+ghost use Rattle.xl_settings.specs.Runnable.{AreRunnable};
 ghost use Rattle.xl_settings.specs.Settings.{in_document, settings_of};
 
 use crate::limits::MOST_BYTES;
@@ -17,7 +18,9 @@ use xl_base::Bytes;
 /// is unknown, and the least one is named; and then key by key, in the order of `KeyName`. Nothing is read from
 /// elsewhere, so no fault is `Read`.
 pub fn read_settings(alloc: Global, bytes: &[u8]) -> Result<Settings, SettingsFault>
-    ensures { GivenMemory result (settings_of bytes.now) }
+    ensures answer { GivenMemory result (settings_of bytes.now) }
+    // A node can be opened with them.
+    ensures runnable { IfOk result AreRunnable }
 {
     if bytes.len() > MOST_BYTES {
         return Err(SettingsFault::Refused(SettingsRefusal::Length));

@@ -8,6 +8,7 @@ ghost use Rattle.xl_settings.specs.Peers.{setting_of, reach_of, reach_at, number
 ghost use Rattle.xl_settings.specs.Values.{at, all_read};
 ghost use Rattle.xl_settings.specs.declared.key_name.KeyName.TheVariants as name;
 
+use crate::peers::has_number;
 use crate::unknown::has_peer_keys_only;
 use crate::values::{bytes_in, member_in, value_at};
 use crate::{KeyName, Peer, Peers};
@@ -119,11 +120,11 @@ fn are_peers(me: NodeNo, members: &[NodeNo], peers: &Peers) -> bool
 
 /// Whether no number stands twice.
 fn are_different(peers: &[Peer]) -> bool
-    ensures { result ≡ are_different nat_eq (map (λ p. p.number) peers.now) }
+    ensures { result ≡ are_different nat_eq (map (λ peer. peer.number) (map setting_of peers.now)) }
 {
     let mut rest = peers;
     while let Some((first, others)) = rest.split_first() {
-        if others.iter().any(|other| other.number == first.number) {
+        if has_number(others, first.number) {
             return false;
         }
         rest = others;

@@ -1,4 +1,5 @@
-ghost use Rattle.std.specs.Prelude.{◌≡◌, ◌++◌, ◌∷◌, [], map, OnOk};
+ghost use Rattle.std.specs.List.{list_any};
+ghost use Rattle.std.specs.Prelude.{◌≡◌, ◌==◌, ◌++◌, ◌∷◌, [], map, OnOk};
 ghost use Rattle.xl_settings.specs.Peers.{setting_of, is_peer};
 
 use std::alloc::Global;
@@ -48,10 +49,11 @@ impl Peers {
     }
 
     /// Whether the member is one of them.
+    #[tactic(auto, using(crate::proofs::Numbers::is_peer-setting))]
     pub fn has(&self, number: NodeNo) -> bool
         ensures { result ≡ is_peer self.now number }
     {
-        self.peers.iter().any(|peer| peer.number == number)
+        has_number(&self.peers, number)
     }
 
     /// The peers, in the order in which they were given.
@@ -67,4 +69,11 @@ impl Peers {
     {
         self.peers
     }
+}
+
+/// Whether one of them has the number.
+pub(crate) fn has_number(peers: &[Peer], number: NodeNo) -> bool
+    ensures { result ≡ list_any (λ peer. number == peer.number) peers.now }
+{
+    peers.iter().any(|peer| number == peer.number)
 }

@@ -2,6 +2,7 @@ ghost use Rattle.std.specs.Prelude.{◌≡◌, ◌≤◌, ◌++◌, length, IfOk
 ghost use Rattle.std.specs.Io.KnownBytes.{IsAtEnd, prepend_known};
 ghost use Rattle.xl_base.specs.Faults.{Rose};
 ghost use Rattle.xl_settings.specs.Answers.{GivenBytes, IsReadOut, IsNoRefusal};
+ghost use Rattle.xl_settings.specs.Runnable.{AreRunnable};
 ghost use Rattle.xl_settings.specs.Settings.{settings_of};
 ghost use Rattle.xl_settings.specs.declared.limits.TheConstants.{MOST_BYTES};
 
@@ -20,6 +21,8 @@ const ROOM: usize = 8192;
 /// failed read ends it with `Read`.
 pub fn settings_from<I: Source>(alloc: Global, input: &mut I) -> Result<Settings, SettingsFault>
     ensures settings { IfSome (I.left input.old) (λ bytes. GivenBytes result (settings_of bytes)) }
+    // A node can be opened with them.
+    ensures runnable { IfOk result AreRunnable }
     ensures to_end { IsReadOut result (I.left input.new) }
     ensures later { I.faults input.old ≤ I.faults input.new }
     ensures read { IsErrOf result SettingsFault.Read → Rose (I.faults input.old) (I.faults input.new) }
