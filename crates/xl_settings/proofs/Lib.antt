@@ -4,4 +4,5 @@ pub mod Numbers
 pub mod Reading
 pub mod Runnable
 pub mod Sources
+pub mod Texts
 pub mod Written

@@ -1,12 +1,9 @@
 -- Settings that were read can be run.
-use Rattle.std.proofs.Common.{◌≡◌, ◌∙◌, ◌≤◌, ◌&&◌, ℕ, ℤ, pos, negsuc, Bool, true, false, List, Option, Some, None, Result, Ok, Err, refl, sym, ap, subst, cond, length, nat_le, nat_lt, arith, option_and_then}
+use Rattle.std.proofs.Common.{◌≡◌, ◌∙◌, ◌≤◌, ◌&&◌, ℕ, ℤ, pos, negsuc, Bool, true, false, List, Option, Some, None, Result, Ok, Err, IfOk, refl, sym, ap, subst, cond, length, nat_le, nat_lt, arith, option_and_then}
 use Rattle.std.proofs.lemmas.Bool.Decides.{nat_tests}
 use Rattle.std.proofs.lemmas.Option.{same_Some}
 use Rattle.std.specs.Result.{result_ok}
 use Rattle.toml.specs.Data.{Data, Members, as_integer}
-use Rattle.xl_base.specs.Refusals.{unless_refused}
-use Rattle.xl_lists.specs.Lists.{TrustedList, list_of, refusal_of}
-use Rattle.xl_lists.specs.declared.refusal.ListRefusal.{ListRefusal}
 use Rattle.xl_settings.specs.declared.key_name.KeyName.{KeyName}
 use Rattle.xl_settings.specs.declared.key_name.KeyName.TheVariants as key
 use Rattle.xl_settings.specs.declared.limits.TheConstants.{MOST_BYTES, USUAL_LIMIT, USUAL_TURNS, GREATEST_TURNS, USUAL_HEARTBEAT_MS, LEAST_HEARTBEAT_MS, GREATEST_HEARTBEAT_MS, GREATEST_RUN_MS}
@@ -14,6 +11,8 @@ use Rattle.xl_ledger.specs.declared.registry.TheConstants.{LEAST_LIMIT, GREATEST
 use Rattle.xl_settings.specs.declared.refusal.SettingsRefusal.{SettingsRefusal}
 use Rattle.xl_settings.specs.declared.refusal.SettingsRefusal.TheVariants.{Length}
 use Rattle.xl_settings.specs.declared.settings.Settings.{Settings}
+use Rattle.xl_settings.specs.Answers.{GivenMemory}
+use Rattle.xl_settings.specs.declared.fault.SettingsFault.{SettingsFault}
 use Rattle.xl_settings.specs.Peers.{PeerSetting, are_peers, fitting, found_peers, peers_in}
 use Rattle.xl_settings.specs.Runnable.{AreRunnable}
 use Rattle.xl_settings.specs.Settings.{needs, in_table, unless_unknown, in_document, settings_of, document_of, me_at, members_at, list_at, validating_at, limit_at, turns_at, heartbeat_at, run_at, submits_at}
@@ -31,7 +30,7 @@ bounded least most n (pos m) e = go (nat_le least m && nat_le m most) refl
   where
     go : (b : Bool) → (nat_le least m && nat_le m most) ≡ b → (least ≤ n) × (n ≤ most)
     go true yes = grind (arith, nat_tests, yes, e)
-    go false no = cc
+    go false small = cc
 
 whole_bounded : (least most n : ℕ) (value : Data) → whole least most value ≡ Some n → (least ≤ n) × (n ≤ most)
 whole_bounded least most n value e = go (as_integer value) e
@@ -56,15 +55,7 @@ fits me members (Some qs) ps e = go (are_peers me members qs) refl e
     go true is e = subst (λ (xs : List PeerSetting). are_peers me members xs ≡ true) (same_Some qs ps e) is
     go false is e = cc
 
-members_kept : (members : List ℕ) (o : Option ℕ) (list : TrustedList) → option_and_then (λ quorum. result_ok (list_of members quorum)) o ≡ Some list → list.members ≡ members
-members_kept members None list e = cc
-members_kept members (Some quorum) list e = go (refusal_of members quorum) e
-  where
-    go : (r : Option ListRefusal) → result_ok (unless_refused r (record { members = members; quorum = quorum })) ≡ Some list → list.members ≡ members
-    go None e = sym (ap (λ (l : TrustedList). l.members) (same_Some _ _ e))
-    go (Some cause) e = cc
-
-same_Ok : (a b : Settings) → Ok {Settings} {SettingsRefusal} a ≡ Ok b → a ≡ b
+same_Ok : (a b : Settings) → Ok {E = SettingsRefusal} a ≡ Ok b → a ≡ b
 same_Ok a b e = same_Some a b (ap result_ok e)
 
 table_runs : (table : Members) (s : Settings) → in_table table ≡ Ok s → AreRunnable s
@@ -78,13 +69,13 @@ table_runs table s e =
     got key.HeartbeatMs (heartbeat_at table) _ s (AreRunnable s) (λ heartbeat_ms heartbeat_is e7.
     got key.RunMs (run_at table) _ s (AreRunnable s) (λ run_ms run_is e8.
     got key.Submit (submits_at table) _ s (AreRunnable s) (λ submit submit_is e9.
-    got key.Peer (peers_in me members (at key.Peer table)) _ s (AreRunnable s) (λ peers peers_is e10.
+    got key.Peer (peers_in me list.members (at key.Peer table)) _ s (AreRunnable s) (λ peers peers_is e10.
     subst AreRunnable (same_Ok _ _ e10) (record {
       limit = usual_bounded USUAL_LIMIT LEAST_LIMIT GREATEST_LIMIT limit (at key.Limit table) (omega arith) (omega arith) limit_is;
       turns = usual_bounded USUAL_TURNS 1 GREATEST_TURNS turns (at key.Turns table) (omega arith) (omega arith) turns_is;
       heartbeat = usual_bounded USUAL_HEARTBEAT_MS LEAST_HEARTBEAT_MS GREATEST_HEARTBEAT_MS heartbeat_ms (at key.HeartbeatMs table) (omega arith) (omega arith) heartbeat_is;
       run = (usual_bounded 0 0 GREATEST_RUN_MS run_ms (at key.RunMs table) (omega arith) (omega arith) run_is).1;
-      peers = rw (members_kept members _ list list_is) (fits me members (found_peers (at key.Peer table)) peers peers_is);
+      peers = fits me list.members (found_peers (at key.Peer table)) peers peers_is;
     }))
     e9) e8) e7) e6) e5) e4) e3) e2) e1) e
 
@@ -95,9 +86,15 @@ can_run bytes s e = long (nat_lt MOST_BYTES (length bytes)) e
     known : (table : Members) (unknown : Option (List ℕ)) → unless_unknown table unknown ≡ Ok s → AreRunnable s
     known table (Some text) e = cc
     known table None e = table_runs table s e
+
     found : (document : Option Members) → in_document document ≡ Ok s → AreRunnable s
     found None e = cc
     found (Some table) e = known table (least_unknown table) e
+
     long : (b : Bool) → cond b (Err Length) (in_document (document_of bytes)) ≡ Ok s → AreRunnable s
     long true e = cc
     long false e = found (document_of bytes) e
+
+pub runs_of : (bytes : List ℕ) (result : Result Settings SettingsFault) → GivenMemory result (settings_of bytes) → IfOk result AreRunnable
+runs_of bytes (Ok s) is = can_run bytes s is
+runs_of bytes (Err fault) is = tt

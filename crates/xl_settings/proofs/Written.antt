@@ -1,5 +1,5 @@
 -- Texts that are written one after the other.
-use Rattle.std.proofs.Common.{◌≡◌, ◌∙◌, ◌<◌, ℕ, List, ◌++◌, Option, sym, ap, length, arith, append_assoc}
+use Rattle.std.proofs.Common.{◌≡◌, ◌∙◌, ◌<◌, ℕ, List, ◌++◌, Option, Result, Ok, Err, OnErr, sym, ap, length, arith, append_assoc}
 use Rattle.std.proofs.lemmas.List.{length-append}
 use Rattle.std.specs.Io.KnownBytes.{append_known}
 use Rattle.xl_io.specs.Sinks.{GrewByFront, GrewByLess}
@@ -34,3 +34,8 @@ less_of_second old mid new a b first less = (front_of_second old mid new a b fir
 -- both
 pub both : (old mid new : Option (List ℕ)) (a b : List ℕ) → mid ≡ append_known old a → new ≡ append_known mid b → new ≡ append_known old (a ++ b)
 both old mid new a b first second = second ∙ ap (λ known. append_known known b) first ∙ append_known-twice old a b
+
+-- a fact stands by any answer
+pub on_err : {T E P : Type 0} (r : Result T E) → P → OnErr r P
+on_err (Ok x) h = tt
+on_err (Err e) h = h

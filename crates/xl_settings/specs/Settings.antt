@@ -77,7 +77,7 @@ in_table table =
     needs key.HeartbeatMs (heartbeat_at table) (λ heartbeat_ms.
     needs key.RunMs (run_at table) (λ run_ms.
     needs key.Submit (submits_at table) (λ submit.
-    needs key.Peer (peers_in me members (at key.Peer table)) (λ peers.
+    needs key.Peer (peers_in me list.members (at key.Peer table)) (λ peers.
     Ok (record {
       me = me;
       list = list;

@@ -27,8 +27,13 @@ pub fn read_settings(alloc: Global, bytes: &[u8]) -> Result<Settings, SettingsFa
     }
     match toml::table_from_slice(alloc, bytes) {
         Ok(table) => from_table(alloc, &table),
-        Err(error) if error.is_memory() => Err(SettingsFault::OutOfMemory),
-        Err(_) => Err(SettingsFault::Refused(SettingsRefusal::Text)),
+        Err(error) => {
+            if error.is_memory() {
+                Err(SettingsFault::OutOfMemory)
+            } else {
+                Err(SettingsFault::Refused(SettingsRefusal::Text))
+            }
+        }
     }
 }
 

@@ -3,11 +3,11 @@ ghost use Rattle.std.specs.Prelude.{◌≡◌, length, map, IfOk, option_map};
 ghost use Rattle.std.specs.Result.{is_ok};
 ghost use Rattle.toml.specs.View.{table_view, view};
 ghost use Rattle.xl_lists.specs.Lists.{list_of};
-ghost use Rattle.xl_settings.specs.Settings.{members_at, members_in, list_at};
+ghost use Rattle.xl_settings.specs.Settings.{members_at, members_in, that_are_listed, list_at};
 ghost use Rattle.xl_settings.specs.Values.{all_read, number_in};
 
 use crate::KeyName;
-use crate::values::{number_in, value_at};
+use crate::values::{array_in, number_in, value_at};
 use std::alloc::Global;
 use toml::{Table, Value};
 use xl_base::{MOST_MEMBERS, OutOfMemory};
@@ -26,12 +26,23 @@ pub fn members_at(alloc: Global, table: &Table) -> Result<Option<Vec<u32>>, OutO
 fn members_in(alloc: Global, value: &Value) -> Result<Option<Vec<u32>>, OutOfMemory>
     ensures { IfOk result (λ members. option_map (λ v. v.items) members ≡ members_in (view value.now)) }
 {
-    let Some(values) = value.as_array() else {
+    let Some(values) = array_in(value) else {
         return Ok(None);
     };
     match numbers_in(alloc, values)? {
-        Some(members) if are_listed(&members) => Ok(Some(members)),
-        _ => Ok(None),
+        Some(numbers) => Ok(that_are_listed(numbers)),
+        None => Ok(None),
+    }
+}
+
+/// The numbers, where they are members of a list.
+fn that_are_listed(numbers: Vec<u32>) -> Option<Vec<u32>>
+    ensures { option_map (λ v. v.items) result ≡ that_are_listed numbers.items }
+{
+    if are_listed(&numbers) {
+        Some(numbers)
+    } else {
+        None
     }
 }
 

@@ -4,13 +4,13 @@ ghost use Rattle.std.specs.Prelude.{◌≡◌, ◌||◌, ◌==◌, map, nat_eq, 
 ghost use Rattle.toml.specs.Data.{as_str};
 ghost use Rattle.toml.specs.View.{table_view, view};
 ghost use Rattle.xl_settings.specs.Different.{are_different};
-ghost use Rattle.xl_settings.specs.Peers.{setting_of, reach_of, reach_at, number_at, key_at, made_peer, peer_in, peers_in, found_peers, are_peers, is_peer};
+ghost use Rattle.xl_settings.specs.Peers.{setting_of, reach_of, reach_at, number_at, key_at, made_peer, peer_in, peers_in, found_peers, fitting, are_peers, is_peer};
 ghost use Rattle.xl_settings.specs.Values.{at, all_read};
 ghost use Rattle.xl_settings.specs.declared.key_name.KeyName.TheVariants as name;
 
 use crate::peers::has_number;
 use crate::unknown::has_peer_keys_only;
-use crate::values::{bytes_in, member_in, value_at};
+use crate::values::{array_in, bytes_in, member_in, value_at};
 use crate::{KeyName, Peer, Peers};
 use std::alloc::Global;
 use toml::{Table, Value};
@@ -27,8 +27,19 @@ pub fn peers_at(
     ensures { IfOk result (λ peers. peers ≡ peers_in me members.now (at name.Peer (table_view table.now))) }
 {
     match found_peers(alloc, table)? {
-        Some(peers) if are_peers(me, members, &peers) => Ok(Some(peers)),
-        _ => Ok(None),
+        Some(peers) => Ok(fitting(me, members, peers)),
+        None => Ok(None),
+    }
+}
+
+/// The peers, where they fit me and the members.
+fn fitting(me: NodeNo, members: &[NodeNo], peers: Peers) -> Option<Peers>
+    ensures { result ≡ fitting me members.now peers }
+{
+    if are_peers(me, members, &peers) {
+        Some(peers)
+    } else {
+        None
     }
 }
 
@@ -38,7 +49,7 @@ fn found_peers(alloc: Global, table: &Table) -> Result<Option<Peers>, OutOfMemor
     let Some(value) = value_at(table, KeyName::Peer.text()) else {
         return Ok(Some(Peers::new(alloc)));
     };
-    match value.as_array() {
+    match array_in(value) {
         Some(values) => read_peers(alloc, values),
         None => Ok(None),
     }

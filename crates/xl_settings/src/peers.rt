@@ -49,7 +49,6 @@ impl Peers {
     }
 
     /// Whether the member is one of them.
-    #[tactic(auto, using(crate::proofs::Numbers::is_peer-setting))]
     pub fn has(&self, number: NodeNo) -> bool
         ensures { result ≡ is_peer self.now number }
     {

@@ -1,14 +1,15 @@
 // The ids to submit.
-ghost use Rattle.std.specs.Prelude.{◌≡◌, map, IfOk, option_map};
+ghost use Rattle.std.specs.Prelude.{◌≡◌, ◌&&◌, nat_le, length, map, IfOk};
 ghost use Rattle.std.specs.List.{list_any};
 ghost use Rattle.toml.specs.View.{table_view, view};
+ghost use Rattle.xl_base.specs.declared.sets.TheConstants.{MOST_IDS};
 ghost use Rattle.xl_settings.specs.Different.{are_different};
 ghost use Rattle.xl_settings.specs.Settings.{submits_at};
-ghost use Rattle.xl_settings.specs.Submits.{id_in, same_text, submits_in};
+ghost use Rattle.xl_settings.specs.Submits.{id_in, ids_in, same_text, submits_in};
 ghost use Rattle.xl_settings.specs.Values.{all_read};
 
 use crate::KeyName;
-use crate::values::{bytes_in, value_at};
+use crate::values::{array_in, bytes_in, value_at};
 use std::alloc::Global;
 use toml::{Table, Value};
 use xl_base::{MOST_IDS, OutOfMemory, TxId, TxIds};
@@ -26,14 +27,32 @@ pub fn submits_at(alloc: Global, table: &Table) -> Result<Option<TxIds>, OutOfMe
 fn submits_in(alloc: Global, value: &Value) -> Result<Option<TxIds>, OutOfMemory>
     ensures { IfOk result (λ ids. ids ≡ submits_in (view value.now)) }
 {
-    match value.as_array() {
-        Some(values) if values.len() <= MOST_IDS && are_different(values) => ids_in(alloc, values),
-        _ => Ok(None),
+    match array_in(value) {
+        Some(values) => ids_in(alloc, values),
+        None => Ok(None),
     }
 }
 
-/// The ids that the values are.
+/// The ids of the values, where these are few enough and differ.
 fn ids_in(alloc: Global, values: &[Value]) -> Result<Option<TxIds>, OutOfMemory>
+    ensures { IfOk result (λ ids. ids ≡ ids_in (map view values.now)) }
+{
+    if are_few_texts(values) {
+        read_ids(alloc, values)
+    } else {
+        Ok(None)
+    }
+}
+
+/// Whether they are at most 256, and no text stands twice.
+fn are_few_texts(values: &[Value]) -> bool
+    ensures { result ≡ (nat_le (length values.now) MOST_IDS && are_different same_text (map view values.now)) }
+{
+    values.len() <= MOST_IDS && are_different(values)
+}
+
+/// The ids that the values are.
+fn read_ids(alloc: Global, values: &[Value]) -> Result<Option<TxIds>, OutOfMemory>
     ensures { IfOk result (λ ids. ids ≡ all_read id_in (map view values.now)) }
 {
     let mut ids = Vec::new(alloc);

@@ -1,10 +1,10 @@
 // Single values, as a document has them.
-ghost use Rattle.std.specs.Prelude.{◌≡◌, ◌≤◌, IfSome, option_map};
+ghost use Rattle.std.specs.Prelude.{◌≡◌, ◌≤◌, map, IfSome, option_map};
 ghost use Rattle.xl_base.specs.declared.node_no.TheConstants.{GREATEST_NODE_NO};
 ghost use Rattle.toml.specs.Data.{get_member};
 ghost use Rattle.toml.specs.View.{table_view, view};
 ghost use Rattle.xl_settings.specs.Submits.{bytes_in};
-ghost use Rattle.xl_settings.specs.Values.{in_bounds, whole, number_in};
+ghost use Rattle.xl_settings.specs.Values.{in_bounds, whole, number_in, array_in};
 
 use hex::FromHex;
 use toml::{Table, Value};
@@ -46,6 +46,16 @@ pub fn number_in(value: &Value) -> Option<u32>
 {
     let number = whole(value, 0, u64::from(u32::MAX))?;
     Some(number as u32)
+}
+
+/// The values of an array.
+pub fn array_in(value: &Value) -> Option<&[Value]>
+    ensures { option_map (λ values. map view values.now) result ≡ array_in (view value.now) }
+{
+    match value.as_array() {
+        Some(values) => Some(values.as_slice()),
+        None => None,
+    }
 }
 
 /// A member's number.
