@@ -1,11 +1,11 @@
 -- What the bytes hold, step by step.
-use Rattle.std.proofs.Common.{◌≡◌, ◌∙◌, ◌≤◌, ℕ, Bool, true, false, List, Option, Some, None, Result, Err, refl, sym, ap, subst, length, arith, nat_lt}
+use Rattle.std.proofs.Common.{◌≡◌, ◌≤◌, ℕ, Bool, true, false, List, Option, Some, None, Result, refl, sym, ap, subst, length, arith, nat_lt}
 use Rattle.std.proofs.lemmas.Bool.Decides.{nat_tests}
 use Rattle.std.proofs.lemmas.Str.{is_utf8-from_IsUtf8, IsUtf8-from_is_utf8}
 use Rattle.std.specs.Str.{is_utf8, IsUtf8}
 use Rattle.toml.specs.Data.{Members}
 use Rattle.toml.specs.Parse.{parse_document}
-use Rattle.xl_settings.specs.Answers.{GivenMemory, NamesKey}
+use Rattle.xl_settings.specs.Answers.{GivenMemory}
 use Rattle.xl_settings.specs.Settings.{document_of, in_document, settings_of}
 use Rattle.xl_settings.specs.declared.fault.SettingsFault.{SettingsFault}
 use Rattle.xl_settings.specs.declared.limits.TheConstants.{MOST_BYTES}

@@ -2,7 +2,7 @@
 use Rattle.std.proofs.Common.{◌≡◌, ◌==◌, ◌||◌, ℕ, Bool, true, false, List, [], ◌∷◌, map, nat_eq, refl, ap}
 use Rattle.std.specs.List.{list_any}
 use Rattle.xl_settings.specs.Different.{are_different}
-use Rattle.xl_settings.specs.Peers.{PeerSetting, is_peer, setting_of}
+use Rattle.xl_settings.specs.Peers.{is_peer, setting_of}
 use Rattle.xl_settings.specs.declared.peers.Peer.{Peer}
 
 -- a number is a peer's of the code exactly where it is one's of what they stand for

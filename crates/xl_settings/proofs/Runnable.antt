@@ -29,7 +29,7 @@ bounded least most n (negsuc m) e = cc
 bounded least most n (pos m) e = go (nat_le least m && nat_le m most) refl
   where
     go : (b : Bool) → (nat_le least m && nat_le m most) ≡ b → (least ≤ n) × (n ≤ most)
-    go true yes = grind (arith, nat_tests, yes, e)
+    go true both = grind (arith, nat_tests, both, e)
     go false small = cc
 
 whole_bounded : (least most n : ℕ) (value : Data) → whole least most value ≡ Some n → (least ≤ n) × (n ≤ most)
@@ -55,8 +55,8 @@ fits me members (Some qs) ps e = go (are_peers me members qs) refl e
     go true is e = subst (λ (xs : List PeerSetting). are_peers me members xs ≡ true) (same_Some qs ps e) is
     go false is e = cc
 
-same_Ok : (a b : Settings) → Ok {E = SettingsRefusal} a ≡ Ok b → a ≡ b
-same_Ok a b e = same_Some a b (ap result_ok e)
+same_Ok : (x : Result Settings SettingsRefusal) (a b : Settings) → x ≡ Ok a → x ≡ Ok b → a ≡ b
+same_Ok x a b is e = same_Some a b (ap result_ok (sym is ∙ e))
 
 table_runs : (table : Members) (s : Settings) → in_table table ≡ Ok s → AreRunnable s
 table_runs table s e =
@@ -70,7 +70,7 @@ table_runs table s e =
     got key.RunMs (run_at table) _ s (AreRunnable s) (λ run_ms run_is e8.
     got key.Submit (submits_at table) _ s (AreRunnable s) (λ submit submit_is e9.
     got key.Peer (peers_in me list.members (at key.Peer table)) _ s (AreRunnable s) (λ peers peers_is e10.
-    subst AreRunnable (same_Ok _ _ e10) (record {
+    subst AreRunnable (same_Ok _ _ s refl e10) (record {
       limit = usual_bounded USUAL_LIMIT LEAST_LIMIT GREATEST_LIMIT limit (at key.Limit table) (omega arith) (omega arith) limit_is;
       turns = usual_bounded USUAL_TURNS 1 GREATEST_TURNS turns (at key.Turns table) (omega arith) (omega arith) turns_is;
       heartbeat = usual_bounded USUAL_HEARTBEAT_MS LEAST_HEARTBEAT_MS GREATEST_HEARTBEAT_MS heartbeat_ms (at key.HeartbeatMs table) (omega arith) (omega arith) heartbeat_is;

@@ -11,7 +11,6 @@ use Rattle.xl_settings.specs.declared.limits.TheConstants.{MOST_BYTES}
 use Rattle.xl_settings.specs.declared.refusal.SettingsRefusal.{SettingsRefusal}
 use Rattle.xl_settings.specs.declared.refusal.SettingsRefusal.TheVariants.{Length, Text, Unknown, Known}
 use Rattle.xl_settings.specs.declared.settings.Settings.{Settings}
-use Rattle.xl_settings.proofs.Documents.{is_short}
 
 pub prepend-none : (left : Option (List ℕ)) → left ≡ prepend_known [] left
 prepend-none None = refl

@@ -1,6 +1,6 @@
 -- The settings that bytes hold, or why they hold none. Source: this project's own format; documents are those of TOML.
 use Rattle.std.specs.Prelude.{ℕ, nat_lt, Bool, true, List, [], length, Option, Some, None, Result, Ok, Err, if◌then◌else◌}
-use Rattle.std.specs.Option.{option_and_then, ok_or}
+use Rattle.std.specs.Option.{option_and_then}
 use Rattle.std.specs.Result.{is_ok, result_ok}
 use Rattle.std.specs.Str.{is_utf8}
 use Rattle.toml.specs.Data.{Data, Members, as_bool}

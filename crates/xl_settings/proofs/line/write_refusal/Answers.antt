@@ -1,4 +1,4 @@
-use Rattle.std.proofs.Common.{List, [], ◌∷◌, ◌++◌, codes}
+use Rattle.std.proofs.Common.{[], ◌∷◌, ◌++◌, codes}
 use Rattle.std.proofs.lemmas.Result.{on_err_weaker}
 use Rattle.xl_settings.specs.Lines.{refused_text}
 use Rattle.xl_settings.proofs.Written.{front_of_first, less_of_first, front_of_second, less_of_second, on_err}

@@ -6,7 +6,7 @@ use Rattle.xl_settings.proofs.Reading.{after_none, unread, read_on, all_done}
 use Rattle.xl_settings.proofs.peering.read_peers.Goals as goal
 
 pub loop-value-init : goal.loop-value-init
-loop-value-init c = rw c.new.ensures (after_none (all_read peer_in (map view c.args.values.now)))
+loop-value-init c = rw c.new-peers.ensures (after_none (all_read peer_in (map view c.args.values.now)))
 
 pub returns-in_default : goal.returns-in_default
 returns-in_default c =

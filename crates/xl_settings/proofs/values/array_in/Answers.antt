@@ -1,6 +1,6 @@
-use Rattle.std.proofs.Common.{rules, ◌≡◌, sym, Some}
+use Rattle.std.proofs.Common.{rules, sym}
 use Rattle.toml.specs.Data.{as_array}
-use Rattle.toml.specs.View.{items_view, view}
+use Rattle.toml.specs.View.{view}
 use Rattle.xl_settings.proofs.Reading.{array_found}
 use Rattle.xl_settings.proofs.values.array_in.Goals as goal
 
