@@ -1,0 +1,12 @@
+use Rattle.std.proofs.Common.{◌≡◌, ◌≤◌, ◌+◌, ◌-◌, length}
+use Rattle.std.specs.Io.KnownBytes.{prepend_known}
+use Rattle.xl_settings.specs.declared.limits.TheConstants.{MOST_BYTES}
+use Rattle.xl_settings.proofs.source.read_out.Given as goal
+
+abbrev pub invariant-loop-room : goal.invariant-loop-room
+invariant-loop-room g l =
+    (g.I.Source.left l.initial.input ≡ prepend_known l.bytes.items (g.I.Source.left l.input))
+    × (g.I.Source.faults l.initial.input ≤ g.I.Source.faults l.input)
+
+abbrev pub decreases-loop-room : goal.decreases-loop-room
+decreases-loop-room g l = MOST_BYTES + 1 - length l.bytes.items

@@ -1,0 +1,83 @@
+-- The peers, and which of them a node may have. Source: this project's own format.
+use Rattle.std.specs.Prelude.{ℕ, ◌==◌, ◌||◌, ◌&&◌, not, nat_eq, Bool, true, List, [], map, codes, Option, Some, None, option_map, string_bytes, if◌then◌else◌}
+use Rattle.std.specs.List.{list_all, list_any}
+use Rattle.std.specs.Option.{option_and_then}
+use Rattle.toml.specs.Data.{Data, Members, no_members, member, get_member, as_str, as_table}
+use Rattle.xl_base.specs.declared.node_no.TheConstants.{GREATEST_NODE_NO}
+use Rattle.xl_links.specs.declared.hub.Way.{Way}
+use Rattle.xl_links.specs.declared.hub.Way.TheVariants.{Dial, Listen}
+use Rattle.xl_settings.specs.declared.peers.Peer.{Peer}
+use Rattle.xl_settings.specs.Different.{are_different}
+use Rattle.xl_settings.specs.Keys.{is_peer_key}
+use Rattle.xl_settings.specs.Submits.{bytes_in}
+use Rattle.xl_settings.specs.Values.{all_read, array_in, whole}
+
+-- how a member is reached: it is dialled at an address, or it dials in at one
+pub data Reach : Type 0 where
+  dialled_at : List ℕ → Reach
+  listened_at : List ℕ → Reach
+
+-- another member, the key that is shared with it, and how it is reached
+pub record PeerSetting : Type 0 where
+  pub number : ℕ
+  pub key : List ℕ
+  pub reach : Reach
+
+abbrev pub has_peer_keys_only : Members → Bool
+has_peer_keys_only no_members = true
+has_peer_keys_only (member text value rest) = is_peer_key text && has_peer_keys_only rest
+
+-- exactly one of the two addresses stands there, and is a text
+abbrev pub one_reach : Option Data → Option Data → Option Reach
+one_reach (Some dial) None = option_map dialled_at (as_str dial)
+one_reach None (Some listen) = option_map listened_at (as_str listen)
+one_reach _ _ = None
+
+abbrev pub number_at : Members → Option ℕ
+number_at table = option_and_then (whole 1 GREATEST_NODE_NO) (get_member (codes "number") table)
+
+abbrev pub key_at : Members → Option (List ℕ)
+key_at table = option_and_then bytes_in (get_member (codes "key") table)
+
+abbrev pub reach_at : Members → Option Reach
+reach_at table = one_reach (get_member (codes "dial") table) (get_member (codes "listen") table)
+
+abbrev pub made_peer : Option ℕ → Option (List ℕ) → Option Reach → Option PeerSetting
+made_peer (Some number) (Some key) (Some reach) = Some (record { number = number; key = key; reach = reach })
+made_peer _ _ _ = None
+
+-- a peer has a number, a key and an address, and nothing else
+abbrev pub peer_at : Members → Option PeerSetting
+peer_at table =
+    if has_peer_keys_only table then made_peer (number_at table) (key_at table) (reach_at table) else None
+
+abbrev pub peer_in : Data → Option PeerSetting
+peer_in value = option_and_then peer_at (as_table value)
+
+abbrev pub is_peer : List PeerSetting → ℕ → Bool
+is_peer peers number = list_any (λ peer. number == peer.number) peers
+
+-- no peer is me, no number stands twice, and each listed member but me is a peer
+abbrev pub are_peers : ℕ → List ℕ → List PeerSetting → Bool
+are_peers me members peers =
+    not (is_peer peers me) && (are_different nat_eq (map (λ peer. peer.number) peers)
+    && list_all (λ m. m == me || is_peer peers m) members)
+
+abbrev pub fitting : ℕ → List ℕ → List PeerSetting → Option (List PeerSetting)
+fitting me members peers = if are_peers me members peers then Some peers else None
+
+-- what stands at a key, as peers; none where nothing stands there
+abbrev pub found_peers : Option Data → Option (List PeerSetting)
+found_peers None = Some []
+found_peers (Some value) = option_and_then (all_read peer_in) (array_in value)
+
+abbrev pub peers_in : ℕ → List ℕ → Option Data → Option (List PeerSetting)
+peers_in me members value = option_and_then (fitting me members) (found_peers value)
+
+-- what a peer of the code stands for
+abbrev pub reach_of : Way → Reach
+reach_of (Dial address) = dialled_at (string_bytes address)
+reach_of (Listen address) = listened_at (string_bytes address)
+
+abbrev pub setting_of : Peer → PeerSetting
+setting_of peer = record { number = peer.number; key = peer.key; reach = reach_of peer.way }

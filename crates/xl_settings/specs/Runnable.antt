@@ -1,0 +1,13 @@
+-- What all settings keep, so that a node can be opened with them. Source: this project's own limits.
+use Rattle.std.specs.Prelude.{◌≡◌, ◌≤◌, true}
+use Rattle.xl_ledger.specs.declared.registry.TheConstants.{LEAST_LIMIT, GREATEST_LIMIT}
+use Rattle.xl_settings.specs.declared.limits.TheConstants.{GREATEST_TURNS, LEAST_HEARTBEAT_MS, GREATEST_HEARTBEAT_MS, GREATEST_RUN_MS}
+use Rattle.xl_settings.specs.declared.settings.Settings.{Settings}
+use Rattle.xl_settings.specs.Peers.{are_peers}
+
+pub record AreRunnable (s : Settings) : Type 0 where
+  pub limit : (LEAST_LIMIT ≤ s.limit) × (s.limit ≤ GREATEST_LIMIT)
+  pub turns : (1 ≤ s.turns) × (s.turns ≤ GREATEST_TURNS)
+  pub heartbeat : (LEAST_HEARTBEAT_MS ≤ s.heartbeat_ms) × (s.heartbeat_ms ≤ GREATEST_HEARTBEAT_MS)
+  pub run : s.run_ms ≤ GREATEST_RUN_MS
+  pub peers : are_peers s.me s.list.members s.peers ≡ true

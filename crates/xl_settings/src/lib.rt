@@ -1,0 +1,40 @@
+//! The settings of a node, read from a TOML document: who it is, whom it trusts, its limits, what it submits, and its
+//! peers.
+//!
+//! It stands on xl_base, xl_io, xl_ledger, xl_lists, xl_links, and the kit's `toml` and `hex`. Its one contract:
+//! `read_settings` and `settings_from` answer the settings that the bytes hold, or the first cause for which they hold
+//! none, exactly by their definition, want of memory and failed reads aside. `write_refusal` writes the one line that
+//! tells such a cause.
+#![tactic(auto)]
+
+mod document;
+mod fault;
+mod key_name;
+mod limits;
+mod line;
+mod members;
+mod peering;
+mod peers;
+mod refusal;
+mod settings;
+mod source;
+mod submits;
+mod table;
+mod unknown;
+mod values;
+
+pub use document::read_settings;
+pub use fault::SettingsFault;
+pub use key_name::KeyName;
+pub use limits::{
+    GREATEST_HEARTBEAT_MS, GREATEST_RUN_MS, GREATEST_TURNS, LEAST_HEARTBEAT_MS, MOST_BYTES,
+    USUAL_HEARTBEAT_MS, USUAL_LIMIT, USUAL_TURNS,
+};
+pub use line::write_refusal;
+pub use peers::{Peer, Peers};
+pub use refusal::SettingsRefusal;
+pub use settings::Settings;
+pub use source::settings_from;
+
+#[cfg(test)]
+mod tests;

@@ -1,0 +1,26 @@
+use crate::Peers;
+use xl_base::{Millis, NodeNo, TxIds};
+use xl_lists::List;
+
+/// What a node is run with.
+#[derive(Drop)]
+pub struct Settings {
+    /// The node's number.
+    pub me: NodeNo,
+    /// The members that it hears, and their quorum.
+    pub list: List,
+    /// Whether it is a validator. One that isn't observes: it proposes no position, and validates no ledger.
+    pub validating: bool,
+    /// How many ledgers it may know, the root among them: 2 to 262,144.
+    pub limit: u32,
+    /// How many turns its store may take: 1 to 2 to the power of 62.
+    pub turns: u64,
+    /// The milliseconds from heartbeat to heartbeat, 100 to 10,000.
+    pub heartbeat_ms: Millis,
+    /// After how many milliseconds its run ends: up to 1,000,000,000,000, and 0 where it has no end.
+    pub run_ms: Millis,
+    /// The transactions that it submits when it opens, at most 256. One may stand twice, its digits of either case.
+    pub submit: TxIds,
+    /// Its peers, among them each listed member but itself.
+    pub peers: Peers,
+}

@@ -1,0 +1,113 @@
+// The settings of a table, key by key.
+ghost use Rattle.std.specs.Prelude.{◌≡◌, ◌≤◌, IfSome};
+ghost use Rattle.toml.specs.View.{table_view};
+ghost use Rattle.xl_settings.specs.Answers.{GivenMemory};
+ghost use Rattle.xl_settings.specs.Settings.{in_table, me_at, validating_at, limit_at, turns_at, heartbeat_at, run_at};
+ghost use Rattle.xl_settings.specs.Values.{at, whole, or_default};
+
+use crate::members::{list_at, members_at};
+use crate::peering::peers_at;
+use crate::submits::submits_at;
+use crate::values::{member_in, value_at, whole};
+use crate::{KeyName, Settings, SettingsFault, limits};
+use std::alloc::Global;
+use toml::Table;
+use xl_base::{Millis, NodeNo};
+use xl_ledger::{GREATEST_LIMIT, LEAST_LIMIT};
+
+/// The settings of a table with no unknown key.
+pub fn settings_in(alloc: Global, table: &Table) -> Result<Settings, SettingsFault>
+    ensures { GivenMemory result (in_table (table_view table.now)) }
+{
+    let me = me_at(table).ok_or(KeyName::Me)?;
+    let members = members_at(alloc, table)?.ok_or(KeyName::List)?;
+    let list = list_at(&members, table).ok_or(KeyName::Quorum)?;
+    let validating = validating_at(table).ok_or(KeyName::Validating)?;
+    let limit = limit_at(table).ok_or(KeyName::Limit)?;
+    let turns = turns_at(table).ok_or(KeyName::Turns)?;
+    let heartbeat_ms = heartbeat_at(table).ok_or(KeyName::HeartbeatMs)?;
+    let run_ms = run_at(table).ok_or(KeyName::RunMs)?;
+    let submit = submits_at(alloc, table)?.ok_or(KeyName::Submit)?;
+    let peers = peers_at(alloc, me, list.members(), table)?.ok_or(KeyName::Peer)?;
+    Ok(Settings {
+        me,
+        list,
+        validating,
+        limit,
+        turns,
+        heartbeat_ms,
+        run_ms,
+        submit,
+        peers,
+    })
+}
+
+fn me_at(table: &Table) -> Option<NodeNo>
+    ensures { result ≡ me_at (table_view table.now) }
+{
+    member_in(value_at(table, KeyName::Me.text())?)
+}
+
+fn validating_at(table: &Table) -> Option<bool>
+    ensures { result ≡ validating_at (table_view table.now) }
+{
+    match value_at(table, KeyName::Validating.text()) {
+        Some(value) => value.as_bool(),
+        None => Some(true),
+    }
+}
+
+fn limit_at(table: &Table) -> Option<u32>
+    ensures { result ≡ limit_at (table_view table.now) }
+{
+    let limit = whole_at(
+        table,
+        KeyName::Limit,
+        u64::from(limits::USUAL_LIMIT),
+        u64::from(LEAST_LIMIT),
+        u64::from(GREATEST_LIMIT),
+    )?;
+    Some(limit as u32)
+}
+
+fn turns_at(table: &Table) -> Option<u64>
+    ensures { result ≡ turns_at (table_view table.now) }
+{
+    whole_at(
+        table,
+        KeyName::Turns,
+        limits::USUAL_TURNS,
+        1,
+        limits::GREATEST_TURNS,
+    )
+}
+
+fn heartbeat_at(table: &Table) -> Option<Millis>
+    ensures { result ≡ heartbeat_at (table_view table.now) }
+{
+    whole_at(
+        table,
+        KeyName::HeartbeatMs,
+        limits::USUAL_HEARTBEAT_MS,
+        limits::LEAST_HEARTBEAT_MS,
+        limits::GREATEST_HEARTBEAT_MS,
+    )
+}
+
+fn run_at(table: &Table) -> Option<Millis>
+    ensures { result ≡ run_at (table_view table.now) }
+{
+    whole_at(table, KeyName::RunMs, 0, 0, limits::GREATEST_RUN_MS)
+}
+
+/// A whole number within bounds, or the usual one where the key doesn't stand.
+fn whole_at(table: &Table, key: KeyName, usual: u64, least: u64, most: u64) -> Option<u64>
+    requires { usual ≤ most }
+    ensures value { result ≡ or_default usual (whole least most) (at key (table_view table.now)) }
+    ensures within { IfSome result (λ n. n ≤ most) }
+{
+    match value_at(table, key.text()) {
+        Some(value) => whole(value, least, most),
+        None => Some(usual),
+    }
+}
