@@ -13,7 +13,9 @@ use Rattle.xl_pairs.specs.Comparing.{lists_of}
 use Rattle.xl_replay.specs.Replays.{report_of}
 use Rattle.xl_show.specs.Shown.{shown_of}
 use Rattle.xl_words.specs.declared.command.Command.{Command}
-use Rattle.xl_words.specs.declared.command.Command.TheVariants.{Replay, Show, Lists, Gen, Help, Version}
+use Rattle.xl_words.specs.declared.command.Command.TheVariants.{Node, Tell}
+use Rattle.xl_words.specs.declared.command.Telling.{Telling}
+use Rattle.xl_words.specs.declared.command.Telling.TheVariants.{Replay, Show, Lists, Gen, Help, Version}
 use Rattle.xl_words.specs.Commands.{command_of}
 use Rattle.xl_words.specs.Help.{help_text, version_text}
 
@@ -21,9 +23,18 @@ use Rattle.xl_words.specs.Help.{help_text, version_text}
 abbrev pub asked_of : List (List ℕ) → Option Command
 asked_of words = command_of words
 
+-- the text that a command writes, if it is one
+abbrev pub telling_in : Command → Option Telling
+telling_in Node = None
+telling_in (Tell telling) = Some telling
+
+-- the text that the words ask for
+abbrev pub told_of : List (List ℕ) → Option Telling
+told_of words = option_and_then telling_in (asked_of words)
+
 -- what a command writes about the bytes of its input, of which the last three read none; the words ask for no more
 -- rounds than the most
-abbrev pub told_by : Command → List ℕ → Told
+abbrev pub told_by : Telling → List ℕ → Told
 told_by Replay bytes = report_of bytes
 told_by Show bytes = shown_of bytes
 told_by Lists bytes = lists_of bytes
@@ -32,14 +43,14 @@ told_by Help bytes = closes help_text Good
 told_by Version bytes = closes version_text Good
 
 -- a command reads its input to the end
-abbrev pub IsReader : Command → Type 0
+abbrev pub IsReader : Telling → Type 0
 IsReader (Gen rounds) = ⊥
 IsReader Help = ⊥
 IsReader Version = ⊥
 IsReader command = Unit {0}
 
 -- a command has a text to write; that of `lists` is empty where no node is declared, and no other ever is
-abbrev pub HasText : Command → List ℕ → Type 0
+abbrev pub HasText : Telling → List ℕ → Type 0
 HasText Lists text = 0 < length text
 HasText command text = Unit {0}
 

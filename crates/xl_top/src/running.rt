@@ -1,4 +1,4 @@
-// A command, from its input to its status.
+// A text that a command writes, from its input to its status.
 ghost use Rattle.std.specs.Prelude.{◌≡◌, ◌≢◌, ◌≤◌, ◌⊎◌, min, IfOk, IfSome, IsErrOf};
 ghost use Rattle.std.specs.Io.KnownBytes.{IsAtEnd};
 ghost use Rattle.xl_base.specs.Faults.{Rose};
@@ -20,43 +20,43 @@ use xl_lines::{Fault, Verdict};
 use xl_pairs::lists;
 use xl_replay::replay;
 use xl_show::show;
-use xl_words::Command;
+use xl_words::Telling;
 
-/// Runs a command.
+/// Writes a text.
 pub fn run<I: Source, O: Sink>(
     alloc: Global,
-    command: Command,
+    telling: Telling,
     input: &mut I,
     output: &mut O,
 ) -> Status
     ensures words { result ≢ Status.WordsRefused }
     ensures done { result ≡ Status.Done → IfSome (I.left input.old) (λ bytes.
-        TellsAll (O.held output.old) (O.held output.new) Verdict.Good (told_by command bytes)) }
+        TellsAll (O.held output.old) (O.held output.new) Verdict.Good (told_by telling bytes)) }
     ensures fork { result ≡ Status.Fork → IfSome (I.left input.old) (λ bytes.
-        TellsAll (O.held output.old) (O.held output.new) Verdict.Found (told_by command bytes)) }
+        TellsAll (O.held output.old) (O.held output.new) Verdict.Found (told_by telling bytes)) }
     ensures refused { result ≡ Status.InputRefused → IfSome (I.left input.old) (λ bytes.
-        TellsAll (O.held output.old) (O.held output.new) Verdict.Refused (told_by command bytes)) }
-    ensures as_written { command ≡ Command.Replay → IfSome (I.left input.old) (λ bytes.
+        TellsAll (O.held output.old) (O.held output.new) Verdict.Refused (told_by telling bytes)) }
+    ensures as_written { telling ≡ Telling.Replay → IfSome (I.left input.old) (λ bytes.
         AddsReport (names_of bytes) (O.held output.old) (O.held output.new) (report_of bytes)) }
-    ensures at_end { (result ≡ Status.Done) ⊎ (result ≡ Status.Fork) → IsReader command → IsAtEnd (I.left input.new) }
+    ensures at_end { (result ≡ Status.Done) ⊎ (result ≡ Status.Fork) → IsReader telling → IsAtEnd (I.left input.new) }
     ensures front { IfSome (I.left input.old) (λ bytes.
-        GrewByFront (O.held output.old) (O.held output.new) (told_by command bytes).text) }
+        GrewByFront (O.held output.old) (O.held output.new) (told_by telling bytes).text) }
     ensures read { result ≡ Status.ReadFault → Rose (I.faults input.old) (I.faults input.new) }
     ensures write { result ≡ Status.WriteFault → Rose (O.faults output.old) (O.faults output.new) }
     ensures complete { ¬ Rose (I.faults input.old) (I.faults input.new)
         → ¬ Rose (O.faults output.old) (O.faults output.new) → IsTold result ⊎ (result ≡ Status.OutOfMemory) }
-    ensures whole { IfSome (I.left input.old) (λ bytes. HasText command (told_by command bytes).text
-        → IsWritten (O.held output.old) (O.held output.new) (told_by command bytes).text
-        → (result ≡ status_of (told_by command bytes).verdict) ⊎ (result ≡ Status.OutOfMemory)) }
+    ensures whole { IfSome (I.left input.old) (λ bytes. HasText telling (told_by telling bytes).text
+        → IsWritten (O.held output.old) (O.held output.new) (told_by telling bytes).text
+        → (result ≡ status_of (told_by telling bytes).verdict) ⊎ (result ≡ Status.OutOfMemory)) }
     ensures known { IsReplayed result }
 {
-    match command {
-        Command::Replay => replay(alloc, input, output),
-        Command::Show => status_after(show(alloc, input, output)),
-        Command::Lists => status_after(lists(alloc, input, output)),
-        Command::Help => status_after(help(alloc, output)),
-        Command::Version => status_after(version(alloc, output)),
-        Command::Gen(rounds) => status_after(make(alloc, rounds, output)),
+    match telling {
+        Telling::Replay => replay(alloc, input, output),
+        Telling::Show => status_after(show(alloc, input, output)),
+        Telling::Lists => status_after(lists(alloc, input, output)),
+        Telling::Help => status_after(help(alloc, output)),
+        Telling::Version => status_after(version(alloc, output)),
+        Telling::Gen(rounds) => status_after(make(alloc, rounds, output)),
     }
 }
 

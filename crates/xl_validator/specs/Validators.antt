@@ -11,7 +11,7 @@ use Rattle.xl_turns.specs.Histories.{IsLegal}
 use Rattle.xl_store.specs.declared.entry.Entry.{Entry}
 use Rattle.xl_store.specs.Closing.{KeepsAll}
 use Rattle.xl_store.specs.Entries.{Leads}
-use Rattle.xl_heartbeat.specs.Outputs.{Output}
+use Rattle.xl_heartbeat.specs.Outputs.{Output, output}
 use Rattle.xl_settings.specs.declared.settings.Settings.{Settings}
 use Rattle.xl_workers.specs.declared.ends.RunEnd.{RunEnd}
 use Rattle.xl_workers.specs.Runs.{NodeRun, doing, status_of_end}
@@ -31,12 +31,12 @@ pub record Between : Type 0 where
   pub old_output : Output
   pub new_output : Output
 
-abbrev pub between : ℕ → ℕ → Output → Output → Between
-between old_faults new_faults old_output new_output = record {
+abbrev pub between : (old_faults new_faults : ℕ) → Option (List ℕ) → ℕ → Option (List ℕ) → ℕ → Between
+between old_faults new_faults old_held old_writes new_held new_writes = record {
   old_faults = old_faults;
   new_faults = new_faults;
-  old_output = old_output;
-  new_output = new_output;
+  old_output = output old_held old_writes;
+  new_output = output new_held new_writes;
 }
 
 module _ {K : Type 0}

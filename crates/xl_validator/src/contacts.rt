@@ -1,6 +1,6 @@
 // The members that are served.
 ghost use Rattle.std.specs.Prelude.{◌≡◌, map, IfOk};
-ghost use Rattle.std.specs.List.{All};
+ghost use Rattle.std.specs.List.{AllByRecursion};
 ghost use Rattle.xl_validator.specs.Contacts.{contact_seen, peer_seen, IsNumber};
 
 use std::alloc::Global;
@@ -11,7 +11,7 @@ use xl_workers::Contact;
 /// A contact for each peer, in order.
 pub(crate) fn contacts_of(alloc: Global, peers: Vec<Peer>) -> Result<Vec<Contact>, OutOfMemory>
     ensures each { IfOk result (λ contacts. map contact_seen contacts.items ≡ map peer_seen peers.items) }
-    ensures numbers { IfOk result (λ contacts. All IsNumber contacts.items) }
+    ensures numbers { IfOk result (λ contacts. AllByRecursion IsNumber contacts.items) }
 {
     let mut contacts = Vec::with_capacity(alloc, peers.len())?;
     let mut rest = peers;

@@ -10,10 +10,8 @@ mod contacts;
 mod ended;
 mod keys;
 mod preparing;
-mod validator;
+mod command;
 
 pub use ended::Ended;
-pub use validator::validator;
+pub use command::validator;
 
-#[cfg(test)]
-mod tests;

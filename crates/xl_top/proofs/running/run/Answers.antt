@@ -11,7 +11,7 @@ use Rattle.xl_replay.specs.Statuses.{IsTold, IsReplayed}
 use Rattle.xl_show.specs.Shown.{shown_of}
 use Rattle.xl_top.proofs.After.{SaysEnd, done_after, fork_after, refused_after, end_after, read_after, write_after, complete_after, known_after, taken_after, whole_after, SaysSome, some_after, said, held_same}
 use Rattle.xl_top.proofs.Asking.{if_any, whole_of, less_of, only_of}
-use Rattle.xl_words.specs.declared.command.Command.TheVariants.{Replay, Show, Lists, Help, Version}
+use Rattle.xl_words.specs.declared.command.Telling.TheVariants.{Replay, Show, Lists, Help, Version}
 use Rattle.xl_words.specs.Help.{help_text, version_text}
 use Rattle.xl_top.proofs.running.run.Goals as goal
 

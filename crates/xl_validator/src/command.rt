@@ -1,6 +1,5 @@
 ghost use Rattle.std.specs.Prelude.{◌≡◌, ◌≤◌, ◌⊎◌, None, IfSome, IfOk, IfErr, IsErr, Ok};
 ghost use Rattle.xl_base.specs.Faults.{Rose};
-ghost use Rattle.xl_heartbeat.specs.Outputs.{output};
 ghost use Rattle.xl_settings.specs.declared.settings.Settings.{Settings as TheSettings};
 ghost use Rattle.xl_settings.specs.Lines.{refusal_line};
 ghost use Rattle.xl_settings.specs.Runnable.{AreRunnable};
@@ -46,7 +45,7 @@ fn run<W: Threads + Wait + Sync, O: Sink + Send, K: Keeper + Drop + Send, H: Hub
     ensures goes { IfSome result.journal (λ history. Goes K.held K.saves K.faults K.save_gives
         prepared.core (task_in prepared.plan) (C.may_give clock.now) (H.gives hub.old)
         (between (H.faults hub.old) (H.faults hub.new)
-        (output (O.held output.old) (O.faults output.old)) (output (O.held output.new) (O.faults output.new)))
+        (O.held output.old) (O.faults output.old) (O.held output.new) (O.faults output.new))
         keeper result.keeper result.status history) }
     ensures unopened { result.journal ≡ None → (result.status ≡ Status.OutOfMemory) × (output.new ≡ output.old) }
 {
@@ -75,7 +74,7 @@ fn start<W: Threads + Wait + Sync, O: Sink + Send, K: Keeper + Drop + Send, H: H
     ensures ran { IfSome result.journal (λ history. HasRun K.held K.saves K.faults K.save_gives
         settings (C.may_give clock.now) (H.gives hub.old)
         (between (H.faults hub.old) (H.faults hub.new)
-        (output (O.held output.old) (O.faults output.old)) (output (O.held output.new) (O.faults output.new)))
+        (O.held output.old) (O.faults output.old) (O.held output.new) (O.faults output.new))
         keeper result.keeper result.status history) }
     ensures unopened { result.journal ≡ None
         → ((result.status ≡ Status.OutOfMemory) ⊎ (result.status ≡ Status.KeepFault)) × (output.new ≡ output.old) }
@@ -122,7 +121,7 @@ pub fn validator<
         × IfSome (I.left input.old) (λ bytes. settings_of bytes ≡ Ok settings)
         × HasRun K.held K.saves K.faults K.save_gives settings (C.may_give clock.now) (H.gives hub.old)
         (between (H.faults hub.old) (H.faults hub.new)
-        (output (O.held output.old) (O.faults output.old)) (output (O.held output.new) (O.faults output.new)))
+        (O.held output.old) (O.faults output.old) (O.held output.new) (O.faults output.new))
         keeper result.keeper result.status history) }
     ensures unopened { IfSome (I.left input.old) (λ bytes. IfOk (settings_of bytes) (λ _.
         result.journal ≡ None → output.new ≡ output.old)) }

@@ -1,0 +1,4 @@
+pub mod Sharing
+pub mod Listing
+pub mod Opening
+pub mod Causes

@@ -1,0 +1,78 @@
+-- The members that are served: each once, and no more than there are numbers.
+use Rattle.std.proofs.Common.{◌≡◌, ◌≤◌, ◌+◌, ◌⊎◌, inl, inr, ℕ, zero, suc, List, [], ◌∷◌, ◌++◌, length, map, refl, sym, ap, ◌∙◌, subst, arith, Bool, true, false, ⊎_elim, append-nil, append_assoc, length-append}
+use Rattle.std.specs.Prelude.{nat_eq, ◌==◌, ◌<◌, slice_index_or}
+use Rattle.std.specs.List.{AllByRecursion, IsDistinct, list_any, range_with_len, remove}
+use Rattle.std.specs.Cmp.{nat_eq_equiv}
+use Rattle.std.proofs.lemmas.Bool.{cases_eq, or_cases}
+use Rattle.std.proofs.lemmas.List.{map-append}
+use Rattle.std.proofs.lemmas.Bool.Decides.{nat_tests}
+use Rattle.std.proofs.lemmas.Map.Made.{length-le_from_is_member}
+use Rattle.xl_settings.specs.declared.peers.Peer.{Peer}
+use Rattle.xl_settings.specs.Different.{are_different}
+use Rattle.xl_settings.specs.Peers.{Reach}
+use Rattle.xl_workers.specs.declared.plan.Contact.{Contact}
+use Rattle.xl_validator.specs.Contacts.{contact_seen, peer_seen, IsNumber}
+
+-- so many contacts are made, and these peers are left
+pub record AreMade (all : List Peer) (rest : List Peer) (contacts : List Contact) : Type 0 where
+  pub each : map contact_seen contacts ++ map peer_seen rest ≡ map peer_seen all
+  pub numbers : AllByRecursion IsNumber contacts
+  pub long : length contacts + length rest ≡ length all
+
+pub none_made : (all : List Peer) → AreMade all all []
+none_made all = record { each = refl; numbers = tt; long = omega arith }
+
+numbers_more : (contacts : List Contact) (c : Contact) → IsNumber c → AllByRecursion IsNumber contacts
+    → AllByRecursion IsNumber (contacts ++ c ∷ [])
+numbers_more [] c is all = (is, tt)
+numbers_more (d ∷ ds) c is all = (all.0, numbers_more ds c is all.1)
+
+pub one_made : (all : List Peer) (p : Peer) (rest : List Peer) (contacts : List Contact) (c : Contact)
+    → AreMade all (p ∷ rest) contacts → contact_seen c ≡ peer_seen p → IsNumber c
+    → AreMade all rest (contacts ++ c ∷ [])
+one_made all p rest contacts c made same is = record {
+  each = ap (λ (l : List (ℕ × Reach)). l ++ map peer_seen rest) (map-append contact_seen contacts (c ∷ []))
+      ∙ append_assoc (map contact_seen contacts) (contact_seen c ∷ []) (map peer_seen rest)
+      ∙ ap (λ (x : ℕ × Reach). map contact_seen contacts ++ (x ∷ map peer_seen rest)) same
+      ∙ made.each;
+  numbers = numbers_more contacts c is made.numbers;
+  long = let e = made.long in omega (arith, e, length-append contacts (c ∷ []));
+}
+
+pub all_made : (all : List Peer) (contacts : List Contact) → AreMade all [] contacts → map contact_seen contacts ≡ map peer_seen all
+all_made all contacts made = sym (append-nil (map contact_seen contacts)) ∙ made.each
+
+-- numbers of members, each once, are no more than 64
+within : (xs : List ℕ) → AllByRecursion (λ m. (1 ≤ m) × (m ≤ 64)) xs → (q : ℕ) → list_any (nat_eq q) xs ≡ true → (1 ≤ q) × (q ≤ 64)
+within [] all q is = absurd cc
+within (x ∷ xs) all q is = ⊎_elim
+    (λ (here : nat_eq q x ≡ true). let same : q ≡ x = grind (arith, here) in rw same all.0)
+    (λ (there : list_any (nat_eq q) xs ≡ true). within xs all.1 q there)
+    (or_cases (nat_eq q x) (list_any (nat_eq q) xs) is)
+
+-- a number from this one on stands among so many
+stands : (n a q : ℕ) → a ≤ q → q < a + n → list_any (nat_eq q) (range_with_len a n) ≡ true
+stands zero a q low high = absurd (omega arith)
+stands (suc n) a q low high = ⊎_elim
+    (λ (here : q ≡ a). let f : nat_eq q a ≡ true = grind (arith, nat_tests) in rw f refl)
+    (λ (other : q ≡ a → ⊥). let f : nat_eq q a ≡ false = grind (arith, nat_tests) in rw f (stands n (a + 1) q (omega arith) (omega arith)))
+    (cases_eq q a)
+
+pub are_few : (xs : List ℕ) → IsDistinct nat_eq xs → AllByRecursion (λ m. (1 ≤ m) × (m ≤ 64)) xs → length xs ≤ 64
+are_few xs once all =
+    length-le_from_is_member nat_eq_equiv xs (range_with_len 1 64) once
+    (λ q is. let bounds = within xs all q is in stands 64 1 q bounds.0 (omega (arith, bounds.1)))
+
+apart : (x : ℕ) (xs : List ℕ) → list_any (nat_eq x) xs ≡ false → AllByRecursion (λ y. nat_eq x y ≡ false) xs
+apart x [] none = tt
+apart x (y ∷ ys) none = (grind (arith, none), apart x ys (grind (arith, none)))
+
+pub distinct : (xs : List ℕ) → are_different nat_eq xs ≡ true → IsDistinct nat_eq xs
+unfolding IsDistinct
+distinct [] same = tt
+distinct (x ∷ xs) same = (apart x xs (grind (arith, same)), distinct xs (grind (arith, same)))
+
+pub first_off : {A : Type 0} (xs ys : List A) (x : A) → 0 < length xs → x ≡ slice_index_or xs 0 x → ys ≡ remove xs 0
+    → xs ≡ x ∷ ys
+first_off [] ys x lt e f = absurd (omega (arith, lt))
+first_off (a ∷ more) ys x lt e f = cc

@@ -1,0 +1,99 @@
+-- What settings that can be run say of a core and its peers.
+use Rattle.std.proofs.Common.{◌≡◌, ◌≢◌, ◌<◌, ◌≤◌, ◌⊎◌, ℕ, zero, suc, List, [], ◌∷◌, length, map, refl, sym, ap, ◌∙◌, subst, arith, Bool, true, false, ⊎_elim}
+use Rattle.std.specs.Prelude.{nat_eq, ◌==◌, ◌||◌, IsSome, slice_index_or}
+use Rattle.std.specs.List.{All, AllByRecursion, IsDistinct, list_all, list_any}
+use Rattle.std.proofs.lemmas.Bool.{or_cases}
+use Rattle.std.proofs.lemmas.List.{length-map}
+use Rattle.xl_tags.specs.Opening.{HasKeys}
+use Rattle.xl_tags.specs.Rings.{Ring, key_of}
+use Rattle.xl_core.specs.Rest.{IsKeyed}
+use Rattle.xl_settings.specs.declared.peers.Peer.{Peer}
+use Rattle.xl_settings.specs.Different.{are_different}
+use Rattle.xl_settings.specs.Peers.{PeerSetting, are_peers, is_peer, setting_of}
+use Rattle.xl_base.specs.declared.ids.TxId.{TxId}
+use Rattle.xl_heartbeat.specs.declared.timing.Timing.{Timing}
+use Rattle.xl_settings.specs.declared.settings.Settings.{Settings}
+use Rattle.xl_workers.specs.declared.plan.Contact.{Contact}
+use Rattle.xl_workers.specs.declared.plan.Plan.{Plan}
+use Rattle.xl_workers.specs.Linking.{contact_of}
+use Rattle.xl_validator.specs.Contacts.{contact_seen, peer_seen, IsNumber}
+use Rattle.xl_validator.specs.Openings.{Task, members_of, number_of, task_of, timing_of}
+use Rattle.xl_validator.specs.Preparing.{task_in}
+use Rattle.xl_validator.proofs.Sharing.{HasKey}
+use Rattle.xl_validator.proofs.Listing.{are_few, distinct}
+
+pub not_me : (me : ℕ) (members : List ℕ) (ps : List PeerSetting) → are_peers me members ps ≡ true → is_peer ps me ≡ false
+not_me me members ps are = grind (arith, are)
+
+pub are_apart : (me : ℕ) (members : List ℕ) (ps : List PeerSetting) → are_peers me members ps ≡ true → are_different nat_eq (map number_of ps) ≡ true
+are_apart me members ps are = grind (arith, are)
+
+are_listed : (me : ℕ) (members : List ℕ) (ps : List PeerSetting) → are_peers me members ps ≡ true → list_all (λ m. m == me || is_peer ps m) members ≡ true
+are_listed me members ps are = grind (arith, are)
+
+-- who is a peer has a key
+met : (keys : Ring) (peers : List Peer) (m : ℕ) → All (HasKey keys) peers → is_peer (map setting_of peers) m ≡ true → IsSome (key_of keys m)
+met keys [] m each is = absurd cc
+met keys (p ∷ ps) m each is = ⊎_elim
+    (λ (here : (m == p.number) ≡ true).
+        let same : m ≡ p.number = grind (arith, here) in
+        ap (λ (n : ℕ). Rattle.std.specs.Option.is_some (key_of keys n)) same ∙ each 0 p (omega arith))
+    (λ (there : is_peer (map setting_of ps) m ≡ true). met keys ps m (λ k d small. each (suc k) d (omega (arith, small))) there)
+    (or_cases (m == p.number) (is_peer (map setting_of ps) m) is)
+
+listed_has : (keys : Ring) (me : ℕ) (peers : List Peer) (members : List ℕ) → keys.me ≡ me → All (HasKey keys) peers
+    → list_all (λ m. m == me || is_peer (map setting_of peers) m) members ≡ true → HasKeys keys members
+listed_has keys me peers [] own each are = λ k d small. absurd (omega (arith, small))
+listed_has keys me peers (m ∷ ms) own each are = go
+  where
+    go : HasKeys keys (m ∷ ms)
+    go zero d small = λ other. ⊎_elim
+        (λ (here : (m == me) ≡ true). absurd (other (let same : m ≡ me = grind (arith, here) in same ∙ sym own)))
+        (λ (there : is_peer (map setting_of peers) m ≡ true). met keys peers m each there)
+        (or_cases (m == me) (is_peer (map setting_of peers) m) (grind (arith, are)))
+    go (suc k) d small = listed_has keys me peers ms own each (grind (arith, are)) k d (omega (arith, small))
+
+pub keyed : (keys : Ring) (me : ℕ) (peers : List Peer) (members : List ℕ) → keys.me ≡ me → All (HasKey keys) peers
+    → are_peers me members (map setting_of peers) ≡ true → IsKeyed me members keys
+keyed keys me peers members own each are = record {
+  own = own;
+  listed = listed_has keys me peers members own each (are_listed me members (map setting_of peers) are);
+}
+
+-- the contacts have the peers' numbers
+pub same_numbers : (contacts : List Contact) (peers : List Peer) → map contact_seen contacts ≡ map peer_seen peers
+    → map contact_of contacts ≡ map number_of (map setting_of peers)
+same_numbers [] [] same = refl
+same_numbers [] (p ∷ ps) same = cc
+same_numbers (c ∷ cs) [] same = cc
+same_numbers (c ∷ cs) (p ∷ ps) same =
+    let first : contact_seen c ≡ peer_seen p = cc in
+    let number : contact_of c ≡ p.number = ap (λ x. x.0) first in
+    let rest = same_numbers cs ps cc in
+    cc
+
+pub all_keyed : (keys : Ring) (peers : List Peer) → All (HasKey keys) peers
+    → AllByRecursion (λ m. IsSome (key_of keys m)) (map number_of (map setting_of peers))
+all_keyed keys [] each = tt
+all_keyed keys (p ∷ ps) each = (each 0 p (omega arith), all_keyed keys ps (λ k d small. each (suc k) d (omega (arith, small))))
+
+in_range : (contacts : List Contact) → AllByRecursion IsNumber contacts → AllByRecursion (λ m. (1 ≤ m) × (m ≤ 64)) (map contact_of contacts)
+in_range [] all = tt
+in_range (c ∷ cs) all = (all.0, in_range cs all.1)
+
+pub few_contacts : (contacts : List Contact) → IsDistinct nat_eq (map contact_of contacts) → AllByRecursion IsNumber contacts → length contacts ≤ 64
+few_contacts contacts once all =
+    let few = are_few (map contact_of contacts) once (in_range contacts all) in
+    omega (arith, few, length-map contact_of contacts)
+
+abbrev task : ℕ → List TxId → List ℕ → Timing → Task
+task turns submits members timing = record { turns = turns; submits = submits; members = members; timing = timing }
+
+pub same_task : (s : Settings) (moment : ℕ) (plan : Plan) → plan.turns ≡ s.turns → plan.submits.items ≡ s.submit
+    → map contact_of plan.contacts.items ≡ members_of s → plan.timing ≡ timing_of s moment
+    → task_in plan ≡ task_of s moment
+same_task s moment plan turns submits members timing =
+    ap (λ (x : ℕ). task x plan.submits.items (map contact_of plan.contacts.items) plan.timing) turns
+    ∙ ap (λ (x : List TxId). task s.turns x (map contact_of plan.contacts.items) plan.timing) submits
+    ∙ ap (λ (x : List ℕ). task s.turns s.submit x plan.timing) members
+    ∙ ap (λ (x : Timing). task s.turns s.submit (members_of s) x) timing
