@@ -1,5 +1,5 @@
 -- A heartbeat goes on by one call.
-use Rattle.std.proofs.Common.{◌≡◌, ◌<◌, ◌≤◌, Bool, true, false, ◌++◌, ◌∷◌, ℕ, List, [], Some, None, length, take, refl, sym, ap, ◌∙◌, append-nil, subst, arith}
+use Rattle.std.proofs.Common.{◌≡◌, ◌<◌, ◌≤◌, Bool, true, false, ◌++◌, ◌∷◌, ℕ, List, [], length, take, refl, sym, ap, ◌∙◌, append-nil, subst, arith}
 use Rattle.std.specs.Prelude.{drop}
 use Rattle.std.specs.List.{flat_map}
 use Rattle.std.proofs.lemmas.Grind.{flat_map-append}
@@ -9,8 +9,8 @@ use Rattle.xl_turns.specs.declared.pass.Pass.{Pass}
 use Rattle.xl_turns.specs.Passes.{known}
 use Rattle.xl_core.specs.declared.beat.Beat.{Beat}
 use Rattle.xl_core.specs.declared.report.Report.{Report}
-use Rattle.xl_core.specs.declared.event.CoreEvent.TheVariants.{Timer, Reports, Stop}
-use Rattle.xl_core.specs.Answers.{Beats, Done, Handed, handed_in}
+use Rattle.xl_core.specs.declared.event.CoreEvent.TheVariants.{Reports, Stop}
+use Rattle.xl_core.specs.Answers.{Done, Handed, handed_in}
 use Rattle.xl_core.specs.Core.{Core}
 use Rattle.xl_store.specs.declared.entry.Entry.{Entry}
 use Rattle.xl_store.specs.declared.store.Store.{Store}
@@ -22,13 +22,12 @@ use Rattle.xl_store.proofs.Making.{made_none, made_both}
 use Rattle.xl_heartbeat.specs.declared.timing.Timing.{Timing}
 use Rattle.xl_heartbeat.specs.declared.ends.Ending.{Ending}
 use Rattle.xl_heartbeat.specs.declared.ends.Ending.TheVariants as ending
-use Rattle.xl_heartbeat.specs.declared.ends.Stopping.{Stopping}
 use Rattle.xl_heartbeat.specs.declared.ends.Stopping.TheVariants as stopping
 use Rattle.xl_heartbeat.specs.declared.ends.BeatEnd.{BeatEnd}
 use Rattle.xl_heartbeat.specs.declared.room.TheConstants.{ROOM}
 use Rattle.xl_heartbeat.specs.Lines.{report_line, report_lines}
 use Rattle.xl_heartbeat.specs.Outputs.{Output, Adds, AddsLess, IsWritten}
-use Rattle.xl_heartbeat.specs.Beats.{timer, reports, Phase, after_beat, is_over, IsBeating, IsReason, Heartbeat, TakesReports, lines_of, taking_calls, stop_calls}
+use Rattle.xl_heartbeat.specs.Beats.{timer, reports, Phase, after_beat, is_over, IsBeating, IsReason, Heartbeat, TakesReports, lines_of, stop_calls}
 use Rattle.xl_heartbeat.specs.Going.{Beating, Beaten, Follows, Stops, ending_of, after_reports}
 use Rattle.xl_heartbeat.proofs.Writing.{adds_none, adds_both, written_both}
 

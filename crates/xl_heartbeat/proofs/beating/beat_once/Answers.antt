@@ -2,7 +2,6 @@ use Rattle.std.proofs.Common.{sym, subst, ◌∙◌, ap}
 use Rattle.xl_turns.specs.Passes.{known}
 use Rattle.xl_store.specs.Stores.{start_of, turns_of}
 use Rattle.xl_heartbeat.specs.Outputs.{output}
-use Rattle.xl_heartbeat.specs.Beats.{is_over}
 use Rattle.xl_heartbeat.specs.Going.{Beaten, Follows, after_reports}
 use Rattle.xl_heartbeat.proofs.Pulses.{timed, taken, not_timed}
 use Rattle.xl_heartbeat.proofs.beating.beat_once.Goals as goal
