@@ -1,5 +1,5 @@
 -- A heartbeat goes on by one call.
-use Rattle.std.proofs.Common.{◌≡◌, ◌<◌, ◌≤◌, Bool, true, false, ◌++◌, ◌∷◌, ℕ, List, [], Some, None, length, take, refl, sym, ap, ◌∙◌, append-nil, subst, arith}
+use Rattle.std.proofs.Common.{◌≡◌, ◌<◌, ◌≤◌, Bool, true, false, ◌++◌, ◌∷◌, ℕ, List, [], length, take, refl, sym, ap, ◌∙◌, append-nil, subst, arith}
 use Rattle.std.specs.Prelude.{drop}
 use Rattle.std.specs.List.{flat_map}
 use Rattle.std.proofs.lemmas.Grind.{flat_map-append}
@@ -9,8 +9,8 @@ use Rattle.xl_turns.specs.declared.pass.Pass.{Pass}
 use Rattle.xl_turns.specs.Passes.{known}
 use Rattle.xl_core.specs.declared.beat.Beat.{Beat}
 use Rattle.xl_core.specs.declared.report.Report.{Report}
-use Rattle.xl_core.specs.declared.event.CoreEvent.TheVariants.{Timer, Reports, Stop}
-use Rattle.xl_core.specs.Answers.{Beats, Done, Handed, handed_in}
+use Rattle.xl_core.specs.declared.event.CoreEvent.TheVariants.{Reports, Stop}
+use Rattle.xl_core.specs.Answers.{Done, Handed, handed_in}
 use Rattle.xl_core.specs.Core.{Core}
 use Rattle.xl_store.specs.declared.entry.Entry.{Entry}
 use Rattle.xl_store.specs.declared.store.Store.{Store}
@@ -22,20 +22,20 @@ use Rattle.xl_store.proofs.Making.{made_none, made_both}
 use Rattle.xl_heartbeat.specs.declared.timing.Timing.{Timing}
 use Rattle.xl_heartbeat.specs.declared.ends.Ending.{Ending}
 use Rattle.xl_heartbeat.specs.declared.ends.Ending.TheVariants as ending
-use Rattle.xl_heartbeat.specs.declared.ends.Stopping.{Stopping}
 use Rattle.xl_heartbeat.specs.declared.ends.Stopping.TheVariants as stopping
 use Rattle.xl_heartbeat.specs.declared.ends.BeatEnd.{BeatEnd}
 use Rattle.xl_heartbeat.specs.declared.room.TheConstants.{ROOM}
 use Rattle.xl_heartbeat.specs.Lines.{report_line, report_lines}
 use Rattle.xl_heartbeat.specs.Outputs.{Output, Adds, AddsLess, IsWritten}
-use Rattle.xl_heartbeat.specs.Beats.{timer, reports, Phase, after_beat, is_over, IsBeating, IsReason, Heartbeat, TakesReports, lines_of, taking_calls, stop_calls}
+use Rattle.xl_heartbeat.specs.Beats.{timer, reports, Phase, after_beat, is_over, IsBeating, IsReason, Heartbeat, TakesReports, lines_of, stop_calls}
 use Rattle.xl_heartbeat.specs.Going.{Beating, Beaten, Follows, Stops, ending_of, after_reports}
 use Rattle.xl_heartbeat.proofs.Writing.{adds_none, adds_both, written_both}
 
 lines_more : (calls more : List Call) → lines_of (calls ++ more) ≡ lines_of calls ++ lines_of more
 lines_more calls more =
     let f : Call → _ = λ (call : Call). handed_in call.answer in
-    ap (flat_map report_line) (flat_map-append f calls more) ∙ flat_map-append report_line (flat_map f calls) (flat_map f more)
+    ap (flat_map report_line) (flat_map-append f calls more)
+    ∙ flat_map-append report_line (flat_map f calls) (flat_map f more)
 
 -- a call that had no turn leaves nothing unwritten
 adds_as : (e : StoreEnd) (text : List ℕ) (old new : Output) → Adds text old new → IsWritten (ending_of e) text old new
@@ -46,8 +46,8 @@ adds_as (refused.StoreFull n) text old new a = a
 lines_same : (calls more : List Call) → lines_of more ≡ [] → lines_of (calls ++ more) ≡ lines_of calls
 lines_same calls more e = lines_more calls more ∙ ap (λ t. lines_of calls ++ t) e ∙ append-nil (lines_of calls)
 
-reason_later : (turns : ℕ) (calls : List Call) (phase : Phase) (mid new : ℕ) (e : Ending) → (mid ≡ turns → new ≡ turns)
-    → IsReason turns calls phase mid e → IsReason turns calls phase new e
+reason_later : (turns : ℕ) (calls : List Call) (phase : Phase) (mid new : ℕ) (e : Ending)
+    → (mid ≡ turns → new ≡ turns) → IsReason turns calls phase mid e → IsReason turns calls phase new e
 reason_later turns calls phase mid new ending.Done full r = r
 reason_later turns calls phase mid new ending.WriteFault full r = r
 reason_later turns calls phase mid new ending.OutOfMemory full r = r
@@ -80,7 +80,8 @@ module _ (start : Core) (turns : ℕ) (may : ℕ → Bool) (timing : Timing) (k0
       → Beating start may timing k0 o0 phase new o'
   taken_all phase k new o o' now is b t = record {
     calls = b.calls ++ reports t.handed ∷ [];
-    run = subst (λ p. IsBeating may timing (b.calls ++ reports t.handed ∷ []) p) is (IsBeating.takes b.calls now t.handed b.run);
+    run = subst (λ p. IsBeating may timing (b.calls ++ reports t.handed ∷ []) p) is
+        (IsBeating.takes b.calls now t.handed b.run);
     made = made_both start k0 k new b.calls (reports t.handed ∷ []) b.made t.made;
     drawn = let p = b.drawn in let q = t.drawn in omega arith;
     adds = subst (λ l. Adds l o0 o') (sym (lines_more b.calls (reports t.handed ∷ [])))
@@ -110,8 +111,9 @@ module _ (start : Core) (turns : ℕ) (may : ℕ → Bool) (timing : Timing) (k0
   taken_done false k new o o' now is b t = taken_all Phase.Beats k new o o' now (rw is refl) b t
 
   -- the call had no turn
-  pub cut : (e : StoreEnd) (p : Phase) (k new : Knowledge Entry) (o : Output) → Made start k new [] → k.drawn ≤ new.drawn
-      → (b : Beating start may timing k0 o0 p k o) → IsReason turns b.calls p new.drawn (ending_of e)
+  pub cut : (e : StoreEnd) (p : Phase) (k new : Knowledge Entry) (o : Output) → Made start k new []
+      → k.drawn ≤ new.drawn → (b : Beating start may timing k0 o0 p k o)
+      → IsReason turns b.calls p new.drawn (ending_of e)
       → Beaten start turns may timing k0 o0 (ending_of e) new o
   cut e p k new o made later b reason = record {
     calls = b.calls;
@@ -144,7 +146,8 @@ module _ (start : Core) (turns : ℕ) (may : ℕ → Bool) (timing : Timing) (k0
     run = subst (λ cs. IsBeating may timing cs (Phase.Takes now)) (sym (append-nil b.calls)) b.run;
     made = made_both start k0 k new b.calls [] b.made t.made;
     drawn = let p = b.drawn in let q = t.drawn in omega arith;
-    written = subst (λ l. Adds l o0 o') (sym (lines_more b.calls [])) (adds_both o0 o o' (lines_of b.calls) [] b.adds t.written);
+    written = subst (λ l. Adds l o0 o') (sym (lines_more b.calls []))
+        (adds_both o0 o o' (lines_of b.calls) [] b.adds t.written);
     reason = tt;
   }
   taken (ending.StoreFull n) k new o o' now b t = record {
@@ -153,7 +156,8 @@ module _ (start : Core) (turns : ℕ) (may : ℕ → Bool) (timing : Timing) (k0
     run = subst (λ cs. IsBeating may timing cs (Phase.Takes now)) (sym (append-nil b.calls)) b.run;
     made = made_both start k0 k new b.calls [] b.made t.made;
     drawn = let p = b.drawn in let q = t.drawn in omega arith;
-    written = subst (λ l. Adds l o0 o') (sym (lines_more b.calls [])) (adds_both o0 o o' (lines_of b.calls) [] b.adds t.written);
+    written = subst (λ l. Adds l o0 o') (sym (lines_more b.calls []))
+        (adds_both o0 o o' (lines_of b.calls) [] b.adds t.written);
     reason = (tt, t.full.0, t.full.1);
   }
 
@@ -184,8 +188,9 @@ module _ {B K : Type 0} (store : Store B K) where
   refused_reason old new (refused.StoreFull n) calls why = (tt, why.0, ap (λ (k : Knowledge Entry). k.drawn) why.2)
 
   -- the timer had no turn
-  pub not_timed : (may : ℕ → Bool) (timing : Timing) (k0 : Knowledge Entry) (o0 : Output) (old new : Pass Entry) (o : Output)
-      (e : StoreEnd) → Beating (start_of store) may timing k0 o0 Phase.Beats (known old) o → Refused store old e new
+  pub not_timed : (may : ℕ → Bool) (timing : Timing) (k0 : Knowledge Entry) (o0 : Output) (old new : Pass Entry)
+      (o : Output) (e : StoreEnd) → Beating (start_of store) may timing k0 o0 Phase.Beats (known old) o
+      → Refused store old e new
       → Beaten (start_of store) (turns_of store) may timing k0 o0 (ending_of e) (known new) o
   not_timed may timing k0 o0 old new o e b r =
       cut (start_of store) (turns_of store) may timing k0 o0 e Phase.Beats (known old) (known new) o r.made
@@ -246,7 +251,10 @@ module _ {B K : Type 0} (store : Store B K) where
         ∙ take-append_seam out.reports (drop count before)
 
     made : Made (start_of store) (known old) (known new) (reports out.reports ∷ [])
-    made = subst (λ (n : ℕ). Made (start_of store) (known old) (known new) (record { event = Reports n; answer = Handed out.reports } ∷ [])) full out.called.made
+    made = subst
+        (λ (n : ℕ). Made (start_of store) (known old) (known new)
+        (record { event = Reports n; answer = Handed out.reports } ∷ []))
+        full out.called.made
 
     lines : report_lines (take count after) ≡ lines_of (reports out.reports ∷ [])
     lines = ap report_lines front ∙ ap report_lines (sym (append-nil out.reports))

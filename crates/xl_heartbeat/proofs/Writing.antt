@@ -1,5 +1,5 @@
 -- A text is written in parts.
-use Rattle.std.proofs.Common.{◌≡◌, ◌+◌, ◌<◌, ◌≤◌, ◌++◌, ◌∷◌, length, take, get_or, ℕ, List, [], refl, sym, ap, ◌∙◌, subst, append_assoc, append-nil, length-append, arith, OnErr, Ok, Err}
+use Rattle.std.proofs.Common.{◌≡◌, ◌+◌, ◌<◌, ◌++◌, ◌∷◌, length, take, get_or, ℕ, List, [], sym, ap, ◌∙◌, subst, append_assoc, append-nil, length-append, arith, OnErr, Ok, Err}
 use Rattle.std.specs.Prelude.{drop}
 use Rattle.std.specs.declared.result.Result.{Result}
 use Rattle.std.proofs.lemmas.List.{take_more, take-append-drop}

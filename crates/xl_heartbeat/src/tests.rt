@@ -96,7 +96,7 @@ fn a_failing_write_ends_the_beats(rt: HostRuntime) -> Result<(), Fail> {
     assert!(rt; end.stop == Stopping::Done);
     assert!(rt; last == Ending::Done);
     assert_eq!(rt; moment, 18_000);
-    assert!(rt; sink.held() == b"full 1 ");
+    assert!(rt; sink.held() == b"full 1 ".as_slice());
     assert!(rt; status_of_run(end, last) == Status::WriteFault);
     Ok(())
 }

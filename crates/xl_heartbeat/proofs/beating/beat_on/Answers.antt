@@ -7,8 +7,8 @@ use Rattle.xl_heartbeat.proofs.beating.beat_on.Goals as goal
 pub loop-init : goal.loop-init
 loop-init g c = record {
   pass = c.requires.pass;
-  far = beating_starts (start_of c.args.store.now) (turns_of c.args.store.now) (g.C.Clock.may_give c.args.clock.now) c.args.timing
-      (known c.args.pass.now) (output (g.O.Sink.held c.args.sink.now) (g.O.Sink.faults c.args.sink.now));
+  far = beating_starts (start_of c.args.store.now) (turns_of c.args.store.now) (g.C.Clock.may_give c.args.clock.now)
+      c.args.timing (known c.args.pass.now) (output (g.O.Sink.held c.args.sink.now) (g.O.Sink.faults c.args.sink.now));
 }
 
 pub loop-preserved : goal.loop-preserved

@@ -7,4 +7,5 @@ use Rattle.xl_heartbeat.proofs.lines.write_reports.Given as goal
 abbrev pub invariant-loop-report : goal.invariant-loop-report
 invariant-loop-report g l =
     Adds (report_lines (take l.report-index l.reports))
-    (output (g.O.Sink.held l.initial.sink) (g.O.Sink.faults l.initial.sink)) (output (g.O.Sink.held l.sink) (g.O.Sink.faults l.sink))
+    (output (g.O.Sink.held l.initial.sink) (g.O.Sink.faults l.initial.sink))
+    (output (g.O.Sink.held l.sink) (g.O.Sink.faults l.sink))

@@ -23,6 +23,8 @@ returns-in-Err-write_reports-clause-takes g c =
 pub returns-in-Err-clause-takes : goal.returns-in-Err-clause-takes
 returns-in-Err-clause-takes g c =
     let same = output (g.O.Sink.held c.args.sink.now) (g.O.Sink.faults c.args.sink.now) in
-    subst (λ e. TakesReports (start_of c.args.store.now) (turns_of c.args.store.now) (known c.args.pass.now) same e (known c.reports.new.pass) same)
+    let start = start_of c.args.store.now in
+    let turns = turns_of c.args.store.now in
+    subst (λ e. TakesReports start turns (known c.args.pass.now) same e (known c.reports.new.pass) same)
     (sym c.ending_of.ensures)
     (not_taken c.args.store.now c.args.pass.now c.reports.new.pass same c.in-Err.end c.in-Err.ensures.refused)
