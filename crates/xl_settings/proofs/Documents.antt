@@ -15,7 +15,8 @@ use Rattle.xl_settings.specs.declared.settings.Settings.{Settings}
 pub is_short : (n : ℕ) → n ≤ MOST_BYTES → nat_lt MOST_BYTES n ≡ false
 is_short n small = grind (arith, nat_tests)
 
-pub a_document : (bytes : List ℕ) (table : Members) → IsUtf8 bytes → parse_document bytes ≡ Some table → document_of bytes ≡ Some table
+pub a_document : (bytes : List ℕ) (table : Members) → IsUtf8 bytes → parse_document bytes ≡ Some table
+    → document_of bytes ≡ Some table
 a_document bytes table valid is = rw (is_utf8-from_IsUtf8 bytes valid) is
 
 pub no_document : (bytes : List ℕ) → (IsUtf8 bytes → parse_document bytes ≡ None) → document_of bytes ≡ None
@@ -25,8 +26,10 @@ no_document bytes none = go (is_utf8 bytes) refl
     go true e = rw e (none (IsUtf8-from_is_utf8 bytes e))
     go false e = rw e refl
 
-pub within : (bytes : List ℕ) (found : Option Members) → length bytes ≤ MOST_BYTES → document_of bytes ≡ found → settings_of bytes ≡ in_document found
+pub within : (bytes : List ℕ) (found : Option Members) → length bytes ≤ MOST_BYTES → document_of bytes ≡ found
+    → settings_of bytes ≡ in_document found
 within bytes found small is = rw (is_short (length bytes) small) (ap in_document is)
 
-pub given_as : (a b : Result Settings SettingsRefusal) (result : Result Settings SettingsFault) → a ≡ b → GivenMemory result b → GivenMemory result a
+pub given_as : (a b : Result Settings SettingsRefusal) (result : Result Settings SettingsFault) → a ≡ b
+    → GivenMemory result b → GivenMemory result a
 given_as a b result same h = subst (λ (x : Result Settings SettingsRefusal). GivenMemory result x) (sym same) h

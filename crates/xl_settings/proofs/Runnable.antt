@@ -39,14 +39,16 @@ whole_bounded least most n value e = go (as_integer value) e
     go None e = cc
     go (Some z) e = bounded least most n z e
 
-usual_bounded : (usual least most n : ℕ) (o : Option Data) → least ≤ usual → usual ≤ most → or_default usual (whole least most) o ≡ Some n
+usual_bounded : (usual least most n : ℕ) (o : Option Data) → least ≤ usual → usual ≤ most
+    → or_default usual (whole least most) o ≡ Some n
     → (least ≤ n) × (n ≤ most)
 usual_bounded usual least most n None low high e =
     let same : usual ≡ n = same_Some usual n e in
     (omega (arith, low, same), omega (arith, high, same))
 usual_bounded usual least most n (Some value) low high e = whole_bounded least most n value e
 
-fits : (me : ℕ) (members : List ℕ) (found : Option (List PeerSetting)) (ps : List PeerSetting) → option_and_then (fitting me members) found ≡ Some ps
+fits : (me : ℕ) (members : List ℕ) (found : Option (List PeerSetting)) (ps : List PeerSetting)
+    → option_and_then (fitting me members) found ≡ Some ps
     → are_peers me members ps ≡ true
 fits me members None ps e = cc
 fits me members (Some qs) ps e = go (are_peers me members qs) refl e
@@ -71,9 +73,12 @@ table_runs table s e =
     got key.Submit (submits_at table) _ s (AreRunnable s) (λ submit submit_is e9.
     got key.Peer (peers_in me list.members (at key.Peer table)) _ s (AreRunnable s) (λ peers peers_is e10.
     subst AreRunnable (same_Ok _ _ s refl e10) (record {
-      limit = usual_bounded USUAL_LIMIT LEAST_LIMIT GREATEST_LIMIT limit (at key.Limit table) (omega arith) (omega arith) limit_is;
-      turns = usual_bounded USUAL_TURNS 1 GREATEST_TURNS turns (at key.Turns table) (omega arith) (omega arith) turns_is;
-      heartbeat = usual_bounded USUAL_HEARTBEAT_MS LEAST_HEARTBEAT_MS GREATEST_HEARTBEAT_MS heartbeat_ms (at key.HeartbeatMs table) (omega arith) (omega arith) heartbeat_is;
+      limit = usual_bounded USUAL_LIMIT LEAST_LIMIT GREATEST_LIMIT limit (at key.Limit table) (omega arith)
+          (omega arith) limit_is;
+      turns = usual_bounded USUAL_TURNS 1 GREATEST_TURNS turns (at key.Turns table) (omega arith)
+          (omega arith) turns_is;
+      heartbeat = usual_bounded USUAL_HEARTBEAT_MS LEAST_HEARTBEAT_MS GREATEST_HEARTBEAT_MS heartbeat_ms
+          (at key.HeartbeatMs table) (omega arith) (omega arith) heartbeat_is;
       run = (usual_bounded 0 0 GREATEST_RUN_MS run_ms (at key.RunMs table) (omega arith) (omega arith) run_is).1;
       peers = fits me list.members (found_peers (at key.Peer table)) peers peers_is;
     }))
@@ -95,6 +100,7 @@ can_run bytes s e = long (nat_lt MOST_BYTES (length bytes)) e
     long true e = cc
     long false e = found (document_of bytes) e
 
-pub runs_of : (bytes : List ℕ) (result : Result Settings SettingsFault) → GivenMemory result (settings_of bytes) → IfOk result AreRunnable
+pub runs_of : (bytes : List ℕ) (result : Result Settings SettingsFault) → GivenMemory result (settings_of bytes)
+    → IfOk result AreRunnable
 runs_of bytes (Ok s) is = can_run bytes s is
 runs_of bytes (Err fault) is = tt

@@ -16,12 +16,14 @@ pub prepend-none : (left : Option (List ℕ)) → left ≡ prepend_known [] left
 prepend-none None = refl
 prepend-none (Some xs) = refl
 
-pub prepend-twice : (bytes more : List ℕ) (left : Option (List ℕ)) → prepend_known bytes (prepend_known more left) ≡ prepend_known (bytes ++ more) left
+pub prepend-twice : (bytes more : List ℕ) (left : Option (List ℕ))
+    → prepend_known bytes (prepend_known more left) ≡ prepend_known (bytes ++ more) left
 prepend-twice bytes more None = refl
 prepend-twice bytes more (Some xs) = ap Some (sym (append_assoc bytes more xs))
 
 -- what came before, and the next piece of it
-pub came_more : (old mid new : Option (List ℕ)) (bytes more : List ℕ) → old ≡ prepend_known bytes mid → mid ≡ prepend_known more new → old ≡ prepend_known (bytes ++ more) new
+pub came_more : (old mid new : Option (List ℕ)) (bytes more : List ℕ) → old ≡ prepend_known bytes mid
+    → mid ≡ prepend_known more new → old ≡ prepend_known (bytes ++ more) new
 came_more old mid new bytes more first then_ = first ∙ ap (prepend_known bytes) then_ ∙ prepend-twice bytes more new
 
 is_long : (n : ℕ) → MOST_BYTES < n → nat_lt MOST_BYTES n ≡ true
@@ -37,31 +39,38 @@ below : (n : ℕ) → nat_lt MOST_BYTES n ≡ false → n ≤ MOST_BYTES
 below n e = grind (arith, nat_tests)
 
 -- a front that is long is refused as the whole is, and else it is the whole
-front_says : (bytes rest : List ℕ) → (length bytes ≤ MOST_BYTES → rest ≡ []) → settings_of (bytes ++ rest) ≡ settings_of bytes
+front_says : (bytes rest : List ℕ) → (length bytes ≤ MOST_BYTES → rest ≡ [])
+    → settings_of (bytes ++ rest) ≡ settings_of bytes
 front_says bytes rest ended = go (nat_lt MOST_BYTES (length bytes)) refl
   where
     go : (b : Bool) → nat_lt MOST_BYTES (length bytes) ≡ b → settings_of (bytes ++ rest) ≡ settings_of bytes
     go true e =
-        let longer : MOST_BYTES < length (bytes ++ rest) = omega (arith, above (length bytes) e, length-append bytes rest) in
+        let longer : MOST_BYTES < length (bytes ++ rest) =
+        omega (arith, above (length bytes) e, length-append bytes rest) in
         too_long (bytes ++ rest) (is_long (length (bytes ++ rest)) longer) ∙ sym (too_long bytes e)
     go false e = rw (ended (below (length bytes) e)) (ap settings_of (append-nil bytes))
 
-with_reads : (result : Result Settings SettingsFault) (said : Result Settings SettingsRefusal) → GivenMemory result said → GivenBytes result said
+with_reads : (result : Result Settings SettingsFault) (said : Result Settings SettingsRefusal)
+    → GivenMemory result said → GivenBytes result said
 with_reads (Ok x) said h = h
 with_reads (Err (Refused refusal)) said h = h
 with_reads (Err Read) said h = absurd h
 with_reads (Err OutOfMemory) said h = tt
 
-pub given_bytes : (old new : Option (List ℕ)) (bytes : List ℕ) (result : Result Settings SettingsFault) → old ≡ prepend_known bytes new → (length bytes ≤ MOST_BYTES → IsAtEnd new)
+pub given_bytes : (old new : Option (List ℕ)) (bytes : List ℕ) (result : Result Settings SettingsFault)
+    → old ≡ prepend_known bytes new → (length bytes ≤ MOST_BYTES → IsAtEnd new)
     → GivenMemory result (settings_of bytes) → IfSome old (λ all. GivenBytes result (settings_of all))
 given_bytes old None bytes result came ended said = rw came tt
 given_bytes old (Some rest) bytes result came ended said =
-    rw came (subst (λ (x : Result Settings SettingsRefusal). GivenBytes result x) (sym (front_says bytes rest ended)) (with_reads result (settings_of bytes) said))
+    rw came (subst (λ (x : Result Settings SettingsRefusal). GivenBytes result x)
+    (sym (front_says bytes rest ended)) (with_reads result (settings_of bytes) said))
 
-read_out_of : (result : Result Settings SettingsFault) (said : Result Settings SettingsRefusal) (left : Option (List ℕ)) → GivenMemory result said → (said ≡ Err Length) ⊎ IsAtEnd left → IsReadOut result left
+read_out_of : (result : Result Settings SettingsFault) (said : Result Settings SettingsRefusal)
+    (left : Option (List ℕ)) → GivenMemory result said → (said ≡ Err Length) ⊎ IsAtEnd left → IsReadOut result left
 read_out_of result said left h (inr ended) = all_left result left ended
   where
-    all_left : (result : Result Settings SettingsFault) (left : Option (List ℕ)) → IsAtEnd left → IsReadOut result left
+    all_left : (result : Result Settings SettingsFault) (left : Option (List ℕ)) → IsAtEnd left
+        → IsReadOut result left
     all_left (Ok x) left ended = ended
     all_left (Err (Refused Length)) left ended = tt
     all_left (Err (Refused Text)) left ended = ended
@@ -77,7 +86,8 @@ read_out_of (Err (Refused (Known name))) said left h (inl long) = cc
 read_out_of (Err Read) said left h (inl long) = tt
 read_out_of (Err OutOfMemory) said left h (inl long) = tt
 
-pub left_nothing : (bytes : List ℕ) (left : Option (List ℕ)) (result : Result Settings SettingsFault) → (length bytes ≤ MOST_BYTES → IsAtEnd left) → GivenMemory result (settings_of bytes) → IsReadOut result left
+pub left_nothing : (bytes : List ℕ) (left : Option (List ℕ)) (result : Result Settings SettingsFault)
+    → (length bytes ≤ MOST_BYTES → IsAtEnd left) → GivenMemory result (settings_of bytes) → IsReadOut result left
 left_nothing bytes left result ended said = go (nat_lt MOST_BYTES (length bytes)) refl
   where
     go : (b : Bool) → nat_lt MOST_BYTES (length bytes) ≡ b → IsReadOut result left
@@ -85,7 +95,9 @@ left_nothing bytes left result ended said = go (nat_lt MOST_BYTES (length bytes)
     go false e = read_out_of result (settings_of bytes) left said (inr (ended (below (length bytes) e)))
 
 -- a fault that refuses nothing says nothing of the bytes
-pub by_fault : (old left : Option (List ℕ)) (fault : SettingsFault) → IsNoRefusal fault → IfSome old (λ all. GivenBytes {A = Settings} (Err fault) (settings_of all)) × IsReadOut {A = Settings} (Err fault) left
+pub by_fault : (old left : Option (List ℕ)) (fault : SettingsFault) → IsNoRefusal fault
+    → IfSome old (λ all. GivenBytes {A = Settings} (Err fault) (settings_of all)) × IsReadOut {A =
+    Settings} (Err fault) left
 by_fault old left (Refused refusal) h = absurd h
 by_fault None left Read h = (tt, tt)
 by_fault (Some all) left Read h = (tt, tt)

@@ -16,10 +16,15 @@ front_of_first old new a b f = record {
 
 pub less_of_first : (old new : Option (List ℕ)) (a b : List ℕ) → GrewByLess old new a → GrewByLess old new (a ++ b)
 unfolding front_of_first
-less_of_first old new a b less = (front_of_first old new a b less.0, omega (arith, less.1, length-append less.0.missing b))
+less_of_first old new a b less = (
+  front_of_first old new a b less.0,
+  omega
+      (arith, less.1, length-append less.0.missing b),
+)
 
 -- the first text, and a front of the second
-pub front_of_second : (old mid new : Option (List ℕ)) (a b : List ℕ) → mid ≡ append_known old a → GrewByFront mid new b → GrewByFront old new (a ++ b)
+pub front_of_second : (old mid new : Option (List ℕ)) (a b : List ℕ) → mid ≡ append_known old a
+    → GrewByFront mid new b → GrewByFront old new (a ++ b)
 front_of_second old mid new a b first f = record {
   written = a ++ f.written;
   missing = f.missing;
@@ -27,12 +32,14 @@ front_of_second old mid new a b first f = record {
   held = f.held ∙ ap (λ known. append_known known f.written) first ∙ append_known-twice old a f.written;
 }
 
-pub less_of_second : (old mid new : Option (List ℕ)) (a b : List ℕ) → mid ≡ append_known old a → GrewByLess mid new b → GrewByLess old new (a ++ b)
+pub less_of_second : (old mid new : Option (List ℕ)) (a b : List ℕ) → mid ≡ append_known old a
+    → GrewByLess mid new b → GrewByLess old new (a ++ b)
 unfolding front_of_second
 less_of_second old mid new a b first less = (front_of_second old mid new a b first less.0, less.1)
 
 -- both
-pub both : (old mid new : Option (List ℕ)) (a b : List ℕ) → mid ≡ append_known old a → new ≡ append_known mid b → new ≡ append_known old (a ++ b)
+pub both : (old mid new : Option (List ℕ)) (a b : List ℕ) → mid ≡ append_known old a → new ≡ append_known mid b
+    → new ≡ append_known old (a ++ b)
 both old mid new a b first second = second ∙ ap (λ known. append_known known b) first ∙ append_known-twice old a b
 
 -- a fact stands by any answer

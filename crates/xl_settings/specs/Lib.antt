@@ -1,10 +1,10 @@
 pub mod Keys
+pub mod First
 pub mod Values
 pub mod Different
 pub mod Submits
 pub mod Peers
 pub mod Settings
+pub mod Runnable
 pub mod Answers
 pub mod Lines
-pub mod First
-pub mod Runnable

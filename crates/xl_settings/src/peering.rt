@@ -81,7 +81,8 @@ fn peer_in(alloc: Global, value: &Value) -> Result<Option<Peer>, OutOfMemory>
 /// The peer that a table with no other keys is.
 fn made_peer(alloc: Global, table: &Table) -> Result<Option<Peer>, OutOfMemory>
     ensures { IfOk result (λ peer. option_map setting_of peer
-        ≡ made_peer (number_at (table_view table.now)) (key_at (table_view table.now)) (reach_at (table_view table.now))) }
+        ≡ made_peer (number_at (table_view table.now)) (key_at (table_view table.now))
+        (reach_at (table_view table.now))) }
 {
     match (number_at(table), key_at(table), way_at(alloc, table)?) {
         (Some(number), Some(key), Some(way)) => Ok(Some(Peer { number, key, way })),

@@ -10,12 +10,15 @@ loop-value-init c = rw c.new-peers.ensures (after_none (all_read peer_in (map vi
 
 pub returns-in_default : goal.returns-in_default
 returns-in_default c =
-    sym (c.loop-value.invariant ∙ unread peer_in c.loop-value.peers c.args.values.now c.loop-value.value-index c.value-item.result c.loop-value-test.true (search rules))
+    sym (c.loop-value.invariant ∙ unread peer_in c.loop-value.peers c.args.values.now c.loop-value.value-index
+    c.value-item.result c.loop-value-test.true (search rules))
 
 pub loop-value-preserved : goal.loop-value-preserved
 loop-value-preserved c =
     let items : c.push.new.self ≡ c.loop-value.peers ++ setting_of c.in-Some.peer ∷ [] = search rules in
-    rw items (c.loop-value.invariant ∙ read_on peer_in c.loop-value.peers c.args.values.now c.loop-value.value-index c.value-item.result (setting_of c.in-Some.peer) c.loop-value-test.true (search rules))
+    rw items (c.loop-value.invariant ∙ read_on peer_in c.loop-value.peers c.args.values.now c.loop-value.value-index
+    c.value-item.result (setting_of c.in-Some.peer) c.loop-value-test.true (search rules))
 
 pub returns : goal.returns
-returns c = sym (c.loop-value.invariant ∙ all_done peer_in c.loop-value.peers c.args.values.now c.loop-value.value-index c.loop-value-test.false)
+returns c = sym (c.loop-value.invariant
+    ∙ all_done peer_in c.loop-value.peers c.args.values.now c.loop-value.value-index c.loop-value-test.false)

@@ -6,4 +6,5 @@ use Rattle.xl_settings.proofs.Reading.{after}
 use Rattle.xl_settings.proofs.peering.read_peers.Given as goal
 
 abbrev pub invariant-loop-value : goal.invariant-loop-value
-invariant-loop-value l = all_read peer_in (map view l.fn.values) ≡ after l.peers (all_read peer_in (map view (drop l.value-index l.fn.values)))
+invariant-loop-value l = all_read peer_in (map view l.fn.values) ≡ after l.peers (all_read peer_in (map view
+    (drop l.value-index l.fn.values)))
