@@ -1,4 +1,4 @@
--- The heartbeat of a running node, and its last reports. Source: this project's own.
+-- The heartbeat of a running node, and how reports are taken. Source: this project's own.
 use Rattle.std.specs.Prelude.{◌≡◌, ℕ, ◌+◌, ◌==◌, ◌&&◌, ◌≤◌, nat_le, Bool, true, not, List, [], ◌∷◌, ◌++◌, if◌then◌else◌}
 use Rattle.std.specs.List.{flat_map}
 use Rattle.xl_turns.specs.declared.view.Knowledge.{Knowledge}
@@ -99,12 +99,12 @@ pub record Heartbeat
   pub reason : IsReason turns calls phase new.drawn end.run
   pub stopped : IsStop turns new.drawn end.stop
 
--- the one call of the last reports, which handed these out, unless it had no turn
-abbrev pub last_calls : Ending → List Report → List Call
-last_calls ending.Done handed = reports handed ∷ []
-last_calls ending.WriteFault handed = reports handed ∷ []
-last_calls ending.OutOfMemory handed = []
-last_calls (ending.StoreFull n) handed = []
+-- the one call that takes reports, which handed these out, unless it had no turn
+abbrev pub taking_calls : Ending → List Report → List Call
+taking_calls ending.Done handed = reports handed ∷ []
+taking_calls ending.WriteFault handed = reports handed ∷ []
+taking_calls ending.OutOfMemory handed = []
+taking_calls (ending.StoreFull n) handed = []
 
 -- a full store is named only where all turns are drawn
 abbrev pub IsFull : ℕ → ℕ → Ending → Type 0
@@ -113,14 +113,14 @@ IsFull turns drawn ending.WriteFault = Unit {0}
 IsFull turns drawn ending.OutOfMemory = Unit {0}
 IsFull turns drawn (ending.StoreFull n) = (n ≡ turns) × (drawn ≡ turns)
 
--- The last reports of a pass: its one call stands in the history at the place that the pass gained, and the lines of
--- what it handed out were added to the output
-pub record LastReports
+-- A pass takes reports: its one call stands in the history at the place that the pass gained, and the lines of what it
+-- handed out were added to the output
+pub record TakesReports
     (start : Core) (turns : ℕ)
     (old : Knowledge Entry) (old_output : Output) (end : Ending) (new : Knowledge Entry) (new_output : Output)
     : Type 0 where
   pub handed : List Report
-  pub made : Made start old new (last_calls end handed)
+  pub made : Made start old new (taking_calls end handed)
   pub drawn : old.drawn ≤ new.drawn
-  pub written : IsWritten end (lines_of (last_calls end handed)) old_output new_output
+  pub written : IsWritten end (lines_of (taking_calls end handed)) old_output new_output
   pub full : IsFull turns new.drawn end

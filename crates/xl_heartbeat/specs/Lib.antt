@@ -2,3 +2,4 @@ pub mod Lines
 pub mod Outputs
 pub mod Beats
 pub mod Statuses
+pub mod Going

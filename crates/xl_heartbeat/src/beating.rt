@@ -1,16 +1,24 @@
 ghost use Rattle.std.specs.Prelude.{◌≡◌};
+ghost use Rattle.xl_turns.specs.declared.view.Knowledge.{Knowledge};
 ghost use Rattle.xl_turns.specs.Passes.{known};
+ghost use Rattle.xl_store.specs.declared.entry.Entry.{Entry};
 ghost use Rattle.xl_store.specs.Stores.{start_of, turns_of, IsOf};
-ghost use Rattle.xl_heartbeat.specs.Outputs.{output};
+ghost use Rattle.xl_heartbeat.specs.Outputs.{Output, output};
 ghost use Rattle.xl_heartbeat.specs.Beats.{Heartbeat};
+ghost use Rattle.xl_heartbeat.specs.Beats.Phase.{Beats};
+ghost use Rattle.xl_heartbeat.specs.Going.{Beating, Beaten, Follows, Stops};
 
-use crate::ends::BeatEnd;
+use crate::ends::{BeatEnd, Ending, Stopping, after_reports, ending_of};
+use crate::reporting::take_reports;
 use crate::timing::Timing;
 use std::sync::Wait;
 use xl_io::{Keeper, Sink};
 use xl_ledger::Branch;
 use xl_links::Clock;
-use xl_store::{Pass, Store};
+use xl_store::{Pass, Store, StoreEnd};
+
+/// How long to wait before the store is told again that the node is to stop, in milliseconds.
+const PAUSE: u32 = 1000;
 
 /// Beats until the time of the run is over, and then tells the store that the node is to stop.
 ///
@@ -32,6 +40,79 @@ pub fn beat<W: Wait, B: Branch + Drop, K: Keeper + Drop, O: Sink, C: Clock>(
         (known pass.old) (output (O.held sink.old) (O.faults sink.old)) result
         (known pass.new) (output (O.held sink.new) (O.faults sink.new)) }
 {
-    for _ in rt.forever() {}
+    let run = beat_on(rt, store, clock, sink, timing, pass);
+    let stop = tell_to_stop(rt, store, clock, pass);
+    BeatEnd { run, stop }
+}
+
+/// Beats until no further beat is to come, and answers why.
+fn beat_on<W: Wait, B: Branch + Drop, K: Keeper + Drop, O: Sink, C: Clock>(
+    rt: &W,
+    store: &Store<B, K>,
+    clock: &C,
+    sink: &mut O,
+    timing: Timing,
+    pass: &mut Pass,
+) -> Ending
+    requires pass { IsOf store.now pass.old }
+    ensures pass { IsOf store.now pass.new }
+    ensures beaten { Beaten (start_of store.now) (turns_of store.now) (C.may_give clock.now) timing
+        (known pass.old) (output (O.held sink.old) (O.faults sink.old)) result
+        (known pass.new) (output (O.held sink.new) (O.faults sink.new)) }
+{
+    for _ in rt.forever() {
+        match beat_once(rt, store, clock, sink, timing, pass) {
+            None => {}
+            Some(end) => return end,
+        }
+    }
+    unreachable!()
+}
+
+/// One beat, and why it was the last, if it was.
+fn beat_once<W: Wait, B: Branch + Drop, K: Keeper + Drop, O: Sink, C: Clock>(
+    rt: &W,
+    store: &Store<B, K>,
+    clock: &C,
+    sink: &mut O,
+    timing: Timing,
+    pass: &mut Pass,
+) -> Option<Ending>
+    requires pass { IsOf store.now pass.old }
+    ensures pass { IsOf store.now pass.new }
+    ensures follows { (k : Knowledge Entry) (o : Output)
+        → Beating (start_of store.now) (C.may_give clock.now) timing k o Beats
+        (known pass.old) (output (O.held sink.old) (O.faults sink.old))
+        → Follows (start_of store.now) (turns_of store.now) (C.may_give clock.now) timing k o result
+        (known pass.new) (output (O.held sink.new) (O.faults sink.new)) }
+{
+    clock.wait(timing.every);
+    let now = clock.now();
+    match store.timer(rt, pass, now) {
+        Ok(_) => {}
+        Err(end) => return Some(ending_of(end)),
+    }
+    let taken = take_reports(rt, store, sink, pass);
+    after_reports(taken, timing.is_over(now))
+}
+
+/// Tells the store that the node is to stop, again while memory is wanting.
+fn tell_to_stop<W: Wait, B: Branch + Drop, K: Keeper + Drop, C: Clock>(
+    rt: &W,
+    store: &Store<B, K>,
+    clock: &C,
+    pass: &mut Pass,
+) -> Stopping
+    requires pass { IsOf store.now pass.old }
+    ensures pass { IsOf store.now pass.new }
+    ensures stops { Stops (start_of store.now) (turns_of store.now) (known pass.old) result (known pass.new) }
+{
+    for _ in rt.forever() {
+        match store.stop(rt, pass) {
+            Ok(()) => return Stopping::Done,
+            Err(StoreEnd::OutOfMemory) => clock.wait(PAUSE),
+            Err(StoreEnd::StoreFull(limit)) => return Stopping::StoreFull(limit),
+        }
+    }
     unreachable!()
 }

@@ -1,3 +1,8 @@
+ghost use Rattle.std.specs.Prelude.{◌≡◌};
+ghost use Rattle.xl_heartbeat.specs.Going.{ending_of, after_reports};
+
+use xl_store::StoreEnd;
+
 /// How a part of a run ended.
 #[derive(Clone, Copy, Debug, PartialEq, Eq)]
 pub enum Ending {
@@ -23,4 +28,29 @@ pub enum Stopping {
 pub struct BeatEnd {
     pub run: Ending,
     pub stop: Stopping,
+}
+
+/// How a part of a run ends whose call had no turn.
+pub(crate) fn ending_of(end: StoreEnd) -> Ending
+    ensures { result ≡ ending_of end }
+{
+    match end {
+        StoreEnd::OutOfMemory => Ending::OutOfMemory,
+        StoreEnd::StoreFull(limit) => Ending::StoreFull(limit),
+    }
+}
+
+/// Why a beat was the last, if it was, once its reports were taken and the time of the run may be over.
+pub(crate) fn after_reports(taken: Ending, over: bool) -> Option<Ending>
+    ensures { result ≡ after_reports taken over }
+{
+    match taken {
+        Ending::Done => {
+            if over {
+                return Some(Ending::Done);
+            }
+            None
+        }
+        Ending::WriteFault | Ending::OutOfMemory | Ending::StoreFull(_) => Some(taken),
+    }
 }

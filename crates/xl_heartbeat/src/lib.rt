@@ -11,14 +11,18 @@
 
 mod beating;
 mod ends;
-mod last;
+mod lines;
+mod reporting;
 mod room;
 mod status;
 mod timing;
 
 pub use beating::beat;
 pub use ends::{BeatEnd, Ending, Stopping};
-pub use last::last_reports;
+pub use reporting::take_reports;
 pub use room::ROOM;
 pub use status::status_of_run;
 pub use timing::Timing;
+
+#[cfg(test)]
+mod tests;

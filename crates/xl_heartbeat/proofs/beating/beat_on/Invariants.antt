@@ -1,0 +1,14 @@
+use Rattle.xl_turns.specs.Passes.{known}
+use Rattle.xl_store.specs.Stores.{start_of, IsOf}
+use Rattle.xl_heartbeat.specs.Outputs.{output}
+use Rattle.xl_heartbeat.specs.Beats.Phase.{Beats}
+use Rattle.xl_heartbeat.specs.Going.{Beating}
+use Rattle.xl_heartbeat.proofs.beating.beat_on.Given as goal
+
+abbrev pub invariant-loop : goal.invariant-loop
+invariant-loop g l = record {
+  pass : IsOf l.store l.pass;
+  far : Beating (start_of l.store) (g.C.Clock.may_give l.clock) l.timing
+      (known l.initial.pass) (output (g.O.Sink.held l.initial.sink) (g.O.Sink.faults l.initial.sink)) Beats
+      (known l.pass) (output (g.O.Sink.held l.sink) (g.O.Sink.faults l.sink));
+}
