@@ -75,11 +75,14 @@ after_beats : (xs ys : List ℕ) (old mid new : Output) (run last : Ending) (sto
 after_beats xs ys old mid new ending.Done ending.Done stopping.Done a b = adds_both xs ys old mid new a b
 after_beats xs ys old mid new ending.Done ending.Done (stopping.StoreFull n) a b = adds_both xs ys old mid new a b
 after_beats xs ys old mid new ending.Done ending.WriteFault stopping.Done a b = less_second xs ys old mid new a b
-after_beats xs ys old mid new ending.Done ending.WriteFault (stopping.StoreFull n) a b = less_second xs ys old mid new a b
+after_beats xs ys old mid new ending.Done ending.WriteFault (stopping.StoreFull n) a b =
+    less_second xs ys old mid new a b
 after_beats xs ys old mid new ending.Done ending.OutOfMemory stopping.Done a b = adds_both xs ys old mid new a b
-after_beats xs ys old mid new ending.Done ending.OutOfMemory (stopping.StoreFull n) a b = adds_both xs ys old mid new a b
+after_beats xs ys old mid new ending.Done ending.OutOfMemory (stopping.StoreFull n) a b =
+    adds_both xs ys old mid new a b
 after_beats xs ys old mid new ending.Done (ending.StoreFull k) stopping.Done a b = adds_both xs ys old mid new a b
-after_beats xs ys old mid new ending.Done (ending.StoreFull k) (stopping.StoreFull n) a b = adds_both xs ys old mid new a b
+after_beats xs ys old mid new ending.Done (ending.StoreFull k) (stopping.StoreFull n) a b =
+    adds_both xs ys old mid new a b
 after_beats xs ys old mid new ending.WriteFault ending.Done stop a b = same_after xs ys old mid new a b
 after_beats xs ys old mid new ending.WriteFault ending.WriteFault stop a b = same_after xs ys old mid new a b
 after_beats xs ys old mid new ending.WriteFault ending.OutOfMemory stop a b = same_after xs ys old mid new a b

@@ -188,11 +188,11 @@ module _ {B K L : Type 0} (store : Store B K) (may : ℕ → Bool) (shows : L �
           record {
             phase = j.beating.phase;
             run = j.beating.run;
-            stand = stands (start_of store) (known heart) (known beaten) (j.beating.calls ++ stop_calls end.stop) history
-                j.beating.made j.all.idle
+            stand = stands (start_of store) (known heart) (known beaten) (j.beating.calls ++ stop_calls end.stop)
+                history j.beating.made j.all.idle
                 (prefix_trans (known beaten).seen (known pass).seen history beat_in_pass close.begins);
-            reason = reason_longer (turns_of store) j.beating.calls j.beating.phase (known beaten).drawn (length history)
-                end.run le'' close.limit j.beating.reason;
+            reason = reason_longer (turns_of store) j.beating.calls j.beating.phase (known beaten).drawn
+                (length history) end.run le'' close.limit j.beating.reason;
             stopped = stop_longer (turns_of store) (known beaten).drawn (length history) end.stop le'' close.limit
                 j.beating.stopped;
           }

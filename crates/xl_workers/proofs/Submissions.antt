@@ -36,7 +36,8 @@ module _ (start : Core) (may : ℕ → Bool) (old : Knowledge Entry) where
   submits_stay ids mid new s made = record {
     calls = s.calls;
     each = s.each;
-    made = subst (λ cs. Made start old new cs) (append-nil s.calls) (made_both start old mid new s.calls [] s.made made);
+    made = subst (λ cs. Made start old new cs) (append-nil s.calls)
+        (made_both start old mid new s.calls [] s.made made);
   }
 
 -- why a call had no turn

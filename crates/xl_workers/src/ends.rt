@@ -8,10 +8,7 @@ use xl_heartbeat::{BeatEnd, Ending, status_of_run};
 #[derive(Clone, Copy, Debug, PartialEq, Eq)]
 pub enum RunEnd {
     /// The heartbeat and the workers ran. The heartbeat ended so, and then the last reports did.
-    Ran {
-        beats: BeatEnd,
-        last: Ending,
-    },
+    Ran { beats: BeatEnd, last: Ending },
     /// The hub could not make a link: its count of faults rose. Nothing but the submits happened at the core.
     NetFault,
     /// Memory was wanting before the heartbeat and the workers ran.

@@ -26,7 +26,10 @@ pub(crate) fn join_all<B: Branch + Drop, K: Keeper + Drop, L: Drop>(
     let mut pass = first;
     let mut rest = workers;
     while !rest.is_empty() {
-        let Worker { peer: _, pass: other } = rest.remove(0);
+        let Worker {
+            peer: _,
+            pass: other,
+        } = rest.remove(0);
         pass = store.join(pass, other);
     }
     pass

@@ -22,7 +22,8 @@ mod worker;
 mod working;
 
 pub use ends::RunEnd;
-pub use linking::Peer;
 pub use plan::{Contact, Plan};
 pub use running::{Ran, node};
-pub use worker::Worker;
+
+#[cfg(test)]
+mod tests;

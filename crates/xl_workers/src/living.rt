@@ -46,7 +46,9 @@ fn take_last<W: Wait, B: Branch + Drop, K: Keeper + Drop, O: Sink>(
 {
     match beats {
         Ending::WriteFault => take_reports(rt, store, &mut Discard, pass),
-        Ending::Done | Ending::OutOfMemory | Ending::StoreFull(_) => take_reports(rt, store, sink, pass),
+        Ending::Done | Ending::OutOfMemory | Ending::StoreFull(_) => take_reports(
+            rt, store, sink, pass,
+        ),
     }
 }
 
@@ -176,8 +178,7 @@ pub(crate) fn live<
     ensures pass { IsOf store.now result.1 }
     ensures later { H.faults hub.old ≤ H.faults hub.new }
     ensures unopened { (n : ℕ) → result.0 ≡ RunEnd.StoreFull n → hub.new ≡ hub.old }
-    ensures lived {
-        Lived (setting (start_of store.now) (turns_of store.now) (C.may_give clock.now) (H.gives hub.old))
+    ensures lived { Lived (setting (start_of store.now) (turns_of store.now) (C.may_give clock.now) (H.gives hub.old))
         (doing ids.now (map contact_of contacts.items) timing (H.faults hub.old) (H.faults hub.new)
         (output (O.held sink.old) (O.faults sink.old)) (output (O.held sink.new) (O.faults sink.new)))
         result.0 (known result.1) }

@@ -52,14 +52,7 @@ pub(crate) fn work_all<
     L: Link + Send,
     G: Gate + Sync,
     C: Clock + Sync,
->(
-    rt: &W,
-    alloc: Global,
-    store: &Store<B, K>,
-    workers: &mut [Worker<L>],
-    gate: &G,
-    clock: &C,
-)
+>(rt: &W, alloc: Global, store: &Store<B, K>, workers: &mut [Worker<L>], gate: &G, clock: &C)
     requires ready { AreReady store.now workers.old }
     ensures served { HaveServed store.now (C.may_give clock.now) L.shows workers.old workers.new }
     ensures long { length workers.new ≡ length workers.old }

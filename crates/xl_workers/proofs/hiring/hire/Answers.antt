@@ -20,7 +20,8 @@ loop-rest-init g c = record {
 
 pub split-mine-requires-clause-share : goal.split-mine-requires-clause-share
 split-mine-requires-clause-share g c =
-    let some_left : 0 < length c.loop-rest.rest.items = omega (arith, c.loop-rest.rest.ok.0, c.remove-peer.ensures.len) in
+    let some_left : 0 < length c.loop-rest.rest.items = omega
+    (arith, c.loop-rest.rest.ok.0, c.remove-peer.ensures.len) in
     let off = first_off c.loop-rest.rest.items c.remove-peer.new.self.items c.remove-peer.result some_left
     c.remove-peer.ensures.value c.remove-peer.ensures.items in
     let before = subst
@@ -32,7 +33,8 @@ split-mine-requires-clause-share g c =
 
 pub loop-rest-preserved : goal.loop-rest-preserved
 loop-rest-preserved g c =
-    let some_left : 0 < length c.loop-rest.rest.items = omega (arith, c.loop-rest.rest.ok.0, c.remove-peer.ensures.len) in
+    let some_left : 0 < length c.loop-rest.rest.items = omega
+    (arith, c.loop-rest.rest.ok.0, c.remove-peer.ensures.len) in
     let off = first_off c.loop-rest.rest.items c.remove-peer.new.self.items c.remove-peer.result some_left
     c.remove-peer.ensures.value c.remove-peer.ensures.items in
     let before = subst

@@ -17,7 +17,8 @@ join-pass-requires-clause-one g c = c.loop-rest.invariant.pass
 
 pub join-pass-requires-clause-other : goal.join-pass-requires-clause-other
 join-pass-requires-clause-other g c =
-    let some_left : 0 < length c.loop-rest.rest.items = omega (arith, c.loop-rest.rest.ok.0, c.remove-other.ensures.len) in
+    let some_left : 0 < length c.loop-rest.rest.items = omega
+    (arith, c.loop-rest.rest.ok.0, c.remove-other.ensures.len) in
     let off = first_off c.loop-rest.rest.items c.remove-other.new.self.items c.remove-other.result some_left
     c.remove-other.ensures.value c.remove-other.ensures.items in
     (subst
@@ -27,7 +28,8 @@ join-pass-requires-clause-other g c =
 
 pub loop-rest-preserved : goal.loop-rest-preserved
 loop-rest-preserved g c =
-    let some_left : 0 < length c.loop-rest.rest.items = omega (arith, c.loop-rest.rest.ok.0, c.remove-other.ensures.len) in
+    let some_left : 0 < length c.loop-rest.rest.items = omega
+    (arith, c.loop-rest.rest.ok.0, c.remove-other.ensures.len) in
     let off = first_off c.loop-rest.rest.items c.remove-other.new.self.items c.remove-other.result some_left
     c.remove-other.ensures.value c.remove-other.ensures.items in
     let before = subst

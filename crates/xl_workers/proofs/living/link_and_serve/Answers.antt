@@ -1,4 +1,5 @@
-use Rattle.std.proofs.Common.{ℕ, List, length, map, refl, sym, ap, subst, arith, length-map}
+use Rattle.std.proofs.Common.{ℕ, List, length, map, refl, sym, ap, subst, arith}
+use Rattle.std.proofs.lemmas.List.{length-map}
 use Rattle.std.specs.Prelude.{IsSome}
 use Rattle.std.specs.List.{AllByRecursion}
 use Rattle.xl_tags.specs.Rings.{key_of}
@@ -22,12 +23,11 @@ serve_all-requires-clause-peers g c κs lives =
 pub serve_all-requires-clause-few : goal.serve_all-requires-clause-few
 serve_all-requires-clause-few g c κs lives =
     let same = ap (length {A = ℕ}) c.in-Ok.ensures.linked.members in
-    omega
-    (
+    omega (
       arith,
       same,
-      length-map member_of c.in-Ok.peers.items,
-      length-map contact_of c.args.contacts.items,
+      length-map c.in-Ok.peers.items member_of,
+      length-map c.args.contacts.items contact_of,
       c.requires.few,
     )
 

@@ -16,4 +16,4 @@ returns-in-WriteFault-clause-last g c =
     let new = known c.take_reports.new.pass in
     let last = c.take_reports.result in
     subst (λ (beats : Ending). TookLast start turns beats old o last new o) (sym c.in-WriteFault.is)
-    (took_away start turns old new o o last _ _ refl c.take_reports.ensures.last)
+    (took_away start turns old new o o last _ _ refl c.take_reports.ensures.takes)

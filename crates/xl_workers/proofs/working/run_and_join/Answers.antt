@@ -18,8 +18,10 @@ join_all-requires-clause-workers g c =
     let new : List (Worker g.row.L.Denot) = c.run-beats.new.workers in
     let old : List (Worker g.row.L.Denot) = c.args.workers.items in
     let was = c.as_mut_slice.ensures.value in
-    let long : length new ≡ length old = c.run-beats.ensures.long ∙ ap (λ (l : List (Worker g.row.L.Denot)). length l) was in
-    let served = subst (λ (l : List (Worker g.row.L.Denot)). HaveServed store may shows l new) was c.run-beats.ensures.served in
+    let long : length new ≡ length old = c.run-beats.ensures.long
+    ∙ ap (λ (l : List (Worker g.row.L.Denot)). length l) was in
+    let served = subst (λ (l : List (Worker g.row.L.Denot)). HaveServed store may shows l new) was
+    c.run-beats.ensures.served in
     let back = put_back new old c.args.workers.len long (let e = c.args.workers.ok.0 in omega (arith, e)) in
     subst (λ (l : List (Worker g.row.L.Denot)). AllByRecursion (IsHis store) l) (sym back)
     (all_his store may shows old new served long)
@@ -32,8 +34,10 @@ returns-clause-worked g c gives told =
     let new : List (Worker g.row.L.Denot) = c.run-beats.new.workers in
     let old : List (Worker g.row.L.Denot) = c.args.workers.items in
     let was = c.as_mut_slice.ensures.value in
-    let long : length new ≡ length old = c.run-beats.ensures.long ∙ ap (λ (l : List (Worker g.row.L.Denot)). length l) was in
-    let served = subst (λ (l : List (Worker g.row.L.Denot)). HaveServed store may shows l new) was c.run-beats.ensures.served in
+    let long : length new ≡ length old = c.run-beats.ensures.long
+    ∙ ap (λ (l : List (Worker g.row.L.Denot)). length l) was in
+    let served = subst (λ (l : List (Worker g.row.L.Denot)). HaveServed store may shows l new) was
+    c.run-beats.ensures.served in
     let back = put_back new old c.args.workers.len long (let e = c.args.workers.ok.0 in omega (arith, e)) in
     let joins = subst
     (λ (l : List (Worker g.row.L.Denot)).
@@ -57,5 +61,5 @@ returns-clause-worked g c gives told =
       each = each;
       all = c.requires.all;
     } in
-    worked store may shows c.args.timing c.args.first c.args.heart c.run-beats.new.pass c.join-one.result c.join_all.result
-    o1 o2 c.run-beats.result old new j gives told
+    worked store may shows c.args.timing c.args.first c.args.heart c.run-beats.new.pass c.join-one.result
+    c.join_all.result o1 o2 c.run-beats.result old new j gives told
