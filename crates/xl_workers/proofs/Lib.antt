@@ -1,0 +1,9 @@
+pub mod Pairs
+pub mod Submissions
+pub mod Links
+pub mod Hires
+pub mod Joins
+pub mod Starts
+pub mod Shared
+pub mod Outcomes
+pub mod Lives

@@ -1,0 +1,173 @@
+-- A run, as its parts say it.
+use Rattle.std.proofs.Common.{◌≡◌, ◌≤◌, ◌^◌, ◌⊎◌, Bool, ℕ, Option, List, [], ◌∷◌, ◌++◌, length, map, refl, sym, ap, ◌∙◌, subst, arith}
+use Rattle.std.specs.List.{AllByRecursion}
+use mathlib.Core.List.{IsPrefix}
+use Rattle.xl_base.specs.Faults.{Rose}
+use Rattle.xl_base.specs.declared.ids.TxId.{TxId}
+use Rattle.xl_turns.specs.declared.view.Knowledge.{Knowledge}
+use Rattle.xl_turns.specs.Knowing.{newcomer, whole}
+use Rattle.xl_turns.specs.Places.{all_below}
+use Rattle.xl_turns.proofs.Prefixes.{prefix_all, prefix_trans}
+use Rattle.xl_core.specs.Core.{Core}
+use Rattle.xl_store.specs.declared.entry.Entry.{Entry}
+use Rattle.xl_store.specs.declared.store.StoreEnd.{StoreEnd}
+use Rattle.xl_store.specs.declared.store.StoreEnd.TheVariants as refused
+use Rattle.xl_store.specs.Calls.{Made}
+use Rattle.xl_store.proofs.Making.{rise_wider, prefix_length}
+use Rattle.xl_store.proofs.Journals.{stand_in_longer}
+use Rattle.xl_heartbeat.specs.declared.timing.Timing.{Timing}
+use Rattle.xl_heartbeat.specs.declared.ends.BeatEnd.{BeatEnd}
+use Rattle.xl_heartbeat.specs.declared.ends.Ending.{Ending}
+use Rattle.xl_heartbeat.specs.declared.ends.Ending.TheVariants as ending
+use Rattle.xl_heartbeat.specs.Outputs.{Output}
+use Rattle.xl_heartbeat.specs.Beats.{taking_calls, TakesReports}
+use Rattle.xl_workers.specs.declared.ends.RunEnd.{RunEnd}
+use Rattle.xl_workers.specs.declared.ends.RunEnd.TheVariants as end
+use Rattle.xl_workers.specs.Submits.{Submitted, SubmittedFront}
+use Rattle.xl_workers.specs.Sharing.{Setting, SharedOut, SubmitPart}
+use Rattle.xl_workers.specs.Runs.{Doing, doing, NoMore, NodeRun}
+use Rattle.xl_workers.specs.Working.{Closes, Worked, TookLast, Lives, Lived, end_of}
+use Rattle.xl_workers.proofs.Shared.{stands, full_longer}
+use Rattle.xl_workers.proofs.Outcomes.{outputs}
+
+-- what closes a later pass's store closes an earlier one's
+closes_earlier : (turns : ℕ) (old new : Knowledge Entry) (history : List Entry) → IsPrefix old.seen new.seen
+    → old.drawn ≤ new.drawn → Closes turns new history → Closes turns old history
+closes_earlier turns old new history begins drawn close = record {
+  begins = prefix_trans old.seen new.seen history begins close.begins;
+  drawn = let le = close.drawn in omega (arith, le, drawn);
+  limit = close.limit;
+}
+
+-- reports that are taken after a heartbeat
+module _ (start : Core) (turns : ℕ) (old new : Knowledge Entry) (o1 o2 : Output) (last : Ending) where
+  -- no write's fault had ended it
+  pub took_more : (beats : Ending) → (beats ≡ ending.WriteFault → ⊥) → TakesReports start turns old o1 last new o2
+      → TookLast start turns beats old o1 last new o2
+  took_more ending.Done other t =
+      record { handed = t.handed; made = t.made; drawn = t.drawn; full = t.full; written = t.written }
+  took_more ending.WriteFault other t = absurd (other refl)
+  took_more ending.OutOfMemory other t =
+      record { handed = t.handed; made = t.made; drawn = t.drawn; full = t.full; written = t.written }
+  took_more (ending.StoreFull n) other t =
+      record { handed = t.handed; made = t.made; drawn = t.drawn; full = t.full; written = t.written }
+
+  -- a write's fault had: what they hand out goes elsewhere
+  pub took_away : (e1 e2 : Output) → o2 ≡ o1 → TakesReports start turns old e1 last new e2
+      → TookLast start turns ending.WriteFault old o1 last new o2
+  took_away e1 e2 same t =
+      record { handed = t.handed; made = t.made; drawn = t.drawn; full = t.full; written = same }
+
+module _ (s : Setting) where
+  shared_out : (timing : Timing) (members : List ℕ) (old mid new : Knowledge Entry) (o1 o2 o3 : Output)
+      (beats : BeatEnd) (last : Ending) (w : Worked s timing members old o1 beats mid o2)
+      (t : TookLast s.start s.turns beats.run mid o2 last new o3)
+      (history : List Entry) → Closes s.turns new history → new.mine ≡ all_below (length history)
+      → SharedOut s timing members history old.mine beats last o1 o3
+  shared_out timing members old mid new o1 o2 o3 beats last w t history close all =
+      let before = closes_earlier s.turns mid new history t.made.begins t.drawn close in
+      record {
+        beat = w.beat;
+        parts = w.parts;
+        end = t.made.places;
+        calls = w.calls;
+        handed = t.handed;
+        all = ap (λ (l : List ℕ). l ++ t.made.places) (sym w.mine) ∙ sym t.made.mine ∙ all;
+        beating = w.beating history before;
+        serving = w.serving history before;
+        ending = record {
+          stand = record {
+            at = stand_in_longer s.start new.seen history t.made.places (taking_calls last t.handed) close.begins
+                t.made.stand;
+            rise = rise_wider (length mid.seen) (length new.seen) 0 (length history) t.made.places (omega arith)
+                (prefix_length new.seen history close.begins) t.made.rise;
+          };
+          full = full_longer s.turns new.drawn (length history) last close.drawn close.limit t.full;
+        };
+        written = outputs w.calls (taking_calls last t.handed) o1 o2 o3 beats last w.written t.written;
+      }
+
+  pub lives_ran : (timing : Timing) (members : List ℕ) (ids : List TxId) (old_faults new_faults : ℕ)
+      (old mid new : Knowledge Entry) (o1 o2 o3 : Output) (beats : BeatEnd) (last : Ending)
+      → Worked s timing members old o1 beats mid o2
+      → TookLast s.start s.turns beats.run mid o2 last new o3
+      → Lives s (doing ids members timing old_faults new_faults o1 o3) ids (end.Ran beats last) old new
+  lives_ran timing members ids old_faults new_faults old mid new o1 o2 o3 beats last w t = record {
+    share = t.made.share ∙ w.share;
+    begins = prefix_trans old.seen mid.seen new.seen w.begins t.made.begins;
+    by = λ history close all. (refl, shared_out timing members old mid new o1 o2 o3 beats last w t history close all);
+  }
+
+  -- nothing ran, for want of memory
+  pub lives_none : (d : Doing) (k : Knowledge Entry) → k.share ≡ whole → d.new_output ≡ d.old_output
+      → Lives s d d.ids end.OutOfMemory k k
+  lives_none d k share silent = record {
+    share = share;
+    begins = prefix_all k.seen;
+    by = λ history close all. (prefix_all d.ids, record { all = all; silent = silent });
+  }
+
+  -- nothing ran, since the hub failed
+  pub lives_unlinked : (d : Doing) (k : Knowledge Entry) → k.share ≡ whole → d.new_output ≡ d.old_output
+      → Rose d.old_faults d.new_faults → Lives s d d.ids end.NetFault k k
+  lives_unlinked d k share silent rose = record {
+    share = share;
+    begins = prefix_all k.seen;
+    by = λ history close all. (refl, record { all = all; silent = silent }, rose);
+  }
+
+  -- all ids were submitted by the first pass
+  pub lived : (d : Doing) (old mid new : Knowledge Entry) (e : RunEnd) → old ≡ newcomer
+      → Submitted s.start s.may_give old d.ids mid → Lives s d d.ids e mid new → Lived s d e new
+  lived d old mid new e first sub lives = record {
+    share = lives.share;
+    run = λ history close all. record {
+      done = d.ids;
+      submits = mid.mine;
+      submitting = record {
+        calls = sub.calls;
+        each = sub.each;
+        stand = stands s.start old mid sub.calls history sub.made (ap (λ (k : Knowledge Entry). k.mine) first)
+            (prefix_trans mid.seen new.seen history lives.begins close.begins);
+      };
+      by = lives.by history close all;
+    };
+  }
+
+  front_part : (old new : Knowledge Entry) (ids : List TxId) (why : StoreEnd) (history : List Entry) → old ≡ newcomer
+      → (f : SubmittedFront s.start s.turns s.may_give old ids why new) → IsPrefix new.seen history
+      → SubmitPart s history f.done new.mine
+  front_part old new ids why history first f seen = record {
+    calls = f.submitted.calls;
+    each = f.submitted.each;
+    stand = stands s.start old new f.submitted.calls history f.submitted.made
+        (ap (λ (k : Knowledge Entry). k.mine) first) seen;
+  }
+
+  -- a submit had no turn
+  pub lived_front : (d : Doing) (old new : Knowledge Entry) (why : StoreEnd) → old ≡ newcomer
+      → d.new_output ≡ d.old_output → SubmittedFront s.start s.turns s.may_give old d.ids why new
+      → Lived s d (end_of why) new
+  lived_front d old new refused.OutOfMemory first silent f = record {
+    share = f.submitted.made.share ∙ ap (λ (k : Knowledge Entry). k.share) first;
+    run = λ history close all. record {
+      done = f.done;
+      submits = new.mine;
+      submitting = front_part old new d.ids refused.OutOfMemory history first f close.begins;
+      by = ((f.next ∷ f.rest, sym f.front), record { all = all; silent = silent });
+    };
+  }
+  lived_front d old new (refused.StoreFull n) first silent f = record {
+    share = f.submitted.made.share ∙ ap (λ (k : Knowledge Entry). k.share) first;
+    run = λ history close all. record {
+      done = f.done;
+      submits = new.mine;
+      submitting = front_part old new d.ids (refused.StoreFull n) history first f close.begins;
+      by = (
+        (f.next, f.rest, f.front),
+        record { all = all; silent = silent },
+        f.why.0,
+        (let p = close.drawn in let q = close.limit in let e = f.why.1 in omega (arith, p, q, e)),
+      );
+    };
+  }

@@ -1,0 +1,9 @@
+pub mod Pairing
+pub mod Submits
+pub mod Linking
+pub mod Serving
+pub mod Hiring
+pub mod Joining
+pub mod Sharing
+pub mod Runs
+pub mod Working

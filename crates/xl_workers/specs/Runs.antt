@@ -1,0 +1,76 @@
+-- A whole run of a node. Source: this project's own.
+use Rattle.std.specs.Prelude.{◌≡◌, ℕ, List, ◌∷◌, ◌++◌, length}
+use mathlib.Core.List.{IsPrefix}
+use Rattle.xl_base.specs.Faults.{Rose}
+use Rattle.xl_base.specs.declared.ids.TxId.{TxId}
+use Rattle.xl_base.specs.declared.status.Status.{Status}
+use Rattle.xl_base.specs.declared.status.Status.TheVariants as status
+use Rattle.xl_turns.specs.Places.{all_below}
+use Rattle.xl_store.specs.declared.entry.Entry.{Entry}
+use Rattle.xl_heartbeat.specs.declared.timing.Timing.{Timing}
+use Rattle.xl_heartbeat.specs.Outputs.{Output}
+use Rattle.xl_heartbeat.specs.Statuses.{status_of_run}
+use Rattle.xl_workers.specs.declared.ends.RunEnd.{RunEnd}
+use Rattle.xl_workers.specs.declared.ends.RunEnd.TheVariants as end
+use Rattle.xl_workers.specs.Sharing.{Setting, SubmitPart, SharedOut}
+
+-- the status that a run ends with
+abbrev pub status_of_end : RunEnd → Status
+status_of_end (end.Ran beats last) = status_of_run beats last
+status_of_end end.NetFault = status.NetFault
+status_of_end end.OutOfMemory = status.OutOfMemory
+status_of_end (end.StoreFull n) = status.StoreFull
+
+-- what a run is to do, and what it does to the hub's count of faults and to the output
+pub record Doing : Type 0 where
+  pub ids : List TxId
+  pub members : List ℕ
+  pub timing : Timing
+  pub old_faults : ℕ
+  pub new_faults : ℕ
+  pub old_output : Output
+  pub new_output : Output
+
+abbrev pub doing : List TxId → List ℕ → Timing → ℕ → ℕ → Output → Output → Doing
+doing ids members timing old_faults new_faults old_output new_output = record {
+  ids = ids;
+  members = members;
+  timing = timing;
+  old_faults = old_faults;
+  new_faults = new_faults;
+  old_output = old_output;
+  new_output = new_output;
+}
+
+-- the submits have all places of the history, and nothing was written
+pub record NoMore (d : Doing) (history : List Entry) (submits : List ℕ) : Type 0 where
+  pub all : submits ≡ all_below (length history)
+  pub silent : d.new_output ≡ d.old_output
+
+-- some of the ids have no submit
+abbrev pub IsLess : List TxId → List TxId → Type 0
+IsLess done ids = (next : TxId) × (rest : List TxId) × (ids ≡ done ++ next ∷ rest)
+
+-- What each end says. Where the workers ran, all ids were submitted and the other places are shared out. Else the
+-- submits have all places: the hub failed after all of them, memory was wanting, or all turns of the store were drawn
+abbrev pub EndsBy : Setting → Doing → List Entry → List TxId → List ℕ → RunEnd → Type 0
+EndsBy s d history done submits (end.Ran beats last) =
+    (done ≡ d.ids)
+    × SharedOut s d.timing d.members history submits beats last d.old_output d.new_output
+EndsBy s d history done submits end.NetFault =
+    (done ≡ d.ids)
+    × NoMore d history submits
+    × Rose d.old_faults d.new_faults
+EndsBy s d history done submits end.OutOfMemory = IsPrefix done d.ids × NoMore d history submits
+EndsBy s d history done submits (end.StoreFull n) =
+    IsLess done d.ids
+    × NoMore d history submits
+    × (n ≡ s.turns)
+    × (length history ≡ s.turns)
+
+-- The submits are of the first ids, in order and each once, and the end says how many they are and what else there is
+pub record NodeRun (s : Setting) (d : Doing) (end : RunEnd) (history : List Entry) : Type 0 where
+  pub done : List TxId
+  pub submits : List ℕ
+  pub submitting : SubmitPart s history done submits
+  pub by : EndsBy s d history done submits end

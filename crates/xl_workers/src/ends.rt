@@ -1,0 +1,32 @@
+ghost use Rattle.std.specs.Prelude.{◌≡◌};
+ghost use Rattle.xl_workers.specs.Runs.{status_of_end};
+
+use xl_base::Status;
+use xl_heartbeat::{BeatEnd, Ending, status_of_run};
+
+/// How a run ended.
+#[derive(Clone, Copy, Debug, PartialEq, Eq)]
+pub enum RunEnd {
+    /// The heartbeat and the workers ran. The heartbeat ended so, and then the last reports did.
+    Ran { beats: BeatEnd, last: Ending },
+    /// The hub could not make a link: its count of faults rose. Nothing but the submits happened at the core.
+    NetFault,
+    /// Memory was wanting before the heartbeat and the workers ran.
+    OutOfMemory,
+    /// A submit found all turns of the store drawn: it has so many. No link was opened.
+    StoreFull(u64),
+}
+
+impl RunEnd {
+    /// The status of the run.
+    pub fn status(self) -> Status
+        ensures { result ≡ status_of_end self }
+    {
+        match self {
+            RunEnd::Ran { beats, last } => status_of_run(beats, last),
+            RunEnd::NetFault => Status::NetFault,
+            RunEnd::OutOfMemory => Status::OutOfMemory,
+            RunEnd::StoreFull(_) => Status::StoreFull,
+        }
+    }
+}

@@ -1,0 +1,29 @@
+//! A running validator: a worker for each peer and a heartbeat, side by side over one store.
+//!
+//! A run submits the ids of its plan, opens a link to each member, and serves each in a worker of its own beside the
+//! heartbeat. Each of them has a part of the store's first pass. When the heartbeat has ended the run and all workers
+//! have seen it, their passes are joined, the last reports are taken, and the store is closed.
+//!
+//! It stands on the store of xl_store, the sessions of xl_peers, the heartbeat of xl_heartbeat and the hub of xl_links.
+//! Its one contract: the journal of the closed store is a legal history of the core that was handed in, and each place
+//! of it is one of the submits, of the heartbeat, of the one worker of a member, or of the last reports; the output is
+//! the lines of what the reports handed out; and each end has its cause.
+#![tactic(auto)]
+
+mod ends;
+mod hiring;
+mod joining;
+mod linking;
+mod living;
+mod plan;
+mod running;
+mod submitting;
+mod worker;
+mod working;
+
+pub use ends::RunEnd;
+pub use plan::{Contact, Plan};
+pub use running::{Ran, node};
+
+#[cfg(test)]
+mod tests;

@@ -1,0 +1,50 @@
+ghost use Rattle.std.specs.Prelude.{◌≡◌, ◌≤◌, nat_eq, map, IfOk, IfErr};
+ghost use Rattle.std.specs.List.{IsDistinct};
+ghost use Rattle.xl_base.specs.Faults.{Rose};
+ghost use Rattle.xl_workers.specs.Linking.{contact_of, AreLinked};
+
+use crate::plan::Contact;
+use std::alloc::Global;
+use xl_base::NodeNo;
+use xl_links::Hub;
+
+/// A member, and the link to it.
+#[derive(Drop)]
+pub struct Peer<L> {
+    pub member: NodeNo,
+    pub link: L,
+}
+
+/// Why not every link was opened.
+#[derive(Clone, Copy, Debug, PartialEq, Eq)]
+pub(crate) enum NoLinks {
+    /// The hub's count of faults rose.
+    NetFault,
+    OutOfMemory,
+}
+
+/// Opens a link to each member, in order. It ends at the first that the hub can't make.
+pub(crate) fn open_links<H: Hub>(
+    alloc: Global,
+    hub: &mut H,
+    contacts: Vec<Contact>,
+) -> Result<Vec<Peer<H::L>>, NoLinks>
+    requires once { IsDistinct nat_eq (map contact_of contacts.items) }
+    ensures linked { IfOk result (λ peers.
+        AreLinked (H.gives hub.old) H.L.Link.shows contacts.items peers.items) }
+    ensures later { H.faults hub.old ≤ H.faults hub.new }
+    ensures failed { IfErr result (λ why. why ≡ NoLinks.NetFault → Rose (H.faults hub.old) (H.faults hub.new)) }
+{
+    let Ok(mut peers) = Vec::with_capacity(alloc, contacts.len()) else {
+        return Err(NoLinks::OutOfMemory);
+    };
+    let mut rest = contacts;
+    while !rest.is_empty() {
+        let Contact { member, way } = rest.remove(0);
+        match hub.open_link(member, way) {
+            Ok(link) => peers.push_reserved(Peer { member, link }),
+            Err(_) => return Err(NoLinks::NetFault),
+        }
+    }
+    Ok(peers)
+}

@@ -1,0 +1,23 @@
+use xl_base::{NodeNo, TxId};
+use xl_heartbeat::Timing;
+use xl_links::Way;
+
+/// What a run is to do.
+#[derive(Debug, Drop)]
+pub struct Plan {
+    /// How many turns the store has in all, 1 to 2^62.
+    pub turns: u64,
+    /// The ids that are submitted first, in order.
+    pub submits: Vec<TxId>,
+    /// The members that are served, each once. They are peers of the core.
+    pub contacts: Vec<Contact>,
+    /// When the heartbeat beats, and until when.
+    pub timing: Timing,
+}
+
+/// A member that is to be served, and how it is reached.
+#[derive(Debug, Drop)]
+pub struct Contact {
+    pub member: NodeNo,
+    pub way: Way,
+}

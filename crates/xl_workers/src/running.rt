@@ -1,0 +1,92 @@
+ghost use Rattle.std.specs.Prelude.{◌≡◌, ◌<◌, ◌≤◌, ◌^◌, ℕ, length, map, nat_eq, IsSome, IfOk, IfErr, OnErr};
+ghost use Rattle.std.specs.List.{AllByRecursion, IsDistinct};
+ghost use Rattle.xl_tags.specs.Rings.{key_of};
+ghost use Rattle.xl_turns.specs.Histories.{Runs};
+ghost use Rattle.xl_core.specs.CoreLives.{core_after};
+ghost use Rattle.xl_store.specs.Entries.{Leads, life_of};
+ghost use Rattle.xl_store.specs.Closing.{KeepsAll};
+ghost use Rattle.xl_heartbeat.specs.Outputs.{output};
+ghost use Rattle.xl_workers.specs.Linking.{contact_of};
+ghost use Rattle.xl_workers.specs.Sharing.{setting};
+ghost use Rattle.xl_workers.specs.Runs.{doing, NodeRun};
+
+use crate::ends::RunEnd;
+use crate::living::live;
+use crate::plan::Plan;
+use std::alloc::Global;
+use std::sync::Wait;
+use std::thread::Threads;
+use xl_core::Core;
+use xl_io::{Keeper, Sink};
+use xl_ledger::Branch;
+use xl_links::{Clock, Gate, Hub};
+use xl_store::{Closed, Spared, Store};
+
+/// What a run leaves.
+#[derive(Drop)]
+pub struct Ran<B: Branch, K> {
+    pub end: RunEnd,
+    pub closed: Closed<B, K>,
+}
+
+/// Runs a validator over a core and its keeper: submits the plan's ids, opens a link to each of its members, serves
+/// them all side by side with the heartbeat until that ends the run, takes the last reports and closes the store.
+///
+/// The members are peers of the core, and none stands twice. Where there was no memory for the store, core and keeper
+/// come back, and nothing happened. How every other run ended is told in what it leaves.
+pub fn node<
+    W: Threads + Wait + Sync,
+    B: Branch + Drop + Send,
+    K: Keeper + Drop + Send,
+    H: Hub,
+    G: Gate + Sync,
+    C: Clock + Sync,
+    O: Sink + Send,
+>(
+    rt: &W,
+    alloc: Global,
+    core: Core<B>,
+    keeper: K,
+    plan: Plan,
+    hub: &mut H,
+    gate: &G,
+    clock: &C,
+    sink: &mut O,
+) -> Result<Ran<B, K>, Spared<B, K>>
+    requires turns { (0 < plan.turns) × (plan.turns ≤ 2 ^ 62) }
+    requires peers { AllByRecursion (λ m. IsSome (key_of core.node.keys m)) (map contact_of plan.contacts.items) }
+    requires once { IsDistinct nat_eq (map contact_of plan.contacts.items) }
+    requires few { length plan.contacts.items ≤ 64 }
+    // the journal is one legal history, which leads to the core, and leaves the keeper
+    ensures legal { IfOk result (λ ran. Runs Leads core ran.closed.journal ran.closed.core) }
+    ensures life { IfOk result (λ ran. ran.closed.core ≡ core_after core (life_of ran.closed.journal)) }
+    ensures keeper { IfOk result (λ ran. KeepsAll K.held K.saves K.faults K.save_gives
+        core ran.closed.journal keeper ran.closed.keeper) }
+    ensures limit { IfOk result (λ ran. length ran.closed.journal ≤ plan.turns) }
+    // its places are shared out, and its lines are the output
+    ensures run { IfOk result (λ ran. NodeRun
+        (setting core plan.turns (C.may_give clock.now) (H.gives hub.old))
+        (doing plan.submits.items (map contact_of plan.contacts.items) plan.timing (H.faults hub.old) (H.faults hub.new)
+        (output (O.held sink.old) (O.faults sink.old)) (output (O.held sink.new) (O.faults sink.new)))
+        ran.end ran.closed.journal) }
+    ensures unopened { IfOk result (λ ran. (n : ℕ) → ran.end ≡ RunEnd.StoreFull n → hub.new ≡ hub.old) }
+    ensures later { H.faults hub.old ≤ H.faults hub.new }
+    ensures spared { IfErr result (λ spared. (spared.core ≡ core) × (spared.keeper ≡ keeper)) }
+    ensures nothing { OnErr result ((hub.new ≡ hub.old) × (sink.new ≡ sink.old)) }
+{
+    let Plan {
+        turns,
+        submits,
+        contacts,
+        timing,
+    } = plan;
+    let (store, pass) = match Store::open(alloc, core, keeper, turns) {
+        Ok(opened) => opened,
+        Err(spared) => return Err(spared),
+    };
+    let (end, pass) = live(
+        rt, alloc, &store, pass, &submits, contacts, timing, hub, gate, clock, sink,
+    );
+    let closed = store.close(pass);
+    Ok(Ran { end, closed })
+}

@@ -1,0 +1,165 @@
+ghost use Rattle.std.specs.Prelude.{◌≡◌, ◌≤◌, ◌^◌, ℕ, length, map, IfOk, IfErr};
+ghost use Rattle.std.specs.declared.option.Option.{Option};
+ghost use Rattle.std.specs.List.{AllByRecursion};
+ghost use Rattle.xl_turns.specs.Passes.{known};
+ghost use Rattle.xl_links.specs.Links.{Wire};
+ghost use Rattle.xl_store.specs.Stores.{start_of, turns_of, IsOf};
+ghost use Rattle.xl_heartbeat.specs.Outputs.{output};
+ghost use Rattle.xl_heartbeat.specs.Beats.{Heartbeat};
+ghost use Rattle.xl_workers.specs.Linking.{member_of, IsAsTold};
+ghost use Rattle.xl_workers.specs.Serving.{IsPeer, AreReady, HaveServed, peer_of};
+ghost use Rattle.xl_workers.specs.Sharing.{setting};
+ghost use Rattle.xl_workers.specs.Working.{AreAll, Worked};
+
+use crate::hiring::hire;
+use crate::joining::join_all;
+use crate::linking::Peer;
+use crate::worker::{Worker, work_all};
+use std::alloc::Global;
+use std::sync::Wait;
+use std::thread;
+use std::thread::Threads;
+use xl_heartbeat::{BeatEnd, Timing, beat};
+use xl_io::{Keeper, Sink};
+use xl_ledger::Branch;
+use xl_links::{Clock, Gate, Link};
+use xl_store::{Pass, Store};
+
+/// The heartbeat beside all workers, until all have ended.
+fn run<
+    W: Threads + Wait + Sync,
+    B: Branch + Drop + Send,
+    K: Keeper + Drop + Send,
+    L: Link + Send,
+    G: Gate + Sync,
+    C: Clock + Sync,
+    O: Sink + Send,
+>(
+    rt: &W,
+    alloc: Global,
+    store: &Store<B, K>,
+    pass: &mut Pass,
+    workers: &mut [Worker<L>],
+    timing: Timing,
+    gate: &G,
+    clock: &C,
+    sink: &mut O,
+) -> BeatEnd
+    requires pass { IsOf store.now pass.old }
+    requires ready { AreReady store.now workers.old }
+    ensures pass { IsOf store.now pass.new }
+    ensures heartbeat { Heartbeat (start_of store.now) (turns_of store.now) (C.may_give clock.now) timing
+        (known pass.old) (output (O.held sink.old) (O.faults sink.old)) result
+        (known pass.new) (output (O.held sink.new) (O.faults sink.new)) }
+    ensures served { HaveServed store.now (C.may_give clock.now) L.shows workers.old workers.new }
+    ensures long { length workers.new ≡ length workers.old }
+{
+    let (beats, ()) = thread::join_mut(
+        rt,
+        &mut || -> BeatEnd
+            requires { IsOf store.now pass.now }
+            ensures { IsOf store.entry.now pass.exit.now
+                × Heartbeat (start_of store.entry.now) (turns_of store.entry.now) (C.may_give clock.entry.now) timing
+                (known pass.entry.now) (output (O.held sink.entry.now) (O.faults sink.entry.now)) result
+                (known pass.exit.now) (output (O.held sink.exit.now) (O.faults sink.exit.now)) }
+        { beat(rt, store, clock, sink, timing, pass) },
+        &mut ||
+            requires { AreReady store.now workers.now }
+            ensures { HaveServed store.entry.now (C.may_give clock.entry.now) L.shows workers.entry.now workers.exit.now
+                × (length workers.exit.now ≡ length workers.entry.now) }
+        { work_all(rt, alloc, store, workers, gate, clock) },
+    );
+    beats
+}
+
+/// Lets the heartbeat and the workers run, and joins all passes.
+fn run_and_join<
+    W: Threads + Wait + Sync,
+    B: Branch + Drop + Send,
+    K: Keeper + Drop + Send,
+    L: Link + Send + Drop,
+    G: Gate + Sync,
+    C: Clock + Sync,
+    O: Sink + Send,
+>(
+    rt: &W,
+    alloc: Global,
+    store: &Store<B, K>,
+    first: Pass,
+    heart: Pass,
+    workers: Vec<Worker<L>>,
+    timing: Timing,
+    gate: &G,
+    clock: &C,
+    sink: &mut O,
+) -> (Pass, BeatEnd)
+    requires first { IsOf store.now first }
+    requires heart { IsOf store.now heart }
+    requires ready { AreReady store.now workers.items }
+    requires all { AreAll first heart workers.items }
+    ensures pass { IsOf store.now result.0 }
+    ensures worked { (gives : ℕ → Option Wire)
+        → AllByRecursion (IsAsTold gives L.shows) (map peer_of workers.items)
+        → Worked (setting (start_of store.now) (turns_of store.now) (C.may_give clock.now) gives) timing
+        (map member_of (map peer_of workers.items)) (known first) (output (O.held sink.old) (O.faults sink.old))
+        result.1 (known result.0) (output (O.held sink.new) (O.faults sink.new)) }
+{
+    let mut heart = heart;
+    let mut workers = workers;
+    let beats = run(
+        rt,
+        alloc,
+        store,
+        &mut heart,
+        workers.as_mut_slice(),
+        timing,
+        gate,
+        clock,
+        sink,
+    );
+    let one = store.join(first, heart);
+    (join_all(store, one, workers), beats)
+}
+
+/// Serves the peers over their links, a worker for each, beside the heartbeat, until all have ended. For want of memory
+/// nothing runs, and the pass comes back as it was.
+pub(crate) fn work<
+    W: Threads + Wait + Sync,
+    B: Branch + Drop + Send,
+    K: Keeper + Drop + Send,
+    L: Link + Send + Drop,
+    G: Gate + Sync,
+    C: Clock + Sync,
+    O: Sink + Send,
+>(
+    rt: &W,
+    alloc: Global,
+    store: &Store<B, K>,
+    pass: Pass,
+    peers: Vec<Peer<L>>,
+    timing: Timing,
+    gate: &G,
+    clock: &C,
+    sink: &mut O,
+) -> Result<(Pass, BeatEnd), Pass>
+    requires pass { IsOf store.now pass }
+    requires whole { (known pass).share ≡ 2 ^ 126 }
+    requires peers { AllByRecursion (IsPeer store.now) peers.items }
+    requires few { length peers.items ≤ 64 }
+    ensures pass { IfOk result (λ done. IsOf store.now done.0) }
+    ensures worked { IfOk result (λ done. (gives : ℕ → Option Wire)
+        → AllByRecursion (IsAsTold gives L.shows) peers.items
+        → Worked (setting (start_of store.now) (turns_of store.now) (C.may_give clock.now) gives) timing
+        (map member_of peers.items) (known pass) (output (O.held sink.old) (O.faults sink.old))
+        done.1 (known done.0) (output (O.held sink.new) (O.faults sink.new))) }
+    ensures spared { IfErr result (λ back. (back ≡ pass) × (sink.new ≡ sink.old)) }
+{
+    let Ok(room) = Vec::with_capacity(alloc, peers.len()) else {
+        return Err(pass);
+    };
+    let (first, heart) = store.split(pass);
+    let (first, workers) = hire(store, first, peers, room);
+    Ok(run_and_join(
+        rt, alloc, store, first, heart, workers, timing, gate, clock, sink,
+    ))
+}
