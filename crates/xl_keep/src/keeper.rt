@@ -1,6 +1,7 @@
 ghost use Rattle.std.specs.Prelude.{◌≡◌, ◌≤◌, None, IfOk, is_ok};
+ghost use Rattle.std.specs.Result.{result_ok};
 ghost use Rattle.xl_keep.specs.Files.{Told};
-ghost use Rattle.xl_keep.specs.Saves.{Saved, Loaded, Saving};
+ghost use Rattle.xl_keep.specs.Saves.{Saved, Loaded, Saving, counted};
 
 use crate::text::{MOST_BYTES, number_of, spell};
 use crate::whole::WholeFile;
@@ -55,6 +56,22 @@ impl<F: WholeFile + Drop> FileKeeper<F> {
         self.file.write_beside(self.text.as_bytes())?;
         self.file.put_in_place()
     }
+
+    /// What a call answers that came to this. A failure is a fault.
+    fn answer<T: Drop>(&mut self, done: io::Result<T>) -> Result<T, Failed>
+        ensures same { result_ok result ≡ result_ok done }
+        ensures file { self.new.file ≡ self.old.file }
+        ensures faults { self.new.faults ≡ counted (is_ok result) self.old.faults }
+        ensures later { self.old.faults ≤ self.new.faults }
+    {
+        match done {
+            Ok(value) => Ok(value),
+            Err(_) => {
+                self.faults = self.faults.saturating_add(1);
+                Err(Failed)
+            }
+        }
+    }
 }
 
 impl<F: WholeFile + Drop> Keeper for FileKeeper<F> {
@@ -68,24 +85,14 @@ impl<F: WholeFile + Drop> Keeper for FileKeeper<F> {
 
     /// It fails where the file can't be read, and where its text isn't that of a number.
     fn load(&mut self) -> Result<Seq, Failed> {
-        match self.number() {
-            Ok(seq) => Ok(seq),
-            Err(_) => {
-                self.faults = self.faults.saturating_add(1);
-                Err(Failed)
-            }
-        }
+        let loaded = self.number();
+        self.answer(loaded)
     }
 
     /// It fails where the number can't be written beside the file, or not put in its place.
     fn save(&mut self, seq: Seq) -> Result<(), Failed> {
-        match self.replace(seq) {
-            Ok(()) => Ok(()),
-            Err(_) => {
-                self.faults = self.faults.saturating_add(1);
-                Err(Failed)
-            }
-        }
+        let saved = self.replace(seq);
+        self.answer(saved)
     }
 
     fn faults(&self) -> u64 {
