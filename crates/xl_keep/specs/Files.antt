@@ -1,9 +1,10 @@
--- A file that is replaced as a whole. Source: the POSIX calls rename and fsync: a file of that name is the former one or
--- the new one, whole, at every moment.
+-- A file that is replaced as a whole. Source: the POSIX calls rename and fsync: a file of that name is the former one
+-- or the new one, whole, at every moment.
 use Rattle.std.specs.Prelude.{◌≡◌, ℕ, ◌⊎◌, Bool, IsTrue, List, take, Option, Some, None, Result, Ok, Err}
 use Rattle.std.specs.declared.io.Error.{Error}
 
--- the text that a stop at this moment leaves in place, and the one that it leaves beside it; none where there is no file
+-- the text that a stop at this moment leaves in place, and the one that it leaves beside it, none where there is no
+-- file
 pub record Places : Type 0 where
   pub stands : Option (List ℕ)
   pub beside : Option (List ℕ)

@@ -1,5 +1,5 @@
--- What a save leaves in a file. Source: this profile, by which a stop in a save may leave the former number or the asked
--- one.
+-- What a save leaves in a file. Source: this profile, by which a stop in a save may leave the former number or the
+-- asked one.
 use Rattle.std.specs.Prelude.{◌≡◌, ℕ, ◌⊎◌, Bool, IsTrue, Option, Some, if◌then◌else◌}
 use Rattle.xl_base.specs.Counts.{one_more}
 use Rattle.xl_keep.specs.Files.{Places, Told}

@@ -8,9 +8,10 @@ use xl_base::OutOfMemory;
 
 /// A file of the system. What it holds isn't told.
 ///
-/// A text is written to the file's name with `.new` behind it, made anew, and synced. It is put in its place by a rename,
-/// and then the folder is synced. A stop at any moment leaves the former text or the new one in place, where the system
-/// keeps what it says of these calls.
+/// A text is written to the file's name with `.new` behind it, made anew, and synced. It is put in its place by a
+/// rename, and then the folder is synced. A read syncs the folder too: a rename before it may be seen and not be kept
+/// yet. So a stop at any moment leaves the former text or the new one in place, and what was read stays, where the
+/// system keeps what it says of these calls.
 #[derive(Drop)]
 pub struct SystemFile<R> {
     files: R,
@@ -29,6 +30,10 @@ impl<R: Files + Drop> SystemFile<R> {
             files,
         })
     }
+
+    fn sync_folder(&self) -> io::Result<()> {
+        File::open(&self.files, self.folder.as_str())?.sync_all()
+    }
 }
 
 impl<R: Files + Drop> WholeFile for SystemFile<R> {
@@ -36,7 +41,11 @@ impl<R: Files + Drop> WholeFile for SystemFile<R> {
 
     fn read(&mut self, room: &mut [u8]) -> io::Result<Option<usize>> {
         match File::open(&self.files, self.place.as_str()) {
-            Ok(mut file) => Ok(Some(read_whole(&mut file, room)?)),
+            Ok(mut file) => {
+                let count = read_whole(&mut file, room)?;
+                self.sync_folder()?;
+                Ok(Some(count))
+            }
             Err(error) if error.kind() == ErrorKind::NotFound => Ok(None),
             Err(error) => Err(error),
         }
@@ -50,7 +59,7 @@ impl<R: Files + Drop> WholeFile for SystemFile<R> {
 
     fn put_in_place(&mut self) -> io::Result<()> {
         fs::rename(&self.files, self.beside.as_str(), self.place.as_str())?;
-        File::open(&self.files, self.folder.as_str())?.sync_all()
+        self.sync_folder()
     }
 }
 

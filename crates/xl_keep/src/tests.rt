@@ -18,10 +18,14 @@ fn keeper_in(rt: &HostRuntime, folder: &str) -> Result<FileKeeper<SystemFile<Hos
     Ok(FileKeeper::new(rt.alloc(), file)?)
 }
 
+/// What may be handed to another thread.
+fn crosses<T: Send>(_value: &T) {}
+
 #[test]
 fn what_was_saved_is_loaded(rt: HostRuntime) -> Result<(), Fail> {
     let folder = folder(&rt, "xl_keep_saved")?;
     let mut keeper = keeper_in(&rt, folder.as_str())?;
+    crosses(&keeper);
     assert!(rt; keeper.load() == Ok(0));
     assert!(rt; keeper.save(7) == Ok(()));
     assert!(rt; keeper_in(&rt, folder.as_str())?.load() == Ok(7));

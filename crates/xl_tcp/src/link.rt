@@ -20,9 +20,9 @@ const PATIENCE: u64 = 900;
 ///
 /// An opening lets go of the connection before. It dials, and waits 900 milliseconds for the answer; or it takes the
 /// next of those who dialled in, and doesn't wait: whoever else has dialled waits behind it. It answers NotYet where
-/// nobody is there: the call is refused, not answered in time, or can't reach the machine, or none is made. A read waits
-/// a second for a byte. A write waits 900 milliseconds until the system takes one, and else fails. A read or a write that
-/// is interrupted is made again. Where no connection was opened a read answers End, and a write fails.
+/// nobody is there: the call is refused, isn't answered in time or can't reach the machine, or nobody calls. A read
+/// waits a second for a byte. A write waits 900 milliseconds until the system takes one, and else fails. A read or a
+/// write that is interrupted is made again. Where no connection was opened a read answers End, and a write fails.
 #[derive(Drop)]
 pub struct TcpLink<R: Net> {
     net: R,
@@ -52,9 +52,7 @@ impl<R: Net + Drop> TcpLink<R> {
 
     fn connect(&self) -> io::Result<R::Stream> {
         let stream = match &self.address {
-            Address::Dialled(addr) => self
-                .net
-                .connect_timeout(*addr, Duration::from_millis(PATIENCE))?,
+            Address::Dialled(addr) => dial(&self.net, *addr)?,
             Address::Bound(listener) => listener.accept()?.0,
         };
         stream.set_read_timeout(Some(Duration::from_millis(READ_WAITS)))?;
@@ -99,6 +97,15 @@ impl<R: Net + Drop> Link for TcpLink<R> {
         }
         answer
     }
+}
+
+/// A call to a port of this machine at which nobody listens may be given that very port, and would answer itself.
+fn dial<R: Net>(net: &R, addr: SocketAddr) -> io::Result<R::Stream> {
+    let stream = net.connect_timeout(addr, Duration::from_millis(PATIENCE))?;
+    if stream.local_addr()? == addr {
+        return Err(io::Error::from(ErrorKind::ConnectionRefused));
+    }
+    Ok(stream)
 }
 
 /// Reads again after each read that was interrupted.

@@ -73,11 +73,12 @@ fn takes<C: Clock, L: Link>(clock: &C, link: &mut L, room: &mut [u8]) -> usize {
         return taken;
     }
     for _ in 0..room.len() {
-        if taken == room.len() {
+        let from = taken.min(room.len());
+        if from == room.len() {
             break;
         }
-        match link.read(&mut room[taken..]) {
-            LinkRead::Got(count) => taken += count,
+        match link.read(&mut room[from..]) {
+            LinkRead::Got(count) => taken = from.saturating_add(count),
             _ => break,
         }
     }

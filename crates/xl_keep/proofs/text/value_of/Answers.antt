@@ -8,7 +8,8 @@ use Rattle.xl_keep.proofs.text.value_of.Goals as goal
 pub returns-in-Ok : goal.returns-in-Ok
 returns-in-Ok c n fits same =
     let wide : n < 2 ^ 64 = omega (arith, fits) in
-    c.ok.ensures.value ∙ ap result_ok (parse-decimal 32 n _ _ fits wide (c.in-Ok.ensures.cases.0 ∙ same) c.parse.ensures.value.0)
+    let read = c.in-Ok.ensures.cases.0 ∙ same in
+    c.ok.ensures.value ∙ ap result_ok (parse-decimal 32 n _ _ fits wide read c.parse.ensures.value.0)
 
 pub returns-in-Err : goal.returns-in-Err
 returns-in-Err c n fits same =
