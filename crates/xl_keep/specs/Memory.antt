@@ -1,5 +1,5 @@
 -- What a file in memory holds. Source: this project's own, for tests of what saves.
-use Rattle.std.specs.Prelude.{ℕ, List, Option, option_map}
+use Rattle.std.specs.Prelude.{option_map}
 use Rattle.xl_keep.specs.declared.memory.MemFile.{MemFile}
 use Rattle.xl_keep.specs.Files.{Places}
 

@@ -1,6 +1,5 @@
 ghost use Rattle.std.specs.Prelude.{◌≡◌, ◌≤◌, nat_le};
 ghost use Rattle.std.specs.Duration.{as_nanos};
-ghost use Rattle.std.specs.IoError.{error_kind};
 ghost use Rattle.xl_base.specs.declared.moments.TheConstants.{GREATEST_MILLIS};
 ghost use Rattle.xl_tcp.specs.Moments.{moment_at};
 

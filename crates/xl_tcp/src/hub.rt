@@ -16,6 +16,7 @@ pub struct TcpHub<R> {
 }
 
 impl<R: Net + Clone + Drop> TcpHub<R> {
+    /// A hub over this network, of which nothing has been asked yet.
     pub fn new(net: R) -> Self {
         TcpHub { net, faults: 0 }
     }
@@ -38,8 +39,8 @@ where
 
     ghost faults = { λ hub. hub.faults };
 
-    /// It fails where the address isn't an IP address and a port, and where it is one to listen at that can't be bound,
-    /// or can't be set not to wait.
+    /// It fails where the address isn't an IP address and a port; where it is one to listen at that can't be bound, or
+    /// whose listener can't be set not to wait; and where memory is wanting for one more handle of the network.
     fn open_link(&mut self, _member: NodeNo, way: Way) -> Result<TcpLink<R>, Failed> {
         match self.link(&way) {
             Ok(link) => Ok(link),

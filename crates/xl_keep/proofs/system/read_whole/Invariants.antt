@@ -1,4 +1,4 @@
-use Rattle.std.proofs.Common.{length, ◌-◌, ◌≡◌, ◌<◌, ◌≤◌, IfOk, None, ℕ, ◌+◌, ◌*◌}
+use Rattle.std.proofs.Common.{length, ◌-◌, ◌≡◌}
 use Rattle.xl_keep.proofs.system.read_whole.Given as goal
 
 abbrev pub invariant-loop-filled : goal.invariant-loop-filled
