@@ -1,0 +1,101 @@
+ghost use Rattle.std.specs.Prelude.{◌≡◌, ◌≤◌, None, IfOk, is_ok};
+ghost use Rattle.std.specs.Result.{result_ok};
+ghost use Rattle.xl_keep.specs.Files.{Told};
+ghost use Rattle.xl_keep.specs.Saves.{Saved, Loaded, Saving, counted};
+
+use crate::text::{MOST_BYTES, number_of, spell};
+use crate::whole::WholeFile;
+use std::alloc::Global;
+use std::io::{self, ErrorKind};
+use xl_base::{OutOfMemory, Seq};
+use xl_io::{Failed, Keeper};
+
+/// A keeper of the last issued sequence in a file, which holds its decimal digits and a newline, and nothing else. What
+/// it holds isn't told.
+#[derive(Drop)]
+pub struct FileKeeper<F> {
+    file: F,
+    text: String,
+    faults: u64,
+}
+
+impl<F: WholeFile + Drop> FileKeeper<F> {
+    /// A keeper over this file. No later call takes memory.
+    pub fn new(alloc: Global, file: F) -> Result<Self, OutOfMemory>
+        ensures faults { IfOk result (λ keeper. ⟦<FileKeeper<F> as Keeper>⟧.faults keeper ≡ 0) }
+    {
+        let text = String::with_capacity(alloc, MOST_BYTES)?;
+        Ok(FileKeeper {
+            file,
+            text,
+            faults: 0,
+        })
+    }
+
+    /// The number that the file says.
+    fn number(&mut self) -> io::Result<Seq>
+        ensures loaded { IfOk result (λ n. Told (Loaded n) (F.shows self.old.file) (F.shows self.new.file)) }
+        ensures faults { self.new.faults ≡ self.old.faults }
+    {
+        let mut room = [0; MOST_BYTES + 1];
+        let Some(count) = self.file.read(&mut room)? else {
+            return Ok(0);
+        };
+        match number_of(&mut self.text, &room[..count])? {
+            Some(seq) => Ok(seq),
+            None => Err(io::Error::from(ErrorKind::InvalidData)),
+        }
+    }
+
+    /// Writes the number beside the file, and puts it in its place.
+    fn replace(&mut self, seq: Seq) -> io::Result<()>
+        ensures saved { Told (Saved seq (is_ok result)) (F.shows self.old.file) (F.shows self.new.file) }
+        ensures faults { self.new.faults ≡ self.old.faults }
+    {
+        spell(&mut self.text, seq)?;
+        self.file.write_beside(self.text.as_bytes())?;
+        self.file.put_in_place()
+    }
+
+    /// What a call answers that came to this. A failure is a fault.
+    fn answer<T: Drop>(&mut self, done: io::Result<T>) -> Result<T, Failed>
+        ensures same { result_ok result ≡ result_ok done }
+        ensures file { self.new.file ≡ self.old.file }
+        ensures faults { self.new.faults ≡ counted (is_ok result) self.old.faults }
+        ensures later { self.old.faults ≤ self.new.faults }
+    {
+        match done {
+            Ok(value) => Ok(value),
+            Err(_) => {
+                self.faults = self.faults.saturating_add(1);
+                Err(Failed)
+            }
+        }
+    }
+}
+
+impl<F: WholeFile + Drop> Keeper for FileKeeper<F> {
+    ghost held = { λ _. None };
+
+    ghost saves = { λ _. None };
+
+    ghost faults = { λ keeper. keeper.faults };
+
+    ghost save_gives = { λ old seq ok new. Saving seq ok (F.shows old.file) (F.shows new.file) old.faults new.faults };
+
+    /// It fails where the file can't be read, and where its text isn't that of a number.
+    fn load(&mut self) -> Result<Seq, Failed> {
+        let loaded = self.number();
+        self.answer(loaded)
+    }
+
+    /// It fails where the number can't be written beside the file, or not put in its place.
+    fn save(&mut self, seq: Seq) -> Result<(), Failed> {
+        let saved = self.replace(seq);
+        self.answer(saved)
+    }
+
+    fn faults(&self) -> u64 {
+        self.faults
+    }
+}

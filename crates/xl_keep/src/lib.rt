@@ -1,0 +1,20 @@
+//! The kept number of a node, in a file: the keeper that outlives the process.
+//!
+//! It stands on xl_base and xl_io. Its one contract: a call answers `Failed` only where the count rose in that call;
+//! and over a file that tells what it holds, a save that was answered with Ok leaves the number's text in place, one
+//! that failed leaves that or the former text, and a load answers the number whose text it is, 0 where there is no file.
+#![tactic(auto)]
+
+mod keeper;
+mod memory;
+mod system;
+mod text;
+mod whole;
+
+pub use keeper::FileKeeper;
+pub use memory::MemFile;
+pub use system::SystemFile;
+pub use whole::WholeFile;
+
+#[cfg(test)]
+mod tests;

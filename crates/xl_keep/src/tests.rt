@@ -1,0 +1,87 @@
+use super::*;
+use std::fs;
+use std::test::Fail;
+use xl_io::{Failed, Keeper};
+
+/// A new folder of this name among the system's temporary ones.
+fn folder(rt: &HostRuntime, name: &str) -> Result<String, Fail> {
+    let mut path = std::env::temp_dir(rt)?;
+    path.push(name)?;
+    let text = path.as_path().as_str().to_string(rt.alloc())?;
+    let _ = fs::remove_dir_all(rt, text.as_str());
+    fs::create_dir_all(rt, text.as_str())?;
+    Ok(text)
+}
+
+fn keeper_in(rt: &HostRuntime, folder: &str) -> Result<FileKeeper<SystemFile<HostRuntime>>, Fail> {
+    let file = SystemFile::new(rt.alloc(), rt.clone()?, folder, "xl.keep")?;
+    Ok(FileKeeper::new(rt.alloc(), file)?)
+}
+
+/// What may be handed to another thread.
+fn crosses<T: Send>(_value: &T) {}
+
+#[test]
+fn what_was_saved_is_loaded(rt: HostRuntime) -> Result<(), Fail> {
+    let folder = folder(&rt, "xl_keep_saved")?;
+    let mut keeper = keeper_in(&rt, folder.as_str())?;
+    crosses(&keeper);
+    assert!(rt; keeper.load() == Ok(0));
+    assert!(rt; keeper.save(7) == Ok(()));
+    assert!(rt; keeper_in(&rt, folder.as_str())?.load() == Ok(7));
+    assert!(rt; keeper.save(u32::MAX) == Ok(()));
+    assert!(rt; keeper_in(&rt, folder.as_str())?.load() == Ok(u32::MAX));
+    assert_eq!(rt; keeper.faults(), 0);
+    let path = format!(in rt.alloc(); "{folder}/xl.keep")?;
+    assert_eq!(rt;
+        fs::read_to_string(&rt, path.as_str())?.as_str(),
+        "4294967295\n"
+    );
+    fs::remove_dir_all(&rt, folder.as_str())?;
+    Ok(())
+}
+
+#[test]
+fn a_text_that_is_no_number_is_a_fault(rt: HostRuntime) -> Result<(), Fail> {
+    let folder = folder(&rt, "xl_keep_text")?;
+    let path = format!(in rt.alloc(); "{folder}/xl.keep")?;
+    let mut keeper = keeper_in(&rt, folder.as_str())?;
+    for text in [
+        "",
+        "\n",
+        "7",
+        "07\n",
+        "+7\n",
+        "7\n\n",
+        " 7\n",
+        "4294967296\n",
+        "1234567890123\n",
+    ] {
+        fs::write(&rt, path.as_str(), text)?;
+        assert!(rt; keeper.load() == Err(Failed));
+    }
+    assert_eq!(rt; keeper.faults(), 9);
+    fs::write(&rt, path.as_str(), "70\n")?;
+    assert!(rt; keeper.load() == Ok(70));
+    fs::remove_dir_all(&rt, folder.as_str())?;
+    assert!(rt; keeper.save(71) == Err(Failed));
+    assert_eq!(rt; keeper.faults(), 10);
+    Ok(())
+}
+
+#[test]
+fn a_failed_save_leaves_the_former_number_or_the_asked_one(rt: HostRuntime) -> Result<(), Fail> {
+    let alloc = rt.alloc();
+    // The first save is calls 1 and 2, the second 3 and 4.
+    for (failing, placed, left) in [(3, 0, 5), (4, 0, 5), (4, 4, 6)] {
+        let file = MemFile::new(alloc, [failing].to_vec(alloc)?, [placed].to_vec(alloc)?);
+        let mut keeper = FileKeeper::new(alloc, file)?;
+        assert!(rt; keeper.save(5) == Ok(()));
+        assert!(rt; keeper.save(6) == Err(Failed));
+        assert!(rt; keeper.load() == Ok(left));
+        assert_eq!(rt; keeper.faults(), 1);
+        assert!(rt; keeper.save(7) == Ok(()));
+        assert!(rt; keeper.load() == Ok(7));
+    }
+    Ok(())
+}

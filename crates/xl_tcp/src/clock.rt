@@ -1,0 +1,56 @@
+ghost use Rattle.std.specs.Prelude.{◌≡◌, ◌≤◌, nat_le};
+ghost use Rattle.std.specs.Duration.{as_nanos};
+ghost use Rattle.xl_base.specs.declared.moments.TheConstants.{GREATEST_MILLIS};
+ghost use Rattle.xl_tcp.specs.Moments.{moment_at};
+
+use std::thread;
+use std::time::{self, Duration};
+use xl_base::{GREATEST_MILLIS, Millis};
+use xl_links::Clock;
+
+/// 2000-01-01 00:00:00 UTC, from which the XRP Ledger counts its seconds, in milliseconds from 1970 on.
+const EPOCH_MILLIS: u64 = 946_684_800_000;
+
+/// The system's clock, in milliseconds from 2000-01-01 00:00:00 UTC on. Before that, and where the clock can't be read,
+/// it gives 0; and it gives no later moment than the greatest, which lies in the year 2126.
+#[derive(Drop)]
+pub struct SystemClock<C> {
+    system: C,
+}
+
+impl<C: time::Clock> SystemClock<C> {
+    pub fn new(system: C) -> Self {
+        SystemClock { system }
+    }
+}
+
+impl<C: time::Clock> Clock for SystemClock<C> {
+    ghost use Rattle.std.proofs.Common.{rules};
+
+    ghost may_give = { λ _ moment. nat_le moment GREATEST_MILLIS };
+
+    fn now(&self) -> Millis {
+        match self.system.since_1970() {
+            Ok(since_1970) => moment_at(since_1970),
+            Err(_) => 0,
+        }
+    }
+
+    fn wait(&self, millis: u32) {
+        thread::sleep(&self.system, Duration::from_millis(u64::from(millis)));
+    }
+
+    ghost limited = { Prim.search rules };
+}
+
+/// The moment at so long after 1970 began.
+fn moment_at(since_1970: Duration) -> Millis
+    ensures { result ≡ moment_at (as_nanos since_1970) }
+{
+    let millis = since_1970
+        .as_millis()
+        .saturating_sub(u128::from(EPOCH_MILLIS));
+    u64::try_from(millis)
+        .unwrap_or(GREATEST_MILLIS)
+        .min(GREATEST_MILLIS)
+}

@@ -1,0 +1,53 @@
+ghost use Rattle.std.specs.Prelude.{◌≡◌, None};
+
+use crate::address::address_of;
+use crate::link::TcpLink;
+use std::io;
+use std::net::Net;
+use xl_base::NodeNo;
+use xl_io::Failed;
+use xl_links::{Hub, Way};
+
+/// A hub over the network. What its links will give isn't told.
+#[derive(Drop)]
+pub struct TcpHub<R> {
+    net: R,
+    faults: u64,
+}
+
+impl<R: Net + Clone + Drop> TcpHub<R> {
+    /// A hub over this network, of which nothing has been asked yet.
+    pub fn new(net: R) -> Self {
+        TcpHub { net, faults: 0 }
+    }
+
+    fn link(&self, way: &Way) -> io::Result<TcpLink<R>> {
+        let net = self.net.clone()?;
+        let address = address_of(&net, way)?;
+        Ok(TcpLink::new(net, address))
+    }
+}
+
+impl<R: Net + Clone + Drop + Send> Hub for TcpHub<R>
+where
+    R::Stream: Send,
+    R::Listener: Send,
+{
+    type L = TcpLink<R>;
+
+    ghost gives = { λ _ _. None };
+
+    ghost faults = { λ hub. hub.faults };
+
+    /// It fails where the address isn't an IP address and a port; where it is one to listen at that can't be bound, or
+    /// whose listener can't be set not to wait; and where memory is wanting for one more handle of the network.
+    fn open_link(&mut self, _member: NodeNo, way: Way) -> Result<TcpLink<R>, Failed> {
+        match self.link(&way) {
+            Ok(link) => Ok(link),
+            Err(_) => {
+                self.faults = self.faults.saturating_add(1);
+                Err(Failed)
+            }
+        }
+    }
+}
