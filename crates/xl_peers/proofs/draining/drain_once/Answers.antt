@@ -22,3 +22,6 @@ returns-in-Err-clause-ends g c may held k0 w0 s =
     subst (λ e. Session (start_of c.args.store.now) (turns_of c.args.store.now) may c.args.member k0 w0 e
     (known c.drain.new.pass) (g.L.Link.shows c.args.link.now)) (sym c.end_of.ensures)
     (ends_refused c.args.store.now may c.args.member k0 w0 Drains _ _ _ held c.in-Err.end s c.in-Err.ensures.refused)
+
+pub returns-in-Ok-send-clause-turn : goal.returns-in-Ok-send-clause-turn
+returns-in-Ok-send-clause-turn g c = c.in-Ok.ensures.called.called.later
