@@ -9,7 +9,8 @@ use Rattle.xl_lines.specs.Running.{TellsAll}
 module _ (first kept : Option (List ℕ)) (text : List ℕ) where
   kept_is : (told : List ℕ) → first ≡ Some [] → kept ≡ Some text → kept ≡ append_known first told → text ≡ told
   kept_is told empty is grew =
-      let same : Some text ≡ Some told = sym is ∙ (grew ∙ ap (λ (known : Option (List ℕ)). append_known known told) empty) in
+      let same : Some text ≡ Some told = sym is
+      ∙ (grew ∙ ap (λ (known : Option (List ℕ)). append_known known told) empty) in
       cc
 
   -- where some of the kept text isn't written, some of what is told isn't

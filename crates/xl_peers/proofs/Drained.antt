@@ -30,10 +30,12 @@ some_long : (bytes : List ℕ) (n : ℕ) → length bytes ≡ suc n → bytes �
 some_long [] n e = absurd (omega (arith, e))
 some_long (b ∷ bs) n e = λ same. absurd cc
 
-drain_run : (may : ℕ → Bool) (member : ℕ) (steps : List Step) (frames : List (List ℕ)) (count : ℕ) → count ≡ length (joined frames)
+drain_run : (may : ℕ → Bool) (member : ℕ) (steps : List Step) (frames : List (List ℕ)) (count : ℕ)
+    → count ≡ length (joined frames)
     → IsSession may member steps Drains → IsSession may member (steps ++ drain member frames ∷ []) (after_drain count)
 drain_run may member steps frames zero e run = IsSession.drained steps frames run (none_long (joined frames) (sym e))
-drain_run may member steps frames (suc n) e run = IsSession.drains steps frames run (some_long (joined frames) n (sym e))
+drain_run may member steps frames (suc n) e run =
+    IsSession.drains steps frames run (some_long (joined frames) n (sym e))
 
 module _ {B K : Type 0} (store : Store B K) (may : ℕ → Bool) (member : ℕ) (k0 : Knowledge Entry) (w0 : Wire)
     (old new : Pass Entry) (count : ℕ) (before after : List ℕ) (whole : length before ≡ LONGEST_FRAME)
@@ -42,7 +44,8 @@ module _ {B K : Type 0} (store : Store B K) (may : ℕ → Bool) (member : ℕ) 
   made_whole : Made (start_of store) (known old) (known new)
       (record { event = Drain member LONGEST_FRAME; answer = Gave member d.frames } ∷ [])
   made_whole = subst
-      (λ (n : ℕ). Made (start_of store) (known old) (known new) (record { event = Drain member n; answer = Gave member d.frames } ∷ []))
+      (λ (n : ℕ). Made (start_of store) (known old) (known new)
+      (record { event = Drain member n; answer = Gave member d.frames } ∷ []))
       whole d.called.made
 
   later : (known old).drawn ≤ (known new).drawn
@@ -55,12 +58,15 @@ module _ {B K : Type 0} (store : Store B K) (may : ℕ → Bool) (member : ℕ) 
   pub so_drained : Sent w (take count after) new_link
       → SoFar (start_of store) may member k0 w0 (after_drain count) (known new) new_link held
   so_drained sent =
-      so_called (start_of store) may member k0 w0 Drains (after_drain count) (known old) (known new) w new_link held _ s refl made_whole later
-      (subst (λ (bs : List ℕ). Sent w bs new_link) given sent) (drain_run may member s.steps d.frames count d.count s.run)
+      so_called (start_of store) may member k0 w0 Drains (after_drain count) (known old) (known new) w new_link held _ s
+      refl made_whole later
+      (subst (λ (bs : List ℕ). Sent w bs new_link) given sent)
+      (drain_run may member s.steps d.frames count d.count s.run)
 
   pub drain_faults : SentFront w (take count after) new_link
       → Session (start_of store) (turns_of store) may member k0 w0 end.LinkFault (known new) new_link
   drain_faults sent =
-      ends_cut (start_of store) (turns_of store) may member k0 w0 (known old) (known new) w new_link held d.frames s (after_drain count)
+      ends_cut (start_of store) (turns_of store) may member k0 w0 (known old) (known new) w new_link held d.frames s
+      (after_drain count)
       (drain_run may member s.steps d.frames count d.count s.run) made_whole later
       (subst (λ (bs : List ℕ). SentFront w bs new_link) given sent)

@@ -18,13 +18,15 @@ pub record NextFrame (fed : Fed) (bytes : List ℕ) : Type 0 where
   pub front : fed.held ≡ raw_bytes frame ++ (after_next fed).held
   pub refused : (after_next fed).refused ≡ fed.refused
 
-frame_there : (fed : Fed) (bytes : List ℕ) (s : Split) → split_of fed.held ≡ s → Offer.Frame bytes ≡ offer_from s fed.held → AreBytes fed.held
+frame_there : (fed : Fed) (bytes : List ℕ) (s : Split) → split_of fed.held ≡ s
+    → Offer.Frame bytes ≡ offer_from s fed.held → AreBytes fed.held
     → (f : RawFrame) × (s ≡ Split.Whole f) × (bytes ≡ take (span f.body) fed.held)
 frame_there fed bytes (Split.Whole f) e o fit = (f, refl, cc)
 frame_there fed bytes (Split.Need lack) e o fit = absurd cc
 frame_there fed bytes (Split.Refused refusal) e o fit = absurd cc
 
-pub next_frame : (fed : Fed) (bytes : List ℕ) → Offer.Frame bytes ≡ offer_of fed → AreBytes fed.held → NextFrame fed bytes
+pub next_frame : (fed : Fed) (bytes : List ℕ) → Offer.Frame bytes ≡ offer_of fed → AreBytes fed.held
+    → NextFrame fed bytes
 next_frame fed bytes o fit =
     let there = frame_there fed bytes (split_of fed.held) refl o fit in
     let f : RawFrame = there.0 in
@@ -34,7 +36,8 @@ next_frame fed bytes o fit =
       frame = f;
       raw = spelled.frame;
       is = there.2 ∙ spelled.spelling;
-      front = sym (take-append-drop (span f.body) fed.held) ∙ ap (λ (x : List ℕ). x ++ drop (span f.body) fed.held) spelled.spelling
+      front = sym (take-append-drop (span f.body) fed.held)
+          ∙ ap (λ (x : List ℕ). x ++ drop (span f.body) fed.held) spelled.spelling
           ∙ ap (λ (x : List ℕ). raw_bytes f ++ x) (sym (ap (λ (g : Fed). g.held) after));
       refused = ap (λ (g : Fed). g.refused) after;
     }
@@ -50,7 +53,8 @@ next_need fed lack o =
     let is : split_of fed.held ≡ Split.Need lack = need_there fed lack (split_of fed.held) o in
     (ap (λ (s : Split). after_split s fed) is, (lack, is))
 
-refused_there : (fed : Fed) (r : WireRefusal) (s : Split) → Offer.Refused r ≡ offer_from s fed.held → s ≡ Split.Refused r
+refused_there : (fed : Fed) (r : WireRefusal) (s : Split) → Offer.Refused r ≡ offer_from s fed.held
+    → s ≡ Split.Refused r
 refused_there fed r (Split.Whole f) o = absurd cc
 refused_there fed r (Split.Need n) o = absurd cc
 refused_there fed r (Split.Refused refusal) o = cc
@@ -74,11 +78,13 @@ both_bytes [] ys h k i = k i
 both_bytes (x ∷ xs) ys h k zero = h 0
 both_bytes (x ∷ xs) ys h k (suc i) = both_bytes xs ys (λ j. h (suc j)) k i
 
-open_there : (fed : Fed) (bytes : List ℕ) (s : Split) → Offer.Frame bytes ≡ offer_from s fed.held → (after_split s fed).refused ≡ fed.refused
+open_there : (fed : Fed) (bytes : List ℕ) (s : Split) → Offer.Frame bytes ≡ offer_from s fed.held
+    → (after_split s fed).refused ≡ fed.refused
 open_there fed bytes (Split.Whole f) o = refl
 open_there fed bytes (Split.Need lack) o = refl
 open_there fed bytes (Split.Refused refusal) o = absurd cc
 
 -- a feed that hands out a frame refuses as it did
-pub next_frame_open : (fed : Fed) (bytes : List ℕ) → Offer.Frame bytes ≡ offer_of fed → (after_next fed).refused ≡ fed.refused
+pub next_frame_open : (fed : Fed) (bytes : List ℕ) → Offer.Frame bytes ≡ offer_of fed
+    → (after_next fed).refused ≡ fed.refused
 next_frame_open fed bytes o = open_there fed bytes (split_of fed.held) o

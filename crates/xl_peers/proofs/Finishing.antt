@@ -56,9 +56,12 @@ module _ (start : Core) (turns : ℕ) (may_give : ℕ → Bool) (member : ℕ) (
       → Session start turns may_give member k0 w0 end.LinkFault new new_link
   ends_cut k new w new_link held frames s p run made drawn sent =
       let step = drain member frames in
-      let given : bytes_drained (s.steps ++ step ∷ []) ≡ bytes_drained s.steps ++ joined frames = more drained_in s.steps step in
+      let given : bytes_drained (s.steps ++ step ∷ []) ≡ bytes_drained s.steps ++ joined frames =
+      more drained_in s.steps step in
       let rose : Rose w0.faults new_link.faults = (let a = s.later in let b = sent.failed in omega arith) in
-      let cut : IsCutOff member (s.steps ++ step ∷ []) (bytes_drained s.steps ++ sent.written) = record { earlier = s.steps; frames = frames; front = sent.written; last = refl; part = sent.front; is = refl } in
+      let cut : IsCutOff member (s.steps ++ step ∷ []) (bytes_drained s.steps ++ sent.written) =
+      record { earlier = s.steps; frames = frames; front = sent.written; last = refl; part = sent.front; is = refl }
+      in
       record {
         steps = s.steps ++ step ∷ [];
         written = bytes_drained s.steps ++ sent.written;
@@ -73,10 +76,12 @@ module _ (start : Core) (turns : ℕ) (may_give : ℕ → Bool) (member : ℕ) (
           );
           all = inr (refl, cut);
         };
-        made = subst (λ cs. Made start k0 new cs) (sym (more call_in s.steps step)) (made_both start k0 k new (calls s.steps) _ s.made made);
+        made = subst (λ cs. Made start k0 new cs) (sym (more call_in s.steps step))
+            (made_both start k0 k new (calls s.steps) _ s.made made);
         drawn = let q = s.drawn in omega (arith, drawn, q);
         read = s.read ∙ ap (λ (known : Option (List ℕ)). prepend_known (bytes_read s.steps) known) (sym sent.sent.left)
-            ∙ ap (λ (bs : List ℕ). prepend_known bs new_link.left) (sym (more read_in s.steps step ∙ append-nil (bytes_read s.steps)));
+            ∙ ap (λ (bs : List ℕ). prepend_known bs new_link.left)
+            (sym (more read_in s.steps step ∙ append-nil (bytes_read s.steps)));
         took = sent.sent.took ∙ ap (λ (known : Option (List ℕ)). append_known known sent.written) s.took
             ∙ append_known-twice w0.took (bytes_drained s.steps) sent.written;
         openings = sent.sent.openings ∙ s.openings;
@@ -113,7 +118,8 @@ module _ {B K : Type 0} (store : Store B K) (may_give : ℕ → Bool) (member : 
   refused_cause old new refused.OutOfMemory before after why = tt
   refused_cause old new (refused.StoreFull n) before after why = (why.0, ap (λ (k : Knowledge Entry). k.drawn) why.2)
 
-  refused_ends : (steps : List Step) (p : Phase) (written : List ℕ) (e : StoreEnd) → EndsBy member steps p written (end_of e)
+  refused_ends : (steps : List Step) (p : Phase) (written : List ℕ) (e : StoreEnd)
+      → EndsBy member steps p written (end_of e)
   refused_ends steps p written refused.OutOfMemory = tt
   refused_ends steps p written (refused.StoreFull n) = tt
 
@@ -126,4 +132,5 @@ module _ {B K : Type 0} (store : Store B K) (may_give : ℕ → Bool) (member : 
       let t = so_none (start_of store) may_give member k0 w0 p (known old) (known new) w held s r.made
       (refused_later (known old) (known new) e r.why) in
       ends (start_of store) (turns_of store) may_give member k0 w0 p (known new) w held (end_of e) t
-      (refused_ends t.steps p (bytes_drained t.steps) e) (refused_cause (known old) (known new) e w0.faults w.faults r.why)
+      (refused_ends t.steps p (bytes_drained t.steps) e)
+      (refused_cause (known old) (known new) e w0.faults w.faults r.why)

@@ -48,7 +48,8 @@ pub sending_more : (old mid new : Wire) (all rest : List ℕ) (n : ℕ) → Send
     → Sent mid (take n rest) new → Sending old new all (drop n rest)
 sending_more old mid new all rest n s more = record {
   front = s.front ++ take n rest;
-  parts = s.parts ∙ ap (λ xs. s.front ++ xs) (sym (take-append-drop n rest)) ∙ sym (append_assoc s.front (take n rest) (drop n rest));
+  parts = s.parts ∙ ap (λ xs. s.front ++ xs) (sym (take-append-drop n rest))
+      ∙ sym (append_assoc s.front (take n rest) (drop n rest));
   sent = sent_both old mid new s.front (take n rest) s.sent more;
 }
 
@@ -60,7 +61,8 @@ pub sent_front : (start old new : Wire) (all rest : List ℕ) → Sending start 
     → SentFront start all new
 sent_front start old new all rest s w =
     let none : Sent old [] new = record { took = w.took; left = w.left; openings = w.openings; later = w.later } in
-    let sent : Sent start s.front new = subst (λ xs. Sent start xs new) (append-nil s.front) (sent_both start old new s.front [] s.sent none) in
+    let sent : Sent start s.front new = subst (λ xs. Sent start xs new) (append-nil s.front)
+    (sent_both start old new s.front [] s.sent none) in
     record {
       written = s.front;
       front = (rest, sym s.parts);

@@ -52,11 +52,14 @@ module _ {B K : Type 0} (store : Store B K) (may : ℕ → Bool) (member : ℕ) 
   hands_one new next bytes now r is offer given called =
       let f = next_frame fed bytes offer (front_bytes fed.held later s.bytes) in
       let front : fed.held ++ later ≡ raw_bytes f.frame ++ (next.held ++ later) =
-      ap (λ (l : List ℕ). l ++ later) (f.front ∙ ap (λ (g : Fed). raw_bytes f.frame ++ g.held) (sym is)) ∙ append_assoc (raw_bytes f.frame) next.held later in
+      ap (λ (l : List ℕ). l ++ later) (f.front ∙ ap (λ (g : Fed). raw_bytes f.frame ++ g.held) (sym is))
+      ∙ append_assoc (raw_bytes f.frame) next.held later in
       let t = subst (λ (l : List ℕ). SoFar (start_of store) may member k0 w0 Hands (known old) w l) front s in
-      so_handed (start_of store) may member k0 w0 (known old) (known new) w now (taken_answer r) f.frame (next.held ++ later) t f.raw given
+      so_handed (start_of store) may member k0 w0 (known old) (known new) w now (taken_answer r) f.frame
+      (next.held ++ later) t f.raw given
       (rest_bytes (raw_bytes f.frame) (next.held ++ later) t.bytes)
-      (subst (λ (bs : List ℕ). Made (start_of store) (known old) (known new) (record { event = Frame now bs; answer = taken_answer r } ∷ [])) f.is called.made)
+      (subst (λ (bs : List ℕ). Made (start_of store) (known old) (known new)
+      (record { event = Frame now bs; answer = taken_answer r } ∷ [])) f.is called.made)
       (let more = called.later in omega (arith, more))
       (gives_nothing r)
 
@@ -67,9 +70,11 @@ module _ {B K : Type 0} (store : Store B K) (may : ℕ → Bool) (member : ℕ) 
       (refl, fed.held ++ later, s.first, refused_longer fed.held later r (next_refused fed r offer)) tt
 
 -- a feed that needs more takes some of a piece
-pub takes_some : (fed : Fed) (piece : List ℕ) (count : ℕ) → fed.refused ≡ false → NeedsMore fed.held → 0 < length piece → count ≡ taken_of fed piece
+pub takes_some : (fed : Fed) (piece : List ℕ) (count : ℕ) → fed.refused ≡ false → NeedsMore fed.held → 0 < length piece
+    → count ≡ taken_of fed piece
     → (0 < count) × (count ≤ length piece)
 takes_some fed piece count takes needs some is =
     let room = needs_room fed.held needs in
-    let taken : count ≡ min (length piece) (LONGEST_FRAME - length fed.held) = is ∙ ap (λ (b : Bool). if b then 0 else min (length piece) (LONGEST_FRAME - length fed.held)) takes in
+    let taken : count ≡ min (length piece) (LONGEST_FRAME - length fed.held) = is
+    ∙ ap (λ (b : Bool). if b then 0 else min (length piece) (LONGEST_FRAME - length fed.held)) takes in
     (omega (arith, room, some, taken), omega (arith, taken))

@@ -30,11 +30,13 @@ use Rattle.xl_peers.proofs.Growing.{append_known-none, append_known-twice, prepe
 use Rattle.xl_peers.proofs.Finishing.{refused_later}
 
 -- one deed more
-more : {A : Type 0} (f : Deed → List A) (deeds : List Deed) (d : Deed) → flat_map f (deeds ++ d ∷ []) ≡ flat_map f deeds ++ f d
+more : {A : Type 0} (f : Deed → List A) (deeds : List Deed) (d : Deed)
+    → flat_map f (deeds ++ d ∷ []) ≡ flat_map f deeds ++ f d
 more f deeds d = flat_map-append f deeds (d ∷ []) ∙ ap (λ l. flat_map f deeds ++ l) (append-nil (f d))
 
 -- a deed that adds nothing
-same : {A : Type 0} (f : Deed → List A) (deeds : List Deed) (d : Deed) → f d ≡ [] → flat_map f (deeds ++ d ∷ []) ≡ flat_map f deeds
+same : {A : Type 0} (f : Deed → List A) (deeds : List Deed) (d : Deed) → f d ≡ []
+    → flat_map f (deeds ++ d ∷ []) ≡ flat_map f deeds
 same f deeds d e = more f deeds d ∙ ap (λ l. flat_map f deeds ++ l) e ∙ append-nil (flat_map f deeds)
 
 append_openings-none : (told : Option (List Opening)) → append_openings told [] ≡ told
@@ -47,15 +49,18 @@ append_openings-twice None xs ys = refl
 append_openings-twice (Some os) xs ys = ap Some (append_assoc os xs ys)
 
 -- first some openings, and then others
-adds_both : (old mid new : Option (List Opening)) (xs ys : List Opening) → AddsOpenings old mid xs → AddsOpenings mid new ys
+adds_both : (old mid new : Option (List Opening)) (xs ys : List Opening) → AddsOpenings old mid xs
+    → AddsOpenings mid new ys
     → AddsOpenings old new (xs ++ ys)
 adds_both old mid new xs ys a (inl none) = inl none
-adds_both old mid new xs ys (inl none) (inr e) = inl (e ∙ ap (λ (told : Option (List Opening)). append_openings told ys) none)
+adds_both old mid new xs ys (inl none) (inr e) =
+    inl (e ∙ ap (λ (told : Option (List Opening)). append_openings told ys) none)
 adds_both old mid new xs ys (inr d) (inr e) =
     inr (e ∙ ap (λ (told : Option (List Opening)). append_openings told ys) d ∙ append_openings-twice old xs ys)
 
 -- all was written, or the link's count rose
-all_or_rose : (turns before after drawn : ℕ) (written drained : List ℕ) (e : End) (X : Type 0) → IsCause turns before after drawn e
+all_or_rose : (turns before after drawn : ℕ) (written drained : List ℕ) (e : End) (X : Type 0)
+    → IsCause turns before after drawn e
     → (written ≡ drained) ⊎ ((e ≡ end.LinkFault) × X) → Rose before after ⊎ (written ≡ drained)
 all_or_rose turns before after drawn written drained e X cause (inl same) = inr same
 all_or_rose turns before after drawn written drained e X cause (inr cut) =
@@ -76,12 +81,15 @@ module _ (start : Core) (may : ℕ → Bool) (member : ℕ) (k0 : Knowledge Entr
       record {
         deeds = s.deeds ++ d ∷ [];
         run = IsServing.asks s.deeds answer s.run;
-        made = subst (λ cs. Made start k0 new cs) (sym (more calls_in s.deeds d)) (made_both start k0 k new (flat_map calls_in s.deeds) _ s.made made);
+        made = subst (λ cs. Made start k0 new cs) (sym (more calls_in s.deeds d))
+            (made_both start k0 k new (flat_map calls_in s.deeds) _ s.made made);
         drawn = let p = s.drawn in omega (arith, drawn, p);
         read = s.read ∙ ap (λ (bs : List ℕ). prepend_known bs w.left) (sym (same read_in s.deeds d refl));
         took = s.took ∙ ap (append_known w0.took) (sym (same written_in s.deeds d refl));
-        all = subst (λ (p : List ℕ × List ℕ). Rose w0.faults w.faults ⊎ (p.0 ≡ p.1)) (λ i. (sym (same written_in s.deeds d refl) i, sym (same drained_in s.deeds d refl) i)) s.all;
-        openings = subst (λ (os : List Opening). AddsOpenings w0.openings w.openings os) (sym (same opened_in s.deeds d refl)) s.openings;
+        all = subst (λ (p : List ℕ × List ℕ). Rose w0.faults w.faults ⊎ (p.0 ≡ p.1))
+            (λ i. (sym (same written_in s.deeds d refl) i, sym (same drained_in s.deeds d refl) i)) s.all;
+        openings = subst (λ (os : List Opening). AddsOpenings w0.openings w.openings os)
+            (sym (same opened_in s.deeds d refl)) s.openings;
         later = s.later;
       }
 
@@ -101,7 +109,8 @@ module _ (start : Core) (may : ℕ → Bool) (member : ℕ) (k0 : Knowledge Entr
   asked_none round k new w s made drawn = record {
     deeds = s.deeds;
     run = s.run;
-    made = subst (λ cs. Made start k0 new cs) (append-nil (flat_map calls_in s.deeds)) (made_both start k0 k new (flat_map calls_in s.deeds) [] s.made made);
+    made = subst (λ cs. Made start k0 new cs) (append-nil (flat_map calls_in s.deeds))
+        (made_both start k0 k new (flat_map calls_in s.deeds) [] s.made made);
     drawn = let p = s.drawn in omega (arith, drawn, p);
     read = s.read;
     took = s.took;
@@ -110,7 +119,8 @@ module _ (start : Core) (may : ℕ → Bool) (member : ℕ) (k0 : Knowledge Entr
     later = s.later;
   }
 
-  pub opened : (k : Knowledge Entry) (w new_link : Wire) (answer : Opening) → Serving start may member k0 w0 Round.Opens k w
+  pub opened : (k : Knowledge Entry) (w new_link : Wire) (answer : Opening)
+      → Serving start may member k0 w0 Round.Opens k w
       → links.Opens w answer new_link → Serving start may member k0 w0 (after_opening answer) k new_link
   opened k w new_link answer s o =
       let d = Opened answer in
@@ -122,14 +132,19 @@ module _ (start : Core) (may : ℕ → Bool) (member : ℕ) (k0 : Knowledge Entr
         read = s.read ∙ ap (λ (known : Option (List ℕ)). prepend_known (flat_map read_in s.deeds) known) (sym o.left)
             ∙ ap (λ (bs : List ℕ). prepend_known bs new_link.left) (sym (same read_in s.deeds d refl));
         took = o.took ∙ s.took ∙ ap (append_known w0.took) (sym (same written_in s.deeds d refl));
-        all = subst (λ (p : List ℕ × List ℕ). Rose w0.faults new_link.faults ⊎ (p.0 ≡ p.1)) (λ i. (sym (more written_in s.deeds d) i, sym (more drained_in s.deeds d) i))
-            (both_written w0.faults w.faults new_link.faults (flat_map written_in s.deeds) [] (flat_map drained_in s.deeds) [] s.later o.later s.all (inr refl));
-        openings = subst (λ (os : List Opening). AddsOpenings w0.openings new_link.openings os) (sym (more opened_in s.deeds d))
-            (adds_both w0.openings w.openings new_link.openings (flat_map opened_in s.deeds) (answer ∷ []) s.openings o.openings);
+        all = subst (λ (p : List ℕ × List ℕ). Rose w0.faults new_link.faults ⊎ (p.0 ≡ p.1))
+            (λ i. (sym (more written_in s.deeds d) i, sym (more drained_in s.deeds d) i))
+            (both_written w0.faults w.faults new_link.faults (flat_map written_in s.deeds) []
+            (flat_map drained_in s.deeds) [] s.later o.later s.all (inr refl));
+        openings = subst (λ (os : List Opening). AddsOpenings w0.openings new_link.openings os)
+            (sym (more opened_in s.deeds d))
+            (adds_both w0.openings w.openings new_link.openings (flat_map opened_in s.deeds) (answer ∷ []) s.openings
+            o.openings);
         later = let p = s.later in let q = o.later in omega arith;
       }
 
-  pub talked : (turns : ℕ) (k new : Knowledge Entry) (w new_link : Wire) (e : End) → Serving start may member k0 w0 Round.Talks k w
+  pub talked : (turns : ℕ) (k new : Knowledge Entry) (w new_link : Wire) (e : End)
+      → Serving start may member k0 w0 Round.Talks k w
       → Session start turns may member k w e new new_link
       → Serving start may member k0 w0 (after_session (served_of e)) new new_link
   talked turns k new w new_link e s t =
@@ -137,23 +152,31 @@ module _ (start : Core) (may : ℕ → Bool) (member : ℕ) (k0 : Knowledge Entr
       record {
         deeds = s.deeds ++ d ∷ [];
         run = IsServing.talks s.deeds t.steps t.written e s.run t.talk;
-        made = subst (λ cs. Made start k0 new cs) (sym (more calls_in s.deeds d)) (made_both start k0 k new (flat_map calls_in s.deeds) _ s.made t.made);
+        made = subst (λ cs. Made start k0 new cs) (sym (more calls_in s.deeds d))
+            (made_both start k0 k new (flat_map calls_in s.deeds) _ s.made t.made);
         drawn = let p = s.drawn in let q = t.drawn in omega arith;
         read = s.read ∙ ap (λ (known : Option (List ℕ)). prepend_known (flat_map read_in s.deeds) known) t.read
             ∙ prepend_known-twice (flat_map read_in s.deeds) (read_in d) new_link.left
             ∙ ap (λ (bs : List ℕ). prepend_known bs new_link.left) (sym (more read_in s.deeds d));
-        took = t.took ∙ ap (λ (known : Option (List ℕ)). append_known known t.written) s.took ∙ append_known-twice w0.took (flat_map written_in s.deeds) t.written
+        took = t.took ∙ ap (λ (known : Option (List ℕ)). append_known known t.written) s.took
+            ∙ append_known-twice w0.took (flat_map written_in s.deeds) t.written
             ∙ ap (append_known w0.took) (sym (more written_in s.deeds d));
-        all = subst (λ (p : List ℕ × List ℕ). Rose w0.faults new_link.faults ⊎ (p.0 ≡ p.1)) (λ i. (sym (more written_in s.deeds d) i, sym (more drained_in s.deeds d) i))
-            (both_written w0.faults w.faults new_link.faults (flat_map written_in s.deeds) t.written (flat_map drained_in s.deeds) (drained_in d) s.later t.later s.all
-            (all_or_rose turns w.faults new_link.faults new.drawn t.written (bytes_drained t.steps) e (IsCutOff member t.steps t.written) t.cause t.talk.all));
-        openings = subst (λ (os : List Opening). AddsOpenings w0.openings new_link.openings os) (sym (same opened_in s.deeds d refl))
-            (subst (λ (known : Option (List Opening)). AddsOpenings w0.openings known (flat_map opened_in s.deeds)) (sym t.openings) s.openings);
+        all = subst (λ (p : List ℕ × List ℕ). Rose w0.faults new_link.faults ⊎ (p.0 ≡ p.1))
+            (λ i. (sym (more written_in s.deeds d) i, sym (more drained_in s.deeds d) i))
+            (both_written w0.faults w.faults new_link.faults (flat_map written_in s.deeds) t.written
+            (flat_map drained_in s.deeds) (drained_in d) s.later t.later s.all
+            (all_or_rose turns w.faults new_link.faults new.drawn t.written (bytes_drained t.steps) e
+            (IsCutOff member t.steps t.written) t.cause t.talk.all));
+        openings = subst (λ (os : List Opening). AddsOpenings w0.openings new_link.openings os)
+            (sym (same opened_in s.deeds d refl))
+            (subst (λ (known : Option (List Opening)). AddsOpenings w0.openings known (flat_map opened_in s.deeds))
+            (sym t.openings) s.openings);
         later = let p = s.later in let q = t.later in omega arith;
       }
 
   -- after a session the serving goes on, or is over for the same reason
-  pub talked_on : (turns : ℕ) (k new : Knowledge Entry) (w new_link : Wire) (e : End) → Serving start may member k0 w0 Round.Talks k w
+  pub talked_on : (turns : ℕ) (k new : Knowledge Entry) (w new_link : Wire) (e : End)
+      → Serving start may member k0 w0 Round.Talks k w
       → Session start turns may member k w e new new_link
       → Follows start turns may member k0 w0 (served_of e) new new_link
   unfolding talked
@@ -189,8 +212,10 @@ serving_starts start may member k0 w0 = record {
 
 module _ {B K : Type 0} (store : Store B K) (may : ℕ → Bool) (member : ℕ) (k0 : Knowledge Entry) (w0 : Wire) where
   -- a turn that wasn't had ends the serving, or it is asked again
-  pub refused_on : (old new : Pass Entry) (w : Wire) (e : StoreEnd) → Serving (start_of store) may member k0 w0 Round.Asks (known old) w
-      → Refused store old e new → Follows (start_of store) (turns_of store) may member k0 w0 (refused_of e) (known new) w
+  pub refused_on : (old new : Pass Entry) (w : Wire) (e : StoreEnd)
+      → Serving (start_of store) may member k0 w0 Round.Asks (known old) w
+      → Refused store old e new
+      → Follows (start_of store) (turns_of store) may member k0 w0 (refused_of e) (known new) w
   refused_on old new w refused.OutOfMemory s r =
       asked_none (start_of store) may member k0 w0 Round.Asks (known old) (known new) w s r.made
       (refused_later store may member k0 w0 (known old) (known new) refused.OutOfMemory r.why)

@@ -37,12 +37,14 @@ kind bytes = refused_if (nat_lt 3 (length bytes) && not (is_kind (kind_in bytes)
 
 abbrev long : List ℕ → Option WireRefusal
 long bytes =
-    refused_if (nat_lt 5 (length bytes) && not (can_have (kind_in bytes) (length_in bytes))) (Length (kind_in bytes) (length_in bytes))
+    refused_if (nat_lt 5 (length bytes) && not (can_have (kind_in bytes) (length_in bytes)))
+    (Length (kind_in bytes) (length_in bytes))
 
 none_there : (b c : Bool) (r : WireRefusal) → b ≡ false → refused_if (b && c) r ≡ None
 none_there b c r e = rw e refl
 
-guarded : (a b c d : Bool) (r s : WireRefusal) → a ≡ true → b ≡ true → c ≡ d → r ≡ s → refused_if (a && c) r ≡ refused_if (b && d) s
+guarded : (a b c d : Bool) (r s : WireRefusal) → a ≡ true → b ≡ true → c ≡ d → r ≡ s
+    → refused_if (a && c) r ≡ refused_if (b && d) s
 guarded a b c d r s p q e f = rw (p, q, e, f) refl
 
 module _ (xs ys : List ℕ) where
@@ -51,18 +53,22 @@ module _ (xs ys : List ℕ) where
 
   same_magic : (i wanted : ℕ) → i < length xs → magic xs i wanted ≡ magic (xs ++ ys) i wanted
   same_magic i wanted h =
-      guarded (nat_lt i (length xs)) (nat_lt i (length (xs ++ ys))) (not (slice_index xs i == wanted)) (not (slice_index (xs ++ ys) i == wanted))
-      (Magic i) (Magic i) (there i (length xs) h) (more i h) (ap (λ b. not (b == wanted)) (sym (same_at xs ys i h))) refl
+      guarded (nat_lt i (length xs)) (nat_lt i (length (xs ++ ys))) (not (slice_index xs i == wanted))
+      (not (slice_index (xs ++ ys) i == wanted))
+      (Magic i) (Magic i) (there i (length xs) h) (more i h) (ap (λ b. not (b == wanted)) (sym (same_at xs ys i h)))
+      refl
 
   same_version : 2 < length xs → version xs ≡ version (xs ++ ys)
   same_version h =
-      guarded (nat_lt 2 (length xs)) (nat_lt 2 (length (xs ++ ys))) (not (slice_index xs 2 == 1)) (not (slice_index (xs ++ ys) 2 == 1))
+      guarded (nat_lt 2 (length xs)) (nat_lt 2 (length (xs ++ ys))) (not (slice_index xs 2 == 1))
+      (not (slice_index (xs ++ ys) 2 == 1))
       (Version (slice_index xs 2)) (Version (slice_index (xs ++ ys) 2)) (there 2 (length xs) h) (more 2 h)
       (ap (λ b. not (b == 1)) (sym (same_at xs ys 2 h))) (ap Version (sym (same_at xs ys 2 h)))
 
   same_kind : 3 < length xs → kind xs ≡ kind (xs ++ ys)
   same_kind h =
-      guarded (nat_lt 3 (length xs)) (nat_lt 3 (length (xs ++ ys))) (not (is_kind (kind_in xs))) (not (is_kind (kind_in (xs ++ ys))))
+      guarded (nat_lt 3 (length xs)) (nat_lt 3 (length (xs ++ ys))) (not (is_kind (kind_in xs)))
+      (not (is_kind (kind_in (xs ++ ys))))
       (Kind (kind_in xs)) (Kind (kind_in (xs ++ ys))) (there 3 (length xs) h) (more 3 h)
       (ap (λ b. not (is_kind b)) (sym (same_at xs ys 3 h))) (ap Kind (sym (same_at xs ys 3 h)))
 
@@ -79,15 +85,18 @@ same_long : (xs ys : List ℕ) → 5 < length xs → long xs ≡ long (xs ++ ys)
 same_long xs ys h =
     let k = sym (same_at xs ys 3 (omega (arith, h))) in
     let n = same_length xs ys h in
-    guarded (nat_lt 5 (length xs)) (nat_lt 5 (length (xs ++ ys))) (not (can_have (kind_in xs) (length_in xs))) (not (can_have (kind_in (xs ++ ys)) (length_in (xs ++ ys))))
-    (Length (kind_in xs) (length_in xs)) (Length (kind_in (xs ++ ys)) (length_in (xs ++ ys))) (there 5 (length xs) h) (more xs ys 5 h)
+    guarded (nat_lt 5 (length xs)) (nat_lt 5 (length (xs ++ ys))) (not (can_have (kind_in xs) (length_in xs)))
+    (not (can_have (kind_in (xs ++ ys)) (length_in (xs ++ ys))))
+    (Length (kind_in xs) (length_in xs)) (Length (kind_in (xs ++ ys)) (length_in (xs ++ ys))) (there 5 (length xs) h)
+    (more xs ys 5 h)
     (λ i. not (can_have (k i) (n i))) (λ i. Length (k i) (n i))
 
 none_some : (r : WireRefusal) → None ≡ Some r → ⊥
 none_some r h = cc
 
 -- the first cause stays the first where only what stands behind it changes
-first_stays : (cs ds es : List (Option WireRefusal)) (r : WireRefusal) → first_of ds ≡ None → first_of (cs ++ ds) ≡ Some r
+first_stays : (cs ds es : List (Option WireRefusal)) (r : WireRefusal) → first_of ds ≡ None
+    → first_of (cs ++ ds) ≡ Some r
     → first_of (cs ++ es) ≡ Some r
 first_stays [] ds es r none e = absurd (none_some r (sym none ∙ e))
 first_stays (None ∷ cs) ds es r none e = first_stays cs ds es r none e
@@ -98,33 +107,45 @@ module _ (xs ys : List ℕ) (r : WireRefusal) (e : head_refusal xs ≡ Some r) w
   from_nothing : nat_lt 0 (length xs) ≡ false → head_refusal (xs ++ ys) ≡ Some r
   from_nothing f =
       let a = none_there (nat_lt 0 (length xs)) (not (slice_index xs 0 == 0x58)) (Magic 0) f in
-      let b = none_there (nat_lt 1 (length xs)) (not (slice_index xs 1 == 0x4C)) (Magic 1) (beyond 0 1 (length xs) (omega arith) f) in
-      let c = none_there (nat_lt 2 (length xs)) (not (slice_index xs 2 == 1)) (Version (slice_index xs 2)) (beyond 0 2 (length xs) (omega arith) f) in
-      let d = none_there (nat_lt 3 (length xs)) (not (is_kind (kind_in xs))) (Kind (kind_in xs)) (beyond 0 3 (length xs) (omega arith) f) in
-      let l = none_there (nat_lt 5 (length xs)) (not (can_have (kind_in xs) (length_in xs))) (Length (kind_in xs) (length_in xs)) (beyond 0 5 (length xs) (omega arith) f) in
+      let b = none_there (nat_lt 1 (length xs)) (not (slice_index xs 1 == 0x4C)) (Magic 1)
+      (beyond 0 1 (length xs) (omega arith) f) in
+      let c = none_there (nat_lt 2 (length xs)) (not (slice_index xs 2 == 1)) (Version (slice_index xs 2))
+      (beyond 0 2 (length xs) (omega arith) f) in
+      let d = none_there (nat_lt 3 (length xs)) (not (is_kind (kind_in xs))) (Kind (kind_in xs))
+      (beyond 0 3 (length xs) (omega arith) f) in
+      let l = none_there (nat_lt 5 (length xs)) (not (can_have (kind_in xs) (length_in xs)))
+      (Length (kind_in xs) (length_in xs)) (beyond 0 5 (length xs) (omega arith) f) in
       absurd (none_some r (sym (λ i. first_of (a i ∷ b i ∷ c i ∷ d i ∷ l i ∷ [])) ∙ e))
 
   from_one : 0 < length xs → nat_lt 1 (length xs) ≡ false → head_refusal (xs ++ ys) ≡ Some r
   from_one h f =
       let p = same_magic xs ys 0 0x58 h in
       let b = none_there (nat_lt 1 (length xs)) (not (slice_index xs 1 == 0x4C)) (Magic 1) f in
-      let c = none_there (nat_lt 2 (length xs)) (not (slice_index xs 2 == 1)) (Version (slice_index xs 2)) (beyond 1 2 (length xs) (omega arith) f) in
-      let d = none_there (nat_lt 3 (length xs)) (not (is_kind (kind_in xs))) (Kind (kind_in xs)) (beyond 1 3 (length xs) (omega arith) f) in
-      let l = none_there (nat_lt 5 (length xs)) (not (can_have (kind_in xs) (length_in xs))) (Length (kind_in xs) (length_in xs)) (beyond 1 5 (length xs) (omega arith) f) in
-      let none : first_of (magic xs 1 0x4C ∷ version xs ∷ kind xs ∷ long xs ∷ []) ≡ None = (λ i. first_of (b i ∷ c i ∷ d i ∷ l i ∷ [])) in
+      let c = none_there (nat_lt 2 (length xs)) (not (slice_index xs 2 == 1)) (Version (slice_index xs 2))
+      (beyond 1 2 (length xs) (omega arith) f) in
+      let d = none_there (nat_lt 3 (length xs)) (not (is_kind (kind_in xs))) (Kind (kind_in xs))
+      (beyond 1 3 (length xs) (omega arith) f) in
+      let l = none_there (nat_lt 5 (length xs)) (not (can_have (kind_in xs) (length_in xs)))
+      (Length (kind_in xs) (length_in xs)) (beyond 1 5 (length xs) (omega arith) f) in
+      let none : first_of (magic xs 1 0x4C ∷ version xs ∷ kind xs ∷ long xs ∷ []) ≡ None =
+      (λ i. first_of (b i ∷ c i ∷ d i ∷ l i ∷ [])) in
       let tail = magic (xs ++ ys) 1 0x4C ∷ version (xs ++ ys) ∷ kind (xs ++ ys) ∷ long (xs ++ ys) ∷ [] in
-      sym (λ i. first_of (p i ∷ tail)) ∙ first_stays (magic xs 0 0x58 ∷ []) (magic xs 1 0x4C ∷ version xs ∷ kind xs ∷ long xs ∷ []) tail r none e
+      sym (λ i. first_of (p i ∷ tail))
+      ∙ first_stays (magic xs 0 0x58 ∷ []) (magic xs 1 0x4C ∷ version xs ∷ kind xs ∷ long xs ∷ []) tail r none e
 
   from_two : 1 < length xs → nat_lt 2 (length xs) ≡ false → head_refusal (xs ++ ys) ≡ Some r
   from_two h f =
       let p = same_magic xs ys 0 0x58 (omega (arith, h)) in
       let q = same_magic xs ys 1 0x4C h in
       let c = none_there (nat_lt 2 (length xs)) (not (slice_index xs 2 == 1)) (Version (slice_index xs 2)) f in
-      let d = none_there (nat_lt 3 (length xs)) (not (is_kind (kind_in xs))) (Kind (kind_in xs)) (beyond 2 3 (length xs) (omega arith) f) in
-      let l = none_there (nat_lt 5 (length xs)) (not (can_have (kind_in xs) (length_in xs))) (Length (kind_in xs) (length_in xs)) (beyond 2 5 (length xs) (omega arith) f) in
+      let d = none_there (nat_lt 3 (length xs)) (not (is_kind (kind_in xs))) (Kind (kind_in xs))
+      (beyond 2 3 (length xs) (omega arith) f) in
+      let l = none_there (nat_lt 5 (length xs)) (not (can_have (kind_in xs) (length_in xs)))
+      (Length (kind_in xs) (length_in xs)) (beyond 2 5 (length xs) (omega arith) f) in
       let none : first_of (version xs ∷ kind xs ∷ long xs ∷ []) ≡ None = (λ i. first_of (c i ∷ d i ∷ l i ∷ [])) in
       let tail = version (xs ++ ys) ∷ kind (xs ++ ys) ∷ long (xs ++ ys) ∷ [] in
-      sym (λ i. first_of (p i ∷ q i ∷ tail)) ∙ first_stays (magic xs 0 0x58 ∷ magic xs 1 0x4C ∷ []) (version xs ∷ kind xs ∷ long xs ∷ []) tail r none e
+      sym (λ i. first_of (p i ∷ q i ∷ tail))
+      ∙ first_stays (magic xs 0 0x58 ∷ magic xs 1 0x4C ∷ []) (version xs ∷ kind xs ∷ long xs ∷ []) tail r none e
 
   from_three : 2 < length xs → nat_lt 3 (length xs) ≡ false → head_refusal (xs ++ ys) ≡ Some r
   from_three h f =
@@ -132,10 +153,12 @@ module _ (xs ys : List ℕ) (r : WireRefusal) (e : head_refusal xs ≡ Some r) w
       let q = same_magic xs ys 1 0x4C (omega (arith, h)) in
       let v = same_version xs ys h in
       let d = none_there (nat_lt 3 (length xs)) (not (is_kind (kind_in xs))) (Kind (kind_in xs)) f in
-      let l = none_there (nat_lt 5 (length xs)) (not (can_have (kind_in xs) (length_in xs))) (Length (kind_in xs) (length_in xs)) (beyond 3 5 (length xs) (omega arith) f) in
+      let l = none_there (nat_lt 5 (length xs)) (not (can_have (kind_in xs) (length_in xs)))
+      (Length (kind_in xs) (length_in xs)) (beyond 3 5 (length xs) (omega arith) f) in
       let none : first_of (kind xs ∷ long xs ∷ []) ≡ None = (λ i. first_of (d i ∷ l i ∷ [])) in
       let tail = kind (xs ++ ys) ∷ long (xs ++ ys) ∷ [] in
-      sym (λ i. first_of (p i ∷ q i ∷ v i ∷ tail)) ∙ first_stays (magic xs 0 0x58 ∷ magic xs 1 0x4C ∷ version xs ∷ []) (kind xs ∷ long xs ∷ []) tail r none e
+      sym (λ i. first_of (p i ∷ q i ∷ v i ∷ tail))
+      ∙ first_stays (magic xs 0 0x58 ∷ magic xs 1 0x4C ∷ version xs ∷ []) (kind xs ∷ long xs ∷ []) tail r none e
 
   from_four : 3 < length xs → nat_lt 5 (length xs) ≡ false → head_refusal (xs ++ ys) ≡ Some r
   from_four h f =
@@ -143,7 +166,8 @@ module _ (xs ys : List ℕ) (r : WireRefusal) (e : head_refusal xs ≡ Some r) w
       let q = same_magic xs ys 1 0x4C (omega (arith, h)) in
       let v = same_version xs ys (omega (arith, h)) in
       let k = same_kind xs ys h in
-      let l = none_there (nat_lt 5 (length xs)) (not (can_have (kind_in xs) (length_in xs))) (Length (kind_in xs) (length_in xs)) f in
+      let l = none_there (nat_lt 5 (length xs)) (not (can_have (kind_in xs) (length_in xs)))
+      (Length (kind_in xs) (length_in xs)) f in
       let none : first_of (long xs ∷ []) ≡ None = (λ i. first_of (l i ∷ [])) in
       let tail = long (xs ++ ys) ∷ [] in
       sym (λ i. first_of (p i ∷ q i ∷ v i ∷ k i ∷ tail))
@@ -178,20 +202,23 @@ module _ (xs ys : List ℕ) (r : WireRefusal) (e : head_refusal xs ≡ Some r) w
   head_longer true is = past_none (nat_lt 1 (length xs)) refl (is_there 0 (length xs) is)
   head_longer false is = from_nothing is
 
-refusal_in : (refusal : Option WireRefusal) (lack : ℕ) (raw : RawFrame) (r : WireRefusal) → split_unless refusal lack raw ≡ Split.Refused r
+refusal_in : (refusal : Option WireRefusal) (lack : ℕ) (raw : RawFrame) (r : WireRefusal)
+    → split_unless refusal lack raw ≡ Split.Refused r
     → refusal ≡ Some r
 refusal_in (Some s) lack raw r e = cc
 refusal_in None (suc lack) raw r e = absurd cc
 refusal_in None zero raw r e = absurd cc
 
-pub refused_longer : (xs ys : List ℕ) (r : WireRefusal) → split_of xs ≡ Split.Refused r → split_of (xs ++ ys) ≡ Split.Refused r
+pub refused_longer : (xs ys : List ℕ) (r : WireRefusal) → split_of xs ≡ Split.Refused r
+    → split_of (xs ++ ys) ≡ Split.Refused r
 refused_longer xs ys r e =
     let head = refusal_in (head_refusal xs) (lacking xs) (raw_in xs) r e in
     ap (λ (refusal : Option WireRefusal). split_unless refusal (lacking (xs ++ ys)) (raw_in (xs ++ ys)))
     (head_longer xs ys r head (nat_lt 0 (length xs)) refl)
 
 -- what needs more is shorter than the longest frame
-need_in : (refusal : Option WireRefusal) (lack : ℕ) (raw : RawFrame) (n : ℕ) → split_unless refusal lack raw ≡ Split.Need n
+need_in : (refusal : Option WireRefusal) (lack : ℕ) (raw : RawFrame) (n : ℕ)
+    → split_unless refusal lack raw ≡ Split.Need n
     → (refusal ≡ None) × (0 < lack)
 need_in (Some s) lack raw n e = absurd cc
 need_in None (suc lack) raw n e = (refl, omega arith)
@@ -217,7 +244,8 @@ room_by : (bytes : List ℕ) (b : Bool) → nat_lt 5 (length bytes) ≡ b → he
     → length bytes < LONGEST_FRAME
 room_by bytes false is head lacks = grind (arith, nat_tests)
 room_by bytes true is head lacks =
-    let ok = lawful (nat_lt 5 (length bytes)) (can_have (kind_in bytes) (length_in bytes)) (Length (kind_in bytes) (length_in bytes)) is
+    let ok = lawful (nat_lt 5 (length bytes)) (can_have (kind_in bytes) (length_in bytes))
+    (Length (kind_in bytes) (length_in bytes)) is
     (last_none (magic bytes 0 0x58) (magic bytes 1 0x4C) (version bytes) (kind bytes) (long bytes) head) in
     let most = at_most (kind_in bytes) (length_in bytes) ok in
     grind (arith, nat_tests)

@@ -23,15 +23,18 @@ use Rattle.xl_peers.specs.Going.{AreBytes, SoFar, Sent}
 use Rattle.xl_peers.proofs.Growing.{append_known-twice, prepend_known-twice}
 
 -- one step more
-pub more : {A : Type 0} (f : Step → List A) (steps : List Step) (s : Step) → flat_map f (steps ++ s ∷ []) ≡ flat_map f steps ++ f s
+pub more : {A : Type 0} (f : Step → List A) (steps : List Step) (s : Step)
+    → flat_map f (steps ++ s ∷ []) ≡ flat_map f steps ++ f s
 more f steps s = flat_map-append f steps (s ∷ []) ∙ ap (λ l. flat_map f steps ++ l) (append-nil (f s))
 
 -- no bytes were read, and nothing was handed over
-pub first_stays : (steps : List Step) (s : Step) (rest : List ℕ) → read_in s ≡ [] → handed_in s ≡ [] → HandsFirst steps rest
+pub first_stays : (steps : List Step) (s : Step) (rest : List ℕ) → read_in s ≡ [] → handed_in s ≡ []
+    → HandsFirst steps rest
     → HandsFirst (steps ++ s ∷ []) rest
 first_stays steps s rest read handed h = record {
   frames = h.frames;
-  handed = more handed_in steps s ∙ ap (λ l. frames_handed steps ++ l) handed ∙ append-nil (frames_handed steps) ∙ h.handed;
+  handed = more handed_in steps s ∙ ap (λ l. frames_handed steps ++ l) handed ∙ append-nil (frames_handed steps)
+      ∙ h.handed;
   whole = more read_in steps s ∙ ap (λ l. bytes_read steps ++ l) read ∙ append-nil (bytes_read steps) ∙ h.whole;
   each = h.each;
 }
@@ -42,11 +45,13 @@ pub first_read : (steps : List Step) (a : Reading) (rest : List ℕ) → HandsFi
 first_read steps a rest h = record {
   frames = h.frames;
   handed = more handed_in steps (Read a) ∙ append-nil (frames_handed steps) ∙ h.handed;
-  whole = more read_in steps (Read a) ∙ ap (λ l. l ++ bytes_of a) h.whole ∙ append_assoc (flat_map raw_bytes h.frames) rest (bytes_of a);
+  whole = more read_in steps (Read a) ∙ ap (λ l. l ++ bytes_of a) h.whole
+      ∙ append_assoc (flat_map raw_bytes h.frames) rest (bytes_of a);
   each = h.each;
 }
 
-each_more : (fs : List RawFrame) (f : RawFrame) → AllByRecursion IsRaw fs → IsRaw f → AllByRecursion IsRaw (fs ++ f ∷ [])
+each_more : (fs : List RawFrame) (f : RawFrame) → AllByRecursion IsRaw fs → IsRaw f
+    → AllByRecursion IsRaw (fs ++ f ∷ [])
 each_more [] f h ok = (ok, tt)
 each_more (g ∷ fs) f h ok = (h.0, each_more fs f h.1 ok)
 
@@ -57,14 +62,19 @@ first_handed steps now answer f rest ok h =
     let s = frame now (raw_bytes f) answer in
     record {
       frames = h.frames ++ f ∷ [];
-      handed = more handed_in steps s ∙ ap (λ l. l ++ raw_bytes f ∷ []) h.handed ∙ sym (map-append raw_bytes h.frames (f ∷ []));
-      whole = more read_in steps s ∙ append-nil (bytes_read steps) ∙ h.whole ∙ sym (append_assoc (flat_map raw_bytes h.frames) (raw_bytes f) rest)
-          ∙ ap (λ l. l ++ rest) (sym (flat_map-append raw_bytes h.frames (f ∷ []) ∙ ap (λ l. flat_map raw_bytes h.frames ++ l) (append-nil (raw_bytes f))));
+      handed = more handed_in steps s ∙ ap (λ l. l ++ raw_bytes f ∷ []) h.handed
+          ∙ sym (map-append raw_bytes h.frames (f ∷ []));
+      whole = more read_in steps s ∙ append-nil (bytes_read steps) ∙ h.whole
+          ∙ sym (append_assoc (flat_map raw_bytes h.frames) (raw_bytes f) rest)
+          ∙ ap (λ l. l ++ rest)
+          (sym (flat_map-append raw_bytes h.frames (f ∷ [])
+          ∙ ap (λ l. flat_map raw_bytes h.frames ++ l) (append-nil (raw_bytes f))));
       each = each_more h.frames f h.each ok;
     }
 
 -- a read into a room that isn't empty gives some bytes, if any
-pub some_got : (n : ℕ) (room : List ℕ) → 0 < length room → FitsRoom (read.Got n) room → reading_in room (read.Got n) ≢ Reading.Got []
+pub some_got : (n : ℕ) (room : List ℕ) → 0 < length room → FitsRoom (read.Got n) room
+    → reading_in room (read.Got n) ≢ Reading.Got []
 some_got zero room some fits e = let h = fits.1 some in absurd (omega (arith, h))
 some_got (suc n) [] some fits e = absurd (omega (arith, some))
 some_got (suc n) (b ∷ room) some fits e = absurd cc
@@ -82,10 +92,12 @@ module _ (start : Core) (may_give : ℕ → Bool) (member : ℕ) (k0 : Knowledge
   so_called before after k new w new_link held c s none made drawn sent run = record {
     steps = s.steps ++ Called c ∷ [];
     run = run;
-    made = subst (λ cs. Made start k0 new cs) (sym (more call_in s.steps (Called c))) (made_both start k0 k new (calls s.steps) (c ∷ []) s.made made);
+    made = subst (λ cs. Made start k0 new cs) (sym (more call_in s.steps (Called c)))
+        (made_both start k0 k new (calls s.steps) (c ∷ []) s.made made);
     drawn = let p = s.drawn in omega (arith, drawn, p);
     read = s.read ∙ ap (λ (known : Option (List ℕ)). prepend_known (bytes_read s.steps) known) (sym sent.left)
-        ∙ ap (λ (bs : List ℕ). prepend_known bs new_link.left) (sym (more read_in s.steps (Called c) ∙ append-nil (bytes_read s.steps)));
+        ∙ ap (λ (bs : List ℕ). prepend_known bs new_link.left)
+        (sym (more read_in s.steps (Called c) ∙ append-nil (bytes_read s.steps)));
     took = sent.took ∙ ap (λ (known : Option (List ℕ)). append_known known (joined (given_in c.answer))) s.took
         ∙ append_known-twice w0.took (bytes_drained s.steps) (joined (given_in c.answer))
         ∙ ap (append_known w0.took) (sym (more drained_in s.steps (Called c)));
@@ -111,18 +123,21 @@ module _ (start : Core) (may_give : ℕ → Bool) (member : ℕ) (k0 : Knowledge
       → Reads w r room new_link
       → reading_in room r ≢ Reading.Got []
       → AreBytes (held ++ bytes_of (reading_in room r))
-      → SoFar start may_give member k0 w0 (after_read (reading_in room r)) k new_link (held ++ bytes_of (reading_in room r))
+      → SoFar start may_give member k0 w0 (after_read (reading_in room r)) k new_link
+      (held ++ bytes_of (reading_in room r))
   so_read k w new_link held r room s reads some fit =
       let a = reading_in room r in
       record {
         steps = s.steps ++ Read a ∷ [];
         run = IsSession.reads s.steps a s.run some;
-        made = subst (λ cs. Made start k0 k cs) (sym (more call_in s.steps (Read a) ∙ append-nil (calls s.steps))) s.made;
+        made = subst (λ cs. Made start k0 k cs) (sym (more call_in s.steps (Read a) ∙ append-nil (calls s.steps)))
+            s.made;
         drawn = s.drawn;
         read = s.read ∙ ap (λ (known : Option (List ℕ)). prepend_known (bytes_read s.steps) known) reads.left
             ∙ prepend_known-twice (bytes_read s.steps) (bytes_of a) new_link.left
             ∙ ap (λ (bs : List ℕ). prepend_known bs new_link.left) (sym (more read_in s.steps (Read a)));
-        took = reads.took ∙ s.took ∙ ap (append_known w0.took) (sym (more drained_in s.steps (Read a) ∙ append-nil (bytes_drained s.steps)));
+        took = reads.took ∙ s.took
+            ∙ ap (append_known w0.took) (sym (more drained_in s.steps (Read a) ∙ append-nil (bytes_drained s.steps)));
         openings = reads.openings ∙ s.openings;
         later = let p = s.later in let q = reads.later in omega arith;
         first = first_read s.steps a held s.first;
@@ -152,11 +167,14 @@ module _ (start : Core) (may_give : ℕ → Bool) (member : ℕ) (k0 : Knowledge
       record {
         steps = s.steps ++ step ∷ [];
         run = IsSession.hands s.steps now (raw_bytes f) answer rest s.run may first;
-        made = subst (λ cs. Made start k0 new cs) (sym (more call_in s.steps step)) (made_both start k0 k new (calls s.steps) _ s.made made);
+        made = subst (λ cs. Made start k0 new cs) (sym (more call_in s.steps step))
+            (made_both start k0 k new (calls s.steps) _ s.made made);
         drawn = let p = s.drawn in omega (arith, drawn, p);
-        read = s.read ∙ ap (λ (bs : List ℕ). prepend_known bs w.left) (sym (more read_in s.steps step ∙ append-nil (bytes_read s.steps)));
+        read = s.read ∙ ap (λ (bs : List ℕ). prepend_known bs w.left)
+            (sym (more read_in s.steps step ∙ append-nil (bytes_read s.steps)));
         took = s.took ∙ ap (append_known w0.took)
-            (sym (more drained_in s.steps step ∙ ap (λ l. bytes_drained s.steps ++ l) nothing ∙ append-nil (bytes_drained s.steps)));
+            (sym (more drained_in s.steps step ∙ ap (λ l. bytes_drained s.steps ++ l) nothing
+            ∙ append-nil (bytes_drained s.steps)));
         openings = s.openings;
         later = s.later;
         first = first;
@@ -164,7 +182,8 @@ module _ (start : Core) (may_give : ℕ → Bool) (member : ℕ) (k0 : Knowledge
       }
 
   -- all frames were handed over
-  pub so_all : (k : Knowledge Entry) (w : Wire) (held : List ℕ) → SoFar start may_give member k0 w0 Hands k w held → NeedsMore held
+  pub so_all : (k : Knowledge Entry) (w : Wire) (held : List ℕ) → SoFar start may_give member k0 w0 Hands k w held
+      → NeedsMore held
       → SoFar start may_give member k0 w0 Asks k w held
   so_all k w held s none = record {
     steps = s.steps;
@@ -180,12 +199,14 @@ module _ (start : Core) (may_give : ℕ → Bool) (member : ℕ) (k0 : Knowledge
   }
 
   -- the pass made no call
-  pub so_none : (p : Phase) (k new : Knowledge Entry) (w : Wire) (held : List ℕ) → SoFar start may_give member k0 w0 p k w held
+  pub so_none : (p : Phase) (k new : Knowledge Entry) (w : Wire) (held : List ℕ)
+      → SoFar start may_give member k0 w0 p k w held
       → Made start k new [] → k.drawn ≤ new.drawn → SoFar start may_give member k0 w0 p new w held
   so_none p k new w held s made drawn = record {
     steps = s.steps;
     run = s.run;
-    made = subst (λ cs. Made start k0 new cs) (append-nil (calls s.steps)) (made_both start k0 k new (calls s.steps) [] s.made made);
+    made = subst (λ cs. Made start k0 new cs) (append-nil (calls s.steps))
+        (made_both start k0 k new (calls s.steps) [] s.made made);
     drawn = let q = s.drawn in omega (arith, drawn, q);
     read = s.read;
     took = s.took;

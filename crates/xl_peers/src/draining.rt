@@ -1,4 +1,4 @@
-ghost use Rattle.std.specs.Prelude.{◌≡◌, Bool, ℕ, List, length, IfOk, OnOk, IfErr, IsSome};
+ghost use Rattle.std.specs.Prelude.{◌≡◌, ◌<◌, Bool, ℕ, List, length, IfOk, OnOk, IfErr, IsSome};
 ghost use Rattle.xl_tags.specs.Rings.{key_of};
 ghost use Rattle.xl_wire.specs.declared.lengths.TheConstants.{LONGEST_FRAME};
 ghost use Rattle.xl_turns.specs.Passes.{known};
@@ -15,7 +15,7 @@ use xl_ledger::Branch;
 use xl_links::Link;
 use xl_store::{Pass, Store};
 
-/// Writes what one drain gives, and answers how much that was.
+/// Writes what one drain gives, and answers how much that was. The drain takes a turn of the store.
 fn drain_once<W: Wait, B: Branch + Drop, K: Keeper + Drop, L: Link>(
     rt: &W,
     store: &Store<B, K>,
@@ -32,6 +32,7 @@ fn drain_once<W: Wait, B: Branch + Drop, K: Keeper + Drop, L: Link>(
     ensures on { IfOk result (λ count. (may : ℕ → Bool) (held : List ℕ)
         → Goes (start_of store.now) may member Drains (after_drain count)
         (known pass.old) (L.shows link.old) held (known pass.new) (L.shows link.new) held) }
+    ensures turn { IfOk result (λ _. (known pass.old).drawn < (known pass.new).drawn) }
     ensures ends { IfErr result (λ end. (may : ℕ → Bool) (held : List ℕ)
         → Ends (start_of store.now) may member (turns_of store.now) Drains
         (known pass.old) (L.shows link.old) held (known pass.new) (L.shows link.new) end) }

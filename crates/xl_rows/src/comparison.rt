@@ -1,4 +1,4 @@
-ghost use Rattle.std.specs.Prelude.{◌≡◌, ◌↔◌};
+ghost use Rattle.std.specs.Prelude.{◌≡◌, ◌↔◌, length, min, take};
 
 use std::fmt;
 
@@ -51,4 +51,13 @@ pub fn compare(status: u8, text: &[u8], wanted_status: u8, wanted: &[u8]) -> Com
     } else {
         Comparison::Same
     }
+}
+
+/// Compares a status and a text with the status and a front of the text that they should be.
+pub fn compare_front(status: u8, text: &[u8], wanted_status: u8, wanted: &[u8]) -> Comparison
+    ensures { (result ≡ Comparison.Same) ↔ ((status ≡ wanted_status)
+        × (text.now ≡ take (min (length text.now) (length wanted.now)) wanted.now)) }
+{
+    let count = text.len().min(wanted.len());
+    compare(status, text, wanted_status, &wanted[..count])
 }

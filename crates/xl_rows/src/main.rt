@@ -3,15 +3,18 @@
 //!
 //! The file `runs` has a line for each: its name, the status, and the command line. The input is in `NAME.in` and the
 //! text in `NAME.out`. The file `refusals` has a schedule a line, ` / ` between its lines, and behind ` -> ` the text
-//! that refuses the last.
+//! that refuses the last. The file `faults` has such a line as `runs`, with the bytes of a piece in front: each read of
+//! that run fails once, and each write, and must end it with the status of that fault and a front of the text.
 //!
 //! It stands on xl_top. Its one contract: a run is called the same exactly where both the text and the status are.
 #![tactic(auto)]
 
 mod comparison;
+mod faults;
 mod run;
 
 use comparison::Comparison;
+use faults::run_with_faults;
 use run::{run_named, run_refused};
 use std::{fs, io};
 
@@ -55,9 +58,31 @@ fn refuse_all(rt: &HostRuntime, tally: &mut Tally) -> io::Result<()> {
     Ok(())
 }
 
+/// The runs of which each call fails once.
+fn fail_all(rt: &HostRuntime, tally: &mut Tally) -> io::Result<()> {
+    let lines = fs::read_to_string(rt, "faults")?;
+    for line in lines.as_str().lines() {
+        match run_with_faults(rt, line)? {
+            Some(faults) => {
+                println!(rt;
+                    "{line}: {} reads and {} writes fail",
+                    faults.reads, faults.writes
+                )?;
+                tally.count(Comparison::Same);
+            }
+            None => {
+                println!(rt; "{line}: another end")?;
+                tally.count(Comparison::NoRun);
+            }
+        }
+    }
+    Ok(())
+}
+
 fn main(rt: HostRuntime) -> io::Result<()> {
     let mut tally = Tally { same: 0, other: 0 };
     run_all(&rt, &mut tally)?;
     refuse_all(&rt, &mut tally)?;
+    fail_all(&rt, &mut tally)?;
     println!(rt; "{} same, {} other", tally.same, tally.other)
 }

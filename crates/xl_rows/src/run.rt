@@ -1,18 +1,66 @@
 use crate::comparison::{Comparison, compare};
 use std::alloc::{AllocError, Global};
 use std::{fs, io};
+use xl_base::Status;
 use xl_io::{MemSink, MemSource};
 use xl_top::top;
 
 /// Reads and writes are of so few bytes, so that lines are cut anywhere.
-const PIECE: usize = 61;
+const PIECES: [usize; 2] = [61, 1];
 
-/// The program on an input in memory.
-fn run(alloc: Global, words: &[String], input: Vec<u8>, status: u8, text: &[u8]) -> Comparison {
-    let mut input = MemSource::new(input, PIECE, Vec::new(alloc));
-    let mut output = MemSink::new(alloc, PIECE, Vec::new(alloc));
-    let ended = top(alloc, words, &mut input, &mut output);
-    compare(ended.code(), output.held(), status, text)
+/// What a run is given, and how it should end.
+#[derive(Drop)]
+pub struct Run {
+    words: Vec<String>,
+    input: Vec<u8>,
+    pub status: u8,
+    pub text: Vec<u8>,
+}
+
+/// How a run ended, and what it wrote.
+#[derive(Drop)]
+pub struct Ended {
+    pub status: Status,
+    pub output: MemSink,
+}
+
+impl Run {
+    /// The program on the input in memory, in pieces of so many bytes, where the reads and the writes of these numbers
+    /// fail.
+    pub fn end(
+        &self,
+        alloc: Global,
+        piece: usize,
+        reads: Vec<u64>,
+        writes: Vec<u64>,
+    ) -> Result<Ended, AllocError> {
+        let mut input = MemSource::new(self.input.to_vec(alloc)?, piece, reads);
+        let mut output = MemSink::new(alloc, piece, writes);
+        let status = top(alloc, &self.words, &mut input, &mut output);
+        Ok(Ended { status, output })
+    }
+
+    /// How the run goes without a fault, in pieces of each length.
+    fn go(&self, alloc: Global) -> Result<Comparison, AllocError> {
+        for piece in PIECES {
+            let ended = self.end(alloc, piece, Vec::new(alloc), Vec::new(alloc))?;
+            let comparison = self.compare(&ended);
+            if comparison != Comparison::Same {
+                return Ok(comparison);
+            }
+        }
+        Ok(Comparison::Same)
+    }
+
+    /// Compares an end with the one that should be.
+    pub fn compare(&self, ended: &Ended) -> Comparison {
+        compare(
+            ended.status.code(),
+            ended.output.held(),
+            self.status,
+            &self.text,
+        )
+    }
 }
 
 fn words_of(alloc: Global, command: &str) -> Result<Vec<String>, AllocError> {
@@ -42,16 +90,26 @@ fn read_named(line: &str) -> Option<Named<'_>> {
     })
 }
 
-/// The run of a line of `runs`.
-pub fn run_named(rt: &HostRuntime, line: &str) -> io::Result<Comparison> {
+/// The run that a line of `runs` names, with its files.
+pub fn read_run(rt: &HostRuntime, line: &str) -> io::Result<Option<Run>> {
     let Some(named) = read_named(line) else {
-        return Ok(Comparison::NoRun);
+        return Ok(None);
     };
     let alloc = rt.alloc();
-    let words = words_of(alloc, named.command)?;
-    let input = fs::read(rt, format!(in alloc; "{}.in", named.name)?)?;
-    let text = fs::read(rt, format!(in alloc; "{}.out", named.name)?)?;
-    Ok(run(alloc, &words, input, named.status, &text))
+    Ok(Some(Run {
+        words: words_of(alloc, named.command)?,
+        input: fs::read(rt, format!(in alloc; "{}.in", named.name)?)?,
+        status: named.status,
+        text: fs::read(rt, format!(in alloc; "{}.out", named.name)?)?,
+    }))
+}
+
+/// The run of a line of `runs`.
+pub fn run_named(rt: &HostRuntime, line: &str) -> io::Result<Comparison> {
+    match read_run(rt, line)? {
+        Some(run) => Ok(run.go(rt.alloc())?),
+        None => Ok(Comparison::NoRun),
+    }
 }
 
 /// The bytes of lines, each with its end.
@@ -69,8 +127,11 @@ pub fn run_refused(alloc: Global, line: &str) -> Result<Comparison, AllocError> 
     let Some((schedule, text)) = line.split_once(" -> ") else {
         return Ok(Comparison::NoRun);
     };
-    let words = words_of(alloc, "xl replay")?;
-    let input = lines_of(alloc, schedule)?;
-    let text = lines_of(alloc, text)?;
-    Ok(run(alloc, &words, input, 3, &text))
+    let run = Run {
+        words: words_of(alloc, "xl replay")?,
+        input: lines_of(alloc, schedule)?,
+        status: Status::InputRefused.code(),
+        text: lines_of(alloc, text)?,
+    };
+    run.go(alloc)
 }

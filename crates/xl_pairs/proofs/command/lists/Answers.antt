@@ -7,4 +7,5 @@ pub returns-in_err-write_all-clause-less : goal.returns-in_err-write_all-clause-
 returns-in_err-write_all-clause-less g c = λ _.
     less_kept (bytes_held c.new-text.result) (bytes_held c.compare.new.text) c.held.result.now
     (g.I.Source.left c.args.input.now) (g.O.Sink.held c.args.output.now) (g.O.Sink.held c.write_all.new.sink)
-    c.in_ok-verdict.verdict lists_of c.new-text.ensures.held c.held.ensures c.in_ok-verdict.ensures.whole c.in_err-write_all.ensures.less
+    c.in_ok-verdict.verdict lists_of c.new-text.ensures.held c.held.ensures c.in_ok-verdict.ensures.whole
+    c.in_err-write_all.ensures.less

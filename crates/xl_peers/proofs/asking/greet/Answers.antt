@@ -11,10 +11,12 @@ use Rattle.xl_peers.proofs.asking.greet.Goals as goal
 pub returns-in-Ok-clause-on : goal.returns-in-Ok-clause-on
 returns-in-Ok-clause-on g c may w held k0 w0 s =
     let called = c.in-Ok.ensures.called in
-    so_called (start_of c.args.store.now) may c.args.member k0 w0 Greets Asks _ _ w w held _ s refl called.made (let more = called.later in omega arith)
+    so_called (start_of c.args.store.now) may c.args.member k0 w0 Greets Asks _ _ w w held _ s refl called.made
+    (let more = called.later in omega arith)
     (sent_none w) (IsSession.greets s.steps s.run)
 
 pub returns-in-Err-clause-ends : goal.returns-in-Err-clause-ends
 returns-in-Err-clause-ends g c may w held k0 w0 s =
-    subst (λ e. Session (start_of c.args.store.now) (turns_of c.args.store.now) may c.args.member k0 w0 e (known c.greet.new.pass) w) (sym c.end_of.ensures)
+    subst (λ e. Session (start_of c.args.store.now) (turns_of c.args.store.now) may c.args.member k0 w0 e
+    (known c.greet.new.pass) w) (sym c.end_of.ensures)
     (ends_refused c.args.store.now may c.args.member k0 w0 Greets _ _ w held c.in-Err.end s c.in-Err.ensures.refused)

@@ -11,5 +11,6 @@ invariant-loop g l = record {
   pass : IsOf l.store l.pass;
   room : length l.room ≡ LONGEST_FRAME;
   on : (may : ℕ → Bool) (held : List ℕ)
-      → Goes (start_of l.store) may l.member Drains Drains (known l.initial.pass) (g.L.Link.shows l.initial.link) held (known l.pass) (g.L.Link.shows l.link) held;
+      → Goes (start_of l.store) may l.member Drains Drains (known l.initial.pass) (g.L.Link.shows l.initial.link) held
+      (known l.pass) (g.L.Link.shows l.link) held;
 }

@@ -9,13 +9,19 @@ use Rattle.xl_peers.proofs.draining.drain_once.Goals as goal
 
 pub returns-in-Ok-send-clause-on : goal.returns-in-Ok-send-clause-on
 returns-in-Ok-send-clause-on g c may held k0 w0 s =
-    so_drained c.args.store.now may c.args.member k0 w0 _ _ _ _ _ c.requires.room c.in-Ok.ensures.called _ _ held s c.in-Ok-send.ensures.sent
+    so_drained c.args.store.now may c.args.member k0 w0 _ _ _ _ _ c.requires.room c.in-Ok.ensures.called _ _ held s
+    c.in-Ok-send.ensures.sent
 
 pub returns-in-Err-send-clause-ends : goal.returns-in-Err-send-clause-ends
 returns-in-Err-send-clause-ends g c may held k0 w0 s =
-    drain_faults c.args.store.now may c.args.member k0 w0 _ _ _ _ _ c.requires.room c.in-Ok.ensures.called _ _ held s c.in-Err-send.ensures.front
+    drain_faults c.args.store.now may c.args.member k0 w0 _ _ _ _ _ c.requires.room c.in-Ok.ensures.called _ _ held s
+    c.in-Err-send.ensures.front
 
 pub returns-in-Err-clause-ends : goal.returns-in-Err-clause-ends
 returns-in-Err-clause-ends g c may held k0 w0 s =
-    subst (λ e. Session (start_of c.args.store.now) (turns_of c.args.store.now) may c.args.member k0 w0 e (known c.drain.new.pass) (g.L.Link.shows c.args.link.now)) (sym c.end_of.ensures)
+    subst (λ e. Session (start_of c.args.store.now) (turns_of c.args.store.now) may c.args.member k0 w0 e
+    (known c.drain.new.pass) (g.L.Link.shows c.args.link.now)) (sym c.end_of.ensures)
     (ends_refused c.args.store.now may c.args.member k0 w0 Drains _ _ _ held c.in-Err.end s c.in-Err.ensures.refused)
+
+pub returns-in-Ok-send-clause-turn : goal.returns-in-Ok-send-clause-turn
+returns-in-Ok-send-clause-turn g c = c.in-Ok.ensures.called.called.later

@@ -18,17 +18,20 @@ loop-rest-preserved g c = record {
       let start = start_of c.args.store.now in
       let may = g.C.Clock.may_give c.args.clock.now in
       let before = c.loop-rest.invariant.on member w k0 w0 s in
-      let is = pushed c.loop-rest.feed c.push-count.new.self c.loop-rest.rest.now c.push-count.result c.push-count.ensures.taken c.push-count.ensures.held in
+      let is = pushed c.loop-rest.feed c.push-count.new.self c.loop-rest.rest.now c.push-count.result
+      c.push-count.ensures.taken c.push-count.ensures.held in
       let rest = drop c.push-count.result c.loop-rest.rest.now in
       let handed = c.in-Ok.ensures.on member w rest k0 w0
       (subst (λ (l : List ℕ). SoFar start may member k0 w0 Hands (known c.loop-rest.pass) w l) (sym is) before) in
-      subst (λ (l : List ℕ). SoFar start may member k0 w0 Hands (known c.hand_held.new.pass) w (c.hand_held.new.feed.held ++ l)) (sym (take_rest c.loop-rest.rest.now c.push-count.result)) handed;
+      subst (λ (l : List ℕ). SoFar start may member k0 w0 Hands (known c.hand_held.new.pass) w
+      (c.hand_held.new.feed.held ++ l)) (sym (take_rest c.loop-rest.rest.now c.push-count.result)) handed;
 }
 
 pub loop-rest-smaller : goal.loop-rest-smaller
 loop-rest-smaller g c =
     let some : 0 < length c.loop-rest.rest.now = grind (arith, nat_tests, c.is_empty.ensures, c.loop-rest-test.true) in
-    let taken = takes_some c.loop-rest.feed c.loop-rest.rest.now c.push-count.result c.loop-rest.invariant.takes c.loop-rest.invariant.needs some c.push-count.ensures.taken in
+    let taken = takes_some c.loop-rest.feed c.loop-rest.rest.now c.push-count.result c.loop-rest.invariant.takes
+    c.loop-rest.invariant.needs some c.push-count.ensures.taken in
     let least = taken.0 in
     let most = taken.1 in
     search (rules, arith)
@@ -36,16 +39,19 @@ loop-rest-smaller g c =
 pub returns-in-Err-clause-ends : goal.returns-in-Err-clause-ends
 returns-in-Err-clause-ends g c member w k0 w0 s =
     let before = c.loop-rest.invariant.on member w k0 w0 s in
-    let is = pushed c.loop-rest.feed c.push-count.new.self c.loop-rest.rest.now c.push-count.result c.push-count.ensures.taken c.push-count.ensures.held in
+    let is = pushed c.loop-rest.feed c.push-count.new.self c.loop-rest.rest.now c.push-count.result
+    c.push-count.ensures.taken c.push-count.ensures.held in
     c.in-Err.ensures.ends member w (drop c.push-count.result c.loop-rest.rest.now) k0 w0
-    (subst (λ (l : List ℕ). SoFar (start_of c.args.store.now) (g.C.Clock.may_give c.args.clock.now) member k0 w0 Hands (known c.loop-rest.pass) w l) (sym is) before)
+    (subst (λ (l : List ℕ). SoFar (start_of c.args.store.now) (g.C.Clock.may_give c.args.clock.now) member k0 w0 Hands
+    (known c.loop-rest.pass) w l) (sym is) before)
 
 pub returns-clause-on : goal.returns-clause-on
 returns-clause-on g c member w k0 w0 s =
     let start = start_of c.args.store.now in
     let may = g.C.Clock.may_give c.args.clock.now in
     let before = c.loop-rest.invariant.on member w k0 w0 s in
-    let none : c.loop-rest.rest.now ≡ [] = nil_from_length _ (grind (arith, nat_tests, c.is_empty.ensures, c.loop-rest-test.false)) in
+    let none : c.loop-rest.rest.now ≡ [] =
+    nil_from_length _ (grind (arith, nat_tests, c.is_empty.ensures, c.loop-rest-test.false)) in
     let all = subst (λ (l : List ℕ). SoFar start may member k0 w0 Hands (known c.loop-rest.pass) w l)
     (ap (λ (l : List ℕ). c.loop-rest.feed.held ++ l) none ∙ append-nil c.loop-rest.feed.held) before in
     so_all start may member k0 w0 (known c.loop-rest.pass) w c.loop-rest.feed.held all c.loop-rest.invariant.needs

@@ -16,14 +16,18 @@ loop-preserved g c = record {
       let f = next_frame_open c.loop.feed c.in-Frame.frame.now c.in-Frame.ensures.answer in
       ap (λ (x : Fed). x.refused) c.next-in-loop.follows.holds-at-none ∙ f ∙ c.loop.invariant.takes;
   on = λ member w later k0 w0 s.
-      hands_one c.args.store.now (g.C.Clock.may_give c.args.clock.now) member k0 w0 c.loop.pass w c.loop.feed later (c.loop.invariant.on member w later k0 w0 s)
-      c.frame-answer.new.pass c.next-in-loop.follows.lender-at-none c.in-Frame.frame.now c.now.result _ c.next-in-loop.follows.holds-at-none c.in-Frame.ensures.answer c.now.ensures.may c.in-Ok.ensures.called;
+      hands_one c.args.store.now (g.C.Clock.may_give c.args.clock.now) member k0 w0 c.loop.pass w c.loop.feed later
+      (c.loop.invariant.on member w later k0 w0 s)
+      c.frame-answer.new.pass c.next-in-loop.follows.lender-at-none c.in-Frame.frame.now c.now.result _
+      c.next-in-loop.follows.holds-at-none c.in-Frame.ensures.answer c.now.ensures.may c.in-Ok.ensures.called;
 }
 
 pub returns-in-Err-clause-ends : goal.returns-in-Err-clause-ends
 returns-in-Err-clause-ends g c member w later k0 w0 s =
-    subst (λ e. Session (start_of c.args.store.now) (turns_of c.args.store.now) (g.C.Clock.may_give c.args.clock.now) member k0 w0 e (known c.frame-answer.new.pass) w) (sym c.end_of.ensures)
-    (ends_refused c.args.store.now (g.C.Clock.may_give c.args.clock.now) member k0 w0 Hands _ _ w _ c.in-Err.end (c.loop.invariant.on member w later k0 w0 s) c.in-Err.ensures.refused)
+    subst (λ e. Session (start_of c.args.store.now) (turns_of c.args.store.now) (g.C.Clock.may_give c.args.clock.now)
+    member k0 w0 e (known c.frame-answer.new.pass) w) (sym c.end_of.ensures)
+    (ends_refused c.args.store.now (g.C.Clock.may_give c.args.clock.now) member k0 w0 Hands _ _ w _ c.in-Err.end
+    (c.loop.invariant.on member w later k0 w0 s) c.in-Err.ensures.refused)
 
 pub returns-in-Need-clause-none : goal.returns-in-Need-clause-none
 returns-in-Need-clause-none g c =
@@ -33,4 +37,5 @@ returns-in-Need-clause-none g c =
 
 pub returns-in-Refused-clause-ends : goal.returns-in-Refused-clause-ends
 returns-in-Refused-clause-ends g c member w later k0 w0 s =
-    refuses c.args.store.now (g.C.Clock.may_give c.args.clock.now) member k0 w0 c.loop.pass w c.loop.feed later (c.loop.invariant.on member w later k0 w0 s) c.in-Refused.refusal c.in-Refused.ensures.answer
+    refuses c.args.store.now (g.C.Clock.may_give c.args.clock.now) member k0 w0 c.loop.pass w c.loop.feed later
+    (c.loop.invariant.on member w later k0 w0 s) c.in-Refused.refusal c.in-Refused.ensures.answer

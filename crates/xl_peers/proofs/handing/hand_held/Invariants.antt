@@ -11,5 +11,6 @@ invariant-loop g l = record {
   pass : IsOf l.store l.pass;
   takes : l.feed.refused ≡ false;
   on : (member : ℕ) (w : Wire) (more : List ℕ)
-      → Goes (start_of l.store) (g.C.Clock.may_give l.clock) member Hands Hands (known l.initial.pass) w (l.initial.feed.held ++ more) (known l.pass) w (l.feed.held ++ more);
+      → Goes (start_of l.store) (g.C.Clock.may_give l.clock) member Hands Hands (known l.initial.pass) w
+      (l.initial.feed.held ++ more) (known l.pass) w (l.feed.held ++ more);
 }

@@ -6,7 +6,8 @@ use Rattle.xl_peers.proofs.serving.attend.Goals as goal
 pub loop-init : goal.loop-init
 loop-init g c = record {
   pass = c.requires.pass;
-  far = serving_starts (start_of c.args.store.now) (g.C.Clock.may_give c.args.clock.now) c.args.member (known c.args.pass.now) (g.L.Link.shows c.args.link.now);
+  far = serving_starts (start_of c.args.store.now) (g.C.Clock.may_give c.args.clock.now) c.args.member
+      (known c.args.pass.now) (g.L.Link.shows c.args.link.now);
 }
 
 pub loop-preserved : goal.loop-preserved

@@ -11,14 +11,18 @@ returns-in-Open-clause-follows g c k0 w0 s =
     let may = g.C.Clock.may_give c.args.clock.now in
     let start = start_of c.args.store.now in
     let turns = turns_of c.args.store.now in
-    let is_open = opened start may c.args.member k0 w0 (known c.args.pass.now) (g.L.Link.shows c.args.link.now) (g.L.Link.shows c.open.new.self) opening.Open s c.in-Open.ensures in
-    subst (λ o. Follows start turns may c.args.member k0 w0 o (known c.talk-end.new.pass) (g.L.Link.shows c.talk-end.new.link)) (sym c.served_of.ensures)
+    let is_open = opened start may c.args.member k0 w0 (known c.args.pass.now) (g.L.Link.shows c.args.link.now)
+    (g.L.Link.shows c.open.new.self) opening.Open s c.in-Open.ensures in
+    subst (λ o. Follows start turns may c.args.member k0 w0 o (known c.talk-end.new.pass)
+    (g.L.Link.shows c.talk-end.new.link)) (sym c.served_of.ensures)
     (talked_on start may c.args.member k0 w0 turns _ _ _ _ c.talk-end.result is_open c.talk-end.ensures.session)
 
 pub returns-in-NotYet-clause-follows : goal.returns-in-NotYet-clause-follows
 returns-in-NotYet-clause-follows g c k0 w0 s =
-    opened (start_of c.args.store.now) (g.C.Clock.may_give c.args.clock.now) c.args.member k0 w0 (known c.args.pass.now) (g.L.Link.shows c.args.link.now) (g.L.Link.shows c.open.new.self) opening.NotYet s c.in-NotYet.ensures
+    opened (start_of c.args.store.now) (g.C.Clock.may_give c.args.clock.now) c.args.member k0 w0 (known c.args.pass.now)
+    (g.L.Link.shows c.args.link.now) (g.L.Link.shows c.open.new.self) opening.NotYet s c.in-NotYet.ensures
 
 pub returns-in-Failed-clause-follows : goal.returns-in-Failed-clause-follows
 returns-in-Failed-clause-follows g c k0 w0 s =
-    opened (start_of c.args.store.now) (g.C.Clock.may_give c.args.clock.now) c.args.member k0 w0 (known c.args.pass.now) (g.L.Link.shows c.args.link.now) (g.L.Link.shows c.open.new.self) opening.Failed s c.in-Failed.ensures
+    opened (start_of c.args.store.now) (g.C.Clock.may_give c.args.clock.now) c.args.member k0 w0 (known c.args.pass.now)
+    (g.L.Link.shows c.args.link.now) (g.L.Link.shows c.open.new.self) opening.Failed s c.in-Failed.ensures

@@ -16,7 +16,8 @@ loop-init g c =
     let w = g.L.Link.shows c.args.link.now in
     let k = known c.args.pass.now in
     let start = start_of c.args.store.now in
-    let before = subst (λ (f : Fed). SoFar start may c.args.member k w Greets k w f.held) (sym c.in-Ok.ensures) (starts start may c.args.member k w) in
+    let before = subst (λ (f : Fed). SoFar start may c.args.member k w Greets k w f.held) (sym c.in-Ok.ensures)
+    (starts start may c.args.member k w) in
     record {
       pass = c.in-Ok-greet.ensures.pass;
       takes = ap (λ (f : Fed). f.refused) c.in-Ok.ensures;

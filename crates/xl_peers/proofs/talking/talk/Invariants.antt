@@ -13,5 +13,6 @@ invariant-loop g l = record {
   takes : l.feed.refused ≡ false;
   needs : NeedsMore l.feed.held;
   room : length l.room.items ≡ LONGEST_FRAME;
-  far : SoFar (start_of l.store) (g.C.Clock.may_give l.clock) l.member (known l.fn.pass) (g.L.Link.shows l.fn.link) Asks (known l.pass) (g.L.Link.shows l.link) l.feed.held;
+  far : SoFar (start_of l.store) (g.C.Clock.may_give l.clock) l.member (known l.fn.pass) (g.L.Link.shows l.fn.link) Asks
+      (known l.pass) (g.L.Link.shows l.link) l.feed.held;
 }
