@@ -27,7 +27,7 @@ use Rattle.xl_world.specs.declared.act.Deed.{Deed}
 use Rattle.xl_world.specs.declared.act.Deed.TheVariants as deed
 use Rattle.xl_world.specs.declared.act.NodeAnswer.{NodeAnswer}
 use Rattle.xl_world.specs.declared.place.Fate.{Fate}
-use Rattle.xl_world.specs.declared.place.Fate.TheVariants.{Kept}
+use Rattle.xl_world.specs.declared.place.Fate.TheVariants.{Saved}
 use Rattle.xl_world.specs.declared.place.Place.{Place}
 use Rattle.xl_world.specs.declared.sent.Sent.{Sent}
 use Rattle.xl_world.specs.Emptying.{event_steps}
@@ -123,12 +123,12 @@ fair_ran w i e fate fair = ap (with_forged w.forged) (event_ran w i e fate) ∙ 
 
 -- bytes that come are counted where they are forged
 pub counted_ran : (w : World) (to at : ℕ) (bytes : List ℕ) (count : ℕ) → count ≡ (if forged_at w.liars w.sent bytes (place_at to w.places) then one_more w.forged else w.forged) →
-    with_forged count (run w (event_steps w to (Frame at bytes) Kept)) ≡ run w (event_steps w to (Frame at bytes) Kept)
-counted_ran w to at bytes count is = ap (with_forged count) (event_ran w to (Frame at bytes) Kept) ∙ (by_place (place_at to w.places) is ∙ sym (event_ran w to (Frame at bytes) Kept))
+    with_forged count (run w (event_steps w to (Frame at bytes) Saved)) ≡ run w (event_steps w to (Frame at bytes) Saved)
+counted_ran w to at bytes count is = ap (with_forged count) (event_ran w to (Frame at bytes) Saved) ∙ (by_place (place_at to w.places) is ∙ sym (event_ran w to (Frame at bytes) Saved))
   where
-    by_place : (o : Option Place) → count ≡ (if forged_at w.liars w.sent bytes o then one_more w.forged else w.forged) → with_forged count (emptied_acts w to (Frame at bytes) Kept o) ≡ emptied_acts w to (Frame at bytes) Kept o
+    by_place : (o : Option Place) → count ≡ (if forged_at w.liars w.sent bytes o then one_more w.forged else w.forged) → with_forged count (emptied_acts w to (Frame at bytes) Saved o) ≡ emptied_acts w to (Frame at bytes) Saved o
     by_place None counted = ap (λ (n : ℕ). with_forged n w) counted
-    by_place (Some p) counted = ap (λ (n : ℕ). with_forged n (emptied_acts w to (Frame at bytes) Kept (Some p))) counted
+    by_place (Some p) counted = ap (λ (n : ℕ). with_forged n (emptied_acts w to (Frame at bytes) Saved (Some p))) counted
 
 -- bytes that were sent are not forged
 fair : (last mine liar right sent : Bool) → sent ≡ true → (last && (mine && not liar && not sent && right)) ≡ false
@@ -146,7 +146,7 @@ found_sent sent f k at =
 
 -- so the sent frame of a place is none
 pub sent_ran : (w : World) (at : ℕ) (f : Sent) (k : ℕ) → slice_get w.sent k ≡ Some f → with_forged w.forged (run w (delivery w at f)) ≡ run w (delivery w at f)
-sent_ran w at f k found = fair_ran w f.to (Frame at f.bytes) Kept (λ n. sent_fair w.liars w.sent n.keys f.bytes (split_of f.bytes) (found_sent w.sent f k found))
+sent_ran w at f k found = fair_ran w f.to (Frame at f.bytes) Saved (λ n. sent_fair w.liars w.sent n.keys f.bytes (split_of f.bytes) (found_sent w.sent f k found))
 
 -- what is asked of a node is no frame
 pub asked_fair : (at : ℕ) (asked : Ask) (w : World) (n : Node) → is_forged w n (event_asked at asked) ≡ false

@@ -15,7 +15,7 @@ use Rattle.xl_sched.specs.declared.event.What.TheVariants as what
 use Rattle.xl_world.specs.declared.act.NodeAnswer.{NodeAnswer}
 use Rattle.xl_world.specs.declared.outcome.Outcome.{Outcome}
 use Rattle.xl_world.specs.declared.place.Fate.{Fate}
-use Rattle.xl_world.specs.declared.place.Fate.TheVariants.{Kept}
+use Rattle.xl_world.specs.declared.place.Fate.TheVariants.{Saved}
 use Rattle.xl_world.specs.declared.place.Keeper.{Keeper}
 use Rattle.xl_world.specs.declared.place.Place.{Place}
 use Rattle.xl_world.specs.Emptying.{event_steps}
@@ -90,47 +90,47 @@ cut_torn_told w i at new e p s here asks =
 
 -- what was tried is what comes of it
 tried : (w : World) (i : ℕ) (e : CoreEvent) (fate : Fate) (p : Place) → place_at i w.places ≡ Some p → core_asks p.core e ≡ None → is_forged w p.core.node e ≡ false →
-    with_forged w.forged (run w (event_steps w i e fate)) ≡ run w (event_steps w i e Kept)
+    with_forged w.forged (run w (event_steps w i e fate)) ≡ run w (event_steps w i e Saved)
 tried w i e fate p here asks fair =
     ap (with_forged w.forged) (event_ran w i e fate ∙ ap (λ o. emptied_acts w i e fate o) here)
     ∙ (ap (λ (r : CoreReply). emptied_then w i false r (keeper_after p e fate)) (unasked_alike p.core e (answer_of p.keeper fate) AnsweredOk asks)
-    ∙ (ap (λ o. emptied_then w i false (reply_at p e Kept) (after_save p.keeper o fate)) asks
-    ∙ (sym (ap (λ o. emptied_then w i false (reply_at p e Kept) (after_save p.keeper o Kept)) asks)
-    ∙ (ap (λ (b : Bool). emptied_then w i b (reply_at p e Kept) (keeper_after p e Kept)) (sym fair)
-    ∙ sym (event_ran w i e Kept ∙ ap (λ o. emptied_acts w i e Kept o) here)))))
+    ∙ (ap (λ o. emptied_then w i false (reply_at p e Saved) (after_save p.keeper o fate)) asks
+    ∙ (sym (ap (λ o. emptied_then w i false (reply_at p e Saved) (after_save p.keeper o Saved)) asks)
+    ∙ (ap (λ (b : Bool). emptied_then w i b (reply_at p e Saved) (keeper_after p e Saved)) (sym fair)
+    ∙ sym (event_ran w i e Saved ∙ ap (λ o. emptied_acts w i e Saved o) here)))))
 
 pub cut_noted : (w : World) (i : ℕ) (e : CoreEvent) (fate : Fate) (p : Place) (a : NodeAnswer) → place_at i w.places ≡ Some p → core_asks p.core e ≡ None → is_forged w p.core.node e ≡ false →
-    AnswersAt i e fate w.places (Some a) → ((x : Place) (from : ℕ) → sent_in from (reply_at x e fate).answer ≡ []) → noted (with_places w (acted_at i e fate w.places)) i a ≡ run w (event_steps w i e Kept)
+    AnswersAt i e fate w.places (Some a) → ((x : Place) (from : ℕ) → sent_in from (reply_at x e fate).answer ≡ []) → noted (with_places w (acted_at i e fate w.places)) i a ≡ run w (event_steps w i e Saved)
 cut_noted w i e fate p a here asks fair answers unsent = noted_ran w i e fate a answers unsent ∙ tried w i e fate p here asks fair
 
 -- the node is opened again then
-pub cut_whole : (w v : World) (i at : ℕ) (new : Bool) (e : CoreEvent) (p : Place) → place_at i w.places ≡ Some p → core_asks p.core e ≡ None → v ≡ run w (event_steps w i e Kept) →
+pub cut_whole : (w v : World) (i at : ℕ) (new : Bool) (e : CoreEvent) (p : Place) → place_at i w.places ≡ Some p → core_asks p.core e ≡ None → v ≡ run w (event_steps w i e Saved) →
     with_places v (put_again at (restored p.keeper (left_by p.keeper new None)) (place_at i v.places) v.places) ≡ run w (cut_steps w at new i e)
 cut_whole w v i at new e p here asks is =
-    let r : CoreReply = reply_at p e Kept in
-    let last : Place = record { core = emptied w.numbers r.core; keeper = keeper_after p e Kept } in
+    let r : CoreReply = reply_at p e Saved in
+    let last : Place = record { core = emptied w.numbers r.core; keeper = keeper_after p e Saved } in
     let n : ℕ = left_by p.keeper new None in
-    let ran : v ≡ emptied_then w i (is_forged w p.core.node e) r (keeper_after p e Kept) = is ∙ (event_ran w i e Kept ∙ ap (λ o. emptied_acts w i e Kept o) here) in
+    let ran : v ≡ emptied_then w i (is_forged w p.core.node e) r (keeper_after p e Saved) = is ∙ (event_ran w i e Saved ∙ ap (λ o. emptied_acts w i e Saved o) here) in
     let its : last.core.node.me ≡ i = ap (λ (m : Node). m.me) (emptied_node w.numbers r.core) ∙ ((core_keeps p.core e AnsweredOk).0 ∙ at_its_number i w.places p here) in
     let there : place_at i v.places ≡ Some last = ap (λ (u : World). place_at i u.places) ran ∙ put_at i last w.places p its here in
-    let kept : last.keeper ≡ p.keeper = ap (λ o. after_save p.keeper o Kept) asks in
+    let kept : last.keeper ≡ p.keeper = ap (λ o. after_save p.keeper o Saved) asks in
     ap (λ (k : Keeper). with_places v (put_again at (restored k n) (place_at i v.places) v.places)) (sym kept)
     ∙ (again_ran v i at n last there (ap (λ (k : Keeper). may_hold (held_by k) n) kept ∙ found_held p.keeper)
     ∙ (ap (λ (u : World). step u (Again i at n)) is
-    ∙ (sym (run-append w (event_steps w i e Kept) (Again i at n ∷ []))
+    ∙ (sym (run-append w (event_steps w i e Saved) (Again i at n ∷ []))
     ∙ (ap (λ o. run w (cut_short w at new i e p o)) (sym asks)
     ∙ ap (λ o. run w (cut_at w at new i e o)) (sym here)))))
 
 pub cut_whole_told : (w : World) (i at : ℕ) (new : Bool) (e : CoreEvent) (fate : Fate) (p : Place) (a : NodeAnswer) → place_at i w.places ≡ Some p → core_asks p.core e ≡ None →
     AnswersAt i e fate w.places (Some a) → outcomes_told i a ≡ told_in w (cut_steps w at new i e)
 cut_whole_told w i at new e fate p a here asks answers =
-    let steps : List Step = event_steps w i e Kept in
+    let steps : List Step = event_steps w i e Saved in
     told_ran w i e fate a answers
     ∙ (told_once w i e fate
     ∙ (ap (λ o. told_of_reply i (option_map (λ q. reply_at q e fate) o)) here
     ∙ (ap (λ (r : CoreReply). told_of_reply i (Some r)) (unasked_alike p.core e (answer_of p.keeper fate) AnsweredOk asks)
-    ∙ (sym (ap (λ o. told_of_reply i (option_map (λ q. reply_at q e Kept) o)) here)
-    ∙ (sym (told_once w i e Kept)
+    ∙ (sym (ap (λ o. told_of_reply i (option_map (λ q. reply_at q e Saved) o)) here)
+    ∙ (sym (told_once w i e Saved)
     ∙ (sym (append-nil (told_in w steps))
     ∙ (sym (told_append w steps (Again i at (left_by p.keeper new None) ∷ []))
     ∙ (ap (λ o. told_in w (cut_short w at new i e p o)) (sym asks)

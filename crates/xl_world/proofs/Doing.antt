@@ -42,7 +42,7 @@ use Rattle.xl_world.specs.declared.act.Deed.{Deed}
 use Rattle.xl_world.specs.declared.act.Deed.TheVariants as deed
 use Rattle.xl_world.specs.declared.act.Done.{Done}
 use Rattle.xl_world.specs.declared.place.Fate.{Fate}
-use Rattle.xl_world.specs.declared.place.Fate.TheVariants.{Kept, Unwritten, Written}
+use Rattle.xl_world.specs.declared.place.Fate.TheVariants.{Saved, Unwritten, Written}
 use Rattle.xl_world.specs.declared.place.Keeper.{Keeper}
 use Rattle.xl_world.specs.declared.saving.Fated.{Fated}
 use Rattle.xl_world.specs.Emptying.{handed_out}
@@ -61,10 +61,10 @@ peer_of me m low high other = ap is_some (key_of_another me m low high other)
 
 -- as one is that meets the fate, where it is answered so and the count of faults is the keeper's
 met : (save : Save) (k : Keeper) (s : ℕ) (fate : Fate) → is_kept save ≡ answers_ok fate → ((count : ℕ) → save ≡ AnsweredFailed count → count ≡ (after_save k (Some s) fate).faults) → save ≡ answer_of k fate
-met AnsweredOk k s Kept is counts = refl
+met AnsweredOk k s Saved is counts = refl
 met AnsweredOk k s Unwritten is counts = cc
 met AnsweredOk k s Written is counts = cc
-met (AnsweredFailed n) k s Kept is counts = cc
+met (AnsweredFailed n) k s Saved is counts = cc
 met (AnsweredFailed n) k s Unwritten is counts = ap (λ (m : ℕ). AnsweredFailed m) (counts n refl)
 met (AnsweredFailed n) k s Written is counts = ap (λ (m : ℕ). AnsweredFailed m) (counts n refl)
 

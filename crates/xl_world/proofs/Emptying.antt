@@ -13,7 +13,7 @@ use Rattle.xl_core.specs.declared.event.CoreEvent.{CoreEvent}
 use Rattle.xl_core.specs.declared.event.CoreEvent.TheVariants.{Issue, Frame, Timer, Submit, Greet, Drain, Reports, Stop, Stopped}
 use Rattle.xl_wire.specs.declared.lengths.TheConstants.{LONGEST_FRAME}
 use Rattle.xl_world.specs.declared.place.Fate.{Fate}
-use Rattle.xl_world.specs.declared.place.Fate.TheVariants.{Kept}
+use Rattle.xl_world.specs.declared.place.Fate.TheVariants.{Saved}
 use Rattle.xl_world.specs.declared.place.Keeper.{Keeper}
 use Rattle.xl_world.specs.declared.place.Place.{Place}
 use Rattle.xl_world.specs.declared.sent.Sent.{Sent}
@@ -95,14 +95,14 @@ once p e = record { core = (core_happens p.core e AnsweredOk).core; keeper = p.k
 abbrev frames_once : Place → CoreEvent → List Sent
 frames_once p e = sent_in p.core.node.me (core_happens p.core e AnsweredOk).answer
 
-drain_step : (w : World) (i : ℕ) (p : Place) (e : CoreEvent) → place_at i w.places ≡ Some p → IsDrain e → step w (Act i e Kept) ≡ moved w (once p e) (frames_once p e)
+drain_step : (w : World) (i : ℕ) (p : Place) (e : CoreEvent) → place_at i w.places ≡ Some p → IsDrain e → step w (Act i e Saved) ≡ moved w (once p e) (frames_once p e)
 drain_step w i p e at is =
-    ap (λ o. acts w i e Kept o) at
-    ∙ drain_by (λ d. acts w i d Kept (Some p) ≡ moved w (once p d) (frames_once p d))
+    ap (λ o. acts w i e Saved o) at
+    ∙ drain_by (λ d. acts w i d Saved (Some p) ≡ moved w (once p d) (frames_once p d))
     (λ m room. ap (λ (rs : List Reported). with_lists w (put (once p (Drain m room)) w.places) (w.sent ++ frames_once p (Drain m room)) rs) (append-nil w.reports)) e is
 
 pub drains_run : (w : World) (i : ℕ) (p : Place) (es : List CoreEvent) → place_at i w.places ≡ Some p → AreDrains es →
-    run w (map (λ e. Act i e Kept) es) ≡ moved w (record { core = after_events p.core es; keeper = p.keeper }) (given_by p.core es)
+    run w (map (λ e. Act i e Saved) es) ≡ moved w (record { core = after_events p.core es; keeper = p.keeper }) (given_by p.core es)
 drains_run w i p [] at are =
     ap (λ (ps : List Place). with_lists w ps w.sent w.reports) (sym (put_same i w.places p at)) ∙ ap (λ (fs : List Sent). with_lists w (put p w.places) fs w.reports) (sym (append-nil w.sent))
 drains_run w i p (e ∷ es) at are =
@@ -111,16 +111,16 @@ drains_run w i p (e ∷ es) at are =
     let last : Place = record { core = after_events q.core es; keeper = p.keeper } in
     let same : q.core.node ≡ p.core.node = drain_by (λ d. (core_happens p.core d AnsweredOk).core.node ≡ p.core.node) (λ m room. refl) e are.0 in
     let number : q.core.node.me ≡ i = ap (λ (n : Node). n.me) same ∙ at_its_number i w.places p at in
-    ap (λ (v : World). run v (map (λ d. Act i d Kept) es)) (drain_step w i p e at are.0)
+    ap (λ (v : World). run v (map (λ d. Act i d Saved) es)) (drain_step w i p e at are.0)
     ∙ drains_run (moved w q frames) i q es (put_at i q w.places p number at) are.1
     ∙ ap (λ (ps : List Place). with_lists w ps ((w.sent ++ frames) ++ given_by q.core es) w.reports) (put_put q last w.places (ap (λ (n : Node). n.me) (node_still q.core es are.1)))
     ∙ ap (λ (fs : List Sent). with_lists w (put last w.places) fs w.reports) (append_assoc w.sent frames (given_by q.core es))
 
 -- after the report that arose is handed out
-reports_step : (w : World) (i : ℕ) (p : Place) → place_at i w.places ≡ Some p → step w (Act i (Reports 1) Kept) ≡ moved w (record { core = handed_out p.core; keeper = p.keeper }) []
+reports_step : (w : World) (i : ℕ) (p : Place) → place_at i w.places ≡ Some p → step w (Act i (Reports 1) Saved) ≡ moved w (record { core = handed_out p.core; keeper = p.keeper }) []
 reports_step w i p at =
     let q : Place = record { core = handed_out p.core; keeper = p.keeper } in
-    ap (λ o. acts w i (Reports 1) Kept o) at ∙ ap (λ (rs : List Reported). with_lists w (put q w.places) (w.sent ++ []) rs) (append-nil w.reports)
+    ap (λ o. acts w i (Reports 1) Saved o) at ∙ ap (λ (rs : List Reported). with_lists w (put q w.places) (w.sent ++ []) rs) (append-nil w.reports)
 
 -- a core once it was emptied
 abbrev pub emptied : List ℕ → Core → Core
@@ -133,12 +133,12 @@ pub emptied_node : (numbers : List ℕ) (core : Core) → (emptied numbers core)
 emptied_node numbers core = node_still (handed_out core) (draining numbers (handed_out core)) (turns_are (handed_out core) _)
 
 emptying_run : (numbers : List ℕ) (w : World) (i : ℕ) (p : Place) → place_at i w.places ≡ Some p →
-    run w (map (λ e. Act i e Kept) (emptying numbers p.core)) ≡ moved w (record { core = emptied numbers p.core; keeper = p.keeper }) (given_then numbers p.core)
+    run w (map (λ e. Act i e Saved) (emptying numbers p.core)) ≡ moved w (record { core = emptied numbers p.core; keeper = p.keeper }) (given_then numbers p.core)
 emptying_run numbers w i p at =
     let q : Place = record { core = handed_out p.core; keeper = p.keeper } in
     let es : List CoreEvent = draining numbers q.core in
     let last : Place = record { core = emptied numbers p.core; keeper = p.keeper } in
-    ap (λ (v : World). run v (map (λ e. Act i e Kept) es)) (reports_step w i p at)
+    ap (λ (v : World). run v (map (λ e. Act i e Saved) es)) (reports_step w i p at)
     ∙ drains_run (moved w q []) i q es (put_at i q w.places p (at_its_number i w.places p at) at) (turns_are q.core _)
     ∙ ap (λ (ps : List Place). with_lists w ps ((w.sent ++ []) ++ given_by q.core es) w.reports) (put_put q last w.places (ap (λ (n : Node). n.me) (node_still q.core es (turns_are q.core _))))
     ∙ ap (λ (fs : List Sent). with_lists w (put last w.places) (fs ++ given_by q.core es) w.reports) (append-nil w.sent)

@@ -8,7 +8,7 @@ use Rattle.xl_core.specs.declared.event.CoreEvent.{CoreEvent}
 use Rattle.xl_core.specs.declared.event.CoreEvent.TheVariants.{Frame, Timer, Submit, Greet}
 use Rattle.xl_sched.specs.declared.event.What.{What}
 use Rattle.xl_sched.specs.declared.event.What.TheVariants as what
-use Rattle.xl_world.specs.declared.place.Fate.TheVariants.{Kept}
+use Rattle.xl_world.specs.declared.place.Fate.TheVariants.{Saved}
 use Rattle.xl_world.specs.declared.place.Place.{Place}
 use Rattle.xl_world.specs.declared.sent.Sent.{Sent}
 use Rattle.xl_world.specs.Emptying.{event_steps}
@@ -55,22 +55,22 @@ more_rests w ss ts rest = subst IsAtRest (sym (run-append w ss ts)) rest
 timers_rest : (w : World) (at : ℕ) (is : List ℕ) → IsAtRest w → IsAtRest (run w (timers w at is))
 timers_rest w at [] rest = rest
 timers_rest w at (i ∷ is) rest =
-    let steps : List Step = event_steps w i (Timer at) Kept in
-    more_rests w steps (timers (run w steps) at is) (timers_rest (run w steps) at is (event_rests w i (Timer at) Kept rest))
+    let steps : List Step = event_steps w i (Timer at) Saved in
+    more_rests w steps (timers (run w steps) at is) (timers_rest (run w steps) at is (event_rests w i (Timer at) Saved rest))
 
 deliveries_rest : (w : World) (at : ℕ) (fs : List Sent) → IsAtRest w → IsAtRest (run w (deliveries w at fs))
 deliveries_rest w at [] rest = rest
 deliveries_rest w at (f ∷ fs) rest =
     let steps : List Step = delivery w at f in
-    more_rests w steps (deliveries (run w steps) at fs) (deliveries_rest (run w steps) at fs (event_rests w f.to (Frame at f.bytes) Kept rest))
+    more_rests w steps (deliveries (run w steps) at fs) (deliveries_rest (run w steps) at fs (event_rests w f.to (Frame at f.bytes) Saved rest))
 
 delivery_rests : (w : World) (at : ℕ) (o : Option Sent) → IsAtRest w → IsAtRest (run w (delivery_of w at o))
 delivery_rests w at None rest = rest
-delivery_rests w at (Some f) rest = event_rests w f.to (Frame at f.bytes) Kept rest
+delivery_rests w at (Some f) rest = event_rests w f.to (Frame at f.bytes) Saved rest
 
 greeting_rests : (w : World) (node peer : ℕ) → IsAtRest w → IsAtRest (run w (greet_steps w node peer))
 greeting_rests w node peer rest =
-    cond_both (node == peer) [] (event_steps w node (Greet peer) Kept) (λ ss. IsAtRest (run w ss)) (λ _. rest) (λ _. event_rests w node (Greet peer) Kept rest)
+    cond_both (node == peer) [] (event_steps w node (Greet peer) Saved) (λ ss. IsAtRest (run w ss)) (λ _. rest) (λ _. event_rests w node (Greet peer) Saved rest)
 
 restart_rests : (w : World) (at i : ℕ) → IsAtRest w → (o : Option Place) → IsAtRest (run w (option_to_list (option_map (restart at) o)))
 restart_rests w at i rest None = rest
@@ -82,15 +82,15 @@ cut_rests w at new i e rest (Some p) = by_save (core_asks p.core e)
   where
     by_save : (asked : Option ℕ) → IsAtRest (run w (cut_short w at new i e p asked))
     by_save None =
-        more_rests w (event_steps w i e Kept) (Again i at (left_by p.keeper new None) ∷ [])
-        (step_rests (run w (event_steps w i e Kept)) i at (left_by p.keeper new None) (event_rests w i e Kept rest))
+        more_rests w (event_steps w i e Saved) (Again i at (left_by p.keeper new None) ∷ [])
+        (step_rests (run w (event_steps w i e Saved)) i at (left_by p.keeper new None) (event_rests w i e Saved rest))
     by_save (Some s) = torn_rests w i (moment_in e) (left_by p.keeper new (Some s)) (place_at i w.places) (asked_at (place_at i w.places) e) (λ q at_i. rest.cores i q at_i) rest
 
 -- each event's steps leave it at rest
 pub event_leaves : (w : World) (at : ℕ) (happening : What) → IsAtRest w → IsAtRest (run w (steps_at w at happening))
-event_leaves w at (what.Ask ask) rest = event_rests w (node_asked ask) (event_asked at ask) Kept rest
+event_leaves w at (what.Ask ask) rest = event_rests w (node_asked ask) (event_asked at ask) Saved rest
 event_leaves w at what.Timers rest = timers_rest w at w.numbers rest
-event_leaves w at (what.Submit node tx) rest = event_rests w node (Submit at tx) Kept rest
+event_leaves w at (what.Submit node tx) rest = event_rests w node (Submit at tx) Saved rest
 event_leaves w at (what.Greet node peer) rest = greeting_rests w node peer rest
 event_leaves w at (what.Deliver place) rest = delivery_rests w at (frame_at w.sent place) rest
 event_leaves w at what.All rest =
@@ -100,6 +100,6 @@ event_leaves w at what.Drop rest = mark_rests w rest
 event_leaves w at (what.Restart node) rest = restart_rests w at node rest (place_at node w.places)
 event_leaves w at (what.Cut new ask) rest = cut_rests w at new (node_asked ask) (event_asked at ask) rest (place_at (node_asked ask) w.places)
 event_leaves w at (what.Fail new ask) rest = event_rests w (node_asked ask) (event_asked at ask) (failing new) rest
-event_leaves w at (what.Lie from to lie) rest = event_rests w to (Frame at (lied_bytes from to lie)) Kept rest
-event_leaves w at (what.Raw to bytes) rest = event_rests w to (Frame at bytes) Kept rest
+event_leaves w at (what.Lie from to lie) rest = event_rests w to (Frame at (lied_bytes from to lie)) Saved rest
+event_leaves w at (what.Raw to bytes) rest = event_rests w to (Frame at bytes) Saved rest
 event_leaves w at (what.Prefer node) rest = rest

@@ -6,7 +6,7 @@ use Rattle.xl_core.specs.declared.event.CoreEvent.TheVariants.{Frame, Timer}
 use Rattle.xl_sched.specs.declared.event.What.TheVariants as what
 use Rattle.xl_world.specs.declared.outcome.Outcome.{Outcome}
 use Rattle.xl_world.specs.declared.place.Fate.{Fate}
-use Rattle.xl_world.specs.declared.place.Fate.TheVariants.{Kept}
+use Rattle.xl_world.specs.declared.place.Fate.TheVariants.{Saved}
 use Rattle.xl_world.specs.declared.place.Place.{Place}
 use Rattle.xl_world.specs.declared.sent.Sent.{Sent}
 use Rattle.xl_world.specs.Emptying.{event_steps}
@@ -47,17 +47,17 @@ pub timed_first : (w : World) (at : ℕ) (told : List Outcome) → IsAtRest w �
 timed_first w at told rest = record { numbers = refl; rest = rest; world = refl; told = refl }
 
 pub timed_more : (first : World) (at : ℕ) (before : List Outcome) (k : ℕ) (now : World) (told : List Outcome) (i : ℕ) (v : World) (told' : List Outcome) → k < length first.numbers → i ≡ get_or first.numbers k i →
-    IsTimed first at before k now told → v ≡ run now (event_steps now i (Timer at) Kept) → told' ≡ told ++ told_in now (event_steps now i (Timer at) Kept) → IsTimed first at before (k + 1) v told'
+    IsTimed first at before k now told → v ≡ run now (event_steps now i (Timer at) Saved) → told' ≡ told ++ told_in now (event_steps now i (Timer at) Saved) → IsTimed first at before (k + 1) v told'
 timed_more first at before k now told i v told' within found timed is is_told =
-    let steps : List Step = event_steps now i (Timer at) Kept in
+    let steps : List Step = event_steps now i (Timer at) Saved in
     let left : List ℕ = drop (k + 1) first.numbers in
     let here = at_place first.numbers [] k within in
     let its : here.0 ≡ i = sym (found ∙ here.3 i) in
     let next : suc k ≡ k + 1 = omega arith in
     let e : drop k first.numbers ≡ i ∷ left = here.2 ∙ (ap (λ (x : ℕ). x ∷ drop (suc k) first.numbers) its ∙ ap (λ (n : ℕ). i ∷ drop n first.numbers) next) in
     record {
-      numbers = ap (λ (u : World). u.numbers) (is ∙ event_ran now i (Timer at) Kept) ∙ (numbers_stay now i (Timer at) Kept (place_at i now.places) ∙ timed.numbers);
-      rest = subst IsAtRest (sym is) (event_rests now i (Timer at) Kept timed.rest);
+      numbers = ap (λ (u : World). u.numbers) (is ∙ event_ran now i (Timer at) Saved) ∙ (numbers_stay now i (Timer at) Saved (place_at i now.places) ∙ timed.numbers);
+      rest = subst IsAtRest (sym is) (event_rests now i (Timer at) Saved timed.rest);
       world = timed.world
           ∙ (ap (λ (xs : List ℕ). run now (timers now at xs)) e
           ∙ (run-append now steps (timers (run now steps) at left) ∙ ap (λ (u : World). run u (timers u at left)) (sym is)));
@@ -110,11 +110,11 @@ delivered_more first at before k now told v told' within delivered is is_told =
     let e : drop k first.sent ≡ f ∷ left = here.2 ∙ ap (λ (n : ℕ). f ∷ drop n first.sent) next in
     let ran : v ≡ run now steps = is ∙ ap (λ (o : Option Sent). run now (delivery_of now at o)) found in
     let tells : told' ≡ told ++ told_in now steps = is_told ∙ ap (λ (o : Option Sent). told ++ told_in now (delivery_of now at o)) found in
-    let grows = sent_grows now f.to (Frame at f.bytes) Kept (place_at f.to now.places) in
+    let grows = sent_grows now f.to (Frame at f.bytes) Saved (place_at f.to now.places) in
     record {
       more = delivered.more ++ grows.0;
-      sent = ap (λ (u : World). u.sent) (ran ∙ event_ran now f.to (Frame at f.bytes) Kept) ∙ (grows.1 ∙ (ap (λ (xs : List Sent). xs ++ grows.0) delivered.sent ∙ append_assoc first.sent delivered.more grows.0));
-      rest = subst IsAtRest (sym ran) (event_rests now f.to (Frame at f.bytes) Kept delivered.rest);
+      sent = ap (λ (u : World). u.sent) (ran ∙ event_ran now f.to (Frame at f.bytes) Saved) ∙ (grows.1 ∙ (ap (λ (xs : List Sent). xs ++ grows.0) delivered.sent ∙ append_assoc first.sent delivered.more grows.0));
+      rest = subst IsAtRest (sym ran) (event_rests now f.to (Frame at f.bytes) Saved delivered.rest);
       world = delivered.world
           ∙ (ap (λ (xs : List Sent). run now (deliveries now at xs)) e
           ∙ (run-append now steps (deliveries (run now steps) at left) ∙ ap (λ (u : World). run u (deliveries u at left)) (sym ran)));

@@ -31,7 +31,7 @@ use Rattle.xl_core.specs.Answers.{Answer, Done, Beats}
 use Rattle.xl_core.specs.Node.{settings_of, Node, Event, Issue, Frame, Timer, Submit, Reply, Save, issuing, replying, submitting, completed, timed, validates, asks_for, asks_of, at_moment, second_of, own_validation, issues_unless, unless_failed, take, with_taken, saving, arises, arisen, report_of, refusing, placing, taking, hearing, asks, happens, opened}
 use Rattle.xl_world.specs.declared.place.Keeper.{Keeper}
 use Rattle.xl_world.specs.declared.place.Fate.{Fate}
-use Rattle.xl_world.specs.declared.place.Fate.TheVariants.{Kept, Unwritten, Written}
+use Rattle.xl_world.specs.declared.place.Fate.TheVariants.{Saved, Unwritten, Written}
 use Rattle.xl_io.specs.Keepers.{MayHold}
 use Rattle.xl_base.specs.Counts.{one_more}
 use Rattle.xl_world.specs.Keeper.{held_by, restored, answer_of, after_failed, after_save}
@@ -134,7 +134,7 @@ failed_steps p v count written above well = record {
 -- an issue, by whether its sequence is above the kept one, whether a save failed before, and the fate of its own
 issue_steps : (p : Seat) (v : Validation) (b : Bool) (off : Option ℕ) (fate : Fate) → (b ≡ true → p.node.kept < v.seq) → IsWell p →
     IsStep p (cond b (issues_unless p.node off (answer_of p.keeper fate) v) (refusing p.node (NotAfter p.node.kept))) (after_save p.keeper (cond b (unless_failed off v.seq) None) fate)
-issue_steps p v true None Kept above well = record {
+issue_steps p v true None Saved above well = record {
   me = refl;
   list = refl;
   well = record { members = members_taken (second_of p.node) p.node.me v p.node.rows ∙ well.members; valid = well.valid; in_force = refl };

@@ -13,7 +13,7 @@ use Rattle.xl_world.specs.declared.act.NodeAnswer.{NodeAnswer}
 use Rattle.xl_world.specs.declared.outcome.Outcome.{Outcome}
 use Rattle.xl_world.specs.declared.outcome.Outcome.TheVariants.{Full}
 use Rattle.xl_world.specs.declared.place.Fate.{Fate}
-use Rattle.xl_world.specs.declared.place.Fate.TheVariants.{Kept}
+use Rattle.xl_world.specs.declared.place.Fate.TheVariants.{Saved}
 use Rattle.xl_world.specs.declared.place.Place.{Place}
 use Rattle.xl_world.specs.Emptying.{draining, emptying_at, event_steps, handed_out}
 use Rattle.xl_world.specs.Schedule.{told_in, told_of_answer, told_of_reply, told_of_step}
@@ -33,27 +33,27 @@ nothing_more w s ss here there = ap (λ (os : List Outcome). os ++ told_in (step
 
 -- EMPTYING
 
-drain_told : (i m room : ℕ) (o : Option Place) → told_of_reply i (option_map (λ p. reply_at p (Drain m room) Kept) o) ≡ []
+drain_told : (i m room : ℕ) (o : Option Place) → told_of_reply i (option_map (λ p. reply_at p (Drain m room) Saved) o) ≡ []
 drain_told i m room None = refl
 drain_told i m room (Some p) = refl
 
-reports_told : (i room : ℕ) (o : Option Place) → told_of_reply i (option_map (λ p. reply_at p (Reports room) Kept) o) ≡ []
+reports_told : (i room : ℕ) (o : Option Place) → told_of_reply i (option_map (λ p. reply_at p (Reports room) Saved) o) ≡ []
 reports_told i room None = refl
 reports_told i room (Some p) = refl
 
-drains_told : (w : World) (i : ℕ) (es : List CoreEvent) → AreDrains es → told_in w (map (λ e. Act i e Kept) es) ≡ []
+drains_told : (w : World) (i : ℕ) (es : List CoreEvent) → AreDrains es → told_in w (map (λ e. Act i e Saved) es) ≡ []
 drains_told w i [] are = refl
 drains_told w i (e ∷ es) are =
-    nothing_more w (Act i e Kept) (map (λ d. Act i d Kept) es)
-    (drain_by (λ d. told_of_reply i (option_map (λ p. reply_at p d Kept) (place_at i w.places)) ≡ []) (λ m room. drain_told i m room (place_at i w.places)) e are.0)
-    (drains_told (step w (Act i e Kept)) i es are.1)
+    nothing_more w (Act i e Saved) (map (λ d. Act i d Saved) es)
+    (drain_by (λ d. told_of_reply i (option_map (λ p. reply_at p d Saved) (place_at i w.places)) ≡ []) (λ m room. drain_told i m room (place_at i w.places)) e are.0)
+    (drains_told (step w (Act i e Saved)) i es are.1)
 
 emptying_told : (w v : World) (i : ℕ) (e : CoreEvent) (fate : Fate) (o : Option Place) → told_in v (emptying_at w.numbers i e fate o) ≡ []
 emptying_told w v i e fate None = refl
 emptying_told w v i e fate (Some p) =
     let core : Core = handed_out (reply_at p e fate).core in
-    nothing_more v (Act i (Reports 1) Kept) (map (λ d. Act i d Kept) (draining w.numbers core)) (reports_told i 1 (place_at i v.places))
-    (drains_told (step v (Act i (Reports 1) Kept)) i (draining w.numbers core) (turns_are core _))
+    nothing_more v (Act i (Reports 1) Saved) (map (λ d. Act i d Saved) (draining w.numbers core)) (reports_told i 1 (place_at i v.places))
+    (drains_told (step v (Act i (Reports 1) Saved)) i (draining w.numbers core) (turns_are core _))
 
 -- what is told of an event and of the emptying that follows is what is told of the event
 pub told_once : (w : World) (i : ℕ) (e : CoreEvent) (fate : Fate) → told_in w (event_steps w i e fate) ≡ told_of_reply i (option_map (λ p. reply_at p e fate) (place_at i w.places))

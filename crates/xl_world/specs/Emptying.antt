@@ -11,7 +11,7 @@ use Rattle.xl_core.specs.Core.{Core, CoreReply, all_frames, core_happens}
 use Rattle.xl_core.specs.Node.Save.{Kept as AnsweredOk}
 use Rattle.xl_world.specs.declared.sent.Sent.{Sent}
 use Rattle.xl_world.specs.declared.place.Fate.{Fate}
-use Rattle.xl_world.specs.declared.place.Fate.TheVariants.{Kept}
+use Rattle.xl_world.specs.declared.place.Fate.TheVariants.{Saved}
 use Rattle.xl_world.specs.declared.place.Place.{Place}
 use Rattle.xl_world.specs.World.{World, Step, Act, place_at, reply_at, sent_in}
 
@@ -65,7 +65,7 @@ emptying numbers core = Reports 1 ∷ draining numbers (handed_out core)
 
 abbrev pub emptying_at : List ℕ → ℕ → CoreEvent → Fate → Option Place → List Step
 emptying_at numbers i event fate None = []
-emptying_at numbers i event fate (Some p) = map (λ e. Act i e Kept) (emptying numbers (reply_at p event fate).core)
+emptying_at numbers i event fate (Some p) = map (λ e. Act i e Saved) (emptying numbers (reply_at p event fate).core)
 
 -- an event at a core, after which it is emptied
 abbrev pub event_steps : World → ℕ → CoreEvent → Fate → List Step

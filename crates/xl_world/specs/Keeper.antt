@@ -9,7 +9,7 @@ use Rattle.xl_core.specs.Node.{Save}
 use Rattle.xl_core.specs.Node.Save.{Kept as AnsweredOk, Failed as AnsweredFailed}
 use Rattle.xl_world.specs.declared.place.Keeper.{Keeper}
 use Rattle.xl_world.specs.declared.place.Fate.{Fate}
-use Rattle.xl_world.specs.declared.place.Fate.TheVariants.{Kept, Unwritten, Written}
+use Rattle.xl_world.specs.declared.place.Fate.TheVariants.{Saved, Unwritten, Written}
 
 -- what it may hold over a stop
 abbrev pub held_by : Keeper → Held
@@ -25,7 +25,7 @@ restored k n = record k { in_force = n; asked = None; written = false }
 
 -- how a save is answered that meets this fate
 abbrev pub answer_of : Keeper → Fate → Save
-answer_of k Kept = AnsweredOk
+answer_of k Saved = AnsweredOk
 answer_of k Unwritten = AnsweredFailed (one_more k.faults)
 answer_of k Written = AnsweredFailed (one_more k.faults)
 
@@ -35,13 +35,13 @@ after_failed k s written = record k { asked = Some s; written = written; faults 
 -- the keeper after an event that asks this save, or none
 abbrev pub after_save : Keeper → Option ℕ → Fate → Keeper
 after_save k None fate = k
-after_save k (Some s) Kept = restored k s
+after_save k (Some s) Saved = restored k s
 after_save k (Some s) Unwritten = after_failed k s false
 after_save k (Some s) Written = after_failed k s true
 
 -- whether a save that meets this fate is answered with Ok
 abbrev pub answers_ok : Fate → Bool
-answers_ok Kept = true
+answers_ok Saved = true
 answers_ok Unwritten = false
 answers_ok Written = false
 

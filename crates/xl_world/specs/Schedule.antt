@@ -30,7 +30,7 @@ use Rattle.xl_wire.specs.declared.body.Body.TheVariants as bodies
 use Rattle.xl_world.specs.declared.outcome.Outcome.{Outcome}
 use Rattle.xl_world.specs.declared.outcome.Outcome.TheVariants.{Switched, Built, Refused, Full, Preferred}
 use Rattle.xl_world.specs.declared.place.Fate.{Fate}
-use Rattle.xl_world.specs.declared.place.Fate.TheVariants.{Kept, Unwritten, Written}
+use Rattle.xl_world.specs.declared.place.Fate.TheVariants.{Saved, Unwritten, Written}
 use Rattle.xl_world.specs.declared.place.Place.{Place}
 use Rattle.xl_world.specs.Keeper.{found, left_by}
 use Rattle.xl_world.specs.declared.sent.Sent.{Sent}
@@ -39,7 +39,7 @@ use Rattle.xl_world.specs.Emptying.{event_steps}
 
 -- a frame is delivered
 abbrev pub delivery : World → ℕ → Sent → List Step
-delivery w at f = event_steps w f.to (Frame at f.bytes) Kept
+delivery w at f = event_steps w f.to (Frame at f.bytes) Saved
 
 -- one after the other
 abbrev pub deliveries : World → ℕ → List Sent → List Step
@@ -94,7 +94,7 @@ failing new = if new then Written else Unwritten
 -- an event whose save is cut off stops there, and leaves the new number or the old one. One that asks no save comes to
 -- its end, and then the node is opened anew
 abbrev pub cut_short : World → ℕ → Bool → ℕ → CoreEvent → Place → Option ℕ → List Step
-cut_short w at new i e p None = event_steps w i e Kept ++ Again i at (left_by p.keeper new None) ∷ []
+cut_short w at new i e p None = event_steps w i e Saved ++ Again i at (left_by p.keeper new None) ∷ []
 cut_short w at new i e p (Some s) = Torn i e (left_by p.keeper new (Some s)) ∷ []
 
 abbrev pub cut_at : World → ℕ → Bool → ℕ → CoreEvent → Option Place → List Step
@@ -110,24 +110,24 @@ ask_steps w at ask fate = event_steps w (node_asked ask) (event_asked at ask) fa
 
 -- bytes are handed to a node
 abbrev pub hand_steps : World → ℕ → ℕ → List ℕ → List Step
-hand_steps w at to bytes = event_steps w to (Frame at bytes) Kept
+hand_steps w at to bytes = event_steps w to (Frame at bytes) Saved
 
 -- a timer at each declared number, one after the other; a liar has none
 abbrev pub timers : World → ℕ → List ℕ → List Step
 timers w at [] = []
 timers w at (i ∷ is) =
-    let steps = event_steps w i (Timer at) Kept in
+    let steps = event_steps w i (Timer at) Saved in
     steps ++ timers (run w steps) at is
 
 -- a node greets another; itself it doesn't greet
 abbrev pub greet_steps : World → ℕ → ℕ → List Step
-greet_steps w node peer = if node == peer then [] else event_steps w node (Greet peer) Kept
+greet_steps w node peer = if node == peer then [] else event_steps w node (Greet peer) Saved
 
 -- the steps that it is when something happens at a moment
 abbrev pub steps_at : World → ℕ → What → List Step
-steps_at w at (what.Ask ask) = ask_steps w at ask Kept
+steps_at w at (what.Ask ask) = ask_steps w at ask Saved
 steps_at w at what.Timers = timers w at w.numbers
-steps_at w at (what.Submit node tx) = event_steps w node (Submit at tx) Kept
+steps_at w at (what.Submit node tx) = event_steps w node (Submit at tx) Saved
 steps_at w at (what.Greet node peer) = greet_steps w node peer
 steps_at w at (what.Deliver place) = delivery_of w at (frame_at w.sent place)
 steps_at w at what.All = deliveries w at (drop w.mark w.sent) ++ Mark ∷ []

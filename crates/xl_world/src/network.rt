@@ -73,7 +73,7 @@ impl Network {
       told_in,
     };
     ghost use Rattle.xl_world.specs.Seen.{MayDo, deed_event, noted, outcomes_told, put_again, with_forged, with_places};
-    ghost use Rattle.xl_world.specs.declared.place.Fate.TheVariants.{Kept};
+    ghost use Rattle.xl_world.specs.declared.place.Fate.TheVariants.{Saved};
 
     /// The network of a plan, at its start.
     pub fn open(alloc: Global, plan: &Plan) -> Result<Network, OutOfMemory>
@@ -173,7 +173,7 @@ impl Network {
     {
         for k in 0..self.numbers.len() {
             let node = self.numbers[k];
-            self.act(node, at, &Deed::Timer, Fate::Kept, told)?;
+            self.act(node, at, &Deed::Timer, Fate::Saved, told)?;
         }
         Ok(())
     }
@@ -195,7 +195,7 @@ impl Network {
         if node == peer {
             return Ok(());
         }
-        self.act(node, at, &Deed::Greet(peer), Fate::Kept, told)
+        self.act(node, at, &Deed::Greet(peer), Fate::Saved, told)
     }
 
     /// The sent frame of a place, from 0 on, is handed to its receiver; to a liar that does nothing. It isn't forged,
@@ -218,7 +218,7 @@ impl Network {
         };
         let to = frame.to;
         let deed = Deed::Frame(frame.bytes.as_slice());
-        match act_at(&mut self.places, to, at, &deed, Fate::Kept) {
+        match act_at(&mut self.places, to, at, &deed, Fate::Saved) {
             Some(answer) => self.settle(to, answer, told),
             None => Ok(()),
         }
@@ -253,7 +253,7 @@ impl Network {
             ≡ told.old.items ++ told_in self.old (hand_steps self.old at to bytes.now)) }
     {
         let forged = is_forged(&self.liars, &mut self.traffic, &self.places, to, bytes);
-        self.act(to, at, &Deed::Frame(bytes), Fate::Kept, told)?;
+        self.act(to, at, &Deed::Frame(bytes), Fate::Saved, told)?;
         self.forged = counted(self.forged, forged);
         Ok(())
     }
@@ -341,10 +341,10 @@ impl Network {
         ensures told { OnOk result (told.new.items ≡ told.old.items ++ outcomes_at self.old at what.now) }
     {
         match what {
-            What::Ask(ask) => self.ask(at, ask, Fate::Kept, told),
+            What::Ask(ask) => self.ask(at, ask, Fate::Saved, told),
             What::Timers => self.timers(at, told),
             What::Submit { node, tx } => {
-                self.act(*node, at, &Deed::Submit(*tx), Fate::Kept, told)
+                self.act(*node, at, &Deed::Submit(*tx), Fate::Saved, told)
             }
             What::Greet { node, peer } => self.greet(at, *node, *peer, told),
             What::Deliver { place } => match place.checked_sub(1) {

@@ -6,7 +6,7 @@ use xl_trie::Trie;
 #[derive(Clone, Copy, Debug, PartialEq, Eq)]
 pub enum Fate {
     /// With Ok.
-    Kept,
+    Saved,
     /// With Failed; the former number stays.
     Unwritten,
     /// With Failed, though the number was written.

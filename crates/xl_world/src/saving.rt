@@ -37,7 +37,7 @@ impl xl_io::Keeper for Fated {
     fn save(&mut self, seq: Seq) -> Result<(), Failed> {
         self.asked = Some(seq);
         match self.fate {
-            Fate::Kept => {
+            Fate::Saved => {
                 self.keeper = self.keeper.restored(seq);
                 Ok(())
             }

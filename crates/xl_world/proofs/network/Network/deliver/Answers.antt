@@ -5,7 +5,7 @@ use Rattle.std.proofs.lemmas.List.{with_items_is}
 use Rattle.xl_core.specs.declared.event.CoreEvent.{CoreEvent}
 use Rattle.xl_core.specs.declared.event.CoreEvent.TheVariants.{Frame}
 use Rattle.xl_world.specs.declared.outcome.Outcome.{Outcome}
-use Rattle.xl_world.specs.declared.place.Fate.TheVariants.{Kept}
+use Rattle.xl_world.specs.declared.place.Fate.TheVariants.{Saved}
 use Rattle.xl_world.specs.declared.place.Place.{Place}
 use Rattle.xl_world.specs.declared.sent.Sent.{Sent}
 use Rattle.xl_world.specs.Emptying.{event_steps}
@@ -27,15 +27,15 @@ found : (c : After-act_at) → slice_get c.args.self.now.sent c.args.place ≡ S
 found c = ap (λ (w : World). slice_get w.sent c.args.place) (sym c.self.view_is) ∙ sym c.in-Some.ensures
 
 -- the places after it
-placed : (c : After-act_at) → (with_items c.self.inside.places c.act_at.new.places).items ≡ acted_at c.in-Some.frame.now.to (event c) Kept c.args.self.now.places
+placed : (c : After-act_at) → (with_items c.self.inside.places c.act_at.new.places).items ≡ acted_at c.in-Some.frame.now.to (event c) Saved c.args.self.now.places
 placed c =
     with_items_is c.self.inside.places c.act_at.new.places (c.act_at.auto.places ∙ c.deref_mut.ensures.len)
-    ∙ (c.act_at.ensures.places ∙ ap (acted_at c.in-Some.frame.now.to (event c) Kept) (c.deref_mut.ensures.value ∙ ap (λ (w : World). w.places) c.self.view_is))
+    ∙ (c.act_at.ensures.places ∙ ap (acted_at c.in-Some.frame.now.to (event c) Saved) (c.deref_mut.ensures.value ∙ ap (λ (w : World). w.places) c.self.view_is))
 
 -- what the node answered
-answers : (c : In-Some-act_at) → AnswersAt c.in-Some.frame.now.to (Frame c.args.at c.as_slice.result.now) Kept c.args.self.now.places (Some c.in-Some-act_at.answer)
+answers : (c : In-Some-act_at) → AnswersAt c.in-Some.frame.now.to (Frame c.args.at c.as_slice.result.now) Saved c.args.self.now.places (Some c.in-Some-act_at.answer)
 answers c =
-    subst (λ (ps : List Place). AnswersAt c.in-Some.frame.now.to (Frame c.args.at c.as_slice.result.now) Kept ps (Some c.in-Some-act_at.answer)) (c.deref_mut.ensures.value ∙ ap (λ (w : World). w.places) c.self.view_is)
+    subst (λ (ps : List Place). AnswersAt c.in-Some.frame.now.to (Frame c.args.at c.as_slice.result.now) Saved ps (Some c.in-Some-act_at.answer)) (c.deref_mut.ensures.value ∙ ap (λ (w : World). w.places) c.self.view_is)
     c.in-Some-act_at.ensures.answer
 
 pub act_at-requires-clause-rested : goal.act_at-requires-clause-rested
@@ -46,7 +46,7 @@ act_at-requires-clause-rested c = λ p h.
 pub settle-requires : goal.settle-requires
 settle-requires c =
     let d = (goal.at.settle-requires c).After-act_at in record {
-      rested = λ p h. acted_rests c.args.self.now c.in-Some.frame.now.to (event d) Kept c.requires.rest p (ap (place_at c.in-Some.frame.now.to) (sym (placed d)) ∙ h);
+      rested = λ p h. acted_rests c.args.self.now c.in-Some.frame.now.to (event d) Saved c.requires.rest p (ap (place_at c.in-Some.frame.now.to) (sym (placed d)) ∙ h);
     }
 
 pub returns-in-Some-act_at-clause-world : goal.returns-in-Some-act_at-clause-world
@@ -59,8 +59,8 @@ returns-in-Some-act_at-clause-world c =
     subst (λ (v : World). OnOk c.settle.result (c.settle.new.self ≡ v))
     (ap (λ (u : World). noted (with_places u ps) f.to c.in-Some-act_at.answer) c.self.view_is
     ∙ (ap (λ (xs : List Place). noted (with_places w xs) f.to c.in-Some-act_at.answer) (placed d)
-    ∙ (noted_ran w f.to (event d) Kept c.in-Some-act_at.answer (answers s) (λ p from. (frame_plain p.core.node c.args.at c.as_slice.result.now (answer_of p.keeper Kept)).sent from)
-    ∙ (ap (λ (bytes : List ℕ). with_forged w.forged (run w (event_steps w f.to (Frame c.args.at bytes) Kept))) c.as_slice.ensures
+    ∙ (noted_ran w f.to (event d) Saved c.in-Some-act_at.answer (answers s) (λ p from. (frame_plain p.core.node c.args.at c.as_slice.result.now (answer_of p.keeper Saved)).sent from)
+    ∙ (ap (λ (bytes : List ℕ). with_forged w.forged (run w (event_steps w f.to (Frame c.args.at bytes) Saved))) c.as_slice.ensures
     ∙ (sent_ran w c.args.at f c.args.place (found d) ∙ ap (λ (o : Option Sent). run w (delivery_of w c.args.at o)) (sym (found d)))))))
     c.settle.ensures.world
 
@@ -71,6 +71,6 @@ returns-in-Some-act_at-clause-told c =
     let w : World = c.args.self.now in
     let f : Sent = c.in-Some.frame.now in
     subst (λ (os : List Outcome). OnOk c.settle.result (c.settle.new.told.items ≡ c.args.told.now.items ++ os))
-    (told_ran w f.to (event d) Kept c.in-Some-act_at.answer (answers s)
-    ∙ (ap (λ (bytes : List ℕ). told_in w (event_steps w f.to (Frame c.args.at bytes) Kept)) c.as_slice.ensures ∙ ap (λ (o : Option Sent). told_in w (delivery_of w c.args.at o)) (sym (found d))))
+    (told_ran w f.to (event d) Saved c.in-Some-act_at.answer (answers s)
+    ∙ (ap (λ (bytes : List ℕ). told_in w (event_steps w f.to (Frame c.args.at bytes) Saved)) c.as_slice.ensures ∙ ap (λ (o : Option Sent). told_in w (delivery_of w c.args.at o)) (sym (found d))))
     c.settle.ensures.told

@@ -2,7 +2,7 @@ use Rattle.std.proofs.Common.{◌≡◌, ◌∙◌, ℕ, Bool, List, ap}
 use Rattle.std.specs.Prelude.{if◌then◌else◌}
 use Rattle.xl_base.specs.Counts.{one_more}
 use Rattle.xl_core.specs.declared.event.CoreEvent.TheVariants.{Frame}
-use Rattle.xl_world.specs.declared.place.Fate.TheVariants.{Kept}
+use Rattle.xl_world.specs.declared.place.Fate.TheVariants.{Saved}
 use Rattle.xl_world.specs.declared.place.Place.{Place}
 use Rattle.xl_world.specs.Emptying.{event_steps}
 use Rattle.xl_world.specs.Indexes.{Traffic}
@@ -27,8 +27,8 @@ tested c =
     ∙ ap (λ (w : World). forged_at w.liars w.sent c.args.bytes.now (place_at c.args.to w.places)) c.self.view_is))
 
 -- the world after the event, but for the count
-acted : (c : In_ok-act) → c.act.new.self ≡ with_forged c.args.self.now.forged (run c.args.self.now (event_steps c.args.self.now c.args.to (Frame c.args.at c.args.bytes.now) Kept))
-acted c = c.in_ok-act.ensures.world ∙ ap (λ (w : World). with_forged w.forged (run w (event_steps w c.args.to (Frame c.args.at c.args.bytes.now) Kept))) (same_world c)
+acted : (c : In_ok-act) → c.act.new.self ≡ with_forged c.args.self.now.forged (run c.args.self.now (event_steps c.args.self.now c.args.to (Frame c.args.at c.args.bytes.now) Saved))
+acted c = c.in_ok-act.ensures.world ∙ ap (λ (w : World). with_forged w.forged (run w (event_steps w c.args.to (Frame c.args.at c.args.bytes.now) Saved))) (same_world c)
 
 pub returns-clause-world : goal.returns-clause-world
 returns-clause-world c =

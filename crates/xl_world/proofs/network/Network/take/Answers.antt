@@ -3,7 +3,7 @@ use Rattle.std.specs.Prelude.{OnOk}
 use Rattle.xl_core.specs.declared.event.CoreEvent.TheVariants.{Submit}
 use Rattle.xl_sched.specs.declared.event.What.{What}
 use Rattle.xl_world.specs.declared.outcome.Outcome.{Outcome}
-use Rattle.xl_world.specs.declared.place.Fate.TheVariants.{Kept}
+use Rattle.xl_world.specs.declared.place.Fate.TheVariants.{Saved}
 use Rattle.xl_world.specs.Schedule.{outcomes_at, steps_at}
 use Rattle.xl_world.specs.World.{World, run}
 use Rattle.xl_world.proofs.Acting.{fair_ran}
@@ -14,7 +14,7 @@ pub returns-in-Submit-clause-world : goal.returns-in-Submit-clause-world
 returns-in-Submit-clause-world c =
     let w : World = c.args.self.now in
     subst (λ (v : World). OnOk c.act.result (c.act.new.self ≡ v))
-    (fair_ran w c.in-Submit.node (Submit c.args.at c.in-Submit.tx) Kept (λ n. refl) ∙ ap (λ (happening : What). run w (steps_at w c.args.at happening)) (sym c.in-Submit.is))
+    (fair_ran w c.in-Submit.node (Submit c.args.at c.in-Submit.tx) Saved (λ n. refl) ∙ ap (λ (happening : What). run w (steps_at w c.args.at happening)) (sym c.in-Submit.is))
     c.act.ensures.world
 
 pub returns-in-Lie-clause-world : goal.returns-in-Lie-clause-world

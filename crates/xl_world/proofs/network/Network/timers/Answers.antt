@@ -1,6 +1,6 @@
 use Rattle.std.proofs.Common.{◌∙◌, List, ℕ, ap, arith, get_or, length, refl}
 use Rattle.xl_core.specs.declared.event.CoreEvent.TheVariants.{Timer}
-use Rattle.xl_world.specs.declared.place.Fate.TheVariants.{Kept}
+use Rattle.xl_world.specs.declared.place.Fate.TheVariants.{Saved}
 use Rattle.xl_world.specs.World.{World}
 use Rattle.xl_world.proofs.Acting.{fair_ran}
 use Rattle.xl_world.proofs.Going.{timed_first, timed_more}
@@ -15,4 +15,4 @@ loop-k-preserved c =
     (omega (arith, c.loop-k-test.true, c.len-k-end.ensures, c.self.inside.numbers.ok.0, ap (λ (w : World). length w.numbers) c.self.view_is))
     (c.index-node.ensures ∙ ap (λ (xs : List ℕ). get_or xs c.loop-k.k c.index-node.result.now) (ap (λ (w : World). w.numbers) c.self-in-loop-k.view_is ∙ c.loop-k.invariant.numbers))
     c.loop-k.invariant
-    (c.in_ok-act.ensures.world ∙ fair_ran c.loop-k.self c.index-node.result.now (Timer c.args.at) Kept (λ n. refl)) c.in_ok-act.ensures.told
+    (c.in_ok-act.ensures.world ∙ fair_ran c.loop-k.self c.index-node.result.now (Timer c.args.at) Saved (λ n. refl)) c.in_ok-act.ensures.told
