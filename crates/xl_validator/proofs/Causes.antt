@@ -1,0 +1,111 @@
+-- What the status of a run says of its end.
+use Rattle.std.proofs.Common.{◌≡◌, ◌≢◌, ◌⊎◌, ℕ, List, length, refl, sym, ap, ◌∙◌, subst}
+use Rattle.xl_base.specs.Faults.{Rose}
+use Rattle.xl_base.specs.declared.status.Status.{Status}
+use Rattle.xl_base.specs.declared.status.Status.TheVariants as status
+use Rattle.xl_store.specs.declared.entry.Entry.{Entry}
+use Rattle.xl_heartbeat.specs.declared.ends.BeatEnd.{BeatEnd}
+use Rattle.xl_heartbeat.specs.declared.ends.Ending.{Ending}
+use Rattle.xl_heartbeat.specs.declared.ends.Ending.TheVariants as ending
+use Rattle.xl_heartbeat.specs.declared.ends.Stopping.{Stopping}
+use Rattle.xl_heartbeat.specs.declared.ends.Stopping.TheVariants as stopping
+use Rattle.xl_heartbeat.specs.Outputs.{Output}
+use Rattle.xl_heartbeat.specs.Statuses.{status_of, stop_status, first_of, with_last, status_of_run}
+use Rattle.xl_workers.specs.declared.ends.RunEnd.{RunEnd}
+use Rattle.xl_workers.specs.declared.ends.RunEnd.TheVariants as end
+use Rattle.xl_workers.specs.Runs.{Doing, NodeRun, EndsBy, status_of_end}
+use Rattle.xl_workers.specs.Sharing.{Setting, IsOutput}
+use Rattle.xl_base.specs.declared.ids.TxId.{TxId}
+use Rattle.xl_validator.specs.Validators.{IsOfNode}
+
+-- a status of a heartbeat and of the last reports
+abbrev IsOfRun : Status → Type 0
+IsOfRun status.Done = Unit {0}
+IsOfRun status.WriteFault = Unit {0}
+IsOfRun status.OutOfMemory = Unit {0}
+IsOfRun status.StoreFull = Unit {0}
+IsOfRun other = ⊥
+
+of_part : (e : Ending) → IsOfRun (status_of e)
+of_part ending.Done = tt
+of_part ending.WriteFault = tt
+of_part ending.OutOfMemory = tt
+of_part (ending.StoreFull n) = tt
+
+of_stop : (s : Stopping) → IsOfRun (stop_status s)
+of_stop stopping.Done = tt
+of_stop (stopping.StoreFull n) = tt
+
+of_first : (a b : Status) → IsOfRun a → IsOfRun b → IsOfRun (first_of a b)
+of_first status.Done b is next = next
+of_first status.Fork b is next = is
+of_first status.WordsRefused b is next = is
+of_first status.InputRefused b is next = is
+of_first status.ReadFault b is next = is
+of_first status.WriteFault b is next = is
+of_first status.OutOfMemory b is next = is
+of_first status.KeepFault b is next = is
+of_first status.NetFault b is next = is
+of_first status.StoreFull b is next = is
+
+of_last : (a : Status) (e : Ending) → IsOfRun a → IsOfRun (with_last a e)
+of_last a ending.Done is = is
+of_last a ending.WriteFault is = tt
+of_last a ending.OutOfMemory is = of_first a status.OutOfMemory is tt
+of_last a (ending.StoreFull n) is = of_first a status.StoreFull is tt
+
+of_run : (beats : BeatEnd) (last : Ending) → IsOfRun (status_of_run beats last)
+of_run beats last =
+    of_last (first_of (status_of beats.run) (stop_status beats.stop)) last
+    (of_first (status_of beats.run) (stop_status beats.stop) (of_part beats.run) (of_stop beats.stop))
+
+of_node : (s : Status) → IsOfRun s → IsOfNode s
+of_node status.Done is = tt
+of_node status.WriteFault is = tt
+of_node status.OutOfMemory is = tt
+of_node status.StoreFull is = tt
+of_node status.Fork is = is
+of_node status.WordsRefused is = is
+of_node status.InputRefused is = is
+of_node status.ReadFault is = is
+of_node status.KeepFault is = tt
+of_node status.NetFault is = tt
+
+pub known_end : (e : RunEnd) → IsOfNode (status_of_end e)
+known_end (end.Ran beats last) = of_node (status_of_run beats last) (of_run beats last)
+known_end end.NetFault = tt
+known_end end.OutOfMemory = tt
+known_end (end.StoreFull n) = tt
+
+pub keeps_no_fault : (e : RunEnd) → status_of_end e ≢ status.KeepFault
+keeps_no_fault (end.Ran beats last) = λ is. subst IsOfRun is (of_run beats last)
+keeps_no_fault end.NetFault = λ is. cc
+keeps_no_fault end.OutOfMemory = λ is. cc
+keeps_no_fault (end.StoreFull n) = λ is. cc
+
+written : (text : List ℕ) (old new : Output) (s : Status) → s ≡ status.WriteFault → IsOutput s text old new
+    → Rose old.faults new.faults
+written text old new s is out = (subst (λ (x : Status). IsOutput x text old new) is out).failed
+
+write_by : (s : Setting) (d : Doing) (history : List Entry) (done : List TxId) (submits : List ℕ) (e : RunEnd)
+    → EndsBy s d history done submits e → status_of_end e ≡ status.WriteFault → Rose d.old_output.faults d.new_output.faults
+write_by s d history done submits (end.Ran beats last) by is =
+    written _ d.old_output d.new_output (status_of_run beats last) is by.1.written
+write_by s d history done submits end.NetFault by is = absurd cc
+write_by s d history done submits end.OutOfMemory by is = absurd cc
+write_by s d history done submits (end.StoreFull n) by is = absurd cc
+
+pub write_cause : (s : Setting) (d : Doing) (e : RunEnd) (history : List Entry) → NodeRun s d e history
+    → status_of_end e ≡ status.WriteFault → Rose d.old_output.faults d.new_output.faults
+write_cause s d e history run is = write_by s d history run.done run.submits e run.by is
+
+net_by : (s : Setting) (d : Doing) (history : List Entry) (done : List TxId) (submits : List ℕ) (e : RunEnd)
+    → EndsBy s d history done submits e → status_of_end e ≡ status.NetFault → Rose d.old_faults d.new_faults
+net_by s d history done submits (end.Ran beats last) by is = absurd (subst IsOfRun is (of_run beats last))
+net_by s d history done submits end.NetFault by is = by.2
+net_by s d history done submits end.OutOfMemory by is = absurd cc
+net_by s d history done submits (end.StoreFull n) by is = absurd cc
+
+pub net_cause : (s : Setting) (d : Doing) (e : RunEnd) (history : List Entry) → NodeRun s d e history
+    → status_of_end e ≡ status.NetFault → Rose d.old_faults d.new_faults
+net_cause s d e history run is = net_by s d history run.done run.submits e run.by is

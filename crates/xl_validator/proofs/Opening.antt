@@ -41,17 +41,21 @@ met keys (p ∷ ps) m each is = ⊎_elim
     (λ (there : is_peer (map setting_of ps) m ≡ true). met keys ps m (λ k d small. each (suc k) d (omega (arith, small))) there)
     (or_cases (m == p.number) (is_peer (map setting_of ps) m) is)
 
+-- and so has a member that is on the list and isn't me
+listed_at : (keys : Ring) (me : ℕ) (peers : List Peer) (members : List ℕ) → keys.me ≡ me → All (HasKey keys) peers
+    → list_all (λ m. m == me || is_peer (map setting_of peers) m) members ≡ true
+    → (k d : ℕ) → k < length members → slice_index_or members k d ≢ keys.me → IsSome (key_of keys (slice_index_or members k d))
+listed_at keys me peers [] own each are k d small = absurd (omega (arith, small))
+listed_at keys me peers (m ∷ ms) own each are zero d small = λ other. ⊎_elim
+    (λ (here : (m == me) ≡ true). absurd (other (let same : m ≡ me = grind (arith, here) in same ∙ sym own)))
+    (λ (there : is_peer (map setting_of peers) m ≡ true). met keys peers m each there)
+    (or_cases (m == me) (is_peer (map setting_of peers) m) (grind (arith, are)))
+listed_at keys me peers (m ∷ ms) own each are (suc k) d small =
+    listed_at keys me peers ms own each (grind (arith, are)) k d (omega (arith, small))
+
 listed_has : (keys : Ring) (me : ℕ) (peers : List Peer) (members : List ℕ) → keys.me ≡ me → All (HasKey keys) peers
     → list_all (λ m. m == me || is_peer (map setting_of peers) m) members ≡ true → HasKeys keys members
-listed_has keys me peers [] own each are = λ k d small. absurd (omega (arith, small))
-listed_has keys me peers (m ∷ ms) own each are = go
-  where
-    go : HasKeys keys (m ∷ ms)
-    go zero d small = λ other. ⊎_elim
-        (λ (here : (m == me) ≡ true). absurd (other (let same : m ≡ me = grind (arith, here) in same ∙ sym own)))
-        (λ (there : is_peer (map setting_of peers) m ≡ true). met keys peers m each there)
-        (or_cases (m == me) (is_peer (map setting_of peers) m) (grind (arith, are)))
-    go (suc k) d small = listed_has keys me peers ms own each (grind (arith, are)) k d (omega (arith, small))
+listed_has keys me peers members own each are = λ k d small. listed_at keys me peers members own each are k d small
 
 pub keyed : (keys : Ring) (me : ℕ) (peers : List Peer) (members : List ℕ) → keys.me ≡ me → All (HasKey keys) peers
     → are_peers me members (map setting_of peers) ≡ true → IsKeyed me members keys
@@ -84,7 +88,7 @@ in_range (c ∷ cs) all = (all.0, in_range cs all.1)
 pub few_contacts : (contacts : List Contact) → IsDistinct nat_eq (map contact_of contacts) → AllByRecursion IsNumber contacts → length contacts ≤ 64
 few_contacts contacts once all =
     let few = are_few (map contact_of contacts) once (in_range contacts all) in
-    omega (arith, few, length-map contact_of contacts)
+    let same : length (map contact_of contacts) ≡ length contacts = length-map _ _ in omega (arith, few, same)
 
 abbrev task : ℕ → List TxId → List ℕ → Timing → Task
 task turns submits members timing = record { turns = turns; submits = submits; members = members; timing = timing }

@@ -78,3 +78,11 @@ abbrev pub IsKnown : Status → Type 0
 IsKnown status.Fork = ⊥
 IsKnown status.WordsRefused = ⊥
 IsKnown other = Unit {0}
+
+-- a status of a node whose settings were read
+abbrev pub IsOfNode : Status → Type 0
+IsOfNode status.Fork = ⊥
+IsOfNode status.WordsRefused = ⊥
+IsOfNode status.InputRefused = ⊥
+IsOfNode status.ReadFault = ⊥
+IsOfNode other = Unit {0}

@@ -1,11 +1,11 @@
-ghost use Rattle.std.specs.Prelude.{◌≡◌, ◌≤◌, ◌⊎◌, None, IfSome, IfOk, IfErr, IsErr, Ok};
+ghost use Rattle.std.specs.Prelude.{◌≡◌, ◌≢◌, ◌≤◌, ◌⊎◌, None, IfSome, IfOk, IfErr, IsErr, Ok};
 ghost use Rattle.xl_base.specs.Faults.{Rose};
 ghost use Rattle.xl_settings.specs.declared.settings.Settings.{Settings as TheSettings};
 ghost use Rattle.xl_settings.specs.Lines.{refusal_line};
 ghost use Rattle.xl_settings.specs.Runnable.{AreRunnable};
 ghost use Rattle.xl_settings.specs.Settings.{settings_of};
 ghost use Rattle.xl_validator.specs.Preparing.{IsReady, task_in};
-ghost use Rattle.xl_validator.specs.Validators.{Goes, HasRun, IsRefused, IsKnown, between};
+ghost use Rattle.xl_validator.specs.Validators.{Goes, HasRun, IsRefused, IsKnown, IsOfNode, between};
 
 use crate::ended::Ended;
 use crate::preparing::{Prepared, prepare};
@@ -47,7 +47,11 @@ fn run<W: Threads + Wait + Sync, O: Sink + Send, K: Keeper + Drop + Send, H: Hub
         (between (H.faults hub.old) (H.faults hub.new)
         (O.held output.old) (O.faults output.old) (O.held output.new) (O.faults output.new))
         keeper result.keeper result.status history) }
-    ensures unopened { result.journal ≡ None → (result.status ≡ Status.OutOfMemory) × (output.new ≡ output.old) }
+    ensures unopened { result.journal ≡ None → output.new ≡ output.old }
+    ensures known { IsOfNode result.status }
+    ensures write { result.status ≡ Status.WriteFault → Rose (O.faults output.old) (O.faults output.new) }
+    ensures keeper { result.status ≢ Status.KeepFault }
+    ensures net { result.status ≡ Status.NetFault → Rose (H.faults hub.old) (H.faults hub.new) }
 {
     let Prepared { core, plan } = prepared;
     match node(rt, alloc, core, keeper, plan, hub, &OpenGate, clock, output) {
@@ -76,9 +80,11 @@ fn start<W: Threads + Wait + Sync, O: Sink + Send, K: Keeper + Drop + Send, H: H
         (between (H.faults hub.old) (H.faults hub.new)
         (O.held output.old) (O.faults output.old) (O.held output.new) (O.faults output.new))
         keeper result.keeper result.status history) }
-    ensures unopened { result.journal ≡ None
-        → ((result.status ≡ Status.OutOfMemory) ⊎ (result.status ≡ Status.KeepFault)) × (output.new ≡ output.old) }
+    ensures unopened { result.journal ≡ None → output.new ≡ output.old }
+    ensures known { IsOfNode result.status }
+    ensures write { result.status ≡ Status.WriteFault → Rose (O.faults output.old) (O.faults output.new) }
     ensures keeper { result.status ≡ Status.KeepFault → Rose (K.faults keeper) (K.faults result.keeper) }
+    ensures net { result.status ≡ Status.NetFault → Rose (H.faults hub.old) (H.faults hub.new) }
 {
     let mut keeper = keeper;
     let Ok(kept) = keeper.load() else {

@@ -26,7 +26,13 @@ members c =
 
 pub returns-clause-task : goal.returns-clause-task
 returns-clause-task c =
-    same_task c.args.settings c.args.now _ refl (c.in_ok-from_slice.ensures.items ∙ c.as_slice-2.ensures) (members c) refl
+    same_task c.args.settings c.args.now
+    (record {
+      turns = c.args.settings.turns;
+      submits = c.in_ok-from_slice.field-0;
+      contacts = c.in_ok-contacts_of.field-0;
+      timing = record { opened = c.args.now; every = c.args.settings.heartbeat_ms; run = c.args.settings.run_ms };
+    }) refl (c.in_ok-from_slice.ensures.items ∙ c.as_slice-2.ensures) (members c) refl
 
 pub returns-clause-ready : goal.returns-clause-ready
 returns-clause-ready c =
