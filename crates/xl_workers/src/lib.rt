@@ -24,6 +24,3 @@ mod working;
 pub use ends::RunEnd;
 pub use plan::{Contact, Plan};
 pub use running::{Ran, node};
-
-#[cfg(test)]
-mod tests;
