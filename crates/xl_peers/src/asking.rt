@@ -1,4 +1,4 @@
-ghost use Rattle.std.specs.Prelude.{◌≡◌, Bool, ℕ, List, OnOk, IfErr, IsSome};
+ghost use Rattle.std.specs.Prelude.{◌≡◌, ◌<◌, Bool, ℕ, List, OnOk, IfErr, IsSome};
 ghost use Rattle.xl_tags.specs.Rings.{key_of};
 ghost use Rattle.xl_turns.specs.Passes.{known};
 ghost use Rattle.xl_links.specs.Links.{Wire};
@@ -45,6 +45,7 @@ pub(crate) fn ask<W: Wait, B: Branch + Drop, K: Keeper + Drop>(
     ensures pass { IsOf store.now pass.new }
     ensures on { OnOk result ((may : ℕ → Bool) (member : ℕ) (w : Wire) (held : List ℕ)
         → Goes (start_of store.now) may member Asks Drains (known pass.old) w held (known pass.new) w held) }
+    ensures turn { OnOk result ((known pass.old).drawn < (known pass.new).drawn) }
     ensures ends { IfErr result (λ end. (may : ℕ → Bool) (member : ℕ) (w : Wire) (held : List ℕ)
         → Ends (start_of store.now) may member (turns_of store.now) Asks
         (known pass.old) w held (known pass.new) w end) }

@@ -63,6 +63,7 @@ pub(crate) fn drain<W: Wait, B: Branch + Drop, K: Keeper + Drop, L: Link>(
     ensures on { OnOk result ((may : ℕ → Bool) (held : List ℕ)
         → Goes (start_of store.now) may member Drains Reads
         (known pass.old) (L.shows link.old) held (known pass.new) (L.shows link.new) held) }
+    ensures turn { OnOk result ((known pass.old).drawn < (known pass.new).drawn) }
     ensures ends { IfErr result (λ end. (may : ℕ → Bool) (held : List ℕ)
         → Ends (start_of store.now) may member (turns_of store.now) Drains
         (known pass.old) (L.shows link.old) held (known pass.new) (L.shows link.new) end) }

@@ -1,4 +1,4 @@
-ghost use Rattle.std.specs.Prelude.{◌≡◌, ℕ, List, ◌++◌, false, OnOk, IfErr};
+ghost use Rattle.std.specs.Prelude.{◌≡◌, ◌≤◌, ℕ, List, ◌++◌, false, OnOk, IfErr};
 ghost use Rattle.xl_turns.specs.Passes.{known};
 ghost use Rattle.xl_links.specs.Links.{Wire};
 ghost use Rattle.xl_store.specs.Stores.{start_of, turns_of, IsOf};
@@ -32,6 +32,7 @@ fn hand_held<W: Wait, B: Branch + Drop, K: Keeper + Drop, G: Gate, C: Clock>(
     ensures on { OnOk result ((member : ℕ) (w : Wire) (more : List ℕ)
         → Goes (start_of store.now) (C.may_give clock.now) member Hands Hands
         (known pass.old) w (feed.old.held ++ more) (known pass.new) w (feed.new.held ++ more)) }
+    ensures turns { OnOk result ((known pass.old).drawn ≤ (known pass.new).drawn) }
     ensures ends { IfErr result (λ end. (member : ℕ) (w : Wire) (more : List ℕ)
         → Ends (start_of store.now) (C.may_give clock.now) member (turns_of store.now) Hands
         (known pass.old) w (feed.old.held ++ more) (known pass.new) w end) }
@@ -75,6 +76,7 @@ pub(crate) fn hand<W: Wait, B: Branch + Drop, K: Keeper + Drop, G: Gate, C: Cloc
     ensures on { OnOk result ((member : ℕ) (w : Wire)
         → Goes (start_of store.now) (C.may_give clock.now) member Hands Asks
         (known pass.old) w (feed.old.held ++ piece.now) (known pass.new) w feed.new.held) }
+    ensures turns { OnOk result ((known pass.old).drawn ≤ (known pass.new).drawn) }
     ensures ends { IfErr result (λ end. (member : ℕ) (w : Wire)
         → Ends (start_of store.now) (C.may_give clock.now) member (turns_of store.now) Hands
         (known pass.old) w (feed.old.held ++ piece.now) (known pass.new) w end) }

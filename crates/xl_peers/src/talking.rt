@@ -118,6 +118,7 @@ fn turn<W: Wait, B: Branch + Drop, K: Keeper + Drop, L: Link, G: Gate, C: Clock>
     ensures room { length room.new ≡ LONGEST_FRAME }
     ensures on { OnOk result (Goes (start_of store.now) (C.may_give clock.now) member Asks Asks
         (known pass.old) (L.shows link.old) feed.old.held (known pass.new) (L.shows link.new) feed.new.held) }
+    ensures turn { OnOk result ((known pass.old).drawn < (known pass.new).drawn) }
     ensures ends { IfErr result (λ end.
         Ends (start_of store.now) (C.may_give clock.now) member (turns_of store.now) Asks
         (known pass.old) (L.shows link.old) feed.old.held (known pass.new) (L.shows link.new) end) }

@@ -1,4 +1,4 @@
-use Rattle.std.proofs.Common.{◌≡◌, ℕ, Bool, List, length}
+use Rattle.std.proofs.Common.{◌≡◌, ◌≤◌, ℕ, Bool, List, length}
 use Rattle.xl_wire.specs.declared.lengths.TheConstants.{LONGEST_FRAME}
 use Rattle.xl_turns.specs.Passes.{known}
 use Rattle.xl_store.specs.Stores.{start_of, IsOf}
@@ -13,4 +13,5 @@ invariant-loop g l = record {
   on : (may : ℕ → Bool) (held : List ℕ)
       → Goes (start_of l.store) may l.member Drains Drains (known l.initial.pass) (g.L.Link.shows l.initial.link) held
       (known l.pass) (g.L.Link.shows l.link) held;
+  turns : (known l.initial.pass).drawn ≤ (known l.pass).drawn;
 }

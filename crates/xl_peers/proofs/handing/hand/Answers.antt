@@ -25,6 +25,7 @@ loop-rest-preserved g c = record {
       (subst (λ (l : List ℕ). SoFar start may member k0 w0 Hands (known c.loop-rest.pass) w l) (sym is) before) in
       subst (λ (l : List ℕ). SoFar start may member k0 w0 Hands (known c.hand_held.new.pass) w
       (c.hand_held.new.feed.held ++ l)) (sym (take_rest c.loop-rest.rest.now c.push-count.result)) handed;
+  turns = let one = c.in-Ok.ensures.turns in let before = c.loop-rest.invariant.turns in omega (arith, one, before);
 }
 
 pub loop-rest-smaller : goal.loop-rest-smaller

@@ -1,4 +1,4 @@
-use Rattle.std.proofs.Common.{◌≡◌, ℕ, ◌++◌, length, false}
+use Rattle.std.proofs.Common.{◌≡◌, ◌≤◌, ℕ, ◌++◌, length, false}
 use Rattle.xl_turns.specs.Passes.{known}
 use Rattle.xl_links.specs.Links.{Wire}
 use Rattle.xl_store.specs.Stores.{start_of, IsOf}
@@ -15,6 +15,7 @@ invariant-loop-rest g l = record {
   on : (member : ℕ) (w : Wire)
       → Goes (start_of l.store) (g.C.Clock.may_give l.clock) member Hands Hands (known l.initial.pass) w
       (l.initial.feed.held ++ l.piece) (known l.pass) w (l.feed.held ++ l.rest);
+  turns : (known l.initial.pass).drawn ≤ (known l.pass).drawn;
 }
 
 abbrev pub decreases-loop-rest : goal.decreases-loop-rest

@@ -1,4 +1,4 @@
-use Rattle.std.proofs.Common.{◌≡◌, sym, ap, ◌∙◌, subst}
+use Rattle.std.proofs.Common.{◌≡◌, sym, ap, ◌∙◌, subst, arith}
 use Rattle.xl_turns.specs.Passes.{known}
 use Rattle.xl_wire.specs.Feeding.{Fed}
 use Rattle.xl_store.specs.Stores.{start_of, turns_of}
@@ -20,6 +20,7 @@ loop-preserved g c = record {
       (c.loop.invariant.on member w later k0 w0 s)
       c.frame-answer.new.pass c.next-in-loop.follows.lender-at-none c.in-Frame.frame.now c.now.result _
       c.next-in-loop.follows.holds-at-none c.in-Frame.ensures.answer c.now.ensures.may c.in-Ok.ensures.called;
+  turns = let one = c.in-Ok.ensures.called.later in let before = c.loop.invariant.turns in omega (arith, one, before);
 }
 
 pub returns-in-Err-clause-ends : goal.returns-in-Err-clause-ends

@@ -1,4 +1,4 @@
-use Rattle.std.proofs.Common.{◌≡◌, ℕ, List, ◌++◌, false}
+use Rattle.std.proofs.Common.{◌≡◌, ◌≤◌, ℕ, List, ◌++◌, false}
 use Rattle.xl_turns.specs.Passes.{known}
 use Rattle.xl_links.specs.Links.{Wire}
 use Rattle.xl_store.specs.Stores.{start_of, IsOf}
@@ -13,4 +13,5 @@ invariant-loop g l = record {
   on : (member : ℕ) (w : Wire) (more : List ℕ)
       → Goes (start_of l.store) (g.C.Clock.may_give l.clock) member Hands Hands (known l.initial.pass) w
       (l.initial.feed.held ++ more) (known l.pass) w (l.feed.held ++ more);
+  turns : (known l.initial.pass).drawn ≤ (known l.pass).drawn;
 }
