@@ -1,13 +1,17 @@
 //! `xl`, the agreement layer of the XRP Ledger. Its commands read standard input and write standard output.
 //!
-//! It stands on xl_top, whose `top` says what the program does. Here the words, the streams of the system and the
-//! exit status are those of a process.
+//! It stands on xl_top, whose `top` says what the program does. Here the words, the streams, the network, the clock and
+//! the files of the system, and the exit status, are those of a process.
 #![tactic(auto)]
 
 use std::process::ExitCode;
+use std::sync::Wait;
+use std::thread::Threads;
 use std::{env, io};
 use xl_base::Status;
 use xl_io::{StdSink, StdSource};
+use xl_keep::{FileKeeper, SystemFile};
+use xl_tcp::{SystemClock, TcpHub};
 use xl_top::top;
 
 /// The line on standard error that goes with a status, where one does.
@@ -40,18 +44,68 @@ fn words_of(rt: &HostRuntime) -> Result<Vec<String>, Status> {
     Ok(all)
 }
 
-fn run(rt: &HostRuntime) -> Status {
-    let words = match words_of(rt) {
-        Ok(words) => words,
-        Err(status) => return status,
-    };
+/// What the program finds outside: the words of its command line, and what a node keeps, connects by and tells time by.
+#[derive(Drop)]
+struct Outside {
+    words: Vec<String>,
+    keeper: FileKeeper<SystemFile<HostRuntime>>,
+    hub: TcpHub<HostRuntime>,
+    clock: SystemClock<HostRuntime>,
+}
+
+fn again(rt: &HostRuntime) -> Result<HostRuntime, Status> {
+    rt.clone().map_err(|_| Status::OutOfMemory)
+}
+
+/// The keeper of the file `xl.keep` in the folder in which the program runs.
+fn keeper_of(rt: &HostRuntime) -> Result<FileKeeper<SystemFile<HostRuntime>>, Status> {
+    let file = SystemFile::new(rt.alloc(), again(rt)?, ".", "xl.keep");
+    let file = file.map_err(|_| Status::OutOfMemory)?;
+    FileKeeper::new(rt.alloc(), file).map_err(|_| Status::OutOfMemory)
+}
+
+fn found_by(rt: &HostRuntime) -> Result<Outside, Status> {
+    Ok(Outside {
+        words: words_of(rt)?,
+        keeper: keeper_of(rt)?,
+        hub: TcpHub::new(again(rt)?),
+        clock: SystemClock::new(again(rt)?),
+    })
+}
+
+/// Runs the program over the streams of the system.
+fn run<R: Threads + Wait + Sync>(
+    rt: &HostRuntime,
+    threads: &R,
+    outside: Outside,
+) -> Status {
+    let Outside {
+        words,
+        keeper,
+        hub,
+        clock,
+    } = outside;
+    let mut hub = hub;
     let mut input = StdSource::new(rt.reader());
     let mut output = StdSink::new(io::writer(rt));
-    top(rt.alloc(), &words, &mut input, &mut output)
+    let ended = top(
+        threads,
+        rt.alloc(),
+        &words,
+        &mut input,
+        &mut output,
+        keeper,
+        &mut hub,
+        &clock,
+    );
+    ended.status
 }
 
 fn main(rt: HostRuntime) -> ExitCode {
-    let status = run(&rt);
+    let status = match found_by(&rt) {
+        Ok(outside) => run(&rt, &rt, outside),
+        Err(status) => status,
+    };
     if let Some(line) = complaint(status) {
         // Nothing more can be said where standard error fails.
         let _ = rt.eprintln(line);

@@ -3,6 +3,8 @@ use crate::comparison::{Comparison, compare_front};
 use crate::run::{Run, read_run};
 use std::alloc::{AllocError, Global};
 use std::io;
+use std::sync::Wait;
+use std::thread::Threads;
 use xl_base::Status;
 
 /// Which calls fail.
@@ -39,7 +41,8 @@ enum Turn {
 }
 
 /// The run whose call of this number fails.
-fn fail_one(
+fn fail_one<R: Threads + Wait + Sync>(
+    threads: &R,
     alloc: Global,
     run: &Run,
     piece: usize,
@@ -48,8 +51,8 @@ fn fail_one(
 ) -> Result<Turn, AllocError> {
     let failing = [number].to_vec(alloc)?;
     let ended = match calls {
-        Calls::Reads => run.end(alloc, piece, failing, Vec::new(alloc))?,
-        Calls::Writes => run.end(alloc, piece, Vec::new(alloc), failing)?,
+        Calls::Reads => run.end(threads, alloc, piece, failing, Vec::new(alloc))?,
+        Calls::Writes => run.end(threads, alloc, piece, Vec::new(alloc), failing)?,
     };
     if run.compare(&ended) == Comparison::Same {
         return Ok(Turn::Whole);
@@ -62,14 +65,15 @@ fn fail_one(
 }
 
 /// How many such calls a run makes, where each ends it with its fault as it fails; `None` where one doesn't.
-fn fail_each(
+fn fail_each<R: Threads + Wait + Sync>(
+    threads: &R,
     alloc: Global,
     run: &Run,
     piece: usize,
     calls: Calls,
 ) -> Result<Option<u64>, AllocError> {
     for done in 0..u64::MAX {
-        match fail_one(alloc, run, piece, calls, done + 1)? {
+        match fail_one(threads, alloc, run, piece, calls, done + 1)? {
             Turn::Failed => {}
             Turn::Whole => return Ok(Some(done)),
             Turn::Other => return Ok(None),
@@ -78,18 +82,27 @@ fn fail_each(
     Ok(None)
 }
 
-fn faults_of(alloc: Global, run: &Run, piece: usize) -> Result<Option<Faults>, AllocError> {
-    let Some(reads) = fail_each(alloc, run, piece, Calls::Reads)? else {
+fn faults_of<R: Threads + Wait + Sync>(
+    threads: &R,
+    alloc: Global,
+    run: &Run,
+    piece: usize,
+) -> Result<Option<Faults>, AllocError> {
+    let Some(reads) = fail_each(threads, alloc, run, piece, Calls::Reads)? else {
         return Ok(None);
     };
-    let Some(writes) = fail_each(alloc, run, piece, Calls::Writes)? else {
+    let Some(writes) = fail_each(threads, alloc, run, piece, Calls::Writes)? else {
         return Ok(None);
     };
     Ok(Some(Faults { reads, writes }))
 }
 
 /// The faults of a line of `faults`; `None` where one of the runs ended otherwise, or the line tells of no run.
-pub fn run_with_faults(rt: &HostRuntime, line: &str) -> io::Result<Option<Faults>> {
+pub fn run_with_faults<R: Threads + Wait + Sync>(
+    rt: &HostRuntime,
+    threads: &R,
+    line: &str,
+) -> io::Result<Option<Faults>> {
     let Some((piece, named)) = line.split_once(' ') else {
         return Ok(None);
     };
@@ -97,7 +110,7 @@ pub fn run_with_faults(rt: &HostRuntime, line: &str) -> io::Result<Option<Faults
         return Ok(None);
     };
     match read_run(rt, named)? {
-        Some(run) => Ok(faults_of(rt.alloc(), &run, piece)?),
+        Some(run) => Ok(faults_of(threads, rt.alloc(), &run, piece)?),
         None => Ok(None),
     }
 }

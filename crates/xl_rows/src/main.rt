@@ -16,6 +16,8 @@ mod run;
 use comparison::Comparison;
 use faults::run_with_faults;
 use run::{run_named, run_refused};
+use std::sync::Wait;
+use std::thread::Threads;
 use std::{fs, io};
 
 /// How many runs went as they should, and how many didn't.
@@ -35,10 +37,14 @@ impl Tally {
 }
 
 /// The runs that have a name, each with what became of it.
-fn run_all(rt: &HostRuntime, tally: &mut Tally) -> io::Result<()> {
+fn run_all<R: Threads + Wait + Sync>(
+    rt: &HostRuntime,
+    threads: &R,
+    tally: &mut Tally,
+) -> io::Result<()> {
     let runs = fs::read_to_string(rt, "runs")?;
     for line in runs.as_str().lines() {
-        let comparison = run_named(rt, line)?;
+        let comparison = run_named(rt, threads, line)?;
         println!(rt; "{line}: {comparison}")?;
         tally.count(comparison);
     }
@@ -46,10 +52,14 @@ fn run_all(rt: &HostRuntime, tally: &mut Tally) -> io::Result<()> {
 }
 
 /// The schedules with a refused line, of which only those are printed that didn't go as they should.
-fn refuse_all(rt: &HostRuntime, tally: &mut Tally) -> io::Result<()> {
+fn refuse_all<R: Threads + Wait + Sync>(
+    rt: &HostRuntime,
+    threads: &R,
+    tally: &mut Tally,
+) -> io::Result<()> {
     let refusals = fs::read_to_string(rt, "refusals")?;
     for line in refusals.as_str().lines() {
-        let comparison = run_refused(rt.alloc(), line)?;
+        let comparison = run_refused(threads, rt.alloc(), line)?;
         if comparison != Comparison::Same {
             println!(rt; "{line}: {comparison}")?;
         }
@@ -59,10 +69,14 @@ fn refuse_all(rt: &HostRuntime, tally: &mut Tally) -> io::Result<()> {
 }
 
 /// The runs of which each call fails once.
-fn fail_all(rt: &HostRuntime, tally: &mut Tally) -> io::Result<()> {
+fn fail_all<R: Threads + Wait + Sync>(
+    rt: &HostRuntime,
+    threads: &R,
+    tally: &mut Tally,
+) -> io::Result<()> {
     let lines = fs::read_to_string(rt, "faults")?;
     for line in lines.as_str().lines() {
-        match run_with_faults(rt, line)? {
+        match run_with_faults(rt, threads, line)? {
             Some(faults) => {
                 println!(rt;
                     "{line}: {} reads and {} writes fail",
@@ -81,8 +95,8 @@ fn fail_all(rt: &HostRuntime, tally: &mut Tally) -> io::Result<()> {
 
 fn main(rt: HostRuntime) -> io::Result<()> {
     let mut tally = Tally { same: 0, other: 0 };
-    run_all(&rt, &mut tally)?;
-    refuse_all(&rt, &mut tally)?;
-    fail_all(&rt, &mut tally)?;
+    run_all(&rt, &rt, &mut tally)?;
+    refuse_all(&rt, &rt, &mut tally)?;
+    fail_all(&rt, &rt, &mut tally)?;
     println!(rt; "{} same, {} other", tally.same, tally.other)
 }

@@ -1,9 +1,15 @@
 use crate::comparison::{Comparison, compare};
 use std::alloc::{AllocError, Global};
+use std::sync::Wait;
+use std::thread::Threads;
 use std::{fs, io};
 use xl_base::Status;
-use xl_io::{MemSink, MemSource};
+use xl_io::{MemSink, MemSource, PlainKeeper};
+use xl_links::{MemClock, PlainHub};
 use xl_top::top;
+
+/// The moment at which the clock in memory begins, in milliseconds.
+const BEGINNING: u64 = 1000;
 
 /// Reads and writes are of so few bytes, so that lines are cut anywhere.
 const PIECES: [usize; 2] = [61, 1];
@@ -26,9 +32,10 @@ pub struct Ended {
 
 impl Run {
     /// The program on the input in memory, in pieces of so many bytes, where the reads and the writes of these numbers
-    /// fail.
-    pub fn end(
+    /// fail. Of `node` the keeper, the clock and the links are in memory too; its peers say nothing.
+    pub fn end<R: Threads + Wait + Sync>(
         &self,
+        threads: &R,
         alloc: Global,
         piece: usize,
         reads: Vec<u64>,
@@ -36,14 +43,35 @@ impl Run {
     ) -> Result<Ended, AllocError> {
         let mut input = MemSource::new(self.input.to_vec(alloc)?, piece, reads);
         let mut output = MemSink::new(alloc, piece, writes);
-        let status = top(alloc, &self.words, &mut input, &mut output);
-        Ok(Ended { status, output })
+        let Ok(keeper) = PlainKeeper::new(alloc, 0) else {
+            return Err(AllocError);
+        };
+        let mut hub = PlainHub::new(alloc);
+        let clock = MemClock::new(BEGINNING);
+        let ended = top(
+            threads,
+            alloc,
+            &self.words,
+            &mut input,
+            &mut output,
+            keeper,
+            &mut hub,
+            &clock,
+        );
+        Ok(Ended {
+            status: ended.status,
+            output,
+        })
     }
 
     /// How the run goes without a fault, in pieces of each length.
-    fn go(&self, alloc: Global) -> Result<Comparison, AllocError> {
+    fn go<R: Threads + Wait + Sync>(
+        &self,
+        threads: &R,
+        alloc: Global,
+    ) -> Result<Comparison, AllocError> {
         for piece in PIECES {
-            let ended = self.end(alloc, piece, Vec::new(alloc), Vec::new(alloc))?;
+            let ended = self.end(threads, alloc, piece, Vec::new(alloc), Vec::new(alloc))?;
             let comparison = self.compare(&ended);
             if comparison != Comparison::Same {
                 return Ok(comparison);
@@ -105,9 +133,13 @@ pub fn read_run(rt: &HostRuntime, line: &str) -> io::Result<Option<Run>> {
 }
 
 /// The run of a line of `runs`.
-pub fn run_named(rt: &HostRuntime, line: &str) -> io::Result<Comparison> {
+pub fn run_named<R: Threads + Wait + Sync>(
+    rt: &HostRuntime,
+    threads: &R,
+    line: &str,
+) -> io::Result<Comparison> {
     match read_run(rt, line)? {
-        Some(run) => Ok(run.go(rt.alloc())?),
+        Some(run) => Ok(run.go(threads, rt.alloc())?),
         None => Ok(Comparison::NoRun),
     }
 }
@@ -123,7 +155,11 @@ fn lines_of(alloc: Global, text: &str) -> Result<Vec<u8>, AllocError> {
 }
 
 /// The run of a line of `refusals`.
-pub fn run_refused(alloc: Global, line: &str) -> Result<Comparison, AllocError> {
+pub fn run_refused<R: Threads + Wait + Sync>(
+    threads: &R,
+    alloc: Global,
+    line: &str,
+) -> Result<Comparison, AllocError> {
     let Some((schedule, text)) = line.split_once(" -> ") else {
         return Ok(Comparison::NoRun);
     };
@@ -133,5 +169,5 @@ pub fn run_refused(alloc: Global, line: &str) -> Result<Comparison, AllocError> 
         status: Status::InputRefused.code(),
         text: lines_of(alloc, text)?,
     };
-    run.go(alloc)
+    run.go(threads, alloc)
 }

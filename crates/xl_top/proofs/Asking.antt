@@ -11,7 +11,6 @@ use Rattle.xl_lines.specs.Rules.{Told}
 use Rattle.xl_lines.specs.Running.{TellsAll}
 use Rattle.xl_top.proofs.After.{Whole, Less}
 use Rattle.xl_words.specs.declared.command.Command.{Command}
-use Rattle.xl_words.specs.declared.command.Command.TheVariants.{Replay, Show, Lists, Gen, Help, Version}
 use Rattle.xl_words.specs.declared.command.WordsFault.{WordsFault}
 use Rattle.xl_words.specs.declared.command.WordsFault.TheVariants.{Refused as WordsRefused, Memory as NoMemory}
 
@@ -20,8 +19,8 @@ if_any None P all = tt
 if_any (Some x) P all = all x
 
 -- the command that is asked
-pub by_asked : (o : Option Command) (c : Command) (P : Command → Type 0) → o ≡ Some c → P c → IfSome o P
-by_asked o c P is holds = subst (λ (x : Option Command). IfSome x P) (sym is) holds
+pub by_asked : {X : Type 0} (o : Option X) (c : X) (P : X → Type 0) → o ≡ Some c → P c → IfSome o P
+by_asked {X} o c P is holds = subst (λ (x : Option X). IfSome x P) (sym is) holds
 
 -- nothing is asked where the words are refused
 pub unasked : (o : Option Command) (r : Result Command WordsFault) → r ≡ Err WordsRefused → ((c : Command) → o ≡ Some c → (r ≡ Ok c) ⊎ (r ≡ Err NoMemory)) → o ≡ None
@@ -32,7 +31,7 @@ unasked (Some c) r is given = go (given c refl)
     go (inl ok) = cc
     go (inr memory) = cc
 
-pub by_none : (o : Option Command) (P : Command → Type 0) → o ≡ None → IfSome o P
+pub by_none : {X : Type 0} (o : Option X) (P : X → Type 0) → o ≡ None → IfSome o P
 by_none o P none = rw none tt
 
 -- a command that is asked isn't refused as one
@@ -59,3 +58,11 @@ only_of (Ok v) A B read write = tt
 only_of (Err Read) A B read write = absurd (read refl)
 only_of (Err Write) A B read write = λ a b. absurd (b (write refl))
 only_of (Err Memory) A B read write = λ a b. refl
+
+pub if_more : {X : Type 0} (o : Option X) (P Q : X → Type 0) → ((x : X) → P x → Q x) → IfSome o P → IfSome o Q
+if_more None P Q more holds = tt
+if_more (Some x) P Q more holds = more x holds
+
+pub ok_any : {A E : Type 0} (r : Result A E) (P : A → Type 0) → ((x : A) → P x) → IfOk r P
+ok_any (Ok x) P all = all x
+ok_any (Err e) P all = tt

@@ -1,5 +1,5 @@
 -- What the program does for the words of its command line. Source: this project's own.
-use Rattle.std.specs.Prelude.{◌≡◌, ◌<◌, ℕ, min, List, length, Option, Result, Ok, Err}
+use Rattle.std.specs.Prelude.{◌≡◌, ◌<◌, ℕ, min, List, length, Option, Some, None, Result, Ok, Err, option_and_then}
 use Rattle.xl_base.specs.declared.status.Status.{Status}
 use Rattle.xl_base.specs.declared.status.Status.TheVariants.{Done, Fork, InputRefused, ReadFault, WriteFault, OutOfMemory}
 use Rattle.xl_gen.specs.declared.command.TheConstants.{MOST_ROUNDS}

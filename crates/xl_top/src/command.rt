@@ -1,4 +1,4 @@
-ghost use Rattle.std.specs.Prelude.{◌≡◌, ◌≢◌, ◌≤◌, ◌⊎◌, ℕ, None, IfSome};
+ghost use Rattle.std.specs.Prelude.{◌≡◌, ◌≢◌, ◌≤◌, ◌⊎◌, ℕ, None, Some, Ok, IfSome, IfOk, IfErr, IsErr};
 ghost use Rattle.std.specs.Io.KnownBytes.{IsAtEnd};
 ghost use Rattle.xl_base.specs.Faults.{Rose};
 ghost use Rattle.xl_gen.specs.Summaries.{IsSummary};
@@ -8,41 +8,62 @@ ghost use Rattle.xl_lines.specs.Running.{TellsAll};
 ghost use Rattle.xl_replay.specs.Headlines.{names_of, IsReport, IsRefusal, AddsReport};
 ghost use Rattle.xl_replay.specs.Replays.{report_of};
 ghost use Rattle.xl_replay.specs.Statuses.{IsTold, IsWritten, status_of};
-ghost use Rattle.xl_top.specs.Commands.{asked_of, told_by, IsReader, HasText};
+ghost use Rattle.xl_top.specs.Commands.{asked_of, told_of, told_by, IsReader, HasText};
+ghost use Rattle.xl_settings.specs.declared.settings.Settings.{Settings as TheSettings};
+ghost use Rattle.xl_settings.specs.Lines.{refusal_line};
+ghost use Rattle.xl_settings.specs.Settings.{settings_of};
+ghost use Rattle.xl_validator.specs.Validators.{HasRun, IsRefused, IsUnopened, between};
 ghost use Rattle.xl_words.specs.Commands.{words_of};
 
 use crate::running::run;
 use std::alloc::Global;
+use std::sync::Wait;
+use std::thread::Threads;
 use xl_base::Status;
-use xl_io::{Sink, Source};
-use xl_words::{Command, WordsFault};
+use xl_io::{Keeper, Sink, Source};
+use xl_links::{Clock, Hub};
+use xl_validator::{Ended, validator};
+use xl_words::{Command, Telling, WordsFault};
 
 /// The program: what the words of the command line ask is read from the input and written to the output.
 ///
-/// The words begin with the program's name. They may ask for `replay`, `show`, `lists` or `gen`, for help, or for the version.
-pub fn top<I: Source, O: Sink>(
+/// The words begin with the program's name. They may ask for `replay`, `node`, `show`, `lists` or `gen`, for help, or for
+/// the version. Keeper, hub and clock are those of `node`. The keeper comes back, and so does the journal of the node's
+/// store, where one was opened.
+pub fn top<
+    W: Threads + Wait + Sync,
+    I: Source,
+    O: Sink + Send,
+    K: Keeper + Drop + Send,
+    H: Hub,
+    C: Clock + Sync,
+>(
+    rt: &W,
     alloc: Global,
     words: &[String],
     input: &mut I,
     output: &mut O,
-) -> Status
+    keeper: K,
+    hub: &mut H,
+    clock: &C,
+) -> Ended<K>
     // Words that ask nothing are refused, and only they, and then nothing is read or written.
-    ensures words { result ≡ Status.WordsRefused → asked_of (words_of words.now) ≡ None }
+    ensures words { result.status ≡ Status.WordsRefused → asked_of (words_of words.now) ≡ None }
     ensures unasked { asked_of (words_of words.now) ≡ None
-        → (result ≡ Status.WordsRefused) ⊎ (result ≡ Status.OutOfMemory) }
-    ensures unread { result ≡ Status.WordsRefused → input.new ≡ input.old }
-    ensures unwritten { result ≡ Status.WordsRefused → output.new ≡ output.old }
+        → (result.status ≡ Status.WordsRefused) ⊎ (result.status ≡ Status.OutOfMemory) }
+    ensures unread { result.status ≡ Status.WordsRefused → input.new ≡ input.old }
+    ensures unwritten { result.status ≡ Status.WordsRefused → output.new ≡ output.old }
 
-    // The whole text of the command is written, and it says what the status says.
-    ensures done { result ≡ Status.Done → IfSome (asked_of (words_of words.now)) (λ command.
+    // Of the commands that write a text: the whole text is written, and it says what the status says.
+    ensures done { result.status ≡ Status.Done → IfSome (told_of (words_of words.now)) (λ telling.
         IfSome (I.left input.old) (λ bytes.
-        TellsAll (O.held output.old) (O.held output.new) Good (told_by command bytes))) }
-    ensures fork { result ≡ Status.Fork → IfSome (asked_of (words_of words.now)) (λ command.
+        TellsAll (O.held output.old) (O.held output.new) Good (told_by telling bytes))) }
+    ensures fork { result.status ≡ Status.Fork → IfSome (told_of (words_of words.now)) (λ telling.
         IfSome (I.left input.old) (λ bytes.
-        TellsAll (O.held output.old) (O.held output.new) Found (told_by command bytes))) }
-    ensures refused { result ≡ Status.InputRefused → IfSome (asked_of (words_of words.now)) (λ command.
+        TellsAll (O.held output.old) (O.held output.new) Found (told_by telling bytes))) }
+    ensures refused { result.status ≡ Status.InputRefused → IfSome (told_of (words_of words.now)) (λ telling.
         IfSome (I.left input.old) (λ bytes.
-        TellsAll (O.held output.old) (O.held output.new) Refused (told_by command bytes))) }
+        TellsAll (O.held output.old) (O.held output.new) Refused (told_by telling bytes))) }
     // Unless a line is refused, the report of a replay is lines in which, where it says `forged 0`, no two `full` lines
     // of a pair with no `short` line share a sequence and stand for different ids, by the names that the schedule
     // declares. The last of them says whether the reports that the `full` lines tell agree, or names the first fork.
@@ -56,36 +77,57 @@ pub fn top<I: Source, O: Sink>(
     ensures summaries { (rounds : ℕ) → IsSummary rounds }
     // However a replay ends, where the line `forged 0` was written, so were all `full` and `short` lines of such a
     // report.
-    ensures as_written { IfSome (asked_of (words_of words.now)) (λ command. command ≡ Command.Replay
+    ensures as_written { IfSome (told_of (words_of words.now)) (λ telling. telling ≡ Telling.Replay
         → IfSome (I.left input.old) (λ bytes.
         AddsReport (names_of bytes) (O.held output.old) (O.held output.new) (report_of bytes))) }
     // Unless something is refused, the input was read to its end, where the command reads one.
-    ensures at_end { (result ≡ Status.Done) ⊎ (result ≡ Status.Fork) → IfSome (asked_of (words_of words.now))
-        (λ command. IsReader command → IsAtEnd (I.left input.new)) }
+    ensures at_end { (result.status ≡ Status.Done) ⊎ (result.status ≡ Status.Fork) → IfSome (told_of (words_of words.now))
+        (λ telling. IsReader telling → IsAtEnd (I.left input.new)) }
     // A front of the text is written, whatever happens.
-    ensures front { IfSome (asked_of (words_of words.now)) (λ command. IfSome (I.left input.old) (λ bytes.
-        GrewByFront (O.held output.old) (O.held output.new) (told_by command bytes).text)) }
+    ensures front { IfSome (told_of (words_of words.now)) (λ telling. IfSome (I.left input.old) (λ bytes.
+        GrewByFront (O.held output.old) (O.held output.new) (told_by telling bytes).text)) }
 
     // A fault is answered only where its count rose, and where neither did the whole text is written, or memory was
     // wanting.
-    ensures read { result ≡ Status.ReadFault → Rose (I.faults input.old) (I.faults input.new) }
-    ensures write { result ≡ Status.WriteFault → Rose (O.faults output.old) (O.faults output.new) }
-    ensures complete { IfSome (asked_of (words_of words.now)) (λ _.
+    ensures read { result.status ≡ Status.ReadFault → Rose (I.faults input.old) (I.faults input.new) }
+    ensures write { result.status ≡ Status.WriteFault → Rose (O.faults output.old) (O.faults output.new) }
+    ensures complete { IfSome (told_of (words_of words.now)) (λ _.
         ¬ Rose (I.faults input.old) (I.faults input.new) → ¬ Rose (O.faults output.old) (O.faults output.new)
-        → IsTold result ⊎ (result ≡ Status.OutOfMemory)) }
+        → IsTold result.status ⊎ (result.status ≡ Status.OutOfMemory)) }
     // Where a whole text is written that isn't empty, the status is the one of its end, or memory was wanting.
-    ensures whole { IfSome (asked_of (words_of words.now)) (λ command. IfSome (I.left input.old) (λ bytes.
-        HasText command (told_by command bytes).text
-        → IsWritten (O.held output.old) (O.held output.new) (told_by command bytes).text
-        → (result ≡ status_of (told_by command bytes).verdict) ⊎ (result ≡ Status.OutOfMemory))) }
-    // No keeper, link or store is there to fail.
-    ensures keeper { result ≡ Status.KeepFault → ⊥ }
-    ensures net { result ≡ Status.NetFault → ⊥ }
-    ensures store { result ≡ Status.StoreFull → ⊥ }
+    ensures whole { IfSome (told_of (words_of words.now)) (λ telling. IfSome (I.left input.old) (λ bytes.
+        HasText telling (told_by telling bytes).text
+        → IsWritten (O.held output.old) (O.held output.new) (told_by telling bytes).text
+        → (result.status ≡ status_of (told_by telling bytes).verdict) ⊎ (result.status ≡ Status.OutOfMemory))) }
+    // Of `node`: refused settings open no store, and of their line a front is written.
+    ensures node_refused { asked_of (words_of words.now) ≡ Some Command.Node → IfSome (I.left input.old) (λ bytes.
+        IfErr (settings_of bytes) (λ refusal. (result.journal ≡ None)
+        × IsRefused (refusal_line refusal) result.status (O.held output.old) (O.held output.new))) }
+    // Other settings run a node, or nothing is written.
+    ensures node_ran { IfSome result.journal (λ history. (asked_of (words_of words.now) ≡ Some Command.Node)
+        × (settings : TheSettings)
+        × IfSome (I.left input.old) (λ bytes. settings_of bytes ≡ Ok settings)
+        × HasRun K.held K.saves K.faults K.save_gives settings (C.may_give clock.now) (H.gives hub.old)
+        (between (H.faults hub.old) (H.faults hub.new)
+        (O.held output.old) (O.faults output.old) (O.held output.new) (O.faults output.new))
+        keeper result.keeper result.status history) }
+    ensures node_unopened { asked_of (words_of words.now) ≡ Some Command.Node → IfSome (I.left input.old) (λ bytes.
+        IfOk (settings_of bytes) (λ _. result.journal ≡ None → output.new ≡ output.old)) }
+    ensures node_opened { asked_of (words_of words.now) ≡ Some Command.Node → result.journal ≡ None
+        → IsUnopened result.status }
+    ensures node_input { asked_of (words_of words.now) ≡ Some Command.Node → result.status ≡ Status.InputRefused
+        → IfSome (I.left input.old) (λ bytes. IsErr (settings_of bytes)) }
+    // Every other command leaves keeper and hub.
+    ensures others { asked_of (words_of words.now) ≢ Some Command.Node
+        → (result.keeper ≡ keeper) × (hub.new ≡ hub.old) × (result.journal ≡ None) }
+    ensures keeper { result.status ≡ Status.KeepFault → Rose (K.faults keeper) (K.faults result.keeper) }
+    ensures net { result.status ≡ Status.NetFault → Rose (H.faults hub.old) (H.faults hub.new) }
+    ensures store { result.status ≡ Status.StoreFull → asked_of (words_of words.now) ≡ Some Command.Node }
 {
     match Command::of(alloc, words) {
-        Ok(command) => run(alloc, command, input, output),
-        Err(WordsFault::Refused) => Status::WordsRefused,
-        Err(WordsFault::Memory) => Status::OutOfMemory,
+        Ok(Command::Tell(telling)) => Ended::unopened(run(alloc, telling, input, output), keeper),
+        Ok(Command::Node) => validator(rt, alloc, input, output, keeper, hub, clock),
+        Err(WordsFault::Refused) => Ended::unopened(Status::WordsRefused, keeper),
+        Err(WordsFault::Memory) => Ended::unopened(Status::OutOfMemory, keeper),
     }
 }

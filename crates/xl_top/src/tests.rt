@@ -1,8 +1,11 @@
 use super::*;
 use std::alloc::Global;
+use std::sync::Wait;
 use std::test::Fail;
+use std::thread::Threads;
 use xl_base::Status;
-use xl_io::{MemSink, MemSource};
+use xl_io::{MemKeeper, MemSink, MemSource};
+use xl_links::{MemClock, MemHub, PlainLink};
 
 fn words(alloc: Global, all: &[&str]) -> Result<Vec<String>, Fail> {
     let mut words = Vec::new(alloc);
@@ -12,43 +15,79 @@ fn words(alloc: Global, all: &[&str]) -> Result<Vec<String>, Fail> {
     Ok(words)
 }
 
+/// The calls of the outside that are to fail, by their numbers from 1 on.
+#[derive(Clone, Copy)]
+struct Failing<'a> {
+    reads: &'a [u64],
+    writes: &'a [u64],
+    loads: &'a [u64],
+    links: &'a [u64],
+}
+
+const NONE: Failing<'static> = Failing {
+    reads: &[],
+    writes: &[],
+    loads: &[],
+    links: &[],
+};
+
+/// How the program ends over an input, where these calls fail.
+fn end<R: Threads + Wait + Sync>(
+    rt: &R,
+    alloc: Global,
+    command: &str,
+    input: &str,
+    failing: Failing<'_>,
+) -> Result<Status, Fail> {
+    let words = words(alloc, &["xl", command])?;
+    let mut input = MemSource::new(input.as_bytes().to_vec(alloc)?, 5, failing.reads.to_vec(alloc)?);
+    let mut output = MemSink::new(alloc, 5, failing.writes.to_vec(alloc)?);
+    let keeper = MemKeeper::new(alloc, 0, failing.loads.to_vec(alloc)?, Vec::new(alloc))?;
+    let mut hub: MemHub<PlainLink> = MemHub::new(Vec::new(alloc), failing.links.to_vec(alloc)?);
+    let clock = MemClock::new(1000);
+    let ended = top(
+        rt,
+        alloc,
+        &words,
+        &mut input,
+        &mut output,
+        keeper,
+        &mut hub,
+        &clock,
+    );
+    Ok(ended.status)
+}
+
 #[test]
 fn refuses_other_words(rt: HostRuntime) -> Result<(), Fail> {
-    let alloc = rt.alloc();
-    let words = words(alloc, &["xl", "Replay"])?;
-    let mut input = MemSource::new(b"xl-schedule 1\n".to_vec(alloc)?, 1, Vec::new(alloc));
-    let mut output = MemSink::new(alloc, 1, Vec::new(alloc));
-    assert!(rt; top(alloc, &words, &mut input, &mut output) == Status::WordsRefused);
-    Ok(())
-}
-
-/// The calls of the source and of the sink that fail, and how the run ends.
-#[test]
-fn names_the_fault(rt: HostRuntime) -> Result<(), Fail> {
-    let alloc = rt.alloc();
-    let cases: [(&[u64], &[u64], Status); 2] = [
-        (&[1], &[], Status::ReadFault),
-        (&[], &[1], Status::WriteFault),
-    ];
-    for command in ["replay", "show", "lists"] {
-        let words = words(alloc, &["xl", command])?;
-        for (reads, writes, end) in cases {
-            let mut input = MemSource::new(b"x".to_vec(alloc)?, 5, reads.to_vec(alloc)?);
-            let mut output = MemSink::new(alloc, 5, writes.to_vec(alloc)?);
-            assert!(rt; top(alloc, &words, &mut input, &mut output) == end);
-        }
-    }
+    assert!(rt; end(&rt, rt.alloc(), "Replay", "xl-schedule 1\n", NONE)? == Status::WordsRefused);
     Ok(())
 }
 
 #[test]
-fn tells_the_version_unless_the_write_fails(rt: HostRuntime) -> Result<(), Fail> {
-    let alloc = rt.alloc();
-    let words = words(alloc, &["xl", "--version"])?;
-    for (writes, end) in [(0, Status::Done), (2, Status::WriteFault)] {
-        let mut input = MemSource::new(Vec::new(alloc), 1, [1].to_vec(alloc)?);
-        let mut output = MemSink::new(alloc, 5, [writes].to_vec(alloc)?);
-        assert!(rt; top(alloc, &words, &mut input, &mut output) == end);
+fn names_the_fault_of_a_stream(rt: HostRuntime) -> Result<(), Fail> {
+    let no_read = Failing { reads: &[1], ..NONE };
+    let no_write = Failing { writes: &[1], ..NONE };
+    for command in ["replay", "show", "lists", "node"] {
+        assert!(rt; end(&rt, rt.alloc(), command, "x", no_read)? == Status::ReadFault);
+        assert!(rt; end(&rt, rt.alloc(), command, "x", no_write)? == Status::WriteFault);
     }
+    assert!(rt; end(&rt, rt.alloc(), "--version", "", no_read)? == Status::Done);
+    assert!(rt; end(&rt, rt.alloc(), "--version", "", no_write)? == Status::WriteFault);
+    Ok(())
+}
+
+const ALONE: &str = "me = 1\nlist = [1]\nquorum = 1\nrun_ms = 20000\n";
+
+const WITH_A_PEER: &str = "me = 1\nlist = [1]\nquorum = 1\n[[peer]]\nnumber = 2\ndial = \"192.0.2.1:5005\"\n\
+    key = \"00000000000000000000000000000000000000000000000000000000000000ff\"\n";
+
+#[test]
+fn names_the_fault_of_a_node(rt: HostRuntime) -> Result<(), Fail> {
+    let no_load = Failing { loads: &[1], ..NONE };
+    let no_link = Failing { links: &[1], ..NONE };
+    assert!(rt; end(&rt, rt.alloc(), "node", ALONE, no_load)? == Status::KeepFault);
+    assert!(rt; end(&rt, rt.alloc(), "node", WITH_A_PEER, no_link)? == Status::NetFault);
+    assert!(rt; end(&rt, rt.alloc(), "node", ALONE, NONE)? == Status::Done);
     Ok(())
 }

@@ -2,3 +2,4 @@ pub mod Sharing
 pub mod Listing
 pub mod Opening
 pub mod Causes
+pub mod Refusing

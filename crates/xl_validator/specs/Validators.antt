@@ -86,3 +86,12 @@ IsOfNode status.WordsRefused = ⊥
 IsOfNode status.InputRefused = ⊥
 IsOfNode status.ReadFault = ⊥
 IsOfNode other = Unit {0}
+
+-- a status of this command where no store was opened
+abbrev pub IsUnopened : Status → Type 0
+IsUnopened status.Done = ⊥
+IsUnopened status.Fork = ⊥
+IsUnopened status.WordsRefused = ⊥
+IsUnopened status.NetFault = ⊥
+IsUnopened status.StoreFull = ⊥
+IsUnopened other = Unit {0}

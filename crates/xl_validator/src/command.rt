@@ -5,7 +5,7 @@ ghost use Rattle.xl_settings.specs.Lines.{refusal_line};
 ghost use Rattle.xl_settings.specs.Runnable.{AreRunnable};
 ghost use Rattle.xl_settings.specs.Settings.{settings_of};
 ghost use Rattle.xl_validator.specs.Preparing.{IsReady, task_in};
-ghost use Rattle.xl_validator.specs.Validators.{Goes, HasRun, IsRefused, IsKnown, IsOfNode, between};
+ghost use Rattle.xl_validator.specs.Validators.{Goes, HasRun, IsRefused, IsKnown, IsOfNode, IsUnopened, between};
 
 use crate::ended::Ended;
 use crate::preparing::{Prepared, prepare};
@@ -48,6 +48,7 @@ fn run<W: Threads + Wait + Sync, O: Sink + Send, K: Keeper + Drop + Send, H: Hub
         (O.held output.old) (O.faults output.old) (O.held output.new) (O.faults output.new))
         keeper result.keeper result.status history) }
     ensures unopened { result.journal ≡ None → output.new ≡ output.old }
+    ensures opened { result.journal ≡ None → IsUnopened result.status }
     ensures known { IsOfNode result.status }
     ensures write { result.status ≡ Status.WriteFault → Rose (O.faults output.old) (O.faults output.new) }
     ensures keeper { result.status ≢ Status.KeepFault }
@@ -81,6 +82,7 @@ fn start<W: Threads + Wait + Sync, O: Sink + Send, K: Keeper + Drop + Send, H: H
         (O.held output.old) (O.faults output.old) (O.held output.new) (O.faults output.new))
         keeper result.keeper result.status history) }
     ensures unopened { result.journal ≡ None → output.new ≡ output.old }
+    ensures opened { result.journal ≡ None → IsUnopened result.status }
     ensures known { IsOfNode result.status }
     ensures write { result.status ≡ Status.WriteFault → Rose (O.faults output.old) (O.faults output.new) }
     ensures keeper { result.status ≡ Status.KeepFault → Rose (K.faults keeper) (K.faults result.keeper) }
@@ -131,7 +133,8 @@ pub fn validator<
         keeper result.keeper result.status history) }
     ensures unopened { IfSome (I.left input.old) (λ bytes. IfOk (settings_of bytes) (λ _.
         result.journal ≡ None → output.new ≡ output.old)) }
-    // Each status has its cause.
+    // Each status has its cause. An end by time, a failed network and a spent store are those of a node that ran.
+    ensures opened { result.journal ≡ None → IsUnopened result.status }
     ensures known { IsKnown result.status }
     ensures input { result.status ≡ Status.InputRefused
         → IfSome (I.left input.old) (λ bytes. IsErr (settings_of bytes)) }
