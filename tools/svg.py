@@ -11,7 +11,8 @@ FONT = ('text{font:12px system-ui,"Segoe UI",Roboto,"Helvetica Neue",Arial,"Deja
         '.bold{font-weight:600}.large{font-size:16px}'
         '.halo{paint-order:stroke;stroke-width:4px;stroke-linejoin:round}'
         '.line{fill:none;stroke-width:1.5}.wide{stroke-width:2.5}')
-NARROW, PLAIN, BOLD = 6.3, 6.8, 10.4      # estimated widths of a letter: small labels, plain lines, large bold lines
+# estimated widths of a letter: in plain labels, in bold ones, in plain lines, and in large bold lines
+NARROW, STRONG, PLAIN, BOLD = 6.3, 7.6, 6.8, 10.2
 
 
 def rules(colours):
@@ -39,6 +40,11 @@ def page(width, height, scheme, title, description, parts):
 
 def text(x, y, words, kind='ink', anchor='start'):
     return '<text x="%.1f" y="%.1f" class="%s" text-anchor="%s">%s</text>' % (x, y, kind, anchor, escape(words))
+
+
+def width_of(parts):
+    """The estimated width of a line of pairs of words and kind."""
+    return sum((len(words) + 2) * (STRONG if 'bold' in kind else NARROW) for words, kind in parts)
 
 
 def spans(x, y, parts, anchor):
