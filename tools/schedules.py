@@ -259,12 +259,11 @@ class Strangers:
     to everybody behind those of the event, so that there surely is a frame at each place that is looked at."""
 
     def __init__(self, feed, network, taken):
+        self.feed, self.network, self.said, self.places = feed, network, 0, {}
         free = [number for number in NUMBERS if number not in taken]
-        self.feed, self.network = feed, network
-        self.numbers = free[:0:-1][:len(network.nodes) + len(network.liars) + 3][::-1]
-        self.said, self.places = 0, {}
+        self.numbers = free[-(len(network.nodes) + len(network.liars) + 3):]
         if len(self.numbers) < 3:
-            raise Unfollowed('a schedule with timers, transactions or greetings can be followed where four of the 64 numbers are unused')
+            raise Unfollowed('where there are timers, transactions or greetings, three of the 64 numbers must be on no list and unused')
         self.caller = self.numbers[0]
         for number in self.numbers:
             feed.write('node %d 1 %d' % (number, self.numbers[1] if number == self.caller else number))
