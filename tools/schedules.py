@@ -88,11 +88,11 @@ class Report:
         self.last_line = int(self.bad[0]) - 1 if self.bad else None
 
 
-def run_replay(program, text, seconds=None):
+def run_replay(program, text, seconds=None, command='replay'):
     """Runs the text whole. A run that takes too long has no status."""
     words = dict(input=text.encode('latin-1'), stdout=subprocess.PIPE, stderr=subprocess.DEVNULL, timeout=seconds)
     try:
-        ended = subprocess.run([program, 'replay'], **words)
+        ended = subprocess.run([program, command], **words)
     except subprocess.TimeoutExpired:
         return Report(None, '')
     except OSError as error:
@@ -236,6 +236,8 @@ class Feed:
         told = []
         while answers:
             words = self.process.stdout.readline().decode('latin-1').split()
+            if words[:1] == ['bad'] and words[2:3] == ['35']:
+                raise Unfollowed('it has too many events to be taken one by one; tools/shrink makes it smaller')
             if not words or words[0] == 'bad':
                 raise Unfollowed('the schedule can\'t be followed; the program ended with: %s' % ' '.join(words or ['nothing']))
             answers -= words[0] == 'preferred'
@@ -255,29 +257,32 @@ class Feed:
 class Strangers:
     """Nodes of the feed that stand on no list, by which it is found how many frames an event sent.
 
-    A frame to one of them is refused, and the refusal names its sender and its receiver. The first one, the caller, sends frames
-    to everybody behind those of the event, so that there surely is a frame at each place that is looked at."""
+    A frame to one of them is refused, since it trusts an undeclared number alone, and the refusal names its sender and its receiver.
+    They also send frames to everybody, each of them once, behind those of the event, so that there surely is a frame at each place
+    that is looked at, and another one for each number of frames that the event may have sent."""
 
     def __init__(self, feed, network, taken):
         self.feed, self.network, self.said, self.places = feed, network, 0, {}
         free = [number for number in NUMBERS if number not in taken]
-        self.numbers = free[-(len(network.nodes) + len(network.liars) + 3):]
+        trusted, *self.numbers = free[-(len(network.nodes) + len(network.liars) + 4):] or [None]
         if len(self.numbers) < 3:
-            raise Unfollowed('where there are timers, transactions or greetings, three of the 64 numbers must be on no list and unused')
-        self.caller = self.numbers[0]
+            raise Unfollowed('where there are timers, transactions or greetings, four of the 64 numbers must be on no list and unused')
         for number in self.numbers:
-            feed.write('node %d 1 %d' % (number, self.numbers[1] if number == self.caller else number))
+            feed.write('node %d 1 %d' % (number, trusted))
 
     def all_others(self, number):
         return sorted(set(self.network.others(number)) | set(self.numbers) - {number})
+
+    def caller(self, call):
+        return self.numbers[call % len(self.numbers)]
 
     def at(self, sender, frames, place):
         """Who sent the frame at this place, and to whom, where the event sent so many frames to each."""
         others = self.all_others(sender)
         if place <= frames * len(others):
             return sender, others[(place - 1) // frames]
-        rest = (place - 1 - frames * len(others)) % len(others)
-        return self.caller, self.all_others(self.caller)[rest]
+        call, rest = divmod(place - 1 - frames * len(others), len(others))
+        return self.caller(call), self.all_others(self.caller(call))[rest]
 
     def place(self, sender, counts):
         """A place where a frame to a stranger stands, another one for each of the counts."""
@@ -288,7 +293,7 @@ class Strangers:
                     self.places[sender, counts] = place, dict(zip(ends, counts))
                     break
             else:
-                raise Unfollowed('the schedule declares too many numbers to follow its timers')
+                raise Unfollowed('it declares too many numbers for its timers to be followed')
         return self.places[sender, counts]
 
     def count(self, sender, sent, counts):
@@ -296,9 +301,9 @@ class Strangers:
         place, meant = self.place(sender, counts)
         each = len(self.all_others(sender))
         calls = max(0, -(-(place - counts[0] * each) // each))
-        for _ in range(calls):
+        for call in range(calls):
             self.said += 1
-            self.feed.happen('issue %d %d root partial' % (self.caller, self.said))
+            self.feed.happen('issue %d %d root partial' % (self.caller(call), self.said))
         told = self.feed.happen('deliver %d' % (sent + place))
         end = (int(told[0][4]), int(told[0][2])) if told and told[0][0] == 'refused' and told[0][3] == '9' else None
         if end not in meant:
