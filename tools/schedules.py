@@ -1,4 +1,4 @@
-"""What the tools know of schedules: their lines, how the program is run, what came of each event, and which frames it sent."""
+"""What the tools know of schedules: their lines, what came of each event, and which frames it sent."""
 import hashlib
 import os
 import re
@@ -24,7 +24,7 @@ def stop(why):
 
 
 def find_program(given):
-    """The program that is given, else the one that XL names, else the repository's own, which is built first where it must."""
+    """The program that is given, else the one that XL names, else the repository's own, built first where it must."""
     script = os.path.join(TOP, 'xl')
     path = given or os.environ.get('XL') or script
     if os.path.realpath(path) == script:
@@ -38,7 +38,9 @@ def find_program(given):
 
 
 def add_program_option(parser):
-    parser.add_argument('--xl', metavar='PROGRAM', help='the program to run (else what XL names, else the repository\'s own)')
+    parser.add_argument(
+        '--xl', metavar='PROGRAM', help='the program to run (else what XL names, else the repository\'s own)'
+    )
 
 
 def read_text(path):
@@ -167,13 +169,16 @@ class Names:
 
 def ledger_id(sequence, parent, parents_close, close):
     """The id of the ledger that a `ledger` line declares: the half hash of its header."""
-    header = struct.pack('>IQ32s64xIIBB', sequence, 10 ** 17, parent, parents_close, close, 30, 0)
+    header = struct.pack('>IQ32s64xIIBB', sequence, 10**17, parent, parents_close, close, 30, 0)
     return hashlib.sha512(b'LWR\0' + header).hexdigest()[:64]
 
 
 @dataclass
 class Frame:
-    """A sent frame: `nth` counts the frames of its event to the same receiver, from 0, and `fed` is its number in the feed."""
+    """A sent frame.
+
+    `nth` counts the frames of its event to the same receiver, from 0, and `fed` is the frame's number in the feed."""
+
     sender: int
     receiver: int
     event: int
@@ -185,6 +190,7 @@ class Frame:
 @dataclass
 class Event:
     """One event at one node, with what came of it. `frame` is the number of the delivered one."""
+
     index: int
     line: int
     tokens: list
@@ -208,7 +214,8 @@ class Event:
 class Feed:
     """A replay that is handed line after line, and gives back what came of each event.
 
-    Behind each event a question is put, which changes nothing: its answer says that all outcomes of the event are there."""
+    Behind each event a question is put, which changes nothing: its answer says that all outcomes are there.
+    """
 
     def __init__(self, program):
         self.asked = None
@@ -239,7 +246,9 @@ class Feed:
             if words[:1] == ['bad'] and words[2:3] == ['35']:
                 raise Unfollowed('it has too many events to be taken one by one; tools/shrink makes it smaller')
             if not words or words[0] == 'bad':
-                raise Unfollowed('the schedule can\'t be followed; the program ended with: %s' % ' '.join(words or ['nothing']))
+                raise Unfollowed(
+                    'the schedule can\'t be followed; the program ended with: %s' % ' '.join(words or ['nothing'])
+                )
             answers -= words[0] == 'preferred'
             told.append(words)
         return told[:-1]
@@ -257,16 +266,18 @@ class Feed:
 class Strangers:
     """Nodes of the feed that stand on no list, by which it is found how many frames an event sent.
 
-    A frame to one of them is refused, since it trusts an undeclared number alone, and the refusal names its sender and its receiver.
-    They also send frames to everybody, each of them once, behind those of the event, so that there surely is a frame at each place
-    that is looked at, and another one for each number of frames that the event may have sent."""
+    A frame to one of them is refused, since it trusts an undeclared number alone, and the refusal names its sender and
+    its receiver. They also send frames to everybody, one after the other, behind those of the event: so there surely is
+    a frame at the place that is looked at, and another one for each number of frames that the event may have sent."""
 
     def __init__(self, feed, network, taken):
         self.feed, self.network, self.said, self.places = feed, network, 0, {}
         free = [number for number in NUMBERS if number not in taken]
-        trusted, *self.numbers = free[-(len(network.nodes) + len(network.liars) + 4):] or [None]
+        trusted, *self.numbers = free[-(len(network.nodes) + len(network.liars) + 4) :] or [None]
         if len(self.numbers) < 3:
-            raise Unfollowed('where there are timers, transactions or greetings, four of the 64 numbers must be on no list and unused')
+            raise Unfollowed(
+                'for timers, transactions and greetings four of the 64 numbers must be undeclared and on no list'
+            )
         for number in self.numbers:
             feed.write('node %d 1 %d' % (number, trusted))
 
@@ -440,7 +451,7 @@ class Story:
         self.title = first_comment(lines)
         follower = Follower(program, has_rounds(lines))
         try:
-            for line, words in enumerate(lines[:self.report.last_line], 1):
+            for line, words in enumerate(lines[: self.report.last_line], 1):
                 if not is_passed_over(words.split()):
                     follower.take(line, words, words.split())
         except Unfollowed as why:
