@@ -1,0 +1,503 @@
+"""What the tools know of schedules: their lines, what came of each event, and which frames it sent."""
+import hashlib
+import os
+import re
+import shutil
+import struct
+import subprocess
+import sys
+from dataclasses import dataclass, field
+
+TOP = os.path.dirname(os.path.dirname(os.path.realpath(__file__)))
+NUMBERS = range(1, 65)
+ENDINGS = ('short', 'forged', 'agree', 'fork')
+NEVER_SAVED = ('30', '31', '32')
+DECLARATIONS = ('xl-schedule', 'node', 'liar', 'limit', 'at', 'name', 'ledger')
+ROUND_WORDS = ('timer', 'timers', 'submit', 'greet')
+PROBLEMS = {2: 'words refused', 4: 'input failed', 5: 'output failed', 6: 'out of memory'}
+
+
+def stop(why):
+    """Ends the tool with its name, the cause, and status 2."""
+    print('%s: %s' % (os.path.basename(sys.argv[0]), why), file=sys.stderr)
+    sys.exit(2)
+
+
+def find_program(given):
+    """The program that is given, else the one that XL names, else the repository's own, built first where it must."""
+    script = os.path.join(TOP, 'xl')
+    path = given or os.environ.get('XL') or script
+    if os.path.realpath(path) == script:
+        if subprocess.run([script, '--version'], stdin=subprocess.DEVNULL, stdout=subprocess.DEVNULL).returncode:
+            stop('the program could not be built; run ./xl --version to see why')
+        return os.path.join(TOP, 'crates', 'xl_node', 'out', 'xl_node')
+    found = shutil.which(path)
+    if not found:
+        stop('%s is no program that can be run; name one by --xl, or by XL in the environment' % path)
+    return found
+
+
+def add_program_option(parser):
+    parser.add_argument(
+        '--xl', metavar='PROGRAM', help='the program to run (else what XL names, else the repository\'s own)'
+    )
+
+
+def read_text(path):
+    """The bytes of the file, or of standard input for `-`, each as one character."""
+    try:
+        if path == '-':
+            return sys.stdin.buffer.read().decode('latin-1')
+        with open(path, encoding='latin-1', newline='') as file:
+            return file.read()
+    except OSError as error:
+        stop('%s can\'t be read: %s' % (path, error.strerror))
+
+
+def read_lines(text):
+    """The lines of a schedule, without their ends."""
+    return [line.rstrip('\r') for line in re.sub(r'\n\Z', '', text).split('\n')]
+
+
+def is_passed_over(tokens):
+    return not tokens or tokens[0].startswith('#')
+
+
+def inner_event(tokens):
+    """The tokens of the event itself, also where `cut old` and the like stand before it."""
+    return tokens[2:] if tokens[:1] in (['cut'], ['fail']) else tokens
+
+
+def has_rounds(lines):
+    """Whether events may send other frames than a validation each."""
+    return any(inner_event(line.split())[:1] in ([word] for word in ROUND_WORDS) for line in lines)
+
+
+class Unfollowed(Exception):
+    """The schedule can't be followed event by event."""
+
+
+class Report:
+    """What `xl replay` wrote: outcomes, and how it ended."""
+
+    def __init__(self, status, text):
+        lines = [line.split() for line in text.splitlines()]
+        self.status, self.text = status, text
+        self.bad = lines.pop()[1:] if status == 3 and lines else None
+        self.outcomes = [line for line in lines if line[0] not in ENDINGS]
+        self.short = [[int(word) for word in line[1:]] for line in lines if line[0] == 'short']
+        self.forged = sum(int(line[1]) for line in lines if line[0] == 'forged')
+        self.last_line = int(self.bad[0]) - 1 if self.bad else None
+
+
+def run_replay(program, text, seconds=None, command='replay'):
+    """Runs the text whole. A run that takes too long has no status."""
+    words = dict(input=text.encode('latin-1'), stdout=subprocess.PIPE, stderr=subprocess.DEVNULL, timeout=seconds)
+    try:
+        ended = subprocess.run([program, command], **words)
+    except subprocess.TimeoutExpired:
+        return Report(None, '')
+    except OSError as error:
+        stop('%s can\'t be run: %s' % (program, error.strerror))
+    return Report(ended.returncode, ended.stdout.decode('latin-1'))
+
+
+def stop_on_problem(program, report):
+    if report.status not in (0, 1, 3):
+        stop('%s replay ended with status %s (%s)' % (program, report.status, PROBLEMS.get(report.status, 'unknown')))
+
+
+@dataclass
+class Node:
+    quorum: int
+    members: list
+    observes: bool
+
+
+class Network:
+    """The declared numbers."""
+
+    def __init__(self):
+        self.nodes, self.liars = {}, []
+
+    def declare(self, tokens):
+        if tokens[0] == 'node':
+            members = [int(member) for member in tokens[3].split(',')]
+            self.nodes[int(tokens[1])] = Node(int(tokens[2]), members, len(tokens) > 4)
+        elif tokens[0] == 'liar':
+            self.liars.append(int(tokens[1]))
+
+    def others(self, number):
+        return [other for other in sorted([*self.nodes, *self.liars]) if other != number]
+
+    def slack(self, one, other):
+        """Both quorums together, less what they must exceed."""
+        ours, theirs = self.nodes[one], self.nodes[other]
+        both = set(ours.members) & set(theirs.members)
+        bound = len(ours.members) + len(theirs.members) - len(both) + len(both & set(self.liars))
+        return ours.quorum + theirs.quorum - bound
+
+
+class Names:
+    """Which name is printed for an id, as the program prints it: the first one that stands for it."""
+
+    def __init__(self):
+        self.ids, self.first = {}, {}
+        self.ledgers = {'root': (0, 0)}
+        self.put('root', '0' * 64)
+
+    def declare(self, tokens):
+        if tokens[0] == 'name':
+            self.put(tokens[1], self.id_of(tokens[2]))
+        elif tokens[0] == 'ledger':
+            sequence, parents_close = self.ledgers[tokens[2]]
+            self.ledgers[tokens[1]] = sequence + 1, int(tokens[3])
+            parent = bytes.fromhex(self.ids[tokens[2]])
+            self.put(tokens[1], ledger_id(sequence + 1, parent, parents_close, int(tokens[3])))
+
+    def put(self, name, ledger):
+        self.ids[name] = ledger
+        self.first.setdefault(ledger, name)
+
+    def id_of(self, token):
+        return self.ids.get(token, token.lower())
+
+    def short(self, token):
+        token = self.first.get(self.id_of(token), token)
+        return token if len(token) <= 16 else token[:8] + '…'
+
+
+def ledger_id(sequence, parent, parents_close, close):
+    """The id of the ledger that a `ledger` line declares: the half hash of its header."""
+    header = struct.pack('>IQ32s64xIIBB', sequence, 10**17, parent, parents_close, close, 30, 0)
+    return hashlib.sha512(b'LWR\0' + header).hexdigest()[:64]
+
+
+@dataclass
+class Frame:
+    """A sent frame.
+
+    `nth` counts the frames of its event to the same receiver, from 0, and `fed` is the frame's number in the feed."""
+
+    sender: int
+    receiver: int
+    event: int
+    nth: int
+    kind: str
+    fed: int
+
+
+@dataclass
+class Event:
+    """One event at one node, with what came of it. `frame` is the number of the delivered one."""
+
+    index: int
+    line: int
+    tokens: list
+    node: int
+    moment: int
+    frame: int = None
+    outcomes: list = field(default_factory=list)
+    sent: list = field(default_factory=list)
+
+    @property
+    def word(self):
+        return self.tokens[0]
+
+    def told(self, word):
+        return [outcome for outcome in self.outcomes if outcome[0] == word]
+
+    def is_refused(self, *codes):
+        return any(outcome[3] in codes for outcome in self.told('refused'))
+
+
+class Feed:
+    """A replay that is handed line after line, and gives back what came of each event.
+
+    Behind each event a question is put, which changes nothing: its answer says that all outcomes are there.
+    """
+
+    def __init__(self, program):
+        self.asked = None
+        streams = dict(stdin=subprocess.PIPE, stdout=subprocess.PIPE, stderr=subprocess.DEVNULL)
+        self.process = subprocess.Popen([program, 'replay'], **streams)
+
+    def write(self, line):
+        try:
+            self.process.stdin.write(line.encode('latin-1') + b'\n')
+        except BrokenPipeError:
+            raise Unfollowed('the program ended before the schedule did, at: %s' % line) from None
+
+    def happen(self, line):
+        if self.asked is None:
+            return []
+        self.write(line)
+        self.write('prefer %d' % self.asked)
+        try:
+            self.process.stdin.flush()
+        except BrokenPipeError:
+            raise Unfollowed('the program ended before the schedule did, at: %s' % line) from None
+        return self.outcomes(1 + (line.split()[0] == 'prefer'))
+
+    def outcomes(self, answers):
+        told = []
+        while answers:
+            words = self.process.stdout.readline().decode('latin-1').split()
+            if words[:1] == ['bad'] and words[2:3] == ['35']:
+                raise Unfollowed('it has too many events to be taken one by one; tools/shrink makes it smaller')
+            if not words or words[0] == 'bad':
+                raise Unfollowed(
+                    'the schedule can\'t be followed; the program ended with: %s' % ' '.join(words or ['nothing'])
+                )
+            answers -= words[0] == 'preferred'
+            told.append(words)
+        return told[:-1]
+
+    def close(self):
+        try:
+            self.process.stdin.close()
+        except BrokenPipeError:
+            pass
+        self.process.stdout.read()
+        self.process.stdout.close()
+        self.process.wait()
+
+
+class Strangers:
+    """Nodes of the feed that stand on no list, by which it is found how many frames an event sent.
+
+    A frame to one of them is refused, since it trusts an undeclared number alone, and the refusal names its sender and
+    its receiver. They also send frames to everybody, one after the other, behind those of the event: so there surely is
+    a frame at the place that is looked at, and another one for each number of frames that the event may have sent."""
+
+    def __init__(self, feed, network, taken):
+        self.feed, self.network, self.said, self.places = feed, network, 0, {}
+        free = [number for number in NUMBERS if number not in taken]
+        trusted, *self.numbers = free[-(len(network.nodes) + len(network.liars) + 4) :] or [None]
+        if len(self.numbers) < 3:
+            raise Unfollowed(
+                'for timers, transactions and greetings four of the 64 numbers must be undeclared and on no list'
+            )
+        for number in self.numbers:
+            feed.write('node %d 1 %d' % (number, trusted))
+
+    def all_others(self, number):
+        return sorted(set(self.network.others(number)) | set(self.numbers) - {number})
+
+    def caller(self, call):
+        return self.numbers[call % len(self.numbers)]
+
+    def at(self, sender, frames, place):
+        """Who sent the frame at this place, and to whom, where the event sent so many frames to each."""
+        others = self.all_others(sender)
+        if place <= frames * len(others):
+            return sender, others[(place - 1) // frames]
+        call, rest = divmod(place - 1 - frames * len(others), len(others))
+        return self.caller(call), self.all_others(self.caller(call))[rest]
+
+    def place(self, sender, counts):
+        """A place where a frame to a stranger stands, another one for each of the counts."""
+        if (sender, counts) not in self.places:
+            for place in range(1, (counts[-1] + 2) * len(NUMBERS)):
+                ends = [self.at(sender, frames, place) for frames in counts]
+                if len(set(ends)) == len(ends) and all(end[1] in self.numbers for end in ends):
+                    self.places[sender, counts] = place, dict(zip(ends, counts))
+                    break
+            else:
+                raise Unfollowed('it declares too many numbers for its timers to be followed')
+        return self.places[sender, counts]
+
+    def count(self, sender, sent, counts):
+        """How many frames the event sent to each other number, and how many numbers of frames are used up by then."""
+        place, meant = self.place(sender, counts)
+        each = len(self.all_others(sender))
+        calls = max(0, -(-(place - counts[0] * each) // each))
+        for call in range(calls):
+            self.said += 1
+            self.feed.happen('issue %d %d root partial' % (self.caller(call), self.said))
+        told = self.feed.happen('deliver %d' % (sent + place))
+        end = (int(told[0][4]), int(told[0][2])) if told and told[0][0] == 'refused' and told[0][3] == '9' else None
+        if end not in meant:
+            raise Unfollowed('it can\'t be found how many frames node %d sent' % sender)
+        return meant[end], calls * each
+
+
+class Follower:
+    """Takes a schedule line by line: each event by itself, with what came of it and the frames that it sent.
+
+    `all` and `timers` are taken apart into single deliveries and timers."""
+
+    def __init__(self, program, rounds):
+        self.feed, self.rounds, self.strangers, self.has_begun = Feed(program), rounds, None, False
+        self.network, self.names = Network(), Names()
+        self.moment, self.mark, self.used = 1000, 0, 0
+        self.events, self.frames, self.on_sequence = [], [], {}
+
+    def close(self):
+        self.feed.close()
+
+    def declare(self, text, tokens):
+        self.network.declare(tokens)
+        self.names.declare(tokens)
+        if tokens[0] == 'at':
+            self.moment = int(tokens[1])
+        self.feed.write(text)
+
+    def begin(self):
+        """Before the first event the strangers are declared, where there is need of them."""
+        self.has_begun = True
+        if self.rounds:
+            self.strangers = Strangers(self.feed, self.network, self.taken_numbers())
+        self.feed.asked = min(self.network.nodes, default=None)
+
+    def taken_numbers(self):
+        """Each number that is declared or stands on a list."""
+        listed = [member for node in self.network.nodes.values() for member in node.members]
+        return {*self.network.nodes, *self.network.liars, *listed}
+
+    def take(self, line, text, tokens):
+        """A line that is not passed over."""
+        if tokens[0] in DECLARATIONS:
+            self.declare(text, tokens)
+            return
+        if not self.has_begun:
+            self.begin()
+        if tokens[0] == 'deliver':
+            self.deliver(line, int(tokens[1]))
+        elif tokens[0] in ('all', 'drop'):
+            self.move_mark(line, tokens[0])
+        elif tokens[0] == 'timers':
+            for number in sorted(self.network.nodes):
+                self.happen(line, ['timer', str(number)], number)
+        else:
+            self.happen(line, tokens, int(tokens[2] if tokens[0] == 'lie' else inner_event(tokens)[1]))
+
+    def move_mark(self, line, word):
+        first, self.mark = self.mark + 1, len(self.frames)
+        if word == 'drop':
+            self.put(line, ['drop', str(first), str(self.mark)], None)
+            return
+        for number in range(first, self.mark + 1):
+            self.deliver(line, number)
+
+    def put(self, line, tokens, node, frame=None):
+        event = Event(len(self.events), line, tokens, node, self.moment, frame)
+        self.events.append(event)
+        return event
+
+    def deliver(self, line, number):
+        if not 0 < number <= len(self.frames):
+            raise Unfollowed('frame %d isn\'t sent yet at line %d' % (number, line))
+        frame = self.frames[number - 1]
+        event = self.put(line, ['deliver', str(number)], frame.receiver, number)
+        event.outcomes = self.feed.happen('deliver %d' % frame.fed)
+
+    def happen(self, line, tokens, node):
+        event = self.put(line, tokens, node)
+        event.outcomes = self.feed.happen(' '.join(tokens))
+        word = inner_event(tokens)[0]
+        if word == 'greet':
+            self.send(event, [int(tokens[2])], ['header'] * self.on_sequence.get(node, 0))
+        elif word in ('issue', 'timer', 'submit'):
+            self.send_to_all(event, word)
+        self.note_round(event)
+
+    def note_round(self, event):
+        """Keeps the sequence of the ledger that the node's round is on."""
+        for outcome in event.told('switched') + event.told('built'):
+            self.on_sequence[event.node] = int(outcome[2])
+        if event.word in ('restart', 'cut'):
+            self.on_sequence[event.node] = 0
+
+    def send_to_all(self, event, word):
+        extra = 0
+        if word == 'issue':
+            kinds = ['validation'] * (event.word == 'issue' and not event.is_refused(*NEVER_SAVED))
+        else:
+            kinds, extra = self.ask_kinds(event, word)
+        receivers = self.strangers.all_others(event.node) if self.strangers else self.network.others(event.node)
+        self.send(event, receivers, kinds)
+        self.used += extra
+
+    def ask_kinds(self, event, word):
+        """The kinds of the frames to each, and how many numbers of frames the question took."""
+        if word == 'submit':
+            frames, extra = self.strangers.count(event.node, self.used, (0, 1))
+            return ['tx'] * frames, extra
+        built = event.told('built')
+        kinds = ['header'] * len(built) + ['validation'] * any(outcome[4] != 'none' for outcome in built)
+        counts = tuple(len(kinds) + said for said in (0, 1, 2))
+        frames, extra = self.strangers.count(event.node, self.used, counts)
+        return {0: [], 1: ['proposal'], 2: ['set', 'proposal']}[frames - len(kinds)] + kinds, extra
+
+    def send(self, event, receivers, kinds):
+        """For each receiver in turn all frames, as the program drains them."""
+        for receiver in receivers:
+            for nth, kind in enumerate(kinds):
+                self.used += 1
+                if receiver in self.network.nodes or receiver in self.network.liars:
+                    frame = Frame(event.node, receiver, event.index, nth, kind, self.used)
+                    event.sent.append(frame)
+                    self.frames.append(frame)
+
+
+class Story:
+    """A schedule, its events, and its report."""
+
+    def __init__(self, program, text):
+        lines = read_lines(text)
+        self.report = run_replay(program, text)
+        stop_on_problem(program, self.report)
+        self.title = first_comment(lines)
+        follower = Follower(program, has_rounds(lines))
+        try:
+            for line, words in enumerate(lines[: self.report.last_line], 1):
+                if not is_passed_over(words.split()):
+                    follower.take(line, words, words.split())
+        except Unfollowed as why:
+            stop(why)
+        follower.close()
+        self.network, self.names = follower.network, follower.names
+        self.events, self.frames = follower.events, follower.frames
+
+    def sender_of(self, event):
+        """Who sent what reached the node in this event: a number, or None."""
+        if event.frame:
+            return self.frames[event.frame - 1].sender
+        return int(event.tokens[1]) if event.word == 'lie' else None
+
+
+def first_comment(lines):
+    """The words of the first comment that stands before any event."""
+    for tokens in map(str.split, lines):
+        if is_passed_over(tokens):
+            if len(tokens) > 1:
+                return ' '.join(tokens[1:])
+        elif tokens[0] not in DECLARATIONS:
+            return None
+    return None
+
+
+class Savings:
+    """What each keeper holds, and who may issue: which issues are sent in a schedule without rounds."""
+
+    def __init__(self):
+        self.kept, self.held, self.has_failed = {}, {}, set()
+
+    def restart(self, node):
+        self.kept[node] = self.held.get(node, 0)
+        self.has_failed.discard(node)
+
+    def issue(self, node, sequence, torn=()):
+        """Whether the validation is sent; `torn` is empty, or `cut` or `fail` with `old` or `new`."""
+        asks = sequence > self.kept.get(node, 0) and node not in self.has_failed
+        word = torn[0] if torn else None
+        if asks and torn[1:] != ('old',):
+            self.held[node] = sequence
+        if asks and word == 'fail':
+            self.has_failed.add(node)
+        elif asks and word is None:
+            self.kept[node] = sequence
+        if word == 'cut':
+            self.restart(node)
+        return asks and word is None
