@@ -241,7 +241,6 @@ module _ {B K : Type 0} (store : Store B K) where
         full = λ e. all;
       })
 
-
   -- the reports that were handed out stand at the front of the room, and their lines were written
   module _ (old new : Pass Entry) (o o' : Output) (count : ℕ) (before after : List Report)
       (out : HandedOut store old count before after new) (full : length before ≡ ROOM) where

@@ -59,8 +59,8 @@ Follows start turns may_give timing old old_output (Some end) new new_output =
 
 -- the store was told that the node is to stop, or is full; if all turns were drawn, they still are
 pub record Stops (start : Core) (turns : ℕ) (old : Knowledge Entry) (stop : Stopping) (new : Knowledge Entry) : Type 0
-    where
-  pub made : Made start old new (stop_calls stop)
-  pub drawn : old.drawn ≤ new.drawn
-  pub stopped : IsStop turns new.drawn stop
-  pub full : old.drawn ≡ turns → new.drawn ≡ turns
+  where
+    pub made : Made start old new (stop_calls stop)
+    pub drawn : old.drawn ≤ new.drawn
+    pub stopped : IsStop turns new.drawn stop
+    pub full : old.drawn ≡ turns → new.drawn ≡ turns

@@ -15,7 +15,10 @@ pub fn status_of_run(beats: BeatEnd, last: Ending) -> Status
     let before = first_of(status_of(beats.run), stop_status(beats.stop));
     match last {
         Ending::WriteFault => Status::WriteFault,
-        Ending::Done | Ending::OutOfMemory | Ending::StoreFull(_) => first_of(before, status_of(last)),
+        Ending::Done | Ending::OutOfMemory | Ending::StoreFull(_) => first_of(
+            before,
+            status_of(last),
+        ),
     }
 }
 

@@ -74,11 +74,7 @@ fn found_by(rt: &HostRuntime) -> Result<Outside, Status> {
 }
 
 /// Runs the program over the streams of the system.
-fn run<R: Threads + Wait + Sync>(
-    rt: &HostRuntime,
-    threads: &R,
-    outside: Outside,
-) -> Status {
+fn run<R: Threads + Wait + Sync>(rt: &HostRuntime, threads: &R, outside: Outside) -> Status {
     let Outside {
         words,
         keeper,

@@ -40,7 +40,11 @@ fn end<R: Threads + Wait + Sync>(
     failing: Failing<'_>,
 ) -> Result<Status, Fail> {
     let words = words(alloc, &["xl", command])?;
-    let mut input = MemSource::new(input.as_bytes().to_vec(alloc)?, 5, failing.reads.to_vec(alloc)?);
+    let mut input = MemSource::new(
+        input.as_bytes().to_vec(alloc)?,
+        5,
+        failing.reads.to_vec(alloc)?,
+    );
     let mut output = MemSink::new(alloc, 5, failing.writes.to_vec(alloc)?);
     let keeper = MemKeeper::new(alloc, 0, failing.loads.to_vec(alloc)?, Vec::new(alloc))?;
     let mut hub: MemHub<PlainLink> = MemHub::new(Vec::new(alloc), failing.links.to_vec(alloc)?);
@@ -66,8 +70,14 @@ fn refuses_other_words(rt: HostRuntime) -> Result<(), Fail> {
 
 #[test]
 fn names_the_fault_of_a_stream(rt: HostRuntime) -> Result<(), Fail> {
-    let no_read = Failing { reads: &[1], ..NONE };
-    let no_write = Failing { writes: &[1], ..NONE };
+    let no_read = Failing {
+        reads: &[1],
+        ..NONE
+    };
+    let no_write = Failing {
+        writes: &[1],
+        ..NONE
+    };
     for command in ["replay", "show", "lists", "node"] {
         assert!(rt; end(&rt, rt.alloc(), command, "x", no_read)? == Status::ReadFault);
         assert!(rt; end(&rt, rt.alloc(), command, "x", no_write)? == Status::WriteFault);
@@ -79,13 +89,20 @@ fn names_the_fault_of_a_stream(rt: HostRuntime) -> Result<(), Fail> {
 
 const ALONE: &str = "me = 1\nlist = [1]\nquorum = 1\nrun_ms = 20000\n";
 
-const WITH_A_PEER: &str = "me = 1\nlist = [1]\nquorum = 1\n[[peer]]\nnumber = 2\ndial = \"192.0.2.1:5005\"\n\
+const WITH_A_PEER: &str =
+    "me = 1\nlist = [1]\nquorum = 1\n[[peer]]\nnumber = 2\ndial = \"192.0.2.1:5005\"\n\
     key = \"00000000000000000000000000000000000000000000000000000000000000ff\"\n";
 
 #[test]
 fn names_the_fault_of_a_node(rt: HostRuntime) -> Result<(), Fail> {
-    let no_load = Failing { loads: &[1], ..NONE };
-    let no_link = Failing { links: &[1], ..NONE };
+    let no_load = Failing {
+        loads: &[1],
+        ..NONE
+    };
+    let no_link = Failing {
+        links: &[1],
+        ..NONE
+    };
     assert!(rt; end(&rt, rt.alloc(), "node", ALONE, no_load)? == Status::KeepFault);
     assert!(rt; end(&rt, rt.alloc(), "node", WITH_A_PEER, no_link)? == Status::NetFault);
     assert!(rt; end(&rt, rt.alloc(), "node", ALONE, NONE)? == Status::Done);

@@ -36,8 +36,8 @@ met : (keys : Ring) (peers : List Peer) (m : ℕ) → All (HasKey keys) peers �
 met keys [] m each is = absurd cc
 met keys (p ∷ ps) m each is = ⊎_elim
     (λ (here : (m == p.number) ≡ true).
-        let same : m ≡ p.number = grind (arith, here) in
-        ap (λ (n : ℕ). Rattle.std.specs.Option.is_some (key_of keys n)) same ∙ each 0 p (omega arith))
+    let same : m ≡ p.number = grind (arith, here) in
+    ap (λ (n : ℕ). Rattle.std.specs.Option.is_some (key_of keys n)) same ∙ each 0 p (omega arith))
     (λ (there : is_peer (map setting_of ps) m ≡ true). met keys ps m (λ k d small. each (suc k) d (omega (arith, small))) there)
     (or_cases (m == p.number) (is_peer (map setting_of ps) m) is)
 

@@ -66,7 +66,13 @@ fn run<W: Threads + Wait + Sync, O: Sink + Send, K: Keeper + Drop + Send, H: Hub
 }
 
 /// Opens a node by its settings, and runs it.
-fn start<W: Threads + Wait + Sync, O: Sink + Send, K: Keeper + Drop + Send, H: Hub, C: Clock + Sync>(
+fn start<
+    W: Threads + Wait + Sync,
+    O: Sink + Send,
+    K: Keeper + Drop + Send,
+    H: Hub,
+    C: Clock + Sync,
+>(
     rt: &W,
     alloc: Global,
     settings: Settings,

@@ -6,12 +6,11 @@
 //! is the lines of its reports, or the line of what is refused; and each status has its cause.
 #![tactic(auto)]
 
+mod command;
 mod contacts;
 mod ended;
 mod keys;
 mod preparing;
-mod command;
 
-pub use ended::Ended;
 pub use command::validator;
-
+pub use ended::Ended;

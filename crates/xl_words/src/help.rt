@@ -59,7 +59,9 @@ fn push_statuses(text: &mut String) -> Result<(), AllocError>
     text.push_str("       2  the words are no command\n")?;
     text.push_str("       3  the input is refused, and the last line says where and why\n")?;
     text.push_str("       4  a read failed; 5  a write failed; 6  memory was wanting\n")?;
-    text.push_str("       7  the keeper's file failed; 8  the network failed; 9  all turns are spent\n\n")?;
+    text.push_str(
+        "       7  the keeper's file failed; 8  the network failed; 9  all turns are spent\n\n",
+    )?;
     text.push_str("More is in the manual page docs/xl.1, and all formats are in docs/FORMATS.md.\n")
 }
 

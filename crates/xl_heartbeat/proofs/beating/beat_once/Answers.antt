@@ -15,7 +15,7 @@ returns-clause-follows g c k0 o0 b =
     let after = output (g.O.Sink.held c.take_reports-taken.new.sink) (g.O.Sink.faults c.take_reports-taken.new.sink) in
     let called = c.in-Ok.ensures.called in
     let due = timed start turns may c.args.timing k0 o0 (known c.args.pass.now) (known c.timer.new.pass) before
-        c.now-now.result c.in-Ok.field-0 c.now-now.ensures.may called.made called.later b in
+    c.now-now.result c.in-Ok.field-0 c.now-now.ensures.may called.made called.later b in
     let end = c.take_reports-taken.result in
     subst (λ o. Follows start turns may c.args.timing k0 o0 o (known c.take_reports-taken.new.pass) after)
     (sym (c.after_reports.ensures ∙ ap (after_reports end) c.is_over.ensures))

@@ -14,7 +14,6 @@ use Rattle.xl_top.specs.Commands.{HasText, telling_in, told_by, told_of}
 use Rattle.xl_top.proofs.Asking.{if_any, if_more, ok_any, by_asked, unasked, by_none, taken, front_none}
 use Rattle.xl_top.proofs.command.top.Goals as goal
 
-
 pub returns-in-Ok-Tell-clause-words : goal.returns-in-Ok-Tell-clause-words
 returns-in-Ok-Tell-clause-words g c =
     λ is. taken (command_of (words_of c.args.words.now)) _ c.run.ensures.words (sym c.unopened.ensures.status ∙ is)
