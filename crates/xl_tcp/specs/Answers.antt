@@ -21,7 +21,7 @@ untold faults = record { left = None; took = None; openings = None; faults = fau
 abbrev pub is_late : ErrorKind → Bool
 is_late kind.WouldBlock = true
 is_late kind.TimedOut = true
-is_late other = false
+is_late _ = false
 
 -- nobody takes the call where it is made, or whoever made one has gone
 abbrev pub is_absence : ErrorKind → Bool
@@ -29,7 +29,7 @@ is_absence kind.ConnectionRefused = true
 is_absence kind.ConnectionReset = true
 is_absence kind.ConnectionAborted = true
 is_absence kind.HostUnreachable = true
-is_absence other = is_late other
+is_absence reason = is_late reason
 
 module _ {S : Type 0} where
   -- an opening, by the connection that it brought
