@@ -12,16 +12,20 @@ import schedules
 DATA = os.path.join(schedules.TOP, 'crates', 'xl_rows', 'data')
 LARGEST_SEED, LARGEST_INPUT, MOST_LINES = 20000, 100000, 1200
 NUMBERS = [0, 1, 2, 7, 11, 12, 41, 63, 64, 65, 76, 118, 255, 256, 257, 300, 301, 1000, 1024, 4096, 8240, 16384]
-NUMBERS += [16385, 262144, 262145, 10**6, 2**31, 2**32 - 1, 2**32, 2**53, 2**62, 2**63 - 1, 2**63, 2**64 - 1, 2**64, 10**40]
+NUMBERS += [16385, 262144, 262145, 10**6, 2**31, 2**32 - 1, 2**32, 2**53]
+NUMBERS += [2**62, 2**63 - 1, 2**63, 2**64 - 1, 2**64, 10**40]
 NUMBERS += [4 * 10**12, 4 * 10**12 + 1, -1, -(2**63), -(2**63) - 1]
 EDGES = [b'%d' % number for number in NUMBERS]
-EDGES += [b'01', b'+1', b'1_000', b'0x40', b'1e3', b'1.0', b'nan', b'-0', b'-', b',', b'1,', b'1,,2', b'#', b'""', b"''"]
+EDGES += [b'01', b'+1', b'1_000', b'0x40', b'1e3', b'1.0', b'nan', b'-0', b'-', b',']
+EDGES += [b'1,', b'1,,2', b'#', b'""', b"''"]
 EDGES += [b'true', b'[]', b'{}', b'[[', b'"""', b'2026-01-01', b'\xff\xfe', b'\xef\xbb\xbf', b'\0', b'\r', b'"\\u0000"']
 EDGES += [b'"a\\nb"', b'"a\\tb"', b'a.b', b"'a b'", b'"\\"']
 EDGES += [b'root', b'none', b'full', b'all', b'xl-schedule', b'f' * 64, b'F' * 64, b'0' * 65, b'\xe2\x82\xac', b'\\']
 ADDRESSES = [b'127.0.0.1:1', b'[::1]:1', b'127.0.0.1:0', b'127.0.0.1:65535', b'127.0.0.1:65536', b'127.0.0.1', b'']
 ADDRESSES += [b'localhost:1', b'::1:1', b'127.0.0.1:01', b'0127.0.0.1:1', b'[::1%lo]:1', b'127.0.0.1:1 ', b'[::1]']
 ADDRESSES += [b'127.0.0.256:1', b'x' * 300, b'127.0.0.1:-1', b'127.0.0.1:', b':1', b'[127.0.0.1]:1', b'\xc3\xa9:1']
+KEYS = [b'a', b'""', b'"a b"', b'"a\\nb"', b'"a\\tb"', b'"\\u0000"', b'"\\U0001F600"', b"'a.b'"]
+KEYS += [b'a.b', b'peer.number', b'"me"']
 RUN_REFUSED = [b'-1', b'1000000000001', b'"1"', b'1.5', b'true', b'[]', b'99999999999999999999', b'']
 RUN_SHORT = [b'1', b'1', b'2', b'20']
 HOSTS = re.compile(rb'\d+\.\d+\.\d+\.\d+|[0-9a-fA-F]*:[0-9a-fA-F:]*:[0-9a-fA-F:.]*')
@@ -166,6 +170,10 @@ def put_frame(dice, lines, others):
     lines.insert(dice.randint(0, len(lines)), b'raw %d %s' % (dice.randint(1, 5), frame(dice).hex().encode()))
 
 
+def put_key(dice, lines, others):
+    lines.insert(dice.randint(0, len(lines)), dice.choice(KEYS) + b' = 1')
+
+
 def lengthen_line(dice, lines, others):
     place, length = dice.randrange(len(lines)), dice.choice((33, 65, 1000, 16999, 17000, 17001, 17002))
     lines[place] += dice.choice((b' ', b'a', b' 1', b',1', b'\xff')) * (length - len(lines[place]))
@@ -204,6 +212,7 @@ LINES = [swap_lines, repeat_lines, drop_lines, take_line, change_token, change_a
 OF_BYTES = BYTES + [flip_bit] * 4
 OF_LINES = [by_lines(change) for change in LINES * 3 + [lengthen_line]] + BYTES
 OF_SCHEDULES = OF_LINES + [by_lines(put_frame)] * 3
+OF_SETTINGS = OF_LINES + [by_lines(put_key)] * 3
 
 
 def mutate(dice, text, other, mutations):
@@ -231,7 +240,7 @@ class Inputs:
         dice = random.Random('%d/%d' % (self.seed, number))
         command = dice.choices(('replay', 'lists', 'show', 'node'), (12, 3, 4, 2))[0]
         if command == 'node':
-            text = mutate(dice, self.seeds.setting(dice), self.seeds.setting(dice), OF_LINES)
+            text = mutate(dice, self.seeds.setting(dice), self.seeds.setting(dice), OF_SETTINGS)
             return command, settle(dice, text)
         if command == 'show' or dice.random() < 0.02:
             return command, mutate(dice, self.seeds.stream(dice), self.seeds.stream(dice), OF_BYTES)
