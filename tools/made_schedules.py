@@ -1,0 +1,89 @@
+"""Schedules that are made and not written: random ones with every word, and those of `xl gen`."""
+X, Y = 'name x ' + '1' * 64, 'name y ' + '2' * 64
+
+
+def schedule(lines):
+    return '\n'.join(['xl-schedule 1', *lines]) + '\n'
+
+
+class RandomSchedule:
+    """A schedule with every word of an event, in which no line is refused."""
+
+    def __init__(self, dice):
+        self.dice, self.moment, self.sequence = dice, 800000000000, 1
+        count = dice.randint(2, 5)
+        self.nodes, self.liars = list(range(1, count + 1)), [40] * dice.randint(0, 1)
+        self.numbers = self.nodes + self.liars
+        self.lines = [X, Y, 'ledger a root 30', 'ledger b a 60', 'at %d' % self.moment] + [
+            'liar %d' % it for it in self.liars
+        ]
+        for node in self.nodes:
+            members = sorted(dice.sample(self.numbers, dice.randint(1, len(self.numbers))))
+            observing = ' observing' * (dice.random() < 0.2)
+            quorum = dice.randint(len(members) // 2 + 1, len(members))
+            self.lines.append('node %d %d %s%s' % (node, quorum, ','.join(map(str, members)), observing))
+        self.lines.append('issue 1 1 x full')
+        for _ in range(dice.randint(10, 60)):
+            self.lines.append(self.event())
+
+    def event(self):
+        dice, node = self.dice, self.dice.choice(self.nodes)
+        words = [
+            self.issue(node),
+            'timer %d' % node,
+            'restart %d' % node,
+            'prefer %d' % node,
+            'deliver 1',
+            'drop',
+            'submit %d %064x' % (node, dice.randint(1, 9)),
+            '%s %s' % (self.torn(), self.issue(node)),
+            '%s timer %d' % (self.torn(), node),
+            'raw %d 584c' % node,
+            'greet %d %d' % (node, dice.choice([it for it in self.numbers if it != node])),
+        ]
+        words += [self.lie(node)] * 2 * len(self.liars)
+        return dice.choice([self.at(), 'timers', 'all']) if dice.random() < 0.5 else dice.choice(words)
+
+    def at(self):
+        self.moment += self.dice.choice((0, 1000, 2000, 4000, 16000))
+        return 'at %d' % self.moment
+
+    def torn(self):
+        return self.dice.choice(('cut', 'fail')) + ' ' + self.dice.choice(('old', 'new'))
+
+    def issue(self, node):
+        self.sequence += self.dice.randint(0, 1)
+        return 'issue %d %d %s %s' % (
+            node,
+            self.sequence,
+            self.dice.choice('xyab'),
+            self.dice.choice(('full', 'partial')),
+        )
+
+    def lie(self, node):
+        second = self.moment // 1000
+        said = self.dice.choice(
+            (
+                'validation %d %s %d full' % (self.dice.randint(1, 3), self.dice.choice('xyab'), second),
+                'header a',
+                'header b',
+                'set -',
+                'tx %064x' % self.dice.randint(1, 9),
+                'proposal root %064x 0 %d %d' % (1, second, second),
+            )
+        )
+        return 'lie 40 %d %s' % (node, said)
+
+
+def generated(rounds):
+    """The schedule of `xl gen`, as docs/FORMATS.md has it."""
+    lines = ['at 800000000000'] + ['node %d 6 1,2,3,4,5,6,7' % node for node in range(1, 8)]
+    for second in range(1, 4 * rounds + 8):
+        lines.append('at %d' % (800000000000 + 1000 * second))
+        closing, rest = divmod(second - 4, 4)
+        if second == 1:
+            lines.append('submit 1 %064x' % 1)
+        elif rest == 0 and 1 <= closing <= rounds:
+            lines += ['submit %d %064x' % (node, 1 + closing) for node in (1, 2, 3)]
+        lines += ['timers', 'all']
+    return schedule(lines)
