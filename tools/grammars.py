@@ -43,7 +43,7 @@ FRAME = lines(
     'frame # # tx ' + DIGITS,
 )
 SHOW_END = lines('frames #', 'bad # ' + with_values((1, 2, 3, 4, 5, 6, 7, 45)), 'bad 268435456 35 268435456')
-REPORT, SETTINGS = lines('full # ' + DIGITS), 'settings [^\n]*\n'
+REPORT, SETTINGS = lines('full # ' + DIGITS), 'settings (?:.|\n)*\n'
 
 WHOLE = {
     ('replay', 0): OUTCOME + '*' + REPLAY_END,
