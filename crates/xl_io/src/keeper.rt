@@ -21,6 +21,10 @@ pub trait Keeper {
     /// How often a call has failed, up to the greatest `u64`.
     ghost faults: { Self → ℕ };
 
+    /// What a load that answers a number leaves beside that. A keeper in memory has nothing to say here; one over a
+    /// medium whose text is told says that this text is the number's.
+    ghost load_gives: { Self → ℕ → Self → Type 0 } = { λ _ _ _. Unit {0} };
+
     /// What a save leaves beside that, by whether it was answered with Ok. A keeper over a real disk says nothing
     /// here; one whose answers are known, as that of a network in memory, says what it holds then.
     ghost save_gives: { Self → ℕ → Bool → Self → Type 0 } = { λ _ _ _ _. Unit {0} };
@@ -30,6 +34,7 @@ pub trait Keeper {
         ensures loaded { IfOk result (λ seq. IfSome (held self.old) (λ held. MayHold held seq)) }
         ensures alone { IfOk result (λ seq. held self.new ≡ option_map (λ _. holding seq) (held self.old)) }
         ensures left { OnErr result (held self.new ≡ held self.old) }
+        ensures gives { IfOk result (λ seq. load_gives self.old seq self.new) }
         ensures saves { saves self.new ≡ saves self.old }
         ensures later { faults self.old ≤ faults self.new }
         ensures failed { OnErr result (Rose (faults self.old) (faults self.new)) };

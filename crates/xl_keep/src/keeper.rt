@@ -81,6 +81,8 @@ impl<F: WholeFile + Drop> Keeper for FileKeeper<F> {
 
     ghost faults = { λ keeper. keeper.faults };
 
+    ghost load_gives = { λ old seq new. Told (Loaded seq) (F.shows old.file) (F.shows new.file) };
+
     ghost save_gives = { λ old seq ok new. Saving seq ok (F.shows old.file) (F.shows new.file) old.faults new.faults };
 
     /// It fails where the file can't be read, and where its text isn't that of a number.

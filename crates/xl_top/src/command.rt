@@ -107,7 +107,7 @@ pub fn top<
     ensures node_ran { IfSome result.journal (λ history. (asked_of (words_of words.now) ≡ Some Command.Node)
         × (settings : TheSettings)
         × IfSome (I.left input.old) (λ bytes. settings_of bytes ≡ Ok settings)
-        × HasRun K.held K.saves K.faults K.save_gives settings (C.may_give clock.now) (H.gives hub.old)
+        × HasRun K.held K.saves K.faults K.load_gives K.save_gives settings (C.may_give clock.now) (H.gives hub.old)
         (between (H.faults hub.old) (H.faults hub.new)
         (O.held output.old) (O.faults output.old) (O.held output.new) (O.faults output.new))
         keeper result.keeper result.status history) }

@@ -41,14 +41,7 @@ between old_faults new_faults old_held old_writes new_held new_writes = record {
 
 module _ {K : Type 0}
     (held_by : K → Option Held) (saves_of : K → Option (List ℕ)) (faults_of : K → ℕ)
-    (gives : K → ℕ → Bool → K → Type 0) where
-  -- a keeper answers a number that it may hold, and holds that one alone from then on
-  pub record Loads (old : K) (kept : ℕ) (new : K) : Type 0 where
-    pub held : IfSome (held_by old) (λ held. MayHold held kept)
-    pub alone : held_by new ≡ option_map (λ _. holding kept) (held_by old)
-    pub saves : saves_of new ≡ saves_of old
-    pub later : faults_of old ≤ faults_of new
-
+    (save_gives : K → ℕ → Bool → K → Type 0) where
   -- A run over an open core: the journal of its store is a legal history of the core, whose places are shared out; it
   -- leaves the keeper; and its end is the status
   pub record Goes (start : Core) (task : Task) (may_give : ℕ → Bool) (links : ℕ → Option Wire) (outside : Between)
@@ -58,9 +51,20 @@ module _ {K : Type 0}
     pub run : NodeRun (setting start task.turns may_give links)
         (doing task.submits task.members task.timing
         outside.old_faults outside.new_faults outside.old_output outside.new_output) run_end history
-    pub keeps : KeepsAll held_by saves_of faults_of gives start history old new
+    pub keeps : KeepsAll held_by saves_of faults_of save_gives start history old new
     pub limit : length history ≤ task.turns
     pub is : end ≡ status_of_end run_end
+
+module _ {K : Type 0}
+    (held_by : K → Option Held) (saves_of : K → Option (List ℕ)) (faults_of : K → ℕ)
+    (load_gives : K → ℕ → K → Type 0) (save_gives : K → ℕ → Bool → K → Type 0) where
+  -- a keeper answers a number that it may hold, and that its medium says, and holds that one alone from then on
+  pub record Loads (old : K) (kept : ℕ) (new : K) : Type 0 where
+    pub held : IfSome (held_by old) (λ held. MayHold held kept)
+    pub alone : held_by new ≡ option_map (λ _. holding kept) (held_by old)
+    pub saves : saves_of new ≡ saves_of old
+    pub gives : load_gives old kept new
+    pub later : faults_of old ≤ faults_of new
 
   -- A node ran by these settings: it was opened at a moment that the clock may give, with the number that its keeper
   -- loaded
@@ -71,7 +75,8 @@ module _ {K : Type 0}
     pub loaded : K
     pub given : may_give moment ≡ true
     pub loads : Loads old kept loaded
-    pub goes : Goes (opening_core s moment kept) (task_of s moment) may_give links outside loaded new end history
+    pub goes : Goes held_by saves_of faults_of save_gives
+        (opening_core s moment kept) (task_of s moment) may_give links outside loaded new end history
 
 -- a status of this command: it finds no fork, and no words are refused
 abbrev pub IsKnown : Status → Type 0

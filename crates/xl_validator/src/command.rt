@@ -82,7 +82,7 @@ fn start<
     clock: &C,
 ) -> Ended<K>
     requires runnable { AreRunnable settings }
-    ensures ran { IfSome result.journal (λ history. HasRun K.held K.saves K.faults K.save_gives
+    ensures ran { IfSome result.journal (λ history. HasRun K.held K.saves K.faults K.load_gives K.save_gives
         settings (C.may_give clock.now) (H.gives hub.old)
         (between (H.faults hub.old) (H.faults hub.new)
         (O.held output.old) (O.faults output.old) (O.held output.new) (O.faults output.new))
@@ -133,7 +133,7 @@ pub fn validator<
     // Other settings run a node, or nothing is written.
     ensures ran { IfSome result.journal (λ history. (settings : TheSettings)
         × IfSome (I.left input.old) (λ bytes. settings_of bytes ≡ Ok settings)
-        × HasRun K.held K.saves K.faults K.save_gives settings (C.may_give clock.now) (H.gives hub.old)
+        × HasRun K.held K.saves K.faults K.load_gives K.save_gives settings (C.may_give clock.now) (H.gives hub.old)
         (between (H.faults hub.old) (H.faults hub.new)
         (O.held output.old) (O.faults output.old) (O.held output.new) (O.faults output.new))
         keeper result.keeper result.status history) }
