@@ -7,12 +7,12 @@ def schedule(lines):
 
 
 class RandomSchedule:
-    """A schedule with every word of an event, in which no line is refused."""
+    """A schedule with every word of an event, in which no line is refused: of so many nodes, or of two to five."""
 
-    def __init__(self, dice):
+    def __init__(self, dice, count=None):
         self.dice, self.moment, self.sequence = dice, 800000000000, 1
-        count = dice.randint(2, 5)
-        self.nodes, self.liars = list(range(1, count + 1)), [40] * dice.randint(0, 1)
+        count = count or dice.randint(2, 5)
+        self.nodes, self.liars = list(range(1, count + 1)), [40] * (count < 40 and dice.randint(0, 1))
         self.numbers = self.nodes + self.liars
         self.lines = [X, Y, 'ledger a root 30', 'ledger b a 60', 'at %d' % self.moment] + [
             'liar %d' % it for it in self.liars

@@ -54,7 +54,8 @@ class Seeds:
         if chance < 0.5:
             return dice.choice(self.schedules)
         if chance < 0.9:
-            return made_schedules.schedule(made_schedules.RandomSchedule(dice).lines).encode()
+            count = dice.choice((20, 64)) if dice.random() < 0.03 else None
+            return made_schedules.schedule(made_schedules.RandomSchedule(dice, count).lines).encode()
         return made_schedules.generated(dice.randint(1, 2)).encode()
 
     def stream(self, dice):

@@ -14,6 +14,7 @@ ENDINGS = ('short', 'forged', 'agree', 'fork')
 NEVER_SAVED = ('30', '31', '32')
 DECLARATIONS = ('xl-schedule', 'node', 'liar', 'limit', 'at', 'name', 'ledger')
 ROUND_WORDS = ('timer', 'timers', 'submit', 'greet')
+NODE_BYTES, LEDGER_BYTES, DEFAULT_LIMIT, LIMITS = 1850000, 244, 1024, range(2, 16385)
 PROBLEMS = {2: 'words refused', 4: 'input failed', 5: 'output failed', 6: 'out of memory'}
 
 
@@ -71,6 +72,25 @@ def inner_event(tokens):
 def has_rounds(lines):
     """Whether events may send other frames than a validation each."""
     return any(inner_event(line.split())[:1] in ([word] for word in ROUND_WORDS) for line in lines)
+
+
+def bytes_of_nodes(text):
+    """The memory that the declared nodes may take, as docs/PERFORMANCE.md has it: each has room for so many ledgers.
+
+    The text is bytes, and may be no schedule at all."""
+    numbers, limit = set(), DEFAULT_LIMIT
+    for line in text.split(b'\n'):
+        tokens = line.decode('latin-1').split()
+        if is_passed_over(tokens):
+            continue
+        if tokens[0] not in DECLARATIONS:
+            break
+        number = int(tokens[1]) if re.fullmatch('[0-9]{1,5}', ''.join(tokens[1:2])) else 0
+        if tokens[0] == 'node' and number in NUMBERS:
+            numbers.add(number)
+        elif tokens[0] == 'limit' and number in LIMITS:
+            limit = number
+    return len(numbers) * (NODE_BYTES + LEDGER_BYTES * limit)
 
 
 class Unfollowed(Exception):
