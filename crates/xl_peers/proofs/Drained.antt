@@ -1,5 +1,6 @@
 -- After a drain.
-use Rattle.std.proofs.Common.{◌≡◌, ◌≢◌, Bool, ◌≤◌, ◌++◌, ◌∷◌, ℕ, zero, suc, List, [], length, take, refl, sym, ap, ◌∙◌, subst, arith}
+use Rattle.std.proofs.Common.{◌≡◌, ◌≢◌, Bool, ◌≤◌, ◌++◌, ◌∷◌, ℕ, zero, suc, List, [], length, take, refl, sym, ap, ◌∙◌}
+use Rattle.std.proofs.Common.{subst, arith}
 use Rattle.std.proofs.lemmas.List.{take_at}
 use Rattle.std.specs.Prelude.{drop}
 use Rattle.xl_wire.specs.declared.lengths.TheConstants.{LONGEST_FRAME}

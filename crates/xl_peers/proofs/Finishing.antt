@@ -1,5 +1,6 @@
 -- How a session ends.
-use Rattle.std.proofs.Common.{◌≡◌, Bool, ◌≤◌, ◌++◌, ◌∷◌, ℕ, Option, List, [], refl, sym, ap, ◌∙◌, append_assoc, append-nil, arith, subst, inl, inr}
+use Rattle.std.proofs.Common.{◌≡◌, Bool, ◌≤◌, ◌++◌, ◌∷◌, ℕ, Option, List, [], refl, sym, ap, ◌∙◌, append_assoc}
+use Rattle.std.proofs.Common.{append-nil, arith, subst, inl, inr}
 use Rattle.std.specs.Io.KnownBytes.{prepend_known, append_known}
 use Rattle.xl_base.specs.Faults.{Rose}
 use Rattle.xl_wire.specs.declared.lengths.TheConstants.{LONGEST_FRAME}

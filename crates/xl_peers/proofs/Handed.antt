@@ -1,6 +1,7 @@
 -- A frame is handed over, and pieces go into a feed.
 use Rattle.std.specs.Prelude.{min, if◌then◌else◌}
-use Rattle.std.proofs.Common.{◌≡◌, Bool, false, ◌-◌, ◌≤◌, ◌<◌, ◌++◌, ◌∷◌, ℕ, true, List, [], length, take, drop, Result, Ok, Err, refl, sym, ap, ◌∙◌, subst, append_assoc, arith}
+use Rattle.std.proofs.Common.{◌≡◌, Bool, false, ◌-◌, ◌≤◌, ◌<◌, ◌++◌, ◌∷◌, ℕ, true, List, [], length, take, drop, Result}
+use Rattle.std.proofs.Common.{Ok, Err, refl, sym, ap, ◌∙◌, subst, append_assoc, arith}
 use Rattle.std.proofs.lemmas.List.{take-append-drop}
 use Rattle.xl_wire.specs.declared.lengths.TheConstants.{LONGEST_FRAME}
 use Rattle.xl_wire.specs.Raws.{raw_bytes}

@@ -1,5 +1,6 @@
 -- Serving goes on by one deed.
-use Rattle.std.proofs.Common.{◌≡◌, Bool, ◌≤◌, ◌++◌, ◌∷◌, ◌⊎◌, ℕ, Option, Some, None, List, [], true, refl, sym, ap, ap₂, ◌∙◌, append_assoc, append-nil, arith, subst, inl, inr}
+use Rattle.std.proofs.Common.{◌≡◌, Bool, ◌≤◌, ◌++◌, ◌∷◌, ◌⊎◌, ℕ, Option, Some, None, List, [], true, refl, sym, ap, ap₂}
+use Rattle.std.proofs.Common.{◌∙◌, append_assoc, append-nil, arith, subst, inl, inr}
 use Rattle.std.specs.List.{flat_map}
 use Rattle.std.proofs.lemmas.Grind.{flat_map-append}
 use Rattle.std.specs.Io.KnownBytes.{prepend_known, append_known}
@@ -15,7 +16,6 @@ use Rattle.xl_core.specs.Answers.{Told}
 use Rattle.xl_core.specs.Core.{Core}
 use Rattle.xl_store.specs.declared.entry.Entry.{Entry}
 use Rattle.xl_store.specs.declared.store.Store.{Store}
-use Rattle.xl_store.specs.declared.store.StoreEnd.{StoreEnd}
 use Rattle.xl_store.specs.declared.store.StoreEnd.TheVariants as refused
 use Rattle.xl_store.specs.Calls.{Made}
 use Rattle.xl_store.specs.Stores.{start_of, turns_of, Refused}
@@ -25,7 +25,9 @@ use Rattle.xl_peers.specs.declared.ends.End.TheVariants as end
 use Rattle.xl_peers.specs.declared.ends.Served.TheVariants as served
 use Rattle.xl_peers.specs.Sessions.{Session, IsCutOff, IsCause}
 use Rattle.xl_peers.specs.Steps.{bytes_drained}
-use Rattle.xl_peers.specs.Serving.{Deed, Asked, Opened, Talked, calls_in, read_in, drained_in, written_in, opened_in, Round, after_answer, after_opening, after_session, served_of, refused_of, IsServing, Serving, Follows}
+use Rattle.xl_peers.specs.Serving.{Deed, Asked, Opened, Talked, calls_in, read_in, drained_in, written_in, opened_in}
+use Rattle.xl_peers.specs.Serving.{Round, after_answer, after_opening, after_session, served_of, IsServing, Serving}
+use Rattle.xl_peers.specs.Serving.{Serves, Follows}
 use Rattle.xl_peers.proofs.Growing.{append_known-none, append_known-twice, prepend_known-none, prepend_known-twice}
 use Rattle.xl_peers.proofs.Finishing.{refused_later}
 
@@ -211,15 +213,12 @@ serving_starts start may member k0 w0 = record {
 }
 
 module _ {B K : Type 0} (store : Store B K) (may : ℕ → Bool) (member : ℕ) (k0 : Knowledge Entry) (w0 : Wire) where
-  -- a turn that wasn't had ends the serving, or it is asked again
-  pub refused_on : (old new : Pass Entry) (w : Wire) (e : StoreEnd)
+  -- where all turns are drawn the serving is over
+  pub full_on : (old new : Pass Entry) (w : Wire) (n : ℕ)
       → Serving (start_of store) may member k0 w0 Round.Asks (known old) w
-      → Refused store old e new
-      → Follows (start_of store) (turns_of store) may member k0 w0 (refused_of e) (known new) w
-  refused_on old new w refused.OutOfMemory s r =
-      asked_none (start_of store) may member k0 w0 Round.Asks (known old) (known new) w s r.made
-      (refused_later store may member k0 w0 (known old) (known new) refused.OutOfMemory r.why)
-  refused_on old new w (refused.StoreFull n) s r = record {
+      → Refused store old (refused.StoreFull n) new
+      → Serves (start_of store) (turns_of store) may member k0 w0 (served.StoreFull n) (known new) w
+  full_on old new w n s r = record {
     round = Round.Asks;
     serving = asked_none (start_of store) may member k0 w0 Round.Asks (known old) (known new) w s r.made
         (refused_later store may member k0 w0 (known old) (known new) (refused.StoreFull n) r.why);

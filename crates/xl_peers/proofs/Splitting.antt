@@ -1,5 +1,6 @@
 -- Splitting one frame off bytes that go on: a refusal stays one, and a feed that needs more has room for it.
-use Rattle.std.proofs.Common.{◌≡◌, ℕ, zero, suc, ◌<◌, ◌≤◌, ◌==◌, ◌&&◌, not, nat_lt, Bool, true, false, List, [], ◌∷◌, ◌++◌, length, slice_index, Option, Some, None, refl, sym, ap, ◌∙◌, arith}
+use Rattle.std.proofs.Common.{◌≡◌, ℕ, zero, suc, ◌<◌, ◌≤◌, ◌==◌, ◌&&◌, not, nat_lt, Bool, true, false, List, [], ◌∷◌}
+use Rattle.std.proofs.Common.{◌++◌, length, slice_index, Option, Some, None, refl, sym, ap, ◌∙◌, arith}
 use Rattle.std.proofs.lemmas.Bool.Decides.{nat_tests}
 use Rattle.std.proofs.lemmas.List.{length-append}
 use Rattle.xl_base.specs.Refusals.{refused_if, first_of}
@@ -8,7 +9,8 @@ use Rattle.xl_wire.specs.declared.refusal.WireRefusal.{WireRefusal}
 use Rattle.xl_wire.specs.declared.refusal.WireRefusal.TheVariants.{Magic, Version, Kind, Length}
 use Rattle.xl_wire.specs.Kinds.{is_kind, can_have}
 use Rattle.xl_wire.specs.Raws.{RawFrame}
-use Rattle.xl_wire.specs.Heads.{differs, kind_in, length_in, head_refusal, lacking, raw_in, split_unless, split_of, Split}
+use Rattle.xl_wire.specs.Heads.{differs, kind_in, length_in, head_refusal, lacking, raw_in, split_unless, split_of}
+use Rattle.xl_wire.specs.Heads.{Split}
 use Rattle.xl_peers.specs.Sessions.{NeedsMore}
 
 there : (i n : ℕ) → i < n → nat_lt i n ≡ true

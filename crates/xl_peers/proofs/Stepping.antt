@@ -1,5 +1,6 @@
 -- A session goes on by one step.
-use Rattle.std.proofs.Common.{◌≡◌, ◌≢◌, Bool, ◌<◌, ◌≤◌, ◌++◌, ◌∷◌, ℕ, zero, suc, length, Option, List, [], true, refl, sym, ap, ◌∙◌, append_assoc, append-nil, arith, subst}
+use Rattle.std.proofs.Common.{◌≡◌, ◌≢◌, Bool, ◌<◌, ◌≤◌, ◌++◌, ◌∷◌, ℕ, zero, suc, length, Option, List, [], true, refl}
+use Rattle.std.proofs.Common.{sym, ap, ◌∙◌, append_assoc, append-nil, arith, subst}
 use Rattle.std.specs.List.{flat_map, AllByRecursion}
 use Rattle.std.proofs.lemmas.List.{map-append}
 use Rattle.std.proofs.lemmas.Grind.{flat_map-append}
@@ -16,7 +17,8 @@ use Rattle.xl_core.specs.Queues.{joined}
 use Rattle.xl_store.specs.declared.entry.Entry.{Entry}
 use Rattle.xl_store.specs.Calls.{Call, Made}
 use Rattle.xl_store.proofs.Making.{made_both}
-use Rattle.xl_peers.specs.Steps.{Step, Called, Read, frame, call_in, read_in, drained_in, handed_in, handed_by, calls, bytes_read, bytes_drained, frames_handed, IsLast}
+use Rattle.xl_peers.specs.Steps.{Step, Called, Read, frame, call_in, read_in, drained_in, handed_in, handed_by, calls}
+use Rattle.xl_peers.specs.Steps.{bytes_read, bytes_drained, frames_handed, IsLast}
 use Rattle.xl_peers.specs.Sessions.{Phase, IsSession, HandsFirst, NeedsMore, after_read}
 use Rattle.xl_peers.specs.Sessions.Phase.{Asks, Hands}
 use Rattle.xl_peers.specs.Going.{AreBytes, SoFar, Sent}

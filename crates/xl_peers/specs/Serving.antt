@@ -12,8 +12,6 @@ use Rattle.xl_core.specs.declared.event.CoreEvent.TheVariants.{Stopped}
 use Rattle.xl_core.specs.Answers.{Told}
 use Rattle.xl_core.specs.Core.{Core}
 use Rattle.xl_store.specs.declared.entry.Entry.{Entry}
-use Rattle.xl_store.specs.declared.store.StoreEnd.{StoreEnd}
-use Rattle.xl_store.specs.declared.store.StoreEnd.TheVariants as refused
 use Rattle.xl_store.specs.Calls.{Call, Made}
 use Rattle.xl_peers.specs.declared.ends.End.{End}
 use Rattle.xl_peers.specs.declared.ends.End.TheVariants as end
@@ -78,11 +76,6 @@ served_of end.LinkFault = None
 served_of end.OutOfMemory = None
 served_of (end.StoreFull n) = Some (served.StoreFull n)
 
--- want of memory ends nothing
-abbrev pub refused_of : StoreEnd → Option Served
-refused_of refused.OutOfMemory = None
-refused_of (refused.StoreFull n) = Some (served.StoreFull n)
-
 abbrev pub after_session : Option Served → Round
 after_session None = Asks
 after_session (Some s) = Over
@@ -133,6 +126,10 @@ pub record Serves
   pub round : Round
   pub serving : Serving start may_give member old old_link round new new_link
   pub reason : IsReason turns serving.deeds new why
+
+-- the link was opened once, whatever that was answered
+abbrev pub IsOpened : Wire → Wire → Type 0
+IsOpened old new = (answer : Opening) × AddsOpenings old.openings new.openings (answer ∷ [])
 
 -- it goes on, or is over
 abbrev pub Follows : Core → ℕ → (ℕ → Bool) → ℕ

@@ -16,7 +16,8 @@ use Rattle.xl_store.specs.declared.entry.Entry.{Entry}
 use Rattle.xl_store.specs.Calls.{Made}
 use Rattle.xl_peers.specs.declared.ends.End.{End}
 use Rattle.xl_peers.specs.declared.ends.End.TheVariants as end
-use Rattle.xl_peers.specs.Steps.{Step, Read, greet, stopped, drain, frame, calls, bytes_read, bytes_drained, frames_handed, IsLast}
+use Rattle.xl_peers.specs.Steps.{Step, Read, greet, stopped, drain, frame, calls, bytes_read, bytes_drained}
+use Rattle.xl_peers.specs.Steps.{frames_handed, IsLast}
 
 -- What was handed to the core are the first frames of the bytes read, each once and in order, and this is the rest
 pub record HandsFirst (steps : List Step) (rest : List ℕ) : Type 0 where

@@ -1,6 +1,6 @@
 ghost use Rattle.std.specs.Prelude.{◌≡◌};
 ghost use Rattle.xl_peers.specs.Going.{end_of};
-ghost use Rattle.xl_peers.specs.Serving.{refused_of, served_of};
+ghost use Rattle.xl_peers.specs.Serving.{served_of};
 
 use xl_store::StoreEnd;
 use xl_wire::WireRefusal;
@@ -47,15 +47,5 @@ pub(crate) fn served_of(end: End) -> Option<Served>
         End::Stopped => Some(Served::Stopped),
         End::StoreFull(limit) => Some(Served::StoreFull(limit)),
         End::End | End::Framing(_) | End::LinkFault | End::OutOfMemory => None,
-    }
-}
-
-/// How a turn that wasn't had ends the serving, if it does: where memory is wanting it is asked again.
-pub(crate) fn refused_of(end: StoreEnd) -> Option<Served>
-    ensures { result ≡ refused_of end }
-{
-    match end {
-        StoreEnd::OutOfMemory => None,
-        StoreEnd::StoreFull(limit) => Some(Served::StoreFull(limit)),
     }
 }

@@ -1,22 +1,22 @@
-ghost use Rattle.std.specs.Prelude.{◌≡◌, IsSome};
+ghost use Rattle.std.specs.Prelude.{◌≡◌, ◌<◌, ◌≤◌, IsSome, IfOk, OnErr, Ok, None};
 ghost use Rattle.xl_tags.specs.Rings.{key_of};
 ghost use Rattle.xl_turns.specs.declared.view.Knowledge.{Knowledge};
 ghost use Rattle.xl_turns.specs.Passes.{known};
 ghost use Rattle.xl_links.specs.Links.{Wire};
 ghost use Rattle.xl_store.specs.declared.entry.Entry.{Entry};
 ghost use Rattle.xl_store.specs.Stores.{start_of, turns_of, IsOf};
-ghost use Rattle.xl_peers.specs.Serving.{Serving, Serves, Follows};
+ghost use Rattle.xl_peers.specs.Serving.{Serving, Serves, Follows, IsOpened};
 ghost use Rattle.xl_peers.specs.Serving.Round.{Asks, Opens};
 
-use crate::ends::{Served, refused_of, served_of};
+use crate::ends::{Served, served_of};
 use crate::talking::talk;
 use std::alloc::Global;
 use std::sync::Wait;
-use xl_base::NodeNo;
+use xl_base::{NodeNo, OutOfMemory};
 use xl_io::Keeper;
 use xl_ledger::Branch;
 use xl_links::{Clock, Gate, Link, Opening};
-use xl_store::{Pass, Store};
+use xl_store::{Pass, Store, StoreEnd};
 
 /// How long to wait before the store is asked again, in milliseconds.
 const PAUSE: u32 = 1000;
@@ -65,14 +65,16 @@ pub fn attend<W: Wait, B: Branch + Drop, K: Keeper + Drop, L: Link, G: Gate, C: 
 {
     for _ in rt.forever() {
         match round(rt, alloc, store, pass, member, link, gate, clock) {
-            None => clock.wait(PAUSE),
-            Some(served) => return served,
+            Ok(None) => clock.wait(PAUSE),
+            Ok(Some(served)) => return served,
+            Err(_) => clock.wait(PAUSE),
         }
     }
     unreachable!()
 }
 
-/// Asks whether to stop, and connects where the node isn't to.
+/// Asks whether to stop, connects where the node isn't to, and answers why the serving is over, if it is. It fails only
+/// where memory was wanting for the question, and then nothing happened.
 fn round<W: Wait, B: Branch + Drop, K: Keeper + Drop, L: Link, G: Gate, C: Clock>(
     rt: &W,
     alloc: Global,
@@ -82,27 +84,32 @@ fn round<W: Wait, B: Branch + Drop, K: Keeper + Drop, L: Link, G: Gate, C: Clock
     link: &mut L,
     gate: &G,
     clock: &C,
-) -> Option<Served>
+) -> Result<Option<Served>, OutOfMemory>
     requires pass { IsOf store.now pass.old }
     requires peer { IsSome (key_of (start_of store.now).node.keys member) }
     ensures pass { IsOf store.now pass.new }
-    ensures follows { (k : Knowledge Entry) (w : Wire)
+    ensures follows { IfOk result (λ served. (k : Knowledge Entry) (w : Wire)
         → Serving (start_of store.now) (C.may_give clock.now) member k w Asks (known pass.old) (L.shows link.old)
-        → Follows (start_of store.now) (turns_of store.now) (C.may_give clock.now) member k w result
-        (known pass.new) (L.shows link.new) }
+        → Follows (start_of store.now) (turns_of store.now) (C.may_give clock.now) member k w served
+        (known pass.new) (L.shows link.new)) }
+    // Where the serving goes on, the store was asked and the link was opened.
+    ensures turn { result ≡ Ok None → (known pass.old).drawn < (known pass.new).drawn }
+    ensures opened { result ≡ Ok None → IsOpened (L.shows link.old) (L.shows link.new) }
+    ensures nothing { OnErr result ((known pass.new ≡ known pass.old) × (link.new ≡ link.old)) }
 {
     match store.stopped(rt, pass) {
         Ok(answer) => {
             if answer {
-                return Some(Served::Stopped);
+                return Ok(Some(Served::Stopped));
             }
-            connect(rt, alloc, store, pass, member, link, gate, clock)
+            Ok(connect(rt, alloc, store, pass, member, link, gate, clock))
         }
-        Err(end) => refused_of(end),
+        Err(StoreEnd::OutOfMemory) => Err(OutOfMemory),
+        Err(StoreEnd::StoreFull(limit)) => Ok(Some(Served::StoreFull(limit))),
     }
 }
 
-/// Opens the link, and holds a session where that answers Open.
+/// Opens the link, holds a session where that answers Open, and answers why the serving is over, if it is.
 fn connect<W: Wait, B: Branch + Drop, K: Keeper + Drop, L: Link, G: Gate, C: Clock>(
     rt: &W,
     alloc: Global,
@@ -120,6 +127,8 @@ fn connect<W: Wait, B: Branch + Drop, K: Keeper + Drop, L: Link, G: Gate, C: Clo
         → Serving (start_of store.now) (C.may_give clock.now) member k w Opens (known pass.old) (L.shows link.old)
         → Follows (start_of store.now) (turns_of store.now) (C.may_give clock.now) member k w result
         (known pass.new) (L.shows link.new) }
+    ensures drawn { (known pass.old).drawn ≤ (known pass.new).drawn }
+    ensures opened { IsOpened (L.shows link.old) (L.shows link.new) }
 {
     match link.open() {
         Opening::Open => {

@@ -25,7 +25,7 @@ use xl_ledger::Branch;
 use xl_links::{Clock, Gate, Link};
 use xl_store::{Pass, Store};
 
-/// The heartbeat beside all workers, until all have ended.
+/// All workers beside the heartbeat, until all have ended.
 fn run<
     W: Threads + Wait + Sync,
     B: Branch + Drop + Send,
@@ -54,8 +54,14 @@ fn run<
     ensures served { HaveServed store.now (C.may_give clock.now) L.shows workers.old workers.new }
     ensures long { length workers.new ≡ length workers.old }
 {
-    let (beats, ()) = thread::join_mut(
+    // Where no thread can be started the second closure runs first, in this one: the workers then find the stop asked.
+    let ((), beats) = thread::join_mut(
         rt,
+        &mut ||
+            requires { AreReady store.now workers.now }
+            ensures { HaveServed store.entry.now (C.may_give clock.entry.now) L.shows workers.entry.now workers.exit.now
+                × (length workers.exit.now ≡ length workers.entry.now) }
+        { work_all(rt, alloc, store, workers, gate, clock) },
         &mut || -> BeatEnd
             requires { IsOf store.now pass.now }
             ensures { IsOf store.entry.now pass.exit.now
@@ -63,11 +69,6 @@ fn run<
                 (known pass.entry.now) (output (O.held sink.entry.now) (O.faults sink.entry.now)) result
                 (known pass.exit.now) (output (O.held sink.exit.now) (O.faults sink.exit.now)) }
         { beat(rt, store, clock, sink, timing, pass) },
-        &mut ||
-            requires { AreReady store.now workers.now }
-            ensures { HaveServed store.entry.now (C.may_give clock.entry.now) L.shows workers.entry.now workers.exit.now
-                × (length workers.exit.now ≡ length workers.entry.now) }
-        { work_all(rt, alloc, store, workers, gate, clock) },
     );
     beats
 }

@@ -1,5 +1,7 @@
+use Rattle.std.proofs.Common.{subst}
 use Rattle.xl_turns.specs.Passes.{known}
-use Rattle.xl_store.specs.Stores.{start_of}
+use Rattle.xl_store.specs.Stores.{start_of, turns_of}
+use Rattle.xl_peers.specs.Serving.{Follows}
 use Rattle.xl_peers.proofs.Rounds.{serving_starts}
 use Rattle.xl_peers.proofs.serving.attend.Goals as goal
 
@@ -10,8 +12,10 @@ loop-init g c = record {
       (known c.args.pass.now) (g.L.Link.shows c.args.link.now);
 }
 
-pub loop-preserved : goal.loop-preserved
-loop-preserved g c = record {
-  pass = c.round.ensures.pass;
-  far = c.in-None-round.ensures.follows _ _ c.loop.invariant.far;
-}
+pub returns-in-Ok-Some-clause-serves : goal.returns-in-Ok-Some-clause-serves
+returns-in-Ok-Some-clause-serves g c =
+    let store = c.args.store.now in
+    subst (λ o. Follows (start_of store) (turns_of store) (g.C.Clock.may_give c.args.clock.now) c.args.member
+    (known c.args.pass.now) (g.L.Link.shows c.args.link.now) o (known c.round.new.pass)
+    (g.L.Link.shows c.round.new.link)) c.in-Ok-Some.field-0-is
+    (c.in-Ok-Some.ensures.follows _ _ c.loop.invariant.far)

@@ -1,6 +1,7 @@
-use Rattle.std.proofs.Common.{sym, subst}
+use Rattle.std.proofs.Common.{◌∷◌, [], sym, subst}
 use Rattle.xl_turns.specs.Passes.{known}
 use Rattle.xl_links.specs.declared.link.Opening.TheVariants as opening
+use Rattle.xl_links.specs.Links.{AddsOpenings}
 use Rattle.xl_store.specs.Stores.{start_of, turns_of}
 use Rattle.xl_peers.specs.Serving.{Follows}
 use Rattle.xl_peers.proofs.Rounds.{opened, talked_on}
@@ -26,3 +27,16 @@ pub returns-in-Failed-clause-follows : goal.returns-in-Failed-clause-follows
 returns-in-Failed-clause-follows g c k0 w0 s =
     opened (start_of c.args.store.now) (g.C.Clock.may_give c.args.clock.now) c.args.member k0 w0 (known c.args.pass.now)
     (g.L.Link.shows c.args.link.now) (g.L.Link.shows c.open.new.self) opening.Failed s c.in-Failed.ensures
+
+pub returns-in-Open-clause-opened : goal.returns-in-Open-clause-opened
+returns-in-Open-clause-opened g c = (
+  opening.Open,
+  subst (λ told. AddsOpenings (g.L.Link.shows c.args.link.now).openings told (opening.Open ∷ []))
+      (sym c.talk-end.ensures.session.openings) c.in-Open.ensures.openings,
+)
+
+pub returns-in-NotYet-clause-opened : goal.returns-in-NotYet-clause-opened
+returns-in-NotYet-clause-opened g c = (opening.NotYet, c.in-NotYet.ensures.openings)
+
+pub returns-in-Failed-clause-opened : goal.returns-in-Failed-clause-opened
+returns-in-Failed-clause-opened g c = (opening.Failed, c.in-Failed.ensures.openings)
