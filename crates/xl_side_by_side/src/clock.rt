@@ -8,7 +8,7 @@ const LOOKS: u32 = 100_000_000;
 /// The reads of one link after which its frame was handed to the core: the one that gave it, and the next.
 const BOTH: u64 = 2;
 
-/// A clock in memory that goes on only once both links were read again behind their frame.
+/// A clock in memory that goes on only once both links were read again behind their frame, or once it gave up.
 #[derive(Drop)]
 pub struct HeldClock<'a> {
     clock: MemClock,
@@ -61,7 +61,9 @@ impl Clock for HeldClock<'_> {
     }
 
     fn wait(&self, millis: u32) {
-        self.hold();
+        if !self.has_missed() {
+            self.hold();
+        }
         self.clock.wait(millis);
     }
 

@@ -1,4 +1,4 @@
-ghost use Rattle.std.specs.Prelude.{◌≡◌, ◌≢◌, ◌≤◌, ◌⊎◌, ℕ, None, Some, Ok, IfSome, IfOk, IfErr, IsErr};
+ghost use Rattle.std.specs.Prelude.{◌≡◌, ◌≢◌, ◌≤◌, ◌⊎◌, ℕ, None, Some, IfSome, IfOk, IsErr};
 ghost use Rattle.std.specs.Io.KnownBytes.{IsAtEnd};
 ghost use Rattle.xl_base.specs.Faults.{Rose};
 ghost use Rattle.xl_gen.specs.Summaries.{IsSummary};
@@ -9,10 +9,8 @@ ghost use Rattle.xl_replay.specs.Headlines.{names_of, IsReport, IsRefusal, AddsR
 ghost use Rattle.xl_replay.specs.Replays.{report_of};
 ghost use Rattle.xl_replay.specs.Statuses.{IsTold, IsWritten, status_of};
 ghost use Rattle.xl_top.specs.Commands.{asked_of, told_of, told_by, IsReader, HasText};
-ghost use Rattle.xl_settings.specs.declared.settings.Settings.{Settings as TheSettings};
-ghost use Rattle.xl_settings.specs.Lines.{refusal_line};
 ghost use Rattle.xl_settings.specs.Settings.{settings_of};
-ghost use Rattle.xl_validator.specs.Validators.{HasRun, IsRefused, IsUnopened, between};
+ghost use Rattle.xl_validator.specs.Validators.{IsNodeRun, HasRefused, IsUnopened, between};
 ghost use Rattle.xl_words.specs.Commands.{words_of};
 
 use crate::running::run;
@@ -100,14 +98,12 @@ pub fn top<
         → IsWritten (O.held output.old) (O.held output.new) (told_by telling bytes).text
         → (result.status ≡ status_of (told_by telling bytes).verdict) ⊎ (result.status ≡ Status.OutOfMemory))) }
     // Of `node`: refused settings open no store, and of their line a front is written.
-    ensures node_refused { asked_of (words_of words.now) ≡ Some Command.Node → IfSome (I.left input.old) (λ bytes.
-        IfErr (settings_of bytes) (λ refusal. (result.journal ≡ None)
-        × IsRefused (refusal_line refusal) result.status (O.held output.old) (O.held output.new))) }
+    ensures node_refused { asked_of (words_of words.now) ≡ Some Command.Node
+        → HasRefused (I.left input.old) result.journal result.status (O.held output.old) (O.held output.new) }
     // Other settings run a node, or nothing is written.
     ensures node_ran { IfSome result.journal (λ history. (asked_of (words_of words.now) ≡ Some Command.Node)
-        × (settings : TheSettings)
-        × IfSome (I.left input.old) (λ bytes. settings_of bytes ≡ Ok settings)
-        × HasRun K.held K.saves K.faults K.load_gives K.save_gives settings (C.may_give clock.now) (H.gives hub.old)
+        × IsNodeRun K.held K.saves K.faults K.load_gives K.save_gives
+        (I.left input.old) (C.may_give clock.now) (H.gives hub.old)
         (between (H.faults hub.old) (H.faults hub.new)
         (O.held output.old) (O.faults output.old) (O.held output.new) (O.faults output.new))
         keeper result.keeper result.status history) }

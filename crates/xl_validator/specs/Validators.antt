@@ -1,5 +1,5 @@
 -- A whole run of the command `node`. Source: this project's own.
-use Rattle.std.specs.Prelude.{◌≡◌, ℕ, ◌≤◌, ◌⊎◌, Bool, true, List, length, IfSome, option_map}
+use Rattle.std.specs.Prelude.{◌≡◌, ℕ, ◌≤◌, ◌⊎◌, Bool, true, List, length, None, Ok, IfSome, IfErr, option_map}
 use Rattle.std.specs.declared.option.Option.{Option}
 use Rattle.std.specs.Io.KnownBytes.{append_known}
 use Rattle.xl_base.specs.declared.status.Status.{Status}
@@ -13,6 +13,8 @@ use Rattle.xl_store.specs.Closing.{KeepsAll}
 use Rattle.xl_store.specs.Entries.{Leads}
 use Rattle.xl_heartbeat.specs.Outputs.{Output, output}
 use Rattle.xl_settings.specs.declared.settings.Settings.{Settings}
+use Rattle.xl_settings.specs.Lines.{refusal_line}
+use Rattle.xl_settings.specs.Settings.{settings_of}
 use Rattle.xl_workers.specs.declared.ends.RunEnd.{RunEnd}
 use Rattle.xl_workers.specs.Runs.{NodeRun, doing, status_of_end}
 use Rattle.xl_workers.specs.Sharing.{setting}
@@ -23,6 +25,11 @@ use Rattle.xl_validator.specs.Openings.{Task, opening_core, task_of}
 pub record IsRefused (line : List ℕ) (end : Status) (old new : Option (List ℕ)) : Type 0 where
   pub front : GrewByFront old new line
   pub whole : end ≡ status.InputRefused → new ≡ append_known old line
+
+-- settings that are refused open no store, and their line is told
+abbrev pub HasRefused : Option (List ℕ) → Option (List Entry) → Status → Option (List ℕ) → Option (List ℕ) → Type 0
+HasRefused input journal end old new = IfSome input (λ bytes. IfErr (settings_of bytes) (λ refusal.
+    (journal ≡ None) × IsRefused (refusal_line refusal) end old new))
 
 -- what a run stands between: the hub and the output before it and after it
 pub record Between : Type 0 where
@@ -77,6 +84,14 @@ module _ {K : Type 0}
     pub loads : Loads old kept loaded
     pub goes : Goes held_by saves_of faults_of save_gives
         (opening_core s moment kept) (task_of s moment) may_give links outside loaded new end history
+
+  -- a node ran by the settings of what the input held
+  abbrev pub IsNodeRun : Option (List ℕ) → (ℕ → Bool) → (ℕ → Option Wire) → Between → K → K → Status → List Entry
+      → Type 0
+  IsNodeRun input may_give links outside old new end history =
+      (s : Settings)
+      × IfSome input (λ bytes. settings_of bytes ≡ Ok s)
+      × HasRun s may_give links outside old new end history
 
 -- a status of this command: it finds no fork, and no words are refused
 abbrev pub IsKnown : Status → Type 0

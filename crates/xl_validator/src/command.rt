@@ -1,11 +1,11 @@
-ghost use Rattle.std.specs.Prelude.{◌≡◌, ◌≢◌, ◌≤◌, ◌⊎◌, None, IfSome, IfOk, IfErr, IsErr, Ok};
+ghost use Rattle.std.specs.Prelude.{◌≡◌, ◌≢◌, ◌≤◌, ◌⊎◌, None, IfSome, IfOk, IsErr};
 ghost use Rattle.xl_base.specs.Faults.{Rose};
-ghost use Rattle.xl_settings.specs.declared.settings.Settings.{Settings as TheSettings};
 ghost use Rattle.xl_settings.specs.Lines.{refusal_line};
 ghost use Rattle.xl_settings.specs.Runnable.{AreRunnable};
 ghost use Rattle.xl_settings.specs.Settings.{settings_of};
 ghost use Rattle.xl_validator.specs.Preparing.{IsReady, task_in};
-ghost use Rattle.xl_validator.specs.Validators.{Goes, HasRun, IsRefused, IsKnown, IsOfNode, IsUnopened, between};
+ghost use Rattle.xl_validator.specs.Validators.{Goes, HasRun, IsNodeRun, IsRefused, HasRefused, between};
+ghost use Rattle.xl_validator.specs.Validators.{IsKnown, IsOfNode, IsUnopened};
 
 use crate::ended::Ended;
 use crate::preparing::{Prepared, prepare};
@@ -128,12 +128,11 @@ pub fn validator<
     clock: &C,
 ) -> Ended<K>
     // Refused settings open no store, and of their line a front is written.
-    ensures refused { IfSome (I.left input.old) (λ bytes. IfErr (settings_of bytes) (λ refusal. (result.journal ≡ None)
-        × IsRefused (refusal_line refusal) result.status (O.held output.old) (O.held output.new))) }
+    ensures refused { HasRefused (I.left input.old) result.journal result.status
+        (O.held output.old) (O.held output.new) }
     // Other settings run a node, or nothing is written.
-    ensures ran { IfSome result.journal (λ history. (settings : TheSettings)
-        × IfSome (I.left input.old) (λ bytes. settings_of bytes ≡ Ok settings)
-        × HasRun K.held K.saves K.faults K.load_gives K.save_gives settings (C.may_give clock.now) (H.gives hub.old)
+    ensures ran { IfSome result.journal (λ history. IsNodeRun K.held K.saves K.faults K.load_gives K.save_gives
+        (I.left input.old) (C.may_give clock.now) (H.gives hub.old)
         (between (H.faults hub.old) (H.faults hub.new)
         (O.held output.old) (O.faults output.old) (O.held output.new) (O.faults output.new))
         keeper result.keeper result.status history) }

@@ -220,7 +220,7 @@ returns-in-Ok-Node-clause-node_unopened g c =
 
 pub returns-in-Ok-Node-clause-node_ran : goal.returns-in-Ok-Node-clause-node_ran
 returns-in-Ok-Node-clause-node_ran g c =
-    if_more c.validator.result.journal _ _ (λ history ran. ((c.in-Ok-Node.ensures.found ∙ ap Some c.in-Ok-Node.field-0-is), ran.0, ran.1, ran.2)) c.validator.ensures.ran
+    if_more c.validator.result.journal _ _ (λ history ran. ((c.in-Ok-Node.ensures.found ∙ ap Some c.in-Ok-Node.field-0-is), ran)) c.validator.ensures.ran
 
 pub returns-in-Ok-Node-clause-others : goal.returns-in-Ok-Node-clause-others
 returns-in-Ok-Node-clause-others g c =
