@@ -16,9 +16,6 @@ use xl_trie::Trie;
 
 type Stored = Store<Trie, PlainKeeper>;
 
-/// What a node that is alone reports of the first ledger: no transactions, closed at second 30.
-const LINE: &[u8] = b"full 1 a16b4ee48ea382ac6d27a76c54dca05608bfff0fa8cffa6d7273454f87f0b47e\n";
-
 /// A store of so many turns over a node that trusts itself alone, opened at second 1, and its first pass.
 fn stored(alloc: Global, turns: u64) -> Result<(Stored, Pass), Fail>
     requires turns { (0 < turns) × (turns ≤ 2 ^ 62) }
@@ -58,35 +55,6 @@ fn run<W: Wait>(
     Ok((end, last, clock.now()))
 }
 
-/// It closes at second 16, accepts at second 18, and ends at second 21.
-#[test]
-fn a_node_alone_reports_its_ledger(rt: HostRuntime) -> Result<(), Fail> {
-    let alloc = rt.alloc();
-    let mut sink = MemSink::new(alloc, 50, Vec::new(alloc));
-    let (end, last, moment) = run(&rt, alloc, 100, &mut sink)?;
-    assert!(rt; end.run == Ending::Done);
-    assert!(rt; end.stop == Stopping::Done);
-    assert!(rt; last == Ending::Done);
-    assert_eq!(rt; moment, 21_000);
-    assert!(rt; sink.held() == LINE);
-    assert!(rt; status_of_run(end, last) == Status::Done);
-    Ok(())
-}
-
-/// The first beat's timer takes the one turn.
-#[test]
-fn a_full_store_ends_the_beats(rt: HostRuntime) -> Result<(), Fail> {
-    let alloc = rt.alloc();
-    let mut sink = MemSink::new(alloc, 50, Vec::new(alloc));
-    let (end, last, moment) = run(&rt, alloc, 1, &mut sink)?;
-    assert!(rt; end.run == Ending::StoreFull(1));
-    assert!(rt; end.stop == Stopping::StoreFull(1));
-    assert!(rt; last == Ending::StoreFull(1));
-    assert_eq!(rt; moment, 2_000);
-    assert!(rt; status_of_run(end, last) == Status::StoreFull);
-    Ok(())
-}
-
 #[test]
 fn a_failing_write_ends_the_beats(rt: HostRuntime) -> Result<(), Fail> {
     let alloc = rt.alloc();
@@ -98,22 +66,5 @@ fn a_failing_write_ends_the_beats(rt: HostRuntime) -> Result<(), Fail> {
     assert_eq!(rt; moment, 18_000);
     assert!(rt; sink.held() == b"full 1 ".as_slice());
     assert!(rt; status_of_run(end, last) == Status::WriteFault);
-    Ok(())
-}
-
-/// A write's fault in the last reports is told whatever came before, and what else they meet only where all was well.
-#[test]
-fn statuses_of_runs(rt: HostRuntime) -> Result<(), Fail> {
-    let well = BeatEnd {
-        run: Ending::Done,
-        stop: Stopping::Done,
-    };
-    let full = BeatEnd {
-        run: Ending::OutOfMemory,
-        stop: Stopping::StoreFull(9),
-    };
-    assert!(rt; status_of_run(well, Ending::OutOfMemory) == Status::OutOfMemory);
-    assert!(rt; status_of_run(full, Ending::StoreFull(9)) == Status::OutOfMemory);
-    assert!(rt; status_of_run(full, Ending::WriteFault) == Status::WriteFault);
     Ok(())
 }

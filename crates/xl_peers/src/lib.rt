@@ -22,6 +22,3 @@ mod talking;
 pub use ends::{End, Served};
 pub use serving::{attend, serve};
 pub use talking::{session, talk};
-
-#[cfg(test)]
-mod tests;

@@ -3,7 +3,7 @@ mod node;
 use crate::{Agreed, Kind, Mode, Phase, Placed, Pulse, RoundRefusal, Said, Seen};
 use node::{NOTHING, Node, ROOT, Told, on, tx};
 use std::test::Fail;
-use xl_base::{LedgerId, Secs, TxId, set_id};
+use xl_base::{Secs, TxId, set_id};
 use xl_wire::Proposal;
 
 #[test]
@@ -75,24 +75,6 @@ fn a_proposal_is_refused_by_the_first_cause(rt: HostRuntime) -> Result<(), Fail>
 }
 
 #[test]
-fn a_member_that_left_is_refused(rt: HostRuntime) -> Result<(), Fail> {
-    let gone = Told::Taken(Placed::Gone);
-    let mut node = Node::open(rt.alloc(), Mode::Observing)?;
-    assert_eq!(rt; node.hear(2, &empty(u32::MAX, 100), 100), gone);
-    assert_eq!(rt; node.hear(2, &empty(4, 70), 100), Told::Refused(28, 2));
-    Ok(())
-}
-
-#[test]
-fn a_proposal_on_a_former_ledger_is_refused(rt: HostRuntime) -> Result<(), Fail> {
-    let mut node = Node::open(rt.alloc(), Mode::Observing)?;
-    let next = node.learn(30, 30)?;
-    node.start(&next, Mode::Observing, 100_000)?;
-    assert_eq!(rt; node.previous_refused(&empty(5, 100)), Some(next));
-    Ok(())
-}
-
-#[test]
 fn members_come_to_agree(rt: HostRuntime) -> Result<(), Fail> {
     let (mut node, theirs) = Node::with_three(rt.alloc())?;
     let ready = Kind::Ready { moved_on: false };
@@ -105,87 +87,5 @@ fn members_come_to_agree(rt: HostRuntime) -> Result<(), Fail> {
     assert_eq!(rt; node.brief(16_000), (ready, Some((2, 0, 16, false))));
     assert_eq!(rt; node.own(), (1, Some(tx(1)), Some(tx(1))));
     assert_eq!(rt; node.leaving(30_000), Some((theirs, u32::MAX, 0, 30)));
-    Ok(())
-}
-
-#[test]
-fn what_is_accepted_is_no_longer_pending(rt: HostRuntime) -> Result<(), Fail> {
-    let (mut node, theirs) = Node::with_three(rt.alloc())?;
-    assert_eq!(rt; node.kind(2_999, NOTHING), Kind::Closed);
-    assert_eq!(rt; node.kind(4_949, NOTHING), Kind::Updated);
-    let agreed = node.accept(4_950, NOTHING)?.1;
-    assert_eq!(rt; agreed.set, theirs);
-    assert_eq!(rt; node.submit(1), Ok(()));
-    assert_eq!(rt; node.submit(2), Err(RoundRefusal::Pending(tx(2))));
-    Ok(())
-}
-
-#[test]
-fn later_proposals_wait_for_their_round(rt: HostRuntime) -> Result<(), Fail> {
-    let mut node = Node::open(rt.alloc(), Mode::Proposing)?;
-    let set = set_id(&[]);
-    let next = node.learn(0, 30)?;
-    let unknown = LedgerId([9; 32]);
-    let later = Told::Taken(Placed::Later);
-    assert_eq!(rt; node.hear(3, &on(next, set, 0, 4), 4), later);
-    assert_eq!(rt; node.hear(4, &on(unknown, set, 0, 4), 4), later);
-    node.start(&next, Mode::Proposing, 5_000)?;
-    assert_eq!(rt; node.hear(3, &on(next, set, 0, 5), 5), Told::Refused(27, 0));
-    Ok(())
-}
-
-#[test]
-fn the_next_round_counts_the_former_proposers(rt: HostRuntime) -> Result<(), Fail> {
-    let (mut node, _) = Node::with_three(rt.alloc())?;
-    assert_eq!(rt; node.kind(2_999, NOTHING), Kind::Closed);
-    node.accept(4_950, NOTHING)?;
-    let next = node.learn(0, 30)?;
-    node.start(&next, Mode::Proposing, 5_000)?;
-    // Half of the three proposers, rounded down, is one.
-    assert_eq!(rt; node.kind(5_001, validated(1)), Kind::Nothing);
-    assert_eq!(rt; node.kind(5_001, validated(2)), Kind::Closed);
-    Ok(())
-}
-
-fn validated(validated: u32) -> Seen {
-    Seen {
-        validated,
-        finished: 0,
-    }
-}
-
-#[test]
-fn old_positions_go(rt: HostRuntime) -> Result<(), Fail> {
-    let mut node = Node::open(rt.alloc(), Mode::Observing)?;
-    let set = set_id(&[tx(1)]);
-    assert_eq!(rt;
-        node.hear(2, &on(ROOT, set, 0, 10), 10),
-        Told::Taken(Placed::Position)
-    );
-    assert_eq!(rt; node.kind(16_000, NOTHING), Kind::Closed);
-    // A vote for a ledger below ours says that the member has moved on. Once it has no position, there is nobody to
-    // disagree.
-    let one = Seen {
-        validated: 0,
-        finished: 1,
-    };
-    assert_eq!(rt; node.kind(29_999, one), Kind::Ready { moved_on: true });
-    assert_eq!(rt;
-        node.accept(30_000, one)?.0.kind,
-        Kind::Ready { moved_on: false }
-    );
-    Ok(())
-}
-
-#[test]
-fn a_round_opened_again_is_a_first_one(rt: HostRuntime) -> Result<(), Fail> {
-    let (mut node, _) = Node::with_three(rt.alloc())?;
-    assert_eq!(rt; node.kind(2_999, NOTHING), Kind::Closed);
-    node.reopen(Mode::Proposing, 5_000);
-    assert_eq!(rt; (node.phase(), node.own()), (Phase::Open, (0, None, None)));
-    // Nothing is pending, no member has a position, and none is counted from before.
-    assert_eq!(rt; node.submit(1), Ok(()));
-    assert_eq!(rt; node.kind(12_499, NOTHING), Kind::Nothing);
-    assert_eq!(rt; node.brief(12_500), (Kind::Closed, Some((0, 12, 12, true))));
     Ok(())
 }

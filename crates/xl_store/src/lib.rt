@@ -16,8 +16,6 @@ mod home;
 mod journal;
 mod outcome;
 mod store;
-#[cfg(test)]
-mod tests;
 
 pub use entry::{Entry, Saved};
 pub use history::Histories;

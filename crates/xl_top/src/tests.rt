@@ -63,12 +63,6 @@ fn end<R: Threads + Wait + Sync>(
 }
 
 #[test]
-fn refuses_other_words(rt: HostRuntime) -> Result<(), Fail> {
-    assert!(rt; end(&rt, rt.alloc(), "Replay", "xl-schedule 1\n", NONE)? == Status::WordsRefused);
-    Ok(())
-}
-
-#[test]
 fn names_the_fault_of_a_stream(rt: HostRuntime) -> Result<(), Fail> {
     let no_read = Failing {
         reads: &[1],

@@ -35,6 +35,3 @@ pub use plan::{Plan, PlanNode};
 pub use sent::Sent;
 pub use world::World;
 pub use xl_lists::Report as WorldReport;
-
-#[cfg(test)]
-mod tests;

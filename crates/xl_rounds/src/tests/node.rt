@@ -6,7 +6,7 @@ use std::alloc::Global;
 use std::marker::Model;
 use std::test::Fail;
 use xl_base::{LedgerId, Millis, NodeNo, Secs, SetId, TxId, set_id};
-use xl_ledger::{Header, LedgerNo, Registry, build_next, id_of};
+use xl_ledger::{LedgerNo, Registry};
 use xl_wire::Proposal;
 
 pub const ROOT: LedgerId = LedgerId([0; 32]);
@@ -96,12 +96,6 @@ impl Node {
         Ok((node, theirs))
     }
 
-    /// The node starts anew on the root.
-    pub fn reopen(&mut self, mode: Mode, now: Millis) {
-        self.round
-            .reopen(&self.registry, LedgerNo::root(), mode, now);
-    }
-
     /// What becomes of a member's proposal.
     pub fn hear(&mut self, number: u32, p: &Proposal, now: Secs) -> Told
         requires some { 1 ≤ number }
@@ -113,14 +107,6 @@ impl Node {
             return Told::Refused(28, number);
         }
         summary(answer)
-    }
-
-    /// The ledger that a proposal of member 2 is refused with, for its own.
-    pub fn previous_refused(&mut self, p: &Proposal) -> Option<LedgerId> {
-        match self.round.proposal(&self.registry, member(2), p, 100) {
-            Err(RoundRefusal::WrongPrev(ours)) => Some(ours),
-            _ => None,
-        }
     }
 
     /// What a heartbeat does and says: the propose sequence, the close time and the second of the position, and whether
@@ -199,36 +185,4 @@ impl Node {
         }
         Err("not ready")?
     }
-
-    /// The ledger that follows the root by an empty set, at a close time.
-    pub fn learn(&mut self, close: Secs, resolution: u8) -> Result<LedgerId, Fail> {
-        let header = next_of_root(close, resolution);
-        let _ = self.registry.add(&header);
-        Ok(id_of(&header))
-    }
-
-    /// Starts the round on a known ledger.
-    pub fn start(&mut self, id: &LedgerId, mode: Mode, now: Millis) -> Result<(), Fail>
-        requires { now ≤ GREATEST_MILLIS }
-    {
-        let ledger = self.registry.find(id).ok_or("unknown")?;
-        self.round.start(&self.registry, ledger, mode, now);
-        Ok(())
-    }
-}
-
-/// The header of the ledger that follows the root by an empty set.
-pub fn next_of_root(close: Secs, resolution: u8) -> Header {
-    let root = Header {
-        seq: 0,
-        drops: 100_000_000_000_000_000,
-        parent: ROOT,
-        tx_hash: [0; 32],
-        account_hash: [0; 32],
-        parent_close: 0,
-        close: 0,
-        resolution: 30,
-        flags: 0,
-    };
-    build_next(ROOT, &root, set_id(&[]), close, resolution)
 }

@@ -2,8 +2,8 @@ ghost use Rattle.std.specs.Prelude.{IfSome, IsSome};
 ghost use Rattle.xl_tags.specs.Rings.{key_of};
 ghost use Rattle.xl_store.specs.Stores.{start_of, IsOf};
 
-use super::{Stored, frame, frames_and_greetings, stored};
-use crate::{End, session};
+use crate::fixtures::{Stored, frame, stored};
+use crate::sessions::counted;
 use std::alloc::Global;
 use std::sync::Wait;
 use std::sync::atomic::{AtomicU64, Ordering};
@@ -12,6 +12,7 @@ use std::thread;
 use std::thread::Threads;
 use xl_base::NodeNo;
 use xl_links::{Gate, LinkScript, MemClock, MemLink};
+use xl_peers::{End, session};
 use xl_store::Pass;
 
 /// One gate of two sessions. It holds the first call of whichever comes first until the first call of the other was
@@ -108,19 +109,38 @@ fn link(alloc: Global) -> Result<MemLink, Fail> {
     Ok(MemLink::new(alloc, frame(alloc)?, 78, LinkScript::new(alloc), 0)?)
 }
 
+/// How many frames and greetings two sessions make, each of which ends with its link.
+fn made_by_two<W: Threads + Wait + Sync>(
+    rt: &W,
+    alloc: Global,
+    store: Stored,
+    pass: Pass,
+    member: NodeNo,
+    left: MemLink,
+    right: MemLink,
+    gate: &Turnstile,
+) -> Option<(u64, u64)>
+    requires pass { IsOf store pass }
+    requires peer { IsSome (key_of (start_of store).node.keys member) }
+{
+    let (pass, first, second) = hold_two(rt, alloc, &store, pass, member, left, right, gate)?;
+    if first == End::End && second == End::End {
+        counted(store, pass)
+    } else {
+        None
+    }
+}
+
 /// The session that comes first waits in its gate for the other, which is answered meanwhile.
 #[test]
 fn a_session_that_waits_keeps_no_turn(rt: HostRuntime) -> Result<(), Fail> {
     let alloc = rt.alloc();
-    let member = NodeNo::new(2).ok_or("no member")?;
-    let (store, pass) = stored(alloc, 100, member)?;
     let gate = Turnstile::new();
-    let (left, right) = (link(alloc)?, link(alloc)?);
-    let done = hold_two(&rt, alloc, &store, pass, member, left, right, &gate);
-    let (pass, first, second) = done.ok_or("no share")?;
-    assert!(rt; first == End::End && second == End::End);
-    assert_eq!(rt; gate.missed.load(Ordering::SeqCst), 0);
-    assert!(rt; pass.is_whole());
-    assert_eq!(rt; frames_and_greetings(store.close(pass).journal), (2, 2));
+    let left = link(alloc)?;
+    let right = link(alloc)?;
+    let member = NodeNo::new(2).ok_or("no member")?;
+    let (store, pass) = stored(alloc, 2, 100, member)?;
+    let made = made_by_two(&rt, alloc, store, pass, member, left, right, &gate);
+    assert!(rt; made == Some((2, 2)) && gate.missed.load(Ordering::SeqCst) == 0);
     Ok(())
 }
