@@ -30,6 +30,7 @@ ghost use Rattle.xl_core.specs.Node.{
   HearsOthers,
   own_validation,
 };
+ghost use Rattle.xl_core.specs.Hearing.{bytes_with};
 ghost use Rattle.xl_core.specs.declared.refusal.Refusal.TheVariants.{NotAfter, IssuingOff};
 ghost use Rattle.xl_core.specs.declared.hearing.Speech.TheVariants as speech;
 ghost use Rattle.xl_ledger.specs.declared.registry.TheConstants.{LEAST_LIMIT, GREATEST_LIMIT};
@@ -43,7 +44,7 @@ ghost use Rattle.xl_core.specs.Node.Save.{Kept};
 ghost use Rattle.xl_core.specs.Building.{usual_mode as usual_mode_of};
 ghost use Rattle.xl_core.specs.Keeping.{AsksSave, CountsFault, Holds, IsAsked, Saves};
 
-use crate::hearing::hear;
+use crate::hearing::{Tags, hear};
 use crate::putting::Put;
 use crate::sending::put_sealed;
 use crate::taken::Heard;
@@ -329,8 +330,21 @@ impl<B: Branch + Drop> Node<B> {
         // It hears others, and not itself.
         ensures others { HearsOthers self.old bytes.now }
     {
+        self.hear(now, Tags::Tested, bytes)
+    }
+
+    /// The same, with the tag taken as it is to be.
+    pub(crate) fn hear(&mut self, now: Millis, tags: Tags, bytes: &[u8]) -> Result<Heard, Refusal>
+        requires moment { now ≤ GREATEST_MILLIS }
+        ensures exact { hear_reply result self.new
+            ≡ happens self.old (Frame now (bytes_with tags self.old.keys bytes.now)) Kept }
+        ensures refused { result_err result
+            ≡ frame_refusal (at_moment now self.old) (bytes_with tags self.old.keys bytes.now) }
+        ensures unchanged { OnErr result (self.new ≡ at_moment now self.old) }
+        ensures others { HearsOthers self.old (bytes_with tags self.old.keys bytes.now) }
+    {
         self.advance(now);
-        let Spoken { from, what } = hear(&self.keys, &self.list, bytes)?;
+        let Spoken { from, what } = hear(&self.keys, &self.list, tags, bytes)?;
         self.take_said(from, what)
     }
 

@@ -15,7 +15,7 @@ ghost use Rattle.xl_core.specs.Stops.{HoldsAtLeast, IsCovered, StaysCovered};
 ghost use Rattle.xl_core.specs.Keeping.{AsksSave, CountsFault, Holds, IsAsked, Saves};
 ghost use Rattle.xl_core.specs.Replies.{Answers, Drains, HandsOut, Issues, taken_answer, done_answer, was_kept};
 ghost use Rattle.xl_core.specs.Rest.{IsKeyed};
-ghost use Rattle.xl_core.specs.Hearing.{Carries, speech_of};
+ghost use Rattle.xl_core.specs.Hearing.{Carries, bytes_as_sealed, bytes_with, speech_of};
 ghost use Rattle.xl_core.specs.Node.{opened, settings_of, at_moment, asks_for, frame_refusal, speech_refusal, tx_refusal, preferred, IsOff};
 ghost use Rattle.xl_core.specs.Ticks.{Beaten, Concludes, CountsBeatFault, IsBuilt, asks_in, beat_was_kept};
 ghost use Rattle.xl_core.specs.Node.Save.{Kept};
@@ -26,6 +26,7 @@ ghost use Rattle.xl_core.specs.declared.refusal.Refusal.TheVariants.{NotAfter, I
 
 use crate::beat::full_or_partial;
 use crate::greeting::{Greetings, greet, hand_chain, is_greeted};
+use crate::hearing::Tags;
 use crate::outgoing::{Waiting, drain, lost_for};
 use crate::tick::{Built, Tick};
 use crate::untaken::{UNTAKEN, push_report, take_reports};
@@ -138,7 +139,39 @@ impl<B: Branch + Drop> Core<B> {
         ensures unsent { self.new.waiting ≡ self.old.waiting }
         ensures stop { (held : Held) → IsCovered held self.old → IsCovered held self.new }
     {
-        match self.node.frame(now, bytes) {
+        self.hear(now, Tags::Tested, bytes)
+    }
+
+    /// Hears bytes that come as if their sender had sealed them: the tag, the last 32 bytes of a frame, isn't looked at
+    /// and taken as the one under our key. Where it is that one, this is `frame`, for less.
+    ///
+    /// Refused as the node refuses them, and so never for the tag. First the time is set, and rows expire; nothing else
+    /// changes then.
+    pub fn frame_as_sealed(&mut self, now: Millis, bytes: &[u8]) -> Result<Taken, Refusal>
+        requires moment { now ≤ GREATEST_MILLIS }
+        ensures step { Answers (core_happens self.old (Frame now (bytes_as_sealed self.old.node.keys bytes.now)) Kept)
+            self.new (taken_answer result) }
+        ensures refused { result_err result
+            ≡ frame_refusal (at_moment now self.old.node) (bytes_as_sealed self.old.node.keys bytes.now) }
+        ensures unchanged { OnErr result (self.new ≡ record self.old { node = at_moment now self.old.node }) }
+        ensures unsent { self.new.waiting ≡ self.old.waiting }
+        ensures stop { (held : Held) → IsCovered held self.old → IsCovered held self.new }
+    {
+        self.hear(now, Tags::Assumed, bytes)
+    }
+
+    /// Hears bytes, with the tag taken as it is to be.
+    fn hear(&mut self, now: Millis, tags: Tags, bytes: &[u8]) -> Result<Taken, Refusal>
+        requires moment { now ≤ GREATEST_MILLIS }
+        ensures step { Answers (core_happens self.old (Frame now (bytes_with tags self.old.node.keys bytes.now)) Kept)
+            self.new (taken_answer result) }
+        ensures refused { result_err result
+            ≡ frame_refusal (at_moment now self.old.node) (bytes_with tags self.old.node.keys bytes.now) }
+        ensures unchanged { OnErr result (self.new ≡ record self.old { node = at_moment now self.old.node }) }
+        ensures unsent { self.new.waiting ≡ self.old.waiting }
+        ensures stop { (held : Held) → IsCovered held self.old → IsCovered held self.new }
+    {
+        match self.node.hear(now, tags, bytes) {
             Ok(heard) => {
                 push_report(&mut self.untaken, heard.report);
                 Ok(heard.taken)

@@ -13,7 +13,7 @@ use Rattle.xl_lists.specs.Lists.{is_on, is_outside}
 use Rattle.xl_wire.specs.Raws.{RawFrame, IsRaw, SpellsRaw, raw_bytes}
 use Rattle.xl_tags.specs.Macs.{mac}
 use Rattle.xl_tags.specs.Rings.{Ring, IsRing, key_of}
-use Rattle.xl_tags.specs.Sealing.{as_sealed, before_tag, tag_by, sealed}
+use Rattle.xl_tags.specs.Sealing.{as_sealed, before_tag, tag_by, sealed, with_tag}
 use Rattle.xl_tags.specs.Opening.{HasKeys, is_sealed, refusal_of, SealedOpens, OpensAlone}
 use Rattle.xl_tags.specs.declared.refusal.TagRefusal.{TagRefusal}
 use Rattle.xl_tags.specs.declared.refusal.TagRefusal.TheVariants.{BadTag, NotForMe, Stranger}
@@ -192,3 +192,22 @@ refused_anyhow ring members f why ok keyed = by_tests (f.to == ring.me) (f.from 
 pub exits_with : {T : Type 0} (r : Result T TagRefusal) (why : TagRefusal) → IsErrAnd r (λ x. x ≡ why) → result_err r ≡ Some why
 exits_with (Ok value) why is = absurd is
 exits_with (Err x) why is = ap Some is
+
+-- WHAT STANDS THERE
+
+-- a tag that is computed, or that was there, has its length
+tag_long : (o : Option (List ℕ)) (part tag : List ℕ) → length tag ≡ 32 → length (unwrap_or (option_map (λ key. mac key part) o) tag) ≡ 32
+tag_long None part tag long = long
+tag_long (Some key) part tag long = length-sha256 _
+
+pub IsRaw-as_sealed : (ring : Ring) (f : RawFrame) → IsRaw f → IsRaw (as_sealed ring f)
+IsRaw-as_sealed ring f ok = record {
+  lawful = ok.lawful;
+  from = ok.from;
+  to = ok.to;
+  tag = tag_long (key_of ring f.from) (before_tag (raw_bytes f)) f.tag ok.tag;
+}
+
+-- what carries the tag under its sender's key stays
+pub as_sealed_same : (ring : Ring) (f : RawFrame) → tag_by ring f.from f ≡ Some f.tag → as_sealed ring f ≡ f
+as_sealed_same ring f right = ap (λ (o : Option (List ℕ)). with_tag f (unwrap_or o f.tag)) right
