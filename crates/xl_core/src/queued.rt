@@ -13,7 +13,7 @@ ghost use Rattle.xl_core.specs.Queues.{with_items, frames_in};
 ghost use Rattle.xl_core.specs.declared.event.CoreEvent.TheVariants.{Issue, Frame, Timer, Submit, Greet, Stop, Stopped};
 ghost use Rattle.xl_core.specs.Stops.{HoldsAtLeast, IsCovered, StaysCovered};
 ghost use Rattle.xl_core.specs.Keeping.{AsksSave, CountsFault, Holds, IsAsked, Saves};
-ghost use Rattle.xl_core.specs.Replies.{Answers, Drains, HandsOut, Issues, taken_answer, done_answer, was_kept};
+ghost use Rattle.xl_core.specs.Replies.{Answers, Drains, DrainsBlank, HandsOut, Issues, core_for, taken_answer, done_answer, was_kept};
 ghost use Rattle.xl_core.specs.Rest.{IsKeyed};
 ghost use Rattle.xl_core.specs.Hearing.{Carries, bytes_as_sealed, bytes_with, speech_of};
 ghost use Rattle.xl_core.specs.Node.{opened, settings_of, at_moment, asks_for, frame_refusal, speech_refusal, tx_refusal, preferred, IsOff};
@@ -28,6 +28,7 @@ use crate::beat::full_or_partial;
 use crate::greeting::{Greetings, greet, hand_chain, is_greeted};
 use crate::hearing::Tags;
 use crate::outgoing::{Waiting, drain, lost_for};
+use crate::sending::TagPlace;
 use crate::tick::{Built, Tick};
 use crate::untaken::{UNTAKEN, push_report, take_reports};
 use crate::{Beat, Issued, Item, Node, Refusal, Report, Settings, Taken};
@@ -307,11 +308,33 @@ impl<B: Branch + Drop> Core<B> {
         ensures nothing { (result ≡ 0) ↔ (frames_in (all_frames self.old member) ≡ []) }
         ensures stop { (held : Held) → IsCovered held self.old → IsCovered held self.new }
     {
-        let at = hand_chain(&mut self.greetings, &self.node, member, room);
+        self.write(member, TagPlace::Sealed, room)
+    }
+
+    /// The same, but that no frame is sealed: the place of its tag, its last 32 bytes, is left blank. `frame_as_sealed`
+    /// hears such a frame as the sealed one.
+    pub fn drain_blank(&mut self, member: NodeNo, room: &mut [u8]) -> usize
+        requires peer { IsSome (key_of self.old.node.keys member) }
+        requires room { LONGEST_FRAME ≤ length room.old }
+        ensures step { DrainsBlank self.old member self.new result room.old room.new }
+        // It answers 0 exactly where nothing is left but items that are passed over.
+        ensures nothing { (result ≡ 0) ↔ (frames_in (all_frames self.old member) ≡ []) }
+        ensures stop { (held : Held) → IsCovered held self.old → IsCovered held self.new }
+    {
+        self.write(member, TagPlace::Blank, room)
+    }
+
+    /// Writes frames for a peer into the room, with their tags or without.
+    fn write(&mut self, member: NodeNo, tags: TagPlace, room: &mut [u8]) -> usize
+        requires peer { IsSome (key_of self.old.node.keys member) }
+        ensures step { Drains (core_for tags self.old) member (core_for tags self.new) result room.old room.new }
+        ensures node { self.new.node ≡ self.old.node }
+    {
+        let at = hand_chain(&mut self.greetings, &self.node, member, tags, room);
         if !is_greeted(&self.greetings, &self.node, member) {
             return at;
         }
-        at + drain(&mut self.waiting, &self.node, member, &mut room[at..])
+        at + drain(&mut self.waiting, &self.node, member, tags, &mut room[at..])
     }
 
     /// How many items for a member were lost, since its queue was full or they were passed over: none for one that is
