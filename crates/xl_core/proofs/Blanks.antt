@@ -50,7 +50,7 @@ before_last : (front last : List ℕ) → length last ≡ 32 → before_tag (fro
 before_last front last long = take_at front last (length (front ++ last) - 32) (omega (arith, length-append front last))
 
 -- one with another tag is blanked to that with zeros
-blanked_tag : (f : RawFrame) (tag : List ℕ) → length tag ≡ 32 → blanked (raw_bytes (with_tag f tag)) ≡ raw_bytes (with_tag f (replicate 32 0))
+pub blanked_tag : (f : RawFrame) (tag : List ℕ) → length tag ≡ 32 → blanked (raw_bytes (with_tag f tag)) ≡ raw_bytes (with_tag f (replicate 32 0))
 blanked_tag f tag long =
     ap (λ (x : List ℕ). before_tag x ++ replicate 32 0) (sym (tag_behind f tag)) ∙ ap (λ (x : List ℕ). x ++ replicate 32 0) (before_last (raw_bytes (with_tag f [])) tag long) ∙ tag_behind f (replicate 32 0)
 

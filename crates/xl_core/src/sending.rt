@@ -13,6 +13,9 @@ use xl_wire::{Body, Frame, LONGEST_FRAME, encode};
 /// How many bytes a frame has at most that is no set's: a header's.
 const SHORT_FRAME: usize = 164;
 
+/// How many bytes a frame has of a set of 16 ids.
+const SHORT_SET_FRAME: usize = 560;
+
 /// What is written where the tag of a frame goes.
 #[derive(Clone, Copy, Debug)]
 pub enum TagPlace {
@@ -37,9 +40,12 @@ pub fn put_body(
     ensures put { IsPut (Some (sealed_bytes (keys_for tags keys.now) keys.now.me to body.entry)) at room.old room.new result }
     ensures spelled { IsTrue (has_spelling keys.now.me to body.entry) }
 {
-    // Few frames are a set's, so few clear the long room.
-    if 46 + body_length(&body) <= SHORT_FRAME {
+    // Few frames are a long set's, so few clear the long room.
+    let length = 46 + body_length(&body);
+    if length <= SHORT_FRAME {
         put_through(&mut [0; SHORT_FRAME], keys, to, tags, body, at, room)
+    } else if length <= SHORT_SET_FRAME {
+        put_through(&mut [0; SHORT_SET_FRAME], keys, to, tags, body, at, room)
     } else {
         put_through(&mut [0; LONGEST_FRAME], keys, to, tags, body, at, room)
     }
