@@ -1,35 +1,30 @@
 -- Frames whose tags are left blank: with them a drain is what it is with the sealed ones.
-use Rattle.std.proofs.Common.{◌≡◌, ℕ, zero, suc, ◌+◌, ◌-◌, ◌≤◌, Bool, true, false, List, [], ◌∷◌, ◌++◌, length, take, drop, map, replicate, refl, arith, ap, sym, ◌∙◌, subst, Option, Some, None, append-nil}
+use Rattle.std.proofs.Common.{◌≡◌, ℕ, zero, suc, ◌+◌, ◌-◌, Bool, true, false, List, [], ◌∷◌, ◌++◌, length, take, drop, map, replicate, refl, arith, ap, sym, ◌∙◌, subst, Option, Some, None, append-nil}
 use Rattle.std.specs.Prelude.{◌↔◌, count_by, nat_le, option_map, unwrap_or, if◌then◌else◌}
 use Rattle.std.specs.Option.{is_none, option_and_then}
-use Rattle.std.proofs.lemmas.Bool.{cond_both}
 use Rattle.std.proofs.lemmas.List.{length-append, take_at}
-use Rattle.xl_base.specs.declared.ids.LedgerId.{LedgerId}
-use Rattle.xl_ledger.specs.Chains.{place_of}
 use Rattle.xl_lists.proofs.Counting.{count_by-cons}
 use Rattle.xl_queues.specs.Queues.{Backlog}
 use Rattle.xl_wire.specs.Frames.{raw_of}
-use Rattle.xl_wire.specs.Raws.{IsRaw, RawFrame, raw_bytes}
+use Rattle.xl_wire.specs.Raws.{RawFrame, raw_bytes}
 use Rattle.xl_wire.specs.declared.body.Body.{Body}
 use Rattle.xl_wire.proofs.RawLaws.{length-raw_bytes}
 use Rattle.xl_tags.specs.Macs.{mac}
 use Rattle.xl_tags.specs.Rings.{Ring, key_of, no_keys}
 use Rattle.xl_tags.specs.Sealing.{before_tag, sealed, with_tag}
 use Rattle.xl_tags.proofs.RingLaws.{key_of-no_keys}
-use Rattle.xl_core.specs.Answers.{given_in}
 use Rattle.xl_core.specs.Core.{Core, all_frames, drained, given_for, greeted_frames}
 use Rattle.xl_core.specs.Draining.{node_for}
 use Rattle.xl_core.specs.Greetings.{further_at, greeting_at, greeting_frames, yet_to_hand}
-use Rattle.xl_core.specs.Items.{body_in, frame_of, framed, frames_for, header_body, header_body_at}
+use Rattle.xl_core.specs.Items.{body_in, frame_of, framed, frames_for, header_body_at}
 use Rattle.xl_core.specs.Node.{Node}
-use Rattle.xl_core.specs.Queues.{after_taking, at_number, fitting, frames_in, joined, lost_more, that_fit, waiting_at}
-use Rattle.xl_core.specs.Replies.{Drains, DrainsBlank, core_for, drain_reply}
+use Rattle.xl_core.specs.Queues.{after_taking, at_number, fitting, frames_in, joined, lost_more, waiting_at}
+use Rattle.xl_core.specs.Replies.{Drains, DrainsBlank, core_for}
 use Rattle.xl_core.specs.Sending.{blank_frame, blanked, has_spelling, keys_for, sealed_bytes}
 use Rattle.xl_core.specs.declared.greeting.Greeting.{Greeting}
 use Rattle.xl_core.specs.declared.item.Item.{Item}
 use Rattle.xl_core.specs.declared.item.Item.TheVariants.{Vote, Tx, TxSet, Proposal, Header}
-use Rattle.xl_core.specs.declared.sending.TagPlace.{TagPlace}
-use Rattle.xl_core.specs.declared.sending.TagPlace.TheVariants.{Sealed, Blank}
+use Rattle.xl_core.specs.declared.sending.TagPlace.TheVariants.{Blank}
 use Rattle.xl_core.proofs.Spelling.{sealed_raw}
 
 -- ONE FRAME

@@ -1,19 +1,15 @@
-use Rattle.std.proofs.Common.{◌≡◌, ◌≢◌, ◌∙◌, ℕ, List, Option, Some, None, sym, subst, Ok}
-use Rattle.xl_wire.specs.declared.body.Body.{Body}
-use Rattle.xl_wire.specs.Raws.{RawFrame}
+use Rattle.std.proofs.Common.{◌≡◌, ◌≢◌, sym, subst, Ok}
 use Rattle.xl_core.specs.declared.event.CoreEvent.TheVariants as event
 use Rattle.xl_core.specs.declared.hearing.Spoken.{Spoken}
 use Rattle.xl_core.specs.Answers.{Refused, Took}
 use Rattle.xl_core.specs.Hearing.{bytes_with, heard}
-use Rattle.xl_core.specs.declared.refusal.Refusal.{Refusal}
-use Rattle.xl_core.specs.Node.{Node, Frame, at_moment, frame_refusal, speech_refusal, happens}
+use Rattle.xl_core.specs.Node.{Frame, happens}
 use Rattle.xl_core.specs.Node.Save.{Kept}
 use Rattle.xl_core.specs.Core.{Core, core_happens}
 use Rattle.xl_core.specs.Replies.{Answers}
 use Rattle.xl_core.specs.Stops.{IsCovered}
 use Rattle.xl_core.proofs.Stepping.{heard_step, refused_step}
 use Rattle.xl_core.proofs.Stopping.{frame_covered}
-use Rattle.xl_core.proofs.Frames.{carried_refusal}
 use Rattle.xl_core.proofs.queued.Core.hear.Goals as goal
 
 pub returns-in-Ok-clause-step : goal.returns-in-Ok-clause-step
