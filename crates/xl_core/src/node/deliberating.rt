@@ -64,8 +64,18 @@ impl<B: Branch + Drop> Node<B> {
         if ids.len() <= SHORT_SET {
             self.hold_through(&mut [TxId([0; 32]); SHORT_SET], from, ids)
         } else {
-            self.hold_through(&mut [TxId([0; 32]); MOST_IDS], from, ids)
+            self.hold_long(from, ids)
         }
+    }
+
+    /// The same, of a set that the short room doesn't hold. Inlined, it would clear its room for each set.
+    #[inline(never)]
+    fn hold_long(&mut self, from: NodeNo, ids: &Ids<'_>) -> Heard
+        ensures { hear_reply (Ok result) self.new ≡ hears self.old from (speech.TxSet ids.now) }
+    {
+        // A set has so many ids at most.
+        let _count = ids.len();
+        self.hold_through(&mut [TxId([0; 32]); MOST_IDS], from, ids)
     }
 
     /// The same through a room, into which it is copied once.
