@@ -1,6 +1,6 @@
 -- What a room holds, and what still waits, while a drain goes on.
-use Rattle.std.proofs.Common.{◌≡◌, ℕ, zero, suc, ◌+◌, ◌-◌, ◌<◌, ◌≤◌, true, false, cond, List, [], ◌∷◌, ◌++◌, length, set, take, drop, map, arith, refl, ap, sym, ◌∙◌, subst, Option, Some, None}
-use Rattle.std.specs.Prelude.{if◌then◌else◌, All, IfSome, count_by, nat_le, option_to_list, slice_get}
+use Rattle.std.proofs.Common.{◌≡◌, ℕ, zero, suc, ◌+◌, ◌-◌, ◌<◌, ◌≤◌, Bool, true, false, cond, List, [], ◌∷◌, ◌++◌, length, set, take, drop, map, arith, refl, ap, sym, ◌∙◌, subst, Option, Some, None}
+use Rattle.std.specs.Prelude.{◌==◌, if◌then◌else◌, All, IfSome, count_by, nat_le, option_to_list, slice_get}
 use Rattle.std.specs.Option.{is_none, option_and_then}
 use Rattle.std.proofs.lemmas.Bool.{cond-true, cond-false, le-leb}
 use Rattle.std.proofs.lemmas.Bool.Decides.{nat_tests}
@@ -8,9 +8,9 @@ use Rattle.std.proofs.lemmas.Grind.{flat_map-append}
 use Rattle.std.proofs.lemmas.List.{length-append, length-map, length-drop, length-set, length-take-le, append-nil, append_assoc, take_at, drop_at, drop-drop, set-get_or, get_or-set_same, take-append-drop, drop-map}
 use Rattle.std.proofs.lemmas.List.Elements.{All-head, All-tail, filter_map-append}
 use Rattle.std.proofs.lemmas.List.Sums.{sum_by-append}
-use Rattle.xl_queues.specs.Broadcasts.{queue_of}
+use Rattle.xl_queues.specs.Broadcasts.{at_reader, queue_of}
 use Rattle.xl_base.specs.Counts.{one_more}
-use Rattle.xl_queues.specs.Queues.{Backlog, no_items}
+use Rattle.xl_queues.specs.Queues.{Backlog, no_items, passed_over}
 use Rattle.xl_wire.specs.declared.body.Body.{Body}
 use Rattle.xl_core.specs.declared.item.Item.{Item}
 use Rattle.xl_core.specs.Items.{body_in, framed, frame_of}
@@ -245,6 +245,40 @@ found_no_room None at old new NoRoom is none = absurd is
 found_no_room (Some f) at old new (Written count) is none = cc
 found_no_room (Some f) at old new PassedOver is none = cc
 found_no_room (Some f) at old new NoRoom is none = (f, refl, is.0, is.1)
+
+-- what was passed over has no frame
+pub found_passed : (o : Option (List ℕ)) (at : ℕ) (old new : List ℕ) (r : Put) → IsPut o at old new r → r ≡ PassedOver → (o ≡ None) × (new ≡ old)
+found_passed None at old new (Written count) is passed = absurd is
+found_passed None at old new PassedOver is passed = (refl, is)
+found_passed None at old new NoRoom is passed = absurd is
+found_passed (Some f) at old new (Written count) is passed = cc
+found_passed (Some f) at old new PassedOver is passed = absurd is
+found_passed (Some f) at old new NoRoom is passed = cc
+
+-- and was taken out
+pub passes_first : (f : Item → Option (List ℕ)) (waiting after : List (Backlog Item)) (number reader at : ℕ) (item : Item) (old new : List ℕ) → reader + 1 ≡ number →
+    slice_get (waiting_at waiting number).items 0 ≡ Some item → f item ≡ None → new ≡ old → after ≡ at_reader waiting reader passed_over → TakesOne (map f (waiting_at waiting number).items) waiting after number at at old new
+passes_first f waiting after zero reader at item old new is first none same passed = absurd (omega (arith, is))
+passes_first f waiting after (suc place) reader at item old new is first none same passed =
+    let its : reader ≡ place = omega (arith, is) in
+    let q : Backlog Item = queue_of waiting place in
+    let out = passed_out q.items q.lost first in record {
+      first = None;
+      rest = map f (drop 1 q.items);
+      is = ap (map f) out.0 ∙ ap (λ (o : Option (List ℕ)). o ∷ map f (drop 1 q.items)) none;
+      taken = passed ∙ ap (λ (k : ℕ). at_reader waiting k passed_over) its ∙ ap (λ (x : Backlog Item). set waiting place x) out.1;
+      stands = (refl, same);
+    }
+  where
+    same_item : (x : Item) → Some x ≡ Some item → x ≡ item
+    same_item x e = cc
+
+    passed_out : (items : List Item) (lost : ℕ) → slice_get items 0 ≡ Some item →
+        (let q : Backlog Item = record { items = items; lost = lost } in (items ≡ item ∷ drop 1 items) × (passed_over q ≡ after_taking (None ∷ []) q))
+    passed_out [] lost e = cc
+    passed_out (x ∷ xs) lost e =
+        let some : (length (x ∷ xs) == 0) ≡ false = grind (arith, nat_tests) in
+        (ap (λ (y : Item). y ∷ xs) (same_item x e), ap (λ (b : Bool). (let q : Backlog Item = record { items = xs; lost = if b then lost else one_more lost } in q)) some)
 
 -- none is there
 pub none_there : (f : Item → Option (List ℕ)) (items : List Item) (room : ℕ) → slice_get items 0 ≡ None → fitting (map f items) room ≡ 0

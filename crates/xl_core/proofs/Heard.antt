@@ -5,7 +5,7 @@ use Rattle.std.specs.Option.{option_or}
 use Rattle.std.specs.Result.{IsErrAnd}
 use Rattle.std.proofs.lemmas.List.{take_all}
 use Rattle.std.proofs.lemmas.Bool.Decides.{nat_tests}
-use Rattle.std.proofs.lemmas.Bool.{cond_both, le-leb, lt-ltb, ltb-false, le-ltb, eq-eqb}
+use Rattle.std.proofs.lemmas.Bool.{cond_both, cond-true, cond-false, le-leb, lt-ltb, ltb-false, le-ltb, eq-eqb}
 use Rattle.xl_base.specs.Refusals.{refused_if, first_of, unless_refused}
 use Rattle.xl_lists.specs.Lists.{is_on}
 use Rattle.xl_wire.specs.declared.body.Body.{Body}
@@ -15,12 +15,12 @@ use Rattle.xl_wire.specs.Bodies.{body_of, body_in, body_refusal}
 use Rattle.xl_wire.specs.Heads.{split_of, split_unless, head_refusal, lacking, raw_in}
 use Rattle.xl_wire.specs.Heads.Split.{Whole, Need, Refused}
 use Rattle.xl_wire.specs.Kinds.{span}
-use Rattle.xl_wire.specs.Raws.{RawFrame, SpellsRaw}
+use Rattle.xl_wire.specs.Raws.{RawFrame, SpellsRaw, raw_bytes}
 use Rattle.xl_wire.proofs.RawLaws.{length-raw_bytes, spelled_split}
 use Rattle.xl_wire.proofs.BodyLaws.{spelled_read}
 use Rattle.xl_tags.specs.Opening.{refusal_of, is_sealed}
-use Rattle.xl_tags.specs.Sealing.{tag_by}
-use Rattle.xl_tags.proofs.OpeningLaws.{opens_alone, sealed_exactly}
+use Rattle.xl_tags.specs.Sealing.{as_sealed, tag_by}
+use Rattle.xl_tags.proofs.OpeningLaws.{IsRaw-as_sealed, as_sealed_same, opens_alone, sealed_exactly}
 use Rattle.xl_tags.specs.Rings.{Ring}
 use Rattle.xl_tags.specs.declared.refusal.TagRefusal.{TagRefusal}
 use Rattle.xl_tags.specs.declared.refusal.TagRefusal.TheVariants.{NotForMe, Stranger, BadTag}
@@ -29,7 +29,9 @@ use Rattle.xl_core.specs.declared.hearing.Spoken.{Spoken}
 use Rattle.xl_core.specs.declared.hearing.Speech.TheVariants as speech
 use Rattle.xl_core.specs.declared.refusal.Refusal.{Refusal}
 use Rattle.xl_core.specs.declared.refusal.Refusal.TheVariants.{Frame, Tag, Short, Extra}
-use Rattle.xl_core.specs.Hearing.{causes, unheard, speech_of, said_in, heard, Carries}
+use Rattle.xl_core.specs.declared.hearing.Tags.{Tags}
+use Rattle.xl_core.specs.declared.hearing.Tags.TheVariants.{Tested, Assumed}
+use Rattle.xl_core.specs.Hearing.{bytes_as_sealed, bytes_with, causes, frame_with, heard, said_in, sealed_in, speech_of, unheard, Carries}
 
 -- THE CAUSES
 
@@ -292,3 +294,45 @@ carried ring members bytes f body c =
     pass (f.to == ring.me) (f.from == ring.me) (is_on members f.from) (is_sealed ring f) _ _ _
     (eq-eqb f.to ring.me c.mine) (differs f.from ring.me c.other) c.listed ((sealed_exactly ring f (is_sealed ring f) refl).1 c.tag) in
     read ring members bytes f (Ok body) whole all opens (sym (spelled_read f.kind f.body body c.says))
+
+-- WHAT STANDS IN PLACE OF BYTES
+
+-- bytes that aren't one whole frame stay
+pub stays_refused : (tags : Tags) (ring : Ring) (bytes : List ℕ) (why : WireRefusal) → split_of bytes ≡ Refused why → bytes_with tags ring bytes ≡ bytes
+stays_refused Tested ring bytes why is = refl
+stays_refused Assumed ring bytes why is = ap (sealed_in ring bytes) is
+
+pub stays_short : (tags : Tags) (ring : Ring) (bytes : List ℕ) (lack : ℕ) → split_of bytes ≡ Need lack → bytes_with tags ring bytes ≡ bytes
+stays_short Tested ring bytes lack is = refl
+stays_short Assumed ring bytes lack is = ap (sealed_in ring bytes) is
+
+pub stays_long : (tags : Tags) (ring : Ring) (bytes : List ℕ) (f : RawFrame) → split_of bytes ≡ Whole f → span f.body < length bytes → bytes_with tags ring bytes ≡ bytes
+stays_long Tested ring bytes f is more = refl
+stays_long Assumed ring bytes f is more =
+    ap (sealed_in ring bytes) is ∙ cond-true (nat_lt (span f.body) (length bytes)) bytes (raw_bytes (as_sealed ring f)) (lt-ltb (span f.body) (length bytes) more)
+
+-- of one whole frame stands one whole frame
+pub record IsFrame (bytes : List ℕ) (f : RawFrame) : Type 0 where
+  pub split : split_of bytes ≡ Whole f
+  pub all : length bytes ≤ span f.body
+
+pub spelled_frame : (bytes : List ℕ) (f : RawFrame) → SpellsRaw f bytes → IsFrame bytes f
+spelled_frame bytes f s =
+    let long : length bytes ≡ span f.body = ap length s.spelling ∙ length-raw_bytes f s.frame.tag in
+    let all : length bytes ≤ span f.body = omega (arith, long) in
+    record { split = spelled_split bytes f (subst (SpellsRaw f) (sym (take_all (span f.body) bytes all)) s); all = all }
+
+pub as_sealed_bytes : (ring : Ring) (bytes : List ℕ) (f : RawFrame) → SpellsRaw f bytes → bytes_as_sealed ring bytes ≡ raw_bytes (as_sealed ring f)
+as_sealed_bytes ring bytes f s =
+    let is = spelled_frame bytes f s in
+    ap (sealed_in ring bytes) is.split ∙ cond-false (nat_lt (span f.body) (length bytes)) bytes (raw_bytes (as_sealed ring f)) (le-ltb (span f.body) (length bytes) is.all)
+
+pub framed_with : (tags : Tags) (ring : Ring) (bytes : List ℕ) (f : RawFrame) → SpellsRaw f bytes → IsFrame (bytes_with tags ring bytes) (frame_with tags ring f)
+framed_with Tested ring bytes f s = spelled_frame bytes f s
+framed_with Assumed ring bytes f s =
+    subst (λ (b : List ℕ). IsFrame b (as_sealed ring f)) (sym (as_sealed_bytes ring bytes f s))
+    (spelled_frame (raw_bytes (as_sealed ring f)) (as_sealed ring f) (record { frame = IsRaw-as_sealed ring f s.frame; spelling = refl }))
+
+-- bytes that their sender sealed stay
+pub sealed_already : (ring : Ring) (bytes : List ℕ) (f : RawFrame) → SpellsRaw f bytes → tag_by ring f.from f ≡ Some f.tag → bytes_as_sealed ring bytes ≡ bytes
+sealed_already ring bytes f s right = as_sealed_bytes ring bytes f s ∙ ap raw_bytes (as_sealed_same ring f right) ∙ sym s.spelling

@@ -11,6 +11,7 @@ pub mod Arising
 pub mod Answered
 pub mod Opening
 pub mod Passing
+pub mod Blanks
 pub mod Current
 pub mod Expiring
 pub mod Timing

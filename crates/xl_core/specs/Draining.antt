@@ -14,6 +14,8 @@ use Rattle.xl_core.specs.declared.greeting.Greeting.{Greeting}
 use Rattle.xl_core.specs.Greetings.{chain_to, greeting_frames, further}
 use Rattle.xl_core.specs.Items.{frames_for}
 use Rattle.xl_core.specs.Node.{Node}
+use Rattle.xl_core.specs.Sending.{keys_for}
+use Rattle.xl_core.specs.declared.sending.TagPlace.{TagPlace}
 use Rattle.xl_core.specs.Queues.{at_number, after_taking, fitting, that_fit, frames_in, joined}
 
 -- what became of a frame at a place of a room, or of what has none
@@ -48,6 +50,10 @@ TakesNone n number at waiting after old new =
 abbrev pub TakesFirst : Node → ℕ → ℕ → Option ℕ → List (Backlog Item) → List (Backlog Item) → List ℕ → List ℕ → Type 0
 TakesFirst n number at result waiting after old new =
     (next : ℕ) → result ≡ Some next → TakesOne (frames_for n waiting number) waiting after number at next old new
+
+-- a node as it writes its frames
+abbrev pub node_for : TagPlace → Node → Node
+node_for tags n = record n { keys = keys_for tags n.keys }
 
 -- THE HEADERS OF A GREETING
 

@@ -1,21 +1,24 @@
 -- What a node hears in bytes: the first of a list of causes for which it hears nothing, or what is said and by whom.
 -- Source: the order of the causes is this profile's.
-use Rattle.std.specs.Prelude.{◌≡◌, ◌≢◌, ℕ, ◌-◌, nat_lt, List, [], ◌∷◌, length, Option, Some, option_map, Result, IsTrue}
+use Rattle.std.specs.Prelude.{◌≡◌, ◌≢◌, ℕ, ◌-◌, nat_lt, List, [], ◌∷◌, length, Option, Some, option_map, Result, IsTrue, if◌then◌else◌}
 use Rattle.xl_base.specs.Refusals.{refused_if, first_of, unless_refused}
 use Rattle.xl_lists.specs.Lists.{is_on}
 use Rattle.xl_wire.specs.declared.body.Body.{Body}
 use Rattle.xl_wire.specs.declared.body.Body.TheVariants as bodies
 use Rattle.xl_wire.specs.Bodies.{body_refusal, body_in, SpellsBody}
-use Rattle.xl_wire.specs.Heads.{head_refusal, lacking, raw_in}
+use Rattle.xl_wire.specs.Heads.{head_refusal, lacking, raw_in, split_of, Split}
+use Rattle.xl_wire.specs.Heads.Split.{Whole, Need, Refused}
 use Rattle.xl_wire.specs.Kinds.{span}
-use Rattle.xl_wire.specs.Raws.{RawFrame, SpellsRaw}
+use Rattle.xl_wire.specs.Raws.{RawFrame, SpellsRaw, raw_bytes}
 use Rattle.xl_tags.specs.Opening.{refusal_of}
 use Rattle.xl_tags.specs.Rings.{Ring}
-use Rattle.xl_tags.specs.Sealing.{tag_by}
+use Rattle.xl_tags.specs.Sealing.{as_sealed, tag_by, with_tag}
 use Rattle.xl_ledger.specs.Reading.{header_in}
 use Rattle.xl_core.specs.declared.hearing.Spoken.{Spoken}
 use Rattle.xl_core.specs.declared.hearing.Speech.{Speech}
 use Rattle.xl_core.specs.declared.hearing.Speech.TheVariants as speech
+use Rattle.xl_core.specs.declared.hearing.Tags.{Tags}
+use Rattle.xl_core.specs.declared.hearing.Tags.TheVariants.{Tested, Assumed}
 use Rattle.xl_core.specs.declared.refusal.Refusal.{Refusal}
 use Rattle.xl_core.specs.declared.refusal.Refusal.TheVariants.{Frame, Tag, Short, Extra}
 
@@ -57,3 +60,25 @@ pub record Carries (ring : Ring) (members bytes : List ℕ) (f : RawFrame) (body
   pub listed : IsTrue (is_on members f.from)
   pub tag : tag_by ring f.from f ≡ Some f.tag
   pub says : SpellsBody body f.kind f.body
+
+-- bytes as if their sender had sealed them, where they are one whole frame; else they stay as they are
+abbrev pub sealed_in : Ring → List ℕ → Split → List ℕ
+sealed_in ring bytes (Refused why) = bytes
+sealed_in ring bytes (Need lack) = bytes
+sealed_in ring bytes (Whole f) = if nat_lt (span f.body) (length bytes) then bytes else raw_bytes (as_sealed ring f)
+
+abbrev pub bytes_as_sealed : Ring → List ℕ → List ℕ
+bytes_as_sealed ring bytes = sealed_in ring bytes (split_of bytes)
+
+-- the bytes that are heard where the tag is tested, and where it is taken as the right one
+abbrev pub bytes_with : Tags → Ring → List ℕ → List ℕ
+bytes_with Tested ring bytes = bytes
+bytes_with Assumed ring bytes = bytes_as_sealed ring bytes
+
+-- and the frame
+abbrev pub tag_with : Tags → Ring → RawFrame → List ℕ
+tag_with Tested ring f = f.tag
+tag_with Assumed ring f = (as_sealed ring f).tag
+
+abbrev pub frame_with : Tags → Ring → RawFrame → RawFrame
+frame_with tags ring f = with_tag f (tag_with tags ring f)

@@ -1,6 +1,6 @@
 -- The answers of a node's calls, as replies. Source: this project's own, by which a call answers what the node's step
 -- replies.
-use Rattle.std.specs.Prelude.{◌≡◌, ℕ, Bool, List, [], ◌∷◌, ◌++◌, length, drop, Result, Ok, Err, Some, None}
+use Rattle.std.specs.Prelude.{◌≡◌, ℕ, Bool, List, [], ◌∷◌, ◌++◌, length, drop, map, Result, Ok, Err, Some, None}
 use Rattle.std.specs.declared.option.Option.{Option}
 use Rattle.xl_base.specs.declared.ids.TxId.{TxId}
 use Rattle.xl_core.specs.declared.report.Report.{Report}
@@ -15,7 +15,10 @@ use Rattle.xl_core.specs.Answers.{Answer, Refused, Took, Done, given_in, handed_
 use Rattle.xl_core.specs.declared.event.CoreEvent.{CoreEvent}
 use Rattle.xl_core.specs.declared.event.CoreEvent.TheVariants.{Drain, Reports}
 use Rattle.xl_core.specs.Core.{Core, CoreReply, core_happens}
+use Rattle.xl_core.specs.declared.sending.TagPlace.{TagPlace}
+use Rattle.xl_core.specs.Draining.{node_for}
 use Rattle.xl_core.specs.Queues.{joined}
+use Rattle.xl_core.specs.Sending.{blanked}
 use Rattle.xl_core.specs.Node.{Node, Reply, Save, replying, refusing, items_of, is_kept}
 use Rattle.xl_core.specs.Node.Save.{Kept, Failed}
 
@@ -74,6 +77,17 @@ pub record Drains (before : Core) (member : ℕ) (after : Core) (written : ℕ) 
   pub core : after ≡ (drain_reply before member old).core
   pub count : written ≡ length (joined (given_in (drain_reply before member old).answer))
   pub room : new ≡ joined (given_in (drain_reply before member old).answer) ++ drop written old
+
+-- a core whose node writes its frames so
+abbrev pub core_for : TagPlace → Core → Core
+core_for tags core = record core { node = node_for tags core.node }
+
+-- what a drain leaves that leaves the tags blank: the same, but for a room that begins with these frames, each with its
+-- tag cleared
+pub record DrainsBlank (before : Core) (member : ℕ) (after : Core) (written : ℕ) (old new : List ℕ) : Type 0 where
+  pub core : after ≡ (drain_reply before member old).core
+  pub count : written ≡ length (joined (map blanked (given_in (drain_reply before member old).answer)))
+  pub room : new ≡ joined (map blanked (given_in (drain_reply before member old).answer)) ++ drop written old
 
 -- what came of handing out into a room of that length
 abbrev pub reports_reply : Core → List Report → CoreReply

@@ -1,5 +1,5 @@
 -- The frame in which a node sends what it says to another member. Source: this project's own layout.
-use Rattle.std.specs.Prelude.{ℕ, ◌^◌, ◌==◌, ◌&&◌, nat_lt, Bool, List, length, replicate}
+use Rattle.std.specs.Prelude.{ℕ, ◌^◌, ◌==◌, ◌&&◌, nat_lt, Bool, List, ◌++◌, length, replicate, Option, None}
 use Rattle.xl_wire.specs.declared.body.Body.{Body}
 use Rattle.xl_wire.specs.declared.body.Body.TheVariants as bodies
 use Rattle.xl_wire.specs.declared.frame.Frame.{Frame}
@@ -8,7 +8,9 @@ use Rattle.xl_wire.specs.Frames.{raw_of}
 use Rattle.xl_wire.specs.Kinds.{can_have}
 use Rattle.xl_wire.specs.Raws.{raw_bytes}
 use Rattle.xl_tags.specs.Rings.{Ring}
-use Rattle.xl_tags.specs.Sealing.{sealed}
+use Rattle.xl_tags.specs.Sealing.{before_tag, sealed}
+use Rattle.xl_core.specs.declared.sending.TagPlace.{TagPlace}
+use Rattle.xl_core.specs.declared.sending.TagPlace.TheVariants.{Sealed, Blank}
 
 -- a frame before it is sealed
 abbrev pub blank_frame : ℕ → ℕ → Body → Frame
@@ -31,3 +33,15 @@ fits (bodies.Tx id) = length id.0 == 32
 -- the test of `IsFrame`: what its fields can't hold has no spelling
 abbrev pub has_spelling : ℕ → ℕ → Body → Bool
 has_spelling from to body = nat_lt from (2 ^ 32) && nat_lt to (2 ^ 32) && fits body
+
+-- a frame whose tag is cleared
+abbrev pub blanked : List ℕ → List ℕ
+blanked frame = before_tag frame ++ replicate 32 0
+
+-- the keys by which frames are written: none where the place of the tag stays blank
+abbrev pub keys_in : TagPlace → List (Option (List ℕ)) → List (Option (List ℕ))
+keys_in Sealed keys = keys
+keys_in Blank keys = replicate 64 None
+
+abbrev pub keys_for : TagPlace → Ring → Ring
+keys_for tags ring = record { me = ring.me; keys = keys_in tags ring.keys }

@@ -1,12 +1,13 @@
 // With which chain each peer is greeted.
 ghost use Rattle.std.specs.Prelude.{◌≡◌, Some, IsSome, length};
 ghost use Rattle.xl_tags.specs.Rings.{key_of};
-ghost use Rattle.xl_core.specs.Draining.{is_handed, Writes};
+ghost use Rattle.xl_core.specs.Draining.{is_handed, node_for, Writes};
 ghost use Rattle.xl_core.specs.Greetings.{further, further_at, greeting_at, greeting_frames, with_greeting};
 ghost use Rattle.xl_core.specs.Queues.{fitting};
 
 use crate::Node;
 use crate::outgoing::reader_of;
+use crate::sending::TagPlace;
 use xl_base::{LedgerId, MOST_MEMBERS, NodeNo, Seq};
 use xl_ledger::Branch;
 
@@ -35,19 +36,20 @@ pub fn hand_chain<B: Branch + Drop>(
     greetings: &mut Greetings,
     node: &Node<B>,
     member: NodeNo,
+    tags: TagPlace,
     room: &mut [u8],
 ) -> usize
     requires key { IsSome (key_of node.now.keys member) }
-    ensures written { Writes (greeting_frames node.now (greeting_at greetings.old member) member)
+    ensures written { Writes (greeting_frames (node_for tags node.now) (greeting_at greetings.old member) member)
         result room.old room.new }
     ensures handed { greetings.new ≡ further_at greetings.old member
-        (fitting (greeting_frames node.now (greeting_at greetings.old member) member) (length room.old)) }
+        (fitting (greeting_frames (node_for tags node.now) (greeting_at greetings.old member) member) (length room.old)) }
 {
     let reader = reader_of(member);
     match greetings[reader] {
         Some(greeting) => {
             let mut greeting = greeting;
-            let written = hand_headers(node, member, &mut greeting, room);
+            let written = hand_headers(node, member, tags, &mut greeting, room);
             greetings[reader] = Some(greeting);
             written
         }
@@ -59,16 +61,17 @@ pub fn hand_chain<B: Branch + Drop>(
 fn hand_headers<B: Branch + Drop>(
     node: &Node<B>,
     member: NodeNo,
+    tags: TagPlace,
     greeting: &mut Greeting,
     room: &mut [u8],
 ) -> usize
     requires key { IsSome (key_of node.now.keys member) }
-    ensures written { Writes (greeting_frames node.now (Some greeting.old) member) result room.old room.new }
+    ensures written { Writes (greeting_frames (node_for tags node.now) (Some greeting.old) member) result room.old room.new }
     ensures handed { greeting.new ≡
-        further (fitting (greeting_frames node.now (Some greeting.old) member) (length room.old)) greeting.old }
+        further (fitting (greeting_frames (node_for tags node.now) (Some greeting.old) member) (length room.old)) greeting.old }
 {
     let mut at = 0;
-    while let Some(next) = node.put_next(member, greeting, at, room) {
+    while let Some(next) = node.put_next(member, tags, greeting, at, room) {
         at = next;
         greeting.next += 1;
     }

@@ -30,10 +30,11 @@ ghost use Rattle.xl_core.specs.Node.{
   HearsOthers,
   own_validation,
 };
+ghost use Rattle.xl_core.specs.Hearing.{bytes_with};
 ghost use Rattle.xl_core.specs.declared.refusal.Refusal.TheVariants.{NotAfter, IssuingOff};
 ghost use Rattle.xl_core.specs.declared.hearing.Speech.TheVariants as speech;
 ghost use Rattle.xl_ledger.specs.declared.registry.TheConstants.{LEAST_LIMIT, GREATEST_LIMIT};
-ghost use Rattle.xl_core.specs.Draining.{IsPut};
+ghost use Rattle.xl_core.specs.Draining.{IsPut, node_for};
 ghost use Rattle.xl_core.specs.Items.{frame_of, body_in as body_in_of, header_body as header_body_of, header_body_at as header_body_at_of};
 ghost use Rattle.xl_core.specs.declared.item.Item.TheVariants as items;
 ghost use Rattle.xl_core.specs.Rest.{IsKeyed};
@@ -43,9 +44,9 @@ ghost use Rattle.xl_core.specs.Node.Save.{Kept};
 ghost use Rattle.xl_core.specs.Building.{usual_mode as usual_mode_of};
 ghost use Rattle.xl_core.specs.Keeping.{AsksSave, CountsFault, Holds, IsAsked, Saves};
 
-use crate::hearing::hear;
+use crate::hearing::{Tags, hear};
 use crate::putting::Put;
-use crate::sending::put_sealed;
+use crate::sending::{TagPlace, put_body};
 use crate::taken::Heard;
 use crate::{Item, OwnValidation, Refusal, Report, Settings, Speech, Spoken, Taken};
 use std::alloc::Global;
@@ -329,8 +330,21 @@ impl<B: Branch + Drop> Node<B> {
         // It hears others, and not itself.
         ensures others { HearsOthers self.old bytes.now }
     {
+        self.hear(now, Tags::Tested, bytes)
+    }
+
+    /// The same, with the tag taken as it is to be.
+    pub(crate) fn hear(&mut self, now: Millis, tags: Tags, bytes: &[u8]) -> Result<Heard, Refusal>
+        requires moment { now ≤ GREATEST_MILLIS }
+        ensures exact { hear_reply result self.new
+            ≡ happens self.old (Frame now (bytes_with tags self.old.keys bytes.now)) Kept }
+        ensures refused { result_err result
+            ≡ frame_refusal (at_moment now self.old) (bytes_with tags self.old.keys bytes.now) }
+        ensures unchanged { OnErr result (self.new ≡ at_moment now self.old) }
+        ensures others { HearsOthers self.old (bytes_with tags self.old.keys bytes.now) }
+    {
         self.advance(now);
-        let Spoken { from, what } = hear(&self.keys, &self.list, bytes)?;
+        let Spoken { from, what } = hear(&self.keys, &self.list, tags, bytes)?;
         self.take_said(from, what)
     }
 
@@ -396,13 +410,20 @@ impl<B: Branch + Drop> Node<B> {
 
     /// Puts the frame in which it sends an item to a member at a place of a room, where the room is long enough. What
     /// isn't sent is passed over.
-    pub(crate) fn put(&self, to: NodeNo, item: &Item, at: usize, room: &mut [u8]) -> Put
+    pub(crate) fn put(
+        &self,
+        to: NodeNo,
+        tags: TagPlace,
+        item: &Item,
+        at: usize,
+        room: &mut [u8],
+    ) -> Put
         requires key { IsSome (key_of self.now.keys to) }
         requires place { at ≤ length room.old }
-        ensures { IsPut (frame_of self.now to item.now) at room.old room.new result }
+        ensures { IsPut (frame_of (node_for tags self.now) to item.now) at room.old room.new result }
     {
         match self.body_in(item) {
-            Some(body) => put_sealed(&self.keys, to, body, at, room),
+            Some(body) => put_body(&self.keys, to, tags, body, at, room),
             None => Put::PassedOver,
         }
     }

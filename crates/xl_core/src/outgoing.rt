@@ -1,10 +1,11 @@
 // What a node has yet to send, for each number that a member may have.
 ghost use Rattle.std.specs.Prelude.{◌≡◌, ◌+◌, ◌-◌, ◌≤◌, ◌++◌, ℕ, Some, None, IsSome, drop, length};
 ghost use Rattle.xl_tags.specs.Rings.{key_of};
-ghost use Rattle.xl_core.specs.Draining.{TakesFirst, TakesNone};
+ghost use Rattle.xl_core.specs.Draining.{node_for, TakesFirst, TakesNone};
 ghost use Rattle.xl_core.specs.Items.{drained_bytes, drained_for, lost_for};
 
 use crate::putting::Put;
+use crate::sending::TagPlace;
 use crate::{Item, Node};
 use xl_base::{MOST_MEMBERS, NodeNo};
 use xl_ledger::Branch;
@@ -30,15 +31,16 @@ pub fn drain<B: Branch + Drop>(
     waiting: &mut Waiting,
     node: &Node<B>,
     member: NodeNo,
+    tags: TagPlace,
     room: &mut [u8],
 ) -> usize
     requires key { IsSome (key_of node.now.keys member) }
-    ensures count { result ≡ length (drained_bytes node.now waiting.old member (length room.old)) }
-    ensures frames { room.new ≡ drained_bytes node.now waiting.old member (length room.old) ++ drop result room.old }
-    ensures taken { waiting.new ≡ drained_for node.now waiting.old member (length room.old) }
+    ensures count { result ≡ length (drained_bytes (node_for tags node.now) waiting.old member (length room.old)) }
+    ensures frames { room.new ≡ drained_bytes (node_for tags node.now) waiting.old member (length room.old) ++ drop result room.old }
+    ensures taken { waiting.new ≡ drained_for (node_for tags node.now) waiting.old member (length room.old) }
 {
     let mut at = 0;
-    while let Some(next) = drain_first(waiting, node, member, at, room) {
+    while let Some(next) = drain_first(waiting, node, member, tags, at, room) {
         at = next;
     }
     at
@@ -50,18 +52,19 @@ fn drain_first<B: Branch + Drop>(
     waiting: &mut Waiting,
     node: &Node<B>,
     member: NodeNo,
+    tags: TagPlace,
     at: usize,
     room: &mut [u8],
 ) -> Option<usize>
     requires key { IsSome (key_of node.now.keys member) }
     requires place { at ≤ length room.old }
-    ensures none { result ≡ None → TakesNone node.now member at waiting.old waiting.new room.old room.new }
-    ensures some { TakesFirst node.now member at result waiting.old waiting.new room.old room.new }
+    ensures none { result ≡ None → TakesNone (node_for tags node.now) member at waiting.old waiting.new room.old room.new }
+    ensures some { TakesFirst (node_for tags node.now) member at result waiting.old waiting.new room.old room.new }
     ensures numbers { (length waiting.old ≡ 64) × (1 ≤ member) × (member ≤ 64) }
 {
     let reader = reader_of(member);
     let item = *waiting.first(reader)?;
-    match node.put(member, &item, at, room) {
+    match node.put(member, tags, &item, at, room) {
         Put::Written(count) => {
             waiting.pop(reader);
             Some(at + count)

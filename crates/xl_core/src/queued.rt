@@ -13,9 +13,9 @@ ghost use Rattle.xl_core.specs.Queues.{with_items, frames_in};
 ghost use Rattle.xl_core.specs.declared.event.CoreEvent.TheVariants.{Issue, Frame, Timer, Submit, Greet, Stop, Stopped};
 ghost use Rattle.xl_core.specs.Stops.{HoldsAtLeast, IsCovered, StaysCovered};
 ghost use Rattle.xl_core.specs.Keeping.{AsksSave, CountsFault, Holds, IsAsked, Saves};
-ghost use Rattle.xl_core.specs.Replies.{Answers, Drains, HandsOut, Issues, taken_answer, done_answer, was_kept};
+ghost use Rattle.xl_core.specs.Replies.{Answers, Drains, DrainsBlank, HandsOut, Issues, core_for, taken_answer, done_answer, was_kept};
 ghost use Rattle.xl_core.specs.Rest.{IsKeyed};
-ghost use Rattle.xl_core.specs.Hearing.{Carries, speech_of};
+ghost use Rattle.xl_core.specs.Hearing.{Carries, bytes_as_sealed, bytes_with, speech_of};
 ghost use Rattle.xl_core.specs.Node.{opened, settings_of, at_moment, asks_for, frame_refusal, speech_refusal, tx_refusal, preferred, IsOff};
 ghost use Rattle.xl_core.specs.Ticks.{Beaten, Concludes, CountsBeatFault, IsBuilt, asks_in, beat_was_kept};
 ghost use Rattle.xl_core.specs.Node.Save.{Kept};
@@ -26,7 +26,9 @@ ghost use Rattle.xl_core.specs.declared.refusal.Refusal.TheVariants.{NotAfter, I
 
 use crate::beat::full_or_partial;
 use crate::greeting::{Greetings, greet, hand_chain, is_greeted};
+use crate::hearing::Tags;
 use crate::outgoing::{Waiting, drain, lost_for};
+use crate::sending::TagPlace;
 use crate::tick::{Built, Tick};
 use crate::untaken::{UNTAKEN, push_report, take_reports};
 use crate::{Beat, Issued, Item, Node, Refusal, Report, Settings, Taken};
@@ -138,7 +140,39 @@ impl<B: Branch + Drop> Core<B> {
         ensures unsent { self.new.waiting ≡ self.old.waiting }
         ensures stop { (held : Held) → IsCovered held self.old → IsCovered held self.new }
     {
-        match self.node.frame(now, bytes) {
+        self.hear(now, Tags::Tested, bytes)
+    }
+
+    /// Hears bytes that come as if their sender had sealed them: the tag, the last 32 bytes of a frame, isn't looked at
+    /// and taken as the one under our key. Where it is that one, this is `frame`, for less.
+    ///
+    /// Refused as the node refuses them, and so never for the tag. First the time is set, and rows expire; nothing else
+    /// changes then.
+    pub fn frame_as_sealed(&mut self, now: Millis, bytes: &[u8]) -> Result<Taken, Refusal>
+        requires moment { now ≤ GREATEST_MILLIS }
+        ensures step { Answers (core_happens self.old (Frame now (bytes_as_sealed self.old.node.keys bytes.now)) Kept)
+            self.new (taken_answer result) }
+        ensures refused { result_err result
+            ≡ frame_refusal (at_moment now self.old.node) (bytes_as_sealed self.old.node.keys bytes.now) }
+        ensures unchanged { OnErr result (self.new ≡ record self.old { node = at_moment now self.old.node }) }
+        ensures unsent { self.new.waiting ≡ self.old.waiting }
+        ensures stop { (held : Held) → IsCovered held self.old → IsCovered held self.new }
+    {
+        self.hear(now, Tags::Assumed, bytes)
+    }
+
+    /// Hears bytes, with the tag taken as it is to be.
+    fn hear(&mut self, now: Millis, tags: Tags, bytes: &[u8]) -> Result<Taken, Refusal>
+        requires moment { now ≤ GREATEST_MILLIS }
+        ensures step { Answers (core_happens self.old (Frame now (bytes_with tags self.old.node.keys bytes.now)) Kept)
+            self.new (taken_answer result) }
+        ensures refused { result_err result
+            ≡ frame_refusal (at_moment now self.old.node) (bytes_with tags self.old.node.keys bytes.now) }
+        ensures unchanged { OnErr result (self.new ≡ record self.old { node = at_moment now self.old.node }) }
+        ensures unsent { self.new.waiting ≡ self.old.waiting }
+        ensures stop { (held : Held) → IsCovered held self.old → IsCovered held self.new }
+    {
+        match self.node.hear(now, tags, bytes) {
             Ok(heard) => {
                 push_report(&mut self.untaken, heard.report);
                 Ok(heard.taken)
@@ -274,11 +308,33 @@ impl<B: Branch + Drop> Core<B> {
         ensures nothing { (result ≡ 0) ↔ (frames_in (all_frames self.old member) ≡ []) }
         ensures stop { (held : Held) → IsCovered held self.old → IsCovered held self.new }
     {
-        let at = hand_chain(&mut self.greetings, &self.node, member, room);
+        self.write(member, TagPlace::Sealed, room)
+    }
+
+    /// The same, but that no frame is sealed: the place of its tag, its last 32 bytes, is left blank. `frame_as_sealed`
+    /// hears such a frame as the sealed one.
+    pub fn drain_blank(&mut self, member: NodeNo, room: &mut [u8]) -> usize
+        requires peer { IsSome (key_of self.old.node.keys member) }
+        requires room { LONGEST_FRAME ≤ length room.old }
+        ensures step { DrainsBlank self.old member self.new result room.old room.new }
+        // It answers 0 exactly where nothing is left but items that are passed over.
+        ensures nothing { (result ≡ 0) ↔ (frames_in (all_frames self.old member) ≡ []) }
+        ensures stop { (held : Held) → IsCovered held self.old → IsCovered held self.new }
+    {
+        self.write(member, TagPlace::Blank, room)
+    }
+
+    /// Writes frames for a peer into the room, with their tags or without.
+    fn write(&mut self, member: NodeNo, tags: TagPlace, room: &mut [u8]) -> usize
+        requires peer { IsSome (key_of self.old.node.keys member) }
+        ensures step { Drains (core_for tags self.old) member (core_for tags self.new) result room.old room.new }
+        ensures node { self.new.node ≡ self.old.node }
+    {
+        let at = hand_chain(&mut self.greetings, &self.node, member, tags, room);
         if !is_greeted(&self.greetings, &self.node, member) {
             return at;
         }
-        at + drain(&mut self.waiting, &self.node, member, &mut room[at..])
+        at + drain(&mut self.waiting, &self.node, member, tags, &mut room[at..])
     }
 
     /// How many items for a member were lost, since its queue was full or they were passed over: none for one that is

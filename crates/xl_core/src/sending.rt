@@ -3,7 +3,7 @@ ghost use Rattle.std.specs.Prelude.{◌≡◌, ◌+◌, ◌≤◌, Some, IsSome,
 ghost use Rattle.xl_tags.specs.Rings.{key_of};
 ghost use Rattle.xl_wire.specs.Writing.{body_length as body_length_of};
 ghost use Rattle.xl_core.specs.Draining.{IsPut};
-ghost use Rattle.xl_core.specs.Sending.{sealed_bytes, has_spelling};
+ghost use Rattle.xl_core.specs.Sending.{keys_for, sealed_bytes, has_spelling};
 
 use crate::putting::{Put, put_frame};
 use xl_base::NodeNo;
@@ -13,19 +13,41 @@ use xl_wire::{Body, Frame, LONGEST_FRAME, encode};
 /// How many bytes a frame has at most that is no set's: a header's.
 const SHORT_FRAME: usize = 164;
 
-/// Puts the frame of a body for another member, sealed by the key for it, at a place of the room, unless the room is
-/// too short.
-pub fn put_sealed(keys: &Keys, to: NodeNo, body: Body<'_>, at: usize, room: &mut [u8]) -> Put
+/// How many bytes a frame has of a set of 16 ids.
+const SHORT_SET_FRAME: usize = 560;
+
+/// What is written where the tag of a frame goes.
+#[derive(Clone, Copy, Debug)]
+pub enum TagPlace {
+    /// The tag under the receiver's key.
+    Sealed,
+    /// Zeros.
+    Blank,
+}
+
+/// Puts the frame of a body for another member, sealed by the key for it or with no tag yet, at a place of the room,
+/// unless the room is too short.
+pub fn put_body(
+    keys: &Keys,
+    to: NodeNo,
+    tags: TagPlace,
+    body: Body<'_>,
+    at: usize,
+    room: &mut [u8],
+) -> Put
     requires key { IsSome (key_of keys.now to) }
     requires place { at ≤ length room.old }
-    ensures put { IsPut (Some (sealed_bytes keys.now keys.now.me to body.entry)) at room.old room.new result }
+    ensures put { IsPut (Some (sealed_bytes (keys_for tags keys.now) keys.now.me to body.entry)) at room.old room.new result }
     ensures spelled { IsTrue (has_spelling keys.now.me to body.entry) }
 {
-    // Few frames are a set's, so few clear the long room.
-    if 46 + body_length(&body) <= SHORT_FRAME {
-        put_through(&mut [0; SHORT_FRAME], keys, to, body, at, room)
+    // Few frames are a long set's, so few clear the long room.
+    let length = 46 + body_length(&body);
+    if length <= SHORT_FRAME {
+        put_through(&mut [0; SHORT_FRAME], keys, to, tags, body, at, room)
+    } else if length <= SHORT_SET_FRAME {
+        put_through(&mut [0; SHORT_SET_FRAME], keys, to, tags, body, at, room)
     } else {
-        put_through(&mut [0; LONGEST_FRAME], keys, to, body, at, room)
+        put_through(&mut [0; LONGEST_FRAME], keys, to, tags, body, at, room)
     }
 }
 
@@ -34,6 +56,7 @@ fn put_through(
     own: &mut [u8],
     keys: &Keys,
     to: NodeNo,
+    tags: TagPlace,
     body: Body<'_>,
     at: usize,
     room: &mut [u8],
@@ -41,19 +64,19 @@ fn put_through(
     requires own { 46 + body_length_of body ≤ length own.old }
     requires key { IsSome (key_of keys.now to) }
     requires place { at ≤ length room.old }
-    ensures put { IsPut (Some (sealed_bytes keys.now keys.now.me to body.entry)) at room.old room.new result }
+    ensures put { IsPut (Some (sealed_bytes (keys_for tags keys.now) keys.now.me to body.entry)) at room.old room.new result }
     ensures spelled { IsTrue (has_spelling keys.now.me to body.entry) }
 {
     let frame = &mut own[..46 + body_length(&body)];
-    seal_into(keys, to, body, frame);
+    write_into(keys, to, tags, body, frame);
     put_frame(frame, at, room)
 }
 
-/// Writes the frame of a body for another member, sealed by the key for it, into a place of its length.
-fn seal_into(keys: &Keys, to: NodeNo, body: Body<'_>, place: &mut [u8])
+/// Writes the frame of a body for another member into a place of its length.
+fn write_into(keys: &Keys, to: NodeNo, tags: TagPlace, body: Body<'_>, place: &mut [u8])
     requires key { IsSome (key_of keys.now to) }
     requires long { length place.old ≡ 46 + body_length_of body }
-    ensures sealed { place.new ≡ sealed_bytes keys.now keys.now.me to body.entry }
+    ensures sealed { place.new ≡ sealed_bytes (keys_for tags keys.now) keys.now.me to body.entry }
     ensures long { length place.new ≡ length place.old }
     ensures spelled { IsTrue (has_spelling keys.now.me to body.entry) }
 {
@@ -64,7 +87,10 @@ fn seal_into(keys: &Keys, to: NodeNo, body: Body<'_>, place: &mut [u8])
         tag: [0; 32],
     };
     encode(&frame, place);
-    seal(keys, place);
+    match tags {
+        TagPlace::Sealed => seal(keys, place),
+        TagPlace::Blank => (),
+    }
 }
 
 /// How many bytes a body has.

@@ -1,21 +1,22 @@
 -- What the tests of an opened frame say of it.
-use Rattle.std.proofs.Common.{◌≡◌, ◌≢◌, ℕ, ◌==◌, Bool, true, false, not, List, [], ◌∷◌, Option, Some, None, IsSome, IsTrue, refl, sym, ap, subst, ◌∙◌, inl, inr, length}
+use Rattle.std.proofs.Common.{◌≡◌, ◌≢◌, ℕ, ◌==◌, Bool, true, false, not, List, [], ◌∷◌, Option, Some, None, Result, Ok, Err, IsSome, IsTrue, refl, sym, ap, subst, ◌∙◌, inl, inr, length}
 use Rattle.std.specs.Prelude.{if◌then◌else◌, ◌||◌, is_some, option_map, unwrap_or, bytes_eq}
 use Rattle.std.specs.List.{AllByRecursion}
 use Rattle.std.specs.Option.{option_map_or}
+use Rattle.std.specs.Result.{result_err, IsErrAnd}
 use Rattle.std.proofs.lemmas.Bool.{or_cases, eqb-true, eq-eqb, true≢false}
 use Rattle.std.proofs.Common.{arith}
 use Rattle.std.proofs.lemmas.Bool.Decides.{nat_tests}
 use Rattle.std.proofs.lemmas.List.Elements.{recursion_from_All}
 use Rattle.std.proofs.lemmas.Slice.Eq.{bytes_eq-Decides}
 use Rattle.xl_lists.specs.Lists.{is_on, is_outside}
-use Rattle.xl_wire.specs.Raws.{RawFrame, SpellsRaw, raw_bytes}
+use Rattle.xl_wire.specs.Raws.{RawFrame, IsRaw, SpellsRaw, raw_bytes}
 use Rattle.xl_tags.specs.Macs.{mac}
 use Rattle.xl_tags.specs.Rings.{Ring, IsRing, key_of}
-use Rattle.xl_tags.specs.Sealing.{before_tag, tag_by, sealed}
+use Rattle.xl_tags.specs.Sealing.{as_sealed, before_tag, tag_by, sealed, with_tag}
 use Rattle.xl_tags.specs.Opening.{HasKeys, is_sealed, refusal_of, SealedOpens, OpensAlone}
 use Rattle.xl_tags.specs.declared.refusal.TagRefusal.{TagRefusal}
-use Rattle.xl_tags.specs.declared.refusal.TagRefusal.TheVariants.{BadTag}
+use Rattle.xl_tags.specs.declared.refusal.TagRefusal.TheVariants.{BadTag, NotForMe, Stranger}
 use Rattle.xl_tags.proofs.RingLaws.{key_of-outside}
 use Rattle.xl_tags.proofs.SealingLaws.{before_tag-with_tag}
 use Rattle.sha2.proofs.Facts256.{length-sha256}
@@ -96,13 +97,26 @@ past : (to from on right : Bool) (a b c : TagRefusal) → to ≡ true → from �
     → (if not to then Some a else if from || not on then Some b else if right then None else Some c) ≡ (if right then None else Some c)
 past to from on right a b c p q r = rw (p, q, r) refl
 
--- a frame for the ring's member from another listed one is refused for its tag alone
-pub refused_by_tag : (ring : Ring) (members : List ℕ) (f : RawFrame) (tag : List ℕ) (same : Bool) → f.to ≡ ring.me
-    → true ≡ not (f.from == ring.me || not (is_on members f.from)) → tag_by ring f.from f ≡ Some tag → same ≡ bytes_eq tag f.tag
-    → refusal_of ring members f ≡ (if same then None else Some (BadTag f.tag tag))
-refused_by_tag ring members f tag same to other computed is =
-    let both = another (f.from == ring.me) (is_on members f.from) (sym other) in
-    past (f.to == ring.me) (f.from == ring.me) (is_on members f.from) (is_sealed ring f) _ _ _ (eq-eqb f.to ring.me to) both.0 both.1
+-- a frame that opens as if sealed is for the ring's member, from another listed one
+as_sealed_passed : (ring : Ring) (members : List ℕ) (f : RawFrame) → refusal_of ring members (as_sealed ring f) ≡ None
+    → ((f.to == ring.me) ≡ true) × ((f.from == ring.me) ≡ false) × (is_on members f.from ≡ true)
+as_sealed_passed ring members f e =
+    let g = as_sealed ring f in
+    let p = passed (g.to == ring.me) (g.from == ring.me) (is_on members g.from) (is_sealed ring g) _ _ _ e in (p.0, p.1, p.2)
+
+-- so its sender has a key
+pub sender_has_key : (ring : Ring) (members : List ℕ) (f : RawFrame) → HasKeys ring members → refusal_of ring members (as_sealed ring f) ≡ None
+    → IsSome (key_of ring f.from)
+sender_has_key ring members f keyed e =
+    let p = as_sealed_passed ring members f e in
+    has_key ring members f.from keyed p.2 (λ same. true≢false (sym (eq-eqb f.from ring.me same) ∙ p.1))
+
+-- and it is refused for its tag alone
+pub refused_by_tag : (ring : Ring) (members : List ℕ) (f : RawFrame) (tag : List ℕ) (same : Bool) → refusal_of ring members (as_sealed ring f) ≡ None
+    → tag_by ring f.from f ≡ Some tag → same ≡ bytes_eq tag f.tag → refusal_of ring members f ≡ (if same then None else Some (BadTag f.tag tag))
+refused_by_tag ring members f tag same opens computed is =
+    let p = as_sealed_passed ring members f opens in
+    past (f.to == ring.me) (f.from == ring.me) (is_on members f.from) (is_sealed ring f) _ _ _ p.0 p.1 p.2
     ∙ ap (λ (right : Bool). if right then None else Some (BadTag f.tag (unwrap_or (tag_by ring f.from f) []))) (sym (sealed_where ring f tag same computed is))
     ∙ ap (λ (o : Option (List ℕ)). if same then None else Some (BadTag f.tag (unwrap_or o []))) computed
 
@@ -126,3 +140,74 @@ sealed_opens ring other members key f ok from to apart on there here =
     pass (f.to == other.me) (f.from == other.me) (is_on members f.from) (is_sealed other (sealed ring f)) _ _ _
     (eq-eqb f.to other.me to) (differs f.from other.me (λ e. apart (sym from ∙ e))) (ap (is_on members) from ∙ on)
     ((sealed_exactly other (sealed ring f) (is_sealed other (sealed ring f)) refl).1 right)
+
+-- AS IF SEALED
+
+none_some : (why : TagRefusal) → None ≡ Some why → ⊥
+none_some why e = cc
+
+-- a frame that is as if sealed carries the tag under its sender's key
+pub tag_as_sealed : (ring : Ring) (f : RawFrame) → IsRaw f → IsSome (key_of ring f.from)
+    → tag_by ring f.from (as_sealed ring f) ≡ Some (as_sealed ring f).tag
+tag_as_sealed ring f ok some = by_key (key_of ring f.from) refl some
+  where
+    by_key : (o : Option (List ℕ)) → key_of ring f.from ≡ o → IsSome o → tag_by ring f.from (as_sealed ring f) ≡ Some (as_sealed ring f).tag
+    by_key None e s = cc
+    by_key (Some key) e s =
+        let own : tag_by ring f.from f ≡ Some (mac key (before_tag (raw_bytes f))) = ap (λ (o : Option (List ℕ)). option_map (λ k. mac k (before_tag (raw_bytes f))) o) e in
+        let tag : (as_sealed ring f).tag ≡ mac key (before_tag (raw_bytes f)) = ap (λ (o : Option (List ℕ)). unwrap_or o f.tag) own in
+        ap (λ (o : Option (List ℕ)). option_map (λ k. mac k (before_tag (raw_bytes (as_sealed ring f)))) o) e
+        ∙ ap (λ (x : List ℕ). Some (mac key x)) (before_tag-with_tag f (as_sealed ring f).tag ok (ap length tag ∙ length-sha256 _))
+        ∙ ap Some (sym tag)
+
+-- and is opened where it is for the ring's member from another listed one
+pub opens_as_sealed : (ring : Ring) (members : List ℕ) (f : RawFrame) → IsRaw f → HasKeys ring members → f.to ≡ ring.me
+    → true ≡ not (f.from == ring.me || not (is_on members f.from)) → refusal_of ring members (as_sealed ring f) ≡ None
+opens_as_sealed ring members f ok keyed to other =
+    let both = another (f.from == ring.me) (is_on members f.from) (sym other) in
+    let g = as_sealed ring f in
+    pass (g.to == ring.me) (g.from == ring.me) (is_on members g.from) (is_sealed ring g) _ _ _ (eq-eqb f.to ring.me to) both.0 both.1
+    ((sealed_exactly ring g (is_sealed ring g) refl).1 (tag_as_sealed ring f ok (another_has_key ring members f.from keyed (sym other))))
+
+-- what is refused as if sealed is refused so
+pub refused_anyhow : (ring : Ring) (members : List ℕ) (f : RawFrame) (why : TagRefusal) → IsRaw f → HasKeys ring members
+    → refusal_of ring members (as_sealed ring f) ≡ Some why → refusal_of ring members f ≡ Some why
+refused_anyhow ring members f why ok keyed = by_tests (f.to == ring.me) (f.from == ring.me) (is_on members f.from) refl refl refl
+  where
+    g : RawFrame
+    g = as_sealed ring f
+
+    by_tests : (to from on : Bool) → (f.to == ring.me) ≡ to → (f.from == ring.me) ≡ from → is_on members f.from ≡ on
+        → (if not to then Some (NotForMe f.to) else if from || not on then Some (Stranger f.from) else if is_sealed ring g then None else Some (BadTag g.tag (unwrap_or (tag_by ring g.from g) []))) ≡ Some why
+        → (if not to then Some (NotForMe f.to) else if from || not on then Some (Stranger f.from) else if is_sealed ring f then None else Some (BadTag f.tag (unwrap_or (tag_by ring f.from f) []))) ≡ Some why
+    by_tests false from on a b c e = e
+    by_tests true true on a b c e = e
+    by_tests true false false a b c e = e
+    by_tests true false true a b c e =
+        let some = has_key ring members f.from keyed c (λ same. true≢false (sym (eq-eqb f.from ring.me same) ∙ b)) in
+        let right : is_sealed ring g ≡ true = (sealed_exactly ring g (is_sealed ring g) refl).1 (tag_as_sealed ring f ok some) in
+        absurd (none_some why (sym (ap (λ (r : Bool). if r then None else Some (BadTag g.tag (unwrap_or (tag_by ring g.from g) []))) right) ∙ e))
+
+-- the exit of a `?`
+pub exits_with : {T : Type 0} (r : Result T TagRefusal) (why : TagRefusal) → IsErrAnd r (λ x. x ≡ why) → result_err r ≡ Some why
+exits_with (Ok value) why is = absurd is
+exits_with (Err x) why is = ap Some is
+
+-- WHAT STANDS THERE
+
+-- a tag that is computed, or that was there, has its length
+tag_long : (o : Option (List ℕ)) (part tag : List ℕ) → length tag ≡ 32 → length (unwrap_or (option_map (λ key. mac key part) o) tag) ≡ 32
+tag_long None part tag long = long
+tag_long (Some key) part tag long = length-sha256 _
+
+pub IsRaw-as_sealed : (ring : Ring) (f : RawFrame) → IsRaw f → IsRaw (as_sealed ring f)
+IsRaw-as_sealed ring f ok = record {
+  lawful = ok.lawful;
+  from = ok.from;
+  to = ok.to;
+  tag = tag_long (key_of ring f.from) (before_tag (raw_bytes f)) f.tag ok.tag;
+}
+
+-- what carries the tag under its sender's key stays
+pub as_sealed_same : (ring : Ring) (f : RawFrame) → tag_by ring f.from f ≡ Some f.tag → as_sealed ring f ≡ f
+as_sealed_same ring f right = ap (λ (o : Option (List ℕ)). with_tag f (unwrap_or o f.tag)) right

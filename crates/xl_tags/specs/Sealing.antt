@@ -19,6 +19,10 @@ with_tag f tag = record { kind = f.kind; from = f.from; to = f.to; body = f.body
 abbrev pub sealed : Ring → RawFrame → RawFrame
 sealed ring f = with_tag f (unwrap_or (tag_by ring f.to f) f.tag)
 
+-- the frame as if its sender had sealed it: with the tag under its sender's key, where there is one
+abbrev pub as_sealed : Ring → RawFrame → RawFrame
+as_sealed ring f = with_tag f (unwrap_or (tag_by ring f.from f) f.tag)
+
 -- the bytes are one whole frame
 pub record IsWhole (bytes : List ℕ) : Type 0 where
   pub frame : RawFrame

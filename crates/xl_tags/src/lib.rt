@@ -18,7 +18,7 @@ mod sealing;
 pub use keys::Keys;
 pub use law::sealed_opens;
 pub use macs::hmac;
-pub use opening::{is_sealed, open, open_raw};
+pub use opening::{is_sealed, open, open_as_sealed, open_raw};
 pub use pair_keys::pair_key;
 pub use refusal::TagRefusal;
 pub use sealing::seal;

@@ -1,9 +1,9 @@
 ghost use Rattle.std.specs.Prelude.{◌≡◌, ◌==◌, ◌||◌, ◌↔◌, not, is_some, IfOk, IfSome, IsTrue, Some};
 ghost use Rattle.std.specs.Result.{result_err};
 ghost use Rattle.xl_lists.specs.Lists.{is_on};
-ghost use Rattle.xl_wire.specs.Raws.{RawFrame, SpellsRaw, raw_frame};
+ghost use Rattle.xl_wire.specs.Raws.{RawFrame, IsRaw, SpellsRaw, raw_frame};
 ghost use Rattle.xl_tags.specs.Opening.{refusal_of, is_sealed, HasKeys};
-ghost use Rattle.xl_tags.specs.Sealing.{tag_by, IsWhole};
+ghost use Rattle.xl_tags.specs.Sealing.{as_sealed, tag_by, IsWhole};
 
 use crate::TagRefusal;
 use crate::comparing::is_same_tag;
@@ -34,12 +34,7 @@ pub fn open_raw(keys: &Keys, list: &List, raw: &Raw<'_>, bytes: &[u8]) -> Result
     ensures refusal { result_err result ≡ refusal_of keys.now list.now.members (raw_frame raw.now) }
     ensures sender { IfOk result (λ member. member ≡ raw.now.from) }
 {
-    if raw.to != keys.me().get() {
-        return Err(TagRefusal::NotForMe(raw.to));
-    }
-    let Some(sender) = another_member(keys, list, raw.from) else {
-        return Err(TagRefusal::Stranger(raw.from));
-    };
+    let sender = open_as_sealed(keys, list, raw)?;
     let computed = keys.tag(raw.from, before_tag(bytes));
     if !is_same_tag(&computed, &raw.tag) {
         return Err(TagRefusal::BadTag {
@@ -48,6 +43,22 @@ pub fn open_raw(keys: &Keys, list: &List, raw: &Raw<'_>, bytes: &[u8]) -> Result
         });
     }
     Ok(sender)
+}
+
+/// The same of a frame as if it carried the tag under our key, so it isn't refused for its tag, which isn't looked at.
+pub fn open_as_sealed(keys: &Keys, list: &List, raw: &Raw<'_>) -> Result<NodeNo, TagRefusal>
+    requires spelled { IsRaw (raw_frame raw.now) }
+    requires keyed { HasKeys keys.now list.now.members }
+    ensures refusal { result_err result ≡ refusal_of keys.now list.now.members (as_sealed keys.now (raw_frame raw.now)) }
+    ensures sender { IfOk result (λ member. member ≡ raw.now.from) }
+{
+    if raw.to != keys.me().get() {
+        return Err(TagRefusal::NotForMe(raw.to));
+    }
+    match another_member(keys, list, raw.from) {
+        Some(sender) => Ok(sender),
+        None => Err(TagRefusal::Stranger(raw.from)),
+    }
 }
 
 /// The listed member other than me that has the number.

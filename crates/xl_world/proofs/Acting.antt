@@ -8,7 +8,7 @@ use Rattle.std.proofs.lemmas.Slice.Eq.{bytes_eq-Decides}
 use Rattle.xl_base.specs.Counts.{one_more}
 use Rattle.xl_lists.specs.Lists.{is_on}
 use Rattle.xl_tags.specs.Opening.{is_sealed}
-use Rattle.xl_tags.specs.Rings.{Ring}
+use Rattle.xl_tags.specs.Rings.{Ring, schedule_ring}
 use Rattle.xl_wire.specs.Heads.{Split, split_of}
 use Rattle.xl_wire.specs.Heads.Split.{Whole, Need, Refused as NoFrame}
 use Rattle.xl_wire.specs.Kinds.{span}
@@ -16,6 +16,7 @@ use Rattle.xl_lists.specs.Agreement.{with_said}
 use Rattle.xl_lists.specs.declared.report.Report.{Report as Reported}
 use Rattle.xl_lists.specs.declared.said.SaidLedger.{SaidLedger}
 use Rattle.xl_core.specs.Core.{Core, CoreReply, core_happens}
+use Rattle.xl_core.specs.Hearing.{bytes_as_sealed}
 use Rattle.xl_core.specs.Node.{Node, Save, Timed, completed, timed, at_moment}
 use Rattle.xl_core.specs.Node.Timed.{Quiet, Ending}
 use Rattle.xl_core.specs.declared.event.CoreEvent.{CoreEvent}
@@ -29,7 +30,7 @@ use Rattle.xl_world.specs.declared.act.NodeAnswer.{NodeAnswer}
 use Rattle.xl_world.specs.declared.place.Fate.{Fate}
 use Rattle.xl_world.specs.declared.place.Fate.TheVariants.{Saved}
 use Rattle.xl_world.specs.declared.place.Place.{Place}
-use Rattle.xl_world.specs.declared.sent.Sent.{Sent}
+use Rattle.xl_world.specs.Sending.{Sent}
 use Rattle.xl_world.specs.Emptying.{event_steps}
 use Rattle.xl_world.specs.Forgeries.{forges, was_sent}
 use Rattle.xl_world.specs.Keeper.{answer_of}
@@ -54,6 +55,7 @@ completed_unsent (Ending n said h place moved_on) save from = refl
 pub deed_unsent : (core : Core) (now : ℕ) (d : Deed) (save : Save) (from : ℕ) → sent_in from (core_happens core (deed_event now d) save).answer ≡ []
 deed_unsent core now (deed.Issue seq id full) save from = (issue_plain core.node now seq id full save).sent from
 deed_unsent core now (deed.Frame bytes) save from = (frame_plain core.node now bytes.now save).sent from
+deed_unsent core now (deed.Sent to kept) save from = (frame_plain core.node now (bytes_as_sealed (schedule_ring to) kept.now) save).sent from
 deed_unsent core now deed.Timer save from = completed_unsent (timed (at_moment now core.node)) save from
 deed_unsent core now (deed.Submit tx) save from =
     submit_either (λ r. sent_in from r.answer ≡ []) (at_moment now core.node) tx (λ _. refl) refl

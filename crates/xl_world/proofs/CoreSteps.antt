@@ -43,7 +43,7 @@ use Rattle.xl_wire.specs.declared.body.Body.TheVariants as bodies
 use Rattle.xl_core.specs.Sending.{sealed_bytes, has_spelling}
 use Rattle.xl_world.specs.declared.place.Keeper.{Keeper}
 use Rattle.xl_world.specs.declared.place.Fate.{Fate}
-use Rattle.xl_world.specs.declared.sent.Sent.{Sent}
+use Rattle.xl_world.specs.Sending.{Sent}
 use Rattle.xl_io.specs.Keepers.{MayHold}
 use Rattle.xl_world.specs.Keeper.{held_by, answer_of, restored}
 use Rattle.xl_world.proofs.Standing.{FrameSays, said_in}

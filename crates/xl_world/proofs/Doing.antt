@@ -19,6 +19,7 @@ use Rattle.xl_tags.specs.Rings.{key_of, schedule_ring}
 use Rattle.xl_core.specs.Answers.{Answer, Beats, Done as AnsweredDone, refusal_in}
 use Rattle.xl_core.specs.Building.{Knowing, alone, how_issued, knowing}
 use Rattle.xl_core.specs.Core.{Core, CoreReply, core_asks, core_happens}
+use Rattle.xl_core.specs.Hearing.{bytes_as_sealed}
 use Rattle.xl_core.specs.Keeping.{Saves}
 use Rattle.xl_core.specs.Node as nodes
 use Rattle.xl_core.specs.Node.{Node, Reply, Save, Timed, after_beat, at_moment, built, building, chosen, completed, ending, following, happens, hearing, is_kept, issues_unless, issuing, own_validation, refusing, replying, seen, switching, taking, timed, validates, validating_built}
@@ -225,6 +226,7 @@ timer_does told core after now old new done answers counts saves says =
 pub untaken_then : (core : Core) (now : ℕ) (d : Deed) (save : Save) → core.untaken.items ≡ [] → let r : CoreReply = core_happens core (deed_event now d) save in r.core.untaken.items ≡ option_to_list r.report
 untaken_then core now (deed.Issue seq id full) save none = untaken_is core.untaken (happens core.node (nodes.Issue now seq id full) save).report none
 untaken_then core now (deed.Frame bytes) save none = untaken_is core.untaken (happens core.node (nodes.Frame now bytes.now) save).report none
+untaken_then core now (deed.Sent to kept) save none = untaken_is core.untaken (happens core.node (nodes.Frame now (bytes_as_sealed (schedule_ring to) kept.now)) save).report none
 untaken_then core now deed.Timer save none = untaken_is core.untaken (happens core.node (nodes.Timer now) save).report none
 untaken_then core now (deed.Submit tx) save none = untaken_is core.untaken (happens core.node (nodes.Submit now tx) save).report none
 untaken_then core now (deed.Greet peer) save none = none

@@ -14,6 +14,7 @@ use Rattle.xl_wire.specs.Raws.{RawFrame, SpellsRaw}
 use Rattle.xl_wire.specs.declared.body.Body.{Body}
 use Rattle.xl_wire.specs.declared.lengths.TheConstants.{LONGEST_FRAME}
 use Rattle.xl_wire.proofs.RawLaws.{length-raw_bytes, split_again}
+use Rattle.xl_tags.specs.Rings.{Ring}
 use Rattle.xl_tags.specs.Sealing.{sealed}
 use Rattle.xl_core.specs.Answers.{given_in}
 use Rattle.xl_core.specs.Core.{Core, CoreReply, all_frames, core_happens, greeted_frames}
@@ -22,13 +23,14 @@ use Rattle.xl_core.specs.Items.{body_in, frame_of, framed, frames_for, header_bo
 use Rattle.xl_core.specs.Node.{Node}
 use Rattle.xl_core.specs.Node.Save.{Kept as AnsweredOk}
 use Rattle.xl_core.specs.Queues.{fitting, frames_in, joined, waiting_at}
-use Rattle.xl_core.specs.Sending.{blank_frame, has_spelling, sealed_bytes}
+use Rattle.xl_core.specs.Sending.{blank_frame, blanked, has_spelling, sealed_bytes}
+use Rattle.xl_core.proofs.Blanks.{blanked_tag}
 use Rattle.xl_core.specs.declared.event.CoreEvent.{CoreEvent}
 use Rattle.xl_core.specs.declared.event.CoreEvent.TheVariants.{Drain}
 use Rattle.xl_core.specs.declared.greeting.Greeting.{Greeting}
 use Rattle.xl_core.specs.declared.item.Item.{Item}
 use Rattle.xl_core.proofs.Spelling.{sealed_raw}
-use Rattle.xl_world.specs.declared.sent.Sent.{Sent}
+use Rattle.xl_world.specs.Sending.{Sent, sent_as}
 use Rattle.xl_world.specs.Emptying.{after_events, drained_once, drains, drains_for, drains_in_turn, given_by, others}
 use Rattle.xl_world.specs.Indexes.{Traffic, with_frame, with_frames}
 use Rattle.xl_world.specs.Seen.{AreFrames, IsFirstFrame, sent_from}
@@ -41,41 +43,59 @@ use Rattle.xl_world.proofs.Shortening.{fewer_left}
 abbrev IsOneFrame : List ℕ → Type 0
 IsOneFrame bytes = (f : RawFrame) × SpellsRaw f bytes
 
-abbrev IsWhole : Option (List ℕ) → Type 0
-IsWhole o = IfSome o IsOneFrame
+abbrev IsBlank : List ℕ → Type 0
+IsBlank bytes = IsOneFrame (blanked bytes)
 
-framed_whole : (n : Node) (to : ℕ) (body : Body) → IsWhole (framed n to body)
+blank_whole : (ring : Ring) (me to : ℕ) (body : Body) → has_spelling me to body ≡ true → IsBlank (sealed_bytes ring me to body)
+blank_whole ring me to body spelled =
+    let f : RawFrame = raw_of (blank_frame me to body) in
+    let s = sealed_raw ring me to body spelled in
+    (f, record { frame = record { lawful = s.lawful; from = s.from; to = s.to; tag = refl }; spelling = blanked_tag f (sealed ring f).tag s.tag })
+
+framed_whole : (n : Node) (to : ℕ) (body : Body) → IfSome (framed n to body) IsBlank
 framed_whole n to body =
-    cond_both (has_spelling n.me to body) (Some (sealed_bytes n.keys n.me to body)) None IsWhole
-    (λ spelled. (sealed n.keys (raw_of (blank_frame n.me to body)), record { frame = sealed_raw n.keys n.me to body spelled; spelling = refl })) (λ _. tt)
+    cond_both (has_spelling n.me to body) (Some (sealed_bytes n.keys n.me to body)) None (λ o. IfSome o IsBlank)
+    (λ spelled. blank_whole n.keys n.me to body spelled) (λ _. tt)
 
-item_whole : (n : Node) (to : ℕ) (item : Item) → IsWhole (frame_of n to item)
-item_whole n to item = said (body_in n item)
-  where
-    said : (o : Option Body) → IsWhole (option_and_then (framed n to) o)
-    said None = tt
-    said (Some body) = framed_whole n to body
+-- what holds of the frame of each body holds of each frame that a drain gives
+module _ (P : List ℕ → Type 0) where
+  abbrev IfIs : Option (List ℕ) → Type 0
+  IfIs o = IfSome o P
 
-map_whole : {X : Type 0} (h : X → Option (List ℕ)) → ((x : X) → IsWhole (h x)) → (xs : List X) → All IsWhole (map h xs)
-map_whole h each [] = All-nil IsWhole
-map_whole h each (x ∷ xs) = All-cons IsWhole (h x) (map h xs) (each x) (map_whole h each xs)
+  item_is : (n : Node) (to : ℕ) → ((body : Body) → IfIs (framed n to body)) → (item : Item) → IfIs (frame_of n to item)
+  item_is n to each item = said (body_in n item)
+    where
+      said : (o : Option Body) → IfIs (option_and_then (framed n to) o)
+      said None = tt
+      said (Some body) = each body
 
-greeting_whole : (n : Node) (to : ℕ) (o : Option Greeting) → All IsWhole (greeting_frames n o to)
-greeting_whole n to None = All-nil IsWhole
-greeting_whole n to (Some g) = map_whole (λ ledger. framed n to (header_body_at n ledger)) (λ ledger. framed_whole n to (header_body_at n ledger)) (yet_to_hand n.ledgers.headers g)
+  map_is : {X : Type 0} (h : X → Option (List ℕ)) → ((x : X) → IfIs (h x)) → (xs : List X) → All IfIs (map h xs)
+  map_is h each [] = All-nil IfIs
+  map_is h each (x ∷ xs) = All-cons IfIs (h x) (map h xs) (each x) (map_is h each xs)
 
-front_whole : (n : ℕ) (fs : List (Option (List ℕ))) → All IsWhole fs → AreFrames (frames_in (take n fs))
-front_whole zero fs all = All-nil IsOneFrame
-front_whole (suc n) [] all = All-nil IsOneFrame
-front_whole (suc n) (None ∷ fs) all = front_whole n fs (All-tail IsWhole None fs all)
-front_whole (suc n) (Some f ∷ fs) all = All-cons IsOneFrame f (frames_in (take n fs)) (All-head IsWhole (Some f) fs all) (front_whole n fs (All-tail IsWhole (Some f) fs all))
+  greeting_is : (n : Node) (to : ℕ) → ((body : Body) → IfIs (framed n to body)) → (o : Option Greeting) → All IfIs (greeting_frames n o to)
+  greeting_is n to each None = All-nil IfIs
+  greeting_is n to each (Some g) = map_is (λ ledger. framed n to (header_body_at n ledger)) (λ ledger. each (header_body_at n ledger)) (yet_to_hand n.ledgers.headers g)
 
--- what a drain gives is whole frames
-pub given_whole : (core : Core) (m : ℕ) → AreFrames (given_in (drained_once core m).answer)
-given_whole core m =
-    front_whole (fitting (all_frames core m) LONGEST_FRAME) (all_frames core m)
-    (All-append IsWhole (greeted_frames core m) (frames_for core.node core.waiting m) (greeting_whole core.node m (greeting_at core.greetings m))
-    (map_whole (frame_of core.node m) (item_whole core.node m) (waiting_at core.waiting m).items))
+  front_is : (n : ℕ) (fs : List (Option (List ℕ))) → All IfIs fs → All P (frames_in (take n fs))
+  front_is zero fs all = All-nil P
+  front_is (suc n) [] all = All-nil P
+  front_is (suc n) (None ∷ fs) all = front_is n fs (All-tail IfIs None fs all)
+  front_is (suc n) (Some f ∷ fs) all = All-cons P f (frames_in (take n fs)) (All-head IfIs (Some f) fs all) (front_is n fs (All-tail IfIs (Some f) fs all))
+
+  pub given_is : (core : Core) (m : ℕ) → ((body : Body) → IfIs (framed core.node m body)) → All P (given_in (drained_once core m).answer)
+  given_is core m each =
+      front_is (fitting (all_frames core m) LONGEST_FRAME) (all_frames core m)
+      (All-append IfIs (greeted_frames core m) (frames_for core.node core.waiting m) (greeting_is core.node m each (greeting_at core.greetings m))
+      (map_is (frame_of core.node m) (item_is core.node m each) (waiting_at core.waiting m).items))
+
+each_blank : (fs : List (List ℕ)) → All IsBlank fs → AreFrames (map blanked fs)
+each_blank [] all = All-nil IsOneFrame
+each_blank (f ∷ fs) all = All-cons IsOneFrame (blanked f) (map blanked fs) (All-head IsBlank f fs all) (each_blank fs (All-tail IsBlank f fs all))
+
+-- what a drain gives is whole frames, with their tags cleared too
+pub given_whole : (core : Core) (m : ℕ) → AreFrames (map blanked (given_in (drained_once core m).answer))
+given_whole core m = each_blank (given_in (drained_once core m).answer) (given_is IsBlank core m (framed_whole core.node m))
 
 -- ONE FRAME AFTER THE OTHER
 
@@ -84,7 +104,7 @@ pub record IsUnsent (from to : ℕ) (each : List (List ℕ)) (before : Traffic) 
   pub left : List (List ℕ)
   pub frames : AreFrames left
   pub joins : rest ≡ joined left
-  pub sent : with_frames before (map (sent_from from to) each) ≡ with_frames now (map (sent_from from to) left)
+  pub sent : with_frames before (map (sent_as from to) each) ≡ with_frames now (map (sent_as from to) left)
 
 pub unsent_all : (from to : ℕ) (each : List (List ℕ)) (traffic : Traffic) (bytes : List ℕ) → AreFrames each → bytes ≡ joined each → IsUnsent from to each traffic bytes traffic
 unsent_all from to each traffic bytes are joins = record { left = each; frames = are; joins = joins; sent = refl }
@@ -100,10 +120,10 @@ none_splits f e = cc
 
 -- the next one is sent
 pub unsent_more : (from to : ℕ) (each : List (List ℕ)) (before now after : Traffic) (rest bytes : List ℕ) (raw : RawFrame) (n : ℕ) → IsUnsent from to each before rest now →
-    split_of rest ≡ Whole raw → n ≡ span raw.body → bytes ≡ take n rest → after ≡ with_frame now (sent_from from to bytes) → IsUnsent from to each before (drop n rest) after
+    split_of rest ≡ Whole raw → n ≡ span raw.body → bytes ≡ take n rest → after ≡ with_frame now (sent_as from to bytes) → IsUnsent from to each before (drop n rest) after
 unsent_more from to each before now after rest bytes raw n so splits long is sent_now = by_left so.left so.frames so.joins so.sent
   where
-    by_left : (left : List (List ℕ)) → AreFrames left → rest ≡ joined left → with_frames before (map (sent_from from to) each) ≡ with_frames now (map (sent_from from to) left) → IsUnsent from to each before (drop n rest) after
+    by_left : (left : List (List ℕ)) → AreFrames left → rest ≡ joined left → with_frames before (map (sent_as from to) each) ≡ with_frames now (map (sent_as from to) left) → IsUnsent from to each before (drop n rest) after
     by_left [] frames joins sent = absurd (none_splits raw (ap split_of (sym joins) ∙ splits))
     by_left (f ∷ fs) frames joins sent =
         let first : IsOneFrame f = All-head IsOneFrame f fs frames in
@@ -119,23 +139,23 @@ unsent_more from to each before now after rest bytes raw n so splits long is sen
           frames = All-tail IsOneFrame f fs frames;
           joins = ap (drop n) joins ∙ drop_at f (joined fs) n its;
           sent = sent
-              ∙ (sym (with_then now (sent_from from to f ∷ []) (map (sent_from from to) fs))
-              ∙ ap (λ (t : Traffic). with_frames t (map (sent_from from to) fs)) (ap (λ (bs : List ℕ). with_frame now (sent_from from to bs)) (sym (is ∙ front)) ∙ sym sent_now));
+              ∙ (sym (with_then now (sent_as from to f ∷ []) (map (sent_as from to) fs))
+              ∙ ap (λ (t : Traffic). with_frames t (map (sent_as from to) fs)) (ap (λ (bs : List ℕ). with_frame now (sent_as from to bs)) (sym (is ∙ front)) ∙ sym sent_now));
         }
 
 -- the first frame from a place on is sent
 pub sent_next : (from to : ℕ) (each : List (List ℕ)) (before now after : Traffic) (frames front bytes : List ℕ) (at n : ℕ) → IsUnsent from to each before (drop at frames) now →
-    IsFirstFrame n front → front ≡ drop at frames → bytes ≡ take n (drop at frames) → after ≡ with_frame now (sent_from from to bytes) → IsUnsent from to each before (drop (at + n) frames) after
+    IsFirstFrame n front → front ≡ drop at frames → bytes ≡ take n (drop at frames) → after ≡ with_frame now (sent_as from to bytes) → IsUnsent from to each before (drop (at + n) frames) after
 sent_next from to each before now after frames front bytes at n so first its is sent_now =
     subst (λ (rest : List ℕ). IsUnsent from to each before rest after) (drop-drop n at frames)
     (unsent_more from to each before now after (drop at frames) bytes first.frame n so (ap split_of (sym its) ∙ first.splits) first.long is sent_now)
 
 -- none is left
 pub unsent_none : (from to : ℕ) (each : List (List ℕ)) (before now : Traffic) (rest : List ℕ) → IsUnsent from to each before rest now → ((raw : RawFrame) → split_of rest ≡ Whole raw → ⊥) →
-    now ≡ with_frames before (map (sent_from from to) each)
+    now ≡ with_frames before (map (sent_as from to) each)
 unsent_none from to each before now rest so ends = by_left so.left so.frames so.joins so.sent
   where
-    by_left : (left : List (List ℕ)) → AreFrames left → rest ≡ joined left → with_frames before (map (sent_from from to) each) ≡ with_frames now (map (sent_from from to) left) → now ≡ with_frames before (map (sent_from from to) each)
+    by_left : (left : List (List ℕ)) → AreFrames left → rest ≡ joined left → with_frames before (map (sent_as from to) each) ≡ with_frames now (map (sent_as from to) left) → now ≡ with_frames before (map (sent_as from to) each)
     by_left [] frames joins sent = sym (sent ∙ with_none now)
     by_left (f ∷ fs) frames joins sent =
         let first : IsOneFrame f = All-head IsOneFrame f fs frames in
@@ -279,9 +299,9 @@ drained_past numbers k before core sent now m k_in is mine so =
     }
 
 -- what fills bytes is something
-pub some_given : (fs : List (List ℕ)) (count : ℕ) (room : List ℕ) → 0 < count → count ≤ length room → take count room ≡ joined fs → length fs ≡ 0 → ⊥
+pub some_given : (fs : List (List ℕ)) (count : ℕ) (room : List ℕ) → 0 < count → count ≤ length room → take count room ≡ joined (map blanked fs) → length fs ≡ 0 → ⊥
 some_given fs count room some within joins none =
-    let nothing : length (joined fs) ≡ 0 = ap (λ (xs : List (List ℕ)). length (joined xs)) (nil_from_length fs none) in
+    let nothing : length (joined (map blanked fs)) ≡ 0 = ap (λ (xs : List (List ℕ)). length (joined (map blanked xs))) (nil_from_length fs none) in
     omega (arith, some, within, ap length joins, length-take count room, nothing)
 
 -- where there is no frame at all, a front gives none

@@ -16,7 +16,7 @@ use Rattle.xl_world.specs.declared.place.Fate.{Fate}
 use Rattle.xl_world.specs.declared.place.Fate.TheVariants.{Saved}
 use Rattle.xl_world.specs.declared.place.Keeper.{Keeper}
 use Rattle.xl_world.specs.declared.place.Place.{Place}
-use Rattle.xl_world.specs.declared.sent.Sent.{Sent}
+use Rattle.xl_world.specs.Sending.{Sent}
 use Rattle.xl_world.specs.Emptying.{after_events, draining, drains, drains_for, drains_in_turn, emptying, emptying_at, event_steps, given_by, handed_out}
 use Rattle.xl_world.specs.Keeper.{answer_of}
 use Rattle.xl_world.specs.World.{World, Act, acts, is_forged, keeper_after, place_at, put, reply_at, reported_by, run, said_by, sent_in, settled, step}

@@ -10,7 +10,7 @@ use Rattle.xl_sched.specs.declared.event.What.{What}
 use Rattle.xl_sched.specs.declared.event.What.TheVariants as what
 use Rattle.xl_world.specs.declared.place.Fate.TheVariants.{Saved}
 use Rattle.xl_world.specs.declared.place.Place.{Place}
-use Rattle.xl_world.specs.declared.sent.Sent.{Sent}
+use Rattle.xl_world.specs.Sending.{Sent}
 use Rattle.xl_world.specs.Emptying.{event_steps}
 use Rattle.xl_world.specs.Keeper.{found, held_by, left_by, restored}
 use Rattle.xl_world.specs.Rested.{IsAtRest, IsRested}

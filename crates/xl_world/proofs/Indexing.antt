@@ -8,7 +8,7 @@ use Rattle.std.proofs.lemmas.List.Folds.{list_any_at}
 use Rattle.std.proofs.lemmas.Option.{slice_get-get_or, slice_get_within, get_or_from_slice_get}
 use Rattle.std.proofs.lemmas.Slice.Eq.{bytes_eq-Decides}
 use Rattle.xl_world.specs.declared.index.TagIndex.{TagIndex}
-use Rattle.xl_world.specs.declared.sent.Sent.{Sent}
+use Rattle.xl_world.specs.Sending.{Sent}
 use Rattle.xl_world.specs.Indexes.{tag_in, place_of_tag, is_bytes, is_at, LeadsTo, IsIndex}
 use Rattle.xl_world.specs.Forgeries.{was_sent}
 use Rattle.xl_world.proofs.Unforged.{from_found}

@@ -33,3 +33,4 @@ pub mod Events
 pub mod Worldly
 pub mod Doing
 pub mod Going
+pub mod Sealing

@@ -18,7 +18,7 @@ use Rattle.xl_core.proofs.Heard.{heard_parts}
 use Rattle.xl_world.specs.declared.place.Keeper.{Keeper}
 use Rattle.xl_world.specs.declared.place.Fate.{Fate}
 use Rattle.xl_world.specs.declared.plan.PlanNode.{PlanNode}
-use Rattle.xl_world.specs.declared.sent.Sent.{Sent}
+use Rattle.xl_world.specs.Sending.{Sent}
 use Rattle.xl_io.specs.Keepers.{MayHold, may_hold}
 use Rattle.xl_base.specs.Counts.{one_more}
 use Rattle.xl_world.specs.Keeper.{held_by, resting, restored, answer_of}

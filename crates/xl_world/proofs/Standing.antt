@@ -17,7 +17,7 @@ use Rattle.xl_core.specs.declared.item.Item.TheVariants.{Vote, Tx, TxSet, Propos
 use Rattle.xl_core.specs.Core.{Core}
 use Rattle.xl_core.specs.Node.{Node}
 use Rattle.xl_world.specs.declared.place.Place.{Place}
-use Rattle.xl_world.specs.declared.sent.Sent.{Sent}
+use Rattle.xl_world.specs.Sending.{Sent}
 use Rattle.xl_world.specs.Keeper.{held_by}
 use Rattle.xl_world.specs.World.{World, place_at, said_by}
 

@@ -14,7 +14,7 @@ use Rattle.xl_core.specs.declared.hearing.Speech.TheVariants as speech
 use Rattle.xl_core.specs.Hearing.{heard}
 use Rattle.xl_core.proofs.Heard.{IsHeard, sender}
 use Rattle.xl_world.proofs.Speaking.{heard_said}
-use Rattle.xl_world.specs.declared.sent.Sent.{Sent}
+use Rattle.xl_world.specs.Sending.{Sent}
 use Rattle.xl_lists.specs.declared.said.SaidLedger.{SaidLedger}
 use Rattle.xl_lists.specs.Agreement.{IsGenuine}
 use Rattle.xl_wire.specs.declared.validation.Validation.{Validation}

@@ -10,7 +10,7 @@ use Rattle.xl_wire.specs.Kinds.{span}
 use Rattle.xl_wire.specs.Raws.{RawFrame}
 use Rattle.xl_tags.specs.Opening.{is_sealed}
 use Rattle.xl_tags.specs.Rings.{Ring}
-use Rattle.xl_world.specs.declared.sent.Sent.{Sent}
+use Rattle.xl_world.specs.Sending.{Sent}
 
 -- whether these bytes were sent; they name their sender and their receiver
 abbrev pub was_sent : List Sent → List ℕ → Bool

@@ -5,7 +5,7 @@ use Rattle.std.specs.Ordering.{nat_cmp}
 use Rattle.std.specs.Cmp.Lexicographic.{slice_cmp}
 use Rattle.std.specs.BTreeMap.{get_by}
 use Rattle.xl_world.specs.declared.index.TagIndex.{TagIndex}
-use Rattle.xl_world.specs.declared.sent.Sent.{Sent}
+use Rattle.xl_world.specs.Sending.{Sent}
 
 -- the last 32 bytes, or all where they are fewer
 abbrev pub tag_in : List ℕ → List ℕ

@@ -11,3 +11,4 @@ pub mod Forks
 pub mod Seen
 pub mod Indexes
 pub mod Worlds
+pub mod Sending

@@ -33,7 +33,7 @@ use Rattle.xl_world.specs.declared.place.Fate.{Fate}
 use Rattle.xl_world.specs.declared.place.Fate.TheVariants.{Saved, Unwritten, Written}
 use Rattle.xl_world.specs.declared.place.Place.{Place}
 use Rattle.xl_world.specs.Keeper.{found, left_by}
-use Rattle.xl_world.specs.declared.sent.Sent.{Sent}
+use Rattle.xl_world.specs.Sending.{Sent}
 use Rattle.xl_world.specs.World.{World, Step, Act, Again, Torn, Mark, place_at, reply_at, step, run}
 use Rattle.xl_world.specs.Emptying.{event_steps}
 

@@ -11,6 +11,8 @@ use Rattle.xl_lists.specs.declared.said.SaidLedger.{SaidLedger}
 use Rattle.xl_core.specs.Answers.{Answer}
 use Rattle.xl_core.specs.Answers as answer
 use Rattle.xl_core.specs.Core.{Core, CoreReply, core_asks, core_happens}
+use Rattle.xl_core.specs.Hearing.{bytes_as_sealed}
+use Rattle.xl_tags.specs.Rings.{schedule_ring}
 use Rattle.xl_core.specs.declared.beat.Beat.{Beat}
 use Rattle.xl_core.specs.declared.beat.Beat.TheVariants as beat
 use Rattle.xl_core.specs.declared.beat.Issued.{Issued}
@@ -35,7 +37,7 @@ use Rattle.xl_world.specs.declared.place.Fate.{Fate}
 use Rattle.xl_world.specs.declared.place.Keeper.{Keeper}
 use Rattle.xl_world.specs.declared.place.Place.{Place}
 use Rattle.xl_world.specs.declared.saving.Fated.{Fated}
-use Rattle.xl_world.specs.declared.sent.Sent.{Sent}
+use Rattle.xl_world.specs.Sending.{Sent}
 use Rattle.xl_world.specs.Emptying.{after_events, draining, given_by, handed_out}
 use Rattle.xl_world.specs.Forgeries.{forges}
 use Rattle.xl_world.specs.Forks as Forks
@@ -58,14 +60,16 @@ accords i j reports r = not (r.node == i) || list_all (λ q. agrees_at j r q) re
 abbrev pub deed_event : ℕ → Deed → CoreEvent
 deed_event now (deed.Issue seq id full) = Issue now seq id full
 deed_event now (deed.Frame bytes) = Frame now bytes.now
+deed_event now (deed.Sent to kept) = Frame now (bytes_as_sealed (schedule_ring to) kept.now)
 deed_event now deed.Timer = Timer now
 deed_event now (deed.Submit tx) = Submit now tx
 deed_event now (deed.Greet peer) = Greet peer
 
--- a node greets another
+-- a node greets another, and a sent frame comes to its receiver
 abbrev pub MayDo : ℕ → Deed → Type 0
 MayDo me (deed.Issue seq id full) = Unit {0}
 MayDo me (deed.Frame bytes) = Unit {0}
+MayDo me (deed.Sent to kept) = to ≡ me
 MayDo me deed.Timer = Unit {0}
 MayDo me (deed.Submit tx) = Unit {0}
 MayDo me (deed.Greet peer) = ¬ (peer ≡ me)

@@ -1,12 +1,17 @@
 -- A world of the code, as the definitions see it. Source: what the code of this crate keeps.
 use Rattle.std.specs.Prelude.{◌≤◌, [], IfSome, length, unwrap_or}
 use Rattle.xl_world.specs.declared.network.Network.TheInside.{Inside as NetworkInside}
+use Rattle.xl_world.specs.declared.sent.Sent.TheInside.{Inside as SentInside}
 use Rattle.xl_world.specs.declared.traffic.Traffic.TheInside.{Inside as TrafficInside}
 use Rattle.xl_world.specs.declared.world.World.TheInside.{Inside}
 use Rattle.xl_world.specs.Indexes.{IsIndex, Traffic}
 use Rattle.xl_world.specs.Rested.{IsAtRest}
+use Rattle.xl_world.specs.Sending.{Sent, sent_as}
 use Rattle.xl_world.specs.Starts.{IsRun, start}
 use Rattle.xl_world.specs.World.{World}
+
+abbrev pub sent_seen : SentInside → Sent
+sent_seen f = sent_as f.from f.to f.kept
 
 abbrev pub traffic_seen : TrafficInside → Traffic
 traffic_seen t = record { frames = t.frames.items; mark = t.mark }

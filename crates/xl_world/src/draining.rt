@@ -6,13 +6,15 @@ ghost use Rattle.xl_wire.specs.Heads.Split.{Whole};
 ghost use Rattle.xl_wire.specs.Raws.{RawFrame};
 ghost use Rattle.xl_wire.specs.declared.lengths.TheConstants.{LONGEST_FRAME};
 ghost use Rattle.xl_core.specs.Queues.{joined};
+ghost use Rattle.xl_core.specs.Sending.{blanked};
 ghost use Rattle.xl_tags.specs.Rings.{schedule_ring};
 ghost use Rattle.xl_world.specs.declared.place.Place.{Place};
 ghost use Rattle.xl_world.specs.World.{place_at};
 ghost use Rattle.xl_world.specs.Emptying.{after_events, draining, drained_once, drains_for, given_by};
 ghost use Rattle.xl_world.specs.Indexes.{with_frames};
 ghost use Rattle.xl_world.specs.Rested.{Between, IsRested};
-ghost use Rattle.xl_world.specs.Seen.{AreFrames, IsFirstFrame, sent_from, given_at, put_drained};
+ghost use Rattle.xl_world.specs.Seen.{AreFrames, IsFirstFrame, given_at, put_drained};
+ghost use Rattle.xl_world.specs.Sending.{sent_as};
 
 use crate::Sent;
 use crate::act::position_of;
@@ -49,18 +51,18 @@ fn send_each(
     traffic: &mut Traffic,
 ) -> Result<(), OutOfMemory>
     ensures { (each : List (List ℕ)) → AreFrames each → frames.now ≡ joined each →
-        OnOk result (traffic.new ≡ with_frames traffic.old (map (sent_from from to) each)) }
+        OnOk result (traffic.new ≡ with_frames traffic.old (map (sent_as from to) each)) }
 {
     let mut at = 0;
     while let Some(length) = first_length(&frames[at..]) {
-        let bytes = copied(alloc, &frames[at..at + length])?;
-        traffic.push(Sent { from, to, bytes })?;
+        let kept = copied(alloc, &frames[at..at + length])?;
+        traffic.push(Sent::new(from, to, kept))?;
         at += length;
     }
     Ok(())
 }
 
-/// One drain for another number: how many bytes it gave, or None where it gave nothing.
+/// One drain for another number: how many bytes it gave, or None where it gave nothing. Its frames have no tags.
 fn drain_once(core: &mut NodeCore, to: NodeNo, room: &mut [u8; LONGEST_FRAME]) -> Option<usize>
     requires other { to ≢ core.old.node.me }
     requires keys { core.old.node.keys ≡ schedule_ring core.old.node.me }
@@ -68,9 +70,9 @@ fn drain_once(core: &mut NodeCore, to: NodeNo, room: &mut [u8; LONGEST_FRAME]) -
     ensures none { result ≡ None → given_in (drained_once core.old to).answer ≡ [] }
     ensures some { IfSome result (λ count.
         (0 < count) × (count ≤ LONGEST_FRAME)
-        × (take count room.new ≡ joined (given_in (drained_once core.old to).answer))) }
+        × (take count room.new ≡ joined (map blanked (given_in (drained_once core.old to).answer)))) }
 {
-    let count = core.drain(to, room);
+    let count = core.drain_blank(to, room);
     if count == 0 { None } else { Some(count) }
 }
 
@@ -88,6 +90,8 @@ fn drain_for(
     ensures sent { OnOk result (traffic.new ≡ with_frames traffic.old (given_by core.old (drains_for core.old to))) }
 {
     let from = core.node().me();
+    // A member's number, for which the receiver has a key.
+    let _number = from.get();
     while let Some(count) = drain_once(core, to, room) {
         send_each(alloc, from, to, &room[..count], traffic)?;
     }

@@ -80,13 +80,13 @@ impl TagIndex {
         ensures same { self.new.given_up ≡ true → self.new.indexed ≡ self.old.indexed }
     {
         let place = self.indexed;
-        let bytes = sent[place].bytes.as_slice();
-        let Some(tag) = tag_of(bytes) else {
+        let frame = &sent[place];
+        let Some(tag) = frame.tag() else {
             self.given_up = true;
             return;
         };
         if let Some(&first) = self.places.get(&tag) {
-            if is_at(sent, first, bytes) {
+            if is_again(sent, first, frame) {
                 self.indexed = place + 1;
             } else {
                 self.given_up = true;
@@ -105,7 +105,17 @@ fn is_at(sent: &[Sent], place: usize, bytes: &[u8]) -> bool
     ensures { result ≡ is_at sent.now place bytes.now }
 {
     match sent_at(sent, place) {
-        Some(frame) => frame.bytes.as_slice() == bytes,
+        Some(frame) => frame.is(bytes),
+        None => false,
+    }
+}
+
+/// Whether the frame of a place, from 0 on, is this one again.
+fn is_again(sent: &[Sent], place: usize, frame: &Sent) -> bool
+    ensures { result ≡ true → is_at sent.now place frame.now.bytes ≡ true }
+{
+    match sent_at(sent, place) {
+        Some(first) => first.is_alike(frame),
         None => false,
     }
 }

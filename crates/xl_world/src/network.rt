@@ -216,8 +216,9 @@ impl Network {
         let Some(frame) = self.traffic.frame(place) else {
             return Ok(());
         };
-        let to = frame.to;
-        let deed = Deed::Frame(frame.bytes.as_slice());
+        let to = frame.to();
+        let kept = frame.kept();
+        let deed = Deed::Sent { to, kept };
         match act_at(&mut self.places, to, at, &deed, Fate::Saved) {
             Some(answer) => self.settle(to, answer, told),
             None => Ok(()),

@@ -1,20 +1,129 @@
 // What was sent: every frame of every node, as its bytes.
-ghost use Rattle.std.specs.Prelude.{◌≡◌};
+ghost use Rattle.std.specs.Prelude.{◌≡◌, ◌++◌, IfSome, true};
+ghost use Rattle.std.specs.Str.{bytes_eq};
+ghost use Rattle.xl_tags.specs.Sealing.{before_tag};
 ghost use Rattle.xl_world.specs.Forgeries.{was_sent};
+ghost use Rattle.xl_world.specs.Indexes.{tag_in};
+ghost use Rattle.xl_world.specs.Sending.{IsTag, sent_as};
 
+use std::marker::Model;
 use xl_base::{Bytes, NodeNo};
+use xl_tags::{hmac, pair_key};
+use xl_wire::{Parted, split};
 
-/// A frame that a node has sent to one receiver.
+/// A frame that a node has sent to one receiver, sealed under the key that the schedule gives the two.
+///
+/// Its tag is computed when it is looked at: what is kept of the frame may have any.
 #[derive(Debug, Drop)]
 pub struct Sent {
-    pub from: NodeNo,
-    pub to: NodeNo,
-    pub bytes: Bytes,
+    from: NodeNo,
+    to: NodeNo,
+    kept: Bytes,
+}
+
+impl Model for Sent {
+    ghost use Rattle.xl_world.specs.Sending.{Sent as TheSent};
+
+    ghost Value = { TheSent };
+
+    ghost use Rattle.xl_world.specs.Worlds.{sent_seen};
+
+    ghost view = { sent_seen };
+}
+
+impl Sent {
+    /// A sent frame, of which these bytes are kept.
+    pub(crate) fn new(from: NodeNo, to: NodeNo, kept: Bytes) -> Sent
+        ensures { result ≡ sent_as from to kept }
+    {
+        Sent { from, to, kept }
+    }
+
+    /// Who sent it.
+    pub fn from(&self) -> NodeNo
+        ensures { result ≡ self.now.from }
+    {
+        self.from
+    }
+
+    /// Whom it was sent to.
+    pub fn to(&self) -> NodeNo
+        ensures { result ≡ self.now.to }
+    {
+        self.to
+    }
+
+    /// The frame with any tag.
+    pub(crate) fn kept(&self) -> &[u8]
+        ensures { self.now ≡ sent_as self.now.from self.now.to result.now }
+    {
+        self.kept.as_slice()
+    }
+
+    /// Its tag, unless it is no frame.
+    pub(crate) fn tag(&self) -> Option<[u8; 32]>
+        ensures { IfSome result (λ tag. tag ≡ tag_in self.now.bytes) }
+    {
+        tag_for(self.to, self.kept.as_slice())
+    }
+
+    /// Whether these are its bytes.
+    pub fn is(&self, bytes: &[u8]) -> bool
+        ensures { result ≡ bytes_eq self.now.bytes bytes.now }
+    {
+        let kept = self.kept.as_slice();
+        match tag_for(self.to, kept) {
+            Some(tag) => is_joined(before_tag(kept), &tag, bytes),
+            None => kept == bytes,
+        }
+    }
+
+    /// Whether the same bytes are kept of another one to the same receiver.
+    pub(crate) fn is_alike(&self, other: &Sent) -> bool
+        ensures { result ≡ true → self.now.bytes ≡ other.now.bytes }
+    {
+        self.to == other.to && self.kept.as_slice() == other.kept.as_slice()
+    }
+}
+
+/// All of these bytes but the last 32.
+fn before_tag(bytes: &[u8]) -> &[u8]
+    ensures { result.now ≡ before_tag bytes.now }
+{
+    &bytes[..bytes.len().saturating_sub(32)]
+}
+
+/// Whether the bytes are these, one behind the other.
+fn is_joined(front: &[u8], last: &[u8], bytes: &[u8]) -> bool
+    ensures { result ≡ bytes_eq (front.now ++ last.now) bytes.now }
+{
+    if bytes.len() < front.len() {
+        return false;
+    }
+    let first = &bytes[..front.len()];
+    let rest = &bytes[front.len()..];
+    first == front && rest == last
+}
+
+/// The tag that a frame to this receiver has, of which these bytes are kept.
+fn tag_for(to: NodeNo, kept: &[u8]) -> Option<[u8; 32]>
+    ensures { IsTag to kept.now result }
+{
+    let Parted::Whole(raw) = split(kept) else {
+        return None;
+    };
+    if raw.length < kept.len() {
+        return None;
+    }
+    match NodeNo::new(raw.from) {
+        Some(from) if from != to => Some(hmac(&pair_key(to, from), before_tag(kept))),
+        _ => Some(raw.tag),
+    }
 }
 
 /// Whether these bytes were sent.
 pub fn was_sent(sent: &[Sent], bytes: &[u8]) -> bool
     ensures { result ≡ was_sent sent.now bytes.now }
 {
-    sent.iter().any(|frame| frame.bytes.as_slice() == bytes)
+    sent.iter().any(|frame| frame.is(bytes))
 }

@@ -1,4 +1,4 @@
-ghost use Rattle.std.specs.Prelude.{◌≡◌, ℕ, Ok, OnErr, length, take};
+ghost use Rattle.std.specs.Prelude.{◌≡◌, ◌≤◌, ℕ, Ok, OnErr, length, take};
 ghost use Rattle.xl_base.specs.Sets.{IsSet};
 ghost use Rattle.std.specs.Result.{result_err};
 ghost use Rattle.xl_core.specs.Node.{hears, speech_refusal, taken_as};
@@ -13,8 +13,12 @@ use xl_ledger::Branch;
 use xl_rounds::Placed;
 use xl_wire::{Ids, Proposal};
 
+/// So many ids a set has at most for which a short room is cleared.
+const SHORT_SET: usize = 16;
+
 /// Copies the ids of a set to the front of a room, and tells how many they are.
-fn copy_ids(ids: &Ids<'_>, room: &mut [TxId; MOST_IDS]) -> usize
+fn copy_ids(ids: &Ids<'_>, room: &mut [TxId]) -> usize
+    requires { length ids.now ≤ length room.old }
     ensures count { result ≡ length ids.now }
     ensures copied { take result room.new ≡ ids.now }
     ensures set { IsSet ids.now }
@@ -52,12 +56,34 @@ impl<B: Branch + Drop> Node<B> {
         })
     }
 
-    /// A set is the one that the member holds from then on. It is copied once, into room that is there.
+    /// A set is the one that the member holds from then on.
     pub(super) fn hold(&mut self, from: NodeNo, ids: &Ids<'_>) -> Heard
         ensures { hear_reply (Ok result) self.new ≡ hears self.old from (speech.TxSet ids.now) }
     {
-        let mut room = [TxId([0; 32]); MOST_IDS];
-        let count = copy_ids(ids, &mut room);
+        // Few sets are long, so few clear the long room.
+        if ids.len() <= SHORT_SET {
+            self.hold_through(&mut [TxId([0; 32]); SHORT_SET], from, ids)
+        } else {
+            self.hold_long(from, ids)
+        }
+    }
+
+    /// The same, of a set that the short room doesn't hold. Inlined, it would clear its room for each set.
+    #[inline(never)]
+    fn hold_long(&mut self, from: NodeNo, ids: &Ids<'_>) -> Heard
+        ensures { hear_reply (Ok result) self.new ≡ hears self.old from (speech.TxSet ids.now) }
+    {
+        // A set has so many ids at most.
+        let _count = ids.len();
+        self.hold_through(&mut [TxId([0; 32]); MOST_IDS], from, ids)
+    }
+
+    /// The same through a room, into which it is copied once.
+    fn hold_through(&mut self, room: &mut [TxId], from: NodeNo, ids: &Ids<'_>) -> Heard
+        requires { length ids.now ≤ length room.old }
+        ensures { hear_reply (Ok result) self.new ≡ hears self.old from (speech.TxSet ids.now) }
+    {
+        let count = copy_ids(ids, room);
         let id = self.round.hold(from, &room[..count]);
         Heard {
             taken: Taken::Set(id),

@@ -1,12 +1,12 @@
 ghost use Rattle.std.specs.Prelude.{◌≡◌, ◌≤◌, Some, None, IsSome, length};
 ghost use Rattle.xl_tags.specs.Rings.{key_of};
-ghost use Rattle.xl_core.specs.Draining.{next_on, IsNext, PutsNone, PutsOne};
+ghost use Rattle.xl_core.specs.Draining.{next_on, node_for, IsNext, PutsNone, PutsOne};
 ghost use Rattle.xl_core.specs.Greetings.{greeting_of, greeting_frames};
 
 use super::Node;
 use crate::greeting::Greeting;
 use crate::putting::Put;
-use crate::sending::put_sealed;
+use crate::sending::{TagPlace, put_body};
 use xl_base::NodeNo;
 use xl_ledger::{Branch, LedgerNo};
 
@@ -39,6 +39,7 @@ impl<B: Branch + Drop> Node<B> {
     pub(crate) fn put_next(
         &self,
         to: NodeNo,
+        tags: TagPlace,
         greeting: &Greeting,
         at: usize,
         room: &mut [u8],
@@ -46,12 +47,12 @@ impl<B: Branch + Drop> Node<B> {
         requires key { IsSome (key_of self.now.keys to) }
         requires place { at ≤ length room.old }
         ensures none { result ≡ None →
-            PutsNone (greeting_frames self.now (Some greeting.now) to) at room.old room.new }
-        ensures some { PutsOne self.now to greeting.now at result room.old room.new }
+            PutsNone (greeting_frames (node_for tags self.now) (Some greeting.now) to) at room.old room.new }
+        ensures some { PutsOne (node_for tags self.now) to greeting.now at result room.old room.new }
     {
         let ledger = self.next_on_chain(greeting)?;
         let body = self.header_body_at(ledger);
-        match put_sealed(&self.keys, to, body, at, room) {
+        match put_body(&self.keys, to, tags, body, at, room) {
             Put::Written(count) => Some(at + count),
             Put::PassedOver | Put::NoRoom => None,
         }

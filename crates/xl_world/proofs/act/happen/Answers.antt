@@ -1,9 +1,11 @@
-use Rattle.std.proofs.Common.{◌≡◌, ◌∙◌, ℕ, ap, arith, refl, subst, sym}
+use Rattle.std.proofs.Common.{◌≡◌, ◌∙◌, ℕ, List, ap, arith, refl, subst, sym}
 use Rattle.std.specs.Prelude.{IsSome}
-use Rattle.xl_tags.specs.Rings.{Ring, key_of}
-use Rattle.xl_core.specs.Core.{Core}
+use Rattle.xl_tags.specs.Rings.{Ring, key_of, schedule_ring}
+use Rattle.xl_core.specs.Core.{Core, core_happens}
+use Rattle.xl_core.specs.Hearing.{bytes_as_sealed}
 use Rattle.xl_core.specs.Node.{Node}
-use Rattle.xl_core.specs.Replies.{taken_answer}
+use Rattle.xl_core.specs.Node.Save.{Kept}
+use Rattle.xl_core.specs.Replies.{Answers, taken_answer}
 use Rattle.xl_core.specs.Ticks.{save_at}
 use Rattle.xl_core.specs.declared.event.CoreEvent.TheVariants.{Frame, Timer}
 use Rattle.xl_world.specs.declared.act.Deed.{Deed}
@@ -25,6 +27,19 @@ returns-in-Frame c =
     subst (λ (d : Deed). Does c.args.core.now (deed_event c.args.now d) c.args.keeper.now c.frame.new.self c.silent.result c.args.keeper.now) (sym c.in-Frame.is)
     (quiet_does c.args.core.now c.frame.new.self (Frame c.args.now c.in-Frame.bytes.now) c.args.keeper.now c.silent.result (taken_answer c.frame.result) refl (frame_quiet c.args.core.now.node c.args.now c.in-Frame.bytes.now) c.frame.ensures.step
     (c.silent.ensures.reaction ∙ (c.done_or_refused.ensures ∙ reacts_as c.frame.result)) c.silent.ensures.said)
+
+-- a sent frame comes to its receiver
+pub returns-in-Sent : goal.returns-in-Sent
+returns-in-Sent c =
+    let core : Core = c.args.core.now in
+    let kept : List ℕ = c.in-Sent.kept.now in
+    let mine : c.in-Sent.to ≡ core.node.me = subst (MayDo core.node.me) c.in-Sent.is c.requires.may in
+    let keys : core.node.keys ≡ schedule_ring c.in-Sent.to = c.requires.keys ∙ ap schedule_ring (sym mine) in
+    let step = subst (λ (r : Ring). Answers (core_happens core (Frame c.args.now (bytes_as_sealed r kept)) Kept) c.frame_as_sealed.new.self (taken_answer c.frame_as_sealed.result)) keys c.frame_as_sealed.ensures.step in
+    let bytes : List ℕ = bytes_as_sealed (schedule_ring c.in-Sent.to) kept in
+    subst (λ (d : Deed). Does core (deed_event c.args.now d) c.args.keeper.now c.frame_as_sealed.new.self c.silent-in-Sent.result c.args.keeper.now) (sym c.in-Sent.is)
+    (quiet_does core c.frame_as_sealed.new.self (Frame c.args.now bytes) c.args.keeper.now c.silent-in-Sent.result (taken_answer c.frame_as_sealed.result) refl (frame_quiet core.node c.args.now bytes) step
+    (c.silent-in-Sent.ensures.reaction ∙ (c.done_or_refused-in-Sent.ensures ∙ reacts_as c.frame_as_sealed.result)) c.silent-in-Sent.ensures.said)
 
 pub returns-in-Timer : goal.returns-in-Timer
 returns-in-Timer c =

@@ -2,7 +2,7 @@ use Rattle.std.proofs.Common.{◌≡◌, ◌∙◌, List, ap, slice_index_or, sy
 use Rattle.std.specs.Prelude.{slice_set}
 use Rattle.xl_core.specs.Core.{Core}
 use Rattle.xl_world.specs.declared.place.Place.{Place}
-use Rattle.xl_world.specs.declared.sent.Sent.{Sent}
+use Rattle.xl_world.specs.Sending.{Sent}
 use Rattle.xl_world.specs.Emptying.{after_events, draining, given_by}
 use Rattle.xl_world.specs.Indexes.{with_frames}
 use Rattle.xl_world.specs.Seen.{given_at, put_drained}

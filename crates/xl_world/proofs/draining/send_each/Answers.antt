@@ -1,5 +1,6 @@
 use Rattle.std.proofs.Common.{◌≡◌, ◌+◌, ◌-◌, ◌∙◌, ap, arith, drop, length, length-drop, refl, take, take_all}
 use Rattle.xl_wire.specs.Heads.{split_of}
+use Rattle.xl_world.specs.Indexes.{with_frame}
 use Rattle.xl_world.proofs.Drains.{sent_next, unsent_none}
 use Rattle.xl_world.proofs.draining.send_each.Goals as goal
 
@@ -9,11 +10,11 @@ loop-length-preserved c =
     let at = c.loop-length.at in
     let n = c.in-Some.length in
     let rest : take (length frames - at) (drop at frames) ≡ drop at frames = take_all (length frames - at) (drop at frames) (omega (arith, length-drop at frames)) in
-    let copy : c.in_ok-bytes.bytes ≡ take (at + n - at) (drop at frames) = c.in_ok-bytes.ensures in (
+    let copy : c.in_ok-kept.kept ≡ take (at + n - at) (drop at frames) = c.in_ok-kept.ensures in (
       omega (arith, c.loop-length.invariant.0, c.in-Some.ensures.some.within, ap length rest, length-drop at frames),
       λ each are joins.
-          sent_next c.args.from c.args.to each c.args.traffic.now c.loop-length.traffic c.push.new.self frames (take (length frames - at) (drop at frames)) c.in_ok-bytes.bytes at n
-          (c.loop-length.invariant.1 each are joins) c.in-Some.ensures.some rest (copy ∙ ap (λ k. take k (drop at frames)) (omega arith)) c.in_ok-push.ensures,
+          sent_next c.args.from c.args.to each c.args.traffic.now c.loop-length.traffic c.push.new.self frames (take (length frames - at) (drop at frames)) c.in_ok-kept.kept at n
+          (c.loop-length.invariant.1 each are joins) c.in-Some.ensures.some rest (copy ∙ ap (λ k. take k (drop at frames)) (omega arith)) (c.in_ok-push.ensures ∙ ap (with_frame c.loop-length.traffic) c.new.ensures),
     )
 
 pub returns : goal.returns

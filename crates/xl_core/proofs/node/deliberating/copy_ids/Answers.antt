@@ -12,7 +12,7 @@ loop-place-preserved c =
     let x : TxId = c.get.result in
     let there : place < length ids = omega (arith, c.loop-place-test.true, c.len-count.ensures.value) in
     record {
-      copied = take_more_set room place x (omega (arith, there, c.len-count.ensures.set.at_most, c.loop-place.invariant.room))
+      copied = take_more_set room place x (omega (arith, there, c.requires, c.loop-place.invariant.room))
           ∙ ap (λ (xs : List TxId). xs ++ x ∷ []) c.loop-place.invariant.copied
           ∙ ap (λ (y : TxId). take place ids ++ y ∷ []) (sym (get_or_from_slice_get ids place x x c.get.ensures))
           ∙ sym (take_more ids place x there);

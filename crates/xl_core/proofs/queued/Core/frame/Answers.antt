@@ -1,56 +1,9 @@
-use Rattle.std.proofs.Common.{◌≡◌, ◌≢◌, ◌∙◌, ℕ, List, Option, Some, None, sym, subst, Ok}
-use Rattle.xl_wire.specs.declared.body.Body.{Body}
-use Rattle.xl_wire.specs.Raws.{RawFrame}
-use Rattle.xl_core.specs.declared.event.CoreEvent.TheVariants as event
-use Rattle.xl_core.specs.declared.hearing.Spoken.{Spoken}
-use Rattle.xl_core.specs.Answers.{Refused, Took}
-use Rattle.xl_core.specs.Hearing.{heard, speech_of, Carries}
-use Rattle.xl_core.specs.declared.refusal.Refusal.{Refusal}
-use Rattle.xl_core.specs.Node.{Node, Frame, at_moment, frame_refusal, speech_refusal, happens}
-use Rattle.xl_core.specs.Node.Save.{Kept}
-use Rattle.xl_core.specs.Core.{Core, core_happens}
-use Rattle.xl_core.specs.Replies.{Answers}
-use Rattle.xl_core.specs.Stops.{IsCovered}
-use Rattle.xl_core.proofs.Stepping.{heard_step, refused_step}
-use Rattle.xl_core.proofs.Stopping.{frame_covered}
+use Rattle.std.proofs.Common.{◌∙◌}
+use Rattle.xl_core.specs.Node.{at_moment}
 use Rattle.xl_core.proofs.Frames.{carried_refusal}
 use Rattle.xl_core.proofs.queued.Core.frame.Goals as goal
 
-pub returns-in-Ok-clause-step : goal.returns-in-Ok-clause-step
-returns-in-Ok-clause-step g c =
-    let old : Core = record { node = c.self.inside.node; waiting = c.self.inside.waiting; greetings = c.self.inside.greetings; untaken = c.self.inside.untaken; stopped = c.self.inside.stopped } in
-    let new : Core = record { node = c.frame.new.self; waiting = c.self.inside.waiting; greetings = c.self.inside.greetings; untaken = c.push_report.new.untaken; stopped = c.self.inside.stopped } in
-    subst (λ (a : Core). Answers (core_happens a (event.Frame c.args.now c.args.bytes.now) Kept) new (Took c.in-Ok.heard.taken)) c.self.view_is
-    (heard_step old c.frame.new.self c.in-Ok.heard c.push_report.new.untaken (happens c.self.inside.node (Frame c.args.now c.args.bytes.now) Kept) c.in-Ok.ensures.exact c.push_report.ensures)
-
-pub returns-in-Ok-clause-stop : goal.returns-in-Ok-clause-stop
-returns-in-Ok-clause-stop g c = λ held was.
-    let others = subst (λ (a : Core). (said : Spoken) → heard a.node.keys a.node.list.members c.args.bytes.now ≡ Ok said → said.from ≢ a.node.me) c.self.view_is c.in-Ok.ensures.others in
-    subst (IsCovered held) (sym (returns-in-Ok-clause-step g c).core) (frame_covered held c.args.self.now c.args.now c.args.bytes.now others was)
-
-pub returns-in-Err-clause-step : goal.returns-in-Err-clause-step
-returns-in-Err-clause-step g c =
-    let old : Core = record { node = c.self.inside.node; waiting = c.self.inside.waiting; greetings = c.self.inside.greetings; untaken = c.self.inside.untaken; stopped = c.self.inside.stopped } in
-    let new : Core = record { node = c.frame.new.self; waiting = c.self.inside.waiting; greetings = c.self.inside.greetings; untaken = c.self.inside.untaken; stopped = c.self.inside.stopped } in
-    subst (λ (a : Core). Answers (core_happens a (event.Frame c.args.now c.args.bytes.now) Kept) new (Refused c.in-Err.why)) c.self.view_is
-    (refused_step old c.frame.new.self c.in-Err.why (happens c.self.inside.node (Frame c.args.now c.args.bytes.now) Kept) c.in-Err.ensures.exact)
-
-pub returns-in-Err-clause-stop : goal.returns-in-Err-clause-stop
-returns-in-Err-clause-stop g c = λ held was.
-    let others = subst (λ (a : Core). (said : Spoken) → heard a.node.keys a.node.list.members c.args.bytes.now ≡ Ok said → said.from ≢ a.node.me) c.self.view_is c.in-Err.ensures.others in
-    subst (IsCovered held) (sym (returns-in-Err-clause-step g c).core) (frame_covered held c.args.self.now c.args.now c.args.bytes.now others was)
-
 -- what is carried is refused by the same test
-told : (n : Node) (now : ℕ) (bytes : List ℕ) (refused : Option Refusal) → refused ≡ frame_refusal (at_moment now n) bytes →
-    (f : RawFrame) (body : Body) → Carries n.keys n.list.members bytes f body → refused ≡ speech_refusal (at_moment now n) f.from (speech_of body)
-told n now bytes refused is f body c = is ∙ carried_refusal (at_moment now n) bytes f body c
-
-pub returns-in-Ok-clause-complete : goal.returns-in-Ok-clause-complete
-returns-in-Ok-clause-complete g c =
-    subst (λ (a : Core). (f : RawFrame) (body : Body) → Carries a.node.keys a.node.list.members c.args.bytes.now f body → None ≡ speech_refusal (at_moment c.args.now a.node) f.from (speech_of body)) c.self.view_is
-    (told c.self.inside.node c.args.now c.args.bytes.now None c.in-Ok.ensures.refused)
-
-pub returns-in-Err-clause-complete : goal.returns-in-Err-clause-complete
-returns-in-Err-clause-complete g c =
-    subst (λ (a : Core). (f : RawFrame) (body : Body) → Carries a.node.keys a.node.list.members c.args.bytes.now f body → Some c.in-Err.why ≡ speech_refusal (at_moment c.args.now a.node) f.from (speech_of body)) c.self.view_is
-    (told c.self.inside.node c.args.now c.args.bytes.now (Some c.in-Err.why) c.in-Err.ensures.refused)
+pub returns-clause-complete : goal.returns-clause-complete
+returns-clause-complete g c = λ f body carried.
+    c.hear.ensures.refused ∙ carried_refusal (at_moment c.args.now c.args.self.now.node) c.args.bytes.now f body carried

@@ -1,6 +1,6 @@
 use Rattle.std.proofs.Common.{sym, subst}
 use Rattle.xl_base.specs.Sets.{IsSet}
-use Rattle.xl_core.proofs.node.Node.hold.Goals as goal
+use Rattle.xl_core.proofs.node.Node.hold_through.Goals as goal
 
 pub hold-id-requires : goal.hold-id-requires
 hold-id-requires g c = subst IsSet (sym c.copy_ids-count.ensures.copied) c.copy_ids-count.ensures.set

@@ -1,0 +1,22 @@
+-- What was sent: every frame of every node, sealed under the key that the schedule gives the two.
+-- Source: this project's schedule language.
+use Rattle.std.specs.Prelude.{◌≡◌, ℕ, List, ◌++◌, length, Some, None}
+use Rattle.std.specs.declared.option.Option.{Option}
+use Rattle.xl_core.specs.Hearing.{bytes_as_sealed}
+use Rattle.xl_tags.specs.Rings.{schedule_ring}
+use Rattle.xl_tags.specs.Sealing.{before_tag}
+
+-- a frame that a node has sent to one receiver
+pub record Sent : Type 0 where
+  pub from : ℕ
+  pub to : ℕ
+  pub bytes : List ℕ
+
+-- the frame, of which these bytes are kept, whatever tag they have
+abbrev pub sent_as : ℕ → ℕ → List ℕ → Sent
+sent_as from to kept = record { from = from; to = to; bytes = bytes_as_sealed (schedule_ring to) kept }
+
+-- the tag of a frame to this receiver, of which these bytes are kept; where they are no frame they are all that was sent
+abbrev pub IsTag : ℕ → List ℕ → Option (List ℕ) → Type 0
+IsTag to kept None = bytes_as_sealed (schedule_ring to) kept ≡ kept
+IsTag to kept (Some tag) = (length tag ≡ 32) × (bytes_as_sealed (schedule_ring to) kept ≡ before_tag kept ++ tag)
