@@ -16,7 +16,7 @@ use xl_recount::Plain;
 use xl_trie::Trie;
 
 /// How many calls are made of each kind.
-const CALLS: u64 = 20_000;
+const CALLS: u64 = 10_000;
 
 fn tell(rt: &HostRuntime, votes: &str, differ: Result<u64, OutOfMemory>) -> io::Result<()> {
     match differ {
