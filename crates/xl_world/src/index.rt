@@ -37,6 +37,8 @@ impl TagIndex {
         requires { IsIndex self.old sent.now }
         ensures value { result ≡ was_sent sent.now bytes.now }
         ensures index { IsIndex self.new sent.now }
+        // No frame is indexed twice.
+        ensures later { self.old.indexed ≤ self.new.indexed }
     {
         self.extend(sent);
         match tag_of(bytes) {
@@ -64,6 +66,7 @@ impl TagIndex {
         requires { IsIndex self.old sent.now }
         ensures index { IsIndex self.new sent.now }
         ensures all { self.new.given_up ≡ false → self.new.indexed ≡ length sent.now }
+        ensures later { self.old.indexed ≤ self.new.indexed }
     {
         while !self.given_up && self.indexed < sent.len() {
             self.add(sent);
@@ -78,6 +81,7 @@ impl TagIndex {
         ensures index { IsIndex self.new sent.now }
         ensures added { self.new.given_up ≡ false → self.new.indexed ≡ self.old.indexed + 1 }
         ensures same { self.new.given_up ≡ true → self.new.indexed ≡ self.old.indexed }
+        ensures later { self.old.indexed ≤ self.new.indexed }
     {
         let place = self.indexed;
         let frame = &sent[place];

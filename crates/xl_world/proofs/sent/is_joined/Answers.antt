@@ -1,8 +1,8 @@
-use Rattle.std.proofs.Common.{◌≡◌, ◌∙◌, ap, length, sym, take}
+use Rattle.std.proofs.Common.{◌∙◌, ap, length, sym, take}
 use Rattle.std.proofs.lemmas.List.{take_rest}
 use Rattle.std.proofs.lemmas.Slice.Eq.{bytes_eq-Decides}
 use Rattle.std.specs.Str.{bytes_eq}
-use Rattle.xl_world.proofs.Sealing.{first_differs, first_same, too_few}
+use Rattle.xl_world.proofs.Sealing.{first_differs, first_same}
 use Rattle.xl_world.proofs.sent.is_joined.Goals as goal
 
 pub returns-then-eq : goal.returns-then-eq

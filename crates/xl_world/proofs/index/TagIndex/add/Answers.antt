@@ -2,8 +2,7 @@ use Rattle.std.proofs.Common.{◌≡◌, ◌+◌, ℕ, List, Some, cond, refl, a
 use Rattle.xl_sched.proofs.PlaceLemmas.{looks_up-inserted}
 use Rattle.std.specs.Str.{bytes_eq}
 use Rattle.xl_world.specs.declared.index.TagIndex.{TagIndex}
-use Rattle.xl_world.specs.Sending.{Sent}
-use Rattle.xl_world.specs.Indexes.{tag_in, place_of_tag, is_at, LeadsTo}
+use Rattle.xl_world.specs.Indexes.{tag_in, place_of_tag, LeadsTo}
 use Rattle.xl_world.proofs.Indexing.{index_next, others_lead, new_leads}
 use Rattle.xl_world.proofs.index.TagIndex.add.Goals as goal
 

@@ -1,4 +1,4 @@
-use Rattle.std.proofs.Common.{ap, subst, ◌∙◌, ◌≡◌, List, ℕ}
+use Rattle.std.proofs.Common.{subst, ◌≡◌, List, ℕ}
 use Rattle.std.specs.Prelude.{IfSome}
 use Rattle.xl_world.specs.Indexes.{tag_in}
 use Rattle.xl_world.specs.Sending.{IsTag, Sent}
