@@ -14,3 +14,5 @@ mod gates;
 mod sessions;
 #[cfg(test)]
 mod stores;
+#[cfg(test)]
+mod worlds;
