@@ -1,4 +1,4 @@
-//! Two forms of one thing, called alike: a small generator makes the calls, and what both answer after each is compared.
+//! Two forms of one thing, called alike: a small generator makes the calls, and what both answer is compared.
 //!
 //! Votes for ledgers stand in a list (xl_recount) and in a trie (xl_trie); votes on transactions stand in an index
 //! (xl_disputes), and here in plain lists. It has no contract of its own: the gate compares what it prints, in both

@@ -43,7 +43,8 @@ pub fn hand_chain<B: Branch + Drop>(
     ensures written { Writes (greeting_frames (node_for tags node.now) (greeting_at greetings.old member) member)
         result room.old room.new }
     ensures handed { greetings.new ≡ further_at greetings.old member
-        (fitting (greeting_frames (node_for tags node.now) (greeting_at greetings.old member) member) (length room.old)) }
+        (fitting (greeting_frames (node_for tags node.now) (greeting_at greetings.old member) member)
+        (length room.old)) }
 {
     let reader = reader_of(member);
     match greetings[reader] {
@@ -66,9 +67,10 @@ fn hand_headers<B: Branch + Drop>(
     room: &mut [u8],
 ) -> usize
     requires key { IsSome (key_of node.now.keys member) }
-    ensures written { Writes (greeting_frames (node_for tags node.now) (Some greeting.old) member) result room.old room.new }
-    ensures handed { greeting.new ≡
-        further (fitting (greeting_frames (node_for tags node.now) (Some greeting.old) member) (length room.old)) greeting.old }
+    ensures written { Writes (greeting_frames (node_for tags node.now) (Some greeting.old) member)
+        result room.old room.new }
+    ensures handed { greeting.new ≡ further
+        (fitting (greeting_frames (node_for tags node.now) (Some greeting.old) member) (length room.old)) greeting.old }
 {
     let mut at = 0;
     while let Some(next) = node.put_next(member, tags, greeting, at, room) {

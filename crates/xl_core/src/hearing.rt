@@ -79,7 +79,8 @@ fn open(
 ) -> Result<NodeNo, TagRefusal>
     requires whole { SpellsRaw (raw_frame raw.now) bytes.now }
     requires keyed { HasKeys keys.now list.now.members }
-    ensures refusal { result_err result ≡ refusal_of keys.now list.now.members (frame_with tags keys.now (raw_frame raw.now)) }
+    ensures refusal { result_err result
+        ≡ refusal_of keys.now list.now.members (frame_with tags keys.now (raw_frame raw.now)) }
     ensures sender { IfOk result (λ member. member ≡ raw.now.from) }
 {
     match tags {

@@ -36,7 +36,8 @@ pub fn drain<B: Branch + Drop>(
 ) -> usize
     requires key { IsSome (key_of node.now.keys member) }
     ensures count { result ≡ length (drained_bytes (node_for tags node.now) waiting.old member (length room.old)) }
-    ensures frames { room.new ≡ drained_bytes (node_for tags node.now) waiting.old member (length room.old) ++ drop result room.old }
+    ensures frames { room.new
+        ≡ drained_bytes (node_for tags node.now) waiting.old member (length room.old) ++ drop result room.old }
     ensures taken { waiting.new ≡ drained_for (node_for tags node.now) waiting.old member (length room.old) }
 {
     let mut at = 0;
@@ -58,7 +59,8 @@ fn drain_first<B: Branch + Drop>(
 ) -> Option<usize>
     requires key { IsSome (key_of node.now.keys member) }
     requires place { at ≤ length room.old }
-    ensures none { result ≡ None → TakesNone (node_for tags node.now) member at waiting.old waiting.new room.old room.new }
+    ensures none { result ≡ None
+        → TakesNone (node_for tags node.now) member at waiting.old waiting.new room.old room.new }
     ensures some { TakesFirst (node_for tags node.now) member at result waiting.old waiting.new room.old room.new }
     ensures numbers { (length waiting.old ≡ 64) × (1 ≤ member) × (member ≤ 64) }
 {

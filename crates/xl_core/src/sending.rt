@@ -37,7 +37,8 @@ pub fn put_body(
 ) -> Put
     requires key { IsSome (key_of keys.now to) }
     requires place { at ≤ length room.old }
-    ensures put { IsPut (Some (sealed_bytes (keys_for tags keys.now) keys.now.me to body.entry)) at room.old room.new result }
+    ensures put { IsPut (Some (sealed_bytes (keys_for tags keys.now) keys.now.me to body.entry))
+        at room.old room.new result }
     ensures spelled { IsTrue (has_spelling keys.now.me to body.entry) }
 {
     // Few frames are a long set's, so few clear the long room.
@@ -64,7 +65,8 @@ fn put_through(
     requires own { 46 + body_length_of body ≤ length own.old }
     requires key { IsSome (key_of keys.now to) }
     requires place { at ≤ length room.old }
-    ensures put { IsPut (Some (sealed_bytes (keys_for tags keys.now) keys.now.me to body.entry)) at room.old room.new result }
+    ensures put { IsPut (Some (sealed_bytes (keys_for tags keys.now) keys.now.me to body.entry))
+        at room.old room.new result }
     ensures spelled { IsTrue (has_spelling keys.now.me to body.entry) }
 {
     let frame = &mut own[..46 + body_length(&body)];

@@ -80,7 +80,8 @@ pub record IsSummary (rounds : ℕ) : Type 0 where
   pub reports : List Report
   pub forged : ℕ
   pub front : List ℕ
-  pub written : (summary rounds).text ≡ front ++ (forged_line forged ++ agreement_line opened.names (first_fork reports))
+  pub written : (summary rounds).text
+      ≡ front ++ (forged_line forged ++ agreement_line opened.names (first_fork reports))
   pub says : (summary rounds).verdict ≡ verdict_of (first_fork reports)
   pub fulls : filter is_full (told at_first (events rounds)) ≡ map full_of reports
   pub agree : forged ≡ 0 → first_fork reports ≡ None

@@ -54,7 +54,8 @@ pub fn generate<O: Sink>(alloc: Global, rounds: u32, output: &mut O) -> Result<V
     ensures headline { IsSummary rounds }
     // A front of the summary is written, whatever happens, and with a fault of the sink some of it isn't.
     ensures front { GrewByFront (O.held output.old) (O.held output.new) (summary rounds).text }
-    ensures less { IsErrOf result Fault.Write → GrewByLess (O.held output.old) (O.held output.new) (summary rounds).text }
+    ensures less { IsErrOf result Fault.Write
+        → GrewByLess (O.held output.old) (O.held output.new) (summary rounds).text }
     // Nothing is read, and a fault of the sink is answered only where its count rose.
     ensures read { IsErrOf result Fault.Read → ⊥ }
     ensures write { IsErrOf result Fault.Write → Rose (O.faults output.old) (O.faults output.new) }

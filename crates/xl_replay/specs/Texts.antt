@@ -122,7 +122,8 @@ outcome_lines names n outcomes = flat_map (outcome_line names n) outcomes
 -- a refused line
 abbrev pub bad_line : ℕ → SchedRefusal → List ℕ
 bad_line n refusal =
-    codes "bad " ++ decimal n ++ space ++ decimal (code_of refusal) ++ space ++ shown_token (token_of refusal) ++ newline
+    codes "bad " ++ decimal n ++ space ++ decimal (code_of refusal) ++ space ++ shown_token (token_of refusal)
+    ++ newline
 
 -- two nodes whose quorums aren't enough: both together, and what they must exceed
 abbrev pub short_line : ℕ → ℕ → ℕ → ℕ → List ℕ

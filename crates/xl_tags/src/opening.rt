@@ -49,7 +49,8 @@ pub fn open_raw(keys: &Keys, list: &List, raw: &Raw<'_>, bytes: &[u8]) -> Result
 pub fn open_as_sealed(keys: &Keys, list: &List, raw: &Raw<'_>) -> Result<NodeNo, TagRefusal>
     requires spelled { IsRaw (raw_frame raw.now) }
     requires keyed { HasKeys keys.now list.now.members }
-    ensures refusal { result_err result ≡ refusal_of keys.now list.now.members (as_sealed keys.now (raw_frame raw.now)) }
+    ensures refusal { result_err result
+        ≡ refusal_of keys.now list.now.members (as_sealed keys.now (raw_frame raw.now)) }
     ensures sender { IfOk result (λ member. member ≡ raw.now.from) }
 {
     if raw.to != keys.me().get() {

@@ -25,9 +25,9 @@ use xl_words::{Command, Telling, WordsFault};
 
 /// The program: what the words of the command line ask is read from the input and written to the output.
 ///
-/// The words begin with the program's name. They may ask for `replay`, `node`, `show`, `lists` or `gen`, for help, or for
-/// the version. Keeper, hub and clock are those of `node`. The keeper comes back, and so does the journal of the node's
-/// store, where one was opened.
+/// The words begin with the program's name. They may ask for `replay`, `node`, `show`, `lists` or `gen`, for help, or
+/// for the version. Keeper, hub and clock are those of `node`. The keeper comes back, and so does the journal of the
+/// node's store, where one was opened.
 pub fn top<
     W: Threads + Wait + Sync,
     I: Source,
@@ -79,8 +79,8 @@ pub fn top<
         → IfSome (I.left input.old) (λ bytes.
         AddsReport (names_of bytes) (O.held output.old) (O.held output.new) (report_of bytes))) }
     // Unless something is refused, the input was read to its end, where the command reads one.
-    ensures at_end { (result.status ≡ Status.Done) ⊎ (result.status ≡ Status.Fork) → IfSome (told_of (words_of words.now))
-        (λ telling. IsReader telling → IsAtEnd (I.left input.new)) }
+    ensures at_end { (result.status ≡ Status.Done) ⊎ (result.status ≡ Status.Fork)
+        → IfSome (told_of (words_of words.now)) (λ telling. IsReader telling → IsAtEnd (I.left input.new)) }
     // A front of the text is written, whatever happens.
     ensures front { IfSome (told_of (words_of words.now)) (λ telling. IfSome (I.left input.old) (λ bytes.
         GrewByFront (O.held output.old) (O.held output.new) (told_by telling bytes).text)) }

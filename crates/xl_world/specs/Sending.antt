@@ -16,7 +16,7 @@ pub record Sent : Type 0 where
 abbrev pub sent_as : ℕ → ℕ → List ℕ → Sent
 sent_as from to kept = record { from = from; to = to; bytes = bytes_as_sealed (schedule_ring to) kept }
 
--- the tag of a frame to this receiver, of which these bytes are kept; where they are no frame they are all that was sent
+-- the tag of a frame to this receiver, of which these bytes are kept; what is no frame was sent as it is kept
 abbrev pub IsTag : ℕ → List ℕ → Option (List ℕ) → Type 0
 IsTag to kept None = bytes_as_sealed (schedule_ring to) kept ≡ kept
 IsTag to kept (Some tag) = (length tag ≡ 32) × (bytes_as_sealed (schedule_ring to) kept ≡ before_tag kept ++ tag)
