@@ -1,13 +1,14 @@
 // What was sent: every frame of every node, as its bytes.
-ghost use Rattle.std.specs.Prelude.{◌≡◌, ◌++◌, IfSome, true};
+ghost use Rattle.std.specs.Prelude.{◌≡◌, ◌++◌, IfOk, IfSome, true};
 ghost use Rattle.std.specs.Str.{bytes_eq};
 ghost use Rattle.xl_tags.specs.Sealing.{before_tag};
 ghost use Rattle.xl_world.specs.Forgeries.{was_sent};
 ghost use Rattle.xl_world.specs.Indexes.{tag_in};
 ghost use Rattle.xl_world.specs.Sending.{IsTag, sent_as};
 
+use std::alloc::Global;
 use std::marker::Model;
-use xl_base::{Bytes, NodeNo};
+use xl_base::{Bytes, NodeNo, OutOfMemory};
 use xl_tags::{hmac, pair_key};
 use xl_wire::{Parted, split};
 
@@ -78,6 +79,17 @@ impl Sent {
         }
     }
 
+    /// Its bytes, in memory of their own.
+    pub fn bytes(&self, alloc: Global) -> Result<Bytes, OutOfMemory>
+        ensures { IfOk result (λ bytes. bytes ≡ self.now.bytes) }
+    {
+        let kept = self.kept.as_slice();
+        match tag_for(self.to, kept) {
+            Some(tag) => joined(alloc, before_tag(kept), &tag),
+            None => joined(alloc, kept, &[]),
+        }
+    }
+
     /// Whether the same bytes are kept of another one to the same receiver.
     pub(crate) fn is_alike(&self, other: &Sent) -> bool
         ensures { result ≡ true → self.now.bytes ≡ other.now.bytes }
@@ -91,6 +103,15 @@ fn before_tag(bytes: &[u8]) -> &[u8]
     ensures { result.now ≡ before_tag bytes.now }
 {
     &bytes[..bytes.len().saturating_sub(32)]
+}
+
+/// These bytes, one behind the other.
+fn joined(alloc: Global, front: &[u8], last: &[u8]) -> Result<Bytes, OutOfMemory>
+    ensures { IfOk result (λ bytes. bytes ≡ front.now ++ last.now) }
+{
+    let mut bytes = Vec::from_slice(alloc, front)?;
+    bytes.extend_from_slice(last)?;
+    Ok(Bytes::from_vec(bytes))
 }
 
 /// Whether the bytes are these, one behind the other.
