@@ -55,6 +55,13 @@ fn issue(world: &mut World, node: NodeNo, id: LedgerId) -> Result<usize, Fail> {
     Ok(world.event(&event)?.as_slice().len())
 }
 
+/// Whether these are the bytes of the first frame that was sent, and how many they are.
+fn first_bytes(alloc: Global, world: &World) -> Result<(bool, usize), Fail> {
+    let frame = world.sent().first().ok_or("nothing was sent")?;
+    let bytes = frame.bytes(alloc)?;
+    Ok((frame.is(bytes.as_slice()), bytes.as_slice().len()))
+}
+
 /// What the calls of a world answer whose two nodes share no member and reported what they like.
 fn is_forked(world: &World, one: NodeNo, two: NodeNo) -> bool {
     world.sent().len() == 4
@@ -77,5 +84,6 @@ fn a_fork_is_found(rt: HostRuntime) -> Result<(), Fail> {
     assert!(rt; told == 1 && further == 1);
     assert!(rt; first_fork(alloc, world.reports())?.is_some());
     assert!(rt; is_forked(&world, one, two));
+    assert!(rt; first_bytes(alloc, &world)? == (true, 87));
     Ok(())
 }
