@@ -4,7 +4,7 @@ ghost use Rattle.xl_world.specs.Indexes.{tag_in, is_at, IsIndex};
 ghost use Rattle.xl_world.specs.Forgeries.{was_sent};
 
 use crate::Sent;
-use crate::sent::was_sent;
+use crate::sent::{tag_for, was_sent};
 use std::alloc::Global;
 use std::collections::BTreeMap;
 
@@ -85,7 +85,7 @@ impl TagIndex {
     {
         let place = self.indexed;
         let frame = &sent[place];
-        let Some(tag) = frame.tag() else {
+        let Some(tag) = tag_for(frame.to(), frame.kept()) else {
             self.given_up = true;
             return;
         };
@@ -119,7 +119,7 @@ fn is_again(sent: &[Sent], place: usize, frame: &Sent) -> bool
     ensures { result ≡ true → is_at sent.now place frame.now.bytes ≡ true }
 {
     match sent_at(sent, place) {
-        Some(first) => first.is_alike(frame),
+        Some(first) => first.to() == frame.to() && first.kept() == frame.kept(),
         None => false,
     }
 }

@@ -1,9 +1,8 @@
 // What was sent: every frame of every node, as its bytes.
-ghost use Rattle.std.specs.Prelude.{◌≡◌, ◌++◌, IfOk, IfSome, true};
+ghost use Rattle.std.specs.Prelude.{◌≡◌, ◌++◌, IfOk};
 ghost use Rattle.std.specs.Str.{bytes_eq};
 ghost use Rattle.xl_tags.specs.Sealing.{before_tag};
 ghost use Rattle.xl_world.specs.Forgeries.{was_sent};
-ghost use Rattle.xl_world.specs.Indexes.{tag_in};
 ghost use Rattle.xl_world.specs.Sending.{IsTag, sent_as};
 
 use std::alloc::Global;
@@ -61,13 +60,6 @@ impl Sent {
         self.kept.as_slice()
     }
 
-    /// Its tag, unless it is no frame.
-    pub(crate) fn tag(&self) -> Option<[u8; 32]>
-        ensures { IfSome result (λ tag. tag ≡ tag_in self.now.bytes) }
-    {
-        tag_for(self.to, self.kept.as_slice())
-    }
-
     /// Whether these are its bytes.
     pub fn is(&self, bytes: &[u8]) -> bool
         ensures { result ≡ bytes_eq self.now.bytes bytes.now }
@@ -88,13 +80,6 @@ impl Sent {
             Some(tag) => joined(alloc, before_tag(kept), &tag),
             None => joined(alloc, kept, &[]),
         }
-    }
-
-    /// Whether the same bytes are kept of another one to the same receiver.
-    pub(crate) fn is_alike(&self, other: &Sent) -> bool
-        ensures { result ≡ true → self.now.bytes ≡ other.now.bytes }
-    {
-        self.to == other.to && self.kept.as_slice() == other.kept.as_slice()
     }
 }
 
@@ -126,8 +111,8 @@ fn is_joined(front: &[u8], last: &[u8], bytes: &[u8]) -> bool
     first == front && rest == last
 }
 
-/// The tag that a frame to this receiver has, of which these bytes are kept.
-fn tag_for(to: NodeNo, kept: &[u8]) -> Option<[u8; 32]>
+/// The tag that a frame to this receiver has, of which these bytes are kept, unless they are no frame.
+pub(crate) fn tag_for(to: NodeNo, kept: &[u8]) -> Option<[u8; 32]>
     ensures { IsTag to kept.now result }
 {
     let Parted::Whole(raw) = split(kept) else {
