@@ -1,5 +1,5 @@
 // Whether bytes were sent, without a walk over all that was sent.
-ghost use Rattle.std.specs.Prelude.{◌≡◌, ◌+◌, ◌≤◌, ◌<◌, length, slice_get, true, false, IfSome, option_copied};
+ghost use Rattle.std.specs.Prelude.{◌≡◌, ◌+◌, ◌≤◌, ◌<◌, None, length, slice_get, true, false, IfSome, option_copied};
 ghost use Rattle.xl_world.specs.Indexes.{tag_in, is_at, IsIndex};
 ghost use Rattle.xl_world.specs.Forgeries.{was_sent};
 
@@ -133,7 +133,8 @@ fn sent_at(sent: &[Sent], place: usize) -> Option<&Sent>
 
 /// The last 32 bytes, where there are so many.
 fn tag_of(bytes: &[u8]) -> Option<[u8; 32]>
-    ensures { IfSome result (λ tag. tag ≡ tag_in bytes.now) }
+    ensures some { IfSome result (λ tag. tag ≡ tag_in bytes.now) }
+    ensures none { result ≡ None → length bytes.now < 32 }
 {
     if bytes.len() < 32 {
         return None;
