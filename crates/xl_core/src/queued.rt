@@ -146,6 +146,8 @@ impl<B: Branch + Drop> Core<B> {
     /// Hears bytes that come as if their sender had sealed them: the tag, the last 32 bytes of a frame, isn't looked at
     /// and taken as the one under our key. Where it is that one, this is `frame`, for less.
     ///
+    /// It is for frames whose sender is known anyway, as those of a world: what comes over a link goes to `frame`.
+    ///
     /// Refused as the node refuses them, and so never for the tag. First the time is set, and rows expire; nothing else
     /// changes then.
     pub fn frame_as_sealed(&mut self, now: Millis, bytes: &[u8]) -> Result<Taken, Refusal>
