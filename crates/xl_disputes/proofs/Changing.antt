@@ -4,10 +4,9 @@ use Rattle.std.specs.Prelude.{All, Some, None, flat_map}
 use Rattle.std.proofs.lemmas.List.Elements.{All-nil, All-cons, All-get_or}
 use Rattle.xl_base.specs.Sets.{IsRising, IsSet}
 use Rattle.xl_base.specs.declared.ids.TxId.{TxId}
-use Rattle.xl_disputes.specs.declared.tally.Tally.{Tally}
 use Rattle.xl_disputes.specs.declared.rows.Row.{Row}
 use Rattle.xl_disputes.specs.Disputes.{has}
-use Rattle.xl_disputes.specs.Tallies.{no_tally, held_by}
+use Rattle.xl_disputes.specs.Tallies.{Tally, no_tally, held_by}
 use Rattle.xl_disputes.specs.Rows.{IsExchangeable, Exchanges, IsMovable, Moves}
 use Rattle.xl_disputes.specs.Holdings.{Holding, no_holding, member_bits, empty_own, no_holdings, changed, with_set, with_weight, ids_in, tally_from, IsShared}
 use Rattle.xl_disputes.proofs.Sharing.{part, can_release, can_weigh, can_fill, can_replace, weight_most, still_shared, still_shared_with}

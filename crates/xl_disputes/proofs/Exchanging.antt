@@ -6,9 +6,8 @@ use Rattle.std.proofs.lemmas.Bool.Decides.{nat_tests}
 use Rattle.std.proofs.lemmas.List.Elements.{All-cons, All-head, All-tail}
 use Rattle.xl_base.specs.Sets.{is_below, RisesFrom, IsRising}
 use Rattle.xl_base.specs.declared.ids.TxId.{TxId}
-use Rattle.xl_disputes.specs.declared.tally.Tally.{Tally}
 use Rattle.xl_disputes.specs.declared.rows.Row.{Row}
-use Rattle.xl_disputes.specs.Tallies.{no_tally, held_by, exchanged, IsWhole}
+use Rattle.xl_disputes.specs.Tallies.{Tally, no_tally, held_by, exchanged, IsWhole}
 use Rattle.xl_disputes.specs.Rows.{is_same, ids_of, tally_of, IsIndex, put, with_exchange}
 use Rattle.xl_disputes.proofs.IdOrder.{below_trans, neither_below, same_itself, same_is, below_other, above_other}
 

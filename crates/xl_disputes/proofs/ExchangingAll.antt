@@ -4,10 +4,9 @@ use Rattle.std.proofs.lemmas.List.{take_more, take_all, length-take-le}
 use Rattle.std.proofs.lemmas.List.Folds.{list_any-append}
 use Rattle.xl_base.specs.Sets.{is_below, RisesFrom, IsRising}
 use Rattle.xl_base.specs.declared.ids.TxId.{TxId}
-use Rattle.xl_disputes.specs.declared.tally.Tally.{Tally}
 use Rattle.xl_disputes.specs.declared.rows.Row.{Row}
 use Rattle.xl_disputes.specs.Disputes.{has}
-use Rattle.xl_disputes.specs.Tallies.{held_by, exchanged, IsWithin, IsFitting, IsWhole}
+use Rattle.xl_disputes.specs.Tallies.{Tally, held_by, exchanged, IsWithin, IsFitting, IsWhole}
 use Rattle.xl_disputes.specs.Rows.{is_same, tally_of, IsIndex, with_exchange, IsExchangeable, Exchanges}
 use Rattle.xl_disputes.proofs.IdOrder.{below_trans, same_is, same_itself, below_other}
 use Rattle.xl_disputes.proofs.Exchanging.{rises_rest, exchange_tally, exchange_length}

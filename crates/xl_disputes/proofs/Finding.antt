@@ -5,9 +5,8 @@ use Rattle.std.proofs.lemmas.List.{set_split, drop_all, take-append-drop}
 use Rattle.std.proofs.lemmas.List.Sums.{prefix_len-le-length}
 use Rattle.xl_base.specs.Sets.{is_below, RisesFrom, IsRising}
 use Rattle.xl_base.specs.declared.ids.TxId.{TxId}
-use Rattle.xl_disputes.specs.declared.tally.Tally.{Tally}
 use Rattle.xl_disputes.specs.declared.rows.Row.{Row}
-use Rattle.xl_disputes.specs.Tallies.{no_tally, held_by, exchanged, IsWithin}
+use Rattle.xl_disputes.specs.Tallies.{Tally, no_tally, held_by, exchanged, IsWithin}
 use Rattle.xl_disputes.specs.Rows.{is_same, ids_of, tally_of, IsIndex, put, with_exchange, goes_before, place_of, IsThere, IsAbsent}
 use Rattle.xl_disputes.proofs.IdOrder.{irreflexive, below_trans, neither_below, same_itself, same_is, below_other}
 use Rattle.xl_disputes.proofs.Exchanging.{rises_rest, tally_above, exchange-IsIndex}

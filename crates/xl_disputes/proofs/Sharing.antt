@@ -8,10 +8,9 @@ use Rattle.std.proofs.lemmas.List.Elements.{All-nil, All-cons, All-head, All-tai
 use Rattle.std.proofs.lemmas.List.Folds.{list_any-append}
 use Rattle.xl_base.specs.Sets.{IsSet}
 use Rattle.xl_base.specs.declared.ids.TxId.{TxId}
-use Rattle.xl_disputes.specs.declared.tally.Tally.{Tally}
 use Rattle.xl_disputes.specs.declared.rows.Row.{Row}
 use Rattle.xl_disputes.specs.Disputes.{has}
-use Rattle.xl_disputes.specs.Tallies.{no_tally, held_by, exchanged, IsWithin, IsWhole}
+use Rattle.xl_disputes.specs.Tallies.{Tally, no_tally, held_by, exchanged, IsWithin, IsWhole}
 use Rattle.xl_disputes.specs.Rising.{rising}
 use Rattle.xl_disputes.specs.Rows.{is_same, ids_of, tally_of, IsExchangeable, Exchanges, part_of, IsMovable, Moves}
 use Rattle.xl_disputes.specs.Holdings.{Holding, no_holding, with_set, with_weight, ids_in, ours_of, tally_from, amount, total, IsShared}

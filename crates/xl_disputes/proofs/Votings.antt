@@ -8,10 +8,9 @@ use Rattle.std.proofs.lemmas.List.Sums.{sum_by-cons}
 use Rattle.xl_base.specs.declared.ids.TxId.{TxId}
 use Rattle.xl_base.specs.declared.ids.SetId.{SetId}
 use Rattle.xl_disputes.specs.declared.votes.Votes.{Votes}
-use Rattle.xl_disputes.specs.declared.tally.Tally.{Tally}
 use Rattle.xl_disputes.specs.Disputes.{has, is_named, is_yay, is_nay, vote, votes, votes_of, is_counted, counted_sets}
 use Rattle.xl_disputes.specs.Holdings.{Holding, member_bits, ids_in, ours_of, amount, total}
-use Rattle.xl_disputes.specs.Tallies.{held_by}
+use Rattle.xl_disputes.specs.Tallies.{Tally, held_by}
 use Rattle.xl_disputes.proofs.Sharing.{one_of, some_one, amount_both}
 use Rattle.xl_disputes.specs.Standings.{stand, voters, votes_by, own_in, own_ids, known_of, IsKept}
 use Rattle.xl_disputes.proofs.Standing.{picked, picked_standings, says, stands_for, amount_picked, both_picked, sets_of}

@@ -9,10 +9,9 @@ use Rattle.std.proofs.lemmas.List.Edits.{map_over_more}
 use Rattle.std.proofs.lemmas.List.Elements.{All-get_or, All-weaker}
 use Rattle.xl_base.specs.Sets.{is_below, RisesFrom, IsRising}
 use Rattle.xl_base.specs.declared.ids.TxId.{TxId}
-use Rattle.xl_disputes.specs.declared.tally.Tally.{Tally}
 use Rattle.xl_disputes.specs.declared.rows.Row.{Row}
 use Rattle.xl_disputes.specs.Disputes.{has}
-use Rattle.xl_disputes.specs.Tallies.{no_tally, exchanged, IsWithin, IsFitting, IsWhole}
+use Rattle.xl_disputes.specs.Tallies.{Tally, no_tally, exchanged, IsWithin, IsFitting, IsWhole}
 use Rattle.xl_disputes.specs.Rows.{is_same, ids_of, tally_of, is_held, not_below, is_first, part_of, moved, IsIndex, IsMovable, Moves}
 use Rattle.xl_disputes.proofs.IdOrder.{neither_below, same_itself, same_is}
 use Rattle.xl_disputes.proofs.Exchanging.{RisesFrom-lower, rises_rest}

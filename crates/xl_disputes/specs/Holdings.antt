@@ -4,7 +4,7 @@ use Rattle.std.specs.Prelude.{◌≡◌, ℕ, zero, suc, ◌^◌, ◌<◌, ◌�
 use Rattle.std.specs.List.{range_with_len}
 use Rattle.xl_base.specs.Sets.{IsSet}
 use Rattle.xl_base.specs.declared.ids.TxId.{TxId}
-use Rattle.xl_disputes.specs.declared.tally.Tally.{Tally}
+use Rattle.xl_disputes.specs.Tallies.{Tally}
 use Rattle.xl_disputes.specs.declared.rows.Row.{Row}
 use Rattle.xl_disputes.specs.Disputes.{has}
 use Rattle.xl_disputes.specs.Rows.{tally_of, IsIndex}

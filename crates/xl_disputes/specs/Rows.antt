@@ -5,10 +5,9 @@ use Rattle.std.specs.List.{prefix_len}
 use Rattle.std.specs.Str.{bytes_eq}
 use Rattle.xl_base.specs.Sets.{is_below, IsRising}
 use Rattle.xl_base.specs.declared.ids.TxId.{TxId}
-use Rattle.xl_disputes.specs.declared.tally.Tally.{Tally}
 use Rattle.xl_disputes.specs.declared.rows.Row.{Row}
 use Rattle.xl_disputes.specs.Disputes.{has}
-use Rattle.xl_disputes.specs.Tallies.{no_tally, held_by, exchanged, IsWithin, IsFitting, IsWhole}
+use Rattle.xl_disputes.specs.Tallies.{Tally, no_tally, held_by, exchanged, IsWithin, IsFitting, IsWhole}
 
 abbrev pub is_same : TxId → TxId → Bool
 is_same a b = bytes_eq a.0 b.0

@@ -5,7 +5,7 @@ use Rattle.std.specs.List.{prefix_len}
 use Rattle.xl_base.specs.declared.ids.TxId.{TxId}
 use Rattle.xl_base.specs.declared.ids.SetId.{SetId}
 use Rattle.xl_disputes.specs.declared.votes.Votes.{Votes}
-use Rattle.xl_disputes.specs.declared.tally.Tally.{Tally}
+use Rattle.xl_disputes.specs.Tallies.{Tally}
 use Rattle.xl_disputes.specs.declared.rows.Row.{Row}
 use Rattle.xl_disputes.specs.Disputes.{Known, is_named}
 use Rattle.xl_disputes.specs.Rising.{lowest}

@@ -2,7 +2,15 @@
 use Rattle.std.specs.Prelude.{◌≡◌, ℕ, ◌+◌, ◌-◌, ◌^◌, ◌<◌, ◌≤◌, ◌==◌, nat_lt, Bool, List, ◌∷◌, map}
 use Rattle.std.specs.List.{range_with_len}
 use Rattle.std.specs.Int.{bit_at}
-use Rattle.xl_disputes.specs.declared.tally.Tally.{Tally}
+
+-- which sets have an id, and how many positions stand for one of them: sums over the sets that have it
+pub record Tally : Type 0 where
+  -- a member's set gives the member's own bit, so bit m - 1 says whether the set of member m has the id
+  pub members : ℕ
+  -- each set gives the positions that stand for it
+  pub yays : ℕ
+  -- our own set gives 1
+  pub ours : ℕ
 
 -- what an id has that is in no set
 abbrev pub no_tally : Tally

@@ -89,11 +89,7 @@ impl Place {
     pub(crate) fn tally(&self) -> Tally
         ensures { result ≡ tally_from self.now }
     {
-        Tally {
-            members: self.bit,
-            yays: self.weight,
-            ours: u32::from(self.bit == 0),
-        }
+        Tally::new(self.bit, self.weight, u32::from(self.bit == 0))
     }
 
     /// Holds the set of these ids, and tells its id.

@@ -8,6 +8,7 @@ ghost use Rattle.xl_disputes.specs.Pooled.{row_of, rows_of, if_held, IsSwept};
 use crate::tally::Tally;
 use std::alloc::Global;
 use std::marker::Model;
+use std::mem::align_of;
 use xl_base::{OutOfMemory, TxId};
 use xl_pool::{Name, Pool};
 
@@ -20,6 +21,9 @@ pub(crate) struct Row {
     pub(crate) id: TxId,
     pub(crate) tally: Tally,
 }
+
+/// A slot takes 56 bytes. With an alignment of 8 it would take 64.
+const _: () = prove!(align_of::<Row>() == 4);
 
 /// Rows in order, with room for as many as there may be. A row stays in its slot while others come and go.
 #[derive(Debug, Drop)]

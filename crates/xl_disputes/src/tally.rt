@@ -3,35 +3,69 @@ ghost use Rattle.xl_disputes.specs.Tallies.{held_by, exchanged, IsWithin, IsFitt
 ghost use Rattle.xl_disputes.specs.Standings.{votes_by};
 
 use crate::Votes;
+use std::marker::Model;
 
 /// Which sets have an id, and how many positions stand for one of them: sums over the sets that have it.
 #[derive(Clone, Copy, Debug)]
 pub(crate) struct Tally {
-    /// A member's set gives the member's own bit, so bit m - 1 says whether the set of member m has the id.
-    pub(crate) members: u64,
+    /// A member's set gives the member's own bit, so bit m - 1 says whether the set of member m has the id. The 64 bits
+    /// stand in two halves, so that no row is padded to a multiple of eight bytes.
+    lower: u32,
+    upper: u32,
     /// Each set gives the positions that stand for it.
-    pub(crate) yays: u32,
+    yays: u32,
     /// Our own set gives 1.
-    pub(crate) ours: u32,
+    ours: u32,
+}
+
+impl Model for Tally {
+    ghost use Rattle.std.specs.Prelude.{◌+◌, ◌*◌, ◌/◌, ◌%◌, ◌^◌, ◌<◌};
+    ghost use Rattle.xl_disputes.specs.Tallies.{Tally as Sums};
+
+    ghost Value = { Sums };
+
+    ghost view = { λ t. record { members = t.upper * 2 ^ 32 + t.lower; yays = t.yays; ours = t.ours } };
+
+    ghost invariant = { λ t. t.lower < 2 ^ 32 };
+
+    ghost inverse = { λ t. record {
+      lower = t.members % 2 ^ 32;
+      upper = t.members / 2 ^ 32;
+      yays = t.yays;
+      ours = t.ours;
+    } };
 }
 
 impl Tally {
+    pub(crate) fn new(members: u64, yays: u32, ours: u32) -> Tally
+        ensures { result ≡ record { members = members; yays = yays; ours = ours } }
+    {
+        Tally {
+            lower: (members & 0xffff_ffff) as u32,
+            upper: (members >> 32) as u32,
+            yays,
+            ours,
+        }
+    }
+
+    fn members(self) -> u64
+        ensures { result ≡ self.members }
+    {
+        (u64::from(self.upper) << 32) + u64::from(self.lower)
+    }
+
     /// What an id has that is in no set.
     pub(crate) fn none() -> Tally
         ensures { result ≡ no_tally }
     {
-        Tally {
-            members: 0,
-            yays: 0,
-            ours: 0,
-        }
+        Tally::new(0, 0, 0)
     }
 
     /// Whether no set has the id.
     pub(crate) fn is_none(self) -> bool
         ensures { result ≡ (held_by self == 0) }
     {
-        self.members == 0 && self.ours == 0
+        self.members() == 0 && self.ours == 0
     }
 
     /// The votes that it says, where so many vote.
@@ -51,10 +85,10 @@ impl Tally {
         requires fitting { IsFitting (exchanged from to self) }
         ensures { result ≡ exchanged from to self }
     {
-        Tally {
-            members: self.members - from.members + to.members,
-            yays: self.yays - from.yays + to.yays,
-            ours: self.ours - from.ours + to.ours,
-        }
+        Tally::new(
+            self.members() - from.members() + to.members(),
+            self.yays - from.yays + to.yays,
+            self.ours - from.ours + to.ours,
+        )
     }
 }
