@@ -1,6 +1,6 @@
 -- A core: a node with what waits at it, to be sent and to be read, and everything that may happen to it. Source: this
 -- profile.
-use Rattle.std.specs.Prelude.{ℕ, Bool, true, false, List, ◌++◌, length, take, drop}
+use Rattle.std.specs.Prelude.{ℕ, ◌==◌, Bool, true, false, List, ◌++◌, length, take, drop, is_some, if◌then◌else◌}
 use Rattle.std.specs.Prelude.{Some, None}
 use Rattle.std.specs.declared.option.Option.{Option}
 use Rattle.xl_queues.specs.Queues.{Backlog, no_items}
@@ -15,7 +15,7 @@ use Rattle.xl_core.specs.Greetings.{none_greeted, greeting_of, greeting_at, with
 use Rattle.xl_core.specs.Items.{frames_for}
 use Rattle.xl_core.specs.Node as nodes
 use Rattle.xl_core.specs.Node.{Node, Reply, Save, happens, asks}
-use Rattle.xl_core.specs.Queues.{none_waiting, with_items, at_number, after_taking, fitting, that_fit, frames_in, with_report, without}
+use Rattle.xl_core.specs.Queues.{none_waiting, with_items, waiting_at, at_number, after_taking, fitting, that_fit, frames_in, with_report, without}
 
 pub record Core : Type 0 where
   pub node : Node
@@ -69,6 +69,10 @@ greeted_frames core to = greeting_frames core.node (greeting_at core.greetings t
 
 abbrev pub all_frames : Core → ℕ → List (Option (List ℕ))
 all_frames core to = greeted_frames core to ++ frames_for core.node core.waiting to
+
+-- nothing is left for a number: it isn't greeted, and nothing waits for it
+abbrev pub is_idle : Core → ℕ → Bool
+is_idle core to = if is_some (greeting_at core.greetings to) then false else (length (waiting_at core.waiting to).items == 0)
 
 -- the longest front of them that fits into a room
 abbrev pub given_for : Core → ℕ → ℕ → List (Option (List ℕ))

@@ -1,5 +1,5 @@
 // With which chain each peer is greeted.
-ghost use Rattle.std.specs.Prelude.{◌≡◌, Some, IsSome, length};
+ghost use Rattle.std.specs.Prelude.{◌≡◌, Some, IsSome, is_some, length};
 ghost use Rattle.xl_tags.specs.Rings.{key_of};
 ghost use Rattle.xl_core.specs.Draining.{is_handed, node_for, Writes};
 ghost use Rattle.xl_core.specs.Greetings.{further, further_at, greeting_at, greeting_frames, with_greeting};
@@ -88,4 +88,11 @@ pub fn is_greeted<B: Branch + Drop>(greetings: &Greetings, node: &Node<B>, membe
         Some(greeting) => node.next_on_chain(greeting).is_none(),
         None => true,
     }
+}
+
+/// Whether a member is greeted, or was and isn't greeted anew.
+pub fn has_greeting(greetings: &Greetings, member: NodeNo) -> bool
+    ensures { result ≡ is_some (greeting_at greetings.now member) }
+{
+    greetings[reader_of(member)].is_some()
 }

@@ -3,6 +3,7 @@ ghost use Rattle.std.specs.Prelude.{◌≡◌, ◌+◌, ◌-◌, ◌≤◌, ◌+
 ghost use Rattle.xl_tags.specs.Rings.{key_of};
 ghost use Rattle.xl_core.specs.Draining.{node_for, TakesFirst, TakesNone};
 ghost use Rattle.xl_core.specs.Items.{drained_bytes, drained_for, lost_for};
+ghost use Rattle.xl_core.specs.Queues.{waiting_at};
 
 use crate::putting::Put;
 use crate::sending::TagPlace;
@@ -77,6 +78,13 @@ fn drain_first<B: Branch + Drop>(
         }
         Put::NoRoom => None,
     }
+}
+
+/// How many items wait for a member.
+pub fn count_for(waiting: &Waiting, member: NodeNo) -> usize
+    ensures { result ≡ length (waiting_at waiting.now member).items }
+{
+    waiting.len(reader_of(member))
 }
 
 /// How many items for a member were lost: none for one that is no peer.

@@ -1,16 +1,16 @@
-ghost use Rattle.std.specs.Prelude.{◌≡◌, ◌↔◌, ◌<◌, ◌≤◌, [], ℕ, IfOk, IsSome, OnOk, OnErr, Some, Err, length, option_map, None};
+ghost use Rattle.std.specs.Prelude.{◌≡◌, ◌↔◌, ◌<◌, ◌≤◌, [], ℕ, IfOk, IsSome, IsTrue, OnOk, OnErr, Some, Err, length, option_map, None};
 ghost use Rattle.std.specs.Result.{result_err};
 ghost use Rattle.xl_base.specs.declared.moments.TheConstants.{GREATEST_MILLIS};
 ghost use Rattle.xl_validations.specs.Votes.{votes_of};
 ghost use Rattle.xl_ledger.specs.declared.registry.TheConstants.{LEAST_LIMIT, GREATEST_LIMIT};
 ghost use Rattle.xl_io.specs.Keepers.{Held};
 ghost use Rattle.xl_tags.specs.Rings.{key_of};
-ghost use Rattle.xl_core.specs.Answers.{Done, Told};
+ghost use Rattle.xl_core.specs.Answers.{Done, Gave, Told};
 ghost use Rattle.xl_core.specs.Building.{said_items};
-ghost use Rattle.xl_core.specs.Core.{all_frames, with_queues, core_happens, core_asks};
+ghost use Rattle.xl_core.specs.Core.{all_frames, answering, is_idle, with_queues, core_happens, core_asks};
 ghost use Rattle.xl_core.specs.Items.{lost_for};
 ghost use Rattle.xl_core.specs.Queues.{with_items, frames_in};
-ghost use Rattle.xl_core.specs.declared.event.CoreEvent.TheVariants.{Issue, Frame, Timer, Submit, Greet, Stop, Stopped};
+ghost use Rattle.xl_core.specs.declared.event.CoreEvent.TheVariants.{Issue, Frame, Timer, Submit, Greet, Drain, Stop, Stopped};
 ghost use Rattle.xl_core.specs.Stops.{HoldsAtLeast, IsCovered, StaysCovered};
 ghost use Rattle.xl_core.specs.Keeping.{AsksSave, CountsFault, Holds, IsAsked, Saves};
 ghost use Rattle.xl_core.specs.Replies.{Answers, Drains, DrainsBlank, HandsOut, Issues, core_for, taken_answer, done_answer, was_kept};
@@ -25,9 +25,9 @@ ghost use Rattle.xl_wire.specs.Raws.{RawFrame};
 ghost use Rattle.xl_core.specs.declared.refusal.Refusal.TheVariants.{NotAfter, IssuingOff};
 
 use crate::beat::full_or_partial;
-use crate::greeting::{Greetings, greet, hand_chain, is_greeted};
+use crate::greeting::{Greetings, greet, hand_chain, has_greeting, is_greeted};
 use crate::hearing::Tags;
-use crate::outgoing::{Waiting, drain, lost_for};
+use crate::outgoing::{Waiting, count_for, drain, lost_for};
 use crate::sending::TagPlace;
 use crate::tick::{Built, Tick};
 use crate::untaken::{UNTAKEN, push_report, take_reports};
@@ -337,6 +337,18 @@ impl<B: Branch + Drop> Core<B> {
             return at;
         }
         at + drain(&mut self.waiting, &self.node, member, tags, &mut room[at..])
+    }
+
+    /// Whether a member isn't greeted and nothing waits for it: a drain for it gives nothing then, and changes nothing.
+    pub fn is_idle(&self, member: NodeNo) -> bool
+        ensures value { result ≡ is_idle self.now member }
+        ensures idle { IsTrue result → (room : ℕ)
+            → core_happens self.now (Drain member room) Kept ≡ answering self.now (Gave member []) }
+    {
+        if has_greeting(&self.greetings, member) {
+            return false;
+        }
+        count_for(&self.waiting, member) == 0
     }
 
     /// How many items for a member were lost, since its queue was full or they were passed over: none for one that is

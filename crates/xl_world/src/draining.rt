@@ -72,6 +72,9 @@ fn drain_once(core: &mut NodeCore, to: NodeNo, room: &mut [u8; LONGEST_FRAME]) -
         (0 < count) × (count ≤ LONGEST_FRAME)
         × (take count room.new ≡ joined (map blanked (given_in (drained_once core.old to).answer)))) }
 {
+    if core.is_idle(to) {
+        return None;
+    }
     let count = core.drain_blank(to, room);
     if count == 0 { None } else { Some(count) }
 }
