@@ -30,7 +30,7 @@ use Rattle.xl_sched.specs.Members.{member_of, new_member_of, members_of, trusted
 use Rattle.xl_sched.specs.Reading.{Reading}
 use Rattle.xl_sched.specs.Settings.{mode_of, node_of, node_line, liar_line, limit_line, at_line}
 use Rattle.xl_sched.specs.Naming.{has_most_names, named_line, named_ledger_line}
-use Rattle.xl_sched.specs.Words.{is_declaration, setting_word, event_word, set_line, setting_line, what_of, event_line, event_line_of, line_of, worded_line}
+use Rattle.xl_sched.specs.Words.{is_declaration, setting_word, event_word, set_line, what_of, event_line, event_line_of, line_of, worded_line}
 use Rattle.xl_sched.specs.Answers.{LineAnswer, passes, gives, refuses, is_header, header_line, is_comment, some_line, later_line, bounded_line, answer_to, reading_of}
 use Rattle.xl_world.specs.Plans.{IsDeclared}
 

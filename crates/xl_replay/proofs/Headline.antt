@@ -1,6 +1,6 @@
 -- A report of a schedule is such lines: its `full` lines stand for reports of its world, which agree.
 use Rattle.std.proofs.Common.{◌≡◌, ◌≢◌, ℕ, ◌≤◌, IfSome, List, [], ◌∷◌, ◌++◌, append_assoc, refl, arith, ap, sym, ◌∙◌, Option, Some, None, subst, inl, inr}
-use Rattle.std.specs.Prelude.{◌==◌, Bool, true, All, Contains, map, filter}
+use Rattle.std.specs.Prelude.{◌==◌, true, All, Contains, map, filter}
 use Rattle.std.specs.List.{flat_map}
 use Rattle.std.proofs.lemmas.Bool.{cond_both, cases_lt}
 use Rattle.std.proofs.lemmas.List.Elements.{All-contains, All-contains_itself, All-cons, All-map, All-nil, All-weaker, Contains-append_left, Contains-append_right, Contains-push}

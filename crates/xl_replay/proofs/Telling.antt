@@ -6,7 +6,6 @@ use Rattle.std.proofs.lemmas.Bool.{cond_both}
 use Rattle.std.proofs.lemmas.Grind.{flat_map-append}
 use Rattle.std.proofs.lemmas.List.{append-nil, map-append}
 use Rattle.std.proofs.lemmas.List.Elements.{All-append, All-nil, All-cons, All-weaker, All-map, filter-append}
-use Rattle.xl_lists.specs.Lists.{TrustedList}
 use Rattle.xl_lists.specs.declared.report.Report.{Report as Reported}
 use Rattle.xl_lines.specs.declared.limits.Limits.{Limits}
 use Rattle.xl_lines.specs.declared.machine.Verdict.TheVariants.{Refused as IsRefused}
@@ -22,7 +21,7 @@ use Rattle.xl_core.specs.declared.beat.Beat.TheVariants as beat
 use Rattle.xl_core.specs.declared.beat.Issued.{Issued}
 use Rattle.xl_core.specs.declared.beat.Issued.TheVariants as issued
 use Rattle.xl_core.specs.Core.{CoreReply}
-use Rattle.xl_core.specs.Node.{Node, preferred}
+use Rattle.xl_core.specs.Node.{Node}
 use Rattle.xl_core.specs.declared.event.CoreEvent.{CoreEvent}
 use Rattle.xl_ledger.specs.Headers.{header_id}
 use Rattle.xl_sched.specs.declared.event.Event.{Event}

@@ -31,7 +31,7 @@ pub struct Replayer {
 }
 
 impl Replayer {
-    ghost use Rattle.std.specs.Prelude.{◌≤◌, length, string_bytes, OnOk, IfOk};
+    ghost use Rattle.std.specs.Prelude.{◌≤◌, length, string_bytes, OnOk, IfOk, Some};
     ghost use Rattle.xl_base.specs.declared.moments.TheConstants.{GREATEST_MILLIS};
     ghost use Rattle.xl_lines.specs.Rules.{goes_on};
     ghost use Rattle.xl_replay.specs.Replays.{after, after_line, world_of};
@@ -64,16 +64,16 @@ impl Replayer {
         }
     }
 
-    /// The world so far; before the first event it is the one of the plan.
-    fn take_world(&mut self) -> Result<World, OutOfMemory>
-        ensures world { IfOk result (λ world. world ≡ world_of (state_of self.old)) }
+    /// Opens the world where there is none yet: before the first event it is the one of the plan.
+    fn open_world(&mut self) -> Result<(), OutOfMemory>
+        ensures world { OnOk result (self.new.world ≡ Some (world_of (state_of self.old))) }
         ensures reader { self.new.reader ≡ self.old.reader }
         ensures plan { self.new.plan ≡ self.old.plan }
     {
-        match self.world.take() {
-            Some(world) => Ok(world),
-            None => World::open(self.alloc, &self.plan),
+        if self.world.is_none() {
+            self.world = Some(World::open(self.alloc, &self.plan)?);
         }
+        Ok(())
     }
 
     /// An event is a step of the world, and what came of it is told.
@@ -84,9 +84,11 @@ impl Replayer {
         ensures { OnOk result (goes_on (string_bytes text.new) (state_of self.new)
             ≡ after (state_of self.old) self.old.reader event.now) }
     {
-        let mut world = self.take_world()?;
+        self.open_world()?;
+        let Some(world) = &mut self.world else {
+            unreachable!()
+        };
         let happened = world.event(event)?;
-        self.world = Some(world);
         push_outcomes(
             self.alloc,
             text,
@@ -175,9 +177,12 @@ impl Machine for Replayer {
             push_bad(text, 1, &SchedRefusal::missing_header(self.alloc))?;
             return Ok(Verdict::Refused);
         }
-        let world = self.take_world()?;
+        self.open_world()?;
+        let Some(world) = &self.world else {
+            unreachable!()
+        };
         let fork = first_fork(self.alloc, world.reports())?;
-        push_end(self.alloc, text, &self.reader, &world, &fork)?;
+        push_end(self.alloc, text, &self.reader, world, &fork)?;
         Ok(if fork.is_some() {
             Verdict::Found
         } else {

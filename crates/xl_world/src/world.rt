@@ -64,12 +64,16 @@ impl World {
         ensures told { IfOk result (λ told. told ≡ outcomes self.old event.now) }
         ensures err { OnErr result (self.new ≡ nobody) }
     {
-        let Some(mut network) = self.network.take() else {
+        let Some(network) = &mut self.network else {
             return Err(OutOfMemory);
         };
-        let told = network.happen(event)?;
-        self.network = Some(network);
-        Ok(told)
+        match network.happen(event) {
+            Ok(told) => Ok(told),
+            Err(fault) => {
+                self.network = None;
+                Err(fault)
+            }
+        }
     }
 
     /// Every frame that a node ever sent, in order.
