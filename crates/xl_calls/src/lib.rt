@@ -5,11 +5,15 @@
 #![tactic(auto)]
 
 #[cfg(test)]
+mod disputes;
+#[cfg(test)]
 mod fixtures;
 #[cfg(test)]
 mod floods;
 #[cfg(test)]
 mod gates;
+#[cfg(test)]
+mod rounds;
 #[cfg(test)]
 mod sessions;
 #[cfg(test)]
