@@ -19,4 +19,6 @@ mod sessions;
 #[cfg(test)]
 mod stores;
 #[cfg(test)]
+mod votes;
+#[cfg(test)]
 mod worlds;
