@@ -13,9 +13,15 @@ mod floods;
 #[cfg(test)]
 mod gates;
 #[cfg(test)]
+mod heartbeats;
+#[cfg(test)]
 mod rounds;
 #[cfg(test)]
 mod sessions;
+#[cfg(test)]
+mod settings;
+#[cfg(test)]
+mod spellings;
 #[cfg(test)]
 mod stores;
 #[cfg(test)]
