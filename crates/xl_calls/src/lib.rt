@@ -5,14 +5,26 @@
 #![tactic(auto)]
 
 #[cfg(test)]
+mod disputes;
+#[cfg(test)]
 mod fixtures;
 #[cfg(test)]
 mod floods;
 #[cfg(test)]
 mod gates;
 #[cfg(test)]
+mod heartbeats;
+#[cfg(test)]
+mod rounds;
+#[cfg(test)]
 mod sessions;
 #[cfg(test)]
+mod settings;
+#[cfg(test)]
+mod spellings;
+#[cfg(test)]
 mod stores;
+#[cfg(test)]
+mod votes;
 #[cfg(test)]
 mod worlds;

@@ -22,8 +22,3 @@ mod votes;
 
 pub use disputes::Disputes;
 pub use votes::{Votes, threshold};
-
-#[cfg(test)]
-mod rising;
-#[cfg(test)]
-mod tests;

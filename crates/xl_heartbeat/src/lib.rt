@@ -23,6 +23,3 @@ pub use reporting::take_reports;
 pub use room::ROOM;
 pub use status::status_of_run;
 pub use timing::Timing;
-
-#[cfg(test)]
-mod tests;

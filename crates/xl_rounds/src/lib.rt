@@ -32,6 +32,3 @@ pub use placed::Placed;
 pub use pulse::{Agreed, Kind, Pulse, Said, Seen};
 pub use refusal::RoundRefusal;
 pub use round::Round;
-
-#[cfg(test)]
-mod tests;

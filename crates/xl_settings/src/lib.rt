@@ -35,6 +35,3 @@ pub use peers::{Peer, Peers};
 pub use refusal::SettingsRefusal;
 pub use settings::Settings;
 pub use source::settings_from;
-
-#[cfg(test)]
-mod tests;

@@ -13,6 +13,3 @@ mod line;
 mod tokens;
 
 pub use line::print_line;
-
-#[cfg(test)]
-mod tests;

@@ -20,6 +20,3 @@ mod trie;
 mod voting;
 
 pub use trie::Trie;
-
-#[cfg(test)]
-mod tests;

@@ -1,10 +1,7 @@
-ghost use Rattle.std.specs.Prelude.{◌<◌};
-
-use super::*;
 use std::alloc::Global;
-use std::fmt::Write;
 use std::test::Fail;
 use xl_sched::Reader;
+use xl_spelling::print_line;
 
 /// Lines as they may be written, and their spellings.
 const LINES: [(&str, &str); 29] = [
@@ -100,71 +97,5 @@ fn spells_each_word(rt: HostRuntime) -> Result<(), Fail> {
     for (line, spelling) in LINES {
         assert!(rt; is_spelled(alloc, &mut reader, line, spelling)?, "{line}");
     }
-    Ok(())
-}
-
-#[test]
-fn reads_what_it_spells(rt: HostRuntime) -> Result<(), Fail> {
-    let alloc = rt.alloc();
-    let mut reader = begun(alloc)?;
-    for (_, spelling) in LINES {
-        assert!(rt;
-            is_spelled(alloc, &mut reader, spelling, spelling)?,
-            "{spelling}"
-        );
-    }
-    Ok(())
-}
-
-/// The lines of a second of twenty rounds, in each of which three nodes have one transaction more.
-fn second_of(alloc: Global, second: u64) -> Result<String, Fail>
-    requires { second < 100 }
-{
-    let mut lines = String::new(alloc);
-    write!(lines, "at {}\n", 800_000_000_000 + 1_000 * second)?;
-    if second == 1 {
-        write!(lines, "submit 1 {second:064x}\n")?;
-    } else if second % 4 == 0 && 8 <= second && second <= 84 {
-        let tx = second / 4;
-        write!(
-            lines,
-            "submit 1 {tx:064x}\nsubmit 2 {tx:064x}\nsubmit 3 {tx:064x}\n"
-        )?;
-    }
-    write!(lines, "timers\nall\n")?;
-    Ok(lines)
-}
-
-/// Whether each of some lines is its own spelling.
-fn are_spelled(alloc: Global, reader: &mut Reader, lines: &str) -> Result<bool, Fail> {
-    for line in lines.lines() {
-        if !is_spelled(alloc, reader, line, line)? {
-            return Ok(false);
-        }
-    }
-    Ok(true)
-}
-
-/// Seven nodes of one list.
-const NODES: &str = "at 800000000000
-node 1 6 1,2,3,4,5,6,7
-node 2 6 1,2,3,4,5,6,7
-node 3 6 1,2,3,4,5,6,7
-node 4 6 1,2,3,4,5,6,7
-node 5 6 1,2,3,4,5,6,7
-node 6 6 1,2,3,4,5,6,7
-node 7 6 1,2,3,4,5,6,7
-";
-
-#[test]
-fn spells_twenty_rounds(rt: HostRuntime) -> Result<(), Fail> {
-    let alloc = rt.alloc();
-    let mut reader = begun(alloc)?;
-    assert!(rt; are_spelled(alloc, &mut reader, NODES)?);
-    for second in 1..88 {
-        let lines = second_of(alloc, second)?;
-        assert!(rt; are_spelled(alloc, &mut reader, lines.as_str())?, "{lines}");
-    }
-    assert_eq!(rt; reader.lines(), 331);
     Ok(())
 }

@@ -1,8 +1,7 @@
-use super::*;
 use std::test::Fail;
 use xl_base::NodeNo;
-use xl_io::{MemSink, PlainSource};
 use xl_links::Way;
+use xl_settings::read_settings;
 
 const EACH_KEY: &str = "
 me = 1
@@ -59,22 +58,5 @@ fn reads_each_key(rt: HostRuntime) -> Result<(), Fail> {
             ),
         }
     }
-    Ok(())
-}
-
-#[test]
-fn tells_what_a_source_is_refused_for(rt: HostRuntime) -> Result<(), Fail> {
-    let alloc = rt.alloc();
-    let mut source = PlainSource::new(
-        Vec::from_slice(alloc, b"me = 1\nlist = [1]\nquorum = 2\n")?,
-        7,
-    );
-    let Err(SettingsFault::Refused(refusal)) = settings_from(alloc, &mut source) else {
-        return Err(Fail::from("it is taken"));
-    };
-    assert_eq!(rt; refusal.text(), KeyName::Quorum.text().as_bytes());
-    let mut sink = MemSink::new(alloc, 4, Vec::new(alloc));
-    write_refusal(&mut sink, &refusal)?;
-    assert_eq!(rt; sink.held(), b"settings quorum\n".as_slice());
     Ok(())
 }

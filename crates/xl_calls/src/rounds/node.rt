@@ -1,12 +1,12 @@
 ghost use Rattle.std.specs.Prelude.{◌≤◌};
 ghost use Rattle.xl_base.specs.declared.moments.TheConstants.{GREATEST_MILLIS};
 
-use crate::{Agreed, Kind, Mode, Phase, Placed, Pulse, Round, RoundRefusal, Seen};
 use std::alloc::Global;
 use std::marker::Model;
 use std::test::Fail;
 use xl_base::{LedgerId, Millis, NodeNo, Secs, SetId, TxId, set_id};
 use xl_ledger::{LedgerNo, Registry};
+use xl_rounds::{Agreed, Kind, Mode, Phase, Placed, Pulse, Round, RoundRefusal, Seen};
 use xl_wire::Proposal;
 
 pub const ROOT: LedgerId = LedgerId([0; 32]);

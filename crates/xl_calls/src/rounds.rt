@@ -1,9 +1,9 @@
 mod node;
 
-use crate::{Agreed, Kind, Mode, Phase, Placed, Pulse, RoundRefusal, Said, Seen};
 use node::{NOTHING, Node, ROOT, Told, on, tx};
 use std::test::Fail;
 use xl_base::{Secs, TxId, set_id};
+use xl_rounds::{Agreed, Kind, Mode, Phase, Placed, Pulse, RoundRefusal, Said};
 use xl_wire::Proposal;
 
 #[test]
