@@ -20,14 +20,15 @@ use Rattle.xl_store.specs.declared.entry.Entry.{Entry}
 use Rattle.xl_store.specs.declared.store.Store.{Store}
 use Rattle.xl_store.specs.Calls.{Made}
 use Rattle.xl_store.specs.Stores.{start_of, turns_of, Called}
+use Rattle.xl_peers.specs.declared.ends.End.{End}
 use Rattle.xl_peers.specs.declared.ends.End.TheVariants as end
 use Rattle.xl_peers.specs.Sessions.{Session, NeedsMore}
-use Rattle.xl_peers.specs.Sessions.Phase.{Hands}
-use Rattle.xl_peers.specs.Going.{SoFar}
+use Rattle.xl_peers.specs.Sessions.Phase.{Asks, Reads, Hands}
+use Rattle.xl_peers.specs.Going.{SoFar, Goes, HandsOver, HandsOn, HandsPiece, Hears, Turns}
 use Rattle.xl_peers.proofs.Stepping.{so_handed}
 use Rattle.xl_peers.proofs.Finishing.{ends}
 use Rattle.xl_peers.proofs.Splitting.{refused_longer, needs_room}
-use Rattle.xl_peers.proofs.Feeding.{next_frame, next_refused, front_bytes, rest_bytes}
+use Rattle.xl_peers.proofs.Feeding.{next_frame, next_frame_open, next_refused, front_bytes, rest_bytes}
 
 -- all of a piece stands behind what is held, some of it in the feed
 pub pushed : (fed new : Fed) (piece : List ℕ) (count : ℕ) → count ≡ taken_of fed piece → new ≡ after_push fed piece
@@ -79,3 +80,65 @@ takes_some fed piece count takes needs some is =
     let taken : count ≡ min (length piece) (LONGEST_FRAME - length fed.held) = is
     ∙ ap (λ (b : Bool). if b then 0 else min (length piece) (LONGEST_FRAME - length fed.held)) takes in
     (omega (arith, room, some, taken), omega (arith, taken))
+
+module _ {B K : Type 0} (store : Store B K) (may : ℕ → Bool) where
+  -- nothing stood there to be handed over
+  pub hands_none : (pass : Pass Entry) (fed next : Fed) → next ≡ fed → fed.refused ≡ false
+      → HandsOn store may pass fed pass next
+  hands_none pass fed next is takes = record {
+    takes = ap (λ (f : Fed). f.refused) is ∙ takes;
+    on = λ member w more k0 w0 s.
+        subst (λ (f : Fed). SoFar (start_of store) may member k0 w0 Hands (known pass) w (f.held ++ more)) (sym is) s;
+    turns = omega arith;
+  }
+
+  pub hands_next : (old new : Pass Entry) (fed next : Fed) (bytes : List ℕ) → next ≡ after_next fed
+      → Offer.Frame bytes ≡ offer_of fed → fed.refused ≡ false → HandsOver store may old bytes new
+      → HandsOn store may old fed new next
+  hands_next old new fed next bytes is offer takes h = record {
+    takes = ap (λ (f : Fed). f.refused) is ∙ next_frame_open fed bytes offer ∙ takes;
+    on = λ member w more k0 w0 s.
+        hands_one store may member k0 w0 old w fed more s new next bytes h.now h.answer is offer h.given h.called;
+    turns = let later = h.called.later in omega (arith, later);
+  }
+
+  -- one after the other
+  pub hands_both : (old mid new : Pass Entry) (fed between left : Fed) → HandsOn store may old fed mid between
+      → HandsOn store may mid between new left
+      → HandsOn store may old fed new left
+  hands_both old mid new fed between left one two = record {
+    takes = two.takes;
+    on = λ member w more k0 w0 s. two.on member w more k0 w0 (one.on member w more k0 w0 s);
+    turns = let p = one.turns in let q = two.turns in omega arith;
+  }
+
+module _ {A B K : Type 0} (store : Store B K) (may : ℕ → Bool) (member : ℕ) where
+  -- what was read is handed over
+  pub hears : (r : Result A End) (old new : Pass Entry) (w w1 : Wire) (fed left : Fed) (piece : List ℕ)
+      → Goes (start_of store) may member Reads Hands (known old) w fed.held (known old) w1 (fed.held ++ piece)
+      → HandsPiece store may old fed piece r new left
+      → Hears store may member old w fed r new w1 left
+  hears (Ok done) old new w w1 fed left piece got h = record {
+    takes = h.takes;
+    needs = h.needs;
+    on = λ k0 w0 s. h.on member w1 k0 w0 (got k0 w0 s);
+    turns = h.turns;
+  }
+  hears (Err e) old new w w1 fed left piece got h = λ k0 w0 s. h member w1 k0 w0 (got k0 w0 s)
+
+  -- a turn that came as far as its read
+  pub turns_on : (r : Result A End) (old mid new : Pass Entry) (w w1 w2 : Wire) (fed left : Fed)
+      → Goes (start_of store) may member Asks Reads (known old) w fed.held (known mid) w1 fed.held
+      → (known old).drawn < (known mid).drawn
+      → Hears store may member mid w1 fed r new w2 left
+      → Turns store may member old w fed r new w2 left
+  turns_on (Ok done) old mid new w w1 w2 fed left before more h = (
+    record {
+      takes = h.takes;
+      needs = h.needs;
+      on = λ k0 w0 s. h.on k0 w0 (before k0 w0 s);
+      turns = let later = h.turns in omega arith;
+    },
+    let later = h.turns in omega arith,
+  )
+  turns_on (Err e) old mid new w w1 w2 fed left before more h = λ k0 w0 s. h k0 w0 (before k0 w0 s)

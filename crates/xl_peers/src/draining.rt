@@ -1,10 +1,8 @@
-ghost use Rattle.std.specs.Prelude.{◌≡◌, ◌<◌, Bool, ℕ, List, length, IfOk, OnOk, IfErr, IsSome};
+ghost use Rattle.std.specs.Prelude.{◌≡◌, length, IsSome};
 ghost use Rattle.xl_tags.specs.Rings.{key_of};
 ghost use Rattle.xl_wire.specs.declared.lengths.TheConstants.{LONGEST_FRAME};
-ghost use Rattle.xl_turns.specs.Passes.{known};
-ghost use Rattle.xl_store.specs.Stores.{start_of, turns_of, IsOf};
-ghost use Rattle.xl_peers.specs.Sessions.Phase.{Drains, Reads};
-ghost use Rattle.xl_peers.specs.Going.{Goes, Ends, after_drain};
+ghost use Rattle.xl_store.specs.Stores.{start_of, IsOf};
+ghost use Rattle.xl_peers.specs.Going.{DrainsOnce, DrainsAll};
 
 use crate::ends::{End, end_of};
 use crate::sending::send;
@@ -29,13 +27,7 @@ fn drain_once<W: Wait, B: Branch + Drop, K: Keeper + Drop, L: Link>(
     requires room { length room.old ≡ LONGEST_FRAME }
     ensures pass { IsOf store.now pass.new }
     ensures room { length room.new ≡ LONGEST_FRAME }
-    ensures on { IfOk result (λ count. (may : ℕ → Bool) (held : List ℕ)
-        → Goes (start_of store.now) may member Drains (after_drain count)
-        (known pass.old) (L.shows link.old) held (known pass.new) (L.shows link.new) held) }
-    ensures turn { IfOk result (λ _. (known pass.old).drawn < (known pass.new).drawn) }
-    ensures ends { IfErr result (λ end. (may : ℕ → Bool) (held : List ℕ)
-        → Ends (start_of store.now) may member (turns_of store.now) Drains
-        (known pass.old) (L.shows link.old) held (known pass.new) (L.shows link.new) end) }
+    ensures drained { DrainsOnce store.now member pass.old (L.shows link.old) result pass.new (L.shows link.new) }
 {
     match store.drain(rt, pass, member, room) {
         Ok(count) => match send(link, &room[..count]) {
@@ -60,13 +52,7 @@ pub(crate) fn drain<W: Wait, B: Branch + Drop, K: Keeper + Drop, L: Link>(
     requires room { length room.old ≡ LONGEST_FRAME }
     ensures pass { IsOf store.now pass.new }
     ensures room { length room.new ≡ LONGEST_FRAME }
-    ensures on { OnOk result ((may : ℕ → Bool) (held : List ℕ)
-        → Goes (start_of store.now) may member Drains Reads
-        (known pass.old) (L.shows link.old) held (known pass.new) (L.shows link.new) held) }
-    ensures turn { OnOk result ((known pass.old).drawn < (known pass.new).drawn) }
-    ensures ends { IfErr result (λ end. (may : ℕ → Bool) (held : List ℕ)
-        → Ends (start_of store.now) may member (turns_of store.now) Drains
-        (known pass.old) (L.shows link.old) held (known pass.new) (L.shows link.new) end) }
+    ensures drained { DrainsAll store.now member pass.old (L.shows link.old) result pass.new (L.shows link.new) }
 {
     for _ in rt.forever() {
         match drain_once(rt, store, pass, member, link, room) {

@@ -1,18 +1,65 @@
-ghost use Rattle.std.specs.Prelude.{◌≡◌, ◌≤◌, ℕ, List, ◌++◌, false, OnOk, IfErr};
-ghost use Rattle.xl_turns.specs.Passes.{known};
-ghost use Rattle.xl_links.specs.Links.{Wire};
-ghost use Rattle.xl_store.specs.Stores.{start_of, turns_of, IsOf};
+ghost use Rattle.std.specs.Prelude.{◌≡◌, false, OnOk, IfErr};
+ghost use Rattle.xl_store.specs.Stores.{IsOf, Refused};
 ghost use Rattle.xl_peers.specs.Sessions.{NeedsMore};
-ghost use Rattle.xl_peers.specs.Sessions.Phase.{Hands, Asks};
-ghost use Rattle.xl_peers.specs.Going.{Goes, Ends};
+ghost use Rattle.xl_peers.specs.Going.{HandsOver, HandsNext, HandsAll, HandsPiece};
 
 use crate::ends::{End, end_of};
 use std::sync::Wait;
 use xl_io::Keeper;
 use xl_ledger::Branch;
 use xl_links::{Clock, Gate};
-use xl_store::{Pass, Store};
+use xl_store::{Pass, Store, StoreEnd};
 use xl_wire::{Feed, Next};
+
+/// Hands a frame to the core, between two passes of the gate.
+fn hand_frame<W: Wait, B: Branch + Drop, K: Keeper + Drop, G: Gate, C: Clock>(
+    rt: &W,
+    store: &Store<B, K>,
+    pass: &mut Pass,
+    gate: &G,
+    clock: &C,
+    passes: &mut u64,
+    frame: &[u8],
+) -> Result<(), StoreEnd>
+    requires pass { IsOf store.now pass.old }
+    ensures pass { IsOf store.now pass.new }
+    ensures handed { OnOk result (HandsOver store.now (C.may_give clock.now) pass.old frame.now pass.new) }
+    ensures refused { IfErr result (λ end. Refused store.now pass.old end pass.new) }
+{
+    gate.pass(passes.wrapping_add(1));
+    let answer = store.frame(rt, pass, clock.now(), frame);
+    *passes = passes.wrapping_add(2);
+    gate.pass(*passes);
+    match answer {
+        Ok(_) => Ok(()),
+        Err(end) => Err(end),
+    }
+}
+
+/// Hands the next frame that the feed holds to the core, and answers whether there was one.
+fn hand_next<W: Wait, B: Branch + Drop, K: Keeper + Drop, G: Gate, C: Clock>(
+    rt: &W,
+    store: &Store<B, K>,
+    pass: &mut Pass,
+    gate: &G,
+    clock: &C,
+    passes: &mut u64,
+    feed: &mut Feed,
+) -> Result<bool, End>
+    requires pass { IsOf store.now pass.old }
+    requires takes { feed.old.refused ≡ false }
+    ensures pass { IsOf store.now pass.new }
+    ensures handed { HandsNext store.now (C.may_give clock.now) pass.old feed.old result pass.new feed.new }
+{
+    match feed.next() {
+        Next::Frame(frame) => match hand_frame(rt, store, pass, gate, clock, passes, frame) {
+            Ok(()) => Ok(true),
+            Err(end) => Err(end_of(end)),
+        },
+        Next::Need(_) => Ok(false),
+        Next::Refused(refusal) => Err(End::Framing(refusal)),
+    }
+}
 
 /// Hands the frames that the feed holds to the core, the kth between the gate's passes 2k - 1 and 2k.
 fn hand_held<W: Wait, B: Branch + Drop, K: Keeper + Drop, G: Gate, C: Clock>(
@@ -27,30 +74,13 @@ fn hand_held<W: Wait, B: Branch + Drop, K: Keeper + Drop, G: Gate, C: Clock>(
     requires pass { IsOf store.now pass.old }
     requires takes { feed.old.refused ≡ false }
     ensures pass { IsOf store.now pass.new }
-    ensures takes { OnOk result (feed.new.refused ≡ false) }
-    ensures none { OnOk result (NeedsMore feed.new.held) }
-    ensures on { OnOk result ((member : ℕ) (w : Wire) (more : List ℕ)
-        → Goes (start_of store.now) (C.may_give clock.now) member Hands Hands
-        (known pass.old) w (feed.old.held ++ more) (known pass.new) w (feed.new.held ++ more)) }
-    ensures turns { OnOk result ((known pass.old).drawn ≤ (known pass.new).drawn) }
-    ensures ends { IfErr result (λ end. (member : ℕ) (w : Wire) (more : List ℕ)
-        → Ends (start_of store.now) (C.may_give clock.now) member (turns_of store.now) Hands
-        (known pass.old) w (feed.old.held ++ more) (known pass.new) w end) }
+    ensures handed { HandsAll store.now (C.may_give clock.now) pass.old feed.old result pass.new feed.new }
 {
     for _ in rt.forever() {
-        match feed.next() {
-            Next::Frame(frame) => {
-                gate.pass(passes.wrapping_add(1));
-                let answer = store.frame(rt, pass, clock.now(), frame);
-                *passes = passes.wrapping_add(2);
-                gate.pass(*passes);
-                match answer {
-                    Ok(_) => {}
-                    Err(end) => return Err(end_of(end)),
-                }
-            }
-            Next::Need(_) => return Ok(()),
-            Next::Refused(refusal) => return Err(End::Framing(refusal)),
+        match hand_next(rt, store, pass, gate, clock, passes, feed) {
+            Ok(true) => {}
+            Ok(false) => return Ok(()),
+            Err(end) => return Err(end),
         }
     }
     unreachable!()
@@ -71,15 +101,7 @@ pub(crate) fn hand<W: Wait, B: Branch + Drop, K: Keeper + Drop, G: Gate, C: Cloc
     requires takes { feed.old.refused ≡ false }
     requires needs { NeedsMore feed.old.held }
     ensures pass { IsOf store.now pass.new }
-    ensures takes { OnOk result (feed.new.refused ≡ false) }
-    ensures needs { OnOk result (NeedsMore feed.new.held) }
-    ensures on { OnOk result ((member : ℕ) (w : Wire)
-        → Goes (start_of store.now) (C.may_give clock.now) member Hands Asks
-        (known pass.old) w (feed.old.held ++ piece.now) (known pass.new) w feed.new.held) }
-    ensures turns { OnOk result ((known pass.old).drawn ≤ (known pass.new).drawn) }
-    ensures ends { IfErr result (λ end. (member : ℕ) (w : Wire)
-        → Ends (start_of store.now) (C.may_give clock.now) member (turns_of store.now) Hands
-        (known pass.old) w (feed.old.held ++ piece.now) (known pass.new) w end) }
+    ensures handed { HandsPiece store.now (C.may_give clock.now) pass.old feed.old piece.now result pass.new feed.new }
 {
     let mut rest = piece;
     while !rest.is_empty() {

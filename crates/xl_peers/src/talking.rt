@@ -1,11 +1,10 @@
-ghost use Rattle.std.specs.Prelude.{◌≡◌, ◌<◌, ℕ, List, length, false, OnOk, IfErr, IsSome};
+ghost use Rattle.std.specs.Prelude.{◌≡◌, ℕ, [], length, false, IsSome};
 ghost use Rattle.xl_tags.specs.Rings.{key_of};
 ghost use Rattle.xl_wire.specs.declared.lengths.TheConstants.{LONGEST_FRAME};
 ghost use Rattle.xl_turns.specs.Passes.{known};
 ghost use Rattle.xl_store.specs.Stores.{start_of, turns_of, IsOf};
 ghost use Rattle.xl_peers.specs.Sessions.{Session, NeedsMore};
-ghost use Rattle.xl_peers.specs.Sessions.Phase.{Asks};
-ghost use Rattle.xl_peers.specs.Going.{Goes, Ends};
+ghost use Rattle.xl_peers.specs.Going.{Hears, Turns};
 
 use crate::asking::{ask, greet};
 use crate::draining::drain;
@@ -68,6 +67,31 @@ pub fn talk<W: Wait, B: Branch + Drop, K: Keeper + Drop, L: Link, G: Gate, C: Cl
     let Ok(mut room) = vec![in alloc; 0; LONGEST_FRAME] else {
         return End::OutOfMemory;
     };
+    turns(
+        rt, store, pass, member, link, gate, clock, &mut feed, &mut room,
+    )
+}
+
+/// Greets the member, and takes one turn after the other, with an empty feed and a room for the longest frame.
+fn turns<W: Wait, B: Branch + Drop, K: Keeper + Drop, L: Link, G: Gate, C: Clock>(
+    rt: &W,
+    store: &Store<B, K>,
+    pass: &mut Pass,
+    member: NodeNo,
+    link: &mut L,
+    gate: &G,
+    clock: &C,
+    feed: &mut Feed,
+    room: &mut [u8],
+) -> End
+    requires pass { IsOf store.now pass.old }
+    requires peer { IsSome (key_of (start_of store.now).node.keys member) }
+    requires feed { feed.old ≡ record { held = []; refused = false } }
+    requires room { length room.old ≡ LONGEST_FRAME }
+    ensures pass { IsOf store.now pass.new }
+    ensures session { Session (start_of store.now) (turns_of store.now) (C.may_give clock.now) member
+        (known pass.old) (L.shows link.old) result (known pass.new) (L.shows link.new) }
+{
     match greet(rt, store, pass, member) {
         Ok(()) => {}
         Err(end) => return end,
@@ -83,8 +107,8 @@ pub fn talk<W: Wait, B: Branch + Drop, K: Keeper + Drop, L: Link, G: Gate, C: Cl
             gate,
             clock,
             &mut passes,
-            &mut feed,
-            &mut room,
+            feed,
+            room,
         );
         match turned {
             Ok(()) => {}
@@ -92,6 +116,34 @@ pub fn talk<W: Wait, B: Branch + Drop, K: Keeper + Drop, L: Link, G: Gate, C: Cl
         }
     }
     unreachable!()
+}
+
+/// Reads once, and hands over the frames that came.
+fn hear<W: Wait, B: Branch + Drop, K: Keeper + Drop, L: Link, G: Gate, C: Clock>(
+    rt: &W,
+    store: &Store<B, K>,
+    pass: &mut Pass,
+    link: &mut L,
+    gate: &G,
+    clock: &C,
+    passes: &mut u64,
+    feed: &mut Feed,
+    room: &mut [u8],
+) -> Result<(), End>
+    requires pass { IsOf store.now pass.old }
+    requires takes { feed.old.refused ≡ false }
+    requires needs { NeedsMore feed.old.held }
+    requires room { length room.old ≡ LONGEST_FRAME }
+    ensures pass { IsOf store.now pass.new }
+    ensures room { length room.new ≡ LONGEST_FRAME }
+    ensures heard { (member : ℕ) → Hears store.now (C.may_give clock.now) member
+        pass.old (L.shows link.old) feed.old result pass.new (L.shows link.new) feed.new }
+{
+    match read(link, room) {
+        Ok(Some(count)) => hand(rt, store, pass, gate, clock, passes, feed, &room[..count]),
+        Ok(None) => Ok(()),
+        Err(end) => Err(end),
+    }
 }
 
 /// Asks whether to stop, writes what waits for the member, reads once, and hands over the frames that came.
@@ -113,15 +165,9 @@ fn turn<W: Wait, B: Branch + Drop, K: Keeper + Drop, L: Link, G: Gate, C: Clock>
     requires needs { NeedsMore feed.old.held }
     requires room { length room.old ≡ LONGEST_FRAME }
     ensures pass { IsOf store.now pass.new }
-    ensures takes { OnOk result (feed.new.refused ≡ false) }
-    ensures needs { OnOk result (NeedsMore feed.new.held) }
     ensures room { length room.new ≡ LONGEST_FRAME }
-    ensures on { OnOk result (Goes (start_of store.now) (C.may_give clock.now) member Asks Asks
-        (known pass.old) (L.shows link.old) feed.old.held (known pass.new) (L.shows link.new) feed.new.held) }
-    ensures turn { OnOk result ((known pass.old).drawn < (known pass.new).drawn) }
-    ensures ends { IfErr result (λ end.
-        Ends (start_of store.now) (C.may_give clock.now) member (turns_of store.now) Asks
-        (known pass.old) (L.shows link.old) feed.old.held (known pass.new) (L.shows link.new) end) }
+    ensures turned { Turns store.now (C.may_give clock.now) member
+        pass.old (L.shows link.old) feed.old result pass.new (L.shows link.new) feed.new }
 {
     match ask(rt, store, pass) {
         Ok(()) => {}
@@ -131,14 +177,5 @@ fn turn<W: Wait, B: Branch + Drop, K: Keeper + Drop, L: Link, G: Gate, C: Clock>
         Ok(()) => {}
         Err(end) => return Err(end),
     }
-    match read(link, room) {
-        Ok(None) => Ok(()),
-        Ok(Some(count)) => {
-            match hand(rt, store, pass, gate, clock, passes, feed, &room[..count]) {
-                Ok(()) => Ok(()),
-                Err(end) => Err(end),
-            }
-        }
-        Err(end) => Err(end),
-    }
+    hear(rt, store, pass, link, gate, clock, passes, feed, room)
 }

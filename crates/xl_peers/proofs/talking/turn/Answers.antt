@@ -1,32 +1,27 @@
-use Rattle.xl_turns.specs.Passes.{known}
-use Rattle.xl_store.specs.Stores.{start_of, turns_of}
+use Rattle.std.proofs.Common.{arith}
+use Rattle.xl_peers.proofs.Handed.{turns_on}
 use Rattle.xl_peers.proofs.talking.turn.Goals as goal
 
-pub returns-in-Err-clause-ends : goal.returns-in-Err-clause-ends
-returns-in-Err-clause-ends g c k0 w0 s =
+pub returns-in-Err-clause-turned : goal.returns-in-Err-clause-turned
+returns-in-Err-clause-turned g c k0 w0 s =
     c.in-Err.ensures.ends (g.C.Clock.may_give c.args.clock.now) c.args.member (g.L.Link.shows c.args.link.now)
     c.args.feed.now.held k0 w0 s
 
-pub returns-in-Err-drain-clause-ends : goal.returns-in-Err-drain-clause-ends
-returns-in-Err-drain-clause-ends g c k0 w0 s =
-    let asked = c.in-Ok.ensures.on (g.C.Clock.may_give c.args.clock.now) c.args.member (g.L.Link.shows c.args.link.now)
-    c.args.feed.now.held k0 w0 s in
-    c.in-Err-drain.ensures.ends (g.C.Clock.may_give c.args.clock.now) c.args.feed.now.held k0 w0 asked
-
-pub returns-in-Err-read-clause-ends : goal.returns-in-Err-read-clause-ends
-returns-in-Err-read-clause-ends g c k0 w0 s =
+pub returns-in-Err-drain-clause-turned : goal.returns-in-Err-drain-clause-turned
+returns-in-Err-drain-clause-turned g c k0 w0 s =
     let may = g.C.Clock.may_give c.args.clock.now in
-    let asked = c.in-Ok.ensures.on may c.args.member (g.L.Link.shows c.args.link.now) c.args.feed.now.held k0 w0 s in
-    let drained = c.in-Ok-drain.ensures.on may c.args.feed.now.held k0 w0 asked in
-    c.in-Err-read.ensures.ends (start_of c.args.store.now) (turns_of c.args.store.now) may c.args.member
-    (known c.drain.new.pass) c.args.feed.now.held k0 w0 drained
+    let held = c.args.feed.now.held in
+    let asked = c.in-Ok.ensures.on may c.args.member (g.L.Link.shows c.args.link.now) held k0 w0 s in
+    c.in-Err-drain.ensures.drained may held k0 w0 asked
 
-pub returns-in-Err-hand-clause-ends : goal.returns-in-Err-hand-clause-ends
-returns-in-Err-hand-clause-ends g c k0 w0 s =
+pub returns-clause-turned : goal.returns-clause-turned
+returns-clause-turned g c =
     let may = g.C.Clock.may_give c.args.clock.now in
-    let asked = c.in-Ok.ensures.on may c.args.member (g.L.Link.shows c.args.link.now) c.args.feed.now.held k0 w0 s in
-    let drained = c.in-Ok-drain.ensures.on may c.args.feed.now.held k0 w0 asked in
-    let clause = rw c.in-Ok-Some.field-0-is at c.in-Ok-Some.ensures.got in
-    let got = clause (start_of c.args.store.now) may c.args.member (known c.drain.new.pass) c.args.feed.now.held k0 w0
-    drained in
-    c.in-Err-hand.ensures.ends c.args.member (g.L.Link.shows c.read.new.link) k0 w0 got
+    let held = c.args.feed.now.held in
+    let asked = c.in-Ok.ensures.on may c.args.member (g.L.Link.shows c.args.link.now) held in
+    turns_on c.args.store.now may c.args.member c.hear.result c.args.pass.now c.drain.new.pass c.hear.new.pass
+    (g.L.Link.shows c.args.link.now) (g.L.Link.shows c.drain.new.link) (g.L.Link.shows c.hear.new.link)
+    c.args.feed.now c.hear.new.feed
+    (λ k0 w0 s. c.in-Ok-drain.ensures.drained.on may held k0 w0 (asked k0 w0 s))
+    (let one = c.in-Ok.ensures.turn in let two = c.in-Ok-drain.ensures.drained.turn in omega (arith, one, two))
+    (c.hear.ensures.heard c.args.member)

@@ -5,14 +5,14 @@ use Rattle.xl_store.specs.Stores.{start_of, IsOf}
 use Rattle.xl_peers.specs.Sessions.{NeedsMore}
 use Rattle.xl_peers.specs.Sessions.Phase.{Asks}
 use Rattle.xl_peers.specs.Going.{SoFar}
-use Rattle.xl_peers.proofs.talking.talk.Given as goal
+use Rattle.xl_peers.proofs.talking.turns.Given as goal
 
 abbrev pub invariant-loop : goal.invariant-loop
 invariant-loop g l = record {
   pass : IsOf l.store l.pass;
   takes : l.feed.refused ≡ false;
   needs : NeedsMore l.feed.held;
-  room : length l.room.items ≡ LONGEST_FRAME;
+  room : length l.room ≡ LONGEST_FRAME;
   far : SoFar (start_of l.store) (g.C.Clock.may_give l.clock) l.member (known l.fn.pass) (g.L.Link.shows l.fn.link) Asks
       (known l.pass) (g.L.Link.shows l.link) l.feed.held;
 }
