@@ -42,6 +42,8 @@ impl World {
     ghost use Rattle.xl_world.specs.Worlds.{nobody};
 
     /// The world of a plan, at its start.
+    // Its frame is large, and in the caller's each event would pay for it.
+    #[inline(never)]
     pub fn open(alloc: Global, plan: &Plan) -> Result<World, OutOfMemory>
         requires least { LEAST_LIMIT ≤ plan.now.limit }
         requires most { plan.now.limit ≤ GREATEST_LIMIT }
