@@ -72,7 +72,8 @@ all_frames core to = greeted_frames core to ++ frames_for core.node core.waiting
 
 -- nothing is left for a number: it isn't greeted, and nothing waits for it
 abbrev pub is_idle : Core → ℕ → Bool
-is_idle core to = if is_some (greeting_at core.greetings to) then false else (length (waiting_at core.waiting to).items == 0)
+is_idle core to =
+    if is_some (greeting_at core.greetings to) then false else (length (waiting_at core.waiting to).items == 0)
 
 -- the longest front of them that fits into a room
 abbrev pub given_for : Core → ℕ → ℕ → List (Option (List ℕ))
