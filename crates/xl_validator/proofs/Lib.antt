@@ -3,3 +3,4 @@ pub mod Listing
 pub mod Opening
 pub mod Causes
 pub mod Refusing
+pub mod Leaving

@@ -1,6 +1,6 @@
 -- The members that are served: each once, and no more than there are numbers.
-use Rattle.std.proofs.Common.{◌≡◌, ◌≤◌, ◌+◌, ◌⊎◌, inl, inr, ℕ, zero, suc, List, [], ◌∷◌, ◌++◌, length, map, refl, sym, ap, ◌∙◌, subst, arith, Bool, true, false, ⊎_elim, append-nil, append_assoc, length-append}
-use Rattle.std.specs.Prelude.{nat_eq, ◌==◌, ◌<◌, slice_index_or}
+use Rattle.std.proofs.Common.{◌≡◌, ◌≤◌, ◌+◌, ℕ, zero, suc, List, [], ◌∷◌, ◌++◌, length, map, refl, sym, ap, ◌∙◌, arith, true, false, ⊎_elim, append-nil, append_assoc, length-append}
+use Rattle.std.specs.Prelude.{nat_eq, ◌<◌, slice_index_or}
 use Rattle.std.specs.List.{AllByRecursion, IsDistinct, list_any, range_with_len, remove}
 use Rattle.std.specs.Cmp.{nat_eq_equiv}
 use Rattle.std.proofs.lemmas.Bool.{cases_eq, or_cases}

@@ -1,6 +1,6 @@
 -- What settings that can be run say of a core and its peers.
-use Rattle.std.proofs.Common.{◌≡◌, ◌≢◌, ◌<◌, ◌≤◌, ◌⊎◌, ℕ, zero, suc, List, [], ◌∷◌, length, map, refl, sym, ap, ◌∙◌, subst, arith, Bool, true, false, ⊎_elim}
-use Rattle.std.specs.Prelude.{nat_eq, ◌==◌, ◌||◌, IsSome, slice_index_or}
+use Rattle.std.proofs.Common.{◌≡◌, ◌≢◌, ◌<◌, ◌≤◌, ℕ, zero, suc, List, [], ◌∷◌, length, map, refl, sym, ap, ◌∙◌, subst, arith, true, false, ⊎_elim}
+use Rattle.std.specs.Prelude.{nat_eq, ◌^◌, ◌==◌, ◌||◌, IsSome, slice_index_or}
 use Rattle.std.specs.List.{All, AllByRecursion, IsDistinct, list_all, list_any}
 use Rattle.std.proofs.lemmas.Bool.{or_cases}
 use Rattle.std.proofs.lemmas.List.{length-map}
@@ -13,12 +13,14 @@ use Rattle.xl_settings.specs.Peers.{PeerSetting, are_peers, is_peer, setting_of}
 use Rattle.xl_base.specs.declared.ids.TxId.{TxId}
 use Rattle.xl_heartbeat.specs.declared.timing.Timing.{Timing}
 use Rattle.xl_settings.specs.declared.settings.Settings.{Settings}
+use Rattle.xl_settings.specs.Runnable.{AreRunnable}
+use Rattle.xl_core.specs.Core.{Core}
 use Rattle.xl_workers.specs.declared.plan.Contact.{Contact}
 use Rattle.xl_workers.specs.declared.plan.Plan.{Plan}
 use Rattle.xl_workers.specs.Linking.{contact_of}
 use Rattle.xl_validator.specs.Contacts.{contact_seen, peer_seen, IsNumber}
 use Rattle.xl_validator.specs.Openings.{Task, members_of, number_of, task_of, timing_of}
-use Rattle.xl_validator.specs.Preparing.{task_in}
+use Rattle.xl_validator.specs.Preparing.{IsPlan, IsReady, task_in}
 use Rattle.xl_validator.proofs.Sharing.{HasKey}
 use Rattle.xl_validator.proofs.Listing.{are_few, distinct}
 
@@ -101,3 +103,24 @@ same_task s moment plan turns submits members timing =
     ∙ ap (λ (x : List TxId). task s.turns x (map contact_of plan.contacts.items) plan.timing) submits
     ∙ ap (λ (x : List ℕ). task s.turns s.submit x plan.timing) members
     ∙ ap (λ (x : Timing). task s.turns s.submit (members_of s) x) timing
+
+module _ (s : Settings) (timing : Timing) (core : Core) (plan : Plan) (is : IsPlan s.turns s.submit s.peers timing plan) where
+  pub the_task : (moment : ℕ) → timing ≡ timing_of s moment → task_in plan ≡ task_of s moment
+  the_task moment same = same_task s moment plan is.turns is.submits is.members (is.timing ∙ same)
+
+  pub is_ready : (keys : Ring) (peers : List Peer) → map setting_of peers ≡ s.peers → All (HasKey keys) peers
+      → core.node.keys ≡ keys → AreRunnable s → IsReady (record { core = core; plan = plan })
+  is_ready keys peers seen each same run =
+      let numbers : map number_of (map setting_of peers) ≡ map contact_of plan.contacts.items =
+      ap (map number_of) seen ∙ sym is.members in
+      let once : IsDistinct nat_eq (map contact_of plan.contacts.items) =
+      distinct (map contact_of plan.contacts.items)
+      (ap (are_different nat_eq) is.members ∙ are_apart s.me s.list.members s.peers run.peers) in
+      record {
+        turns = subst (λ (n : ℕ). (0 < n) × (n ≤ 2 ^ 62)) (sym is.turns) (omega (arith, run.turns), run.turns.1);
+        peers = subst (λ (ring : Ring). AllByRecursion (λ m. IsSome (key_of ring m)) (map contact_of plan.contacts.items))
+            (sym same)
+            (subst (AllByRecursion (λ m. IsSome (key_of keys m))) numbers (all_keyed keys peers each));
+        once = once;
+        few = few_contacts plan.contacts.items once is.numbers;
+      }

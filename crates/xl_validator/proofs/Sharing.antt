@@ -1,7 +1,7 @@
 -- The keys of a node's peers, put one after the other.
-use Rattle.std.proofs.Common.{◌≡◌, ◌≢◌, ◌<◌, ◌≤◌, ◌+◌, ◌⊎◌, inl, inr, ℕ, zero, suc, List, [], ◌∷◌, ◌++◌, Some, length, map, take, refl, sym, ap, ◌∙◌, subst, arith, Bool, true, false, ⊎_elim}
-use Rattle.std.specs.Prelude.{fold, IsSome, slice_index_or, ◌==◌, ◌||◌}
-use Rattle.std.specs.List.{All, list_any}
+use Rattle.std.proofs.Common.{◌≡◌, ◌≢◌, ◌<◌, ◌≤◌, ◌+◌, ℕ, zero, suc, List, [], ◌∷◌, ◌++◌, Some, length, map, take, refl, sym, ap, ◌∙◌, subst, arith, false, ⊎_elim}
+use Rattle.std.specs.Prelude.{fold, IsSome, slice_index_or}
+use Rattle.std.specs.List.{All}
 use Rattle.std.proofs.Math.Seq.{take-suc}
 use Rattle.std.proofs.lemmas.Bool.{cases_eq}
 use Rattle.std.proofs.lemmas.List.{map-append, take_all}
@@ -9,7 +9,7 @@ use Rattle.std.proofs.lemmas.List.Sums.{fold-append}
 use Rattle.std.proofs.lemmas.List.Elements.{All-more, All-weaker}
 use Rattle.xl_tags.specs.Rings.{Ring, key_of, no_keys, with_key}
 use Rattle.xl_settings.specs.declared.peers.Peer.{Peer}
-use Rattle.xl_settings.specs.Peers.{PeerSetting, is_peer, setting_of}
+use Rattle.xl_settings.specs.Peers.{is_peer, setting_of}
 use Rattle.xl_validator.specs.Openings.{ring_of, with_peer}
 
 abbrev pub HasKey : Ring → Peer → Type 0

@@ -1,12 +1,25 @@
 -- A core at its opening, and what is run with it. Source: what the code of this crate relies on. No public clause cites
 -- this file.
-use Rattle.std.specs.Prelude.{◌≡◌, ◌<◌, ◌≤◌, ◌^◌, nat_eq, length, map, IsSome}
+use Rattle.std.specs.Prelude.{◌≡◌, ◌≢◌, ℕ, Bool, ◌<◌, ◌≤◌, ◌^◌, List, nat_eq, length, map, None, IsSome, IfSome}
+use Rattle.std.specs.declared.option.Option.{Option}
 use Rattle.std.specs.List.{AllByRecursion, IsDistinct}
+use Rattle.xl_base.specs.Faults.{Rose}
+use Rattle.xl_base.specs.declared.ids.TxId.{TxId}
+use Rattle.xl_base.specs.declared.status.Status.{Status}
+use Rattle.xl_base.specs.declared.status.Status.TheVariants as status
+use Rattle.xl_io.specs.Keepers.{Held}
+use Rattle.xl_links.specs.Links.{Wire}
 use Rattle.xl_tags.specs.Rings.{key_of}
+use Rattle.xl_core.specs.Core.{Core}
+use Rattle.xl_store.specs.declared.entry.Entry.{Entry}
+use Rattle.xl_heartbeat.specs.declared.timing.Timing.{Timing}
+use Rattle.xl_settings.specs.Peers.{PeerSetting}
 use Rattle.xl_workers.specs.declared.plan.Plan.{Plan}
 use Rattle.xl_workers.specs.Linking.{contact_of}
 use Rattle.xl_validator.specs.declared.preparing.Prepared.{Prepared}
-use Rattle.xl_validator.specs.Openings.{Task}
+use Rattle.xl_validator.specs.Contacts.{IsNumber}
+use Rattle.xl_validator.specs.Openings.{Task, number_of}
+use Rattle.xl_validator.specs.Validators.{Between, Goes, IsOfNode, IsUnopened}
 
 -- what a plan is to do
 abbrev pub task_in : Plan → Task
@@ -23,3 +36,26 @@ pub record IsReady (prepared : Prepared) : Type 0 where
   pub peers : AllByRecursion (λ m. IsSome (key_of prepared.core.node.keys m)) (task_in prepared.plan).members
   pub once : IsDistinct nat_eq (task_in prepared.plan).members
   pub few : length prepared.plan.contacts.items ≤ 64
+
+-- a plan of so many turns, which submits these ids, serves these peers, and beats so
+pub record IsPlan (limit : ℕ) (ids : List TxId) (peers : List PeerSetting) (beats : Timing) (plan : Plan) : Type 0 where
+  pub turns : plan.turns ≡ limit
+  pub submits : plan.submits.items ≡ ids
+  pub members : map contact_of plan.contacts.items ≡ map number_of peers
+  pub timing : plan.timing ≡ beats
+  pub numbers : AllByRecursion IsNumber plan.contacts.items
+
+-- What a run over a prepared core leaves: it goes as `Goes` says, or it left the output; and its status has its cause
+pub record Leaves {K O : Type 0}
+    (held_by : K → Option Held) (saves_of : K → Option (List ℕ)) (faults_of : K → ℕ)
+    (save_gives : K → ℕ → Bool → K → Type 0)
+    (start : Core) (task : Task) (may_give : ℕ → Bool) (links : ℕ → Option Wire) (outside : Between)
+    (old_output new_output : O) (old new : K) (end : Status) (journal : Option (List Entry)) : Type 0 where
+  pub goes : IfSome journal (λ history. Goes held_by saves_of faults_of save_gives
+      start task may_give links outside old new end history)
+  pub unopened : journal ≡ None → new_output ≡ old_output
+  pub opened : journal ≡ None → IsUnopened end
+  pub known : IsOfNode end
+  pub write : end ≡ status.WriteFault → Rose outside.old_output.faults outside.new_output.faults
+  pub keeper : end ≢ status.KeepFault
+  pub net : end ≡ status.NetFault → Rose outside.old_faults outside.new_faults

@@ -1,10 +1,11 @@
-ghost use Rattle.std.specs.Prelude.{◌≡◌, ◌≢◌, ◌≤◌, ◌⊎◌, None, IfSome, IfOk, IsErr};
+ghost use Rattle.std.specs.Prelude.{◌≡◌, ◌≤◌, ◌⊎◌, Some, None, IfSome, IfOk, IsErr};
 ghost use Rattle.xl_base.specs.Faults.{Rose};
 ghost use Rattle.xl_settings.specs.Lines.{refusal_line};
 ghost use Rattle.xl_settings.specs.Runnable.{AreRunnable};
 ghost use Rattle.xl_settings.specs.Settings.{settings_of};
-ghost use Rattle.xl_validator.specs.Preparing.{IsReady, task_in};
-ghost use Rattle.xl_validator.specs.Validators.{Goes, HasRun, IsNodeRun, IsRefused, HasRefused, between};
+ghost use Rattle.xl_workers.specs.Runs.{status_of_end};
+ghost use Rattle.xl_validator.specs.Preparing.{IsReady, Leaves, task_in};
+ghost use Rattle.xl_validator.specs.Validators.{HasRun, IsNodeRun, IsRefused, HasRefused, between};
 ghost use Rattle.xl_validator.specs.Validators.{IsKnown, IsOfNode, IsUnopened};
 
 use crate::ended::Ended;
@@ -16,7 +17,9 @@ use xl_base::Status;
 use xl_io::{Keeper, Sink, Source};
 use xl_links::{Clock, Hub, OpenGate};
 use xl_settings::{Settings, SettingsFault, SettingsRefusal, settings_from, write_refusal};
-use xl_workers::node;
+use xl_store::{Closed, Spared};
+use xl_trie::Trie;
+use xl_workers::{Ran, node};
 
 /// Tells why settings are refused.
 fn refuse<O: Sink>(output: &mut O, refusal: &SettingsRefusal) -> Status
@@ -42,27 +45,44 @@ fn run<W: Threads + Wait + Sync, O: Sink + Send, K: Keeper + Drop + Send, H: Hub
     clock: &C,
 ) -> Ended<K>
     requires ready { IsReady prepared }
-    ensures goes { IfSome result.journal (λ history. Goes K.held K.saves K.faults K.save_gives
+    ensures leaves { Leaves K.held K.saves K.faults K.save_gives
         prepared.core (task_in prepared.plan) (C.may_give clock.now) (H.gives hub.old)
         (between (H.faults hub.old) (H.faults hub.new)
         (O.held output.old) (O.faults output.old) (O.held output.new) (O.faults output.new))
-        keeper result.keeper result.status history) }
-    ensures unopened { result.journal ≡ None → output.new ≡ output.old }
-    ensures opened { result.journal ≡ None → IsUnopened result.status }
-    ensures known { IsOfNode result.status }
-    ensures write { result.status ≡ Status.WriteFault → Rose (O.faults output.old) (O.faults output.new) }
-    ensures keeper { result.status ≢ Status.KeepFault }
-    ensures net { result.status ≡ Status.NetFault → Rose (H.faults hub.old) (H.faults hub.new) }
+        output.old output.new keeper result.keeper result.status result.journal }
 {
     let Prepared { core, plan } = prepared;
     match node(rt, alloc, core, keeper, plan, hub, &OpenGate, clock, output) {
-        Ok(ran) => Ended {
-            status: ran.end.status(),
-            keeper: ran.closed.keeper,
-            journal: Some(ran.closed.journal),
-        },
-        Err(spared) => Ended::unopened(Status::OutOfMemory, spared.keeper),
+        Ok(ran) => ended(ran),
+        Err(spared) => Ended::unopened(Status::OutOfMemory, keeper_of(spared)),
     }
+}
+
+/// What a run leaves, without its core.
+fn ended<K: Drop>(ran: Ran<Trie, K>) -> Ended<K>
+    ensures status { result.status ≡ status_of_end ran.end }
+    ensures keeper { result.keeper ≡ ran.closed.keeper }
+    ensures journal { result.journal ≡ Some ran.closed.journal }
+{
+    let Ran { end, closed } = ran;
+    let Closed {
+        core: _,
+        keeper,
+        journal,
+    } = closed;
+    Ended {
+        status: end.status(),
+        keeper,
+        journal: Some(journal),
+    }
+}
+
+/// The keeper, without its core.
+fn keeper_of<K: Drop>(spared: Spared<Trie, K>) -> K
+    ensures { result ≡ spared.keeper }
+{
+    let Spared { core: _, keeper } = spared;
+    keeper
 }
 
 /// Opens a node by its settings, and runs it.

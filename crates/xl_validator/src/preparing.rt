@@ -3,15 +3,15 @@ ghost use Rattle.std.specs.Prelude.{◌≡◌, ◌≤◌, IfOk};
 ghost use Rattle.xl_base.specs.declared.moments.TheConstants.{GREATEST_MILLIS};
 ghost use Rattle.xl_settings.specs.Runnable.{AreRunnable};
 ghost use Rattle.xl_validator.specs.Openings.{opening_core, task_of};
-ghost use Rattle.xl_validator.specs.Preparing.{IsReady, task_in};
+ghost use Rattle.xl_validator.specs.Preparing.{IsPlan, IsReady, task_in};
 
 use crate::contacts::contacts_of;
 use crate::keys::keys_of;
 use std::alloc::Global;
-use xl_base::{Millis, OutOfMemory, Seq};
+use xl_base::{Millis, OutOfMemory, Seq, TxIds};
 use xl_core::Core;
 use xl_heartbeat::Timing;
-use xl_settings::Settings;
+use xl_settings::{Peers, Settings};
 use xl_trie::Trie;
 use xl_workers::Plan;
 
@@ -47,27 +47,49 @@ pub(crate) fn prepare(
         peers,
     } = settings;
     let keys = keys_of(me, peers.as_slice());
-    let core = Core::open(
-        alloc,
-        xl_core::Settings {
-            me,
-            list,
-            keys,
-            limit,
-            validating,
-        },
-        now,
-        kept,
-    )?;
-    let plan = Plan {
-        turns,
-        submits: Vec::from_slice(alloc, submit.as_slice())?,
-        contacts: contacts_of(alloc, peers.into_vec())?,
-        timing: Timing {
-            opened: now,
-            every: heartbeat_ms as u32,
-            run: run_ms,
-        },
+    let timing = Timing {
+        opened: now,
+        every: heartbeat_ms as u32,
+        run: run_ms,
     };
-    Ok(Prepared { core, plan })
+    let plan = match plan_of(alloc, turns, submit, peers, timing) {
+        Ok(plan) => plan,
+        Err(_) => return Err(OutOfMemory),
+    };
+    let settings = xl_core::Settings {
+        me,
+        list,
+        keys,
+        limit,
+        validating,
+    };
+    match Core::open(alloc, settings, now, kept) {
+        Ok(core) => Ok(Prepared { core, plan }),
+        Err(_) => Err(OutOfMemory),
+    }
+}
+
+/// What a node is to do.
+fn plan_of(
+    alloc: Global,
+    turns: u64,
+    submit: TxIds,
+    peers: Peers,
+    timing: Timing,
+) -> Result<Plan, OutOfMemory>
+    ensures plan { IfOk result (IsPlan turns submit peers timing) }
+{
+    let submits = match Vec::from_slice(alloc, submit.as_slice()) {
+        Ok(submits) => submits,
+        Err(_) => return Err(OutOfMemory),
+    };
+    match contacts_of(alloc, peers.into_vec()) {
+        Ok(contacts) => Ok(Plan {
+            turns,
+            submits,
+            contacts,
+            timing,
+        }),
+        Err(_) => Err(OutOfMemory),
+    }
 }

@@ -1,26 +1,35 @@
-use Rattle.std.proofs.Common.{sym, ◌∙◌, subst}
-use Rattle.xl_validator.specs.Validators.{IsOfNode}
-use Rattle.xl_validator.proofs.Causes.{known_end, keeps_no_fault, write_cause, net_cause}
+use Rattle.xl_validator.specs.Preparing.{task_in}
+use Rattle.xl_validator.specs.Validators.{between}
+use Rattle.xl_validator.proofs.Leaving.{leaves_run, leaves_none}
 use Rattle.xl_validator.proofs.command.run.Goals as goal
 
-pub returns-in-Ok-clause-goes : goal.returns-in-Ok-clause-goes
-returns-in-Ok-clause-goes g c = record {
-  run_end = c.in-Ok.ran.end;
-  legal = (c.in-Ok.ran.closed.core, c.in-Ok.ensures.legal);
-  run = c.in-Ok.ensures.run;
-  keeps = c.in-Ok.ensures.keeper;
-  limit = c.in-Ok.ensures.limit;
-  is = c.status.ensures;
-}
+pub returns-in-Ok : goal.returns-in-Ok
+returns-in-Ok g c =
+    let ran = c.in-Ok.ran in
+    let old = c.args.output.now in
+    let new = c.node.new.sink in
+    record {
+      leaves = leaves_run g.K.Keeper.held g.K.Keeper.saves g.K.Keeper.faults g.K.Keeper.save_gives
+          c.args.prepared.core (task_in c.args.prepared.plan) (g.C.Clock.may_give c.args.clock.now)
+          (g.H.Hub.gives c.args.hub.now)
+          (between (g.H.Hub.faults c.args.hub.now) (g.H.Hub.faults c.node.new.hub)
+          (g.O.Sink.held old) (g.O.Sink.faults old) (g.O.Sink.held new) (g.O.Sink.faults new))
+          old new c.args.keeper c.ended.result.keeper c.ended.result.status c.ended.result.journal
+          ran.end ran.closed.keeper ran.closed.journal
+          c.ended.ensures.status c.ended.ensures.keeper c.ended.ensures.journal
+          (ran.closed.core, c.in-Ok.ensures.legal) c.in-Ok.ensures.run c.in-Ok.ensures.keeper c.in-Ok.ensures.limit;
+    }
 
-pub returns-in-Ok-clause-write : goal.returns-in-Ok-clause-write
-returns-in-Ok-clause-write g c = λ is. write_cause _ _ c.in-Ok.ran.end c.in-Ok.ran.closed.journal c.in-Ok.ensures.run (sym c.status.ensures ∙ is)
-
-pub returns-in-Ok-clause-net : goal.returns-in-Ok-clause-net
-returns-in-Ok-clause-net g c = λ is. net_cause _ _ c.in-Ok.ran.end c.in-Ok.ran.closed.journal c.in-Ok.ensures.run (sym c.status.ensures ∙ is)
-
-pub returns-in-Ok-clause-known : goal.returns-in-Ok-clause-known
-returns-in-Ok-clause-known g c = subst IsOfNode (sym c.status.ensures) (known_end c.in-Ok.ran.end)
-
-pub returns-in-Ok-clause-keeper : goal.returns-in-Ok-clause-keeper
-returns-in-Ok-clause-keeper g c = λ is. keeps_no_fault c.in-Ok.ran.end (sym c.status.ensures ∙ is)
+pub returns-in-Err : goal.returns-in-Err
+returns-in-Err g c =
+    let old = c.args.output.now in
+    let new = c.node.new.sink in
+    record {
+      leaves = leaves_none g.K.Keeper.held g.K.Keeper.saves g.K.Keeper.faults g.K.Keeper.save_gives
+          c.args.prepared.core (task_in c.args.prepared.plan) (g.C.Clock.may_give c.args.clock.now)
+          (g.H.Hub.gives c.args.hub.now)
+          (between (g.H.Hub.faults c.args.hub.now) (g.H.Hub.faults c.node.new.hub)
+          (g.O.Sink.held old) (g.O.Sink.faults old) (g.O.Sink.held new) (g.O.Sink.faults new))
+          old new c.args.keeper c.unopened.result.keeper c.unopened.result.status c.unopened.result.journal
+          c.unopened.ensures.status c.unopened.ensures.journal c.in-Err.ensures.nothing.1;
+    }

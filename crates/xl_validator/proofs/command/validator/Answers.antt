@@ -1,4 +1,4 @@
-use Rattle.std.proofs.Common.{◌≡◌, ◌≢◌, sym, ◌∙◌}
+use Rattle.std.proofs.Common.{sym, ◌∙◌}
 use Rattle.xl_validator.proofs.Refusing.{refused_by_none}
 use Rattle.xl_validator.proofs.command.validator.Goals as goal
 

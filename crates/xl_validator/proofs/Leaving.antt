@@ -1,0 +1,76 @@
+-- What a run leaves.
+use Rattle.std.proofs.Common.{◌≡◌, Bool, ◌≤◌, ℕ, List, length, Option, Some, None, sym, ◌∙◌, subst}
+use Rattle.xl_base.specs.declared.status.Status.{Status}
+use Rattle.xl_base.specs.declared.status.Status.TheVariants as status
+use Rattle.xl_io.specs.Keepers.{Held}
+use Rattle.xl_links.specs.Links.{Wire}
+use Rattle.xl_turns.specs.Histories.{IsLegal}
+use Rattle.xl_core.specs.Core.{Core}
+use Rattle.xl_store.specs.declared.entry.Entry.{Entry}
+use Rattle.xl_store.specs.Closing.{KeepsAll}
+use Rattle.xl_store.specs.Entries.{Leads}
+use Rattle.xl_workers.specs.declared.ends.RunEnd.{RunEnd}
+use Rattle.xl_workers.specs.Runs.{NodeRun, doing, status_of_end}
+use Rattle.xl_workers.specs.Sharing.{setting}
+use Rattle.xl_validator.specs.Openings.{Task}
+use Rattle.xl_validator.specs.Preparing.{Leaves}
+use Rattle.xl_validator.specs.Validators.{Between, IsOfNode}
+use Rattle.xl_validator.proofs.Causes.{known_end, keeps_no_fault, write_cause, net_cause}
+
+module _ {K O : Type 0}
+    (held_by : K → Option Held) (saves_of : K → Option (List ℕ)) (faults_of : K → ℕ)
+    (save_gives : K → ℕ → Bool → K → Type 0)
+    (start : Core) (task : Task) (may_give : ℕ → Bool) (links : ℕ → Option Wire) (outside : Between)
+    (old_output new_output : O) (old new : K) (end : Status) (journal : Option (List Entry)) where
+  -- a node ran
+  pub leaves_run : (e : RunEnd) (kept : K) (history : List Entry)
+      → end ≡ status_of_end e → new ≡ kept → journal ≡ Some history
+      → IsLegal Leads start history
+      → NodeRun (setting start task.turns may_give links)
+      (doing task.submits task.members task.timing
+      outside.old_faults outside.new_faults outside.old_output outside.new_output) e history
+      → KeepsAll held_by saves_of faults_of save_gives start history old kept
+      → length history ≤ task.turns
+      → Leaves held_by saves_of faults_of save_gives start task may_give links outside old_output new_output old new end
+      journal
+  leaves_run e kept history is same some legal run keeps limit =
+      subst (λ (j : Option (List Entry)).
+      Leaves held_by saves_of faults_of save_gives start task may_give links outside old_output new_output old new end j)
+      (sym some)
+      (record {
+        goes = record {
+          run_end = e;
+          legal = legal;
+          run = run;
+          keeps = subst (λ (k : K). KeepsAll held_by saves_of faults_of save_gives start history old k) (sym same) keeps;
+          limit = limit;
+          is = is;
+        };
+        unopened = λ none. absurd cc;
+        opened = λ none. absurd cc;
+        known = subst IsOfNode (sym is) (known_end e);
+        write = λ other. write_cause _ _ e history run (sym is ∙ other);
+        keeper = λ other. keeps_no_fault e (sym is ∙ other);
+        net = λ other. net_cause _ _ e history run (sym is ∙ other);
+      })
+
+  -- nothing ran
+  pub leaves_none : end ≡ status.OutOfMemory → journal ≡ None → new_output ≡ old_output
+      → Leaves held_by saves_of faults_of save_gives start task may_give links outside old_output new_output old new end
+      journal
+  leaves_none is none same =
+      subst (λ (j : Option (List Entry)).
+      Leaves held_by saves_of faults_of save_gives start task may_give links outside old_output new_output old new end j)
+      (sym none)
+      (subst (λ (s : Status).
+      Leaves held_by saves_of faults_of save_gives start task may_give links outside old_output new_output old new s None)
+      (sym is)
+      (record {
+        goes = tt;
+        unopened = λ nothing. same;
+        opened = λ nothing. tt;
+        known = tt;
+        write = λ other. absurd cc;
+        keeper = λ other. cc;
+        net = λ other. absurd cc;
+      }))
