@@ -22,6 +22,10 @@ module _ {K O : Type 0}
     (save_gives : K → ℕ → Bool → K → Type 0)
     (start : Core) (task : Task) (may_give : ℕ → Bool) (links : ℕ → Option Wire) (outside : Between)
     (old_output new_output : O) (old new : K) (end : Status) (journal : Option (List Entry)) where
+  abbrev pub Left : Status → Option (List Entry) → Type 0
+  Left s j =
+      Leaves held_by saves_of faults_of save_gives start task may_give links outside old_output new_output old new s j
+
   -- a node ran
   pub leaves_run : (e : RunEnd) (kept : K) (history : List Entry)
       → end ≡ status_of_end e → new ≡ kept → journal ≡ Some history
@@ -31,18 +35,14 @@ module _ {K O : Type 0}
       outside.old_faults outside.new_faults outside.old_output outside.new_output) e history
       → KeepsAll held_by saves_of faults_of save_gives start history old kept
       → length history ≤ task.turns
-      → Leaves held_by saves_of faults_of save_gives start task may_give links outside old_output new_output old new end
-      journal
-  leaves_run e kept history is same some legal run keeps limit =
-      subst (λ (j : Option (List Entry)).
-      Leaves held_by saves_of faults_of save_gives start task may_give links outside old_output new_output old new end j)
-      (sym some)
+      → Left end journal
+  leaves_run e kept history is same some legal run keeps limit = subst (Left end) (sym some)
       (record {
         goes = record {
           run_end = e;
           legal = legal;
           run = run;
-          keeps = subst (λ (k : K). KeepsAll held_by saves_of faults_of save_gives start history old k) (sym same) keeps;
+          keeps = subst (KeepsAll held_by saves_of faults_of save_gives start history old) (sym same) keeps;
           limit = limit;
           is = is;
         };
@@ -55,16 +55,9 @@ module _ {K O : Type 0}
       })
 
   -- nothing ran
-  pub leaves_none : end ≡ status.OutOfMemory → journal ≡ None → new_output ≡ old_output
-      → Leaves held_by saves_of faults_of save_gives start task may_give links outside old_output new_output old new end
-      journal
-  leaves_none is none same =
-      subst (λ (j : Option (List Entry)).
-      Leaves held_by saves_of faults_of save_gives start task may_give links outside old_output new_output old new end j)
-      (sym none)
-      (subst (λ (s : Status).
-      Leaves held_by saves_of faults_of save_gives start task may_give links outside old_output new_output old new s None)
-      (sym is)
+  pub leaves_none : end ≡ status.OutOfMemory → journal ≡ None → new_output ≡ old_output → Left end journal
+  leaves_none is none same = subst (Left end) (sym none)
+      (subst (λ (s : Status). Left s None) (sym is)
       (record {
         goes = tt;
         unopened = λ nothing. same;
