@@ -14,7 +14,7 @@ ENDINGS = ('short', 'forged', 'agree', 'fork')
 NEVER_SAVED = ('30', '31', '32')
 DECLARATIONS = ('xl-schedule', 'node', 'liar', 'limit', 'at', 'name', 'ledger')
 ROUND_WORDS = ('timer', 'timers', 'submit', 'greet')
-NODE_BYTES, LEDGER_BYTES, DEFAULT_LIMIT, LIMITS = 1850000, 244, 1024, range(2, 16385)
+NODE_BYTES, LEDGER_BYTES, DEFAULT_LIMIT, LIMITS = 1717000, 244, 1024, range(2, 16385)
 PROBLEMS = {2: 'words refused', 4: 'input failed', 5: 'output failed', 6: 'out of memory'}
 
 
