@@ -5,7 +5,7 @@ use Rattle.std.specs.Option.{is_none}
 use Rattle.std.proofs.lemmas.Bool.{cond-true, cond-false}
 use Rattle.std.proofs.lemmas.Bool.Decides.{nat_tests}
 use Rattle.std.proofs.lemmas.Grind.{flat_map-append}
-use Rattle.std.proofs.lemmas.List.{append-nil, length-append, length-map, length-drop, drop-drop, drop-map, drop_at, take_at, take-append-le, set-get_or}
+use Rattle.std.proofs.lemmas.List.{append-nil, length-append, length-map, length-drop, drop-drop, drop-map, drop_at, take_at, take-append-le}
 use Rattle.std.proofs.lemmas.List.Elements.{All-append, All-cons, All-head, All-nil, All-tail, filter_map-append}
 use Rattle.std.proofs.lemmas.Option.{slice_get_past, same_Some}
 use Rattle.std.proofs.Math.ListN.{drop_of_length-le}
@@ -21,13 +21,10 @@ use Rattle.xl_core.specs.declared.greeting.Greeting.{Greeting}
 use Rattle.xl_core.specs.declared.item.Item.{Item}
 use Rattle.xl_core.specs.declared.putting.Put.{Put}
 use Rattle.xl_core.specs.declared.putting.Put.TheVariants.{Written, PassedOver, NoRoom}
-use Rattle.xl_core.specs.Answers.{Gave}
-use Rattle.xl_core.specs.Core.{Core, answering, core_happens, greeted_frames, all_frames, given_for}
-use Rattle.xl_core.specs.Node.Save.{Kept}
-use Rattle.xl_core.specs.declared.event.CoreEvent.TheVariants.{Drain}
+use Rattle.xl_core.specs.Core.{Core, greeted_frames, all_frames, given_for}
 use Rattle.xl_core.specs.Draining.{next_on, is_handed, IsPut, PutsNext, Writes}
 use Rattle.xl_core.specs.Greetings.{chain_to, yet_to_hand, greeting_at, greeting_frames, further, further_at}
-use Rattle.xl_core.specs.Items.{framed, frame_of, frames_for, header_body_at, drained_bytes, drained_for}
+use Rattle.xl_core.specs.Items.{framed, frames_for, header_body_at, drained_bytes, drained_for}
 use Rattle.xl_core.specs.Node.{Node}
 use Rattle.xl_core.specs.Queues.{waiting_at, at_number, after_taking, fitting, that_fit, frames_in, joined}
 use Rattle.xl_core.specs.Replies.{Drains}
@@ -384,31 +381,3 @@ pub given_all : (P : List ℕ → Type 0) (core : Core) (to room : ℕ) → ((le
 given_all P core to room each waits =
     front_all P (fitting (all_frames core to) room) (all_frames core to)
     (both_all P (greeted_frames core to) (frames_for core.node core.waiting to) (greeting_all P core.node to (greeting_at core.greetings to) each) waits)
-
--- NOTHING IS LEFT
-
-greeted_still : (greetings : List (Option Greeting)) (number count : ℕ) → greeting_at greetings number ≡ None → further_at greetings number count ≡ greetings
-greeted_still greetings zero count none = refl
-greeted_still greetings (suc place) count none =
-    ap (λ (o : Option Greeting). set greetings place (option_map (further count) o)) none ∙ (ap (set greetings place) (sym none) ∙ set-get_or greetings place None)
-
--- a drain for a number that isn't greeted, and for which nothing waits, leaves all as it is
-pub idle_still : (core : Core) (member room : ℕ) → greeting_at core.greetings member ≡ None → (waiting_at core.waiting member).items ≡ [] →
-    core_happens core (Drain member room) Kept ≡ answering core (Gave member [])
-idle_still core member room ungreeted none =
-    let greeted : greeted_frames core member ≡ [] = ap (λ (o : Option Greeting). greeting_frames core.node o member) ungreeted in
-    let waits : frames_for core.node core.waiting member ≡ [] = ap (map (frame_of core.node member)) none in
-    let left : all_frames core member ≡ [] = ap (λ (fs : Frames). fs ++ frames_for core.node core.waiting member) greeted ∙ waits in
-    let given : given_for core member room ≡ [] = ap (λ (fs : Frames). that_fit fs room) left in
-    let greetings : further_at core.greetings member (fitting (greeted_frames core member) room) ≡ core.greetings = greeted_still core.greetings member (fitting (greeted_frames core member) room) ungreeted in
-    let taken : drop (length (greeted_frames core member)) (given_for core member room) ≡ [] = ap (drop (length (greeted_frames core member))) given ∙ drop_none (length (greeted_frames core member)) in
-    let waiting : at_number core.waiting member (after_taking (drop (length (greeted_frames core member)) (given_for core member room))) ≡ core.waiting =
-    ap (λ (fs : Frames). at_number core.waiting member (after_taking fs)) taken ∙ taking_none core.waiting member in
-    ap (λ (gs : List (Option Greeting)). answering (record core { greetings = gs; waiting = at_number core.waiting member (after_taking (drop (length (greeted_frames core member)) (given_for core member room))) })
-    (Gave member (frames_in (given_for core member room)))) greetings
-    ∙ (ap (λ (ws : List (Backlog Item)). answering (record core { waiting = ws }) (Gave member (frames_in (given_for core member room)))) waiting
-    ∙ ap (λ (fs : Frames). answering core (Gave member (frames_in fs))) given)
-  where
-    drop_none : (n : ℕ) → (let none : Frames = drop n [] in none) ≡ []
-    drop_none zero = refl
-    drop_none (suc n) = refl

@@ -70,7 +70,7 @@ greeted_frames core to = greeting_frames core.node (greeting_at core.greetings t
 abbrev pub all_frames : Core → ℕ → List (Option (List ℕ))
 all_frames core to = greeted_frames core to ++ frames_for core.node core.waiting to
 
--- nothing is left for a number: it isn't greeted, and nothing waits for it
+-- nothing is left for a number: it wasn't greeted since the core opened, and nothing waits for it
 abbrev pub is_idle : Core → ℕ → Bool
 is_idle core to =
     if is_some (greeting_at core.greetings to) then false else (length (waiting_at core.waiting to).items == 0)

@@ -90,7 +90,7 @@ pub fn is_greeted<B: Branch + Drop>(greetings: &Greetings, node: &Node<B>, membe
     }
 }
 
-/// Whether a member is greeted, or was and isn't greeted anew.
+/// Whether a member was greeted since the core opened.
 pub fn has_greeting(greetings: &Greetings, member: NodeNo) -> bool
     ensures { result ≡ is_some (greeting_at greetings.now member) }
 {

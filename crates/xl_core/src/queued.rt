@@ -339,7 +339,8 @@ impl<B: Branch + Drop> Core<B> {
         at + drain(&mut self.waiting, &self.node, member, tags, &mut room[at..])
     }
 
-    /// Whether a member isn't greeted and nothing waits for it: a drain for it gives nothing then, and changes nothing.
+    /// Whether a member wasn't greeted since the core opened, and nothing waits for it: a drain for it gives nothing
+    /// then, and changes nothing.
     pub fn is_idle(&self, member: NodeNo) -> bool
         ensures value { result ≡ is_idle self.now member }
         ensures idle { IsTrue result → (room : ℕ)
