@@ -12,7 +12,7 @@ pub const MOST_MEMBERS: usize = GREATEST_NODE_NO as usize;
 /// A member's number, from 1 to 64.
 #[derive(Clone, Copy, Debug, PartialEq, Eq, PartialOrd, Ord)]
 pub struct NodeNo {
-    number: u32,
+    number: u8,
 }
 
 impl Model for NodeNo {
@@ -33,7 +33,9 @@ impl NodeNo {
         ensures { SomeIff result ((1 ≤ number) × (number ≤ GREATEST_NODE_NO)) number }
     {
         if 1 <= number && number <= GREATEST_NODE_NO {
-            Some(NodeNo { number })
+            Some(NodeNo {
+                number: number as u8,
+            })
         } else {
             None
         }
@@ -44,6 +46,6 @@ impl NodeNo {
         ensures first { 1 ≤ result }
         ensures last { result ≤ GREATEST_NODE_NO }
     {
-        self.number
+        u32::from(self.number)
     }
 }
