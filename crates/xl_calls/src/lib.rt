@@ -15,6 +15,8 @@ mod gates;
 #[cfg(test)]
 mod heartbeats;
 #[cfg(test)]
+mod pools;
+#[cfg(test)]
 mod rounds;
 #[cfg(test)]
 mod sessions;
@@ -24,6 +26,8 @@ mod settings;
 mod spellings;
 #[cfg(test)]
 mod stores;
+#[cfg(test)]
+mod turns;
 #[cfg(test)]
 mod votes;
 #[cfg(test)]

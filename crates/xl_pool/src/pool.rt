@@ -173,6 +173,3 @@ impl<T> Pool<T> {
         }
     }
 }
-
-#[cfg(test)]
-mod tests;

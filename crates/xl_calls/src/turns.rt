@@ -1,14 +1,12 @@
 ghost use Rattle.std.specs.Prelude.{◌≡◌, ◌+◌, ◌%◌, ◌<◌, ◌^◌, IfSome};
 ghost use Rattle.xl_turns.specs.Passes.{IsPassOf};
 
-use crate::calls::{Calls, Entry, NoTurn, Object};
-use crate::lock::TicketLock;
-use crate::pass::Pass;
 use std::alloc::Global;
 use std::sync::Wait;
 use std::test::Fail;
 use std::thread;
 use std::thread::Threads;
+use xl_turns::{Calls, Entry, NoTurn, Object, Pass, TicketLock};
 
 /// A number that calls add to. Each answers the sum.
 #[derive(Debug, Drop)]

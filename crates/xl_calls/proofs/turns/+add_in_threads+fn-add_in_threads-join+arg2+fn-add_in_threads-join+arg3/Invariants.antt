@@ -1,5 +1,5 @@
 use Rattle.std.proofs.Common.{◌-◌, ◌*◌}
-use Rattle.xl_turns.proofs.tests.+add_in_threads+fn-add_in_threads-join+arg2+fn-add_in_threads-join+arg3.Given as goal
+use Rattle.xl_calls.proofs.turns.+add_in_threads+fn-add_in_threads-join+arg2+fn-add_in_threads-join+arg3.Given as goal
 
 abbrev pub decreases-add_in_threads : goal.decreases-add_in_threads
 decreases-add_in_threads g l = 2 * l.halvings

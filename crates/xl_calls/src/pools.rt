@@ -1,6 +1,5 @@
-use super::Pool;
-use crate::{Full, Name, Stale};
 use std::test::Fail;
+use xl_pool::{Full, Name, Pool, Stale};
 
 #[test]
 fn two_slots(rt: HostRuntime) -> Result<(), Fail> {
