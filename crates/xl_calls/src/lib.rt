@@ -27,6 +27,8 @@ mod spellings;
 #[cfg(test)]
 mod stores;
 #[cfg(test)]
+mod tops;
+#[cfg(test)]
 mod turns;
 #[cfg(test)]
 mod votes;

@@ -1,5 +1,5 @@
 -- The order of ids, as code tests it.
-use Rattle.std.proofs.Common.{◌≡◌, ℕ, List, [], ◌∷◌, Some, refl, ap, ◌∙◌}
+use Rattle.std.proofs.Common.{◌≡◌, ℕ, List, [], ◌∷◌, Some, refl, sym, ap, ◌∙◌}
 use Rattle.std.specs.Ordering.{nat_cmp, is_lt, is_some_and, partial_ordering_then, ordering_then}
 use Rattle.std.specs.declared.cmp.Ordering.{Ordering}
 use Rattle.std.specs.declared.cmp.Ordering.TheVariants.{Less, Equal, Greater}
@@ -42,3 +42,9 @@ differ next own shown shown' r new old is =
     test_of next own r (pointwise (λ a b. bytes_eq a.0 b.0) next own)
     (is ∙ ap (λ xs. not (pointwise (λ a b. bytes_eq a.0 b.0) xs shown')) new ∙ ap (λ ys. not (pointwise (λ a b. bytes_eq a.0 b.0) next ys)) old)
     (slice_eq-Decides {E = λ (a b : TxId). bytes_eq a.0 b.0} tx_decides next own (pointwise (λ a b. bytes_eq a.0 b.0) next own) refl)
+
+-- two lists of ids of which the code's `==` says yes
+pub alike : (xs ys shown shown' : List TxId) (r : Bool) → shown ≡ xs → shown' ≡ ys → r ≡ pointwise (λ a b. bytes_eq a.0 b.0) shown shown' → IsTrue r → xs ≡ ys
+alike xs ys shown shown' r one other is told =
+    (slice_eq-Decides {E = λ (a b : TxId). bytes_eq a.0 b.0} tx_decides xs ys (pointwise (λ a b. bytes_eq a.0 b.0) xs ys) refl).0
+    (ap (λ ss. pointwise (λ a b. bytes_eq a.0 b.0) ss ys) (sym one) ∙ ap (λ ss. pointwise (λ a b. bytes_eq a.0 b.0) shown ss) (sym other) ∙ sym is ∙ told)

@@ -92,15 +92,14 @@ impl Place {
         Tally::new(self.bit, self.weight, u32::from(self.bit == 0))
     }
 
-    /// Holds the set of these ids, and tells its id.
-    pub(crate) fn fill(&mut self, ids: &[TxId]) -> SetId
-        requires { IsSet ids.now }
-        ensures named { result ≡ set_id_of ids.now }
-        ensures taken { self.new ≡ with_set (Some ids.now) self.old }
+    /// Holds the set of these ids, whose own id is handed in.
+    pub(crate) fn fill(&mut self, ids: &[TxId], id: SetId)
+        requires valid { IsSet ids.now }
+        requires named { id ≡ set_id_of ids.now }
+        ensures { self.new ≡ with_set (Some ids.now) self.old }
     {
-        self.set.take(ids);
+        self.set.take(ids, id);
         self.holds = true;
-        self.set.id()
     }
 
     /// Holds no set any more.

@@ -1,16 +1,15 @@
-ghost use Rattle.std.specs.Prelude.{◌≡◌, ◌≤◌, [], length, vec_capacity, IfOk};
+ghost use Rattle.std.specs.Prelude.{◌≡◌, ◌≤◌, [], length, vec_capacity, IfOk, IsTrue};
 ghost use Rattle.xl_base.specs.Sets.{set_id_of, IsSet};
 ghost use Rattle.xl_disputes.specs.Disputes.{has};
 
 use std::alloc::Global;
 use std::marker::Model;
-use xl_base::{MOST_IDS, OutOfMemory, SetId, TxId, set_id};
+use xl_base::{MOST_IDS, OutOfMemory, SetId, TxId};
 
 /// A set has at most so many ids.
 pub(crate) const SET_IDS: usize = MOST_IDS;
 
-/// A set of transactions and its id, which is computed once, when the set is taken. Its room is taken when it is
-/// opened.
+/// A set of transactions and its id, which is handed in with it. Its room is taken when it is opened.
 #[derive(Debug, Drop)]
 pub(crate) struct Set {
     ids: Vec<TxId>,
@@ -54,13 +53,14 @@ impl Set {
         })
     }
 
-    /// Becomes the set of these ids.
-    pub(crate) fn take(&mut self, ids: &[TxId])
-        requires { IsSet ids.now }
+    /// Becomes the set of these ids, whose own id is handed in.
+    pub(crate) fn take(&mut self, ids: &[TxId], id: SetId)
+        requires valid { IsSet ids.now }
+        requires named { id ≡ set_id_of ids.now }
         ensures { self.new ≡ ids.now }
     {
         put(&mut self.ids, ids);
-        self.id = set_id(ids);
+        self.id = id;
     }
 
     pub(crate) fn ids(&self) -> &[TxId]
@@ -68,6 +68,13 @@ impl Set {
         ensures valid { IsSet self.now }
     {
         &self.ids
+    }
+
+    /// Whether it is the set of these ids.
+    pub(crate) fn is(&self, ids: &[TxId]) -> bool
+        ensures { IsTrue result → self.now ≡ ids.now }
+    {
+        self.ids.as_slice() == ids
     }
 
     pub(crate) fn id(&self) -> SetId

@@ -145,7 +145,7 @@ impl Shares {
     {
         self.index.clear();
         reset_all(&mut self.places);
-        self.places[0].fill(&[]);
+        self.places[0].fill(&[], set_id(&[]));
     }
 
     /// Our own set.
@@ -233,8 +233,25 @@ impl Shares {
         ensures taken { self.new ≡ changed (with_set (Some ids.now)) place self.old }
     {
         let _ = &self.places;
+        let id = self.id_of(ids);
         self.release(place);
-        self.fill(place, ids)
+        self.fill(place, ids, id);
+        id
+    }
+
+    /// The id of the set of these ids. A set that is held already isn't hashed again.
+    fn id_of(&self, ids: &[TxId]) -> SetId
+        requires { IsSet ids.now }
+        ensures { result ≡ set_id_of ids.now }
+    {
+        for place in &self.places {
+            if let Some(set) = place.set()
+                && set.is(ids)
+            {
+                return set.id();
+            }
+        }
+        set_id(ids)
     }
 
     /// The place holds the set of these ids, each of which is in some set already.
@@ -246,7 +263,7 @@ impl Shares {
     {
         let held = &mut self.places[place];
         self.index.move_part(held.ids(), ids, held.tally());
-        held.fill(ids);
+        held.fill(ids, set_id(ids));
     }
 
     /// The place holds no set any more.
@@ -260,17 +277,17 @@ impl Shares {
         held.release();
     }
 
-    /// The place, which has none, holds the set of these ids.
-    fn fill(&mut self, place: usize, ids: &[TxId]) -> SetId
+    /// The place, which has none, holds the set of these ids, whose own id is handed in.
+    fn fill(&mut self, place: usize, ids: &[TxId], id: SetId)
         requires within { place < PLACES }
         requires free { (d : Holding) → ids_in (slice_index_or self.old place d) ≡ [] }
         requires valid { IsSet ids.now }
-        ensures named { result ≡ set_id_of ids.now }
-        ensures taken { self.new ≡ changed (with_set (Some ids.now)) place self.old }
+        requires named { id ≡ set_id_of ids.now }
+        ensures { self.new ≡ changed (with_set (Some ids.now)) place self.old }
     {
         let held = &mut self.places[place];
         self.index.exchange_all(ids, Tally::none(), held.tally());
-        held.fill(ids)
+        held.fill(ids, id);
     }
 
     /// The place's set stands for so many positions.

@@ -1,4 +1,4 @@
-ghost use Rattle.std.specs.Prelude.{◌≡◌, ◌↔◌, ◌+◌, ◌<◌, ◌≤◌, ◌++◌, [], ◌∷◌, length, replicate, None, Some, IsOk, IfOk, OnOk, OnErr};
+ghost use Rattle.std.specs.Prelude.{◌≡◌, ◌↔◌, ◌+◌, ◌<◌, ◌≤◌, ◌++◌, [], ◌∷◌, length, replicate, None, Some, IsOk, IsSome, IsTrue, IfOk, IfSome, OnOk, OnErr};
 ghost use Rattle.xl_ledger.specs.Headers.{header_id};
 ghost use Rattle.xl_ledger.specs.Chains.{root_id, root_header, header_at, id_at, seq_at, place_of, Joins, AreLedgers};
 ghost use Rattle.xl_ledger.specs.Jumps.{jump_of};
@@ -94,9 +94,39 @@ impl Registry {
         ensures added { OnOk result (self.new ≡ with_header self.old h.now) }
         ensures refused { OnErr result (self.new ≡ self.old) }
     {
-        let id = id_of(h);
-        let parent = self.parent_for(h, &id)?;
-        Ok(self.push(h, id, parent))
+        // What one member sends all others send too, so the newest comes again and again, and isn't hashed again.
+        if let Some(id) = self.id_if_newest(h) {
+            return Err(AddRefusal::Known(id));
+        }
+        self.add_named(h, &id_of(h))
+    }
+
+    /// The same of a header whose id was computed already.
+    pub fn add_named(&mut self, h: &Header, id: &LedgerId) -> Result<LedgerNo, AddRefusal>
+        requires { id.now ≡ header_id h.now }
+        ensures exact { result ≡ unless_refused (add_refusal self.old h.now) (length self.old.headers) }
+        ensures joins { IsOk result ↔ (Joins self.old.headers h.now × (length self.old.headers < self.old.limit)) }
+        ensures added { OnOk result (self.new ≡ with_header self.old h.now) }
+        ensures refused { OnErr result (self.new ≡ self.old) }
+    {
+        let parent = self.parent_for(h, id)?;
+        Ok(self.push(h, *id, parent))
+    }
+
+    /// The id of the ledger that was added last, where it has this header.
+    fn id_if_newest(&self, h: &Header) -> Option<LedgerId>
+        ensures { IfSome result (λ id. (id ≡ header_id h.now) × IsSome (place_of self.now.headers id)) }
+    {
+        let newest = LedgerNo::at(self.len() - 1);
+        let id = self.id_at(newest);
+        if newest != LedgerNo::root()
+            && is_same(self.header(newest), h)
+            && self.find(&id).is_some()
+        {
+            Some(id)
+        } else {
+            None
+        }
     }
 
     /// The parent of a header that can be added.
@@ -189,6 +219,13 @@ impl Registry {
     {
         self.ledgers[ledger.place()].jumps[level as usize]
     }
+}
+
+/// Whether two headers are the same in each field.
+fn is_same(one: &Header, other: &Header) -> bool
+    ensures { IsTrue result → one.now ≡ other.now }
+{
+    one == other
 }
 
 /// The root as it is stored, alone.

@@ -13,6 +13,3 @@ mod telling;
 
 pub use command::top;
 pub use xl_validator::Ended;
-
-#[cfg(test)]
-mod tests;

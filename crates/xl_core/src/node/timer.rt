@@ -180,7 +180,7 @@ impl<B: Branch + Drop> Node<B> {
         if let Some(ledger) = self.registry.find(id) {
             return Some(ledger);
         }
-        match self.add(h) {
+        match self.add(h, id) {
             Ok(ledger) => Some(ledger),
             // It follows a known ledger, so that only room can lack.
             Err(_) => None,
@@ -188,12 +188,13 @@ impl<B: Branch + Drop> Node<B> {
     }
 
     /// Adds a header to the known ledgers, and takes the votes that waited for it.
-    fn add(&mut self, h: &Header) -> Result<LedgerNo, AddRefusal>
+    fn add(&mut self, h: &Header, id: &LedgerId) -> Result<LedgerNo, AddRefusal>
+        requires { id.now ≡ header_id h.now }
         ensures exact { result ≡ unless_refused (add_refusal self.old.ledgers h.now) (length self.old.ledgers.headers) }
         ensures added { OnOk result (self.new ≡ record self.old { ledgers = with_header self.old.ledgers h.now }) }
         ensures refused { OnErr result (self.new ≡ self.old) }
     {
-        let ledger = self.registry.add(h)?;
+        let ledger = self.registry.add_named(h, id)?;
         self.table.header_known(&self.registry, ledger);
         Ok(ledger)
     }

@@ -16,9 +16,9 @@ invariant_of-self c =
     let free : ids_in c.index_mut-held.result.now ≡ [] =
     ap ids_in (c.index_mut-held.ensures.value ∙ ap (λ hs. get_or hs c.args.place c.index_mut-held.result.now) c.self.view_is) ∙ c.requires.free c.index_mut-held.result.now in
     filled c.self.inside.places.items c.self.inside.index c.self.invariant c.args.place c.index_mut-held.result.now c.requires.within c.index_mut-held.ensures.value
-    c.exchange_all.new.self c.args.ids.now c.none.result c.tally.result c.fill.new.self free c.requires.valid c.none.ensures c.tally.ensures c.exchange_all.ensures c.fill.ensures.taken
+    c.exchange_all.new.self c.args.ids.now c.none.result c.tally.result c.fill.new.self free c.requires.valid c.none.ensures c.tally.ensures c.exchange_all.ensures c.fill.ensures
 
-pub returns-clause-taken : goal.returns-clause-taken
-returns-clause-taken c =
+pub returns : goal.returns
+returns c =
     set_changed (with_set (Some c.args.ids.now)) c.self.inside.places.items c.args.self.now c.args.place c.index_mut-held.result.now c.fill.new.self
-    c.self.invariant.count c.requires.within c.index_mut-held.ensures.value c.fill.ensures.taken c.self.view_is
+    c.self.invariant.count c.requires.within c.index_mut-held.ensures.value c.fill.ensures c.self.view_is

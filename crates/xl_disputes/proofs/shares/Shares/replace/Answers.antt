@@ -24,9 +24,9 @@ pub invariant_of-self : goal.invariant_of-self
 invariant_of-self c =
     replaced c.self.inside.places.items c.self.inside.index c.self.invariant c.args.place c.index_mut-held.result.now c.requires.within c.index_mut-held.ensures.value
     c.args.ids.now c.requires.valid (counted (goal.at.invariant_of-self c).After-tally) c.ids.result.now c.ids.ensures.value c.tally.result c.tally.ensures
-    c.move_part.new.self c.fill.new.self c.move_part.ensures c.fill.ensures.taken
+    c.move_part.new.self c.fill.new.self c.move_part.ensures c.fill.ensures
 
 pub returns : goal.returns
 returns c =
     set_changed (with_set (Some c.args.ids.now)) c.self.inside.places.items c.args.self.now c.args.place c.index_mut-held.result.now c.fill.new.self
-    c.self.invariant.count c.requires.within c.index_mut-held.ensures.value c.fill.ensures.taken c.self.view_is
+    c.self.invariant.count c.requires.within c.index_mut-held.ensures.value c.fill.ensures c.self.view_is

@@ -17,7 +17,7 @@ is_first c =
     first_again places (emptied c) c.index_mut.result.now c.fill.new.self [] (ap (map (λ (h : Holding). h.bit)) c.self.view_is ∙ c.requires)
     (in_place c.reset_all.new.places (drop (length c.reset_all.new.places) places) c.self.inside.places.len
     (ap length all ∙ length-map places (λ (h : Holding). no_holding h.bit) ∙ omega (arith, c.self.inside.places.ok.0)) ∙ all)
-    c.index_mut.ensures.value refl c.fill.ensures.taken
+    c.index_mut.ensures.value refl c.fill.ensures
 
 pub invariant_of-self : goal.invariant_of-self
 invariant_of-self c =

@@ -11,4 +11,4 @@ fill-requires-clause-free c = λ d.
 
 pub returns-clause-taken : goal.returns-clause-taken
 returns-clause-taken c =
-    c.fill.ensures.taken ∙ ap (changed (with_set (Some c.args.ids.now)) c.args.place) c.release.ensures ∙ set_twice (Some c.args.ids.now) None c.args.place c.args.self.now
+    c.fill.ensures ∙ ap (changed (with_set (Some c.args.ids.now)) c.args.place) c.release.ensures ∙ set_twice (Some c.args.ids.now) None c.args.place c.args.self.now

@@ -1,4 +1,3 @@
-use super::*;
 use std::alloc::Global;
 use std::sync::Wait;
 use std::test::Fail;
@@ -6,6 +5,7 @@ use std::thread::Threads;
 use xl_base::Status;
 use xl_io::{MemKeeper, MemSink, MemSource};
 use xl_links::{MemClock, MemHub, PlainLink};
+use xl_top::top;
 
 fn words(alloc: Global, all: &[&str]) -> Result<Vec<String>, Fail> {
     let mut words = Vec::new(alloc);
