@@ -10,12 +10,6 @@ use xl_base::NodeNo;
 use xl_tags::{Keys, seal};
 use xl_wire::{Body, Frame, LONGEST_FRAME, encode};
 
-/// How many bytes a frame has at most that is no set's: a header's.
-const SHORT_FRAME: usize = 164;
-
-/// How many bytes a frame has of a set of 16 ids.
-const SHORT_SET_FRAME: usize = 560;
-
 /// What is written where the tag of a frame goes.
 #[derive(Clone, Copy, Debug)]
 pub enum TagPlace {
@@ -41,18 +35,15 @@ pub fn put_body(
         at room.old room.new result }
     ensures spelled { IsTrue (has_spelling keys.now.me to body.entry) }
 {
-    // Few frames are a long set's, so few clear the long room.
     let length = 46 + body_length(&body);
-    if length <= SHORT_FRAME {
-        put_through(&mut [0; SHORT_FRAME], keys, to, tags, body, at, room)
-    } else if length <= SHORT_SET_FRAME {
-        put_through(&mut [0; SHORT_SET_FRAME], keys, to, tags, body, at, room)
-    } else {
-        put_through(&mut [0; LONGEST_FRAME], keys, to, tags, body, at, room)
+    if room.len() - at < length {
+        return put_through(&mut [0; LONGEST_FRAME], keys, to, tags, body, at, room);
     }
+    write_into(keys, to, tags, body, &mut room[at..at + length]);
+    Put::Written(length)
 }
 
-/// The same through a room of its own, in which the frame becomes whole.
+/// The same through a room of its own, in which the frame becomes whole. It is for a room that is too short.
 fn put_through(
     own: &mut [u8],
     keys: &Keys,
