@@ -80,7 +80,7 @@ module _ (number : ℕ → ℕ) where
       let above : r < get_or ts k d = subst (λ n. n < get_or ts k d) same (rises k d within) in
       subst (λ n. number (get_or ts k d) < n) (sym (ap number same)) (last k d within above)
 
-  -- where no time reaches the bound, none is chosen any more
+  -- if no time reaches the bound, none is chosen any more
   pub walk_stays : (bound : ℕ) (chosen : Option ℕ) (ts : List ℕ) → All (λ t. number t < bound) ts → last_chosen number bound chosen ts ≡ chosen
   walk_stays bound chosen [] below = refl
   walk_stays bound chosen (t ∷ ts) below =
@@ -88,7 +88,7 @@ module _ (number : ℕ → ℕ) where
       (λ reached. let least : number t < bound = All-head (λ u. number u < bound) t ts below in absurd (grind (arith, nat_tests)))
       (λ _. walk_stays bound chosen ts (All-tail (λ u. number u < bound) t ts below))
 
-  -- a time that reaches it is chosen, where none after it is
+  -- a time that reaches it is chosen, if none after it is
   walk_ends : (r bound : ℕ) (chosen : Option ℕ) (t : ℕ) (ts : List ℕ) → t ≡ r → bound ≤ number r → All (λ u. number u < number t) ts →
       last_chosen number bound chosen (t ∷ ts) ≡ Some r
   walk_ends r bound chosen t ts same reached below =

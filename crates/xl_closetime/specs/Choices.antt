@@ -30,11 +30,11 @@ last_chosen number bound chosen (t ∷ ts) =
     then last_chosen number (number t) (Some t) ts
     else last_chosen number bound chosen ts
 
--- the rounded times of the members' positions, and our own where we propose
+-- the rounded times of the members' positions, and our own if we propose
 abbrev pub counted : List ℕ → ℕ → Bool → ℕ → List ℕ
 counted times own proposing r = map (λ t. round_close t r) times ++ (if proposing then round_close own r ∷ [] else [])
 
--- a chosen time is agreed on where three quarters of the times are it; where none is chosen it is 0, and not agreed on
+-- a chosen time is agreed on if three quarters of the times are it; if none is chosen it is 0, and not agreed on
 abbrev pub choice_of : List ℕ → Option ℕ → Choice
 choice_of times None = record { close = 0; agreed = false }
 choice_of times (Some t) = record { close = t; agreed = nat_le (needed (length times) 75) (occurrences times t) }

@@ -21,6 +21,6 @@ coarser r = after resolutions r
 abbrev pub finer : ℕ → ℕ
 finer r = after (reverse resolutions) r
 
--- the next coarser one where the last close time wasn't agreed on; else the next finer one at each eighth ledger
+-- the next coarser one if the last close time wasn't agreed on; else the next finer one at each eighth ledger
 abbrev pub next_resolution : ℕ → Bool → ℕ → ℕ
 next_resolution r agreed seq = if agreed then (if seq % 8 == 0 then finer r else r) else coarser r

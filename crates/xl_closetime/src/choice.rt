@@ -15,7 +15,7 @@ use xl_base::{MOST_MEMBERS, Secs};
 /// So many percent of the times make an agreement.
 const AGREED_PERCENT: u32 = 75;
 
-/// The close time that a round takes, 0 where none is chosen, and whether the members agree on it.
+/// The close time that a round takes, 0 if none is chosen, and whether the members agree on it.
 #[derive(Clone, Copy, Debug, PartialEq, Eq)]
 pub struct Choice {
     pub close: Secs,
@@ -30,7 +30,7 @@ struct Frequent {
 }
 
 impl Frequent {
-    /// The other one where it occurs more often, or as often and later; else this one.
+    /// The other one if it occurs more often, or as often and later; else this one.
     fn or_later(self, other: Frequent) -> Frequent
         ensures { result ≡ (if beats other self then other else self) }
     {
@@ -54,9 +54,9 @@ pub fn needed(p: u32, pct: u32) -> u32
 /// The close time for these close times of the members' positions and our own, none of them rounded yet, at a
 /// resolution.
 ///
-/// With no positions it is our own time, and agreed on. Else our own counts where we propose. Of the different times,
+/// With no positions it is our own time, and agreed on. Else our own counts if we propose. Of the different times,
 /// in rising order, the choice is the last that occurs at least as often as `pct` percent of all need and at least as
-/// often as every time chosen before it. It is agreed on where it occurs as often as 75 percent of all need.
+/// often as every time chosen before it. It is agreed on if it occurs as often as 75 percent of all need.
 pub fn choose_close(times: &[Secs], own: Secs, proposing: bool, pct: u32, r: u8) -> Choice
     requires positions { length times.now ≤ MOST_MEMBERS }
     requires percent { pct ≤ 100 }

@@ -8,9 +8,9 @@ ghost use Rattle.xl_closetime.specs.Resolutions.{
 
 use xl_base::Seq;
 
-/// The resolution of the ledger of a sequence, where that of its parent is `r`.
+/// The resolution of the ledger of a sequence, if that of its parent is `r`.
 ///
-/// Where the parent's close time wasn't agreed on, it is the next coarser one. Else it is the next finer one at each
+/// If the parent's close time wasn't agreed on, it is the next coarser one. Else it is the next finer one at each
 /// sequence that 8 divides, and `r` at all others. At an end of the six it stays.
 pub fn next_resolution(r: u8, agreed: bool, seq: Seq) -> u8
     requires { IsResolution r }

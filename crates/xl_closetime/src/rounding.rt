@@ -31,7 +31,7 @@ pub fn effective(t: Secs, r: u8, prior: Secs) -> Secs
     round_close(t, r).max(prior.saturating_add(1))
 }
 
-/// A second, or the greatest where it is later.
+/// A second, or the greatest if it is later.
 fn at_most_last(second: u64) -> Secs
     ensures { result ≡ min second last_second }
 {

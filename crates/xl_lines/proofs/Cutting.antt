@@ -3,7 +3,7 @@ use Rattle.std.proofs.Common.{◌≡◌, ◌+◌, ◌<◌, ◌≤◌, ◌||◌, 
 use Rattle.std.proofs.lemmas.Bool.{false≢true, lt-ltb, le-ltb}
 use Rattle.xl_lines.specs.declared.limits.Limits.{Limits}
 use Rattle.xl_lines.specs.declared.limits.Overrun.TheVariants.{LongLine}
-use Rattle.xl_lines.specs.Lines.{Line, lines_of, onto, without_return}
+use Rattle.xl_lines.specs.Lines.{Line, lines_of, onto, before_newline}
 use Rattle.xl_lines.specs.Rules.{Rules, refused}
 use Rattle.xl_lines.specs.Told.{told_from, told_of, told_by, step_within}
 use Rattle.xl_lines.specs.Running.{told_at}
@@ -64,7 +64,7 @@ module _ {S : Type 0} (limits : Limits) (rules : Rules S) (left : ℕ) (state : 
       ∙ told_long (lines_of ((line ++ part) ++ rest)) long
 
   -- a whole line has come, and this is handed on
-  pub told_at-ended : (line handed rest : List ℕ) → IsOneLine line → length line ≤ limits.bytes → handed ≡ without_return line → told_at limits rules left state line (10 ∷ rest) ≡ told_by (λ next. told_at limits rules (left - 1) next [] rest) (step_within rules left state handed)
+  pub told_at-ended : (line handed rest : List ℕ) → IsOneLine line → length line ≤ limits.bytes → handed ≡ before_newline limits.returns line → told_at limits rules left state line (10 ∷ rest) ≡ told_by (λ next. told_at limits rules (left - 1) next [] rest) (step_within rules left state handed)
   unfolding told_at
   told_at-ended line handed rest one short is = rw (lines_of-ended line rest one, le-ltb _ _ short, is) refl
 

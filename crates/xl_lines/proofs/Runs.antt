@@ -2,7 +2,10 @@
 use Rattle.std.proofs.Common.{◌≡◌, ◌≢◌, Result, Ok, Err, ◌++◌, ◌<◌, length, ℕ, List, [], Option, Some, None, IfSome, refl, sym, ap, ◌∙◌, append_assoc}
 use Rattle.std.specs.Io.KnownBytes.{prepend_known, IsAtEnd}
 use Rattle.xl_io.specs.Sinks.{GrewByFront, GrewByLess}
-use Rattle.xl_lines.specs.Rules.{Told}
+use Rattle.std.proofs.Common.{true}
+use Rattle.std.proofs.lemmas.Bool.{false≢true}
+use Rattle.xl_lines.specs.declared.machine.Verdict.TheVariants.{Found}
+use Rattle.xl_lines.specs.Rules.{Told, found}
 use Rattle.std.specs.Prelude.{IfErr, IsErrOf}
 use Rattle.std.specs.Result.{IsErrAnd}
 use Rattle.xl_lines.specs.declared.fault.Fault.{Fault}
@@ -74,7 +77,13 @@ module _ {left0 left held0 held : Option (List ℕ)} {all now : List ℕ → Tol
       if_left left0 left runs.consumed (λ bytes. GrewByLess held0 held' (all bytes).text) runs.source
       (λ rest e. rw (at_end left rest end e) (tells_less (runs.tells []) last))
 
--- the fault that is answered, where it isn't want of memory, is one of the sink
+  -- nothing is found before the end where what is found is told of the whole input
+  pub runs_on : {held' : Option (List ℕ)} (piece : List ℕ) → ((rest : List ℕ) → Tells held held' (now (piece ++ rest)) (found [])) → ((bytes : List ℕ) → (all bytes).verdict ≡ Found → (all bytes).closed ≡ true) → ⊥
+  runs_on piece more reads =
+      let ends = (tells_then (runs.tells (piece ++ [])) (more [])).parts in
+      false≢true (sym (ap (λ told. told.closed) ends) ∙ reads _ (ap (λ told. told.verdict) ends))
+
+-- the fault that is answered, if it isn't lack of memory, is one of the sink
 pub by_fault : {T : Type 0} (result : Result T Fault) (before later : ℕ) (P : Type 0) → HasCause before later result → (IsErrOf result Write → P) → IfErr result (λ fault. fault ≢ Memory → P)
 by_fault (Ok x) before later P cause less = tt
 by_fault (Err Read) before later P cause less = absurd (cause.read refl)
@@ -100,3 +109,8 @@ pub less_same : {T : Type 0} (result : Result T Fault) (left before after : Opti
 less_same (Ok x) left before after f g same less = tt
 less_same (Err e) None before after f g same less = λ other. tt
 less_same (Err e) (Some bytes) before after f g same less = λ other. less_from (sym (same bytes)) (less other)
+
+pub cut_same : (left before after : Option (List ℕ)) (f g : List ℕ → Told) → ((bytes : List ℕ) → f bytes ≡ g bytes) →
+    IfSome left (λ bytes. GrewByLess before after (f bytes).text) → IfSome left (λ bytes. GrewByLess before after (g bytes).text)
+cut_same None before after f g same cut = tt
+cut_same (Some bytes) before after f g same cut = less_from (sym (same bytes)) cut

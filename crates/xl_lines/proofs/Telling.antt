@@ -5,13 +5,13 @@ use Rattle.xl_io.specs.Sinks.{GrewByFront, GrewByLess}
 use Rattle.xl_io.proofs.Growing.{append_known-none, append_known-twice}
 use Rattle.xl_lines.specs.declared.limits.Limits.{Limits}
 use Rattle.xl_lines.specs.declared.machine.Verdict.{Verdict}
-use Rattle.xl_lines.specs.declared.machine.Verdict.TheVariants.{Refused}
+use Rattle.xl_lines.specs.declared.machine.Verdict.TheVariants.{Refused, Found}
 use Rattle.xl_lines.specs.declared.machine.Next.{Next}
 use Rattle.xl_lines.specs.declared.machine.Next.TheVariants as next
-use Rattle.xl_lines.specs.Rules.{Rules, Step, goes_on, refuses, step_given, Told, refused}
+use Rattle.xl_lines.specs.Rules.{Rules, Step, goes_on, refuses, finds, step_given, Told, refused, found}
 use Rattle.xl_lines.specs.Told.{after, told_by, step_within}
-use Rattle.xl_lines.specs.Running.{Tells, TellsAll, told_at, left_unless_refused, step_text}
-use Rattle.xl_lines.specs.Lines.{without_return}
+use Rattle.xl_lines.specs.Running.{Tells, TellsAll, told_at, left_unless_ended, step_text}
+use Rattle.xl_lines.specs.Lines.{before_newline}
 use Rattle.xl_lines.proofs.Newlines.{IsOneLine}
 use Rattle.xl_lines.proofs.Cutting.{told_at-ended, told_at-last}
 
@@ -61,11 +61,15 @@ less_of_tells x some = (front_of_tells x, some)
 pub tells_refused : {old new : Option (List ℕ)} (text : List ℕ) → new ≡ append_known old text → Tells old new (refused text) (refused [])
 tells_refused text held = record { written = text; held = held; parts = ap refused (sym (append-nil text)) }
 
+pub tells_found : {old new : Option (List ℕ)} (text : List ℕ) → new ≡ append_known old text → Tells old new (found text) (found [])
+tells_found text held = record { written = text; held = held; parts = ap found (sym (append-nil text)) }
+
 -- the text of a step is written
-pub tells_step : {S : Type 0} {old new : Option (List ℕ)} (next : Next) (text : List ℕ) (state : S) (then : S → Told) (step : Step S) → step_given next text state ≡ step → new ≡ append_known old text → Tells old new (told_by then step) (left_unless_refused next (then state))
+pub tells_step : {S : Type 0} {old new : Option (List ℕ)} (next : Next) (text : List ℕ) (state : S) (then : S → Told) (step : Step S) → step_given next text state ≡ step → new ≡ append_known old text → Tells old new (told_by then step) (left_unless_ended next (then state))
 unfolding told_by
 tells_step next.Line text state then step e held = record { written = text; held = held; parts = ap (told_by then) (sym e) }
 tells_step next.Refused text state then step e held = tells_from (ap (told_by then) (sym e)) (tells_refused text held)
+tells_step next.Found text state then step e held = tells_from (ap (told_by then) (sym e)) (tells_found text held)
 
 -- a front of the text of a step is written
 pub front_of_step : {S : Type 0} {old new : Option (List ℕ)} (then : S → Told) (step : Step S) → GrewByFront old new (step_text step) → GrewByFront old new (told_by then step).text
@@ -77,25 +81,28 @@ front_of_step then (goes_on text state) x = record {
   held = x.held;
 }
 front_of_step then (refuses text) x = x
+front_of_step then (finds text) x = x
 
 less_of_step : {S : Type 0} {old new : Option (List ℕ)} (then : S → Told) (step : Step S) → GrewByLess old new (step_text step) → GrewByLess old new (told_by then step).text
 unfolding told_by front_of_step
 less_of_step then (goes_on text state) x = (front_of_step then (goes_on text state) x.0, omega (arith, x.1, length-append x.0.missing (then state).text))
 less_of_step then (refuses text) x = x
+less_of_step then (finds text) x = x
 
 -- some of an answer isn't written
 pub less_answered : {S : Type 0} {old new : Option (List ℕ)} (next : Next) (text : List ℕ) (state : S) (step : Step S) → step_given next text state ≡ step → GrewByLess old new text → GrewByLess old new (step_text step)
 less_answered {old = old} {new = new} next.Line text state step e x = subst (λ given. GrewByLess old new (step_text given)) e x
 less_answered {old = old} {new = new} next.Refused text state step e x = subst (λ given. GrewByLess old new (step_text given)) e x
+less_answered {old = old} {new = new} next.Found text state step e x = subst (λ given. GrewByLess old new (step_text given)) e x
 
 -- A line has ended, within the limits, and this of it is handed to the machine.
 pub record LineEnds (limits : Limits) (line handed : List ℕ) : Type 0 where
   pub one_line : IsOneLine line
   pub short : length line ≤ limits.bytes
-  pub handed_on : handed ≡ without_return line
+  pub handed_on : handed ≡ before_newline limits.returns line
 
 module _ {S : Type 0} (rules : Rules S) (state : S) {limits : Limits} (left : ℕ) {line handed : List ℕ} {old new : Option (List ℕ)} where
-  pub tells_line : (next : Next) (text : List ℕ) (state' : S) → LineEnds limits line handed → step_given next text state' ≡ step_within rules left state handed → new ≡ append_known old text → (rest : List ℕ) → Tells old new (told_at limits rules left state line (10 ∷ rest)) (left_unless_refused next (told_at limits rules (left - 1) state' [] rest))
+  pub tells_line : (next : Next) (text : List ℕ) (state' : S) → LineEnds limits line handed → step_given next text state' ≡ step_within rules left state handed → new ≡ append_known old text → (rest : List ℕ) → Tells old new (told_at limits rules left state line (10 ∷ rest)) (left_unless_ended next (told_at limits rules (left - 1) state' [] rest))
   tells_line next text state' e step held rest =
       tells_from (told_at-ended limits rules left state line handed rest e.one_line e.short e.handed_on)
       (tells_step next text state' (λ s. told_at limits rules (left - 1) s [] rest) (step_within rules left state handed) step held)
@@ -118,7 +125,7 @@ pub record LineIsLast (limits : Limits) (line handed : List ℕ) : Type 0 where
   pub handed_on : handed ≡ line
 
 module _ {S : Type 0} (rules : Rules S) (state : S) {limits : Limits} (left : ℕ) {line handed : List ℕ} {old new : Option (List ℕ)} where
-  pub tells_last : (next : Next) (text : List ℕ) (state' : S) → LineIsLast limits line handed → step_given next text state' ≡ step_within rules left state handed → new ≡ append_known old text → Tells old new (told_at limits rules left state line []) (left_unless_refused next (rules.closing state'))
+  pub tells_last : (next : Next) (text : List ℕ) (state' : S) → LineIsLast limits line handed → step_given next text state' ≡ step_within rules left state handed → new ≡ append_known old text → Tells old new (told_at limits rules left state line []) (left_unless_ended next (rules.closing state'))
   tells_last next text state' e step held =
       tells_from (told_at-last limits rules left state line handed e.some e.one_line e.short e.handed_on)
       (tells_step next text state' rules.closing (step_within rules left state handed) step held)
@@ -141,6 +148,12 @@ tells_all_then {old} {b = b} x y = record {
 
 pub tells_all_refused : {old new : Option (List ℕ)} {a : Told} → Tells old new a (refused []) → TellsAll old new Refused a
 tells_all_refused {old} x = record {
+  held = x.held ∙ ap (append_known old) (sym (append-nil x.written) ∙ ap (λ told. told.text) (sym x.parts));
+  says = ap (λ told. told.verdict) x.parts;
+}
+
+pub tells_all_found : {old new : Option (List ℕ)} {a : Told} → Tells old new a (found []) → TellsAll old new Found a
+tells_all_found {old} x = record {
   held = x.held ∙ ap (append_known old) (sym (append-nil x.written) ∙ ap (λ told. told.text) (sym x.parts));
   says = ap (λ told. told.verdict) x.parts;
 }

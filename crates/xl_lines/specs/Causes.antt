@@ -4,9 +4,9 @@ use Rattle.xl_base.specs.Faults.{Rose}
 use Rattle.xl_lines.specs.declared.fault.Fault.{Fault}
 use Rattle.xl_lines.specs.declared.fault.Fault.TheVariants.{Read, Write}
 use Rattle.xl_lines.specs.declared.limits.Overrun.{Overrun}
-use Rattle.xl_lines.specs.Rules.{Rules, Step, goes_on, refuses, Told}
+use Rattle.xl_lines.specs.Rules.{Rules, Step, goes_on, refuses, finds, Told}
 
--- the count of a sink doesn't fall, and it has risen where a write fault is answered; no read fault is
+-- the count of a sink doesn't fall, and it has risen if a write fault is answered; no read fault is
 pub record HasCause {T : Type 0} (before now : ℕ) (result : Result T Fault) : Type 0 where
   pub later : before ≤ now
   pub write : IsErrOf result Write → Rose before now
@@ -16,10 +16,11 @@ pub record HasCause {T : Type 0} (before now : ℕ) (result : Result T Fault) : 
 abbrev pub IsAloud : {T : Type 0} → (T → List ℕ → Told) → Type 0
 IsAloud {T} tells = (teller : T) (bytes : List ℕ) → 0 < length (tells teller bytes).text
 
--- a refusal has a text
+-- where a step ends the text, it has one itself
 abbrev pub RefusesAloud : {S : Type 0} → Step S → Type 0
 RefusesAloud (goes_on text state) = Unit {0}
 RefusesAloud (refuses text) = 0 < length text
+RefusesAloud (finds text) = 0 < length text
 
 -- a machine whose last text is never empty
 pub record EndsAloud {S : Type 0} (rules : Rules S) : Type 0 where

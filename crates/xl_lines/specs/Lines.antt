@@ -1,6 +1,8 @@
 -- The lines of a list of bytes. Source: text files of POSIX, whose last line may lack its newline, with a return
--- dropped before a newline.
+-- dropped before a newline, or kept.
 use Rattle.std.specs.Prelude.{ℕ, ◌-◌, ◌==◌, Bool, true, false, List, [], ◌∷◌, length, take, slice_index, cond}
+use Rattle.xl_lines.specs.declared.limits.Returns.{Returns}
+use Rattle.xl_lines.specs.declared.limits.Returns.TheVariants.{Dropped, Kept}
 
 -- a line without its newline, and whether it has one
 pub record Line : Type 0 where
@@ -22,6 +24,11 @@ lines_of (byte ∷ bytes) =
 abbrev pub without_return : List ℕ → List ℕ
 without_return bytes = cond (slice_index bytes (length bytes - 1) == 13) (take (length bytes - 1) bytes) bytes
 
--- what a machine is handed: a return before the newline is dropped
-abbrev pub content : Line → List ℕ
-content line = cond line.ended (without_return line.bytes) line.bytes
+-- what a machine is handed of the bytes before a newline
+abbrev pub before_newline : Returns → List ℕ → List ℕ
+before_newline Dropped bytes = without_return bytes
+before_newline Kept bytes = bytes
+
+-- what a machine is handed of a line
+abbrev pub content : Returns → Line → List ℕ
+content returns line = cond line.ended (before_newline returns line.bytes) line.bytes

@@ -4,9 +4,9 @@ use Rattle.xl_lines.specs.declared.limits.Overrun.{Overrun}
 use Rattle.xl_lines.specs.declared.machine.Next.{Next}
 use Rattle.xl_lines.specs.declared.machine.Next.TheVariants as next
 use Rattle.xl_lines.specs.declared.machine.Verdict.{Verdict}
-use Rattle.xl_lines.specs.declared.machine.Verdict.TheVariants.{Refused}
+use Rattle.xl_lines.specs.declared.machine.Verdict.TheVariants.{Refused, Found}
 
--- a text, what it says as a whole, and whether it closes, so that no line was refused
+-- a text, what it says as a whole, and whether it closes, so that no line ended it
 pub record Told : Type 0 where
   pub text : List ℕ
   pub verdict : Verdict
@@ -16,18 +16,24 @@ pub record Told : Type 0 where
 abbrev pub closes : List ℕ → Verdict → Told
 closes text verdict = record { text = text; verdict = verdict; closed = true }
 
--- the last text, where a line is refused
+-- the last text, if a line is refused
 abbrev pub refused : List ℕ → Told
 refused text = record { text = text; verdict = Refused; closed = false }
 
--- what a state answers to a line: a text and the next state, or the text of its refusal
+-- the last text, where a line shows what is looked for
+abbrev pub found : List ℕ → Told
+found text = record { text = text; verdict = Found; closed = false }
+
+-- what a state answers to a line: a text and the next state, or the last text, where it refuses the line or has found
+-- what it looks for
 pub data Step (S : Type 0) : Type 0 where
   goes_on : List ℕ → S → Step S
   refuses : List ℕ → Step S
+  finds : List ℕ → Step S
 
 pub record Rules (S : Type 0) : Type 0 where
   pub step : S → List ℕ → Step S
-  -- the last text where a line is too long, or one too many
+  -- the last text if a line is too long, or one too many
   pub overrun : S → Overrun → List ℕ
   -- the last text after the last line, made by `closes`
   pub closing : S → Told
@@ -36,3 +42,4 @@ pub record Rules (S : Type 0) : Type 0 where
 abbrev pub step_given : {S : Type 0} → Next → List ℕ → S → Step S
 step_given next.Line text state = goes_on text state
 step_given next.Refused text state = refuses text
+step_given next.Found text state = finds text

@@ -9,7 +9,7 @@ use Rattle.xl_lines.specs.declared.machine.Next.TheVariants as next
 use Rattle.xl_lines.specs.declared.lines.Part.{Part}
 use Rattle.xl_lines.specs.declared.lines.Part.TheVariants as part
 use Rattle.xl_lines.specs.Lines.{lines_of}
-use Rattle.xl_lines.specs.Rules.{Rules, Step, goes_on, refuses, Told, refused}
+use Rattle.xl_lines.specs.Rules.{Rules, Step, goes_on, refuses, finds, Told, refused, found}
 use Rattle.xl_lines.specs.Told.{after, told_from}
 
 -- what is told where left lines may come, these bytes of the first have come, and the rest is to come
@@ -26,26 +26,31 @@ pub record Tells (old new : Option (List ℕ)) (told left : Told) : Type 0 where
 abbrev pub left_after : Part → (List ℕ → Told) → List ℕ → Told
 left_after (part.Taken n) told bytes = told (drop n bytes)
 left_after part.Refused told bytes = refused []
+left_after part.Found told bytes = found []
 
--- what is left to tell, unless a line was refused
-abbrev pub left_unless_refused : Next → Told → Told
-left_unless_refused next.Line told = told
-left_unless_refused next.Refused told = refused []
+-- what is left to tell, unless a line ended the text
+abbrev pub left_unless_ended : Next → Told → Told
+left_unless_ended next.Line told = told
+left_unless_ended next.Refused told = refused []
+left_unless_ended next.Found told = found []
 
 -- some bytes were taken, and no more than there are
 abbrev pub TakesSome : Part → List ℕ → Type 0
 TakesSome (part.Taken n) bytes = (0 < n) × (n ≤ length bytes)
 TakesSome part.Refused bytes = Unit {0}
+TakesSome part.Found bytes = Unit {0}
 
 -- what was taken is no longer to come
 abbrev pub FewerToCome : Part → ℕ → ℕ → Type 0
 FewerToCome (part.Taken n) old new = new + n ≤ old
 FewerToCome part.Refused old new = Unit {0}
+FewerToCome part.Found old new = Unit {0}
 
 -- the text of a step
 abbrev pub step_text : {S : Type 0} → Step S → List ℕ
 step_text (goes_on text state) = text
 step_text (refuses text) = text
+step_text (finds text) = text
 
 -- how many bytes may come at most before a line is refused
 abbrev pub bytes_to_come : Limits → ℕ → ℕ → ℕ

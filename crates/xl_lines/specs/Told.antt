@@ -4,18 +4,19 @@ use Rattle.std.specs.Prelude.{ℕ, ◌-◌, nat_lt, List, [], ◌∷◌, ◌++�
 use Rattle.xl_lines.specs.declared.limits.Limits.{Limits}
 use Rattle.xl_lines.specs.declared.limits.Overrun.TheVariants.{LongLine, ManyLines}
 use Rattle.xl_lines.specs.Lines.{Line, lines_of, content}
-use Rattle.xl_lines.specs.Rules.{Rules, Step, goes_on, refuses, Told, refused}
+use Rattle.xl_lines.specs.Rules.{Rules, Step, goes_on, refuses, finds, Told, refused, found}
 
 -- a text before what is told
 abbrev pub after : List ℕ → Told → Told
 after text told = record { text = text ++ told.text; verdict = told.verdict; closed = told.closed }
 
--- what is told from a step on, where next says what is told of the state that it leads to
+-- what is told from a step on, if next says what is told of the state that it leads to
 unfoldable pub told_by : {S : Type 0} → (S → Told) → Step S → Told
 told_by next (goes_on text state) = after text (next state)
 told_by next (refuses text) = refused text
+told_by next (finds text) = found text
 
--- the machine answers to a line where left lines may come, and where none may it is one too many
+-- the machine answers to a line where left lines may come, and if none may it is one too many
 abbrev pub step_within : {S : Type 0} → Rules S → ℕ → S → List ℕ → Step S
 step_within rules left state line =
     cond (nat_lt 0 left) (rules.step state line) (refuses (rules.overrun state ManyLines))
@@ -25,9 +26,9 @@ abbrev pub step_at : {S : Type 0} → Limits → Rules S → ℕ → S → Line 
 step_at limits rules left state line =
     cond (nat_lt limits.bytes (length line.bytes))
     (refuses (rules.overrun state LongLine))
-    (step_within rules left state (content line))
+    (step_within rules left state (content limits.returns line))
 
--- line by line, where left lines may come, up to the first that is refused
+-- line by line, where left lines may come, up to the first that ends the text
 abbrev pub told_from : {S : Type 0} → Limits → Rules S → ℕ → S → List Line → Told
 told_from limits rules left state [] = rules.closing state
 told_from limits rules left state (line ∷ lines) =

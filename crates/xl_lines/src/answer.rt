@@ -11,7 +11,7 @@ use crate::{Fault, Machine, Next, Overrun, Verdict};
 use xl_base::OutOfMemory;
 use xl_io::{Sink, write_all};
 
-/// Hands a line to the machine where `left` lines may come, and refuses it where none may.
+/// Hands a line to the machine if `left` lines may come, and refuses it if none may.
 fn step<M: Machine>(
     machine: &mut M,
     left: usize,
@@ -30,7 +30,7 @@ fn step<M: Machine>(
     machine.line(line, text)
 }
 
-/// Hands a line to the machine where `left` lines may come, and writes the answer. `text` holds it then.
+/// Hands a line to the machine if `left` lines may come, and writes the answer. `text` holds it then.
 pub fn answer<M: Machine, O: Sink>(
     machine: &mut M,
     output: &mut O,

@@ -5,6 +5,7 @@ ghost use Rattle.xl_io.specs.Sinks.{GrewByFront, GrewByLess};
 ghost use Rattle.xl_lines.specs.Causes.{IsAloud, EndsAloud};
 ghost use Rattle.xl_lines.specs.Running.{TellsAll};
 ghost use Rattle.xl_lines.specs.Told.{told_of};
+ghost use Rattle.xl_lines.specs.Ends.{ReadsOn, FindsAtEnd};
 
 use crate::{Fault, Limits, Lines, Machine, Next, Teller, Verdict};
 use std::alloc::Global;
@@ -13,9 +14,9 @@ use xl_io::{Piece, Sink, Source};
 /// The bytes that a read is asked for.
 const ROOM: usize = 8192;
 
-/// Reads the input to its end, or up to what is refused, and writes what is told about it to the output.
+/// Reads the input to its end, or up to what is refused or found, and writes what is told about it to the output.
 ///
-/// A failed read ends it with `Read`, a failed write with `Write`, and want of memory, at any time, with `Memory`.
+/// A failed read ends it with `Read`, a failed write with `Write`, and lack of memory, at any time, with `Memory`.
 pub fn drive<T: Teller, I: Source, O: Sink>(
     teller: &mut T,
     input: &mut I,
@@ -24,18 +25,23 @@ pub fn drive<T: Teller, I: Source, O: Sink>(
     // The whole text is written, and the verdict is its own.
     ensures whole { IfOk result (λ verdict. IfSome (I.left input.old) (λ bytes.
         TellsAll (O.held output.old) (O.held output.new) verdict (T.tells teller.old bytes))) }
-    // Unless a line is refused, all the bytes were read; so they were where the verdict isn't `Refused`.
+    // Where the text is told of the whole input, all the bytes were read. So they were where the verdict is `Good`, and
+    // where it isn't `Refused`, if nothing else ends the text early.
     ensures closed { IfOk result (λ _. IfSome (I.left input.old) (λ bytes.
         (T.tells teller.old bytes).closed ≡ true → IsAtEnd (I.left input.new))) }
-    ensures to_end { IfOk result (λ verdict. verdict ≢ Verdict.Refused → IsAtEnd (I.left input.new)) }
+    ensures good { IfOk result (λ verdict. verdict ≡ Verdict.Good → IsAtEnd (I.left input.new)) }
+    ensures to_end { ReadsOn T.tells → IfOk result (λ verdict. verdict ≢ Verdict.Refused → IsAtEnd (I.left input.new)) }
     // A front of the text is written, whatever happens.
     ensures front { IfSome (I.left input.old) (λ bytes.
         GrewByFront (O.held output.old) (O.held output.new) (T.tells teller.old bytes).text) }
-    // With a fault of the source or the sink some of the text isn't written, where there is always some to come.
+    // With a fault of the source or the sink some of the text isn't written, if there is always some to come.
     ensures less { IsAloud T.tells → IfErr result (λ fault. fault ≢ Fault.Memory → IfSome (I.left input.old) (λ bytes.
         GrewByLess (O.held output.old) (O.held output.new) (T.tells teller.old bytes).text)) }
+    // With a fault of the sink it always isn't.
+    ensures cut { IsErrOf result Fault.Write → IfSome (I.left input.old) (λ bytes.
+        GrewByLess (O.held output.old) (O.held output.new) (T.tells teller.old bytes).text) }
 
-    // A fault is answered only where its count rose.
+    // A fault is answered only if its count rose.
     ensures read { IsErrOf result Fault.Read → Rose (I.faults input.old) (I.faults input.new) }
     ensures write { IsErrOf result Fault.Write → Rose (O.faults output.old) (O.faults output.new) }
     ensures complete { IfErr result (λ fault. ¬ Rose (I.faults input.old) (I.faults input.new)
@@ -49,6 +55,7 @@ pub fn drive<T: Teller, I: Source, O: Sink>(
             Piece::Got(count) => match teller.feed(output, &room[..count])? {
                 Next::Line => {}
                 Next::Refused => return Ok(Verdict::Refused),
+                Next::Found => return Ok(Verdict::Found),
             },
             Piece::End => return teller.finish(output),
             Piece::Failed => return Err(Fault::Read),
@@ -70,18 +77,24 @@ pub fn run<M: Machine + Drop, I: Source, O: Sink>(
     // The whole text is written, and the verdict is its own.
     ensures whole { IfOk result (λ verdict. IfSome (I.left input.old) (λ bytes.
         TellsAll (O.held output.old) (O.held output.new) verdict (told_of limits M.rules (M.state machine) bytes))) }
-    // Unless a line is refused, all the bytes were read; so they were where the verdict isn't `Refused`.
+    // Where the text is told of the whole input, all the bytes were read. So they were where the verdict is `Good`, and
+    // where it isn't `Refused`, if the machine never ends the text early by what it finds.
     ensures closed { IfOk result (λ _. IfSome (I.left input.old) (λ bytes.
         (told_of limits M.rules (M.state machine) bytes).closed ≡ true → IsAtEnd (I.left input.new))) }
-    ensures to_end { IfOk result (λ verdict. verdict ≢ Verdict.Refused → IsAtEnd (I.left input.new)) }
+    ensures good { IfOk result (λ verdict. verdict ≡ Verdict.Good → IsAtEnd (I.left input.new)) }
+    ensures to_end { FindsAtEnd M.rules → IfOk result (λ verdict. verdict ≢ Verdict.Refused
+        → IsAtEnd (I.left input.new)) }
     // A front of the text is written, whatever happens.
     ensures front { IfSome (I.left input.old) (λ bytes. GrewByFront (O.held output.old) (O.held output.new)
         (told_of limits M.rules (M.state machine) bytes).text) }
-    // With a fault of the source or the sink some of the text isn't written, where a last text is never empty.
+    // With a fault of the source or the sink some of the text isn't written, if a last text is never empty.
     ensures less { EndsAloud M.rules → IfErr result (λ fault. fault ≢ Fault.Memory → IfSome (I.left input.old) (λ bytes.
         GrewByLess (O.held output.old) (O.held output.new) (told_of limits M.rules (M.state machine) bytes).text)) }
+    // With a fault of the sink it always isn't.
+    ensures cut { IsErrOf result Fault.Write → IfSome (I.left input.old) (λ bytes.
+        GrewByLess (O.held output.old) (O.held output.new) (told_of limits M.rules (M.state machine) bytes).text) }
 
-    // A fault is answered only where its count rose.
+    // A fault is answered only if its count rose.
     ensures read { IsErrOf result Fault.Read → Rose (I.faults input.old) (I.faults input.new) }
     ensures write { IsErrOf result Fault.Write → Rose (O.faults output.old) (O.faults output.new) }
     ensures complete { IfErr result (λ fault. ¬ Rose (I.faults input.old) (I.faults input.new)

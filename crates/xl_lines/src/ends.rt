@@ -1,6 +1,8 @@
 // Where a line ends.
 ghost use Rattle.std.specs.Prelude.{◌≡◌, ◌==◌, position};
-ghost use Rattle.xl_lines.specs.Lines.{without_return};
+ghost use Rattle.xl_lines.specs.Lines.{without_return, before_newline};
+
+use crate::Returns;
 
 /// Where the first newline stands.
 pub fn newline_in(bytes: &[u8]) -> Option<usize>
@@ -16,5 +18,15 @@ pub fn without_return(line: &[u8]) -> &[u8]
     match line {
         [front @ .., b'\r'] => front,
         _ => line,
+    }
+}
+
+/// What a machine is handed of the bytes before a newline.
+pub fn before_newline(returns: Returns, line: &[u8]) -> &[u8]
+    ensures { result.now ≡ before_newline returns line.now }
+{
+    match returns {
+        Returns::Dropped => without_return(line),
+        Returns::Kept => line,
     }
 }

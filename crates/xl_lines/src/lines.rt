@@ -4,11 +4,11 @@ ghost use Rattle.std.specs.List.{list_any};
 ghost use Rattle.xl_io.specs.Sinks.{GrewByFront, GrewByLess};
 ghost use Rattle.xl_lines.specs.Causes.{HasCause};
 ghost use Rattle.xl_lines.specs.Told.{told_of};
-ghost use Rattle.xl_lines.specs.Running.{Tells, TellsAll, told_at, left_after, left_unless_refused};
+ghost use Rattle.xl_lines.specs.Running.{Tells, TellsAll, told_at, left_after, left_unless_ended};
 ghost use Rattle.xl_lines.specs.Running.{TakesSome, bytes_to_come, FewerToCome};
 
 use crate::answer::{answer, close, refuse_long};
-use crate::ends::{newline_in, without_return};
+use crate::ends::{before_newline, newline_in};
 use crate::{Fault, Limits, Machine, Next, Teller, Verdict};
 use std::alloc::Global;
 use xl_base::OutOfMemory;
@@ -21,6 +21,8 @@ pub enum Part {
     Taken(usize),
     /// A line was refused, and the last text is written.
     Refused,
+    /// What the machine looks for was found, and the last text is written.
+    Found,
 }
 
 /// Cuts bytes into lines, and hands each to a machine: the bytes of the line that has begun, and how many lines may
@@ -78,14 +80,14 @@ impl<M: Machine> Lines<M> {
             (self.new.left + 1 ≡ self.old.left) × (self.new.line.items ≡ [])) }
         ensures ok { IfOk result (λ next. (rest : List ℕ) → Tells (O.held output.old) (O.held output.new)
             (⟦<Lines<M> as Teller>⟧.tells self.old (10 ∷ rest))
-            (left_unless_refused next (⟦<Lines<M> as Teller>⟧.tells self.new rest))) }
+            (left_unless_ended next (⟦<Lines<M> as Teller>⟧.tells self.new rest))) }
         ensures front { (rest : List ℕ) → GrewByFront (O.held output.old) (O.held output.new)
             (⟦<Lines<M> as Teller>⟧.tells self.old (10 ∷ rest)).text }
         ensures less { IsErrOf result Fault.Write → (rest : List ℕ) → GrewByLess (O.held output.old) (O.held output.new)
             (⟦<Lines<M> as Teller>⟧.tells self.old (10 ∷ rest)).text }
         ensures cause { HasCause (O.faults output.old) (O.faults output.new) result }
     {
-        let line = without_return(&self.line);
+        let line = before_newline(self.limits.returns, &self.line);
         match answer(&mut self.machine, output, self.left, line, &mut self.text)? {
             Next::Line => {
                 self.line.clear();
@@ -93,6 +95,7 @@ impl<M: Machine> Lines<M> {
                 Ok(Next::Line)
             }
             Next::Refused => Ok(Next::Refused),
+            Next::Found => Ok(Next::Found),
         }
     }
 
@@ -126,6 +129,7 @@ impl<M: Machine> Lines<M> {
         match self.end_line(output)? {
             Next::Line => Ok(Part::Taken(count + 1)),
             Next::Refused => Ok(Part::Refused),
+            Next::Found => Ok(Part::Found),
         }
     }
 }
@@ -142,6 +146,7 @@ impl<M: Machine> Teller for Lines<M> {
             match self.take_part(output, rest)? {
                 Part::Taken(count) => rest = &rest[count..],
                 Part::Refused => return Ok(Next::Refused),
+                Part::Found => return Ok(Next::Found),
             }
         }
         Ok(Next::Line)
@@ -160,6 +165,7 @@ impl<M: Machine> Teller for Lines<M> {
         )? {
             Next::Line => close(&mut self.machine, output, &mut self.text),
             Next::Refused => Ok(Verdict::Refused),
+            Next::Found => Ok(Verdict::Found),
         }
     }
 }

@@ -8,7 +8,10 @@ use xl_base::OutOfMemory;
 #[derive(Clone, Copy, Debug, PartialEq, Eq)]
 pub enum Next {
     Line,
+    /// The line is refused, and the text ends there.
     Refused,
+    /// What the command looks for was found, and the text ends there.
+    Found,
 }
 
 /// What a whole text says.
@@ -33,13 +36,14 @@ pub trait Machine {
     /// What it does, as functions of that.
     ghost rules: { Rules State };
 
-    /// Takes a line, without its newline and a return before it, and puts the answer into `text`.
+    /// Takes a line, without its newline and, unless the limits keep it, a return before it. It puts the answer into
+    /// `text`.
     fn line(&mut self, line: &[u8], text: &mut String) -> Result<Next, OutOfMemory>
         requires { string_bytes text.old ≡ [] }
         ensures { IfOk result (λ next.
             step_given next (string_bytes text.new) (state self.new) ≡ rules.step (state self.old) line.now) };
 
-    /// Puts the last text into `text`, where a line is too long or one too many.
+    /// Puts the last text into `text`, if a line is too long or one too many.
     fn overrun(&mut self, overrun: Overrun, text: &mut String) -> Result<(), OutOfMemory>
         requires { string_bytes text.old ≡ [] }
         ensures { OnOk result (string_bytes text.new ≡ rules.overrun (state self.old) overrun) };

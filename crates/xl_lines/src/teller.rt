@@ -2,7 +2,7 @@ ghost use Rattle.std.specs.Prelude.{◌≡◌, ◌+◌, ◌≤◌, ℕ, List, []
 ghost use Rattle.xl_io.specs.Sinks.{GrewByFront, GrewByLess};
 ghost use Rattle.xl_lines.specs.Causes.{HasCause};
 ghost use Rattle.xl_lines.specs.Rules.{Told};
-ghost use Rattle.xl_lines.specs.Running.{Tells, TellsAll, left_unless_refused};
+ghost use Rattle.xl_lines.specs.Running.{Tells, TellsAll, left_unless_ended};
 
 use crate::{Fault, Next, Verdict};
 use xl_io::Sink;
@@ -15,11 +15,11 @@ pub trait Teller {
     /// How many bytes may come at most before it refuses them.
     ghost to_come: { Self → ℕ };
 
-    /// Takes the next bytes, and writes what they make it tell. It isn't used again after `Refused` or a fault.
+    /// Takes the next bytes, and writes what they make it tell. It isn't used again after another answer than `Line`.
     fn feed<O: Sink>(&mut self, output: &mut O, bytes: &[u8]) -> Result<Next, Fault>
         ensures ok { IfOk result (λ next. (rest : List ℕ) →
             Tells (O.held output.old) (O.held output.new) (tells self.old (bytes.now ++ rest))
-            (left_unless_refused next (tells self.new rest))) }
+            (left_unless_ended next (tells self.new rest))) }
         ensures front { (rest : List ℕ) →
             GrewByFront (O.held output.old) (O.held output.new) (tells self.old (bytes.now ++ rest)).text }
         ensures less { IsErrOf result Fault.Write → (rest : List ℕ) →

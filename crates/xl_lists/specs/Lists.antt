@@ -1,6 +1,6 @@
 -- Lists of members: what one is, and what is refused. Source: this project's own limits.
-use Rattle.std.specs.Prelude.{ℕ, ◌*◌, ◌==◌, ◌≤◌, ◌<◌, ◌&&◌, ◌||◌, not, nat_eq, nat_lt, nat_le, Bool, List, [], ◌∷◌, ◌++◌, length, find, All, Option, Some, None, option_map, Result, if◌then◌else◌}
-use Rattle.std.specs.List.{list_any, IsDistinct}
+use Rattle.std.specs.Prelude.{◌≡◌, ℕ, ◌*◌, ◌==◌, ◌≤◌, ◌<◌, ◌&&◌, ◌||◌, not, nat_eq, nat_lt, nat_le, Bool, List, [], ◌∷◌, ◌++◌, length, find, filter, All, Option, Some, None, option_map, Result, if◌then◌else◌}
+use Rattle.std.specs.List.{list_any, IsDistinct, range_with_len}
 use Rattle.xl_base.specs.Refusals.{refused_if, first_of, unless_refused}
 use Rattle.xl_lists.specs.declared.refusal.ListRefusal.{ListRefusal}
 use Rattle.xl_lists.specs.declared.refusal.ListRefusal.TheVariants.{Empty, TooMany, OutOfRange, Repeated, Quorum}
@@ -13,6 +13,14 @@ pub record TrustedList : Type 0 where
 -- whether a member stands on a list
 abbrev pub is_on : List ℕ → ℕ → Bool
 is_on members m = list_any (λ k. m == k) members
+
+-- the numbers of members, from 1 to 64
+unfoldable pub all_numbers : List ℕ
+all_numbers = range_with_len 1 64
+
+-- these members by rising number, in whatever order they were given
+abbrev pub rising : List ℕ → List ℕ
+rising members = filter (is_on members) all_numbers
 
 -- whether no member has this number
 abbrev pub is_outside : ℕ → Bool
@@ -37,9 +45,9 @@ refusal_of members quorum = first_of (
     ∷ refused_if (not (is_quorum quorum (length members))) (Quorum quorum (length members))
     ∷ [])
 
--- the list of these members and this quorum, or the first cause for which there is none
+-- the list of these members, by rising number, and this quorum, or the first cause for which there is none
 abbrev pub list_of : List ℕ → ℕ → Result TrustedList ListRefusal
-list_of members quorum = unless_refused (refusal_of members quorum) (record { members = members; quorum = quorum })
+list_of members quorum = unless_refused (refusal_of members quorum) (record { members = rising members; quorum = quorum })
 
 -- what every list keeps
 pub record IsValid (list : TrustedList) : Type 0 where
@@ -47,6 +55,7 @@ pub record IsValid (list : TrustedList) : Type 0 where
   pub at_most : length list.members ≤ 64
   pub numbers : All (λ m. (1 ≤ m) × (m ≤ 64)) list.members
   pub once : IsDistinct nat_eq list.members
+  pub ordered : rising list.members ≡ list.members
   pub within : list.quorum ≤ length list.members
   pub majority : length list.members < 2 * list.quorum
 

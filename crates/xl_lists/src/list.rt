@@ -8,7 +8,7 @@ use crate::refusal::ListRefusal;
 use std::marker::Model;
 use xl_base::{MOST_MEMBERS, NodeNo};
 
-/// The members that a node trusts, in the order in which they were given, and how many of them are a quorum.
+/// The members that a node trusts, by rising number, and how many of them are a quorum.
 ///
 /// There are 1 to 64 members, each once, and the quorum is more than half of them and at most all.
 #[derive(Debug, Drop)]
@@ -32,10 +32,10 @@ impl Model for List {
 }
 
 impl List {
-    /// The list of these members and this quorum.
+    /// The list of these members, in whatever order they are given, and this quorum.
     ///
     /// Refused as empty, as too many, for a number outside 1 to 64, for a repeated one, or for the quorum, in this
-    /// order.
+    /// order; the number that a refusal names is the first such one in the given order.
     pub fn new(members: &[u32], quorum: u32) -> Result<List, ListRefusal>
         ensures { result ≡ list_of members.now quorum }
     {
@@ -46,8 +46,8 @@ impl List {
         if len > MOST_MEMBERS {
             return Err(ListRefusal::TooMany(len));
         }
-        let places = places_of(members)?;
-        let marks = marks_of_distinct(&places[..len])?;
+        let given = places_of(members)?;
+        let marks = marks_of_distinct(&given[..len])?;
         if quorum as usize > len || 2 * quorum as usize <= len {
             return Err(ListRefusal::Quorum {
                 quorum,
@@ -55,7 +55,7 @@ impl List {
             });
         }
         Ok(List {
-            places,
+            places: marks.members(),
             len,
             quorum,
             marks,
@@ -86,7 +86,7 @@ impl List {
         self.quorum
     }
 
-    /// The members in the order in which they were given.
+    /// The members by rising number.
     pub fn members(&self) -> &[NodeNo]
         ensures value { result.now ≡ self.now.members }
         ensures valid { IsValid self.now }
@@ -180,12 +180,12 @@ mod tests {
     }
 
     #[test]
-    fn keeps_what_was_given(rt: HostRuntime) -> Result<(), Fail> {
+    fn keeps_its_members_rising(rt: HostRuntime) -> Result<(), Fail> {
         let list = List::new(&[64, 3, 1], 2)?;
         for list in [list.copy(), list] {
             assert_eq!(rt; list.len(), 3);
             assert_eq!(rt; list.quorum(), 2);
-            for (&member, number) in list.members().iter().zip([64, 3, 1]) {
+            for (&member, number) in list.members().iter().zip([1, 3, 64]) {
                 assert_eq!(rt; member.get(), number);
                 assert!(rt; list.has(member));
             }

@@ -1,7 +1,8 @@
-ghost use Rattle.std.specs.Prelude.{◌≡◌, ◌==◌, ◌||◌, ◌≤◌, ℕ, []};
-ghost use Rattle.xl_lists.specs.Marks.{is_marked, AreMarked};
+ghost use Rattle.std.specs.Prelude.{◌≡◌, ◌==◌, ◌||◌, ◌≤◌, ℕ, [], length, take};
+ghost use Rattle.xl_base.specs.declared.node_no.TheConstants.{GREATEST_NODE_NO};
+ghost use Rattle.xl_lists.specs.Marks.{is_marked, marked, AreMarked};
 
-use xl_base::NodeNo;
+use xl_base::{GREATEST_NODE_NO, MOST_MEMBERS, NodeNo};
 
 /// A set of members, a bit for each: the lowest bit is that of member 1.
 #[derive(Clone, Copy, Debug)]
@@ -39,4 +40,28 @@ impl Marks {
             bits: self.bits | 1 << (member.get() - 1),
         }
     }
+
+    /// The members that are marked, by rising number, at the front of the places.
+    pub(crate) fn members(self) -> [NodeNo; MOST_MEMBERS]
+        ensures { take (length (marked self.bits)) result ≡ marked self.bits }
+    {
+        // No place after the last member is ever read.
+        let mut places = [NodeNo::new(1).unwrap(); MOST_MEMBERS];
+        let mut len = 0;
+        for number in 1..GREATEST_NODE_NO + 1 {
+            let member = member_of(number);
+            if self.has(member) {
+                places[len] = member;
+                len += 1;
+            }
+        }
+        places
+    }
+}
+
+fn member_of(number: u32) -> NodeNo
+    requires { (1 ≤ number) × (number ≤ GREATEST_NODE_NO) }
+    ensures { result ≡ number }
+{
+    NodeNo::new(number).unwrap()
 }

@@ -1,4 +1,4 @@
--- No bit differs exactly where two tags are equal.
+-- No bit differs exactly if two tags are equal.
 use Rattle.std.proofs.Common.{◌≡◌, ℕ, ◌==◌, List, [], ◌∷◌, length, refl, sym, ap, ◌∙◌, arith}
 use Rattle.std.specs.Prelude.{fold, bit_or, bit_xor, bytes_eq}
 use Rattle.std.specs.Int.Bits.{xor_self, xor_add_and}

@@ -4,3 +4,4 @@ pub mod OpeningLaws
 pub mod SealingLaws
 pub mod MacLaws
 pub mod ComparingLaws
+pub mod MissingLaws

@@ -160,7 +160,7 @@ tag_as_sealed ring f ok some = by_key (key_of ring f.from) refl some
         ∙ ap (λ (x : List ℕ). Some (mac key x)) (before_tag-with_tag f (as_sealed ring f).tag ok (ap length tag ∙ length-sha256 _))
         ∙ ap Some (sym tag)
 
--- and is opened where it is for the ring's member from another listed one
+-- and is opened if it is for the ring's member from another listed one
 pub opens_as_sealed : (ring : Ring) (members : List ℕ) (f : RawFrame) → IsRaw f → HasKeys ring members → f.to ≡ ring.me
     → true ≡ not (f.from == ring.me || not (is_on members f.from)) → refusal_of ring members (as_sealed ring f) ≡ None
 opens_as_sealed ring members f ok keyed to other =

@@ -14,7 +14,7 @@ use Rattle.xl_tags.specs.Opening.{HasKeys}
 use Rattle.xl_tags.specs.Rings.{Ring, IsRing, key_of, no_keys, schedule_key, schedule_ring}
 use Rattle.xl_tags.specs.PairKeys.{pair_key_of}
 
--- a place has no key, where none has
+-- a place has no key, if none has
 at_none : (i : ℕ) → get_or {A = Option (List ℕ)} (replicate 64 None) i None ≡ None
 at_none i = elim (cases_lt i 64) [
   | inl within ↦ get_or-replicate {A = Option (List ℕ)} 64 i None None within

@@ -5,3 +5,4 @@ pub mod Sealing
 pub mod Opening
 pub mod Codes
 pub mod Prepared
+pub mod Missing

@@ -2,7 +2,7 @@
 use Rattle.std.specs.Prelude.{ℕ, ◌-◌, nat_lt, List, ◌++◌, length, map, replicate, bit_xor, if◌then◌else◌}
 use Rattle.sha2.specs.Sha256.{sha256}
 
--- the key, or its hash where it is longer than a block of 64 bytes
+-- the key, or its hash if it is longer than a block of 64 bytes
 abbrev pub shortened : List ℕ → List ℕ
 shortened key = if nat_lt 64 (length key) then sha256 key else key
 

@@ -25,7 +25,7 @@ refusal_of ring members f =
     else if is_sealed ring f then None
     else Some (BadTag f.tag (unwrap_or (tag_by ring f.from f) []))
 
--- The law: where two members hold one key for each other, what the one seals the other opens, if the sender stands on
+-- The law: if two members hold one key for each other, what the one seals the other opens, if the sender stands on
 -- its list.
 abbrev pub SealedOpens : Type 0
 SealedOpens = (ring other : Ring) (members key : List ℕ) (f : RawFrame) →

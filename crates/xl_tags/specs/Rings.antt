@@ -25,7 +25,7 @@ pub record IsRing (ring : Ring) : Type 0 where
 unfoldable pub no_keys : ℕ → Ring
 no_keys me = record { me = me; keys = replicate 64 None }
 
--- the key that a schedule gives a pair of members, where they are two
+-- the key that a schedule gives a pair of members, if they are two
 abbrev pub schedule_key : ℕ → ℕ → Option (List ℕ)
 schedule_key me member = if member == me || is_outside member then None else Some (pair_key_of me member)
 

@@ -8,18 +8,25 @@ use Rattle.xl_tags.specs.Rings.{Ring, key_of}
 abbrev pub before_tag : List ℕ → List ℕ
 before_tag bytes = take (length bytes - 32) bytes
 
--- the tag of a frame under a member's key, where it has one
+-- the tag of a frame under a member's key, if it has one
 abbrev pub tag_by : Ring → ℕ → RawFrame → Option (List ℕ)
 tag_by ring member f = option_map (λ key. mac key (before_tag (raw_bytes f))) (key_of ring member)
 
 abbrev pub with_tag : RawFrame → List ℕ → RawFrame
-with_tag f tag = record { kind = f.kind; from = f.from; to = f.to; body = f.body; tag = tag }
+with_tag f tag = record {
+  version = f.version;
+  kind = f.kind;
+  from = f.from;
+  to = f.to;
+  body = f.body;
+  tag = tag;
+}
 
--- the frame with the tag under its receiver's key; where there is none, it is left as it is
+-- the frame with the tag under its receiver's key; if there is none, it is left as it is
 abbrev pub sealed : Ring → RawFrame → RawFrame
 sealed ring f = with_tag f (unwrap_or (tag_by ring f.to f) f.tag)
 
--- the frame as if its sender had sealed it: with the tag under its sender's key, where there is one
+-- the frame as if its sender had sealed it: with the tag under its sender's key, if there is one
 abbrev pub as_sealed : Ring → RawFrame → RawFrame
 as_sealed ring f = with_tag f (unwrap_or (tag_by ring f.from f) f.tag)
 

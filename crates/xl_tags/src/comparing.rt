@@ -5,7 +5,7 @@ ghost use Rattle.std.specs.List.{zip};
 ///
 /// All bytes are compared, wherever the first difference is, so that the time that it takes tells a forger nothing of
 /// the right tag.
-pub(crate) fn is_same_tag(a: &[u8; 32], b: &[u8; 32]) -> bool
+pub fn is_same_tag(a: &[u8; 32], b: &[u8; 32]) -> bool
     ensures { result ≡ bytes_eq a.now b.now }
 {
     differing_bits(a, b) == 0

@@ -1,6 +1,7 @@
-ghost use Rattle.std.specs.Prelude.{◌≡◌, ◌≢◌, ℕ, None, Some, IsTrue, IsSome, is_some, ◌↔◌, option_copied, option_map};
+ghost use Rattle.std.specs.Prelude.{◌≡◌, ◌≢◌, ◌≤◌, ℕ, None, Some, IsTrue, IsSome, is_some, ◌↔◌, option_copied, option_map};
 ghost use Rattle.xl_tags.specs.Macs.{mac};
 ghost use Rattle.xl_lists.specs.Lists.{TrustedList, IsValid};
+ghost use Rattle.xl_tags.specs.Missing.{is_missing, lowest_missing};
 ghost use Rattle.xl_tags.specs.Opening.{HasKeys};
 ghost use Rattle.xl_tags.specs.Rings.{key_of, with_key, no_keys, schedule_key, schedule_ring, IsRing};
 
@@ -27,6 +28,15 @@ impl Model for Keys {
     ghost view = { λ k. record { me = k.me; keys = k.prepared } };
 
     ghost invariant = { λ k. IsRing (record { me = k.me; keys = k.prepared }) };
+}
+
+/// The member of a number.
+fn member_of(number: u32) -> NodeNo
+    requires least { 1 ≤ number }
+    requires most { number ≤ 64 }
+    ensures { result ≡ number }
+{
+    NodeNo::new(number).unwrap()
 }
 
 impl Keys {
@@ -88,6 +98,28 @@ impl Keys {
         ensures { IsTrue result ↔ HasKeys self.now list.now.members }
     {
         list.members().iter().all(|&member| self.is_met(member))
+    }
+
+    /// The lowest listed member other than me that has no key, if there is one.
+    pub fn lowest_missing(&self, list: &List) -> Option<NodeNo>
+        ensures value { result ≡ lowest_missing self.now list.now.members }
+        ensures met { result ≡ None → HasKeys self.now list.now.members }
+    {
+        // Each list is valid.
+        let _members = list.members();
+        for number in 1..GREATEST_NODE_NO + 1 {
+            let member = member_of(number);
+            if self.is_missing(list, member) {
+                return Some(member);
+            }
+        }
+        None
+    }
+
+    fn is_missing(&self, list: &List, member: NodeNo) -> bool
+        ensures { result ≡ is_missing self.now list.now.members member }
+    {
+        list.has(member) && member != self.me && self.find(member.get()).is_none()
     }
 
     /// Whether the member is me or has a key.

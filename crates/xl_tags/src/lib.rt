@@ -1,8 +1,9 @@
 //! Tags: what a member signs its frames with, under a key that it shares with one other member.
 //!
 //! It stands on xl_base, xl_wire, xl_lists and the kit's `sha2`, and no call takes memory. Its one contract: a frame is
-//! opened exactly where it is for me, comes from another listed member, and carries the tag of our key. `has_all` is
-//! the test of what `open` requires, for whoever takes keys and a list from outside.
+//! opened exactly if it is for me, comes from another listed member, and carries the tag of our key. `has_all` is
+//! the test of what `open` requires, for whoever takes keys and a list from outside. `is_same_tag` is for whoever else
+//! compares tags.
 #![tactic(auto)]
 
 mod comparing;
@@ -15,6 +16,7 @@ mod prepared;
 mod refusal;
 mod sealing;
 
+pub use comparing::is_same_tag;
 pub use keys::Keys;
 pub use law::sealed_opens;
 pub use macs::hmac;

@@ -65,7 +65,7 @@ fn copy(hasher: &Sha256) -> Sha256
     }
 }
 
-/// The key, or its hash where it is longer than a block, filled with zero bytes to a block.
+/// The key, or its hash if it is longer than a block, filled with zero bytes to a block.
 fn key_block(key: &[u8]) -> [u8; BLOCK]
     ensures { result ≡ key_block key.now }
 {

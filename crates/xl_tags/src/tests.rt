@@ -104,6 +104,7 @@ fn validation(from: u32, to: u32) -> [u8; 87] {
             seq: 9,
             signed: 10,
             full: true,
+            validated: None,
         }),
         tag: [0; 32],
     };
@@ -130,7 +131,7 @@ fn is_to_seal(keys: &Keys, bytes: &[u8]) -> bool
     }
 }
 
-/// Seals the bytes, where they are one frame from the keys' member to one with a key.
+/// Seals the bytes, if they are one frame from the keys' member to one with a key.
 fn try_seal(keys: &Keys, bytes: &mut [u8]) -> bool {
     if is_to_seal(keys, bytes) {
         seal(keys, bytes);
@@ -140,7 +141,7 @@ fn try_seal(keys: &Keys, bytes: &mut [u8]) -> bool {
     }
 }
 
-/// What opening says of the bytes, where they are one frame and each listed member has a key.
+/// What opening says of the bytes, if they are one frame and each listed member has a key.
 fn try_open(keys: &Keys, list: &List, bytes: &[u8]) -> Option<Result<(), TagRefusal>> {
     if keys.has_all(list) && one_frame(bytes).is_some() {
         Some(open(keys, list, bytes))

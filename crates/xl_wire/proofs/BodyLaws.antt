@@ -1,11 +1,13 @@
 -- The laws of bodies: what is read is spelled so, and what is spelled so is read.
-use Rattle.std.proofs.Common.{◌≡◌, ◌≢◌, ℕ, zero, suc, ◌+◌, ◌-◌, ◌*◌, ◌/◌, ◌%◌, ◌≤◌, ◌==◌, Bor, Bool, true, false, cond, nat_lt, nat_le, List, [], ◌∷◌, ◌++◌, length, slice_index, take, drop, Option, Some, None, option_map, Result, Ok, refl, sym, ap, subst, ◌∙◌, append_assoc, arith}
+use Rattle.std.proofs.Common.{◌≡◌, ◌≢◌, ℕ, zero, suc, ◌+◌, ◌-◌, ◌*◌, ◌/◌, ◌%◌, ◌≤◌, ◌==◌, Bor, Bool, true, false, cond, nat_lt, nat_le, ◌&&◌, ◌||◌, List, [], ◌∷◌, ◌++◌, length, slice_index, take, drop, Option, Some, None, option_map, Result, Ok, refl, sym, ap, subst, ◌∙◌, append_assoc, arith, inl, inr}
 use Rattle.std.specs.List.{AllByRecursion}
-use Rattle.std.proofs.lemmas.Bool.{eqb-true}
+use Rattle.std.specs.Prelude.{◌⊎◌, IfSome}
+use Rattle.std.proofs.lemmas.Bool.{and_parts, cond_both, cond-true, cond-false, or_left, or_cases, eqb-true, ltb-true, ltb-false, lt-ltb, le-ltb}
 use Rattle.std.proofs.lemmas.Bool.Decides.{nat_tests}
-use Rattle.std.proofs.lemmas.List.{take-append-drop, take_at, drop_at, drop-drop, take_all, get_or-drop, nil_from_length, append-nil, length-append, length-take, length-drop, drop_all}
+use Rattle.std.proofs.lemmas.List.{take-append-drop, take_at, drop_at, drop-drop, take_all, get_or-drop, get_or-take, nil_from_length, append-nil, length-append, length-take, length-drop, drop_all}
 use Rattle.byteorder.specs.Endian.{big_bytes, big_number}
 use Rattle.byteorder.specs.Numbers.{big_number-reads_back}
+use Rattle.xl_base.specs.declared.ids.LedgerId.{LedgerId}
 use Rattle.xl_base.specs.declared.ids.TxId.{TxId}
 use Rattle.xl_wire.specs.declared.body.Body.{Body}
 use Rattle.xl_wire.specs.declared.body.Body.TheVariants as bodies
@@ -13,7 +15,7 @@ use Rattle.xl_wire.specs.declared.proposal.Proposal.{Proposal}
 use Rattle.xl_wire.specs.declared.validation.Validation.{Validation}
 use Rattle.xl_wire.specs.declared.refusal.WireRefusal.{WireRefusal}
 use Rattle.xl_wire.specs.declared.refusal.WireRefusal.TheVariants.{Flags, Order, Count}
-use Rattle.xl_wire.specs.Kinds.{can_have, is_set_length}
+use Rattle.xl_wire.specs.Kinds.{can_have, can_have_first, can_hold, is_set_length}
 use Rattle.xl_wire.specs.declared.lengths.TheConstants.{LONGEST_BODY}
 use Rattle.xl_base.specs.Refusals.{refused_if, unless_refused}
 use Rattle.xl_base.specs.Sets.{is_below, RisesFrom, IsRising, IsSet, id_bytes}
@@ -21,8 +23,9 @@ use Rattle.xl_wire.specs.Sets.{ids_in, fall_from, first_fall}
 use Rattle.xl_wire.specs.SetsRead.{set_refusal}
 use Rattle.xl_wire.specs.declared.ids.Kept.TheVariants.{Spelled}
 use Rattle.xl_wire.specs.Storing.{IsKept}
-use Rattle.xl_wire.specs.Bodies.{kind_of, flags_of, proposal_bytes, validation_bytes, set_bytes, body_bytes, IsProposal, IsValidation, IsId, IsTxSet, IsBody, SpellsBody, flags_refusal, body_refusal, proposal_in, validation_in, body_in, body_of}
+use Rattle.xl_wire.specs.Bodies.{version_for, version_of, kind_of, flags_of, proposal_bytes, vote_bytes, validated_bytes, validation_bytes, set_bytes, body_bytes, IsProposal, IsValidation, IsId, IsTxSet, IsBody, SpellsBody, flags_refusal, body_refusal, proposal_in, validated_in, validation_in, body_in, body_of}
 use Rattle.xl_wire.proofs.Numbers.{IsBytes, IsBytes-drop, cut_at, number_at_2, number_at_4, below_4}
+use Rattle.xl_wire.proofs.RawLaws.{by_version}
 use Rattle.xl_wire.proofs.SetLaws.{length-ids_in}
 
 -- ---- proposals
@@ -57,9 +60,6 @@ proposal_of prev set pseq close time = record { prev = record { 0 = prev }; set 
 
 five_grouped : (a b c d e : List ℕ) → a ++ b ++ c ++ d ++ e ≡ a ++ (b ++ (c ++ (d ++ e)))
 five_grouped a b c d e = simp append_assoc
-
-four_grouped : (a b c d : List ℕ) → a ++ b ++ c ++ d ≡ a ++ (b ++ (c ++ d))
-four_grouped a b c d = simp append_assoc
 
 proposal_again : (p : Proposal) → IsProposal p → proposal_in (proposal_bytes p) ≡ p
 proposal_again p ok =
@@ -99,53 +99,96 @@ flags_small (suc (suc b)) h = absurd (too_big (nat_lt 1 (suc (suc b))) (suc (suc
     too_big true b e h = cc
     too_big false b e h = cc
 
-validation_spelled : (bytes : List ℕ) → IsBytes bytes → length bytes ≡ 41 → flags_refusal bytes ≡ None → SpellsBody (bodies.Validation (validation_in bytes)) 2 bytes
-validation_spelled bytes fits long none =
+-- a validation has 41 bytes, or an id more
+pub held_long : (n : ℕ) → can_hold 2 n ≡ true → (n ≡ 41) ⊎ (n ≡ 73)
+held_long n h =
+    elim (or_cases (n == 41) (n == 73) h) [
+      | inl short ↦ inl (eqb-true n 41 short)
+      | inr long ↦ inr (eqb-true n 73 long)
+    ]
+
+-- what lies behind the 41 bytes
+behind_spelled : (bytes : List ℕ) → (length bytes ≡ 41) ⊎ (length bytes ≡ 73) → (drop 41 bytes ≡ validated_bytes (validated_in bytes)) × IfSome (validated_in bytes) (λ id. length id.0 ≡ 32)
+behind_spelled bytes long =
+    cond_both (nat_lt 41 (length bytes)) (Some (id_made (take 32 (drop 41 bytes)))) None (λ o. (drop 41 bytes ≡ validated_bytes o) × IfSome o (λ id. length id.0 ≡ 32))
+    (λ more.
+    let all : length bytes ≡ 73 = elim long [
+      | inl short ↦ absurd (omega (arith, short, ltb-true 41 (length bytes) more))
+      | inr all ↦ all
+    ] in
+    (sym (take_all 32 (drop 41 bytes) (omega (arith, length-drop 41 bytes, all))), omega (arith, length-take 32 (drop 41 bytes), length-drop 41 bytes, all)))
+    (λ no_more. (drop_all 41 bytes (omega (arith, ltb-false 41 (length bytes) no_more)), tt))
+  where
+    id_made : List ℕ → LedgerId
+    id_made x = record { 0 = x }
+
+validation_spelled : (bytes : List ℕ) → IsBytes bytes → can_hold 2 (length bytes) ≡ true → flags_refusal bytes ≡ None → SpellsBody (bodies.Validation (validation_in bytes)) 2 bytes
+validation_spelled bytes fits ok none =
+    let cases = held_long (length bytes) ok in
+    let long : 41 ≤ length bytes = elim cases [
+      | inl short ↦ omega (arith, short)
+      | inr all ↦ omega (arith, all)
+    ] in
+    let behind = behind_spelled bytes cases in
     let small = flags_small (slice_index bytes 40) none in
-    let flags : drop 40 bytes ≡ flags_of (slice_index bytes 40 == 1) ∷ [] =
-    one_cell (drop 40 bytes) (omega (arith, length-drop 40 bytes)) ∙ ap (λ (b : ℕ). b ∷ []) (get_or-drop 40 bytes 0 0 ∙ sym (flags_back (slice_index bytes 40) small)) in
+    let flags : drop 40 bytes ≡ (flags_of (slice_index bytes 40 == 1) ∷ []) ++ drop 41 bytes =
+    cut_at 40 1 bytes
+    ∙ ap (λ (x : List ℕ). x ++ drop 41 bytes)
+    (one_cell (take 1 (drop 40 bytes)) (omega (arith, length-take 1 (drop 40 bytes), length-drop 40 bytes))
+    ∙ ap (λ (b : ℕ). b ∷ []) (get_or-take 1 (drop 40 bytes) 0 0 (omega arith) ∙ get_or-drop 40 bytes 0 0 ∙ sym (flags_back (slice_index bytes 40) small))) in
     record {
       fits = record {
         id = omega (arith, length-take 32 bytes);
         seq = below_4 (drop 32 bytes) (IsBytes-drop 32 bytes fits);
         signed = below_4 (drop 36 bytes) (IsBytes-drop 36 bytes fits);
+        validated = behind.1;
       };
       kind_is = refl;
-      spelling = four (take 32 bytes) (big_bytes 4 (big_number 4 (drop 32 bytes))) (big_bytes 4 (big_number 4 (drop 36 bytes))) (flags_of (slice_index bytes 40 == 1) ∷ [])
-          (drop 32 bytes) (drop 36 bytes) (drop 40 bytes) bytes
-          (cut_at 0 32 bytes) (number_at_4 32 bytes fits (omega arith)) (number_at_4 36 bytes fits (omega arith)) flags;
+      spelling = five (take 32 bytes) (big_bytes 4 (big_number 4 (drop 32 bytes))) (big_bytes 4 (big_number 4 (drop 36 bytes))) (flags_of (slice_index bytes 40 == 1) ∷ []) (validated_bytes (validated_in bytes))
+          (drop 32 bytes) (drop 36 bytes) (drop 40 bytes) (drop 41 bytes) bytes
+          (cut_at 0 32 bytes) (number_at_4 32 bytes fits (omega (arith, long))) (number_at_4 36 bytes fits (omega (arith, long))) flags behind.0;
     }
-  where
-    four : (a b c d x y z bytes : List ℕ) → bytes ≡ a ++ x → x ≡ b ++ y → y ≡ c ++ z → z ≡ d → bytes ≡ a ++ b ++ c ++ d
-    four a b c d x y z bytes e0 e1 e2 e3 =
-        let whole : bytes ≡ a ++ (b ++ (c ++ d)) = rw (e0, e1, e2, e3) refl in
-        whole ∙ sym (simp append_assoc)
 
 full_back : (full : Bool) → (flags_of full == 1) ≡ full
 full_back true = refl
 full_back false = refl
 
-abbrev validation_of : List ℕ → ℕ → ℕ → Bool → Validation
-validation_of id seq signed full = record { id = record { 0 = id }; seq = seq; signed = signed; full = full }
+abbrev validation_of : List ℕ → ℕ → ℕ → Bool → Option LedgerId → Validation
+validation_of id seq signed full validated = record { id = record { 0 = id }; seq = seq; signed = signed; full = full; validated = validated }
+
+pub length-vote_bytes : (v : Validation) → length v.id.0 ≡ 32 → length (vote_bytes v) ≡ 41
+length-vote_bytes v long = omega (arith, long, length-append v.id.0 (big_bytes 4 v.seq), length-append (v.id.0 ++ big_bytes 4 v.seq) (big_bytes 4 v.signed), length-append (v.id.0 ++ big_bytes 4 v.seq ++ big_bytes 4 v.signed) (flags_of v.full ∷ []))
+
+-- the id behind the 41 bytes
+validated_again : (front : List ℕ) (o : Option LedgerId) → length front ≡ 41 → IfSome o (λ id. length id.0 ≡ 32) → validated_in (front ++ validated_bytes o) ≡ o
+validated_again front None long ok = cond-false (nat_lt 41 (length (front ++ []))) _ None (le-ltb 41 (length (front ++ [])) (omega (arith, length-append front [], long)))
+validated_again front (Some id) long ok =
+    let behind : take 32 (drop 41 (front ++ id.0)) ≡ id.0 = ap (take 32) (drop_at front id.0 41 long) ∙ take_all 32 id.0 (omega (arith, ok)) in
+    cond-true (nat_lt 41 (length (front ++ id.0))) (some_id (take 32 (drop 41 (front ++ id.0)))) None (lt-ltb 41 (length (front ++ id.0)) (omega (arith, length-append front id.0, long, ok)))
+    ∙ ap some_id behind
+  where
+    some_id : List ℕ → Option LedgerId
+    some_id x = Some (record { 0 = x })
 
 -- the byte of the flags
 flags_at : (v : Validation) → IsValidation v → slice_index (validation_bytes v) 40 ≡ flags_of v.full
 flags_at v ok =
-    let n = big_bytes 4 v.seq ++ (big_bytes 4 v.signed ++ flags_of v.full ∷ []) in
-    ap (λ (x : List ℕ). slice_index x 40) (four_grouped v.id.0 (big_bytes 4 v.seq) (big_bytes 4 v.signed) (flags_of v.full ∷ []))
+    let n = big_bytes 4 v.seq ++ (big_bytes 4 v.signed ++ ((flags_of v.full ∷ []) ++ validated_bytes v.validated)) in
+    ap (λ (x : List ℕ). slice_index x 40) (five_grouped v.id.0 (big_bytes 4 v.seq) (big_bytes 4 v.signed) (flags_of v.full ∷ []) (validated_bytes v.validated))
     ∙ sym (get_or-drop 32 (v.id.0 ++ n) 8 0) ∙ ap (λ (x : List ℕ). slice_index x 8) (drop_at v.id.0 n 32 ok.id)
 
 validation_again : (v : Validation) → IsValidation v → validation_in (validation_bytes v) ≡ v
 validation_again v ok =
-    let n = big_bytes 4 v.seq ++ (big_bytes 4 v.signed ++ flags_of v.full ∷ []) in
+    let n = big_bytes 4 v.seq ++ (big_bytes 4 v.signed ++ ((flags_of v.full ∷ []) ++ validated_bytes v.validated)) in
     let rest : drop 32 (v.id.0 ++ n) ≡ n = drop_at v.id.0 n 32 ok.id in
     let second : drop 36 (v.id.0 ++ n) ≡ drop 4 n = sym (drop-drop 4 32 (v.id.0 ++ n)) ∙ ap (drop 4) rest in
     let id : take 32 (v.id.0 ++ n) ≡ v.id.0 = take_at v.id.0 n 32 ok.id in
-    let seq : big_number 4 (drop 32 (v.id.0 ++ n)) ≡ v.seq = ap (big_number 4) rest ∙ big_number-reads_back 4 v.seq (big_bytes 4 v.signed ++ flags_of v.full ∷ []) ok.seq in
-    let signed : big_number 4 (drop 36 (v.id.0 ++ n)) ≡ v.signed = ap (big_number 4) second ∙ big_number-reads_back 4 v.signed (flags_of v.full ∷ []) ok.signed in
-    let whole : validation_bytes v ≡ v.id.0 ++ n = four_grouped v.id.0 (big_bytes 4 v.seq) (big_bytes 4 v.signed) (flags_of v.full ∷ []) in
+    let seq : big_number 4 (drop 32 (v.id.0 ++ n)) ≡ v.seq = ap (big_number 4) rest ∙ big_number-reads_back 4 v.seq (big_bytes 4 v.signed ++ ((flags_of v.full ∷ []) ++ validated_bytes v.validated)) ok.seq in
+    let signed : big_number 4 (drop 36 (v.id.0 ++ n)) ≡ v.signed = ap (big_number 4) second ∙ big_number-reads_back 4 v.signed ((flags_of v.full ∷ []) ++ validated_bytes v.validated) ok.signed in
+    let whole : validation_bytes v ≡ v.id.0 ++ n = five_grouped v.id.0 (big_bytes 4 v.seq) (big_bytes 4 v.signed) (flags_of v.full ∷ []) (validated_bytes v.validated) in
     let full : (slice_index (v.id.0 ++ n) 40 == 1) ≡ v.full = ap (λ (x : List ℕ). slice_index x 40 == 1) (sym whole) ∙ ap (λ (b : ℕ). b == 1) (flags_at v ok) ∙ full_back v.full in
-    let same : validation_of (take 32 (v.id.0 ++ n)) (big_number 4 (drop 32 (v.id.0 ++ n))) (big_number 4 (drop 36 (v.id.0 ++ n))) (slice_index (v.id.0 ++ n) 40 == 1) ≡ v = rw (id, seq, signed, full) refl in
+    let validated : validated_in (v.id.0 ++ n) ≡ v.validated = ap validated_in (sym whole) ∙ validated_again (vote_bytes v) v.validated (length-vote_bytes v ok.id) ok.validated in
+    let same : validation_of (take 32 (v.id.0 ++ n)) (big_number 4 (drop 32 (v.id.0 ++ n))) (big_number 4 (drop 36 (v.id.0 ++ n))) (slice_index (v.id.0 ++ n) 40 == 1) (validated_in (v.id.0 ++ n)) ≡ v = rw (id, seq, signed, full, validated) refl in
     ap validation_in whole ∙ same
 
 flags_pass : (full : Bool) → refused_if (nat_lt 1 (flags_of full)) (Flags (flags_of full)) ≡ None
@@ -264,13 +307,13 @@ set_long c n small e =
     let whole : ((n - 2) % 32 == 0) ≡ true = same_length 0 ((n - 2) % 32) (omega arith) in
     rw (low, high, whole) refl
 
-no_other : (k n : ℕ) → can_have (suc (suc (suc (suc (suc (suc k)))))) n ≡ true → ⊥
+no_other : (k n : ℕ) → can_hold (suc (suc (suc (suc (suc (suc k)))))) n ≡ true → ⊥
 no_other k n h = grind (arith, nat_tests)
 
-body_spelled : (kind : ℕ) (bytes : List ℕ) → IsBytes bytes → can_have kind (length bytes) ≡ true → body_refusal kind bytes ≡ None → SpellsBody (body_in kind bytes) kind bytes
+body_spelled : (kind : ℕ) (bytes : List ℕ) → IsBytes bytes → can_hold kind (length bytes) ≡ true → body_refusal kind bytes ≡ None → SpellsBody (body_in kind bytes) kind bytes
 body_spelled zero bytes fits ok none = absurd cc
 body_spelled (suc zero) bytes fits ok none = proposal_spelled bytes fits (eqb-true _ _ ok)
-body_spelled (suc (suc zero)) bytes fits ok none = validation_spelled bytes fits (eqb-true _ _ ok) none
+body_spelled (suc (suc zero)) bytes fits ok none = validation_spelled bytes fits ok none
 body_spelled (suc (suc (suc zero))) bytes fits ok none = record { fits = eqb-true _ _ ok; kind_is = refl; spelling = refl }
 body_spelled (suc (suc (suc (suc zero)))) bytes fits ok none = set_spelled bytes fits ok none
 body_spelled (suc (suc (suc (suc (suc zero))))) bytes fits ok none = record { fits = eqb-true _ _ ok; kind_is = refl; spelling = refl }
@@ -291,7 +334,7 @@ unless_is (Some r) read body e = absurd cc
 unless_is None read body e = (refl, cc)
 
 -- what is read is what the bytes spell
-pub read_spelled : (kind : ℕ) (bytes : List ℕ) (body : Body) → IsBytes bytes → can_have kind (length bytes) ≡ true → body_of kind bytes ≡ Ok body → SpellsBody body kind bytes
+pub read_spelled : (kind : ℕ) (bytes : List ℕ) (body : Body) → IsBytes bytes → can_hold kind (length bytes) ≡ true → body_of kind bytes ≡ Ok body → SpellsBody body kind bytes
 read_spelled kind bytes body fits ok e =
     let u = unless_is (body_refusal kind bytes) (body_in kind bytes) body e in
     subst (λ (x : Body). SpellsBody x kind bytes) u.1 (body_spelled kind bytes fits ok u.0)
@@ -314,7 +357,7 @@ abbrev pub tx_read : List ℕ → Result Body WireRefusal
 tx_read id = Ok (bodies.Tx (record { 0 = id }))
 
 -- what is lawful and none of the other kinds is a transaction
-pub tx_alone : (kind : ℕ) (bytes id : List ℕ) → can_have kind (length bytes) ≡ true → kind ≢ 1 → kind ≢ 2 → kind ≢ 3 → kind ≢ 4 → id ≡ take 32 bytes → tx_read id ≡ body_of kind bytes
+pub tx_alone : (kind : ℕ) (bytes id : List ℕ) → can_hold kind (length bytes) ≡ true → kind ≢ 1 → kind ≢ 2 → kind ≢ 3 → kind ≢ 4 → id ≡ take 32 bytes → tx_read id ≡ body_of kind bytes
 tx_alone zero bytes id ok a b c d e = absurd cc
 tx_alone (suc zero) bytes id ok a b c d e = absurd (a refl)
 tx_alone (suc (suc zero)) bytes id ok a b c d e = absurd (b refl)
@@ -326,9 +369,37 @@ tx_alone (suc (suc (suc (suc (suc zero))))) bytes id ok a b c d e =
 tx_alone (suc (suc (suc (suc (suc (suc k)))))) bytes id ok a b c d e = absurd (no_other k (length bytes) ok)
 
 -- what has a spelling has a lawful length
-pub spelled_lawful : (body : Body) → IsBody body → can_have (kind_of body) (length (body_bytes body)) ≡ true
+pub spelled_lawful : (body : Body) → IsBody body → can_have (version_of body) (kind_of body) (length (body_bytes body)) ≡ true
 spelled_lawful (bodies.Proposal p) ok = same_length 76 (length (proposal_bytes p)) (omega (arith, ok.prev, ok.set, length-append p.prev.0 p.set.0, length-append (p.prev.0 ++ p.set.0) (big_bytes 4 p.pseq), length-append (p.prev.0 ++ p.set.0 ++ big_bytes 4 p.pseq) (big_bytes 4 p.close), length-append (p.prev.0 ++ p.set.0 ++ big_bytes 4 p.pseq ++ big_bytes 4 p.close) (big_bytes 4 p.time)))
-spelled_lawful (bodies.Validation v) ok = same_length 41 (length (validation_bytes v)) (omega (arith, ok.id, length-append v.id.0 (big_bytes 4 v.seq), length-append (v.id.0 ++ big_bytes 4 v.seq) (big_bytes 4 v.signed), length-append (v.id.0 ++ big_bytes 4 v.seq ++ big_bytes 4 v.signed) (flags_of v.full ∷ [])))
+spelled_lawful (bodies.Validation v) ok = validation_lawful (vote_bytes v) v.validated (length-vote_bytes v ok.id) ok.validated
+  where
+    validation_lawful : (front : List ℕ) (o : Option LedgerId) → length front ≡ 41 → IfSome o (λ id. length id.0 ≡ 32) → can_have (version_for o) 2 (length (front ++ validated_bytes o)) ≡ true
+    validation_lawful front None long fits = same_length 41 (length (front ++ [])) (omega (arith, length-append front [], long))
+    validation_lawful front (Some id) long fits = same_length 73 (length (front ++ id.0)) (omega (arith, length-append front id.0, long, fits))
 spelled_lawful (bodies.Header h) ok = same_length 118 (length h) ok
 spelled_lawful (bodies.TxSet ids) ok = set_long (length ids) (length (set_bytes ids)) ok.set.at_most (omega (arith, length-id_bytes ids ok.each))
 spelled_lawful (bodies.Tx id) ok = same_length 32 (length id.0) ok
+
+-- what a version allows is held by one of them
+pub lawful_held : (version kind n : ℕ) → can_have version kind n ≡ true → can_hold kind n ≡ true
+lawful_held = by_version (λ version kind n. can_hold kind n ≡ true) first refl
+  where
+    first : (kind n : ℕ) → can_have_first kind n ≡ true → can_hold kind n ≡ true
+    first kind n h =
+        cond_both (kind == 2) (n == 41 || n == 73) (can_have_first kind n) (λ b. b ≡ true)
+        (λ two. or_left (n == 41) (n == 73) (subst (λ (k : ℕ). can_have_first k n ≡ true) (eqb-true kind 2 two) h)) (λ _. h)
+
+-- the version of a lawful frame is the one of its body
+pub version_is : (version kind : ℕ) (bytes : List ℕ) (body : Body) → can_have version kind (length bytes) ≡ true → SpellsBody body kind bytes → version ≡ version_of body
+version_is version kind bytes body ok s =
+    one_version version (version_of body) kind (length bytes) ok
+    (subst (λ (k : ℕ). can_have (version_of body) k (length bytes) ≡ true) (sym s.kind_is) (subst (λ (x : List ℕ). can_have (version_of body) (kind_of body) (length x) ≡ true) (sym s.spelling) (spelled_lawful body s.fits)))
+  where
+    one_of : (kind n : ℕ) → can_have_first kind n ≡ true → (w : ℕ) → can_have w kind n ≡ true → 1 ≡ w
+    one_of kind n h w k = by_version (λ w kind n. can_have_first kind n ≡ true → 1 ≡ w) (λ _ _ _ _. refl) (λ never. absurd cc) w kind n k h
+
+    two_of : (w : ℕ) → can_have w 2 73 ≡ true → 2 ≡ w
+    two_of w k = cond_both (w == 1) false (w == 2 && 2 == 2 && 73 == 73) (λ b. b ≡ true → 2 ≡ w) (λ _ never. absurd cc) (λ _ both. sym (eqb-true w 2 (and_parts (w == 2) true (and_parts (w == 2 && true) true both).0).0)) k
+
+    one_version : (v w kind n : ℕ) → can_have v kind n ≡ true → can_have w kind n ≡ true → v ≡ w
+    one_version v w kind n h k = by_version (λ v kind n. (w : ℕ) → can_have w kind n ≡ true → v ≡ w) one_of two_of v kind n h w k

@@ -13,7 +13,7 @@ use Rattle.xl_wire.specs.Kinds.{span}
 use Rattle.xl_wire.specs.Raws.{RawFrame, raw_bytes, IsRaw, SpellsRaw}
 use Rattle.xl_wire.proofs.Numbers.{IsBytes}
 use Rattle.xl_wire.proofs.RawLaws.{length-raw_bytes, raw_same, split_bytes, split_spelled, spelled_split, one_raw}
-use Rattle.xl_wire.proofs.BodyLaws.{body_again, read_spelled, spelled_lawful}
+use Rattle.xl_wire.proofs.BodyLaws.{body_again, lawful_held, read_spelled, spelled_lawful, version_is}
 
 pub spelled_raw : (f : Frame) → IsFrame f → IsRaw (raw_of f)
 spelled_raw f ok = record { lawful = spelled_lawful f.body ok.body; from = ok.from; to = ok.to; tag = ok.tag }
@@ -33,7 +33,7 @@ body_whole raw (Err refusal) f n e = absurd cc
 -- a raw frame and its body spell the frame
 both_spell : (bytes : List ℕ) (raw : RawFrame) (body : Body) → SpellsRaw raw (take (span raw.body) bytes) → SpellsBody body raw.kind raw.body → SpellsFirst (frame_of raw body) (span raw.body) bytes
 both_spell bytes raw body s b =
-    let same : raw ≡ raw_of (frame_of raw body) = raw_same raw (raw_of (frame_of raw body)) b.kind_is refl refl b.spelling refl in
+    let same : raw ≡ raw_of (frame_of raw body) = raw_same raw (raw_of (frame_of raw body)) (version_is raw.version raw.kind raw.body body s.frame.lawful b) b.kind_is refl refl b.spelling refl in
     record {
       there = omega (arith, length-take (span raw.body) bytes, ap length s.spelling, length-raw_bytes raw s.frame.tag);
       spells = record {
@@ -47,7 +47,7 @@ decoded_spelled bytes f n fits e =
     let a = split_whole (split_of bytes) f n e in
     let b = body_whole a.0 (body_of a.0.kind a.0.body) f n a.2 in
     let s = split_spelled bytes a.0 fits a.1 in
-    let r = read_spelled a.0.kind a.0.body b.0 (split_bytes bytes a.0 fits a.1) s.frame.lawful b.1 in
+    let r = read_spelled a.0.kind a.0.body b.0 (split_bytes bytes a.0 fits a.1) (lawful_held a.0.version a.0.kind (length a.0.body) s.frame.lawful) b.1 in
     let both = both_spell bytes a.0 b.0 s r in
     subst (λ (x : Frame). SpellsFirst x n bytes) b.2 (subst (λ (k : ℕ). SpellsFirst (frame_of a.0 b.0) k bytes) b.3 both)
 

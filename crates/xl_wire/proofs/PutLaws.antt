@@ -1,18 +1,20 @@
 -- Bytes that are put one after the other.
-use Rattle.std.proofs.Common.{◌≡◌, ℕ, zero, suc, ◌+◌, ◌*◌, ◌<◌, ◌≤◌, List, [], ◌∷◌, Some, slice_get, ◌++◌, length, take, drop, refl, sym, ap, subst, ◌∙◌, append_assoc, arith}
-use Rattle.std.proofs.lemmas.List.{take_at, take_all, flat_map_more, drop_at, drop-drop, length-append, length-take, length-drop}
+use Rattle.std.proofs.Common.{◌≡◌, ℕ, zero, suc, ◌+◌, ◌*◌, ◌<◌, ◌≤◌, List, [], ◌∷◌, Option, Some, None, slice_get, ◌++◌, length, take, drop, refl, sym, ap, subst, ◌∙◌, append_assoc, arith}
+use Rattle.std.proofs.lemmas.List.{append-nil, take-append-drop, take_at, take_all, flat_map_more, drop_at, drop-drop, length-append, length-take, length-drop}
 use Rattle.std.specs.List.{AllByRecursion}
 use Rattle.byteorder.specs.Endian.{big_bytes}
+use Rattle.std.specs.Prelude.{IfSome}
+use Rattle.xl_base.specs.declared.ids.LedgerId.{LedgerId}
 use Rattle.xl_base.specs.declared.ids.TxId.{TxId}
 use Rattle.xl_wire.specs.declared.body.Body.{Body}
 use Rattle.xl_wire.specs.declared.body.Body.TheVariants as bodies
 use Rattle.xl_wire.specs.declared.frame.Frame.{Frame}
-use Rattle.xl_wire.specs.Bodies.{IsBody, IsId, IsTxSet, kind_of, flags_of, body_bytes, set_bytes}
+use Rattle.xl_wire.specs.Bodies.{IsBody, IsId, IsTxSet, version_of, kind_of, vote_bytes, validated_bytes, body_bytes, set_bytes}
 use Rattle.xl_wire.specs.Frames.{raw_of, frame_bytes, IsFrame, Spells}
 use Rattle.xl_base.specs.Sets.{IsSet, id_bytes}
 use Rattle.xl_base.specs.Putting.{Puts}
-use Rattle.xl_wire.specs.Writing.{body_length}
-use Rattle.xl_wire.proofs.BodyLaws.{length-id_bytes}
+use Rattle.xl_wire.specs.Writing.{body_length, validated_length}
+use Rattle.xl_wire.proofs.BodyLaws.{length-id_bytes, length-vote_bytes}
 use Rattle.xl_wire.proofs.RawLaws.{length-raw_bytes}
 
 -- what is put at a place, and then what is put after it
@@ -33,6 +35,13 @@ puts_then at next a b old mid new p q e =
 
 pub puts_same : (at at' : ℕ) (a a' old new : List ℕ) → at ≡ at' → a ≡ a' → Puts at a old new → Puts at' a' old new
 puts_same at at' a a' old new e f p = subst (λ (k : ℕ). Puts k a' old new) e (subst (λ (x : List ℕ). Puts at x old new) f p)
+
+-- nothing is put
+pub puts_none : (at : ℕ) (room : List ℕ) → at ≤ length room → Puts at [] room room
+puts_none at room within = record {
+  fits = omega (arith, within);
+  is = sym (take-append-drop at room) ∙ ap (λ (k : ℕ). take at room ++ drop k room) (omega arith) ∙ ap (λ (x : List ℕ). x ++ drop (at + 0) room) (sym (append-nil (take at room)));
+}
 
 -- ---- sets, id by id
 
@@ -76,24 +85,28 @@ puts_set ids i old new le set p = (
 
 pub body_long : (body : Body) → IsBody body → body_length body ≡ length (body_bytes body)
 body_long (bodies.Proposal p) ok = omega (arith, ok.prev, ok.set, length-append p.prev.0 p.set.0, length-append (p.prev.0 ++ p.set.0) (big_bytes 4 p.pseq), length-append (p.prev.0 ++ p.set.0 ++ big_bytes 4 p.pseq) (big_bytes 4 p.close), length-append (p.prev.0 ++ p.set.0 ++ big_bytes 4 p.pseq ++ big_bytes 4 p.close) (big_bytes 4 p.time))
-body_long (bodies.Validation v) ok = omega (arith, ok.id, length-append v.id.0 (big_bytes 4 v.seq), length-append (v.id.0 ++ big_bytes 4 v.seq) (big_bytes 4 v.signed), length-append (v.id.0 ++ big_bytes 4 v.seq ++ big_bytes 4 v.signed) (flags_of v.full ∷ []))
+body_long (bodies.Validation v) ok = validation_long (vote_bytes v) v.validated (length-vote_bytes v ok.id) ok.validated
+  where
+    validation_long : (front : List ℕ) (o : Option LedgerId) → length front ≡ 41 → IfSome o (λ id. length id.0 ≡ 32) → 41 + validated_length o ≡ length (front ++ validated_bytes o)
+    validation_long front None long fits = omega (arith, length-append front [], long)
+    validation_long front (Some id) long fits = omega (arith, length-append front id.0, long, fits)
 body_long (bodies.Header h) ok = sym ok
 body_long (bodies.TxSet ids) ok = omega (arith, length-id_bytes ids ok.each)
 body_long (bodies.Tx id) ok = sym ok
 
 -- head, sender, receiver, body and tag, one after the other
-pub puts_frame : (f : Frame) (kind n : ℕ) (r0 r1 r2 r3 r4 r5 : List ℕ) → kind ≡ kind_of f.body → n ≡ body_length f.body → IsFrame f
-    → Puts 0 ((0x58 ∷ 0x4C ∷ 1 ∷ kind ∷ []) ++ big_bytes 2 n) r0 r1 → Puts 6 (big_bytes 4 f.from) r1 r2 → Puts 10 (big_bytes 4 f.to) r2 r3
+pub puts_frame : (f : Frame) (version kind n : ℕ) (r0 r1 r2 r3 r4 r5 : List ℕ) → version ≡ version_of f.body → kind ≡ kind_of f.body → n ≡ body_length f.body → IsFrame f
+    → Puts 0 ((0x58 ∷ 0x4C ∷ version ∷ kind ∷ []) ++ big_bytes 2 n) r0 r1 → Puts 6 (big_bytes 4 f.from) r1 r2 → Puts 10 (big_bytes 4 f.to) r2 r3
     → Puts 14 (body_bytes f.body) r3 r4 → Puts (14 + n) f.tag r4 r5 → Spells f (take (46 + n) r5) × (drop (46 + n) r5 ≡ drop (46 + n) r0)
-puts_frame f kind n r0 r1 r2 r3 r4 r5 k e ok p p1 p2 p3 p4 =
-    let head = (0x58 ∷ 0x4C ∷ 1 ∷ kind_of f.body ∷ []) ++ big_bytes 2 n in
-    let p0 : Puts 0 head r0 r1 = subst (λ (x : ℕ). Puts 0 ((0x58 ∷ 0x4C ∷ 1 ∷ x ∷ []) ++ big_bytes 2 n) r0 r1) k p in
+puts_frame f version kind n r0 r1 r2 r3 r4 r5 v k e ok p p1 p2 p3 p4 =
+    let head = (0x58 ∷ 0x4C ∷ version_of f.body ∷ kind_of f.body ∷ []) ++ big_bytes 2 n in
+    let p0 : Puts 0 head r0 r1 = subst (λ (x : ℕ). Puts 0 ((0x58 ∷ 0x4C ∷ version_of f.body ∷ x ∷ []) ++ big_bytes 2 n) r0 r1) k (subst (λ (y : ℕ). Puts 0 ((0x58 ∷ 0x4C ∷ y ∷ kind ∷ []) ++ big_bytes 2 n) r0 r1) v p) in
     let long : n ≡ length (body_bytes f.body) = e ∙ body_long f.body ok.body in
     let a = puts_then 0 6 head (big_bytes 4 f.from) r0 r1 r2 p0 p1 refl in
     let b = puts_then 0 10 (head ++ big_bytes 4 f.from) (big_bytes 4 f.to) r0 r2 r3 a p2 refl in
     let c = puts_then 0 14 (head ++ big_bytes 4 f.from ++ big_bytes 4 f.to) (body_bytes f.body) r0 r3 r4 b p3 refl in
     let d = puts_then 0 (14 + n) (head ++ big_bytes 4 f.from ++ big_bytes 4 f.to ++ body_bytes f.body) f.tag r0 r4 r5 c p4 (omega (arith, length-append (head ++ big_bytes 4 f.from ++ big_bytes 4 f.to) (body_bytes f.body), long)) in
-    let whole : Puts 0 (frame_bytes f) r0 r5 = subst (λ (k : ℕ). Puts 0 ((0x58 ∷ 0x4C ∷ 1 ∷ kind_of f.body ∷ []) ++ big_bytes 2 k ++ big_bytes 4 f.from ++ big_bytes 4 f.to ++ body_bytes f.body ++ f.tag) r0 r5) long d in
+    let whole : Puts 0 (frame_bytes f) r0 r5 = subst (λ (k : ℕ). Puts 0 ((0x58 ∷ 0x4C ∷ version_of f.body ∷ kind_of f.body ∷ []) ++ big_bytes 2 k ++ big_bytes 4 f.from ++ big_bytes 4 f.to ++ body_bytes f.body ++ f.tag) r0 r5) long d in
     let count : 46 + n ≡ length (frame_bytes f) = omega (arith, long, length-raw_bytes (raw_of f) ok.tag) in
     let start : 0 + length (frame_bytes f) ≡ length (frame_bytes f) = omega arith in
     let is : r5 ≡ frame_bytes f ++ drop (length (frame_bytes f)) r0 = whole.is ∙ ap (λ (k : ℕ). frame_bytes f ++ drop k r0) start in (

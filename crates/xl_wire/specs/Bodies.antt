@@ -1,7 +1,10 @@
 -- The bodies of frames: the one spelling of each, by its kind. Source: this project's own layout.
-use Rattle.std.specs.Prelude.{◌≡◌, ℕ, ◌^◌, ◌<◌, ◌==◌, nat_lt, Bool, List, [], ◌∷◌, ◌++◌, length, take, drop, slice_index, Option, None, Result, if◌then◌else◌}
+use Rattle.std.specs.Prelude.{◌≡◌, ℕ, ◌^◌, ◌<◌, ◌==◌, nat_lt, Bool, List, [], ◌∷◌, ◌++◌, length, take, drop, slice_index, IfSome, Result, if◌then◌else◌}
+use Rattle.std.specs.Prelude.{Some, None}
+use Rattle.std.specs.declared.option.Option.{Option}
 use Rattle.std.specs.List.{AllByRecursion}
 use Rattle.byteorder.specs.Endian.{big_bytes, big_number}
+use Rattle.xl_base.specs.declared.ids.LedgerId.{LedgerId}
 use Rattle.xl_base.specs.declared.ids.TxId.{TxId}
 use Rattle.xl_wire.specs.declared.body.Body.{Body}
 use Rattle.xl_wire.specs.declared.body.Body.TheVariants as bodies
@@ -13,6 +16,18 @@ use Rattle.xl_base.specs.Refusals.{refused_if, unless_refused}
 use Rattle.xl_base.specs.Sets.{IsSet, id_bytes}
 use Rattle.xl_wire.specs.Sets.{ids_in}
 use Rattle.xl_wire.specs.SetsRead.{set_refusal}
+
+-- 2 for a validation that tells what its sender last reported, 1 for all else
+abbrev pub version_for : Option LedgerId → ℕ
+version_for None = 1
+version_for (Some id) = 2
+
+abbrev pub version_of : Body → ℕ
+version_of (bodies.Proposal proposal) = 1
+version_of (bodies.Validation validation) = version_for validation.validated
+version_of (bodies.Header header) = 1
+version_of (bodies.TxSet ids) = 1
+version_of (bodies.Tx id) = 1
 
 abbrev pub kind_of : Body → ℕ
 kind_of (bodies.Proposal proposal) = 1
@@ -28,8 +43,17 @@ flags_of full = if full then 1 else 0
 abbrev pub proposal_bytes : Proposal → List ℕ
 proposal_bytes p = p.prev.0 ++ p.set.0 ++ big_bytes 4 p.pseq ++ big_bytes 4 p.close ++ big_bytes 4 p.time
 
+-- what both versions have of a validation
+abbrev pub vote_bytes : Validation → List ℕ
+vote_bytes v = v.id.0 ++ big_bytes 4 v.seq ++ big_bytes 4 v.signed ++ flags_of v.full ∷ []
+
+abbrev pub validated_bytes : Option LedgerId → List ℕ
+validated_bytes None = []
+validated_bytes (Some id) = id.0
+
+-- and then the id of the ledger that its sender last reported, where it tells that
 abbrev pub validation_bytes : Validation → List ℕ
-validation_bytes v = v.id.0 ++ big_bytes 4 v.seq ++ big_bytes 4 v.signed ++ flags_of v.full ∷ []
+validation_bytes v = vote_bytes v ++ validated_bytes v.validated
 
 -- their number, and then the ids
 abbrev pub set_bytes : List TxId → List ℕ
@@ -53,6 +77,7 @@ pub record IsValidation (v : Validation) : Type 0 where
   pub id : length v.id.0 ≡ 32
   pub seq : v.seq < 2 ^ 32
   pub signed : v.signed < 2 ^ 32
+  pub validated : IfSome v.validated (λ id. length id.0 ≡ 32)
 
 abbrev pub IsId : TxId → Type 0
 IsId id = length id.0 ≡ 32
@@ -94,12 +119,17 @@ proposal_in bytes = record {
   time = big_number 4 (drop 72 bytes);
 }
 
+-- the id behind what both versions have, where there is more
+abbrev pub validated_in : List ℕ → Option LedgerId
+validated_in bytes = if nat_lt 41 (length bytes) then Some (record { 0 = take 32 (drop 41 bytes) }) else None
+
 abbrev pub validation_in : List ℕ → Validation
 validation_in bytes = record {
   id = record { 0 = take 32 bytes };
   seq = big_number 4 (drop 32 bytes);
   signed = big_number 4 (drop 36 bytes);
   full = slice_index bytes 40 == 1;
+  validated = validated_in bytes;
 }
 
 -- what the fields hold

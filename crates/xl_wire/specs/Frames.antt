@@ -5,7 +5,7 @@ use Rattle.xl_wire.specs.declared.frame.Frame.{Frame}
 use Rattle.xl_wire.specs.declared.decoding.Decoded.{Decoded}
 use Rattle.xl_wire.specs.declared.decoding.Decoded.TheVariants as decoded
 use Rattle.xl_wire.specs.declared.refusal.WireRefusal.{WireRefusal}
-use Rattle.xl_wire.specs.Bodies.{IsBody, kind_of, body_bytes, body_of}
+use Rattle.xl_wire.specs.Bodies.{IsBody, version_of, kind_of, body_bytes, body_of}
 use Rattle.xl_wire.specs.Heads.{Split, split_of}
 use Rattle.xl_wire.specs.Heads.Split.{Whole, Need, Refused}
 use Rattle.xl_wire.specs.Kinds.{span}
@@ -13,7 +13,14 @@ use Rattle.xl_wire.specs.Raws.{RawFrame, raw_bytes}
 
 -- the frame with its body's bytes
 abbrev pub raw_of : Frame → RawFrame
-raw_of f = record { kind = kind_of f.body; from = f.from; to = f.to; body = body_bytes f.body; tag = f.tag }
+raw_of f = record {
+  version = version_of f.body;
+  kind = kind_of f.body;
+  from = f.from;
+  to = f.to;
+  body = body_bytes f.body;
+  tag = f.tag;
+}
 
 abbrev pub frame_bytes : Frame → List ℕ
 frame_bytes f = raw_bytes (raw_of f)

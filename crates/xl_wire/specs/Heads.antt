@@ -7,12 +7,15 @@ use Rattle.xl_wire.specs.declared.refusal.WireRefusal.{WireRefusal}
 use Rattle.xl_wire.specs.declared.refusal.WireRefusal.TheVariants.{Magic, Version, Kind, Length}
 use Rattle.xl_wire.specs.declared.splitting.Parted.{Parted}
 use Rattle.xl_wire.specs.declared.splitting.Parted.TheVariants as parted
-use Rattle.xl_wire.specs.Kinds.{is_kind, can_have}
+use Rattle.xl_wire.specs.Kinds.{is_version, is_kind, can_have}
 use Rattle.xl_wire.specs.Raws.{RawFrame, raw_frame}
 
 -- the byte at this place is there, and isn't the wanted one
 abbrev pub differs : List ℕ → ℕ → ℕ → Bool
 differs bytes place wanted = nat_lt place (length bytes) && not (slice_index bytes place == wanted)
+
+abbrev pub version_in : List ℕ → ℕ
+version_in bytes = slice_index bytes 2
 
 abbrev pub kind_in : List ℕ → ℕ
 kind_in bytes = slice_index bytes 3
@@ -25,9 +28,9 @@ abbrev pub head_refusal : List ℕ → Option WireRefusal
 head_refusal bytes = first_of (
     refused_if (differs bytes 0 0x58) (Magic 0)
     ∷ refused_if (differs bytes 1 0x4C) (Magic 1)
-    ∷ refused_if (differs bytes 2 1) (Version (slice_index bytes 2))
-    ∷ refused_if (nat_lt 3 (length bytes) && not (is_kind (kind_in bytes))) (Kind (kind_in bytes))
-    ∷ refused_if (nat_lt 5 (length bytes) && not (can_have (kind_in bytes) (length_in bytes)))
+    ∷ refused_if (nat_lt 2 (length bytes) && not (is_version (version_in bytes))) (Version (version_in bytes))
+    ∷ refused_if (nat_lt 3 (length bytes) && not (is_kind (version_in bytes) (kind_in bytes))) (Kind (kind_in bytes))
+    ∷ refused_if (nat_lt 5 (length bytes) && not (can_have (version_in bytes) (kind_in bytes) (length_in bytes)))
     (Length (kind_in bytes) (length_in bytes))
     ∷ [])
 
@@ -38,6 +41,7 @@ lacking bytes = if nat_lt (length bytes) 6 then 6 - length bytes else 46 + lengt
 -- what the fields hold
 abbrev pub raw_in : List ℕ → RawFrame
 raw_in bytes = record {
+  version = version_in bytes;
   kind = kind_in bytes;
   from = big_number 4 (drop 6 bytes);
   to = big_number 4 (drop 10 bytes);

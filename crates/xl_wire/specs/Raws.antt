@@ -6,6 +6,7 @@ use Rattle.xl_wire.specs.Kinds.{IsLawful}
 
 -- a frame without where it lies in memory
 pub record RawFrame : Type 0 where
+  pub version : ℕ
   pub kind : ℕ
   pub from : ℕ
   pub to : ℕ
@@ -15,12 +16,12 @@ pub record RawFrame : Type 0 where
 -- the mark, the version, the kind, the body's length, the sender, the receiver, the body, the tag
 abbrev pub raw_bytes : RawFrame → List ℕ
 raw_bytes f =
-    (0x58 ∷ 0x4C ∷ 1 ∷ f.kind ∷ []) ++ big_bytes 2 (length f.body)
+    (0x58 ∷ 0x4C ∷ f.version ∷ f.kind ∷ []) ++ big_bytes 2 (length f.body)
     ++ big_bytes 4 f.from ++ big_bytes 4 f.to ++ f.body ++ f.tag
 
 -- what has a spelling
 pub record IsRaw (f : RawFrame) : Type 0 where
-  pub lawful : IsLawful f.kind f.body
+  pub lawful : IsLawful f.version f.kind f.body
   pub from : f.from < 2 ^ 32
   pub to : f.to < 2 ^ 32
   pub tag : length f.tag ≡ 32
@@ -31,4 +32,11 @@ pub record SpellsRaw (f : RawFrame) (bytes : List ℕ) : Type 0 where
   pub spelling : bytes ≡ raw_bytes f
 
 abbrev pub raw_frame : Raw → RawFrame
-raw_frame raw = record { kind = raw.kind; from = raw.from; to = raw.to; body = raw.body.now; tag = raw.tag }
+raw_frame raw = record {
+  version = raw.version;
+  kind = raw.kind;
+  from = raw.from;
+  to = raw.to;
+  body = raw.body.now;
+  tag = raw.tag;
+}

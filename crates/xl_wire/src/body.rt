@@ -1,8 +1,8 @@
-ghost use Rattle.std.specs.Prelude.{◌≡◌, ◌↔◌, Ok, length};
-ghost use Rattle.xl_wire.specs.Bodies.{body_of, proposal_in, validation_in, flags_refusal, SpellsBody};
+ghost use Rattle.std.specs.Prelude.{◌≡◌, ◌↔◌, IsTrue, Ok, length};
+ghost use Rattle.xl_wire.specs.Bodies.{body_of, proposal_in, validation_in, validated_in, flags_refusal, version_of, SpellsBody};
 ghost use Rattle.xl_wire.specs.declared.body.Body.{Body};
 ghost use Rattle.xl_base.specs.Refusals.{unless_refused};
-ghost use Rattle.xl_wire.specs.Kinds.{IsLawful};
+ghost use Rattle.xl_wire.specs.Kinds.{can_hold};
 
 use crate::kinds::{HEADER, PROPOSAL, TX_SET, VALIDATION};
 use crate::{Ids, Proposal, Raw, Validation, WireRefusal};
@@ -25,12 +25,14 @@ pub fn read_body<'a>(raw: &Raw<'a>) -> Result<Body<'a>, WireRefusal>
     ensures exact { result ≡ body_of raw.now.kind raw.now.body.now }
     // What is read is what the bytes spell.
     ensures whole { (body : Body) → (result ≡ Ok body) ↔ SpellsBody body raw.now.kind raw.now.body.now }
+    // Of version 2 are the validations that tell what their sender last reported, and nothing else.
+    ensures version { (body : Body) → result ≡ Ok body → raw.now.version ≡ version_of body }
 {
     read(raw.kind, raw.body)
 }
 
 fn read(kind: u8, bytes: &[u8]) -> Result<Body<'_>, WireRefusal>
-    requires { IsLawful kind bytes.now }
+    requires { IsTrue (can_hold kind (length bytes.now)) }
     ensures exact { result ≡ body_of kind bytes.now }
     ensures whole { (body : Body) → (result ≡ Ok body) ↔ SpellsBody body kind bytes.now }
 {
@@ -38,7 +40,7 @@ fn read(kind: u8, bytes: &[u8]) -> Result<Body<'_>, WireRefusal>
 }
 
 fn read_kind(kind: u8, bytes: &[u8]) -> Result<Body<'_>, WireRefusal>
-    requires { IsLawful kind bytes.now }
+    requires { IsTrue (can_hold kind (length bytes.now)) }
     ensures { result ≡ body_of kind bytes.now }
 {
     match kind {
@@ -64,7 +66,7 @@ fn read_proposal(bytes: &[u8]) -> Proposal
 }
 
 fn read_validation(bytes: &[u8]) -> Result<Validation, WireRefusal>
-    requires { length bytes.now ≡ 41 }
+    requires { IsTrue (can_hold 2 (length bytes.now)) }
     ensures { result ≡ unless_refused (flags_refusal bytes.now) (validation_in bytes.now) }
 {
     let flags = bytes[40];
@@ -76,7 +78,19 @@ fn read_validation(bytes: &[u8]) -> Result<Validation, WireRefusal>
         seq: BigEndian::read_u32(&bytes[32..]),
         signed: BigEndian::read_u32(&bytes[36..]),
         full: flags == 1,
+        validated: read_validated(bytes),
     })
+}
+
+fn read_validated(bytes: &[u8]) -> Option<LedgerId>
+    requires { IsTrue (can_hold 2 (length bytes.now)) }
+    ensures { result ≡ validated_in bytes.now }
+{
+    if bytes.len() > 41 {
+        Some(LedgerId(bytes_at(bytes, 41)))
+    } else {
+        None
+    }
 }
 
 fn read_header(bytes: &[u8]) -> [u8; 118]

@@ -1,14 +1,14 @@
-ghost use Rattle.std.specs.Prelude.{◌≡◌, ◌+◌, ◌*◌, ◌<◌, ◌≤◌, [], ◌∷◌, ◌++◌, length, take, drop};
+ghost use Rattle.std.specs.Prelude.{◌≡◌, ◌+◌, ◌*◌, ◌^◌, ◌<◌, ◌≤◌, [], ◌∷◌, ◌++◌, length, take, drop, IfSome};
 ghost use Rattle.byteorder.specs.Endian.{big_bytes};
-ghost use Rattle.xl_wire.specs.Bodies.{IsBody, IsProposal, IsValidation, IsTxSet, body_bytes, flags_of, kind_of, proposal_bytes, validation_bytes, set_bytes};
+ghost use Rattle.xl_wire.specs.Bodies.{IsBody, IsProposal, IsValidation, IsTxSet, body_bytes, flags_of, version_for, version_of, kind_of, proposal_bytes, validation_bytes, validated_bytes, vote_bytes, set_bytes};
 ghost use Rattle.xl_wire.specs.Frames.{Spells};
 ghost use Rattle.xl_base.specs.Putting.{Puts};
-ghost use Rattle.xl_wire.specs.Writing.{body_length, frame_length};
+ghost use Rattle.xl_wire.specs.Writing.{body_length, frame_length, validated_length};
 ghost use Rattle.xl_wire.specs.declared.lengths.TheConstants.{LONGEST_BODY};
 
-use crate::kinds::{HEADER, PROPOSAL, TX, TX_SET, VALIDATION};
+use crate::kinds::{FIRST, HEADER, PROPOSAL, SECOND, TX, TX_SET, VALIDATION};
 use crate::{Body, Frame, Ids, Proposal, Validation};
-use xl_base::{put, put_field, put_u16, put_u32};
+use xl_base::{LedgerId, put, put_field, put_u16, put_u32};
 
 /// Writes the frame's one spelling at the front of the room, answers its length, and leaves the rest.
 pub fn encode(frame: &Frame<'_>, room: &mut [u8]) -> usize
@@ -18,12 +18,36 @@ pub fn encode(frame: &Frame<'_>, room: &mut [u8]) -> usize
     ensures rest { drop result room.new ≡ drop result room.old }
 {
     let length = body_length(&frame.body);
-    put_head(room, kind_of(&frame.body), length as u16);
+    put_head(
+        room,
+        version_of(&frame.body),
+        kind_of(&frame.body),
+        length as u16,
+    );
     put_u32(room, 6, frame.from);
     put_u32(room, 10, frame.to);
     put_body(room, &frame.body);
     put_field(room, 14 + length, &frame.tag);
     46 + length
+}
+
+/// The version in which a validation is that tells this.
+fn version_for(validated: &Option<LedgerId>) -> u8
+    ensures { result ≡ version_for validated.now }
+{
+    match validated {
+        Some(_) => SECOND,
+        None => FIRST,
+    }
+}
+
+fn version_of(body: &Body<'_>) -> u8
+    ensures { result ≡ version_of body.now }
+{
+    match body {
+        Body::Validation(validation) => version_for(&validation.validated),
+        _ => FIRST,
+    }
 }
 
 fn kind_of(body: &Body<'_>) -> u8
@@ -38,13 +62,23 @@ fn kind_of(body: &Body<'_>) -> u8
     }
 }
 
+fn validated_length(validated: &Option<LedgerId>) -> usize
+    ensures value { result ≡ validated_length validated.now }
+    ensures small { result ≤ 32 }
+{
+    match validated {
+        Some(_) => 32,
+        None => 0,
+    }
+}
+
 fn body_length(body: &Body<'_>) -> usize
     ensures value { result ≡ body_length body.now }
     ensures small { result ≤ LONGEST_BODY }
 {
     match body {
         Body::Proposal(_) => 76,
-        Body::Validation(_) => 41,
+        Body::Validation(validation) => 41 + validated_length(&validation.validated),
         Body::Header(_) => 118,
         Body::TxSet(ids) => 2 + 32 * ids.len(),
         Body::Tx(_) => 32,
@@ -52,11 +86,11 @@ fn body_length(body: &Body<'_>) -> usize
 }
 
 /// The mark, the version, the kind, and the body's length.
-fn put_head(room: &mut [u8], kind: u8, body_length: u16)
+fn put_head(room: &mut [u8], version: u8, kind: u8, body_length: u16)
     requires { 6 ≤ length room.old }
-    ensures { Puts 0 ((0x58 ∷ 0x4C ∷ 1 ∷ kind ∷ []) ++ big_bytes 2 body_length) room.old room.new }
+    ensures { Puts 0 ((0x58 ∷ 0x4C ∷ version ∷ kind ∷ []) ++ big_bytes 2 body_length) room.old room.new }
 {
-    put(room, 0, &[0x58, 0x4C, 1, kind]);
+    put(room, 0, &[0x58, 0x4C, version, kind]);
     put_u16(room, 4, body_length);
 }
 
@@ -87,14 +121,36 @@ fn put_proposal(room: &mut [u8], proposal: &Proposal)
 }
 
 fn put_validation(room: &mut [u8], validation: &Validation)
-    requires { 14 + 41 ≤ length room.old }
+    requires { 14 + (41 + validated_length validation.now.validated) ≤ length room.old }
     ensures puts { Puts 14 (validation_bytes validation.now) room.old room.new }
     ensures fits { IsValidation validation.now }
+{
+    put_vote(room, validation);
+    put_validated(room, &validation.validated);
+}
+
+/// What both versions have of a validation.
+fn put_vote(room: &mut [u8], validation: &Validation)
+    requires { 14 + 41 ≤ length room.old }
+    ensures puts { Puts 14 (vote_bytes validation.now) room.old room.new }
+    ensures id { length validation.now.id.0 ≡ 32 }
+    ensures seq { validation.now.seq < 2 ^ 32 }
+    ensures signed { validation.now.signed < 2 ^ 32 }
 {
     put_field(room, 14, &validation.id.0);
     put_u32(room, 46, validation.seq);
     put_u32(room, 50, validation.signed);
     put(room, 54, &[flags_of(validation.full)]);
+}
+
+fn put_validated(room: &mut [u8], validated: &Option<LedgerId>)
+    requires { 55 + validated_length validated.now ≤ length room.old }
+    ensures puts { Puts 55 (validated_bytes validated.now) room.old room.new }
+    ensures fits { IfSome validated.now (λ id. length id.0 ≡ 32) }
+{
+    if let Some(id) = validated {
+        put_field(room, 55, &id.0);
+    }
 }
 
 fn flags_of(full: bool) -> u8

@@ -6,5 +6,5 @@ pub(crate) const LONGEST_BODY: usize = 2 + 32 * MOST_IDS;
 /// How many bytes the longest frame has.
 pub const LONGEST_FRAME: usize = 46 + LONGEST_BODY;
 
-/// How many bytes a validation's frame has.
+/// How many bytes a validation's frame has in version 1.
 pub const VALIDATION_FRAME: usize = 87;

@@ -4,6 +4,8 @@ ghost use Rattle.xl_wire.specs.Kinds.{IsLawful, span};
 /// A whole frame whose body isn't read yet. It borrows the bytes that it was split off.
 #[derive(Clone, Copy, Debug)]
 pub struct Raw<'a> {
+    /// 1 or 2.
+    pub version: u8,
     pub kind: u8,
     /// The member that sent it: any number.
     pub from: u32,
@@ -14,7 +16,7 @@ pub struct Raw<'a> {
     pub tag: [u8; 32],
     /// How many bytes the whole frame has.
     pub length: usize,
-    /// A body of the kind can have this length.
-    ghost lawful: { IsLawful kind body.now },
+    /// A body of the version and the kind can have this length.
+    ghost lawful: { IsLawful version kind body.now },
     ghost whole: { length ≡ span body.now },
 }

@@ -3,7 +3,7 @@ ghost use Rattle.xl_wire.specs.Heads.{head_refusal, lacking, length_in, raw_in, 
 ghost use Rattle.xl_wire.specs.Kinds.{span};
 ghost use Rattle.xl_wire.specs.Raws.{RawFrame, SpellsRaw, raw_frame};
 
-use crate::kinds::{can_have, is_kind};
+use crate::kinds::{can_have, is_kind, is_version};
 use crate::{Raw, WireRefusal};
 use byteorder::{BigEndian, ByteOrder};
 use xl_base::bytes_at;
@@ -50,6 +50,7 @@ fn whole(bytes: &[u8]) -> Raw<'_>
 {
     let end = 14 + body_length(bytes) as usize;
     Raw {
+        version: bytes[2],
         kind: bytes[3],
         from: BigEndian::read_u32(&bytes[6..]),
         to: BigEndian::read_u32(&bytes[10..]),
@@ -80,15 +81,15 @@ fn refused(bytes: &[u8]) -> Option<WireRefusal>
     if bytes.len() > 1 && bytes[1] != 0x4C {
         return Some(WireRefusal::Magic(1));
     }
-    if bytes.len() > 2 && bytes[2] != 1 {
+    if bytes.len() > 2 && !is_version(bytes[2]) {
         return Some(WireRefusal::Version(bytes[2]));
     }
-    if bytes.len() > 3 && !is_kind(bytes[3]) {
+    if bytes.len() > 3 && !is_kind(bytes[2], bytes[3]) {
         return Some(WireRefusal::Kind(bytes[3]));
     }
     if bytes.len() > 5 {
         let length = body_length(bytes);
-        if !can_have(bytes[3], length) {
+        if !can_have(bytes[2], bytes[3], length) {
             return Some(WireRefusal::Length {
                 kind: bytes[3],
                 length,

@@ -7,6 +7,7 @@ const SAID: Validation = Validation {
     seq: 9,
     signed: 10,
     full: true,
+    validated: None,
 };
 
 /// A full validation from 1 to 2, in 87 bytes.
@@ -33,6 +34,66 @@ fn a_frame_is_written_and_read(rt: HostRuntime) {
             assert!(rt; matches!(frame.body, Body::Validation(v) if v == SAID));
         }
         _ => assert!(rt; false),
+    }
+}
+
+#[test]
+fn a_frame_of_version_2_is_written_and_read(rt: HostRuntime) {
+    let said = Validation {
+        validated: Some(LedgerId([8; 32])),
+        ..SAID
+    };
+    let mut bytes = [0; 119];
+    let frame = Frame {
+        from: 1,
+        to: 2,
+        body: Body::Validation(said),
+        tag: [5; 32],
+    };
+    assert_eq!(rt; encode(&frame, &mut bytes), 119);
+    assert_eq!(rt; &bytes[..6], [0x58, 0x4C, 2, 2, 0, 0x49].as_slice());
+    assert_eq!(rt; &bytes[55..87], [8; 32].as_slice());
+    match decode(&bytes) {
+        Decoded::Whole(frame, length) => {
+            assert_eq!(rt; length, 119);
+            assert!(rt; matches!(frame.body, Body::Validation(v) if v == said));
+        }
+        _ => assert!(rt; false),
+    }
+}
+
+/// The code and the values of the refusal, if bytes are refused.
+fn refusal(bytes: &[u8]) -> Option<WireRefusal> {
+    match split(bytes) {
+        Parted::Refused(refusal) => Some(refusal),
+        _ => None,
+    }
+}
+
+#[test]
+fn refuses_by_the_version(rt: HostRuntime) {
+    let heads: [(&[u8], Option<WireRefusal>); 6] = [
+        (&[0x58, 0x4C, 3], Some(WireRefusal::Version(3))),
+        (&[0x58, 0x4C, 0, 2], Some(WireRefusal::Version(0))),
+        (&[0x58, 0x4C, 2, 3], Some(WireRefusal::Kind(3))),
+        (
+            &[0x58, 0x4C, 2, 2, 0, 41],
+            Some(WireRefusal::Length {
+                kind: 2,
+                length: 41,
+            }),
+        ),
+        (
+            &[0x58, 0x4C, 1, 2, 0, 73],
+            Some(WireRefusal::Length {
+                kind: 2,
+                length: 73,
+            }),
+        ),
+        (&[0x58, 0x4C, 2, 2, 0, 73], None),
+    ];
+    for (head, refused) in heads {
+        assert_eq!(rt; refusal(head), refused);
     }
 }
 

@@ -1,5 +1,5 @@
 use Rattle.std.proofs.Common.{take, arith}
-use Rattle.xl_lines.proofs.Runs.{runs_none, runs_more, runs_more_front, runs_last_front, runs_less, runs_more_less, runs_last_less, by_fault, write_from, passed_on}
+use Rattle.xl_lines.proofs.Runs.{runs_none, runs_more, runs_more_front, runs_last_front, runs_less, runs_more_less, runs_last_less, runs_on, by_fault, write_from, passed_on}
 use Rattle.xl_lines.proofs.driver.drive.Goals as goal
 
 pub loop-count-init : goal.loop-count-init
@@ -31,3 +31,17 @@ returns-in-End-clause-less g c aloud = by_fault c.finish.result _ _ _ c.finish.e
 
 pub returns-in-Failed-clause-less : goal.returns-in-Failed-clause-less
 returns-in-Failed-clause-less g c aloud other = runs_less c.loop-count.invariant.runs (aloud c.loop-count.teller)
+
+pub returns-in_err-feed-in-Got-clause-cut : goal.returns-in_err-feed-in-Got-clause-cut
+returns-in_err-feed-in-Got-clause-cut g c is =
+    runs_more_less c.loop-count.invariant.runs _ (take c.in-Got.count c.read.new.room) c.in-Got.ensures.bytes (c.feed.ensures.less (write_from c.from_residual.result c.feed.result c.in_err-feed-in-Got.field-0.0 c.from_residual.ensures.1 c.in_err-feed-in-Got.was is))
+
+pub returns-in-End-clause-cut : goal.returns-in-End-clause-cut
+returns-in-End-clause-cut g c is = runs_last_less c.loop-count.invariant.runs c.in-End.ensures.bytes.0 (c.finish.ensures.less is)
+
+pub returns-in-Found-clause-front : goal.returns-in-Found-clause-front
+returns-in-Found-clause-front g c = runs_more_front c.loop-count.invariant.runs _ (take c.in-Got.count c.read.new.room) c.in-Got.ensures.bytes c.feed.ensures.front
+
+pub returns-in-Found-clause-to_end : goal.returns-in-Found-clause-to_end
+returns-in-Found-clause-to_end g c reads _ =
+    absurd (runs_on c.loop-count.invariant.runs (take c.in-Got.count c.read.new.room) (rw c.in-Found.is at c.in_ok-feed-in-Got.ensures.ok) (reads c.args.teller.now))

@@ -65,3 +65,9 @@ returns-in_err-refuse_long-clause-less g c is rest =
 pub returns-in_err-end_line-clause-less : goal.returns-in_err-end_line-clause-less
 returns-in_err-end_line-clause-less g c is rest =
     less_from (newline g (goal.at.returns-in_err-end_line-clause-less g c).Else-is_none rest) (c.end_line.ensures.less (write_from c.from_residual-in_err-end_line.result c.end_line.result c.in_err-end_line.field-0.0 c.from_residual-in_err-end_line.ensures.1 c.in_err-end_line.was is) _)
+
+pub returns-in-Found-clause-ok : goal.returns-in-Found-clause-ok
+returns-in-Found-clause-ok g c rest = tells_from (newline g (goal.at.returns-in-Found-clause-ok g c).Else-is_none rest) (rw c.in-Found.is at (c.in_ok-end_line.ensures.ok (drop (c.unwrap_or-count.result + 1) c.args.bytes.now ++ rest)))
+
+pub returns-in-Found-clause-front : goal.returns-in-Found-clause-front
+returns-in-Found-clause-front g c rest = front_from (newline g (goal.at.returns-in-Found-clause-front g c).Else-is_none rest) (c.end_line.ensures.front _)

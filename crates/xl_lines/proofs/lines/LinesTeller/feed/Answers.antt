@@ -24,3 +24,9 @@ returns-in-Refused-clause-front g c more = tells_front (c.loop-rest.invariant.te
 pub returns-in_err-count-clause-less : goal.returns-in_err-count-clause-less
 returns-in_err-count-clause-less g c is more =
     tells_less (c.loop-rest.invariant.tells more) (c.take_part.ensures.less (write_from c.from_residual.result c.take_part.result c.in_err-count.field-0.0 c.from_residual.ensures.1 c.in_err-count.was is) more)
+
+pub returns-in-Found-clause-ok : goal.returns-in-Found-clause-ok
+returns-in-Found-clause-ok g c more = tells_then (c.loop-rest.invariant.tells more) (rw c.in-Found.is at (c.in_ok-count.ensures.ok more))
+
+pub returns-in-Found-clause-front : goal.returns-in-Found-clause-front
+returns-in-Found-clause-front g c more = tells_front (c.loop-rest.invariant.tells more) (c.take_part.ensures.front more)

@@ -5,7 +5,7 @@ use Rattle.std.specs.Vec.{vec_len}
 use Rattle.xl_lines.specs.declared.machine.Next.TheVariants as next
 use Rattle.xl_lines.proofs.Cutting.{told_at-end}
 use Rattle.xl_lines.proofs.Runs.{write_from}
-use Rattle.xl_lines.proofs.Telling.{LineIsLast, tells_last, front_of_last, tells_all_then, tells_all_refused, tells_front, all_from, front_from, less_from, tells_less, less_of_last}
+use Rattle.xl_lines.proofs.Telling.{LineIsLast, tells_last, front_of_last, tells_all_then, tells_all_refused, tells_all_found, tells_front, all_from, front_from, less_from, tells_less, less_of_last}
 use Rattle.xl_lines.proofs.lines.LinesTeller.finish.Goals as goal
 use Rattle.xl_lines.proofs.lines.LinesTeller.finish.Goals.{After-answer, Then-is_empty}
 
@@ -61,3 +61,10 @@ returns-in_err-answer-clause-less g c is =
 pub returns-in-Line-clause-less : goal.returns-in-Line-clause-less
 returns-in-Line-clause-less g c =
     λ is. tells_less (tells_last g.M.Machine.rules _ c.args.self.now.left next.Line _ (g.M.Machine.state c.answer.new.machine) (last g (goal.at.returns-in-Line-clause-less g c).After-answer) (rw c.in-Line.is at c.in_ok-answer.ensures.step) c.in_ok-answer.ensures.held) (c.close-in-Line.ensures.less is)
+
+pub returns-in-Found-clause-ok : goal.returns-in-Found-clause-ok
+returns-in-Found-clause-ok g c =
+    tells_all_found (tells_last g.M.Machine.rules _ c.args.self.now.left next.Found _ (g.M.Machine.state c.answer.new.machine) (last g (goal.at.returns-in-Found-clause-ok g c).After-answer) (rw c.in-Found.is at c.in_ok-answer.ensures.step) c.in_ok-answer.ensures.held)
+
+pub returns-in-Found-clause-front : goal.returns-in-Found-clause-front
+returns-in-Found-clause-front g c = front_of_last g.M.Machine.rules _ c.args.self.now.left (last g (goal.at.returns-in-Found-clause-front g c).After-answer) c.answer.ensures.front

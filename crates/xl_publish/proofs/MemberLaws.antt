@@ -1,0 +1,77 @@
+-- The members in the bytes of a roll, one after the other.
+use Rattle.std.proofs.Common.{◌≡◌, ◌≢◌, ℕ, suc, ◌+◌, ◌-◌, ◌*◌, ◌<◌, ◌≤◌, Bool, true, false, List, [], ◌∷◌, drop, Some, None, refl, sym, ap, ◌∙◌, arith}
+use Rattle.std.specs.Prelude.{◌==◌, ◌||◌}
+use Rattle.std.proofs.lemmas.Bool.{cond-true, cond-false}
+use Rattle.std.proofs.lemmas.Bool.Decides.{nat_tests}
+use Rattle.std.proofs.lemmas.List.{drop-drop}
+use Rattle.byteorder.specs.Endian.{big_number}
+use Rattle.xl_lists.specs.Lists.{is_on}
+use Rattle.xl_publish.specs.Fields.{count_in, numbers_in, members_in}
+use Rattle.xl_publish.specs.Refusing.{first_wrong, may_follow}
+
+-- the members from a place on
+abbrev pub left_at : ℕ → List ℕ → List ℕ
+left_at place bytes = numbers_in (count_in bytes - place) (drop (21 + 4 * place) bytes)
+
+abbrev pub member_in : ℕ → List ℕ → ℕ
+member_in place bytes = big_number 4 (drop (21 + 4 * place) bytes)
+
+pub all_left : (bytes : List ℕ) → left_at 0 bytes ≡ members_in bytes
+all_left bytes = ap (λ (k : ℕ). numbers_in k (drop 21 bytes)) (omega arith)
+
+pub left_more : (place : ℕ) (bytes : List ℕ) → place < count_in bytes → left_at place bytes ≡ member_in place bytes ∷ left_at (place + 1) bytes
+left_more place bytes lt =
+    let one : count_in bytes - place ≡ suc (count_in bytes - (place + 1)) = omega arith in
+    let next : drop 4 (drop (21 + 4 * place) bytes) ≡ drop (21 + 4 * (place + 1)) bytes = drop-drop 4 (21 + 4 * place) bytes ∙ ap (λ (k : ℕ). drop k bytes) (omega arith) in
+    ap (λ (k : ℕ). numbers_in k (drop (21 + 4 * place) bytes)) one
+    ∙ ap (λ (x : List ℕ). member_in place bytes ∷ numbers_in (count_in bytes - (place + 1)) x) next
+
+pub left_none : (place : ℕ) (bytes : List ℕ) → count_in bytes ≤ place → left_at place bytes ≡ []
+left_none place bytes le =
+    let none : count_in bytes - place ≡ 0 = omega arith in
+    ap (λ (k : ℕ). numbers_in k (drop (21 + 4 * place) bytes)) none
+
+-- a member that may follow is passed over
+pub wrong_later : (place before m : ℕ) (bytes : List ℕ) → place < count_in bytes → m ≡ member_in place bytes → may_follow before m ≡ true →
+    first_wrong (place + 1) m (left_at (place + 1) bytes) ≡ first_wrong place before (left_at place bytes)
+wrong_later place before m bytes there is test =
+    sym (ap (first_wrong place before) (left_more place bytes there ∙ ap (λ (k : ℕ). k ∷ left_at (place + 1) bytes) (sym is))
+    ∙ cond-true (may_follow before m) (first_wrong (place + 1) m (left_at (place + 1) bytes)) (Some place) test)
+
+-- and another one is the first that is wrong
+pub wrong_here : (place before m : ℕ) (bytes : List ℕ) → place < count_in bytes → m ≡ member_in place bytes → may_follow before m ≡ false →
+    first_wrong place before (left_at place bytes) ≡ Some place
+wrong_here place before m bytes there is test =
+    ap (first_wrong place before) (left_more place bytes there ∙ ap (λ (k : ℕ). k ∷ left_at (place + 1) bytes) (sym is))
+    ∙ cond-false (may_follow before m) (first_wrong (place + 1) m (left_at (place + 1) bytes)) (Some place) test
+
+pub wrong_none : (place before : ℕ) (bytes : List ℕ) → count_in bytes ≤ place → first_wrong place before (left_at place bytes) ≡ None
+wrong_none place before bytes le = ap (first_wrong place before) (left_none place bytes le)
+
+on_here : (same rest : Bool) → same ≡ true → (same || rest) ≡ true
+on_here true rest e = refl
+on_here false rest e = cc
+
+on_later : (same rest : Bool) → same ≡ false → (same || rest) ≡ rest
+on_later true rest e = cc
+on_later false rest e = refl
+
+pub named_here : (number place : ℕ) (bytes : List ℕ) → place < count_in bytes → number ≡ member_in place bytes → is_on (left_at place bytes) number ≡ true
+named_here number place bytes there is =
+    ap (λ (ms : List ℕ). is_on ms number) (left_more place bytes there)
+    ∙ on_here (number == member_in place bytes) (is_on (left_at (place + 1) bytes) number) (same number (member_in place bytes) is)
+  where
+    same : (a b : ℕ) → a ≡ b → (a == b) ≡ true
+    same a b e = grind (arith, nat_tests)
+
+pub named_later : (number place : ℕ) (bytes : List ℕ) → place < count_in bytes → number ≢ member_in place bytes →
+    is_on (left_at (place + 1) bytes) number ≡ is_on (left_at place bytes) number
+named_later number place bytes there other =
+    sym (ap (λ (ms : List ℕ). is_on ms number) (left_more place bytes there)
+    ∙ on_later (number == member_in place bytes) (is_on (left_at (place + 1) bytes) number) (differs number (member_in place bytes) other))
+  where
+    differs : (a b : ℕ) → a ≢ b → (a == b) ≡ false
+    differs a b e = grind (arith, nat_tests)
+
+pub named_none : (number place : ℕ) (bytes : List ℕ) → count_in bytes ≤ place → is_on (left_at place bytes) number ≡ false
+named_none number place bytes le = ap (λ (ms : List ℕ). is_on ms number) (left_none place bytes le)

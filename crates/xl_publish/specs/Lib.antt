@@ -1,0 +1,9 @@
+pub mod Codes
+pub mod Rolls
+pub mod Fields
+pub mod Refusing
+pub mod Stored
+pub mod Orders
+pub mod Registers
+pub mod Forces
+pub mod Runs

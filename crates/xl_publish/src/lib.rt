@@ -1,0 +1,28 @@
+//! Rolls: the lists of members that publishers sign, which of them is kept of each publisher, and the list in force.
+//!
+//! A publisher's roll names members from one second until another. Of each publisher the greatest right roll is kept,
+//! by its sequence and then by its bytes. A member is in force where enough kept rolls name it.
+//!
+//! It stands on xl_base, xl_lists, xl_tags and the kit's `byteorder`, and no call takes memory. Its one contract: what
+//! is kept, and so the list in force at every second, is a function of the set of rolls that were taken, in whatever
+//! order and however often they came.
+#![tactic(auto)]
+
+mod kept;
+mod law;
+mod members;
+mod publishers;
+mod reading;
+mod refusal;
+mod roll;
+mod writing;
+
+pub use law::any_order;
+pub use members::RollMembers;
+pub use publishers::{Publishers, Took};
+pub use refusal::RollRefusal;
+pub use roll::{GREATEST_PUBLISHER, LONGEST_ROLL, Roll};
+pub use writing::write_roll;
+
+#[cfg(test)]
+mod tests;

@@ -1,0 +1,65 @@
+ghost use Rattle.std.specs.Prelude.{◌≡◌, ◌≤◌, ◌<◌, ◌++◌, ◌∷◌, [], length};
+ghost use Rattle.xl_base.specs.declared.node_no.TheConstants.{MOST_MEMBERS};
+
+use std::marker::Model;
+use xl_base::MOST_MEMBERS;
+
+/// At most 64 numbers of members, which contracts see as a list.
+#[derive(Debug, Drop)]
+pub struct RollMembers {
+    /// The numbers stand at the front.
+    places: [u32; MOST_MEMBERS],
+    len: usize,
+}
+
+impl Model for RollMembers {
+    ghost use Rattle.std.specs.Prelude.{◌≤◌, ℕ, List, take};
+    ghost use Rattle.xl_base.specs.declared.node_no.TheConstants.{MOST_MEMBERS};
+
+    ghost Value = { List ℕ };
+
+    ghost view = { λ m. take m.len m.places };
+
+    ghost invariant = { λ m. m.len ≤ MOST_MEMBERS };
+}
+
+impl RollMembers {
+    /// These numbers.
+    pub fn of(numbers: &[u32]) -> RollMembers
+        requires { length numbers.now ≤ MOST_MEMBERS }
+        ensures { result ≡ numbers.now }
+    {
+        let mut places = [0; MOST_MEMBERS];
+        places[..numbers.len()].copy_from_slice(numbers);
+        RollMembers {
+            places,
+            len: numbers.len(),
+        }
+    }
+
+    /// No numbers yet.
+    pub(crate) fn none() -> RollMembers
+        ensures { result ≡ [] }
+    {
+        RollMembers {
+            places: [0; MOST_MEMBERS],
+            len: 0,
+        }
+    }
+
+    /// One number more.
+    pub(crate) fn push(&mut self, number: u32)
+        requires { length self.old < MOST_MEMBERS }
+        ensures { self.new ≡ self.old ++ number ∷ [] }
+    {
+        self.places[self.len] = number;
+        self.len += 1;
+    }
+
+    pub fn as_slice(&self) -> &[u32]
+        ensures value { result.now ≡ self.now }
+        ensures few { length result.now ≤ MOST_MEMBERS }
+    {
+        &self.places[..self.len]
+    }
+}
