@@ -8,9 +8,9 @@ use Rattle.xl_base.specs.Counts.{one_more}
 use Rattle.xl_queues.specs.Queues.{Backlog, with_item}
 use Rattle.xl_queues.proofs.Accounting.{push_accounts, pop_accounts}
 use Rattle.xl_wire.specs.declared.validation.Validation.{Validation}
-use Rattle.xl_core.proofs.Timing.{timing_by, submit_either}
+use Rattle.xl_core.proofs.Timing.{timing_by, submit_either, relist_either}
 use Rattle.xl_core.specs.declared.event.CoreEvent.{CoreEvent}
-use Rattle.xl_core.specs.declared.event.CoreEvent.TheVariants.{Issue, Frame, Timer, Submit, Greet, Drain, Reports, Stop, Stopped}
+use Rattle.xl_core.specs.declared.event.CoreEvent.TheVariants.{Issue, Frame, Timer, Submit, Greet, Drain, Reports, Stop, Stopped, Relist}
 use Rattle.xl_core.specs.declared.refusal.Refusal.TheVariants.{NotAfter}
 use Rattle.xl_core.specs.declared.report.Report.{Report}
 use Rattle.xl_core.specs.Answers.{handed_in}
@@ -38,6 +38,7 @@ happens_hands n (nodes.Issue now seq id full) save =
 happens_hands n (nodes.Frame now bytes) save = (heard_keeps n now bytes).handed
 happens_hands n (nodes.Timer now) save = timing_by (λ t. handed_in (completed t save).answer ≡ []) (at_moment now n) (λ r beat said. refl) (λ ledgers r said h place moved_on _. refl)
 happens_hands n (nodes.Submit now tx) save = submit_either (λ r. handed_in r.answer ≡ []) (at_moment now n) tx (λ _. refl) refl
+happens_hands n (nodes.Relist now list) save = relist_either (λ r. handed_in r.answer ≡ []) (at_moment now n) list (λ _. refl) (λ _. refl)
 
 -- A STEP
 
@@ -81,6 +82,7 @@ step_accounts core (Drain member room) save = stays_accounted core.untaken
 step_accounts core (Reports room) save = goes room core.untaken.items core.untaken.lost
 step_accounts core Stop save = stays_accounted core.untaken
 step_accounts core Stopped save = stays_accounted core.untaken
+step_accounts core (Relist now list) save = node_accounts core (happens core.node (nodes.Relist now list) save) (happens_hands core.node (nodes.Relist now list) save)
 
 -- A LIFE
 
@@ -144,6 +146,8 @@ step_whole core (Reports room) save before out few was = record {
 }
 step_whole core Stop save before out few was = stays_whole before out core.untaken was
 step_whole core Stopped save before out few was = stays_whole before out core.untaken was
+step_whole core (Relist now list) save before out few was =
+    node_whole core (happens core.node (nodes.Relist now list) save) before out (happens_hands core.node (nodes.Relist now list) save) few was
 
 -- never more than 1,024 wait, of those that came before too
 abbrev NeverMoreAfter : List Report → List Report → Core → List CoreHappening → Type 0

@@ -1,25 +1,27 @@
 -- What the code does is what the definitions say.
-use Rattle.std.proofs.Common.{◌≡◌, ℕ, true, false, List, refl, ap, sym, ◌∙◌, Option, Some, None, subst, Result, Ok, Err}
+use Rattle.std.proofs.Common.{◌≡◌, ℕ, ◌*◌, ◌<◌, true, false, List, length, refl, arith, ap, sym, ◌∙◌, Option, Some, None, subst, Result, Ok, Err}
 use Rattle.std.specs.Prelude.{IsSome, is_some, map, find, filter_map, option_map}
-use Rattle.std.specs.Option.{option_or}
 use Rattle.std.specs.Result.{result_unwrap_or}
-use Rattle.xl_lists.specs.Lists.{is_on}
+use Rattle.xl_lists.specs.Lists.{IsValid, is_on}
 use Rattle.xl_wire.specs.declared.validation.Validation.{Validation}
 use Rattle.xl_validations.specs.declared.row.Row.{Row}
 use Rattle.xl_validations.specs.declared.refusal.ValRefusal.{ValRefusal}
 use Rattle.xl_validations.specs.Rows.{row_of, refusal_of, with_validation, at_member}
+use Rattle.std.proofs.lemmas.List.{length-map}
+use Rattle.xl_core.specs.declared.last.LastReport.{LastReport}
 use Rattle.xl_core.specs.declared.report.Report.{Report}
+use Rattle.xl_core.specs.Lasts.{later}
 use Rattle.xl_core.specs.declared.refusal.Refusal.{Refusal}
 use Rattle.xl_core.specs.Answers.{Took, Done}
 use Rattle.xl_core.specs.declared.taken.Taken.TheVariants.{Vote}
-use Rattle.xl_core.specs.Node.{Node, Reply, hears, taking, refusing_or, reporting, with_taken, take, arisen, arises_in, report_of, refusal_at, second_of, later}
+use Rattle.xl_core.specs.Node.{Node, Reply, hears, taking, refusing_or, reporting, with_taken, take, arisen, arisen_in, arises_in, report_of, refusal_at, second_of}
 use Rattle.xl_core.specs.Node.{report_if}
 use Rattle.xl_core.specs.declared.hearing.Speech.TheVariants as speech
 use Rattle.xl_core.specs.Refusals.{refusal_from}
 use Rattle.xl_core.specs.Rest.{IsAtRest, NothingArises}
 use Rattle.xl_core.specs.Replies.{vote_reply}
 use Rattle.xl_core.proofs.Members.{row_if_on, members_stay, nobody_changes, refused_stays, taken_changes}
-use Rattle.xl_core.proofs.Arising.{arisen_by, rest_after, nothing_arisen}
+use Rattle.xl_core.proofs.Arising.{arisen_by, rest_reported, nothing_arisen}
 
 -- a member has a row
 pub has_row : (n : Node) (from : ℕ) → IsAtRest n → is_on n.list.members from ≡ true → IsSome (row_of n.rows from)
@@ -35,31 +37,35 @@ has_none n from rest off = none (row_of n.rows from) (sym (row_if_on n.rows from
 
 -- A ROW TAKES A VALIDATION
 
-pub or_later : (report last : Option Report) → option_or report last ≡ later last report
-or_later None last = refl
-or_later (Some r) last = refl
+-- a quorum is more than half of the rows
+pub few_rows : (n : Node) (rows : List Row) → IsValid n.list → map (λ row. row.member) rows ≡ n.list.members → length rows < 2 * n.list.quorum
+few_rows n rows valid members = omega (arith, valid.majority, ap length members, length-map rows (λ (row : Row). row.member))
 
-pub rest_when_taken : (n : Node) (from : ℕ) (v : Validation) (rows : List Row) (report last : Option Report) → IsAtRest n → rows ≡ at_member from (with_validation v) n.rows →
-    report ≡ report_if (arises_in n.list.quorum rows n.last v) v → last ≡ option_or report n.last → IsAtRest (record n { rows = rows; last = last })
-rest_when_taken n from v rows report last rest is_rows is_report is_last = record {
-  valid = rest.valid;
-  members = ap (map (λ (row : Row). row.member)) is_rows ∙ members_stay from (with_validation v) (λ _. refl) n.rows ∙ rest.members;
-  reported = subst (NothingArises n.list.quorum rows) (sym (is_last ∙ or_later report n.last ∙ ap (later n.last) is_report))
-      (subst (λ rs. NothingArises n.list.quorum rs (later n.last (report_if (arises_in n.list.quorum rs n.last v) v))) (sym is_rows)
-      (rest_after n.list.quorum n.rows n.last from v rest.reported));
-}
+-- what the rows report then
+pub arisen_then : (n : Node) (from : ℕ) (v : Validation) (rows : List Row) → IsAtRest n → IsSome (row_of n.rows from) → rows ≡ at_member from (with_validation v) n.rows →
+    arisen_in n.list.quorum rows n.last ≡ report_if (arises_in n.list.quorum rows n.last v) v
+arisen_then n from v rows rest has is_rows =
+    subst (λ rs. arisen_in n.list.quorum rs n.last ≡ report_if (arises_in n.list.quorum rs n.last v) v) (sym is_rows) (arisen_by n.list.quorum n.rows n.last from v rest.reported has)
 
-pub answer_when_taken : (n : Node) (from : ℕ) (v : Validation) (rows : List Row) (report last : Option Report) → IsAtRest n → is_on n.list.members from ≡ true →
-    None ≡ refusal_of n.rows from (second_of n) v → rows ≡ at_member from (with_validation v) n.rows → report ≡ report_if (arises_in n.list.quorum rows n.last v) v → last ≡ option_or report n.last →
+pub rest_when_taken : (n : Node) (from : ℕ) (v : Validation) (rows : List Row) (report : Option Report) (last : LastReport) → IsAtRest n → IsSome (row_of n.rows from) → rows ≡ at_member from (with_validation v) n.rows →
+    report ≡ report_if (arises_in n.list.quorum rows n.last v) v → last ≡ later n.last report → IsAtRest (record n { rows = rows; last = last })
+rest_when_taken n from v rows report last rest has is_rows is_report is_last =
+    let members : map (λ (row : Row). row.member) rows ≡ n.list.members = ap (map (λ (row : Row). row.member)) is_rows ∙ members_stay from (with_validation v) (λ _. refl) n.rows ∙ rest.members in
+    record {
+      valid = rest.valid;
+      members = members;
+      reported = subst (NothingArises n.list.quorum rows) (sym (is_last ∙ ap (later n.last) (is_report ∙ sym (arisen_then n from v rows rest has is_rows))))
+          (rest_reported n.list.quorum rows n.last (few_rows n rows rest.valid members));
+    }
+
+pub answer_when_taken : (n : Node) (from : ℕ) (v : Validation) (rows : List Row) (report : Option Report) (last : LastReport) → IsAtRest n → is_on n.list.members from ≡ true →
+    None ≡ refusal_of n.rows from (second_of n) v → rows ≡ at_member from (with_validation v) n.rows → report ≡ report_if (arises_in n.list.quorum rows n.last v) v → last ≡ later n.last report →
     vote_reply (Ok report) (record n { rows = rows; last = last }) ≡ hears n from (speech.Validation v)
 answer_when_taken n from v rows report last rest on unrefused is_rows is_report is_last =
-    let arises_so : arisen (record n { rows = rows }) ≡ report =
-    subst (λ rs. option_map report_of (find (arises_in n.list.quorum rs n.last) (filter_map (λ row. row.current) rs)) ≡ report_if (arises_in n.list.quorum rs n.last v) v) (sym is_rows)
-    (arisen_by n.list.quorum n.rows n.last from v rest.reported (has_row n from rest on))
-    ∙ sym is_report in
-    let with_last = λ (l : Option Report). let r : Reply = vote_reply (Ok report) (record n { rows = rows; last = l }) in r in
+    let arises_so : arisen (record n { rows = rows }) ≡ report = arisen_then n from v rows rest (has_row n from rest on) is_rows ∙ sym is_report in
+    let with_last = λ (l : LastReport). let r : Reply = vote_reply (Ok report) (record n { rows = rows; last = l }) in r in
     let with_report = λ (rp : Option Report). let r : Reply = vote_reply (Ok rp) (record n { rows = rows; last = later n.last rp }) in r in
-    ap with_last (is_last ∙ or_later report n.last)
+    ap with_last is_last
     ∙ ap with_report (sym arises_so)
     ∙ ap (λ rs. reporting (record n { rows = rs }) (Took Vote) None) (is_rows ∙ sym (taken_changes from (second_of n) v n.rows (sym unrefused)))
     ∙ ap (λ (o : Option ValRefusal). refusing_or n (option_map refusal_from o) (taking n from (speech.Validation v))) unrefused
@@ -80,7 +86,7 @@ vote_report : (r : Result (Option Report) Refusal) (m : Node) → (vote_reply r 
 vote_report (Ok report) m = refl
 vote_report (Err why) m = refl
 
--- the node is the same where the row refuses
+-- the node is the same if the row refuses
 heard_own : (n : Node) (from : ℕ) (v : Validation) (o : Option ValRefusal) → IsAtRest n → refusal_at n (second_of n) from v ≡ o →
     let reply = refusing_or n (option_map refusal_from o) (taking n from (speech.Validation v)) in
     (reply.node ≡ (reporting (with_taken n (second_of n) from v) Done (Some v)).node) × (reply.report ≡ arisen (with_taken n (second_of n) from v))
@@ -93,7 +99,7 @@ own_taken n from v r m rest is =
     let heard = heard_own n from v (refusal_at n (second_of n) from v) rest refl in
     (sym (vote_node r m) ∙ ap (λ (x : Reply). x.node) is ∙ heard.0, sym (vote_report r m) ∙ ap (λ (x : Reply). x.report) is ∙ heard.1)
 
--- nor where the node isn't on its list
+-- nor if the node isn't on its list
 pub own_not_listed : (n : Node) (now : ℕ) (v : Validation) → IsAtRest n → is_on n.list.members n.me ≡ false →
     (n ≡ (reporting (with_taken n now n.me v) Done (Some v)).node) × (None ≡ arisen (with_taken n now n.me v))
 own_not_listed n now v rest off = stays n (at_member n.me (take now v) n.rows) (Some v) rest (nobody_changes n.me (take now v) n.rows (has_none n n.me rest off))

@@ -23,7 +23,7 @@ pub record Follows (r : Ledgers) (previous : ℕ) (h : Header) : Type 0 where
   pub parent : h.parent ≡ id_at r.headers previous
   pub next : h.seq ≡ seq_at r.headers previous + 1
 
--- the causes but for room don't hold
+-- the causes except for room don't hold
 only_room : (l : ℕ) (a b c d : Bool) (x y : LedgerId) (m n : ℕ) → a ≡ false → b ≡ true → c ≡ true →
     first_of (refused_if a (Known x) ∷ refused_if (not b) (Orphan y) ∷ refused_if (not c) (WrongSeq m n) ∷ refused_if d (Full l) ∷ []) ≡ refused_if d (Full l)
 only_room l a b c true x y m n ea eb ec = rw (ea, eb, ec) refl
@@ -36,7 +36,7 @@ refusal_is r previous h f fresh =
     only_room r.limit (is_some (place_of r.headers (header_id h))) (is_some (place_of r.headers h.parent)) (h.seq == parent_seq r.headers h + 1) (nat_le r.limit (length r.headers))
     (header_id h) h.parent (parent_seq r.headers h) h.seq (ap is_some fresh) (ap is_some at) (eq-eqb h.seq (parent_seq r.headers h + 1) (f.next ∙ ap (λ (n : ℕ). n + 1) (sym before)))
 
--- it is refused exactly where there is no room
+-- it is refused exactly if there is no room
 none_by : (r : Ledgers) (b : Bool) (why : AddRefusal) (k : Knowing) → Err why ≡ unless_refused (refused_if b (Full r.limit)) (length r.headers) → cond b None (Some k) ≡ None
 none_by r true why k e = refl
 none_by r false why k e = cc

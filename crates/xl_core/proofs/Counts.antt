@@ -1,5 +1,5 @@
 -- What a row's new validation does to the counts: it adds to its own ledger's alone.
-use Rattle.std.proofs.Common.{◌≡◌, ℕ, ◌+◌, ◌≤◌, Bool, true, false, cond, List, [], ◌∷◌, refl, arith, ap, ◌∙◌, Option, Some, None, subst}
+use Rattle.std.proofs.Common.{◌≡◌, ℕ, ◌+◌, ◌≤◌, Bool, true, false, cond, List, [], ◌∷◌, refl, arith, ap, sym, ◌∙◌, Option, Some, None, subst}
 use Rattle.std.specs.Prelude.{◌==◌, ◌&&◌, count_by, find, filter_map, IsSome, IfSome, is_some}
 use Rattle.std.specs.List.{cons_option}
 use Rattle.std.proofs.lemmas.Bool.{and_parts, cond_both, cond-true, cond-false, eqb-true}
@@ -48,7 +48,24 @@ pub find_passes : {X : Type 0} (p : X → Bool) (xs : List X) → IfSome (find p
 find_passes p [] = tt
 find_passes p (x ∷ xs) = cond_both (p x) (Some x) (find p xs) (λ o. IfSome o (λ y. p y ≡ true)) (λ e. e) (λ _. find_passes p xs)
 
--- where none passes, none is found
+-- if none passes, none is found
 pub find_none : {X : Type 0} (p : X → Bool) → ((x : X) → p x ≡ false) → (xs : List X) → find p xs ≡ None
 find_none p none [] = refl
 find_none p none (x ∷ xs) = cond-false (p x) (Some x) (find p xs) (none x) ∙ find_none p none xs
+
+-- if some row holds a ledger, a validation of it is found, or one before it
+pub found_if_held : (p : Validation → Bool) (seq : ℕ) (id : LedgerId) → ((v : Validation) → is_full_of seq id (Some v) ≡ true → p v ≡ true) → (rows : List Row) → 1 ≤ count_full seq id rows → IsSome (find p (filter_map (λ row. row.current) rows))
+found_if_held p seq id each [] some = absurd (omega (arith, some))
+found_if_held p seq id each (row ∷ rows) some =
+    at_row row.current (found_if_held p seq id each rows) (subst (λ (n : ℕ). 1 ≤ n) (count_by-cons (λ r. is_full_of seq id r.current) row rows) some)
+  where
+    at_row : (o : Option Validation) → (1 ≤ count_full seq id rows → IsSome (find p (filter_map (λ r. r.current) rows))) → 1 ≤ cond (is_full_of seq id o) 1 0 + count_full seq id rows →
+        IsSome (find p (cons_option o (filter_map (λ r. r.current) rows)))
+    at_row None rest h = rest (omega (arith, h))
+    at_row (Some v) rest h =
+        cond_both (p v) (Some v) (find p (filter_map (λ r. r.current) rows)) IsSome (λ _. refl)
+        (λ fails. rest (no_more (is_full_of seq id (Some v)) refl fails h))
+      where
+        no_more : (b : Bool) → is_full_of seq id (Some v) ≡ b → p v ≡ false → 1 ≤ cond b 1 0 + count_full seq id rows → 1 ≤ count_full seq id rows
+        no_more true full fails h = let never : true ≡ false = sym (each v full) ∙ fails in absurd cc
+        no_more false other fails h = omega (arith, h)

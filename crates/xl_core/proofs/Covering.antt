@@ -27,9 +27,9 @@ use Rattle.xl_wire.specs.Bodies.{body_in as wire_body}
 use Rattle.xl_ledger.specs.Chains.{header_at, place_of}
 use Rattle.xl_ledger.specs.Headers.{spelling}
 use Rattle.xl_core.specs.Answers.{Done}
-use Rattle.xl_core.proofs.Timing.{timing_by, submit_either}
+use Rattle.xl_core.proofs.Timing.{timing_by, submit_either, relist_either}
 use Rattle.xl_core.specs.declared.event.CoreEvent.{CoreEvent}
-use Rattle.xl_core.specs.declared.event.CoreEvent.TheVariants.{Issue, Frame, Timer, Submit, Greet, Drain, Reports, Stop, Stopped}
+use Rattle.xl_core.specs.declared.event.CoreEvent.TheVariants.{Issue, Frame, Timer, Submit, Greet, Drain, Reports, Stop, Stopped, Relist}
 use Rattle.xl_core.specs.declared.hearing.Spoken.{Spoken}
 use Rattle.xl_core.specs.declared.item.Item.{Item}
 use Rattle.xl_core.specs.declared.item.Item.TheVariants.{Vote, Tx, TxSet, Proposal, Header as HeaderItem}
@@ -49,7 +49,7 @@ use Rattle.xl_core.proofs.Greeted.{given_all}
 use Rattle.xl_core.proofs.Heard.{not_itself}
 use Rattle.xl_core.proofs.Spelling.{held, sealed_raw}
 use Rattle.xl_core.proofs.Stepping.{stays_itself}
-use Rattle.xl_core.proofs.Stopping.{AllCovered, waiting_covered, heard_keeps, frame_covered, issue_covered, timer_covered, submit_covered, drain_covered, opened_covered}
+use Rattle.xl_core.proofs.Stopping.{AllCovered, waiting_covered, heard_keeps, frame_covered, issue_covered, timer_covered, submit_covered, relist_covered, drain_covered, opened_covered}
 
 -- WHAT A DRAIN GIVES
 
@@ -239,6 +239,13 @@ step_on held core given Stop save life = record {
   all = none_given core.node.kept given life.all;
 }
 step_on held core given Stopped save life = record { own = life.own; covered = life.covered; all = none_given core.node.kept given life.all }
+step_on held core given (Relist now list) save life =
+    let same = stays_itself core.node (nodes.Relist now list) save in
+    record {
+      own = ap (λ (r : Ring). r.me) same.keys ∙ life.own ∙ sym same.me;
+      covered = relist_covered held core now list save life.covered;
+      all = relist_either (λ r. All (IsFrameCovered r.node.kept) (given ++ given_in r.answer)) (at_moment now core.node) list (λ _. none_given core.node.kept given life.all) (λ _. none_given core.node.kept given life.all);
+    }
 
 lives_on : (held : Held) (core : Core) (given : List (List ℕ)) (life : List CoreHappening) → IsLife held core given → IsLife (held_after held core life) (core_after core life) (given ++ given_over core life)
 lives_on held core given [] is = record { own = is.own; covered = is.covered; all = none_given core.node.kept given is.all }

@@ -214,7 +214,7 @@ drained_end f old now number old_room room at least most drain none =
     written_all fs drain.count old_room room at drain.so_far
     (ap (λ (xs : Frames). fitting xs (length old_room - at)) (sym rest) ∙ ap (λ (k : ℕ). fitting (map f (waiting_at now number).items) (k - at)) (sym long) ∙ none)
 
--- a drain gives nothing exactly where nothing is left but what is passed over: each frame fits into the room
+-- a drain gives nothing exactly if nothing is left but what is passed over: each frame fits into the room
 pub none_left : (fs : Frames) (room : ℕ) → All (λ o. IfSome o (λ f. (0 < length f) × (length f ≤ room))) fs → length (joined (frames_in (take (fitting fs room) fs))) ≡ 0 → frames_in fs ≡ []
 none_left [] room fits none = refl
 none_left (None ∷ fs) room fits none = none_left fs room (All-tail (λ o. IfSome o (λ f. (0 < length f) × (length f ≤ room))) None fs fits) none

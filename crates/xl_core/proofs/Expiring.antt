@@ -13,7 +13,6 @@ use Rattle.xl_validations.proofs.Turning.{members_then}
 use Rattle.xl_core.specs.declared.report.Report.{Report}
 use Rattle.xl_core.specs.Node.{Node, at_moment}
 use Rattle.xl_core.proofs.Current.{current_then, none_expire}
-use Rattle.xl_core.proofs.Passing.{IsHead, is_past, still_names}
 use Rattle.xl_core.specs.Rest.{IsAtRest, IsCurrent, IsReady}
 
 full_then : (seq : ℕ) (id : LedgerId) (s : ℕ) (o : Option Validation) (m n : ℕ) → m ≤ n → cond (is_full_of seq id (unexpired s o)) 1 0 + m ≤ cond (is_full_of seq id o) 1 0 + n
@@ -70,45 +69,3 @@ ready_after now n time second rows le time_is second_is rows_are ready =
     let is : rows ≡ map (row_at (max n.time now / 1000)) n.rows = rows_are ∙ ap (λ (s : ℕ). map (row_at s) n.rows) at in
     subst (λ (t : ℕ). IsReady (record n { time = t; rows = rows })) (sym time_is)
     (subst (λ (rs : List Row). IsReady (record n { time = max n.time now; rows = rs })) (sym is) (ready_then now n le ready))
-
--- ---- the reports so far
-
-heads_then : (s : ℕ) (rows : List Row) → All IsHead rows → All IsHead (map (row_at s) rows)
-heads_then s [] heads = heads
-heads_then s (row ∷ rows) heads =
-    All-cons IsHead (row_at s row) (map (row_at s) rows) (head_then row.current (All-head IsHead row rows heads)) (heads_then s rows (All-tail IsHead row rows heads))
-  where
-    head_then : (o : Option Validation) → IfSome o (λ v. v.seq ≡ row.largest) → IfSome (unexpired s o) (λ v. v.seq ≡ row.largest)
-    head_then None h = tt
-    head_then (Some v) h = cond_both (is_current s v) (Some v) None (λ o. IfSome o (λ u. u.seq ≡ row.largest)) (λ _. h) (λ _. tt)
-
--- a row that is past a report stays past it
-past_row : (seq : ℕ) (id : LedgerId) (s largest : ℕ) (o : Option Validation) → (nat_lt seq largest || (seq == largest && still_names id o)) ≡ true → (nat_lt seq largest || (seq == largest && still_names id (unexpired s o))) ≡ true
-past_row seq id s largest None past = past
-past_row seq id s largest (Some v) past =
-    cond_both (is_current s v) (Some v) None (λ o. (nat_lt seq largest || (seq == largest && still_names id o)) ≡ true) (λ _. past)
-    (λ _. weaker (nat_lt seq largest) (seq == largest) (still_names id (Some v)) past)
-  where
-    weaker : (a b c : Bool) → (a || (b && c)) ≡ true → (a || (b && true)) ≡ true
-    weaker true b c h = refl
-    weaker false true c h = refl
-    weaker false false c h = h
-
-one_more : (a b : Bool) (m n : ℕ) → (a ≡ true → b ≡ true) → m ≤ n → cond a 1 0 + m ≤ cond b 1 0 + n
-one_more true true m n h le = omega arith
-one_more true false m n h le = let never : false ≡ true = h refl in cc
-one_more false true m n h le = omega arith
-one_more false false m n h le = omega arith
-
-past_then : (seq : ℕ) (id : LedgerId) (s : ℕ) (rows : List Row) → count_by (is_past seq id) rows ≤ count_by (is_past seq id) (map (row_at s) rows)
-past_then seq id s [] = omega arith
-past_then seq id s (row ∷ rows) =
-    rw (count_by-cons (is_past seq id) row rows, count_by-cons (is_past seq id) (row_at s row) (map (row_at s) rows))
-    (one_more (is_past seq id row) (is_past seq id (row_at s row)) (count_by (is_past seq id) rows) (count_by (is_past seq id) (map (row_at s) rows)) (past_row seq id s row.largest row.current) (past_then seq id s rows))
-
-pub last_past : (quorum s : ℕ) (rows : List Row) (last : Option Report) → IfSome last (λ r. quorum ≤ count_by (is_past r.seq r.id) rows) → IfSome last (λ r. quorum ≤ count_by (is_past r.seq r.id) (map (row_at s) rows))
-last_past quorum s rows None h = tt
-last_past quorum s rows (Some r) h = omega (arith, h, past_then r.seq r.id s rows)
-
-pub heads_at : (now : ℕ) (n : Node) → All IsHead n.rows → All IsHead (at_moment now n).rows
-heads_at now n heads = heads_then (max n.time now / 1000) n.rows heads

@@ -215,7 +215,7 @@ is_front n to room (Some g) done =
 
 -- FRAMES BEHIND FRAMES
 
--- where not all of the first fit, none of the others does
+-- if not all of the first fit, none of the others does
 fits_front : (xs ys : Frames) (room : ℕ) → fitting xs room < length xs → fitting (xs ++ ys) room ≡ fitting xs room
 fits_front [] ys room lt = absurd (omega (arith, lt))
 fits_front (None ∷ xs) ys room lt = ap suc (fits_front xs ys room (omega (arith, lt)))
@@ -226,7 +226,7 @@ fits_front (Some f ∷ xs) ys room lt =
     by true k k' n same lt = ap suc (same (omega (arith, lt)))
     by false k k' n same lt = refl
 
--- where all of them do, the others have the room that is left
+-- if all of them do, the others have the room that is left
 fits_both : (xs ys : Frames) (room : ℕ) → fitting xs room ≡ length xs → fitting (xs ++ ys) room ≡ length xs + fitting ys (room - length (joined (frames_in xs)))
 fits_both [] ys room all = let whole : room ≡ room - 0 = omega arith in ap (fitting ys) whole ∙ omega arith
 fits_both (None ∷ xs) ys room all = let rest = fits_both xs ys room (omega (arith, all)) in omega (arith, rest)
@@ -343,7 +343,7 @@ all_fit core to room enough =
     All-append (λ f. IfSome f (λ bytes. (0 < length bytes) × (length bytes ≤ room))) (greeted_frames core to) (frames_for core.node core.waiting to)
     (headers_fit core.node to room (greeting_at core.greetings to) enough) (frames_fit core.node to room (waiting_at core.waiting to).items enough)
 
--- it gives nothing exactly where nothing is left but what is passed over
+-- it gives nothing exactly if nothing is left but what is passed over
 pub nothing_left : (core after : Core) (member written : ℕ) (old new : List ℕ) → 8240 ≤ length old → Drains core member after written old new → (written ≡ 0) ↔ (frames_in (all_frames core member) ≡ [])
 nothing_left core after member written old new enough drain = (
   λ none. none_left (all_frames core member) (length old) (all_fit core member (length old) enough) (sym drain.count ∙ none),

@@ -124,7 +124,7 @@ heard_by ring members bytes said is = by (unheard ring members bytes) is
     by None e = (refl, same_said (said_in (raw_in bytes)) said e)
     by (Some why) e = cc
 
--- and something is heard where none holds
+-- and something is heard if none holds
 pub heard_where : (ring : Ring) (members bytes : List ℕ) → unheard ring members bytes ≡ None → heard ring members bytes ≡ Ok (said_in (raw_in bytes))
 heard_where ring members bytes none = ap (λ (o : Option Refusal). unless_refused o (said_in (raw_in bytes))) none
 

@@ -10,12 +10,12 @@ pub mod Members
 pub mod Arising
 pub mod Answered
 pub mod Opening
-pub mod Passing
 pub mod Blanks
 pub mod Current
 pub mod Expiring
 pub mod Timing
 pub mod Living
+pub mod Relisting
 pub mod Reporting
 pub mod Draining
 pub mod Handing

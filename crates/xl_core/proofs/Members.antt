@@ -13,7 +13,7 @@ use Rattle.xl_core.specs.Node.{take}
 or_of_false : (a b : Bool) → a ≡ false → (a || b) ≡ b
 or_of_false a b e = grind arith
 
--- a member has a row exactly where it is on the list
+-- a member has a row exactly if it is on the list
 pub row_if_on : (rows : List Row) (from : ℕ) → is_on (map (λ row. row.member) rows) from ≡ is_some (row_of rows from)
 row_if_on [] from = refl
 row_if_on (row ∷ rows) from =
@@ -38,7 +38,7 @@ pub members_opened : (members : List ℕ) → map (λ row. row.member) (map empt
 members_opened [] = refl
 members_opened (m ∷ ms) = cons_same refl (members_opened ms)
 
--- where nobody has the number, no row changes
+-- if nobody has the number, no row changes
 pub nobody_changes : (from : ℕ) (f : Row → Row) (rows : List Row) → row_of rows from ≡ None → at_member from f rows ≡ rows
 nobody_changes from f [] none = refl
 nobody_changes from f (row ∷ rows) none =

@@ -9,11 +9,12 @@ use Rattle.xl_tags.proofs.MacLaws.{length-mac}
 use Rattle.xl_tags.specs.Macs.{mac}
 use Rattle.xl_tags.specs.Rings.{Ring, key_of}
 use Rattle.xl_tags.specs.Sealing.{before_tag, sealed}
+use Rattle.xl_base.specs.declared.ids.LedgerId.{LedgerId}
 use Rattle.xl_wire.specs.declared.body.Body.{Body}
 use Rattle.xl_wire.specs.declared.body.Body.TheVariants as bodies
 use Rattle.xl_wire.specs.declared.proposal.Proposal.{Proposal}
 use Rattle.xl_wire.specs.declared.validation.Validation.{Validation}
-use Rattle.xl_wire.specs.Bodies.{validation_bytes, body_bytes, kind_of, IsProposal, IsValidation, IsBody}
+use Rattle.xl_wire.specs.Bodies.{body_bytes, kind_of, version_for, version_of, IsProposal, IsValidation, IsBody}
 use Rattle.xl_wire.specs.Frames.{IsFrame, raw_of}
 use Rattle.xl_wire.specs.Kinds.{can_have}
 use Rattle.xl_wire.specs.Raws.{raw_bytes, IsRaw}
@@ -22,9 +23,9 @@ use Rattle.xl_wire.proofs.RawLaws.{length-raw_bytes}
 use Rattle.xl_core.specs.declared.item.Item.{Item}
 use Rattle.xl_core.specs.Items.{framed, frame_of, body_in}
 use Rattle.xl_core.specs.Node.{Node}
-use Rattle.xl_core.specs.Sending.{blank_frame, sealed_bytes, fits, has_spelling}
+use Rattle.xl_core.specs.Sending.{blank_frame, sealed_bytes, fits, has_spelling, is_id}
 
--- a tag has 32 bytes, also where there is no key
+-- a tag has 32 bytes, also if there is no key
 tag_long : (bytes : List ℕ) (o : Option (List ℕ)) → length (unwrap_or (option_map (λ key. mac key (before_tag bytes)) o) (replicate 32 0)) ≡ 32
 tag_long bytes None = refl
 tag_long bytes (Some key) = length-mac key _
@@ -41,11 +42,16 @@ proposal_fits p h =
 
 validation_fits : (v : Validation) → fits (bodies.Validation v) ≡ true → IsValidation v
 validation_fits v h =
-    let a = and_parts (length v.id.0 == 32 && nat_lt v.seq (2 ^ 32)) _ h in
+    let d = and_parts (length v.id.0 == 32 && nat_lt v.seq (2 ^ 32) && nat_lt v.signed (2 ^ 32)) _ h in
+    let a = and_parts (length v.id.0 == 32 && nat_lt v.seq (2 ^ 32)) _ d.0 in
     let b = and_parts (length v.id.0 == 32) _ a.0 in
-    record { id = eqb-true (length v.id.0) 32 b.0; seq = ltb-true v.seq (2 ^ 32) b.1; signed = ltb-true v.signed (2 ^ 32) a.1 }
+    record { id = eqb-true (length v.id.0) 32 b.0; seq = ltb-true v.seq (2 ^ 32) b.1; signed = ltb-true v.signed (2 ^ 32) a.1; validated = id_fits v.validated d.1 }
+  where
+    id_fits : (o : Option LedgerId) → is_id o ≡ true → IfSome o (λ id. length id.0 ≡ 32)
+    id_fits None h = tt
+    id_fits (Some id) h = eqb-true (length id.0) 32 h
 
-lawful : (body : Body) → fits body ≡ true → can_have (kind_of body) (length (body_bytes body)) ≡ true
+lawful : (body : Body) → fits body ≡ true → can_have (version_of body) (kind_of body) (length (body_bytes body)) ≡ true
 lawful (bodies.Proposal p) h = spelled_lawful (bodies.Proposal p) (proposal_fits p h)
 lawful (bodies.Validation v) h = spelled_lawful (bodies.Validation v) (validation_fits v h)
 lawful (bodies.Header header) h = spelled_lawful (bodies.Header header) (eqb-true (length header) 118 h)
@@ -69,6 +75,9 @@ sealed_raw ring from to body h =
 all_of : (a b c : Bool) → a ≡ true → b ≡ true → c ≡ true → (a && b && c) ≡ true
 all_of a b c ea eb ec = rw (ea, eb, ec) refl
 
+all_four : (a b c d : Bool) → a ≡ true → b ≡ true → c ≡ true → d ≡ true → (a && b && c && d) ≡ true
+all_four a b c d ea eb ec ed = rw (ea, eb, ec, ed) refl
+
 all_five : (a b c d e : Bool) → a ≡ true → b ≡ true → c ≡ true → d ≡ true → e ≡ true → (a && b && c && d && e) ≡ true
 all_five a b c d e ea eb ec ed ee = rw (ea, eb, ec, ed, ee) refl
 
@@ -77,7 +86,11 @@ body_fits (bodies.Proposal p) is =
     all_five (length p.prev.0 == 32) (length p.set.0 == 32) (nat_lt p.pseq (2 ^ 32)) (nat_lt p.close (2 ^ 32)) (nat_lt p.time (2 ^ 32))
     (eq-eqb (length p.prev.0) 32 is.prev) (eq-eqb (length p.set.0) 32 is.set) (lt-ltb p.pseq (2 ^ 32) is.pseq) (lt-ltb p.close (2 ^ 32) is.close) (lt-ltb p.time (2 ^ 32) is.time)
 body_fits (bodies.Validation v) is =
-    all_of (length v.id.0 == 32) (nat_lt v.seq (2 ^ 32)) (nat_lt v.signed (2 ^ 32)) (eq-eqb (length v.id.0) 32 is.id) (lt-ltb v.seq (2 ^ 32) is.seq) (lt-ltb v.signed (2 ^ 32) is.signed)
+    all_four (length v.id.0 == 32) (nat_lt v.seq (2 ^ 32)) (nat_lt v.signed (2 ^ 32)) (is_id v.validated) (eq-eqb (length v.id.0) 32 is.id) (lt-ltb v.seq (2 ^ 32) is.seq) (lt-ltb v.signed (2 ^ 32) is.signed) (id_is v.validated is.validated)
+  where
+    id_is : (o : Option LedgerId) → IfSome o (λ id. length id.0 ≡ 32) → is_id o ≡ true
+    id_is None h = refl
+    id_is (Some id) h = eq-eqb (length id.0) 32 h
 body_fits (bodies.Header header) is = eq-eqb (length header) 118 is
 body_fits (bodies.TxSet ids) is = spelled_lawful (bodies.TxSet ids) is
 body_fits (bodies.Tx id) is = eq-eqb (length id.0) 32 is
@@ -87,17 +100,14 @@ frame_spelled from to body is = all_of (nat_lt from (2 ^ 32)) (nat_lt to (2 ^ 32
 
 -- HOW LONG IT IS
 
--- a validation's frame has 87 bytes
-pub sealed_long : (ring : Ring) (from to : ℕ) (v : Validation) → has_spelling from to (bodies.Validation v) ≡ true → length (sealed_bytes ring from to (bodies.Validation v)) ≡ 87
-sealed_long ring from to v spelled =
-    let raw = sealed_raw ring from to (bodies.Validation v) spelled in
-    let body : length (validation_bytes v) ≡ 41 = eqb-true (length (validation_bytes v)) 41 raw.lawful in
-    omega (arith, body, length-raw_bytes (sealed ring (raw_of (blank_frame from to (bodies.Validation v)))) raw.tag)
-
 -- no body has more than 8,194
-small : (body : Body) (n : ℕ) → can_have (kind_of body) n ≡ true → n ≤ 8194
+small : (body : Body) (n : ℕ) → can_have (version_of body) (kind_of body) n ≡ true → n ≤ 8194
 small (bodies.Proposal p) n h = omega (arith, eqb-true n 76 h)
-small (bodies.Validation v) n h = omega (arith, eqb-true n 41 h)
+small (bodies.Validation v) n h = validation_small v.validated h
+  where
+    validation_small : (o : Option LedgerId) → can_have (version_for o) 2 n ≡ true → n ≤ 8194
+    validation_small None h = omega (arith, eqb-true n 41 h)
+    validation_small (Some id) h = omega (arith, eqb-true n 73 h)
 small (bodies.Header header) n h = omega (arith, eqb-true n 118 h)
 small (bodies.TxSet ids) n h = grind (arith, nat_tests)
 small (bodies.Tx id) n h = omega (arith, eqb-true n 32 h)

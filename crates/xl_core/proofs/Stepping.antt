@@ -8,18 +8,18 @@ use Rattle.xl_base.specs.declared.ids.LedgerId.{LedgerId}
 use Rattle.xl_ledger.specs.declared.header.Header.{Header}
 use Rattle.xl_ledger.specs.Headers.{header_id}
 use Rattle.xl_rounds.specs.Rounds.{is_proposing}
-use Rattle.xl_core.proofs.Timing.{timing_by, submit_either}
+use Rattle.xl_core.proofs.Timing.{timing_by, submit_either, relist_either}
 use Rattle.xl_core.specs.declared.hearing.Speech.{Speech}
 use Rattle.xl_core.specs.declared.hearing.Speech.TheVariants as speech
 use Rattle.xl_core.specs.declared.refusal.Refusal.{Refusal}
 use Rattle.xl_core.specs.declared.refusal.Refusal.TheVariants.{NotAfter}
 use Rattle.xl_core.specs.declared.report.Report.{Report}
-use Rattle.xl_core.specs.Node.{Node, Event, Issue, Frame, Timer, Submit, Reply, Save, happens, issuing, replying, completed, timed, validates, validating_built, taking, hearing, issues, issues_unless, refusing, at_moment, second_of, own_validation}
+use Rattle.xl_core.specs.Node.{Node, Event, Issue, Frame, Timer, Submit, Relist, Reply, Save, happens, issuing, replying, completed, timed, validates, validating_built, taking, hearing, issues, issues_unless, refusing, at_moment, second_of, own_validation}
 use Rattle.xl_core.specs.Node.Save.{Kept, Failed}
 use Rattle.xl_core.specs.Answers.{Refused, Took, Done}
 use Rattle.xl_core.specs.Queues.{with_report}
 use Rattle.xl_core.specs.Core.{Core, stepped}
-use Rattle.xl_core.specs.Replies.{Answers, hear_reply, issue_reply}
+use Rattle.xl_core.specs.Replies.{Answers, hear_reply, issue_reply, list_reply}
 use Rattle.xl_core.specs.declared.item.Item.{Item}
 use Rattle.xl_core.specs.declared.item.Item.TheVariants.{Vote as VoteItem}
 use Rattle.xl_core.specs.declared.report.OwnValidation.{OwnValidation}
@@ -77,6 +77,8 @@ stays_itself n (Issue now seq id full) save = same_later n (happens n (Issue now
 stays_itself n (Timer now) save = same_later n (happens n (Timer now) save).node now (timer_same (at_moment now n) save)
 stays_itself n (Submit now tx) save =
     submit_either (λ r. IsSame n r.node) (at_moment now n) tx (λ _. record { me = refl; keys = refl }) (record { me = refl; keys = refl })
+stays_itself n (Relist now list) save =
+    relist_either (λ r. IsSame n r.node) (at_moment now n) list (λ _. record { me = refl; keys = refl }) (λ _. record { me = refl; keys = refl })
 
 -- THE CORE'S STEP
 
@@ -90,6 +92,13 @@ heard_step core n heard untaken reply is pushed =
 pub refused_step : (core : Core) (n : Node) (why : Refusal) (reply : Reply) → refusing n why ≡ reply → Answers (stepped core reply) (record core { node = n }) (Refused why)
 refused_step core n why reply is =
     subst (λ (r : Reply). Answers (stepped core r) (record core { node = n }) (Refused why)) is (record { core = refl; answer = refl })
+
+-- a list was set
+pub list_step : (core : Core) (n : Node) (report : Option Report) (untaken : Backlog Report) (reply : Reply) → list_reply (Ok report) n ≡ reply → untaken ≡ with_report core.untaken report →
+    Answers (stepped core reply) (record core { node = n; untaken = untaken }) Done
+list_step core n report untaken reply is pushed =
+    subst (λ (r : Reply). Answers (stepped core r) (record core { node = n; untaken = untaken }) Done) is
+    (record { core = ap (λ (u : Backlog Report). let c : Core = record core { node = n; untaken = u } in c) pushed; answer = refl })
 
 -- what was issued
 pub issued_step : (core : Core) (n : Node) (done : OwnValidation) (waiting : List (Backlog Item)) (untaken : Backlog Report) (reply : Reply) → issue_reply (Ok done) n ≡ reply →

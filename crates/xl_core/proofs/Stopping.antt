@@ -15,13 +15,15 @@ use Rattle.xl_rounds.specs.declared.placed.Placed.{Placed}
 use Rattle.xl_rounds.specs.declared.refusal.RoundRefusal.{RoundRefusal}
 use Rattle.xl_core.specs.Answers.{Done}
 use Rattle.xl_core.specs.Building.{said_items}
-use Rattle.xl_core.proofs.Timing.{timing_by, submit_either}
+use Rattle.xl_core.proofs.Timing.{timing_by, submit_either, relist_either}
 use Rattle.xl_core.specs.declared.settings.Settings.{Settings}
 use Rattle.xl_io.specs.Keepers.{Held, MayHold, after_save}
 use Rattle.xl_queues.specs.Queues.{Backlog, no_items, with_item}
 use Rattle.xl_wire.specs.declared.validation.Validation.{Validation}
 use Rattle.xl_validations.specs.declared.row.Row.{Row}
-use Rattle.xl_validations.specs.Rows.{row_of, row_at, unexpired, is_current, refusal, with_validation, at_member, empty_row}
+use Rattle.xl_validations.specs.Rows.{row_of, row_at, unexpired, is_current, refusal, with_validation, at_member, empty_row, row_for, relisted}
+use Rattle.xl_validations.proofs.Relisting.{its_current, its_member}
+use Rattle.xl_lists.specs.Lists.{TrustedList}
 use Rattle.xl_core.specs.declared.hearing.Spoken.{Spoken}
 use Rattle.xl_core.specs.declared.hearing.Speech.{Speech}
 use Rattle.xl_core.specs.declared.hearing.Speech.TheVariants as speech
@@ -33,7 +35,7 @@ use Rattle.xl_core.specs.Node.{Node, Reply, Save, placing, placed_as, taking, he
 use Rattle.xl_core.specs.Node.Save.{Kept, Failed}
 use Rattle.xl_core.specs.Queues.{with_items, at_number, after_taking, waiting_at}
 use Rattle.xl_core.specs.Core.{Core, stepped, with_queues, greeted_frames, given_for, core_happens, core_asks}
-use Rattle.xl_core.specs.declared.event.CoreEvent.TheVariants.{Issue, Frame, Timer, Submit, Drain}
+use Rattle.xl_core.specs.declared.event.CoreEvent.TheVariants.{Issue, Frame, Timer, Submit, Drain, Relist}
 use Rattle.xl_core.specs.declared.item.Item.{Item}
 use Rattle.xl_core.specs.declared.item.Item.TheVariants.{Vote, Tx, TxSet, Proposal, Header as HeaderItem}
 use Rattle.xl_core.specs.Stops.{IsCovered, IsItemCovered, own_current}
@@ -281,6 +283,24 @@ submit_covered held core now tx save was =
     submit_either (λ r. IsCovered held (stepped core r).core) m tx
     (λ _. record { saved = moved.saved; own = moved.own; waiting = moved.waiting })
     (record { saved = moved.saved; own = moved.own; waiting = queues_most m.kept m.kept (Tx tx) core.waiting (omega arith) tt moved.waiting })
+
+-- ANOTHER LIST
+
+-- the own row is kept, or empty
+relisted_most : (kept me : ℕ) (ms : List ℕ) (rows : List Row) → AtMost kept (current_of rows me) → AtMost kept (current_of (relisted ms rows) me)
+relisted_most kept me [] rows most = tt
+relisted_most kept me (m ∷ ms) rows most =
+    cond_both ((row_for rows m).member == me) (Some (row_for rows m)) (row_of (relisted ms rows) me) (λ o. AtMost kept (option_and_then (λ r. r.current) o))
+    (λ same. subst (AtMost kept) (sym (its_current rows m)) (subst (λ (k : ℕ). AtMost kept (current_of rows k)) (sym (sym (its_member rows m) ∙ eqb-true (row_for rows m).member me same)) most))
+    (λ _. relisted_most kept me ms rows most)
+
+pub relist_covered : (held : Held) (core : Core) (now : ℕ) (list : TrustedList) (save : Save) → IsCovered held core → IsCovered held (core_happens core (Relist now list) save).core
+relist_covered held core now list save was =
+    let m : Node = at_moment now core.node in
+    let moved : IsCovered held (record core { node = m }) = later_covered held core now was in
+    relist_either (λ r. IsCovered held (stepped core r).core) m list
+    (λ _. record { saved = moved.saved; own = moved.own; waiting = moved.waiting })
+    (λ _. record { saved = moved.saved; own = relisted_most m.kept m.me list.members m.rows moved.own; waiting = moved.waiting })
 
 -- THE TIMER
 

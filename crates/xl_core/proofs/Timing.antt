@@ -21,7 +21,8 @@ use Rattle.xl_core.specs.declared.item.Item.TheVariants.{Tx}
 use Rattle.xl_core.specs.declared.refusal.Refusal.{Refusal}
 use Rattle.xl_core.specs.Answers.{Done}
 use Rattle.xl_core.specs.Building.{alone, Knowing, knowing, knowing_at}
-use Rattle.xl_core.specs.Node.{Node, Reply, Timed, Quiet, Ending, replying, refusing, refusing_or, with_tx, tx_refusal, submitting, chosen, seen, built, switching, building, following, after_beat, timed}
+use Rattle.xl_lists.specs.Lists.{TrustedList}
+use Rattle.xl_core.specs.Node.{Node, Reply, Timed, Quiet, Ending, replying, refusing, refusing_or, with_tx, tx_refusal, submitting, chosen, seen, built, switching, building, following, after_beat, timed, key_refusal, relisting, reporting, with_list}
 
 -- no ledger is forgotten, and the place is one of them
 pub record Grows (before after : Ledgers) (place : ℕ) : Type 0 where
@@ -67,3 +68,11 @@ submit_either P n tx refuses takes = by (tx_refusal n tx)
     by : (o : Option Refusal) → P (refusing_or n o (replying (with_tx n tx) Done (Tx tx ∷ [])))
     by None = takes
     by (Some why) = refuses why
+
+-- a list is refused, or set
+pub relist_either : (P : Reply → Type 0) (n : Node) (list : TrustedList) → ((why : Refusal) → P (refusing n why)) → (key_refusal n list ≡ None → P (reporting (with_list n list) Done None)) → P (relisting n list)
+relist_either P n list refuses sets = by (key_refusal n list) refl
+  where
+    by : (o : Option Refusal) → key_refusal n list ≡ o → P (refusing_or n o (reporting (with_list n list) Done None))
+    by None is = sets is
+    by (Some why) is = refuses why

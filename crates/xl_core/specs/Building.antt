@@ -24,7 +24,7 @@ use Rattle.xl_core.specs.declared.refusal.Refusal.{Refusal}
 abbrev pub usual_mode : Bool → Mode
 usual_mode validating = if validating then Proposing else Observing
 
--- our set, where it goes with our position, and then the position
+-- our set, if it goes with our position, and then the position
 abbrev pub said_items : Option Said → List Item
 said_items None = []
 said_items (Some said) =

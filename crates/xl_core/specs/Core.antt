@@ -6,7 +6,7 @@ use Rattle.std.specs.declared.option.Option.{Option}
 use Rattle.xl_queues.specs.Queues.{Backlog, no_items}
 use Rattle.xl_wire.specs.declared.validation.Validation.{Validation}
 use Rattle.xl_core.specs.declared.event.CoreEvent.{CoreEvent}
-use Rattle.xl_core.specs.declared.event.CoreEvent.TheVariants.{Issue, Frame, Timer, Submit, Greet, Drain, Reports, Stop, Stopped}
+use Rattle.xl_core.specs.declared.event.CoreEvent.TheVariants.{Issue, Frame, Timer, Submit, Greet, Drain, Reports, Stop, Stopped, Relist}
 use Rattle.xl_core.specs.declared.greeting.Greeting.{Greeting}
 use Rattle.xl_core.specs.declared.item.Item.{Item}
 use Rattle.xl_core.specs.declared.report.Report.{Report}
@@ -105,6 +105,7 @@ core_happens core (Reports room) save =
     answering (record core { untaken = without room core.untaken }) (Handed (take room core.untaken.items))
 core_happens core Stop save = answering (record core { stopped = true }) Done
 core_happens core Stopped save = answering core (Told core.stopped)
+core_happens core (Relist now list) save = stepped core (happens core.node (nodes.Relist now list) save)
 
 -- the save that an event asks
 abbrev pub core_asks : Core → CoreEvent → Option ℕ
@@ -117,3 +118,4 @@ core_asks core (Drain member room) = None
 core_asks core (Reports room) = None
 core_asks core Stop = None
 core_asks core Stopped = None
+core_asks core (Relist now list) = None

@@ -87,7 +87,7 @@ handed_over core [] = []
 handed_over core (h ∷ hs) =
     handed_in (core_happens core h.event h.save).answer ++ handed_over (core_happens core h.event h.save).core hs
 
--- What is handed out in a life is, in order, what arose in it, but for what waits and for older ones that were lost and
+-- What is handed out in a life is, in order, what arose in it, except for what waits and for older ones that were lost and
 -- counted.
 abbrev pub ReportsAreHandedOut : Type 0
 ReportsAreHandedOut =

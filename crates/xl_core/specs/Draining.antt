@@ -57,7 +57,7 @@ node_for tags n = record n { keys = keys_for tags n.keys }
 
 -- THE HEADERS OF A GREETING
 
--- the ledger of the next header, or None where all were handed out
+-- the ledger of the next header, or None if all were handed out
 abbrev pub next_on : List Header → Greeting → Option ℕ
 next_on ledgers g = slice_get (chain_to ledgers g.target) g.next
 

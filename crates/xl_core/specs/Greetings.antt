@@ -29,7 +29,7 @@ abbrev pub with_greeting : List (Option Greeting) → ℕ → Option Greeting �
 with_greeting greetings zero greeting = greetings
 with_greeting greetings (suc place) greeting = set greetings place greeting
 
--- the chain of the ledger of an id; nothing where none is known
+-- the chain of the ledger of an id; nothing if none is known
 abbrev pub chain_to : List Header → LedgerId → List ℕ
 chain_to ledgers id = unwrap_or (option_map (chain ledgers) (place_of ledgers id)) []
 

@@ -61,7 +61,7 @@ pub record Carries (ring : Ring) (members bytes : List ℕ) (f : RawFrame) (body
   pub tag : tag_by ring f.from f ≡ Some f.tag
   pub says : SpellsBody body f.kind f.body
 
--- bytes as if their sender had sealed them, where they are one whole frame; else they stay as they are
+-- bytes as if their sender had sealed them, if they are one whole frame; else they stay as they are
 abbrev pub sealed_in : Ring → List ℕ → Split → List ℕ
 sealed_in ring bytes (Refused why) = bytes
 sealed_in ring bytes (Need lack) = bytes
@@ -70,7 +70,7 @@ sealed_in ring bytes (Whole f) = if nat_lt (span f.body) (length bytes) then byt
 abbrev pub bytes_as_sealed : Ring → List ℕ → List ℕ
 bytes_as_sealed ring bytes = sealed_in ring bytes (split_of bytes)
 
--- the bytes that are heard where the tag is tested, and where it is taken as the right one
+-- the bytes that are heard if the tag is tested, and if it is taken as the right one
 abbrev pub bytes_with : Tags → Ring → List ℕ → List ℕ
 bytes_with Tested ring bytes = bytes
 bytes_with Assumed ring bytes = bytes_as_sealed ring bytes

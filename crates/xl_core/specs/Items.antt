@@ -42,7 +42,7 @@ body_in n (Header id) = header_body n id
 abbrev pub framed : Node → ℕ → Body → Option (List ℕ)
 framed n to body = if has_spelling n.me to body then Some (sealed_bytes n.keys n.me to body) else None
 
--- the frame in which it sends an item, or None where it passes the item over
+-- the frame in which it sends an item, or None if it passes the item over
 abbrev pub frame_of : Node → ℕ → Item → Option (List ℕ)
 frame_of n to item = option_and_then (framed n to) (body_in n item)
 

@@ -10,11 +10,11 @@ abbrev pub AsksSave : Option ℕ → Option (List ℕ) → Option (List ℕ) →
 AsksSave None old new = new ≡ old
 AsksSave (Some s) old new = AddsSave old new s
 
--- a stop may leave then what a save leaves that was answered so, where the keeper tells
+-- a stop may leave then what a save leaves that was answered so, if the keeper tells
 abbrev pub Holds : Option ℕ → Bool → Option Held → Option Held → Type 0
 Holds ask kept old new = new ≡ option_map (λ held. after_save held ask kept) old
 
--- where the save failed, the count of faults rose, to the one that is told
+-- if the save failed, the count of faults rose, to the one that is told
 abbrev pub CountsFault : {X : Type 0} → Result X Refusal → ℕ → ℕ → Type 0
 CountsFault result old new = (count : ℕ) → result ≡ Err (KeepFault count) → Rose old new × (count ≡ new)
 

@@ -3,6 +3,7 @@ pub mod Hearing
 pub mod Sending
 pub mod Answers
 pub mod Building
+pub mod Lasts
 pub mod Node
 pub mod Queues
 pub mod Items

@@ -1,17 +1,47 @@
--- A node's life: what happened since it opened, and what it reported. Source: the paper's fully validated ledgers.
-use Rattle.std.specs.Prelude.{◌≡◌, ℕ, ◌≤◌, ◌↔◌, List, [], ◌∷◌, ◌++◌, map, option_to_list, Contains}
-use Rattle.std.specs.Prelude.{Some}
+-- A node's life: what happened since it opened, and what it reported. Source: the paper's fully validated ledgers; that a
+-- list may change while a node runs is this profile's.
+use Rattle.std.specs.Prelude.{◌≡◌, ℕ, ◌<◌, ◌≤◌, ◌↔◌, ◌||◌, ◌⊎◌, Bool, true, false, List, [], ◌∷◌, ◌++◌, map, option_to_list, All}
+use Rattle.std.specs.Prelude.{Some, None}
+use Rattle.std.specs.declared.option.Option.{Option}
+use Rattle.std.specs.Option.{is_none}
 use Rattle.std.specs.List.Sorted.{IsStrictlyIncreasing}
 use Rattle.xl_lists.specs.Lists.{IsValid}
 use Rattle.xl_validations.specs.Rows.{count_full}
 use Rattle.xl_core.specs.declared.report.Report.{Report}
 use Rattle.xl_core.specs.declared.settings.Settings.{Settings}
-use Rattle.xl_core.specs.Node.{Node, Event, Save, opened, happens}
+use Rattle.xl_core.specs.Node.{Node, Event, Issue, Frame, Timer, Submit, Relist, Save, opened, happens, key_refusal}
 
 -- an event, and how its save was answered
 pub record Happening : Type 0 where
   pub event : Event
   pub save : Save
+
+-- a list that is handed in is one
+abbrev pub IsFitEvent : Event → Type 0
+IsFitEvent (Issue now seq id full) = Unit {0}
+IsFitEvent (Frame now bytes) = Unit {0}
+IsFitEvent (Timer now) = Unit {0}
+IsFitEvent (Submit now tx) = Unit {0}
+IsFitEvent (Relist now list) = IsValid list
+
+abbrev pub IsFit : Happening → Type 0
+IsFit h = IsFitEvent h.event
+
+-- whether a list is handed in
+abbrev pub is_relist : Event → Bool
+is_relist (Issue now seq id full) = false
+is_relist (Frame now bytes) = false
+is_relist (Timer now) = false
+is_relist (Submit now tx) = false
+is_relist (Relist now list) = true
+
+-- whether an event sets the list
+abbrev pub sets_list : Node → Event → Bool
+sets_list n (Issue now seq id full) = false
+sets_list n (Frame now bytes) = false
+sets_list n (Timer now) = false
+sets_list n (Submit now tx) = false
+sets_list n (Relist now list) = is_none (key_refusal n list)
 
 -- the node after these happenings, the first of them first
 abbrev pub node_after : Node → List Happening → Node
@@ -24,19 +54,46 @@ reports_in n [] = []
 reports_in n (h ∷ hs) =
     option_to_list (happens n h.event h.save).report ++ reports_in (happens n h.event h.save).node hs
 
--- A report arises exactly in the event after which a quorum of the list's current full validations name it, where it
--- wasn't reported since the node opened.
+-- the last of these reports, or what was the last before
+abbrev pub last_of : Option Report → List Report → Option Report
+last_of before [] = before
+last_of before (r ∷ rs) = last_of (Some r) rs
+
+-- whether the list was set after the last report, once an event has set it or not, and has reported this or nothing
+abbrev pub set_then : Bool → Bool → Option Report → Bool
+set_then set sets None = set || sets
+set_then set sets (Some r) = false
+
+-- so after these happenings
+abbrev pub set_after : Node → Bool → List Happening → Bool
+set_after n set [] = set
+set_after n set (h ∷ hs) =
+    let reply = happens n h.event h.save in
+    set_after reply.node (set_then set (sets_list n h.event) reply.report) hs
+
+-- There was no report, or this one's sequence is above the last one's, or the list was set after the last report and this
+-- isn't that.
+abbrev pub IsNew : Option Report → Bool → Report → Type 0
+IsNew None set r = Unit {0}
+IsNew (Some last) set r = (last.seq < r.seq) ⊎ ((set ≡ true) × ¬ (last ≡ r))
+
+-- A report arises exactly in the event after which a quorum of the list in force names it in current full validations,
+-- where it is new in the node's life. The event itself may have set the list.
 abbrev pub ReportsArise : Type 0
 ReportsArise =
     (settings : Settings) (now kept : ℕ) (life : List Happening) (next : Happening) (r : Report) →
-    IsValid settings.list →
-    let n = node_after (opened settings now kept) life in
+    IsValid settings.list → All IsFit life → IsFit next →
+    let first = opened settings now kept in
+    let n = node_after first life in
     let reply = happens n next.event next.save in
-    let before = reports_in (opened settings now kept) life in
-    (reply.report ≡ Some r) ↔ ((settings.list.quorum ≤ count_full r.seq r.id reply.node.rows) × ¬ Contains before r)
+    let last = last_of None (reports_in first life) in
+    let set = set_after first false life || sets_list n next.event in
+    (reply.report ≡ Some r) ↔
+    ((reply.node.list.quorum ≤ count_full r.seq r.id reply.node.rows) × IsNew last set r)
 
--- The sequences of the reports of a life rise.
+-- The sequences of reports rise between two changes of the list; what arises in a change belongs to the new list.
 abbrev pub ReportsRise : Type 0
 ReportsRise =
-    (settings : Settings) (now kept : ℕ) (life : List Happening) → IsValid settings.list →
-    IsStrictlyIncreasing (map (λ r. r.seq) (reports_in (opened settings now kept) life))
+    (settings : Settings) (now kept : ℕ) (life : List Happening) (first : Happening) (more : List Happening) →
+    All (λ h. is_relist h.event ≡ false) more →
+    IsStrictlyIncreasing (map (λ r. r.seq) (reports_in (node_after (opened settings now kept) life) (first ∷ more)))

@@ -2,7 +2,7 @@
 -- fully validated.
 -- Source: Chase and MacBrough, "Analysis of the XRP Ledger Consensus Protocol" (2018), and rippled's Consensus and
 -- Validations.
-use Rattle.std.specs.Prelude.{◌≡◌, ◌≢◌, ℕ, ◌<◌, ◌/◌, ◌==◌, ◌&&◌, not, max, Bool, true, false, List, [], ◌∷◌, ◌++◌, map, unwrap_or, filter_map, find, option_map, nat_lt, nat_le, if◌then◌else◌}
+use Rattle.std.specs.Prelude.{◌≡◌, ◌≢◌, ℕ, ◌<◌, ◌/◌, ◌==◌, ◌&&◌, not, max, Bool, true, false, List, [], ◌∷◌, ◌++◌, map, replicate, unwrap_or, filter_map, find, option_map, nat_lt, nat_le, if◌then◌else◌}
 use Rattle.std.specs.Prelude.{Some, None, Result, Ok, Err}
 use Rattle.std.specs.declared.option.Option.{Option}
 use Rattle.std.specs.Option.{is_none, option_or}
@@ -11,13 +11,14 @@ use Rattle.xl_base.specs.declared.ids.LedgerId.{LedgerId}
 use Rattle.xl_base.specs.declared.ids.TxId.{TxId}
 use Rattle.xl_base.specs.Sets.{set_id_of}
 use Rattle.xl_lists.specs.Lists.{TrustedList}
+use Rattle.xl_tags.specs.Missing.{lowest_missing}
 use Rattle.xl_tags.specs.Rings.{Ring}
 use Rattle.xl_wire.specs.declared.validation.Validation.{Validation}
 use Rattle.xl_wire.specs.declared.proposal.Proposal.{Proposal}
 use Rattle.xl_wire.specs.Heads.{raw_in}
 use Rattle.xl_validations.specs.declared.row.Row.{Row}
 use Rattle.xl_validations.specs.declared.refusal.ValRefusal.{ValRefusal}
-use Rattle.xl_validations.specs.Rows.{refusal, refusal_of, with_validation, at_member, count_full, empty_row, row_at, named}
+use Rattle.xl_validations.specs.Rows.{refusal, refusal_of, with_validation, at_member, count_full, empty_row, row_at, named, relisted}
 use Rattle.xl_validations.specs.Votes.{votes_of, finished, choose}
 use Rattle.xl_ledger.specs.declared.header.Header.{Header}
 use Rattle.xl_ledger.specs.Chains.{seq_at, id_at}
@@ -35,13 +36,15 @@ use Rattle.xl_rounds.specs.declared.refusal.RoundRefusal.{RoundRefusal}
 use Rattle.xl_rounds.specs.Rounds.{Round, opened as opened_round, is_proposing, leave, with_pending, hold, agreed, accepted}
 use Rattle.xl_rounds.specs.Pending.{submit_refusal}
 use Rattle.xl_rounds.specs.Proposals.{answer, with_answer, started}
+use Rattle.xl_rounds.specs.Relisting.{relisted as relisted_round}
 use Rattle.xl_rounds.specs.Heartbeats.{Beat as RoundBeat, heartbeat}
 use Rattle.xl_core.specs.declared.beat.Beat.{Beat}
 use Rattle.xl_core.specs.declared.beat.Beat.TheVariants.{Nothing, Closed, Updated, Switched, NoRoom, Built}
+use Rattle.xl_core.specs.declared.last.LastReport.{LastReport}
 use Rattle.xl_core.specs.declared.report.Report.{Report}
 use Rattle.xl_core.specs.declared.settings.Settings.{Settings}
 use Rattle.xl_core.specs.declared.refusal.Refusal.{Refusal}
-use Rattle.xl_core.specs.declared.refusal.Refusal.TheVariants.{NotAfter, IssuingOff, KeepFault, Header as HeaderRefused}
+use Rattle.xl_core.specs.declared.refusal.Refusal.TheVariants.{NotAfter, IssuingOff, KeepFault, NoKey, Header as HeaderRefused}
 use Rattle.xl_core.specs.declared.hearing.Spoken.{Spoken}
 use Rattle.xl_core.specs.declared.hearing.Speech.{Speech}
 use Rattle.xl_core.specs.declared.hearing.Speech.TheVariants as speech
@@ -54,15 +57,19 @@ use Rattle.xl_ledger.specs.Headers.{header_id}
 use Rattle.xl_core.specs.Answers.{Answer, Refused, Took, Beats, Done, refusal_in}
 use Rattle.xl_core.specs.Building.{usual_mode, said_items, alone, next_by, Knowing, knowing, how_issued}
 use Rattle.xl_core.specs.Hearing.{heard, unheard, said_in}
+use Rattle.xl_core.specs.Lasts.{none_reported, is_news, later, over_another_list}
 use Rattle.xl_core.specs.Refusals.{refusal_from, round_from}
 
 pub record Node : Type 0 where
   pub me : ℕ
+  -- the list in force
   pub list : TrustedList
   -- the keys that it shares with others
   pub keys : Ring
   -- whether it is a validator
   pub validating : Bool
+  -- the version of its validations
+  pub speak : ℕ
   -- the greatest moment since it opened, in milliseconds; at least 1,000
   pub time : ℕ
   pub ledgers : Ledgers
@@ -72,8 +79,8 @@ pub record Node : Type 0 where
   pub kept : ℕ
   -- the sequence whose save failed since the node opened: it issues nothing then
   pub failed_save : Option ℕ
-  -- the last report since the node opened
-  pub last : Option Report
+  -- the last report since the node opened, and whether the list was set after it
+  pub last : LastReport
 
 -- What may happen at a node, each at a moment in milliseconds.
 pub data Event : Type 0 where
@@ -85,6 +92,8 @@ pub data Event : Type 0 where
   Timer : (now : ℕ) → Event
   -- a transaction is handed in
   Submit : (now : ℕ) (tx : TxId) → Event
+  -- another list is to be in force
+  Relist : (now : ℕ) (list : TrustedList) → Event
 
 -- what came of it: the node then, what it answers, what waits for every peer, what it issued, and what it reports
 pub record Reply : Type 0 where
@@ -102,18 +111,26 @@ opened s now kept = record {
   list = s.list;
   keys = s.keys;
   validating = s.validating;
+  speak = s.speak;
   time = max 1000 now;
   ledgers = only_root s.limit;
   rows = map empty_row s.list.members;
   round = opened_round (only_root s.limit).headers 0 (usual_mode s.validating) (max 1000 now);
   kept = kept;
   failed_save = None;
-  last = None;
+  last = none_reported;
 }
 
--- the settings that it was opened with
+-- the settings that it was opened with, except for the list, which is the one in force
 abbrev pub settings_of : Node → Settings
-settings_of n = record { me = n.me; list = n.list; keys = n.keys; limit = n.ledgers.limit; validating = n.validating }
+settings_of n = record {
+  me = n.me;
+  list = n.list;
+  keys = n.keys;
+  limit = n.ledgers.limit;
+  validating = n.validating;
+  speak = n.speak;
+}
 
 -- the second of its time
 abbrev pub second_of : Node → ℕ
@@ -123,14 +140,9 @@ second_of n = n.time / 1000
 abbrev pub at_moment : ℕ → Node → Node
 at_moment now n = record n { time = max n.time now; rows = map (row_at (max n.time now / 1000)) n.rows }
 
--- whether a sequence is above the last report's
-abbrev pub is_above : Option Report → ℕ → Bool
-is_above None seq = true
-is_above (Some report) seq = nat_lt report.seq seq
-
--- whether a quorum of rows holds it as a full validation, above the last report
-abbrev pub arises_in : ℕ → List Row → Option Report → Validation → Bool
-arises_in quorum rows last v = nat_le quorum (count_full v.seq v.id rows) && is_above last v.seq
+-- whether a quorum of rows holds it as a full validation, and it is news
+abbrev pub arises_in : ℕ → List Row → LastReport → Validation → Bool
+arises_in quorum rows last v = nat_le quorum (count_full v.seq v.id rows) && is_news last v.seq v.id
 
 abbrev pub arises : Node → Validation → Bool
 arises n v = arises_in n.list.quorum n.rows n.last v
@@ -142,14 +154,14 @@ report_of v = record { seq = v.seq; id = v.id }
 abbrev pub report_if : Bool → Validation → Option Report
 report_if arises v = if arises then Some (report_of v) else None
 
--- what the rows give to report
-abbrev pub arisen : Node → Option Report
-arisen n = option_map report_of (find (arises n) (filter_map (λ row. row.current) n.rows))
+-- what rows give to report under a quorum
+abbrev pub arisen_in : ℕ → List Row → LastReport → Option Report
+arisen_in quorum rows last =
+    option_map report_of (find (arises_in quorum rows last) (filter_map (λ row. row.current) rows))
 
--- the last report, once one has arisen or none
-abbrev pub later : Option Report → Option Report → Option Report
-later last None = last
-later last (Some report) = Some report
+-- what a node's rows give to report
+abbrev pub arisen : Node → Option Report
+arisen n = arisen_in n.list.quorum n.rows n.last
 
 -- it answers this, and these items wait for every peer; nothing is issued or reported
 abbrev pub replying : Node → Answer → List Item → Reply
@@ -158,7 +170,7 @@ replying n answer items = record { node = n; answer = answer; items = items; iss
 abbrev pub refusing : Node → Refusal → Reply
 refusing n why = replying n (Refused why) []
 
--- a cause refuses, and without one this is the reply
+-- the refusal, if there is a cause; else this reply
 abbrev pub refusing_or : Node → Option Refusal → Reply → Reply
 refusing_or n None reply = reply
 refusing_or n (Some why) reply = refusing n why
@@ -287,8 +299,18 @@ abbrev pub hearing : Node → List ℕ → Reply
 hearing n bytes =
     let said = said_in (raw_in bytes) in refusing_or n (frame_refusal n bytes) (taking n said.from said.what)
 
+-- the ledger that was last reported, or no ledger's id
+abbrev pub last_id : Option Report → LedgerId
+last_id None = record { 0 = replicate 32 0 }
+last_id (Some report) = report.id
+
+-- what a validation tells of it: nothing in version 1
+abbrev pub told_by : Node → Option LedgerId
+told_by n = if n.speak == 2 then Some (last_id n.last.report) else None
+
 abbrev pub own_validation : Node → ℕ → LedgerId → Bool → Validation
-own_validation n seq id full = record { id = id; seq = seq; signed = second_of n; full = full }
+own_validation n seq id full =
+    record { id = id; seq = seq; signed = second_of n; full = full; validated = told_by n }
 
 -- a sequence above the kept one isn't issued, since the save of this one failed
 abbrev pub IsOff : Node → ℕ → ℕ → Type 0
@@ -307,9 +329,28 @@ issuing n seq id full save =
 abbrev pub submitting : Node → TxId → Reply
 submitting n tx = refusing_or n (tx_refusal n tx) (replying (with_tx n tx) Done (TxItem tx ∷ []))
 
+-- ANOTHER LIST
+
+-- a list isn't set if a member other than the node has no key; the lowest one is told
+abbrev pub key_refusal : Node → TrustedList → Option Refusal
+key_refusal n list = option_map NoKey (lowest_missing n.keys list.members)
+
+-- members that stay keep what is known of them, and of new ones nothing is
+abbrev pub with_list : Node → TrustedList → Node
+with_list n list = record n {
+  list = list;
+  rows = relisted list.members n.rows;
+  round = relisted_round list.members n.round;
+  last = over_another_list n.last;
+}
+
+-- the list is set, and the rows report what arises in them under it, unless a key is missing
+abbrev pub relisting : Node → TrustedList → Reply
+relisting n list = refusing_or n (key_refusal n list) (reporting (with_list n list) Done None)
+
 -- THE TIMER
 
--- what it comes to, but for the save and the validation of a built ledger
+-- what it comes to, except for the save and the validation of a built ledger
 pub data Timed : Type 0 where
   -- nothing was built; a position is said, or none
   Quiet : (n : Node) (beat : Beat) (said : Option Said) → Timed
@@ -371,7 +412,7 @@ timed n =
 abbrev pub validates : Node → Bool → Bool
 validates n moved_on = n.validating && not moved_on
 
--- the validation is full exactly where it proposes
+-- the validation is full exactly if it proposes
 abbrev pub validating_built : Node → Header → Bool → Save → Reply
 validating_built n h moved_on save =
     if validates n moved_on then issuing n h.seq (header_id h) (is_proposing n.round.setting.mode) save
@@ -408,6 +449,7 @@ asks n (Issue now seq id full) = asks_for n seq
 asks n (Frame now bytes) = None
 asks n (Timer now) = asks_of (timed (at_moment now n))
 asks n (Submit now tx) = None
+asks n (Relist now list) = None
 
 -- what came of an event, whose save was answered so: first the time is set, and rows expire
 abbrev pub happens : Node → Event → Save → Reply
@@ -415,6 +457,7 @@ happens n (Issue now seq id full) save = issuing (at_moment now n) seq id full s
 happens n (Frame now bytes) save = hearing (at_moment now n) bytes
 happens n (Timer now) save = completed (timed (at_moment now n)) save
 happens n (Submit now tx) save = submitting (at_moment now n) tx
+happens n (Relist now list) save = relisting (at_moment now n) list
 
 -- whom it hears in bytes is another
 abbrev pub HearsOthers : Node → List ℕ → Type 0

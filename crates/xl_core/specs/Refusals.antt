@@ -46,3 +46,4 @@ code_of (node.IssuingOff failed) = 31
 code_of (node.KeepFault count) = 32
 code_of (node.Short lack) = 45
 code_of (node.Extra more) = 46
+code_of (node.NoKey member) = 48

@@ -38,6 +38,11 @@ abbrev pub submit_reply : {X : Type 0} → TxId → Result X Refusal → Node �
 submit_reply tx (Ok _) n = replying n Done (Tx tx ∷ [])
 submit_reply tx (Err why) n = refusing n why
 
+-- what a call that sets a list answers, with what it reports
+abbrev pub list_reply : Result (Option Report) Refusal → Node → Reply
+list_reply (Ok report) n = record { node = n; answer = Done; items = []; issued = None; report = report }
+list_reply (Err why) n = refusing n why
+
 -- what a call that hands in bytes answers
 abbrev pub hear_reply : Result Heard Refusal → Node → Reply
 hear_reply (Ok heard) n = record {
@@ -82,7 +87,7 @@ pub record Drains (before : Core) (member : ℕ) (after : Core) (written : ℕ) 
 abbrev pub core_for : TagPlace → Core → Core
 core_for tags core = record core { node = node_for tags core.node }
 
--- what a drain leaves that leaves the tags blank: the same, but for a room that begins with these frames, each with its
+-- what a drain leaves that leaves the tags blank: the same, except for a room that begins with these frames, each with its
 -- tag cleared
 pub record DrainsBlank (before : Core) (member : ℕ) (after : Core) (written : ℕ) (old new : List ℕ) : Type 0 where
   pub core : after ≡ (drain_reply before member old).core
@@ -119,6 +124,7 @@ save_of (node.Conflict id) = Kept
 save_of (node.OldSeq largest) = Kept
 save_of (node.NotAfter kept) = Kept
 save_of (node.IssuingOff failed) = Kept
+save_of (node.NoKey member) = Kept
 
 abbrev pub save_in : {X : Type 0} → Result X Refusal → Save
 save_in (Ok done) = Kept

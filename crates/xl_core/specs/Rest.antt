@@ -8,13 +8,15 @@ use Rattle.xl_base.specs.declared.moments.TheConstants.{GREATEST_MILLIS}
 use Rattle.xl_lists.specs.Lists.{IsValid}
 use Rattle.xl_validations.specs.declared.row.Row.{Row}
 use Rattle.xl_validations.specs.Rows.{count_full, is_current}
-use Rattle.xl_core.specs.declared.report.Report.{Report}
+use Rattle.xl_core.specs.declared.last.LastReport.{LastReport}
 use Rattle.xl_core.specs.declared.node.Node.TheInside.{Inside}
-use Rattle.xl_core.specs.Node.{Node, is_above, second_of}
+use Rattle.xl_core.specs.Lasts.{is_news}
+use Rattle.xl_core.specs.Node.{Node, second_of}
 
--- what a quorum of rows holds isn't above the last report
-abbrev pub NothingArises : ℕ → List Row → Option Report → Type 0
-NothingArises quorum rows last = (seq : ℕ) (id : LedgerId) → quorum ≤ count_full seq id rows → is_above last seq ≡ false
+-- what a quorum of rows holds is no news
+abbrev pub NothingArises : ℕ → List Row → LastReport → Type 0
+NothingArises quorum rows last = (seq : ℕ) (id : LedgerId) → quorum ≤ count_full seq id rows →
+    is_news last seq id ≡ false
 
 pub record IsAtRest (n : Node) : Type 0 where
   pub valid : IsValid n.list
@@ -48,6 +50,7 @@ node_seen n = record {
   list = n.list;
   keys = n.keys.value;
   validating = n.validating;
+  speak = n.speak;
   time = n.time;
   ledgers = n.registry;
   rows = n.table.rows;

@@ -34,7 +34,7 @@ pub record IsCovered (held : Held) (core : Core) : Type 0 where
   pub own : IfSome (own_current core.node) (λ v. v.seq ≤ core.node.kept)
   pub waiting : All (λ q. All (IsItemCovered core.node.kept) q.items) core.waiting
 
--- what a stop may leave then covers the core, if it did before, where the keeper tells
+-- what a stop may leave then covers the core, if it did before, if the keeper tells
 abbrev pub StaysCovered : Option Held → Option Held → Core → Core → Type 0
 StaysCovered held held' old new =
     (before after : Held) → held ≡ Some before → held' ≡ Some after → IsCovered before old → IsCovered after new

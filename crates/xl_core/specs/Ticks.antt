@@ -88,7 +88,7 @@ save_at (beat.Built seq id moved_on how) = save_as how
 abbrev pub beat_was_kept : Beat → Bool
 beat_was_kept told = is_kept (save_at told)
 
--- where the save failed, the count of faults rose, to the one that is told
+-- if the save failed, the count of faults rose, to the one that is told
 abbrev pub CountsBeatFault : Beat → ℕ → ℕ → Type 0
 CountsBeatFault told old new =
     (seq : ℕ) (id : LedgerId) (moved_on : Bool) (count : ℕ) →

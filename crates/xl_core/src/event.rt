@@ -1,4 +1,5 @@
 use xl_base::{Bytes, LedgerId, Millis, NodeNo, Seq, TxId};
+use xl_lists::List;
 
 /// What may happen at a core. A room stands for how much it holds.
 #[derive(Debug, Drop)]
@@ -41,4 +42,9 @@ pub enum CoreEvent {
     Stop,
     /// It is asked whether it was told to stop.
     Stopped,
+    /// Another list is to be in force.
+    Relist {
+        now: Millis,
+        list: List,
+    },
 }

@@ -41,7 +41,7 @@ pub enum Tags {
 
 /// Reads the frame that the bytes are, opens it, and reads what it says.
 ///
-/// Refused where the bytes are no frame or not one whole frame, where it isn't opened, or where its body is none, in
+/// Refused if the bytes are no frame or not one whole frame, if it isn't opened, or if its body is none, in
 /// this order.
 pub fn hear<'a>(
     keys: &Keys,

@@ -4,9 +4,9 @@ ghost use Rattle.xl_core.specs.CoreLives.{SaidIsSaved, ReportsAreHandedOut, None
 /// The law of a node's reports, which has no code: it speaks of every life of a node, which is what happened since it
 /// opened.
 pub fn law_of_reports()
-    // A report arises exactly where a quorum holds a ledger that wasn't reported in this life.
+    // A report arises exactly if a quorum of the list in force holds a ledger that is news in this life.
     ensures arise { ReportsArise }
-    // So no ledger is reported twice, nor two of one sequence.
+    // Between two changes of the list the sequences of reports rise.
     ensures rise { ReportsRise }
 {}
 
@@ -20,6 +20,6 @@ pub fn said_is_saved()
 pub fn reports_are_handed_out()
     // What arose was handed out in order, or waits, or was lost and counted.
     ensures handed { ReportsAreHandedOut }
-    // A report is lost only where more than 1,024 waited.
+    // A report is lost only if more than 1,024 waited.
     ensures none { NoneIsLost }
 {}

@@ -3,6 +3,7 @@ ghost use Rattle.std.specs.Result.{result_err};
 ghost use Rattle.xl_base.specs.declared.moments.TheConstants.{GREATEST_MILLIS};
 ghost use Rattle.xl_lists.specs.Lists.{is_on};
 ghost use Rattle.xl_tags.specs.Rings.{key_of};
+ghost use Rattle.xl_validations.specs.Rows.{current_of, heard_of, is_full_of};
 ghost use Rattle.xl_validations.specs.Votes.{votes_of};
 ghost use Rattle.xl_core.specs.Node.{
   Issue,
@@ -17,7 +18,6 @@ ghost use Rattle.xl_core.specs.Node.{
   with_own,
   arisen,
   arises_in,
-  is_above,
   preferred,
   report_if,
   settings_of,
@@ -29,6 +29,7 @@ ghost use Rattle.xl_core.specs.Node.{
   IsOff,
   HearsOthers,
   own_validation,
+  told_by,
 };
 ghost use Rattle.xl_core.specs.Hearing.{bytes_with};
 ghost use Rattle.xl_core.specs.declared.refusal.Refusal.TheVariants.{NotAfter, IssuingOff};
@@ -45,6 +46,7 @@ ghost use Rattle.xl_core.specs.Building.{usual_mode as usual_mode_of};
 ghost use Rattle.xl_core.specs.Keeping.{AsksSave, CountsFault, Holds, IsAsked, Saves};
 
 use crate::hearing::{Tags, hear};
+use crate::last::{LastReport, NONE_REPORTED};
 use crate::putting::Put;
 use crate::sending::{TagPlace, put_body};
 use crate::taken::Heard;
@@ -62,6 +64,7 @@ use xl_wire::{Body, Ids, Validation};
 
 mod deliberating;
 mod greeting;
+mod relisting;
 mod timer;
 
 /// A node's time is never before its first second.
@@ -75,6 +78,8 @@ pub struct Node<B: Branch> {
     /// Behind a pointer, since they are large.
     keys: Box<Keys>,
     validating: bool,
+    /// The version of its validations.
+    speak: u8,
     /// The greatest moment since it opened.
     time: Millis,
     registry: Registry,
@@ -84,8 +89,7 @@ pub struct Node<B: Branch> {
     kept: Seq,
     /// The sequence whose save failed since the node opened.
     failed_save: Option<Seq>,
-    /// The last report since the node opened.
-    last: Option<Report>,
+    last: LastReport,
 }
 
 impl<B: Branch> Model for Node<B> {
@@ -104,26 +108,16 @@ impl<B: Branch> Model for Node<B> {
         × (a.table.me ≡ a.me) };
 }
 
-/// Whether a sequence is above that of the last report.
-fn is_above_last(last: &Option<Report>, seq: Seq) -> bool
-    ensures { result ≡ is_above last.now seq }
-{
-    match last {
-        Some(report) => report.seq < seq,
-        None => true,
-    }
-}
-
 /// What a validation just taken gives to report: it alone can have reached a quorum now.
 fn report_by<B: Branch>(
     table: &Table<B>,
     quorum: u32,
-    last: &Option<Report>,
+    last: &LastReport,
     v: &Validation,
 ) -> Option<Report>
     ensures { result ≡ report_if (arises_in quorum table.now.rows last.now v.now) v.now }
 {
-    if quorum <= table.count_full(v.seq, &v.id) && is_above_last(last, v.seq) {
+    if quorum <= table.count_full(v.seq, &v.id) && last.is_news(v.seq, &v.id) {
         Some(Report {
             seq: v.seq,
             id: v.id,
@@ -165,6 +159,7 @@ impl<B: Branch + Drop> Node<B> {
             keys,
             limit,
             validating,
+            speak,
         } = settings;
         let registry = Registry::open(alloc, limit)?;
         let table = Table::open(alloc, &list, me)?;
@@ -182,13 +177,14 @@ impl<B: Branch + Drop> Node<B> {
             list,
             keys,
             validating,
+            speak,
             time,
             registry,
             table,
             round,
             kept,
             failed_save: None,
-            last: None,
+            last: NONE_REPORTED,
         })
     }
 
@@ -208,7 +204,7 @@ impl<B: Branch + Drop> Node<B> {
         self.time = time;
         self.kept = kept;
         self.failed_save = None;
-        self.last = None;
+        self.last = NONE_REPORTED;
         Ok(())
     }
 
@@ -292,6 +288,7 @@ impl<B: Branch + Drop> Node<B> {
             seq,
             signed: secs_of(self.time),
             full,
+            validated: self.told(),
         };
         self.kept = seq;
         let report = self.take_own(&validation);
@@ -300,7 +297,7 @@ impl<B: Branch + Drop> Node<B> {
 
     /// A transaction is pending from then on.
     ///
-    /// Refused where it is pending, or where as many are as may be, in this order. First the time is set, and rows
+    /// Refused if it is pending, or if as many are as may be, in this order. First the time is set, and rows
     /// expire; nothing else changes then.
     pub fn submit(&mut self, now: Millis, tx: TxId) -> Result<(), Refusal>
         requires moment { now ≤ GREATEST_MILLIS }
@@ -315,11 +312,11 @@ impl<B: Branch + Drop> Node<B> {
 
     /// Hears bytes that come, and tells what they give to report.
     ///
-    /// Refused where they are no frame, not whole or followed by more; where the frame isn't for the node, comes from
-    /// a stranger or carries another tag; where its body is none; and then by what it says. The sender's row refuses a
-    /// validation as stale, as a repeat, as a conflict, or as old. A header isn't added where it is known, its parent
+    /// Refused if they are no frame, not whole or followed by more; if the frame isn't for the node, comes from
+    /// a stranger or carries another tag; if its body is none; and then by what it says. The sender's row refuses a
+    /// validation as stale, as a repeat, as a conflict, or as old. A header isn't added if it is known, its parent
     /// isn't, its sequence isn't the parent's plus one, or there is no room. The round refuses a proposal for its
-    /// ledger, as an old position, as of a member that left, or as stale, and a transaction where it is pending, or as
+    /// ledger, as an old position, as of a member that left, or as stale, and a transaction if it is pending, or as
     /// many as may be are. A set is never refused. All is in this order. First the time is set, and rows expire;
     /// nothing else changes then.
     pub fn frame(&mut self, now: Millis, bytes: &[u8]) -> Result<Heard, Refusal>
@@ -327,7 +324,7 @@ impl<B: Branch + Drop> Node<B> {
         ensures exact { hear_reply result self.new ≡ happens self.old (Frame now bytes.now) Kept }
         ensures refused { result_err result ≡ frame_refusal (at_moment now self.old) bytes.now }
         ensures unchanged { OnErr result (self.new ≡ at_moment now self.old) }
-        // It hears others, and not itself.
+        // A node never takes a frame of its own number.
         ensures others { HearsOthers self.old bytes.now }
     {
         self.hear(now, Tags::Tested, bytes)
@@ -395,6 +392,20 @@ impl<B: Branch + Drop> Node<B> {
         })
     }
 
+    /// What its validations tell of the ledger that it last reported: nothing in version 1.
+    fn told(&self) -> Option<LedgerId>
+        ensures { result ≡ told_by self.now }
+    {
+        if self.speak == 2 {
+            Some(match self.last.report {
+                Some(report) => report.id,
+                None => LedgerId([0; 32]),
+            })
+        } else {
+            None
+        }
+    }
+
     /// The validation that it would issue at a moment.
     pub fn own_validation(&self, now: Millis, seq: Seq, id: LedgerId, full: bool) -> Validation
         requires { now ≤ GREATEST_MILLIS }
@@ -405,10 +416,11 @@ impl<B: Branch + Drop> Node<B> {
             seq,
             signed: secs_of(self.time.max(now)),
             full,
+            validated: self.told(),
         }
     }
 
-    /// Puts the frame in which it sends an item to a member at a place of a room, where the room is long enough. What
+    /// Puts the frame in which it sends an item to a member at a place of a room, if the room is long enough. What
     /// isn't sent is passed over.
     pub(crate) fn put(
         &self,
@@ -491,7 +503,7 @@ impl<B: Branch + Drop> Node<B> {
         self.table
             .take(&self.registry, from, v, secs_of(self.time))?;
         let report = report_by(&self.table, self.list.quorum(), &self.last, v);
-        self.last = report.or(self.last);
+        self.last = self.last.later(report);
         Ok(report)
     }
 
@@ -502,7 +514,7 @@ impl<B: Branch + Drop> Node<B> {
         self.me
     }
 
-    /// The list of the members that it hears.
+    /// The list in force, of the members that it hears.
     pub fn list(&self) -> &List
         ensures { result.now ≡ self.now.list }
     {
@@ -548,7 +560,7 @@ impl<B: Branch + Drop> Node<B> {
         self.kept
     }
 
-    /// The ledger that the members' votes prefer, or None exactly where there is no vote. The largest sequence issued
+    /// The ledger that the members' votes prefer, or None exactly if there is no vote. The largest sequence issued
     /// counts as the kept number.
     pub fn preferred(&self) -> Option<Report>
         ensures value { result ≡ preferred self.now }
@@ -571,8 +583,33 @@ impl<B: Branch + Drop> Node<B> {
 
     /// The last report since the node opened.
     pub fn last_report(&self) -> Option<Report>
-        ensures { result ≡ self.now.last }
+        ensures { result ≡ self.now.last.report }
     {
-        self.last
+        self.last.report
+    }
+
+    /// The ledgers that it knows.
+    pub fn registry(&self) -> &Registry
+        ensures { result.now ≡ self.now.ledgers }
+    {
+        &self.registry
+    }
+
+    /// Whether a member's row holds a current full validation of this sequence and id.
+    pub fn holds(&self, member: NodeNo, seq: Seq, id: &LedgerId) -> bool
+        ensures { result ≡ is_full_of seq id.now (current_of self.now.rows member) }
+    {
+        match self.table.current(member) {
+            Some(v) => v.full && v.seq == seq && v.id == *id,
+            None => false,
+        }
+    }
+
+    /// The ledger that a member last reported, as its current validation tells. None exactly if it has no row, or
+    /// its row has no current validation, or that doesn't tell.
+    pub fn heard(&self, member: NodeNo) -> Option<LedgerId>
+        ensures { result ≡ heard_of self.now.rows member }
+    {
+        self.table.heard(member)
     }
 }

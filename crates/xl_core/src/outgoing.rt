@@ -49,7 +49,7 @@ pub fn drain<B: Branch + Drop>(
 }
 
 /// Writes the frame of the oldest item for a member at a place of the room, takes the item out, and answers where the
-/// next frame goes. None where nothing waits or the room is too short: all is as it was then.
+/// next frame goes. None if nothing waits or the room is too short: all is as it was then.
 fn drain_first<B: Branch + Drop>(
     waiting: &mut Waiting,
     node: &Node<B>,

@@ -1,6 +1,7 @@
 ghost use Rattle.std.specs.Prelude.{◌≡◌, ◌↔◌, ◌<◌, ◌≤◌, [], ℕ, IfOk, IsSome, IsTrue, OnOk, OnErr, Some, Err, length, option_map, None};
 ghost use Rattle.std.specs.Result.{result_err};
 ghost use Rattle.xl_base.specs.declared.moments.TheConstants.{GREATEST_MILLIS};
+ghost use Rattle.xl_validations.specs.Rows.{current_of, heard_of, is_full_of};
 ghost use Rattle.xl_validations.specs.Votes.{votes_of};
 ghost use Rattle.xl_ledger.specs.declared.registry.TheConstants.{LEAST_LIMIT, GREATEST_LIMIT};
 ghost use Rattle.xl_io.specs.Keepers.{Held};
@@ -10,13 +11,13 @@ ghost use Rattle.xl_core.specs.Building.{said_items};
 ghost use Rattle.xl_core.specs.Core.{all_frames, answering, is_idle, with_queues, core_happens, core_asks};
 ghost use Rattle.xl_core.specs.Items.{lost_for};
 ghost use Rattle.xl_core.specs.Queues.{with_items, frames_in};
-ghost use Rattle.xl_core.specs.declared.event.CoreEvent.TheVariants.{Issue, Frame, Timer, Submit, Greet, Drain, Stop, Stopped};
+ghost use Rattle.xl_core.specs.declared.event.CoreEvent.TheVariants.{Issue, Frame, Timer, Submit, Greet, Drain, Stop, Stopped, Relist};
 ghost use Rattle.xl_core.specs.Stops.{HoldsAtLeast, IsCovered, StaysCovered};
 ghost use Rattle.xl_core.specs.Keeping.{AsksSave, CountsFault, Holds, IsAsked, Saves};
 ghost use Rattle.xl_core.specs.Replies.{Answers, Drains, DrainsBlank, HandsOut, Issues, core_for, taken_answer, done_answer, was_kept};
 ghost use Rattle.xl_core.specs.Rest.{IsKeyed};
 ghost use Rattle.xl_core.specs.Hearing.{Carries, bytes_as_sealed, bytes_with, speech_of};
-ghost use Rattle.xl_core.specs.Node.{opened, settings_of, at_moment, asks_for, frame_refusal, speech_refusal, tx_refusal, preferred, IsOff};
+ghost use Rattle.xl_core.specs.Node.{opened, settings_of, at_moment, asks_for, frame_refusal, key_refusal, speech_refusal, tx_refusal, preferred, IsOff};
 ghost use Rattle.xl_core.specs.Ticks.{Beaten, Concludes, CountsBeatFault, IsBuilt, asks_in, beat_was_kept};
 ghost use Rattle.xl_core.specs.Node.Save.{Kept};
 ghost use Rattle.xl_wire.specs.declared.lengths.TheConstants.{LONGEST_FRAME};
@@ -36,7 +37,8 @@ use std::alloc::Global;
 use std::marker::Model;
 use xl_base::{LedgerId, MOST_MEMBERS, Millis, NodeNo, OutOfMemory, Seq, TxId};
 use xl_io::Keeper;
-use xl_ledger::Branch;
+use xl_ledger::{Branch, Registry};
+use xl_lists::List;
 use xl_queues::{Broadcast, Queue};
 use xl_rounds::Said;
 
@@ -66,7 +68,7 @@ impl<B: Branch> Model for Core<B> {
     } };
 }
 
-/// What is said waits for every peer: our set, where it goes with our position, and then the position.
+/// What is said waits for every peer: our set, if it goes with our position, and then the position.
 fn push_said(waiting: &mut Waiting, said: &Option<Said>)
     ensures { waiting.new ≡ with_items waiting.old (said_items said.now) }
 {
@@ -144,7 +146,7 @@ impl<B: Branch + Drop> Core<B> {
     }
 
     /// Hears bytes that come as if their sender had sealed them: the tag, the last 32 bytes of a frame, isn't looked at
-    /// and taken as the one under our key. Where it is that one, this is `frame`, for less.
+    /// and taken as the one under our key. If it is that one, this is `frame`, for less.
     ///
     /// It is for frames whose sender is known anyway, as those of a world: what comes over a link goes to `frame`.
     ///
@@ -220,10 +222,10 @@ impl<B: Branch + Drop> Core<B> {
     /// Looks at the votes and lets the round go on; what the node says by that waits for every peer, and what it
     /// reports to be taken.
     ///
-    /// Where the votes choose another ledger than the round's, the node leaves its round for one on that ledger. Else
+    /// If the votes choose another ledger than the round's, the node leaves its round for one on that ledger. Else
     /// the round's phase goes on; once it is ready the next ledger is built, its header is sent, the node validates it,
-    /// and a round starts on it. A validation waits only after its save. Where the save fails, the ledger and the new
-    /// round stand all the same; where there is no room for the ledger, the round stays as it is.
+    /// and a round starts on it. A validation waits only after its save. If the save fails, the ledger and the new
+    /// round stand all the same; if there is no room for the ledger, the round stays as it is.
     pub fn timer<K: Keeper>(&mut self, now: Millis, keeper: &mut K) -> Beat
         requires moment { now ≤ GREATEST_MILLIS }
         ensures step { Beaten self.old now result self.new }
@@ -275,7 +277,7 @@ impl<B: Branch + Drop> Core<B> {
 
     /// A transaction is pending from then on, and waits for every peer.
     ///
-    /// Refused where it is pending, or where as many are as may be, in this order. First the time is set, and rows
+    /// Refused if it is pending, or if as many are as may be, in this order. First the time is set, and rows
     /// expire; nothing else changes then.
     pub fn submit(&mut self, now: Millis, tx: TxId) -> Result<(), Refusal>
         requires moment { now ≤ GREATEST_MILLIS }
@@ -287,6 +289,28 @@ impl<B: Branch + Drop> Core<B> {
         self.node.submit(now, tx)?;
         self.waiting.push(Item::Tx(tx));
         Ok(())
+    }
+
+    /// Goes over to another list: what is known of members that stay is kept, and of new ones nothing is. What the rows
+    /// then give to report is reported under the new list, and waits to be taken. Nothing is sent.
+    ///
+    /// Refused if a listed member other than the node has no key, of which the lowest is told. First the time is
+    /// set, and rows expire; nothing else changes then.
+    pub fn relist(&mut self, now: Millis, list: List) -> Result<(), Refusal>
+        requires moment { now ≤ GREATEST_MILLIS }
+        ensures step { Answers (core_happens self.old (Relist now list) Kept) self.new (done_answer result) }
+        ensures refused { result_err result ≡ key_refusal self.old.node list }
+        ensures unchanged { OnErr result (self.new ≡ record self.old { node = at_moment now self.old.node }) }
+        ensures unsent { self.new.waiting ≡ self.old.waiting }
+        ensures stop { (held : Held) → IsCovered held self.old → IsCovered held self.new }
+    {
+        match self.node.relist(now, list) {
+            Ok(report) => {
+                push_report(&mut self.untaken, report);
+                Ok(())
+            }
+            Err(why) => Err(why),
+        }
     }
 
     /// A link to a peer has opened: the next drains for it begin with the headers of the chain of the ledger on which
@@ -306,7 +330,7 @@ impl<B: Branch + Drop> Core<B> {
         requires peer { IsSome (key_of self.old.node.keys member) }
         requires room { LONGEST_FRAME ≤ length room.old }
         ensures step { Drains self.old member self.new result room.old room.new }
-        // It answers 0 exactly where nothing is left but items that are passed over.
+        // It answers 0 exactly if nothing is left but items that are passed over.
         ensures nothing { (result ≡ 0) ↔ (frames_in (all_frames self.old member) ≡ []) }
         ensures stop { (held : Held) → IsCovered held self.old → IsCovered held self.new }
     {
@@ -319,7 +343,7 @@ impl<B: Branch + Drop> Core<B> {
         requires peer { IsSome (key_of self.old.node.keys member) }
         requires room { LONGEST_FRAME ≤ length room.old }
         ensures step { DrainsBlank self.old member self.new result room.old room.new }
-        // It answers 0 exactly where nothing is left but items that are passed over.
+        // It answers 0 exactly if nothing is left but items that are passed over.
         ensures nothing { (result ≡ 0) ↔ (frames_in (all_frames self.old member) ≡ []) }
         ensures stop { (held : Held) → IsCovered held self.old → IsCovered held self.new }
     {
@@ -391,12 +415,41 @@ impl<B: Branch + Drop> Core<B> {
         self.stopped
     }
 
-    /// The ledger that the members' votes prefer, or None exactly where there is no vote.
+    /// The ledger that the members' votes prefer, or None exactly if there is no vote.
     pub fn preferred(&self) -> Option<Report>
         ensures value { result ≡ preferred self.now.node }
         ensures none { (result ≡ None) ↔ (votes_of self.now.node.ledgers.headers self.now.node.rows ≡ []) }
     {
         self.node.preferred()
+    }
+
+    /// The ledgers that the node knows.
+    pub fn registry(&self) -> &Registry
+        ensures { result.now ≡ self.now.node.ledgers }
+    {
+        self.node.registry()
+    }
+
+    /// The list in force.
+    pub fn list(&self) -> &List
+        ensures { result.now ≡ self.now.node.list }
+    {
+        self.node.list()
+    }
+
+    /// Whether a member's row holds a current full validation of this sequence and id.
+    pub fn holds(&self, member: NodeNo, seq: Seq, id: &LedgerId) -> bool
+        ensures { result ≡ is_full_of seq id.now (current_of self.now.node.rows member) }
+    {
+        self.node.holds(member, seq, id)
+    }
+
+    /// The ledger that a member last reported, as its current validation tells. None exactly if it has no row, or
+    /// its row has no current validation, or that doesn't tell.
+    pub fn heard(&self, member: NodeNo) -> Option<LedgerId>
+        ensures { result ≡ heard_of self.now.node.rows member }
+    {
+        self.node.heard(member)
     }
 
     /// The last sequence that was saved.

@@ -49,6 +49,8 @@ pub enum Refusal {
     IssuingOff(Seq),
     /// The save failed in this call; the keeper's count of faults then is given.
     KeepFault(u64),
+    /// The list isn't set: its member of this number is another than the node and has no key, and no lower one is so.
+    NoKey(u32),
 }
 
 impl From<WireRefusal> for Refusal {
@@ -133,6 +135,7 @@ impl Refusal {
             Refusal::KeepFault(_) => 32,
             Refusal::Short(_) => 45,
             Refusal::Extra(_) => 46,
+            Refusal::NoKey(_) => 48,
         }
     }
 }

@@ -2,13 +2,14 @@
 ghost use Rattle.std.specs.Prelude.{◌≡◌, ◌+◌, ◌≤◌, Some, IsSome, IsTrue, length};
 ghost use Rattle.xl_tags.specs.Rings.{key_of};
 ghost use Rattle.xl_wire.specs.Writing.{body_length as body_length_of};
+ghost use Rattle.xl_wire.specs.declared.body.Body.TheVariants as bodies;
 ghost use Rattle.xl_core.specs.Draining.{IsPut};
 ghost use Rattle.xl_core.specs.Sending.{keys_for, sealed_bytes, has_spelling};
 
 use crate::putting::{Put, put_frame};
 use xl_base::NodeNo;
 use xl_tags::{Keys, seal};
-use xl_wire::{Body, Frame, LONGEST_FRAME, encode};
+use xl_wire::{Body, Frame, LONGEST_FRAME, Validation, encode};
 
 /// What is written where the tag of a frame goes.
 #[derive(Clone, Copy, Debug)]
@@ -43,7 +44,7 @@ pub fn put_body(
     Put::Written(length)
 }
 
-/// The same through a room of its own, in which the frame becomes whole. It is for a room that is too short.
+/// Encodes into a room of its own first, because the room of the caller is too short for the whole frame.
 fn put_through(
     own: &mut [u8],
     keys: &Keys,
@@ -86,6 +87,17 @@ fn write_into(keys: &Keys, to: NodeNo, tags: TagPlace, body: Body<'_>, place: &m
     }
 }
 
+/// How many bytes a validation has: one that tells what was last reported has that id more.
+fn validation_length(validation: &Validation) -> usize
+    ensures value { result ≡ body_length_of (bodies.Validation validation.now) }
+    ensures most { result ≤ 73 }
+{
+    match validation.validated {
+        Some(_) => 73,
+        None => 41,
+    }
+}
+
 /// How many bytes a body has.
 fn body_length(body: &Body<'_>) -> usize
     ensures value { result ≡ body_length_of body.now }
@@ -93,7 +105,7 @@ fn body_length(body: &Body<'_>) -> usize
 {
     match body {
         Body::Proposal(_) => 76,
-        Body::Validation(_) => 41,
+        Body::Validation(validation) => validation_length(validation),
         Body::Header(_) => 118,
         Body::TxSet(ids) => 2 + 32 * ids.len(),
         Body::Tx(_) => 32,

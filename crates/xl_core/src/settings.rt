@@ -15,4 +15,6 @@ pub struct Settings {
     pub limit: u32,
     /// Whether it is a validator. One that isn't observes: it proposes no position, and validates no ledger.
     pub validating: bool,
+    /// The version of its validations, 1 or 2. One of version 2 tells what the node last reported.
+    pub speak: u8,
 }

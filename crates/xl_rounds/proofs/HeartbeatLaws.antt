@@ -63,7 +63,7 @@ no_longer_young now finished round_ms second r is late is_second =
 
 -- ---- what holds after a heartbeat
 
--- the round is ready exactly where the heartbeat tells so, and stays on its ledger
+-- the round is ready exactly if the heartbeat tells so, and stays on its ledger
 pub record IsTold (r : Round) (b : Beat) : Type 0 where
   pub ready : is_some b.round.ready ≡ is_ready b.pulse.kind
   pub setting : b.round.setting ≡ r.setting

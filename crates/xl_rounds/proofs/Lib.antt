@@ -2,6 +2,7 @@ pub mod RisingLaws
 pub mod Walking
 pub mod HeartbeatLaws
 pub mod StartLaws
+pub mod RelistingLaws
 pub mod SequenceLaws
 pub mod PositionLaws
 pub mod Agreeing

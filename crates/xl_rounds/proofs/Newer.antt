@@ -24,7 +24,7 @@ gone_at [] k = refl
 gone_at (z ∷ xs) zero = refl
 gone_at (z ∷ xs) (suc k) = gone_at xs k
 
--- a proposal becomes the member's position only where its sequence isn't repeated
+-- a proposal becomes the member's position only if its sequence isn't repeated
 placed_if : (past other repeated gone old leaving : Bool) (ours : RoundRefusal) (kept left stale : RoundRefusal) →
     cond past (Err ours) (cond other (Ok Later) (cond repeated (Err kept) (cond gone (Err left) (cond old (Err stale) (cond leaving (Ok Gone) (Ok Position)))))) ≡ Ok Position → repeated ≡ false
 placed_if true other repeated gone old leaving ours kept left stale e = absurd (cc e)

@@ -1,4 +1,4 @@
--- Ids stay rising where one is put at its place, and where some are taken out.
+-- Ids stay rising if one is put at its place, or some are taken out.
 use Rattle.std.proofs.Common.{◌≡◌, ℕ, ◌+◌, ◌≤◌, suc, Bool, true, false, cond, List, [], ◌∷◌, length, arith, ap, sym, ◌∙◌, refl}
 use Rattle.std.specs.Prelude.{filter, insert}
 use Rattle.std.specs.List.{prefix_len, list_any}
@@ -46,7 +46,7 @@ length-with_tx tx (id ∷ ids) =
     (λ _. omega (arith, length-with_tx tx ids))
     (λ _. cond_both (is_below tx id) (tx ∷ id ∷ ids) (id ∷ ids) (λ txs. length txs ≤ length (id ∷ ids) + 1) (λ _. omega arith) (λ _. omega arith))
 
--- with one id more it is a set, where there is room
+-- with one id more it is a set, if there is room
 pub IsSet-with_tx : (tx : TxId) (ids : List TxId) → IsSet ids → length ids + 1 ≤ 256 → IsSet (with_tx tx ids)
 IsSet-with_tx tx ids set fits = record { rising = IsRising-with_tx tx ids set.rising; at_most = omega (arith, length-with_tx tx ids) }
 

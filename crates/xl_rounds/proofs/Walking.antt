@@ -61,7 +61,7 @@ found tx (id ∷ ids) rises = step (is_below id tx) refl (found tx ids (rises_re
 
 -- ---- a walk
 
--- the first ids are done, so many of them are left, and what is still to come is accepted where the rest has it
+-- the first ids are done, so many of them are left, and what is still to come is accepted if the rest has it
 pub record IsWalked (accepted old now rest : List TxId) (place left : ℕ) : Type 0 where
   pub front : take left now ≡ without_accepted accepted (take place old)
   pub back : drop place now ≡ drop place old

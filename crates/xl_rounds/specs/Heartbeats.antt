@@ -42,7 +42,7 @@ pub record Beat : Type 0 where
 abbrev pub quiet : Round → Beat
 quiet r = record { round = record r { ready = None }; pulse = record { kind = Nothing; said = None } }
 
--- where we propose, our position is sent, with our set before it or without
+-- if we propose, our position is sent, with our set before it or without
 abbrev pub said_of : Round → Bool → Option Said
 said_of r with_set =
     if is_proposing r.setting.mode then Some (record { proposal = our_position r; with_set = with_set }) else None
@@ -110,13 +110,13 @@ decision r round_ms second = record {
   choice = chosen r round_ms second;
 }
 
--- the third line: our position is renewed where our set or the close time changed, or once twelve seconds have passed
+-- the third line: our position is renewed if our set or the close time changed, or once twelve seconds have passed
 abbrev pub is_renewed : Round → ℕ → Decision → Bool
 is_renewed r second d =
     d.changed || not (d.choice.close == round_close r.stance.close r.setting.resolution)
     || nat_le r.stance.time (second - 12)
 
--- the greatest propose sequence but for the one that says that a member leaves
+-- the greatest propose sequence except for the one that says that a member leaves
 abbrev pub last_sequence : ℕ
 last_sequence = 4294967294
 
@@ -150,7 +150,7 @@ tally r round_ms finished = record {
   finished = finished;
 }
 
--- the fifth line: the ledger is accepted where there is consensus, and agreement on the close time
+-- the fifth line: the ledger is accepted if there is consensus, and agreement on the close time
 abbrev pub ready_kind : Consensus → Option Kind
 ready_kind No = None
 ready_kind Yes = Some (Ready false)

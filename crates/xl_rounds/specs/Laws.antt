@@ -11,7 +11,7 @@ use Rattle.xl_rounds.specs.Rounds.{Round, is_proposing}
 use Rattle.xl_rounds.specs.Proposals.{is_ours, is_past, with_proposal, later_of, started}
 use Rattle.xl_rounds.specs.Heartbeats.{heartbeat}
 
--- the positions, ours among them where we propose
+-- the positions, ours among them if we propose
 abbrev pub voices : Round → ℕ
 voices r = count r.positions + (if is_proposing r.setting.mode then 1 else 0)
 

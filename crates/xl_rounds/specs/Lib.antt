@@ -7,6 +7,7 @@ pub mod Positions
 pub mod Settings
 pub mod Rounds
 pub mod Proposals
+pub mod Relisting
 pub mod Heartbeats
 pub mod Laws
 pub mod Rest

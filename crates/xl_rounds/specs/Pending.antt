@@ -14,6 +14,6 @@ submit_refusal pending tx = first_line (
     ∷ (nat_le 256 (length pending), Some (PoolFull 256))
     ∷ []) None
 
--- those that are left where a set is accepted
+-- those that are left if a set is accepted
 abbrev pub without_accepted : List TxId → List TxId → List TxId
 without_accepted accepted pending = filter (λ tx. not (has accepted tx)) pending

@@ -38,6 +38,10 @@ without_positions a = record a { members = nowhere }
 abbrev pub with_held : ℕ → List TxId → Positions → Positions
 with_held member set a = record a { held = with_at member (Some set) a.held }
 
+-- neither the position of a member nor the set that it holds
+abbrev pub without_member : ℕ → Positions → Positions
+without_member member a = record a { members = with_at member None a.members; held = with_at member None a.held }
+
 abbrev pub with_own : List TxId → Positions → Positions
 with_own set a = record a { own = set }
 
@@ -63,7 +67,7 @@ set_named position = option_map (λ (p : Proposal). p.set) position
 abbrev pub known_by : Positions → Known
 known_by a = record { own = a.own; held = a.held; positions = map set_named a.members }
 
--- our next set by the votes of the positions, where a yes vote must weigh more than needed
+-- our next set by the votes of the positions, if a yes vote must weigh more than needed
 abbrev pub next_set : ℕ → Bool → Positions → List TxId
 next_set needed proposing a = winners (known_by a) needed proposing
 

@@ -39,7 +39,7 @@ abbrev pub is_old_position : ℕ → Option Proposal → Bool
 is_old_position now None = false
 is_old_position now (Some p) = is_old now p
 
--- without the position at one place, where that is old
+-- without the position at one place, if that is old
 abbrev pub without_old_at : ℕ → ℕ → Positions → Positions
 without_old_at now place a = record a {
   members = slice_set a.members place (unless_old now (slice_index_or a.members place None));

@@ -24,7 +24,7 @@ pub record Round : Type 0 where
   pub former : Former
   pub phase : Phase
   pub stance : Stance
-  -- how long the round had taken at the last heartbeat, where that was ready, and nothing was accepted or started since
+  -- how long the round had taken at the last heartbeat, if that was ready, and nothing was accepted or started since
   pub ready : Option ℕ
   pub positions : Positions
   -- the members that left this round
@@ -88,7 +88,7 @@ is_establish Open = false
 is_establish Establish = true
 is_establish Accepted = false
 
--- we leave where we have a position that we proposed
+-- we leave if we have a position that we proposed
 abbrev pub leave : ℕ → Round → Option Proposal
 leave now r =
     if is_proposing r.setting.mode then (if is_establish r.phase then Some (bow_out now r) else None) else None

@@ -20,9 +20,9 @@ pub(crate) struct Tally {
     pub(crate) positions: u32,
     /// The members' positions at the end of the previous round.
     pub(crate) previous_proposers: u32,
-    /// The positions, ours among them where we propose, that name our set.
+    /// The positions, ours among them if we propose, that name our set.
     pub(crate) agree: u32,
-    /// The positions, ours among them where we propose.
+    /// The positions, ours among them if we propose.
     pub(crate) total: u32,
     /// The votes for ledgers that build on the previous one, directly or not.
     pub(crate) finished: u32,

@@ -6,10 +6,10 @@ use xl_base::Millis;
 /// A round or a wait above it is too long.
 const LONGEST_MS: Millis = 600_000;
 
-/// How long a round waits where nothing is pending.
+/// How long a round waits if nothing is pending.
 const IDLE_MS: Millis = 15_000;
 
-/// How long it waits where something is.
+/// How long it waits if something is.
 const LEAST_OPEN_MS: Millis = 2_000;
 
 /// What says whether the open phase closes.

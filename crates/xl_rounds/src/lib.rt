@@ -7,7 +7,7 @@
 //! ready: the caller builds the next ledger by what `agreed` says, calls `accept`, and starts a round on that ledger.
 //! Time, messages and what the node knows of ledgers and validations are handed in; what is to be sent comes out.
 //!
-//! It stands on xl_ledger, xl_wire, xl_disputes and xl_closetime, and `Round::open` alone takes memory. Its one
+//! It stands on xl_lists, xl_ledger, xl_wire, xl_disputes and xl_closetime, and `Round::open` alone takes memory. Its one
 //! contract: each call leaves the round, and answers, as the definitions say, which count positions, votes and times in
 //! plain lists.
 #![tactic(auto)]

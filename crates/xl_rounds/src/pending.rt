@@ -113,7 +113,7 @@ impl Pending {
         &self.ids
     }
 
-    /// Puts a transaction at its place. Refused as pending, or where no more may be, in this order; all then stays.
+    /// Puts a transaction at its place. Refused as pending, or if no more may be, in this order; all then stays.
     pub(crate) fn submit(&mut self, tx: TxId) -> Result<(), RoundRefusal>
         ensures answer { result_err result ≡ submit_refusal self.old tx }
         ensures taken { OnOk result (self.new ≡ with_tx tx self.old) }

@@ -24,6 +24,7 @@ ghost use Rattle.xl_rounds.specs.Positions.{
   position_of,
   with_position,
   without_positions,
+  without_member,
   with_held,
   with_own,
   count as count_of,
@@ -213,6 +214,17 @@ impl Positions {
         self.disputes.hold(member, set)
     }
 
+    /// The member has neither a position nor a held set any more.
+    pub(crate) fn forget(&mut self, member: NodeNo)
+        ensures { self.new ≡ without_member member self.old }
+    {
+        let place = place_of(member);
+        let had = one_if(&self.members[place]);
+        self.members[place] = None;
+        self.count -= had;
+        self.disputes.forget(member);
+    }
+
     /// These ids are our own set.
     pub(crate) fn own(&mut self, set: &[TxId])
         requires { IsSet set.now }
@@ -234,7 +246,7 @@ impl Positions {
         self.disputes.own_id()
     }
 
-    /// Our set is the next one by the votes, where a yes vote must weigh more than `needed` percent. Tells whether it
+    /// Our set is the next one by the votes, if a yes vote must weigh more than `needed` percent. Tells whether it
     /// changed.
     pub(crate) fn update(&mut self, needed: u32, proposing: bool) -> bool
         ensures changed { result ≡ not (is_same_set (next_set needed proposing self.old) self.old.own) }

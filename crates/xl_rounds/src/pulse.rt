@@ -10,7 +10,7 @@ pub struct Seen {
     pub finished: u32,
 }
 
-/// What a proposing node sends: our set, where it goes with the proposal, and then the proposal.
+/// What a proposing node sends: our set, if it goes with the proposal, and then the proposal.
 #[derive(Clone, Copy, Debug, PartialEq, Eq)]
 pub struct Said {
     pub proposal: Proposal,
@@ -36,7 +36,7 @@ pub struct Pulse {
     pub said: Option<Said>,
 }
 
-/// What a round agreed on: the set of the next ledger, our close time, 0 where none was chosen, and the resolution.
+/// What a round agreed on: the set of the next ledger, our close time, 0 if none was chosen, and the resolution.
 #[derive(Clone, Copy, Debug, PartialEq, Eq)]
 pub struct Agreed {
     pub set: SetId,

@@ -3,7 +3,7 @@ ghost use Rattle.xl_rounds.specs.Codes.{code_of};
 
 use xl_base::{LedgerId, NodeNo, Secs, TxId};
 
-/// Why a round doesn't take a transaction or a proposal. Each cause is told only where no earlier one of its call
+/// Why a round doesn't take a transaction or a proposal. Each cause is told only if no earlier one of its call
 /// holds.
 #[derive(Clone, Copy, Debug, PartialEq, Eq)]
 pub enum RoundRefusal {

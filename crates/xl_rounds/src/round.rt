@@ -28,6 +28,7 @@ use xl_wire::Proposal;
 
 mod heartbeat;
 mod proposals;
+mod relisting;
 
 /// What a node's first round remembers: there was none before it, and that one counts as so long.
 const FIRST_FORMER: Former = Former {
@@ -53,7 +54,7 @@ pub struct Round {
     former: Former,
     phase: Phase,
     stance: Stance,
-    /// How long the round had taken at the last heartbeat, where that was ready, and nothing was accepted or started
+    /// How long the round had taken at the last heartbeat, if that was ready, and nothing was accepted or started
     /// since.
     ready: Option<Millis>,
     positions: Positions,
@@ -119,7 +120,7 @@ impl Round {
     }
 
     /// Becomes a node's first round, on the root, as `open` makes it. It takes no memory, and gives back what is held
-    /// row by row, so that it costs little where little is.
+    /// row by row, so that it costs little if little is.
     pub fn reopen(&mut self, registry: &Registry, root: LedgerNo, mode: Mode, now: Millis)
         requires known { root < length registry.now.headers }
         ensures { self.new ≡ opened registry.now.headers root mode now }
@@ -156,7 +157,7 @@ impl Round {
         self.phase
     }
 
-    /// Makes a transaction pending. Refused where it is, or where as many are as may be, in this order; the round then
+    /// Makes a transaction pending. Refused if it is, or if as many are as may be, in this order; the round then
     /// stays.
     pub fn submit(&mut self, tx: TxId) -> Result<(), RoundRefusal>
         ensures answer { result_err result ≡ submit_refusal self.old.pending tx }

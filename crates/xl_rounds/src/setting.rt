@@ -36,7 +36,7 @@ pub(crate) struct Former {
     pub(crate) proposers: u32,
 }
 
-/// Our own position, but for the ledger and the set that it names, and when our open phase closed.
+/// Our own position, except for the ledger and the set that it names, and when our open phase closed.
 #[derive(Clone, Copy, Debug)]
 pub(crate) struct Stance {
     pub(crate) closed: Millis,

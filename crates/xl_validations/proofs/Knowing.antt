@@ -17,7 +17,7 @@ pub place_known : (ls : List Header) (id : LedgerId) (o : Option ℕ) → o ≡ 
 place_known ls id None e = tt
 place_known ls id (Some place) e = let at = position-Some (same_id id) (ids ls) place root_id (sym e) in omega (arith, at.0, length-ids ls)
 
--- where it is added, its place is the one that is told
+-- if it is added, its place is the one that is told
 pub place_added : (o : Option AddRefusal) (n place : ℕ) → Ok place ≡ unless_refused o n → place ≡ n
 place_added None n place e = cc
 place_added (Some refusal) n place e = absurd cc

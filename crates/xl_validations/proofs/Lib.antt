@@ -6,4 +6,5 @@ pub mod Turning
 pub mod Naming
 pub mod Choosing
 pub mod Tallying
+pub mod Relisting
 pub mod Knowing

@@ -44,7 +44,7 @@ same_at_place [] k row k_in is = absurd (omega arith)
 same_at_place (x ∷ xs) zero row k_in is = ap (λ r. r ∷ xs) is
 same_at_place (x ∷ xs) (suc k) row k_in is = ap (λ rest. x ∷ rest) (same_at_place xs k row (omega arith) is)
 
--- a member has a place exactly where it has a row
+-- a member has a place exactly if it has a row
 pub place_if_row : (member : ℕ) (rows : List Row) → is_some (position (λ row. row.member == member) rows) ≡ is_some (row_of rows member)
 place_if_row member rows =
     let n : ℕ = position_or_len (λ row. row.member == member) rows in

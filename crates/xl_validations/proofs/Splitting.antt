@@ -46,7 +46,7 @@ back_apart rule m (row ∷ rows) all =
     ap (λ (vs : List Vote). has_voted vs m) (cons_own (cast row.member (rule row)) (votes_by rule rows))
     ∙ both_apart (own row.member (rule row)) (votes_by rule rows) m (own_apart row.member m (rule row) (flip m row.member all.0)) (back_apart rule m rows all.1)
 
-middle : (k : ℕ) (front : List Row) (row : Row) (back : List Row) → AllByRecursion (λ y. nat_eq k y ≡ false) (members (front ++ row ∷ back)) → nat_eq k row.member ≡ false
+pub middle : (k : ℕ) (front : List Row) (row : Row) (back : List Row) → AllByRecursion (λ y. nat_eq k y ≡ false) (members (front ++ row ∷ back)) → nat_eq k row.member ≡ false
 middle k [] row back all = all.0
 middle k (r ∷ front) row back all = middle k front row back all.1
 
@@ -72,7 +72,7 @@ few rule (row ∷ rows) =
     let o : Option Vote = cast row.member (rule row) in
     omega (arith, few rule rows, length_own o, ap length (cons_own o (votes_by rule rows)), length-append (option_to_list o) (votes_by rule rows))
 
-count-own : (p : Vote → Bool) (rule : Row → Option ℕ) (row : Row) (rows : List Row) → count_by p (votes_by rule (row ∷ rows)) ≡ count_by p (own row.member (rule row)) + count_by p (votes_by rule rows)
+pub count-own : (p : Vote → Bool) (rule : Row → Option ℕ) (row : Row) (rows : List Row) → count_by p (votes_by rule (row ∷ rows)) ≡ count_by p (own row.member (rule row)) + count_by p (votes_by rule rows)
 count-own p rule row rows = ap (count_by p) (cons_own (cast row.member (rule row)) (votes_by rule rows)) ∙ count-append p (own row.member (rule row)) (votes_by rule rows)
 
 -- the rows before it have turned from one rule to the other, and those after it haven't yet

@@ -28,14 +28,15 @@ length_empty : (ms : List ℕ) → length (map empty_row ms) ≡ length ms
 length_empty [] = refl
 length_empty (m ∷ ms) = let more = length_empty ms in omega (arith, more)
 
-pub tally_opened : (GoesWith : List Header → Type 0) (list : TrustedList) (rows : List Row) (votes : List Vote) (room n : ℕ) → IsValid list → rows ≡ map empty_row list.members → votes ≡ [] → room ≡ n → n ≡ length list.members
+pub tally_opened : (GoesWith : List Header → Type 0) (list : TrustedList) (rows : List Row) (votes : List Vote) (room : ℕ) → IsValid list → rows ≡ map empty_row list.members → votes ≡ [] → room ≡ 64
     → ((ls : List Header) → AreLedgers ls → GoesWith ls) → (ls : List Header) → AreLedgers ls → IsTally GoesWith ls rows votes room
-tally_opened GoesWith list rows votes room n valid rows_are none room_is n_is goes = λ ls ok. record {
+tally_opened GoesWith list rows votes room valid rows_are none room_is goes = λ ls ok. record {
   are = ok;
   goes = goes ls ok;
   same = λ p. ap (count_by p) none ∙ sym (ap (count_by p) (ap (votes_of ls) rows_are ∙ no_votes ls list.members));
   distinct = subst (IsDistinct nat_eq) (sym (ap members rows_are ∙ empty_members list.members)) valid.once;
-  fits = omega (arith, ap length rows_are, length_empty list.members, room_is, n_is);
+  fits = omega (arith, ap length rows_are, length_empty list.members, room_is, valid.at_most);
+  wide = omega (arith, room_is);
 }
 
 -- ---- a validation is taken
@@ -79,6 +80,7 @@ module _ (GoesWith : List Header → Type 0) (ls : List Header) (rows : List Row
               ∙ ap (λ (rs : List Row). count_by p (votes_of ls rs)) (sym (at.changed (with_validation v)));
           distinct = subst (IsDistinct nat_eq) (sym (ap members (at.changed (with_validation v)) ∙ members_at at.front new row at.back refl)) (subst (λ (rs : List Row). IsDistinct nat_eq (members rs)) at.is tally.distinct);
           fits = omega (arith, same_room, tally.fits, ap length at.is, ap length (at.changed (with_validation v)), length_at at.front new row at.back);
+          wide = omega (arith, same_room, tally.wide);
         };
       }
     where

@@ -19,6 +19,7 @@ pub record HasTurned (Goes : Type 0) (turned rule : Row → Option ℕ) (rows : 
   pub same : AreSame votes (votes_by turned (take i rows) ++ votes_by rule (drop i rows))
   pub distinct : IsDistinct nat_eq (members rows)
   pub fits : length rows ≤ room
+  pub wide : 64 ≤ room
 
 module _ (Goes : Type 0) (turned rule : Row → Option ℕ) (rows : List Row) (i : ℕ) (votes : List Vote) (room : ℕ) where
   whole : (d : Row) → i < length rows → take i rows ++ get_or rows i d ∷ drop (i + 1) rows ≡ rows
@@ -46,6 +47,7 @@ module _ (Goes : Type 0) (turned rule : Row → Option ℕ) (rows : List Row) (i
         same = λ p. stood_beside (take i rows) row (drop (i + 1) rows) turned rule after room' row refl s p ∙ ap (λ (rs : List Row). count_by p (votes_by turned rs ++ votes_by rule (drop (i + 1) rows))) (sym front);
         distinct = h.distinct;
         fits = omega (arith, h.fits, same_room);
+        wide = omega (arith, h.wide, same_room);
       }
 
 -- all have turned
@@ -66,7 +68,7 @@ pub members_then : (now : ℕ) (rows : List Row) → members (map (row_at now) r
 members_then now [] = refl
 members_then now (row ∷ rows) = ap (λ (ms : List ℕ). row.member ∷ ms) (members_then now rows)
 
-length-members : (rows : List Row) → length (members rows) ≡ length rows
+pub length-members : (rows : List Row) → length (members rows) ≡ length rows
 length-members [] = refl
 length-members (row ∷ rows) = ap (λ (n : ℕ). suc n) (length-members rows)
 
@@ -78,4 +80,5 @@ tally_then GoesWith ls now rows i votes room ok h le = record {
   same = λ p. all_turned (GoesWith ls) (λ row. ledger_named ls (unexpired now row.current)) (λ row. ledger_named ls row.current) rows i votes room h le p ∙ ap (count_by p) (votes_then ls now rows);
   distinct = subst (IsDistinct nat_eq) (sym (members_then now rows)) h.distinct;
   fits = omega (arith, h.fits, ap length (members_then now rows), length-members (map (row_at now) rows), length-members rows);
+  wide = h.wide;
 }

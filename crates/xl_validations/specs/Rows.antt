@@ -1,5 +1,5 @@
 -- Rows. Source: rippled's Validations, with seen sequences kept for a node's whole life by this profile.
-use Rattle.std.specs.Prelude.{ℕ, ◌+◌, ◌-◌, ◌==◌, ◌&&◌, Bool, false, not, List, [], ◌∷◌, find, count_by, nat_lt, nat_le, if◌then◌else◌}
+use Rattle.std.specs.Prelude.{ℕ, ◌+◌, ◌-◌, ◌==◌, ◌&&◌, Bool, false, not, List, [], ◌∷◌, map, find, unwrap_or, count_by, nat_lt, nat_le, if◌then◌else◌}
 use Rattle.std.specs.Prelude.{Some, None}
 use Rattle.std.specs.declared.option.Option.{Option}
 use Rattle.std.specs.Option.{option_and_then, option_map_or}
@@ -51,6 +51,10 @@ largest_of rows member = option_map_or (λ row. row.largest) (row_of rows member
 abbrev pub current_of : List Row → ℕ → Option Validation
 current_of rows member = option_and_then (λ row. row.current) (row_of rows member)
 
+-- what a member last reported, as its current validation tells
+abbrev pub heard_of : List Row → ℕ → Option LedgerId
+heard_of rows member = option_and_then (λ v. v.validated) (current_of rows member)
+
 -- why the row of a member doesn't take the validation
 abbrev pub refusal_of : List Row → ℕ → ℕ → Validation → Option ValRefusal
 refusal_of rows member now v = option_and_then (λ row. refusal row now v) (row_of rows member)
@@ -60,6 +64,14 @@ abbrev pub at_member : ℕ → (Row → Row) → List Row → List Row
 at_member member change [] = []
 at_member member change (row ∷ rows) =
     if row.member == member then change row ∷ rows else row ∷ at_member member change rows
+
+-- the row of a member, or an empty one
+abbrev pub row_for : List Row → ℕ → Row
+row_for rows member = unwrap_or (row_of rows member) (empty_row member)
+
+-- the rows of another list: members that stay keep theirs, and each new one has an empty row
+abbrev pub relisted : List ℕ → List Row → List Row
+relisted members rows = map (row_for rows) members
 
 -- a validation that is no longer current is removed
 abbrev pub unexpired : ℕ → Option Validation → Option Validation

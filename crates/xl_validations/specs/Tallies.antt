@@ -1,6 +1,9 @@
 -- What a table keeps beside its rows: a branch that has their votes. Source: what the code of this crate relies on.
-use Rattle.std.specs.Prelude.{◌≡◌, ℕ, ◌+◌, ◌<◌, ◌≤◌, false, List, ◌++◌, length, map, take, nat_eq, Option, option_to_list}
+use Rattle.std.specs.Prelude.{◌≡◌, ℕ, ◌+◌, ◌<◌, ◌≤◌, false, List, ◌++◌, length, map, take, nat_eq, None, option_to_list, if◌then◌else◌}
+use Rattle.std.specs.declared.option.Option.{Option}
 use Rattle.std.specs.List.{IsDistinct}
+use Rattle.xl_lists.specs.Lists.{is_on}
+use Rattle.xl_wire.specs.declared.validation.Validation.{Validation}
 use Rattle.xl_ledger.specs.declared.header.Header.{Header}
 use Rattle.xl_ledger.specs.declared.vote.Vote.{Vote}
 use Rattle.xl_ledger.specs.Chains.{AreLedgers}
@@ -8,8 +11,8 @@ use Rattle.xl_ledger.specs.Votes.{AreSame, has_voted}
 use Rattle.xl_validations.specs.declared.row.Row.{Row}
 use Rattle.xl_validations.specs.Votes.{cast, votes_of}
 
--- the votes are those of the rows, whatever their order, there is room for one of each row, and the branch goes with
--- the ledgers
+-- the votes are those of the rows, whatever their order, there is room for one of each row, and for one of as many
+-- members as a list may have, and the branch goes with the ledgers
 pub record IsTally (GoesWith : List Header → Type 0) (ledgers : List Header)
     (rows : List Row) (votes : List Vote) (room : ℕ) : Type 0 where
   pub are : AreLedgers ledgers
@@ -17,6 +20,7 @@ pub record IsTally (GoesWith : List Header → Type 0) (ledgers : List Header)
   pub same : AreSame votes (votes_of ledgers rows)
   pub distinct : IsDistinct nat_eq (map (λ row. row.member) rows)
   pub fits : length rows ≤ room
+  pub wide : 64 ≤ room
 
 -- the branch is a tally of the rows, by what it says of itself: that it goes with ledgers, its votes, and its room
 abbrev pub IsTallyIn : {B : Type 0} → (B → List Header → Type 0) → (B → List Vote) → (B → ℕ)
@@ -46,6 +50,10 @@ pub record IsNewest (ledgers : List Header) (ledger : ℕ) : Type 0 where
   pub last : length ledgers ≡ ledger + 1
   pub are : AreLedgers ledgers
   pub known : AreLedgers (take ledger ledgers)
+
+-- what a row has of its vote on another list: a member that isn't on it has none
+abbrev pub kept_on : List ℕ → Row → Option Validation
+kept_on members row = if is_on members row.member then row.current else None
 
 -- the votes are those of others and the one of a member, if it has one
 pub record StandsBeside (votes others : List Vote) (member : ℕ) (ledger : Option ℕ) (room : ℕ) : Type 0 where

@@ -9,16 +9,16 @@ use Rattle.xl_ledger.specs.Chains.{seq_at, place_of, parent_of}
 use Rattle.xl_ledger.specs.Votes.{follows, is_on_chain, tip_of, branch_of, preferred_of}
 use Rattle.xl_validations.specs.declared.row.Row.{Row}
 
--- the ledger, where it is of this sequence
+-- the ledger, if it is of this sequence
 abbrev pub if_of_sequence : List Header → ℕ → ℕ → Option ℕ
 if_of_sequence ledgers seq ledger = if seq_at ledgers ledger == seq then Some ledger else None
 
--- the known ledger that a validation names, where that has its sequence
+-- the known ledger that a validation names, if that has its sequence
 abbrev pub ledger_named : List Header → Option Validation → Option ℕ
 ledger_named ledgers None = None
 ledger_named ledgers (Some v) = option_and_then (if_of_sequence ledgers v.seq) (place_of ledgers v.id)
 
--- a vote of a member, where it is for a ledger
+-- a vote of a member, if it is for a ledger
 abbrev pub cast : ℕ → Option ℕ → Option Vote
 cast member ledger = option_map (λ at. record { member = member; ledger = at }) ledger
 
@@ -30,11 +30,11 @@ votes_of ledgers rows = filter_map (λ row. cast row.member (ledger_named ledger
 abbrev pub finished : List Header → List Row → ℕ → ℕ
 finished ledgers rows ledger = branch_of ledgers (votes_of ledgers rows) ledger - tip_of (votes_of ledgers rows) ledger
 
--- the ledger that the votes prefer, where the largest sequence issued is this one
+-- the ledger that the votes prefer, if the largest sequence issued is this one
 abbrev pub preferred : List Header → List Row → ℕ → Option ℕ
 preferred ledgers rows largest = preferred_of ledgers (votes_of ledgers rows) largest
 
--- the ledger to go on with, where this one is preferred
+-- the ledger to go on with, if this one is preferred
 abbrev pub choose_by : List Header → ℕ → Option ℕ → ℕ
 choose_by ledgers current None = current
 choose_by ledgers current (Some preferred) =

@@ -1,10 +1,13 @@
-ghost use Rattle.std.specs.Prelude.{◌≡◌, ◌==◌, ◌≤◌, map, length, position, option_map, Some, IsSome, is_some, IfOk, OnOk, OnErr};
+ghost use Rattle.std.specs.Prelude.{◌≡◌, ◌==◌, ◌≤◌, map, length, vec_capacity, position, option_map, Some, IsSome, is_some, IfOk, OnOk, OnErr};
 ghost use Rattle.std.specs.Result.{result_err};
 ghost use Rattle.xl_lists.specs.Lists.{IsValid};
 ghost use Rattle.xl_validations.specs.Rows.{
   row_of,
   largest_of,
   current_of,
+  heard_of,
+  row_for,
+  relisted,
   refusal_of,
   empty_row,
   with_validation,
@@ -15,9 +18,10 @@ ghost use Rattle.xl_validations.specs.Rows.{
 };
 
 use crate::{Row, ValRefusal};
-use std::alloc::{AllocError, Global};
+use std::alloc::Global;
 use std::marker::Model;
-use xl_base::{LedgerId, NodeNo, OutOfMemory, Secs, Seq};
+use std::mem::swap;
+use xl_base::{LedgerId, MOST_MEMBERS, NodeNo, OutOfMemory, Secs, Seq};
 use xl_lists::List;
 use xl_wire::Validation;
 
@@ -25,27 +29,42 @@ use xl_wire::Validation;
 #[derive(Debug, Drop)]
 pub struct Rows {
     rows: Vec<Row>,
+    /// Room for the rows of another list.
+    beside: Vec<Row>,
 }
 
 impl Model for Rows {
-    ghost use Rattle.std.specs.Prelude.{List, ◌≤◌, length};
+    ghost use Rattle.std.specs.Prelude.{List, length, vec_capacity};
+    ghost use Rattle.xl_validations.specs.Stored.{IsRoomy};
     ghost use Rattle.xl_validations.specs.declared.row.Row.{Row};
 
     ghost Value = { List Row };
 
     ghost view = { λ a. a.rows.items };
 
-    ghost invariant = { λ a. length a.rows.items ≤ 64 };
+    ghost invariant = { λ a. IsRoomy (length a.rows.items) (vec_capacity a.rows) (vec_capacity a.beside) };
 }
 
-/// An empty row for each member.
-fn empty_rows(alloc: Global, members: &[NodeNo]) -> Result<Vec<Row>, AllocError>
-    ensures { IfOk result (λ rows. rows.items ≡ map empty_row members.now) }
+/// The row of a member, or an empty one.
+fn row_for(rows: &[Row], member: NodeNo) -> Row
+    ensures { result ≡ row_for rows.now member }
 {
-    members
-        .iter()
-        .map(|member| Row::empty(*member))
-        .collect(alloc)
+    match find_row(rows, member) {
+        Some(row) => *row,
+        None => Row::empty(member),
+    }
+}
+
+/// Makes a vector hold a row for each member: the one that it has among others, or an empty one.
+fn fill(rows: &mut Vec<Row>, members: &[NodeNo], others: &[Row])
+    requires { length members.now ≤ vec_capacity rows.old }
+    ensures rows { rows.new.items ≡ relisted members.now others.now }
+    ensures capacity { vec_capacity rows.new ≡ vec_capacity rows.old }
+{
+    rows.clear();
+    for member in members {
+        rows.push_reserved(row_for(others, *member));
+    }
 }
 
 /// The place of the first row of a member, if there is one.
@@ -85,8 +104,11 @@ impl Rows {
         ensures rows { IfOk result (λ rows. rows ≡ map empty_row list.now.members) }
         ensures valid { IsValid list.now }
     {
-        let rows = empty_rows(alloc, list.members())?;
-        Ok(Rows { rows })
+        let members = list.members();
+        let mut rows = Vec::with_capacity(alloc, MOST_MEMBERS)?;
+        let beside = Vec::with_capacity(alloc, MOST_MEMBERS)?;
+        fill(&mut rows, members, &[]);
+        Ok(Rows { rows, beside })
     }
 
     /// The rows.
@@ -124,6 +146,15 @@ impl Rows {
         expire_all(&mut self.rows, now);
     }
 
+    /// Goes over to another list: members that stay keep their rows, and each new one has an empty row.
+    pub fn relist(&mut self, list: &List)
+        ensures rows { self.new ≡ relisted list.now.members self.old }
+        ensures valid { IsValid list.now }
+    {
+        fill(&mut self.beside, list.members(), &self.rows);
+        swap(&mut self.rows, &mut self.beside);
+    }
+
     /// How many members' current full validations are of this sequence and name this id: at most 64.
     pub fn count_full(&self, seq: Seq, id: &LedgerId) -> u32
         ensures { result ≡ count_full seq id.now self.now }
@@ -156,5 +187,12 @@ impl Rows {
         ensures { result ≡ current_of self.now member }
     {
         find_row(&self.rows, member)?.current
+    }
+
+    /// The ledger that a member last reported, as its current validation tells, if that does.
+    pub fn heard(&self, member: NodeNo) -> Option<LedgerId>
+        ensures { result ≡ heard_of self.now member }
+    {
+        self.current(member)?.validated
     }
 }

@@ -5,6 +5,9 @@ ghost use Rattle.xl_ledger.specs.Walks.{GoesOn};
 ghost use Rattle.xl_validations.specs.Rows.{
   row_of,
   largest_of,
+  current_of,
+  heard_of,
+  relisted,
   refusal_of,
   empty_row,
   with_validation,
@@ -16,11 +19,11 @@ ghost use Rattle.xl_validations.specs.Rows.{
 ghost use Rattle.xl_validations.specs.Votes.{preferred, finished, choose_by, choose};
 ghost use Rattle.xl_validations.specs.Tallies.{IsTallied, IsTalliedByAny, IsNewest};
 
-use crate::tally::{cast_for, ledger_named, revote, take_back_expired};
+use crate::tally::{cast_for, ledger_named, revote, take_back_expired, take_back_unlisted};
 use crate::{Rows, ValRefusal};
 use std::alloc::Global;
 use std::marker::Model;
-use xl_base::{LedgerId, NodeNo, OutOfMemory, Secs, Seq};
+use xl_base::{LedgerId, MOST_MEMBERS, NodeNo, OutOfMemory, Secs, Seq};
 use xl_ledger::{Branch, LedgerNo, Registry, Walk};
 use xl_lists::List;
 use xl_wire::Validation;
@@ -53,11 +56,11 @@ impl<B: Branch> Table<B> {
         ensures valid { IsValid list.now }
     {
         let rows = Rows::open(alloc, list)?;
-        let branch = B::open(alloc, list.len())?;
+        let branch = B::open(alloc, MOST_MEMBERS as u32)?;
         Ok(Table { me, rows, branch })
     }
 
-    /// Takes a member's validation into its row. The member's vote is then for the ledger that it names, where that is
+    /// Takes a member's validation into its row. The member's vote is then for the ledger that it names, if that is
     /// known and of its sequence.
     ///
     /// Refused as stale, as a repeat, as a conflict, or as old, tested in this order; the table then stays as it was.
@@ -112,6 +115,20 @@ impl<B: Branch> Table<B> {
         cast_for(&mut self.branch, registry, self.rows.as_slice(), ledger);
     }
 
+    /// Goes over to another list: members that stay keep their rows and votes, those of the others go, and each new one
+    /// has an empty row.
+    pub fn relist(&mut self, registry: &Registry, list: List)
+        requires tally { IsTallied B.goes_with B.votes B.room self.old registry.now.headers }
+        ensures rows { self.new.rows ≡ relisted list.members self.old.rows }
+        ensures me { self.new.me ≡ self.old.me }
+        ensures tally { IsTallied B.goes_with B.votes B.room self.new registry.now.headers }
+    {
+        // Each list is valid.
+        let _members = list.members();
+        take_back_unlisted(&mut self.branch, registry, self.rows.as_slice(), &list);
+        self.rows.relist(&list);
+    }
+
     /// How many members' current full validations are of this sequence and name this id: at most 64.
     pub fn count_full(&self, seq: Seq, id: &LedgerId) -> u32
         ensures { result ≡ count_full seq id.now self.now.rows }
@@ -134,6 +151,21 @@ impl<B: Branch> Table<B> {
         self.rows.largest(member)
     }
 
+    /// A member's current validation, or None exactly if it has no row, or its row has none.
+    pub fn current(&self, member: NodeNo) -> Option<Validation>
+        ensures { result ≡ current_of self.now.rows member }
+    {
+        self.rows.current(member)
+    }
+
+    /// The ledger that a member last reported, as its current validation tells. None exactly if it has no row, or
+    /// its row has no current validation, or that doesn't tell.
+    pub fn heard(&self, member: NodeNo) -> Option<LedgerId>
+        ensures { result ≡ heard_of self.now.rows member }
+    {
+        self.rows.heard(member)
+    }
+
     /// How many votes are for ledgers below this one.
     pub fn finished(&self, registry: &Registry, ledger: LedgerNo) -> u32
         requires known { ledger < length registry.now.headers }
@@ -144,7 +176,7 @@ impl<B: Branch> Table<B> {
         branch.saturating_sub(self.branch.tip(registry, ledger))
     }
 
-    /// The ledger that the votes prefer, where the largest sequence issued is this one. None exactly where there is no
+    /// The ledger that the votes prefer, if the largest sequence issued is this one. None exactly if there is no
     /// vote. At most as many steps as the branch says.
     pub fn preferred(&self, walk: &mut Walk<'_>, largest: Seq) -> Option<LedgerNo>
         requires tally { IsTallied B.goes_with B.votes B.room self.now walk.old.ledgers.headers }

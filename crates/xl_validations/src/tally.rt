@@ -1,15 +1,17 @@
 // The votes of rows, kept in a branch.
 ghost use Rattle.std.specs.Prelude.{◌≡◌, ◌<◌, List, length, map, take, IfSome, None};
-ghost use Rattle.xl_validations.specs.Rows.{row_at, unexpired};
+ghost use Rattle.xl_lists.specs.Lists.{IsValid};
+ghost use Rattle.xl_validations.specs.Rows.{relisted, row_at, unexpired};
 ghost use Rattle.xl_validations.specs.Votes.{ledger_named};
-ghost use Rattle.xl_validations.specs.Tallies.{IsTallyIn, IsNewest, Stands, Turns};
+ghost use Rattle.xl_validations.specs.Tallies.{IsTallyIn, IsNewest, kept_on, Stands, Turns};
 
 use crate::Row;
 use xl_base::{NodeNo, Secs};
 use xl_ledger::{Branch, LedgerNo, Registry};
+use xl_lists::List;
 use xl_wire::Validation;
 
-/// The known ledger that a validation names, where that has its sequence.
+/// The known ledger that a validation names, if that has its sequence.
 pub(crate) fn ledger_named(registry: &Registry, v: &Option<Validation>) -> Option<LedgerNo>
     ensures value { result ≡ ledger_named registry.now.headers v.now }
     ensures known { IfSome result (λ ledger. ledger < length registry.now.headers) }
@@ -103,6 +105,40 @@ pub(crate) fn take_back_expired<B: Branch>(
 {
     for row in rows {
         take_back_if_expired(branch, registry, row, now);
+    }
+}
+
+/// Takes back the vote of a row whose member isn't on a list.
+fn take_back_unless_listed<B: Branch>(branch: &mut B, registry: &Registry, row: &Row, list: &List)
+    requires goes { B.goes_with branch.old registry.now.headers }
+    requires beside { Stands B.votes B.room branch.old row.now.member
+        (ledger_named registry.now.headers row.now.current) }
+    ensures goes { B.goes_with branch.new registry.now.headers }
+    ensures room { B.room branch.new ≡ B.room branch.old }
+    ensures turned { Turns B.votes B.room branch.old branch.new row.now.member
+        (ledger_named registry.now.headers row.now.current)
+        (ledger_named registry.now.headers (kept_on list.now.members row.now)) }
+{
+    if !list.has(row.member) {
+        let vote = ledger_named(registry, &row.current);
+        take_back(branch, registry, row.member, vote);
+    }
+}
+
+/// Takes back the votes of the rows whose members aren't on a list. What is left are the votes of that list's rows.
+pub(crate) fn take_back_unlisted<B: Branch>(
+    branch: &mut B,
+    registry: &Registry,
+    rows: &[Row],
+    list: &List,
+)
+    requires tally { IsTallyIn B.goes_with B.votes B.room branch.old rows.now registry.now.headers }
+    requires valid { IsValid list.now }
+    ensures tally { IsTallyIn B.goes_with B.votes B.room branch.new
+        (relisted list.now.members rows.now) registry.now.headers }
+{
+    for row in rows {
+        take_back_unless_listed(branch, registry, row, list);
     }
 }
 

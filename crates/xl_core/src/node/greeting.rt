@@ -11,7 +11,7 @@ use xl_base::NodeNo;
 use xl_ledger::{Branch, LedgerNo};
 
 impl<B: Branch + Drop> Node<B> {
-    /// The chain of the ledger on which its round is, but for the root.
+    /// The chain of the ledger on which its round is, except for the root.
     pub(crate) fn greeting(&self) -> Greeting
         ensures { result ≡ greeting_of self.now }
     {
@@ -21,7 +21,7 @@ impl<B: Branch + Drop> Node<B> {
         }
     }
 
-    /// The ledger of the next header of a greeting, or None where all were handed out.
+    /// The ledger of the next header of a greeting, or None if all were handed out.
     pub(crate) fn next_on_chain(&self, greeting: &Greeting) -> Option<LedgerNo>
         ensures value { result ≡ next_on self.now.ledgers.headers greeting.now }
         ensures known { IsNext self.now greeting.now result }
@@ -35,7 +35,7 @@ impl<B: Branch + Drop> Node<B> {
     }
 
     /// Puts the frame of the next header of a greeting for a member at a place of the room, and answers where the next
-    /// frame goes. None where all were handed out, or the room is too short: it is as it was then.
+    /// frame goes. None if all were handed out, or the room is too short: it is as it was then.
     pub(crate) fn put_next(
         &self,
         to: NodeNo,

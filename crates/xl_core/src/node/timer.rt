@@ -170,7 +170,7 @@ impl<B: Branch + Drop> Node<B> {
         build_next(id, parent, agreed.set, close, agreed.resolution)
     }
 
-    /// Adds the built ledger, unless it is known, and tells its place; None where there is no room for it.
+    /// Adds the built ledger, unless it is known, and tells its place; None if there is no room for it.
     fn know(&mut self, h: &Header, id: &LedgerId) -> Option<LedgerNo>
         requires built { h.now ≡ built_of self.old }
         requires id { id.now ≡ header_id h.now }
@@ -199,7 +199,7 @@ impl<B: Branch + Drop> Node<B> {
         Ok(ledger)
     }
 
-    /// Issues the validation of a built ledger, where that is to be validated, and starts a round on the ledger.
+    /// Issues the validation of a built ledger, if that is to be validated, and starts a round on the ledger.
     pub(crate) fn conclude<K: Keeper>(
         &mut self,
         built: &Built,
@@ -218,7 +218,7 @@ impl<B: Branch + Drop> Node<B> {
         outcome
     }
 
-    /// Issues the validation of a built ledger, where the node is a validator and the members haven't moved on.
+    /// Issues the validation of a built ledger, if the node is a validator and the members haven't moved on.
     fn validate<K: Keeper>(
         &mut self,
         built: &Built,

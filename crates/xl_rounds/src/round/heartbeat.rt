@@ -40,7 +40,7 @@ const LEAST_FORMER_MS: Millis = 5_000;
 /// Our position is renewed after so many seconds.
 const RENEWED_SECS: Secs = 12;
 
-/// The greatest propose sequence but for the one that says that a member leaves.
+/// The greatest propose sequence except for the one that says that a member leaves.
 const LAST_SEQUENCE: u32 = u32::MAX - 1;
 
 /// How long a round has taken, in percent of the one before it.
@@ -93,7 +93,7 @@ impl Round {
         requires { now ≤ GREATEST_MILLIS }
         ensures told { result ≡ (heartbeat_of now seen self.old).pulse }
         ensures after { self.new ≡ (heartbeat_of now seen self.old).round }
-        // So a round is ready after this heartbeat exactly where it tells so, and stays on its ledger.
+        // So a round is ready after this heartbeat exactly if it tells so, and stays on its ledger.
         ensures ready { is_some self.new.ready ≡ is_ready result.kind }
         ensures setting { self.new.setting ≡ self.old.setting }
     {
@@ -115,7 +115,7 @@ impl Round {
         }
     }
 
-    /// Our position, where we propose it, with our set or without.
+    /// Our position, if we propose it, with our set or without.
     fn said(&self, with_set: bool) -> Option<Said>
         ensures { result ≡ said_of self.now with_set }
     {
@@ -232,7 +232,7 @@ impl Round {
             || self.stance.time <= second.saturating_sub(RENEWED_SECS)
     }
 
-    /// Renews our position, where it is to be renewed, and tells what is to be sent.
+    /// Renews our position, if it is to be renewed, and tells what is to be sent.
     fn renew_if(&mut self, is_new: bool, second: Secs, decision: Decision) -> Option<Said>
         requires { is_new ≡ is_renewed_of self.old second decision }
         ensures said { result ≡ said_in_third self.old second decision }

@@ -142,7 +142,7 @@ impl Round {
         self.left = [false; MOST_MEMBERS];
     }
 
-    /// Hands a member's later proposal, if there is one, to the rule where it is on our ledger.
+    /// Hands a member's later proposal, if there is one, to the rule if it is on our ledger.
     fn hand(&mut self, registry: &Registry, member: NodeNo, now: Secs)
         requires known { self.old.setting.previous < length registry.now.headers }
         ensures { self.new ≡ with_handed registry.now.headers member (later_of self.old member) now self.old }

@@ -20,7 +20,7 @@ loop-next-smaller g c =
     fewer_left (frame_of (node_for c.args.tags c.args.node.now) c.args.member) c.loop-next.waiting c.drain_first.new.waiting c.args.member c.loop-next.at c.in-Some.next c.loop-next.room c.drain_first.new.room
     c.drain_first.ensures.numbers.1 (omega (arith, c.drain_first.ensures.numbers.0, c.drain_first.ensures.numbers.2)) (c.drain_first.ensures.some c.in-Some.next c.in-Some.is)
 
--- it ended where nothing more fits
+-- it ended if nothing more fits
 ended : (g : _) (c : goal.In_default g) → c.loop-next.invariant.count ≡ fitting (frames_for (node_for c.args.tags c.args.node.now) c.args.waiting.now c.args.member) (length c.args.room.now)
 ended g c =
     let so_far = c.loop-next.invariant in

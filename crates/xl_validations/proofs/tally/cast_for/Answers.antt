@@ -21,6 +21,7 @@ loop-row-init g c = record {
   same = c.requires.tally.same;
   distinct = c.requires.tally.distinct;
   fits = c.requires.tally.fits;
+  wide = c.requires.tally.wide;
 }
 
 pub cast_if_for-requires-clause-goes : goal.cast_if_for-requires-clause-goes
@@ -54,5 +55,6 @@ returns g c = record {
     same = all_turned (g.B.Branch.goes_with c.loop-row.branch c.args.registry.now.headers) (turned c.args.registry.now.headers c.args.ledger) (rule c.args.registry.now.headers c.args.ledger) c.args.rows.now c.loop-row.row-index (g.B.Branch.votes c.loop-row.branch) (g.B.Branch.room c.loop-row.branch) c.loop-row.invariant (omega (arith, c.loop-row-test.false, c.loop-row.auto.row-index-end));
     distinct = c.loop-row.invariant.distinct;
     fits = c.loop-row.invariant.fits;
+    wide = c.loop-row.invariant.wide;
   };
 }

@@ -14,7 +14,7 @@ abbrev rule : List Header → ℕ → Row → Option ℕ
 rule ls n row = ledger_named ls row.current
 
 pub loop-row-init : goal.loop-row-init
-loop-row-init g c = record { goes = c.requires.tally.goes; same = c.requires.tally.same; distinct = c.requires.tally.distinct; fits = c.requires.tally.fits }
+loop-row-init g c = record { goes = c.requires.tally.goes; same = c.requires.tally.same; distinct = c.requires.tally.distinct; fits = c.requires.tally.fits; wide = c.requires.tally.wide }
 
 pub take_back_if_expired-requires-clause-goes : goal.take_back_if_expired-requires-clause-goes
 take_back_if_expired-requires-clause-goes g c = c.loop-row.invariant.goes

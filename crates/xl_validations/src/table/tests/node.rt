@@ -87,6 +87,7 @@ impl<B: Branch> Node<B> {
                     seq,
                     signed: self.second,
                     full: false,
+                    validated: None,
                 };
                 self.hear(number, &v)?;
             }

@@ -1,9 +1,9 @@
-use Rattle.std.proofs.Common.{◌≡◌, ◌≢◌, sym, subst, Ok}
+use Rattle.std.proofs.Common.{◌≡◌, ◌≢◌, ◌∙◌, ap, sym, subst, Ok}
 use Rattle.xl_core.specs.declared.event.CoreEvent.TheVariants as event
 use Rattle.xl_core.specs.declared.hearing.Spoken.{Spoken}
 use Rattle.xl_core.specs.Answers.{Refused, Took}
 use Rattle.xl_core.specs.Hearing.{bytes_with, heard}
-use Rattle.xl_core.specs.Node.{Frame, happens}
+use Rattle.xl_core.specs.Node.{Frame, at_moment, frame_refusal, happens}
 use Rattle.xl_core.specs.Node.Save.{Kept}
 use Rattle.xl_core.specs.Core.{Core, core_happens}
 use Rattle.xl_core.specs.Replies.{Answers}
@@ -35,3 +35,9 @@ pub returns-in-Err-clause-stop : goal.returns-in-Err-clause-stop
 returns-in-Err-clause-stop g c = λ held was.
     let others = subst (λ (a : Core). (said : Spoken) → heard a.node.keys a.node.list.members (bytes_with c.args.tags a.node.keys c.args.bytes.now) ≡ Ok said → said.from ≢ a.node.me) c.self.view_is c.in-Err.ensures.others in
     subst (IsCovered held) (sym (returns-in-Err-clause-step g c).core) (frame_covered held c.args.self.now c.args.now (bytes_with c.args.tags c.args.self.now.node.keys c.args.bytes.now) others was)
+
+pub returns-in-Ok-clause-refused : goal.returns-in-Ok-clause-refused
+returns-in-Ok-clause-refused g c = c.in-Ok.ensures.refused ∙ ap (λ (a : Core). frame_refusal (at_moment c.args.now a.node) (bytes_with c.args.tags a.node.keys c.args.bytes.now)) c.self.view_is
+
+pub returns-in-Err-clause-refused : goal.returns-in-Err-clause-refused
+returns-in-Err-clause-refused g c = c.in-Err.ensures.refused ∙ ap (λ (a : Core). frame_refusal (at_moment c.args.now a.node) (bytes_with c.args.tags a.node.keys c.args.bytes.now)) c.self.view_is

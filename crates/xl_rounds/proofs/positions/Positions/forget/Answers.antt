@@ -1,0 +1,15 @@
+use Rattle.std.proofs.Common.{◌-◌, ap, subst, sym, ◌∙◌, None, set, arith}
+use Rattle.xl_disputes.specs.Disputes.{Known}
+use Rattle.xl_rounds.specs.Rest.{AreNamed}
+use Rattle.xl_rounds.proofs.PositionLaws.{was_counted, named_set}
+use Rattle.xl_rounds.proofs.positions.Positions.forget.Goals as goal
+
+pub invariant_of-self : goal.invariant_of-self
+invariant_of-self c =
+    let a = c.self.inside in
+    let place = c.place_of-place.result in
+    let new = a.count - c.one_if-had.result in
+    let named = ap (λ (k : Known). k.positions) c.forget.ensures ∙ ap (λ n. set a.disputes.positions n None) (sym c.place_of-place.ensures.value) in
+    subst (AreNamed (set a.members place None) new) (sym named)
+    (named_set a.members a.count a.disputes.positions c.self.invariant place new None None c.place_of-place.ensures.within
+    (omega (arith, c.one_if-had.ensures.value, was_counted a.members a.count a.disputes.positions c.self.invariant place None c.place_of-place.ensures.within)))
