@@ -16,7 +16,7 @@ use Rattle.xl_world.specs.Plans.{up_from}
 use Rattle.xl_world.specs.Schedule.{after_event, outcomes}
 use Rattle.xl_world.specs.Starts.{start}
 use Rattle.xl_world.specs.World.{World}
-use Rattle.xl_replay.specs.declared.replayer.TheConstants.{DEFAULT_LIMIT}
+use Rattle.xl_running.specs.declared.running.TheConstants.{DEFAULT_LIMIT, DEFAULT_SPEAK}
 use Rattle.xl_gen.specs.declared.generator.TheConstants.{FIRST_MOMENT}
 
 -- the moment of a second
@@ -87,7 +87,7 @@ lines rounds = line.At FIRST_MOMENT ∷ map node_line everyone ++ flat_map secon
 
 -- the world before anything happens
 abbrev pub at_first : World
-at_first = start DEFAULT_LIMIT [] plan
+at_first = start (record { limit = DEFAULT_LIMIT; speak = DEFAULT_SPEAK }) [] plan
 
 -- the world after these events
 abbrev pub after : World → List Event → World

@@ -5,12 +5,13 @@ use Rattle.xl_lines.specs.Rules.{Told, closes}
 use Rattle.xl_sched.specs.declared.event.Event.{Event}
 use Rattle.xl_sched.specs.Reading.{opened}
 use Rattle.xl_world.specs.declared.outcome.Outcome.{Outcome}
-use Rattle.xl_world.specs.declared.outcome.Outcome.TheVariants.{Switched, Built, Refused, Full, Preferred}
+use Rattle.xl_world.specs.declared.outcome.Outcome.TheVariants.{Switched, Built, Refused, Full, Preferred, Heard}
 use Rattle.xl_world.specs.Forks.{first_fork}
 use Rattle.xl_world.specs.World.{World}
 use Rattle.xl_replay.specs.Headlines.{full_of, is_full}
 use Rattle.xl_replay.specs.Replays.{verdict_of}
-use Rattle.xl_replay.specs.Texts.{newline, end_lines, forged_line, agreement_line}
+use Rattle.xl_running.specs.Texts.{newline}
+use Rattle.xl_replay.specs.Texts.{end_lines, forged_line, agreement_line}
 use Rattle.xl_gen.specs.declared.counts.Counts.{Counts}
 use Rattle.xl_gen.specs.declared.generator.Generator.{Generator}
 use Rattle.xl_gen.specs.Schedule.{after, at_first, events, lines, told}
@@ -22,6 +23,7 @@ is_refused (Built node seq id issued) = false
 is_refused (Refused node refusal) = true
 is_refused (Full node seq id) = false
 is_refused (Preferred node ledger) = false
+is_refused (Heard node member id) = false
 
 abbrev pub is_built : Outcome → Bool
 is_built (Switched node seq id) = false
@@ -29,6 +31,7 @@ is_built (Built node seq id issued) = true
 is_built (Refused node refusal) = false
 is_built (Full node seq id) = false
 is_built (Preferred node ledger) = false
+is_built (Heard node member id) = false
 
 -- nothing was told
 abbrev pub nothing_told : Counts

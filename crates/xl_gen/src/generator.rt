@@ -23,7 +23,7 @@ use crate::counts::Counts;
 use std::alloc::Global;
 use xl_base::{Millis, NodeNo, OutOfMemory, TxId};
 use xl_lists::List;
-use xl_replay::DEFAULT_LIMIT;
+use xl_running::{DEFAULT_LIMIT, DEFAULT_SPEAK};
 use xl_sched::{Event, What};
 use xl_world::{Plan, PlanNode, World};
 
@@ -80,6 +80,7 @@ fn plan(alloc: Global) -> Result<Plan, OutOfMemory>
     ensures nodes { IfOk result (λ plan. plan.nodes.items ≡ plan_of) }
     ensures liars { IfOk result (λ plan. plan.liars.items ≡ []) }
     ensures limit { IfOk result (λ plan. plan.limit ≡ DEFAULT_LIMIT) }
+    ensures speak { IfOk result (λ plan. plan.speak ≡ DEFAULT_SPEAK) }
 {
     let mut nodes = Vec::new(alloc);
     for number in 1..=NODES {
@@ -89,6 +90,7 @@ fn plan(alloc: Global) -> Result<Plan, OutOfMemory>
         nodes,
         liars: Vec::new(alloc),
         limit: DEFAULT_LIMIT,
+        speak: DEFAULT_SPEAK,
     })
 }
 

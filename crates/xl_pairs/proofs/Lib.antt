@@ -1,3 +1,4 @@
 pub mod Numbering
 pub mod Placing
 pub mod Keeping
+pub mod AtEnd

@@ -3,6 +3,7 @@ use Rattle.std.specs.Prelude.{ℕ, ◌+◌, ◌==◌, List, [], ◌∷◌, ◌++
 use Rattle.xl_lines.specs.declared.limits.Limits.{Limits}
 use Rattle.xl_lines.specs.declared.limits.Overrun.{Overrun}
 use Rattle.xl_lines.specs.declared.limits.Overrun.TheVariants as overrun
+use Rattle.xl_lines.specs.declared.limits.Returns.TheVariants.{Dropped}
 use Rattle.xl_lines.specs.declared.machine.Verdict.TheVariants.{Good, Refused}
 use Rattle.xl_lines.specs.Rules.{Rules, Step, goes_on, refuses as refuses_line, Told, closes}
 use Rattle.xl_lines.specs.Told.{told_of}
@@ -67,7 +68,7 @@ rules = record {
 }
 
 abbrev pub limits : Limits
-limits = record { lines = MOST_LINES; bytes = MOST_BYTES }
+limits = record { lines = MOST_LINES; bytes = MOST_BYTES; returns = Dropped }
 
 -- what is told about a schedule
 abbrev pub lists_of : List ℕ → Told

@@ -9,7 +9,7 @@ ghost use Rattle.xl_pairs.specs.Comparing.{lists_of};
 use crate::machine::Comparer;
 use std::alloc::Global;
 use xl_io::{MemSink, Sink, Source, write_all};
-use xl_lines::{Fault, Limits, Verdict, run};
+use xl_lines::{Fault, Limits, Returns, Verdict, run};
 use xl_sched::{MOST_BYTES, MOST_LINES};
 
 /// Reads the declarations of a schedule from the input to its end, or up to a line that is refused, and then writes
@@ -59,6 +59,7 @@ fn compare<I: Source>(alloc: Global, input: &mut I, text: &mut MemSink) -> Resul
     let limits = Limits {
         lines: MOST_LINES as usize,
         bytes: MOST_BYTES,
+        returns: Returns::Dropped,
     };
     match run(alloc, limits, comparer, input, text) {
         // The text has no place where memory is wanting.

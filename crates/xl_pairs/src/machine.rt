@@ -56,6 +56,7 @@ impl Comparer {
                 Ok(())
             }
             Line::Limit(_)
+            | Line::Speak(_)
             | Line::At(_)
             | Line::Name { .. }
             | Line::Ledger { .. }

@@ -14,36 +14,29 @@ use Rattle.xl_lines.specs.Running.{TellsAll}
 use Rattle.xl_lines.specs.Told.{told_of}
 use Rattle.xl_sched.specs.declared.line.Line.{Line}
 use Rattle.xl_sched.specs.declared.line.Line.TheVariants as line
-use Rattle.xl_sched.specs.declared.refusal.SchedRefusal.{SchedRefusal}
 use Rattle.xl_sched.specs.declared.refusal.SchedRefusal.TheVariants.{Header}
-use Rattle.xl_sched.specs.Answers.{LineAnswer, passes, gives, refuses, reading_of}
-use Rattle.xl_sched.specs.Reading.{Reading}
+use Rattle.xl_sched.specs.Answers.{LineAnswer, passes, gives, refuses}
 use Rattle.xl_world.specs.Forks.{first_fork}
-use Rattle.xl_sched.specs.Refusals.{code_of, token_of}
-use Rattle.xl_sched.specs.Tokens.{shown_token}
-use Rattle.xl_replay.specs.Texts.{space, newline, bad_line, short_lines, forged_line, agreement_line, end_lines}
-use Rattle.xl_replay.specs.Replays.{Replaying, world_of, after_line, after_answer, beyond, verdict_of, ending, at_first, limits, rules, report_of}
+use Rattle.xl_running.specs.Texts.{bad_line}
+use Rattle.xl_replay.specs.Texts.{short_lines, forged_line, agreement_line, end_lines}
+use Rattle.xl_running.specs.Running.{Running, answer_in, at_first, beyond, knows, limits, world_of}
+use Rattle.xl_running.proofs.Aloud.{bad_some, line_some}
+use Rattle.xl_replay.specs.Replays.{after_line, after_answer, verdict_of, ending, rules, report_of}
 use Rattle.xl_replay.specs.Statuses.{status_of, IsWritten}
 
--- a text that ends with a newline is not empty
-line_some : (text : List ℕ) → 0 < length (text ++ newline)
-line_some text = let one : length newline ≡ 1 = refl in omega (arith, one, length-append text newline)
+line_aloud : (r : Running) (l : Line) → RefusesAloud (after_line r l)
+line_aloud r (line.Limit limit) = tt
+line_aloud r (line.Speak version) = tt
+line_aloud r (line.Node me list validating) = tt
+line_aloud r (line.Liar me) = tt
+line_aloud r (line.Name name id) = tt
+line_aloud r (line.Ledger name parent header) = tt
+line_aloud r (line.At at) = tt
+line_aloud r (line.Event e) = tt
 
-bad_some : (n : ℕ) (why : SchedRefusal) → 0 < length (bad_line n why)
-bad_some n why = line_some (codes "bad " ++ decimal n ++ space ++ decimal (code_of why) ++ space ++ shown_token (token_of why))
-
-line_aloud : (r : Replaying) (reading : Reading) (l : Line) → RefusesAloud (after_line r reading l)
-line_aloud r reading (line.Limit limit) = tt
-line_aloud r reading (line.Node me list validating) = tt
-line_aloud r reading (line.Liar me) = tt
-line_aloud r reading (line.Name name id) = tt
-line_aloud r reading (line.Ledger name parent header) = tt
-line_aloud r reading (line.At at) = tt
-line_aloud r reading (line.Event e) = tt
-
-answer_aloud : (r : Replaying) (a : LineAnswer) → RefusesAloud (after_answer r a)
+answer_aloud : (r : Running) (a : LineAnswer) → RefusesAloud (after_answer r a)
 answer_aloud r (passes reading) = tt
-answer_aloud r (gives l reading) = line_aloud r reading l
+answer_aloud r (gives l reading) = line_aloud (knows r reading) l
 answer_aloud r (refuses why) = bad_some (r.reading.lines + 1) why
 
 -- of three texts the second is not empty
@@ -52,7 +45,7 @@ middle_some shorts n last =
     let some : 0 < length (forged_line n) = line_some (codes "forged " ++ decimal n) in
     omega (arith, some, length-append (shorts ++ forged_line n) last, length-append shorts (forged_line n))
 
-ending_some : (r : Replaying) → 0 < length (ending r).text
+ending_some : (r : Running) → 0 < length (ending r).text
 ending_some r =
     cond_both (r.reading.lines == 0) (closes (bad_line 1 (Header [])) IsRefused) (closes (end_lines r.reading.names (world_of r)) (verdict_of (first_fork (world_of r).reports)))
     (λ told. 0 < length told.text)
@@ -61,7 +54,7 @@ ending_some r =
 
 pub ends_aloud : EndsAloud rules
 ends_aloud = record {
-  step = λ r bytes. answer_aloud r (reading_of r.reading (length (world_of r).sent) bytes);
+  step = λ r bytes. answer_aloud r (answer_in r bytes);
   overrun = λ r overrun. bad_some (r.reading.lines + 1) (beyond overrun);
   closing = ending_some;
 }
@@ -70,11 +63,11 @@ ends_aloud = record {
 abbrev pub SaysEnd : Option (List ℕ) → Option (List ℕ) → Status → Told → Type 0
 SaysEnd before after s told = IsWritten before after told.text → (s ≡ status_of told.verdict) ⊎ (s ≡ OutOfMemory)
 
-pub says_end : (first : Replaying) → first ≡ at_first → (left before after : Option (List ℕ)) (v w : Verdict) (s : Status) → v ≡ w → s ≡ status_of w →
+pub says_end : (first : Running) → first ≡ at_first → (left before after : Option (List ℕ)) (v w : Verdict) (s : Status) → v ≡ w → s ≡ status_of w →
     IfSome left (λ bytes. TellsAll before after v (told_of limits rules first bytes)) → IfSome left (λ bytes. SaysEnd before after s (report_of bytes))
 says_end first is None before after v w s same says tells = tt
 says_end first is (Some bytes) before after v w s same says tells = λ _.
-    let whole : TellsAll before after v (report_of bytes) = subst (λ (r : Replaying). TellsAll before after v (told_of limits rules r bytes)) is tells in
+    let whole : TellsAll before after v (report_of bytes) = subst (λ (r : Running). TellsAll before after v (told_of limits rules r bytes)) is tells in
     inl (says ∙ ap status_of (sym same ∙ sym whole.says))
 
 abbrev len_known : Option (List ℕ) → ℕ
@@ -92,11 +85,11 @@ less_says before after text less whole =
     let long : length text ≡ length (front.written ++ front.missing) = ap length front.parts in
     omega (arith, some, equal, long, length-append held text, length-append held front.written, length-append front.written front.missing)
 
-pub less_end : (first : Replaying) → first ≡ at_first → (left before after : Option (List ℕ)) (s : Status) →
+pub less_end : (first : Running) → first ≡ at_first → (left before after : Option (List ℕ)) (s : Status) →
     IfSome left (λ bytes. GrewByLess before after (told_of limits rules first bytes).text) → IfSome left (λ bytes. SaysEnd before after s (report_of bytes))
 less_end first is None before after s less = tt
 less_end first is (Some bytes) before after s less = λ whole.
-    absurd (less_says before after (report_of bytes).text (subst (λ (r : Replaying). GrewByLess before after (told_of limits rules r bytes).text) is less) whole)
+    absurd (less_says before after (report_of bytes).text (subst (λ (r : Running). GrewByLess before after (told_of limits rules r bytes).text) is less) whole)
 
 pub memory_end : (left before after : Option (List ℕ)) → IfSome left (λ bytes. SaysEnd before after OutOfMemory (report_of bytes))
 memory_end None before after = tt

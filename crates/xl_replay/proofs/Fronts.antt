@@ -19,11 +19,12 @@ use Rattle.xl_sched.specs.declared.refusal.SchedRefusal.{SchedRefusal}
 use Rattle.xl_sched.specs.Refusals.{code_of, token_of}
 use Rattle.xl_sched.specs.Tokens.{shown_token}
 use Rattle.xl_world.specs.declared.outcome.Outcome.{Outcome}
-use Rattle.xl_world.specs.declared.outcome.Outcome.TheVariants.{Switched, Built, Refused, Full, Preferred}
+use Rattle.xl_world.specs.declared.outcome.Outcome.TheVariants.{Switched, Built, Refused, Full, Preferred, Heard}
 use Rattle.xl_world.specs.Forks.{Fork, first_fork}
-use Rattle.xl_replay.specs.Texts.{space, newline, id_text, values_text, preferred_text, how_text, outcome_line, bad_line, forged_line, agreement_line}
+use Rattle.xl_running.specs.Texts.{bad_line, id_text, newline, space}
+use Rattle.xl_replay.specs.Texts.{values_text, preferred_text, heard_text, how_text, outcome_line, forged_line, agreement_line}
 use Rattle.xl_replay.specs.Headlines.{Announced, announced_line, Short, short_text, HasLine, IsReport, IsRefusal, IsUnforged, AddsReport}
-use Rattle.xl_replay.proofs.WholeLines.{IsOther, HasAll, past, not_alone, at_line, spaced, decimal_one_line, id_one_line, token_one_line, values_one_line, preferred_one_line}
+use Rattle.xl_replay.proofs.WholeLines.{IsOther, HasAll, past, not_alone, at_line, spaced, decimal_one_line, id_one_line, token_one_line, values_one_line, preferred_one_line, heard_one_line}
 
 -- THE LINE
 
@@ -107,12 +108,22 @@ preferred_other names node ledger n = record {
   other = λ e. let wrong : 112 ≡ 102 = ap (λ xs. slice_index xs 0) e in omega (arith, wrong);
 }
 
+heard_other : (names : List Named) (node member : ℕ) (id : _) (n : ℕ) → IsOther unforged_line (outcome_line names n (Heard node member id))
+heard_other names node member id n = record {
+  body = codes "heard " ++ decimal node ++ space ++ decimal member ++ space ++ heard_text names id;
+  whole = refl;
+  one_line = spaced (codes "heard " ++ decimal node ++ space ++ decimal member) (heard_text names id)
+      (spaced (codes "heard " ++ decimal node) (decimal member) (one_line-append (codes "heard ") (decimal node) refl (decimal_one_line node)) (decimal_one_line member)) (heard_one_line names id);
+  other = λ e. let wrong : 104 ≡ 102 = ap (λ xs. slice_index xs 0) e in omega (arith, wrong);
+}
+
 outcome_other : (names : List Named) (n : ℕ) (o : Outcome) → IsOther unforged_line (outcome_line names n o)
 outcome_other names n (Switched node seq id) = switched_other names node seq id n
 outcome_other names n (Built node seq id how) = built_other names node seq id how n
 outcome_other names n (Refused node why) = refused_other names node why n
 outcome_other names n (Full node seq id) = full_other names node seq id n
 outcome_other names n (Preferred node ledger) = preferred_other names node ledger n
+outcome_other names n (Heard node member id) = heard_other names node member id n
 
 spoken_other : (s : Announced) → IsOther unforged_line (announced_line s)
 spoken_other s = outcome_other s.names s.line s.outcome

@@ -1,6 +1,6 @@
 -- A report of a schedule is such lines: its `full` lines stand for reports of its world, which agree.
 use Rattle.std.proofs.Common.{◌≡◌, ◌≢◌, ℕ, ◌≤◌, IfSome, List, [], ◌∷◌, ◌++◌, append_assoc, refl, arith, ap, sym, ◌∙◌, Option, Some, None, subst, inl, inr}
-use Rattle.std.specs.Prelude.{◌==◌, true, All, Contains, map, filter}
+use Rattle.std.specs.Prelude.{◌==◌, true, All, Contains, map, filter, slice_index_or}
 use Rattle.std.specs.List.{flat_map}
 use Rattle.std.proofs.lemmas.Bool.{cond_both, cases_lt}
 use Rattle.std.proofs.lemmas.List.Elements.{All-contains, All-contains_itself, All-cons, All-map, All-nil, All-weaker, Contains-append_left, Contains-append_right, Contains-push}
@@ -14,30 +14,35 @@ use Rattle.xl_lines.specs.Rules.{Told, closes}
 use Rattle.xl_lines.specs.Told.{told_of}
 use Rattle.xl_sched.specs.declared.refusal.SchedRefusal.TheVariants.{Header}
 use Rattle.xl_world.specs.declared.outcome.Outcome.{Outcome}
-use Rattle.xl_world.specs.declared.outcome.Outcome.TheVariants.{Switched, Built, Refused, Full, Preferred}
+use Rattle.xl_world.specs.declared.outcome.Outcome.TheVariants.{Switched, Built, Refused, Full, Preferred, Heard}
 use Rattle.xl_world.specs.Forks.{first_fork}
 use Rattle.xl_world.specs.World.{World}
 use Rattle.xl_world.specs.Starts.{IsRun}
-use Rattle.xl_world.specs.Plans.{IsDeclared}
-use Rattle.xl_world.specs.Headline.{AgreeAt}
+use Rattle.xl_world.specs.Headline.{AgreeAt, EnoughAt}
 use Rattle.xl_world.proofs.Lists.{world_agrees}
+use Rattle.xl_world.proofs.Listing.{at_node}
 use Rattle.xl_world.proofs.Reporters.{IsReporter, world_reporters}
-use Rattle.xl_replay.specs.declared.replayer.TheConstants.{DEFAULT_LIMIT}
-use Rattle.xl_replay.specs.Texts.{forged_line, agreement_line, end_lines, bad_line}
-use Rattle.xl_replay.specs.Replays.{Replaying, world_of, ending, verdict_of, at_first, limits, rules, report_of}
+use Rattle.xl_running.specs.Texts.{bad_line}
+use Rattle.xl_replay.specs.Texts.{forged_line, agreement_line, end_lines}
+use Rattle.xl_running.specs.Running.{Running, at_first, limits, world_of}
+use Rattle.xl_replay.specs.Replays.{ending, verdict_of, rules, report_of}
 use Rattle.xl_replay.specs.Headlines.{announced_line, short_text, IsPair, is_full, full_of, outcomes_in, state_from, names_of, IsReport, IsRefusal, AddsReport}
 use Rattle.xl_replay.proofs.Shorts.{short_pairs, short_lines-pairs, pair_enough}
 use Rattle.xl_replay.proofs.Fronts.{adds_report}
-use Rattle.xl_replay.proofs.Telling.{IsSound, Ends, told_from_ends, told_from_refused}
+use Rattle.xl_replay.proofs.Telling.{Ends, told_from_ends, told_from_refused}
+use Rattle.xl_running.proofs.Sounding.{first_sound}
 
 -- two reports of a world in which no frame was forged and whose pair isn't told to be short
 pair_agrees : (w : World) → IsRun w → (r q : Reported) → Contains w.reports r → Contains w.reports q → w.forged ≡ 0 → r.node ≤ q.node → All (λ s. ¬ IsPair r.node q.node s) (short_pairs w) → r.seq ≡ q.seq → r.id ≡ q.id
 pair_agrees w is_run r q has_r has_q none from unshort same =
-    let of_r : IsReporter w r = All-contains (IsReporter w) w.reports r (world_reporters w is_run) has_r in
-    let of_q : IsReporter w q = All-contains (IsReporter w) w.reports q (world_reporters w is_run) has_q in
-    let agree : AgreeAt w.reports r.node q.node =
-    world_agrees w is_run r.node q.node r.list q.list of_r.listed of_q.listed
-    (pair_enough w r.node q.node r.list q.list of_r.member.least from of_q.member.greatest of_r.listed of_q.listed unshort) none in
+    let enough : EnoughAt w.liars w.reports r.node q.node = λ k d k_in l e l_in of_r of_q _.
+    let one : Reported = slice_index_or w.reports k d in
+    let other : Reported = slice_index_or w.reports l e in
+    let of_one : IsReporter w one = world_reporters w is_run k d k_in in
+    let of_other : IsReporter w other = world_reporters w is_run l e l_in in
+    pair_enough w r.node q.node one.list other.list (subst (λ (m : ℕ). 1 ≤ m) of_r of_one.member.least) from (subst (λ (m : ℕ). m ≤ 64) of_q of_other.member.greatest)
+    (subst (λ (m : ℕ). Contains w.lists (at_node m one.list)) of_r of_one.listed) (subst (λ (m : ℕ). Contains w.lists (at_node m other.list)) of_q of_other.listed) unshort in
+    let agree : AgreeAt w.reports r.node q.node = world_agrees w is_run r.node q.node enough none in
     All-contains (λ x. r.node ≡ r.node → x.node ≡ q.node → r.seq ≡ x.seq → r.id ≡ x.id) w.reports q
     (All-contains (λ y. All (λ x. y.node ≡ r.node → x.node ≡ q.node → y.seq ≡ x.seq → y.id ≡ x.id) w.reports) w.reports r agree has_r) has_q refl refl same
 
@@ -76,6 +81,7 @@ node_in (Built node seq id issued) = node
 node_in (Refused node refusal) = node
 node_in (Full node seq id) = node
 node_in (Preferred node ledger) = node
+node_in (Heard node member id) = node
 
 seq_in : Outcome → ℕ
 seq_in (Switched node seq id) = 0
@@ -83,6 +89,7 @@ seq_in (Built node seq id issued) = 0
 seq_in (Refused node refusal) = 0
 seq_in (Full node seq id) = seq
 seq_in (Preferred node ledger) = 0
+seq_in (Heard node member id) = 0
 
 id_in : LedgerId → Outcome → LedgerId
 id_in other (Switched node seq id) = other
@@ -90,6 +97,7 @@ id_in other (Built node seq id issued) = other
 id_in other (Refused node refusal) = other
 id_in other (Full node seq id) = id
 id_in other (Preferred node ledger) = other
+id_in other (Heard node member id) = other
 
 outcomes_agree : (w : World) → IsRun w → (i j seq : ℕ) (a b : LedgerId) → ToldBy w.reports (Full i seq a) → ToldBy w.reports (Full j seq b) → w.forged ≡ 0 →
     All (λ s. ¬ IsPair i j s) (short_pairs w) → All (λ s. ¬ IsPair j i s) (short_pairs w) → a ≡ b
@@ -106,19 +114,19 @@ outcomes_agree w is_run i j seq a b of_a of_b none forth back =
     ∙ ap (id_in b) of_b.2)
 
 -- the lines at the end, and what they say
-abbrev Closing : Replaying → Told → Type 0
+abbrev Closing : Running → Told → Type 0
 Closing r told = told.verdict ≢ IsRefused →
     (told.text ≡ flat_map short_text (short_pairs (world_of r)) ++ forged_line (world_of r).forged ++ agreement_line r.reading.names (first_fork (world_of r).reports))
     × (told.verdict ≡ verdict_of (first_fork (world_of r).reports))
 
-ending_closes : (r : Replaying) → Closing r (ending r)
+ending_closes : (r : Running) → Closing r (ending r)
 ending_closes r =
     cond_both (r.reading.lines == 0) (closes (bad_line 1 (Header [])) IsRefused) (closes (end_lines r.reading.names (world_of r)) (verdict_of (first_fork (world_of r).reports)))
     (Closing r)
     (λ _ good. absurd (good refl))
     (λ _ _. (ap (λ t. t ++ forged_line (world_of r).forged ++ agreement_line r.reading.names (first_fork (world_of r).reports)) (short_lines-pairs (world_of r)), refl))
 
-ends_report : (r last : Replaying) (told : Told) → (world_of r).reports ≡ [] → Ends r told last → told.verdict ≢ IsRefused → IsReport last.reading.names told
+ends_report : (r last : Running) (told : Told) → (world_of r).reports ≡ [] → Ends r told last → told.verdict ≢ IsRefused → IsReport last.reading.names told
 ends_report r last told first ends good =
     let w : World = world_of last in
     let closing = ending_closes last (λ e. good (ends.verdict ∙ e)) in
@@ -139,9 +147,6 @@ ends_report r last told first ends good =
           outcomes_agree w ends.sound.is_run i j seq a b (told_report w.reports (outcomes_in ends.spoken) (Full i seq a) fulls refl has_a) (told_report w.reports (outcomes_in ends.spoken) (Full j seq b) fulls refl has_b) none forth back;
     }
 
-first_sound : IsSound at_first
-first_sound = record { declared = All-nil IsDeclared; is_run = (DEFAULT_LIMIT, [], [], All-nil IsDeclared, refl) }
-
 pub whole_report : (bytes : List ℕ) → (report_of bytes).verdict ≢ IsRefused → IsReport (names_of bytes) (report_of bytes)
 whole_report bytes good = ends_report at_first (state_from limits limits.lines at_first (lines_of bytes)) (report_of bytes) refl (told_from_ends limits limits.lines at_first (lines_of bytes) first_sound good) good
 
@@ -153,12 +158,12 @@ refusal None = tt
 refusal (Some bytes) = refused_report bytes
 
 -- what was written of a report
-pub as_written : (first : Replaying) → first ≡ at_first → (left before after : Option (List ℕ)) → IfSome left (λ bytes. GrewByFront before after (told_of limits rules first bytes).text) →
+pub as_written : (first : Running) → first ≡ at_first → (left before after : Option (List ℕ)) → IfSome left (λ bytes. GrewByFront before after (told_of limits rules first bytes).text) →
     IfSome left (λ bytes. AddsReport (names_of bytes) before after (report_of bytes))
 as_written first is None before after grew = tt
 as_written first is (Some bytes) before after grew =
     adds_report (names_of bytes) (report_of bytes) (whole_report bytes) (refused_report bytes) before after
-    (subst (λ (r : Replaying). GrewByFront before after (told_of limits rules r bytes).text) is grew)
+    (subst (λ (r : Running). GrewByFront before after (told_of limits rules r bytes).text) is grew)
 
 -- where nothing was written
 pub nothing_written : (left held : Option (List ℕ)) → IfSome left (λ bytes. AddsReport (names_of bytes) held held (report_of bytes))

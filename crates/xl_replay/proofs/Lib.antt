@@ -1,9 +1,9 @@
 pub mod Numbers
-pub mod Happening
-pub mod Declaring
 pub mod Telling
 pub mod Shorts
 pub mod Headline
 pub mod WholeLines
 pub mod Fronts
 pub mod Ending
+pub mod Finding
+pub mod AtEnd

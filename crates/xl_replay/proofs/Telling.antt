@@ -11,7 +11,7 @@ use Rattle.xl_lines.specs.declared.limits.Limits.{Limits}
 use Rattle.xl_lines.specs.declared.machine.Verdict.TheVariants.{Refused as IsRefused}
 use Rattle.xl_lines.specs.Lines.{Line as TextLine, content}
 use Rattle.xl_lines.specs.declared.limits.Overrun.TheVariants.{LongLine, ManyLines}
-use Rattle.xl_lines.specs.Rules.{Step, goes_on, refuses as refuses_line, Told, closes}
+use Rattle.xl_lines.specs.Rules.{Step, goes_on, refuses as refuses_line, finds, Told, closes}
 use Rattle.xl_lines.specs.Told.{after as after_text, told_by, step_within, step_at, told_from}
 use Rattle.xl_core.specs.declared.report.Report.{Report}
 use Rattle.xl_core.specs.Answers.{Answer}
@@ -20,7 +20,7 @@ use Rattle.xl_core.specs.declared.beat.Beat.{Beat}
 use Rattle.xl_core.specs.declared.beat.Beat.TheVariants as beat
 use Rattle.xl_core.specs.declared.beat.Issued.{Issued}
 use Rattle.xl_core.specs.declared.beat.Issued.TheVariants as issued
-use Rattle.xl_core.specs.Core.{CoreReply}
+use Rattle.xl_core.specs.Core.{Core, CoreReply}
 use Rattle.xl_core.specs.Node.{Node}
 use Rattle.xl_core.specs.declared.event.CoreEvent.{CoreEvent}
 use Rattle.xl_ledger.specs.Headers.{header_id}
@@ -37,23 +37,22 @@ use Rattle.xl_sched.specs.Answers.{LineAnswer, passes, gives, refuses, answer_to
 use Rattle.xl_world.specs.declared.outcome.Outcome.{Outcome}
 use Rattle.xl_world.specs.declared.outcome.Outcome.TheVariants.{Full}
 use Rattle.xl_world.specs.declared.place.Place.{Place}
-use Rattle.xl_world.specs.declared.plan.PlanNode.{PlanNode}
 use Rattle.xl_world.specs.declared.place.Fate.{Fate}
 use Rattle.xl_io.specs.Keepers.{may_hold}
 use Rattle.xl_world.specs.Keeper.{held_by, answer_of}
 use Rattle.xl_world.specs.Forks.{Fork, first_fork}
 use Rattle.xl_world.specs.World.{reported_by}
-use Rattle.xl_world.specs.Plans.{IsDeclared, AreDeclared}
-use Rattle.xl_world.specs.World.{World, Step as WorldStep, Act, Again, Torn, Mark, place_at, reply_at, acts, reopened, again, torn, asked_at, moment_in, step, run}
-use Rattle.xl_world.specs.Starts.{start, IsRun}
-use Rattle.xl_world.specs.Schedule.{steps_at, steps_of, after_event, told_of_reply as told_at, told_of_step as told_by_step, told_in, told_of_issued, told_of_beat, told_of_answer, preference, outcomes_at, outcomes}
+use Rattle.xl_world.specs.World.{World, Step as WorldStep, Act, Again, Torn, Mark, IsFit, place_at, reply_at, acts, reopened, again, torn, asked_at, moment_in, step, run}
+use Rattle.xl_world.specs.Schedule.{IsPlausible, steps_at, steps_of, after_event, told_of_reply as told_at, told_of_step as told_by_step, told_in, told_of_issued, told_of_beat, told_of_answer, hearsay, hearsay_of, preference, outcomes_at, outcomes}
 use Rattle.xl_world.proofs.Settling.{at_its_number}
-use Rattle.xl_world.proofs.Lists.{core_keeps}
-use Rattle.xl_world.proofs.Runs.{run_on}
-use Rattle.xl_replay.specs.Texts.{outcome_line, outcome_lines, bad_line, end_lines}
-use Rattle.xl_replay.specs.Replays.{Replaying, world_of, silent, after, after_line, after_answer, beyond, verdict_of, ending, rules}
+use Rattle.xl_world.proofs.Keeping.{core_keeps}
+use Rattle.xl_running.specs.Texts.{bad_line}
+use Rattle.xl_replay.specs.Texts.{outcome_line, outcome_lines, end_lines}
+use Rattle.xl_running.specs.Running.{Running, beyond, declares, knows, world_of}
+use Rattle.xl_replay.specs.Replays.{silent, after_line, after_answer, verdict_of, ending, rules}
 use Rattle.xl_replay.specs.Headlines.{Announced, announced_line, Extends, is_full, full_of, outcomes_in, state_after, state_from, IsRefusal}
-use Rattle.xl_replay.proofs.Declaring.{Declares, AnswerDeclares, reading_declares}
+use Rattle.xl_running.proofs.Declaring.{Declares, AnswerDeclares, reading_declares}
+use Rattle.xl_running.proofs.Sounding.{IsSound, declares_reports, declares_sound, happens_sound, knows_sound}
 
 -- WHAT IS TOLD WAS REPORTED
 
@@ -153,19 +152,24 @@ preference_adds : (w : World) (i : ℕ) (o : Option Place) → Adds w w (prefere
 preference_adds w i None = adds_none w w refl
 preference_adds w i (Some p) = record { more = []; reports = sym (append-nil w.reports); told = refl }
 
+-- so is what it heard
+hearsay_told : (core : Core) (ms : List ℕ) → filter is_full (map (hearsay_of core) ms) ≡ []
+hearsay_told core [] = refl
+hearsay_told core (m ∷ ms) = hearsay_told core ms
+
+hearsay_adds : (w : World) (i : ℕ) (o : Option Place) → Adds w w (hearsay i o)
+hearsay_adds w i None = adds_none w w refl
+hearsay_adds w i (Some p) = record { more = []; reports = sym (append-nil w.reports); told = hearsay_told p.core p.core.node.list.members }
+
 pub event_adds : (w : World) (at : ℕ) (h : What) → Adds w (run w (steps_at w at h)) (outcomes_at w at h)
 event_adds w at (what.Prefer node) = preference_adds w node (place_at node w.places)
+event_adds w at (what.Heard node) = hearsay_adds w node (place_at node w.places)
 event_adds w at happening = run_adds w (steps_at w at happening)
 
 -- STEP BY STEP
 
--- the world so far is a run, and the nodes may be declared
-pub record IsSound (r : Replaying) : Type 0 where
-  pub declared : AreDeclared r.plan
-  pub is_run : IsRun (world_of r)
-
 -- what a step tells, and the state that it leads to
-pub record Tells (r next : Replaying) (text : List ℕ) : Type 0 where
+pub record Tells (r next : Running) (text : List ℕ) : Type 0 where
   pub spoken : List Announced
   pub written : text ≡ flat_map announced_line spoken
   pub adds : Adds (world_of r) (world_of next) (outcomes_in spoken)
@@ -173,34 +177,20 @@ pub record Tells (r next : Replaying) (text : List ℕ) : Type 0 where
   pub extends : Extends r.reading.names next.reading.names
   pub sound : IsSound next
 
-abbrev pub StepTells : Replaying → Step Replaying → Type 0
+abbrev pub StepTells : Running → Step Running → Type 0
 StepTells r (goes_on text next) = Tells r next text
 StepTells r (refuses_line text) = (n : ℕ) × (why : SchedRefusal) × (text ≡ bad_line n why)
+StepTells r (finds text) = ⊥
 
--- a plan's own world is a run of no steps
-world_run : (limit : ℕ) (plan : List PlanNode) (liars : List ℕ) → AreDeclared plan → IsRun (start limit liars plan)
-world_run limit plan liars declared = (limit, plan, [], declared, refl)
-
-quiet_tells : (r : Replaying) (reading : Reading) (limit : ℕ) (plan : List PlanNode) (liars : List ℕ) → IsSound r → Extends r.reading.names reading.names → AreDeclared plan → (o : Option World) → r.world ≡ o → StepTells r (silent r reading limit plan liars)
-quiet_tells r reading limit plan liars sound extends declared o at = record {
+quiet_tells : (r next : Running) → IsSound next → Extends r.reading.names next.reading.names → (world_of next).reports ≡ (world_of r).reports → StepTells r (silent next)
+quiet_tells r next sound extends same = record {
   spoken = [];
   written = refl;
-  adds = adds_none (world_of r) (world_of next) (same_reports o at);
-  named = All-nil (λ s. Extends s.names reading.names);
+  adds = adds_none (world_of r) (world_of next) same;
+  named = All-nil (λ s. Extends s.names next.reading.names);
   extends = extends;
-  sound = record { declared = declared; is_run = run_at o at };
+  sound = sound;
 }
-  where
-    next : Replaying
-    next = record { reading = reading; limit = limit; plan = plan; liars = liars; world = r.world }
-
-    same_reports : (o : Option World) → r.world ≡ o → (world_of next).reports ≡ (world_of r).reports
-    same_reports None at = rw at refl
-    same_reports (Some w) at = rw at refl
-
-    run_at : (o : Option World) → r.world ≡ o → IsRun (world_of next)
-    run_at None at = subst (λ (x : Option World). IsRun (unwrap_or x (start limit liars plan))) (sym at) (world_run limit plan liars declared)
-    run_at (Some w) at = subst (λ (x : Option World). IsRun (unwrap_or x (start limit liars plan))) (sym at) (subst (λ (x : Option World). IsRun (unwrap_or x (start r.limit r.liars r.plan))) at sound.is_run)
 
 -- the names that stand are the first of those that stand after a line
 
@@ -224,6 +214,7 @@ answer_extends reading (Ok (Some (line.Liar me))) = extends_itself reading.names
 answer_extends reading (Ok (Some (line.Name name id))) = (record { name = name; id = id; header = None } ∷ [], refl)
 answer_extends reading (Ok (Some (line.Ledger name parent header))) = (record { name = name; id = (header_id header).0; header = Some header } ∷ [], refl)
 answer_extends reading (Ok (Some (line.At at))) = extends_itself reading.names
+answer_extends reading (Ok (Some (line.Speak version))) = extends_itself reading.names
 answer_extends reading (Ok (Some (line.Event e))) = extends_itself reading.names
 
 reading_extends : (reading : Reading) (sent : ℕ) (bytes : List ℕ) → AnswerExtends reading (reading_of reading sent bytes)
@@ -238,41 +229,61 @@ outcomes_of-made : (names : List Named) (n : ℕ) (os : List Outcome) → outcom
 outcomes_of-made names n [] = refl
 outcomes_of-made names n (o ∷ os) = ap (λ xs. o ∷ xs) (outcomes_of-made names n os)
 
-event_tells : (r : Replaying) (reading : Reading) (e : Event) → IsSound r → Extends r.reading.names reading.names → StepTells r (after r reading e)
-event_tells r reading e sound extends = record {
-  spoken = map (λ o. record { names = reading.names; line = reading.lines; outcome = o }) (outcomes (world_of r) e);
-  written = flat_map-made reading.names reading.lines (outcomes (world_of r) e);
-  adds = subst (Adds (world_of r) (after_event (world_of r) e)) (sym (outcomes_of-made reading.names reading.lines (outcomes (world_of r) e))) (event_adds (world_of r) e.at e.what);
-  named = All-map (λ s. Extends s.names reading.names) _ (outcomes (world_of r) e) (λ k d below. extends_itself reading.names);
-  extends = extends;
-  sound = record { declared = sound.declared; is_run = run_on (world_of r) _ (steps_of (world_of r) e) refl sound.is_run };
-}
+module _ (r : Running) (reading : Reading) (sound : IsSound r) (extends : Extends r.reading.names reading.names) where
+  abbrev known : Running
+  known = knows r reading
 
-line_tells : (r : Replaying) (reading : Reading) (l : Line) → IsSound r → Extends r.reading.names reading.names → Declares l → StepTells r (after_line r reading l)
-line_tells r reading (line.Limit limit) sound extends declares = quiet_tells r reading limit r.plan r.liars sound extends sound.declared r.world refl
-line_tells r reading (line.Node me list validating) sound extends declares =
-    quiet_tells r reading r.limit _ r.liars sound extends (All-append IsDeclared r.plan _ sound.declared (All-cons IsDeclared (record { me = me; list = list; validating = validating; moment = reading.now }) [] (record { least = declares.least; greatest = declares.greatest; list = declares.list }) (All-nil IsDeclared))) r.world refl
-line_tells r reading (line.Liar me) sound extends declares = quiet_tells r reading r.limit r.plan _ sound extends sound.declared r.world refl
-line_tells r reading (line.Name name id) sound extends declares = quiet_tells r reading r.limit r.plan r.liars sound extends sound.declared r.world refl
-line_tells r reading (line.Ledger name parent header) sound extends declares = quiet_tells r reading r.limit r.plan r.liars sound extends sound.declared r.world refl
-line_tells r reading (line.At at) sound extends declares = quiet_tells r reading r.limit r.plan r.liars sound extends sound.declared r.world refl
-line_tells r reading (line.Event e) sound extends declares = event_tells r reading e sound extends
+  event_tells : (e : Event) → IsPlausible e.what → StepTells r (after_line known (line.Event e))
+  event_tells e plausible = record {
+    spoken = map (λ o. record { names = reading.names; line = reading.lines; outcome = o }) (outcomes (world_of r) e);
+    written = flat_map-made reading.names reading.lines (outcomes (world_of r) e);
+    adds = subst (Adds (world_of r) (after_event (world_of r) e)) (sym (outcomes_of-made reading.names reading.lines (outcomes (world_of r) e))) (event_adds (world_of r) e.at e.what);
+    named = All-map (λ s. Extends s.names reading.names) _ (outcomes (world_of r) e) (λ k d below. extends_itself reading.names);
+    extends = extends;
+    sound = happens_sound known e plausible (knows_sound r reading sound);
+  }
 
-answer_tells : (r : Replaying) (a : LineAnswer) → IsSound r → AnswerExtends r.reading a → AnswerDeclares a → StepTells r (after_answer r a)
-answer_tells r (passes reading) sound extends declares = quiet_tells r reading r.limit r.plan r.liars sound extends sound.declared r.world refl
-answer_tells r (gives l reading) sound extends declares = line_tells r reading l sound extends declares
-answer_tells r (refuses why) sound extends declares = (r.reading.lines + 1, why, refl)
+  declared_tells : (l : Line) → Declares l → StepTells r (silent (declares known l))
+  declared_tells l declared = quiet_tells r (declares known l) (declares_sound known l declared (knows_sound r reading sound)) (extends_as l) (declares_reports known l)
+    where
+      extends_as : (l : Line) → Extends r.reading.names (declares known l).reading.names
+      extends_as (line.Limit limit) = extends
+      extends_as (line.Speak version) = extends
+      extends_as (line.Node me list validating) = extends
+      extends_as (line.Liar me) = extends
+      extends_as (line.Name name id) = extends
+      extends_as (line.Ledger name parent header) = extends
+      extends_as (line.At at) = extends
+      extends_as (line.Event e) = extends
 
-step_tells : (limits : Limits) (left : ℕ) (r : Replaying) (l : TextLine) → IsSound r → StepTells r (step_at limits rules left r l)
+  line_tells : (l : Line) → Declares l → StepTells r (after_line known l)
+  line_tells (line.Limit limit) declared = declared_tells (line.Limit limit) declared
+  line_tells (line.Speak version) declared = declared_tells (line.Speak version) declared
+  line_tells (line.Node me list validating) declared = declared_tells (line.Node me list validating) declared
+  line_tells (line.Liar me) declared = declared_tells (line.Liar me) declared
+  line_tells (line.Name name id) declared = declared_tells (line.Name name id) declared
+  line_tells (line.Ledger name parent header) declared = declared_tells (line.Ledger name parent header) declared
+  line_tells (line.At at) declared = declared_tells (line.At at) declared
+  line_tells (line.Event e) declared = event_tells e declared
+
+  passed_tells : StepTells r (silent known)
+  passed_tells = quiet_tells r known (knows_sound r reading sound) extends refl
+
+answer_tells : (r : Running) (a : LineAnswer) → IsSound r → AnswerExtends r.reading a → AnswerDeclares a → StepTells r (after_answer r a)
+answer_tells r (passes reading) sound extends declared = passed_tells r reading sound extends
+answer_tells r (gives l reading) sound extends declared = line_tells r reading sound extends l declared
+answer_tells r (refuses why) sound extends declared = (r.reading.lines + 1, why, refl)
+
+step_tells : (limits : Limits) (left : ℕ) (r : Running) (l : TextLine) → IsSound r → StepTells r (step_at limits rules left r l)
 step_tells limits left r l sound =
-    cond_both (nat_lt limits.bytes (length l.bytes)) _ (step_within rules left r (content l)) (StepTells r) (λ _. (r.reading.lines + 1, beyond LongLine, refl))
-    (λ _. cond_both (nat_lt 0 left) (rules.step r (content l)) _ (StepTells r)
-    (λ _. answer_tells r _ sound (reading_extends r.reading (length (world_of r).sent) (content l)) (reading_declares r.reading (length (world_of r).sent) (content l))) (λ _. (r.reading.lines + 1, beyond ManyLines, refl)))
+    cond_both (nat_lt limits.bytes (length l.bytes)) _ (step_within rules left r (content limits.returns l)) (StepTells r) (λ _. (r.reading.lines + 1, beyond LongLine, refl))
+    (λ _. cond_both (nat_lt 0 left) (rules.step r (content limits.returns l)) _ (StepTells r)
+    (λ _. answer_tells r _ sound (reading_extends r.reading (length (world_of r).sent) (content limits.returns l)) (reading_declares r.reading (length (world_of r).sent) (content limits.returns l))) (λ _. (r.reading.lines + 1, beyond ManyLines, refl)))
 
 -- THE WHOLE
 
 -- what is told from a state on: outcomes, and the lines at the end of the last state
-pub record Ends (r : Replaying) (told : Told) (last : Replaying) : Type 0 where
+pub record Ends (r : Running) (told : Told) (last : Running) : Type 0 where
   pub spoken : List Announced
   pub written : told.text ≡ flat_map announced_line spoken ++ (ending last).text
   pub verdict : told.verdict ≡ (ending last).verdict
@@ -281,7 +292,7 @@ pub record Ends (r : Replaying) (told : Told) (last : Replaying) : Type 0 where
   pub extends : Extends r.reading.names last.reading.names
   pub sound : IsSound last
 
-goes_on_ends : (r next : Replaying) (text : List ℕ) (told : Told) (last : Replaying) → Tells r next text → Ends next told last → Ends r (after_text text told) last
+goes_on_ends : (r next : Running) (text : List ℕ) (told : Told) (last : Running) → Tells r next text → Ends next told last → Ends r (after_text text told) last
 goes_on_ends r next text told last tells ends = record {
   spoken = tells.spoken ++ ends.spoken;
   written =
@@ -299,7 +310,7 @@ goes_on_ends r next text told last tells ends = record {
   sound = ends.sound;
 }
 
-pub told_from_ends : (limits : Limits) (left : ℕ) (r : Replaying) (ls : List TextLine) → IsSound r → (told_from limits rules left r ls).verdict ≢ IsRefused → Ends r (told_from limits rules left r ls) (state_from limits left r ls)
+pub told_from_ends : (limits : Limits) (left : ℕ) (r : Running) (ls : List TextLine) → IsSound r → (told_from limits rules left r ls).verdict ≢ IsRefused → Ends r (told_from limits rules left r ls) (state_from limits left r ls)
 unfolding told_by
 told_from_ends limits left r [] sound good = record {
   spoken = [];
@@ -310,13 +321,14 @@ told_from_ends limits left r [] sound good = record {
   extends = extends_itself r.reading.names;
   sound = sound;
 }
-told_from_ends limits left r (l ∷ ls) sound good = by_step (λ (next : Replaying) sound_there good_there. told_from_ends limits (left - 1) next ls sound_there good_there) (step_at limits rules left r l) (step_tells limits left r l sound) good
+told_from_ends limits left r (l ∷ ls) sound good = by_step (λ (next : Running) sound_there good_there. told_from_ends limits (left - 1) next ls sound_there good_there) (step_at limits rules left r l) (step_tells limits left r l sound) good
   where
-    by_step : ((next : Replaying) → IsSound next → (told_from limits rules (left - 1) next ls).verdict ≢ IsRefused → Ends next (told_from limits rules (left - 1) next ls) (state_from limits (left - 1) next ls)) →
-        (s : Step Replaying) → StepTells r s → (told_by (λ next. told_from limits rules (left - 1) next ls) s).verdict ≢ IsRefused →
+    by_step : ((next : Running) → IsSound next → (told_from limits rules (left - 1) next ls).verdict ≢ IsRefused → Ends next (told_from limits rules (left - 1) next ls) (state_from limits (left - 1) next ls)) →
+        (s : Step Running) → StepTells r s → (told_by (λ next. told_from limits rules (left - 1) next ls) s).verdict ≢ IsRefused →
         Ends r (told_by (λ next. told_from limits rules (left - 1) next ls) s) (state_from limits (left - 1) (state_after r s) ls)
     by_step further (goes_on text next) tells good = goes_on_ends r next text (told_from limits rules (left - 1) next ls) (state_from limits (left - 1) next ls) tells (further next tells.sound good)
     by_step further (refuses_line text) tells good = absurd (good refl)
+    by_step further (finds text) tells good = absurd tells
 
 -- a report that is refused: outcomes, and the line that refuses
 refused_then : (spoken : List Announced) (text rest : List ℕ) → text ≡ flat_map announced_line spoken → IsRefusal rest → IsRefusal (text ++ rest)
@@ -334,7 +346,7 @@ refused_then spoken text rest written x = record {
 refused_alone : (text : List ℕ) (n : ℕ) (why : SchedRefusal) → text ≡ bad_line n why → IsRefusal text
 refused_alone text n why is = record { spoken = []; line = n; refusal = why; written = is }
 
-ending_refused : (r : Replaying) → (ending r).verdict ≡ IsRefused → IsRefusal (ending r).text
+ending_refused : (r : Running) → (ending r).verdict ≡ IsRefused → IsRefusal (ending r).text
 ending_refused r =
     cond_both (r.reading.lines == 0) (closes (bad_line 1 (Header [])) IsRefused) (closes (end_lines r.reading.names (world_of r)) (verdict_of (first_fork (world_of r).reports)))
     (λ told. told.verdict ≡ IsRefused → IsRefusal told.text)
@@ -345,13 +357,14 @@ ending_refused r =
     never None bad = cc
     never (Some fork) bad = cc
 
-pub told_from_refused : (limits : Limits) (left : ℕ) (r : Replaying) (ls : List TextLine) → IsSound r → (told_from limits rules left r ls).verdict ≡ IsRefused → IsRefusal (told_from limits rules left r ls).text
+pub told_from_refused : (limits : Limits) (left : ℕ) (r : Running) (ls : List TextLine) → IsSound r → (told_from limits rules left r ls).verdict ≡ IsRefused → IsRefusal (told_from limits rules left r ls).text
 unfolding told_by
 told_from_refused limits left r [] sound bad = ending_refused r bad
-told_from_refused limits left r (l ∷ ls) sound bad = by_step (λ (next : Replaying) sound_there bad_there. told_from_refused limits (left - 1) next ls sound_there bad_there) (step_at limits rules left r l) (step_tells limits left r l sound) bad
+told_from_refused limits left r (l ∷ ls) sound bad = by_step (λ (next : Running) sound_there bad_there. told_from_refused limits (left - 1) next ls sound_there bad_there) (step_at limits rules left r l) (step_tells limits left r l sound) bad
   where
-    by_step : ((next : Replaying) → IsSound next → (told_from limits rules (left - 1) next ls).verdict ≡ IsRefused → IsRefusal (told_from limits rules (left - 1) next ls).text) →
-        (s : Step Replaying) → StepTells r s → (told_by (λ next. told_from limits rules (left - 1) next ls) s).verdict ≡ IsRefused →
+    by_step : ((next : Running) → IsSound next → (told_from limits rules (left - 1) next ls).verdict ≡ IsRefused → IsRefusal (told_from limits rules (left - 1) next ls).text) →
+        (s : Step Running) → StepTells r s → (told_by (λ next. told_from limits rules (left - 1) next ls) s).verdict ≡ IsRefused →
         IsRefusal (told_by (λ next. told_from limits rules (left - 1) next ls) s).text
     by_step further (goes_on text next) tells bad = refused_then tells.spoken text (told_from limits rules (left - 1) next ls).text tells.written (further next tells.sound bad)
     by_step further (refuses_line text) tells bad = refused_alone text tells.0 tells.1 tells.2
+    by_step further (finds text) tells bad = absurd tells

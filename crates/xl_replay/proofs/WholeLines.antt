@@ -17,7 +17,7 @@ use Rattle.xl_lines.proofs.Newlines.{IsOneLine}
 use Rattle.xl_lines.proofs.Parts.{one_line-append}
 use Rattle.xl_lines.proofs.Cutting.{lines_of-ended, lines_of-last}
 use Rattle.xl_core.specs.declared.refusal.Refusal.{Refusal}
-use Rattle.xl_core.specs.declared.refusal.Refusal.TheVariants.{Frame, Short, Extra, Tag, Header, Stale, Repeat, Conflict, OldSeq, Pending, PoolFull, WrongPrev, OldPosition, Left, StaleProposal, NotAfter, IssuingOff, KeepFault}
+use Rattle.xl_core.specs.declared.refusal.Refusal.TheVariants.{Frame, Short, Extra, Tag, Header, Stale, Repeat, Conflict, OldSeq, Pending, PoolFull, WrongPrev, OldPosition, Left, StaleProposal, NotAfter, IssuingOff, KeepFault, NoKey}
 use Rattle.xl_core.specs.declared.report.Report.{Report}
 use Rattle.xl_ledger.specs.declared.refusal.AddRefusal.{AddRefusal}
 use Rattle.xl_ledger.specs.declared.refusal.AddRefusal.TheVariants as header
@@ -25,7 +25,8 @@ use Rattle.xl_tags.specs.declared.refusal.TagRefusal.{TagRefusal}
 use Rattle.xl_tags.specs.declared.refusal.TagRefusal.TheVariants.{NotForMe, Stranger, BadTag}
 use Rattle.xl_wire.specs.declared.refusal.WireRefusal.{WireRefusal}
 use Rattle.xl_wire.specs.declared.refusal.WireRefusal.TheVariants as wire
-use Rattle.xl_replay.specs.Texts.{space, newline, named_text, id_text, frame_values, tag_values, header_values, values_text, preferred_text}
+use Rattle.xl_running.specs.Texts.{id_text, named_text, newline, space}
+use Rattle.xl_replay.specs.Texts.{frame_values, tag_values, header_values, values_text, preferred_text, heard_text}
 use Rattle.xl_replay.specs.Headlines.{HasLine}
 
 -- TEXT WITH NO NEWLINE
@@ -118,6 +119,11 @@ values_one_line names (StaleProposal now) = decimal_one_line now
 values_one_line names (NotAfter kept) = decimal_one_line kept
 values_one_line names (IssuingOff failed) = decimal_one_line failed
 values_one_line names (KeepFault count) = decimal_one_line count
+values_one_line names (NoKey member) = decimal_one_line member
+
+pub heard_one_line : (names : List Named) (id : Option LedgerId) → IsOneLine (heard_text names id)
+heard_one_line names None = refl
+heard_one_line names (Some id) = id_one_line names id
 
 pub preferred_one_line : (names : List Named) (ledger : Option Report) → IsOneLine (preferred_text names ledger)
 preferred_one_line names None = refl

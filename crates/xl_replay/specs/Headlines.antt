@@ -10,13 +10,15 @@ use Rattle.xl_sched.specs.declared.named.Named.{Named}
 use Rattle.xl_sched.specs.declared.refusal.SchedRefusal.{SchedRefusal}
 use Rattle.xl_lines.specs.declared.limits.Limits.{Limits}
 use Rattle.xl_lines.specs.Lines.{Line as TextLine, lines_of}
-use Rattle.xl_lines.specs.Rules.{Step, goes_on, refuses, Told}
+use Rattle.xl_lines.specs.Rules.{Step, goes_on, refuses, finds, Told}
 use Rattle.xl_lines.specs.Told.{step_at}
 use Rattle.xl_world.specs.declared.outcome.Outcome.{Outcome}
-use Rattle.xl_world.specs.declared.outcome.Outcome.TheVariants.{Switched, Built, Refused, Full, Preferred}
+use Rattle.xl_world.specs.declared.outcome.Outcome.TheVariants.{Switched, Built, Refused, Full, Preferred, Heard}
 use Rattle.xl_world.specs.Forks.{first_fork}
-use Rattle.xl_replay.specs.Replays.{Replaying, rules, limits, at_first, verdict_of}
-use Rattle.xl_replay.specs.Texts.{outcome_line, bad_line, short_line, forged_line, agreement_line}
+use Rattle.xl_running.specs.Running.{Running, at_first, limits}
+use Rattle.xl_replay.specs.Replays.{rules, verdict_of}
+use Rattle.xl_running.specs.Texts.{bad_line}
+use Rattle.xl_replay.specs.Texts.{outcome_line, short_line, forged_line, agreement_line}
 
 -- what is told of an event: the names that are declared by then, the line of the schedule, and the outcome
 pub record Announced : Type 0 where
@@ -45,13 +47,14 @@ short_text s = short_line s.first s.second s.sum s.bound
 abbrev pub IsPair : ℕ → ℕ → Short → Type 0
 IsPair i j s = (s.first ≡ i) × (s.second ≡ j)
 
--- the state after a line; a refused one changes nothing
-abbrev pub state_after : Replaying → Step Replaying → Replaying
+-- the state after a line; one that ends the text changes nothing
+abbrev pub state_after : Running → Step Running → Running
 state_after r (goes_on text next) = next
 state_after r (refuses text) = r
+state_after r (finds text) = r
 
 -- the state after these lines
-abbrev pub state_from : Limits → ℕ → Replaying → List TextLine → Replaying
+abbrev pub state_from : Limits → ℕ → Running → List TextLine → Running
 state_from within left r [] = r
 state_from within left r (line ∷ rest) =
     state_from within (left - 1) (state_after r (step_at within rules left r line)) rest
@@ -67,6 +70,7 @@ is_full (Built node seq id issued) = false
 is_full (Refused node refusal) = false
 is_full (Full node seq id) = true
 is_full (Preferred node ledger) = false
+is_full (Heard node member id) = false
 
 -- the outcome that tells a report
 abbrev pub full_of : Report → Outcome

@@ -1,5 +1,5 @@
 -- The lines that a replay writes. Source: this project's own formats.
-use Rattle.std.specs.Prelude.{ℕ, ◌+◌, ◌-◌, nat_lt, List, [], ◌∷◌, ◌++◌, decimal, codes, if◌then◌else◌}
+use Rattle.std.specs.Prelude.{ℕ, ◌+◌, ◌-◌, ◌==◌, ◌&&◌, Bool, not, find, is_some, nat_lt, List, [], ◌∷◌, ◌++◌, decimal, codes}
 use Rattle.std.specs.Prelude.{Some, None}
 use Rattle.std.specs.declared.option.Option.{Option}
 use Rattle.std.specs.List.{flat_map}
@@ -10,7 +10,7 @@ use Rattle.xl_lists.specs.Quorums.{bound_of}
 use Rattle.xl_core.specs.declared.beat.Issued.{Issued}
 use Rattle.xl_core.specs.declared.beat.Issued.TheVariants as issued
 use Rattle.xl_core.specs.declared.refusal.Refusal.{Refusal}
-use Rattle.xl_core.specs.declared.refusal.Refusal.TheVariants.{Frame, Short, Extra, Tag, Header, Stale, Repeat, Conflict, OldSeq, Pending, PoolFull, WrongPrev, OldPosition, Left, StaleProposal, NotAfter, IssuingOff, KeepFault}
+use Rattle.xl_core.specs.declared.refusal.Refusal.TheVariants.{Frame, Short, Extra, Tag, Header, Stale, Repeat, Conflict, OldSeq, Pending, PoolFull, WrongPrev, OldPosition, Left, StaleProposal, NotAfter, IssuingOff, KeepFault, NoKey}
 use Rattle.xl_core.specs.declared.report.Report.{Report}
 use Rattle.xl_ledger.specs.declared.refusal.AddRefusal.{AddRefusal}
 use Rattle.xl_ledger.specs.declared.refusal.AddRefusal.TheVariants as header
@@ -20,30 +20,13 @@ use Rattle.xl_wire.specs.declared.refusal.WireRefusal.{WireRefusal}
 use Rattle.xl_wire.specs.declared.refusal.WireRefusal.TheVariants as wire
 use Rattle.xl_core.specs.Refusals.{code_of as refusal_code}
 use Rattle.xl_sched.specs.declared.named.Named.{Named}
-use Rattle.xl_sched.specs.declared.refusal.SchedRefusal.{SchedRefusal}
-use Rattle.xl_sched.specs.Names.{name_of}
-use Rattle.xl_sched.specs.Refusals.{code_of, token_of}
-use Rattle.xl_sched.specs.Tokens.{shown_token}
 use Rattle.xl_world.specs.declared.outcome.Outcome.{Outcome}
-use Rattle.xl_world.specs.declared.outcome.Outcome.TheVariants.{Switched, Built, Refused, Full, Preferred}
+use Rattle.xl_world.specs.declared.outcome.Outcome.TheVariants.{Switched, Built, Refused, Full, Preferred, Heard}
+use Rattle.xl_world.specs.declared.plan.InForce.{InForce}
 use Rattle.xl_world.specs.Forks.{Fork, first_fork}
-use Rattle.xl_world.specs.World.{World, list_in}
+use Rattle.xl_world.specs.World.{World}
 use Rattle.xl_world.specs.Plans.{up_from, all_numbers}
-
-abbrev pub space : List ℕ
-space = codes " "
-
-abbrev pub newline : List ℕ
-newline = 10 ∷ []
-
--- a name is printed as any token is, and an id without one as 64 lower-case digits
-abbrev pub named_text : Option (List ℕ) → LedgerId → List ℕ
-named_text None id = encode_lower id.0
-named_text (Some name) id = shown_token name
-
--- an id is printed by the first declared name that stands for it
-abbrev pub id_text : List Named → LedgerId → List ℕ
-id_text names id = named_text (name_of names id.0) id
+use Rattle.xl_running.specs.Texts.{id_text, newline, space}
 
 -- the values of why bytes are no frame
 abbrev pub frame_values : WireRefusal → List ℕ
@@ -88,11 +71,17 @@ values_text names (StaleProposal now) = decimal now
 values_text names (NotAfter kept) = decimal kept
 values_text names (IssuingOff failed) = decimal failed
 values_text names (KeepFault count) = decimal count
+values_text names (NoKey member) = decimal member
 
 -- the ledger that is preferred, where one is
 abbrev pub preferred_text : List Named → Option Report → List ℕ
 preferred_text names None = codes "none"
 preferred_text names (Some ledger) = decimal ledger.seq ++ space ++ id_text names ledger.id
+
+-- the ledger that was heard of, where one was
+abbrev pub heard_text : List Named → Option LedgerId → List ℕ
+heard_text names None = codes "none"
+heard_text names (Some id) = id_text names id
 
 -- how a built ledger was validated; one that was refused wasn't, and the refusal is told in a line of its own
 abbrev pub how_text : Issued → List ℕ
@@ -115,39 +104,49 @@ outcome_line names n (Full node seq id) =
     codes "full " ++ decimal node ++ space ++ decimal seq ++ space ++ id_text names id ++ newline
 outcome_line names n (Preferred node ledger) =
     codes "preferred " ++ decimal node ++ space ++ preferred_text names ledger ++ newline
+outcome_line names n (Heard node member id) =
+    codes "heard " ++ decimal node ++ space ++ decimal member ++ space ++ heard_text names id ++ newline
 
 abbrev pub outcome_lines : List Named → ℕ → List Outcome → List ℕ
 outcome_lines names n outcomes = flat_map (outcome_line names n) outcomes
-
--- a refused line
-abbrev pub bad_line : ℕ → SchedRefusal → List ℕ
-bad_line n refusal =
-    codes "bad " ++ decimal n ++ space ++ decimal (code_of refusal) ++ space ++ shown_token (token_of refusal)
-    ++ newline
 
 -- two nodes whose quorums aren't enough: both together, and what they must exceed
 abbrev pub short_line : ℕ → ℕ → ℕ → ℕ → List ℕ
 short_line i j sum bound =
     codes "short " ++ decimal i ++ space ++ decimal j ++ space ++ decimal sum ++ space ++ decimal bound ++ newline
 
-abbrev pub short_of : List ℕ → ℕ → TrustedList → ℕ → TrustedList → List ℕ
-short_of liars i a j b =
-    if nat_lt (bound_of liars a b) (a.quorum + b.quorum) then []
-    else short_line i j (a.quorum + b.quorum) (bound_of liars a b)
+-- whether the quorums of two lists aren't enough
+abbrev pub is_short : List ℕ → TrustedList → TrustedList → Bool
+is_short liars a b = not (nat_lt (bound_of liars a b) (a.quorum + b.quorum))
 
--- the pair of a node and a number, where that is a node too
-abbrev pub short_with : List ℕ → ℕ → TrustedList → ℕ → Option TrustedList → List ℕ
-short_with liars i a j None = []
-short_with liars i a j (Some b) = short_of liars i a j b
+-- the first list that was in force at the node of a number, and with this one isn't enough
+abbrev pub short_with : List ℕ → List InForce → TrustedList → ℕ → Option InForce
+short_with liars lists a j = find (λ f. f.node == j && is_short liars a f.list) lists
 
--- the pairs of a number, where it is a node, with the numbers from it on
-abbrev pub shorts_of : World → ℕ → Option TrustedList → List ℕ
-shorts_of w i None = []
-shorts_of w i (Some a) = flat_map (λ j. short_with w.liars i a j (list_in w j)) (up_from i (65 - i))
+-- the first list that was in force at i, and with one at j isn't enough
+abbrev pub short_at : List ℕ → List InForce → ℕ → ℕ → Option InForce
+short_at liars lists i j = find (λ e. e.node == i && is_some (short_with liars lists e.list j)) lists
+
+-- the line of two lists
+abbrev pub short_of : List ℕ → ℕ → TrustedList → ℕ → Option InForce → List ℕ
+short_of liars i a j None = []
+short_of liars i a j (Some f) = short_line i j (a.quorum + f.list.quorum) (bound_of liars a f.list)
+
+abbrev pub short_from : List ℕ → List InForce → ℕ → ℕ → Option InForce → List ℕ
+short_from liars lists i j None = []
+short_from liars lists i j (Some e) = short_of liars i e.list j (short_with liars lists e.list j)
+
+-- the pair of two numbers
+abbrev pub short_pair : World → ℕ → ℕ → List ℕ
+short_pair w i j = short_from w.liars w.lists i j (short_at w.liars w.lists i j)
+
+-- the pairs of a number with the numbers from it on
+abbrev pub shorts_of : World → ℕ → List ℕ
+shorts_of w i = flat_map (λ j. short_pair w i j) (up_from i (65 - i))
 
 -- the pairs of nodes, by rising numbers
 abbrev pub short_lines : World → List ℕ
-short_lines w = flat_map (λ i. shorts_of w i (list_in w i)) all_numbers
+short_lines w = flat_map (λ i. shorts_of w i) all_numbers
 
 abbrev pub forged_line : ℕ → List ℕ
 forged_line n = codes "forged " ++ decimal n ++ newline

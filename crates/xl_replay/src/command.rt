@@ -12,8 +12,8 @@ use crate::replayer::Replayer;
 use std::alloc::Global;
 use xl_base::Status;
 use xl_io::{Sink, Source};
-use xl_lines::{Fault, Limits, Verdict, run};
-use xl_sched::{MOST_BYTES, MOST_LINES};
+use xl_lines::{Fault, Verdict, run};
+use xl_running::LIMITS;
 
 /// Reads a schedule from the input to its end, or up to a line that is refused, and writes its report to the output,
 /// each part as soon as its line was read.
@@ -63,11 +63,7 @@ pub fn replay<I: Source, O: Sink>(alloc: Global, input: &mut I, output: &mut O) 
     let Ok(replayer) = Replayer::new(alloc) else {
         return Status::OutOfMemory;
     };
-    let limits = Limits {
-        lines: MOST_LINES as usize,
-        bytes: MOST_BYTES,
-    };
-    match run(alloc, limits, replayer, input, output) {
+    match run(alloc, LIMITS, replayer, input, output) {
         Ok(Verdict::Good) => Status::Done,
         Ok(Verdict::Found) => Status::Fork,
         Ok(Verdict::Refused) => Status::InputRefused,

@@ -1,42 +1,118 @@
 // What is told at the end of a schedule.
-ghost use Rattle.std.specs.Prelude.{◌≡◌, ◌≤◌, ◌++◌, ◌-◌, OnOk, IfOk, option_map};
-ghost use Rattle.std.specs.List.{flat_map};
+ghost use Rattle.std.specs.Prelude.{◌≡◌, ◌≤◌, ◌++◌, ◌==◌, ◌&&◌, is_some, position, OnOk, option_copied, option_map};
 ghost use Rattle.std.specs.String.{string_bytes};
 ghost use Rattle.xl_world.specs.Forks.{first_fork};
 ghost use Rattle.xl_world.specs.Seen.{fork_seen};
-ghost use Rattle.xl_world.specs.World.{list_in};
-ghost use Rattle.xl_world.specs.Plans.{up_from};
-ghost use Rattle.xl_replay.specs.Texts.{short_of, short_with, shorts_of};
+ghost use Rattle.xl_replay.specs.Texts.{is_short, short_at, short_of, short_pair, short_with, shorts_of};
 ghost use Rattle.xl_replay.specs.Texts.{short_lines, forged_line, agreement_line, end_lines};
 ghost use Rattle.xl_base.specs.declared.node_no.TheConstants.{GREATEST_NODE_NO};
 
-use crate::words::push_id;
 use std::alloc::Global;
 use std::fmt::Write;
 use xl_base::{GREATEST_NODE_NO, NodeNo, OutOfMemory};
 use xl_lists::{List, bound};
+use xl_running::push_id;
 use xl_sched::Reader;
-use xl_world::{Fork, World};
+use xl_world::{Fork, InForce, World};
 
-/// A pair of nodes, where their quorums aren't enough.
+/// Whether the quorums of two lists aren't enough.
+fn is_short(liars: &[NodeNo], a: &List, b: &List) -> bool
+    ensures { result ≡ is_short liars.now a.now b.now }
+{
+    let sum = a.quorum() + b.quorum();
+    bound(a, b, liars) >= sum
+}
+
+/// Whether this list was in force at the node of a number, and with another isn't enough.
+fn is_short_with(liars: &[NodeNo], a: &List, f: &InForce, j: NodeNo) -> bool
+    ensures { result ≡ (f.now.node == j && is_short liars.now a.now f.now.list) }
+{
+    f.node == j && is_short(liars, a, &f.list)
+}
+
+/// Where the first such list stands.
+fn place_with(liars: &[NodeNo], lists: &[InForce], a: &List, j: NodeNo) -> Option<usize>
+    ensures { result ≡ position (λ f. f.node == j && is_short liars.now a.now f.list) lists.now }
+{
+    lists.iter().position(|f| is_short_with(liars, a, f, j))
+}
+
+/// The first list that was in force at the node of a number, and with this one isn't enough.
+fn short_with<'a>(
+    liars: &[NodeNo],
+    lists: &'a [InForce],
+    a: &List,
+    j: NodeNo,
+) -> Option<&'a InForce>
+    ensures { option_copied result ≡ short_with liars.now lists.now a.now j }
+{
+    match place_with(liars, lists, a, j) {
+        Some(k) => Some(&lists[k]),
+        None => None,
+    }
+}
+
+/// Whether this list was in force at the node of a number, and with one at another isn't enough.
+fn is_short_at(liars: &[NodeNo], lists: &[InForce], e: &InForce, i: NodeNo, j: NodeNo) -> bool
+    ensures { result ≡ (e.now.node == i && is_some (short_with liars.now lists.now e.now.list j)) }
+{
+    e.node == i && short_with(liars, lists, &e.list, j).is_some()
+}
+
+/// Where the first such list stands.
+fn place_at(liars: &[NodeNo], lists: &[InForce], i: NodeNo, j: NodeNo) -> Option<usize>
+    ensures { result
+        ≡ position (λ e. e.node == i && is_some (short_with liars.now lists.now e.list j)) lists.now }
+{
+    lists
+        .iter()
+        .position(|e| is_short_at(liars, lists, e, i, j))
+}
+
+/// The first list that was in force at i, and with one at j isn't enough.
+fn short_at<'a>(liars: &[NodeNo], lists: &'a [InForce], i: NodeNo, j: NodeNo) -> Option<&'a InForce>
+    ensures { option_copied result ≡ short_at liars.now lists.now i j }
+{
+    match place_at(liars, lists, i, j) {
+        Some(k) => Some(&lists[k]),
+        None => None,
+    }
+}
+
+/// The line of two lists, where there is another.
 fn push_short(
     text: &mut String,
     liars: &[NodeNo],
     i: NodeNo,
     a: &List,
     j: NodeNo,
-    b: &List,
+    other: Option<&InForce>,
 ) -> Result<(), OutOfMemory>
-    ensures { OnOk result (string_bytes text.new ≡ string_bytes text.old ++ short_of liars.now i a.now j b.now) }
+    ensures { OnOk result (string_bytes text.new
+        ≡ string_bytes text.old ++ short_of liars.now i a.now j (option_copied other.entry)) }
 {
-    let sum = a.quorum() + b.quorum();
-    let bound = bound(a, b, liars);
-    if sum > bound {
+    let Some(other) = other else {
         return Ok(());
-    }
+    };
+    let sum = a.quorum() + other.list.quorum();
+    let bound = bound(a, &other.list, liars);
     let (i, j) = (i.get(), j.get());
     writeln!(text, "short {i} {j} {sum} {bound}")?;
     Ok(())
+}
+
+/// The pair of two numbers, where lists that were in force at their nodes aren't enough.
+fn push_pair(text: &mut String, world: &World, i: NodeNo, j: NodeNo) -> Result<(), OutOfMemory>
+    ensures { OnOk result (string_bytes text.new ≡ string_bytes text.old ++ short_pair world.now i j) }
+{
+    let (liars, lists) = (world.liars(), world.lists());
+    match short_at(liars, lists, i, j) {
+        Some(e) => {
+            let other = short_with(liars, lists, &e.list, j);
+            push_short(text, liars, i, &e.list, j, other)
+        }
+        None => Ok(()),
+    }
 }
 
 /// The member of a number that one may have.
@@ -48,49 +124,15 @@ fn member(number: u32) -> NodeNo
     NodeNo::new(number).unwrap()
 }
 
-/// The pair of a node and a number, where that is a node too.
-fn push_short_with(
-    text: &mut String,
-    world: &World,
-    i: NodeNo,
-    a: &List,
-    j: NodeNo,
-) -> Result<(), OutOfMemory>
-    ensures { OnOk result (string_bytes text.new
-        ≡ string_bytes text.old ++ short_with world.now.liars i a.now j (list_in world.now j)) }
-{
-    match world.list_of(j) {
-        Some(b) => push_short(text, world.liars(), i, a, j, b),
-        None => Ok(()),
-    }
-}
-
-/// The pairs of a node with the numbers from it on.
-fn push_shorts_from(
-    text: &mut String,
-    world: &World,
-    i: NodeNo,
-    a: &List,
-) -> Result<(), OutOfMemory>
-    ensures { OnOk result (string_bytes text.new ≡ string_bytes text.old
-        ++ flat_map (λ j. short_with world.now.liars i a.now j (list_in world.now j)) (up_from i (65 - i))) }
+/// The pairs of a number with the numbers from it on.
+fn push_shorts_of(text: &mut String, world: &World, i: NodeNo) -> Result<(), OutOfMemory>
+    ensures { OnOk result (string_bytes text.new ≡ string_bytes text.old ++ shorts_of world.now i) }
 {
     let first = i.get();
     for j in first..=GREATEST_NODE_NO {
-        push_short_with(text, world, i, a, member(j))?;
+        push_pair(text, world, i, member(j))?;
     }
     Ok(())
-}
-
-/// The pairs of a number, where it is a node.
-fn push_shorts_of(text: &mut String, world: &World, i: NodeNo) -> Result<(), OutOfMemory>
-    ensures { OnOk result (string_bytes text.new
-        ≡ string_bytes text.old ++ shorts_of world.now i (list_in world.now i)) }
-{
-    match world.list_of(i) {
-        Some(a) => push_shorts_from(text, world, i, a),
-        None => Ok(()),
-    }
 }
 
 /// The pairs of nodes whose quorums aren't enough, by rising numbers.

@@ -1,14 +1,16 @@
 // What is told of one line of a schedule.
 ghost use Rattle.std.specs.Prelude.{◌≡◌, ◌++◌, OnOk};
 ghost use Rattle.std.specs.String.{string_bytes};
-ghost use Rattle.xl_replay.specs.Texts.{bad_line, how_text, outcome_line, outcome_lines};
+ghost use Rattle.xl_running.specs.Texts.{bad_line};
+ghost use Rattle.xl_replay.specs.Texts.{how_text, outcome_line, outcome_lines};
 
-use crate::words::{push_id, push_values};
+use crate::words::push_values;
 use std::alloc::Global;
 use std::fmt::Write;
 use xl_base::{LedgerId, NodeNo, OutOfMemory, Seq};
 use xl_core::{Issued, Refusal, Report};
-use xl_sched::{Reader, SchedRefusal, printed_token};
+use xl_running::push_id;
+use xl_sched::Reader;
 use xl_world::Outcome;
 
 fn push_switched(
@@ -125,6 +127,30 @@ fn push_preferred(
     Ok(())
 }
 
+/// What a node heard of the ledger that a member last reported, where it did.
+fn push_heard(
+    alloc: Global,
+    text: &mut String,
+    reader: &Reader,
+    line: u64,
+    node: NodeNo,
+    member: NodeNo,
+    id: &Option<LedgerId>,
+) -> Result<(), OutOfMemory>
+    ensures { OnOk result (string_bytes text.new
+        ≡ string_bytes text.old ++ outcome_line reader.now.names line (Outcome.Heard node member id.now)) }
+{
+    let (number, whose) = (node.get(), member.get());
+    let Some(id) = id else {
+        writeln!(text, "heard {number} {whose} none")?;
+        return Ok(());
+    };
+    write!(text, "heard {number} {whose} ")?;
+    push_id(alloc, text, reader, id)?;
+    text.push('\n')?;
+    Ok(())
+}
+
 fn push_outcome(
     alloc: Global,
     text: &mut String,
@@ -150,6 +176,9 @@ fn push_outcome(
         ),
         Outcome::Full { node, seq, id } => push_full(alloc, text, reader, line, *node, *seq, id),
         Outcome::Preferred { node, at } => push_preferred(alloc, text, reader, line, *node, at),
+        Outcome::Heard { node, member, id } => {
+            push_heard(alloc, text, reader, line, *node, *member, id)
+        }
     }
 }
 
@@ -167,16 +196,5 @@ pub fn push_outcomes(
     for outcome in outcomes {
         push_outcome(alloc, text, reader, line, outcome)?;
     }
-    Ok(())
-}
-
-/// The line that says why a line was refused.
-pub fn push_bad(text: &mut String, line: u64, refusal: &SchedRefusal) -> Result<(), OutOfMemory>
-    ensures { OnOk result (string_bytes text.new ≡ string_bytes text.old ++ bad_line line refusal.now) }
-{
-    let code = refusal.code();
-    write!(text, "bad {line} {code} ")?;
-    printed_token(refusal.token(), text)?;
-    text.push('\n')?;
     Ok(())
 }

@@ -1,36 +1,19 @@
-// Names, ids and values, added to a text.
+// Values, added to a text.
 ghost use Rattle.std.specs.Prelude.{◌≡◌, ◌++◌, decimal, OnOk};
 ghost use Rattle.std.specs.String.{string_bytes};
 ghost use Rattle.hex.specs.Hex.{encode_lower};
-ghost use Rattle.xl_replay.specs.Texts.{id_text, frame_values, tag_values, header_values, values_text};
+ghost use Rattle.xl_running.specs.Texts.{id_text};
+ghost use Rattle.xl_replay.specs.Texts.{frame_values, tag_values, header_values, values_text};
 
 use std::alloc::Global;
 use std::fmt::Write;
 use xl_base::{LedgerId, OutOfMemory};
 use xl_core::Refusal;
 use xl_ledger::AddRefusal;
-use xl_sched::{Reader, printed_token};
+use xl_running::push_id;
+use xl_sched::Reader;
 use xl_tags::TagRefusal;
 use xl_wire::WireRefusal;
-
-/// An id, by the first declared name that stands for it, or in digits.
-pub fn push_id(
-    alloc: Global,
-    text: &mut String,
-    reader: &Reader,
-    id: &LedgerId,
-) -> Result<(), OutOfMemory>
-    ensures { OnOk result (string_bytes text.new ≡ string_bytes text.old ++ id_text reader.now.names id.now) }
-{
-    match reader.name_of(&id.0) {
-        Some(name) => printed_token(name, text),
-        None => {
-            let digits = hex::encode(alloc, id.0.as_slice())?;
-            text.push_str(digits.as_str())?;
-            Ok(())
-        }
-    }
-}
 
 /// The values of a refusal, parted by spaces.
 pub fn push_values(
@@ -60,7 +43,8 @@ pub fn push_values(
         | Refusal::Left(number)
         | Refusal::StaleProposal(number)
         | Refusal::NotAfter(number)
-        | Refusal::IssuingOff(number) => push_number(text, u64::from(*number)),
+        | Refusal::IssuingOff(number)
+        | Refusal::NoKey(number) => push_number(text, u64::from(*number)),
         Refusal::KeepFault(count) => push_number(text, *count),
     }
 }

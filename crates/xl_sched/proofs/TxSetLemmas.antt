@@ -36,7 +36,7 @@ ids_on-none xs names before entries i entry refusal here e =
 pub ids_on-all : (xs : List TxId) (names : List Named) (before : Option TxId) (entries : List (List ℕ)) (i : ℕ) → length entries ≤ i → read_on xs (risen_ids_of names before (drop i entries)) ≡ Ok (xs ++ [])
 ids_on-all xs names before entries i h = at_drop_all (λ rest. read_on xs (risen_ids_of names before rest)) entries i h
 
--- ids that rise from the one before, where there is one
+-- ids that rise from the one before, if there is one
 abbrev RisesAfter : Option TxId → List TxId → Type 0
 RisesAfter None ids = IsRising ids
 RisesAfter (Some before) ids = RisesFrom before ids

@@ -4,7 +4,7 @@ use Rattle.std.specs.Str.{bytes_eq}
 use Rattle.xl_sched.specs.declared.refusal.SchedRefusal.{SchedRefusal}
 use Rattle.xl_sched.specs.declared.refusal.SchedRefusal.TheVariants.{Choice}
 
--- whether a node validates: not where `observing` is written, and nothing else may be
+-- whether a node validates: not if `observing` is written, and nothing else may be
 abbrev pub validating_of : List ℕ → Result Bool SchedRefusal
 validating_of token = if bytes_eq token (codes "observing") then Ok false else Err (Choice token)
 

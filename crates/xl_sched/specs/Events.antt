@@ -1,5 +1,5 @@
--- Events, but for disturbed saves and lies. Source: this project's schedule language.
-use Rattle.std.specs.Prelude.{ℕ, Bool, ◌==◌, ◌&&◌, ◌||◌, not, nat_le, List, [], ◌∷◌, length, Result, Ok, Err, if◌then◌else◌}
+-- Events, except for disturbed saves and lies. Source: this project's schedule language.
+use Rattle.std.specs.Prelude.{ℕ, Bool, ◌==◌, ◌&&◌, ◌||◌, not, nat_le, nat_lt, decimal, List, [], ◌∷◌, length, Result, Ok, Err, if◌then◌else◌}
 use Rattle.std.specs.Option.{ok_or}
 use Rattle.std.specs.Result.{result_ok}
 use Rattle.hex.specs.Hex.{decode_of}
@@ -8,13 +8,13 @@ use Rattle.xl_sched.specs.declared.event.Ask.{Ask}
 use Rattle.xl_sched.specs.declared.event.Ask.TheVariants as ask
 use Rattle.xl_sched.specs.declared.event.What.{What}
 use Rattle.xl_sched.specs.declared.event.What.TheVariants as what
-use Rattle.xl_sched.specs.declared.limits.TheConstants.{MOST_RAW_BYTES}
+use Rattle.xl_sched.specs.declared.limits.TheConstants.{MOST_LISTS, MOST_RAW_BYTES}
 use Rattle.xl_sched.specs.declared.refusal.SchedRefusal.{SchedRefusal}
-use Rattle.xl_sched.specs.declared.refusal.SchedRefusal.TheVariants.{Id, Absent}
+use Rattle.xl_sched.specs.declared.refusal.SchedRefusal.TheVariants.{Id, Absent, Limit}
 use Rattle.xl_sched.specs.Refusals.{◌>>=◌, miscounted}
 use Rattle.xl_sched.specs.Numbers.{number_of, place_of}
 use Rattle.xl_sched.specs.Names.{ledger_id_of, tx_id_of}
-use Rattle.xl_sched.specs.Members.{member_of, declared_of}
+use Rattle.xl_sched.specs.Members.{member_of, declared_of, members_of, trusted_of}
 use Rattle.xl_sched.specs.Choices.{full_of}
 use Rattle.xl_sched.specs.Reading.{Reading}
 
@@ -119,6 +119,32 @@ raw_event reading (honest ∷ digits ∷ []) = do
   bytes ← raw_bytes_of digits
   Ok (what.Raw to bytes)
 raw_event reading arguments = miscounted arguments
+
+-- the parts of a list's line from left to right, and then the list
+abbrev pub list_of : Reading → List ℕ → List ℕ → List ℕ → Result What SchedRefusal
+list_of reading number quorum members = do
+  node ← declared_of reading.nodes number
+  least ← number_of quorum
+  numbers ← members_of members
+  list ← trusted_of numbers least
+  Ok (what.List node list)
+
+-- `i q list`
+abbrev pub set_list : Reading → List (List ℕ) → Result What SchedRefusal
+set_list reading (number ∷ quorum ∷ members ∷ []) = list_of reading number quorum members
+set_list reading arguments = miscounted arguments
+
+-- `list i q list`, if not as many stood before as may be
+abbrev pub list_event : Reading → List (List ℕ) → Result What SchedRefusal
+list_event reading arguments =
+    if nat_lt reading.lists MOST_LISTS then set_list reading arguments else Err (Limit (decimal MOST_LISTS))
+
+-- `heard i`
+abbrev pub heard_event : Reading → List (List ℕ) → Result What SchedRefusal
+heard_event reading (number ∷ []) = do
+  node ← declared_of reading.nodes number
+  Ok (what.Heard node)
+heard_event reading arguments = miscounted arguments
 
 -- `prefer i`
 abbrev pub prefer_event : Reading → List (List ℕ) → Result What SchedRefusal

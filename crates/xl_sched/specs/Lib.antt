@@ -17,3 +17,4 @@ pub mod Lies
 pub mod Words
 pub mod Fits
 pub mod Answers
+pub mod Favors

@@ -1,6 +1,7 @@
 -- What liars say. Source: this project's schedule language.
 use Rattle.std.specs.Prelude.{ℕ, Bool, ◌==◌, ◌||◌, List, [], ◌∷◌, length, codes, Option, Some, None, Result, Ok, Err, if◌then◌else◌}
 use Rattle.std.specs.Str.{bytes_eq}
+use Rattle.xl_base.specs.declared.ids.LedgerId.{LedgerId}
 use Rattle.xl_sched.specs.declared.event.Lied.{Lied}
 use Rattle.xl_sched.specs.declared.event.Lied.TheVariants as lied
 use Rattle.xl_sched.specs.declared.event.What.{What}
@@ -32,7 +33,7 @@ lie_word token =
 -- whether so many tokens may stand after the word of a lie; after no such word as many as after any
 abbrev pub may_say : Option LieWord → ℕ → Bool
 may_say (Some word.Proposal) count = count == 5
-may_say (Some word.Validation) count = count == 4
+may_say (Some word.Validation) count = count == 4 || count == 5
 may_say (Some word.Header) count = count == 1
 may_say (Some word.TxSet) count = count == 1
 may_say (Some word.Tx) count = count == 1
@@ -55,17 +56,31 @@ said_proposal names (before ∷ position ∷ changes ∷ second ∷ made ∷ [])
 said_proposal names arguments = miscounted arguments
 
 -- a validation, its parts from left to right
-abbrev pub validation_of : List Named → List ℕ → List ℕ → List ℕ → List ℕ → Result Lied SchedRefusal
-validation_of names sequence id second kind = do
+abbrev pub validation_of : List Named → List ℕ → List ℕ → List ℕ → List ℕ → Result (Option LedgerId) SchedRefusal
+    → Result Lied SchedRefusal
+validation_of names sequence id second kind told = do
   seq ← number_of sequence
   ledger ← ledger_id_of names id
   signed ← number_of second
   full ← full_of kind
-  Ok (lied.Validation (record { id = ledger; seq = seq; signed = signed; full = full }))
+  validated ← told
+  Ok (lied.Validation (record { id = ledger; seq = seq; signed = signed; full = full; validated = validated }))
 
--- `seq id signed full`, or `partial`
+-- the ledger that a validation tells as the last reported one
+abbrev pub told_of : List Named → List ℕ → Result (Option LedgerId) SchedRefusal
+told_of names id = do
+  ledger ← ledger_id_of names id
+  Ok (Some ledger)
+
+abbrev pub told_if : List Named → Option (List ℕ) → Result (Option LedgerId) SchedRefusal
+told_if names None = Ok None
+told_if names (Some id) = told_of names id
+
+-- `seq id signed full`, or `partial`, and one id more in version 2
 abbrev pub said_validation : List Named → List (List ℕ) → Result Lied SchedRefusal
-said_validation names (sequence ∷ id ∷ second ∷ kind ∷ []) = validation_of names sequence id second kind
+said_validation names (sequence ∷ id ∷ second ∷ kind ∷ []) = validation_of names sequence id second kind (told_if names None)
+said_validation names (sequence ∷ id ∷ second ∷ kind ∷ told ∷ []) =
+    validation_of names sequence id second kind (told_if names (Some told))
 said_validation names arguments = miscounted arguments
 
 -- the header of a declared ledger

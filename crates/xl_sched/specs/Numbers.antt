@@ -6,7 +6,7 @@ use Rattle.std.specs.Str.Parse.{digits_value}
 use Rattle.xl_sched.specs.declared.refusal.SchedRefusal.{SchedRefusal}
 use Rattle.xl_sched.specs.declared.refusal.SchedRefusal.TheVariants.{Number, Absent}
 
--- decimal digits, the first of which is `0` only where it stands alone
+-- decimal digits, the first of which is `0` only if it stands alone
 abbrev pub is_number : List ℕ → Bool
 is_number [] = false
 is_number (first ∷ rest) = list_all is_ascii_digit (first ∷ rest) && (not (first == 48) || length rest == 0)

@@ -3,6 +3,8 @@ use Rattle.std.specs.Prelude.{◌≡◌, ℕ, ◌+◌, Bool, true, false, List, 
 use Rattle.std.specs.Prelude.{Some, None}
 use Rattle.xl_ledger.specs.Headers.{header_id}
 use Rattle.xl_lists.specs.Lists.{is_on}
+use Rattle.xl_sched.specs.declared.event.What.{What}
+use Rattle.xl_sched.specs.declared.event.What.TheVariants as what
 use Rattle.xl_sched.specs.declared.line.Line.{Line}
 use Rattle.xl_sched.specs.declared.line.Line.TheVariants as line
 use Rattle.xl_sched.specs.declared.named.Named.{Named}
@@ -18,6 +20,10 @@ pub record Reading : Type 0 where
   pub started : Bool
   -- whether a line said how many ledgers a node may know
   pub limited : Bool
+  -- whether a line said the version of the nodes' validations
+  pub spoken : Bool
+  -- how many events set a list
+  pub lists : ℕ
   -- the honest nodes in the order of their declaration
   pub nodes : List ℕ
   -- the liars in the order of theirs
@@ -27,7 +33,17 @@ pub record Reading : Type 0 where
 
 -- before the first line
 abbrev pub opened : Reading
-opened = record { lines = 0; now = 1000; started = false; limited = false; nodes = []; liars = []; names = root ∷ [] }
+opened = record {
+  lines = 0;
+  now = 1000;
+  started = false;
+  limited = false;
+  spoken = false;
+  lists = 0;
+  nodes = [];
+  liars = [];
+  names = root ∷ [];
+}
 
 -- a number that was declared neither as an honest node nor as a liar
 abbrev pub IsUndeclared : Reading → ℕ → Type 0
@@ -41,6 +57,24 @@ counted reading = record reading { lines = reading.lines + 1 }
 abbrev pub naming : Reading → Named → Reading
 naming reading named = record (counted reading) { names = reading.names ++ named ∷ [] }
 
+-- how many lists what happens sets
+abbrev pub lists_in : What → ℕ
+lists_in (what.Ask ask) = 0
+lists_in (what.Submit node tx) = 0
+lists_in what.Timers = 0
+lists_in (what.Deliver place) = 0
+lists_in what.All = 0
+lists_in what.Drop = 0
+lists_in (what.Greet node peer) = 0
+lists_in (what.Restart node) = 0
+lists_in (what.Cut new ask) = 0
+lists_in (what.Fail new ask) = 0
+lists_in (what.List node list) = 1
+lists_in (what.Lie from to lie) = 0
+lists_in (what.Raw to bytes) = 0
+lists_in (what.Prefer node) = 0
+lists_in (what.Heard node) = 0
+
 -- what is known after a line
 abbrev pub after : Reading → Line → Reading
 after reading (line.Node me list validating) = record (counted reading) { nodes = reading.nodes ++ me ∷ [] }
@@ -50,4 +84,6 @@ after reading (line.Limit limit) = record (counted reading) { limited = true }
 after reading (line.Ledger name parent header) =
     naming reading (record { name = name; id = (header_id header).0; header = Some header })
 after reading (line.At at) = record (counted reading) { now = at }
-after reading (line.Event event) = record (counted reading) { started = true }
+after reading (line.Speak version) = record (counted reading) { spoken = true }
+after reading (line.Event event) =
+    record (counted reading) { started = true; lists = reading.lists + lists_in event.what }

@@ -14,7 +14,7 @@ abbrev pub GivenMemory : {A : Type 0} → Result A SchedRefusal → Result A Sch
 GivenMemory (Ok x) exact = exact ≡ Ok x
 GivenMemory (Err e) exact = (e ≡ OutOfMemory) ⊎ (exact ≡ Err e)
 
--- the number of each cause, and the token that it names; want of memory has none
+-- the number of each cause, and the token that it names; lack of memory has none
 abbrev pub parts_of : SchedRefusal → ℕ × List ℕ
 parts_of (Header token) = (33, token)
 parts_of (LongLine token) = (34, token)

@@ -20,6 +20,13 @@ limit_line reading (number ∷ []) = do
   if reading.limited then Err (Twice number) else Ok (line.Limit limit)
 limit_line reading arguments = miscounted arguments
 
+-- `speak v`
+abbrev pub speak_line : Reading → List (List ℕ) → Result Line SchedRefusal
+speak_line reading (number ∷ []) = do
+  version ← number_within 1 2 number
+  if reading.spoken then Err (Twice number) else Ok (line.Speak version)
+speak_line reading arguments = miscounted arguments
+
 -- a node validates, unless another mode is written
 abbrev pub mode_of : Option (List ℕ) → Result Bool SchedRefusal
 mode_of None = Ok true

@@ -16,7 +16,7 @@ abbrev pub rises : Option TxId → TxId → Bool
 rises None id = true
 rises (Some before) id = is_below before id
 
--- the id of an entry, where it rises
+-- the id of an entry, if it rises
 abbrev pub risen_id_of : List Named → Option TxId → List ℕ → Result TxId SchedRefusal
 risen_id_of names before entry = do
   id ← tx_id_of names entry

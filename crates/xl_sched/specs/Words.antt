@@ -11,9 +11,9 @@ use Rattle.xl_sched.specs.declared.word.EventWord.TheVariants as event
 use Rattle.xl_sched.specs.declared.word.SettingWord.{SettingWord}
 use Rattle.xl_sched.specs.declared.word.SettingWord.TheVariants as setting
 use Rattle.xl_sched.specs.Refusals.{◌>>=◌}
-use Rattle.xl_sched.specs.Settings.{limit_line, node_line, liar_line, at_line}
+use Rattle.xl_sched.specs.Settings.{limit_line, speak_line, node_line, liar_line, at_line}
 use Rattle.xl_sched.specs.Naming.{name_line, ledger_line}
-use Rattle.xl_sched.specs.Events.{issue_event, submit_event, timer_event, timers_event, deliver_event, all_event, drop_event, greet_event, restart_event, raw_event, prefer_event}
+use Rattle.xl_sched.specs.Events.{issue_event, submit_event, timer_event, timers_event, deliver_event, all_event, drop_event, greet_event, restart_event, raw_event, prefer_event, list_event, heard_event}
 use Rattle.xl_sched.specs.Saves.{cut_event, fail_event}
 use Rattle.xl_sched.specs.Lies.{lie_event}
 use Rattle.xl_sched.specs.Reading.{Reading}
@@ -22,6 +22,7 @@ use Rattle.xl_sched.specs.Reading.{Reading}
 abbrev pub setting_word : List ℕ → Option SettingWord
 setting_word token =
     if bytes_eq token (codes "limit") then Some setting.Limit
+    else if bytes_eq token (codes "speak") then Some setting.Speak
     else if bytes_eq token (codes "node") then Some setting.Node
     else if bytes_eq token (codes "liar") then Some setting.Liar
     else if bytes_eq token (codes "at") then Some setting.At
@@ -46,11 +47,14 @@ event_word token =
     else if bytes_eq token (codes "lie") then Some event.Lie
     else if bytes_eq token (codes "raw") then Some event.Raw
     else if bytes_eq token (codes "prefer") then Some event.Prefer
+    else if bytes_eq token (codes "list") then Some event.List
+    else if bytes_eq token (codes "heard") then Some event.Heard
     else None
 
 -- whether a line of this word may stand only before the first event
 abbrev pub is_declaration : SettingWord → Bool
 is_declaration setting.Limit = true
+is_declaration setting.Speak = true
 is_declaration setting.Node = true
 is_declaration setting.Liar = true
 is_declaration setting.At = false
@@ -60,6 +64,7 @@ is_declaration setting.Ledger = false
 -- the line of a word at which nothing happens, and of the tokens after it
 abbrev pub set_line : Reading → SettingWord → List (List ℕ) → Result Line SchedRefusal
 set_line reading setting.Limit arguments = limit_line reading arguments
+set_line reading setting.Speak arguments = speak_line reading arguments
 set_line reading setting.Node arguments = node_line reading arguments
 set_line reading setting.Liar arguments = liar_line reading arguments
 set_line reading setting.At arguments = at_line arguments
@@ -87,6 +92,8 @@ what_of reading sent event.Fail arguments = fail_event reading arguments
 what_of reading sent event.Lie arguments = lie_event reading arguments
 what_of reading sent event.Raw arguments = raw_event reading arguments
 what_of reading sent event.Prefer arguments = prefer_event reading arguments
+what_of reading sent event.List arguments = list_event reading arguments
+what_of reading sent event.Heard arguments = heard_event reading arguments
 
 -- it happens at the moment in force
 abbrev pub event_line : Reading → Result What SchedRefusal → Result Line SchedRefusal

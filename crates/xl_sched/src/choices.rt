@@ -4,7 +4,7 @@ ghost use Rattle.xl_sched.specs.Choices.{validating_of, full_of, new_of};
 
 use crate::fault::{Cause, LineFault};
 
-/// Whether a node validates: not where the token is `observing`.
+/// Whether a node validates: not if the token is `observing`.
 pub fn validating<'a>(token: &'a [u8]) -> Result<bool, LineFault<'a>>
     ensures { result ≡ validating_of token.now }
 {

@@ -1,5 +1,6 @@
 use xl_base::{Bytes, LedgerId, Millis, NodeNo, Seq, TxId, TxIds};
 use xl_ledger::Header;
+use xl_lists::List;
 use xl_wire::{Proposal, Validation};
 
 /// What happens in a schedule, and the moment in force at its line.
@@ -38,16 +39,21 @@ pub enum What {
     Restart {
         node: NodeNo,
     },
-    /// What is asked stops at its save, or is done where it saves nothing, and the node is opened anew. After the save
+    /// What is asked stops at its save, or is done if it saves nothing, and the node is opened anew. After the save
     /// the keeper holds the new number, or the old one.
     Cut {
         new: bool,
         ask: Ask,
     },
-    /// The save of what is asked fails, where it saves anything. The keeper then holds the new number, or the old one.
+    /// The save of what is asked fails, if it saves anything. The keeper then holds the new number, or the old one.
     Fail {
         new: bool,
         ask: Ask,
+    },
+    /// A declared node goes over to another list.
+    List {
+        node: NodeNo,
+        list: List,
     },
     /// A frame that a declared liar made up is handed to a declared node.
     Lie {
@@ -62,6 +68,10 @@ pub enum What {
     },
     /// The ledger that a declared node prefers is told.
     Prefer {
+        node: NodeNo,
+    },
+    /// What a declared node heard of the ledgers that its list's members last reported is told.
+    Heard {
         node: NodeNo,
     },
 }

@@ -12,5 +12,8 @@ pub const MOST_RAW_BYTES: usize = LONGEST_FRAME;
 /// The most ledgers that a schedule lets a node know, the root counted.
 pub const MOST_LEDGERS: u32 = 16_384;
 
+/// The most lines of a schedule that set a list.
+pub const MOST_LISTS: u32 = 1_024;
+
 /// The most names that a schedule declares; `root` isn't counted.
 pub const MOST_NAMES: usize = 4_096;

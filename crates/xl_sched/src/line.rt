@@ -8,6 +8,8 @@ use xl_lists::List;
 pub enum Line {
     /// Each node may know so many ledgers, 2 to 16,384. No such line stood before.
     Limit(u32),
+    /// The validations of all nodes are of this version, 1 or 2. No such line stood before.
+    Speak(u8),
     /// An honest node is declared, which was declared neither as one nor as a liar.
     Node {
         me: NodeNo,

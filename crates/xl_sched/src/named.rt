@@ -6,6 +6,6 @@ use xl_ledger::Header;
 pub struct Named {
     pub name: Bytes,
     pub id: [u8; 32],
-    /// The header, where the name was declared by one. The id is then the header's.
+    /// The header, if the name was declared by one. The id is then the header's.
     pub header: Option<Header>,
 }

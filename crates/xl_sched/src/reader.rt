@@ -1,4 +1,5 @@
 mod events;
+mod favors;
 mod lies;
 mod naming;
 mod saves;
@@ -7,8 +8,10 @@ mod words;
 
 ghost use Rattle.std.specs.Prelude.{◌≡◌, ◌⊎◌, ℕ, ◌≤◌, ◌<◌, OnOk, OnErr, IfOk, IfErr, IfSome, option_copied};
 ghost use Rattle.xl_sched.specs.Answers.{header_line, is_comment};
+ghost use Rattle.xl_sched.specs.Reading.{lists_in};
 ghost use Rattle.xl_sched.specs.declared.limits.TheConstants.{MOST_LINES};
 
+use crate::event::What;
 use crate::fault::{Cause, LineFault};
 use crate::limits::{MOST_BYTES, MOST_LINES};
 use crate::line::Line;
@@ -30,6 +33,8 @@ pub struct Reader {
     moment: Millis,
     started: bool,
     limited: bool,
+    spoken: bool,
+    lists: u32,
     nodes: Nodes,
     liars: Nodes,
     names: Names,
@@ -39,7 +44,7 @@ pub struct Reader {
 impl Model for Reader {
     ghost use Rattle.std.specs.Prelude.{◌≤◌};
     ghost use Rattle.xl_base.specs.declared.moments.TheConstants.{GREATEST_MILLIS};
-    ghost use Rattle.xl_sched.specs.declared.limits.TheConstants.{MOST_LINES};
+    ghost use Rattle.xl_sched.specs.declared.limits.TheConstants.{MOST_LINES, MOST_LISTS};
     ghost use Rattle.xl_sched.specs.Reading.{Reading};
 
     ghost Value = { Reading };
@@ -49,12 +54,14 @@ impl Model for Reader {
       now = r.moment;
       started = r.started;
       limited = r.limited;
+      spoken = r.spoken;
+      lists = r.lists;
       nodes = r.nodes;
       liars = r.liars;
       names = r.names;
     } };
 
-    ghost invariant = { λ r. (r.lines ≤ MOST_LINES) × (r.moment ≤ GREATEST_MILLIS) };
+    ghost invariant = { λ r. (r.lines ≤ MOST_LINES) × (r.moment ≤ GREATEST_MILLIS) × (r.lists ≤ MOST_LISTS) };
 }
 
 impl Reader {
@@ -74,6 +81,8 @@ impl Reader {
             moment: FIRST_MOMENT,
             started: false,
             limited: false,
+            spoken: false,
+            lists: 0,
             nodes: Nodes::new(alloc),
             liars: Nodes::new(alloc),
             names: Names::with_root(alloc)?,
@@ -89,7 +98,7 @@ impl Reader {
         self.moment
     }
 
-    /// Reads the next line, without the byte that ends it, where so many frames were sent so far. None comes exactly
+    /// Reads the next line, without the byte that ends it, if so many frames were sent so far. None comes exactly
     /// for the header, an empty line and a comment.
     ///
     /// Refused with the first of the causes that holds: the line is too long; there are too many lines, or names; line
@@ -175,7 +184,11 @@ impl Reader {
                     .declare_ledger(name.as_slice(), header, self.alloc)?
             }
             Line::At(moment) => self.moment = *moment,
-            Line::Event(_) => self.started = true,
+            Line::Speak(_) => self.spoken = true,
+            Line::Event(event) => {
+                self.started = true;
+                self.lists += lists_in(&event.what);
+            }
         }
         self.lines += 1;
         Ok(())
@@ -194,6 +207,17 @@ impl Reader {
         ensures { option_copied result ≡ name_of self.now.names id.now }
     {
         self.names.name_of(id)
+    }
+}
+
+/// How many lists what happens sets.
+fn lists_in(what: &What) -> u32
+    ensures value { result ≡ lists_in what.now }
+    ensures most { result ≤ 1 }
+{
+    match what {
+        What::List { .. } => 1,
+        _ => 0,
     }
 }
 

@@ -43,14 +43,14 @@ impl SchedRefusal {
         SchedRefusal::Header(Bytes::from_vec(Vec::new(alloc)))
     }
 
-    /// The number of the refusal, 33 to 44; 0 for want of memory.
+    /// The number of the refusal, 33 to 44; 0 if memory runs out.
     pub fn code(&self) -> u32
         ensures { result ≡ code_of self.now }
     {
         self.parts().0
     }
 
-    /// The token that is to be printed, as it stands in the line; nothing for want of memory.
+    /// The token that is to be printed, as it stands in the line; nothing if memory runs out.
     pub fn token(&self) -> &[u8]
         ensures { result.now ≡ token_of self.now }
     {

@@ -74,7 +74,7 @@ impl<'a> Tokens<'a> {
         Some((first, second))
     }
 
-    /// The three tokens that are left, where they are three.
+    /// The three tokens that are left, if they are three.
     pub fn only_three(&self) -> Option<(&'a [u8], &'a [u8], &'a [u8])>
         ensures { MatchOption result (length self.now ≢ 3)
             (λ three. self.now ≡ three.0.now ∷ three.1.now ∷ three.2.now ∷ []) }
@@ -93,7 +93,8 @@ impl<'a> Tokens<'a> {
         Some((first, second, third, fourth))
     }
 
-    fn only_five(&self) -> Option<(&'a [u8], &'a [u8], &'a [u8], &'a [u8], &'a [u8])>
+    /// The five tokens that are left, if they are five.
+    pub fn only_five(&self) -> Option<(&'a [u8], &'a [u8], &'a [u8], &'a [u8], &'a [u8])>
         ensures { MatchOption result (length self.now ≢ 5)
             (λ five. self.now ≡ five.0.now ∷ five.1.now ∷ five.2.now ∷ five.3.now ∷ five.4.now ∷ []) }
     {
@@ -174,7 +175,7 @@ impl<'a> Tokens<'a> {
         }
     }
 
-    /// The first two tokens that are left, and the others. Refused where there are fewer.
+    /// The first two tokens that are left, and the others. Refused if there are fewer.
     pub fn two_and_others(&self) -> Result<(&'a [u8], &'a [u8], Tokens<'a>), LineFault<'a>>
         ensures { MatchResult result
             (λ two. self.now ≡ two.0.now ∷ two.1.now ∷ two.2)
@@ -189,7 +190,7 @@ impl<'a> Tokens<'a> {
         }
     }
 
-    /// The first three tokens that are left, and the others. Refused where there are fewer.
+    /// The first three tokens that are left, and the others. Refused if there are fewer.
     pub fn three_and_others(
         &self,
     ) -> Result<(&'a [u8], &'a [u8], &'a [u8], Tokens<'a>), LineFault<'a>>

@@ -12,7 +12,7 @@ use std::alloc::Global;
 use xl_base::{MOST_IDS, TxId, TxIds};
 
 /// Ids that are joined by commas and rise strictly, at most 256, or `-` for none. The first entry that is no id or
-/// doesn't rise is refused, and the whole token where they are too many.
+/// doesn't rise is refused, and the whole token if they are too many.
 pub fn tx_set<'a>(alloc: Global, names: &Names, token: &'a [u8]) -> Result<TxIds, LineFault<'a>>
     ensures value { GivenMemory result (tx_set_of names.now token.now) }
     ensures set { IfOk result IsSet }
@@ -44,7 +44,7 @@ fn risen_ids<'a>(alloc: Global, names: &Names, token: &'a [u8]) -> Result<Vec<Tx
     Ok(ids)
 }
 
-/// The id of an entry, where it rises.
+/// The id of an entry, if it rises.
 fn risen_id<'a>(names: &Names, before: Option<TxId>, entry: &'a [u8]) -> Result<TxId, LineFault<'a>>
     ensures { result ≡ risen_id_of names.now before entry.now }
 {

@@ -7,6 +7,7 @@ ghost use Rattle.xl_sched.specs.Words.{setting_word, event_word, is_declaration}
 #[derive(Clone, Copy, Debug, PartialEq, Eq)]
 pub enum SettingWord {
     Limit,
+    Speak,
     Node,
     Liar,
     At,
@@ -20,6 +21,8 @@ impl SettingWord {
     {
         if token == b"limit".as_slice() {
             Some(SettingWord::Limit)
+        } else if token == b"speak".as_slice() {
+            Some(SettingWord::Speak)
         } else if token == b"node".as_slice() {
             Some(SettingWord::Node)
         } else if token == b"liar".as_slice() {
@@ -40,7 +43,7 @@ impl SettingWord {
         ensures { result ≡ is_declaration self }
     {
         match self {
-            SettingWord::Limit | SettingWord::Node | SettingWord::Liar => true,
+            SettingWord::Limit | SettingWord::Speak | SettingWord::Node | SettingWord::Liar => true,
             SettingWord::At | SettingWord::Name | SettingWord::Ledger => false,
         }
     }
@@ -63,6 +66,8 @@ pub enum EventWord {
     Lie,
     Raw,
     Prefer,
+    List,
+    Heard,
 }
 
 impl EventWord {
@@ -97,6 +102,10 @@ impl EventWord {
             Some(EventWord::Raw)
         } else if token == b"prefer".as_slice() {
             Some(EventWord::Prefer)
+        } else if token == b"list".as_slice() {
+            Some(EventWord::List)
+        } else if token == b"heard".as_slice() {
+            Some(EventWord::Heard)
         } else {
             None
         }

@@ -1,7 +1,6 @@
 -- What is told is never empty, and nothing is looked for.
-use Rattle.std.proofs.Common.{◌≡◌, ◌≢◌, ◌<◌, ◌+◌, ◌==◌, ℕ, zero, suc, Bool, List, ◌++◌, length, take, drop, codes, decimal, refl, arith, length-append}
+use Rattle.std.proofs.Common.{◌≡◌, ◌≢◌, ◌<◌, ◌+◌, ◌==◌, ℕ, zero, suc, Bool, List, ◌++◌, length, drop, codes, decimal, refl, arith, length-append}
 use Rattle.std.proofs.lemmas.Bool.{cond_both}
-use Rattle.xl_lines.specs.declared.machine.Verdict.{Verdict}
 use Rattle.xl_lines.specs.declared.machine.Verdict.TheVariants.{Good, Found, Refused as IsRefused}
 use Rattle.xl_lines.specs.Rules.{Told, closes, refused}
 use Rattle.xl_wire.specs.declared.decoding.Decoded.{Decoded}
@@ -9,7 +8,7 @@ use Rattle.xl_wire.specs.declared.decoding.Decoded.TheVariants.{Whole, Need, Ref
 use Rattle.xl_wire.specs.Codes.{code_of}
 use Rattle.xl_wire.specs.Frames.{decoded_of}
 use Rattle.xl_show.specs.Shown.{ending, told_by, told_frames, told_from}
-use Rattle.xl_show.specs.Texts.{space, newline, body_text, frame_line, values_text, bad_line, refusal_line, short_line, limit_line, count_line}
+use Rattle.xl_show.specs.Texts.{space, newline, body_text, frame_line, values_text, bad_line, short_line, limit_line, count_line}
 
 -- a text that ends with a newline is not empty
 line_some : (text : List ℕ) → 0 < length (text ++ newline)

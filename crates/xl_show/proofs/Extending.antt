@@ -1,5 +1,5 @@
 -- What bytes begin with is the same, whatever follows them, but where bytes lack.
-use Rattle.std.proofs.Common.{◌≡◌, ◌<◌, ◌≤◌, ◌+◌, ◌==◌, ◌&&◌, not, nat_lt, ℕ, zero, suc, Bool, List, [], ◌∷◌, ◌++◌, length, take, Option, Some, None, Result, Ok, Err, refl, sym, ap, ap₂, subst, ◌∙◌, ⊎_elim, arith, length-append, slice_index}
+use Rattle.std.proofs.Common.{◌≡◌, ◌<◌, ◌≤◌, ◌==◌, ◌&&◌, not, nat_lt, ℕ, zero, suc, Bool, List, [], ◌∷◌, ◌++◌, length, Option, Some, None, Result, Ok, Err, refl, sym, ap, ap₂, subst, ◌∙◌, ⊎_elim, arith, length-append, slice_index}
 use Rattle.std.proofs.lemmas.Bool.{cases_lt, lt-ltb, le-ltb}
 use Rattle.std.proofs.lemmas.List.{take-append-le, get_or_append_left, length-take}
 use Rattle.xl_base.specs.Refusals.{first_of, refused_if}
@@ -9,10 +9,10 @@ use Rattle.xl_wire.specs.declared.frame.Frame.{Frame}
 use Rattle.xl_wire.specs.declared.refusal.WireRefusal.{WireRefusal}
 use Rattle.xl_wire.specs.declared.refusal.WireRefusal.TheVariants.{Magic, Version, Kind, Length}
 use Rattle.xl_wire.specs.Bodies.{body_of}
-use Rattle.xl_wire.specs.Frames.{raw_of, Spells, SpellsFirst, with_body, with_bodies, decoded_of}
-use Rattle.xl_wire.specs.Heads.{Split, differs, kind_in, length_in, head_refusal, lacking, raw_in, split_of, split_unless}
+use Rattle.xl_wire.specs.Frames.{raw_of, Spells, with_body, with_bodies, decoded_of}
+use Rattle.xl_wire.specs.Heads.{Split, differs, version_in, kind_in, length_in, head_refusal, lacking, raw_in, split_of, split_unless}
 use Rattle.xl_wire.specs.Heads.Split.{Whole, Need, Refused}
-use Rattle.xl_wire.specs.Kinds.{is_kind, can_have, span}
+use Rattle.xl_wire.specs.Kinds.{is_version, is_kind, can_have, span}
 use Rattle.xl_wire.specs.Raws.{RawFrame, SpellsRaw}
 use Rattle.xl_wire.proofs.FeedLaws.{frame_there}
 use Rattle.xl_wire.proofs.FrameLaws.{decoded_spelled, spelled_decoded, spelled_raw}
@@ -44,13 +44,13 @@ abbrev mark_1 : List ℕ → Option WireRefusal
 mark_1 bytes = refused_if (differs bytes 1 0x4C) (Magic 1)
 
 abbrev version_of : List ℕ → Option WireRefusal
-version_of bytes = refused_if (differs bytes 2 1) (Version (slice_index bytes 2))
+version_of bytes = refused_if (nat_lt 2 (length bytes) && not (is_version (version_in bytes))) (Version (version_in bytes))
 
 abbrev kind_test : List ℕ → Option WireRefusal
-kind_test bytes = refused_if (nat_lt 3 (length bytes) && not (is_kind (kind_in bytes))) (Kind (kind_in bytes))
+kind_test bytes = refused_if (nat_lt 3 (length bytes) && not (is_kind (version_in bytes) (kind_in bytes))) (Kind (kind_in bytes))
 
 abbrev length_test : List ℕ → Option WireRefusal
-length_test bytes = refused_if (nat_lt 5 (length bytes) && not (can_have (kind_in bytes) (length_in bytes))) (Length (kind_in bytes) (length_in bytes))
+length_test bytes = refused_if (nat_lt 5 (length bytes) && not (can_have (version_in bytes) (kind_in bytes) (length_in bytes))) (Length (kind_in bytes) (length_in bytes))
 
 length_in_stays : (xs ys : List ℕ) → 5 < length xs → length_in (xs ++ ys) ≡ length_in xs
 length_in_stays [] ys there = absurd (omega arith)
@@ -75,15 +75,17 @@ module _ (xs ys : List ℕ) where
   mark_1_stays there = ap₂ (λ (t : Bool) (b : ℕ). refused_if (t && not (b == 0x4C)) (Magic 1)) (test_stays 1 there) (byte_stays 1 there)
 
   version_stays : 2 < length xs → version_of (xs ++ ys) ≡ version_of xs
-  version_stays there = ap₂ (λ (t : Bool) (b : ℕ). refused_if (t && not (b == 1)) (Version b)) (test_stays 2 there) (byte_stays 2 there)
+  version_stays there = ap₂ (λ (t : Bool) (b : ℕ). refused_if (t && not (is_version b)) (Version b)) (test_stays 2 there) (byte_stays 2 there)
 
   kind_stays : 3 < length xs → kind_test (xs ++ ys) ≡ kind_test xs
-  kind_stays there = ap₂ (λ (t : Bool) (b : ℕ). refused_if (t && not (is_kind b)) (Kind b)) (test_stays 3 there) (byte_stays 3 there)
+  kind_stays there =
+      ap₂ (λ (t : Bool) (b : ℕ). refused_if (t && not (is_kind (version_in (xs ++ ys)) b)) (Kind b)) (test_stays 3 there) (byte_stays 3 there)
+      ∙ ap (λ (v : ℕ). refused_if (nat_lt 3 (length xs) && not (is_kind v (kind_in xs))) (Kind (kind_in xs))) (byte_stays 2 (omega (arith, there)))
 
   length_stays : 5 < length xs → length_test (xs ++ ys) ≡ length_test xs
   length_stays there =
-      ap₂ (λ (t : Bool) (b : ℕ). refused_if (t && not (can_have b (length_in (xs ++ ys)))) (Length b (length_in (xs ++ ys)))) (test_stays 5 there) (byte_stays 3 (omega (arith, there)))
-      ∙ ap (λ (n : ℕ). refused_if (nat_lt 5 (length xs) && not (can_have (kind_in xs) n)) (Length (kind_in xs) n)) (length_in_stays xs ys there)
+      ap₂ (λ (t : Bool) (b : ℕ). refused_if (t && not (can_have (version_in (xs ++ ys)) b (length_in (xs ++ ys)))) (Length b (length_in (xs ++ ys)))) (test_stays 5 there) (byte_stays 3 (omega (arith, there)))
+      ∙ ap₂ (λ (v n : ℕ). refused_if (nat_lt 5 (length xs) && not (can_have v (kind_in xs) n)) (Length (kind_in xs) n)) (byte_stays 2 (omega (arith, there))) (length_in_stays xs ys there)
 
 kept_1 : (a b c d e a' b' c' d' e' : Option WireRefusal) (r : WireRefusal) → a' ≡ a → b ≡ None → c ≡ None → d ≡ None → e ≡ None → first_of (a ∷ b ∷ c ∷ d ∷ e ∷ []) ≡ Some r → first_of (a' ∷ b' ∷ c' ∷ d' ∷ e' ∷ []) ≡ Some r
 kept_1 a b c d e a' b' c' d' e' r ea eb ec ed ee is = rw ea (first_stays a b' c' d' e' r (rw (eb, ec, ed, ee) at is))
@@ -127,13 +129,13 @@ head_stays xs ys r is =
     (cases_lt 5 (length xs))
   where
     no_length : length xs ≤ 5 → length_test xs ≡ None
-    no_length few = ap (λ (t : Bool). refused_if (t && not (can_have (kind_in xs) (length_in xs))) (Length (kind_in xs) (length_in xs))) (le-ltb 5 (length xs) few)
+    no_length few = ap (λ (t : Bool). refused_if (t && not (can_have (version_in xs) (kind_in xs) (length_in xs))) (Length (kind_in xs) (length_in xs))) (le-ltb 5 (length xs) few)
 
     no_kind : length xs ≤ 3 → kind_test xs ≡ None
-    no_kind few = ap (λ (t : Bool). refused_if (t && not (is_kind (kind_in xs))) (Kind (kind_in xs))) (le-ltb 3 (length xs) few)
+    no_kind few = ap (λ (t : Bool). refused_if (t && not (is_kind (version_in xs) (kind_in xs))) (Kind (kind_in xs))) (le-ltb 3 (length xs) few)
 
     no_version : length xs ≤ 2 → version_of xs ≡ None
-    no_version few = ap (λ (t : Bool). refused_if (t && not (slice_index xs 2 == 1)) (Version (slice_index xs 2))) (le-ltb 2 (length xs) few)
+    no_version few = ap (λ (t : Bool). refused_if (t && not (is_version (version_in xs))) (Version (version_in xs))) (le-ltb 2 (length xs) few)
 
     no_mark_1 : length xs ≤ 1 → mark_1 xs ≡ None
     no_mark_1 few = ap (λ (t : Bool). refused_if (t && not (slice_index xs 1 == 0x4C)) (Magic 1)) (le-ltb 1 (length xs) few)

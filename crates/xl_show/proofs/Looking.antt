@@ -1,5 +1,5 @@
 -- A look at the bytes that have come tells a part of what is told.
-use Rattle.std.proofs.Common.{◌≡◌, ◌<◌, ◌≤◌, ◌+◌, ◌*◌, ℕ, List, [], ◌++◌, length, drop, Option, refl, sym, ap, subst, ◌∙◌, arith, append_assoc, append-nil, length-append, length-drop}
+use Rattle.std.proofs.Common.{◌≡◌, ◌≤◌, ◌+◌, ℕ, List, [], ◌++◌, length, drop, Option, refl, sym, ap, ◌∙◌, arith, append_assoc, append-nil, length-append}
 use Rattle.std.specs.Io.KnownBytes.{append_known}
 use Rattle.xl_io.specs.Sinks.{GrewByFront, GrewByLess}
 use Rattle.xl_lines.specs.Rules.{Told, refused}
@@ -12,7 +12,7 @@ use Rattle.xl_show.specs.declared.frames.Frames.{Frames}
 use Rattle.xl_show.specs.Reading.{IsSeen, left_after}
 use Rattle.xl_show.specs.Steps.{Follows}
 use Rattle.xl_show.specs.Shown.{told_from}
-use Rattle.xl_show.specs.Texts.{frame_line, refusal_line}
+use Rattle.xl_show.specs.Texts.{refusal_line}
 use Rattle.xl_show.proofs.Telling.{told_frame, told_refusal}
 
 -- what is behind a frame, and as before without one

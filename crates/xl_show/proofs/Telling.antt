@@ -1,10 +1,9 @@
 -- What is told, part by part.
-use Rattle.std.proofs.Common.{◌≡◌, ◌≢◌, ◌<◌, ◌≤◌, ◌+◌, ◌-◌, ◌==◌, ℕ, zero, suc, Bool, true, false, List, [], ◌∷◌, ◌++◌, length, take, drop, nat_lt, refl, sym, ap, ap₂, subst, ◌∙◌, arith, length-append, length-drop, append-nil}
-use Rattle.std.proofs.lemmas.Bool.{lt-ltb, le-ltb, cond_both}
+use Rattle.std.proofs.Common.{◌≡◌, ◌<◌, ◌≤◌, ◌+◌, ◌-◌, ℕ, zero, suc, Bool, true, false, List, [], ◌∷◌, ◌++◌, length, take, drop, nat_lt, refl, ap, ap₂, ◌∙◌, arith, length-append, length-drop, append-nil}
+use Rattle.std.proofs.lemmas.Bool.{lt-ltb, le-ltb}
 use Rattle.std.proofs.lemmas.List.{drop-append-le, drop-take, take_all}
 use Rattle.std.proofs.Math.Seq.{take-append-add}
-use Rattle.xl_lines.specs.declared.machine.Verdict.TheVariants.{Good, Found, Refused as IsRefused}
-use Rattle.xl_lines.specs.Rules.{Told, closes, refused}
+use Rattle.xl_lines.specs.Rules.{Told, refused}
 use Rattle.xl_lines.specs.Told.{after}
 use Rattle.xl_wire.specs.declared.decoding.Decoded.{Decoded}
 use Rattle.xl_wire.specs.declared.decoding.Decoded.TheVariants.{Whole, Need, Refused}
@@ -13,8 +12,8 @@ use Rattle.xl_wire.specs.declared.refusal.WireRefusal.{WireRefusal}
 use Rattle.xl_wire.specs.Frames.{decoded_of}
 use Rattle.xl_show.specs.declared.limits.TheConstants.{MOST_BYTES}
 use Rattle.xl_show.proofs.Extending.{frame_some}
-use Rattle.xl_show.specs.Shown.{ending, told_by, told_frames, told_from, shown_of}
-use Rattle.xl_show.specs.Texts.{frame_line, refusal_line, short_line, limit_line, count_line, newline, bad_line}
+use Rattle.xl_show.specs.Shown.{ending, told_by, told_frames, told_from}
+use Rattle.xl_show.specs.Texts.{frame_line, refusal_line, limit_line}
 
 same_by : (next next' : ℕ → Told) (beyond : Bool) (place count : ℕ) (bytes : List ℕ) (d : Decoded) → ((f : Frame) (n : ℕ) → d ≡ Whole f n → next n ≡ next' n) → told_by next beyond place count bytes d ≡ told_by next' beyond place count bytes d
 unfolding told_by

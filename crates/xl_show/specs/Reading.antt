@@ -1,5 +1,5 @@
 -- What the bytes that have come begin with. Source: what the code of this crate relies on.
-use Rattle.std.specs.Prelude.{◌≡◌, ℕ, ◌+◌, ◌<◌, ◌≤◌, List, [], ◌++◌, length}
+use Rattle.std.specs.Prelude.{◌≡◌, ℕ, ◌<◌, ◌≤◌, List, [], ◌++◌, length}
 use Rattle.xl_lines.specs.Rules.{Told, refused}
 use Rattle.xl_wire.specs.declared.decoding.Decoded.TheVariants as decoded
 use Rattle.xl_wire.specs.declared.frame.Frame.{Frame}

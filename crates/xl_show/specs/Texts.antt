@@ -1,6 +1,7 @@
 -- The lines that `xl show` writes. Source: this project's own formats.
-use Rattle.std.specs.Prelude.{ℕ, Bool, List, [], ◌∷◌, ◌++◌, length, decimal, codes, if◌then◌else◌}
+use Rattle.std.specs.Prelude.{ℕ, Bool, List, [], ◌∷◌, ◌++◌, length, decimal, codes, Option, Some, None, if◌then◌else◌}
 use Rattle.hex.specs.Hex.{encode_lower}
+use Rattle.xl_base.specs.declared.ids.LedgerId.{LedgerId}
 use Rattle.xl_base.specs.Sets.{set_id_of}
 use Rattle.xl_ledger.specs.declared.header.Header.{Header}
 use Rattle.xl_ledger.specs.Headers.{header_id}
@@ -33,8 +34,13 @@ fullness_text full = if full then codes "full" else codes "partial"
 abbrev pub vote_text : Validation → List ℕ
 vote_text v = decimal v.seq ++ space ++ encode_lower v.id.0 ++ space ++ decimal v.signed
 
+-- the id of the ledger that was last reported, where one is told
+abbrev pub validated_text : Option LedgerId → List ℕ
+validated_text None = []
+validated_text (Some id) = space ++ encode_lower id.0
+
 abbrev pub validation_text : Validation → List ℕ
-validation_text v = vote_text v ++ space ++ fullness_text v.full
+validation_text v = vote_text v ++ space ++ fullness_text v.full ++ validated_text v.validated
 
 abbrev pub header_text : Header → List ℕ
 header_text h =

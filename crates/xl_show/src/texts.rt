@@ -2,12 +2,12 @@
 ghost use Rattle.std.specs.Prelude.{◌≡◌, ◌≤◌, ◌++◌, length, take, decimal, OnOk, IfOk};
 ghost use Rattle.std.specs.String.{string_bytes};
 ghost use Rattle.hex.specs.Hex.{encode_lower};
-ghost use Rattle.xl_show.specs.Texts.{proposal_text, fullness_text, vote_text, validation_text, header_text, body_text, frame_line, values_text, refusal_line, short_line, limit_line, count_line};
+ghost use Rattle.xl_show.specs.Texts.{proposal_text, fullness_text, vote_text, validated_text, validation_text, header_text, body_text, frame_line, values_text, refusal_line, short_line, limit_line, count_line};
 
 use crate::limits::MOST_BYTES;
 use std::alloc::Global;
 use std::fmt::Write;
-use xl_base::{OutOfMemory, TxId, set_id};
+use xl_base::{LedgerId, OutOfMemory, TxId, set_id};
 use xl_ledger::{Header, id_of, read_header};
 use xl_wire::{Body, Frame, Ids, Proposal, Validation, WireRefusal};
 
@@ -68,7 +68,24 @@ fn push_validation(
     push_vote(alloc, text, validation)?;
     text.push(' ')?;
     text.push_str(fullness(validation.full))?;
-    Ok(())
+    push_validated(alloc, text, &validation.validated)
+}
+
+/// The id of the ledger that was last reported, where one is told, as one token more.
+fn push_validated(
+    alloc: Global,
+    text: &mut String,
+    validated: &Option<LedgerId>,
+) -> Result<(), OutOfMemory>
+    ensures { OnOk result (string_bytes text.new ≡ string_bytes text.old ++ validated_text validated.now) }
+{
+    match validated {
+        Some(id) => {
+            text.push(' ')?;
+            push_digits(alloc, text, &id.0)
+        }
+        None => Ok(()),
+    }
 }
 
 fn push_vote(alloc: Global, text: &mut String, validation: &Validation) -> Result<(), OutOfMemory>

@@ -1,5 +1,5 @@
 -- What happens, said again.
-use Rattle.std.proofs.Common.{◌≡◌, ◌+◌, ◌≤◌, ◌<◌, ◌^◌, ◌&&◌, inl, inr, ℕ, suc, true, cond, nat_le, List, [], ◌∷◌, length, Result, Ok, Err, refl, ap, sym, ◌∙◌, subst, arith, decimal, codes}
+use Rattle.std.proofs.Common.{◌≡◌, ◌+◌, ◌≤◌, ◌<◌, ◌^◌, ◌&&◌, inl, inr, ℕ, suc, true, cond, nat_le, nat_lt, List, [], ◌∷◌, length, Result, Ok, Err, refl, ap, sym, ◌∙◌, subst, arith, decimal, codes}
 use Rattle.std.specs.Option.{ok_or}
 use Rattle.std.specs.Result.{result_ok}
 use Rattle.std.proofs.lemmas.Bool.{and_parts}
@@ -8,25 +8,26 @@ use Rattle.hex.specs.Hex.{IsBytes, encode_lower, decode_of}
 use Rattle.hex.proofs.HexLemmas.{decode_of-encode_lower}
 use Rattle.xl_sched.specs.declared.event.What.{What}
 use Rattle.xl_sched.specs.declared.event.What.TheVariants as what
-use Rattle.xl_sched.specs.declared.limits.TheConstants.{MOST_RAW_BYTES}
+use Rattle.xl_sched.specs.declared.limits.TheConstants.{MOST_LISTS, MOST_RAW_BYTES}
 use Rattle.xl_sched.specs.declared.refusal.SchedRefusal.{SchedRefusal}
 use Rattle.xl_sched.specs.declared.refusal.SchedRefusal.TheVariants as refusal
 use Rattle.xl_sched.specs.declared.word.EventWord.{EventWord}
 use Rattle.xl_sched.specs.declared.word.EventWord.TheVariants as event
 use Rattle.xl_sched.specs.Refusals.{◌>>=◌}
-use Rattle.xl_sched.specs.Numbers.{place_of}
+use Rattle.xl_sched.specs.Numbers.{number_of, place_of}
 use Rattle.xl_sched.specs.Names.{tx_id_of}
-use Rattle.xl_sched.specs.Members.{member_of, declared_of}
-use Rattle.xl_sched.specs.Events.{asked_issue, issue_event, asked_timer, timer_event, timers_event, submit_event, deliver_event, all_event, drop_event, is_peer, peer_of, greet_event, restart_event, raw_bytes_of, raw_event, prefer_event}
+use Rattle.xl_sched.specs.Members.{member_of, declared_of, members_of, trusted_of}
+use Rattle.xl_sched.specs.Events.{asked_issue, issue_event, asked_timer, timer_event, timers_event, submit_event, deliver_event, all_event, drop_event, is_peer, peer_of, greet_event, restart_event, raw_bytes_of, raw_event, prefer_event, set_list, list_event, heard_event}
 use Rattle.xl_sched.specs.Saves.{disturbed_of, cut_event, fail_event}
 use Rattle.xl_sched.specs.Lies.{lie_word, may_say, lied_of, pair_of, lie_of, lie_event}
 use Rattle.xl_sched.specs.Words.{what_of}
 use Rattle.xl_sched.specs.Reading.{Reading}
-use Rattle.xl_spelling.specs.Spellings.{lied_words, what_words}
+use Rattle.xl_spelling.specs.Spellings.{with_commas, lied_words, what_words}
 use Rattle.xl_spelling.specs.Stored.{IsId, IsStoredAsk, IsStoredLied, IsStoredWhat}
-use Rattle.xl_spelling.proofs.Parts.{steps, same-ok, passed, passed_by, member-same, declared-same, place-same}
-use Rattle.xl_spelling.proofs.Small.{small-inked, declared-small, id-small, bytes-small, like-more, like-widen}
+use Rattle.xl_spelling.proofs.Parts.{steps, same-ok, passed, passed_by, number-same, member-same, declared-same, place-same}
+use Rattle.xl_spelling.proofs.Small.{small-inked, number-small, declared-small, id-small, bytes-small, like-more, like-widen}
 use Rattle.xl_spelling.proofs.Asks.{IsAgain, issue-again, timer-again, save-again}
+use Rattle.xl_spelling.proofs.Members.{texts, list-again, trusted-made, trusted-again}
 use Rattle.xl_spelling.proofs.Saying.{tx_id-read, lied-again}
 use Rattle.xl_spelling.proofs.WordLemmas.{event_text}
 
@@ -149,6 +150,62 @@ prefer_event-again reading (number ∷ []) w e =
     let node = declared-same reading.nodes number n.value n.gave in
     record { arguments = number ∷ []; words = ap what_words (sym is) ∙ cc node; same = e; count = refl; like = inl refl }
 
+-- a list's line, with the members by rising number
+set_list-again : (reading : Reading) (old : List (List ℕ)) (w : What) → set_list reading old ≡ Ok w → IsEventAgain (set_list reading) (codes "list") old w
+set_list-again reading [] w e = absurd (cc)
+set_list-again reading (number ∷ []) w e = absurd (cc)
+set_list-again reading (number ∷ quorum ∷ []) w e = absurd (cc)
+set_list-again reading (number ∷ quorum ∷ members ∷ more ∷ rest) w e = absurd (cc)
+set_list-again reading (number ∷ quorum ∷ members ∷ []) w e =
+    let n = steps (declared_of reading.nodes number) (λ node. number_of quorum >>= (λ least. members_of members >>= (λ numbers. trusted_of numbers least >>= (λ list. Ok (what.List node list))))) w e in
+    let q = steps (number_of quorum) (λ least. members_of members >>= (λ numbers. trusted_of numbers least >>= (λ list. Ok (what.List n.value list)))) w n.rest in
+    let m = steps (members_of members) (λ numbers. trusted_of numbers q.value >>= (λ list. Ok (what.List n.value list))) w q.rest in
+    let t = steps (trusted_of m.value q.value) (λ list. Ok (what.List n.value list)) w m.rest in
+    let is = same-ok (what.List n.value t.value) w t.rest in
+    let trusted = trusted-made m.value q.value t.value t.gave in
+    let listed = list-again t.value trusted.valid in
+    let text = with_commas (texts t.value.members) in
+    let node = declared-same reading.nodes number n.value n.gave in
+    let least : decimal t.value.quorum ≡ quorum = ap (λ k. decimal k) trusted.its_quorum ∙ number-same quorum q.value q.gave in
+    let node-small = declared-small reading.nodes number n.value n.gave in
+    let least-small = number-small quorum q.value q.gave in
+    record {
+      arguments = number ∷ quorum ∷ text ∷ [];
+      words = ap what_words (sym is) ∙ cc (node, least);
+      same =
+          ap (λ read. read >>= (λ node. number_of quorum >>= (λ least. members_of text >>= (λ numbers. trusted_of numbers least >>= (λ list. Ok (what.List node list)))))) n.gave
+          ∙ ap (λ read. read >>= (λ least. members_of text >>= (λ numbers. trusted_of numbers least >>= (λ list. Ok (what.List n.value list))))) q.gave
+          ∙ ap (λ read. read >>= (λ numbers. trusted_of numbers q.value >>= (λ list. Ok (what.List n.value list)))) listed.same
+          ∙ ap (λ read. read >>= (λ list. Ok (what.List n.value list))) (trusted-again t.value q.value trusted)
+          ∙ ap (λ w. Ok w) is;
+      count = refl;
+      like = inr (
+        (small-inked 10 number node-small, (small-inked 10 quorum least-small, (small-inked 192 text listed.small, tt))),
+        omega (arith, node-small.few, least-small.few, listed.small.few),
+      );
+    }
+
+list_event-again : (reading : Reading) (old : List (List ℕ)) (w : What) → list_event reading old ≡ Ok w → IsEventAgain (list_event reading) (codes "list") old w
+list_event-again reading old w e =
+    let room = passed_by (nat_lt reading.lists MOST_LISTS) (set_list reading old) w (refusal.Limit (decimal MOST_LISTS)) e in
+    let again = set_list-again reading old w room.1 in
+    record {
+      arguments = again.arguments;
+      words = again.words;
+      same = ap (λ b. cond b (set_list reading again.arguments) (Err (refusal.Limit (decimal MOST_LISTS)))) room.0 ∙ again.same;
+      count = again.count;
+      like = again.like;
+    }
+
+heard_event-again : (reading : Reading) (old : List (List ℕ)) (w : What) → heard_event reading old ≡ Ok w → IsEventAgain (heard_event reading) (codes "heard") old w
+heard_event-again reading [] w e = absurd (cc)
+heard_event-again reading (number ∷ more ∷ rest) w e = absurd (cc)
+heard_event-again reading (number ∷ []) w e =
+    let n = steps (declared_of reading.nodes number) (λ node. Ok (what.Heard node)) w e in
+    let is = same-ok (what.Heard n.value) w n.rest in
+    let node = declared-same reading.nodes number n.value n.gave in
+    record { arguments = number ∷ []; words = ap what_words (sym is) ∙ cc node; same = e; count = refl; like = inl refl }
+
 cut_event-again : (reading : Reading) (old : List (List ℕ)) (w : What) → cut_event reading old ≡ Ok w → IsStoredWhat w → IsEventAgain (cut_event reading) (codes "cut") old w
 cut_event-again reading old w e stored =
     let s = steps (disturbed_of reading old) (λ save. Ok (what.Cut save.0 save.1)) w e in
@@ -259,3 +316,5 @@ what-again reading sent event.Fail old w e stored = fail_event-again reading old
 what-again reading sent event.Lie old w e stored = lie_event-again reading old w e stored
 what-again reading sent event.Raw old w e stored = raw_event-again reading old w e stored
 what-again reading sent event.Prefer old w e stored = prefer_event-again reading old w e
+what-again reading sent event.List old w e stored = list_event-again reading old w e
+what-again reading sent event.Heard old w e stored = heard_event-again reading old w e

@@ -3,6 +3,7 @@ mod Numerals
 mod Parts
 mod Small
 mod Asks
+mod Members
 mod WordLemmas
 mod Saying
 mod Happening

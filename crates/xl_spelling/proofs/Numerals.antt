@@ -13,10 +13,11 @@ use Rattle.hex.proofs.HexLemmas.{length-encode_with, decode_pairs-encode_with, I
 use Rattle.xl_sched.specs.Numbers.{is_number, value_of}
 use Rattle.xl_spelling.specs.Stored.{IsId}
 
-abbrev AreDigits : List ℕ → Type 0
+abbrev pub AreDigits : List ℕ → Type 0
 AreDigits ds = list_all is_ascii_digit ds ≡ true
 
-own : IsNumeralModel AreDigits (digits_value 10)
+-- decimal digits, and the number that they write
+pub own : IsNumeralModel AreDigits (digits_value 10)
 own = numerals_by_value AreDigits (search rules)
 
 -- a number has one spelling

@@ -53,9 +53,12 @@ event_text-fine event.Fail = refl
 event_text-fine event.Lie = refl
 event_text-fine event.Raw = refl
 event_text-fine event.Prefer = refl
+event_text-fine event.List = refl
+event_text-fine event.Heard = refl
 
 setting_text-fine : (w : SettingWord) → is_fine (setting_text w) ≡ true
 setting_text-fine setting.Limit = refl
+setting_text-fine setting.Speak = refl
 setting_text-fine setting.Node = refl
 setting_text-fine setting.Liar = refl
 setting_text-fine setting.At = refl

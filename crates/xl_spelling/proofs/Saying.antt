@@ -1,5 +1,6 @@
 -- What a liar says, said again.
-use Rattle.std.proofs.Common.{◌≡◌, ◌+◌, ◌*◌, ◌≤◌, ◌==◌, inl, inr, ℕ, Bool, true, false, cond, nat_le, List, [], ◌∷◌, length, map, Option, Some, None, Ok, Err, refl, ap, sym, ◌∙◌, subst, arith, codes}
+use Rattle.std.proofs.Common.{◌≡◌, ◌+◌, ◌*◌, ◌≤◌, ◌==◌, inl, inr, ℕ, suc, Bool, true, false, cond, nat_le, List, [], ◌∷◌, length, map, Option, Some, None, Ok, Err, refl, ap, sym, ◌∙◌, subst, arith, codes}
+use Rattle.std.specs.Prelude.{IfSome}
 use Rattle.std.specs.List.{AllByRecursion}
 use Rattle.std.specs.Str.{bytes_eq}
 use Rattle.std.proofs.lemmas.Bool.Decides.{nat_tests}
@@ -7,6 +8,7 @@ use Rattle.hex.specs.Hex.{encode_lower, lower_digits}
 use Rattle.std.proofs.lemmas.List.Elements.{recursion_from_All}
 use Rattle.std.proofs.lemmas.Slice.Eq.{bytes_eq-Decides}
 use Rattle.hex.proofs.HexLemmas.{length-encode_with}
+use Rattle.xl_base.specs.declared.ids.LedgerId.{LedgerId}
 use Rattle.xl_base.specs.declared.ids.SetId.{SetId}
 use Rattle.xl_base.specs.declared.ids.TxId.{TxId}
 use Rattle.xl_base.specs.declared.sets.TheConstants.{MOST_IDS}
@@ -23,13 +25,13 @@ use Rattle.xl_sched.specs.Tokens.{entries}
 use Rattle.xl_sched.specs.Names.{ledger_id_of, set_id_of, tx_id_of}
 use Rattle.xl_sched.specs.Ledgers.{ledger_of}
 use Rattle.xl_sched.specs.TxSets.{rises, risen_id_of, risen_ids_of, joined_ids_of, tx_set_of}
-use Rattle.xl_sched.specs.Lies.{lie_word, said_proposal, said_validation, said_header, said_tx_set, said_tx, lied_of}
-use Rattle.xl_spelling.specs.Spellings.{with_commas, set_word, lied_words}
+use Rattle.xl_sched.specs.Lies.{lie_word, said_proposal, validation_of, told_if, said_validation, said_header, said_tx_set, said_tx, lied_of}
+use Rattle.xl_spelling.specs.Spellings.{with_commas, set_word, validated_words, lied_words}
 use Rattle.xl_spelling.specs.Stored.{IsId, IsStoredLied}
 use Rattle.xl_spelling.proofs.Joins.{Clear, cut-joined, joined-spread, joined-all, spread}
 use Rattle.xl_spelling.proofs.Numerals.{IsSolid, digits-solid}
 use Rattle.xl_spelling.proofs.Parts.{Gives, steps, same-ok, passed, number-same, kind-same, id-read}
-use Rattle.xl_spelling.proofs.Small.{IsInk, IsSmall, small-inked, number-small, id-small, kind-small, inked, AreLike}
+use Rattle.xl_spelling.proofs.Small.{IsInk, IsInked, IsSmall, small-inked, number-small, id-small, kind-small, inked, AreShort, AreLike}
 use Rattle.xl_spelling.proofs.Asks.{IsAgain, ledger_id-read}
 use Rattle.xl_spelling.proofs.WordLemmas.{lie_text, lie_text-same}
 
@@ -80,40 +82,119 @@ proposal-again names (before ∷ position ∷ changes ∷ second ∷ made ∷ []
       );
     }
 
+-- the tokens of what a validation tells
+abbrev told_tokens : Option (List ℕ) → List (List ℕ)
+told_tokens None = []
+told_tokens (Some token) = token ∷ []
+
+-- the ledger that a validation tells, where its line has one token more or not
+record IsToldAgain (names : List Named) (old : Option (List ℕ)) (told : Option LedgerId) : Type 0 where
+  tokens : List (List ℕ)
+  new : Option (List ℕ)
+  words : validated_words told ≡ tokens
+  same : told_if names new ≡ Ok told
+  -- a token more exactly where there was one
+  fits : told_tokens new ≡ tokens
+  count : length tokens ≡ length (told_tokens old)
+  ink : AllByRecursion IsInked tokens
+  few : spread tokens ≤ 65
+
+told-again : (names : List Named) (old : Option (List ℕ)) (told : Option LedgerId) → told_if names old ≡ Ok told → IfSome told (λ id. IsId id.0) → IsToldAgain names old told
+told-again names None told e stored =
+    let is = same-ok None told e in
+    record { tokens = []; new = None; words = ap validated_words (sym is); same = e; fits = refl; count = refl; ink = tt; few = omega arith }
+told-again names (Some token) told e stored =
+    let i = steps (ledger_id_of names token) (λ id. Ok (Some id)) told e in
+    let is = same-ok (Some i.value) told i.rest in
+    let fits : IsId i.value.0 = subst (λ (o : Option LedgerId). IfSome o (λ id. IsId id.0)) (sym is) stored in
+    let digits = encode_lower i.value.0 in
+    let digits-small = id-small i.value.0 fits in
+    record {
+      tokens = digits ∷ [];
+      new = Some digits;
+      words = ap validated_words (sym is);
+      same = ap (λ read. read >>= (λ id. Ok (Some id))) (ledger_id-read names token i.value fits i.gave) ∙ e;
+      fits = refl;
+      count = refl;
+      ink = (small-inked 64 digits digits-small, tt);
+      few = omega (arith, digits-small.few);
+    }
+
+-- a validation by its parts
+record IsValidationAgain (names : List Named) (sequence second kind : List ℕ) (old : Option (List ℕ)) (l : Lied) : Type 0 where
+  id : List ℕ
+  tokens : List (List ℕ)
+  new : Option (List ℕ)
+  fits : told_tokens new ≡ tokens
+  words : lied_words l ≡ codes "validation" ∷ sequence ∷ id ∷ second ∷ kind ∷ tokens
+  same : validation_of names sequence id second kind (told_if names new) ≡ Ok l
+  count : length tokens ≡ length (told_tokens old)
+  like : AreShort 16650 (sequence ∷ id ∷ second ∷ kind ∷ tokens)
+
+validation_of-again : (names : List Named) (sequence id second kind : List ℕ) (old : Option (List ℕ)) (l : Lied) → validation_of names sequence id second kind (told_if names old) ≡ Ok l → IsStoredLied l →
+    IsValidationAgain names sequence second kind old l
+validation_of-again names sequence id second kind old l e stored =
+    let s = steps (number_of sequence) (λ seq. ledger_id_of names id >>= (λ ledger. number_of second >>= (λ signed. full_of kind >>= (λ full. told_if names old >>= (λ told. Ok (lied.Validation (record { id = ledger; seq = seq; signed = signed; full = full; validated = told }))))))) l e in
+    let i = steps (ledger_id_of names id) (λ ledger. number_of second >>= (λ signed. full_of kind >>= (λ full. told_if names old >>= (λ told. Ok (lied.Validation (record { id = ledger; seq = s.value; signed = signed; full = full; validated = told })))))) l s.rest in
+    let g = steps (number_of second) (λ signed. full_of kind >>= (λ full. told_if names old >>= (λ told. Ok (lied.Validation (record { id = i.value; seq = s.value; signed = signed; full = full; validated = told }))))) l i.rest in
+    let f = steps (full_of kind) (λ full. told_if names old >>= (λ told. Ok (lied.Validation (record { id = i.value; seq = s.value; signed = g.value; full = full; validated = told })))) l g.rest in
+    let t = steps (told_if names old) (λ told. Ok (lied.Validation (record { id = i.value; seq = s.value; signed = g.value; full = f.value; validated = told }))) l f.rest in
+    let said : Lied = lied.Validation (record { id = i.value; seq = s.value; signed = g.value; full = f.value; validated = t.value }) in
+    let is = same-ok said l t.rest in
+    let stands : IsId i.value.0 × IfSome t.value (λ id. IsId id.0) = subst IsStoredLied (sym is) stored in
+    let told = told-again names old t.value t.gave stands.1 in
+    let seq = number-same sequence s.value s.gave in
+    let signed = number-same second g.value g.gave in
+    let full = kind-same kind f.value f.gave in
+    let told-words = told.words in
+    let seq-small = number-small sequence s.value s.gave in
+    let digits-small = id-small i.value.0 stands.0 in
+    let signed-small = number-small second g.value g.gave in
+    let full-small : IsSmall 7 kind = subst (IsSmall 7) full (kind-small f.value) in
+    record {
+      id = encode_lower i.value.0;
+      tokens = told.tokens;
+      new = told.new;
+      fits = told.fits;
+      words = ap lied_words (sym is) ∙ cc (seq, signed, full, told-words);
+      same =
+          ap (λ read. number_of sequence >>= (λ seq. read >>= (λ ledger. number_of second >>= (λ signed. full_of kind >>= (λ full. told_if names told.new >>= (λ told. Ok (lied.Validation (record { id = ledger; seq = seq; signed = signed; full = full; validated = told }))))))))
+          (ledger_id-read names id i.value stands.0 i.gave)
+          ∙ ap (λ read. number_of sequence >>= (λ seq. ledger_id_of names id >>= (λ ledger. number_of second >>= (λ signed. full_of kind >>= (λ full. read >>= (λ told. Ok (lied.Validation (record { id = ledger; seq = seq; signed = signed; full = full; validated = told }))))))))
+          (told.same ∙ sym t.gave)
+          ∙ e;
+      count = told.count;
+      like = (
+        (small-inked 10 sequence seq-small, (small-inked 64 (encode_lower i.value.0) digits-small, (small-inked 10 second signed-small, (small-inked 7 kind full-small, told.ink)))),
+        omega (arith, seq-small.few, digits-small.few, signed-small.few, full-small.few, told.few),
+      );
+    }
+
+validation-said : (names : List Named) (sequence id second kind : List ℕ) (o : Option (List ℕ)) (tokens : List (List ℕ)) → told_tokens o ≡ tokens →
+    said_validation names (sequence ∷ id ∷ second ∷ kind ∷ tokens) ≡ validation_of names sequence id second kind (told_if names o)
+validation-said names sequence id second kind None tokens fits = ap (λ ts. said_validation names (sequence ∷ id ∷ second ∷ kind ∷ ts)) (sym fits)
+validation-said names sequence id second kind (Some token) tokens fits = ap (λ ts. said_validation names (sequence ∷ id ∷ second ∷ kind ∷ ts)) (sym fits)
+
+validation-parts : (names : List Named) (sequence id second kind : List ℕ) (o : Option (List ℕ)) (l : Lied) → validation_of names sequence id second kind (told_if names o) ≡ Ok l → IsStoredLied l →
+    IsAgain lied_words (said_validation names) (codes "validation") 16650 (sequence ∷ id ∷ second ∷ kind ∷ told_tokens o) l
+validation-parts names sequence id second kind o l e stored =
+    let again = validation_of-again names sequence id second kind o l e stored in
+    record {
+      arguments = sequence ∷ again.id ∷ second ∷ kind ∷ again.tokens;
+      words = again.words;
+      same = validation-said names sequence again.id second kind again.new again.tokens again.fits ∙ again.same;
+      count = ap (λ n. suc (suc (suc (suc n)))) again.count;
+      like = inr again.like;
+    }
+
 validation-again : (names : List Named) (old : List (List ℕ)) (l : Lied) → said_validation names old ≡ Ok l → IsStoredLied l → IsAgain lied_words (said_validation names) (codes "validation") 16650 old l
 validation-again names [] l e stored = absurd (cc)
 validation-again names (a ∷ []) l e stored = absurd (cc)
 validation-again names (a ∷ b ∷ []) l e stored = absurd (cc)
 validation-again names (a ∷ b ∷ c ∷ []) l e stored = absurd (cc)
-validation-again names (a ∷ b ∷ c ∷ d ∷ more ∷ rest) l e stored = absurd (cc)
-validation-again names (sequence ∷ id ∷ second ∷ kind ∷ []) l e stored =
-    let s = steps (number_of sequence) (λ seq. ledger_id_of names id >>= (λ ledger. number_of second >>= (λ signed. full_of kind >>= (λ full. Ok (lied.Validation (record { id = ledger; seq = seq; signed = signed; full = full })))))) l e in
-    let i = steps (ledger_id_of names id) (λ ledger. number_of second >>= (λ signed. full_of kind >>= (λ full. Ok (lied.Validation (record { id = ledger; seq = s.value; signed = signed; full = full }))))) l s.rest in
-    let g = steps (number_of second) (λ signed. full_of kind >>= (λ full. Ok (lied.Validation (record { id = i.value; seq = s.value; signed = signed; full = full })))) l i.rest in
-    let f = steps (full_of kind) (λ full. Ok (lied.Validation (record { id = i.value; seq = s.value; signed = g.value; full = full }))) l g.rest in
-    let said : Lied = lied.Validation (record { id = i.value; seq = s.value; signed = g.value; full = f.value }) in
-    let is = same-ok said l f.rest in
-    let fits : IsId i.value.0 = subst IsStoredLied (sym is) stored in
-    let seq = number-same sequence s.value s.gave in
-    let signed = number-same second g.value g.gave in
-    let full = kind-same kind f.value f.gave in
-    let seq-small = number-small sequence s.value s.gave in
-    let digits-small = id-small i.value.0 fits in
-    let signed-small = number-small second g.value g.gave in
-    let full-small : IsSmall 7 kind = subst (IsSmall 7) full (kind-small f.value) in
-    record {
-      arguments = sequence ∷ encode_lower i.value.0 ∷ second ∷ kind ∷ [];
-      words = ap lied_words (sym is) ∙ cc (seq, signed, full);
-      same =
-          ap (λ read. number_of sequence >>= (λ seq. read >>= (λ ledger. number_of second >>= (λ signed. full_of kind >>= (λ full. Ok (lied.Validation (record { id = ledger; seq = seq; signed = signed; full = full })))))))
-          (ledger_id-read names id i.value fits i.gave)
-          ∙ e;
-      count = refl;
-      like = inr (
-        (small-inked 10 sequence seq-small, (small-inked 64 (encode_lower i.value.0) digits-small, (small-inked 10 second signed-small, (small-inked 7 kind full-small, tt)))),
-        omega (arith, seq-small.few, digits-small.few, signed-small.few, full-small.few),
-      );
-    }
+validation-again names (a ∷ b ∷ c ∷ d ∷ f ∷ more ∷ rest) l e stored = absurd (cc)
+validation-again names (sequence ∷ id ∷ second ∷ kind ∷ []) l e stored = validation-parts names sequence id second kind None l e stored
+validation-again names (sequence ∷ id ∷ second ∷ kind ∷ token ∷ []) l e stored = validation-parts names sequence id second kind (Some token) l e stored
 
 header-again : (names : List Named) (old : List (List ℕ)) (l : Lied) → said_header names old ≡ Ok l → IsAgain lied_words (said_header names) (codes "header") 16650 old l
 header-again names [] l e = absurd (cc)

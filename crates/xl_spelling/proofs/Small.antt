@@ -42,7 +42,7 @@ solid-ink : (t : List ℕ) → AllByRecursion IsSolid t → AllByRecursion IsInk
 solid-ink [] h = tt
 solid-ink (b ∷ bs) h = ((omega (arith, h.0.0), h.0.1), solid-ink bs h.1)
 
-digits-ink : (t : List ℕ) → list_all is_ascii_digit t ≡ true → AllByRecursion IsInk t
+pub digits-ink : (t : List ℕ) → list_all is_ascii_digit t ≡ true → AllByRecursion IsInk t
 digits-ink [] h = tt
 digits-ink (b ∷ bs) h =
     let parts = and_parts (is_ascii_digit b) (list_all is_ascii_digit bs) h in

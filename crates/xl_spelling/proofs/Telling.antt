@@ -7,9 +7,7 @@ use Rattle.std.proofs.lemmas.Bool.Decides.{nat_tests}
 use Rattle.hex.specs.Hex.{encode_lower}
 use Rattle.xl_base.specs.declared.moments.TheConstants.{GREATEST_MILLIS}
 use Rattle.xl_ledger.specs.declared.registry.TheConstants.{LEAST_LIMIT}
-use Rattle.xl_lists.specs.Lists.{TrustedList, refusal_of}
-use Rattle.xl_lists.specs.declared.refusal.ListRefusal.{ListRefusal}
-use Rattle.xl_base.specs.Refusals.{unless_refused as list_unless_refused}
+use Rattle.xl_lists.specs.Lists.{is_on}
 use Rattle.xl_sched.specs.declared.limits.TheConstants.{MOST_LEDGERS, MOST_NAMES}
 use Rattle.xl_sched.specs.declared.line.Line.{Line}
 use Rattle.xl_sched.specs.declared.line.Line.TheVariants as line
@@ -22,15 +20,16 @@ use Rattle.xl_sched.specs.Refusals.{◌>>=◌}
 use Rattle.xl_sched.specs.Numbers.{number_within, number_of}
 use Rattle.xl_sched.specs.Names.{is_letter, is_name, id_named, id_of, new_name_of}
 use Rattle.xl_sched.specs.Ledgers.{parent_of, header_after}
-use Rattle.xl_sched.specs.Members.{new_member_of, members_of, unless_refused, trusted_of}
-use Rattle.xl_sched.specs.Settings.{limit_line, mode_of, node_of, node_line, liar_line, at_line}
+use Rattle.xl_sched.specs.Members.{member_of, new_member_of, members_of, trusted_of}
+use Rattle.xl_sched.specs.Settings.{limit_line, speak_line, mode_of, node_of, node_line, liar_line, at_line}
 use Rattle.xl_sched.specs.Naming.{has_most_names, named_line, name_line, named_ledger_line, ledger_line}
 use Rattle.xl_sched.specs.Words.{set_line}
 use Rattle.xl_sched.specs.Reading.{Reading}
-use Rattle.xl_spelling.specs.Spellings.{mode_words, line_words}
+use Rattle.xl_spelling.specs.Spellings.{mode_words, line_words, with_commas}
 use Rattle.xl_spelling.specs.Stored.{IsId, IsStored}
 use Rattle.xl_spelling.proofs.Parts.{Gives, steps, same-ok, unstopped, number_within-same, number-same, new_member-same, mode-same, members-same, id-read}
-use Rattle.xl_spelling.proofs.Small.{IsInk, IsSmall, small-inked, id-small}
+use Rattle.xl_spelling.proofs.Members.{texts, list-again, trusted-made, trusted-again}
+use Rattle.xl_spelling.proofs.Small.{IsInk, IsSmall, inked, small-inked, number_within-small, number-small, id-small}
 use Rattle.xl_spelling.proofs.Asks.{IsAgain}
 use Rattle.xl_spelling.proofs.WordLemmas.{setting_text}
 
@@ -48,14 +47,33 @@ limit_line-again reading (number ∷ []) l e =
     let limit = number_within-same LEAST_LIMIT MOST_LEDGERS number n.value (omega arith) n.gave in
     record { arguments = number ∷ []; words = ap line_words (sym is) ∙ cc (limit.1); same = e; count = refl; like = inl refl }
 
--- a list has the members and the quorum that it was made of
-list-made : (refused : Option ListRefusal) (made list : TrustedList) → Gives (unless_refused (list_unless_refused refused made)) list → made ≡ list
-list-made None made list e = same-ok made list e
-list-made (Some why) made list e = absurd (cc)
+speak_line-again : (reading : Reading) (old : List (List ℕ)) (l : Line) → speak_line reading old ≡ Ok l → IsLineAgain (speak_line reading) (codes "speak") old l
+speak_line-again reading [] l e = absurd (cc)
+speak_line-again reading (number ∷ more ∷ rest) l e = absurd (cc)
+speak_line-again reading (number ∷ []) l e =
+    let n = steps (number_within 1 2 number) (λ version. cond reading.spoken (Err (refusal.Twice number)) (Ok (line.Speak version))) l e in
+    let u = unstopped reading.spoken (Ok (line.Speak n.value)) l (refusal.Twice number) n.rest in
+    let is = same-ok (line.Speak n.value) l u.1 in
+    let version = number_within-same 1 2 number n.value (omega arith) n.gave in
+    record { arguments = number ∷ []; words = ap line_words (sym is) ∙ cc (version.1); same = e; count = refl; like = inl refl }
+
+-- a node's line, with its members by rising number
+record IsNodeAgain (reading : Reading) (number quorum : List ℕ) (mode : Result Bool SchedRefusal) (words : List (List ℕ)) (l : Line) : Type 0 where
+  text : List ℕ
+  spelled : line_words l ≡ codes "node" ∷ number ∷ quorum ∷ text ∷ words
+  same : node_of reading number quorum text mode ≡ Ok l
+  first : IsSmall 10 number
+  second : IsSmall 10 quorum
+  third : IsSmall 192 text
+
+new_member-small : (nodes liars t : List ℕ) (n : ℕ) → new_member_of nodes liars t ≡ Ok n → IsSmall 10 t
+new_member-small nodes liars t n e =
+    let s = steps (member_of t) (λ m. cond (is_on nodes m || is_on liars m) (Err (refusal.Twice t)) (Ok m)) n e in
+    number_within-small 1 64 t s.value (omega arith) s.gave
 
 node_of-again : (reading : Reading) (number quorum members : List ℕ) (mode : Result Bool SchedRefusal) (words : List (List ℕ)) (l : Line) →
     ((validating : Bool) → mode ≡ Ok validating → mode_words validating ≡ words) → node_of reading number quorum members mode ≡ Ok l →
-    line_words l ≡ codes "node" ∷ number ∷ quorum ∷ members ∷ words
+    IsNodeAgain reading number quorum mode words l
 node_of-again reading number quorum members mode words l spelled e =
     let me = steps (new_member_of reading.nodes reading.liars number) (λ me. number_of quorum >>= (λ least. members_of members >>= (λ numbers. mode >>= (λ validating. trusted_of numbers least >>= (λ list. Ok (line.Node me list validating)))))) l e in
     let least = steps (number_of quorum) (λ least. members_of members >>= (λ numbers. mode >>= (λ validating. trusted_of numbers least >>= (λ list. Ok (line.Node me.value list validating))))) l me.rest in
@@ -63,36 +81,68 @@ node_of-again reading number quorum members mode words l spelled e =
     let validating = steps mode (λ validating. trusted_of numbers.value least.value >>= (λ list. Ok (line.Node me.value list validating))) l numbers.rest in
     let list = steps (trusted_of numbers.value least.value) (λ list. Ok (line.Node me.value list validating.value)) l validating.rest in
     let is = same-ok (line.Node me.value list.value validating.value) l list.rest in
-    let made : TrustedList = record { members = numbers.value; quorum = least.value } in
-    let listed = list-made (refusal_of numbers.value least.value) made list.value list.gave in
+    let trusted = trusted-made numbers.value least.value list.value list.gave in
+    let listed = list-again list.value trusted.valid in
+    let text = with_commas (texts list.value.members) in
     let first = new_member-same reading.nodes reading.liars number me.value me.gave in
-    let second = number-same quorum least.value least.gave in
-    let third = members-same members numbers.value numbers.gave in
+    let second : decimal list.value.quorum ≡ quorum = ap (λ n. decimal n) trusted.its_quorum ∙ number-same quorum least.value least.gave in
     let fourth = spelled validating.value validating.gave in
-    ap line_words (sym is)
-    ∙ ap (λ (list : TrustedList). line_words (line.Node me.value list validating.value)) (sym listed)
-    ∙ cc (first, second, third, fourth)
+    record {
+      text = text;
+      spelled = ap line_words (sym is) ∙ cc (first, second, fourth);
+      same =
+          ap (λ read. read >>= (λ me. number_of quorum >>= (λ least. members_of text >>= (λ numbers. mode >>= (λ validating. trusted_of numbers least >>= (λ list. Ok (line.Node me list validating))))))) me.gave
+          ∙ ap (λ read. read >>= (λ least. members_of text >>= (λ numbers. mode >>= (λ validating. trusted_of numbers least >>= (λ list. Ok (line.Node me.value list validating)))))) least.gave
+          ∙ ap (λ read. read >>= (λ numbers. mode >>= (λ validating. trusted_of numbers least.value >>= (λ list. Ok (line.Node me.value list validating))))) listed.same
+          ∙ ap (λ read. read >>= (λ validating. trusted_of list.value.members least.value >>= (λ list. Ok (line.Node me.value list validating)))) validating.gave
+          ∙ ap (λ read. read >>= (λ list. Ok (line.Node me.value list validating.value))) (trusted-again list.value least.value trusted)
+          ∙ ap (λ l. Ok l) is;
+      first = new_member-small reading.nodes reading.liars number me.value me.gave;
+      second = number-small quorum least.value least.gave;
+      third = listed.small;
+    }
+
+-- the mode of a node's line that has one
+node_mode : (reading : Reading) (number quorum members mode : List ℕ) (l : Line) → node_of reading number quorum members (mode_of (Some mode)) ≡ Ok l → codes "observing" ≡ mode
+node_mode reading number quorum members mode l e =
+    let me = steps (new_member_of reading.nodes reading.liars number) (λ me. number_of quorum >>= (λ least. members_of members >>= (λ numbers. mode_of (Some mode) >>= (λ validating. trusted_of numbers least >>= (λ list. Ok (line.Node me list validating)))))) l e in
+    let least = steps (number_of quorum) (λ least. members_of members >>= (λ numbers. mode_of (Some mode) >>= (λ validating. trusted_of numbers least >>= (λ list. Ok (line.Node me.value list validating))))) l me.rest in
+    let numbers = steps (members_of members) (λ numbers. mode_of (Some mode) >>= (λ validating. trusted_of numbers least.value >>= (λ list. Ok (line.Node me.value list validating)))) l least.rest in
+    let validating = steps (mode_of (Some mode)) (λ validating. trusted_of numbers.value least.value >>= (λ list. Ok (line.Node me.value list validating))) l numbers.rest in
+    (mode-same mode validating.value validating.gave).1
 
 node_line-again : (reading : Reading) (old : List (List ℕ)) (l : Line) → node_line reading old ≡ Ok l → IsLineAgain (node_line reading) (codes "node") old l
 node_line-again reading [] l e = absurd (cc)
 node_line-again reading (number ∷ []) l e = absurd (cc)
 node_line-again reading (number ∷ quorum ∷ []) l e = absurd (cc)
 node_line-again reading (number ∷ quorum ∷ members ∷ mode ∷ more ∷ rest) l e = absurd (cc)
-node_line-again reading (number ∷ quorum ∷ members ∷ []) l e = record {
-  arguments = number ∷ quorum ∷ members ∷ [];
-  words = node_of-again reading number quorum members (mode_of None) [] l (λ validating m. ap mode_words (sym (same-ok true validating m))) e;
-  same = e;
-  count = refl;
-  like = inl refl;
-}
-node_line-again reading (number ∷ quorum ∷ members ∷ mode ∷ []) l e = record {
-  arguments = number ∷ quorum ∷ members ∷ mode ∷ [];
-  words = node_of-again reading number quorum members (mode_of (Some mode)) (mode ∷ []) l
-      (λ validating m. let same = mode-same mode validating m in ap mode_words same.0 ∙ ap (λ t. t ∷ []) same.1) e;
-  same = e;
-  count = refl;
-  like = inl refl;
-}
+node_line-again reading (number ∷ quorum ∷ members ∷ []) l e =
+    let again = node_of-again reading number quorum members (mode_of None) [] l (λ validating m. ap mode_words (sym (same-ok true validating m))) e in
+    record {
+      arguments = number ∷ quorum ∷ again.text ∷ [];
+      words = again.spelled;
+      same = again.same;
+      count = refl;
+      like = inr (
+        (small-inked 10 number again.first, (small-inked 10 quorum again.second, (small-inked 192 again.text again.third, tt))),
+        omega (arith, again.first.few, again.second.few, again.third.few),
+      );
+    }
+node_line-again reading (number ∷ quorum ∷ members ∷ mode ∷ []) l e =
+    let again = node_of-again reading number quorum members (mode_of (Some mode)) (mode ∷ []) l
+    (λ validating m. let same = mode-same mode validating m in ap mode_words same.0 ∙ ap (λ t. t ∷ []) same.1) e in
+    let mode-read = node_mode reading number quorum members mode l e in
+    let mode-small : IsSmall 9 mode = subst (IsSmall 9) mode-read (record { some = omega arith; few = omega arith; ink = inked (codes "observing") refl }) in
+    record {
+      arguments = number ∷ quorum ∷ again.text ∷ mode ∷ [];
+      words = again.spelled;
+      same = again.same;
+      count = refl;
+      like = inr (
+        (small-inked 10 number again.first, (small-inked 10 quorum again.second, (small-inked 192 again.text again.third, (small-inked 9 mode mode-small, tt)))),
+        omega (arith, again.first.few, again.second.few, again.third.few, mode-small.few),
+      );
+    }
 
 liar_line-again : (reading : Reading) (old : List (List ℕ)) (l : Line) → liar_line reading old ≡ Ok l → IsLineAgain (liar_line reading) (codes "liar") old l
 liar_line-again reading [] l e = absurd (cc)
@@ -214,6 +264,7 @@ ledger_line-again reading old l e =
 -- a line of whichever word
 pub setting-again : (reading : Reading) (word : SettingWord) (old : List (List ℕ)) (l : Line) → set_line reading word old ≡ Ok l → IsStored l → IsLineAgain (set_line reading word) (setting_text word) old l
 setting-again reading setting.Limit old l e stored = limit_line-again reading old l e
+setting-again reading setting.Speak old l e stored = speak_line-again reading old l e
 setting-again reading setting.Node old l e stored = node_line-again reading old l e
 setting-again reading setting.Liar old l e stored = liar_line-again reading old l e
 setting-again reading setting.At old l e stored = at_line-again old l e

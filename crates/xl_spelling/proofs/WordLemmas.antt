@@ -63,21 +63,24 @@ event_text event.Fail = codes "fail"
 event_text event.Lie = codes "lie"
 event_text event.Raw = codes "raw"
 event_text event.Prefer = codes "prefer"
+event_text event.List = codes "list"
+event_text event.Heard = codes "heard"
 
 abbrev event_table : List (List ℕ × EventWord)
 event_table =
     (codes "issue", event.Issue) ∷ (codes "submit", event.Submit) ∷ (codes "timer", event.Timer) ∷ (codes "timers", event.Timers)
     ∷ (codes "deliver", event.Deliver) ∷ (codes "all", event.All) ∷ (codes "drop", event.Drop) ∷ (codes "greet", event.Greet)
     ∷ (codes "restart", event.Restart) ∷ (codes "cut", event.Cut) ∷ (codes "fail", event.Fail) ∷ (codes "lie", event.Lie)
-    ∷ (codes "raw", event.Raw) ∷ (codes "prefer", event.Prefer) ∷ []
+    ∷ (codes "raw", event.Raw) ∷ (codes "prefer", event.Prefer) ∷ (codes "list", event.List) ∷ (codes "heard", event.Heard) ∷ []
 
 pub event_text-same : (token : List ℕ) (w : EventWord) → event_word token ≡ Some w → event_text w ≡ token
 event_text-same token w e =
-    text-found event_text event_table (refl, (refl, (refl, (refl, (refl, (refl, (refl, (refl, (refl, (refl, (refl, (refl, (refl, (refl, tt)))))))))))))) token w e
+    text-found event_text event_table (refl, (refl, (refl, (refl, (refl, (refl, (refl, (refl, (refl, (refl, (refl, (refl, (refl, (refl, (refl, (refl, tt)))))))))))))))) token w e
 
 -- and that of a line at which nothing happens
 abbrev pub setting_text : SettingWord → List ℕ
 setting_text setting.Limit = codes "limit"
+setting_text setting.Speak = codes "speak"
 setting_text setting.Node = codes "node"
 setting_text setting.Liar = codes "liar"
 setting_text setting.At = codes "at"
@@ -86,8 +89,8 @@ setting_text setting.Ledger = codes "ledger"
 
 abbrev setting_table : List (List ℕ × SettingWord)
 setting_table =
-    (codes "limit", setting.Limit) ∷ (codes "node", setting.Node) ∷ (codes "liar", setting.Liar) ∷ (codes "at", setting.At)
+    (codes "limit", setting.Limit) ∷ (codes "speak", setting.Speak) ∷ (codes "node", setting.Node) ∷ (codes "liar", setting.Liar) ∷ (codes "at", setting.At)
     ∷ (codes "name", setting.Name) ∷ (codes "ledger", setting.Ledger) ∷ []
 
 pub setting_text-same : (token : List ℕ) (w : SettingWord) → setting_word token ≡ Some w → setting_text w ≡ token
-setting_text-same token w e = text-found setting_text setting_table (refl, (refl, (refl, (refl, (refl, (refl, tt)))))) token w e
+setting_text-same token w e = text-found setting_text setting_table (refl, (refl, (refl, (refl, (refl, (refl, (refl, tt))))))) token w e

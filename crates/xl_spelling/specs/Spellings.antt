@@ -1,7 +1,8 @@
 -- How a line is spelled. Source: this project's schedule language.
-use Rattle.std.specs.Prelude.{◌≡◌, ◌⊎◌, ◌≤◌, ℕ, Bool, List, [], ◌∷◌, map, decimal, codes, All, Contains, if◌then◌else◌}
+use Rattle.std.specs.Prelude.{◌≡◌, ◌⊎◌, ◌≤◌, ℕ, Bool, List, [], ◌∷◌, map, decimal, codes, Option, Some, None, All, Contains, if◌then◌else◌}
 use Rattle.std.specs.List.{join_with_byte}
 use Rattle.hex.specs.Hex.{encode_lower}
+use Rattle.xl_base.specs.declared.ids.LedgerId.{LedgerId}
 use Rattle.xl_base.specs.declared.ids.TxId.{TxId}
 use Rattle.xl_sched.specs.declared.event.Ask.{Ask}
 use Rattle.xl_sched.specs.declared.event.Ask.TheVariants as ask
@@ -35,6 +36,11 @@ abbrev pub set_word : List TxId → List ℕ
 set_word [] = codes "-"
 set_word (id ∷ ids) = with_commas (map (λ id. encode_lower id.0) (id ∷ ids))
 
+-- the id of the ledger that was last reported, where one is told
+abbrev pub validated_words : Option LedgerId → List (List ℕ)
+validated_words None = []
+validated_words (Some id) = encode_lower id.0 ∷ []
+
 -- what a node is asked
 abbrev pub ask_words : Ask → List (List ℕ)
 ask_words (ask.Issue node seq id full) =
@@ -48,7 +54,7 @@ lied_words (lied.Proposal proposal) =
     ∷ decimal proposal.close ∷ decimal proposal.time ∷ []
 lied_words (lied.Validation validation) =
     codes "validation" ∷ decimal validation.seq ∷ encode_lower validation.id.0 ∷ decimal validation.signed
-    ∷ kind_word validation.full ∷ []
+    ∷ kind_word validation.full ∷ validated_words validation.validated
 lied_words (lied.Header name header) = codes "header" ∷ name ∷ []
 lied_words (lied.TxSet ids) = codes "set" ∷ set_word ids ∷ []
 lied_words (lied.Tx id) = codes "tx" ∷ encode_lower id.0 ∷ []
@@ -68,10 +74,14 @@ what_words (what.Fail new ask) = codes "fail" ∷ held_word new ∷ ask_words as
 what_words (what.Lie from to lie) = codes "lie" ∷ decimal from ∷ decimal to ∷ lied_words lie
 what_words (what.Raw to bytes) = codes "raw" ∷ decimal to ∷ encode_lower bytes ∷ []
 what_words (what.Prefer node) = codes "prefer" ∷ decimal node ∷ []
+what_words (what.Heard node) = codes "heard" ∷ decimal node ∷ []
+what_words (what.List node list) =
+    codes "list" ∷ decimal node ∷ decimal list.quorum ∷ with_commas (map (λ m. decimal m) list.members) ∷ []
 
 -- the tokens of a line: numbers in decimal digits, ids and bytes in lower-case hexadecimal ones, names as they stood
 abbrev pub line_words : Line → List (List ℕ)
 line_words (line.Limit limit) = codes "limit" ∷ decimal limit ∷ []
+line_words (line.Speak version) = codes "speak" ∷ decimal version ∷ []
 line_words (line.Node me list validating) =
     codes "node" ∷ decimal me ∷ decimal list.quorum ∷ with_commas (map (λ m. decimal m) list.members)
     ∷ mode_words validating

@@ -1,5 +1,5 @@
 -- What the types of a line keep.
-use Rattle.std.specs.Prelude.{◌≡◌, ◌<◌, ◌^◌, ℕ, List, length, All}
+use Rattle.std.specs.Prelude.{◌≡◌, ◌<◌, ◌^◌, ℕ, List, length, All, IfSome}
 use Rattle.hex.specs.Hex.{IsBytes}
 use Rattle.xl_sched.specs.declared.event.Ask.{Ask}
 use Rattle.xl_sched.specs.declared.event.Ask.TheVariants as ask
@@ -20,7 +20,7 @@ IsStoredAsk (ask.Timer node) = Unit {0}
 
 abbrev pub IsStoredLied : Lied → Type 0
 IsStoredLied (lied.Proposal proposal) = IsId proposal.prev.0 × IsId proposal.set.0
-IsStoredLied (lied.Validation validation) = IsId validation.id.0
+IsStoredLied (lied.Validation validation) = IsId validation.id.0 × IfSome validation.validated (λ id. IsId id.0)
 IsStoredLied (lied.Header name header) = Unit {0}
 IsStoredLied (lied.TxSet ids) = All (λ id. IsId id.0) ids
 IsStoredLied (lied.Tx id) = IsId id.0
@@ -40,9 +40,12 @@ IsStoredWhat (what.Fail new ask) = IsStoredAsk ask
 IsStoredWhat (what.Lie from to lie) = IsStoredLied lie
 IsStoredWhat (what.Raw to bytes) = IsBytes bytes
 IsStoredWhat (what.Prefer node) = Unit {0}
+IsStoredWhat (what.Heard node) = Unit {0}
+IsStoredWhat (what.List node list) = Unit {0}
 
 abbrev pub IsStored : Line → Type 0
 IsStored (line.Limit limit) = Unit {0}
+IsStored (line.Speak version) = Unit {0}
 IsStored (line.Node me list validating) = Unit {0}
 IsStored (line.Liar me) = Unit {0}
 IsStored (line.Name name id) = IsId id

@@ -4,7 +4,7 @@ ghost use Rattle.std.specs.List.{join_with_byte};
 ghost use Rattle.xl_spelling.specs.Spellings.{held_word, ask_words, lied_words, what_words};
 ghost use Rattle.xl_spelling.specs.Stored.{IsStoredAsk, IsStoredLied, IsStoredWhat};
 
-use crate::entries::push_set;
+use crate::entries::{push_members, push_set};
 use crate::tokens::{held_word, kind_word, push, push_digits, push_id, push_number};
 use xl_base::{NodeNo, OutOfMemory};
 use xl_sched::{Ask, Lied, What};
@@ -35,6 +35,11 @@ pub fn push_what(room: &mut Vec<u8>, what: &What) -> Result<(), OutOfMemory>
         What::Restart { node } => push_of(room, b"restart", *node),
         What::Cut { new, ask } => push_save(room, b"cut", *new, ask),
         What::Fail { new, ask } => push_save(room, b"fail", *new, ask),
+        What::List { node, list } => {
+            push_of(room, b"list", *node)?;
+            push_number(room, b' ', u64::from(list.quorum()))?;
+            push_members(room, list.members())
+        }
         What::Lie { from, to, what } => {
             push_of(room, b"lie", *from)?;
             push_number(room, b' ', u64::from(to.get()))?;
@@ -46,6 +51,7 @@ pub fn push_what(room: &mut Vec<u8>, what: &What) -> Result<(), OutOfMemory>
             push_digits(room, b' ', bytes.as_slice())
         }
         What::Prefer { node } => push_of(room, b"prefer", *node),
+        What::Heard { node } => push_of(room, b"heard", *node),
     }
 }
 
@@ -143,5 +149,9 @@ fn push_validation(room: &mut Vec<u8>, validation: &Validation) -> Result<(), Ou
     push_number(room, b' ', u64::from(validation.seq))?;
     push_id(room, b' ', &validation.id.0)?;
     push_number(room, b' ', u64::from(validation.signed))?;
-    push(room, b' ', kind_word(validation.full))
+    push(room, b' ', kind_word(validation.full))?;
+    match &validation.validated {
+        Some(id) => push_id(room, b' ', &id.0),
+        None => Ok(()),
+    }
 }

@@ -35,6 +35,10 @@ fn push_line(room: &mut Vec<u8>, line: &Line) -> Result<(), OutOfMemory>
             push_word(room, b"limit")?;
             push_number(room, b' ', u64::from(*limit))
         }
+        Line::Speak(version) => {
+            push_word(room, b"speak")?;
+            push_number(room, b' ', u64::from(*version))
+        }
         Line::Node {
             me,
             list,

@@ -21,7 +21,7 @@ use Rattle.xl_core.specs.Node.{Node, Save, Timed, completed, timed, at_moment}
 use Rattle.xl_core.specs.Node.Timed.{Quiet, Ending}
 use Rattle.xl_core.specs.declared.event.CoreEvent.{CoreEvent}
 use Rattle.xl_core.specs.declared.event.CoreEvent.TheVariants.{Frame}
-use Rattle.xl_core.proofs.Timing.{submit_either}
+use Rattle.xl_core.proofs.Timing.{submit_either, relist_either}
 use Rattle.xl_sched.specs.declared.event.Ask.{Ask}
 use Rattle.xl_sched.specs.declared.event.Ask.TheVariants as ask
 use Rattle.xl_world.specs.declared.act.Deed.{Deed}
@@ -30,6 +30,7 @@ use Rattle.xl_world.specs.declared.act.NodeAnswer.{NodeAnswer}
 use Rattle.xl_world.specs.declared.place.Fate.{Fate}
 use Rattle.xl_world.specs.declared.place.Fate.TheVariants.{Saved}
 use Rattle.xl_world.specs.declared.place.Place.{Place}
+use Rattle.xl_world.specs.declared.plan.InForce.{InForce}
 use Rattle.xl_world.specs.Sending.{Sent}
 use Rattle.xl_world.specs.Emptying.{event_steps}
 use Rattle.xl_world.specs.Forgeries.{forges, was_sent}
@@ -37,10 +38,10 @@ use Rattle.xl_world.specs.Keeper.{answer_of}
 use Rattle.xl_world.specs.Rested.{IsAtRest, IsRested}
 use Rattle.xl_world.specs.Schedule.{delivery, event_asked}
 use Rattle.xl_world.specs.Seen.{Answers, AnswersAt, acted_at, deed_event, forged_at, given_at, noted, place_after, place_drained, put_acted, put_drained, with_forged, with_places}
-use Rattle.xl_world.specs.World.{World, is_forged, keeper_after, place_at, put, reply_at, run, said_by, sent_in}
+use Rattle.xl_world.specs.World.{World, is_forged, keeper_after, place_at, put, reply_at, run, said_by, sent_in, set_by}
 use Rattle.xl_world.proofs.CoreSteps.{frame_plain, issue_plain}
 use Rattle.xl_world.proofs.Emptying.{emptied_acts, emptied_node, emptied_then, event_ran, given_then}
-use Rattle.xl_world.proofs.Lists.{core_keeps}
+use Rattle.xl_world.proofs.Keeping.{core_keeps}
 use Rattle.xl_world.proofs.Putting.{put_at, put_put}
 use Rattle.xl_world.proofs.Resting.{rested_after}
 use Rattle.xl_world.proofs.Seats.{some_same}
@@ -60,16 +61,20 @@ deed_unsent core now deed.Timer save from = completed_unsent (timed (at_moment n
 deed_unsent core now (deed.Submit tx) save from =
     submit_either (λ r. sent_in from r.answer ≡ []) (at_moment now core.node) tx (λ _. refl) refl
 deed_unsent core now (deed.Greet peer) save from = refl
+deed_unsent core now (deed.Relist list) save from =
+    relist_either (λ r. sent_in from r.answer ≡ []) (at_moment now core.node) list.now (λ _. refl) (λ _. refl)
 
 -- THE LISTS
 
-abbrev pub with_all : World → List Place → List Sent → List SaidLedger → List Reported → World
-with_all w places sent said reports =
-    record { liars = w.liars; numbers = w.numbers; places = places; sent = sent; mark = w.mark; said = said; reports = reports; forged = w.forged }
+abbrev pub with_all : World → List Place → List Sent → List SaidLedger → List Reported → List InForce → World
+with_all w places sent said reports lists =
+    record { liars = w.liars; numbers = w.numbers; places = places; sent = sent; mark = w.mark; said = said; reports = reports; lists = lists; forged = w.forged }
 
-same_all : (w : World) {p p' : List Place} {f f' : List Sent} {s s' : List SaidLedger} {r r' : List Reported} → p ≡ p' → f ≡ f' → s ≡ s' → r ≡ r' → with_all w p f s r ≡ with_all w p' f' s' r'
-same_all w {p} {p'} {f} {f'} {s} {s'} {r} {r'} a b c d =
-    ap (λ (x : List Place). with_all w x f s r) a ∙ (ap (λ (x : List Sent). with_all w p' x s r) b ∙ (ap (λ (x : List SaidLedger). with_all w p' f' x r) c ∙ ap (λ (x : List Reported). with_all w p' f' s' x) d))
+same_all : (w : World) {p p' : List Place} {f f' : List Sent} {s s' : List SaidLedger} {r r' : List Reported} {l l' : List InForce} → p ≡ p' → f ≡ f' → s ≡ s' → r ≡ r' → l ≡ l' → with_all w p f s r l ≡ with_all w p' f' s' r' l'
+same_all w {p} {p'} {f} {f'} {s} {s'} {r} {r'} {l} {l'} a b c d e =
+    ap (λ (x : List Place). with_all w x f s r l) a
+    ∙ (ap (λ (x : List Sent). with_all w p' x s r l) b
+    ∙ (ap (λ (x : List SaidLedger). with_all w p' f' x r l) c ∙ (ap (λ (x : List Reported). with_all w p' f' s' x l) d ∙ ap (λ (x : List InForce). with_all w p' f' s' r' x) e)))
 
 -- the node of a number answers, and that is noted
 pub noted_ran : (w : World) (i : ℕ) (e : CoreEvent) (fate : Fate) (a : NodeAnswer) → AnswersAt i e fate w.places (Some a) → ((p : Place) (from : ℕ) → sent_in from (reply_at p e fate).answer ≡ []) →
@@ -92,6 +97,7 @@ noted_ran w i e fate a answers unsent = by_place (place_at i w.places) refl answ
         ∙ ap (λ (fs : List Sent). fs ++ given_then w.numbers r.core) (sym (append-nil w.sent) ∙ ap (λ (fs : List Sent). w.sent ++ fs) (sym (unsent p r.core.node.me))))
         (ap (with_said w.said) (is.0.said ∙ ap (λ (m : ℕ). option_map (said_by m) r.issued) same_me))
         (ap (λ (o : Option Reported). w.reports ++ option_to_list o) is.0.report)
+        (ap (λ (o : Option InForce). w.lists ++ option_to_list o) is.2)
 
 -- where there is no node of the number nothing changes
 pub nothing_ran : (w : World) (i : ℕ) (e : CoreEvent) (fate : Fate) → AnswersAt i e fate w.places None → with_places w (acted_at i e fate w.places) ≡ with_forged w.forged (run w (event_steps w i e fate))
@@ -121,7 +127,9 @@ fair_ran w i e fate fair = ap (with_forged w.forged) (event_ran w i e fate) ∙ 
   where
     by_place : (o : Option Place) → with_forged w.forged (emptied_acts w i e fate o) ≡ emptied_acts w i e fate o
     by_place None = refl
-    by_place (Some p) = ap (λ (b : Bool). emptied_then w i b (reply_at p e fate) (keeper_after p e fate)) (sym (fair p.core.node))
+    by_place (Some p) =
+        let r : CoreReply = reply_at p e fate in
+        ap (λ (b : Bool). emptied_then w i b (set_by p.core.node.me e r.answer) r (keeper_after p e fate)) (sym (fair p.core.node))
 
 -- bytes that come are counted where they are forged
 pub counted_ran : (w : World) (to at : ℕ) (bytes : List ℕ) (count : ℕ) → count ≡ (if forged_at w.liars w.sent bytes (place_at to w.places) then one_more w.forged else w.forged) →

@@ -21,9 +21,9 @@ use Rattle.xl_rounds.specs.Rounds.{is_proposing}
 use Rattle.xl_rounds.specs.declared.placed.Placed.{Placed}
 use Rattle.xl_rounds.specs.declared.refusal.RoundRefusal.{RoundRefusal}
 use Rattle.xl_core.specs.Building.{said_items}
-use Rattle.xl_core.proofs.Timing.{timing_by, submit_either}
+use Rattle.xl_core.proofs.Timing.{timing_by, submit_either, relist_either}
 use Rattle.xl_core.specs.declared.event.CoreEvent.{CoreEvent}
-use Rattle.xl_core.specs.declared.event.CoreEvent.TheVariants.{Issue, Frame, Timer, Submit, Greet, Drain, Reports, Stop, Stopped}
+use Rattle.xl_core.specs.declared.event.CoreEvent.TheVariants.{Issue, Frame, Timer, Submit, Greet, Drain, Reports, Stop, Stopped, Relist}
 use Rattle.xl_core.specs.declared.hearing.Speech.{Speech}
 use Rattle.xl_core.specs.declared.hearing.Speech.TheVariants as speech
 use Rattle.xl_core.specs.declared.item.Item.{Item}
@@ -49,7 +49,7 @@ use Rattle.xl_world.specs.Keeper.{held_by, answer_of, restored}
 use Rattle.xl_world.proofs.Standing.{FrameSays, said_in}
 use Rattle.xl_world.specs.World.{said_by}
 use Rattle.xl_world.specs.declared.place.Place.{Place}
-use Rattle.xl_world.specs.World.{sent_in, reply_at, keeper_after, core_again}
+use Rattle.xl_world.specs.World.{IsFitEvent, sent_in, reply_at, keeper_after, core_again}
 use Rattle.xl_world.proofs.Standing.{ItemSays, CoreSays}
 use Rattle.xl_world.proofs.Keeping.{happens_keeps}
 use Rattle.xl_world.proofs.NodeSteps.{HeardSays, happens_says, happens_steps, opened_says, opened_steps, still}
@@ -61,33 +61,35 @@ use Rattle.xl_world.proofs.Settling.{ReplySays, node_reply, seat}
 
 -- what an event at the node shows is shown at its core
 lifted : (core : Core) (k k' : Keeper) (r : Reply) → IsStep (seat core k) r k' → IsStep (seat core k) (node_reply (stepped core r)) k'
-lifted core k k' r s = record { me = s.me; list = s.list; well = s.well; rises = s.rises; above = s.above; saved = s.saved; quorum = s.quorum }
+lifted core k k' r s = record { me = s.me; well = s.well; rises = s.rises; above = s.above; saved = s.saved; quorum = s.quorum }
 
 -- the node is as it was
 beside : (p : Place) (r : CoreReply) → r.core.node ≡ p.core.node → r.issued ≡ None → r.report ≡ None → IsWell (seat p.core p.keeper) → IsStep (seat p.core p.keeper) (node_reply r) p.keeper
 beside p r node issued report well = still (seat p.core p.keeper) (node_reply r) node issued report well
 
-pub core_steps : (p : Place) (e : CoreEvent) (fate : Fate) → IsWell (seat p.core p.keeper) → IsStep (seat p.core p.keeper) (node_reply (reply_at p e fate)) (keeper_after p e fate)
-core_steps p (Issue now seq id full) fate well =
-    lifted p.core p.keeper (keeper_after p (Issue now seq id full) fate) (happens p.core.node (nodes.Issue now seq id full) (answer_of p.keeper fate)) (happens_steps (seat p.core p.keeper) (nodes.Issue now seq id full) fate well)
-core_steps p (Frame now bytes) fate well =
-    lifted p.core p.keeper (keeper_after p (Frame now bytes) fate) (happens p.core.node (nodes.Frame now bytes) (answer_of p.keeper fate)) (happens_steps (seat p.core p.keeper) (nodes.Frame now bytes) fate well)
-core_steps p (Timer now) fate well =
-    lifted p.core p.keeper (keeper_after p (Timer now) fate) (happens p.core.node (nodes.Timer now) (answer_of p.keeper fate)) (happens_steps (seat p.core p.keeper) (nodes.Timer now) fate well)
-core_steps p (Submit now tx) fate well =
-    lifted p.core p.keeper (keeper_after p (Submit now tx) fate) (happens p.core.node (nodes.Submit now tx) (answer_of p.keeper fate)) (happens_steps (seat p.core p.keeper) (nodes.Submit now tx) fate well)
-core_steps p (Greet member) fate well = beside p (reply_at p (Greet member) fate) refl refl refl well
-core_steps p (Drain member room) fate well = beside p (reply_at p (Drain member room) fate) refl refl refl well
-core_steps p (Reports room) fate well = beside p (reply_at p (Reports room) fate) refl refl refl well
-core_steps p Stop fate well = beside p (reply_at p Stop fate) refl refl refl well
-core_steps p Stopped fate well = beside p (reply_at p Stopped fate) refl refl refl well
+pub core_steps : (p : Place) (e : CoreEvent) (fate : Fate) → IsFitEvent e → IsWell (seat p.core p.keeper) → IsStep (seat p.core p.keeper) (node_reply (reply_at p e fate)) (keeper_after p e fate)
+core_steps p (Issue now seq id full) fate fit well =
+    lifted p.core p.keeper (keeper_after p (Issue now seq id full) fate) (happens p.core.node (nodes.Issue now seq id full) (answer_of p.keeper fate)) (happens_steps (seat p.core p.keeper) (nodes.Issue now seq id full) fate tt well)
+core_steps p (Frame now bytes) fate fit well =
+    lifted p.core p.keeper (keeper_after p (Frame now bytes) fate) (happens p.core.node (nodes.Frame now bytes) (answer_of p.keeper fate)) (happens_steps (seat p.core p.keeper) (nodes.Frame now bytes) fate tt well)
+core_steps p (Timer now) fate fit well =
+    lifted p.core p.keeper (keeper_after p (Timer now) fate) (happens p.core.node (nodes.Timer now) (answer_of p.keeper fate)) (happens_steps (seat p.core p.keeper) (nodes.Timer now) fate tt well)
+core_steps p (Submit now tx) fate fit well =
+    lifted p.core p.keeper (keeper_after p (Submit now tx) fate) (happens p.core.node (nodes.Submit now tx) (answer_of p.keeper fate)) (happens_steps (seat p.core p.keeper) (nodes.Submit now tx) fate tt well)
+core_steps p (Greet member) fate fit well = beside p (reply_at p (Greet member) fate) refl refl refl well
+core_steps p (Drain member room) fate fit well = beside p (reply_at p (Drain member room) fate) refl refl refl well
+core_steps p (Reports room) fate fit well = beside p (reply_at p (Reports room) fate) refl refl refl well
+core_steps p Stop fate fit well = beside p (reply_at p Stop fate) refl refl refl well
+core_steps p Stopped fate fit well = beside p (reply_at p Stopped fate) refl refl refl well
+core_steps p (Relist now list) fate fit well =
+    lifted p.core p.keeper (keeper_after p (Relist now list) fate) (happens p.core.node (nodes.Relist now list) (answer_of p.keeper fate)) (happens_steps (seat p.core p.keeper) (nodes.Relist now list) fate fit well)
 
 -- a core that is opened again with a number that is not below its keeper's
 pub opened_core_steps : (p : Place) (now number : ℕ) (asked : Option ℕ) → IsWell (seat p.core p.keeper) → (i : ℕ) × (i ≤ number) × MayHold (held_by p.keeper) i →
     IsStep (seat p.core p.keeper) (node_reply (answering (core_again p now number) Done)) (restored (record p.keeper { asked = asked }) number)
 opened_core_steps p now number asked well low =
     let s = opened_steps (seat p.core p.keeper) now number well low in
-    record { me = s.me; list = s.list; well = record { members = s.well.members; valid = s.well.valid; in_force = s.well.in_force }; rises = s.rises; above = s.above; saved = s.saved; quorum = s.quorum }
+    record { me = s.me; well = record { members = s.well.members; valid = s.well.valid; in_force = s.well.in_force }; rises = s.rises; above = s.above; saved = s.saved; quorum = s.quorum }
 
 -- WHAT IS SAID
 
@@ -168,6 +170,9 @@ happens_fair P me n (nodes.Timer now) save = timer_fair P me (at_moment now n) s
 happens_fair P me n (nodes.Submit now tx) save =
     submit_either (IsFair P me) (at_moment now n) tx (λ _. record { items = λ _. All-nil (ItemSays P me); sent = λ _. refl })
     (record { items = λ _. All-cons (ItemSays P me) (Tx tx) [] tt (All-nil (ItemSays P me)); sent = λ _. refl })
+happens_fair P me n (nodes.Relist now list) save =
+    relist_either (IsFair P me) (at_moment now n) list (λ _. record { items = λ _. All-nil (ItemSays P me); sent = λ _. refl })
+    (λ _. record { items = λ _. All-nil (ItemSays P me); sent = λ _. refl })
 
 -- P holds of what waits
 abbrev AllSay : (SaidLedger → Type 0) → ℕ → List (Backlog Item) → Type 0
@@ -295,6 +300,7 @@ CoreHeard P n (Drain member room) = Unit {0}
 CoreHeard P n (Reports room) = Unit {0}
 CoreHeard P n Stop = Unit {0}
 CoreHeard P n Stopped = Unit {0}
+CoreHeard P n (Relist now list) = Unit {0}
 
 -- what holds of what stands at the core, of what came and of what is issued holds of what stands there then, and of what is given
 pub core_says : (P : SaidLedger → Type 0) (core : Core) (e : CoreEvent) (save : Save) → CoreSays P core → CoreHeard P core.node e → IfSome (core_happens core e save).issued (λ v. P (said_by core.node.me v)) →
@@ -308,6 +314,7 @@ core_says P core (Drain member room) save says heard fair = drain_says P core me
 core_says P core (Reports room) save says heard fair = record { core = record { rows = says.rows; items = says.items }; sent = All-nil (FrameSays P) }
 core_says P core Stop save says heard fair = record { core = record { rows = says.rows; items = says.items }; sent = All-nil (FrameSays P) }
 core_says P core Stopped save says heard fair = record { core = says; sent = All-nil (FrameSays P) }
+core_says P core (Relist now list) save says heard fair = node_says P core (nodes.Relist now list) save says tt fair
 
 -- a core that is opened has nothing
 pub opened_core_says : (P : SaidLedger → Type 0) (settings : Settings) (now kept : ℕ) → CoreSays P (with_queues (opened settings now kept))

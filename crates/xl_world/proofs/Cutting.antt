@@ -4,10 +4,10 @@ use Rattle.std.specs.Prelude.{OnOk, option_map, option_to_list}
 use Rattle.xl_io.specs.Keepers.{may_hold}
 use Rattle.xl_core.specs.Core.{Core, CoreReply, core_asks, core_happens, with_queues}
 use Rattle.xl_core.specs.Node as nodes
-use Rattle.xl_core.specs.Node.{Node, Save, opened, settings_of}
+use Rattle.xl_core.specs.Node.{Node, Event, Reply, Save, happens, opened, settings_of}
 use Rattle.xl_core.specs.Node.Save.{Kept as AnsweredOk}
 use Rattle.xl_core.specs.declared.event.CoreEvent.{CoreEvent}
-use Rattle.xl_core.specs.declared.event.CoreEvent.TheVariants.{Issue, Frame, Timer, Submit, Greet, Drain, Reports, Stop, Stopped}
+use Rattle.xl_core.specs.declared.event.CoreEvent.TheVariants.{Issue, Frame, Timer, Submit, Greet, Drain, Reports, Stop, Stopped, Relist}
 use Rattle.xl_core.specs.declared.settings.Settings.{Settings}
 use Rattle.xl_sched.specs.declared.event.Ask.{Ask}
 use Rattle.xl_sched.specs.declared.event.Ask.TheVariants as ask
@@ -22,11 +22,11 @@ use Rattle.xl_world.specs.Emptying.{event_steps}
 use Rattle.xl_world.specs.Keeper.{after_save, answer_of, found, held_by, left_by, restored}
 use Rattle.xl_world.specs.Schedule.{cut_at, cut_short, cut_steps, event_asked, node_asked, outcomes_at, restart, steps_at, told_in, told_of_reply}
 use Rattle.xl_world.specs.Seen.{Answers, AnswersAt, acted_at, keeper_in, noted, outcomes_told, place_after, place_again, put_acted, put_again, with_forged, with_places}
-use Rattle.xl_world.specs.World.{Again, Step, World, is_forged, keeper_after, moment_in, place_at, put, reply_at, run, sent_in, step}
+use Rattle.xl_world.specs.World.{Again, Step, World, is_forged, keeper_after, moment_in, place_at, put, reply_at, run, sent_in, step, set_by}
 use Rattle.xl_world.proofs.Acting.{asked_fair, noted_ran}
 use Rattle.xl_world.proofs.Emptying.{emptied, emptied_acts, emptied_node, emptied_then, event_ran}
-use Rattle.xl_world.proofs.Keeping.{happens_keeps}
-use Rattle.xl_world.proofs.Lists.{core_keeps}
+use Rattle.xl_world.proofs.Keeping.{KeepsList, asking_keeps}
+use Rattle.xl_world.proofs.Keeping.{core_keeps}
 use Rattle.xl_world.proofs.Putting.{put_at, put_put}
 use Rattle.xl_world.proofs.Reopening.{again_ran, found_held, restart_ran, torn_ran, unasked_alike}
 use Rattle.xl_world.proofs.Runs.{run-append}
@@ -35,31 +35,31 @@ use Rattle.xl_world.proofs.Telling.{told_append, told_once, told_ran}
 
 -- WHAT A CORE IS OPENED WITH STAYS
 
-same_settings : (a b : Node) → a.me ≡ b.me → a.list ≡ b.list → a.keys ≡ b.keys → a.ledgers.limit ≡ b.ledgers.limit → a.validating ≡ b.validating → settings_of a ≡ settings_of b
-same_settings a b p q r s t = cc
+same_settings : (a b : Node) → a.me ≡ b.me → a.keys ≡ b.keys → a.ledgers.limit ≡ b.ledgers.limit → a.validating ≡ b.validating → a.speak ≡ b.speak → a.list ≡ b.list → settings_of a ≡ settings_of b
+same_settings a b p q r s t u = cc
 
-by_node : (a b : Node) → (a.me ≡ b.me) × (a.list ≡ b.list) × (a.keys ≡ b.keys) × (a.ledgers.limit ≡ b.ledgers.limit) × (a.validating ≡ b.validating) → settings_of a ≡ settings_of b
-by_node a b keeps = same_settings a b keeps.0 keeps.1 keeps.2 keeps.3 keeps.4
+by_node : (n : Node) (r : Reply) → KeepsList n r → settings_of r.node ≡ settings_of n
+by_node n r keeps = same_settings r.node n keeps.0 keeps.1 keeps.2 keeps.3 keeps.4 keeps.5
 
-settings_stay : (core : Core) (e : CoreEvent) (save : Save) → settings_of (core_happens core e save).core.node ≡ settings_of core.node
-settings_stay core (Issue now seq id full) save =
-    by_node (core_happens core (Issue now seq id full) save).core.node core.node (happens_keeps core.node (nodes.Issue now seq id full) save)
-settings_stay core (Frame now bytes) save =
-    by_node (core_happens core (Frame now bytes) save).core.node core.node (happens_keeps core.node (nodes.Frame now bytes) save)
-settings_stay core (Timer now) save =
-    by_node (core_happens core (Timer now) save).core.node core.node (happens_keeps core.node (nodes.Timer now) save)
-settings_stay core (Submit now tx) save =
-    by_node (core_happens core (Submit now tx) save).core.node core.node (happens_keeps core.node (nodes.Submit now tx) save)
-settings_stay core (Greet member) save = refl
-settings_stay core (Drain member room) save = refl
-settings_stay core (Reports room) save = refl
-settings_stay core Stop save = refl
-settings_stay core Stopped save = refl
+-- over what asks a save
+settings_stay : (core : Core) (e : CoreEvent) (save : Save) (s : ℕ) → core_asks core e ≡ Some s → settings_of (core_happens core e save).core.node ≡ settings_of core.node
+settings_stay core (Issue now seq id full) save s asks =
+    let e : Event = nodes.Issue now seq id full in by_node core.node (happens core.node e save) (asking_keeps core.node e save s asks)
+settings_stay core (Timer now) save s asks =
+    let e : Event = nodes.Timer now in by_node core.node (happens core.node e save) (asking_keeps core.node e save s asks)
+settings_stay core (Frame now bytes) save s asks = cc
+settings_stay core (Submit now tx) save s asks = cc
+settings_stay core (Greet member) save s asks = cc
+settings_stay core (Drain member room) save s asks = cc
+settings_stay core (Reports room) save s asks = cc
+settings_stay core Stop save s asks = cc
+settings_stay core Stopped save s asks = cc
+settings_stay core (Relist now list) save s asks = cc
 
 -- so a node that is opened again is as it would have been before what was tried
-pub acted_again : (ps : List Place) (i at : ℕ) (e : CoreEvent) (fate : Fate) (k : Keeper) (p : Place) → place_at i ps ≡ Some p →
+pub acted_again : (ps : List Place) (i at : ℕ) (e : CoreEvent) (fate : Fate) (k : Keeper) (p : Place) (s : ℕ) → place_at i ps ≡ Some p → core_asks p.core e ≡ Some s →
     put_again at k (place_at i (acted_at i e fate ps)) (acted_at i e fate ps) ≡ put_again at k (place_at i ps) ps
-acted_again ps i at e fate k p here =
+acted_again ps i at e fate k p s here asks =
     let r : CoreReply = reply_at p e fate in
     let q : Place = place_after p e fate in
     let its : q.core.node.me ≡ i = (core_keeps p.core e (answer_of p.keeper fate)).0 ∙ at_its_number i ps p here in
@@ -67,7 +67,7 @@ acted_again ps i at e fate k p here =
     ap (λ o. put_again at k (place_at i (put_acted e fate o ps)) (put_acted e fate o ps)) here
     ∙ (ap (λ o. put_again at k o (put q ps)) (put_at i q ps p its here)
     ∙ (put_put q anew ps refl
-    ∙ (ap (λ (settings : Settings). put (let x : Place = record { core = with_queues (opened settings at k.in_force); keeper = k } in x) ps) (settings_stay p.core e (answer_of p.keeper fate))
+    ∙ (ap (λ (settings : Settings). put (let x : Place = record { core = with_queues (opened settings at k.in_force); keeper = k } in x) ps) (settings_stay p.core e (answer_of p.keeper fate) s asks)
     ∙ sym (ap (λ o. put_again at k o ps) here))))
 
 -- A SAVE THAT IS CUT OFF
@@ -76,7 +76,7 @@ pub cut_torn : (w : World) (i at : ℕ) (new : Bool) (e : CoreEvent) (fate : Fat
     with_places w (put_again at (restored p.keeper (left_by p.keeper new (Some s))) (place_at i (acted_at i e fate w.places)) (acted_at i e fate w.places)) ≡ run w (cut_steps w at new i e)
 cut_torn w i at new e fate p s here asks moment =
     let k : Keeper = restored p.keeper (left_by p.keeper new (Some s)) in
-    ap (with_places w) (acted_again w.places i at e fate k p here)
+    ap (with_places w) (acted_again w.places i at e fate k p s here asks)
     ∙ (ap (λ (m : ℕ). with_places w (put_again m k (place_at i w.places) w.places)) (sym moment)
     ∙ (torn_ran w i e new p s here asks
     ∙ (ap (λ o. run w (cut_short w at new i e p o)) (sym asks)
@@ -93,10 +93,10 @@ tried : (w : World) (i : ℕ) (e : CoreEvent) (fate : Fate) (p : Place) → plac
     with_forged w.forged (run w (event_steps w i e fate)) ≡ run w (event_steps w i e Saved)
 tried w i e fate p here asks fair =
     ap (with_forged w.forged) (event_ran w i e fate ∙ ap (λ o. emptied_acts w i e fate o) here)
-    ∙ (ap (λ (r : CoreReply). emptied_then w i false r (keeper_after p e fate)) (unasked_alike p.core e (answer_of p.keeper fate) AnsweredOk asks)
-    ∙ (ap (λ o. emptied_then w i false (reply_at p e Saved) (after_save p.keeper o fate)) asks
-    ∙ (sym (ap (λ o. emptied_then w i false (reply_at p e Saved) (after_save p.keeper o Saved)) asks)
-    ∙ (ap (λ (b : Bool). emptied_then w i b (reply_at p e Saved) (keeper_after p e Saved)) (sym fair)
+    ∙ (ap (λ (r : CoreReply). emptied_then w i false (set_by p.core.node.me e r.answer) r (keeper_after p e fate)) (unasked_alike p.core e (answer_of p.keeper fate) AnsweredOk asks)
+    ∙ (ap (λ o. emptied_then w i false (set_by p.core.node.me e (reply_at p e Saved).answer) (reply_at p e Saved) (after_save p.keeper o fate)) asks
+    ∙ (sym (ap (λ o. emptied_then w i false (set_by p.core.node.me e (reply_at p e Saved).answer) (reply_at p e Saved) (after_save p.keeper o Saved)) asks)
+    ∙ (ap (λ (b : Bool). emptied_then w i b (set_by p.core.node.me e (reply_at p e Saved).answer) (reply_at p e Saved) (keeper_after p e Saved)) (sym fair)
     ∙ sym (event_ran w i e Saved ∙ ap (λ o. emptied_acts w i e Saved o) here)))))
 
 pub cut_noted : (w : World) (i : ℕ) (e : CoreEvent) (fate : Fate) (p : Place) (a : NodeAnswer) → place_at i w.places ≡ Some p → core_asks p.core e ≡ None → is_forged w p.core.node e ≡ false →
@@ -110,7 +110,7 @@ cut_whole w v i at new e p here asks is =
     let r : CoreReply = reply_at p e Saved in
     let last : Place = record { core = emptied w.numbers r.core; keeper = keeper_after p e Saved } in
     let n : ℕ = left_by p.keeper new None in
-    let ran : v ≡ emptied_then w i (is_forged w p.core.node e) r (keeper_after p e Saved) = is ∙ (event_ran w i e Saved ∙ ap (λ o. emptied_acts w i e Saved o) here) in
+    let ran : v ≡ emptied_then w i (is_forged w p.core.node e) (set_by p.core.node.me e r.answer) r (keeper_after p e Saved) = is ∙ (event_ran w i e Saved ∙ ap (λ o. emptied_acts w i e Saved o) here) in
     let its : last.core.node.me ≡ i = ap (λ (m : Node). m.me) (emptied_node w.numbers r.core) ∙ ((core_keeps p.core e AnsweredOk).0 ∙ at_its_number i w.places p here) in
     let there : place_at i v.places ≡ Some last = ap (λ (u : World). place_at i u.places) ran ∙ put_at i last w.places p its here in
     let kept : last.keeper ≡ p.keeper = ap (λ o. after_save p.keeper o Saved) asks in

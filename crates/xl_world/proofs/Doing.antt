@@ -230,6 +230,7 @@ untaken_then core now (deed.Sent to kept) save none = untaken_is core.untaken (h
 untaken_then core now deed.Timer save none = untaken_is core.untaken (happens core.node (nodes.Timer now) save).report none
 untaken_then core now (deed.Submit tx) save none = untaken_is core.untaken (happens core.node (nodes.Submit now tx) save).report none
 untaken_then core now (deed.Greet peer) save none = none
+untaken_then core now (deed.Relist list) save none = untaken_is core.untaken (happens core.node (nodes.Relist now list.now) save).report none
 
 -- the report that is taken is the one that arose
 pub report_left : (a b : Core) (r : CoreReply) (n : Node) (given : Option Report) (told : Option Reported) → r.core.untaken.items ≡ option_to_list r.report → a ≡ r.core → option_to_list given ≡ a.untaken.items → b ≡ handed_out a → n ≡ b.node →

@@ -10,7 +10,7 @@ use Rattle.xl_core.specs.Core.{Core, CoreReply, core_happens}
 use Rattle.xl_core.specs.Node.{Node}
 use Rattle.xl_core.specs.Node.Save.{Kept as AnsweredOk}
 use Rattle.xl_core.specs.declared.event.CoreEvent.{CoreEvent}
-use Rattle.xl_core.specs.declared.event.CoreEvent.TheVariants.{Issue, Frame, Timer, Submit, Greet, Drain, Reports, Stop, Stopped}
+use Rattle.xl_core.specs.declared.event.CoreEvent.TheVariants.{Issue, Frame, Timer, Submit, Greet, Drain, Reports, Stop, Stopped, Relist}
 use Rattle.xl_wire.specs.declared.lengths.TheConstants.{LONGEST_FRAME}
 use Rattle.xl_world.specs.declared.place.Fate.{Fate}
 use Rattle.xl_world.specs.declared.place.Fate.TheVariants.{Saved}
@@ -19,8 +19,9 @@ use Rattle.xl_world.specs.declared.place.Place.{Place}
 use Rattle.xl_world.specs.Sending.{Sent}
 use Rattle.xl_world.specs.Emptying.{after_events, draining, drains, drains_for, drains_in_turn, emptying, emptying_at, event_steps, given_by, handed_out}
 use Rattle.xl_world.specs.Keeper.{answer_of}
-use Rattle.xl_world.specs.World.{World, Act, acts, is_forged, keeper_after, place_at, put, reply_at, reported_by, run, said_by, sent_in, settled, step}
-use Rattle.xl_world.proofs.Lists.{core_keeps}
+use Rattle.xl_world.specs.declared.plan.InForce.{InForce}
+use Rattle.xl_world.specs.World.{World, Act, acts, is_forged, keeper_after, place_at, put, reply_at, reported_by, run, said_by, sent_in, settled, step, set_by}
+use Rattle.xl_world.proofs.Keeping.{core_keeps}
 use Rattle.xl_world.proofs.Putting.{put_at, put_put, put_same}
 use Rattle.xl_world.proofs.Settling.{at_its_number}
 
@@ -36,6 +37,7 @@ IsDrain (Drain member room) = Unit {0}
 IsDrain (Reports room) = ⊥
 IsDrain Stop = ⊥
 IsDrain Stopped = ⊥
+IsDrain (Relist now list) = ⊥
 
 abbrev pub AreDrains : List CoreEvent → Type 0
 AreDrains [] = Unit {0}
@@ -52,6 +54,7 @@ drain_by P each (Drain member room) is = each member room
 drain_by P each (Reports room) is = absurd is
 drain_by P each Stop is = absurd is
 drain_by P each Stopped is = absurd is
+drain_by P each (Relist now list) is = absurd is
 
 pub drains_are : (core : Core) (m more : ℕ) → AreDrains (drains core m more)
 drains_are core m zero = (tt, tt)
@@ -83,11 +86,12 @@ untaken_still core (e ∷ es) are =
 
 -- the world with a place changed, and with these frames sent
 abbrev pub moved : World → Place → List Sent → World
-moved w q frames = record { liars = w.liars; numbers = w.numbers; places = put q w.places; sent = w.sent ++ frames; mark = w.mark; said = w.said; reports = w.reports; forged = w.forged }
+moved w q frames = record { liars = w.liars; numbers = w.numbers; places = put q w.places; sent = w.sent ++ frames; mark = w.mark; said = w.said; reports = w.reports; lists = w.lists; forged = w.forged }
 
 -- what changes of a world
-abbrev with_lists : World → List Place → List Sent → List Reported → World
-with_lists w places sent reports = record { liars = w.liars; numbers = w.numbers; places = places; sent = sent; mark = w.mark; said = w.said; reports = reports; forged = w.forged }
+abbrev with_lists : World → List Place → List Sent → List Reported → List InForce → World
+with_lists w places sent reports lists =
+    record { liars = w.liars; numbers = w.numbers; places = places; sent = sent; mark = w.mark; said = w.said; reports = reports; lists = lists; forged = w.forged }
 
 abbrev once : Place → CoreEvent → Place
 once p e = record { core = (core_happens p.core e AnsweredOk).core; keeper = p.keeper }
@@ -99,12 +103,14 @@ drain_step : (w : World) (i : ℕ) (p : Place) (e : CoreEvent) → place_at i w.
 drain_step w i p e at is =
     ap (λ o. acts w i e Saved o) at
     ∙ drain_by (λ d. acts w i d Saved (Some p) ≡ moved w (once p d) (frames_once p d))
-    (λ m room. ap (λ (rs : List Reported). with_lists w (put (once p (Drain m room)) w.places) (w.sent ++ frames_once p (Drain m room)) rs) (append-nil w.reports)) e is
+    (λ m room.
+    ap (λ (rs : List Reported). with_lists w (put (once p (Drain m room)) w.places) (w.sent ++ frames_once p (Drain m room)) rs (w.lists ++ [])) (append-nil w.reports)
+    ∙ ap (λ (ls : List InForce). with_lists w (put (once p (Drain m room)) w.places) (w.sent ++ frames_once p (Drain m room)) w.reports ls) (append-nil w.lists)) e is
 
 pub drains_run : (w : World) (i : ℕ) (p : Place) (es : List CoreEvent) → place_at i w.places ≡ Some p → AreDrains es →
     run w (map (λ e. Act i e Saved) es) ≡ moved w (record { core = after_events p.core es; keeper = p.keeper }) (given_by p.core es)
 drains_run w i p [] at are =
-    ap (λ (ps : List Place). with_lists w ps w.sent w.reports) (sym (put_same i w.places p at)) ∙ ap (λ (fs : List Sent). with_lists w (put p w.places) fs w.reports) (sym (append-nil w.sent))
+    ap (λ (ps : List Place). with_lists w ps w.sent w.reports w.lists) (sym (put_same i w.places p at)) ∙ ap (λ (fs : List Sent). with_lists w (put p w.places) fs w.reports w.lists) (sym (append-nil w.sent))
 drains_run w i p (e ∷ es) at are =
     let q : Place = once p e in
     let frames : List Sent = frames_once p e in
@@ -113,14 +119,15 @@ drains_run w i p (e ∷ es) at are =
     let number : q.core.node.me ≡ i = ap (λ (n : Node). n.me) same ∙ at_its_number i w.places p at in
     ap (λ (v : World). run v (map (λ d. Act i d Saved) es)) (drain_step w i p e at are.0)
     ∙ drains_run (moved w q frames) i q es (put_at i q w.places p number at) are.1
-    ∙ ap (λ (ps : List Place). with_lists w ps ((w.sent ++ frames) ++ given_by q.core es) w.reports) (put_put q last w.places (ap (λ (n : Node). n.me) (node_still q.core es are.1)))
-    ∙ ap (λ (fs : List Sent). with_lists w (put last w.places) fs w.reports) (append_assoc w.sent frames (given_by q.core es))
+    ∙ ap (λ (ps : List Place). with_lists w ps ((w.sent ++ frames) ++ given_by q.core es) w.reports w.lists) (put_put q last w.places (ap (λ (n : Node). n.me) (node_still q.core es are.1)))
+    ∙ ap (λ (fs : List Sent). with_lists w (put last w.places) fs w.reports w.lists) (append_assoc w.sent frames (given_by q.core es))
 
 -- after the report that arose is handed out
 reports_step : (w : World) (i : ℕ) (p : Place) → place_at i w.places ≡ Some p → step w (Act i (Reports 1) Saved) ≡ moved w (record { core = handed_out p.core; keeper = p.keeper }) []
 reports_step w i p at =
     let q : Place = record { core = handed_out p.core; keeper = p.keeper } in
-    ap (λ o. acts w i (Reports 1) Saved o) at ∙ ap (λ (rs : List Reported). with_lists w (put q w.places) (w.sent ++ []) rs) (append-nil w.reports)
+    ap (λ o. acts w i (Reports 1) Saved o) at ∙ ap (λ (rs : List Reported). with_lists w (put q w.places) (w.sent ++ []) rs (w.lists ++ [])) (append-nil w.reports)
+    ∙ ap (λ (ls : List InForce). with_lists w (put q w.places) (w.sent ++ []) w.reports ls) (append-nil w.lists)
 
 -- a core once it was emptied
 abbrev pub emptied : List ℕ → Core → Core
@@ -140,14 +147,14 @@ emptying_run numbers w i p at =
     let last : Place = record { core = emptied numbers p.core; keeper = p.keeper } in
     ap (λ (v : World). run v (map (λ e. Act i e Saved) es)) (reports_step w i p at)
     ∙ drains_run (moved w q []) i q es (put_at i q w.places p (at_its_number i w.places p at) at) (turns_are q.core _)
-    ∙ ap (λ (ps : List Place). with_lists w ps ((w.sent ++ []) ++ given_by q.core es) w.reports) (put_put q last w.places (ap (λ (n : Node). n.me) (node_still q.core es (turns_are q.core _))))
-    ∙ ap (λ (fs : List Sent). with_lists w (put last w.places) (fs ++ given_by q.core es) w.reports) (append-nil w.sent)
+    ∙ ap (λ (ps : List Place). with_lists w ps ((w.sent ++ []) ++ given_by q.core es) w.reports w.lists) (put_put q last w.places (ap (λ (n : Node). n.me) (node_still q.core es (turns_are q.core _))))
+    ∙ ap (λ (fs : List Sent). with_lists w (put last w.places) (fs ++ given_by q.core es) w.reports w.lists) (append-nil w.sent)
 
 -- AN EVENT AND WHAT FOLLOWS IT
 
 -- the world after what came of an event at a place, once its core is emptied
-abbrev pub emptied_then : World → ℕ → Bool → CoreReply → Keeper → World
-emptied_then w i forged r keeper = record {
+abbrev pub emptied_then : World → ℕ → Bool → Option InForce → CoreReply → Keeper → World
+emptied_then w i forged set r keeper = record {
   liars = w.liars;
   numbers = w.numbers;
   places = put (let x : Place = record { core = emptied w.numbers r.core; keeper = keeper } in x) w.places;
@@ -155,12 +162,15 @@ emptied_then w i forged r keeper = record {
   mark = w.mark;
   said = with_said w.said (option_map (said_by i) r.issued);
   reports = w.reports ++ option_to_list (option_map (reported_by r.core.node) r.report);
+  lists = w.lists ++ option_to_list set;
   forged = if forged then one_more w.forged else w.forged;
 }
 
 abbrev pub emptied_acts : World → ℕ → CoreEvent → Fate → Option Place → World
 emptied_acts w i e fate None = w
-emptied_acts w i e fate (Some p) = emptied_then w i (is_forged w p.core.node e) (reply_at p e fate) (keeper_after p e fate)
+emptied_acts w i e fate (Some p) =
+    let r : CoreReply = reply_at p e fate in
+    emptied_then w i (is_forged w p.core.node e) (set_by p.core.node.me e r.answer) r (keeper_after p e fate)
 
 -- the steps of an event leave that
 pub event_ran : (w : World) (i : ℕ) (e : CoreEvent) (fate : Fate) → run w (event_steps w i e fate) ≡ emptied_acts w i e fate (place_at i w.places)
@@ -173,7 +183,7 @@ event_ran w i e fate = by_place (place_at i w.places) refl
         let k : Keeper = keeper_after p e fate in
         let q : Place = record { core = r.core; keeper = k } in
         let last : Place = record { core = emptied w.numbers r.core; keeper = k } in
-        let v : World = settled w i (is_forged w p.core.node e) r k in
+        let v : World = settled w i (is_forged w p.core.node e) (set_by p.core.node.me e r.answer) r k in
         let its : r.core.node.me ≡ i = (core_keeps p.core e (answer_of p.keeper fate)).0 ∙ at_its_number i w.places p at in
         emptying_run w.numbers v i q (put_at i q w.places p its at)
-        ∙ ap (λ (ps : List Place). with_lists v ps (v.sent ++ given_then w.numbers r.core) v.reports) (put_put q last w.places (ap (λ (n : Node). n.me) (emptied_node w.numbers r.core)))
+        ∙ ap (λ (ps : List Place). with_lists v ps (v.sent ++ given_then w.numbers r.core) v.reports v.lists) (put_put q last w.places (ap (λ (n : Node). n.me) (emptied_node w.numbers r.core)))

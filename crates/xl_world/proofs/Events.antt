@@ -5,7 +5,7 @@ use Rattle.std.proofs.lemmas.Bool.{cond_both}
 use Rattle.xl_io.specs.Keepers.{may_hold}
 use Rattle.xl_core.specs.Core.{core_asks}
 use Rattle.xl_core.specs.declared.event.CoreEvent.{CoreEvent}
-use Rattle.xl_core.specs.declared.event.CoreEvent.TheVariants.{Frame, Timer, Submit, Greet}
+use Rattle.xl_core.specs.declared.event.CoreEvent.TheVariants.{Frame, Timer, Submit, Greet, Relist}
 use Rattle.xl_sched.specs.declared.event.What.{What}
 use Rattle.xl_sched.specs.declared.event.What.TheVariants as what
 use Rattle.xl_world.specs.declared.place.Fate.TheVariants.{Saved}
@@ -103,3 +103,5 @@ event_leaves w at (what.Fail new ask) rest = event_rests w (node_asked ask) (eve
 event_leaves w at (what.Lie from to lie) rest = event_rests w to (Frame at (lied_bytes from to lie)) Saved rest
 event_leaves w at (what.Raw to bytes) rest = event_rests w to (Frame at bytes) Saved rest
 event_leaves w at (what.Prefer node) rest = rest
+event_leaves w at (what.List node list) rest = event_rests w node (Relist at list) Saved rest
+event_leaves w at (what.Heard node) rest = rest

@@ -24,7 +24,7 @@ at_place [] more k less = absurd (omega arith)
 at_place (x ∷ xs) more zero less = (x, refl, refl, λ d. refl)
 at_place (x ∷ xs) more (suc k) less = at_place xs more k (omega arith)
 
-none_left : {X : Type 0} (xs : List X) (k : ℕ) → length xs ≤ k → drop k xs ≡ []
+pub none_left : {X : Type 0} (xs : List X) (k : ℕ) → length xs ≤ k → drop k xs ≡ []
 none_left [] zero past = refl
 none_left [] (suc k) past = refl
 none_left (x ∷ xs) zero past = absurd (omega arith)
@@ -79,7 +79,7 @@ timed_all first at before k now told past timed =
 
 -- SENT FRAMES
 
-sent_grows : (w : World) (i : ℕ) (e : CoreEvent) (fate : Fate) (o : Option Place) → (more : List Sent) × ((emptied_acts w i e fate o).sent ≡ w.sent ++ more)
+pub sent_grows : (w : World) (i : ℕ) (e : CoreEvent) (fate : Fate) (o : Option Place) → (more : List Sent) × ((emptied_acts w i e fate o).sent ≡ w.sent ++ more)
 sent_grows w i e fate None = ([], sym (append-nil w.sent))
 sent_grows w i e fate (Some p) =
     let r = reply_at p e fate in
@@ -127,7 +127,7 @@ delivered_more first at before k now told v told' within delivered is is_told =
     }
 
 -- nothing is told of the mark
-told_marked : (w : World) (ss : List Step) → told_in w (ss ++ Mark ∷ []) ≡ told_in w ss
+pub told_marked : (w : World) (ss : List Step) → told_in w (ss ++ Mark ∷ []) ≡ told_in w ss
 told_marked w [] = refl
 told_marked w (s ∷ ss) = ap (λ (os : List Outcome). told_of_step w s ++ os) (told_marked (step w s) ss)
 

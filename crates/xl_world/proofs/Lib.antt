@@ -8,6 +8,7 @@ pub mod Settling
 pub mod CoreSteps
 pub mod Runs
 pub mod Lists
+pub mod Listing
 pub mod Agreeing
 pub mod Numbers
 pub mod Each
@@ -30,7 +31,10 @@ pub mod Reopening
 pub mod Taking
 pub mod Cutting
 pub mod Events
+pub mod Fitting
+pub mod Unlisted
 pub mod Worldly
 pub mod Doing
 pub mod Going
 pub mod Sealing
+pub mod Partwise

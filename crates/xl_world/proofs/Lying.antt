@@ -9,7 +9,8 @@ use Rattle.xl_sched.specs.declared.event.Lied.{Lied}
 use Rattle.xl_sched.specs.declared.event.Lied.TheVariants as lied
 use Rattle.xl_sched.specs.Fits.{IsFitLied}
 use Rattle.xl_wire.specs.Raws.{RawFrame, raw_bytes}
-use Rattle.xl_wire.specs.Writing.{body_length}
+use Rattle.xl_base.specs.declared.ids.LedgerId.{LedgerId}
+use Rattle.xl_wire.specs.Writing.{body_length, validated_length}
 use Rattle.xl_world.specs.Schedule.{lied_body}
 use Rattle.xl_tags.specs.Macs.{mac}
 use Rattle.xl_tags.specs.PairKeys.{pair_key_of}
@@ -56,10 +57,14 @@ keyless from to f low high same is_to = none_some (key_of (schedule_ring from) f
 
 -- HOW LONG IT IS
 
+validated_few : (o : Option LedgerId) → validated_length o ≤ 32
+validated_few None = omega arith
+validated_few (Some id) = omega arith
+
 -- no lie is longer than the longest frame
 pub lied_short : (lie : Lied) → IsFitLied lie → 46 + body_length (lied_body lie) ≤ 8240
 lied_short (lied.Proposal p) fit = omega arith
-lied_short (lied.Validation v) fit = omega arith
+lied_short (lied.Validation v) fit = omega (arith, validated_few v.validated)
 lied_short (lied.Header name h) fit = omega arith
 lied_short (lied.TxSet ids) fit = omega (arith, fit.at_most)
 lied_short (lied.Tx tx) fit = omega arith

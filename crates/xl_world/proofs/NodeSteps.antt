@@ -1,14 +1,14 @@
 -- What each event at a node shows.
 use Rattle.std.proofs.Common.{◌≡◌, ℕ, ◌<◌, ◌≤◌, ◌/◌, Bool, true, false, cond, List, [], ◌∷◌, refl, arith, ap, sym, ◌∙◌, inl, inr, Option, Some, None, Result, Ok, subst}
-use Rattle.std.specs.Prelude.{◌==◌, max, All, IfSome, map, find, filter_map, option_map, nat_lt, nat_le}
+use Rattle.std.specs.Prelude.{◌==◌, max, All, IfSome, map, find, filter_map, option_map, nat_lt, nat_le, unwrap_or}
 use Rattle.std.specs.Option.{is_none}
 use Rattle.std.proofs.lemmas.Bool.{and_parts, eqb-true, cond_both, ltb-true, leb-true}
 use Rattle.std.proofs.lemmas.List.Elements.{All-map, All-head, All-tail, All-cons}
-use Rattle.xl_lists.specs.Lists.{IsValid}
+use Rattle.xl_lists.specs.Lists.{TrustedList, IsValid}
 use Rattle.xl_lists.specs.declared.said.SaidLedger.{SaidLedger}
 use Rattle.xl_wire.specs.declared.validation.Validation.{Validation}
 use Rattle.xl_validations.specs.declared.row.Row.{Row}
-use Rattle.xl_validations.specs.Rows.{is_current, unexpired, row_at, refusal, with_validation, at_member, count_full, empty_row}
+use Rattle.xl_validations.specs.Rows.{is_current, unexpired, row_at, refusal, with_validation, at_member, count_full, empty_row, row_of, row_for, relisted}
 use Rattle.xl_base.specs.declared.ids.TxId.{TxId}
 use Rattle.xl_ledger.specs.declared.header.Header.{Header}
 use Rattle.xl_ledger.specs.Headers.{header_id}
@@ -17,7 +17,7 @@ use Rattle.xl_rounds.specs.Rounds.{Round, is_proposing, with_pending, hold}
 use Rattle.xl_rounds.specs.Proposals.{with_answer}
 use Rattle.xl_core.specs.Building.{said_items}
 use Rattle.xl_core.specs.declared.item.Item.TheVariants.{Tx}
-use Rattle.xl_core.proofs.Timing.{timing_by, submit_either}
+use Rattle.xl_core.proofs.Timing.{timing_by, submit_either, relist_either}
 use Rattle.xl_core.specs.declared.report.Report.{Report}
 use Rattle.xl_core.specs.declared.refusal.Refusal.TheVariants.{NotAfter, IssuingOff, KeepFault}
 use Rattle.xl_core.specs.declared.refusal.Refusal.{Refusal}
@@ -28,7 +28,7 @@ use Rattle.xl_core.specs.declared.hearing.Speech.TheVariants as speech
 use Rattle.xl_core.specs.Hearing.{heard}
 use Rattle.xl_core.proofs.Frames.{hearing_either}
 use Rattle.xl_core.specs.Answers.{Answer, Done, Beats}
-use Rattle.xl_core.specs.Node.{settings_of, Node, Event, Issue, Frame, Timer, Submit, Reply, Save, issuing, replying, submitting, completed, timed, validates, asks_for, asks_of, at_moment, second_of, own_validation, issues_unless, unless_failed, take, with_taken, saving, arises, arisen, report_of, refusing, placing, taking, hearing, asks, happens, opened}
+use Rattle.xl_core.specs.Node.{settings_of, Node, Event, Issue, Frame, Timer, Submit, Relist, Reply, relisting, with_list, Save, issuing, replying, submitting, completed, timed, validates, asks_for, asks_of, at_moment, second_of, own_validation, issues_unless, unless_failed, take, with_taken, saving, arises, arisen, report_of, refusing, placing, taking, hearing, asks, happens, opened}
 use Rattle.xl_world.specs.declared.place.Keeper.{Keeper}
 use Rattle.xl_world.specs.declared.place.Fate.{Fate}
 use Rattle.xl_world.specs.declared.place.Fate.TheVariants.{Saved, Unwritten, Written}
@@ -36,6 +36,8 @@ use Rattle.xl_io.specs.Keepers.{MayHold}
 use Rattle.xl_base.specs.Counts.{one_more}
 use Rattle.xl_world.specs.Keeper.{held_by, restored, answer_of, after_failed, after_save}
 use Rattle.xl_validations.proofs.Turning.{members_then}
+use Rattle.xl_validations.proofs.Relisting.{members_relisted}
+use Rattle.xl_core.specs.Lives.{IsFitEvent}
 use Rattle.xl_core.specs.Node.Save.{Kept as AnsweredOk, Failed as AnsweredFailed}
 use Rattle.xl_world.proofs.Seats.{Seat}
 use Rattle.xl_world.specs.World.{said_by}
@@ -94,7 +96,6 @@ failed_rises k s j above (inr e) = (k.in_force, omega (arith, some_number s j e)
 pub still : (p : Seat) (r : Reply) → r.node ≡ p.node → r.issued ≡ None → r.report ≡ None → IsWell p → IsStep p r p.keeper
 still p r node issued report well = record {
   me = ap (λ (n : Node). n.me) node;
-  list = ap (λ (n : Node). n.list) node;
   well = subst (λ n. IsWell (record { node = n; keeper = p.keeper })) (sym node) (record { members = well.members; valid = well.valid; in_force = well.in_force });
   rises = λ j h. (j, omega arith, h);
   above = subst (λ o. IfSome o (λ v. (i : ℕ) × (i < v.seq) × MayHold (held_by p.keeper) i)) (sym issued) tt;
@@ -123,7 +124,6 @@ failed_steps : (p : Seat) (v : Validation) (count : ℕ) (written : Bool) → p.
     IsStep p (refusing (record p.node { failed_save = Some v.seq }) (KeepFault count)) (after_failed p.keeper v.seq written)
 failed_steps p v count written above well = record {
   me = refl;
-  list = refl;
   well = record { members = well.members; valid = well.valid; in_force = well.in_force };
   rises = λ j h. failed_rises p.keeper v.seq j (omega (arith, above, well.in_force)) h;
   above = tt;
@@ -136,7 +136,6 @@ issue_steps : (p : Seat) (v : Validation) (b : Bool) (off : Option ℕ) (fate : 
     IsStep p (cond b (issues_unless p.node off (answer_of p.keeper fate) v) (refusing p.node (NotAfter p.node.kept))) (after_save p.keeper (cond b (unless_failed off v.seq) None) fate)
 issue_steps p v true None Saved above well = record {
   me = refl;
-  list = refl;
   well = record { members = members_taken (second_of p.node) p.node.me v p.node.rows ∙ well.members; valid = well.valid; in_force = refl };
   rises = λ j h. (p.keeper.in_force, omega (arith, held p.keeper v.seq j h, above refl, well.in_force), inl refl);
   above = (p.keeper.in_force, omega (arith, above refl, well.in_force), inl refl);
@@ -150,18 +149,17 @@ issue_steps p v false off fate above well = still p (refusing p.node (NotAfter p
 
 -- another round, on other ledgers
 elsewhere : (p : Seat) (r : Reply) (k : Keeper) (ledgers : Ledgers) (round : Round) → IsStep p r k → IsStep p (record r { node = record r.node { ledgers = ledgers; round = round } }) k
-elsewhere p r k ledgers round s = record { me = s.me; list = s.list; well = record { members = s.well.members; valid = s.well.valid; in_force = s.well.in_force }; rises = s.rises; above = s.above; saved = s.saved; quorum = s.quorum }
+elsewhere p r k ledgers round s = record { me = s.me; well = record { members = s.well.members; valid = s.well.valid; in_force = s.well.in_force }; rises = s.rises; above = s.above; saved = s.saved; quorum = s.quorum }
 
 in_round : (p : Seat) (a : Answer) (r : Round) → IsWell p → IsStep p (replying (record p.node { round = r }) a []) p.keeper
 in_round p a r well =
     let s = elsewhere p (replying p.node a []) p.keeper p.node.ledgers r (still p (replying p.node a []) refl refl refl well) in
-    record { me = s.me; list = s.list; well = s.well; rises = s.rises; above = s.above; saved = s.saved; quorum = s.quorum }
+    record { me = s.me; well = s.well; rises = s.rises; above = s.above; saved = s.saved; quorum = s.quorum }
 
 -- a row takes a validation; a header changes no row and no number
 taking_steps : (p : Seat) (from : ℕ) (what : Speech) → IsWell p → IsStep p (taking p.node from what) p.keeper
 taking_steps p from (speech.Validation v) well = record {
   me = refl;
-  list = refl;
   well = record { members = members_taken (second_of p.node) from v p.node.rows ∙ well.members; valid = well.valid; in_force = well.in_force };
   rises = λ j h. (j, omega arith, h);
   above = tt;
@@ -171,7 +169,7 @@ taking_steps p from (speech.Validation v) well = record {
 taking_steps p from (speech.Header h) well =
     let r : Reply = taking p.node from (speech.Header h) in
     let s = elsewhere p (replying p.node r.answer []) p.keeper (with_header p.node.ledgers h) p.node.round (still p (replying p.node r.answer []) refl refl refl well) in
-    record { me = s.me; list = s.list; well = s.well; rises = s.rises; above = s.above; saved = s.saved; quorum = s.quorum }
+    record { me = s.me; well = s.well; rises = s.rises; above = s.above; saved = s.saved; quorum = s.quorum }
 taking_steps p from (speech.Proposal q) well = in_round p (taking p.node from (speech.Proposal q)).answer (with_answer (placing p.node from q) from q p.node.round) well
 taking_steps p from (speech.TxSet ids) well = in_round p (taking p.node from (speech.TxSet ids)).answer (hold from ids p.node.round) well
 taking_steps p from (speech.Tx tx) well = in_round p (taking p.node from (speech.Tx tx)).answer (with_pending tx p.node.round) well
@@ -188,7 +186,7 @@ well_then : (now : ℕ) (p : Seat) → IsWell p → IsWell (moved now p)
 well_then now p well = record { members = members_then (max p.node.time now / 1000) p.node.rows ∙ well.members; valid = well.valid; in_force = well.in_force }
 
 from_moved : (now : ℕ) (p : Seat) (r : Reply) (k : Keeper) → IsStep (moved now p) r k → IsStep p r k
-from_moved now p r k s = record { me = s.me; list = s.list; well = s.well; rises = s.rises; above = s.above; saved = s.saved; quorum = s.quorum }
+from_moved now p r k s = record { me = s.me; well = s.well; rises = s.rises; above = s.above; saved = s.saved; quorum = s.quorum }
 
 validating_steps : (p : Seat) (h : Header) (full : Bool) (b : Bool) (fate : Fate) → IsWell p →
     IsStep p (cond b (issuing p.node h.seq (header_id h) full (answer_of p.keeper fate)) (replying p.node Done [])) (after_save p.keeper (cond b (asks_for p.node h.seq) None) fate)
@@ -200,26 +198,39 @@ timer_steps : (p : Seat) (fate : Fate) → IsWell p → IsStep p (completed (tim
 timer_steps p fate well =
     timing_by (λ t. IsStep p (completed t (answer_of p.keeper fate)) (after_save p.keeper (asks_of t) fate)) p.node
     (λ r beat said. let s = elsewhere p (replying p.node (Beats beat) (said_items said)) p.keeper p.node.ledgers r (still p (replying p.node (Beats beat) (said_items said)) refl refl refl well) in
-    record { me = s.me; list = s.list; well = s.well; rises = s.rises; above = s.above; saved = s.saved; quorum = s.quorum })
+    record { me = s.me; well = s.well; rises = s.rises; above = s.above; saved = s.saved; quorum = s.quorum })
     (λ ledgers r said h place moved_on _.
     let q : Seat = record { node = record p.node { ledgers = ledgers; round = r }; keeper = p.keeper } in
     let s = validating_steps q h (is_proposing r.setting.mode) (validates q.node moved_on) fate (record { members = well.members; valid = well.valid; in_force = well.in_force }) in
-    record { me = s.me; list = s.list; well = record { members = s.well.members; valid = s.well.valid; in_force = s.well.in_force }; rises = s.rises; above = s.above; saved = s.saved; quorum = s.quorum })
+    record { me = s.me; well = record { members = s.well.members; valid = s.well.valid; in_force = s.well.in_force }; rises = s.rises; above = s.above; saved = s.saved; quorum = s.quorum })
 
 submit_steps : (p : Seat) (tx : TxId) → IsWell p → IsStep p (submitting p.node tx) p.keeper
 submit_steps p tx well =
     submit_either (λ r. IsStep p r p.keeper) p.node tx (λ why. still p (refusing p.node why) refl refl refl well)
     (let s = elsewhere p (replying p.node Done (Tx tx ∷ [])) p.keeper p.node.ledgers (with_pending tx p.node.round) (still p (replying p.node Done (Tx tx ∷ [])) refl refl refl well) in
-    record { me = s.me; list = s.list; well = s.well; rises = s.rises; above = s.above; saved = s.saved; quorum = s.quorum })
+    record { me = s.me; well = s.well; rises = s.rises; above = s.above; saved = s.saved; quorum = s.quorum })
 
-pub happens_steps : (p : Seat) (e : Event) (fate : Fate) → IsWell p → IsStep p (happens p.node e (answer_of p.keeper fate)) (after_save p.keeper (asks p.node e) fate)
-happens_steps p (Issue now seq id full) fate well =
+relisting_steps : (p : Seat) (list : TrustedList) → IsValid list → IsWell p → IsStep p (relisting p.node list) p.keeper
+relisting_steps p list valid well =
+    relist_either (λ r. IsStep p r p.keeper) p.node list (λ why. still p (refusing p.node why) refl refl refl well)
+    (λ _. record {
+      me = refl;
+      well = record { members = members_relisted list.members p.node.rows; valid = valid; in_force = well.in_force };
+      rises = λ j h. (j, omega arith, h);
+      above = tt;
+      saved = tt;
+      quorum = arisen_quorum (with_list p.node list);
+    })
+
+pub happens_steps : (p : Seat) (e : Event) (fate : Fate) → IsFitEvent e → IsWell p → IsStep p (happens p.node e (answer_of p.keeper fate)) (after_save p.keeper (asks p.node e) fate)
+happens_steps p (Issue now seq id full) fate fit well =
     let m : Node = at_moment now p.node in
     from_moved now p _ _ (issue_steps (moved now p) (own_validation m seq id full) (nat_lt m.kept seq) m.failed_save fate (λ e. ltb-true _ _ e) (well_then now p well))
-happens_steps p (Timer now) fate well = from_moved now p _ _ (timer_steps (moved now p) fate (well_then now p well))
-happens_steps p (Submit now tx) fate well = from_moved now p _ _ (submit_steps (moved now p) tx (well_then now p well))
-happens_steps p (Frame now bytes) fate well =
+happens_steps p (Timer now) fate fit well = from_moved now p _ _ (timer_steps (moved now p) fate (well_then now p well))
+happens_steps p (Submit now tx) fate fit well = from_moved now p _ _ (submit_steps (moved now p) tx (well_then now p well))
+happens_steps p (Frame now bytes) fate fit well =
     from_moved now p _ _ (hearing_steps (moved now p) bytes (well_then now p well))
+happens_steps p (Relist now list) fate fit well = from_moved now p _ _ (relisting_steps (moved now p) list fit (well_then now p well))
 
 -- WHAT STANDS AT THE NODE
 
@@ -228,12 +239,14 @@ abbrev pub HeardSays : (SaidLedger → Type 0) → Node → Event → Type 0
 HeardSays P n (Issue now seq id full) = Unit {0}
 HeardSays P n (Timer now) = Unit {0}
 HeardSays P n (Submit now tx) = Unit {0}
+HeardSays P n (Relist now list) = Unit {0}
 HeardSays P n (Frame now bytes) = (from : ℕ) (v : Validation) → heard n.keys n.list.members bytes ≡ Ok (record { from = from; what = speech.Validation v }) → P (said_by from v)
 
 pub heard_weaker : (P Q : SaidLedger → Type 0) → ((x : SaidLedger) → P x → Q x) → (n : Node) (e : Event) → HeardSays P n e → HeardSays Q n e
 heard_weaker P Q h n (Issue now seq id full) says = tt
 heard_weaker P Q h n (Timer now) says = tt
 heard_weaker P Q h n (Submit now tx) says = tt
+heard_weaker P Q h n (Relist now list) says = tt
 heard_weaker P Q h n (Frame now bytes) says = λ from v is. h (said_by from v) (says from v is)
 
 issue_says : (P : SaidLedger → Type 0) (n : Node) (v : Validation) (b : Bool) (off : Option ℕ) (save : Save) → NodeSays P n →
@@ -271,6 +284,16 @@ rows_then P now (row ∷ rows) says =
 says_then : (P : SaidLedger → Type 0) (now : ℕ) (n : Node) → NodeSays P n → NodeSays P (at_moment now n)
 says_then P now n says = rows_then P (max n.time now / 1000) n.rows says
 
+-- members that stay on a list say what they said, and new ones nothing
+row_for_says : (P : SaidLedger → Type 0) (m : ℕ) (rows : List Row) → All (RowSays P) rows → RowSays P (row_for rows m)
+row_for_says P m [] says = tt
+row_for_says P m (row ∷ rows) says =
+    cond_both (row.member == m) (Some row) (row_of rows m) (λ o. RowSays P (unwrap_or o (empty_row m)))
+    (λ _. All-head (RowSays P) row rows says) (λ _. row_for_says P m rows (All-tail (RowSays P) row rows says))
+
+relisted_says : (P : SaidLedger → Type 0) (ms : List ℕ) (rows : List Row) → All (RowSays P) rows → All (RowSays P) (relisted ms rows)
+relisted_says P ms rows says = All-map (RowSays P) (row_for rows) ms (λ k e _. row_for_says P _ rows says)
+
 -- what holds of what stands at the node, of what came and of what is issued holds of what stands there then
 validating_says : (P : SaidLedger → Type 0) (n : Node) (h : Header) (full : Bool) (b : Bool) (save : Save) → NodeSays P n →
     IfSome (cond b (issuing n h.seq (header_id h) full save) (replying n Done [])).issued (λ u. P (said_by n.me u)) →
@@ -296,6 +319,10 @@ happens_says P n (Submit now tx) save says heard fair =
     submit_either (ReplySays P n.me) (at_moment now n) tx (λ _. record { node = says_then P now n says; issued = tt }) (record { node = says_then P now n says; issued = tt })
 happens_says P n (Frame now bytes) save says fair issued =
     hearing_says P (at_moment now n) bytes (says_then P now n says) fair
+happens_says P n (Relist now list) save says heard fair =
+    let m : Node = at_moment now n in
+    relist_either (ReplySays P n.me) m list (λ _. record { node = says_then P now n says; issued = tt })
+    (λ _. record { node = relisted_says P list.members m.rows (says_then P now n says); issued = tt })
 
 -- a node that is opened has nothing
 pub opened_says : (P : SaidLedger → Type 0) (settings : Settings) (now kept : ℕ) → NodeSays P (opened settings now kept)
@@ -321,6 +348,7 @@ asks_above n (Timer now) =
     let b : Node = record m { ledgers = ledgers; round = r } in
     cond_both (validates b moved_on) (asks_for b h.seq) None (λ o. IfSome o (λ s. n.kept < s)) (λ _. asks_for_above b h.seq) (λ _. tt))
 asks_above n (Submit now tx) = tt
+asks_above n (Relist now list) = tt
 asks_above n (Frame now bytes) = tt
 
 -- a node that is opened says and reports nothing
@@ -332,7 +360,6 @@ pub opened_steps : (p : Seat) (now number : ℕ) → IsWell p → (i : ℕ) × (
     IsStep p (quiet (opened (settings_of p.node) now number)) (restored p.keeper number)
 opened_steps p now number well low = record {
   me = refl;
-  list = refl;
   well = opened_well (settings_of p.node) now number (restored p.keeper number) well.valid refl;
   rises = λ j h. (low.0, omega (arith, held p.keeper number j h, low.1), low.2);
   above = tt;

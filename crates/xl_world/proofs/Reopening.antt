@@ -15,9 +15,10 @@ use Rattle.xl_core.specs.Answers.{Done}
 use Rattle.xl_core.specs.Node.{Node, Reply, Save, Timed, asks_for, asks_of, at_moment, completed, ending, issues_unless, issuing, own_validation, refusing, replying, starting, timed, unless_failed, validates, validating_built}
 use Rattle.xl_core.specs.Node.Timed.{Quiet, Ending}
 use Rattle.xl_core.specs.declared.event.CoreEvent.{CoreEvent}
-use Rattle.xl_core.specs.declared.event.CoreEvent.TheVariants.{Issue, Frame, Timer, Submit, Greet, Drain, Reports, Stop, Stopped}
+use Rattle.xl_core.specs.declared.event.CoreEvent.TheVariants.{Issue, Frame, Timer, Submit, Greet, Drain, Reports, Stop, Stopped, Relist}
 use Rattle.xl_world.specs.declared.place.Keeper.{Keeper}
 use Rattle.xl_world.specs.declared.place.Place.{Place}
+use Rattle.xl_world.specs.declared.plan.InForce.{InForce}
 use Rattle.xl_world.specs.Sending.{Sent}
 use Rattle.xl_world.specs.Keeper.{found, held_by, left_by, restored}
 use Rattle.xl_world.specs.Schedule.{restart}
@@ -43,15 +44,18 @@ left_held k false s = or_left _ _ (eq-eqb k.in_force k.in_force refl)
 
 -- STEPS
 
-same_lists : (w : World) {f f' : List Sent} {r r' : List Reported} (ps : List Place) → f ≡ f' → r ≡ r' → record w { places = ps; sent = f; reports = r } ≡ record w { places = ps; sent = f'; reports = r' }
-same_lists w {f} {f'} {r} {r'} ps a b = ap (λ (x : List Sent). record w { places = ps; sent = x; reports = r }) a ∙ ap (λ (x : List Reported). record w { places = ps; sent = f'; reports = x }) b
+same_lists : (w : World) {f f' : List Sent} {r r' : List Reported} {l l' : List InForce} (ps : List Place) → f ≡ f' → r ≡ r' → l ≡ l' →
+    record w { places = ps; sent = f; reports = r; lists = l } ≡ record w { places = ps; sent = f'; reports = r'; lists = l' }
+same_lists w {f} {f'} {r} {r'} {l} {l'} ps a b c =
+    ap (λ (x : List Sent). record w { places = ps; sent = x; reports = r; lists = l }) a
+    ∙ (ap (λ (x : List Reported). record w { places = ps; sent = f'; reports = x; lists = l }) b ∙ ap (λ (x : List InForce). record w { places = ps; sent = f'; reports = r'; lists = x }) c)
 
 -- a node opened anew with a number that its keeper may hold
 pub again_ran : (w : World) (i now number : ℕ) (p : Place) → place_at i w.places ≡ Some p → may_hold (held_by p.keeper) number ≡ true →
     with_places w (put_again now (restored p.keeper number) (place_at i w.places) w.places) ≡ step w (Again i now number)
 again_ran w i now number p at may =
     ap (λ o. with_places w (put_again now (restored p.keeper number) o w.places)) at
-    ∙ (same_lists w _ (sym (append-nil w.sent)) (sym (append-nil w.reports))
+    ∙ (same_lists w _ (sym (append-nil w.sent)) (sym (append-nil w.reports)) (sym (append-nil w.lists))
     ∙ (sym (cond-true (may_hold (held_by p.keeper) number) (reopened w i p now number) w may)
     ∙ ap (λ o. again w i now number o) (sym at)))
 
@@ -68,7 +72,7 @@ torn_ran w i e new p s at asked =
     let n : ℕ = left_by p.keeper new (Some s) in
     let q : Place = record { core = p.core; keeper = record p.keeper { asked = Some s } } in
     ap (λ o. with_places w (put_again (moment_in e) (restored p.keeper n) o w.places)) at
-    ∙ (same_lists w _ (sym (append-nil w.sent)) (sym (append-nil w.reports))
+    ∙ (same_lists w _ (sym (append-nil w.sent)) (sym (append-nil w.reports)) (sym (append-nil w.lists))
     ∙ (sym (cond-true (may_hold (held_by q.keeper) n) (reopened w i q (moment_in e) n) w (left_held p.keeper new s))
     ∙ (ap (λ o. torn w i (moment_in e) n (Some p) o) (sym asked)
     ∙ ap (λ o. torn w i (moment_in e) n o (asked_at o e)) (sym at))))
@@ -114,3 +118,4 @@ unasked_alike core (Drain member room) s t asks = refl
 unasked_alike core (Reports room) s t asks = refl
 unasked_alike core Stop s t asks = refl
 unasked_alike core Stopped s t asks = refl
+unasked_alike core (Relist now list) s t asks = refl

@@ -8,7 +8,7 @@ use Rattle.xl_core.specs.Node as nodes
 use Rattle.xl_core.specs.Node.{Node, Save}
 use Rattle.xl_core.specs.Queues.{with_report}
 use Rattle.xl_core.specs.declared.event.CoreEvent.{CoreEvent}
-use Rattle.xl_core.specs.declared.event.CoreEvent.TheVariants.{Issue, Frame, Timer, Submit, Greet, Drain, Reports, Stop, Stopped}
+use Rattle.xl_core.specs.declared.event.CoreEvent.TheVariants.{Issue, Frame, Timer, Submit, Greet, Drain, Reports, Stop, Stopped, Relist}
 use Rattle.xl_core.specs.declared.report.Report.{Report}
 use Rattle.xl_tags.specs.Rings.{schedule_ring}
 use Rattle.xl_world.specs.declared.place.Fate.{Fate}
@@ -16,12 +16,12 @@ use Rattle.xl_world.specs.declared.place.Place.{Place}
 use Rattle.xl_world.specs.declared.plan.PlanNode.{PlanNode}
 use Rattle.xl_world.specs.Emptying.{draining, event_steps, handed_out}
 use Rattle.xl_world.specs.Keeper.{answer_of}
-use Rattle.xl_world.specs.Plans.{all_numbers, is_declared, up_from}
+use Rattle.xl_world.specs.Plans.{Shared, all_numbers, is_declared, up_from}
 use Rattle.xl_world.specs.Rested.{Between, IsAtRest, IsRested}
 use Rattle.xl_world.specs.Starts.{start, start_of}
 use Rattle.xl_world.specs.World.{World, keeper_after, place_at, put, reply_at, run}
 use Rattle.xl_world.proofs.Emptying.{emptied, emptied_acts, emptied_node, event_ran, turns_are, untaken_still}
-use Rattle.xl_world.proofs.Keeping.{happens_keeps}
+use Rattle.xl_world.proofs.Keeping.{core_keeps}
 use Rattle.xl_world.proofs.Seats.{some_same}
 use Rattle.xl_world.proofs.Settling.{put_cases}
 
@@ -29,18 +29,6 @@ use Rattle.xl_world.proofs.Settling.{put_cases}
 taken_then : (q : Backlog Report) (o : Option Report) → q.items ≡ [] → drop 1 (with_report q o).items ≡ []
 taken_then q None none = ap (drop 1) none
 taken_then q (Some report) none = ap (λ (xs : List Report). drop 1 (let x : Backlog Report = with_item 1024 (record { items = xs; lost = 0 }) report in x.items)) none
-
--- a core keeps its number and its keys
-pub core_keyed : (core : Core) (e : CoreEvent) (save : Save) → let n = (core_happens core e save).core.node in (n.me ≡ core.node.me) × (n.keys ≡ core.node.keys)
-core_keyed core (Issue now seq id full) save = let keeps = happens_keeps core.node (nodes.Issue now seq id full) save in (keeps.0, keeps.2)
-core_keyed core (Frame now bytes) save = let keeps = happens_keeps core.node (nodes.Frame now bytes) save in (keeps.0, keeps.2)
-core_keyed core (Timer now) save = let keeps = happens_keeps core.node (nodes.Timer now) save in (keeps.0, keeps.2)
-core_keyed core (Submit now tx) save = let keeps = happens_keeps core.node (nodes.Submit now tx) save in (keeps.0, keeps.2)
-core_keyed core (Greet member) save = (refl, refl)
-core_keyed core (Drain member room) save = (refl, refl)
-core_keyed core (Reports room) save = (refl, refl)
-core_keyed core Stop save = (refl, refl)
-core_keyed core Stopped save = (refl, refl)
 
 dropped_twice : (room : ℕ) (xs : List Report) → xs ≡ [] → drop 1 (drop room xs) ≡ []
 dropped_twice zero xs none = ap (drop 1) none
@@ -57,10 +45,11 @@ taken_after core (Drain member room) save none = ap (drop 1) none
 taken_after core (Reports room) save none = dropped_twice room core.untaken.items none
 taken_after core Stop save none = ap (drop 1) none
 taken_after core Stopped save none = ap (drop 1) none
+taken_after core (Relist now list) save none = taken_then core.untaken (core_happens core (Relist now list) save).report none
 
 pub rested_after : (core : Core) (e : CoreEvent) (save : Save) → IsRested core → IsRested (handed_out (core_happens core e save).core)
 rested_after core e save rested =
-    let keyed = core_keyed core e save in
+    let keyed = core_keeps core e save in
     record { untaken = taken_after core e save rested.untaken; keys = keyed.1 ∙ (rested.keys ∙ ap schedule_ring (sym keyed.0)) }
 
 -- and once it is emptied
@@ -112,15 +101,15 @@ unfolding up_from
 up_between n zero le low less = tt
 up_between n (suc k) le low less = (less, omega (arith, le), up_between (n + 1) k (omega (arith, le)) n (omega arith))
 
-all_opened : (limit : ℕ) (plan : List PlanNode) (i : ℕ) (p : Place) → place_at i (map (start_of limit) plan) ≡ Some p → IsRested p.core
-all_opened limit [] i p h = cc
-all_opened limit (d ∷ ds) i p h =
-    cond_both (d.me == i) (Some (start_of limit d)) (place_at i (map (start_of limit) ds)) (λ o. o ≡ Some p → IsRested p.core)
-    (λ _ here. subst (λ (x : Place). IsRested x.core) (sym (some_same (start_of limit d) p here)) (record { untaken = refl; keys = refl }))
-    (λ _ there. all_opened limit ds i p there) h
+all_opened : (shared : Shared) (plan : List PlanNode) (i : ℕ) (p : Place) → place_at i (map (start_of shared) plan) ≡ Some p → IsRested p.core
+all_opened shared [] i p h = cc
+all_opened shared (d ∷ ds) i p h =
+    cond_both (d.me == i) (Some (start_of shared d)) (place_at i (map (start_of shared) ds)) (λ o. o ≡ Some p → IsRested p.core)
+    (λ _ here. subst (λ (x : Place). IsRested x.core) (sym (some_same (start_of shared d) p here)) (record { untaken = refl; keys = refl }))
+    (λ _ there. all_opened shared ds i p there) h
 
-pub start_rests : (limit : ℕ) (liars : List ℕ) (plan : List PlanNode) → IsAtRest (start limit liars plan)
-start_rests limit liars plan = record {
+pub start_rests : (shared : Shared) (liars : List ℕ) (plan : List PlanNode) → IsAtRest (start shared liars plan)
+start_rests shared liars plan = record {
   numbers = between_filter (is_declared liars plan) 0 all_numbers (up_between 1 64 (omega arith) 0 (omega arith));
-  cores = all_opened limit plan;
+  cores = all_opened shared plan;
 }

@@ -2,13 +2,13 @@
 use Rattle.std.proofs.Common.{◌≡◌, ℕ, ◌<◌, ◌≤◌, Bool, true, false, cond, List, [], ◌∷◌, ◌++◌, refl, arith, ap, sym, ◌∙◌, Option, Some, None, subst}
 use Rattle.std.specs.Prelude.{◌==◌, All, IfSome, map, filter, slice_index_or}
 use Rattle.std.proofs.lemmas.Bool.{cond_both}
-use Rattle.std.proofs.lemmas.List.Elements.{All-map, All-head, All-tail, All-nil}
+use Rattle.std.proofs.lemmas.List.Elements.{All-append, All-cons, All-map, All-head, All-tail, All-nil}
 use Rattle.xl_lists.specs.declared.said.SaidLedger.{SaidLedger}
 use Rattle.xl_lists.specs.declared.report.Report.{Report as Reported}
 use Rattle.xl_lists.specs.Agreement.{IsGenuine, IsBacked, Agree}
 use Rattle.xl_lists.proofs.Agreement.{agreement_from_kept, vouches_still}
 use Rattle.xl_core.specs.declared.event.CoreEvent.{CoreEvent}
-use Rattle.xl_core.specs.declared.event.CoreEvent.TheVariants.{Issue, Frame, Timer, Submit, Greet, Drain, Reports, Stop, Stopped}
+use Rattle.xl_core.specs.declared.event.CoreEvent.TheVariants.{Issue, Frame, Timer, Submit, Greet, Drain, Reports, Stop, Stopped, Relist}
 use Rattle.xl_core.specs.declared.hearing.Speech.TheVariants as speech
 use Rattle.xl_core.specs.Answers.{Done}
 use Rattle.xl_core.specs.Core.{Core, CoreReply, answering, core_asks}
@@ -22,11 +22,11 @@ use Rattle.xl_world.specs.Sending.{Sent}
 use Rattle.xl_io.specs.Keepers.{MayHold, may_hold}
 use Rattle.xl_base.specs.Counts.{one_more}
 use Rattle.xl_world.specs.Keeper.{held_by, resting, restored, answer_of}
-use Rattle.xl_world.specs.Plans.{planned, AreDeclared, is_declared, all_numbers}
+use Rattle.xl_world.specs.Plans.{Shared, planned, AreDeclared}
 use Rattle.xl_world.proofs.Standing.{FrameSays}
 use Rattle.xl_world.specs.World.{said_by}
 use Rattle.xl_world.specs.declared.place.Place.{Place}
-use Rattle.xl_world.specs.World.{World, Step, Act, Again, Torn, Mark, place_at, is_forged, acts, reply_at, keeper_after, core_again, reopened, again, torn, moment_in, asked_at, marked, step, run}
+use Rattle.xl_world.specs.World.{World, Step, Act, Again, Torn, Mark, AreFit, IsFit, IsFitEvent, place_at, is_forged, set_by, acts, reply_at, keeper_after, core_again, reopened, again, torn, moment_in, asked_at, marked, step, run}
 use Rattle.xl_world.specs.Starts.{start_of, start, IsRun}
 use Rattle.xl_world.proofs.Standing.{CoreSays, Stands}
 use Rattle.xl_world.proofs.NodeSteps.{asks_above, failed_rises, opened_well}
@@ -48,6 +48,7 @@ heard_genuine w n stands (Drain member room) fair = tt
 heard_genuine w n stands (Reports room) fair = tt
 heard_genuine w n stands Stop fair = tt
 heard_genuine w n stands Stopped fair = tt
+heard_genuine w n stands (Relist now list) fair = tt
 
 heard_weaker : (P Q : SaidLedger → Type 0) → ((x : SaidLedger) → P x → Q x) → (n : Node) (e : CoreEvent) → CoreHeard P n e → CoreHeard Q n e
 heard_weaker P Q h n (Issue now seq id full) says = tt
@@ -59,16 +60,17 @@ heard_weaker P Q h n (Drain member room) says = tt
 heard_weaker P Q h n (Reports room) says = tt
 heard_weaker P Q h n Stop says = tt
 heard_weaker P Q h n Stopped says = tt
+heard_weaker P Q h n (Relist now list) says = tt
 
 -- THE STEPS
 
-act_sound : (w : World) (i : ℕ) (e : CoreEvent) (fate : Fate) → IsSound w → (o : Option Place) → place_at i w.places ≡ o → (acts w i e fate o).forged ≡ 0 → IsSound (acts w i e fate o)
-act_sound w i e fate sound None at same = sound
-act_sound w i e fate sound (Some p) at same =
+act_sound : (w : World) (i : ℕ) (e : CoreEvent) (fate : Fate) → IsFitEvent e → IsSound w → (o : Option Place) → place_at i w.places ≡ o → (acts w i e fate o).forged ≡ 0 → IsSound (acts w i e fate o)
+act_sound w i e fate fit sound None at same = sound
+act_sound w i e fate fit sound (Some p) at same =
     let its : p.core.node.me ≡ i = at_its_number i w.places p at in
     let r : CoreReply = reply_at p e fate in
     let still = λ (x : SaidLedger). vouches_still w.liars w.said (spoken i r.issued) x.member x.seq x.id in
-    settled_sound w i (is_forged w p.core.node e) p r (keeper_after p e fate) at (core_steps p e fate (sound.well i p at))
+    settled_sound w i (is_forged w p.core.node e) (set_by p.core.node.me e r.answer) p r (keeper_after p e fate) at (core_steps p e fate fit (sound.well i p at))
     (core_says (GenuineThen w i r) p.core e (answer_of p.keeper fate)
     (core_weaker (IsGenuine w.liars w.said) (GenuineThen w i r) still p.core (sound.kept.genuine.places i p at))
     (heard_weaker (IsGenuine w.liars w.said) (GenuineThen w i r) still p.core.node e (heard_genuine w p.core.node sound.kept.genuine e (not_forged (is_forged w p.core.node e) w.forged same)))
@@ -83,7 +85,7 @@ act_sound w i e fate sound (Some p) at same =
 reopened_sound : (w : World) (i now number : ℕ) → IsSound w → (p : Place) → place_at i w.places ≡ Some p → (k : ℕ) × (k ≤ number) × MayHold (held_by p.keeper) k → (asked : Option ℕ) →
     IsSound (reopened w i (record { core = p.core; keeper = record p.keeper { asked = asked } }) now number)
 reopened_sound w i now number sound p at low asked =
-    settled_sound w i false p (answering (core_again p now number) Done) (restored (record p.keeper { asked = asked }) number) at
+    settled_sound w i false None p (answering (core_again p now number) Done) (restored (record p.keeper { asked = asked }) number) at
     (opened_core_steps p now number asked (sound.well i p at) low)
     (record { core = opened_core_says (IsGenuine w.liars w.said) (settings_of p.core.node) now number; sent = All-nil (FrameSays (IsGenuine w.liars w.said)) }) sound
 
@@ -112,6 +114,7 @@ asked_above core (Drain member room) = tt
 asked_above core (Reports room) = tt
 asked_above core Stop = tt
 asked_above core Stopped = tt
+asked_above core (Relist now list) = tt
 
 torn_at : (w : World) (i now number : ℕ) (e : CoreEvent) → IsSound w → (o : Option Place) → place_at i w.places ≡ o → IsSound (torn w i now number o (asked_at o e))
 torn_at w i now number e sound None at = sound
@@ -129,11 +132,11 @@ marked_sound w sound = record {
   well = sound.well;
 }
 
-step_sound : (w : World) (s : Step) → (step w s).forged ≡ 0 → IsSound w → IsSound (step w s)
-step_sound w (Act i e fate) same sound = act_sound w i e fate sound (place_at i w.places) refl same
-step_sound w (Again i now number) same sound = again_sound w i now number sound (place_at i w.places) refl
-step_sound w (Torn i e number) same sound = torn_at w i (moment_in e) number e sound (place_at i w.places) refl
-step_sound w Mark same sound = marked_sound w sound
+step_sound : (w : World) (s : Step) → IsFit s → (step w s).forged ≡ 0 → IsSound w → IsSound (step w s)
+step_sound w (Act i e fate) fit same sound = act_sound w i e fate fit sound (place_at i w.places) refl same
+step_sound w (Again i now number) fit same sound = again_sound w i now number sound (place_at i w.places) refl
+step_sound w (Torn i e number) fit same sound = torn_at w i (moment_in e) number e sound (place_at i w.places) refl
+step_sound w Mark fit same sound = marked_sound w sound
 
 -- WHAT STAYS OVER A RUN
 
@@ -170,9 +173,10 @@ run_stays w (s ∷ ss) =
     record { liars = rest.liars ∙ first.liars; forged = λ h. first.forged (rest.forged h) }
 
 -- each world of an unforged run is sound
-pub run_sound : (w : World) (ss : List Step) → (run w ss).forged ≡ 0 → IsSound w → IsSound (run w ss)
-run_sound w [] none sound = sound
-run_sound w (s ∷ ss) none sound = run_sound (step w s) ss none (step_sound w s ((run_stays (step w s) ss).forged none) sound)
+pub run_sound : (w : World) (ss : List Step) → AreFit ss → (run w ss).forged ≡ 0 → IsSound w → IsSound (run w ss)
+run_sound w [] fit none sound = sound
+run_sound w (s ∷ ss) fit none sound =
+    run_sound (step w s) ss (All-tail IsFit s ss fit) none (step_sound w s (All-head IsFit s ss fit) ((run_stays (step w s) ss).forged none) sound)
 
 -- what holds of each place holds of the one of a number
 each_at : (P : Place → Type 0) (i : ℕ) (ps : List Place) (p : Place) → All P ps → place_at i ps ≡ Some p → P p
@@ -181,29 +185,29 @@ each_at P i (x ∷ xs) p each h =
     cond_both (x.core.node.me == i) (Some x) (place_at i xs) (λ o. o ≡ Some p → P p)
     (λ _ here. subst P (sym (some_same x p here)) (All-head P x xs each)) (λ _ there. each_at P i xs p (All-tail P x xs each) there) h
 
-start_sound : (limit : ℕ) (liars : List ℕ) (plan : List PlanNode) → AreDeclared plan → IsSound (start limit liars plan)
-start_sound limit liars plan lists = record {
+start_sound : (shared : Shared) (liars : List ℕ) (plan : List PlanNode) → AreDeclared plan → IsSound (start shared liars plan)
+start_sound shared liars plan lists = record {
   kept = record {
     saved = λ m s n id said _. cc;
     once = λ m s a b said _. cc;
     genuine = record {
       places = λ i p h. each_at (λ x. CoreSays (IsGenuine liars []) x.core) i _ p
-          (All-map (λ x. CoreSays (IsGenuine liars []) x.core) (start_of limit) plan
-          (λ k e _. let d : PlanNode = slice_index_or plan k e in opened_core_says (IsGenuine liars []) (planned limit d) d.moment 0)) h;
+          (All-map (λ x. CoreSays (IsGenuine liars []) x.core) (start_of shared) plan
+          (λ k e _. let d : PlanNode = slice_index_or plan k e in opened_core_says (IsGenuine liars []) (planned shared d) d.moment 0)) h;
       sent = All-nil (FrameSays (IsGenuine liars []));
     };
     backed = All-nil (IsBacked liars []);
   };
   well = λ i p h. each_at (λ x. IsWell (seat x.core x.keeper)) i _ p
-      (All-map (λ x. IsWell (seat x.core x.keeper)) (start_of limit) plan
-      (λ k e in_plan. let d : PlanNode = slice_index_or plan k e in opened_well (planned limit d) d.moment 0 (resting 0) (lists k e in_plan).list refl)) h;
+      (All-map (λ x. IsWell (seat x.core x.keeper)) (start_of shared) plan
+      (λ k e in_plan. let d : PlanNode = slice_index_or plan k e in opened_well (planned shared d) d.moment 0 (resting 0) (lists k e in_plan).list refl)) h;
 }
 
 -- reports agree, in each unforged run
-pub agreement : (limit : ℕ) (liars : List ℕ) (plan : List PlanNode) (steps : List Step) → AreDeclared plan → (run (start limit liars plan) steps).forged ≡ 0 → Agree liars (run (start limit liars plan) steps).reports
-agreement limit liars plan steps lists none =
-    subst (λ ls. Agree ls (run (start limit liars plan) steps).reports) (run_stays (start limit liars plan) steps).liars
-    (agreement_from_kept (run_sound (start limit liars plan) steps none (start_sound limit liars plan lists)).kept)
+pub agreement : (shared : Shared) (liars : List ℕ) (plan : List PlanNode) (steps : List Step) → AreDeclared plan → AreFit steps → (run (start shared liars plan) steps).forged ≡ 0 → Agree liars (run (start shared liars plan) steps).reports
+agreement shared liars plan steps lists fit none =
+    subst (λ ls. Agree ls (run (start shared liars plan) steps).reports) (run_stays (start shared liars plan) steps).liars
+    (agreement_from_kept (run_sound (start shared liars plan) steps fit none (start_sound shared liars plan lists)).kept)
 
 -- RUNS GO ON
 
@@ -212,30 +216,14 @@ run-append w [] ts = refl
 run-append w (s ∷ ss) ts = run-append (step w s) ss ts
 
 -- a run and a step more
-pub run_more : (w v : World) (s : Step) → v ≡ step w s → IsRun w → IsRun v
-run_more w v s is run_w =
-    let e : run (start run_w.0 w.liars run_w.1) (run_w.2 ++ s ∷ []) ≡ v = run-append (start run_w.0 w.liars run_w.1) run_w.2 (s ∷ []) ∙ (ap (λ (u : World). step u s) (sym run_w.4) ∙ sym is) in
+pub run_more : (w v : World) (s : Step) → v ≡ step w s → IsFit s → IsRun w → IsRun v
+run_more w v s is fit run_w =
+    let e : run (start run_w.0 w.liars run_w.1) (run_w.2 ++ s ∷ []) ≡ v = run-append (start run_w.0 w.liars run_w.1) run_w.2 (s ∷ []) ∙ (ap (λ (u : World). step u s) (sym run_w.5) ∙ sym is) in
     let same : w.liars ≡ v.liars = sym (step_stays w s).liars ∙ ap (λ (u : World). u.liars) (sym is) in
-    (run_w.0, run_w.1, (run_w.2 ++ s ∷ []), run_w.3, sym (subst (λ ls. run (start run_w.0 ls run_w.1) (run_w.2 ++ s ∷ []) ≡ v) same e))
+    let all : AreFit (run_w.2 ++ s ∷ []) = All-append IsFit run_w.2 (s ∷ []) run_w.4 (All-cons IsFit s [] fit (All-nil IsFit)) in
+    (run_w.0, run_w.1, (run_w.2 ++ s ∷ []), run_w.3, all, sym (subst (λ ls. run (start run_w.0 ls run_w.1) (run_w.2 ++ s ∷ []) ≡ v) same e))
 
 -- a run and more steps
-pub run_on : (w v : World) (ss : List Step) → v ≡ run w ss → IsRun w → IsRun v
-run_on w v [] is run_w = subst (λ (u : World). IsRun u) (sym is) run_w
-run_on w v (s ∷ ss) is run_w = run_on (step w s) v ss is (run_more w (step w s) s refl run_w)
-
--- a world that has just been opened is one
-pub opened_run : (limit : ℕ) (liars declared : List ℕ) (plan : List PlanNode) (numbers : List ℕ) (places : List Place) (sent : List Sent) (said : List SaidLedger) (reports : List Reported) →
-    liars ≡ declared → numbers ≡ filter (is_declared declared plan) all_numbers → places ≡ map (start_of limit) plan → sent ≡ [] → said ≡ [] → reports ≡ [] → AreDeclared plan →
-    IsRun (record { liars = liars; numbers = numbers; places = places; sent = sent; mark = 0; said = said; reports = reports; forged = 0 })
-opened_run limit liars declared plan numbers places sent said reports same is_numbers is_places is_sent is_said is_reports are =
-    let its : numbers ≡ filter (is_declared liars plan) all_numbers = is_numbers ∙ ap (λ (ls : List ℕ). filter (is_declared ls plan) all_numbers) (sym same) in
-    let world = λ (n : List ℕ) (p : List Place) (f : List Sent) (s : List SaidLedger) (r : List Reported). let w : World = record { liars = liars; numbers = n; places = p; sent = f; mark = 0; said = s; reports = r; forged = 0 } in w in (
-      limit,
-      plan,
-      [],
-      are,
-      ap (λ n. world n places sent said reports) its ∙ (ap (λ p. world (filter (is_declared liars plan) all_numbers) p sent said reports) is_places
-          ∙ (ap (λ f. world (filter (is_declared liars plan) all_numbers) (map (start_of limit) plan) f said reports) is_sent
-          ∙ (ap (λ s. world (filter (is_declared liars plan) all_numbers) (map (start_of limit) plan) [] s reports) is_said
-          ∙ ap (λ r. world (filter (is_declared liars plan) all_numbers) (map (start_of limit) plan) [] [] r) is_reports))),
-    )
+pub run_on : (w v : World) (ss : List Step) → v ≡ run w ss → AreFit ss → IsRun w → IsRun v
+run_on w v [] is fit run_w = subst (λ (u : World). IsRun u) (sym is) run_w
+run_on w v (s ∷ ss) is fit run_w = run_on (step w s) v ss is (All-tail IsFit s ss fit) (run_more w (step w s) s refl (All-head IsFit s ss fit) run_w)

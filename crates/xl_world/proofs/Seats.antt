@@ -34,7 +34,6 @@ pub record IsWell (p : Seat) : Type 0 where
 -- what each event at a node must show, of its keeper and its report
 pub record IsStep (p : Seat) (r : Reply) (k : Keeper) : Type 0 where
   pub me : r.node.me ≡ p.node.me
-  pub list : r.node.list ≡ p.node.list
   pub well : IsWell (record { node = r.node; keeper = k })
   pub rises : (j : ℕ) → MayHold (held_by k) j → (i : ℕ) × (i ≤ j) × MayHold (held_by p.keeper) i
   pub above : IfSome r.issued (λ v. (i : ℕ) × (i < v.seq) × MayHold (held_by p.keeper) i)

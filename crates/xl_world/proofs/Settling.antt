@@ -1,5 +1,5 @@
 -- A world stays sound when an event at a core is settled, whatever the event was.
-use Rattle.std.proofs.Common.{◌≡◌, ℕ, ◌<◌, ◌≤◌, Bool, List, [], ◌∷◌, arith, ap, sym, ◌∙◌, inl, inr, Some, subst}
+use Rattle.std.proofs.Common.{◌≡◌, ℕ, ◌<◌, ◌≤◌, Bool, List, [], ◌∷◌, arith, ap, sym, ◌∙◌, inl, inr, Option, Some, subst}
 use Rattle.std.specs.Prelude.{◌==◌, ◌⊎◌, All}
 use Rattle.std.proofs.lemmas.Bool.{eqb-true, eqb-false, cond_both, cond-true, cond-false}
 use Rattle.std.proofs.lemmas.List.Elements.{All-append, All-weaker}
@@ -18,6 +18,7 @@ use Rattle.xl_io.specs.Keepers.{MayHold}
 use Rattle.xl_world.proofs.Standing.{FrameSays, RowSays, said_in}
 use Rattle.xl_world.specs.World.{said_by}
 use Rattle.xl_world.specs.declared.place.Place.{Place}
+use Rattle.xl_world.specs.declared.plan.InForce.{InForce}
 use Rattle.xl_world.specs.Keeper.{held_by}
 use Rattle.xl_world.specs.World.{World, place_at, put, sent_in, settled}
 use Rattle.xl_world.proofs.Standing.{Holds, ItemSays, CoreSays, IsKept}
@@ -84,9 +85,9 @@ pub record IsSound (w : World) : Type 0 where
 abbrev pub GenuineThen : World → ℕ → CoreReply → SaidLedger → Type 0
 GenuineThen w i r = IsGenuine w.liars (with_said w.said (spoken i r.issued))
 
-pub settled_sound : (w : World) (i : ℕ) (forged : Bool) (p : Place) (r : CoreReply) (k : Keeper) → place_at i w.places ≡ Some p → IsStep (seat p.core p.keeper) (node_reply r) k →
-    ReplySays (GenuineThen w i r) r → IsSound w → IsSound (settled w i forged r k)
-settled_sound w i forged p r k at steps says sound =
+pub settled_sound : (w : World) (i : ℕ) (forged : Bool) (set : Option InForce) (p : Place) (r : CoreReply) (k : Keeper) → place_at i w.places ≡ Some p → IsStep (seat p.core p.keeper) (node_reply r) k →
+    ReplySays (GenuineThen w i r) r → IsSound w → IsSound (settled w i forged set r k)
+settled_sound w i forged set p r k at steps says sound =
     let q : Place = record { core = r.core; keeper = k } in
     let its : i ≡ r.core.node.me = sym (steps.me ∙ at_its_number i w.places p at) in
     let before = λ (x : SaidLedger). vouches_still w.liars w.said (spoken i r.issued) x.member x.seq x.id in
@@ -101,7 +102,7 @@ settled_sound w i forged p r k at steps says sound =
             ];
             above = spoken_fact (λ x. (n : ℕ) × (n < x.seq) × Holds w x.member n) i r.issued
                 (if_some _ _ (λ v low. (low.0, low.1, (p, at, low.2))) r.issued steps.above);
-            saved = spoken_fact (λ x. (n : ℕ) → Holds (settled w i forged r k) x.member n → x.seq ≤ n) i r.issued
+            saved = spoken_fact (λ x. (n : ℕ) → Holds (settled w i forged set r k) x.member n → x.seq ≤ n) i r.issued
                 (if_some _ _ (λ v high n (x, h, may). elim (put_cases i q w.places x h) [
                   | inl (_, same_x) ↦ high n (subst (λ (y : Place). MayHold (held_by y.keeper) n) same_x may)
                   | inr (not_its, _) ↦ absurd (not_its its)

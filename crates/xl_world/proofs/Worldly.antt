@@ -4,27 +4,28 @@ use Rattle.std.specs.Prelude.{IfSome}
 use Rattle.std.proofs.lemmas.List.Elements.{All-nil}
 use Rattle.xl_sched.specs.declared.event.What.{What}
 use Rattle.xl_world.specs.declared.plan.PlanNode.{PlanNode}
-use Rattle.xl_world.specs.Plans.{AreDeclared, IsDeclared}
+use Rattle.xl_world.specs.Plans.{AreDeclared, IsDeclared, Shared}
 use Rattle.xl_world.specs.Rested.{IsAtRest}
-use Rattle.xl_world.specs.Schedule.{steps_at}
+use Rattle.xl_world.specs.Schedule.{IsPlausible, steps_at}
 use Rattle.xl_world.specs.Starts.{IsRun, start}
-use Rattle.xl_world.specs.World.{World, run}
+use Rattle.xl_world.specs.World.{World, IsFit, run}
 use Rattle.xl_world.specs.Worlds.{nobody}
 use Rattle.xl_world.proofs.Events.{event_leaves}
+use Rattle.xl_world.proofs.Fitting.{steps_fit}
 use Rattle.xl_world.proofs.Resting.{start_rests}
 use Rattle.xl_world.proofs.Runs.{run_on}
 
 abbrev pub Keeps : World → Type 0
 Keeps w = IsRun w × IsAtRest w
 
-pub starts_well : (w : World) (limit : ℕ) (liars : List ℕ) (plan : List PlanNode) → w ≡ start limit liars plan → AreDeclared plan → Keeps w
-starts_well w limit liars plan is declared = subst Keeps (sym is) ((limit, plan, [], declared, refl), start_rests limit liars plan)
+pub starts_well : (w : World) (shared : Shared) (liars : List ℕ) (plan : List PlanNode) → w ≡ start shared liars plan → AreDeclared plan → Keeps w
+starts_well w shared liars plan is declared = subst Keeps (sym is) ((shared, plan, [], declared, All-nil IsFit, refl), start_rests shared liars plan)
 
-pub goes_well : (w v : World) (at : ℕ) (happening : What) → v ≡ run w (steps_at w at happening) → Keeps w → Keeps v
-goes_well w v at happening is keeps = (run_on w v (steps_at w at happening) is keeps.0, subst IsAtRest (sym is) (event_leaves w at happening keeps.1))
+pub goes_well : (w v : World) (at : ℕ) (happening : What) → v ≡ run w (steps_at w at happening) → IsPlausible happening → Keeps w → Keeps v
+goes_well w v at happening is plausible keeps = (run_on w v (steps_at w at happening) is (steps_fit w at happening plausible) keeps.0, subst IsAtRest (sym is) (event_leaves w at happening keeps.1))
 
 pub nobody_runs : IsRun nobody
-nobody_runs = (0, [], [], All-nil IsDeclared, refl)
+nobody_runs = (record { limit = 0; speak = 1 }, [], [], All-nil IsDeclared, All-nil IsFit, refl)
 
 -- what is taken out of a world keeps it
 pub taken_well : (o : Option World) (w : World) → o ≡ Some w → IfSome o Keeps → Keeps w

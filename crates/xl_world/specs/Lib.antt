@@ -12,3 +12,4 @@ pub mod Seen
 pub mod Indexes
 pub mod Worlds
 pub mod Sending
+pub mod Parts

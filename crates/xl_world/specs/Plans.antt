@@ -20,10 +20,21 @@ all_numbers = up_from 1 64
 abbrev pub is_declared : List ℕ → List PlanNode → ℕ → Bool
 is_declared liars plan k = list_any (λ d. d.me == k) plan || is_on liars k
 
--- what a declared node is opened with, with room for so many ledgers
-abbrev pub planned : ℕ → PlanNode → Settings
-planned limit d =
-    record { me = d.me; list = d.list; keys = schedule_ring d.me; limit = limit; validating = d.validating }
+-- what every node is opened with: room for so many ledgers, and the version of its validations
+pub record Shared : Type 0 where
+  pub limit : ℕ
+  pub speak : ℕ
+
+-- what a declared node is opened with
+abbrev pub planned : Shared → PlanNode → Settings
+planned shared d = record {
+  me = d.me;
+  list = d.list;
+  keys = schedule_ring d.me;
+  limit = shared.limit;
+  validating = d.validating;
+  speak = shared.speak;
+}
 
 -- a node is declared with a number that a member may have, and a list that may be one
 pub record IsDeclared (d : PlanNode) : Type 0 where

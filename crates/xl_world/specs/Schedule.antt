@@ -1,5 +1,5 @@
 -- What an event of a schedule is in a world, and what is told of it. Source: this project's schedule language.
-use Rattle.std.specs.Prelude.{ℕ, zero, suc, ◌==◌, Bool, List, [], ◌∷◌, ◌++◌, drop, slice_get, option_map, option_to_list, if◌then◌else◌}
+use Rattle.std.specs.Prelude.{ℕ, zero, suc, ◌==◌, Bool, List, [], ◌∷◌, ◌++◌, drop, map, slice_get, option_map, option_to_list, if◌then◌else◌}
 use Rattle.std.specs.Prelude.{Some, None}
 use Rattle.std.specs.declared.option.Option.{Option}
 use Rattle.xl_sched.specs.declared.event.Ask.{Ask}
@@ -10,7 +10,9 @@ use Rattle.xl_sched.specs.declared.event.Lied.TheVariants as lied
 use Rattle.xl_sched.specs.declared.event.What.{What}
 use Rattle.xl_sched.specs.declared.event.What.TheVariants as what
 use Rattle.xl_sched.specs.Fits.{IsFitLied}
+use Rattle.xl_lists.specs.Lists.{IsValid}
 use Rattle.xl_tags.specs.Rings.{schedule_ring}
+use Rattle.xl_validations.specs.Rows.{heard_of}
 use Rattle.xl_ledger.specs.declared.refusal.AddRefusal.TheVariants.{Full as RegistryFull}
 use Rattle.xl_core.specs.Answers.{Answer}
 use Rattle.xl_core.specs.Answers as answer
@@ -19,16 +21,16 @@ use Rattle.xl_core.specs.declared.beat.Beat.TheVariants as beat
 use Rattle.xl_core.specs.declared.beat.Issued.{Issued}
 use Rattle.xl_core.specs.declared.beat.Issued.TheVariants as issued
 use Rattle.xl_core.specs.declared.refusal.Refusal.TheVariants.{Header as HeaderRefused}
-use Rattle.xl_core.specs.Core.{CoreReply, core_asks}
+use Rattle.xl_core.specs.Core.{Core, CoreReply, core_asks}
 use Rattle.xl_core.specs.Node.{preferred}
 use Rattle.xl_core.specs.declared.event.CoreEvent.{CoreEvent}
-use Rattle.xl_core.specs.declared.event.CoreEvent.TheVariants.{Issue, Frame, Timer, Submit, Greet}
+use Rattle.xl_core.specs.declared.event.CoreEvent.TheVariants.{Issue, Frame, Timer, Submit, Greet, Relist}
 use Rattle.xl_core.specs.Sending.{sealed_bytes}
 use Rattle.xl_ledger.specs.Headers.{spelling}
 use Rattle.xl_wire.specs.declared.body.Body.{Body}
 use Rattle.xl_wire.specs.declared.body.Body.TheVariants as bodies
 use Rattle.xl_world.specs.declared.outcome.Outcome.{Outcome}
-use Rattle.xl_world.specs.declared.outcome.Outcome.TheVariants.{Switched, Built, Refused, Full, Preferred}
+use Rattle.xl_world.specs.declared.outcome.Outcome.TheVariants.{Switched, Built, Refused, Full, Preferred, Heard}
 use Rattle.xl_world.specs.declared.place.Fate.{Fate}
 use Rattle.xl_world.specs.declared.place.Fate.TheVariants.{Saved, Unwritten, Written}
 use Rattle.xl_world.specs.declared.place.Place.{Place}
@@ -72,9 +74,10 @@ lied_body (lied.Tx tx) = bodies.Tx tx
 abbrev pub lied_bytes : ℕ → ℕ → Lied → List ℕ
 lied_bytes from to lie = sealed_bytes (schedule_ring from) from to (lied_body lie)
 
--- what a liar says is fit to be said: a set is one
+-- what a liar says is fit to be said: a set is one; and a list is one
 abbrev pub IsPlausible : What → Type 0
 IsPlausible (what.Lie from to lie) = IsFitLied lie
+IsPlausible (what.List node list) = IsValid list
 IsPlausible happening = Unit {0}
 
 -- the node that is asked
@@ -138,6 +141,8 @@ steps_at w at (what.Fail new ask) = ask_steps w at ask (failing new)
 steps_at w at (what.Lie from to lie) = hand_steps w at to (lied_bytes from to lie)
 steps_at w at (what.Raw to bytes) = hand_steps w at to bytes
 steps_at w at (what.Prefer node) = []
+steps_at w at (what.List node list) = event_steps w node (Relist at list) Saved
+steps_at w at (what.Heard node) = []
 
 -- the steps that an event is
 abbrev pub steps_of : World → Event → List Step
@@ -205,9 +210,19 @@ told_in w (s ∷ ss) = told_of_step w s ++ told_in (step w s) ss
 abbrev pub preference : ℕ → Option Place → List Outcome
 preference i place = option_to_list (option_map (λ p. Preferred i (preferred p.core.node)) place)
 
+-- what the node of a number heard of the ledger that a member last reported
+abbrev pub hearsay_of : Core → ℕ → Outcome
+hearsay_of core member = Heard core.node.me member (heard_of core.node.rows member)
+
+-- of each member of its list, rising, where there is such a node
+abbrev pub hearsay : ℕ → Option Place → List Outcome
+hearsay i None = []
+hearsay i (Some p) = map (hearsay_of p.core) p.core.node.list.members
+
 -- what is told when something happens at a moment: of the steps that it is, or of what is asked
 abbrev pub outcomes_at : World → ℕ → What → List Outcome
 outcomes_at w at (what.Prefer node) = preference node (place_at node w.places)
+outcomes_at w at (what.Heard node) = hearsay node (place_at node w.places)
 outcomes_at w at happening = told_in w (steps_at w at happening)
 
 -- what is told of an event

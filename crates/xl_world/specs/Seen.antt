@@ -18,7 +18,7 @@ use Rattle.xl_core.specs.declared.beat.Beat.TheVariants as beat
 use Rattle.xl_core.specs.declared.beat.Issued.{Issued}
 use Rattle.xl_core.specs.declared.beat.Issued.TheVariants as issued
 use Rattle.xl_core.specs.declared.event.CoreEvent.{CoreEvent}
-use Rattle.xl_core.specs.declared.event.CoreEvent.TheVariants.{Issue, Frame, Timer, Submit, Greet}
+use Rattle.xl_core.specs.declared.event.CoreEvent.TheVariants.{Issue, Frame, Timer, Submit, Greet, Relist}
 use Rattle.xl_core.specs.declared.refusal.Refusal.{Refusal}
 use Rattle.xl_wire.specs.Heads.{split_of}
 use Rattle.xl_wire.specs.Heads.Split.{Whole}
@@ -43,7 +43,7 @@ use Rattle.xl_world.specs.Forgeries.{forges}
 use Rattle.xl_world.specs.Forks as Forks
 use Rattle.xl_world.specs.Keeper.{after_save, answer_of}
 use Rattle.xl_world.specs.Schedule.{told_of_beat}
-use Rattle.xl_world.specs.World.{World, core_again, keeper_after, place_at, put, reply_at, reported_by, said_by}
+use Rattle.xl_world.specs.World.{World, core_again, keeper_after, place_at, put, reply_at, reported_by, said_by, set_by}
 
 abbrev pub fork_seen : Fork → Forks.Fork
 fork_seen f = record { earlier = f.earlier.now; later = f.later.now }
@@ -64,6 +64,7 @@ deed_event now (deed.Sent to kept) = Frame now (bytes_as_sealed (schedule_ring t
 deed_event now deed.Timer = Timer now
 deed_event now (deed.Submit tx) = Submit now tx
 deed_event now (deed.Greet peer) = Greet peer
+deed_event now (deed.Relist list) = Relist now list.now
 
 -- a node greets another, and a sent frame comes to its receiver
 abbrev pub MayDo : ℕ → Deed → Type 0
@@ -73,6 +74,7 @@ MayDo me (deed.Sent to kept) = to ≡ me
 MayDo me deed.Timer = Unit {0}
 MayDo me (deed.Submit tx) = Unit {0}
 MayDo me (deed.Greet peer) = ¬ (peer ≡ me)
+MayDo me (deed.Relist list) = Unit {0}
 
 -- what a node says in an answer of what happened at it
 abbrev pub reaction_of : Answer → Reaction
@@ -142,6 +144,7 @@ Answers e fate None (Some a) = ⊥
 Answers e fate (Some p) None = ⊥
 Answers e fate (Some p) (Some a) =
     IsAnswer p.core.node.me a (reply_at p e fate) × (a.asked ≡ core_asks p.core e)
+    × (a.set ≡ set_by p.core.node.me e (reply_at p e fate).answer)
 
 abbrev pub AnswersAt : ℕ → CoreEvent → Fate → List Place → Option NodeAnswer → Type 0
 AnswersAt i e fate places answer = Answers e fate (place_at i places) answer
@@ -177,6 +180,7 @@ noted w i a = record w {
   sent = w.sent ++ given_at w.numbers (place_at i w.places);
   said = with_said w.said a.said;
   reports = w.reports ++ option_to_list a.report;
+  lists = w.lists ++ option_to_list a.set;
 }
 
 -- a world with these places

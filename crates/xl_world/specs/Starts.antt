@@ -3,30 +3,36 @@ use Rattle.std.specs.Prelude.{◌≡◌, ℕ, List, [], filter, map}
 use Rattle.xl_core.specs.Core.{with_queues}
 use Rattle.xl_core.specs.Node.{opened}
 use Rattle.xl_world.specs.declared.place.Place.{Place}
+use Rattle.xl_world.specs.declared.plan.InForce.{InForce}
 use Rattle.xl_world.specs.declared.plan.PlanNode.{PlanNode}
 use Rattle.xl_world.specs.Keeper.{resting}
-use Rattle.xl_world.specs.Plans.{AreDeclared, all_numbers, is_declared, planned}
-use Rattle.xl_world.specs.World.{World, Step, run}
+use Rattle.xl_world.specs.Plans.{AreDeclared, Shared, all_numbers, is_declared, planned}
+use Rattle.xl_world.specs.World.{World, Step, AreFit, run}
 
--- a core with room for so many ledgers, and its keeper
-abbrev pub start_of : ℕ → PlanNode → Place
-start_of limit d = record { core = with_queues (opened (planned limit d) d.moment 0); keeper = resting 0 }
+-- a core at its start, and its keeper
+abbrev pub start_of : Shared → PlanNode → Place
+start_of shared d = record { core = with_queues (opened (planned shared d) d.moment 0); keeper = resting 0 }
+
+-- the list with which a node is declared
+abbrev pub list_of : PlanNode → InForce
+list_of d = record { node = d.me; list = d.list }
 
 -- the network at the start
-abbrev pub start : ℕ → List ℕ → List PlanNode → World
-start limit liars plan = record {
+abbrev pub start : Shared → List ℕ → List PlanNode → World
+start shared liars plan = record {
   liars = liars;
   numbers = filter (is_declared liars plan) all_numbers;
-  places = map (start_of limit) plan;
+  places = map (start_of shared) plan;
   sent = [];
   mark = 0;
   said = [];
   reports = [];
+  lists = map list_of plan;
   forged = 0;
 }
 
--- the world comes from a declared one by steps
+-- the world comes from a declared one by steps that are fit to happen
 abbrev pub IsRun : World → Type 0
 IsRun w =
-    (limit : ℕ) × (plan : List PlanNode) × (steps : List Step)
-    × AreDeclared plan × (w ≡ run (start limit w.liars plan) steps)
+    (shared : Shared) × (plan : List PlanNode) × (steps : List Step)
+    × AreDeclared plan × AreFit steps × (w ≡ run (start shared w.liars plan) steps)

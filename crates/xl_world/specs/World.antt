@@ -3,11 +3,11 @@
 -- later place.
 -- Source: Chase and MacBrough, "Analysis of the XRP Ledger Consensus Protocol" (2018); restarts, keepers and queues by
 -- this profile.
-use Rattle.std.specs.Prelude.{ℕ, ◌==◌, Bool, false, List, [], ◌∷◌, ◌++◌, length, map, option_map, option_to_list, find, if◌then◌else◌}
+use Rattle.std.specs.Prelude.{ℕ, All, ◌==◌, Bool, false, List, [], ◌∷◌, ◌++◌, length, map, option_map, option_to_list, find, if◌then◌else◌}
 use Rattle.std.specs.Prelude.{Some, None}
 use Rattle.std.specs.declared.option.Option.{Option}
 use Rattle.xl_io.specs.Keepers.{may_hold}
-use Rattle.xl_lists.specs.Lists.{TrustedList}
+use Rattle.xl_lists.specs.Lists.{TrustedList, IsValid}
 use Rattle.xl_lists.specs.declared.said.SaidLedger.{SaidLedger}
 use Rattle.xl_lists.specs.declared.report.Report.{Report as Reported}
 use Rattle.xl_lists.specs.Agreement.{with_said}
@@ -15,12 +15,13 @@ use Rattle.xl_base.specs.Counts.{one_more}
 use Rattle.xl_wire.specs.declared.validation.Validation.{Validation}
 use Rattle.xl_wire.specs.Heads.{split_of}
 use Rattle.xl_core.specs.declared.event.CoreEvent.{CoreEvent}
-use Rattle.xl_core.specs.declared.event.CoreEvent.TheVariants.{Issue, Frame, Timer, Submit, Greet, Drain, Reports, Stop, Stopped}
+use Rattle.xl_core.specs.declared.event.CoreEvent.TheVariants.{Issue, Frame, Timer, Submit, Greet, Drain, Reports, Stop, Stopped, Relist}
 use Rattle.xl_core.specs.declared.report.Report.{Report}
 use Rattle.xl_core.specs.Answers.{Answer, Refused, Took, Beats, Done, Gave, Handed, Told}
 use Rattle.xl_core.specs.Core.{Core, CoreReply, answering, core_happens, core_asks, with_queues}
 use Rattle.xl_core.specs.Node.{Node, opened, settings_of}
 use Rattle.xl_world.specs.Sending.{Sent}
+use Rattle.xl_world.specs.declared.plan.InForce.{InForce}
 use Rattle.xl_world.specs.declared.place.Keeper.{Keeper}
 use Rattle.xl_world.specs.declared.place.Place.{Place}
 use Rattle.xl_world.specs.declared.place.Fate.{Fate}
@@ -40,6 +41,8 @@ pub record World : Type 0 where
   pub said : List SaidLedger
   -- every report of a node, under the list that was in force
   pub reports : List Reported
+  -- every list that was in force at a node, in order
+  pub lists : List InForce
   -- how many sealed frames came that no liar signed and nobody had sent; the count ends at the greatest `u64`
   pub forged : ℕ
 
@@ -50,6 +53,28 @@ pub data Step : Type 0 where
   Again : (i now number : ℕ) → Step
   Torn : (i : ℕ) (event : CoreEvent) (number : ℕ) → Step
   Mark : Step
+
+-- a list that is handed in is one
+abbrev pub IsFitEvent : CoreEvent → Type 0
+IsFitEvent (Issue now seq id full) = Unit {0}
+IsFitEvent (Frame now bytes) = Unit {0}
+IsFitEvent (Timer now) = Unit {0}
+IsFitEvent (Submit now tx) = Unit {0}
+IsFitEvent (Greet member) = Unit {0}
+IsFitEvent (Drain member room) = Unit {0}
+IsFitEvent (Reports room) = Unit {0}
+IsFitEvent Stop = Unit {0}
+IsFitEvent Stopped = Unit {0}
+IsFitEvent (Relist now list) = IsValid list
+
+abbrev pub IsFit : Step → Type 0
+IsFit (Act i event fate) = IsFitEvent event
+IsFit (Again i now number) = Unit {0}
+IsFit (Torn i event number) = Unit {0}
+IsFit Mark = Unit {0}
+
+abbrev pub AreFit : List Step → Type 0
+AreFit steps = All IsFit steps
 
 abbrev pub said_by : ℕ → Validation → SaidLedger
 said_by m v = record { member = m; seq = v.seq; id = v.id }
@@ -87,14 +112,39 @@ is_forged w n (Drain member room) = false
 is_forged w n (Reports room) = false
 is_forged w n Stop = false
 is_forged w n Stopped = false
+is_forged w n (Relist now list) = false
 
--- the world after what came of an event at a node, with its keeper then
-abbrev pub settled : World → ℕ → Bool → CoreReply → Keeper → World
-settled w i forged r keeper = record w {
+-- the list that comes into force at the node of a number, unless the answer refuses it
+abbrev pub list_set : ℕ → TrustedList → Answer → Option InForce
+list_set i list (Refused why) = None
+list_set i list (Took taken) = Some (record { node = i; list = list })
+list_set i list (Beats beat) = Some (record { node = i; list = list })
+list_set i list Done = Some (record { node = i; list = list })
+list_set i list (Gave to frames) = Some (record { node = i; list = list })
+list_set i list (Handed reports) = Some (record { node = i; list = list })
+list_set i list (Told stopped) = Some (record { node = i; list = list })
+
+-- the list that an event with this answer sets
+abbrev pub set_by : ℕ → CoreEvent → Answer → Option InForce
+set_by i (Issue now seq id full) a = None
+set_by i (Frame now bytes) a = None
+set_by i (Timer now) a = None
+set_by i (Submit now tx) a = None
+set_by i (Greet member) a = None
+set_by i (Drain member room) a = None
+set_by i (Reports room) a = None
+set_by i Stop a = None
+set_by i Stopped a = None
+set_by i (Relist now list) a = list_set i list a
+
+-- the world after what came of an event at a node, and the list that it set, with its keeper then
+abbrev pub settled : World → ℕ → Bool → Option InForce → CoreReply → Keeper → World
+settled w i forged set r keeper = record w {
   places = put (record { core = r.core; keeper = keeper }) w.places;
   sent = w.sent ++ sent_in r.core.node.me r.answer;
   said = with_said w.said (option_map (said_by i) r.issued);
   reports = w.reports ++ option_to_list (option_map (reported_by r.core.node) r.report);
+  lists = w.lists ++ option_to_list set;
   forged = if forged then one_more w.forged else w.forged;
 }
 
@@ -109,7 +159,8 @@ keeper_after p event fate = after_save p.keeper (core_asks p.core event) fate
 abbrev pub acts : World → ℕ → CoreEvent → Fate → Option Place → World
 acts w i event fate None = w
 acts w i event fate (Some p) =
-    settled w i (is_forged w p.core.node event) (reply_at p event fate) (keeper_after p event fate)
+    let r = reply_at p event fate in
+    settled w i (is_forged w p.core.node event) (set_by p.core.node.me event r.answer) r (keeper_after p event fate)
 
 -- the core of a place opened again with this number
 abbrev pub core_again : Place → ℕ → ℕ → Core
@@ -117,7 +168,7 @@ core_again p now number = with_queues (opened (settings_of p.core.node) now numb
 
 -- its keeper then holds that number alone; a core that is opened says and reports nothing
 abbrev pub reopened : World → ℕ → Place → ℕ → ℕ → World
-reopened w i p now number = settled w i false (answering (core_again p now number) Done) (restored p.keeper number)
+reopened w i p now number = settled w i false None (answering (core_again p now number) Done) (restored p.keeper number)
 
 abbrev pub again : World → ℕ → ℕ → ℕ → Option Place → World
 again w i now number None = w
@@ -141,6 +192,7 @@ moment_in (Drain member room) = 0
 moment_in (Reports room) = 0
 moment_in Stop = 0
 moment_in Stopped = 0
+moment_in (Relist now list) = now
 
 abbrev pub asked_at : Option Place → CoreEvent → Option ℕ
 asked_at None event = None
@@ -161,7 +213,7 @@ abbrev pub run : World → List Step → World
 run w [] = w
 run w (s ∷ ss) = run (step w s) ss
 
--- the list of a node of the world
+-- the list in force at a node of the world
 abbrev pub list_in : World → ℕ → Option TrustedList
 list_in w i = option_map (λ p. p.core.node.list) (place_at i w.places)
 

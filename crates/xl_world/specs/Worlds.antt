@@ -30,12 +30,13 @@ network_seen n = record {
   mark = n.traffic.mark;
   said = n.said.items;
   reports = n.reports.items;
+  lists = n.lists.items;
   forged = n.forged;
 }
 
 -- a world of nobody
 abbrev pub nobody : World
-nobody = start 0 [] []
+nobody = start (record { limit = 0; speak = 1 }) [] []
 
 -- once memory was wanting nobody is left
 abbrev pub world_seen : Inside → World

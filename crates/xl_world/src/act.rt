@@ -6,14 +6,14 @@ ghost use Rattle.xl_tags.specs.Rings.{schedule_ring};
 ghost use Rattle.xl_base.specs.declared.moments.TheConstants.{GREATEST_MILLIS};
 ghost use Rattle.xl_world.specs.declared.outcome.Outcome.TheVariants.{Preferred};
 ghost use Rattle.xl_world.specs.World.{reported_by};
-ghost use Rattle.xl_world.specs.World.{place_at, reply_at};
+ghost use Rattle.xl_world.specs.World.{place_at, reply_at, set_by};
 ghost use Rattle.xl_world.specs.Emptying.{handed_out};
 ghost use Rattle.xl_world.specs.Rested.{IsRested};
-ghost use Rattle.xl_world.specs.Seen.{AnswersAt, Does, IsAnswer, IsBeaten, MayDo, acted_at, deed_event, place_after, reaction_to};
+ghost use Rattle.xl_world.specs.Seen.{AnswersAt, Does, IsAnswer, IsBeaten, MayDo, acted_at, deed_event, place_after, reaction_of, reaction_to};
 
 use crate::place::{Fate, NodeCore, Place};
 use crate::saving::Fated;
-use crate::{Outcome, WorldReport};
+use crate::{InForce, Outcome, WorldReport};
 use xl_base::{LedgerId, Millis, NodeNo, Seq, TxId};
 use xl_core::{Beat, Issued, Node, Refusal, Report};
 use xl_lists::{List, SaidLedger};
@@ -31,6 +31,8 @@ pub enum Deed<'a> {
     Timer,
     Submit(TxId),
     Greet(NodeNo),
+    /// A list is handed in.
+    Relist(&'a List),
 }
 
 /// What a node says of what happened at it.
@@ -69,6 +71,8 @@ pub struct NodeAnswer {
     pub asked: Option<Seq>,
     pub said: Option<SaidLedger>,
     pub report: Option<WorldReport>,
+    /// The list that it set.
+    pub set: Option<InForce>,
 }
 
 /// Whether there is nothing to say but why it was refused.
@@ -145,6 +149,7 @@ fn happen(core: &mut NodeCore, now: Millis, deed: &Deed<'_>, keeper: &mut Fated)
             core.greet(peer);
             Done::silent(Reaction::Done)
         }
+        Deed::Relist(list) => Done::silent(done_or_refused(core.relist(now, list.copy()))),
     }
 }
 
@@ -180,6 +185,28 @@ fn taken_report(core: &mut NodeCore) -> Option<Report>
     }
 }
 
+fn number_of(core: &NodeCore) -> NodeNo
+    ensures { result ≡ core.now.node.me }
+{
+    core.node().me()
+}
+
+/// The list that a deed with this reaction sets at the node of a number.
+fn set_by(node: NodeNo, deed: &Deed<'_>, reaction: &Reaction) -> Option<InForce>
+    ensures { (now : _) (a : _) → reaction.now ≡ reaction_of a → result ≡ set_by node (deed_event now deed.now) a }
+{
+    let Deed::Relist(list) = *deed else {
+        return None;
+    };
+    match reaction {
+        Reaction::Refused(_) => None,
+        Reaction::Done | Reaction::Beat(_) => Some(InForce {
+            node,
+            list: list.copy(),
+        }),
+    }
+}
+
 /// Something happens at a place, and the save that it asks, if any, meets a fate. The report that arises is taken.
 pub fn act(place: &mut Place, now: Millis, deed: &Deed<'_>, fate: Fate) -> NodeAnswer
     requires moment { now ≤ GREATEST_MILLIS }
@@ -188,7 +215,10 @@ pub fn act(place: &mut Place, now: Millis, deed: &Deed<'_>, fate: Fate) -> NodeA
     ensures place { place.new ≡ place_after place.old (deed_event now deed.now) fate }
     ensures answer { IsAnswer place.old.core.node.me result (reply_at place.old (deed_event now deed.now) fate) }
     ensures asked { result.asked ≡ core_asks place.old.core (deed_event now deed.now) }
+    ensures set { result.set ≡ set_by place.old.core.node.me (deed_event now deed.now)
+        (reply_at place.old (deed_event now deed.now) fate).answer }
 {
+    let me = number_of(&place.core);
     let mut fated = Fated {
         keeper: place.keeper,
         fate,
@@ -197,11 +227,13 @@ pub fn act(place: &mut Place, now: Millis, deed: &Deed<'_>, fate: Fate) -> NodeA
     let done = happen(&mut place.core, now, deed, &mut fated);
     place.keeper = fated.keeper;
     let report = taken_report(&mut place.core);
+    let set = set_by(me, deed, &done.reaction);
     NodeAnswer {
         reaction: done.reaction,
         asked: fated.asked,
         said: done.said,
         report: report_under(place.core.node(), report),
+        set,
     }
 }
 

@@ -21,6 +21,7 @@ mod lie;
 mod network;
 mod open;
 mod outcome;
+mod parts;
 mod place;
 mod plan;
 mod saving;
@@ -31,7 +32,8 @@ mod world;
 
 pub use fork::{Fork, first_fork, law_of_forks};
 pub use outcome::{Happened, Outcome};
-pub use plan::{Plan, PlanNode};
+pub use parts::parts_are_the_whole;
+pub use plan::{InForce, Plan, PlanNode};
 pub use sent::Sent;
 pub use world::World;
 pub use xl_lists::Report as WorldReport;

@@ -11,9 +11,9 @@ use crate::draining::drain_at;
 use crate::forged::is_forged;
 use crate::lie::put_lie;
 use crate::place::{Fate, Keeper, Place};
-use crate::settle::{push_some, tell};
+use crate::settle::{push_some, tell, tell_heard_at};
 use crate::traffic::Traffic;
-use crate::{Happened, Outcome, Plan, WorldReport, open};
+use crate::{Happened, InForce, Outcome, Plan, WorldReport, open};
 use std::alloc::Global;
 use std::marker::Model;
 use xl_base::{Millis, NodeNo, OutOfMemory};
@@ -34,6 +34,7 @@ pub struct Network {
     pub traffic: Traffic,
     pub said: Vec<SaidLedger>,
     pub reports: Vec<WorldReport>,
+    pub lists: Vec<InForce>,
     pub forged: u64,
 }
 
@@ -81,10 +82,10 @@ impl Network {
         requires most { plan.now.limit ≤ GREATEST_LIMIT }
         requires moments { AreTimely plan.now.nodes.items }
         ensures start { IfOk result (λ network.
-            network ≡ start plan.now.limit plan.now.liars.items plan.now.nodes.items) }
+            network ≡ start (record { limit = plan.now.limit; speak = plan.now.speak }) plan.now.liars.items plan.now.nodes.items) }
         ensures declared { OnOk result (AreDeclared plan.now.nodes.items) }
     {
-        let places = open::places(alloc, plan.limit, &plan.nodes)?;
+        let places = open::places(alloc, plan.limit, plan.speak, &plan.nodes)?;
         Ok(Network {
             alloc,
             liars: Vec::from_slice(alloc, &plan.liars)?,
@@ -94,6 +95,7 @@ impl Network {
             traffic: Traffic::new(alloc),
             said: Vec::new(alloc),
             reports: Vec::new(alloc),
+            lists: open::lists(alloc, &plan.nodes)?,
             forged: 0,
         })
     }
@@ -112,6 +114,7 @@ impl Network {
         tell(told, i, &answer)?;
         push_some(&mut self.said, answer.said)?;
         push_some(&mut self.reports, answer.report)?;
+        push_some(&mut self.lists, answer.set)?;
         drain_at(
             self.alloc,
             &mut self.places,
@@ -173,20 +176,22 @@ impl Network {
     {
         for k in 0..self.numbers.len() {
             let node = self.numbers[k];
-            self.act(node, at, &Deed::Timer, Fate::Saved, told)?;
+            self.ask(at, &Ask::Timer { node }, Fate::Saved, told)?;
         }
         Ok(())
     }
 
-    /// A node greets another; itself it doesn't greet.
+    /// A node greets another, which is this deed; itself it doesn't greet.
     fn greet(
         &mut self,
         at: Millis,
         node: NodeNo,
         peer: NodeNo,
+        deed: &Deed<'_>,
         told: &mut Vec<Outcome>,
     ) -> Result<(), OutOfMemory>
         requires moment { at ≤ GREATEST_MILLIS }
+        requires deed { deed.now ≡ Deed.Greet peer }
         requires rest { IsAtRest self.old }
         ensures world { OnOk result (self.new ≡ run self.old (greet_steps self.old node peer)) }
         ensures told { OnOk result (told.new.items
@@ -195,7 +200,7 @@ impl Network {
         if node == peer {
             return Ok(());
         }
-        self.act(node, at, &Deed::Greet(peer), Fate::Saved, told)
+        self.act(node, at, deed, Fate::Saved, told)
     }
 
     /// The sent frame of a place, from 0 on, is handed to its receiver; to a liar that does nothing. It isn't forged,
@@ -347,7 +352,9 @@ impl Network {
             What::Submit { node, tx } => {
                 self.act(*node, at, &Deed::Submit(*tx), Fate::Saved, told)
             }
-            What::Greet { node, peer } => self.greet(at, *node, *peer, told),
+            What::Greet { node, peer } => {
+                self.greet(at, *node, *peer, &Deed::Greet(*peer), told)
+            }
             What::Deliver { place } => match place.checked_sub(1) {
                 Some(before) => self.deliver(at, before as usize, told),
                 None => Ok(()),
@@ -363,6 +370,10 @@ impl Network {
             What::Lie { from, to, what } => self.lie(at, *from, *to, what, told),
             What::Raw { to, bytes } => self.hand_in(at, *to, bytes.as_slice(), told),
             What::Prefer { node } => push_some(told, preferred_at(&self.places, *node)),
+            What::List { node, list } => {
+                self.act(*node, at, &Deed::Relist(list), Fate::Saved, told)
+            }
+            What::Heard { node } => tell_heard_at(told, &self.places, *node),
         }
     }
 

@@ -4,22 +4,22 @@ ghost use Rattle.std.specs.List.{list_any};
 ghost use Rattle.xl_ledger.specs.declared.registry.TheConstants.{LEAST_LIMIT, GREATEST_LIMIT};
 ghost use Rattle.xl_lists.specs.Lists.{is_on};
 ghost use Rattle.xl_base.specs.declared.moments.TheConstants.{GREATEST_MILLIS};
-ghost use Rattle.xl_world.specs.Plans.{is_declared, all_numbers, AreDeclared, AreTimely};
-ghost use Rattle.xl_world.specs.Starts.{start_of};
+ghost use Rattle.xl_world.specs.Plans.{is_declared, all_numbers, AreDeclared, AreTimely, Shared};
+ghost use Rattle.xl_world.specs.Starts.{list_of, start_of};
 
 use crate::place::{Keeper, Place};
-use crate::{Plan, PlanNode};
+use crate::{InForce, Plan, PlanNode};
 use std::alloc::Global;
 use xl_base::{GREATEST_NODE_NO, NodeNo, OutOfMemory};
 use xl_core::{Core, Settings};
 use xl_tags::Keys;
 
-/// A core at its start, with room for so many ledgers, and its keeper.
-fn place(alloc: Global, limit: u32, node: &PlanNode) -> Result<Place, OutOfMemory>
+/// A core at its start, with room for so many ledgers and validations of a version, and its keeper.
+fn place(alloc: Global, limit: u32, speak: u8, node: &PlanNode) -> Result<Place, OutOfMemory>
     requires least { LEAST_LIMIT ≤ limit }
     requires most { limit ≤ GREATEST_LIMIT }
     requires moment { node.now.moment ≤ GREATEST_MILLIS }
-    ensures { IfOk result (λ place. place ≡ start_of limit node.now) }
+    ensures { IfOk result (λ place. place ≡ start_of (record { limit = limit; speak = speak }) node.now) }
 {
     let settings = Settings {
         me: node.me,
@@ -27,6 +27,7 @@ fn place(alloc: Global, limit: u32, node: &PlanNode) -> Result<Place, OutOfMemor
         keys: Keys::of_schedule(node.me),
         limit,
         validating: node.validating,
+        speak,
     };
     Ok(Place {
         core: Core::open(alloc, settings, node.moment, 0)?,
@@ -35,20 +36,40 @@ fn place(alloc: Global, limit: u32, node: &PlanNode) -> Result<Place, OutOfMemor
 }
 
 /// The cores at their start.
-pub fn places(alloc: Global, limit: u32, nodes: &[PlanNode]) -> Result<Vec<Place>, OutOfMemory>
+pub fn places(
+    alloc: Global,
+    limit: u32,
+    speak: u8,
+    nodes: &[PlanNode],
+) -> Result<Vec<Place>, OutOfMemory>
     requires least { LEAST_LIMIT ≤ limit }
     requires most { limit ≤ GREATEST_LIMIT }
     requires moments { AreTimely nodes.now }
-    ensures opened { IfOk result (λ places. places.items ≡ map (start_of limit) nodes.now) }
+    ensures opened { IfOk result (λ places.
+        places.items ≡ map (start_of (record { limit = limit; speak = speak })) nodes.now) }
     ensures declared { OnOk result (AreDeclared nodes.now) }
 {
     let mut places = Vec::with_capacity(alloc, nodes.len())?;
     for node in nodes {
         // What every member number and every list is, of this node.
         let _ = (node.me.get(), node.list.quorum());
-        places.push(place(alloc, limit, node)?)?;
+        places.push(place(alloc, limit, speak, node)?)?;
     }
     Ok(places)
+}
+
+/// The lists with which nodes are declared.
+pub fn lists(alloc: Global, nodes: &[PlanNode]) -> Result<Vec<InForce>, OutOfMemory>
+    ensures { IfOk result (λ lists. lists.items ≡ map list_of nodes.now) }
+{
+    let mut lists = Vec::with_capacity(alloc, nodes.len())?;
+    for node in nodes {
+        lists.push(InForce {
+            node: node.me,
+            list: node.list.copy(),
+        })?;
+    }
+    Ok(lists)
 }
 
 fn is_honest(nodes: &[PlanNode], number: NodeNo) -> bool

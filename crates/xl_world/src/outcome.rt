@@ -38,6 +38,12 @@ pub enum Outcome {
         node: NodeNo,
         at: Option<Report>,
     },
+    /// What the node heard of the ledger that a member of its list last reported, if it did.
+    Heard {
+        node: NodeNo,
+        member: NodeNo,
+        id: Option<LedgerId>,
+    },
 }
 
 /// All that is told of an event, in order. Contracts see it as a list.

@@ -12,11 +12,19 @@ pub struct PlanNode {
     pub moment: Millis,
 }
 
+/// A list that was in force at a node.
+#[derive(Debug, Drop)]
+pub struct InForce {
+    pub node: NodeNo,
+    pub list: List,
+}
+
 /// Who is in the world: the honest nodes, in the order in which they are declared, and the liars. Each node may know so
-/// many ledgers, the root among them: 2 to 262,144.
+/// many ledgers, the root among them: 2 to 262,144; and the validations of each are of the version `speak`.
 #[derive(Debug, Drop)]
 pub struct Plan {
     pub nodes: Vec<PlanNode>,
     pub liars: Vec<NodeNo>,
     pub limit: u32,
+    pub speak: u8,
 }

@@ -1,9 +1,11 @@
 // What came of what happened at a node, taken into the lists of a world.
-ghost use Rattle.std.specs.Prelude.{◌≡◌, ◌++◌, [], ◌∷◌, option_map, option_to_list, OnOk};
-ghost use Rattle.xl_world.specs.Schedule.{told_of_beat, told_of_issued};
+ghost use Rattle.std.specs.Prelude.{◌≡◌, ◌++◌, [], ◌∷◌, map, option_map, option_to_list, OnOk};
+ghost use Rattle.xl_world.specs.Schedule.{hearsay, hearsay_of, told_of_beat, told_of_issued};
+ghost use Rattle.xl_world.specs.World.{place_at};
 ghost use Rattle.xl_world.specs.Seen.{outcomes_told, told_of_reaction};
 
-use crate::act::{NodeAnswer, Reaction};
+use crate::act::{NodeAnswer, Reaction, core_at};
+use crate::place::{NodeCore, Place};
 use crate::{Outcome, WorldReport};
 use xl_base::{NodeNo, OutOfMemory};
 use xl_core::{Beat, Issued, Refusal};
@@ -105,4 +107,32 @@ pub fn tell(told: &mut Vec<Outcome>, node: NodeNo, answer: &NodeAnswer) -> Resul
 {
     tell_reaction(told, node, &answer.reaction)?;
     push_some(told, full(node, &answer.report))
+}
+
+/// What a node heard of the ledger that each member of its list last reported.
+fn tell_heard(told: &mut Vec<Outcome>, core: &NodeCore) -> Result<(), OutOfMemory>
+    ensures { OnOk result (told.new.items ≡ told.old.items ++ map (hearsay_of core.now) core.now.node.list.members) }
+{
+    for member in core.list().members() {
+        told.push(Outcome::Heard {
+            node: core.node().me(),
+            member: *member,
+            id: core.heard(*member),
+        })?;
+    }
+    Ok(())
+}
+
+/// The same of the node of a number, where there is one.
+pub fn tell_heard_at(
+    told: &mut Vec<Outcome>,
+    places: &[Place],
+    i: NodeNo,
+) -> Result<(), OutOfMemory>
+    ensures { OnOk result (told.new.items ≡ told.old.items ++ hearsay i (place_at i places.now)) }
+{
+    match core_at(places, i) {
+        Some(core) => tell_heard(told, core),
+        None => Ok(()),
+    }
 }

@@ -1,8 +1,10 @@
+mod readers;
+
 use crate::act::{core_at, list_at};
 use crate::agreement::all_agree;
 use crate::network::Network;
 use crate::place::NodeCore;
-use crate::{Happened, Plan, Sent, WorldReport};
+use crate::{Happened, InForce, Plan, Sent, WorldReport};
 use std::alloc::Global;
 use std::marker::Model;
 use xl_base::{NodeNo, OutOfMemory};
@@ -29,12 +31,10 @@ impl Model for World {
 }
 
 impl World {
-    ghost use Rattle.std.specs.Prelude.{◌≡◌, ◌≤◌, ◌↔◌, option_copied, Some, None, IsTrue, IfOk, OnOk, OnErr};
+    ghost use Rattle.std.specs.Prelude.{◌≡◌, ◌≤◌, ◌↔◌, option_copied, None, IsTrue, IfOk, OnOk, OnErr};
     ghost use Rattle.xl_base.specs.declared.moments.TheConstants.{GREATEST_MILLIS};
     ghost use Rattle.xl_ledger.specs.declared.registry.TheConstants.{LEAST_LIMIT, GREATEST_LIMIT};
-    ghost use Rattle.xl_lists.specs.Lists.{TrustedList};
-    ghost use Rattle.xl_lists.specs.Quorums.{Enough};
-    ghost use Rattle.xl_world.specs.Headline.{AgreeAt, Headline};
+    ghost use Rattle.xl_world.specs.Headline.{AgreeAt, EnoughAt, Headline};
     ghost use Rattle.xl_world.specs.Plans.{AreTimely, list_at};
     ghost use Rattle.xl_world.specs.Schedule.{IsPlausible, after_event, outcomes};
     ghost use Rattle.xl_world.specs.Starts.{IsRun, start};
@@ -48,7 +48,8 @@ impl World {
         requires least { LEAST_LIMIT ≤ plan.now.limit }
         requires most { plan.now.limit ≤ GREATEST_LIMIT }
         requires moments { AreTimely plan.now.nodes.items }
-        ensures { IfOk result (λ world. world ≡ start plan.now.limit plan.now.liars.items plan.now.nodes.items) }
+        ensures { IfOk result (λ world. world
+            ≡ start (record { limit = plan.now.limit; speak = plan.now.speak }) plan.now.liars.items plan.now.nodes.items) }
     {
         Ok(World {
             network: Some(Network::open(alloc, plan)?),
@@ -58,7 +59,7 @@ impl World {
     /// An event of a schedule, and what is told of it, in order. Where memory is wanting the world ends: nobody is left
     /// in it.
     ///
-    /// A set that a liar says in it is one.
+    /// A set that a liar says in it is one, and so is a list.
     pub fn event(&mut self, event: &Event) -> Result<Happened, OutOfMemory>
         requires moment { event.now.at ≤ GREATEST_MILLIS }
         requires plausible { IsPlausible event.now.what }
@@ -98,7 +99,7 @@ impl World {
         }
     }
 
-    /// The list of a node, or None for a number that no honest node has.
+    /// The list in force at a node, or None for a number that no honest node has.
     pub fn list_of(&self, node: NodeNo) -> Option<&List>
         ensures { option_copied result ≡ list_in self.now node }
     {
@@ -111,7 +112,7 @@ impl World {
     /// The core of a node, or None for a number that isn't a declared honest node.
     pub fn node(&self, node: NodeNo) -> Option<&NodeCore>
         ensures core { option_copied result ≡ core_in self.now node }
-        ensures none { (limit : _) (liars : _) (plan : _) (steps : _) → self.now ≡ run (start limit liars plan) steps →
+        ensures none { (shared : _) (liars : _) (plan : _) (steps : _) → self.now ≡ run (start shared liars plan) steps →
             (option_copied result ≡ None) ↔ (list_at plan node ≡ None) }
     {
         match &self.network {
@@ -123,11 +124,21 @@ impl World {
     /// Every report of a node, in order.
     pub fn reports(&self) -> &[WorldReport]
         ensures reports { result.now ≡ self.now.reports }
-        // The world comes from a declared one by steps.
+        // The world comes from a declared one by steps that are fit to happen.
         ensures run { IsRun self.now }
     {
         match &self.network {
             Some(network) => &network.reports,
+            None => &[],
+        }
+    }
+
+    /// Every list that was in force at a node, in order: first those that were declared.
+    pub fn lists(&self) -> &[InForce]
+        ensures { result.now ≡ self.now.lists }
+    {
+        match &self.network {
+            Some(network) => &network.lists,
             None => &[],
         }
     }
@@ -146,9 +157,9 @@ impl World {
     /// its lives count.
     pub fn agreement(&self, i: NodeNo, j: NodeNo) -> bool
         ensures exact { IsTrue result ↔ AgreeAt self.now.reports i j }
-        // It is so where the quorums of the two are enough and no frame was forged.
-        ensures enough { (a b : TrustedList) → list_in self.now i ≡ Some a → list_in self.now j ≡ Some b →
-            Enough self.now.liars a b → self.now.forged ≡ 0 → IsTrue result }
+        // It is so where no frame was forged, and the quorums of the lists that were in force at any two reports of one
+        // sequence are enough.
+        ensures enough { EnoughAt self.now.liars self.now.reports i j → self.now.forged ≡ 0 → IsTrue result }
         // And in every run of every declared plan in which no frame was forged, not in this world's alone.
         ensures headline { Headline }
     {

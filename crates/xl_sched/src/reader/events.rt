@@ -1,14 +1,14 @@
-// Events, but for disturbed saves and lies.
-ghost use Rattle.std.specs.Prelude.{◌≡◌, ◌≤◌, ℕ, true, length, IfOk};
+// Events, except for disturbed saves and lies.
+ghost use Rattle.std.specs.Prelude.{◌≡◌, ◌≤◌, ◌<◌, ℕ, true, length, IfOk};
 ghost use Rattle.xl_sched.specs.Events.{raw_bytes_of};
 ghost use Rattle.xl_sched.specs.Refusals.{GivenMemory};
-ghost use Rattle.xl_sched.specs.declared.limits.TheConstants.{MOST_RAW_BYTES};
+ghost use Rattle.xl_sched.specs.declared.limits.TheConstants.{MOST_LISTS, MOST_RAW_BYTES};
 
 use crate::choices::full;
 use crate::event::{Ask, What};
 use crate::fault::{Cause, LineFault};
-use crate::limits::MOST_RAW_BYTES;
-use crate::members::member;
+use crate::limits::{MOST_LISTS, MOST_RAW_BYTES};
+use crate::members::{member, members, trusted};
 use crate::numbers::{number, place};
 use crate::reader::Reader;
 use crate::tokens::Tokens;
@@ -18,7 +18,7 @@ use xl_base::{Bytes, NodeNo};
 
 impl Reader {
     ghost use Rattle.xl_sched.specs.Fits.{IsFitAsk, IsFitWhat};
-    ghost use Rattle.xl_sched.specs.Events.{issue_of, asked_issue, issue_event, submit_event, asked_timer, timer_event, timers_event, deliver_event, all_event, drop_event, is_peer, peer_of, greet_event, restart_event, raw_event, prefer_event};
+    ghost use Rattle.xl_sched.specs.Events.{issue_of, asked_issue, issue_event, submit_event, asked_timer, timer_event, timers_event, deliver_event, all_event, drop_event, is_peer, peer_of, greet_event, restart_event, raw_event, prefer_event, list_of, set_list, list_event, heard_event};
 
     /// `issue i seq id full`, or `partial`.
     pub(super) fn issue<'a>(&self, arguments: Tokens<'a>) -> Result<What, LineFault<'a>>
@@ -180,6 +180,57 @@ impl Reader {
         Ok(What::Raw {
             to: self.nodes.declared(honest)?,
             bytes: raw_bytes(self.alloc, digits)?,
+        })
+    }
+
+    /// `list i q list`. One too many is refused, whatever it says.
+    pub(super) fn list<'a>(&self, arguments: Tokens<'a>) -> Result<What, LineFault<'a>>
+        ensures value { GivenMemory result (list_event self.now arguments.entry) }
+        ensures fit { IfOk result (λ what. (sent : ℕ) → IsFitWhat self.now sent what) }
+    {
+        if self.lists >= MOST_LISTS {
+            return Err(LineFault::with_number(Cause::Limit, u64::from(MOST_LISTS)));
+        }
+        self.set_list(arguments)
+    }
+
+    fn set_list<'a>(&self, arguments: Tokens<'a>) -> Result<What, LineFault<'a>>
+        requires { self.now.lists < MOST_LISTS }
+        ensures value { GivenMemory result (set_list self.now arguments.entry) }
+        ensures fit { IfOk result (λ what. (sent : ℕ) → IsFitWhat self.now sent what) }
+    {
+        let (node, quorum, members) = arguments.three()?;
+        self.list_of(node, quorum, members)
+    }
+
+    /// The parts of a list's line, from left to right, and then the list.
+    fn list_of<'a>(
+        &self,
+        node: &'a [u8],
+        quorum: &'a [u8],
+        list: &'a [u8],
+    ) -> Result<What, LineFault<'a>>
+        requires { self.now.lists < MOST_LISTS }
+        ensures value { GivenMemory result (list_of self.now node.now quorum.now list.now) }
+        ensures fit { IfOk result (λ what. (sent : ℕ) → IsFitWhat self.now sent what) }
+    {
+        let node = self.nodes.declared(node)?;
+        let quorum = number(quorum)?;
+        let members = members(self.alloc, list)?;
+        let list = trusted(&members, quorum)?;
+        // Each list is valid.
+        let _members = list.members();
+        Ok(What::List { node, list })
+    }
+
+    /// `heard i`.
+    pub(super) fn heard<'a>(&self, arguments: Tokens<'a>) -> Result<What, LineFault<'a>>
+        ensures value { result ≡ heard_event self.now arguments.entry }
+        ensures fit { IfOk result (λ what. (sent : ℕ) → IsFitWhat self.now sent what) }
+    {
+        let node = arguments.one()?;
+        Ok(What::Heard {
+            node: self.nodes.declared(node)?,
         })
     }
 

@@ -1,5 +1,5 @@
 // What liars say.
-ghost use Rattle.std.specs.Prelude.{◌≡◌, ℕ, IfOk};
+ghost use Rattle.std.specs.Prelude.{◌≡◌, ℕ, IfOk, option_copied};
 ghost use Rattle.xl_sched.specs.Lies.{may_say};
 
 use crate::choices::full;
@@ -10,13 +10,13 @@ use crate::reader::Reader;
 use crate::tokens::Tokens;
 use crate::tx_sets::tx_set;
 use crate::word::LieWord;
-use xl_base::{Bytes, NodeNo};
+use xl_base::{Bytes, LedgerId, NodeNo};
 use xl_wire::{Proposal, Validation};
 
 impl Reader {
     ghost use Rattle.xl_sched.specs.Refusals.{GivenMemory};
     ghost use Rattle.xl_sched.specs.Fits.{IsFitWhat, IsFitPair, IsFitLied};
-    ghost use Rattle.xl_sched.specs.Lies.{pair_of, lied_of, proposal_of, said_proposal, validation_of, said_validation, said_header, said_tx_set, said_tx, lie_event};
+    ghost use Rattle.xl_sched.specs.Lies.{pair_of, lied_of, proposal_of, said_proposal, told_if, validation_of, said_validation, said_header, said_tx_set, said_tx, lie_event};
 
     /// `lie f t` and what is said.
     pub(super) fn lie<'a>(&self, arguments: Tokens<'a>) -> Result<What, LineFault<'a>>
@@ -91,13 +91,26 @@ impl Reader {
         }))
     }
 
-    /// `seq id signed full`, or `partial`.
+    /// `seq id signed full`, or `partial`, and one id more in version 2.
     fn validation<'a>(&self, said: Tokens<'a>) -> Result<Lied, LineFault<'a>>
         ensures value { result ≡ said_validation self.now.names said.entry }
         ensures fit { IfOk result IsFitLied }
     {
+        if let Some((seq, id, signed, kind, told)) = said.only_five() {
+            return self.validation_of(seq, id, signed, kind, Some(told));
+        }
         let (seq, id, signed, kind) = said.four()?;
-        self.validation_of(seq, id, signed, kind)
+        self.validation_of(seq, id, signed, kind, None)
+    }
+
+    /// The ledger that a validation tells as the last reported one, if it tells one.
+    fn told<'a>(&self, id: Option<&'a [u8]>) -> Result<Option<LedgerId>, LineFault<'a>>
+        ensures { result ≡ told_if self.now.names (option_copied id.entry) }
+    {
+        match id {
+            Some(id) => Ok(Some(self.names.ledger_id(id)?)),
+            None => Ok(None),
+        }
     }
 
     /// The parts of a validation, from left to right.
@@ -107,8 +120,10 @@ impl Reader {
         id: &'a [u8],
         signed: &'a [u8],
         kind: &'a [u8],
+        told: Option<&'a [u8]>,
     ) -> Result<Lied, LineFault<'a>>
-        ensures value { result ≡ validation_of self.now.names seq.now id.now signed.now kind.now }
+        ensures value { result ≡ validation_of self.now.names seq.now id.now signed.now kind.now
+            (told_if self.now.names (option_copied told.entry)) }
         ensures fit { IfOk result IsFitLied }
     {
         Ok(Lied::Validation(Validation {
@@ -116,6 +131,7 @@ impl Reader {
             id: self.names.ledger_id(id)?,
             signed: number(signed)?,
             full: full(kind)?,
+            validated: self.told(told)?,
         }))
     }
 
@@ -158,7 +174,7 @@ fn may_say(word: Option<LieWord>, count: usize) -> bool
 {
     match word {
         Some(LieWord::Proposal) => count == 5,
-        Some(LieWord::Validation) => count == 4,
+        Some(LieWord::Validation) => count == 4 || count == 5,
         Some(LieWord::Header | LieWord::TxSet | LieWord::Tx) => count == 1,
         None => count == 1 || count == 4 || count == 5,
     }

@@ -16,7 +16,7 @@ impl Reader {
     ghost use Rattle.xl_sched.specs.Refusals.{GivenMemory};
     ghost use Rattle.xl_sched.specs.Members.{new_member_of};
     ghost use Rattle.xl_sched.specs.Reading.{IsUndeclared};
-    ghost use Rattle.xl_sched.specs.Settings.{limit_line, node_line, node_of, mode_of, liar_line, at_line};
+    ghost use Rattle.xl_sched.specs.Settings.{limit_line, speak_line, node_line, node_of, mode_of, liar_line, at_line};
     ghost use Rattle.xl_sched.specs.Fits.{IsFit};
 
     /// `limit n`. A second one is refused.
@@ -30,6 +30,19 @@ impl Reader {
             return Err(LineFault::with_text(Cause::Twice, token));
         }
         Ok(Line::Limit(limit as u32))
+    }
+
+    /// `speak v`. A second one is refused.
+    pub(super) fn speak<'a>(&self, arguments: Tokens<'a>) -> Result<Line, LineFault<'a>>
+        ensures value { result ≡ speak_line self.now arguments.entry }
+        ensures fit { IfOk result (λ line. (sent : ℕ) → IsFit self.now sent line) }
+    {
+        let token = arguments.one()?;
+        let version = number_within(token, 1, 2)?;
+        if self.spoken {
+            return Err(LineFault::with_text(Cause::Twice, token));
+        }
+        Ok(Line::Speak(version as u8))
     }
 
     /// `node i q list`, and `node i q list observing`.

@@ -50,6 +50,7 @@ impl Reader {
         }
         match word {
             SettingWord::Limit => self.limit(arguments),
+            SettingWord::Speak => self.speak(arguments),
             SettingWord::Node => self.node(arguments),
             SettingWord::Liar => self.liar(arguments),
             SettingWord::At => self.at(arguments),
@@ -83,6 +84,8 @@ impl Reader {
             EventWord::Lie => self.lie(arguments),
             EventWord::Raw => self.raw(arguments),
             EventWord::Prefer => self.prefer(arguments),
+            EventWord::List => self.list(arguments),
+            EventWord::Heard => self.heard(arguments),
         }
     }
 }

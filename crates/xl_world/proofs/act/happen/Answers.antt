@@ -11,7 +11,7 @@ use Rattle.xl_core.specs.declared.event.CoreEvent.TheVariants.{Frame, Timer}
 use Rattle.xl_world.specs.declared.act.Deed.{Deed}
 use Rattle.xl_world.specs.Seen.{Does, IsBeaten, MayDo, deed_event}
 use Rattle.xl_world.proofs.Doing.{frame_quiet, peer_of, quiet_does, reacts_as, timer_does}
-use Rattle.xl_world.proofs.Lists.{core_keeps}
+use Rattle.xl_world.proofs.Keeping.{core_keeps}
 use Rattle.xl_world.proofs.act.happen.Goals as goal
 
 pub greet-requires : goal.greet-requires

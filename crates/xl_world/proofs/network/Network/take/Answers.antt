@@ -1,6 +1,6 @@
 use Rattle.std.proofs.Common.{◌≡◌, ◌++◌, ◌∙◌, List, ap, refl, subst, sym}
 use Rattle.std.specs.Prelude.{OnOk}
-use Rattle.xl_core.specs.declared.event.CoreEvent.TheVariants.{Submit}
+use Rattle.xl_core.specs.declared.event.CoreEvent.TheVariants.{Relist, Submit}
 use Rattle.xl_sched.specs.declared.event.What.{What}
 use Rattle.xl_world.specs.declared.outcome.Outcome.{Outcome}
 use Rattle.xl_world.specs.declared.place.Fate.TheVariants.{Saved}
@@ -25,3 +25,11 @@ returns-in-Lie-clause-world c =
 pub returns-in-Lie-clause-told : goal.returns-in-Lie-clause-told
 returns-in-Lie-clause-told c =
     subst (λ (os : List Outcome). OnOk c.lie.result (c.lie.new.told.items ≡ c.args.told.now.items ++ os)) (ap (outcomes_at c.args.self.now c.args.at) (sym c.in-Lie.is)) c.lie.ensures.told
+
+-- so it is with a list
+pub returns-in-List-clause-world : goal.returns-in-List-clause-world
+returns-in-List-clause-world c =
+    let w : World = c.args.self.now in
+    subst (λ (v : World). OnOk c.act-in-List.result (c.act-in-List.new.self ≡ v))
+    (fair_ran w c.in-List.node (Relist c.args.at c.in-List.list) Saved (λ n. refl) ∙ ap (λ (happening : What). run w (steps_at w c.args.at happening)) (sym c.in-List.is))
+    c.act-in-List.ensures.world

@@ -1,8 +1,5 @@
-use Rattle.std.proofs.Common.{◌∙◌, List, ℕ, ap, arith, get_or, length, refl}
-use Rattle.xl_core.specs.declared.event.CoreEvent.TheVariants.{Timer}
-use Rattle.xl_world.specs.declared.place.Fate.TheVariants.{Saved}
+use Rattle.std.proofs.Common.{◌∙◌, List, ℕ, ap, arith, get_or, length}
 use Rattle.xl_world.specs.World.{World}
-use Rattle.xl_world.proofs.Acting.{fair_ran}
 use Rattle.xl_world.proofs.Going.{timed_first, timed_more}
 use Rattle.xl_world.proofs.network.Network.timers.Goals as goal
 
@@ -11,8 +8,8 @@ loop-k-init c = timed_first c.args.self.now c.args.at c.args.told.now.items c.re
 
 pub loop-k-preserved : goal.loop-k-preserved
 loop-k-preserved c =
-    timed_more c.args.self.now c.args.at c.args.told.now.items c.loop-k.k c.loop-k.self c.loop-k.told.items c.index-node.result.now c.act.new.self c.act.new.told.items
+    timed_more c.args.self.now c.args.at c.args.told.now.items c.loop-k.k c.loop-k.self c.loop-k.told.items c.index-node.result.now c.ask.new.self c.ask.new.told.items
     (omega (arith, c.loop-k-test.true, c.len-k-end.ensures, c.self.inside.numbers.ok.0, ap (λ (w : World). length w.numbers) c.self.view_is))
     (c.index-node.ensures ∙ ap (λ (xs : List ℕ). get_or xs c.loop-k.k c.index-node.result.now) (ap (λ (w : World). w.numbers) c.self-in-loop-k.view_is ∙ c.loop-k.invariant.numbers))
     c.loop-k.invariant
-    (c.in_ok-act.ensures.world ∙ fair_ran c.loop-k.self c.index-node.result.now (Timer c.args.at) Saved (λ n. refl)) c.in_ok-act.ensures.told
+    c.in_ok-ask.ensures.world c.in_ok-ask.ensures.told

@@ -6,9 +6,9 @@ pub returns-clause-exact : goal.returns-clause-exact
 returns-clause-exact c = answer_tells c.args.i c.args.j c.args.self.now.reports c.reports.result.now c.all_agree.result c.all_agree.ensures c.reports.ensures.reports
 
 pub returns-clause-enough : goal.returns-clause-enough
-returns-clause-enough c a b at_i at_j enough none =
+returns-clause-enough c enough none =
     (answer_tells c.args.i c.args.j c.args.self.now.reports c.reports.result.now c.all_agree.result c.all_agree.ensures c.reports.ensures.reports).1
-    (world_agrees c.args.self.now c.reports.ensures.run c.args.i c.args.j a b at_i at_j enough none)
+    (world_agrees c.args.self.now c.reports.ensures.run c.args.i c.args.j enough none)
 
 pub returns-clause-headline : goal.returns-clause-headline
 returns-clause-headline c = core_headline

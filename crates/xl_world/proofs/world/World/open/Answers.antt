@@ -3,4 +3,4 @@ use Rattle.xl_world.proofs.world.World.open.Goals as goal
 
 pub invariant_of-result : goal.invariant_of-result
 invariant_of-result c =
-    starts_well c.in_ok-open.field-0 c.args.plan.now.limit c.args.plan.now.liars.items c.args.plan.now.nodes.items c.in_ok-open.ensures.start c.in_ok-open.ensures.declared
+    starts_well c.in_ok-open.field-0 (record { limit = c.args.plan.now.limit; speak = c.args.plan.now.speak }) c.args.plan.now.liars.items c.args.plan.now.nodes.items c.in_ok-open.ensures.start c.in_ok-open.ensures.declared

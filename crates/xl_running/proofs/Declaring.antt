@@ -8,7 +8,7 @@ use Rattle.xl_lists.specs.declared.refusal.ListRefusal.{ListRefusal}
 use Rattle.xl_lists.specs.declared.refusal.ListRefusal.TheVariants.{Empty, TooMany, OutOfRange, Repeated, Quorum}
 use Rattle.xl_lists.specs.Lists.{TrustedList, IsValid, is_on, is_outside, repeated_after, is_quorum, refusal_of, list_of}
 use Rattle.xl_base.specs.Refusals.{refused_if, unless_refused as list_unless}
-use Rattle.xl_lists.proofs.Refusing.{distinct, all_in_range}
+use Rattle.xl_lists.proofs.Rereading.{unrefused}
 use Rattle.xl_ledger.specs.declared.registry.TheConstants.{LEAST_LIMIT}
 use Rattle.xl_sched.specs.declared.refusal.SchedRefusal.{SchedRefusal}
 use Rattle.xl_sched.specs.declared.refusal.SchedRefusal.TheVariants.{Twice, Late}
@@ -28,53 +28,15 @@ use Rattle.xl_sched.specs.Names.{new_name_of, id_of}
 use Rattle.xl_sched.specs.Ledgers.{parent_of, header_after}
 use Rattle.xl_sched.specs.Members.{member_of, new_member_of, members_of, trusted_of, unless_refused}
 use Rattle.xl_sched.specs.Reading.{Reading}
-use Rattle.xl_sched.specs.Settings.{mode_of, node_of, node_line, liar_line, limit_line, at_line}
+use Rattle.xl_sched.specs.Settings.{mode_of, node_of, node_line, liar_line, limit_line, speak_line, at_line}
 use Rattle.xl_sched.specs.Naming.{has_most_names, named_line, named_ledger_line}
 use Rattle.xl_sched.specs.Words.{is_declaration, setting_word, event_word, set_line, what_of, event_line, event_line_of, line_of, worded_line}
 use Rattle.xl_sched.specs.Answers.{LineAnswer, passes, gives, refuses, is_header, header_line, is_comment, some_line, later_line, bounded_line, answer_to, reading_of}
 use Rattle.xl_world.specs.Plans.{IsDeclared}
+use Rattle.xl_world.specs.Schedule.{IsPlausible}
+use Rattle.xl_running.proofs.Plausible.{what_plausible}
 
 -- LISTS
-
-or_none : {X : Type 0} (a b : Option X) → option_or a b ≡ None → (a ≡ None) × (b ≡ None)
-or_none None b h = (refl, h)
-or_none (Some x) b h = cc
-
-if_false : (b : Bool) (x : ListRefusal) → refused_if b x ≡ None → b ≡ false
-if_false true x h = cc
-if_false false x h = refl
-
-map_none : (f : ℕ → ListRefusal) (o : Option ℕ) → option_map f o ≡ None → o ≡ None
-map_none f None h = refl
-map_none f (Some n) h = cc
-
-some_members : (n : ℕ) → (n == 0) ≡ false → 1 ≤ n
-some_members n h = grind (arith, nat_tests)
-
-few_members : (n : ℕ) → nat_lt 64 n ≡ false → n ≤ 64
-few_members n h = grind (arith, nat_tests)
-
-not_false : (b : Bool) → not b ≡ false → b ≡ true
-not_false true h = refl
-not_false false h = cc
-
--- what no cause refuses is a list
-pub unrefused : (members : List ℕ) (quorum : ℕ) → refusal_of members quorum ≡ None → IsValid (record { members = members; quorum = quorum })
-unrefused members quorum none =
-    let a = or_none (refused_if (length members == 0) Empty) _ none in
-    let b = or_none (refused_if (nat_lt 64 (length members)) (TooMany (length members))) _ a.1 in
-    let c = or_none (option_map OutOfRange (find is_outside members)) _ b.1 in
-    let d = or_none (option_map Repeated (repeated_after [] members)) _ c.1 in
-    let e = or_none (refused_if (not (is_quorum quorum (length members))) (Quorum quorum (length members))) None d.1 in
-    let q = and_parts (nat_le quorum (length members)) _ (not_false (is_quorum quorum (length members)) (if_false _ _ e.0)) in
-    record {
-      some = some_members (length members) (if_false _ _ a.0);
-      at_most = few_members (length members) (if_false _ _ b.0);
-      numbers = all_in_range members (map_none OutOfRange (find is_outside members) c.0);
-      once = distinct members (map_none Repeated (repeated_after [] members) d.0);
-      within = leb-true _ _ q.0;
-      majority = ltb-true _ _ q.1;
-    }
 
 list_valid : (o : Option ListRefusal) (l : TrustedList) → (o ≡ None → IsValid l) → IfOk (list_unless o l) IsValid
 list_valid None l h = h refl
@@ -113,7 +75,8 @@ Declares (line.Liar me) = Unit {0}
 Declares (line.Name name id) = Unit {0}
 Declares (line.Ledger name parent header) = Unit {0}
 Declares (line.At at) = Unit {0}
-Declares (line.Event event) = Unit {0}
+Declares (line.Speak version) = Unit {0}
+Declares (line.Event event) = IsPlausible event.what
 
 declared_node : (me : ℕ) (validating : Bool) (r : Result TrustedList SchedRefusal) → InRange me → IfOk r IsValid → IfOk (r >>= (λ list. Ok (line.Node me list validating))) Declares
 declared_node me validating (Err e) range valid = tt
@@ -182,6 +145,15 @@ limit_line_declares reading [] = tt
 limit_line_declares reading (a ∷ []) = limit_declares reading.limited a (number_within LEAST_LIMIT MOST_LEDGERS a)
 limit_line_declares reading (a ∷ b ∷ rest) = tt
 
+speak_declares : (spoken : Bool) (token : List ℕ) (version : Result ℕ SchedRefusal) → IfOk (version >>= (λ v. cond spoken (Err (Twice token)) (Ok (line.Speak v)))) Declares
+speak_declares spoken token (Err e) = tt
+speak_declares spoken token (Ok v) = cond_both spoken (Err (Twice token)) (Ok (line.Speak v)) (λ r. IfOk r Declares) (λ _. tt) (λ _. tt)
+
+speak_line_declares : (reading : Reading) (arguments : List (List ℕ)) → IfOk (speak_line reading arguments) Declares
+speak_line_declares reading [] = tt
+speak_line_declares reading (a ∷ []) = speak_declares reading.spoken a (number_within 1 2 a)
+speak_line_declares reading (a ∷ b ∷ rest) = tt
+
 at_declares : (at : Result ℕ SchedRefusal) → IfOk (at >>= (λ m. Ok (line.At m))) Declares
 at_declares (Err e) = tt
 at_declares (Ok at) = tt
@@ -196,18 +168,19 @@ set_line_declares reading setting.Limit arguments = limit_line_declares reading 
 set_line_declares reading setting.Node arguments = node_line_declares reading arguments
 set_line_declares reading setting.Liar arguments = liar_line_declares reading arguments
 set_line_declares reading setting.At arguments = at_line_declares arguments
+set_line_declares reading setting.Speak arguments = speak_line_declares reading arguments
 set_line_declares reading setting.Name arguments =
     cond_both (has_most_names reading) _ (named_line reading arguments) (λ r. IfOk r Declares) (λ _. tt) (λ _. named_line_declares reading arguments)
 set_line_declares reading setting.Ledger arguments =
     cond_both (has_most_names reading) _ (named_ledger_line reading arguments) (λ r. IfOk r Declares) (λ _. tt) (λ _. ledger_line_declares reading arguments)
 
-event_declares : (reading : Reading) (r : Result What SchedRefusal) → IfOk (event_line reading r) Declares
-event_declares reading (Err e) = tt
-event_declares reading (Ok what) = tt
+event_declares : (reading : Reading) (r : Result What SchedRefusal) → IfOk r IsPlausible → IfOk (event_line reading r) Declares
+event_declares reading (Err e) plausible = tt
+event_declares reading (Ok happening) plausible = plausible
 
 event_word_declares : (reading : Reading) (sent : ℕ) (o : Option EventWord) (token : List ℕ) (arguments : List (List ℕ)) → IfOk (event_line_of reading sent o token arguments) Declares
 event_word_declares reading sent None token arguments = tt
-event_word_declares reading sent (Some w) token arguments = event_declares reading (what_of reading sent w arguments)
+event_word_declares reading sent (Some w) token arguments = event_declares reading (what_of reading sent w arguments) (what_plausible reading sent w arguments trusted_valid)
 
 word_declares : (reading : Reading) (sent : ℕ) (o : Option SettingWord) (token : List ℕ) (arguments : List (List ℕ)) → IfOk (line_of reading sent o token arguments) Declares
 word_declares reading sent None token arguments = event_word_declares reading sent (event_word token) token arguments

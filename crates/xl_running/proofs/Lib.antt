@@ -1,0 +1,6 @@
+pub mod Plausible
+pub mod Declaring
+pub mod Fitting
+pub mod Sounding
+pub mod Alike
+pub mod Aloud

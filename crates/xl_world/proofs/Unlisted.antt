@@ -1,0 +1,81 @@
+-- What sets no list leaves the lists that were in force.
+use Rattle.std.proofs.Common.{◌≡◌, ℕ, List, [], ◌∷◌, ◌++◌, refl, ap, ◌∙◌, append-nil, Option, Some, None}
+use Rattle.std.specs.Prelude.{All, option_to_list}
+use Rattle.std.proofs.lemmas.Bool.{cond_both}
+use Rattle.std.proofs.lemmas.List.Elements.{All-head, All-tail}
+use Rattle.xl_io.specs.Keepers.{may_hold}
+use Rattle.xl_core.specs.Answers.{Answer}
+use Rattle.xl_core.specs.declared.event.CoreEvent.{CoreEvent}
+use Rattle.xl_core.specs.declared.event.CoreEvent.TheVariants.{Issue, Frame, Timer, Submit, Greet, Drain, Reports, Stop, Stopped, Relist}
+use Rattle.xl_sched.specs.declared.event.What.{What}
+use Rattle.xl_world.specs.declared.place.Fate.{Fate}
+use Rattle.xl_world.specs.declared.place.Place.{Place}
+use Rattle.xl_world.specs.declared.plan.InForce.{InForce}
+use Rattle.xl_world.specs.Keeper.{held_by}
+use Rattle.xl_world.specs.Schedule.{steps_at}
+use Rattle.xl_world.specs.World.{World, Step, Act, Again, Torn, Mark, place_at, set_by, acts, reply_at, reopened, again, torn, moment_in, asked_at, step, run}
+use Rattle.xl_world.proofs.Fitting.{Does, OfAll, OfList, steps_do}
+
+abbrev pub SetsNone : CoreEvent → Type 0
+SetsNone (Issue now seq id full) = Unit {0}
+SetsNone (Frame now bytes) = Unit {0}
+SetsNone (Timer now) = Unit {0}
+SetsNone (Submit now tx) = Unit {0}
+SetsNone (Greet member) = Unit {0}
+SetsNone (Drain member room) = Unit {0}
+SetsNone (Reports room) = Unit {0}
+SetsNone Stop = Unit {0}
+SetsNone Stopped = Unit {0}
+SetsNone (Relist now list) = ⊥
+
+none_set : (i : ℕ) (e : CoreEvent) (a : Answer) → SetsNone e → set_by i e a ≡ None
+none_set i (Issue now seq id full) a none = refl
+none_set i (Frame now bytes) a none = refl
+none_set i (Timer now) a none = refl
+none_set i (Submit now tx) a none = refl
+none_set i (Greet member) a none = refl
+none_set i (Drain member room) a none = refl
+none_set i (Reports room) a none = refl
+none_set i Stop a none = refl
+none_set i Stopped a none = refl
+none_set i (Relist now list) a none = absurd none
+
+act_stays : (w : World) (i : ℕ) (e : CoreEvent) (fate : Fate) → SetsNone e → (o : Option Place) → (acts w i e fate o).lists ≡ w.lists
+act_stays w i e fate none None = refl
+act_stays w i e fate none (Some p) =
+    ap (λ (set : Option InForce). w.lists ++ option_to_list set) (none_set p.core.node.me e (reply_at p e fate).answer none) ∙ append-nil w.lists
+
+again_stays : (w : World) (i now number : ℕ) (o : Option Place) → (again w i now number o).lists ≡ w.lists
+again_stays w i now number None = refl
+again_stays w i now number (Some p) =
+    cond_both (may_hold (held_by p.keeper) number) (reopened w i p now number) w (λ (u : World). u.lists ≡ w.lists) (λ _. append-nil w.lists) (λ _. refl)
+
+torn_stays : (w : World) (i now number : ℕ) (o : Option Place) (asked : Option ℕ) → (torn w i now number o asked).lists ≡ w.lists
+torn_stays w i now number None asked = refl
+torn_stays w i now number (Some p) None = refl
+torn_stays w i now number (Some p) (Some s) = again_stays w i now number (Some (record { core = p.core; keeper = record p.keeper { asked = Some s } }))
+
+step_stays : (w : World) (s : Step) → Does SetsNone s → (step w s).lists ≡ w.lists
+step_stays w (Act i e fate) none = act_stays w i e fate none (place_at i w.places)
+step_stays w (Again i now number) none = again_stays w i now number (place_at i w.places)
+step_stays w (Torn i e number) none = torn_stays w i (moment_in e) number (place_at i w.places) (asked_at (place_at i w.places) e)
+step_stays w Mark none = refl
+
+run_stays : (w : World) (ss : List Step) → All (Does SetsNone) ss → (run w ss).lists ≡ w.lists
+run_stays w [] none = refl
+run_stays w (s ∷ ss) none = run_stays (step w s) ss (All-tail (Does SetsNone) s ss none) ∙ step_stays w s (All-head (Does SetsNone) s ss none)
+
+all_set_none : OfAll SetsNone
+all_set_none = record {
+  issues = λ now seq id full. tt;
+  frames = λ now bytes. tt;
+  timers = λ now. tt;
+  submits = λ now tx. tt;
+  greets = λ member. tt;
+  drains = λ member room. tt;
+  reports = λ room. tt;
+}
+
+-- an event of a schedule that sets no list leaves those that were in force
+pub lists_stay : (w : World) (at : ℕ) (happening : What) → OfList SetsNone at happening → (run w (steps_at w at happening)).lists ≡ w.lists
+lists_stay w at happening none = run_stays w (steps_at w at happening) (steps_do SetsNone all_set_none w at happening none)
