@@ -10,6 +10,9 @@ use std::io::{self, ErrorKind};
 use xl_base::{OutOfMemory, Seq};
 use xl_io::{Failed, Keeper};
 
+/// How often a save is tried again, after as many waits of the file.
+const TRIES: u32 = 4;
+
 /// A keeper of the last issued sequence in a file, which holds its decimal digits and a newline, and nothing else. What
 /// it holds isn't told.
 #[derive(Drop)]
@@ -57,6 +60,20 @@ impl<F: WholeFile + Drop> FileKeeper<F> {
         self.file.put_in_place()
     }
 
+    /// The same, tried again some times where it fails.
+    fn replace_in_the_end(&mut self, seq: Seq) -> io::Result<()>
+        ensures saved { Told (Saved seq (is_ok result)) (F.shows self.old.file) (F.shows self.new.file) }
+        ensures faults { self.new.faults ≡ self.old.faults }
+    {
+        for _ in 0..TRIES {
+            match self.replace(seq) {
+                Ok(()) => return Ok(()),
+                Err(_) => self.file.wait(),
+            }
+        }
+        self.replace(seq)
+    }
+
     /// What a call answers that came to this. A failure is a fault.
     fn answer<T: Drop>(&mut self, done: io::Result<T>) -> Result<T, Failed>
         ensures same { result_ok result ≡ result_ok done }
@@ -91,9 +108,9 @@ impl<F: WholeFile + Drop> Keeper for FileKeeper<F> {
         self.answer(loaded)
     }
 
-    /// It fails where the number can't be written beside the file, or not put in its place.
+    /// It fails where the number can't be written beside the file, or not put in its place, in each of some tries.
     fn save(&mut self, seq: Seq) -> Result<(), Failed> {
-        let saved = self.replace(seq);
+        let saved = self.replace_in_the_end(seq);
         self.answer(saved)
     }
 

@@ -79,4 +79,7 @@ impl WholeFile for MemFile {
             Ok(())
         }
     }
+
+    /// It doesn't wait.
+    fn wait(&mut self) {}
 }

@@ -1,5 +1,6 @@
 use super::*;
 use std::fs;
+use std::os::unix::fs::symlink;
 use std::test::Fail;
 use xl_io::{Failed, Keeper};
 
@@ -28,10 +29,11 @@ fn what_was_saved_is_loaded(rt: HostRuntime) -> Result<(), Fail> {
     crosses(&keeper);
     assert!(rt; keeper.load() == Ok(0));
     assert!(rt; keeper.save(7) == Ok(()));
-    assert!(rt; keeper_in(&rt, folder.as_str())?.load() == Ok(7));
+    assert!(rt; keeper.load() == Ok(7));
     assert!(rt; keeper.save(u32::MAX) == Ok(()));
-    assert!(rt; keeper_in(&rt, folder.as_str())?.load() == Ok(u32::MAX));
     assert_eq!(rt; keeper.faults(), 0);
+    drop(keeper);
+    assert!(rt; keeper_in(&rt, folder.as_str())?.load() == Ok(u32::MAX));
     let path = format!(in rt.alloc(); "{folder}/xl.keep")?;
     assert_eq!(rt;
         fs::read_to_string(&rt, path.as_str())?.as_str(),
@@ -70,11 +72,61 @@ fn a_text_that_is_no_number_is_a_fault(rt: HostRuntime) -> Result<(), Fail> {
 }
 
 #[test]
+fn a_folder_is_one_keepers(rt: HostRuntime) -> Result<(), Fail> {
+    let folder = folder(&rt, "xl_keep_locked")?;
+    let mut unused = keeper_in(&rt, folder.as_str())?;
+    let mut first = keeper_in(&rt, folder.as_str())?;
+    assert!(rt; first.load() == Ok(0));
+    let mut second = keeper_in(&rt, folder.as_str())?;
+    assert!(rt; second.load() == Err(Failed));
+    assert!(rt; second.save(8) == Err(Failed));
+    assert!(rt; unused.load() == Err(Failed));
+    assert!(rt; first.save(7) == Ok(()));
+    drop(first);
+    assert!(rt; second.load() == Ok(7));
+    fs::remove_dir_all(&rt, folder.as_str())?;
+    Ok(())
+}
+
+#[test]
+fn a_link_that_leads_nowhere_is_a_fault(rt: HostRuntime) -> Result<(), Fail> {
+    let folder = folder(&rt, "xl_keep_link")?;
+    let path = format!(in rt.alloc(); "{folder}/xl.keep")?;
+    symlink(&rt, "not/there", path.as_str())?;
+    let mut keeper = keeper_in(&rt, folder.as_str())?;
+    assert!(rt; keeper.load() == Err(Failed));
+    fs::remove_file(&rt, path.as_str())?;
+    assert!(rt; keeper.load() == Ok(0));
+    fs::remove_dir_all(&rt, folder.as_str())?;
+    Ok(())
+}
+
+#[test]
+fn a_save_is_tried_again(rt: HostRuntime) -> Result<(), Fail> {
+    let alloc = rt.alloc();
+    // Each try is two calls, or one where that fails.
+    for failing in [[1, 2, 3, 4], [2, 4, 6, 8]] {
+        let file = MemFile::new(alloc, failing.to_vec(alloc)?, Vec::new(alloc));
+        let mut keeper = FileKeeper::new(alloc, file)?;
+        assert!(rt; keeper.save(5) == Ok(()));
+        assert!(rt; keeper.load() == Ok(5));
+        assert_eq!(rt; keeper.faults(), 0);
+    }
+    Ok(())
+}
+
+#[test]
 fn a_failed_save_leaves_the_former_number_or_the_asked_one(rt: HostRuntime) -> Result<(), Fail> {
     let alloc = rt.alloc();
-    // The first save is calls 1 and 2, the second 3 and 4.
-    for (failing, placed, left) in [(3, 0, 5), (4, 0, 5), (4, 4, 6)] {
-        let file = MemFile::new(alloc, [failing].to_vec(alloc)?, [placed].to_vec(alloc)?);
+    // The first save is calls 1 and 2. The second is tried five times: from call 3 on one call each, where that fails,
+    // and else two.
+    for (failing, placed, left) in [
+        ([3, 4, 5, 6, 7], 0, 5),
+        ([4, 6, 8, 10, 12], 0, 5),
+        ([4, 6, 8, 10, 12], 4, 6),
+        ([4, 6, 8, 10, 12], 12, 6),
+    ] {
+        let file = MemFile::new(alloc, failing.to_vec(alloc)?, [placed].to_vec(alloc)?);
         let mut keeper = FileKeeper::new(alloc, file)?;
         assert!(rt; keeper.save(5) == Ok(()));
         assert!(rt; keeper.save(6) == Err(Failed));

@@ -23,4 +23,8 @@ pub trait WholeFile {
     /// Puts the text that stands beside it in its place, so that a stop leaves it there.
     fn put_in_place(&mut self) -> io::Result<()>
         ensures { Told (Replaces (is_ok result)) (shows self.old) (shows self.new) };
+
+    /// Waits a little, before a call that failed is made again.
+    fn wait(&mut self)
+        ensures { shows self.new ≡ shows self.old };
 }

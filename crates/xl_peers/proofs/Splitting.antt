@@ -7,10 +7,11 @@ use Rattle.xl_base.specs.Refusals.{refused_if, first_of}
 use Rattle.xl_wire.specs.declared.lengths.TheConstants.{LONGEST_FRAME}
 use Rattle.xl_wire.specs.declared.refusal.WireRefusal.{WireRefusal}
 use Rattle.xl_wire.specs.declared.refusal.WireRefusal.TheVariants.{Magic, Version, Kind, Length}
-use Rattle.xl_wire.specs.Kinds.{is_kind, can_have}
+use Rattle.xl_wire.specs.Kinds.{is_version, is_kind, can_have, can_have_first}
 use Rattle.xl_wire.specs.Raws.{RawFrame}
-use Rattle.xl_wire.specs.Heads.{differs, kind_in, length_in, head_refusal, lacking, raw_in, split_unless, split_of}
+use Rattle.xl_wire.specs.Heads.{differs, version_in, kind_in, length_in, head_refusal, lacking, raw_in, split_unless, split_of}
 use Rattle.xl_wire.specs.Heads.{Split}
+use Rattle.xl_wire.proofs.RawLaws.{by_version}
 use Rattle.xl_peers.specs.Sessions.{NeedsMore}
 
 there : (i n : ℕ) → i < n → nat_lt i n ≡ true
@@ -32,14 +33,16 @@ abbrev magic : List ℕ → ℕ → ℕ → Option WireRefusal
 magic bytes place wanted = refused_if (differs bytes place wanted) (Magic place)
 
 abbrev version : List ℕ → Option WireRefusal
-version bytes = refused_if (differs bytes 2 1) (Version (slice_index bytes 2))
+version bytes =
+    refused_if (nat_lt 2 (length bytes) && not (is_version (version_in bytes))) (Version (version_in bytes))
 
 abbrev kind : List ℕ → Option WireRefusal
-kind bytes = refused_if (nat_lt 3 (length bytes) && not (is_kind (kind_in bytes))) (Kind (kind_in bytes))
+kind bytes =
+    refused_if (nat_lt 3 (length bytes) && not (is_kind (version_in bytes) (kind_in bytes))) (Kind (kind_in bytes))
 
 abbrev long : List ℕ → Option WireRefusal
 long bytes =
-    refused_if (nat_lt 5 (length bytes) && not (can_have (kind_in bytes) (length_in bytes)))
+    refused_if (nat_lt 5 (length bytes) && not (can_have (version_in bytes) (kind_in bytes) (length_in bytes)))
     (Length (kind_in bytes) (length_in bytes))
 
 none_there : (b c : Bool) (r : WireRefusal) → b ≡ false → refused_if (b && c) r ≡ None
@@ -62,17 +65,19 @@ module _ (xs ys : List ℕ) where
 
   same_version : 2 < length xs → version xs ≡ version (xs ++ ys)
   same_version h =
-      guarded (nat_lt 2 (length xs)) (nat_lt 2 (length (xs ++ ys))) (not (slice_index xs 2 == 1))
-      (not (slice_index (xs ++ ys) 2 == 1))
-      (Version (slice_index xs 2)) (Version (slice_index (xs ++ ys) 2)) (there 2 (length xs) h) (more 2 h)
-      (ap (λ b. not (b == 1)) (sym (same_at xs ys 2 h))) (ap Version (sym (same_at xs ys 2 h)))
+      guarded (nat_lt 2 (length xs)) (nat_lt 2 (length (xs ++ ys))) (not (is_version (version_in xs)))
+      (not (is_version (version_in (xs ++ ys))))
+      (Version (version_in xs)) (Version (version_in (xs ++ ys))) (there 2 (length xs) h) (more 2 h)
+      (ap (λ b. not (is_version b)) (sym (same_at xs ys 2 h))) (ap Version (sym (same_at xs ys 2 h)))
 
   same_kind : 3 < length xs → kind xs ≡ kind (xs ++ ys)
   same_kind h =
-      guarded (nat_lt 3 (length xs)) (nat_lt 3 (length (xs ++ ys))) (not (is_kind (kind_in xs)))
-      (not (is_kind (kind_in (xs ++ ys))))
+      let v = sym (same_at xs ys 2 (omega (arith, h))) in
+      let k = sym (same_at xs ys 3 h) in
+      guarded (nat_lt 3 (length xs)) (nat_lt 3 (length (xs ++ ys))) (not (is_kind (version_in xs) (kind_in xs)))
+      (not (is_kind (version_in (xs ++ ys)) (kind_in (xs ++ ys))))
       (Kind (kind_in xs)) (Kind (kind_in (xs ++ ys))) (there 3 (length xs) h) (more 3 h)
-      (ap (λ b. not (is_kind b)) (sym (same_at xs ys 3 h))) (ap Kind (sym (same_at xs ys 3 h)))
+      (λ i. not (is_kind (v i) (k i))) (ap Kind k)
 
 same_length : (xs ys : List ℕ) → 5 < length xs → length_in xs ≡ length_in (xs ++ ys)
 same_length [] ys h = absurd (omega arith)
@@ -85,18 +90,19 @@ same_length (a ∷ b ∷ c ∷ d ∷ e ∷ f ∷ xs) ys h = refl
 
 same_long : (xs ys : List ℕ) → 5 < length xs → long xs ≡ long (xs ++ ys)
 same_long xs ys h =
+    let v = sym (same_at xs ys 2 (omega (arith, h))) in
     let k = sym (same_at xs ys 3 (omega (arith, h))) in
     let n = same_length xs ys h in
-    guarded (nat_lt 5 (length xs)) (nat_lt 5 (length (xs ++ ys))) (not (can_have (kind_in xs) (length_in xs)))
-    (not (can_have (kind_in (xs ++ ys)) (length_in (xs ++ ys))))
+    guarded (nat_lt 5 (length xs)) (nat_lt 5 (length (xs ++ ys))) (not (can_have (version_in xs) (kind_in xs) (length_in xs)))
+    (not (can_have (version_in (xs ++ ys)) (kind_in (xs ++ ys)) (length_in (xs ++ ys))))
     (Length (kind_in xs) (length_in xs)) (Length (kind_in (xs ++ ys)) (length_in (xs ++ ys))) (there 5 (length xs) h)
     (more xs ys 5 h)
-    (λ i. not (can_have (k i) (n i))) (λ i. Length (k i) (n i))
+    (λ i. not (can_have (v i) (k i) (n i))) (λ i. Length (k i) (n i))
 
 none_some : (r : WireRefusal) → None ≡ Some r → ⊥
 none_some r h = cc
 
--- the first cause stays the first where only what stands behind it changes
+-- the first cause stays the first if only what stands behind it changes
 first_stays : (cs ds es : List (Option WireRefusal)) (r : WireRefusal) → first_of ds ≡ None
     → first_of (cs ++ ds) ≡ Some r
     → first_of (cs ++ es) ≡ Some r
@@ -111,11 +117,11 @@ module _ (xs ys : List ℕ) (r : WireRefusal) (e : head_refusal xs ≡ Some r) w
       let a = none_there (nat_lt 0 (length xs)) (not (slice_index xs 0 == 0x58)) (Magic 0) f in
       let b = none_there (nat_lt 1 (length xs)) (not (slice_index xs 1 == 0x4C)) (Magic 1)
       (beyond 0 1 (length xs) (omega arith) f) in
-      let c = none_there (nat_lt 2 (length xs)) (not (slice_index xs 2 == 1)) (Version (slice_index xs 2))
+      let c = none_there (nat_lt 2 (length xs)) (not (is_version (version_in xs))) (Version (version_in xs))
       (beyond 0 2 (length xs) (omega arith) f) in
-      let d = none_there (nat_lt 3 (length xs)) (not (is_kind (kind_in xs))) (Kind (kind_in xs))
+      let d = none_there (nat_lt 3 (length xs)) (not (is_kind (version_in xs) (kind_in xs))) (Kind (kind_in xs))
       (beyond 0 3 (length xs) (omega arith) f) in
-      let l = none_there (nat_lt 5 (length xs)) (not (can_have (kind_in xs) (length_in xs)))
+      let l = none_there (nat_lt 5 (length xs)) (not (can_have (version_in xs) (kind_in xs) (length_in xs)))
       (Length (kind_in xs) (length_in xs)) (beyond 0 5 (length xs) (omega arith) f) in
       absurd (none_some r (sym (λ i. first_of (a i ∷ b i ∷ c i ∷ d i ∷ l i ∷ [])) ∙ e))
 
@@ -123,11 +129,11 @@ module _ (xs ys : List ℕ) (r : WireRefusal) (e : head_refusal xs ≡ Some r) w
   from_one h f =
       let p = same_magic xs ys 0 0x58 h in
       let b = none_there (nat_lt 1 (length xs)) (not (slice_index xs 1 == 0x4C)) (Magic 1) f in
-      let c = none_there (nat_lt 2 (length xs)) (not (slice_index xs 2 == 1)) (Version (slice_index xs 2))
+      let c = none_there (nat_lt 2 (length xs)) (not (is_version (version_in xs))) (Version (version_in xs))
       (beyond 1 2 (length xs) (omega arith) f) in
-      let d = none_there (nat_lt 3 (length xs)) (not (is_kind (kind_in xs))) (Kind (kind_in xs))
+      let d = none_there (nat_lt 3 (length xs)) (not (is_kind (version_in xs) (kind_in xs))) (Kind (kind_in xs))
       (beyond 1 3 (length xs) (omega arith) f) in
-      let l = none_there (nat_lt 5 (length xs)) (not (can_have (kind_in xs) (length_in xs)))
+      let l = none_there (nat_lt 5 (length xs)) (not (can_have (version_in xs) (kind_in xs) (length_in xs)))
       (Length (kind_in xs) (length_in xs)) (beyond 1 5 (length xs) (omega arith) f) in
       let none : first_of (magic xs 1 0x4C ∷ version xs ∷ kind xs ∷ long xs ∷ []) ≡ None =
       (λ i. first_of (b i ∷ c i ∷ d i ∷ l i ∷ [])) in
@@ -139,10 +145,10 @@ module _ (xs ys : List ℕ) (r : WireRefusal) (e : head_refusal xs ≡ Some r) w
   from_two h f =
       let p = same_magic xs ys 0 0x58 (omega (arith, h)) in
       let q = same_magic xs ys 1 0x4C h in
-      let c = none_there (nat_lt 2 (length xs)) (not (slice_index xs 2 == 1)) (Version (slice_index xs 2)) f in
-      let d = none_there (nat_lt 3 (length xs)) (not (is_kind (kind_in xs))) (Kind (kind_in xs))
+      let c = none_there (nat_lt 2 (length xs)) (not (is_version (version_in xs))) (Version (version_in xs)) f in
+      let d = none_there (nat_lt 3 (length xs)) (not (is_kind (version_in xs) (kind_in xs))) (Kind (kind_in xs))
       (beyond 2 3 (length xs) (omega arith) f) in
-      let l = none_there (nat_lt 5 (length xs)) (not (can_have (kind_in xs) (length_in xs)))
+      let l = none_there (nat_lt 5 (length xs)) (not (can_have (version_in xs) (kind_in xs) (length_in xs)))
       (Length (kind_in xs) (length_in xs)) (beyond 2 5 (length xs) (omega arith) f) in
       let none : first_of (version xs ∷ kind xs ∷ long xs ∷ []) ≡ None = (λ i. first_of (c i ∷ d i ∷ l i ∷ [])) in
       let tail = version (xs ++ ys) ∷ kind (xs ++ ys) ∷ long (xs ++ ys) ∷ [] in
@@ -154,8 +160,8 @@ module _ (xs ys : List ℕ) (r : WireRefusal) (e : head_refusal xs ≡ Some r) w
       let p = same_magic xs ys 0 0x58 (omega (arith, h)) in
       let q = same_magic xs ys 1 0x4C (omega (arith, h)) in
       let v = same_version xs ys h in
-      let d = none_there (nat_lt 3 (length xs)) (not (is_kind (kind_in xs))) (Kind (kind_in xs)) f in
-      let l = none_there (nat_lt 5 (length xs)) (not (can_have (kind_in xs) (length_in xs)))
+      let d = none_there (nat_lt 3 (length xs)) (not (is_kind (version_in xs) (kind_in xs))) (Kind (kind_in xs)) f in
+      let l = none_there (nat_lt 5 (length xs)) (not (can_have (version_in xs) (kind_in xs) (length_in xs)))
       (Length (kind_in xs) (length_in xs)) (beyond 3 5 (length xs) (omega arith) f) in
       let none : first_of (kind xs ∷ long xs ∷ []) ≡ None = (λ i. first_of (d i ∷ l i ∷ [])) in
       let tail = kind (xs ++ ys) ∷ long (xs ++ ys) ∷ [] in
@@ -168,7 +174,7 @@ module _ (xs ys : List ℕ) (r : WireRefusal) (e : head_refusal xs ≡ Some r) w
       let q = same_magic xs ys 1 0x4C (omega (arith, h)) in
       let v = same_version xs ys (omega (arith, h)) in
       let k = same_kind xs ys h in
-      let l = none_there (nat_lt 5 (length xs)) (not (can_have (kind_in xs) (length_in xs)))
+      let l = none_there (nat_lt 5 (length xs)) (not (can_have (version_in xs) (kind_in xs) (length_in xs)))
       (Length (kind_in xs) (length_in xs)) f in
       let none : first_of (long xs ∷ []) ≡ None = (λ i. first_of (l i ∷ [])) in
       let tail = long (xs ++ ys) ∷ [] in
@@ -239,17 +245,20 @@ lawful b true r h e = refl
 lawful true false r h e = absurd cc
 lawful false false r h e = absurd cc
 
-at_most : (kind n : ℕ) → can_have kind n ≡ true → n ≤ 8194
-at_most kind n h = grind (arith, nat_tests)
+at_most : (version kind n : ℕ) → can_have version kind n ≡ true → n ≤ 8194
+at_most = by_version (λ version kind n. n ≤ 8194) first (omega arith)
+  where
+    first : (kind n : ℕ) → can_have_first kind n ≡ true → n ≤ 8194
+    first kind n h = grind (arith, nat_tests)
 
 room_by : (bytes : List ℕ) (b : Bool) → nat_lt 5 (length bytes) ≡ b → head_refusal bytes ≡ None → 0 < lacking bytes
     → length bytes < LONGEST_FRAME
 room_by bytes false is head lacks = grind (arith, nat_tests)
 room_by bytes true is head lacks =
-    let ok = lawful (nat_lt 5 (length bytes)) (can_have (kind_in bytes) (length_in bytes))
+    let ok = lawful (nat_lt 5 (length bytes)) (can_have (version_in bytes) (kind_in bytes) (length_in bytes))
     (Length (kind_in bytes) (length_in bytes)) is
     (last_none (magic bytes 0 0x58) (magic bytes 1 0x4C) (version bytes) (kind bytes) (long bytes) head) in
-    let most = at_most (kind_in bytes) (length_in bytes) ok in
+    let most = at_most (version_in bytes) (kind_in bytes) (length_in bytes) ok in
     grind (arith, nat_tests)
 
 pub needs_room : (bytes : List ℕ) → NeedsMore bytes → length bytes < LONGEST_FRAME

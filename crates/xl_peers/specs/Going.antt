@@ -105,7 +105,7 @@ module _ {B K : Type 0} (store : Store B K) (may_give : ℕ → Bool) (old : Pas
   HandsLast e new = (member : ℕ) (w : Wire) (more : List ℕ)
       → Ends (start_of store) may_give member (turns_of store) Hands (known old) w (fed.held ++ more) (known new) w e
 
-  -- the next frame, where there was one
+  -- the next frame, if there was one
   abbrev pub HandsNext : Result Bool End → Pass Entry → Fed → Type 0
   HandsNext (Ok more) new left = HandsOn new left × (more ≡ false → NeedsMore left.held)
   HandsNext (Err e) new left = HandsLast e new

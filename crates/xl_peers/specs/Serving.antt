@@ -80,7 +80,7 @@ abbrev pub after_session : Option Served → Round
 after_session None = Asks
 after_session (Some s) = Over
 
--- The store is asked, the link is opened, and where that answered Open a session is held
+-- The store is asked, the link is opened, and if that answered Open a session is held
 pub data IsServing (may_give : ℕ → Bool) (member : ℕ) : List Deed → Round → Type 0 where
   begins : IsServing may_give member [] Asks
   asks : (deeds : List Deed) (answer : Bool) → IsServing may_give member deeds Asks
@@ -94,7 +94,7 @@ pub data IsServing (may_give : ℕ → Bool) (member : ℕ) : List Deed → Roun
 
 -- A pass's serving of a member, as far as it came, at a store that was opened with this core: its calls stand in the
 -- history at the places that the pass gained, and the link gave the bytes that were read, took those that were written,
--- and answered these openings. Where its count didn't rise, all that was drained was written
+-- and answered these openings. If its count didn't rise, all that was drained was written
 pub record Serving
     (start : Core) (may_give : ℕ → Bool) (member : ℕ)
     (old : Knowledge Entry) (old_link : Wire) (round : Round) (new : Knowledge Entry) (new_link : Wire) : Type 0 where

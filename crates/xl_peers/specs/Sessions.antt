@@ -86,7 +86,7 @@ pub record IsCutOff (member : ℕ) (steps : List Step) (written : List ℕ) : Ty
   pub is : written ≡ bytes_drained earlier ++ front
 
 -- what each end says of the steps: the link or the store said so last; what stands next begins no frame; or a read or a
--- write failed. Want of memory and a full store may come at any call
+-- write failed. Lack of memory and a full store may come at any call
 abbrev pub EndsBy : ℕ → List Step → Phase → List ℕ → End → Type 0
 EndsBy member steps phase written end.End = IsLast steps (Read Reading.End)
 EndsBy member steps phase written end.Stopped = IsLast steps (stopped true)

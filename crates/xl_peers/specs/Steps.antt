@@ -5,7 +5,7 @@ use Rattle.xl_wire.specs.declared.lengths.TheConstants.{LONGEST_FRAME}
 use Rattle.xl_links.specs.Links.{Reading, bytes_of}
 use Rattle.xl_core.specs.declared.event.CoreEvent.{CoreEvent}
 use Rattle.xl_core.specs.declared.event.CoreEvent.TheVariants.{Issue, Frame, Timer, Submit, Greet, Drain, Reports, Stop}
-use Rattle.xl_core.specs.declared.event.CoreEvent.TheVariants.{Stopped}
+use Rattle.xl_core.specs.declared.event.CoreEvent.TheVariants.{Stopped, Relist}
 use Rattle.xl_core.specs.Answers.{Answer, Done, Gave, Told, given_in}
 use Rattle.xl_core.specs.Queues.{joined}
 use Rattle.xl_store.specs.Calls.{Call}
@@ -52,6 +52,7 @@ handed_by (Drain member room) = []
 handed_by (Reports room) = []
 handed_by Stop = []
 handed_by Stopped = []
+handed_by (Relist now list) = []
 
 abbrev pub handed_in : Step → List (List ℕ)
 handed_in (Called call) = handed_by call.event

@@ -8,7 +8,7 @@ ghost use Rattle.xl_peers.specs.Going.{Goes, Ends};
 use crate::ends::End;
 use xl_links::{Link, LinkRead};
 
-/// Reads once, and answers how many bytes came, or None where none did within the link's time.
+/// Reads once, and answers how many bytes came, or None if none did within the link's time.
 pub(crate) fn read<L: Link>(link: &mut L, room: &mut [u8]) -> Result<Option<usize>, End>
     requires room { 0 < length room.old }
     ensures room { length room.new ≡ length room.old }

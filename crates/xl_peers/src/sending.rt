@@ -4,7 +4,7 @@ ghost use Rattle.xl_peers.specs.Going.{Sent, SentFront};
 use xl_io::{Failed, Wrote};
 use xl_links::Link;
 
-/// Writes all the bytes. It fails where a write of the link does, and the link then took a front of them.
+/// Writes all the bytes. It fails if a write of the link does, and the link then took a front of them.
 pub(crate) fn send<L: Link>(link: &mut L, bytes: &[u8]) -> Result<(), Failed>
     ensures sent { OnOk result (Sent (L.shows link.old) bytes.now (L.shows link.new)) }
     ensures front { OnErr result (SentFront (L.shows link.old) bytes.now (L.shows link.new)) }

@@ -73,7 +73,7 @@ pub fn attend<W: Wait, B: Branch + Drop, K: Keeper + Drop, L: Link, G: Gate, C: 
     unreachable!()
 }
 
-/// Asks whether to stop, connects where the node isn't to, and answers why the serving is over, if it is. It fails only
+/// Asks whether to stop, connects if the node isn't to, and answers why the serving is over, if it is. It fails only
 /// where memory was wanting for the question, and then nothing happened.
 fn round<W: Wait, B: Branch + Drop, K: Keeper + Drop, L: Link, G: Gate, C: Clock>(
     rt: &W,
@@ -92,7 +92,7 @@ fn round<W: Wait, B: Branch + Drop, K: Keeper + Drop, L: Link, G: Gate, C: Clock
         → Serving (start_of store.now) (C.may_give clock.now) member k w Asks (known pass.old) (L.shows link.old)
         → Follows (start_of store.now) (turns_of store.now) (C.may_give clock.now) member k w served
         (known pass.new) (L.shows link.new)) }
-    // Where the serving goes on, the store was asked and the link was opened.
+    // If the serving goes on, the store was asked and the link was opened.
     ensures turn { result ≡ Ok None → (known pass.old).drawn < (known pass.new).drawn }
     ensures opened { result ≡ Ok None → IsOpened (L.shows link.old) (L.shows link.new) }
     ensures nothing { OnErr result ((known pass.new ≡ known pass.old) × (link.new ≡ link.old)) }
@@ -109,7 +109,7 @@ fn round<W: Wait, B: Branch + Drop, K: Keeper + Drop, L: Link, G: Gate, C: Clock
     }
 }
 
-/// Opens the link, holds a session where that answers Open, and answers why the serving is over, if it is.
+/// Opens the link, holds a session if that answers Open, and answers why the serving is over, if it is.
 fn connect<W: Wait, B: Branch + Drop, K: Keeper + Drop, L: Link, G: Gate, C: Clock>(
     rt: &W,
     alloc: Global,

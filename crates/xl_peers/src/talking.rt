@@ -22,8 +22,8 @@ use xl_wire::{Feed, LONGEST_FRAME};
 
 /// Serves one connection on a link whose `open` answered Open.
 ///
-/// It ends where the link ends or fails, where the node is to stop, where what comes begins no frame, for want of
-/// memory, and where all turns of the store are drawn. The member is a peer of the core that the store was opened with.
+/// It ends if the link ends or fails, the node is to stop, what comes begins no frame, memory runs out, or all turns of
+/// the store are drawn. The member is a peer of the core that the store was opened with.
 pub fn session<W: Wait, B: Branch + Drop, K: Keeper + Drop, L: Link, G: Gate, C: Clock>(
     rt: &W,
     alloc: Global,

@@ -15,7 +15,7 @@ use Rattle.xl_settings.specs.Answers.{GivenMemory}
 use Rattle.xl_settings.specs.declared.fault.SettingsFault.{SettingsFault}
 use Rattle.xl_settings.specs.Peers.{PeerSetting, are_peers, fitting, found_peers, peers_in}
 use Rattle.xl_settings.specs.Runnable.{AreRunnable}
-use Rattle.xl_settings.specs.Settings.{needs, in_table, unless_unknown, in_document, settings_of, document_of, me_at, members_at, list_at, validating_at, limit_at, turns_at, heartbeat_at, run_at, submits_at}
+use Rattle.xl_settings.specs.Settings.{needs, in_table, unless_unknown, in_document, settings_of, document_of, me_at, members_at, list_at, validating_at, limit_at, turns_at, heartbeat_at, run_at, speak_at, submits_at}
 use Rattle.xl_settings.specs.Keys.{least_unknown}
 use Rattle.xl_settings.specs.Values.{at, in_bounds, whole, or_default}
 
@@ -72,7 +72,8 @@ table_runs table s e =
     got key.RunMs (run_at table) _ s (AreRunnable s) (λ run_ms run_is e8.
     got key.Submit (submits_at table) _ s (AreRunnable s) (λ submit submit_is e9.
     got key.Peer (peers_in me list.members (at key.Peer table)) _ s (AreRunnable s) (λ peers peers_is e10.
-    subst AreRunnable (same_Ok _ _ s refl e10) (record {
+    got key.Speak (speak_at table) _ s (AreRunnable s) (λ speak speak_is e11.
+    subst AreRunnable (same_Ok _ _ s refl e11) (record {
       limit = usual_bounded USUAL_LIMIT LEAST_LIMIT GREATEST_LIMIT limit (at key.Limit table) (omega arith)
           (omega arith) limit_is;
       turns = usual_bounded USUAL_TURNS 1 GREATEST_TURNS turns (at key.Turns table) (omega arith)
@@ -82,7 +83,7 @@ table_runs table s e =
       run = (usual_bounded 0 0 GREATEST_RUN_MS run_ms (at key.RunMs table) (omega arith) (omega arith) run_is).1;
       peers = fits me list.members (found_peers (at key.Peer table)) peers peers_is;
     }))
-    e9) e8) e7) e6) e5) e4) e3) e2) e1) e
+    e10) e9) e8) e7) e6) e5) e4) e3) e2) e1) e
 
 -- settings that bytes hold can be run
 pub can_run : (bytes : List ℕ) (s : Settings) → settings_of bytes ≡ Ok s → AreRunnable s

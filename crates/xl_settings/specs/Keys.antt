@@ -20,12 +20,13 @@ text_of key.HeartbeatMs = codes "heartbeat_ms"
 text_of key.RunMs = codes "run_ms"
 text_of key.Submit = codes "submit"
 text_of key.Peer = codes "peer"
+text_of key.Speak = codes "speak"
 
 -- all keys, in the order in which they are judged
 abbrev pub all_keys : List KeyName
 all_keys =
     key.Me ∷ key.List ∷ key.Quorum ∷ key.Validating ∷ key.Limit ∷ key.Turns ∷ key.HeartbeatMs ∷ key.RunMs
-    ∷ key.Submit ∷ key.Peer ∷ []
+    ∷ key.Submit ∷ key.Peer ∷ key.Speak ∷ []
 
 abbrev pub is_known : List ℕ → Bool
 is_known text = list_any (λ name. bytes_eq text (text_of name)) all_keys

@@ -11,7 +11,7 @@ use Rattle.xl_ledger.specs.declared.registry.TheConstants.{LEAST_LIMIT, GREATEST
 use Rattle.xl_lists.specs.Lists.{TrustedList, list_of}
 use Rattle.xl_settings.specs.declared.key_name.KeyName.{KeyName}
 use Rattle.xl_settings.specs.declared.key_name.KeyName.TheVariants as key
-use Rattle.xl_settings.specs.declared.limits.TheConstants.{MOST_BYTES, USUAL_LIMIT, USUAL_TURNS, GREATEST_TURNS, USUAL_HEARTBEAT_MS, LEAST_HEARTBEAT_MS, GREATEST_HEARTBEAT_MS, GREATEST_RUN_MS}
+use Rattle.xl_settings.specs.declared.limits.TheConstants.{MOST_BYTES, USUAL_LIMIT, USUAL_TURNS, GREATEST_TURNS, USUAL_HEARTBEAT_MS, LEAST_HEARTBEAT_MS, GREATEST_HEARTBEAT_MS, GREATEST_RUN_MS, USUAL_SPEAK, GREATEST_SPEAK}
 use Rattle.xl_settings.specs.declared.refusal.SettingsRefusal.{SettingsRefusal}
 use Rattle.xl_settings.specs.declared.refusal.SettingsRefusal.TheVariants.{Length, Text, Unknown, Known}
 use Rattle.xl_settings.specs.declared.settings.Settings.{Settings}
@@ -62,6 +62,9 @@ heartbeat_at table =
 abbrev pub run_at : Members → Option ℕ
 run_at table = or_default 0 (whole 0 GREATEST_RUN_MS) (at key.RunMs table)
 
+abbrev pub speak_at : Members → Option ℕ
+speak_at table = or_default USUAL_SPEAK (whole USUAL_SPEAK GREATEST_SPEAK) (at key.Speak table)
+
 abbrev pub submits_at : Members → Option (List TxId)
 submits_at table = or_default [] submits_in (at key.Submit table)
 
@@ -78,6 +81,7 @@ in_table table =
     needs key.RunMs (run_at table) (λ run_ms.
     needs key.Submit (submits_at table) (λ submit.
     needs key.Peer (peers_in me list.members (at key.Peer table)) (λ peers.
+    needs key.Speak (speak_at table) (λ speak.
     Ok (record {
       me = me;
       list = list;
@@ -88,7 +92,8 @@ in_table table =
       run_ms = run_ms;
       submit = submit;
       peers = peers;
-    })))))))))))
+      speak = speak;
+    }))))))))))))
 
 abbrev pub unless_unknown : Members → Option (List ℕ) → Result Settings SettingsRefusal
 unless_unknown table (Some text) = Err (Unknown text)

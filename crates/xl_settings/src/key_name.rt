@@ -14,6 +14,7 @@ pub enum KeyName {
     RunMs,
     Submit,
     Peer,
+    Speak,
 }
 
 impl KeyName {
@@ -32,6 +33,7 @@ impl KeyName {
             KeyName::RunMs => "run_ms",
             KeyName::Submit => "submit",
             KeyName::Peer => "peer",
+            KeyName::Speak => "speak",
         }
     }
 }
@@ -51,6 +53,7 @@ pub(crate) fn is_known(text: &str) -> bool
         KeyName::RunMs,
         KeyName::Submit,
         KeyName::Peer,
+        KeyName::Speak,
     ];
     all.iter().any(|name| text == name.text())
 }

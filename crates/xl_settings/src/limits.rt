@@ -21,5 +21,11 @@ pub const LEAST_HEARTBEAT_MS: Millis = 100;
 /// The most milliseconds from heartbeat to heartbeat.
 pub const GREATEST_HEARTBEAT_MS: Millis = 10_000;
 
+/// The version of the validations of a node whose settings don't say, which is the least one.
+pub const USUAL_SPEAK: u8 = 1;
+
+/// The greatest version of a node's validations.
+pub const GREATEST_SPEAK: u8 = 2;
+
 /// The most milliseconds that a run with an end may take.
 pub const GREATEST_RUN_MS: Millis = 1_000_000_000_000;

@@ -23,4 +23,6 @@ pub struct Settings {
     pub submit: TxIds,
     /// Its peers, among them each listed member but itself.
     pub peers: Peers,
+    /// The version of its validations, 1 or 2.
+    pub speak: u8,
 }

@@ -2,7 +2,7 @@
 ghost use Rattle.std.specs.Prelude.{◌≡◌, ◌≤◌, IfSome};
 ghost use Rattle.toml.specs.View.{table_view};
 ghost use Rattle.xl_settings.specs.Answers.{GivenMemory};
-ghost use Rattle.xl_settings.specs.Settings.{in_table, me_at, validating_at, limit_at, turns_at, heartbeat_at, run_at};
+ghost use Rattle.xl_settings.specs.Settings.{in_table, me_at, validating_at, limit_at, turns_at, heartbeat_at, run_at, speak_at};
 ghost use Rattle.xl_settings.specs.Values.{at, whole, or_default};
 
 use crate::members::{list_at, members_at};
@@ -29,6 +29,7 @@ pub fn settings_in(alloc: Global, table: &Table) -> Result<Settings, SettingsFau
     let run_ms = run_at(table).ok_or(KeyName::RunMs)?;
     let submit = submits_at(alloc, table)?.ok_or(KeyName::Submit)?;
     let peers = peers_at(alloc, me, list.members(), table)?.ok_or(KeyName::Peer)?;
+    let speak = speak_at(table).ok_or(KeyName::Speak)?;
     Ok(Settings {
         me,
         list,
@@ -39,6 +40,7 @@ pub fn settings_in(alloc: Global, table: &Table) -> Result<Settings, SettingsFau
         run_ms,
         submit,
         peers,
+        speak,
     })
 }
 
@@ -98,6 +100,19 @@ fn run_at(table: &Table) -> Option<Millis>
     ensures { result ≡ run_at (table_view table.now) }
 {
     whole_at(table, KeyName::RunMs, 0, 0, limits::GREATEST_RUN_MS)
+}
+
+fn speak_at(table: &Table) -> Option<u8>
+    ensures { result ≡ speak_at (table_view table.now) }
+{
+    let speak = whole_at(
+        table,
+        KeyName::Speak,
+        u64::from(limits::USUAL_SPEAK),
+        u64::from(limits::USUAL_SPEAK),
+        u64::from(limits::GREATEST_SPEAK),
+    )?;
+    Some(speak as u8)
 }
 
 /// A whole number within bounds, or the usual one where the key doesn't stand.

@@ -82,6 +82,7 @@ told_counted (why.Conflict id) old new h = tt
 told_counted (why.OldSeq largest) old new h = tt
 told_counted (why.NotAfter kept) old new h = tt
 told_counted (why.IssuingOff failed) old new h = tt
+told_counted (why.NoKey member) old new h = tt
 
 pub issue_counted : {X : Type 0} (r : Result X Refusal) (old new : ℕ) → CountsFault r old new
     → IsCounted (outcome_in r) old new
@@ -109,7 +110,7 @@ outcome_with None save = None
 outcome_with (Some seq) Kept = Some saved.Ok
 outcome_with (Some seq) (Failed count) = Some (saved.Failed count)
 
--- where it was counted, a failure's count is above 0
+-- if it was counted, a failure's count is above 0
 pub is_outcome : (asked : Option ℕ) (save : Save) (outcome : Option Saved) (old new : ℕ)
     → outcome ≡ outcome_with asked save → IsCounted outcome old new → IsOutcome asked outcome
 is_outcome None save outcome old new e counted = e

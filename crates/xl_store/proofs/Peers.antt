@@ -1,7 +1,7 @@
 -- The peers of a core stay the same.
 use Rattle.std.proofs.Common.{◌≡◌, List, [], ◌∷◌, refl, sym, ap, ◌∙◌}
 use Rattle.xl_core.specs.declared.event.CoreEvent.{CoreEvent}
-use Rattle.xl_core.specs.declared.event.CoreEvent.TheVariants.{Issue, Frame, Timer, Submit, Greet, Drain, Reports, Stop, Stopped}
+use Rattle.xl_core.specs.declared.event.CoreEvent.TheVariants.{Issue, Frame, Timer, Submit, Greet, Drain, Reports, Stop, Stopped, Relist}
 use Rattle.xl_core.specs.Core.{Core, core_happens}
 use Rattle.xl_core.specs.Node as nodes
 use Rattle.xl_core.specs.Node.{Save}
@@ -15,6 +15,7 @@ keys_stay core (Issue now seq id full) save = (stays_itself core.node (nodes.Iss
 keys_stay core (Frame now bytes) save = (stays_itself core.node (nodes.Frame now bytes) save).keys
 keys_stay core (Timer now) save = (stays_itself core.node (nodes.Timer now) save).keys
 keys_stay core (Submit now tx) save = (stays_itself core.node (nodes.Submit now tx) save).keys
+keys_stay core (Relist now list) save = (stays_itself core.node (nodes.Relist now list) save).keys
 keys_stay core (Greet member) save = refl
 keys_stay core (Drain member room) save = refl
 keys_stay core (Reports room) save = refl

@@ -11,7 +11,6 @@ use Rattle.xl_turns.specs.Knowing.{with_drawn, after_turn}
 use Rattle.xl_turns.specs.Passes.{known, knows, opening}
 use Rattle.xl_io.specs.Keepers.{Held}
 use Rattle.xl_core.specs.declared.event.CoreEvent.{CoreEvent}
-use Rattle.xl_core.specs.declared.event.CoreEvent.TheVariants.{Frame}
 use Rattle.xl_core.specs.Answers.{Answer}
 use Rattle.xl_core.specs.Core.{core_happens, core_asks}
 use Rattle.xl_core.specs.Node.{Save, is_kept}
@@ -77,13 +76,13 @@ module _ {B K : Type 0}
     answer = ap (λ (s : Save). (core_happens before.core event s).answer) same ∙ sym does.answer;
   }
 
-  -- a turn that was begun with a copy of the bytes
-  pub begun_with : (store : Store B K) (old : Pass Entry) (now : ℕ) (copy bytes : List ℕ)
-      (turn : Turn (Box (Home B K)) Entry) (page : List Entry) → copy ≡ bytes
-      → Begun held_by saves_of faults_of gives store old (Frame now copy) turn page
-      → Begun held_by saves_of faults_of gives store old (Frame now bytes) turn page
-  begun_with store old now copy bytes turn page same b =
-      subst (λ (bs : List ℕ). Begun held_by saves_of faults_of gives store old (Frame now bs) turn page) same b
+  -- a turn that was begun with a copy of what the event hands in
+  pub begun_as : (store : Store B K) (old : Pass Entry) (copy event : CoreEvent)
+      (turn : Turn (Box (Home B K)) Entry) (page : List Entry) → copy ≡ event
+      → Begun held_by saves_of faults_of gives store old copy turn page
+      → Begun held_by saves_of faults_of gives store old event turn page
+  begun_as store old copy event turn page same b =
+      subst (λ (e : CoreEvent). Begun held_by saves_of faults_of gives store old e turn page) same b
 
   -- what the pass has seen leads to some core
   pub seen_legal : (store : Store B K) (new : Pass Entry)

@@ -4,10 +4,11 @@
 use Rattle.std.specs.Prelude.{◌≡◌, ℕ, ◌<◌, ◌≤◌, List, [], ◌∷◌, map, Some, None, IsSome}
 use Rattle.std.specs.declared.option.Option.{Option}
 use Rattle.xl_base.specs.declared.moments.TheConstants.{GREATEST_MILLIS}
+use Rattle.xl_lists.specs.Lists.{IsValid}
 use Rattle.xl_tags.specs.Rings.{key_of}
 use Rattle.xl_wire.specs.declared.lengths.TheConstants.{LONGEST_FRAME}
 use Rattle.xl_core.specs.declared.event.CoreEvent.{CoreEvent}
-use Rattle.xl_core.specs.declared.event.CoreEvent.TheVariants.{Issue, Frame, Timer, Submit, Greet, Drain, Reports, Stop, Stopped}
+use Rattle.xl_core.specs.declared.event.CoreEvent.TheVariants.{Issue, Frame, Timer, Submit, Relist, Greet, Drain, Reports, Stop, Stopped}
 use Rattle.xl_core.specs.Core.{Core, CoreReply, core_happens, core_asks}
 use Rattle.xl_core.specs.CoreLives.{CoreHappening}
 use Rattle.xl_core.specs.Node.{Save}
@@ -24,7 +25,7 @@ entry_of event outcome = record { event = event; outcome = outcome }
 abbrev pub page_of : CoreEvent → Option Saved → List Entry
 page_of event outcome = entry_of event outcome ∷ []
 
--- how the core's step takes that the save was answered; where none was asked it doesn't matter
+-- how the core's step takes that the save was answered; if none was asked it doesn't matter
 abbrev pub save_of : Option Saved → Save
 save_of None = Kept
 save_of (Some saved.Ok) = Kept
@@ -38,7 +39,7 @@ reply_of core e = core_happens core e.event (save_of e.outcome)
 abbrev pub life_of : List Entry → List CoreHappening
 life_of = map (λ e. let h : CoreHappening = record { event = e.event; save = save_of e.outcome } in h)
 
--- there is an outcome exactly where a save is asked, and a failure is counted
+-- there is an outcome exactly if a save is asked, and a failure is counted
 abbrev pub IsOutcome : Option ℕ → Option Saved → Type 0
 IsOutcome None outcome = outcome ≡ None
 IsOutcome (Some seq) None = ⊥
@@ -51,6 +52,7 @@ IsAllowed core (Issue now seq id full) = now ≤ GREATEST_MILLIS
 IsAllowed core (Frame now bytes) = now ≤ GREATEST_MILLIS
 IsAllowed core (Timer now) = now ≤ GREATEST_MILLIS
 IsAllowed core (Submit now tx) = now ≤ GREATEST_MILLIS
+IsAllowed core (Relist now list) = (now ≤ GREATEST_MILLIS) × IsValid list
 IsAllowed core (Greet member) = IsSome (key_of core.node.keys member)
 IsAllowed core (Drain member room) = IsSome (key_of core.node.keys member) × (LONGEST_FRAME ≤ room)
 IsAllowed core (Reports room) = Unit {0}

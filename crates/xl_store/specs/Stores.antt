@@ -69,7 +69,7 @@ module _ {B K : Type 0} where
     pub count : written ≡ length reports
     pub room : after ≡ reports ++ drop written before
 
-  -- it knows as much as before; where a full store is named as the cause, it knows besides that all turns were drawn
+  -- it knows as much as before; if a full store is named as the cause, it knows besides that all turns were drawn
   abbrev pub IsWhy : Store B K → Knowledge Entry → StoreEnd → Knowledge Entry → Type 0
   IsWhy store old OutOfMemory new = new ≡ old
   IsWhy store old (StoreFull n) new =

@@ -1,2 +1,4 @@
 pub mod Moments
 pub mod Answers
+pub mod Connections
+pub mod Allowances

@@ -40,14 +40,14 @@ pub(crate) fn writing_of(written: io::Result<usize>) -> Wrote
 }
 
 /// Nothing happened within the time-out.
-fn is_late(kind: ErrorKind) -> bool
+pub(crate) fn is_late(kind: ErrorKind) -> bool
     ensures { result ≡ is_late kind }
 {
     matches!(kind, ErrorKind::WouldBlock | ErrorKind::TimedOut)
 }
 
 /// Nobody takes the call where it is made, or whoever made one has gone.
-fn is_absence(kind: ErrorKind) -> bool
+pub(crate) fn is_absence(kind: ErrorKind) -> bool
     ensures { result ≡ is_absence kind }
 {
     match kind {

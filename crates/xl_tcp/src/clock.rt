@@ -3,8 +3,8 @@ ghost use Rattle.std.specs.Duration.{as_nanos};
 ghost use Rattle.xl_base.specs.declared.moments.TheConstants.{GREATEST_MILLIS};
 ghost use Rattle.xl_tcp.specs.Moments.{moment_at};
 
-use std::thread;
 use std::time::{self, Duration};
+use std::{io, thread};
 use xl_base::{GREATEST_MILLIS, Millis};
 use xl_links::Clock;
 
@@ -13,15 +13,43 @@ const EPOCH_MILLIS: u64 = 946_684_800_000;
 
 /// The system's clock, in milliseconds from 2000-01-01 00:00:00 UTC on. Before that, and where the clock can't be read,
 /// it gives 0; and it gives no later moment than the greatest, which lies in the year 2126.
+///
+/// It reads the time of day once, when it is made, and adds how long it has run since by the clock that is never set. So
+/// nobody who sets the time of day moves it.
 #[derive(Drop)]
 pub struct SystemClock<C> {
     system: C,
+    start: Option<Start>,
+}
+
+/// What both clocks said when this one was made.
+#[derive(Clone, Copy)]
+struct Start {
+    since_1970: Duration,
+    monotonic: Duration,
 }
 
 impl<C: time::Clock> SystemClock<C> {
+    /// A clock that starts now.
     pub fn new(system: C) -> Self {
-        SystemClock { system }
+        let start = start_of(&system).ok();
+        SystemClock { system, start }
     }
+
+    /// How long after 1970 began it is.
+    fn since_1970(&self) -> Option<Duration> {
+        let start = self.start?;
+        let now = self.system.monotonic().ok()?;
+        let ran = now.saturating_sub(start.monotonic);
+        Some(start.since_1970.saturating_add(ran))
+    }
+}
+
+fn start_of<C: time::Clock>(system: &C) -> io::Result<Start> {
+    Ok(Start {
+        since_1970: system.since_1970()?,
+        monotonic: system.monotonic()?,
+    })
 }
 
 impl<C: time::Clock> Clock for SystemClock<C> {
@@ -30,9 +58,9 @@ impl<C: time::Clock> Clock for SystemClock<C> {
     ghost may_give = { λ _ moment. nat_le moment GREATEST_MILLIS };
 
     fn now(&self) -> Millis {
-        match self.system.since_1970() {
-            Ok(since_1970) => moment_at(since_1970),
-            Err(_) => 0,
+        match self.since_1970() {
+            Some(since_1970) => moment_at(since_1970),
+            None => 0,
         }
     }
 

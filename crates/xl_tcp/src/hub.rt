@@ -2,8 +2,10 @@ ghost use Rattle.std.specs.Prelude.{◌≡◌, None};
 
 use crate::address::address_of;
 use crate::link::TcpLink;
+use std::alloc::Global;
 use std::io;
 use std::net::Net;
+use std::time::Clock;
 use xl_base::NodeNo;
 use xl_io::Failed;
 use xl_links::{Hub, Way};
@@ -11,24 +13,29 @@ use xl_links::{Hub, Way};
 /// A hub over the network. What its links will give isn't told.
 #[derive(Drop)]
 pub struct TcpHub<R> {
+    alloc: Global,
     net: R,
     faults: u64,
 }
 
 impl<R: Net + Clone + Drop> TcpHub<R> {
     /// A hub over this network, of which nothing has been asked yet.
-    pub fn new(net: R) -> Self {
-        TcpHub { net, faults: 0 }
+    pub fn new(alloc: Global, net: R) -> Self {
+        TcpHub {
+            alloc,
+            net,
+            faults: 0,
+        }
     }
 
     fn link(&self, way: &Way) -> io::Result<TcpLink<R>> {
         let net = self.net.clone()?;
         let address = address_of(&net, way)?;
-        Ok(TcpLink::new(net, address))
+        Ok(TcpLink::new(self.alloc, net, address))
     }
 }
 
-impl<R: Net + Clone + Drop + Send> Hub for TcpHub<R>
+impl<R: Net + Clock + Clone + Drop + Send> Hub for TcpHub<R>
 where
     R::Stream: Send,
     R::Listener: Send,

@@ -1,42 +1,65 @@
-ghost use Rattle.std.specs.Prelude.{◌≡◌, ◌≤◌, IfOk, length};
+ghost use Rattle.std.specs.Prelude.{◌≡◌};
 ghost use Rattle.xl_tcp.specs.Answers.{untold};
 
 use crate::address::Address;
+use crate::allowance::Allowance;
 use crate::answers::{opening_of, reading_of, writing_of};
-use std::io::{self, ErrorKind, Read, Write};
+use crate::callers::Callers;
+use crate::conduct::{Conduct, greetings};
+use crate::connection::Connection;
+use crate::moments::millis_of;
+use std::alloc::Global;
+use std::io::{self, ErrorKind};
 use std::net::{Net, OpenListener, OpenStream, SocketAddr};
-use std::time::Duration;
+use std::time::{Clock, Duration};
+use xl_base::Millis;
 use xl_io::Wrote;
 use xl_links::{Link, LinkRead, Opening};
 
-/// How long a read waits for a byte, in milliseconds.
-const READ_WAITS: u64 = 1000;
-
-/// How long a dial waits for its answer and a write for room, in milliseconds. With the second that passes before the
-/// next opening, a node that is to stop is held for less than two.
+/// How long a dial waits for its answer, in milliseconds. With the second that passes before the next opening, a node
+/// that is to stop is held for less than two.
 const PATIENCE: u64 = 900;
+
+/// For how long a caller may send no whole frame, in milliseconds.
+const SILENCE: Millis = 60_000;
+
+/// The same while another is ready. A member whose network stands still sends a frame in 17 seconds.
+const SILENCE_BEFORE_OTHERS: Millis = 20_000;
 
 /// A link to one member over TCP, with one connection at a time. What it gives and takes isn't told.
 ///
 /// An opening lets go of the connection before. It dials, and waits 900 milliseconds for the answer; or it takes the
-/// next of those who dialled in, and doesn't wait: whoever else has dialled waits behind it. It answers NotYet where
-/// nobody is there: the call is refused, isn't answered in time or can't reach the machine, or nobody calls. A read
-/// waits a second for a byte. A write waits 900 milliseconds until the system takes one, and else fails. A read or a
-/// write that is interrupted is made again. Where no connection was opened a read answers End, and a write fails.
+/// first ready one of those who dialled in, and doesn't wait: whoever else has dialled waits behind it. It answers
+/// NotYet if nobody is there: the call is refused, isn't answered in time or can't reach the machine, or nobody calls.
+///
+/// A read waits a second for a byte, and then 50 milliseconds for more. A write waits until the system takes a byte, and
+/// reads ahead meanwhile what the peer says, for later reads; it fails if for 900 milliseconds no byte went either way.
+/// A read or a write that is interrupted is made again. If no connection was opened, a read answers End and a write
+/// fails.
+///
+/// Anybody can call, and the link knows no key. So it lets go of a caller that sends more than a member does, and of
+/// one that has sent no whole frame for a minute, or for 20 seconds while another is ready. A read then says that no
+/// more bytes come.
 #[derive(Drop)]
 pub struct TcpLink<R: Net> {
+    alloc: Global,
     net: R,
     address: Address<R::Listener>,
-    stream: Option<R::Stream>,
+    callers: Callers<R::Stream>,
+    greetings: Option<Allowance>,
+    connection: Option<Connection<R::Stream>>,
     faults: u64,
 }
 
 impl<R: Net + Drop> TcpLink<R> {
-    pub(crate) fn new(net: R, address: Address<R::Listener>) -> Self {
+    pub(crate) fn new(alloc: Global, net: R, address: Address<R::Listener>) -> Self {
         TcpLink {
+            alloc,
             net,
             address,
-            stream: None,
+            callers: Callers::new(alloc),
+            greetings: None,
+            connection: None,
             faults: 0,
         }
     }
@@ -49,27 +72,82 @@ impl<R: Net + Drop> TcpLink<R> {
             Address::Bound(listener) => listener.local_addr().ok(),
         }
     }
+}
 
-    fn connect(&self) -> io::Result<R::Stream> {
-        let stream = match &self.address {
-            Address::Dialled(addr) => dial(&self.net, *addr)?,
-            Address::Bound(listener) => listener.accept()?.0,
+impl<R: Net + Clock + Drop> TcpLink<R> {
+    fn connect(&mut self) -> io::Result<Connection<R::Stream>>
+        ensures faults { self.new.faults ≡ self.old.faults }
+    {
+        match &self.address {
+            Address::Dialled(addr) => {
+                let stream = dial(&self.net, *addr)?;
+                Connection::new(self.alloc, stream, None)
+            }
+            Address::Bound(listener) => {
+                let now = millis_of(&self.net)?;
+                self.callers.admit(listener, now)?;
+                self.serve_next(now)
+            }
+        }
+    }
+
+    /// Serves the first caller that is ready.
+    fn serve_next(&mut self, now: Millis) -> io::Result<Connection<R::Stream>>
+        ensures faults { self.new.faults ≡ self.old.faults }
+    {
+        let Some(stream) = self.callers.next() else {
+            return Err(io::Error::from(ErrorKind::WouldBlock));
         };
-        stream.set_read_timeout(Some(Duration::from_millis(READ_WAITS)))?;
-        stream.set_write_timeout(Some(Duration::from_millis(PATIENCE)))?;
-        stream.set_nodelay(true)?;
-        Ok(stream)
+        stream.set_nonblocking(false)?;
+        let left = self.greetings.unwrap_or(greetings(now));
+        let conduct = Conduct::new(self.alloc, left, now).map_err(|_| io::Error::from(
+            ErrorKind::OutOfMemory,
+        ))?;
+        Connection::new(self.alloc, stream, Some(conduct))
+    }
+
+    /// Lets go of the connection, and keeps what callers may still greet with.
+    fn leave(&mut self)
+        ensures faults { self.new.faults ≡ self.old.faults }
+    {
+        if let Some(connection) = &self.connection {
+            if let Some(conduct) = connection.conduct() {
+                self.greetings = Some(conduct.greetings());
+            }
+        }
+        self.connection = None;
+    }
+
+    /// The caller that is served has been silent for too long.
+    fn is_overdue(&mut self) -> io::Result<bool>
+        ensures faults { self.new.faults ≡ self.old.faults }
+    {
+        let now = millis_of(&self.net)?;
+        let silence = self.silence(now);
+        if silence < SILENCE_BEFORE_OTHERS {
+            return Ok(false);
+        }
+        if let Address::Bound(listener) = &self.address {
+            self.callers.admit(listener, now)?;
+        }
+        Ok(silence >= SILENCE || self.callers.is_any_ready())
+    }
+
+    /// For how long a caller that is served has sent no whole frame.
+    fn silence(&self, now: Millis) -> Millis {
+        let conduct = self.connection.as_ref().and_then(|it| it.conduct());
+        conduct.map_or(0, |it| it.silence(now))
     }
 }
 
-impl<R: Net + Drop> Link for TcpLink<R> {
+impl<R: Net + Clock + Drop> Link for TcpLink<R> {
     ghost shows = { λ link. untold link.faults };
 
     fn open(&mut self) -> Opening {
-        self.stream = None;
+        self.leave();
         let connected = self.connect();
         let answer = opening_of(&connected);
-        self.stream = connected.ok();
+        self.connection = connected.ok();
         if answer == Opening::Failed {
             self.faults = self.faults.saturating_add(1);
         }
@@ -77,8 +155,11 @@ impl<R: Net + Drop> Link for TcpLink<R> {
     }
 
     fn read(&mut self, room: &mut [u8]) -> LinkRead {
-        let answer = match &mut self.stream {
-            Some(stream) => reading_of(read_uninterrupted(stream, room)),
+        if self.is_overdue().unwrap_or(false) {
+            return LinkRead::End;
+        }
+        let answer = match &mut self.connection {
+            Some(connection) => reading_of(connection.read(&self.net, room)),
             None => LinkRead::End,
         };
         if answer == LinkRead::Failed {
@@ -88,8 +169,8 @@ impl<R: Net + Drop> Link for TcpLink<R> {
     }
 
     fn write(&mut self, piece: &[u8]) -> Wrote {
-        let answer = match &mut self.stream {
-            Some(stream) => writing_of(write_uninterrupted(stream, piece)),
+        let answer = match &mut self.connection {
+            Some(connection) => writing_of(connection.write(&self.net, piece)),
             None => Wrote::Failed,
         };
         if answer == Wrote::Failed {
@@ -106,30 +187,4 @@ fn dial<R: Net>(net: &R, addr: SocketAddr) -> io::Result<R::Stream> {
         return Err(io::Error::from(ErrorKind::ConnectionRefused));
     }
     Ok(stream)
-}
-
-/// Reads again after each read that was interrupted.
-fn read_uninterrupted<S: Read>(stream: &mut S, room: &mut [u8]) -> io::Result<usize>
-    ensures { IfOk result (λ count. count ≤ length room.new) }
-{
-    for _ in 0..u64::MAX {
-        match stream.read(room) {
-            Err(error) if error.kind() == ErrorKind::Interrupted => {}
-            answer => return answer,
-        }
-    }
-    Err(io::Error::from(ErrorKind::Interrupted))
-}
-
-/// Writes again after each write that was interrupted.
-fn write_uninterrupted<S: Write>(stream: &mut S, piece: &[u8]) -> io::Result<usize>
-    ensures { IfOk result (λ count. count ≤ length piece.now) }
-{
-    for _ in 0..u64::MAX {
-        match stream.write(piece) {
-            Err(error) if error.kind() == ErrorKind::Interrupted => {}
-            answer => return answer,
-        }
-    }
-    Err(io::Error::from(ErrorKind::Interrupted))
 }

@@ -1,6 +1,9 @@
 use super::*;
+use std::alloc::Global;
+use std::sync::atomic::{AtomicU64, Ordering};
 use std::test::Fail;
-use std::thread;
+use std::time::{self, Duration};
+use std::{io, thread};
 use xl_base::{GREATEST_MILLIS, NodeNo};
 use xl_io::Wrote;
 use xl_links::{Clock, Hub, Link, LinkRead, Opening, Way};
@@ -17,9 +20,45 @@ fn the_clock_gives_a_moment_of_this_century(rt: HostRuntime) -> Result<(), Fail>
     Ok(())
 }
 
+/// A clock whose two readings are set by hand, in milliseconds.
+#[derive(Drop)]
+struct SetClock {
+    since_1970: AtomicU64,
+    monotonic: AtomicU64,
+}
+
+impl time::Clock for SetClock {
+    fn monotonic(&self) -> io::Result<Duration> {
+        Ok(Duration::from_millis(self.monotonic.load(Ordering::SeqCst)))
+    }
+
+    fn since_1970(&self) -> io::Result<Duration> {
+        Ok(Duration::from_millis(self.since_1970.load(Ordering::SeqCst)))
+    }
+}
+
+#[test]
+fn a_time_of_day_that_is_set_moves_no_clock(rt: HostRuntime) -> Result<(), Fail> {
+    const START: u64 = 1_700_000_000_000;
+    const HOUR: u64 = 3_600_000;
+    let set = SetClock {
+        since_1970: AtomicU64::new(START),
+        monotonic: AtomicU64::new(5000),
+    };
+    let clock = SystemClock::new(&set);
+    let first = clock.now();
+    assert_eq!(rt; first, START - 946_684_800_000);
+    for (since_1970, ran) in [(START + HOUR, 1000), (START - HOUR, 2000), (START, 3000)] {
+        set.since_1970.store(since_1970, Ordering::SeqCst);
+        set.monotonic.store(5000 + ran, Ordering::SeqCst);
+        assert_eq!(rt; clock.now(), first + ran);
+    }
+    Ok(())
+}
+
 /// A link of member 2 over loopback, or none where the address is refused.
 fn link_of(rt: &HostRuntime, way: Way) -> Result<Option<TcpLink<HostRuntime>>, Fail> {
-    let mut hub = TcpHub::new(rt.clone()?);
+    let mut hub = TcpHub::new(rt.alloc(), rt.clone()?);
     let Some(member) = NodeNo::new(2) else {
         return Ok(None);
     };
@@ -93,7 +132,7 @@ fn bytes_pass_over_loopback(rt: HostRuntime) -> Result<(), Fail> {
     };
     let mut bytes = [0; 100];
     for (place, byte) in bytes.iter_mut().enumerate() {
-        *byte = place as u8;
+        *byte = byte_at(place);
     }
     let mut room = [0; 100];
     let mut taken = 0;
@@ -111,6 +150,237 @@ fn bytes_pass_over_loopback(rt: HostRuntime) -> Result<(), Fail> {
     drop(dialling);
     assert!(rt; listening.read(&mut room) == LinkRead::End);
     assert!(rt; listening.open() == Opening::NotYet);
+    Ok(())
+}
+
+/// How many bytes each of two peers writes before it reads any.
+const LONG: usize = 16_000_000;
+
+/// How long the frame is with which a peer begins.
+const FRAME: usize = 78;
+
+/// The byte at this place of what a peer says, which begins with a frame.
+fn byte_at(place: usize) -> u8 {
+    match place {
+        0 => b'X',
+        1 => b'L',
+        2 => 1,
+        3 => 5,
+        4 => 0,
+        5 => 32,
+        _ => (place % 251) as u8,
+    }
+}
+
+/// The frame with which a peer begins.
+fn front() -> [u8; FRAME] {
+    let mut bytes = [0; FRAME];
+    for (place, byte) in bytes.iter_mut().enumerate() {
+        *byte = byte_at(place);
+    }
+    bytes
+}
+
+/// Opens a link and writes all the bytes, in whichever pieces they are taken.
+fn gives_all<C: Clock, L: Link>(clock: &C, link: &mut L, bytes: &[u8]) -> bool {
+    if !opens(clock, link) {
+        return false;
+    }
+    let mut given = 0;
+    for _ in 0..bytes.len() {
+        if given >= bytes.len() {
+            break;
+        }
+        match link.write(&bytes[given..]) {
+            Wrote::Took(count) => given = given.saturating_add(count),
+            Wrote::Failed => return false,
+        }
+    }
+    given >= bytes.len()
+}
+
+/// Reads as many bytes as these, and says whether they are these.
+fn takes_all<L: Link>(link: &mut L, bytes: &[u8]) -> bool {
+    let mut room = [0; 8192];
+    let mut rest = bytes;
+    for _ in 0..bytes.len() {
+        if rest.is_empty() {
+            break;
+        }
+        let LinkRead::Got(count) = link.read(&mut room) else {
+            return false;
+        };
+        if count > rest.len() || room[..count] != rest[..count] {
+            return false;
+        }
+        rest = &rest[count..];
+    }
+    rest.is_empty()
+}
+
+/// The frame, and behind it what repeats after 251 bytes.
+fn said(alloc: Global) -> Result<Vec<u8>, Fail> {
+    let mut bytes = front().to_vec(alloc)?;
+    for place in FRAME..LONG {
+        bytes.push((place % 251) as u8)?;
+    }
+    Ok(bytes)
+}
+
+#[test]
+fn two_peers_may_write_at_once(rt: HostRuntime) -> Result<(), Fail> {
+    let clock = SystemClock::new(rt.clone()?);
+    let Some((mut listening, mut dialling)) = pair(&rt)? else {
+        return Err(Fail::from("no link on loopback"));
+    };
+    let bytes = said(rt.alloc())?;
+    let mut each = (false, false);
+    thread::join_mut(
+        &rt,
+        &mut || each.0 = gives_all(&clock, &mut listening, &bytes)
+            && takes_all(&mut listening, &bytes),
+        &mut || each.1 = gives_all(&clock, &mut dialling, &bytes)
+            && takes_all(&mut dialling, &bytes),
+    );
+    assert!(rt; each == (true, true));
+    Ok(())
+}
+
+#[test]
+fn a_peer_that_does_not_read_is_left(rt: HostRuntime) -> Result<(), Fail> {
+    let clock = SystemClock::new(rt.clone()?);
+    let Some((mut listening, mut dialling)) = pair(&rt)? else {
+        return Err(Fail::from("no link on loopback"));
+    };
+    let bytes = said(rt.alloc())?;
+    let mut given = true;
+    let mut opened = false;
+    thread::join_mut(
+        &rt,
+        &mut || opened = opens(&clock, &mut listening),
+        &mut || given = gives_all(&clock, &mut dialling, &bytes),
+    );
+    assert!(rt; opened);
+    assert!(rt; !given);
+    Ok(())
+}
+
+#[test]
+fn a_read_gathers_what_comes_soon(rt: HostRuntime) -> Result<(), Fail> {
+    let clock = SystemClock::new(rt.clone()?);
+    let Some((mut listening, mut dialling)) = pair(&rt)? else {
+        return Err(Fail::from("no link on loopback"));
+    };
+    assert!(rt; gives(&clock, &mut dialling, &front()));
+    let mut front = [0; FRAME];
+    assert_eq!(rt; takes(&clock, &mut listening, &mut front), FRAME);
+    let mut room = [0; 8];
+    let mut got = LinkRead::End;
+    thread::join_mut(
+        &rt,
+        &mut || got = listening.read(&mut room),
+        &mut || {
+            for piece in [b"abc", b"def"] {
+                dialling.write(piece);
+                clock.wait(10);
+            }
+        },
+    );
+    assert!(rt; got == LinkRead::Got(6));
+    assert!(rt; room == *b"abcdef\0\0");
+    Ok(())
+}
+
+/// A link that dials where this one listens.
+fn another(
+    rt: &HostRuntime,
+    listening: &TcpLink<HostRuntime>,
+) -> Result<TcpLink<HostRuntime>, Fail> {
+    let Some(address) = listening.listens_at() else {
+        return Err(Fail::from("no address"));
+    };
+    match link_of(rt, Way::Dial(address.to_string(rt.alloc())?))? {
+        Some(link) => Ok(link),
+        None => Err(Fail::from("no link on loopback")),
+    }
+}
+
+#[test]
+fn who_shows_no_frame_is_passed_over(rt: HostRuntime) -> Result<(), Fail> {
+    let clock = SystemClock::new(rt.clone()?);
+    let Some((mut listening, mut gone)) = pair(&rt)? else {
+        return Err(Fail::from("no link on loopback"));
+    };
+    let mut silent = another(&rt, &listening)?;
+    let mut wrong = another(&rt, &listening)?;
+    let mut member = another(&rt, &listening)?;
+    assert!(rt; opens(&clock, &mut gone));
+    drop(gone);
+    assert!(rt; gives(&clock, &mut silent, b"XL\x01"));
+    assert!(rt; gives(&clock, &mut wrong, &[0; FRAME]));
+    clock.wait(50);
+    assert!(rt; listening.open() == Opening::NotYet);
+    assert!(rt; gives(&clock, &mut member, &front()));
+    let mut room = [0; FRAME];
+    assert_eq!(rt; takes(&clock, &mut listening, &mut room), FRAME);
+    assert!(rt; room == front());
+    // The one that was wrong was let go, and the silent one waits on.
+    assert!(rt; wrong.read(&mut room) != LinkRead::Idle);
+    assert!(rt; silent.read(&mut room) == LinkRead::Idle);
+    Ok(())
+}
+
+/// Gives so many frames, and says how many were taken before the connection ended.
+fn gives_frames<L: Link>(link: &mut L, frame: &[u8], count: u32) -> u32 {
+    for given in 0..count {
+        if link.write(frame) != Wrote::Took(frame.len()) {
+            return given;
+        }
+    }
+    count
+}
+
+#[test]
+fn who_sends_too_much_is_let_go(rt: HostRuntime) -> Result<(), Fail> {
+    let clock = SystemClock::new(rt.clone()?);
+    let Some((mut listening, mut dialling)) = pair(&rt)? else {
+        return Err(Fail::from("no link on loopback"));
+    };
+    assert!(rt; opens(&clock, &mut dialling));
+    gives_frames(&mut dialling, &front(), 200);
+    assert!(rt; opens(&clock, &mut listening));
+    let mut room = [0; FRAME];
+    let mut came = 0u32;
+    for _ in 0..200 {
+        if listening.read(&mut room) != LinkRead::Got(FRAME) {
+            break;
+        }
+        came = came.saturating_add(1);
+    }
+    assert!(rt; 64 < came && came < 200);
+    assert!(rt; listening.read(&mut room) == LinkRead::End);
+    Ok(())
+}
+
+#[test]
+fn a_greeting_may_be_long(rt: HostRuntime) -> Result<(), Fail> {
+    let clock = SystemClock::new(rt.clone()?);
+    let Some((mut listening, mut dialling)) = pair(&rt)? else {
+        return Err(Fail::from("no link on loopback"));
+    };
+    assert!(rt; opens(&clock, &mut dialling));
+    let mut header = [0; 164];
+    header[..6].copy_from_slice(b"XL\x01\x03\x00\x76");
+    for sequence in 1..=1000u32 {
+        header[14..18].copy_from_slice(&sequence.to_be_bytes());
+        assert!(rt; dialling.write(&header) == Wrote::Took(164));
+    }
+    assert!(rt; opens(&clock, &mut listening));
+    let mut room = [0; 164];
+    for sequence in 1..=1000u32 {
+        assert!(rt; listening.read(&mut room) == LinkRead::Got(164));
+        assert!(rt; &room[14..18] == sequence.to_be_bytes().as_slice());
+    }
     Ok(())
 }
 

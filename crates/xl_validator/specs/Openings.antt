@@ -23,6 +23,7 @@ core_settings s = record {
   keys = ring_of s.me s.peers;
   limit = s.limit;
   validating = s.validating;
+  speak = s.speak;
 }
 
 -- the core at its opening, at a moment and with the number that was kept

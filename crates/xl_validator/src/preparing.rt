@@ -45,6 +45,7 @@ pub(crate) fn prepare(
         run_ms,
         submit,
         peers,
+        speak,
     } = settings;
     let keys = keys_of(me, peers.as_slice());
     let timing = Timing {
@@ -62,6 +63,7 @@ pub(crate) fn prepare(
         keys,
         limit,
         validating,
+        speak,
     };
     match Core::open(alloc, settings, now, kept) {
         Ok(core) => Ok(Prepared { core, plan }),

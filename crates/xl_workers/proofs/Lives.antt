@@ -98,7 +98,7 @@ module _ (s : Setting) where
     by = λ history close all. (refl, shared_out timing members old mid new o1 o2 o3 beats last w t history close all);
   }
 
-  -- nothing ran, for want of memory
+  -- nothing ran, if memory runs out
   pub lives_none : (d : Doing) (k : Knowledge Entry) → k.share ≡ whole → d.new_output ≡ d.old_output
       → Lives s d d.ids end.OutOfMemory k k
   lives_none d k share silent = record {

@@ -68,7 +68,7 @@ same_after : (xs ys : List ℕ) (old mid new : Output) → AddsLess xs old mid �
 same_after xs ys old mid new a same =
     less_first xs ys old new (subst (λ (o : Output). AddsLess xs old o) (sym same) a)
 
--- where no write's fault ended the heartbeat, the last reports decide
+-- if no write's fault ended the heartbeat, the last reports decide
 after_beats : (xs ys : List ℕ) (old mid new : Output) (run last : Ending) (stop : Stopping)
     → IsWritten run xs old mid → IsWrittenAfter run last ys mid new
     → IsOutput (status_of_run (record { run = run; stop = stop }) last) (xs ++ ys) old new

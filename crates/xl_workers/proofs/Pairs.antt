@@ -21,7 +21,7 @@ paired_more P [] (b ∷ ys) x y h p = absurd h
 paired_more P (a ∷ xs) [] x y h p = absurd h
 paired_more P (a ∷ xs) (b ∷ ys) x y h p = (h.0, paired_more P xs ys x y h.1 p)
 
--- another relation of the images, where one follows from the other for elements that have this
+-- another relation of the images, if one follows from the other for elements that have this
 pub paired_map : {A B C : Type 0} (P : A → A → Type 0) (Q : B → C → Type 0) (R : A → Type 0) (f : A → B) (g : A → C)
     → ((x y : A) → R x → P x y → Q (f x) (g y))
     → (xs ys : List A) → AllByRecursion R xs → Paired P xs ys → Paired Q (map f xs) (map g ys)

@@ -13,7 +13,7 @@ module _ {L : Type 0} where
   abbrev pub member_of : Peer L → ℕ
   member_of peer = peer.member
 
-  -- the link shows what the hub told of the next link to this member, where it told it
+  -- the link shows what the hub told of the next link to this member, if it told it
   abbrev pub IsAsTold : (ℕ → Option Wire) → (L → Wire) → Peer L → Type 0
   IsAsTold gives shows peer = IfSome (gives peer.member) (λ wire. shows peer.link ≡ wire)
 

@@ -51,7 +51,7 @@ pub record NoMore (d : Doing) (history : List Entry) (submits : List ℕ) : Type
 abbrev pub IsLess : List TxId → List TxId → Type 0
 IsLess done ids = (next : TxId) × (rest : List TxId) × (ids ≡ done ++ next ∷ rest)
 
--- What each end says. Where the workers ran, all ids were submitted and the other places are shared out. Else the
+-- What each end says. If the workers ran, all ids were submitted and the other places are shared out. Else the
 -- submits have all places: the hub failed after all of them, memory was wanting, or all turns of the store were drawn
 abbrev pub EndsBy : Setting → Doing → List Entry → List TxId → List ℕ → RunEnd → Type 0
 EndsBy s d history done submits (end.Ran beats last) =

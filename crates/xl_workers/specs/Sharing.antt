@@ -47,7 +47,7 @@ pub record SubmitPart (s : Setting) (history : List Entry) (ids : List TxId) (pl
   pub each : Paired (IsSubmit s.may_give) ids calls
   pub stand : Stands s.start history places calls
 
--- beats, and then the stop; where the store had no turn for one, the history has as many entries as that has turns
+-- beats, and then the stop; if the store had no turn for one, the history has as many entries as that has turns
 pub record BeatPart (s : Setting) (timing : Timing) (history : List Entry) (end : BeatEnd) (calls : List Call)
     (places : List ℕ) : Type 0 where
   pub phase : Phase
@@ -56,7 +56,7 @@ pub record BeatPart (s : Setting) (timing : Timing) (history : List Entry) (end 
   pub reason : IsReason s.turns calls phase (length history) end.run
   pub stopped : IsStop s.turns (length history) end.stop
 
--- all turns of the store were drawn, where that is why the serving ended
+-- all turns of the store were drawn, if that is why the serving ended
 abbrev pub IsFilled : ℕ → List Entry → Served → Type 0
 IsFilled turns history served.Stopped = Unit {0}
 IsFilled turns history (served.StoreFull n) = (n ≡ turns) × (length history ≡ turns)

@@ -29,7 +29,7 @@ use xl_ledger::Branch;
 use xl_links::{Clock, Gate, Hub, Link};
 use xl_store::{Pass, Store, StoreEnd};
 
-/// Takes the last reports, and writes their lines. Where a write's fault ended the heartbeat they aren't written: what
+/// Takes the last reports, and writes their lines. If a write's fault ended the heartbeat they aren't written: what
 /// the output holds would be no front of all lines then.
 fn take_last<W: Wait, B: Branch + Drop, K: Keeper + Drop, O: Sink>(
     rt: &W,

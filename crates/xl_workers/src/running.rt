@@ -32,7 +32,7 @@ pub struct Ran<B: Branch, K> {
 /// Runs a validator over a core and its keeper: submits the plan's ids, opens a link to each of its members, serves
 /// them all side by side with the heartbeat until that ends the run, takes the last reports and closes the store.
 ///
-/// The members are peers of the core, and none stands twice. Where there was no memory for the store, core and keeper
+/// The members are peers of the core, and none stands twice. If there was no memory for the store, core and keeper
 /// come back, and nothing happened. How every other run ended is told in what it leaves.
 pub fn node<
     W: Threads + Wait + Sync,

@@ -12,7 +12,7 @@ use xl_links::{Clock, Gate, Link};
 use xl_peers::attend;
 use xl_store::{Pass, Store};
 
-/// What serves one member, in a thread of its own where one can be made.
+/// What serves one member, in a thread of its own if one can be made.
 #[derive(Drop)]
 pub struct Worker<L> {
     pub peer: Peer<L>,

@@ -54,7 +54,7 @@ fn run<
     ensures served { HaveServed store.now (C.may_give clock.now) L.shows workers.old workers.new }
     ensures long { length workers.new ≡ length workers.old }
 {
-    // Where no thread can be started the second closure runs first, in this one: the workers then find the stop asked.
+    // If no thread can be started the second closure runs first, in this one: the workers then find the stop asked.
     let ((), beats) = thread::join_mut(
         rt,
         &mut ||
@@ -122,7 +122,7 @@ fn run_and_join<
     (join_all(store, one, workers), beats)
 }
 
-/// Serves the peers over their links, a worker for each, beside the heartbeat, until all have ended. For want of memory
+/// Serves the peers over their links, a worker for each, beside the heartbeat, until all have ended. If memory runs out
 /// nothing runs, and the pass comes back as it was.
 pub(crate) fn work<
     W: Threads + Wait + Sync,

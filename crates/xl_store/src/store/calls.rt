@@ -4,7 +4,7 @@ ghost use Rattle.xl_tags.specs.Rings.{key_of};
 ghost use Rattle.xl_wire.specs.declared.lengths.TheConstants.{LONGEST_FRAME};
 ghost use Rattle.xl_core.specs.Answers.{Beats, Done, Told};
 ghost use Rattle.xl_core.specs.Replies.{taken_answer, done_answer};
-ghost use Rattle.xl_core.specs.declared.event.CoreEvent.TheVariants.{Issue, Frame, Timer, Submit, Greet, Stop, Stopped};
+ghost use Rattle.xl_core.specs.declared.event.CoreEvent.TheVariants.{Issue, Frame, Timer, Submit, Greet, Stop, Stopped, Relist};
 ghost use Rattle.xl_store.specs.Stores.{start_of, IsOf, Called, Drained, HandedOut, Refused};
 
 use super::{Pass, Store, StoreEnd};
@@ -15,9 +15,10 @@ use xl_base::{LedgerId, Millis, NodeNo, Seq, TxId};
 use xl_core::{Beat, CoreEvent, Refusal, Report, Taken};
 use xl_io::Keeper;
 use xl_ledger::Branch;
+use xl_lists::List;
 
 /// The core's calls. Each takes one turn, which may have to wait for others, and answers what the core's step answers
-/// after all that the pass has then seen. Where there is no turn nothing happens at the core.
+/// after all that the pass has then seen. If there is no turn nothing happens at the core.
 impl<B: Branch + Drop, K: Keeper + Drop> Store<B, K> {
     /// Hears bytes that come, and tells what was taken, or why they are refused.
     pub fn frame<W: Wait>(
@@ -73,6 +74,33 @@ impl<B: Branch + Drop, K: Keeper + Drop> Store<B, K> {
     {
         let (mut turn, page) = self.enter(rt, pass, CoreEvent::Submit { now, tx })?;
         let answer = turn.object.core.submit(now, tx);
+        self.lock.finish(pass, turn, page);
+        Ok(answer)
+    }
+
+    /// Sets another list in force, or tells why it is refused.
+    pub fn relist<W: Wait>(
+        &self,
+        rt: &W,
+        pass: &mut Pass,
+        now: Millis,
+        list: List,
+    ) -> Result<Result<(), Refusal>, StoreEnd>
+        requires pass { IsOf self.now pass.old }
+        requires moment { now ≤ GREATEST_MILLIS }
+        ensures pass { IsOf self.now pass.new }
+        ensures called { IfOk result (λ answer.
+            Called self.now pass.old (Relist now list) (done_answer answer) pass.new) }
+        ensures refused { IfErr result (λ end. Refused self.now pass.old end pass.new) }
+    {
+        // Each list is valid.
+        let _members = list.members();
+        let event = CoreEvent::Relist {
+            now,
+            list: list.copy(),
+        };
+        let (mut turn, page) = self.enter(rt, pass, event)?;
+        let answer = turn.object.core.relist(now, list);
         self.lock.finish(pass, turn, page);
         Ok(answer)
     }

@@ -1,16 +1,17 @@
-use Rattle.std.proofs.Common.{refl, sym, None}
+use Rattle.std.proofs.Common.{ℕ, List, refl, sym, ap, None}
 use Rattle.xl_core.specs.declared.event.CoreEvent.{CoreEvent}
 use Rattle.xl_core.specs.declared.event.CoreEvent.TheVariants.{Frame}
 use Rattle.xl_store.specs.Entries.{entry_of}
-use Rattle.xl_store.proofs.Turning.{begun_with, goes_on, called}
+use Rattle.xl_store.proofs.Turning.{begun_as, goes_on, called}
 use Rattle.xl_store.proofs.store.Store.frame.Goals as goal
 
 pub finish-requires-clause-leads : goal.finish-requires-clause-leads
 finish-requires-clause-leads g c =
     let event : CoreEvent = Frame c.args.now c.args.bytes.now in
-    let b = begun_with g.K.Keeper.held g.K.Keeper.saves g.K.Keeper.faults g.K.Keeper.save_gives
-    c.args.self.now c.args.pass.now c.args.now _ c.args.bytes.now c.in_ok-turn.turn c.in_ok-turn.page
-    c.in_ok-copy.ensures.copy c.in_ok-turn.ensures.begun in (
+    let b = begun_as g.K.Keeper.held g.K.Keeper.saves g.K.Keeper.faults g.K.Keeper.save_gives
+    c.args.self.now c.args.pass.now _ event c.in_ok-turn.turn c.in_ok-turn.page
+    (ap (λ (bytes : List ℕ). let e : CoreEvent = Frame c.args.now bytes in e) c.in_ok-copy.ensures.copy)
+    c.in_ok-turn.ensures.begun in (
       c.in_ok-turn.turn.object,
       entry_of event None,
       b.found,
@@ -22,9 +23,11 @@ finish-requires-clause-leads g c =
 
 pub returns-clause-called : goal.returns-clause-called
 returns-clause-called g c =
-    let b = begun_with g.K.Keeper.held g.K.Keeper.saves g.K.Keeper.faults g.K.Keeper.save_gives
-    c.args.self.now c.args.pass.now c.args.now _ c.args.bytes.now c.in_ok-turn.turn c.in_ok-turn.page
-    c.in_ok-copy.ensures.copy c.in_ok-turn.ensures.begun in
+    let event : CoreEvent = Frame c.args.now c.args.bytes.now in
+    let b = begun_as g.K.Keeper.held g.K.Keeper.saves g.K.Keeper.faults g.K.Keeper.save_gives
+    c.args.self.now c.args.pass.now _ event c.in_ok-turn.turn c.in_ok-turn.page
+    (ap (λ (bytes : List ℕ). let e : CoreEvent = Frame c.args.now bytes in e) c.in_ok-copy.ensures.copy)
+    c.in_ok-turn.ensures.begun in
     called g.K.Keeper.held g.K.Keeper.saves g.K.Keeper.faults g.K.Keeper.save_gives c.args.self.now c.args.pass.now c.finish.new.pass
-    (Frame c.args.now c.args.bytes.now) None _ c.in_ok-turn.turn c.in_ok-turn.page c.in_ok-turn.page
+    event None _ c.in_ok-turn.turn c.in_ok-turn.page c.in_ok-turn.page
     c.deref_mut.result.now c.deref_mut.ensures.value b b.written c.finish.ensures.known c.finish.ensures.legal (sym c.frame-answer.ensures.step.answer)
