@@ -1,0 +1,37 @@
+-- A text is never empty, so a fault leaves some of it unwritten.
+use Rattle.std.proofs.Common.{◌≡◌, ◌<◌, ◌++◌, ◌+◌, ℕ, List, length, length-append, arith, refl, Result, Ok, Err}
+use Rattle.std.specs.Prelude.{codes, decimal}
+use Rattle.xl_lines.specs.Causes.{RefusesAloud, EndsAloud}
+use Rattle.xl_sched.specs.Refusals.{code_of, token_of}
+use Rattle.xl_sched.specs.Tokens.{shown_token}
+use Rattle.xl_audit.specs.declared.judging.BadLine.{BadLine}
+use Rattle.xl_audit.specs.declared.judging.BadLine.TheVariants.{Refused, Keyless}
+use Rattle.xl_audit.specs.Auditing.{Step, goes_on, wrong, refuses, answered, bounded_step, beyond, bad_text, bad_line, newline, closing, ended, rules}
+use Rattle.xl_audit.specs.Values.{space}
+
+-- a text that ends with a newline is not empty
+line_some : (text : List ℕ) → 0 < length (text ++ newline)
+line_some text = let one : length newline ≡ 1 = refl in omega (arith, one, length-append text newline)
+
+text_some : (n code : ℕ) (token : List ℕ) → 0 < length (bad_text n code token)
+text_some n code token = line_some (codes "bad " ++ decimal n ++ space ++ decimal code ++ space ++ shown_token token)
+
+bad_some : (n : ℕ) (why : BadLine) → 0 < length (bad_line n why)
+bad_some n (Refused why) = text_some n (code_of why) (token_of why)
+bad_some n (Keyless member) = text_some n 48 (decimal member)
+
+step_aloud : (n : ℕ) (s : Step) → RefusesAloud (answered n s)
+step_aloud n (goes_on stage) = tt
+step_aloud n (wrong place) = line_some (codes "no " ++ decimal place)
+step_aloud n (refuses why) = bad_some (n + 1) why
+
+closing_some : (n : ℕ) (r : Result ℕ BadLine) → 0 < length (closing n r).text
+closing_some n (Ok entries) = line_some (codes "yes " ++ decimal entries)
+closing_some n (Err why) = bad_some n why
+
+pub ends_aloud : EndsAloud rules
+ends_aloud = record {
+  step = λ a line. step_aloud a.lines (bounded_step a line);
+  overrun = λ a overrun. bad_some (a.lines + 1) (beyond overrun);
+  closing = λ a. closing_some (a.lines + 1) (ended a.stage);
+}

@@ -1,0 +1,11 @@
+pub mod Telling
+pub mod Legal
+pub mod Parting
+pub mod Fitting
+pub mod Judged
+pub mod Ranging
+pub mod Keyed
+pub mod Unmet
+pub mod Aloud
+pub mod Whole
+pub mod Growing

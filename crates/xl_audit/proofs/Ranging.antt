@@ -1,0 +1,49 @@
+-- What is made of one number after another, up to 64.
+use Rattle.std.proofs.Common.{◌≡◌, ◌++◌, ◌+◌, ◌-◌, ◌≤◌, ◌∙◌, ℕ, suc, Bool, true, false, cond, List, ◌∷◌, Some, None, ap, append-nil, append_assoc, arith, sym}
+use Rattle.std.specs.Prelude.{find}
+use Rattle.std.specs.List.{flat_map, range_with_len}
+
+one_left : (n : ℕ) → n ≤ 64 → 65 - n ≡ suc (65 - (n + 1))
+one_left n h = omega (arith, h)
+
+range_from : (n : ℕ) → n ≤ 64 → range_with_len n (65 - n) ≡ n ∷ range_with_len (n + 1) (65 - (n + 1))
+range_from n h = ap (range_with_len n) (one_left n h)
+
+-- the part of a number is added to the text
+pub text_goes_on : (f : ℕ → List ℕ) (n : ℕ) (so_far now whole : List ℕ) → n ≤ 64 → now ≡ so_far ++ f n
+    → so_far ++ flat_map f (range_with_len n (65 - n)) ≡ whole
+    → now ++ flat_map f (range_with_len (n + 1) (65 - (n + 1))) ≡ whole
+text_goes_on f n so_far now whole h more is =
+    ap (λ (xs : List ℕ). xs ++ flat_map f (range_with_len (n + 1) (65 - (n + 1)))) more
+    ∙ (append_assoc so_far (f n) (flat_map f (range_with_len (n + 1) (65 - (n + 1))))
+    ∙ (ap (λ (ns : List ℕ). so_far ++ flat_map f ns) (sym (range_from n h)) ∙ is))
+
+-- and nothing is to come behind the last
+pub text_ends : (f : ℕ → List ℕ) (n : ℕ) (so_far whole : List ℕ) → 65 ≤ n
+    → so_far ++ flat_map f (range_with_len n (65 - n)) ≡ whole → so_far ≡ whole
+text_ends f n so_far whole h is =
+    let none : 65 - n ≡ 0 = omega (arith, h) in
+    sym (append-nil so_far) ∙ (ap (λ (k : ℕ). so_far ++ flat_map f (range_with_len n k)) (sym none) ∙ is)
+
+-- a number that passes is the first
+pub found_first : (p : ℕ → Bool) (n : ℕ) → n ≤ 64 → p n ≡ true → find p (range_with_len n (65 - n)) ≡ Some n
+found_first p n h passes =
+    ap (find p) (range_from n h)
+    ∙ ap (λ (b : Bool). cond b (Some n) (find p (range_with_len (n + 1) (65 - (n + 1))))) passes
+
+-- one that doesn't is left out
+pub found_later : (p : ℕ → Bool) (n : ℕ) → n ≤ 64 → p n ≡ false
+    → find p (range_with_len n (65 - n)) ≡ find p (range_with_len (n + 1) (65 - (n + 1)))
+found_later p n h fails =
+    ap (find p) (range_from n h)
+    ∙ ap (λ (b : Bool). cond b (Some n) (find p (range_with_len (n + 1) (65 - (n + 1))))) fails
+
+-- none is left behind the last
+pub found_none : (p : ℕ → Bool) (n : ℕ) → 65 ≤ n → find p (range_with_len n (65 - n)) ≡ None
+found_none p n h = let none : 65 - n ≡ 0 = omega (arith, h) in ap (λ (k : ℕ). find p (range_with_len n k)) none
+
+-- three parts that are added to a text, one after the other
+pub three_parts : (old first second now a b c : List ℕ) → first ≡ old ++ a → second ≡ first ++ b → now ≡ second ++ c
+    → now ≡ old ++ (a ++ (b ++ c))
+three_parts old first second now a b c one two three =
+    three ∙ (ap (λ (xs : List ℕ). xs ++ c) (two ∙ ap (λ (xs : List ℕ). xs ++ b) one) ∙ simp append_assoc)

@@ -1,0 +1,135 @@
+-- What a core does whose save is answered as an entry tells.
+use Rattle.std.proofs.Common.{◌≡◌, ℕ, ◌≤◌, Bool, true, false, List, [], ◌+◌, ◌++◌, length, take, refl, sym, ap, ◌∙◌, subst, arith, length-append, Option, Some, None, Result, Ok, Err}
+use Rattle.std.specs.Prelude.{is_some, IsTrue, OnOk}
+use Rattle.std.proofs.lemmas.List.{take-append-le, take_all}
+use Rattle.xl_core.specs.declared.event.CoreEvent.{CoreEvent}
+use Rattle.xl_core.specs.Answers.{Answer}
+use Rattle.xl_core.specs.Core.{Core, core_happens, core_asks}
+use Rattle.xl_core.specs.Keeping.{Saves}
+use Rattle.xl_core.specs.Node.{Save, is_kept}
+use Rattle.xl_core.specs.Node.Save.{Kept, Failed}
+use Rattle.xl_core.specs.Replies.{Answers, save_of as save_of_refusal}
+use Rattle.xl_core.specs.Ticks.{CountsBeatFault, save_at}
+use Rattle.xl_core.specs.declared.beat.Beat.{Beat}
+use Rattle.xl_core.specs.declared.beat.Beat.TheVariants as beat
+use Rattle.xl_core.specs.declared.beat.Issued.TheVariants as issued
+use Rattle.xl_core.specs.declared.refusal.Refusal.{Refusal}
+use Rattle.xl_core.specs.declared.refusal.Refusal.TheVariants as why
+use Rattle.xl_store.specs.declared.entry.Saved.{Saved}
+use Rattle.xl_store.specs.declared.entry.Saved.TheVariants as saved
+use Rattle.xl_store.specs.Entries.{save_of}
+use Rattle.xl_store.proofs.Noting.{outcome_with}
+use Rattle.xl_audit.specs.declared.saving.EntryKeeper.{EntryKeeper}
+use Rattle.xl_audit.specs.Replies.{reply_text}
+use Rattle.xl_audit.specs.Rights.{tells_of}
+use Rattle.xl_audit.specs.Saves.{IsFresh, answers_ok, faults_after, count_of}
+use Rattle.xl_audit.specs.Stepping.{Retells, Replies}
+
+-- an entry that tells of no save is told as one that was kept
+tells_none : (outcome : Option Saved) → IsTrue (tells_of false outcome) → Kept ≡ save_of outcome
+tells_none None t = refl
+tells_none (Some how) t = cc
+
+pub quiet : (before after : Core) (event : CoreEvent) (told : Answer) → core_asks before event ≡ None
+    → Answers (core_happens before event Kept) after told → (outcome : Option Saved)
+    → Retells before event outcome after told false
+quiet before after event told asks answers outcome = record {
+  asked = ap is_some (sym asks);
+  answers = λ t.
+      subst (λ (s : Save). Answers (core_happens before event s) after told)
+      (tells_none outcome (subst (λ (o : Option ℕ). IsTrue (tells_of (is_some o) outcome)) asks t)) answers;
+}
+
+-- and this is the text of the answer
+pub quiet_as : (before after : Core) (event : CoreEvent) (told : Answer) (text : List ℕ) → core_asks before event ≡ None
+    → Answers (core_happens before event Kept) after told → text ≡ reply_text told → Replies before event after text
+quiet_as before after event told text asks answers is outcome =
+    record { told = told; is = is; retells = quiet before after event told asks answers outcome }
+
+-- what a keeper gives that answers as an entry tells
+abbrev pub Gives : EntryKeeper → ℕ → Bool → EntryKeeper → Type 0
+Gives old seq ok new =
+    (ok ≡ answers_ok old.answer) × (new.faults ≡ faults_after old.answer old.faults) × (new.asked ≡ true)
+
+-- a save that is answered with Ok or with a count of faults is the one that is told
+met : (outcome : Option Saved) (save : Save) (faults : ℕ) → is_kept save ≡ answers_ok outcome
+    → ((count : ℕ) → save ≡ Failed count → count ≡ faults) → faults ≡ count_of outcome → save ≡ save_of outcome
+met None Kept faults ok counts is = refl
+met None (Failed n) faults ok counts is = cc
+met (Some saved.Ok) Kept faults ok counts is = refl
+met (Some saved.Ok) (Failed n) faults ok counts is = cc
+met (Some (saved.Failed count)) Kept faults ok counts is = cc
+met (Some (saved.Failed count)) (Failed n) faults ok counts is = ap Failed (counts n refl ∙ is)
+
+-- where a save was asked it was answered as is told, and where none was, and none is told, it was kept
+same_save : (asks : Option ℕ) (save : Save) (told : Option Saved) (old new : EntryKeeper) → IsFresh old
+    → Saves Gives asks (is_kept save) old new → ((count : ℕ) → save ≡ Failed count → count ≡ new.faults)
+    → save_of told ≡ save → told ≡ outcome_with asks save → IsTrue (tells_of (is_some asks) old.answer)
+    → save ≡ save_of old.answer
+same_save None save told old new fresh gives counts same with t =
+    sym same ∙ (ap save_of with ∙ tells_none old.answer t)
+same_save (Some seq) save told old new fresh gives counts same with t =
+    met old.answer save new.faults gives.0 counts (gives.1 ∙ fresh.counts)
+
+was_asked : (asks : Option ℕ) (kept : Bool) (old new : EntryKeeper) → IsFresh old → Saves Gives asks kept old new
+    → new.asked ≡ is_some asks
+was_asked None kept old new fresh gives = ap (λ (k : EntryKeeper). k.asked) gives ∙ fresh.asked
+was_asked (Some seq) kept old new fresh gives = gives.2
+
+-- an event that may ask a save
+pub told_so : (before after : Core) (event : CoreEvent) (save : Save) (told : Option Saved) (answer : Answer)
+    (old new : EntryKeeper) → IsFresh old
+    → Answers (core_happens before event save) after answer
+    → Saves Gives (core_asks before event) (is_kept save) old new
+    → ((count : ℕ) → save ≡ Failed count → count ≡ new.faults)
+    → save_of told ≡ save → told ≡ outcome_with (core_asks before event) save
+    → Retells before event old.answer after answer new.asked
+told_so before after event save told answer old new fresh answers gives counts same with = record {
+  asked = was_asked (core_asks before event) (is_kept save) old new fresh gives;
+  answers = λ t.
+      subst (λ (s : Save). Answers (core_happens before event s) after answer)
+      (same_save (core_asks before event) save told old new fresh gives counts same with t) answers;
+}
+
+-- THE TEXT OF A REPLY
+
+-- what is added to an empty text
+pub quiet_ok : {T E : Type 0} (r : Result T E) (before after : Core) (event : CoreEvent) (told : Answer)
+    (old new : List ℕ) → core_asks before event ≡ None → Answers (core_happens before event Kept) after told → old ≡ []
+    → OnOk r (new ≡ old ++ reply_text told) → OnOk r (Replies before event after new)
+quiet_ok (Ok done) before after event told old new asks answers empty is =
+    quiet_as before after event told new asks answers (is ∙ ap (λ (xs : List ℕ). xs ++ reply_text told) empty)
+quiet_ok (Err why) before after event told old new asks answers empty is = tt
+
+-- the front of a room that begins with these
+pub front_of : {X : Type 0} (count : ℕ) (room given rest : List X) → count ≡ length given → room ≡ given ++ rest
+    → take count room ≡ given
+front_of count room given rest many is =
+    ap (λ (n : ℕ). take n room) many ∙ (ap (take (length given)) is
+    ∙ (take-append-le (length given) given rest (omega arith) ∙ take_all (length given) given (omega arith)))
+
+pub front_within : {X : Type 0} (count : ℕ) (room given rest : List X) → count ≡ length given → room ≡ given ++ rest
+    → count ≤ length room
+front_within count room given rest many is =
+    let long : length room ≡ length given + length rest = ap length is ∙ length-append given rest in omega arith
+
+-- A TIMER
+
+-- a refusal for a failed save tells the count of faults
+failed_why : (w : Refusal) (count : ℕ) → save_of_refusal w ≡ Failed count → w ≡ why.KeepFault count
+failed_why (why.KeepFault n) count is = cc
+failed_why _ count is = cc
+
+pub beat_counts : (told : Beat) (old new : ℕ) → CountsBeatFault told old new → (count : ℕ)
+    → save_at told ≡ Failed count → count ≡ new
+beat_counts (beat.Built seq id moved_on (issued.Refused w)) old new counts count is =
+    (counts seq id moved_on count
+    (ap (λ (v : Refusal). beat.Built seq id moved_on (issued.Refused v)) (failed_why w count is))).1
+beat_counts (beat.Built seq id moved_on issued.Full) old new counts count is = cc
+beat_counts (beat.Built seq id moved_on issued.Partial) old new counts count is = cc
+beat_counts (beat.Built seq id moved_on issued.Silent) old new counts count is = cc
+beat_counts beat.Nothing old new counts count is = cc
+beat_counts beat.Closed old new counts count is = cc
+beat_counts beat.Updated old new counts count is = cc
+beat_counts (beat.Switched seq id) old new counts count is = cc
+beat_counts (beat.NoRoom limit) old new counts count is = cc

@@ -1,0 +1,12 @@
+use Rattle.std.proofs.Common.{◌++◌, ◌∙◌, ℕ, ap, arith}
+use Rattle.std.specs.String.{string_bytes}
+use Rattle.xl_tags.specs.Rings.{key_of}
+use Rattle.xl_audit.specs.Journals.{key_text}
+use Rattle.xl_audit.proofs.Ranging.{text_goes_on}
+use Rattle.xl_audit.proofs.journal.push_keys.Goals as goal
+
+pub loop-number-preserved : goal.loop-number-preserved
+loop-number-preserved c =
+    text_goes_on (λ (m : ℕ). key_text m (key_of c.args.keys.now m)) c.loop-number.number (string_bytes c.loop-number.text) _ _ (omega arith)
+    (c.in_ok-push_key.ensures ∙ ap (λ (m : ℕ). string_bytes c.loop-number.text ++ key_text m (key_of c.args.keys.now m)) c.numbered.ensures)
+    c.loop-number.invariant

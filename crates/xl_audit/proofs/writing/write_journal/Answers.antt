@@ -1,0 +1,54 @@
+use Rattle.std.proofs.Common.{◌≡◌, ◌++◌, ℕ, List, ap, sym, ◌∙◌, subst, arith}
+use Rattle.std.specs.Prelude.{OnOk}
+use Rattle.std.specs.Io.KnownBytes.{append_known}
+use Rattle.xl_io.specs.Sinks.{GrewByFront, GrewByLess}
+use Rattle.xl_turns.specs.Histories.{IsLegal}
+use Rattle.xl_core.specs.Core.{Core}
+use Rattle.xl_store.specs.Entries.{Leads}
+use Rattle.xl_lines.proofs.Runs.{write_from, passed_on}
+use Rattle.xl_audit.specs.Journals.{entries_text, head_text}
+use Rattle.xl_audit.proofs.Growing.{front_before, less_before, front_at, whole_behind, front_behind, less_behind, caused_later}
+use Rattle.xl_audit.proofs.writing.write_journal.Goals as goal
+
+pub write_entries-requires : goal.write_entries-requires
+write_entries-requires g c = record {
+  legal = subst (λ (core : Core). IsLegal Leads core c.args.journal) (sym c.in_ok-auditor.ensures.opened) c.requires.legal;
+}
+
+pub returns-clause-whole : goal.returns-clause-whole
+returns-clause-whole g c =
+    subst
+    (λ (core : Core). OnOk c.write_entries.result (g.O.Sink.held c.write_entries.new.output ≡ append_known (g.O.Sink.held c.args.output.now) (head_text c.args.settings c.args.now c.args.kept ++ entries_text core c.args.journal)))
+    c.in_ok-auditor.ensures.opened
+    (whole_behind _ _ _ (head_text c.args.settings c.args.now c.args.kept) (entries_text c.in_ok-auditor.auditor c.args.journal) c.in_ok-write_head.ensures.whole c.write_entries.result c.write_entries.ensures.whole)
+
+pub returns-clause-front : goal.returns-clause-front
+returns-clause-front g c =
+    subst
+    (λ (core : Core). GrewByFront (g.O.Sink.held c.args.output.now) (g.O.Sink.held c.write_entries.new.output) (head_text c.args.settings c.args.now c.args.kept ++ entries_text core c.args.journal))
+    c.in_ok-auditor.ensures.opened
+    (front_behind _ _ _ (head_text c.args.settings c.args.now c.args.kept) (entries_text c.in_ok-auditor.auditor c.args.journal) c.in_ok-write_head.ensures.whole c.write_entries.ensures.front)
+
+pub returns-clause-less : goal.returns-clause-less
+returns-clause-less g c is =
+    subst
+    (λ (core : Core). GrewByLess (g.O.Sink.held c.args.output.now) (g.O.Sink.held c.write_entries.new.output) (head_text c.args.settings c.args.now c.args.kept ++ entries_text core c.args.journal))
+    c.in_ok-auditor.ensures.opened
+    (less_behind _ _ _ (head_text c.args.settings c.args.now c.args.kept) (entries_text c.in_ok-auditor.auditor c.args.journal) c.in_ok-write_head.ensures.whole (c.write_entries.ensures.less is))
+
+pub returns-clause-cause : goal.returns-clause-cause
+returns-clause-cause g c = caused_later c.write_entries.result _ _ _ c.write_head.ensures.cause.later c.write_entries.ensures.cause
+
+pub returns-in_err-write_head-clause-front : goal.returns-in_err-write_head-clause-front
+returns-in_err-write_head-clause-front g c = front_before _ _ _ _ c.write_head.ensures.front
+
+pub returns-in_err-write_head-clause-less : goal.returns-in_err-write_head-clause-less
+returns-in_err-write_head-clause-less g c is =
+    less_before _ _ _ _ (c.write_head.ensures.less (write_from c.from_residual.result c.write_head.result c.in_err-write_head.field-0.0 c.from_residual.ensures.1 c.in_err-write_head.was is))
+
+pub returns-in_err-write_head-clause-cause : goal.returns-in_err-write_head-clause-cause
+returns-in_err-write_head-clause-cause g c =
+    passed_on c.from_residual.result c.write_head.result c.in_err-write_head.field-0.0 _ _ c.from_residual.ensures.1 c.in_err-write_head.was c.write_head.ensures.cause
+
+pub returns-in_err-auditor-clause-front : goal.returns-in_err-auditor-clause-front
+returns-in_err-auditor-clause-front g c = front_at _ _ _ _ c.in_ok-write_head.ensures.whole

@@ -1,0 +1,16 @@
+pub mod Values
+pub mod Replies
+pub mod Saves
+pub mod Rights
+pub mod Stepping
+pub mod Laws
+pub mod Words
+pub mod Tokens
+pub mod Reading
+pub mod Opening
+pub mod Auditing
+pub mod Journals
+pub mod Verdicts
+pub mod Judging
+pub mod States
+pub mod Texts

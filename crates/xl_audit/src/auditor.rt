@@ -1,0 +1,112 @@
+ghost use Rattle.std.specs.Prelude.{◌≡◌, ◌↔◌, ◌≤◌, IfOk, IsTrue, OnOk, not};
+ghost use Rattle.xl_base.specs.declared.moments.TheConstants.{GREATEST_MILLIS};
+ghost use Rattle.xl_ledger.specs.declared.registry.TheConstants.{LEAST_LIMIT, GREATEST_LIMIT};
+ghost use Rattle.xl_core.specs.Core.{with_queues};
+ghost use Rattle.xl_core.specs.Node.{opened};
+ghost use Rattle.xl_core.specs.Rest.{IsKeyed};
+ghost use Rattle.std.specs.String.{string_bytes};
+ghost use Rattle.xl_core.specs.Core.{core_asks};
+ghost use Rattle.xl_store.specs.Entries.{IsAllowed, IsOutcome, reply_of};
+ghost use Rattle.xl_audit.specs.Rights.{IsAsked, IsRight, is_right, reply_to as reply_to_of, tells_of};
+
+use crate::Written;
+use crate::saving::EntryKeeper;
+use crate::stepping::{AuditedCore, reply_to};
+use std::alloc::Global;
+use std::marker::Model;
+use xl_base::{Millis, OutOfMemory, Seq};
+use xl_core::{Core, Settings};
+use xl_store::{Entry, Saved};
+use xl_tags::Keys;
+
+/// Judges the entries of a written journal, one after the other. It is seen as the core after those that were right.
+#[derive(Drop)]
+pub struct Auditor {
+    alloc: Global,
+    core: AuditedCore,
+}
+
+impl Model for Auditor {
+    ghost use Rattle.xl_core.specs.Core.{Core};
+
+    ghost Value = { Core };
+
+    ghost view = { λ auditor. auditor.core };
+}
+
+impl Auditor {
+    /// Before the first entry: a core that is opened with the settings, at a moment, and with the number that its keeper
+    /// held.
+    pub fn open(
+        alloc: Global,
+        settings: Settings,
+        now: Millis,
+        kept: Seq,
+    ) -> Result<Auditor, OutOfMemory>
+        requires keyed { IsKeyed settings.me settings.list.members settings.keys }
+        requires least { LEAST_LIMIT ≤ settings.limit }
+        requires most { settings.limit ≤ GREATEST_LIMIT }
+        requires moment { now ≤ GREATEST_MILLIS }
+        ensures opened { IfOk result (λ auditor. auditor ≡ with_queues (opened settings now kept)) }
+    {
+        let core = Core::open(alloc, settings, now, kept)?;
+        Ok(Auditor { alloc, core })
+    }
+
+    /// The keys of the core's peers.
+    pub(crate) fn keys(&self) -> &Keys
+        ensures { result.now ≡ self.now.node.keys }
+    {
+        self.core.node().keys()
+    }
+
+    /// The text of the reply to an entry of a legal history, and the core goes on.
+    pub(crate) fn reply(&mut self, entry: &Entry) -> Result<String, OutOfMemory>
+        requires allowed { IsAllowed self.old entry.now.event }
+        requires outcome { IsOutcome (core_asks self.old entry.now.event) entry.now.outcome }
+        ensures text { IfOk result (λ text. string_bytes text ≡ reply_to_of self.old entry.now) }
+        ensures core { OnOk result (self.new ≡ (reply_of self.old entry.now).core) }
+    {
+        let mut keeper = EntryKeeper::of(entry.outcome);
+        let mut text = String::new(self.alloc);
+        reply_to(
+            self.alloc,
+            &mut self.core,
+            &entry.event,
+            &mut keeper,
+            &mut text,
+        )?;
+        Ok(text)
+    }
+
+    /// Whether the entry is right after those so far, which were right. After one that isn't nothing is known of the
+    /// core.
+    pub fn entry(&mut self, written: &Written) -> Result<bool, OutOfMemory>
+        requires asked { IsAsked self.old written.now }
+        ensures value { IfOk result (λ right. right ≡ is_right self.old written.now) }
+        ensures right { IfOk result (λ right. IsTrue right ↔ IsRight self.old written.now) }
+        ensures core { IfOk result (λ right. IsTrue right → self.new ≡ (reply_of self.old written.now.entry).core) }
+    {
+        let outcome = written.entry.outcome;
+        let mut keeper = EntryKeeper::of(outcome);
+        let mut text = String::new(self.alloc);
+        reply_to(
+            self.alloc,
+            &mut self.core,
+            &written.entry.event,
+            &mut keeper,
+            &mut text,
+        )?;
+        Ok(tells_of(keeper.was_asked(), &outcome) && text.as_bytes() == written.reply.as_slice())
+    }
+}
+
+/// Whether a save is told of exactly where one was asked.
+fn tells_of(asked: bool, outcome: &Option<Saved>) -> bool
+    ensures { result ≡ tells_of asked outcome.now }
+{
+    match outcome {
+        Some(_) => asked,
+        None => !asked,
+    }
+}

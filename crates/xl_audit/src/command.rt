@@ -1,0 +1,48 @@
+ghost use Rattle.std.specs.Prelude.{◌≡◌, ◌≢◌, IfOk, IfErr, IfSome, IsErrOf};
+ghost use Rattle.std.specs.Io.KnownBytes.{IsAtEnd};
+ghost use Rattle.xl_base.specs.Faults.{Rose};
+ghost use Rattle.xl_io.specs.Sinks.{GrewByFront, GrewByLess};
+ghost use Rattle.xl_lines.specs.Running.{TellsAll};
+ghost use Rattle.xl_audit.specs.Auditing.{audit_of};
+
+use crate::judge::Judge;
+use crate::limits::{MOST_BYTES, MOST_LINES};
+use std::alloc::Global;
+use xl_io::{Sink, Source};
+use xl_lines::{Fault, Limits, Returns, Verdict, run};
+
+/// Reads a written journal to its end, or up to a line that is refused or tells an entry that isn't right, and writes
+/// one line: `yes` and how many entries there are, `no` and the place of the entry, or why a line is refused.
+///
+/// The verdict is `Good` for `yes`, `Found` for `no`, and `Refused` for a refused line. A failed read ends it with
+/// `Read`, a failed write with `Write`, and want of memory, at any time, with `Memory`.
+pub fn audit<I: Source, O: Sink>(
+    alloc: Global,
+    input: &mut I,
+    output: &mut O,
+) -> Result<Verdict, Fault>
+    // The whole text is written, and the verdict is its own.
+    ensures whole { IfOk result (λ verdict. IfSome (I.left input.old) (λ bytes.
+        TellsAll (O.held output.old) (O.held output.new) verdict (audit_of bytes))) }
+    // A yes is told of the whole input.
+    ensures to_end { IfOk result (λ verdict. verdict ≡ Verdict.Good → IsAtEnd (I.left input.new)) }
+    // A front of the text is written, whatever happens.
+    ensures front { IfSome (I.left input.old) (λ bytes.
+        GrewByFront (O.held output.old) (O.held output.new) (audit_of bytes).text) }
+    // With a fault of the source or the sink some of it isn't written.
+    ensures less { IfErr result (λ fault. fault ≢ Fault.Memory → IfSome (I.left input.old) (λ bytes.
+        GrewByLess (O.held output.old) (O.held output.new) (audit_of bytes).text)) }
+
+    // A fault is answered only where its count rose.
+    ensures read { IsErrOf result Fault.Read → Rose (I.faults input.old) (I.faults input.new) }
+    ensures write { IsErrOf result Fault.Write → Rose (O.faults output.old) (O.faults output.new) }
+    ensures complete { IfErr result (λ fault. ¬ Rose (I.faults input.old) (I.faults input.new)
+        → ¬ Rose (O.faults output.old) (O.faults output.new) → fault ≡ Fault.Memory) }
+{
+    let limits = Limits {
+        lines: MOST_LINES as usize,
+        bytes: MOST_BYTES,
+        returns: Returns::Kept,
+    };
+    run(alloc, limits, Judge::new(alloc), input, output)
+}

@@ -1,0 +1,222 @@
+// An entry by the tokens of its line.
+ghost use Rattle.std.specs.Prelude.{◌≡◌, ◌+◌, ◌≤◌, IfOk};
+ghost use Rattle.xl_sched.specs.Refusals.{GivenMemory};
+ghost use Rattle.xl_store.specs.declared.entry.Saved.{Saved};
+ghost use Rattle.xl_audit.specs.Reading.{counted_entry, counted_relist, drain_event, entry_in, event_of, frame_event, greet_event, issue_event, least_of, outcome_len, relist_entry, reply_in, reports_event, submit_event, timer_event, told_entry, IsFit};
+
+use crate::Written;
+use crate::tokens::{bytes, id, moment, number_from, outcome, peer};
+use crate::word::EntryWord;
+use crate::words::Words;
+use std::alloc::Global;
+use xl_base::{Bytes, LedgerId, TxId};
+use xl_core::CoreEvent;
+use xl_sched::{Cause, LineFault, full, member_numbers, number, trusted};
+use xl_store::{Entry, Saved};
+use xl_tags::Keys;
+use xl_wire::LONGEST_FRAME;
+
+/// `now digits`, or `-` for no bytes.
+fn frame<'a>(alloc: Global, args: &Words<'a>) -> Result<CoreEvent, LineFault<'a>>
+    ensures { GivenMemory result (frame_event args.now) }
+{
+    Ok(CoreEvent::Frame {
+        now: moment(args.at(0))?,
+        bytes: bytes(alloc, args.at(1))?,
+    })
+}
+
+/// `now`.
+fn timer<'a>(args: &Words<'a>) -> Result<CoreEvent, LineFault<'a>>
+    ensures { result ≡ timer_event args.now }
+{
+    Ok(CoreEvent::Timer {
+        now: moment(args.at(0))?,
+    })
+}
+
+/// `now id`.
+fn submit<'a>(args: &Words<'a>) -> Result<CoreEvent, LineFault<'a>>
+    ensures { result ≡ submit_event args.now }
+{
+    Ok(CoreEvent::Submit {
+        now: moment(args.at(0))?,
+        tx: TxId(id(args.at(1))?),
+    })
+}
+
+/// `now seq id full`, or `partial`.
+fn issue<'a>(args: &Words<'a>) -> Result<CoreEvent, LineFault<'a>>
+    ensures { result ≡ issue_event args.now }
+{
+    Ok(CoreEvent::Issue {
+        now: moment(args.at(0))?,
+        seq: number(args.at(1))?,
+        id: LedgerId(id(args.at(2))?),
+        full: full(args.at(3))?,
+    })
+}
+
+/// `m`.
+fn greet<'a>(keys: &Keys, args: &Words<'a>) -> Result<CoreEvent, LineFault<'a>>
+    ensures { result ≡ greet_event keys.now args.now }
+{
+    Ok(CoreEvent::Greet {
+        member: peer(keys, args.at(0))?,
+    })
+}
+
+/// `m room`.
+fn drain<'a>(keys: &Keys, args: &Words<'a>) -> Result<CoreEvent, LineFault<'a>>
+    ensures { result ≡ drain_event keys.now args.now }
+{
+    Ok(CoreEvent::Drain {
+        member: peer(keys, args.at(0))?,
+        room: number_from(args.at(1), LONGEST_FRAME as u64)? as usize,
+    })
+}
+
+/// `room`.
+fn reports<'a>(args: &Words<'a>) -> Result<CoreEvent, LineFault<'a>>
+    ensures { result ≡ reports_event args.now }
+{
+    Ok(CoreEvent::Reports {
+        room: number_from(args.at(0), 0)? as usize,
+    })
+}
+
+/// The event of a word, and of the tokens after it.
+fn event<'a>(
+    alloc: Global,
+    keys: &Keys,
+    word: EntryWord,
+    args: &Words<'a>,
+) -> Result<CoreEvent, LineFault<'a>>
+    ensures { GivenMemory result (event_of keys.now word args.now) }
+{
+    match word {
+        EntryWord::Frame => frame(alloc, args),
+        EntryWord::Timer => timer(args),
+        EntryWord::Submit => submit(args),
+        EntryWord::Issue => issue(args),
+        EntryWord::Greet => greet(keys, args),
+        EntryWord::Drain => drain(keys, args),
+        EntryWord::Reports => reports(args),
+        EntryWord::Stop => Ok(CoreEvent::Stop),
+        EntryWord::Stopped => Ok(CoreEvent::Stopped),
+    }
+}
+
+/// How many tokens tell how a save was answered.
+fn outcome_len(outcome: &Option<Saved>) -> usize
+    ensures value { result ≡ outcome_len outcome.now }
+    ensures most { result ≤ 2 }
+{
+    match outcome {
+        Some(Saved::Failed(_)) => 2,
+        _ => 1,
+    }
+}
+
+/// Behind `=` all is the reply.
+fn reply<'a>(alloc: Global, words: &Words<'a>) -> Result<Bytes, LineFault<'a>>
+    ensures { GivenMemory result (reply_in words.now) }
+{
+    let sign = words.first();
+    if sign != b"=".as_slice() {
+        return Err(LineFault::with_text(Cause::Choice, sign));
+    }
+    let text = Vec::from_slice(alloc, words.others().text())?;
+    Ok(Bytes::from_vec(text))
+}
+
+/// The entry of a word, and of the tokens after it.
+fn told_entry<'a>(
+    alloc: Global,
+    keys: &Keys,
+    word: EntryWord,
+    args: &Words<'a>,
+) -> Result<Written, LineFault<'a>>
+    ensures { GivenMemory result (told_entry keys.now word args.now) }
+{
+    let event = event(alloc, keys, word, args)?;
+    let at = word.arity();
+    let outcome = outcome(args.at(at), args.at(at + 1))?;
+    let reply = reply(alloc, &args.after(at + outcome_len(&outcome)))?;
+    Ok(Written {
+        entry: Entry { event, outcome },
+        reply,
+    })
+}
+
+/// How many tokens stand behind the word of an event of so many at least.
+fn least_of(at: usize, args: &Words<'_>) -> usize
+    requires { at ≤ 4 }
+    ensures { result ≡ least_of at args.now }
+{
+    if args.at(at) == b"failed".as_slice() {
+        at + 4
+    } else {
+        at + 3
+    }
+}
+
+/// The entry of a word, and of the tokens after it, where they are enough.
+fn counted_entry<'a>(
+    alloc: Global,
+    keys: &Keys,
+    word: EntryWord,
+    args: &Words<'a>,
+) -> Result<Written, LineFault<'a>>
+    ensures { GivenMemory result (counted_entry keys.now word args.now) }
+{
+    let count = args.count();
+    if count < least_of(word.arity(), args) {
+        return Err(LineFault::with_number(Cause::Count, count as u64 + 1));
+    }
+    told_entry(alloc, keys, word, args)
+}
+
+/// `now q list`, and what stands behind them. The list is made last.
+fn relist_entry<'a>(alloc: Global, args: &Words<'a>) -> Result<Written, LineFault<'a>>
+    ensures { GivenMemory result (relist_entry args.now) }
+{
+    let now = moment(args.at(0))?;
+    let quorum = number(args.at(1))?;
+    let members = member_numbers(alloc, args.at(2))?;
+    let outcome = outcome(args.at(3), args.at(4))?;
+    let reply = reply(alloc, &args.after(3 + outcome_len(&outcome)))?;
+    let event = CoreEvent::Relist {
+        now,
+        list: trusted(&members, quorum)?,
+    };
+    Ok(Written {
+        entry: Entry { event, outcome },
+        reply,
+    })
+}
+
+/// The entry by which a list changes, where its tokens are enough.
+fn counted_relist<'a>(alloc: Global, args: &Words<'a>) -> Result<Written, LineFault<'a>>
+    ensures { GivenMemory result (counted_relist args.now) }
+{
+    let count = args.count();
+    if count < least_of(3, args) {
+        return Err(LineFault::with_number(Cause::Count, count as u64 + 1));
+    }
+    relist_entry(alloc, args)
+}
+
+/// The entry that a line of these tokens tells.
+pub fn entry<'a>(alloc: Global, keys: &Keys, words: &Words<'a>) -> Result<Written, LineFault<'a>>
+    ensures { GivenMemory result (entry_in keys.now words.now) }
+{
+    let token = words.first();
+    if token == b"relist".as_slice() {
+        return counted_relist(alloc, &words.others());
+    }
+    match EntryWord::of(token) {
+        Some(word) => counted_entry(alloc, keys, word, &words.others()),
+        None => Err(LineFault::with_text(Cause::Word, token)),
+    }
+}

@@ -1,0 +1,263 @@
+// The text of a journal.
+ghost use Rattle.std.specs.Prelude.{◌≡◌, ◌++◌, OnOk};
+ghost use Rattle.std.specs.List.{flat_map};
+ghost use Rattle.std.specs.String.{string_bytes};
+ghost use Rattle.xl_tags.specs.Rings.{key_of};
+ghost use Rattle.xl_core.specs.Core.{core_asks};
+ghost use Rattle.xl_store.specs.Entries.{IsAllowed, IsOutcome, reply_of};
+ghost use Rattle.xl_audit.specs.Laws.{written_with};
+ghost use Rattle.xl_audit.specs.Rights.{reply_to};
+ghost use Rattle.xl_audit.specs.Journals.{entry_line, event_text, head_text, key_lines, key_text, kind_text, list_text, members_text, opening_text, other_text, outcome_text, settings_line, validating_text};
+
+use crate::Auditor;
+use crate::opening::numbered;
+use crate::replies::{push_bytes, push_word};
+use crate::values::push_id;
+use std::alloc::Global;
+use std::fmt::Write;
+use xl_base::{GREATEST_NODE_NO, LedgerId, Millis, NodeNo, OutOfMemory, Seq, TxId};
+use xl_core::{CoreEvent, Settings};
+use xl_lists::List;
+use xl_store::{Entry, Saved};
+use xl_tags::Keys;
+
+#[tactic(auto, unfolding(crate::specs::Journals::kind_text))]
+fn kind_word(full: bool) -> &'static str
+    ensures { result.now ≡ kind_text full }
+{
+    if full { "full" } else { "partial" }
+}
+
+#[tactic(auto, unfolding(crate::specs::Journals::validating_text))]
+fn validating_word(validating: bool) -> &'static str
+    ensures { result.now ≡ validating_text validating }
+{
+    if validating { "yes" } else { "no" }
+}
+
+fn push_frame(
+    alloc: Global,
+    text: &mut String,
+    now: Millis,
+    bytes: &[u8],
+) -> Result<(), OutOfMemory>
+    ensures { OnOk result
+        (string_bytes text.new ≡ string_bytes text.old ++ event_text (CoreEvent.Frame now bytes.now)) }
+{
+    write!(text, "frame {now} ")?;
+    push_bytes(alloc, text, bytes)
+}
+
+fn push_submit(alloc: Global, text: &mut String, now: Millis, tx: &TxId) -> Result<(), OutOfMemory>
+    ensures { OnOk result
+        (string_bytes text.new ≡ string_bytes text.old ++ event_text (CoreEvent.Submit now tx.now)) }
+{
+    write!(text, "submit {now} ")?;
+    push_id(alloc, text, &tx.0)
+}
+
+fn push_issue(
+    alloc: Global,
+    text: &mut String,
+    now: Millis,
+    seq: Seq,
+    id: &LedgerId,
+    full: bool,
+) -> Result<(), OutOfMemory>
+    ensures { OnOk result
+        (string_bytes text.new ≡ string_bytes text.old ++ event_text (CoreEvent.Issue now seq id.now full)) }
+{
+    write!(text, "issue {now} {seq} ")?;
+    push_id(alloc, text, &id.0)?;
+    text.push(' ')?;
+    push_word(text, kind_word(full))
+}
+
+fn push_relist(text: &mut String, now: Millis, list: &List) -> Result<(), OutOfMemory>
+    ensures { OnOk result
+        (string_bytes text.new ≡ string_bytes text.old ++ event_text (CoreEvent.Relist now list.now)) }
+{
+    let quorum = list.quorum();
+    write!(text, "relist {now} {quorum} ")?;
+    push_members(text, list.members())
+}
+
+fn push_event(alloc: Global, text: &mut String, event: &CoreEvent) -> Result<(), OutOfMemory>
+    ensures { OnOk result (string_bytes text.new ≡ string_bytes text.old ++ event_text event.now) }
+{
+    match event {
+        CoreEvent::Frame { now, bytes } => push_frame(alloc, text, *now, bytes.as_slice()),
+        CoreEvent::Timer { now } => {
+            write!(text, "timer {now}")?;
+            Ok(())
+        }
+        CoreEvent::Submit { now, tx } => push_submit(alloc, text, *now, tx),
+        CoreEvent::Issue { now, seq, id, full } => push_issue(alloc, text, *now, *seq, id, *full),
+        CoreEvent::Relist { now, list } => push_relist(text, *now, list),
+        CoreEvent::Greet { member } => {
+            let number = member.get();
+            write!(text, "greet {number}")?;
+            Ok(())
+        }
+        CoreEvent::Drain { member, room } => {
+            let number = member.get();
+            write!(text, "drain {number} {room}")?;
+            Ok(())
+        }
+        CoreEvent::Reports { room } => {
+            write!(text, "reports {room}")?;
+            Ok(())
+        }
+        CoreEvent::Stop => push_word(text, "stop"),
+        CoreEvent::Stopped => push_word(text, "stopped"),
+    }
+}
+
+/// How a save was answered.
+fn push_outcome(text: &mut String, outcome: &Option<Saved>) -> Result<(), OutOfMemory>
+    ensures { OnOk result (string_bytes text.new ≡ string_bytes text.old ++ outcome_text outcome.now) }
+{
+    match outcome {
+        None => push_word(text, "-"),
+        Some(Saved::Ok) => push_word(text, "ok"),
+        Some(Saved::Failed(count)) => {
+            write!(text, "failed {count}")?;
+            Ok(())
+        }
+    }
+}
+
+/// Members, each behind a comma.
+fn push_others(text: &mut String, others: &[NodeNo]) -> Result<(), OutOfMemory>
+    ensures { OnOk result (string_bytes text.new ≡ string_bytes text.old ++ flat_map other_text others.now) }
+{
+    for other in others {
+        let number = other.get();
+        write!(text, ",{number}")?;
+    }
+    Ok(())
+}
+
+/// Members, joined by commas.
+fn push_members(text: &mut String, members: &[NodeNo]) -> Result<(), OutOfMemory>
+    ensures { OnOk result (string_bytes text.new ≡ string_bytes text.old ++ members_text members.now) }
+{
+    match members {
+        [] => Ok(()),
+        [first, others @ ..] => {
+            let number = first.get();
+            write!(text, "{number}")?;
+            push_others(text, others)
+        }
+    }
+}
+
+#[tactic(auto, unfolding(crate::specs::Journals::list_text))]
+fn push_list(text: &mut String, settings: &Settings) -> Result<(), OutOfMemory>
+    ensures { OnOk result (string_bytes text.new ≡ string_bytes text.old ++ list_text settings.now) }
+{
+    let me = settings.me.get();
+    let quorum = settings.list.quorum();
+    write!(text, "{me} {quorum} ")?;
+    push_members(text, settings.list.members())
+}
+
+#[tactic(auto, unfolding(crate::specs::Journals::opening_text))]
+fn push_opening(text: &mut String, speak: u8, now: Millis, kept: Seq) -> Result<(), OutOfMemory>
+    ensures { OnOk result (string_bytes text.new ≡ string_bytes text.old ++ opening_text speak now kept) }
+{
+    write!(text, "{speak} {now} {kept}")?;
+    Ok(())
+}
+
+#[tactic(auto, unfolding(crate::specs::Journals::settings_line))]
+fn push_settings(
+    text: &mut String,
+    settings: &Settings,
+    now: Millis,
+    kept: Seq,
+) -> Result<(), OutOfMemory>
+    ensures { OnOk result (string_bytes text.new ≡ string_bytes text.old ++ settings_line settings.now now kept) }
+{
+    push_word(text, "settings ")?;
+    push_list(text, settings)?;
+    let limit = settings.limit;
+    write!(text, " {limit} ")?;
+    push_word(text, validating_word(settings.validating))?;
+    text.push(' ')?;
+    push_opening(text, settings.speak, now, kept)?;
+    text.push('\n')?;
+    Ok(())
+}
+
+/// The key of a member that has one.
+fn push_key(
+    alloc: Global,
+    text: &mut String,
+    keys: &Keys,
+    member: NodeNo,
+) -> Result<(), OutOfMemory>
+    ensures { OnOk result
+        (string_bytes text.new ≡ string_bytes text.old ++ key_text member (key_of keys.now member)) }
+{
+    match keys.get(member) {
+        Some(key) => {
+            let number = member.get();
+            write!(text, "key {number} ")?;
+            push_id(alloc, text, &key)?;
+            text.push('\n')?;
+            Ok(())
+        }
+        None => Ok(()),
+    }
+}
+
+/// The keys, by rising members.
+#[tactic(auto, unfolding(crate::specs::Journals::key_lines))]
+fn push_keys(alloc: Global, text: &mut String, keys: &Keys) -> Result<(), OutOfMemory>
+    ensures { OnOk result (string_bytes text.new ≡ string_bytes text.old ++ key_lines keys.now) }
+{
+    for number in 1..GREATEST_NODE_NO + 1 {
+        push_key(alloc, text, keys, numbered(number))?;
+    }
+    Ok(())
+}
+
+/// What stands before the entries.
+pub fn push_head(
+    alloc: Global,
+    text: &mut String,
+    settings: &Settings,
+    now: Millis,
+    kept: Seq,
+) -> Result<(), OutOfMemory>
+    ensures { OnOk result (string_bytes text.new ≡ string_bytes text.old ++ head_text settings.now now kept) }
+{
+    push_word(text, "xl-journal 1\n")?;
+    push_settings(text, settings, now, kept)?;
+    push_keys(alloc, text, &settings.keys)?;
+    Ok(())
+}
+
+/// The line of the next entry of a legal history, with its reply.
+pub fn push_entry(
+    alloc: Global,
+    text: &mut String,
+    auditor: &mut Auditor,
+    entry: &Entry,
+) -> Result<(), OutOfMemory>
+    requires allowed { IsAllowed auditor.old entry.now.event }
+    requires outcome { IsOutcome (core_asks auditor.old entry.now.event) entry.now.outcome }
+    ensures text { OnOk result (string_bytes text.new
+        ≡ string_bytes text.old ++ entry_line (written_with entry.now (reply_to auditor.old entry.now))) }
+    ensures core { OnOk result (auditor.new ≡ (reply_of auditor.old entry.now).core) }
+{
+    push_event(alloc, text, &entry.event)?;
+    text.push(' ')?;
+    push_outcome(text, &entry.outcome)?;
+    text.push_str(" = ")?;
+    let reply = auditor.reply(entry)?;
+    text.push_str(reply.as_str())?;
+    text.push('\n')?;
+    Ok(())
+}

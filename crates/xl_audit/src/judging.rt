@@ -1,0 +1,228 @@
+// A journal, line by line.
+ghost use Rattle.std.specs.Prelude.{◌≡◌, ◌+◌, ◌++◌, ◌<◌, ◌≤◌, ◌^◌, None, IfOk, OnOk, decimal};
+ghost use Rattle.std.specs.String.{string_bytes};
+ghost use Rattle.xl_audit.specs.Auditing.{bad_line, bad_text, beyond, ended, heading_step, judged, no_line, set, yes_line};
+ghost use Rattle.xl_audit.specs.Judging.{IsReady, IsRefused, MayOpen, entries_of, step_given};
+ghost use Rattle.xl_audit.specs.Opening.{core_of, opening_in, unmet};
+ghost use Rattle.xl_audit.specs.Reading.{entry_in};
+ghost use Rattle.xl_audit.specs.Words.{tokens};
+
+use crate::Auditor;
+use crate::entries::entry;
+use crate::limits::{MOST_BYTES, MOST_LINES};
+use crate::opening::{Opening, read_opening, unmet};
+use crate::words::Words;
+use std::alloc::Global;
+use std::fmt::Write;
+use xl_base::{Bytes, NodeNo, OutOfMemory};
+use xl_core::Settings;
+use xl_lines::Overrun;
+use xl_sched::{Cause, LineFault, SchedRefusal, printed_token};
+use xl_tags::Keys;
+
+/// How far a journal has come.
+#[derive(Drop)]
+pub enum Stage {
+    /// No line was read.
+    Heading,
+    /// The first was.
+    Setting,
+    /// The settings were, and these keys.
+    Keying { opening: Opening, keys: Keys },
+    /// So many entries were, which were right.
+    Judging { auditor: Auditor, entries: u64 },
+}
+
+/// Why a line is refused.
+#[derive(Debug, Drop)]
+pub enum BadLine {
+    Refused(SchedRefusal),
+    /// This member is listed and has no key.
+    Keyless(NodeNo),
+}
+
+/// What a line leads to.
+#[derive(Debug, Drop)]
+pub enum Step {
+    GoesOn,
+    /// The entry of this place, from 1 on, isn't right.
+    Wrong(u64),
+    Refused(BadLine),
+}
+
+/// A line is refused.
+pub fn refused(alloc: Global, fault: LineFault<'_>) -> Result<Step, OutOfMemory>
+    ensures { IfOk result (IsRefused fault.entry) }
+{
+    match fault.refusal(alloc) {
+        SchedRefusal::OutOfMemory => Err(OutOfMemory),
+        refusal => Ok(Step::Refused(BadLine::Refused(refusal))),
+    }
+}
+
+/// Line 1.
+pub fn heading(alloc: Global, line: &[u8], words: &Words<'_>) -> Result<(Stage, Step), OutOfMemory>
+    requires { words.now ≡ tokens line.now }
+    ensures step { IfOk result (λ done. step_given done.1 done.0 ≡ heading_step line.now) }
+    ensures ready { IfOk result (λ done. IsReady done.0) }
+    ensures none { IfOk result (λ done. entries_of done.0 ≡ 0) }
+{
+    if line == b"xl-journal 1".as_slice() {
+        return Ok((Stage::Setting, Step::GoesOn));
+    }
+    let step = refused(alloc, LineFault::with_text(Cause::Header, words.first()))?;
+    Ok((Stage::Heading, step))
+}
+
+/// The line of the settings.
+pub fn setting(alloc: Global, words: &Words<'_>) -> Result<(Stage, Step), OutOfMemory>
+    ensures step { IfOk result (λ done. step_given done.1 done.0 ≡ set (opening_in words.now)) }
+    ensures ready { IfOk result (λ done. IsReady done.0) }
+    ensures none { IfOk result (λ done. entries_of done.0 ≡ 0) }
+{
+    match read_opening(alloc, words) {
+        Ok(opening) => {
+            let keys = Keys::new(opening.me);
+            Ok((Stage::Keying { opening, keys }, Step::GoesOn))
+        }
+        Err(fault) => Ok((Stage::Setting, refused(alloc, fault)?)),
+    }
+}
+
+/// The line of an entry.
+pub fn judge_entry(
+    alloc: Global,
+    auditor: Auditor,
+    entries: u64,
+    words: &Words<'_>,
+) -> Result<(Stage, Step), OutOfMemory>
+    requires few { entries + 1 < 2 ^ 64 }
+    ensures step { IfOk result (λ done. step_given done.1 done.0
+        ≡ judged auditor entries (entry_in auditor.node.keys words.now)) }
+    ensures ready { IfOk result (λ done. IsReady done.0) }
+    ensures more { IfOk result (λ done. entries_of done.0 ≤ entries + 1) }
+{
+    let mut auditor = auditor;
+    match entry(alloc, auditor.keys(), words) {
+        Ok(written) => {
+            if auditor.entry(&written)? {
+                let entries = entries + 1;
+                Ok((Stage::Judging { auditor, entries }, Step::GoesOn))
+            } else {
+                Ok((
+                    Stage::Judging { auditor, entries },
+                    Step::Wrong(entries + 1),
+                ))
+            }
+        }
+        Err(fault) => {
+            let step = refused(alloc, fault)?;
+            Ok((Stage::Judging { auditor, entries }, step))
+        }
+    }
+}
+
+/// The core opens, now that its keys are there.
+pub fn opened(alloc: Global, opening: Opening, keys: Keys) -> Result<Auditor, OutOfMemory>
+    requires may { MayOpen opening keys }
+    requires met { unmet keys opening.list.members ≡ None }
+    ensures { IfOk result (λ auditor. auditor ≡ core_of opening keys) }
+{
+    let Opening {
+        me,
+        list,
+        limit,
+        validating,
+        speak,
+        now,
+        kept,
+    } = opening;
+    // The members of a list are numbers from 1 to 64.
+    let _quorum = list.quorum();
+    let settings = Settings {
+        me,
+        list,
+        keys,
+        limit,
+        validating,
+        speak,
+    };
+    Auditor::open(alloc, settings, now, kept)
+}
+
+/// Why a line beyond a limit is refused.
+pub fn beyond(alloc: Global, overrun: Overrun) -> Result<BadLine, OutOfMemory>
+    ensures { IfOk result (λ why. why ≡ beyond overrun) }
+{
+    let refusal = match overrun {
+        Overrun::LongLine => SchedRefusal::LongLine(decimal(alloc, MOST_BYTES as u64)?),
+        Overrun::ManyLines => SchedRefusal::Limit(decimal(alloc, u64::from(MOST_LINES))?),
+    };
+    Ok(BadLine::Refused(refusal))
+}
+
+fn decimal(alloc: Global, number: u64) -> Result<Bytes, OutOfMemory>
+    ensures { IfOk result (λ bytes. bytes ≡ decimal number) }
+{
+    Ok(Bytes::from_vec(number.to_string(alloc)?.into_bytes()))
+}
+
+/// Behind the last line: how many entries there were, which were right, or why the journal ends too early.
+pub fn ended(alloc: Global, stage: &Stage) -> Result<u64, BadLine>
+    ensures { result ≡ ended stage.now }
+{
+    match stage {
+        Stage::Heading => Err(BadLine::Refused(SchedRefusal::missing_header(alloc))),
+        Stage::Setting => {
+            let nothing = Bytes::from_vec(Vec::new(alloc));
+            Err(BadLine::Refused(SchedRefusal::Word(nothing)))
+        }
+        Stage::Keying { opening, keys } => match unmet(keys, &opening.list) {
+            Some(member) => Err(BadLine::Keyless(member)),
+            None => Ok(0),
+        },
+        Stage::Judging { entries, .. } => Ok(*entries),
+    }
+}
+
+/// The line that says why a line is refused.
+pub fn push_bad(
+    alloc: Global,
+    text: &mut String,
+    line: u64,
+    why: &BadLine,
+) -> Result<(), OutOfMemory>
+    ensures { OnOk result (string_bytes text.new ≡ string_bytes text.old ++ bad_line line why.now) }
+{
+    match why {
+        BadLine::Refused(refusal) => push_bad_text(text, line, refusal.code(), refusal.token()),
+        BadLine::Keyless(member) => {
+            let token = member.get().to_string(alloc)?;
+            push_bad_text(text, line, 48, token.as_bytes())
+        }
+    }
+}
+
+fn push_bad_text(text: &mut String, line: u64, code: u32, token: &[u8]) -> Result<(), OutOfMemory>
+    ensures { OnOk result
+        (string_bytes text.new ≡ string_bytes text.old ++ bad_text line code token.now) }
+{
+    write!(text, "bad {line} {code} ")?;
+    printed_token(token, text)?;
+    text.push('\n')?;
+    Ok(())
+}
+
+pub fn push_yes(text: &mut String, entries: u64) -> Result<(), OutOfMemory>
+    ensures { OnOk result (string_bytes text.new ≡ string_bytes text.old ++ yes_line entries) }
+{
+    writeln!(text, "yes {entries}")?;
+    Ok(())
+}
+
+pub fn push_no(text: &mut String, place: u64) -> Result<(), OutOfMemory>
+    ensures { OnOk result (string_bytes text.new ≡ string_bytes text.old ++ no_line place) }
+{
+    writeln!(text, "no {place}")?;
+    Ok(())
+}

@@ -1,0 +1,35 @@
+//! Written journals and their auditor.
+//!
+//! A written journal tells what happened at a core: each event, how its save was answered, and the reply. `Auditor`
+//! opens a core anew and steps it by each entry: an entry is right exactly where its save can have been answered so,
+//! and where its reply is the one that the core's step gives.
+//!
+//! It stands on xl_core and on xl_store's journals. Its one contract: where each entry is right, the entries are a legal
+//! history of the core, with the replies that are written.
+#![tactic(auto)]
+
+mod auditor;
+mod command;
+mod entries;
+mod journal;
+mod judge;
+mod judging;
+mod laws;
+mod limits;
+mod opening;
+mod replies;
+mod saving;
+mod stepping;
+mod tokens;
+mod values;
+mod word;
+mod words;
+mod writing;
+mod written;
+
+pub use auditor::Auditor;
+pub use command::audit;
+pub use laws::{legal_is_right, right_is_legal, whole_texts, yes_and_no};
+pub use limits::{MOST_BYTES, MOST_LINES};
+pub use writing::write_journal;
+pub use written::Written;

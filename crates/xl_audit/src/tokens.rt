@@ -1,0 +1,112 @@
+// Tokens of a line: numbers, digits and words.
+ghost use Rattle.std.specs.Prelude.{◌≡◌, ◌<◌, ◌≤◌, IfOk};
+ghost use Rattle.std.specs.List.{list_all};
+ghost use Rattle.xl_base.specs.declared.moments.TheConstants.{GREATEST_MILLIS};
+ghost use Rattle.xl_sched.specs.Refusals.{GivenMemory};
+ghost use Rattle.xl_audit.specs.Saves.{IsCounted};
+ghost use Rattle.xl_audit.specs.Tokens.{bytes_of, id_of, is_lower_digit, moment_of, number_from as number_of_64, outcome_of, peer_of, yes_of};
+
+use hex::FromHexError;
+use std::alloc::Global;
+use xl_base::{Bytes, GREATEST_MILLIS, Millis, NodeNo};
+use xl_sched::{Cause, LineFault, member, number_within};
+use xl_store::Saved;
+use xl_tags::Keys;
+
+/// A moment in milliseconds.
+pub fn moment<'a>(token: &'a [u8]) -> Result<Millis, LineFault<'a>>
+    ensures value { result ≡ moment_of token.now }
+    ensures most { IfOk result (λ moment. moment ≤ GREATEST_MILLIS) }
+{
+    number_within(token, 0, GREATEST_MILLIS)
+}
+
+/// A number from this one to the greatest of 64 bits.
+pub fn number_from<'a>(token: &'a [u8], least: u64) -> Result<u64, LineFault<'a>>
+    ensures value { result ≡ number_of_64 least token.now }
+    ensures least { IfOk result (λ number. least ≤ number) }
+{
+    number_within(token, least, u64::MAX)
+}
+
+/// 32 bytes, by 64 lower-case digits.
+pub fn id<'a>(token: &'a [u8]) -> Result<[u8; 32], LineFault<'a>>
+    ensures { result ≡ id_of token.now }
+{
+    let mut id = [0; 32];
+    if are_lower_digits(token) && hex::decode_to_slice(token, &mut id).is_ok() {
+        Ok(id)
+    } else {
+        Err(LineFault::with_text(Cause::Id, token))
+    }
+}
+
+/// Some bytes, by their lower-case digits, or `-` for none.
+pub fn bytes<'a>(alloc: Global, token: &'a [u8]) -> Result<Bytes, LineFault<'a>>
+    ensures { GivenMemory result (bytes_of token.now) }
+{
+    if token == b"-".as_slice() {
+        return Ok(Bytes::from_vec(Vec::new(alloc)));
+    }
+    if token.is_empty() || !are_lower_digits(token) {
+        return Err(LineFault::with_text(Cause::Id, token));
+    }
+    match hex::decode(alloc, token) {
+        Ok(bytes) => Ok(Bytes::from_vec(bytes)),
+        Err(FromHexError::OutOfMemory) => Err(LineFault::out_of_memory()),
+        Err(_) => Err(LineFault::with_text(Cause::Id, token)),
+    }
+}
+
+/// Whether it is `yes`, and not `no`.
+pub fn yes<'a>(token: &'a [u8]) -> Result<bool, LineFault<'a>>
+    ensures { result ≡ yes_of token.now }
+{
+    if token == b"yes".as_slice() {
+        Ok(true)
+    } else if token == b"no".as_slice() {
+        Ok(false)
+    } else {
+        Err(LineFault::with_text(Cause::Choice, token))
+    }
+}
+
+/// A member that has a key.
+pub fn peer<'a>(keys: &Keys, token: &'a [u8]) -> Result<NodeNo, LineFault<'a>>
+    ensures { result ≡ peer_of keys.now token.now }
+{
+    let member = member(token)?;
+    if keys.has(member) {
+        Ok(member)
+    } else {
+        Err(LineFault::with_text(Cause::Number, token))
+    }
+}
+
+/// How a save was answered, by this token and the next.
+pub fn outcome<'a>(how: &'a [u8], count: &'a [u8]) -> Result<Option<Saved>, LineFault<'a>>
+    ensures value { result ≡ outcome_of how.now count.now }
+    ensures counted { IfOk result IsCounted }
+{
+    if how == b"-".as_slice() {
+        Ok(None)
+    } else if how == b"ok".as_slice() {
+        Ok(Some(Saved::Ok))
+    } else if how == b"failed".as_slice() {
+        Ok(Some(Saved::Failed(number_from(count, 1)?)))
+    } else {
+        Err(LineFault::with_text(Cause::Choice, how))
+    }
+}
+
+fn are_lower_digits(token: &[u8]) -> bool
+    ensures { result ≡ list_all is_lower_digit token.now }
+{
+    token.iter().all(|b| is_lower_digit(*b))
+}
+
+fn is_lower_digit(b: u8) -> bool
+    ensures { result ≡ is_lower_digit b }
+{
+    b.is_ascii_digit() || (b'a'..=b'f').contains(&b)
+}

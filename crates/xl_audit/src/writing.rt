@@ -1,0 +1,149 @@
+ghost use Rattle.std.specs.Prelude.{◌≡◌, ◌≤◌, IfOk, IsErrOf, OnOk};
+ghost use Rattle.std.specs.Io.KnownBytes.{append_known};
+ghost use Rattle.std.specs.String.{string_bytes};
+ghost use Rattle.xl_base.specs.declared.moments.TheConstants.{GREATEST_MILLIS};
+ghost use Rattle.xl_ledger.specs.declared.registry.TheConstants.{LEAST_LIMIT, GREATEST_LIMIT};
+ghost use Rattle.xl_io.specs.Sinks.{GrewByFront, GrewByLess};
+ghost use Rattle.xl_lines.specs.Causes.{HasCause};
+ghost use Rattle.xl_turns.specs.Histories.{IsLegal};
+ghost use Rattle.xl_core.specs.Core.{core_asks};
+ghost use Rattle.xl_core.specs.Rest.{IsKeyed};
+ghost use Rattle.xl_store.specs.Entries.{IsAllowed, IsOutcome, Leads, reply_of};
+ghost use Rattle.xl_audit.specs.Journals.{entries_text, entry_line, head_text, journal_text, start_of};
+ghost use Rattle.xl_audit.specs.Laws.{written_with};
+ghost use Rattle.xl_audit.specs.Rights.{reply_to};
+
+use crate::Auditor;
+use crate::journal::{push_entry, push_head};
+use std::alloc::Global;
+use xl_base::{Millis, OutOfMemory, Seq};
+use xl_core::Settings;
+use xl_io::{Sink, write_all};
+use xl_lines::Fault;
+use xl_store::{Entry, Journal};
+
+/// The line of the next entry of a legal history, with its reply, and the core goes on.
+fn line_of(alloc: Global, auditor: &mut Auditor, entry: &Entry) -> Result<String, OutOfMemory>
+    requires allowed { IsAllowed auditor.old entry.now.event }
+    requires outcome { IsOutcome (core_asks auditor.old entry.now.event) entry.now.outcome }
+    ensures text { IfOk result (λ text. string_bytes text
+        ≡ entry_line (written_with entry.now (reply_to auditor.old entry.now))) }
+    ensures core { OnOk result (auditor.new ≡ (reply_of auditor.old entry.now).core) }
+{
+    let mut text = String::new(alloc);
+    push_entry(alloc, &mut text, auditor, entry)?;
+    Ok(text)
+}
+
+/// Writes that line.
+fn write_entry<O: Sink>(
+    alloc: Global,
+    auditor: &mut Auditor,
+    entry: &Entry,
+    output: &mut O,
+) -> Result<(), Fault>
+    requires allowed { IsAllowed auditor.old entry.now.event }
+    requires outcome { IsOutcome (core_asks auditor.old entry.now.event) entry.now.outcome }
+    ensures core { OnOk result (auditor.new ≡ (reply_of auditor.old entry.now).core) }
+    ensures whole { OnOk result (O.held output.new ≡ append_known (O.held output.old)
+        (entry_line (written_with entry.now (reply_to auditor.old entry.now)))) }
+    ensures front { GrewByFront (O.held output.old) (O.held output.new)
+        (entry_line (written_with entry.now (reply_to auditor.old entry.now))) }
+    ensures less { IsErrOf result Fault.Write → GrewByLess (O.held output.old) (O.held output.new)
+        (entry_line (written_with entry.now (reply_to auditor.old entry.now))) }
+    ensures cause { HasCause (O.faults output.old) (O.faults output.new) result }
+{
+    let text = line_of(alloc, auditor, entry)?;
+    write_all(output, text.as_bytes())?;
+    Ok(())
+}
+
+/// Writes the lines of a legal history's entries, the oldest first.
+fn write_entries<O: Sink>(
+    alloc: Global,
+    auditor: Auditor,
+    journal: Journal,
+    output: &mut O,
+) -> Result<(), Fault>
+    requires legal { IsLegal Leads auditor journal }
+    ensures whole { OnOk result
+        (O.held output.new ≡ append_known (O.held output.old) (entries_text auditor journal)) }
+    ensures front { GrewByFront (O.held output.old) (O.held output.new) (entries_text auditor journal) }
+    ensures less { IsErrOf result Fault.Write
+        → GrewByLess (O.held output.old) (O.held output.new) (entries_text auditor journal) }
+    ensures cause { HasCause (O.faults output.old) (O.faults output.new) result }
+{
+    let mut auditor = auditor;
+    let mut left = journal.oldest();
+    while let Some(entry) = left.next() {
+        write_entry(alloc, &mut auditor, &entry, output)?;
+    }
+    Ok(())
+}
+
+/// What stands before the entries.
+fn head_of(
+    alloc: Global,
+    settings: &Settings,
+    now: Millis,
+    kept: Seq,
+) -> Result<String, OutOfMemory>
+    ensures { IfOk result (λ text. string_bytes text ≡ head_text settings.now now kept) }
+{
+    let mut text = String::new(alloc);
+    push_head(alloc, &mut text, settings, now, kept)?;
+    Ok(text)
+}
+
+/// Writes it.
+fn write_head<O: Sink>(
+    alloc: Global,
+    settings: &Settings,
+    now: Millis,
+    kept: Seq,
+    output: &mut O,
+) -> Result<(), Fault>
+    ensures whole { OnOk result
+        (O.held output.new ≡ append_known (O.held output.old) (head_text settings.now now kept)) }
+    ensures front { GrewByFront (O.held output.old) (O.held output.new) (head_text settings.now now kept) }
+    ensures less { IsErrOf result Fault.Write
+        → GrewByLess (O.held output.old) (O.held output.new) (head_text settings.now now kept) }
+    ensures cause { HasCause (O.faults output.old) (O.faults output.new) result }
+{
+    let text = head_of(alloc, settings, now, kept)?;
+    write_all(output, text.as_bytes())?;
+    Ok(())
+}
+
+/// Writes a journal: its settings, its keys, and a line for each entry, whose reply a new core gives that is stepped by
+/// the entries.
+///
+/// The journal is a legal history of the core that these settings open. A failed write ends it with `Write`, and want
+/// of memory, at any time, with `Memory`.
+pub fn write_journal<O: Sink>(
+    alloc: Global,
+    settings: Settings,
+    now: Millis,
+    kept: Seq,
+    journal: Journal,
+    output: &mut O,
+) -> Result<(), Fault>
+    requires keyed { IsKeyed settings.me settings.list.members settings.keys }
+    requires least { LEAST_LIMIT ≤ settings.limit }
+    requires most { settings.limit ≤ GREATEST_LIMIT }
+    requires moment { now ≤ GREATEST_MILLIS }
+    requires legal { IsLegal Leads (start_of settings now kept) journal }
+    // The text of the journal is written, or a front of it, whatever happens.
+    ensures whole { OnOk result (O.held output.new
+        ≡ append_known (O.held output.old) (journal_text settings now kept journal)) }
+    ensures front { GrewByFront (O.held output.old) (O.held output.new) (journal_text settings now kept journal) }
+    // With a fault of the sink some of it isn't.
+    ensures less { IsErrOf result Fault.Write
+        → GrewByLess (O.held output.old) (O.held output.new) (journal_text settings now kept journal) }
+    // Nothing is read, and a fault of the sink is answered only where its count rose.
+    ensures cause { HasCause (O.faults output.old) (O.faults output.new) result }
+{
+    write_head(alloc, &settings, now, kept, output)?;
+    let auditor = Auditor::open(alloc, settings, now, kept)?;
+    write_entries(alloc, auditor, journal, output)
+}

@@ -1,0 +1,39 @@
+use Rattle.std.proofs.Common.{◌≡◌, ◌<◌, ◌≤◌, Ok, Err, length, subst, sym}
+use Rattle.std.specs.Prelude.{Result, IfOk, IfErr, MatchResult}
+use Rattle.xl_flags.specs.declared.flag_votes.TheConstants.{MOST_AMENDMENTS}
+use Rattle.xl_flags.specs.declared.refusal.FlagRefusal.TheVariants.{TooMany}
+use Rattle.xl_flags.specs.Votes.{named}
+use Rattle.xl_flags.specs.Kept.{Kept, Past, Remembers, favored, kept_favored, with_rows}
+use Rattle.xl_flags.proofs.Favoring.{so_many, remembers_vote}
+use Rattle.xl_flags.proofs.flag_votes.FlagVotes.favor.Goals as goal
+
+module _ {E : Type 0} where
+  done_weaker : (P Q : Unit {0} → Type 0) (R : E → Type 0) → ((u : Unit {0}) → P u → Q u) → (r : Result (Unit {0}) E) → MatchResult r P R → MatchResult r Q R
+  done_weaker P Q R h (Ok u) p = h u p
+  done_weaker P Q R h (Err e) p = p
+
+  ok_weaker : (P Q : Unit {0} → Type 0) → ((u : Unit {0}) → P u → Q u) → (r : Result (Unit {0}) E) → IfOk r P → IfOk r Q
+  ok_weaker P Q h (Ok u) p = h u p
+  ok_weaker P Q h (Err e) p = p
+
+  err_weaker : (P Q : E → Type 0) → ((e : E) → P e → Q e) → (r : Result (Unit {0}) E) → IfErr r P → IfErr r Q
+  err_weaker P Q h (Ok u) p = p
+  err_weaker P Q h (Err e) p = h e p
+
+pub returns : goal.returns
+returns c = record {
+  remembers = done_weaker (λ u. c.take_vote.new.self ≡ kept_favored c.args.member c.args.fee c.args.ids.now c.args.self.now)
+      (λ u. (past : Past) → Remembers c.args.self.now past → Remembers c.take_vote.new.self (favored past c.args.member c.args.fee c.args.ids.now))
+      (λ e. c.take_vote.new.self ≡ c.args.self.now)
+      (λ u kept past is. subst (λ (k : Kept). Remembers k (favored past c.args.member c.args.fee c.args.ids.now)) (sym kept)
+      (remembers_vote past c.args.member c.args.fee c.args.ids.now c.take_vote.ensures.first c.take_vote.ensures.last c.args.self.now is))
+      c.take_vote.result c.take_vote.ensures.kept;
+  many = err_weaker (λ e. e ≡ TooMany → MOST_AMENDMENTS < length (with_rows c.args.self.now.amendments c.args.ids.now))
+      (λ e. e ≡ TooMany → (past : Past) → Remembers c.args.self.now past → MOST_AMENDMENTS < length (named (favored past c.args.member c.args.fee c.args.ids.now).favors))
+      (λ e many too past is. subst (λ n. MOST_AMENDMENTS < n) (so_many past c.args.member c.args.fee c.args.ids.now c.take_vote.ensures.first c.take_vote.ensures.last c.args.self.now is) (many too))
+      c.take_vote.result c.take_vote.ensures.many;
+  few = ok_weaker (λ u. length (with_rows c.args.self.now.amendments c.args.ids.now) ≤ MOST_AMENDMENTS)
+      (λ u. (past : Past) → Remembers c.args.self.now past → length (named (favored past c.args.member c.args.fee c.args.ids.now).favors) ≤ MOST_AMENDMENTS)
+      (λ u few past is. subst (λ n. n ≤ MOST_AMENDMENTS) (so_many past c.args.member c.args.fee c.args.ids.now c.take_vote.ensures.first c.take_vote.ensures.last c.args.self.now is) few)
+      c.take_vote.result c.take_vote.ensures.few;
+}

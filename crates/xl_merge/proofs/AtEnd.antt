@@ -1,0 +1,24 @@
+-- Nothing is looked for, so the lines are read to their end.
+use Rattle.std.proofs.Common.{◌≡◌, ◌==◌, [], true, refl, Result, Ok, Err, Option, Some, None}
+use Rattle.std.proofs.lemmas.Bool.{cond_both}
+use Rattle.xl_lines.specs.declared.machine.Verdict.TheVariants.{Good, Refused}
+use Rattle.xl_lines.specs.Rules.{closes}
+use Rattle.xl_lines.specs.Ends.{FindsNothing, FindsAtEnd}
+use Rattle.xl_sched.specs.declared.refusal.SchedRefusal.{SchedRefusal}
+use Rattle.xl_sched.specs.declared.refusal.SchedRefusal.TheVariants.{Header}
+use Rattle.xl_merge.specs.declared.line.Line.{Line}
+use Rattle.xl_merge.specs.Merging.{Merging, answered, bounded_line, ending, rules}
+use Rattle.xl_merge.specs.Texts.{bad_line}
+
+answer_finds : (m : Merging) (line : Result (Option Line) SchedRefusal) → FindsNothing (answered m line)
+answer_finds m (Ok None) = tt
+answer_finds m (Ok (Some line)) = tt
+answer_finds m (Err refusal) = tt
+
+closes_at_end : (m : Merging) → (ending m).closed ≡ true
+closes_at_end m =
+    cond_both (m.lines == 0) (closes (bad_line 1 (Header [])) Refused) (closes [] Good) (λ told. told.closed ≡ true)
+    (λ _. refl) (λ _. refl)
+
+pub finds_at_end : FindsAtEnd rules
+finds_at_end = record { step = λ m bytes. answer_finds m (bounded_line m bytes); closing = closes_at_end }

@@ -1,0 +1,16 @@
+use Rattle.std.proofs.Common.{subst}
+use Rattle.std.specs.Prelude.{IfSome}
+use Rattle.xl_io.specs.Sinks.{GrewByLess}
+use Rattle.xl_lines.specs.Told.{told_of}
+use Rattle.xl_merge.specs.Merging.{Merging, limits, rules}
+use Rattle.xl_merge.proofs.AtEnd.{finds_at_end}
+use Rattle.xl_merge.proofs.command.merge.Goals as goal
+
+pub returns-clause-cut : goal.returns-clause-cut
+returns-clause-cut g c is =
+    subst
+    (λ (m : Merging). IfSome (g.I.Source.left c.args.input.now) (λ bytes. GrewByLess (g.O.Sink.held c.args.output.now) (g.O.Sink.held c.run.new.output) (told_of limits rules m bytes).text))
+    c.new.ensures (c.run.ensures.cut is)
+
+pub returns-clause-to_end : goal.returns-clause-to_end
+returns-clause-to_end g c = c.run.ensures.to_end finds_at_end

@@ -1,0 +1,170 @@
+// The machine of `xl merge`.
+ghost use Rattle.std.specs.Prelude.{◌≡◌, ◌≤◌, ◌<◌, ◌+◌, [], IfOk, OnOk, string_bytes, decimal};
+ghost use Rattle.xl_base.specs.declared.moments.TheConstants.{GREATEST_MILLIS};
+ghost use Rattle.xl_sched.specs.declared.limits.TheConstants.{MOST_LINES};
+ghost use Rattle.xl_merge.specs.Merging.{beyond};
+
+use crate::line::Line;
+use crate::reading::{header, later_line};
+use crate::texts::{push_bad, push_list, push_roll};
+use std::alloc::Global;
+use xl_base::{Bytes, Millis, OutOfMemory, secs_of};
+use xl_lines::{Machine, Next, Overrun, Verdict};
+use xl_publish::Publishers;
+use xl_sched::{Cause, LineFault, MOST_BYTES, MOST_LINES, SchedRefusal, Tokens};
+
+/// The moment in force before a line says another.
+const FIRST_MOMENT: Millis = 1_000;
+
+/// What is known of the lines that were read.
+#[derive(Drop)]
+pub struct Merger {
+    alloc: Global,
+    lines: u32,
+    publishers: Publishers,
+    threshold: u32,
+    moment: Millis,
+    ghost few: { lines ≤ MOST_LINES },
+    ghost early: { moment ≤ GREATEST_MILLIS },
+}
+
+impl Merger {
+    ghost use Rattle.xl_merge.specs.Lines.{IsFit, IsFitLine};
+    ghost use Rattle.xl_merge.specs.Merging.{at_first, after_line, text_of, bounded_line, line_of_tokens};
+    ghost use Rattle.xl_merge.specs.States.{state_of};
+    ghost use Rattle.xl_sched.specs.Refusals.{GivenMemory};
+
+    /// Before the first line.
+    pub fn new(alloc: Global) -> Merger
+        ensures { state_of result ≡ at_first }
+    {
+        Merger {
+            alloc,
+            lines: 0,
+            publishers: Publishers::new(),
+            threshold: 1,
+            moment: FIRST_MOMENT,
+        }
+    }
+
+    /// What a line says.
+    fn read<'a>(&self, line: &'a [u8]) -> Result<Option<Line>, LineFault<'a>>
+        ensures value { GivenMemory result (bounded_line (state_of self.now) line.now) }
+        ensures fit { IfOk result IsFit }
+        ensures more { OnOk result (self.now.lines < MOST_LINES) }
+    {
+        if line.len() > MOST_BYTES {
+            return Err(LineFault::with_number(Cause::LongLine, MOST_BYTES as u64));
+        }
+        if self.lines == MOST_LINES {
+            return Err(LineFault::with_number(Cause::Limit, u64::from(MOST_LINES)));
+        }
+        self.line_of(Tokens::of(line))
+    }
+
+    fn line_of<'a>(&self, tokens: Tokens<'a>) -> Result<Option<Line>, LineFault<'a>>
+        ensures value { GivenMemory result (line_of_tokens (state_of self.now) tokens.entry) }
+        ensures fit { IfOk result IsFit }
+    {
+        if self.lines == 0 {
+            header(tokens)
+        } else {
+            later_line(self.alloc, &self.publishers, tokens)
+        }
+    }
+
+    /// Counts a line, takes in what it says, and puts what is told of it into the text.
+    fn take(&mut self, line: &Line, text: &mut String) -> Result<(), OutOfMemory>
+        requires more { self.old.lines < MOST_LINES }
+        requires fit { IsFitLine line.now }
+        requires empty { string_bytes text.old ≡ [] }
+        ensures state { OnOk result (state_of self.new ≡ after_line (state_of self.old) line.now) }
+        ensures text { OnOk result (string_bytes text.new ≡ text_of (state_of self.old) line.now) }
+    {
+        self.lines += 1;
+        match line {
+            Line::Publisher { publisher, key } => {
+                let _ = self.publishers.put(*publisher, *key);
+                Ok(())
+            }
+            Line::Threshold(threshold) => {
+                self.threshold = *threshold;
+                Ok(())
+            }
+            Line::Roll(bytes) => {
+                let answer = self.publishers.take(bytes.as_slice());
+                push_roll(self.alloc, text, u64::from(self.lines), &answer)
+            }
+            Line::At(moment) => {
+                self.moment = *moment;
+                Ok(())
+            }
+            Line::List => {
+                let list = self
+                    .publishers
+                    .list_at(secs_of(self.moment), self.threshold);
+                push_list(text, &list)
+            }
+        }
+    }
+}
+
+impl Machine for Merger {
+    ghost use Rattle.xl_merge.specs.Merging.{Merging, rules as the_rules};
+    ghost use Rattle.xl_merge.specs.States.{state_of};
+
+    ghost State = { Merging };
+
+    ghost state = { state_of };
+
+    ghost rules = { the_rules };
+
+    fn line(&mut self, line: &[u8], text: &mut String) -> Result<Next, OutOfMemory> {
+        match self.read(line) {
+            Ok(None) => {
+                self.lines += 1;
+                Ok(Next::Line)
+            }
+            Ok(Some(line)) => {
+                self.take(&line, text)?;
+                Ok(Next::Line)
+            }
+            Err(fault) => match fault.refusal(self.alloc) {
+                SchedRefusal::OutOfMemory => Err(OutOfMemory),
+                refusal => {
+                    push_bad(text, u64::from(self.lines) + 1, &refusal)?;
+                    Ok(Next::Refused)
+                }
+            },
+        }
+    }
+
+    fn overrun(&mut self, overrun: Overrun, text: &mut String) -> Result<(), OutOfMemory> {
+        let refusal = beyond(self.alloc, overrun)?;
+        push_bad(text, u64::from(self.lines) + 1, &refusal)
+    }
+
+    fn close(&mut self, text: &mut String) -> Result<Verdict, OutOfMemory> {
+        if self.lines == 0 {
+            push_bad(text, 1, &SchedRefusal::missing_header(self.alloc))?;
+            return Ok(Verdict::Refused);
+        }
+        Ok(Verdict::Good)
+    }
+}
+
+/// The refusal of a line beyond a limit.
+fn beyond(alloc: Global, overrun: Overrun) -> Result<SchedRefusal, OutOfMemory>
+    ensures { IfOk result (λ refusal. refusal ≡ beyond overrun) }
+{
+    match overrun {
+        Overrun::LongLine => Ok(SchedRefusal::LongLine(decimal(alloc, MOST_BYTES as u64)?)),
+        Overrun::ManyLines => Ok(SchedRefusal::Limit(decimal(alloc, u64::from(MOST_LINES))?)),
+    }
+}
+
+fn decimal(alloc: Global, number: u64) -> Result<Bytes, OutOfMemory>
+    ensures { IfOk result (λ bytes. bytes ≡ decimal number) }
+{
+    Ok(Bytes::from_vec(number.to_string(alloc)?.into_bytes()))
+}

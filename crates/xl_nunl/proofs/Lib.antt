@@ -1,0 +1,5 @@
+pub mod Orders
+pub mod Negative
+pub mod Staying
+pub mod Enough
+pub mod Rings

@@ -1,0 +1,5 @@
+use Rattle.xl_nunl.proofs.Rings.{none_heard}
+use Rattle.xl_nunl.proofs.score.Scores.open.Goals as goal
+
+pub returns : goal.returns
+returns c = none_heard c.in_ok-places.places.items 32768 c.in_ok-places.ensures

@@ -1,0 +1,4 @@
+pub mod Heard
+pub mod Rings
+pub mod Lists
+pub mod Deciding
