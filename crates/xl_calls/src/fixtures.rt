@@ -24,6 +24,7 @@ pub fn core_of(alloc: Global, number: u32, trusted: u32) -> Result<Core<Trie>, F
         keys: Keys::of_schedule(me),
         limit: 2,
         validating: true,
+        speak: 1,
     };
     Ok(Core::open(alloc, settings, 1_000, 0)?)
 }

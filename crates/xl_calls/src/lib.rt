@@ -17,6 +17,8 @@ mod heartbeats;
 #[cfg(test)]
 mod pools;
 #[cfg(test)]
+mod relists;
+#[cfg(test)]
 mod rounds;
 #[cfg(test)]
 mod sessions;

@@ -8,6 +8,7 @@ use std::thread;
 use std::thread::Threads;
 use xl_base::{LedgerId, NodeNo, Seq};
 use xl_core::{Refusal, Report};
+use xl_lists::List;
 use xl_store::{Pass, Saved};
 
 const X: LedgerId = LedgerId([1; 32]);
@@ -162,5 +163,26 @@ fn a_failed_save_stands_in_the_journal(rt: HostRuntime) -> Result<(), Fail> {
     assert!(rt; told == (None, Some(Refusal::KeepFault(1)), Some(1)));
     let outcomes = (Some(Saved::Ok), Some(Saved::Failed(1)));
     assert!(rt; saves(store, pass) == Some(outcomes));
+    Ok(())
+}
+
+/// Sets the list of nodes 1 and 2, both of whom are its quorum, and answers whether it was set.
+fn trust_two<W: Wait>(rt: &W, store: &Stored, pass: &mut Pass) -> Option<bool>
+    requires pass { IsOf store.now pass.old }
+    ensures pass { IsOf store.now pass.new }
+{
+    let list = List::new(&[2, 1], 2).ok()?;
+    Some(store.relist(rt, pass, 1_000, list).ok()?.is_ok())
+}
+
+/// Once a store's list has two members that are both wanted, one of them alone reports nothing. Setting a list saves
+/// nothing.
+#[test]
+fn a_store_sets_another_list(rt: HostRuntime) -> Result<(), Fail> {
+    let (store, mut pass) = stored(rt.alloc(), 1, 10, NodeNo::new(2).ok_or("no member")?)?;
+    assert!(rt; trust_two(&rt, &store, &mut pass) == Some(true));
+    assert!(rt; issue(&rt, &store, &mut pass, 1) == None);
+    assert!(rt; report(&rt, &store, &mut pass) == Some(0));
+    assert!(rt; saves(store, pass) == Some((None, Some(Saved::Ok))));
     Ok(())
 }

@@ -37,6 +37,7 @@ fn world(alloc: Global) -> Result<World, Fail> {
         nodes,
         liars,
         limit: 2,
+        speak: 1,
     };
     Ok(World::open(alloc, &plan)?)
 }

@@ -14,7 +14,7 @@ use xl_keep::{FileKeeper, SystemFile};
 use xl_tcp::{SystemClock, TcpHub};
 use xl_top::top;
 
-/// The line on standard error that goes with a status, where one does.
+/// The line on standard error that goes with a status, if one does.
 fn complaint(status: Status) -> Option<&'static str> {
     match status {
         Status::Done | Status::Fork | Status::InputRefused => None,
@@ -28,7 +28,7 @@ fn complaint(status: Status) -> Option<&'static str> {
     }
 }
 
-/// The words of the command line. One that isn't text is refused, as is their want of memory.
+/// The words of the command line. One that isn't text is refused, as is their lack of memory.
 fn words_of(rt: &HostRuntime) -> Result<Vec<String>, Status> {
     let alloc = rt.alloc();
     let words = env::args(rt).map_err(|error| match error.kind() {
@@ -68,7 +68,7 @@ fn found_by(rt: &HostRuntime) -> Result<Outside, Status> {
     Ok(Outside {
         words: words_of(rt)?,
         keeper: keeper_of(rt)?,
-        hub: TcpHub::new(again(rt)?),
+        hub: TcpHub::new(rt.alloc(), again(rt)?),
         clock: SystemClock::new(again(rt)?),
     })
 }
@@ -103,7 +103,7 @@ fn main(rt: HostRuntime) -> ExitCode {
         Err(status) => status,
     };
     if let Some(line) = complaint(status) {
-        // Nothing more can be said where standard error fails.
+        // Nothing more can be said if standard error fails.
         let _ = rt.eprintln(line);
     }
     ExitCode::from(status.code())

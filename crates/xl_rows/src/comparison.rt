@@ -25,7 +25,7 @@ impl fmt::Display for Comparison {
     }
 }
 
-/// The line, from 1, in which two texts differ for the first time. Where one is a front of the other it is the line
+/// The line, from 1, in which two texts differ for the first time. If one is a front of the other it is the line
 /// behind.
 fn first_other_line(text: &[u8], wanted: &[u8]) -> u64 {
     let mut line: u64 = 1;

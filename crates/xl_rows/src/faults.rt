@@ -23,7 +23,7 @@ impl Calls {
     }
 }
 
-/// How many reads and how many writes a run makes, each of which ended it with its fault where it failed.
+/// How many reads and how many writes a run makes, each of which ended it with its fault if it failed.
 #[derive(Clone, Copy, Debug, PartialEq, Eq)]
 pub struct Faults {
     pub reads: u64,
@@ -64,7 +64,7 @@ fn fail_one<R: Threads + Wait + Sync>(
     }
 }
 
-/// How many such calls a run makes, where each ends it with its fault as it fails; `None` where one doesn't.
+/// How many such calls a run makes, if each ends it with its fault as it fails; `None` if one doesn't.
 fn fail_each<R: Threads + Wait + Sync>(
     threads: &R,
     alloc: Global,

@@ -6,7 +6,7 @@
 //! that refuses the last. The file `faults` has such a line as `runs`, with the bytes of a piece in front: each read of
 //! that run fails once, and each write, and must end it with the status of that fault and a front of the text.
 //!
-//! It stands on xl_top. Its one contract: a run is called the same exactly where both the text and the status are.
+//! It stands on xl_top. Its one contract: a run is called the same exactly if both the text and the status are.
 #![tactic(auto)]
 
 mod comparison;

@@ -35,6 +35,7 @@ impl Member {
             keys: Keys::of_schedule(me),
             limit: LIMIT,
             validating: true,
+            speak: 1,
         };
         Ok(Member {
             core: Core::open(alloc, settings, OPENING, 0)?,

@@ -13,6 +13,7 @@ pub fn sealed_frame(from: NodeNo, to: NodeNo) -> [u8; VALIDATION_FRAME] {
         seq: 1,
         signed: 1,
         full: true,
+        validated: None,
     };
     let frame = Frame {
         from: from.get(),

@@ -59,6 +59,15 @@ end_after (Err Write) E end (inr is) = absurd cc
 end_after (Err Memory) E end (inl is) = absurd cc
 end_after (Err Memory) E end (inr is) = absurd cc
 
+-- a yes was told of the whole input
+pub yes_after : (r : Result Verdict Fault) (E : Type 0) → IfOk r (λ verdict. verdict ≡ Good → E) → status_after r ≡ Done → E
+yes_after (Ok Good) E end is = end refl
+yes_after (Ok Found) E end is = absurd cc
+yes_after (Ok Refused) E end is = absurd cc
+yes_after (Err Read) E end is = absurd cc
+yes_after (Err Write) E end is = absurd cc
+yes_after (Err Memory) E end is = absurd cc
+
 pub read_after : (r : Result Verdict Fault) (P : Type 0) → (IsErrOf r Read → P) → status_after r ≡ ReadFault → P
 read_after (Ok Good) P cause is = absurd cc
 read_after (Ok Found) P cause is = absurd cc
@@ -126,7 +135,7 @@ says Good = refl
 says Found = refl
 says Refused = refl
 
--- a status says this of a text, where it is written whole
+-- a status says this of a text, if it is written whole
 abbrev pub SaysEnd : Option (List ℕ) → Option (List ℕ) → Option (List ℕ) → (List ℕ → Told) → Status → Type 0
 SaysEnd left held held' told s = IfSome left (λ bytes. IsWritten held held' (told bytes).text → (s ≡ status_of (told bytes).verdict) ⊎ (s ≡ OutOfMemory))
 
@@ -137,7 +146,7 @@ whole_after (Some bytes) held held' told (Err Read) whole less = λ written. abs
 whole_after (Some bytes) held held' told (Err Write) whole less = λ written. absurd (less_says held held' (told bytes).text (less (λ is. cc)) written)
 whole_after (Some bytes) held held' told (Err Memory) whole less = λ written. inr refl
 
--- where some of it is missing after a fault of the sink, and nothing is written with any other
+-- if some of it is missing after a fault of the sink, and nothing is written with any other
 abbrev pub Unwritten : Option (List ℕ) → Option (List ℕ) → Result Verdict Fault → Type 0
 Unwritten held held' r = IfErr r (λ fault. fault ≢ Write → held' ≡ held)
 
@@ -153,6 +162,17 @@ some_after (Some bytes) held held' told (Ok v) whole unwritten less = λ some wr
 some_after (Some bytes) held held' told (Err Read) whole unwritten less = λ some written. absurd (nothing_says held held' (told bytes).text (unwritten (λ is. cc)) some written)
 some_after (Some bytes) held held' told (Err Write) whole unwritten less = λ some written. absurd (less_says held held' (told bytes).text (less refl) written)
 some_after (Some bytes) held held' told (Err Memory) whole unwritten less = λ some written. inr refl
+
+-- where some of it is missing after a fault of the sink, and the source has no fault
+abbrev pub SaysRead : Option (List ℕ) → Option (List ℕ) → Option (List ℕ) → (List ℕ → Told) → Type 0 → Status → Type 0
+SaysRead left held held' told fault s = IfSome left (λ bytes. (fault → ⊥) → IsWritten held held' (told bytes).text → (s ≡ status_of (told bytes).verdict) ⊎ (s ≡ OutOfMemory))
+
+pub read_all_after : (left held held' : Option (List ℕ)) (told : List ℕ → Told) (fault : Type 0) (r : Result Verdict Fault) → Whole left held held' told r → (IsErrOf r Read → fault) → LessWritten left held held' told r → SaysRead left held held' told fault (status_after r)
+read_all_after None held held' told fault r whole read less = tt
+read_all_after (Some bytes) held held' told fault (Ok v) whole read less = λ none written. inl (says v ∙ ap status_of (sym whole.says))
+read_all_after (Some bytes) held held' told fault (Err Read) whole read less = λ none written. absurd (none (read refl))
+read_all_after (Some bytes) held held' told fault (Err Write) whole read less = λ none written. absurd (less_says held held' (told bytes).text (less refl) written)
+read_all_after (Some bytes) held held' told fault (Err Memory) whole read less = λ none written. inr refl
 
 -- so it is whatever else is said of that text
 pub said : (left : Option (List ℕ)) (P : List ℕ → Type 0) → IfSome left P → IfSome left (λ bytes. Unit {0} → P bytes)

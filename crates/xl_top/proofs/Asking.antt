@@ -1,4 +1,4 @@
--- What the words ask, and what holds where nothing was done.
+-- What the words ask, and what holds if nothing was done.
 use Rattle.std.proofs.Common.{◌≡◌, ◌≢◌, ℕ, List, [], Option, Some, None, Result, Ok, Err, IfSome, ◌⊎◌, inl, inr, refl, sym, subst}
 use Rattle.std.specs.Prelude.{IfOk, IfErr, IsErrOf}
 use Rattle.xl_base.specs.declared.status.Status.TheVariants.{OutOfMemory}
@@ -22,7 +22,7 @@ if_any (Some x) P all = all x
 pub by_asked : {X : Type 0} (o : Option X) (c : X) (P : X → Type 0) → o ≡ Some c → P c → IfSome o P
 by_asked {X} o c P is holds = subst (λ (x : Option X). IfSome x P) (sym is) holds
 
--- nothing is asked where the words are refused
+-- nothing is asked if the words are refused
 pub unasked : (o : Option Command) (r : Result Command WordsFault) → r ≡ Err WordsRefused → ((c : Command) → o ≡ Some c → (r ≡ Ok c) ⊎ (r ≡ Err NoMemory)) → o ≡ None
 unasked None r is given = refl
 unasked (Some c) r is given = go (given c refl)

@@ -1,5 +1,6 @@
 -- What the program does for the words of its command line. Source: this project's own.
 use Rattle.std.specs.Prelude.{◌≡◌, ◌<◌, ℕ, min, List, length, Option, Some, None, Result, Ok, Err, option_and_then}
+use Rattle.xl_base.specs.Faults.{Rose}
 use Rattle.xl_base.specs.declared.status.Status.{Status}
 use Rattle.xl_base.specs.declared.status.Status.TheVariants.{Done, Fork, InputRefused, ReadFault, WriteFault, OutOfMemory}
 use Rattle.xl_gen.specs.declared.command.TheConstants.{MOST_ROUNDS}
@@ -9,13 +10,15 @@ use Rattle.xl_lines.specs.declared.fault.Fault.TheVariants.{Read, Write, Memory}
 use Rattle.xl_lines.specs.declared.machine.Verdict.{Verdict}
 use Rattle.xl_lines.specs.declared.machine.Verdict.TheVariants.{Good, Found, Refused}
 use Rattle.xl_lines.specs.Rules.{Told, closes}
+use Rattle.xl_audit.specs.Auditing.{audit_of}
+use Rattle.xl_merge.specs.Merging.{merge_of}
 use Rattle.xl_pairs.specs.Comparing.{lists_of}
 use Rattle.xl_replay.specs.Replays.{report_of}
 use Rattle.xl_show.specs.Shown.{shown_of}
 use Rattle.xl_words.specs.declared.command.Command.{Command}
 use Rattle.xl_words.specs.declared.command.Command.TheVariants.{Node, Tell}
 use Rattle.xl_words.specs.declared.command.Telling.{Telling}
-use Rattle.xl_words.specs.declared.command.Telling.TheVariants.{Replay, Show, Lists, Gen, Help, Version}
+use Rattle.xl_words.specs.declared.command.Telling.TheVariants.{Replay, Show, Lists, Merge, Audit, Gen, Help, Version}
 use Rattle.xl_words.specs.Commands.{command_of}
 use Rattle.xl_words.specs.Help.{help_text, version_text}
 
@@ -38,21 +41,28 @@ abbrev pub told_by : Telling → List ℕ → Told
 told_by Replay bytes = report_of bytes
 told_by Show bytes = shown_of bytes
 told_by Lists bytes = lists_of bytes
+told_by Merge bytes = merge_of bytes
+told_by Audit bytes = audit_of bytes
 told_by (Gen rounds) bytes = summary (min rounds MOST_ROUNDS)
 told_by Help bytes = closes help_text Good
 told_by Version bytes = closes version_text Good
 
--- a command reads its input to the end
-abbrev pub IsReader : Telling → Type 0
-IsReader (Gen rounds) = ⊥
-IsReader Help = ⊥
-IsReader Version = ⊥
-IsReader command = Unit {0}
+-- with this status, whether the command reads its input to the end. An auditor reads nothing after the first entry that
+-- isn't right
+abbrev pub ReadsAll : Telling → Status → Type 0
+ReadsAll (Gen rounds) status = ⊥
+ReadsAll Help status = ⊥
+ReadsAll Version status = ⊥
+ReadsAll Audit status = status ≡ Done
+ReadsAll command status = Unit {0}
 
--- a command has a text to write; that of `lists` is empty where no node is declared, and no other ever is
-abbrev pub HasText : Telling → List ℕ → Type 0
-HasText Lists text = 0 < length text
-HasText command text = Unit {0}
+-- What shows that a text that is written whole is at its end, by the counts of the input's faults before and after.
+-- The text of `lists` is empty where no node is declared. The last line of `merge` is written before the input's end is
+-- read, so a read may fail behind it
+abbrev pub IsEnded : Telling → List ℕ → ℕ → ℕ → Type 0
+IsEnded Lists text before after = 0 < length text
+IsEnded Merge text before after = ¬ (Rose before after)
+IsEnded command text before after = Unit {0}
 
 -- the status of a run by how it ended
 abbrev pub status_after : Result Verdict Fault → Status

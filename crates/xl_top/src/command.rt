@@ -8,7 +8,7 @@ ghost use Rattle.xl_lines.specs.Running.{TellsAll};
 ghost use Rattle.xl_replay.specs.Headlines.{names_of, IsReport, IsRefusal, AddsReport};
 ghost use Rattle.xl_replay.specs.Replays.{report_of};
 ghost use Rattle.xl_replay.specs.Statuses.{IsTold, IsWritten, status_of};
-ghost use Rattle.xl_top.specs.Commands.{asked_of, told_of, told_by, IsReader, HasText};
+ghost use Rattle.xl_top.specs.Commands.{asked_of, told_of, told_by, ReadsAll, IsEnded};
 ghost use Rattle.xl_settings.specs.Settings.{settings_of};
 ghost use Rattle.xl_validator.specs.Validators.{IsNodeRun, HasRefused, IsUnopened, between};
 ghost use Rattle.xl_words.specs.Commands.{words_of};
@@ -25,9 +25,9 @@ use xl_words::{Command, Telling, WordsFault};
 
 /// The program: what the words of the command line ask is read from the input and written to the output.
 ///
-/// The words begin with the program's name. They may ask for `replay`, `node`, `show`, `lists` or `gen`, for help, or
-/// for the version. Keeper, hub and clock are those of `node`. The keeper comes back, and so does the journal of the
-/// node's store, where one was opened.
+/// The words begin with the program's name. They may ask for `replay`, `node`, `show`, `lists`, `merge`, `audit` or
+/// `gen`, for help, or for the version. Keeper, hub and clock are those of `node`. The keeper comes back, and so does the journal
+/// of the node's store, if one was opened.
 pub fn top<
     W: Threads + Wait + Sync,
     I: Source,
@@ -62,7 +62,7 @@ pub fn top<
     ensures refused { result.status ≡ Status.InputRefused → IfSome (told_of (words_of words.now)) (λ telling.
         IfSome (I.left input.old) (λ bytes.
         TellsAll (O.held output.old) (O.held output.new) Refused (told_by telling bytes))) }
-    // Unless a line is refused, the report of a replay is lines in which, where it says `forged 0`, no two `full` lines
+    // Unless a line is refused, the report of a replay is lines in which, if it says `forged 0`, no two `full` lines
     // of a pair with no `short` line share a sequence and stand for different ids, by the names that the schedule
     // declares. The last of them says whether the reports that the `full` lines tell agree, or names the first fork.
     ensures headline { IfSome (I.left input.old) (λ bytes.
@@ -70,31 +70,32 @@ pub fn top<
     // A report that is refused ends with a `bad` line.
     ensures refusal { IfSome (I.left input.old) (λ bytes.
         (report_of bytes).verdict ≡ Refused → IsRefusal (report_of bytes).text) }
-    // The last line of each summary that `gen` makes says whether the reports of its schedule agree, and where no frame
+    // The last line of each summary that `gen` makes says whether the reports of its schedule agree, and if no frame
     // was forged they do.
     ensures summaries { (rounds : ℕ) → IsSummary rounds }
-    // However a replay ends, where the line `forged 0` was written, so were all `full` and `short` lines of such a
+    // However a replay ends, if the line `forged 0` was written, so were all `full` and `short` lines of such a
     // report.
     ensures as_written { IfSome (told_of (words_of words.now)) (λ telling. telling ≡ Telling.Replay
         → IfSome (I.left input.old) (λ bytes.
         AddsReport (names_of bytes) (O.held output.old) (O.held output.new) (report_of bytes))) }
-    // Unless something is refused, the input was read to its end, where the command reads one.
+    // Unless something is refused, the input was read to its end, if the command reads one, and an auditor says yes.
     ensures at_end { (result.status ≡ Status.Done) ⊎ (result.status ≡ Status.Fork)
-        → IfSome (told_of (words_of words.now)) (λ telling. IsReader telling → IsAtEnd (I.left input.new)) }
+        → IfSome (told_of (words_of words.now)) (λ telling.
+        ReadsAll telling result.status → IsAtEnd (I.left input.new)) }
     // A front of the text is written, whatever happens.
     ensures front { IfSome (told_of (words_of words.now)) (λ telling. IfSome (I.left input.old) (λ bytes.
         GrewByFront (O.held output.old) (O.held output.new) (told_by telling bytes).text)) }
 
-    // A fault is answered only where its count rose, and where neither did the whole text is written, or memory was
+    // A fault is answered only if its count rose, and if neither did the whole text is written, or memory was
     // wanting.
     ensures read { result.status ≡ Status.ReadFault → Rose (I.faults input.old) (I.faults input.new) }
     ensures write { result.status ≡ Status.WriteFault → Rose (O.faults output.old) (O.faults output.new) }
     ensures complete { IfSome (told_of (words_of words.now)) (λ _.
         ¬ Rose (I.faults input.old) (I.faults input.new) → ¬ Rose (O.faults output.old) (O.faults output.new)
         → IsTold result.status ⊎ (result.status ≡ Status.OutOfMemory)) }
-    // Where a whole text is written that isn't empty, the status is the one of its end, or memory was wanting.
+    // If a whole text is written that shows its end, the status is the one of its end, or memory was wanting.
     ensures whole { IfSome (told_of (words_of words.now)) (λ telling. IfSome (I.left input.old) (λ bytes.
-        HasText telling (told_by telling bytes).text
+        IsEnded telling (told_by telling bytes).text (I.faults input.old) (I.faults input.new)
         → IsWritten (O.held output.old) (O.held output.new) (told_by telling bytes).text
         → (result.status ≡ status_of (told_by telling bytes).verdict) ⊎ (result.status ≡ Status.OutOfMemory))) }
     // Of `node`: refused settings open no store, and of their line a front is written.

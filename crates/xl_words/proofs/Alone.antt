@@ -1,4 +1,4 @@
--- Where `clap` finds a kind of error that is no refusal, it finds no other: help and the version stand alone.
+-- If `clap` finds a kind of error that is no refusal, it finds no other: help and the version stand alone.
 use Rattle.std.proofs.Common.{◌≡◌, ◌⊎◌, inl, inr, ℕ, zero, suc, ◌+◌, ◌&&◌, ◌==◌, Bool, true, false, not, List, [], ◌∷◌, Option, Some, None, Ok, cond, find, is_some, length, drop, min, nat_lt, refl, sym, ap, ◌∙◌}
 use Rattle.std.specs.Prelude.{encode_utf8, slice_get, codes}
 use Rattle.std.specs.List.{list_any}
@@ -232,4 +232,4 @@ of_built a top subs h words =
     of_level a.top top (names_of a) h words (is_some (entered a stop)) (entered_fault a stop) (of_entered a subs stop)
 
 pub stand_alone : (words : List Text) → StandAlone (fault_of program words)
-stand_alone words = of_built (built program) refl (refl, (refl, (refl, (refl, (refl, tt))))) nothing_held (argument_words program words)
+stand_alone words = of_built (built program) refl (refl, (refl, (refl, (refl, (refl, (refl, (refl, tt))))))) nothing_held (argument_words program words)

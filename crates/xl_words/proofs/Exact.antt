@@ -16,7 +16,7 @@ use Rattle.clap.specs.declared.error.kind.ErrorKind.TheVariants.{OutOfMemory}
 use Rattle.clap.specs.Words.{HasKind, IsAmong, Kinds, kind_of, Text, is_simple, is_simple_and_free}
 use Rattle.xl_words.specs.declared.command.Command.{Command}
 use Rattle.xl_words.specs.declared.command.Command.TheVariants.{Node, Tell}
-use Rattle.xl_words.specs.declared.command.Telling.TheVariants.{Replay, Show, Lists, Gen, Help, Version}
+use Rattle.xl_words.specs.declared.command.Telling.TheVariants.{Replay, Show, Lists, Merge, Audit, Gen, Help, Version}
 use Rattle.xl_words.specs.declared.command.WordsFault.{WordsFault}
 use Rattle.xl_words.specs.declared.command.WordsFault.TheVariants.{Refused, Memory}
 use Rattle.xl_words.specs.Programs.{program}
@@ -47,6 +47,14 @@ show_is name = refl
 lists_is : (name : Text) → command_of (name ∷ codes "lists" ∷ []) ≡ Some (Tell Lists)
 unfolding clap_on_literals
 lists_is name = refl
+
+merge_is : (name : Text) → command_of (name ∷ codes "merge" ∷ []) ≡ Some (Tell Merge)
+unfolding clap_on_literals
+merge_is name = refl
+
+audit_is : (name : Text) → command_of (name ∷ codes "audit" ∷ []) ≡ Some (Tell Audit)
+unfolding clap_on_literals
+audit_is name = refl
 
 help_is : (name : Text) → command_of (name ∷ codes "--help" ∷ []) ≡ Some (Tell Help)
 unfolding clap_on_literals
@@ -142,6 +150,8 @@ exactly [] (Tell Replay) w = absurd cc
 exactly [] Node w = absurd cc
 exactly [] (Tell Show) w = absurd cc
 exactly [] (Tell Lists) w = absurd cc
+exactly [] (Tell Merge) w = absurd cc
+exactly [] (Tell Audit) w = absurd cc
 exactly [] (Tell (Gen n)) w = let bad = w.1 in absurd cc
 exactly [] (Tell Help) (inl w) = absurd cc
 exactly [] (Tell Help) (inr w) = absurd cc
@@ -151,6 +161,8 @@ exactly (name ∷ rest) (Tell Replay) w = rw w (replay_is name)
 exactly (name ∷ rest) Node w = rw w (node_is name)
 exactly (name ∷ rest) (Tell Show) w = rw w (show_is name)
 exactly (name ∷ rest) (Tell Lists) w = rw w (lists_is name)
+exactly (name ∷ rest) (Tell Merge) w = rw w (merge_is name)
+exactly (name ∷ rest) (Tell Audit) w = rw w (audit_is name)
 exactly (name ∷ rest) (Tell (Gen n)) w = rw w.1 (gen_text name w.0 n w.2)
 exactly (name ∷ rest) (Tell Help) (inl w) = rw w (help_is name)
 exactly (name ∷ rest) (Tell Help) (inr w) = rw w (short_help_is name)
@@ -182,6 +194,6 @@ pub found_by_match : (o : Option Command) (P : Command → Type 0) (r : Result C
 found_by_match (Some d) P r is gives = rw is (gives d refl)
 found_by_match None P r is gives = rw is tt
 
--- where there is no error, the command is the one that was found
+-- if there is no error, the command is the one that was found
 pub found_is : (kinds : Kinds) (found : Option Command) → kinds ≡ [] → unless_error kinds found ≡ found
 found_is kinds found none = rw none refl

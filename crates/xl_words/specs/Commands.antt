@@ -11,7 +11,7 @@ use Rattle.clap.specs.declared.error.kind.ErrorKind.{ErrorKind}
 use Rattle.clap.specs.declared.error.kind.ErrorKind.TheVariants.{DisplayHelp, DisplayVersion, OutOfMemory}
 use Rattle.xl_words.specs.declared.command.Command.{Command}
 use Rattle.xl_words.specs.declared.command.Command.TheVariants.{Node, Tell}
-use Rattle.xl_words.specs.declared.command.Telling.TheVariants.{Replay, Show, Lists, Gen, Help, Version}
+use Rattle.xl_words.specs.declared.command.Telling.TheVariants.{Replay, Show, Lists, Merge, Audit, Gen, Help, Version}
 use Rattle.xl_words.specs.declared.command.WordsFault.{WordsFault}
 use Rattle.xl_words.specs.declared.command.WordsFault.TheVariants.{Refused, Memory}
 use Rattle.xl_words.specs.Programs.{program}
@@ -34,7 +34,7 @@ number_from text = if is_unsigned_in 1 1000 text then Some (digits_value 10 (wit
 abbrev pub number_in : List Row → Option ℕ
 number_in rows = option_and_then number_from (one_of (codes "rounds") rows)
 
--- the number of rounds, where it is written with no sign and no zero in front
+-- the number of rounds, if it is written with no sign and no zero in front
 abbrev pub rounds_in : List Row → Option ℕ
 rounds_in rows =
     option_and_then (λ text. if is_plain text then number_in rows else None) (first_of (codes "rounds") rows)
@@ -49,6 +49,8 @@ command_named name rows =
     else if bytes_eq name (codes "node") then Some Node
     else if bytes_eq name (codes "show") then Some (Tell Show)
     else if bytes_eq name (codes "lists") then Some (Tell Lists)
+    else if bytes_eq name (codes "merge") then Some (Tell Merge)
+    else if bytes_eq name (codes "audit") then Some (Tell Audit)
     else if bytes_eq name (codes "gen") then option_map gen (rounds_in rows)
     else None
 
@@ -56,14 +58,14 @@ command_named name rows =
 abbrev pub command_found : Option (Text × List Row) → Option Command
 command_found found = option_and_then (λ named. command_named named.0 named.1) found
 
--- what is answered where `clap` gives this kind of error
+-- what is answered if `clap` gives this kind of error
 abbrev pub reply_to : ErrorKind → Result Command WordsFault
 reply_to DisplayHelp = Ok (Tell Help)
 reply_to DisplayVersion = Ok (Tell Version)
 reply_to OutOfMemory = Err Memory
 reply_to kind = Err Refused
 
--- the command, unless `clap` finds an error; where it may be of two kinds, none
+-- the command, unless `clap` finds an error; if it may be of two kinds, none
 abbrev pub unless_error : Kinds → Option Command → Option Command
 unless_error [] command = command
 unless_error (kind ∷ []) command = result_ok (reply_to kind)
@@ -87,6 +89,8 @@ IsExactly words Node = drop 1 words ≡ codes "node" ∷ []
 IsExactly words (Tell Replay) = drop 1 words ≡ codes "replay" ∷ []
 IsExactly words (Tell Show) = drop 1 words ≡ codes "show" ∷ []
 IsExactly words (Tell Lists) = drop 1 words ≡ codes "lists" ∷ []
+IsExactly words (Tell Merge) = drop 1 words ≡ codes "merge" ∷ []
+IsExactly words (Tell Audit) = drop 1 words ≡ codes "audit" ∷ []
 IsExactly words (Tell (Gen n)) = (text : Text) × (drop 1 words ≡ codes "gen" ∷ text ∷ []) × IsRounds text n
 IsExactly words (Tell Help) = (drop 1 words ≡ codes "--help" ∷ []) ⊎ (drop 1 words ≡ codes "-h" ∷ [])
 IsExactly words (Tell Version) = (drop 1 words ≡ codes "--version" ∷ []) ⊎ (drop 1 words ≡ codes "-V" ∷ [])

@@ -12,6 +12,8 @@ commands_text =
     codes "  replay         runs a schedule, and writes what each node does\n"
     ++ codes "  node           runs a validator by the settings that it reads\n"
     ++ codes "  lists          compares the trusted lists of a schedule, pair by pair\n"
+    ++ codes "  merge          tells which list is in force, from the rolls of publishers\n"
+    ++ codes "  audit          says whether each entry of a written journal is right\n"
     ++ codes "  show           writes what each frame of a stream says\n"
     ++ codes "  gen N          makes a schedule of N rounds, runs it, and sums it up\n"
     ++ codes "  -h, --help     writes this\n"
@@ -22,13 +24,15 @@ unfoldable pub streams_text : List ℕ
 streams_text =
     codes "A command reads standard input and writes standard output. replay and lists read\n"
     ++ codes "a schedule, which is text and begins with the line: xl-schedule 1\n"
+    ++ codes "merge reads rolls, in a text that begins with the line: xl-publish 1\n"
+    ++ codes "audit reads a written journal, which begins with the line: xl-journal 1\n"
     ++ codes "show reads the bytes of frames, and node its settings, which are TOML.\n\n"
 
 -- how it may end, and where to read on
 unfoldable pub statuses_text : List ℕ
 statuses_text =
     codes "status 0  all is written\n"
-    ++ codes "       1  all is written, and two nodes forked\n"
+    ++ codes "       1  all is written, and two nodes forked, or an entry is wrong\n"
     ++ codes "       2  the words are no command\n"
     ++ codes "       3  the input is refused, and the last line says where and why\n"
     ++ codes "       4  a read failed; 5  a write failed; 6  memory was wanting\n"

@@ -29,7 +29,8 @@ bare = record (new_app (codes "xl")) {
   };
 }
 
--- the program with its five commands
+-- the program with its seven commands
 abbrev pub program : App
-program = with_subcommand (with_subcommand (with_subcommand (with_subcommand (with_subcommand bare
-    (plain (codes "replay"))) (plain (codes "node"))) (plain (codes "show"))) (plain (codes "lists"))) with_rounds
+program = with_subcommand (with_subcommand (with_subcommand (with_subcommand (with_subcommand (with_subcommand
+    (with_subcommand bare (plain (codes "replay"))) (plain (codes "node"))) (plain (codes "show")))
+    (plain (codes "lists"))) (plain (codes "merge"))) (plain (codes "audit"))) with_rounds

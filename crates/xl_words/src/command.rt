@@ -27,6 +27,10 @@ pub enum Telling {
     Show,
     /// Compares the lists of a schedule, pair by pair.
     Lists,
+    /// Tells which list of members is in force, from the rolls of several publishers.
+    Merge,
+    /// Says whether each entry of a written journal is right.
+    Audit,
     /// Makes a schedule of so many rounds, 1 to 1,000, and runs it.
     Gen(u32),
     Help,
@@ -45,7 +49,7 @@ pub enum WordsFault {
 impl Command {
     /// What the words ask, of which the first is the program's name.
     pub fn of(alloc: Global, words: &[String]) -> Result<Command, WordsFault>
-        // Where the words are exactly those of a command, or of help or the version, it is answered.
+        // If the words are exactly those of a command, or of help or the version, it is answered.
         ensures exact { (command : Command) → IsExactly (words_of words.now) command
             → (result ≡ Ok command) ⊎ (result ≡ Err WordsFault.Memory) }
         // So is whatever `clap` gives, and nothing else.
@@ -98,6 +102,12 @@ fn named(name: &str, matches: &ArgMatches<'_>) -> Option<Command>
     if name == "lists" {
         return Some(Command::Tell(Telling::Lists));
     }
+    if name == "merge" {
+        return Some(Command::Tell(Telling::Merge));
+    }
+    if name == "audit" {
+        return Some(Command::Tell(Telling::Audit));
+    }
     if name == "gen" {
         return made(rounds_of(matches));
     }
@@ -111,7 +121,7 @@ fn made(rounds: Option<u32>) -> Option<Command>
     rounds.map(|rounds| Command::Tell(Telling::Gen(rounds)))
 }
 
-/// What is answered where `clap` gives this kind of error.
+/// What is answered if `clap` gives this kind of error.
 fn reply_to(kind: ErrorKind) -> Result<Command, WordsFault>
     ensures { result ≡ reply_to kind }
 {

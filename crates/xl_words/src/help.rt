@@ -32,6 +32,8 @@ fn push_commands(text: &mut String) -> Result<(), AllocError>
     text.push_str("  replay         runs a schedule, and writes what each node does\n")?;
     text.push_str("  node           runs a validator by the settings that it reads\n")?;
     text.push_str("  lists          compares the trusted lists of a schedule, pair by pair\n")?;
+    text.push_str("  merge          tells which list is in force, from the rolls of publishers\n")?;
+    text.push_str("  audit          says whether each entry of a written journal is right\n")?;
     text.push_str("  show           writes what each frame of a stream says\n")?;
     text.push_str("  gen N          makes a schedule of N rounds, runs it, and sums it up\n")?;
     text.push_str("  -h, --help     writes this\n")?;
@@ -46,6 +48,8 @@ fn push_streams(text: &mut String) -> Result<(), AllocError>
         "A command reads standard input and writes standard output. replay and lists read\n",
     )?;
     text.push_str("a schedule, which is text and begins with the line: xl-schedule 1\n")?;
+    text.push_str("merge reads rolls, in a text that begins with the line: xl-publish 1\n")?;
+    text.push_str("audit reads a written journal, which begins with the line: xl-journal 1\n")?;
     text.push_str("show reads the bytes of frames, and node its settings, which are TOML.\n\n")?;
     Ok(())
 }
@@ -55,7 +59,7 @@ fn push_statuses(text: &mut String) -> Result<(), AllocError>
     ensures { OnOk result (string_bytes text.new ≡ string_bytes text.old ++ statuses_text) }
 {
     text.push_str("status 0  all is written\n")?;
-    text.push_str("       1  all is written, and two nodes forked\n")?;
+    text.push_str("       1  all is written, and two nodes forked, or an entry is wrong\n")?;
     text.push_str("       2  the words are no command\n")?;
     text.push_str("       3  the input is refused, and the last line says where and why\n")?;
     text.push_str("       4  a read failed; 5  a write failed; 6  memory was wanting\n")?;

@@ -1,7 +1,7 @@
 // The program as `clap` sees it: its commands, and that it has help and a version.
 ghost use Rattle.std.specs.Prelude.{◌≡◌, IfOk, false};
 ghost use Rattle.clap.specs.Words.{app_of, rule_of};
-ghost use Rattle.xl_words.specs.Programs.{program, rounds_rule};
+ghost use Rattle.xl_words.specs.Programs.{bare, program, rounds_rule};
 
 use clap::{Arg, ArgAction, Command};
 use std::alloc::{AllocError, Global};
@@ -17,17 +17,26 @@ fn rounds_argument<'a>(alloc: Global) -> Arg<'a>
         .value_parser(clap::value_parser!(u64).range(1..=1000))
 }
 
-pub fn program<'a>(alloc: Global) -> Result<Command<'a>, AllocError>
-    ensures { IfOk result (λ command. app_of command ≡ program) }
+/// The program without its commands, of which one is wanted. Help is none of them, and there is a version.
+fn without_commands<'a>(alloc: Global) -> Command<'a>
+    ensures { app_of result ≡ bare }
 {
-    let rounds = Command::new(alloc, "gen").arg(rounds_argument(alloc))?;
     Command::new(alloc, "xl")
         .version("0.1.0")
         .subcommand_required(true)
         .disable_help_subcommand(true)
+}
+
+pub fn program<'a>(alloc: Global) -> Result<Command<'a>, AllocError>
+    ensures { IfOk result (λ command. app_of command ≡ program) }
+{
+    let rounds = Command::new(alloc, "gen").arg(rounds_argument(alloc))?;
+    without_commands(alloc)
         .subcommand(Command::new(alloc, "replay"))?
         .subcommand(Command::new(alloc, "node"))?
         .subcommand(Command::new(alloc, "show"))?
         .subcommand(Command::new(alloc, "lists"))?
+        .subcommand(Command::new(alloc, "merge"))?
+        .subcommand(Command::new(alloc, "audit"))?
         .subcommand(rounds)
 }

@@ -10,7 +10,7 @@ use Rattle.xl_validator.specs.Validators.{IsKnown, IsUnopened}
 use Rattle.xl_validator.proofs.Refusing.{refused_by_none}
 use Rattle.xl_words.specs.declared.command.Telling.{Telling}
 use Rattle.xl_words.specs.Commands.{command_of, words_of}
-use Rattle.xl_top.specs.Commands.{HasText, telling_in, told_by, told_of}
+use Rattle.xl_top.specs.Commands.{IsEnded, ReadsAll, telling_in, told_by, told_of}
 use Rattle.xl_top.proofs.Asking.{if_any, if_more, ok_any, by_asked, unasked, by_none, taken, front_none}
 use Rattle.xl_top.proofs.command.top.Goals as goal
 
@@ -96,7 +96,7 @@ returns-in-Ok-Tell-clause-as_written g c =
 
 pub returns-in-Ok-Tell-clause-at_end : goal.returns-in-Ok-Tell-clause-at_end
 returns-in-Ok-Tell-clause-at_end g c =
-    λ ends. by_asked (told_of (words_of c.args.words.now)) c.in-Ok-Tell.telling _ (ap (option_and_then telling_in) (c.in-Ok-Tell.ensures.found ∙ ap Some c.in-Ok-Tell.field-0-is)) (c.run.ensures.at_end (⊎_elim (λ is. inl (sym c.unopened.ensures.status ∙ is)) (λ is. inr (sym c.unopened.ensures.status ∙ is)) ends))
+    λ ends. by_asked (told_of (words_of c.args.words.now)) c.in-Ok-Tell.telling _ (ap (option_and_then telling_in) (c.in-Ok-Tell.ensures.found ∙ ap Some c.in-Ok-Tell.field-0-is)) (λ reads. c.run.ensures.at_end (⊎_elim (λ is. inl (sym c.unopened.ensures.status ∙ is)) (λ is. inr (sym c.unopened.ensures.status ∙ is)) ends) (subst (ReadsAll c.in-Ok-Tell.telling) c.unopened.ensures.status reads))
 
 pub returns-in-Ok-Tell-clause-front : goal.returns-in-Ok-Tell-clause-front
 returns-in-Ok-Tell-clause-front g c =
@@ -116,7 +116,7 @@ returns-in-Ok-Tell-clause-complete g c =
 
 pub returns-in-Ok-Tell-clause-whole : goal.returns-in-Ok-Tell-clause-whole
 returns-in-Ok-Tell-clause-whole g c =
-    by_asked (told_of (words_of c.args.words.now)) c.in-Ok-Tell.telling _ (ap (option_and_then telling_in) (c.in-Ok-Tell.ensures.found ∙ ap Some c.in-Ok-Tell.field-0-is)) (subst (λ (x : Status). IfSome (g.I.Source.left c.args.input.now) (λ (bytes : List ℕ). HasText c.in-Ok-Tell.telling (told_by c.in-Ok-Tell.telling bytes).text → IsWritten (g.O.Sink.held c.args.output.now) (g.O.Sink.held c.run.new.output) (told_by c.in-Ok-Tell.telling bytes).text → (x ≡ status_of (told_by c.in-Ok-Tell.telling bytes).verdict) ⊎ (x ≡ status.OutOfMemory))) (sym c.unopened.ensures.status) c.run.ensures.whole)
+    by_asked (told_of (words_of c.args.words.now)) c.in-Ok-Tell.telling _ (ap (option_and_then telling_in) (c.in-Ok-Tell.ensures.found ∙ ap Some c.in-Ok-Tell.field-0-is)) (subst (λ (x : Status). IfSome (g.I.Source.left c.args.input.now) (λ (bytes : List ℕ). IsEnded c.in-Ok-Tell.telling (told_by c.in-Ok-Tell.telling bytes).text (g.I.Source.faults c.args.input.now) (g.I.Source.faults c.run.new.input) → IsWritten (g.O.Sink.held c.args.output.now) (g.O.Sink.held c.run.new.output) (told_by c.in-Ok-Tell.telling bytes).text → (x ≡ status_of (told_by c.in-Ok-Tell.telling bytes).verdict) ⊎ (x ≡ status.OutOfMemory))) (sym c.unopened.ensures.status) c.run.ensures.whole)
 
 pub returns-in-Ok-Tell-clause-node_refused : goal.returns-in-Ok-Tell-clause-node_refused
 returns-in-Ok-Tell-clause-node_refused g c =

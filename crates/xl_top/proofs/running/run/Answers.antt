@@ -1,17 +1,20 @@
 use Rattle.std.specs.Prelude.{min}
 use Rattle.std.proofs.Common.{◌≡◌, Option, Some, None, ◌⊎◌, inl, inr, sym, subst, ◌∙◌, ⊎_elim}
+use Rattle.xl_base.specs.Faults.{Rose}
 use Rattle.xl_base.specs.declared.status.Status.{Status}
 use Rattle.xl_base.specs.declared.status.Status.TheVariants.{OutOfMemory}
 use Rattle.xl_gen.specs.declared.command.TheConstants.{MOST_ROUNDS}
 use Rattle.xl_gen.specs.Summaries.{summary}
 use Rattle.xl_lines.specs.declared.machine.Verdict.TheVariants.{Good}
 use Rattle.xl_lines.specs.Rules.{closes}
+use Rattle.xl_audit.specs.Auditing.{audit_of}
+use Rattle.xl_merge.specs.Merging.{merge_of}
 use Rattle.xl_pairs.specs.Comparing.{lists_of}
 use Rattle.xl_replay.specs.Statuses.{IsTold, IsReplayed}
 use Rattle.xl_show.specs.Shown.{shown_of}
-use Rattle.xl_top.proofs.After.{SaysEnd, done_after, fork_after, refused_after, end_after, read_after, write_after, complete_after, known_after, taken_after, whole_after, SaysSome, some_after, said, held_same}
+use Rattle.xl_top.proofs.After.{SaysEnd, done_after, fork_after, refused_after, end_after, yes_after, read_after, write_after, complete_after, known_after, taken_after, whole_after, SaysSome, some_after, SaysRead, read_all_after, said, held_same}
 use Rattle.xl_top.proofs.Asking.{if_any, whole_of, less_of, only_of}
-use Rattle.xl_words.specs.declared.command.Telling.TheVariants.{Replay, Show, Lists, Help, Version}
+use Rattle.xl_words.specs.declared.command.Telling.TheVariants.{Replay, Show, Lists, Merge, Audit, Help, Version}
 use Rattle.xl_words.specs.Help.{help_text, version_text}
 use Rattle.xl_top.proofs.running.run.Goals as goal
 
@@ -116,6 +119,78 @@ returns-in-Lists-clause-whole g c = rw c.in-Lists.is (subst (λ (x : Status). Sa
 
 pub returns-in-Lists-clause-known : goal.returns-in-Lists-clause-known
 returns-in-Lists-clause-known g c = subst IsReplayed (sym c.status_after-in-Lists.ensures) (known_after c.lists.result)
+
+pub returns-in-Merge-clause-words : goal.returns-in-Merge-clause-words
+returns-in-Merge-clause-words g c = λ is. taken_after c.merge.result (sym c.status_after-in-Merge.ensures ∙ is)
+
+pub returns-in-Merge-clause-done : goal.returns-in-Merge-clause-done
+returns-in-Merge-clause-done g c = λ is. rw c.in-Merge.is (done_after (g.I.Source.left c.args.input.now) (g.O.Sink.held c.args.output.now) (g.O.Sink.held c.merge.new.output) merge_of c.merge.result c.merge.ensures.whole (sym c.status_after-in-Merge.ensures ∙ is))
+
+pub returns-in-Merge-clause-fork : goal.returns-in-Merge-clause-fork
+returns-in-Merge-clause-fork g c = λ is. rw c.in-Merge.is (fork_after (g.I.Source.left c.args.input.now) (g.O.Sink.held c.args.output.now) (g.O.Sink.held c.merge.new.output) merge_of c.merge.result c.merge.ensures.whole (sym c.status_after-in-Merge.ensures ∙ is))
+
+pub returns-in-Merge-clause-refused : goal.returns-in-Merge-clause-refused
+returns-in-Merge-clause-refused g c = λ is. rw c.in-Merge.is (refused_after (g.I.Source.left c.args.input.now) (g.O.Sink.held c.args.output.now) (g.O.Sink.held c.merge.new.output) merge_of c.merge.result c.merge.ensures.whole (sym c.status_after-in-Merge.ensures ∙ is))
+
+pub returns-in-Merge-clause-as_written : goal.returns-in-Merge-clause-as_written
+returns-in-Merge-clause-as_written g c = rw c.in-Merge.is (λ no. absurd cc)
+
+pub returns-in-Merge-clause-at_end : goal.returns-in-Merge-clause-at_end
+returns-in-Merge-clause-at_end g c = λ ends. rw c.in-Merge.is (λ _. end_after c.merge.result _ c.merge.ensures.to_end (⊎_elim (λ is. inl (sym c.status_after-in-Merge.ensures ∙ is)) (λ is. inr (sym c.status_after-in-Merge.ensures ∙ is)) ends))
+
+pub returns-in-Merge-clause-front : goal.returns-in-Merge-clause-front
+returns-in-Merge-clause-front g c = rw c.in-Merge.is c.merge.ensures.front
+
+pub returns-in-Merge-clause-read : goal.returns-in-Merge-clause-read
+returns-in-Merge-clause-read g c = λ is. read_after c.merge.result _ c.merge.ensures.read (sym c.status_after-in-Merge.ensures ∙ is)
+
+pub returns-in-Merge-clause-write : goal.returns-in-Merge-clause-write
+returns-in-Merge-clause-write g c = λ is. write_after c.merge.result _ c.merge.ensures.write (sym c.status_after-in-Merge.ensures ∙ is)
+
+pub returns-in-Merge-clause-complete : goal.returns-in-Merge-clause-complete
+returns-in-Merge-clause-complete g c = λ a b. subst (λ (x : Status). IsTold x ⊎ (x ≡ OutOfMemory)) (sym c.status_after-in-Merge.ensures) (complete_after c.merge.result _ _ c.merge.ensures.complete a b)
+
+pub returns-in-Merge-clause-whole : goal.returns-in-Merge-clause-whole
+returns-in-Merge-clause-whole g c = rw c.in-Merge.is (subst (λ (x : Status). SaysRead (g.I.Source.left c.args.input.now) (g.O.Sink.held c.args.output.now) (g.O.Sink.held c.merge.new.output) merge_of (Rose (g.I.Source.faults c.args.input.now) (g.I.Source.faults c.merge.new.input)) x) (sym c.status_after-in-Merge.ensures) (read_all_after (g.I.Source.left c.args.input.now) (g.O.Sink.held c.args.output.now) (g.O.Sink.held c.merge.new.output) merge_of _ c.merge.result c.merge.ensures.whole c.merge.ensures.read c.merge.ensures.cut))
+
+pub returns-in-Merge-clause-known : goal.returns-in-Merge-clause-known
+returns-in-Merge-clause-known g c = subst IsReplayed (sym c.status_after-in-Merge.ensures) (known_after c.merge.result)
+
+pub returns-in-Audit-clause-words : goal.returns-in-Audit-clause-words
+returns-in-Audit-clause-words g c = λ is. taken_after c.audit.result (sym c.status_after-in-Audit.ensures ∙ is)
+
+pub returns-in-Audit-clause-done : goal.returns-in-Audit-clause-done
+returns-in-Audit-clause-done g c = λ is. rw c.in-Audit.is (done_after (g.I.Source.left c.args.input.now) (g.O.Sink.held c.args.output.now) (g.O.Sink.held c.audit.new.output) audit_of c.audit.result c.audit.ensures.whole (sym c.status_after-in-Audit.ensures ∙ is))
+
+pub returns-in-Audit-clause-fork : goal.returns-in-Audit-clause-fork
+returns-in-Audit-clause-fork g c = λ is. rw c.in-Audit.is (fork_after (g.I.Source.left c.args.input.now) (g.O.Sink.held c.args.output.now) (g.O.Sink.held c.audit.new.output) audit_of c.audit.result c.audit.ensures.whole (sym c.status_after-in-Audit.ensures ∙ is))
+
+pub returns-in-Audit-clause-refused : goal.returns-in-Audit-clause-refused
+returns-in-Audit-clause-refused g c = λ is. rw c.in-Audit.is (refused_after (g.I.Source.left c.args.input.now) (g.O.Sink.held c.args.output.now) (g.O.Sink.held c.audit.new.output) audit_of c.audit.result c.audit.ensures.whole (sym c.status_after-in-Audit.ensures ∙ is))
+
+pub returns-in-Audit-clause-as_written : goal.returns-in-Audit-clause-as_written
+returns-in-Audit-clause-as_written g c = rw c.in-Audit.is (λ no. absurd cc)
+
+pub returns-in-Audit-clause-at_end : goal.returns-in-Audit-clause-at_end
+returns-in-Audit-clause-at_end g c = λ ends. rw c.in-Audit.is (λ done. yes_after c.audit.result _ c.audit.ensures.to_end (sym c.status_after-in-Audit.ensures ∙ done))
+
+pub returns-in-Audit-clause-front : goal.returns-in-Audit-clause-front
+returns-in-Audit-clause-front g c = rw c.in-Audit.is c.audit.ensures.front
+
+pub returns-in-Audit-clause-read : goal.returns-in-Audit-clause-read
+returns-in-Audit-clause-read g c = λ is. read_after c.audit.result _ c.audit.ensures.read (sym c.status_after-in-Audit.ensures ∙ is)
+
+pub returns-in-Audit-clause-write : goal.returns-in-Audit-clause-write
+returns-in-Audit-clause-write g c = λ is. write_after c.audit.result _ c.audit.ensures.write (sym c.status_after-in-Audit.ensures ∙ is)
+
+pub returns-in-Audit-clause-complete : goal.returns-in-Audit-clause-complete
+returns-in-Audit-clause-complete g c = λ a b. subst (λ (x : Status). IsTold x ⊎ (x ≡ OutOfMemory)) (sym c.status_after-in-Audit.ensures) (complete_after c.audit.result _ _ c.audit.ensures.complete a b)
+
+pub returns-in-Audit-clause-whole : goal.returns-in-Audit-clause-whole
+returns-in-Audit-clause-whole g c = rw c.in-Audit.is (said (g.I.Source.left c.args.input.now) _ (subst (λ (x : Status). SaysEnd (g.I.Source.left c.args.input.now) (g.O.Sink.held c.args.output.now) (g.O.Sink.held c.audit.new.output) audit_of x) (sym c.status_after-in-Audit.ensures) (whole_after (g.I.Source.left c.args.input.now) (g.O.Sink.held c.args.output.now) (g.O.Sink.held c.audit.new.output) audit_of c.audit.result c.audit.ensures.whole c.audit.ensures.less)))
+
+pub returns-in-Audit-clause-known : goal.returns-in-Audit-clause-known
+returns-in-Audit-clause-known g c = subst IsReplayed (sym c.status_after-in-Audit.ensures) (known_after c.audit.result)
 
 pub returns-in-Help-clause-words : goal.returns-in-Help-clause-words
 returns-in-Help-clause-words g c = λ is. taken_after c.help.result (sym c.status_after-in-Help.ensures ∙ is)

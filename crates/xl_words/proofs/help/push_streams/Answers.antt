@@ -9,6 +9,15 @@ returns c =
     let old = string_bytes c.args.text.now in
     let a : List ℕ = codes "A command reads standard input and writes standard output. replay and lists read\n" in
     let b : List ℕ = codes "a schedule, which is text and begins with the line: xl-schedule 1\n" in
-    let d : List ℕ = codes "show reads the bytes of frames, and node its settings, which are TOML.\n\n" in
-    c.in_ok-push_str-3.ensures.bytes ∙ ap (λ (xs : List ℕ). xs ++ d) (c.in_ok-push_str-2.ensures.bytes ∙ ap (λ (xs : List ℕ). xs ++ b) c.in_ok-push_str.ensures.bytes ∙ append_assoc old a b)
-    ∙ append_assoc old (a ++ b) d
+    let d : List ℕ = codes "merge reads rolls, in a text that begins with the line: xl-publish 1\n" in
+    let e : List ℕ = codes "audit reads a written journal, which begins with the line: xl-journal 1\n" in
+    let f : List ℕ = codes "show reads the bytes of frames, and node its settings, which are TOML.\n\n" in
+    c.in_ok-push_str-5.ensures.bytes
+    ∙ ap (λ (xs : List ℕ). xs ++ f)
+    (c.in_ok-push_str-4.ensures.bytes
+    ∙ ap (λ (xs : List ℕ). xs ++ e)
+    (c.in_ok-push_str-3.ensures.bytes
+    ∙ ap (λ (xs : List ℕ). xs ++ d) (c.in_ok-push_str-2.ensures.bytes ∙ ap (λ (xs : List ℕ). xs ++ b) c.in_ok-push_str.ensures.bytes ∙ append_assoc old a b)
+    ∙ append_assoc old (a ++ b) d)
+    ∙ append_assoc old ((a ++ b) ++ d) e)
+    ∙ append_assoc old (((a ++ b) ++ d) ++ e) f
