@@ -14,17 +14,18 @@ class RandomSchedule:
         count = count or dice.randint(2, 5)
         self.nodes, self.liars = list(range(1, count + 1)), [40] * (count < 40 and dice.randint(0, 1))
         self.numbers = self.nodes + self.liars
-        self.lines = [X, Y, 'ledger a root 30', 'ledger b a 60', 'at %d' % self.moment] + [
-            'liar %d' % it for it in self.liars
-        ]
+        self.lines = [X, Y, 'ledger a root 30', 'ledger b a 60', 'at %d' % self.moment]
+        self.lines += ['speak 2'] * dice.randint(0, 1) + ['liar %d' % it for it in self.liars]
         for node in self.nodes:
-            members = sorted(dice.sample(self.numbers, dice.randint(1, len(self.numbers))))
-            observing = ' observing' * (dice.random() < 0.2)
-            quorum = dice.randint(len(members) // 2 + 1, len(members))
-            self.lines.append('node %d %d %s%s' % (node, quorum, ','.join(map(str, members)), observing))
+            self.lines.append('node %d %s%s' % (node, self.trusted(), ' observing' * (dice.random() < 0.2)))
         self.lines.append('issue 1 1 x full')
         for _ in range(dice.randint(10, 60)):
             self.lines.append(self.event())
+
+    def trusted(self):
+        """A quorum and a list."""
+        members = sorted(self.dice.sample(self.numbers, self.dice.randint(1, len(self.numbers))))
+        return '%d %s' % (self.dice.randint(len(members) // 2 + 1, len(members)), ','.join(map(str, members)))
 
     def event(self):
         dice, node = self.dice, self.dice.choice(self.nodes)
@@ -33,6 +34,8 @@ class RandomSchedule:
             'timer %d' % node,
             'restart %d' % node,
             'prefer %d' % node,
+            'heard %d' % node,
+            'list %d %s' % (node, self.trusted()),
             'deliver 1',
             'drop',
             'submit %d %064x' % (node, dice.randint(1, 9)),
@@ -64,7 +67,8 @@ class RandomSchedule:
         second = self.moment // 1000
         said = self.dice.choice(
             (
-                'validation %d %s %d full' % (self.dice.randint(1, 3), self.dice.choice('xyab'), second),
+                'validation %d %s %d full%s'
+                % (self.dice.randint(1, 3), self.dice.choice('xyab'), second, self.dice.choice(('', ' x', ' root'))),
                 'header a',
                 'header b',
                 'set -',
@@ -75,9 +79,10 @@ class RandomSchedule:
         return 'lie 40 %d %s' % (node, said)
 
 
-def generated(rounds):
-    """The schedule of `xl gen`, as docs/FORMATS.md has it."""
-    lines = ['at 800000000000'] + ['node %d 6 1,2,3,4,5,6,7' % node for node in range(1, 8)]
+def generated(rounds, speak=None):
+    """The schedule of `xl gen`, as docs/FORMATS.md has it, with a `speak` line if asked."""
+    lines = ['speak %d' % speak] if speak else []
+    lines += ['at 800000000000'] + ['node %d 6 1,2,3,4,5,6,7' % node for node in range(1, 8)]
     for second in range(1, 4 * rounds + 8):
         lines.append('at %d' % (800000000000 + 1000 * second))
         closing, rest = divmod(second - 4, 4)

@@ -78,8 +78,13 @@ def edge(dice, largest=2**32 - 1):
     return dice.choice([number for number in NUMBERS if 0 <= number <= largest])
 
 
+def any_digits(dice):
+    """32 bytes that are an id."""
+    return bytes([dice.choice((0, 17, 255))] * 31 + [dice.randrange(256)])
+
+
 def body(dice, kind):
-    any_id = lambda: bytes([dice.choice((0, 17, 255))] * 31 + [dice.randrange(256)])
+    any_id = lambda: any_digits(dice)
     if kind == 1:
         return any_id() + any_id() + struct.pack('>III', edge(dice), edge(dice), edge(dice))
     if kind == 2:
@@ -95,9 +100,9 @@ def body(dice, kind):
 def frame(dice, sender=None, receiver=None):
     """A frame with the tag that a schedule's keys give it."""
     sender, receiver = sender or dice.randint(1, 5), receiver or dice.randint(1, 5)
-    kind = dice.randint(1, 5)
-    said = body(dice, kind)
-    signed = struct.pack('>2sBBHII', b'XL', 1, kind, len(said), sender, receiver) + said
+    version, kind = dice.choice(((1, dice.randint(1, 5)), (2, 2)))
+    said = body(dice, kind) + any_digits(dice) * (version == 2)
+    signed = struct.pack('>2sBBHII', b'XL', version, kind, len(said), sender, receiver) + said
     key = hashlib.sha256(b'XLKY' + struct.pack('>II', *sorted((sender, receiver)))).digest()
     return signed + hmac.new(key, signed, hashlib.sha256).digest()
 

@@ -8,33 +8,32 @@ import subprocess
 import sys
 from dataclasses import dataclass, field
 
+import command
+
 TOP = os.path.dirname(os.path.dirname(os.path.realpath(__file__)))
 NUMBERS = range(1, 65)
 ENDINGS = ('short', 'forged', 'agree', 'fork')
 NEVER_SAVED = ('30', '31', '32')
-DECLARATIONS = ('xl-schedule', 'node', 'liar', 'limit', 'at', 'name', 'ledger')
+DECLARATIONS = ('xl-schedule', 'node', 'liar', 'limit', 'speak', 'at', 'name', 'ledger')
 ROUND_WORDS = ('timer', 'timers', 'submit', 'greet')
+MOMENTLESS = ('greet', 'prefer', 'heard')
 NODE_BYTES, LEDGER_BYTES, DEFAULT_LIMIT, LIMITS = 1717000, 244, 1024, range(2, 16385)
 PROBLEMS = {2: 'words refused', 4: 'input failed', 5: 'output failed', 6: 'out of memory'}
 
 
-def stop(why):
-    """Ends the tool with its name, the cause, and status 2."""
-    print('%s: %s' % (os.path.basename(sys.argv[0]), why), file=sys.stderr)
-    sys.exit(2)
-
-
 def find_program(given):
-    """The program that is given, else the one that XL names, else the repository's own, built first where it must."""
+    """The program that is given, else the one that XL names, else the repository's own, proved or not as `xl` has it."""
     script = os.path.join(TOP, 'xl')
     path = given or os.environ.get('XL') or script
     if os.path.realpath(path) == script:
         if subprocess.run([script, '--version'], stdin=subprocess.DEVNULL, stdout=subprocess.DEVNULL).returncode:
-            stop('the program could not be built; run ./xl --version to see why')
-        return os.path.join(TOP, 'crates', 'xl_node', 'out', 'xl_node')
+            command.stop('the program could not be built; run ./xl --version to see why')
+        out = os.path.join(TOP, 'crates', 'xl_node', 'out')
+        made = [it for it in (os.path.join(out, 'xl_node'), os.path.join(out, 'xl_unproved')) if os.path.exists(it)]
+        return max(made, key=os.path.getmtime, default=script)
     found = shutil.which(path)
     if not found:
-        stop('%s is no program that can be run; name one by --xl, or by XL in the environment' % path)
+        command.stop('%s is no program that can be run; name one by --xl, or by XL in the environment' % path)
     return found
 
 
@@ -52,7 +51,7 @@ def read_text(path):
         with open(path, encoding='latin-1', newline='') as file:
             return file.read()
     except OSError as error:
-        stop('%s can\'t be read: %s' % (path, error.strerror))
+        command.stop('%s can\'t be read: %s' % (path, error.strerror))
 
 
 def read_lines(text):
@@ -72,6 +71,15 @@ def inner_event(tokens):
 def has_rounds(lines):
     """Whether events may send other frames than a validation each."""
     return any(inner_event(line.split())[:1] in ([word] for word in ROUND_WORDS) for line in lines)
+
+
+def quorum_of(text, size):
+    """A number, or so many percent of the size, rounded up; None where it is no quorum of so many members."""
+    found = re.fullmatch('([0-9]{1,4})(%?)', text)
+    if not found:
+        return None
+    quorum = -(-int(found[1]) * size // 100) if found[2] else int(found[1])
+    return quorum if size < 2 * quorum <= 2 * size else None
 
 
 def bytes_of_nodes(text):
@@ -118,13 +126,13 @@ def run_replay(program, text, seconds=None, command='replay'):
     except subprocess.TimeoutExpired:
         return Report(None, '')
     except OSError as error:
-        stop('%s can\'t be run: %s' % (program, error.strerror))
+        command.stop('%s can\'t be run: %s' % (program, error.strerror))
     return Report(ended.returncode, ended.stdout.decode('latin-1'))
 
 
 def stop_on_problem(program, report):
     if report.status not in (0, 1, 3):
-        stop('%s replay ended with status %s (%s)' % (program, report.status, PROBLEMS.get(report.status, 'unknown')))
+        command.stop('%s replay ended with status %s (%s)' % (program, report.status, PROBLEMS.get(report.status, 'unknown')))
 
 
 @dataclass
@@ -132,37 +140,63 @@ class Node:
     quorum: int
     members: list
     observes: bool
+    opened: int
 
 
 class Network:
-    """The declared numbers."""
+    """The declared numbers, and all lists that were in force: pairs of a quorum and members, in order."""
 
     def __init__(self):
-        self.nodes, self.liars = {}, []
+        self.nodes, self.liars, self.lists, self.speak = {}, [], {}, 1
 
-    def declare(self, tokens):
+    def declare(self, tokens, moment=1000):
         if tokens[0] == 'node':
             members = [int(member) for member in tokens[3].split(',')]
-            self.nodes[int(tokens[1])] = Node(int(tokens[2]), members, len(tokens) > 4)
+            self.nodes[int(tokens[1])] = Node(int(tokens[2]), members, len(tokens) > 4, moment)
+            self.lists[int(tokens[1])] = [(int(tokens[2]), members)]
+        elif tokens[0] == 'speak':
+            self.speak = int(tokens[1])
         elif tokens[0] == 'liar':
             self.liars.append(int(tokens[1]))
+
+    def relist(self, tokens):
+        """A `list` line: from here on the node has this list."""
+        self.lists[int(tokens[1])].append(list_of(tokens))
+
+    def members(self):
+        """Each member of a list that was in force."""
+        return {member for lists in self.lists.values() for _, members in lists for member in members}
 
     def others(self, number):
         return [other for other in sorted([*self.nodes, *self.liars]) if other != number]
 
     def slack(self, one, other):
+        """The least slack of two lists that these nodes ever had."""
+        return min(self.slack_of(ours, theirs) for ours in self.lists[one] for theirs in self.lists[other])
+
+    def slack_of(self, ours, theirs):
         """Both quorums together, less what they must exceed."""
-        ours, theirs = self.nodes[one], self.nodes[other]
-        both = set(ours.members) & set(theirs.members)
-        bound = len(ours.members) + len(theirs.members) - len(both) + len(both & set(self.liars))
-        return ours.quorum + theirs.quorum - bound
+        (our_quorum, our_members), (their_quorum, their_members) = ours, theirs
+        both = set(our_members) & set(their_members)
+        bound = len(our_members) + len(their_members) - len(both) + len(both & set(self.liars))
+        return our_quorum + their_quorum - bound
+
+
+def list_of(tokens):
+    """The quorum and the members of a `node` or a `list` line."""
+    return int(tokens[2]), [int(member) for member in tokens[3].split(',')]
+
+
+def members_set_later(lines):
+    """The members that stand on a `list` line."""
+    return {member for it in map(str.split, lines) if it[:1] == ['list'] for member in list_of(it)[1]}
 
 
 class Names:
     """Which name is printed for an id, as the program prints it: the first one that stands for it."""
 
     def __init__(self):
-        self.ids, self.first = {}, {}
+        self.ids, self.first, self.parents = {}, {}, {}
         self.ledgers = {'root': (0, 0)}
         self.put('root', '0' * 64)
 
@@ -173,7 +207,9 @@ class Names:
             sequence, parents_close = self.ledgers[tokens[2]]
             self.ledgers[tokens[1]] = sequence + 1, int(tokens[3])
             parent = bytes.fromhex(self.ids[tokens[2]])
-            self.put(tokens[1], ledger_id(sequence + 1, parent, parents_close, int(tokens[3])))
+            ledger = ledger_id(sequence + 1, parent, parents_close, int(tokens[3]))
+            self.put(tokens[1], ledger)
+            self.parents[ledger] = self.ids[tokens[2]]
 
     def put(self, name, ledger):
         self.ids[name] = ledger
@@ -190,6 +226,11 @@ class Names:
 def ledger_id(sequence, parent, parents_close, close):
     """The id of the ledger that a `ledger` line declares: the half hash of its header."""
     header = struct.pack('>IQ32s64xIIBB', sequence, 10**17, parent, parents_close, close, 30, 0)
+    return header_id(header)
+
+
+def header_id(header):
+    """The half hash of a ledger's header."""
     return hashlib.sha512(b'LWR\0' + header).hexdigest()[:64]
 
 
@@ -209,7 +250,10 @@ class Frame:
 
 @dataclass
 class Event:
-    """One event at one node, with what came of it. `frame` is the number of the delivered one."""
+    """One event at one node, with what came of it. `frame` is the number of the delivered one.
+
+    `prefers` and `kept` are what the program answers of the node behind the event: its preferred ledger as a sequence
+    and an id, or None, and where it was asked the number that it kept."""
 
     index: int
     line: int
@@ -219,6 +263,8 @@ class Event:
     frame: int = None
     outcomes: list = field(default_factory=list)
     sent: list = field(default_factory=list)
+    prefers: tuple = None
+    kept: int = None
 
     @property
     def word(self):
@@ -238,7 +284,7 @@ class Feed:
     """
 
     def __init__(self, program):
-        self.asked = None
+        self.asked, self.preferred, self.kept = None, None, None
         streams = dict(stdin=subprocess.PIPE, stdout=subprocess.PIPE, stderr=subprocess.DEVNULL)
         self.process = subprocess.Popen([program, 'replay'], **streams)
 
@@ -248,16 +294,24 @@ class Feed:
         except BrokenPipeError:
             raise Unfollowed('the program ended before the schedule did, at: %s' % line) from None
 
-    def happen(self, line):
+    def happen(self, line, node=None, asks_kept=False):
+        """What comes of the line. The question is put to the node, where one is given.
+
+        Sequence 0 is never issued, and its refusal tells the kept number. The node's time stays, if it had this moment
+        just now."""
         if self.asked is None:
             return []
         self.write(line)
-        self.write('prefer %d' % self.asked)
+        if asks_kept:
+            self.write('issue %d 0 root partial' % node)
+        self.write('prefer %d' % (node or self.asked))
         try:
             self.process.stdin.flush()
         except BrokenPipeError:
             raise Unfollowed('the program ended before the schedule did, at: %s' % line) from None
-        return self.outcomes(1 + (line.split()[0] == 'prefer'))
+        told = self.outcomes(1 + (line.split()[0] == 'prefer'))
+        self.preferred, self.kept = told.pop(), int(told.pop()[4]) if asks_kept else None
+        return told
 
     def outcomes(self, answers):
         told = []
@@ -271,7 +325,7 @@ class Feed:
                 )
             answers -= words[0] == 'preferred'
             told.append(words)
-        return told[:-1]
+        return told
 
     def close(self):
         try:
@@ -345,10 +399,11 @@ class Strangers:
 class Follower:
     """Takes a schedule line by line: each event by itself, with what came of it and the frames that it sent.
 
-    `all` and `timers` are taken apart into single deliveries and timers."""
+    `all` and `timers` are taken apart into single deliveries and timers. `later` are members of lists that come later."""
 
-    def __init__(self, program, rounds):
+    def __init__(self, program, rounds, asks_kept=False, later=()):
         self.feed, self.rounds, self.strangers, self.has_begun = Feed(program), rounds, None, False
+        self.asks_kept, self.later = asks_kept, later
         self.network, self.names = Network(), Names()
         self.moment, self.mark, self.used = 1000, 0, 0
         self.events, self.frames, self.on_sequence = [], [], {}
@@ -357,7 +412,7 @@ class Follower:
         self.feed.close()
 
     def declare(self, text, tokens):
-        self.network.declare(tokens)
+        self.network.declare(tokens, self.moment)
         self.names.declare(tokens)
         if tokens[0] == 'at':
             self.moment = int(tokens[1])
@@ -372,8 +427,7 @@ class Follower:
 
     def taken_numbers(self):
         """Each number that is declared or stands on a list."""
-        listed = [member for node in self.network.nodes.values() for member in node.members]
-        return {*self.network.nodes, *self.network.liars, *listed}
+        return {*self.network.nodes, *self.network.liars, *self.network.members(), *self.later}
 
     def take(self, line, text, tokens):
         """A line that is not passed over."""
@@ -410,12 +464,23 @@ class Follower:
             raise Unfollowed('frame %d isn\'t sent yet at line %d' % (number, line))
         frame = self.frames[number - 1]
         event = self.put(line, ['deliver', str(number)], frame.receiver, number)
-        event.outcomes = self.feed.happen('deliver %d' % frame.fed)
+        self.ask(event, 'deliver %d' % frame.fed)
+
+    def ask(self, event, text):
+        """What comes of the event, and what its node then holds."""
+        is_asked = event.node in self.network.nodes
+        asks_kept = is_asked and self.asks_kept and event.word not in MOMENTLESS
+        event.outcomes = self.feed.happen(text, event.node if is_asked else None, asks_kept)
+        event.kept = self.feed.kept
+        if is_asked and self.feed.preferred[2] != 'none':
+            event.prefers = int(self.feed.preferred[2]), self.names.id_of(self.feed.preferred[3])
 
     def happen(self, line, tokens, node):
         event = self.put(line, tokens, node)
-        event.outcomes = self.feed.happen(' '.join(tokens))
+        self.ask(event, ' '.join(tokens))
         word = inner_event(tokens)[0]
+        if word == 'list':
+            self.network.relist(tokens)
         if word == 'greet':
             self.send(event, [int(tokens[2])], ['header'] * self.on_sequence.get(node, 0))
         elif word in ('issue', 'timer', 'submit'):
@@ -464,18 +529,20 @@ class Follower:
 class Story:
     """A schedule, its events, and its report."""
 
-    def __init__(self, program, text):
+    def __init__(self, program, text, asks_kept=False):
         lines = read_lines(text)
+        self.lines = lines
         self.report = run_replay(program, text)
         stop_on_problem(program, self.report)
-        self.title = first_comment(lines)
-        follower = Follower(program, has_rounds(lines))
+        self.title = first_sentence(lines)
+        taken = lines[: self.report.last_line]
+        follower = Follower(program, has_rounds(lines), asks_kept, members_set_later(taken))
         try:
-            for line, words in enumerate(lines[: self.report.last_line], 1):
+            for line, words in enumerate(taken, 1):
                 if not is_passed_over(words.split()):
                     follower.take(line, words, words.split())
         except Unfollowed as why:
-            stop(why)
+            command.stop(why)
         follower.close()
         self.network, self.names = follower.network, follower.names
         self.events, self.frames = follower.events, follower.frames
@@ -487,15 +554,32 @@ class Story:
         return int(event.tokens[1]) if event.word == 'lie' else None
 
 
+def in_utf8(words):
+    """The words as people read them: bytes that were read as one character each, and are UTF-8 where they can be."""
+    return words.encode('latin-1').decode('utf-8', 'replace')
+
+
 def first_comment(lines):
-    """The words of the first comment that stands before any event."""
-    for tokens in map(str.split, lines):
-        if is_passed_over(tokens):
-            if len(tokens) > 1:
-                return ' '.join(tokens[1:])
-        elif tokens[0] not in DECLARATIONS:
-            return None
-    return None
+    """The paragraphs of the first comment that stands before any event."""
+    paragraphs, is_open = [], False
+    for words in lines:
+        tokens = words.split()
+        if tokens and tokens[0].startswith('#'):
+            said = in_utf8(' '.join(tokens).lstrip('#').strip())
+            if said and is_open:
+                paragraphs[-1] += ' ' + said
+            elif said:
+                paragraphs.append(said)
+            is_open = bool(said)
+        elif paragraphs or (tokens and tokens[0] not in DECLARATIONS):
+            break
+    return paragraphs
+
+
+def first_sentence(lines):
+    """The first sentence of the first comment, or None."""
+    paragraphs = first_comment(lines)
+    return re.match(r'.*?(?:[.!?](?= |$)|$)', paragraphs[0]).group() if paragraphs else None
 
 
 class Savings:

@@ -85,13 +85,14 @@ def dot(x, y, radius, kind):
     return '<circle class="%s" cx="%.1f" cy="%.1f" r="%s"/>' % (kind, x, y, radius)
 
 
-def box(x, y, width, height, kind, more=''):
-    return '<rect class="%s" x="%.1f" y="%.1f" width="%.1f" height="%.1f" rx="4"%s/>' % (
+def box(x, y, width, height, kind, more='', radius=4):
+    return '<rect class="%s" x="%.1f" y="%.1f" width="%.1f" height="%.1f" rx="%d"%s/>' % (
         kind,
         x,
         y,
         width,
         height,
+        radius,
         more,
     )
 

@@ -1,0 +1,47 @@
+"""What the tests of the tools share."""
+import importlib.machinery
+import importlib.util
+import os
+import subprocess
+import sys
+import xml.dom.minidom
+
+import schedules
+
+TOOLS = os.path.dirname(os.path.realpath(__file__))
+STORIES = os.path.join(schedules.TOP, 'schedules')
+os.environ['XL_BUILD'] = 'no'  # a test never starts the proofs of this repository
+PROGRAM = schedules.find_program(None)
+
+
+def load(name):
+    loader = importlib.machinery.SourceFileLoader(name, os.path.join(TOOLS, name))
+    module = importlib.util.module_from_spec(importlib.util.spec_from_loader(name, loader))
+    loader.exec_module(module)
+    return module
+
+
+def run(tool, *words, text='', seconds=60):
+    words = [sys.executable, os.path.join(TOOLS, tool), *words]
+    environment = {**os.environ, 'XL': PROGRAM}
+    return subprocess.run(words, input=text, capture_output=True, text=True, timeout=seconds, env=environment)
+
+
+def stories():
+    for name in sorted(os.listdir(STORIES)):
+        if name.endswith('.xl'):
+            yield name, schedules.read_text(os.path.join(STORIES, name))
+
+
+def text_boxes(drawn):
+    """Each text of a picture with its estimated ends and its height."""
+    boxes = []
+    for element in xml.dom.minidom.parseString(drawn.encode()).getElementsByTagName('text'):
+        spans = element.getElementsByTagName('tspan') or [element]
+        words = ''.join(span.firstChild.data for span in spans)
+        kinds = ' '.join(span.getAttribute('class') for span in spans)
+        width = len(words.rstrip()) * (9.5 if 'large' in kinds else 7 if 'bold' in kinds else 6.1)
+        x = float(element.getAttribute('x'))
+        left = {'start': x, 'middle': x - width / 2, 'end': x - width}[element.getAttribute('text-anchor')]
+        boxes.append((words, left, left + width, float(element.getAttribute('y'))))
+    return boxes

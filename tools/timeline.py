@@ -1,0 +1,359 @@
+"""The picture of a run: a lane for each node and liar, and time goes down.
+
+An arrow leads from where a frame was sent to where it arrives."""
+import math
+
+import schedules
+import svg
+from words import Wording, ranges, seconds
+
+ROW = 26
+MOST_SHOWN, FIRST_SHOWN, LAST_SHOWN = 100, 60, 40
+FAR = 10**7
+LEGEND = {
+    'says': '○ a node says something',
+    'built': '■ it builds a ledger',
+    'full': '● it reports a ledger as final',
+    'deliver': '→ a message arrives',
+    'lie': '⇢ a lie, told to one node',
+    'raw': '⇢ raw bytes from outside',
+    'lost': '× a message that never arrives',
+    'refused': '– refused, with its code',
+    'quiet': '• a node is asked, and says nothing',
+    'opened': '// the node is opened anew',
+    'list': '□ the node trusts another list',
+}
+
+
+class Timeline:
+    """The picture of a story."""
+
+    def __init__(self, story, options, fallback):
+        self.story, self.options = story, options
+        self.title = story.title or fallback
+        self.words, self.colours, self.used = Wording(story), {}, set()
+        self.lanes = sorted([*story.network.nodes, *story.network.liars])
+        self.fork = self.words.fork
+        self.forked = {event.index: event for event, _ in self.fork or ()}
+        self.shown = [event for event in story.events if self.is_shown(event)]
+        self.fold()
+        self.labels = {event.index: self.beside(event) for event in self.shown}
+        self.under, self.boxes, self.over, self.texts = [], [], [], []
+
+    def is_shown(self, event):
+        first, last = self.options.first, self.options.last
+        if event.index in self.forked:
+            return True
+        if first or last:
+            return (first or 1) <= event.line <= (last or event.line)
+        count = len(self.story.events)
+        return count <= MOST_SHOWN or not FIRST_SHOWN <= event.index < count - LAST_SHOWN
+
+    def colour(self, token):
+        if token is None:
+            return 'mute'
+        found = self.colours.setdefault(self.story.names.id_of(token), len(self.colours))
+        return 'ledger%d' % (found % len(svg.LIGHT['ledgers']))
+
+    def subject(self, event):
+        """The ledger that an event, or what it sends, is about."""
+        inner = schedules.inner_event(event.tokens)
+        if inner[0] == 'issue':
+            return inner[3]
+        if inner[0] == 'lie':
+            return {'validation': inner[5:6], 'header': inner[4:5]}.get(inner[3], [None])[0]
+        return next((outcome[3] for outcome in event.told('built')), None)
+
+    def subject_of_frame(self, frame):
+        event = self.story.events[frame.event]
+        return self.subject(event) if frame.kind in ('validation', 'header') else None
+
+    def beside(self, event):
+        """What stands beside the event's mark: pairs of words and kind."""
+        parts = []
+        if event.word == 'issue' and not event.is_refused(*schedules.NEVER_SAVED):
+            said = self.words.ledger(*event.tokens[2:5])
+            parts = [('says ' + said, self.colour(event.tokens[3]))]
+        elif event.word == 'cut':
+            is_torn = not event.outcomes
+            parts = [('cut; %s number kept' % event.tokens[1] if is_torn else 'opened anew', 'mute')]
+        elif event.word == 'restart':
+            parts = [('restarts', 'mute')]
+        elif event.word == 'list' and not event.told('refused'):
+            parts = [('trusts ' + self.words.quorum(event.tokens), 'ink')]
+        for outcome in event.outcomes:
+            if self.is_second_copy(event, outcome):
+                continue
+            kind = {'refused': 'mute', 'preferred': 'ink', 'heard': 'ink'}.get(outcome[0]) or self.colour(outcome[3])
+            parts.append((self.words.outcome(outcome), 'bold ' * (outcome[0] == 'full') + kind))
+        return parts
+
+    def is_second_copy(self, event, outcome):
+        """Whether a known header came once more, as each builder's does: the mark says enough."""
+        return outcome[0] == 'refused' and outcome[3] == '16' and event.word == 'deliver'
+
+    def is_idle(self, event):
+        return event.word == 'timer' and not event.sent and not event.outcomes
+
+    def fold(self):
+        """By the index of its first, how many timers of one line say nothing, one after the other."""
+        self.folded, first = {}, None
+        for event in self.shown:
+            if not self.is_idle(event):
+                first = None
+            elif first is not None and first.line == event.line:
+                self.folded[first.index] += 1
+                self.folded[event.index] = 0
+            else:
+                first = event
+                self.folded[event.index] = 1
+
+    def phrase(self, event):
+        count = self.folded.get(event.index, 1)
+        return '%d timers: all wait' % count if count > 1 else self.words.phrase(event)[:44]
+
+    def when(self, moment):
+        """The moment, or the time since the first event where the numbers are long."""
+        first = self.story.events[0].moment
+        if first < FAR or moment == first:
+            return seconds(moment)
+        return ('+' if moment > first else '−') + seconds(abs(moment - first))
+
+    def longest(self, measure, least=0):
+        return max([measure(event) for event in self.shown] + [least])
+
+    def lay_out(self):
+        """Where the columns and lanes stand. Moment, line and event stand left of the lanes."""
+        self.gap = self.longest(lambda event: svg.width_of(self.labels[event.index]) + 24, 104)
+        self.time_x = 16 + self.longest(lambda event: len(self.when(event.moment)) * svg.NARROW)
+        self.line_x = self.time_x + 8 + self.longest(lambda event: len(str(event.line)) * svg.NARROW, 24)
+        phrase = self.longest(lambda event: len(self.phrase(event)) * 6.6, 40)
+        left = self.line_x + 14 + phrase + 12
+        room = self.gap - 8 if any(self.needs_left_room(event) for event in self.shown) else 46
+        self.x = {number: left + room + place * self.gap for place, number in enumerate(self.lanes)}
+        self.width = max(max([*self.x.values(), left]) + self.gap, 640)
+
+    def needs_left_room(self, event):
+        return event.node == self.lanes[0] and self.labels[event.index] and self.side(event) < 0
+
+    def side(self, event):
+        """The label stands left of the lane where what arrives comes from the right."""
+        sender = self.story.sender_of(event)
+        return -1 if sender is not None and sender > event.node else 1
+
+    def draw_head(self):
+        parts, y = [], 26
+        if not self.options.bare:
+            parts, y = svg.block(20, 30, self.title, 'bold large ink', self.width - 40, svg.BOLD, 22)
+            y += 14
+        low = y
+        for number in self.lanes:
+            more, below = self.lane_head(number, y)
+            parts += more
+            low = max(low, below)
+        parts += [svg.text(self.line_x, y, 'line', 'mute', 'end'), svg.text(self.line_x + 14, y, 'event', 'mute')]
+        self.texts += parts
+        return low + 16
+
+    def lane_head(self, number, y):
+        node = self.story.network.nodes.get(number)
+        lines = ['says anything']
+        if node:
+            members = svg.textwrap.wrap(ranges(node.members), int((self.gap - 12) / svg.NARROW))
+            quorum = 'quorum %d of %d:' % (node.quorum, len(node.members))
+            if len(quorum) * svg.NARROW > self.gap - 12:
+                quorum = 'quorum %d/%d:' % (node.quorum, len(node.members))
+            lines = [quorum, *members, *['observing'] * node.observes]
+        name = ('Node %d' if node else 'Liar %d') % number
+        parts = [svg.text(self.x[number], y, name, 'bold ink', 'middle')]
+        parts += [svg.text(self.x[number], y + 16 * place, it, 'mute', 'middle') for place, it in enumerate(lines, 1)]
+        return parts, y + 16 * len(lines)
+
+    def place_rows(self, top):
+        """The height of each event; those that are left out share that of the gap."""
+        self.y, before, y = {}, -1, top
+        for event in [*self.shown, None]:
+            index = event.index if event else len(self.story.events)
+            if index > before + 1:
+                self.draw_gap(y + 34, index - before - 1)
+                self.y.update((left_out, y + 44) for left_out in range(before + 1, index))
+                y += 42
+            before, y = index, y + ROW * (self.folded.get(index) != 0)
+            self.y[index] = y
+        return y - 4
+
+    def draw_gap(self, y, count):
+        self.under.append(svg.box(12, y - 12, self.width - 24, 24, 'soft'))
+        words = '%s event%s left out' % (format(count, ','), '' if count == 1 else 's')
+        self.over.append(svg.text(self.width / 2, y + 4, words, 'halo mute', 'middle'))
+
+    def draw_lanes(self, top, end):
+        for number in self.lanes:
+            dash = ' stroke-dasharray="2 4"' if number in self.story.network.liars else ''
+            self.under.insert(0, svg.line(self.x[number], top, self.x[number], end, 'lane-line', dash))
+
+    def draw_rows(self):
+        moment = None
+        for event in self.shown:
+            y = self.y[event.index]
+            if event.moment != moment:
+                moment = event.moment
+                self.texts.append(svg.text(self.time_x, y + 4, self.when(moment), 'mute', 'end'))
+            if self.folded.get(event.index) != 0:
+                self.texts += [
+                    svg.text(self.line_x, y + 4, str(event.line), 'mute', 'end'),
+                    svg.text(self.line_x + 14, y + 4, self.phrase(event), 'ink'),
+                ]
+            if event.node is not None:
+                self.draw_arrival(event)
+                self.draw_mark(event)
+                self.draw_label(event)
+
+    def draw_arrival(self, event):
+        x, y = self.x[event.node], self.y[event.index]
+        room = 12 if event.index in self.forked else 7 if event.told('full') else 1
+        if event.word == 'deliver':
+            frame = self.story.frames[event.frame - 1]
+            colour = self.colour(self.subject_of_frame(frame))
+            self.under.append(svg.arrow(self.x[frame.sender], self.y[frame.event], x, y, colour, room=room))
+        elif event.word == 'lie':
+            sender = self.x[int(event.tokens[1])]
+            self.under.append(svg.arrow(sender, y - 12, x, y, self.colour(self.subject(event)), '5 4', room))
+            self.over.append(svg.dot(sender, y - 12, 2.5, 'mute'))
+        elif event.word == 'raw':
+            self.under.append(svg.arrow(x - 46, y - 9, x, y, 'mute', '1.5 3', room))
+        if event.word in LEGEND:
+            self.used.add(event.word)
+
+    def draw_mark(self, event):
+        x, y = self.x[event.node], self.y[event.index]
+        says = event.word in ('issue', 'submit', 'timer', 'greet') and event.sent
+        if event.word in ('restart', 'cut'):
+            self.used.add('opened')
+            self.over.append(svg.box(x - 7, y - 4, 14, 8, 'paper'))
+            self.over += [svg.line(x - 7, y + down, x + 7, y + down - 4, 'mute-line') for down in (-2, 6)]
+        elif says and not event.told('built'):
+            self.used.add('says')
+            self.over.append(svg.dot(x, y, 4.5, 'hole line %s-line' % self.colour(self.subject(event))))
+        elif event.word == 'list':
+            self.used.add('list')
+            self.over.append(svg.box(x - 4.5, y - 4.5, 9, 9, 'hole line mute-line', radius=1))
+        elif event.word in ('timer', 'greet', 'prefer', 'heard', 'submit', 'issue', 'fail'):
+            self.over.append(svg.dot(x, y, 2.5, 'mute'))
+            if not event.told('built'):
+                self.used.add('quiet')
+        for outcome in event.outcomes:
+            self.draw_outcome(event, outcome, x, y)
+
+    def draw_outcome(self, event, outcome, x, y):
+        if outcome[0] in LEGEND:
+            self.used.add(outcome[0])
+        if outcome[0] == 'built':
+            self.over.append(svg.box(x - 5, y - 5, 10, 10, self.colour(outcome[3]), radius=1))
+        elif outcome[0] == 'full':
+            self.over.append(svg.dot(x, y, 7, self.colour(outcome[3])))
+        elif outcome[0] == 'refused' and event.word != 'cut':
+            self.over.append(svg.line(x - 6, y, x + 6, y, 'mute-line wide'))
+
+    def draw_label(self, event):
+        if not self.labels[event.index]:
+            return
+        side, is_forked = self.side(event), event.index in self.forked
+        x = self.x[event.node] + side * (17 if is_forked else 12)
+        down = -5 if event.sent else 4
+        for other in (it for index, it in self.forked.items() if is_forked and index != event.index):
+            joins_here = (self.x[other.node] - self.x[event.node]) * side > 0
+            if joins_here:
+                down = -8 if self.y[other.index] > self.y[event.index] else 12
+        y, width = self.y[event.index] + down, svg.width_of(self.labels[event.index]) - 8
+        self.boxes.append(svg.box(x - width * (side < 0), y - 10, width, 13, 'paper'))
+        self.texts.append(svg.spans(x, y, self.labels[event.index], 'end' if side < 0 else 'start'))
+
+    def draw_lost(self):
+        """Frames that never arrive, as short open lines: one for each, or one with their number where they are many."""
+        arrived = {event.frame for event in self.story.events}
+        lost = {}
+        for number, frame in enumerate(self.story.frames, 1):
+            if number not in arrived and frame.event in self.labels:
+                side = 1 if self.x[frame.receiver] > self.x[frame.sender] else -1
+                lost.setdefault((frame.event, side), []).append(frame)
+        for (index, side), frames in lost.items():
+            self.used.add('lost')
+            for place, frame in enumerate(frames if len(frames) <= 3 else frames[:1]):
+                self.draw_stub(frame, side, place, len(frames) if len(frames) > 3 else 1)
+
+    def draw_stub(self, frame, side, place, count):
+        x, y, angle = self.x[frame.sender], self.y[frame.event], 0.4 + 0.35 * place
+        end_x, end_y = x + side * 19 * math.cos(angle), y + 19 * math.sin(angle)
+        self.under.append(
+            svg.line(x, y, end_x, end_y, self.colour(self.subject_of_frame(frame)) + '-line', ' opacity=".7"')
+        )
+        self.under += [svg.line(end_x - 3, end_y - down, end_x + 3, end_y + down, 'mute-line') for down in (3, -3)]
+        if count > 1:
+            anchor = 'end' if side < 0 else 'start'
+            self.texts.append(svg.text(end_x + side * 6, end_y + 4, '%d lost' % count, 'halo mute', anchor))
+
+    def draw_fork(self):
+        (one, _), (other, _) = self.fork
+        ax, ay, bx, by = self.x[one.node], self.y[one.index], self.x[other.node], self.y[other.index]
+        part = 11 / (math.hypot(bx - ax, by - ay) or 1)
+        self.under.append(
+            svg.line(
+                ax + part * (bx - ax),
+                ay + part * (by - ay),
+                bx - part * (bx - ax),
+                by - part * (by - ay),
+                'red-line wide',
+                ' opacity=".75"',
+            )
+        )
+        self.over += [svg.dot(ax, ay, 11, 'line red-line wide'), svg.dot(bx, by, 11, 'line red-line wide')]
+
+    def draw_foot(self, y, verdict, notes):
+        kind, parts = 'bold large ' + ('ink' if verdict.startswith('Agreed') else 'red'), []
+        if not self.options.bare:
+            parts, y = svg.block(20, y, verdict, kind, self.width - 40, svg.BOLD, 21)
+        legend = [LEGEND[word].replace(' ', '\u00a0') for word in LEGEND if word in self.used]
+        for note in notes * (not self.options.bare):
+            more, y = svg.block(20, y, note, 'ink', self.width - 40, svg.PLAIN, 18)
+            parts += more
+        more, y = svg.block(
+            20, y + 7, ' '.join(it + '\u00a0' * 5 for it in legend), 'mute', self.width - 40, svg.PLAIN, 18
+        )
+        self.texts += parts + more
+        return y + 8
+
+    def description(self, verdict, notes):
+        """What a screen reader reads: the end, and each report."""
+        network = self.story.network
+        counts = '%d events at %d nodes and %d liars.' % (
+            len(self.story.events),
+            len(network.nodes),
+            len(network.liars),
+        )
+        reports = [
+            'Line %d: node %s %s.' % (event.line, outcome[1], self.words.outcome(outcome))
+            for event in self.shown
+            for outcome in event.told('full')
+        ]
+        return ' '.join([counts, verdict, *notes, *reports])
+
+    def draw(self):
+        self.lay_out()
+        top = self.draw_head()
+        end = self.place_rows(top)
+        self.draw_lanes(top, end)
+        self.draw_rows()
+        self.draw_lost()
+        if self.fork:
+            self.draw_fork()
+        verdict, notes = self.words.verdict(), self.words.notes()
+        height = self.draw_foot(end + 32, verdict, notes)
+        return svg.page(
+            self.width,
+            height,
+            self.options.scheme,
+            self.title,
+            self.description(verdict, notes),
+            self.under + self.boxes + self.over + self.texts,
+        )
