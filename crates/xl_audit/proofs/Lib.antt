@@ -9,3 +9,7 @@ pub mod Unmet
 pub mod Aloud
 pub mod Whole
 pub mod Growing
+pub mod Pieces
+pub mod Spelling
+pub mod Numerals
+pub mod Listing

@@ -2,6 +2,7 @@ pub mod Values
 pub mod Replies
 pub mod Saves
 pub mod Rights
+pub mod Pieces
 pub mod Stepping
 pub mod Laws
 pub mod Words
