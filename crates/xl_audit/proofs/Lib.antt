@@ -13,3 +13,7 @@ pub mod Pieces
 pub mod Spelling
 pub mod Numerals
 pub mod Listing
+pub mod Replying
+pub mod Events
+pub mod Heading
+pub mod Rereading

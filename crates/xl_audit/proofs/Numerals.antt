@@ -23,6 +23,7 @@ use Rattle.xl_sched.specs.declared.refusal.SchedRefusal.TheVariants.{Number, Id,
 use Rattle.xl_sched.specs.Members.{member_of}
 use Rattle.xl_sched.specs.Numbers.{is_number, value_of, number_within, number_of}
 use Rattle.xl_sched.specs.Refusals.{◌>>=◌}
+use Rattle.xl_audit.specs.Stored.{IsId}
 use Rattle.xl_audit.specs.Tokens.{moment_of, number_from, is_lower_digit, id_of, bytes_of, peer_of}
 
 -- NUMBERS
@@ -95,10 +96,6 @@ lower_digits_in (b ∷ bs) h =
     and_from (is_lower_digit (slice_index lower_digits (b / 16))) _ (lower_at (b / 16) high)
     (and_from (is_lower_digit (slice_index lower_digits (b % 16))) (list_all is_lower_digit (encode_lower bs)) (lower_at (b % 16) low)
     (lower_digits_in bs (λ k. h (suc k))))
-
--- 32 bytes
-abbrev pub IsId : List ℕ → Type 0
-IsId id = (length id ≡ 32) × IsBytes id
 
 pub id_again : (id : List ℕ) → IsId id → id_of (encode_lower id) ≡ Ok id
 id_again id h =

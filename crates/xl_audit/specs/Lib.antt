@@ -15,3 +15,5 @@ pub mod Verdicts
 pub mod Judging
 pub mod States
 pub mod Texts
+pub mod Stored
+pub mod Rereading

@@ -17,4 +17,4 @@ returns c =
     (Gave c.args.member (frames_in (given_for c.args.core.now c.args.member c.args.room))) (string_bytes c.args.text.now)
     (string_bytes c.push_bytes.new.text) refl (record { core = c.in_ok-given.ensures.core; answer = refl }) c.requires.text
     (subst (λ (xs : List ℕ). OnOk c.push_bytes.result
-    (string_bytes c.push_bytes.new.text ≡ string_bytes c.args.text.now ++ bytes_text xs)) is c.push_bytes.ensures)
+    (string_bytes c.push_bytes.new.text ≡ string_bytes c.args.text.now ++ bytes_text xs)) is c.push_bytes.ensures.text)
