@@ -1,15 +1,18 @@
 -- A heartbeat goes on by one call.
-use Rattle.std.proofs.Common.{◌≡◌, ◌<◌, ◌≤◌, Bool, true, false, ◌++◌, ◌∷◌, ℕ, List, [], length, take, refl, sym, ap, ◌∙◌, append-nil, subst, arith}
+use Rattle.std.proofs.Common.{◌≡◌, ◌<◌, ◌≤◌, Bool, true, false, ◌++◌, ◌∷◌, ℕ, List, [], length, take, Option, Some, None, refl, sym, ap, ◌∙◌, append-nil, subst, arith}
 use Rattle.std.specs.Prelude.{drop}
 use Rattle.std.specs.List.{flat_map}
 use Rattle.std.proofs.lemmas.Grind.{flat_map-append}
 use Rattle.std.proofs.Math.Seq.{take-append_seam}
+use Rattle.xl_lists.specs.Lists.{TrustedList}
 use Rattle.xl_turns.specs.declared.view.Knowledge.{Knowledge}
 use Rattle.xl_turns.specs.declared.pass.Pass.{Pass}
 use Rattle.xl_turns.specs.Passes.{known}
 use Rattle.xl_core.specs.declared.beat.Beat.{Beat}
 use Rattle.xl_core.specs.declared.report.Report.{Report}
-use Rattle.xl_core.specs.declared.event.CoreEvent.TheVariants.{Reports, Stop}
+use Rattle.xl_core.specs.declared.event.CoreEvent.TheVariants.{Reports, Stop, Relist}
+use Rattle.xl_core.specs.declared.refusal.Refusal.{Refusal}
+use Rattle.xl_core.specs.Answers as answer
 use Rattle.xl_core.specs.Answers.{Done, Handed, handed_in}
 use Rattle.xl_core.specs.Core.{Core}
 use Rattle.xl_store.specs.declared.entry.Entry.{Entry}
@@ -19,7 +22,7 @@ use Rattle.xl_store.specs.declared.store.StoreEnd.TheVariants as refused
 use Rattle.xl_store.specs.Calls.{Call, Made}
 use Rattle.xl_store.specs.Stores.{start_of, turns_of, IsWhy, Called, HandedOut, Refused}
 use Rattle.xl_store.proofs.Making.{made_none, made_both}
-use Rattle.xl_heartbeat.specs.declared.timing.Timing.{Timing}
+use Rattle.xl_heartbeat.specs.declared.pulse.Pulse.{Pulse}
 use Rattle.xl_heartbeat.specs.declared.ends.Ending.{Ending}
 use Rattle.xl_heartbeat.specs.declared.ends.Ending.TheVariants as ending
 use Rattle.xl_heartbeat.specs.declared.ends.Stopping.TheVariants as stopping
@@ -27,8 +30,9 @@ use Rattle.xl_heartbeat.specs.declared.ends.BeatEnd.{BeatEnd}
 use Rattle.xl_heartbeat.specs.declared.room.TheConstants.{ROOM}
 use Rattle.xl_heartbeat.specs.Lines.{report_line, report_lines}
 use Rattle.xl_heartbeat.specs.Outputs.{Output, Adds, AddsLess, IsWritten}
-use Rattle.xl_heartbeat.specs.Beats.{timer, reports, Phase, after_beat, is_over, IsBeating, IsReason, Heartbeat, TakesReports, lines_of, stop_calls}
-use Rattle.xl_heartbeat.specs.Going.{Beating, Beaten, Follows, Stops, ending_of, after_reports}
+use Rattle.xl_heartbeat.specs.Relisting.{made_at, relist, set_after, Relists, IsOtherList}
+use Rattle.xl_heartbeat.specs.Beats.{timer, reports, Phase, IsDue, after_beat, is_over, IsBeating, IsReason, Heartbeat, TakesReports, lines_of, stop_calls}
+use Rattle.xl_heartbeat.specs.Going.{Beating, Beaten, Follows, Relisted, Stops, ending_of, after_reports}
 use Rattle.xl_heartbeat.proofs.Writing.{adds_none, adds_both, written_both}
 
 lines_more : (calls more : List Call) → lines_of (calls ++ more) ≡ lines_of calls ++ lines_of more
@@ -53,8 +57,18 @@ reason_later turns calls phase mid new ending.WriteFault full r = r
 reason_later turns calls phase mid new ending.OutOfMemory full r = r
 reason_later turns calls phase mid new (ending.StoreFull n) full r = (r.0, r.1, full r.2)
 
-module _ (start : Core) (turns : ℕ) (may : ℕ → Bool) (timing : Timing) (k0 : Knowledge Entry) (o0 : Output) where
-  pub beating_starts : Beating start may timing k0 o0 Phase.Beats k0 o0
+-- a list that is asked for hands out no report
+silent_call : (now : ℕ) (list : TrustedList) (refusal : Option Refusal) → lines_of (relist now list refusal ∷ []) ≡ []
+silent_call now list None = refl
+silent_call now list (Some why) = refl
+
+silent : (made : Option TrustedList) (now : ℕ) (set next : TrustedList) (calls : List Call)
+    → Relists made now set calls next → lines_of calls ≡ []
+silent made now set next calls (Relists.stays same) = refl
+silent made now set next calls (Relists.follows list refusal other) = silent_call now list refusal
+
+module _ (start : Core) (turns : ℕ) (may : ℕ → Bool) (pulse : Pulse) (k0 : Knowledge Entry) (o0 : Output) where
+  pub beating_starts : Beating start may pulse k0 o0 (Phase.Beats pulse.list) k0 o0
   beating_starts = record {
     calls = [];
     run = IsBeating.begins;
@@ -63,25 +77,40 @@ module _ (start : Core) (turns : ℕ) (may : ℕ → Bool) (timing : Timing) (k0
     adds = adds_none o0;
   }
 
-  pub timed : (k new : Knowledge Entry) (o : Output) (now : ℕ) (beat : Beat) → may now ≡ true
+  -- the publishers' list was asked for, if it is another than the one last set
+  pub relisted : (k new : Knowledge Entry) (o : Output) (now : ℕ) (set next : TrustedList) → may now ≡ true
+      → Relisted start (made_at pulse.publishing now) now set k next new
+      → Beating start may pulse k0 o0 (Phase.Beats set) k o → Beating start may pulse k0 o0 (Phase.Times now next) new o
+  relisted k new o now set next given r b = record {
+    calls = b.calls ++ r.calls;
+    run = IsBeating.relists b.calls r.calls now set next b.run given r.asked;
+    made = made_both start k0 k new b.calls r.calls b.made r.made;
+    drawn = let p = b.drawn in let q = r.drawn in omega arith;
+    adds = subst (λ t. Adds t o0 o)
+        (sym (lines_same b.calls r.calls (silent (made_at pulse.publishing now) now set next r.calls r.asked))) b.adds;
+  }
+
+  pub timed : (k new : Knowledge Entry) (o : Output) (now : ℕ) (set : TrustedList) (beat : Beat)
       → Made start k new (timer now beat ∷ []) → k.drawn < new.drawn
-      → Beating start may timing k0 o0 Phase.Beats k o → Beating start may timing k0 o0 (Phase.Takes now) new o
-  timed k new o now beat given made more b = record {
+      → Beating start may pulse k0 o0 (Phase.Times now set) k o
+      → Beating start may pulse k0 o0 (Phase.Takes now set) new o
+  timed k new o now set beat made more b = record {
     calls = b.calls ++ timer now beat ∷ [];
-    run = IsBeating.beats b.calls now beat b.run given;
+    run = IsBeating.beats b.calls now set beat b.run;
     made = made_both start k0 k new b.calls (timer now beat ∷ []) b.made made;
     drawn = let p = b.drawn in omega arith;
     adds = subst (λ t. Adds t o0 o) (sym (lines_same b.calls (timer now beat ∷ []) refl)) b.adds;
   }
 
   -- reports were taken, and their lines written
-  taken_all : (phase : Phase) (k new : Knowledge Entry) (o o' : Output) (now : ℕ) → after_beat timing now ≡ phase
-      → Beating start may timing k0 o0 (Phase.Takes now) k o → TakesReports start turns k o ending.Done new o'
-      → Beating start may timing k0 o0 phase new o'
-  taken_all phase k new o o' now is b t = record {
+  taken_all : (phase : Phase) (k new : Knowledge Entry) (o o' : Output) (now : ℕ) (set : TrustedList)
+      → after_beat pulse.timing now set ≡ phase
+      → Beating start may pulse k0 o0 (Phase.Takes now set) k o → TakesReports start turns k o ending.Done new o'
+      → Beating start may pulse k0 o0 phase new o'
+  taken_all phase k new o o' now set is b t = record {
     calls = b.calls ++ reports t.handed ∷ [];
-    run = subst (λ p. IsBeating may timing (b.calls ++ reports t.handed ∷ []) p) is
-        (IsBeating.takes b.calls now t.handed b.run);
+    run = subst (λ p. IsBeating may pulse (b.calls ++ reports t.handed ∷ []) p) is
+        (IsBeating.takes b.calls now set t.handed b.run);
     made = made_both start k0 k new b.calls (reports t.handed ∷ []) b.made t.made;
     drawn = let p = b.drawn in let q = t.drawn in omega arith;
     adds = subst (λ l. Adds l o0 o') (sym (lines_more b.calls (reports t.handed ∷ [])))
@@ -89,9 +118,9 @@ module _ (start : Core) (turns : ℕ) (may : ℕ → Bool) (timing : Timing) (k0
   }
 
   -- no beat follows
-  beaten : (e : Ending) (k : Knowledge Entry) (o : Output) (p : Phase) (b : Beating start may timing k0 o0 p k o)
+  beaten : (e : Ending) (k : Knowledge Entry) (o : Output) (p : Phase) (b : Beating start may pulse k0 o0 p k o)
       → IsWritten e (lines_of b.calls) o0 o → IsReason turns b.calls p k.drawn e
-      → Beaten start turns may timing k0 o0 e k o
+      → Beaten start turns may pulse k0 o0 e k o
   beaten e k o p b written reason = record {
     calls = b.calls;
     phase = p;
@@ -102,19 +131,20 @@ module _ (start : Core) (turns : ℕ) (may : ℕ → Bool) (timing : Timing) (k0
     reason = reason;
   }
 
-  taken_done : (over : Bool) (k new : Knowledge Entry) (o o' : Output) (now : ℕ) → is_over timing now ≡ over
-      → Beating start may timing k0 o0 (Phase.Takes now) k o → TakesReports start turns k o ending.Done new o'
-      → Follows start turns may timing k0 o0 (after_reports ending.Done over) new o'
-  taken_done true k new o o' now is b t =
-      let last = taken_all Phase.Over k new o o' now (rw is refl) b t in
+  taken_done : (over : Bool) (k new : Knowledge Entry) (o o' : Output) (now : ℕ) (set : TrustedList)
+      → is_over pulse.timing now ≡ over
+      → Beating start may pulse k0 o0 (Phase.Takes now set) k o → TakesReports start turns k o ending.Done new o'
+      → Follows start turns may pulse k0 o0 set (after_reports ending.Done over) new o'
+  taken_done true k new o o' now set is b t =
+      let last = taken_all Phase.Over k new o o' now set (rw is refl) b t in
       beaten ending.Done new o' Phase.Over last last.adds refl
-  taken_done false k new o o' now is b t = taken_all Phase.Beats k new o o' now (rw is refl) b t
+  taken_done false k new o o' now set is b t = taken_all (Phase.Beats set) k new o o' now set (rw is refl) b t
 
   -- the call had no turn
   pub cut : (e : StoreEnd) (p : Phase) (k new : Knowledge Entry) (o : Output) → Made start k new []
-      → k.drawn ≤ new.drawn → (b : Beating start may timing k0 o0 p k o)
+      → k.drawn ≤ new.drawn → (b : Beating start may pulse k0 o0 p k o)
       → IsReason turns b.calls p new.drawn (ending_of e)
-      → Beaten start turns may timing k0 o0 (ending_of e) new o
+      → Beaten start turns may pulse k0 o0 (ending_of e) new o
   cut e p k new o made later b reason = record {
     calls = b.calls;
     phase = p;
@@ -126,34 +156,34 @@ module _ (start : Core) (turns : ℕ) (may : ℕ → Bool) (timing : Timing) (k0
   }
 
   -- after the reports were taken the beats go on, or are over
-  pub taken : (e : Ending) (k new : Knowledge Entry) (o o' : Output) (now : ℕ)
-      → Beating start may timing k0 o0 (Phase.Takes now) k o → TakesReports start turns k o e new o'
-      → Follows start turns may timing k0 o0 (after_reports e (is_over timing now)) new o'
-  taken ending.Done k new o o' now b t = taken_done (is_over timing now) k new o o' now refl b t
-  taken ending.WriteFault k new o o' now b t = record {
+  pub taken : (e : Ending) (k new : Knowledge Entry) (o o' : Output) (now : ℕ) (set : TrustedList)
+      → Beating start may pulse k0 o0 (Phase.Takes now set) k o → TakesReports start turns k o e new o'
+      → Follows start turns may pulse k0 o0 set (after_reports e (is_over pulse.timing now)) new o'
+  taken ending.Done k new o o' now set b t = taken_done (is_over pulse.timing now) k new o o' now set refl b t
+  taken ending.WriteFault k new o o' now set b t = record {
     calls = b.calls ++ reports t.handed ∷ [];
-    phase = after_beat timing now;
-    run = IsBeating.takes b.calls now t.handed b.run;
+    phase = after_beat pulse.timing now set;
+    run = IsBeating.takes b.calls now set t.handed b.run;
     made = made_both start k0 k new b.calls (reports t.handed ∷ []) b.made t.made;
     drawn = let p = b.drawn in let q = t.drawn in omega arith;
     written = subst (λ l. IsWritten ending.WriteFault l o0 o') (sym (lines_more b.calls (reports t.handed ∷ [])))
         (written_both o0 o o' (lines_of b.calls) (lines_of (reports t.handed ∷ [])) ending.WriteFault b.adds t.written);
     reason = (t.handed, (b.calls, refl));
   }
-  taken ending.OutOfMemory k new o o' now b t = record {
+  taken ending.OutOfMemory k new o o' now set b t = record {
     calls = b.calls ++ [];
-    phase = Phase.Takes now;
-    run = subst (λ cs. IsBeating may timing cs (Phase.Takes now)) (sym (append-nil b.calls)) b.run;
+    phase = Phase.Takes now set;
+    run = subst (λ cs. IsBeating may pulse cs (Phase.Takes now set)) (sym (append-nil b.calls)) b.run;
     made = made_both start k0 k new b.calls [] b.made t.made;
     drawn = let p = b.drawn in let q = t.drawn in omega arith;
     written = subst (λ l. Adds l o0 o') (sym (lines_more b.calls []))
         (adds_both o0 o o' (lines_of b.calls) [] b.adds t.written);
     reason = tt;
   }
-  taken (ending.StoreFull n) k new o o' now b t = record {
+  taken (ending.StoreFull n) k new o o' now set b t = record {
     calls = b.calls ++ [];
-    phase = Phase.Takes now;
-    run = subst (λ cs. IsBeating may timing cs (Phase.Takes now)) (sym (append-nil b.calls)) b.run;
+    phase = Phase.Takes now set;
+    run = subst (λ cs. IsBeating may pulse cs (Phase.Takes now set)) (sym (append-nil b.calls)) b.run;
     made = made_both start k0 k new b.calls [] b.made t.made;
     drawn = let p = b.drawn in let q = t.drawn in omega arith;
     written = subst (λ l. Adds l o0 o') (sym (lines_more b.calls []))
@@ -162,8 +192,8 @@ module _ (start : Core) (turns : ℕ) (may : ℕ → Bool) (timing : Timing) (k0
   }
 
   pub finished : (end : BeatEnd) (mid new : Knowledge Entry) (o : Output)
-      → Beaten start turns may timing k0 o0 end.run mid o → Stops start turns mid end.stop new
-      → Heartbeat start turns may timing k0 o0 end new o
+      → Beaten start turns may pulse k0 o0 end.run mid o → Stops start turns mid end.stop new
+      → Heartbeat start turns may pulse k0 o0 end new o
   finished end mid new o b s = record {
     calls = b.calls;
     phase = b.phase;
@@ -182,19 +212,21 @@ module _ {B K : Type 0} (store : Store B K) where
       let most = why.1 in
       let same = ap (λ (k : Knowledge Entry). k.drawn) why.2 in omega arith
 
-  refused_reason : (old new : Knowledge Entry) (e : StoreEnd) (calls : List Call) → IsWhy store old e new
-      → IsReason (turns_of store) calls Phase.Beats new.drawn (ending_of e)
-  refused_reason old new refused.OutOfMemory calls why = tt
-  refused_reason old new (refused.StoreFull n) calls why = (tt, why.0, ap (λ (k : Knowledge Entry). k.drawn) why.2)
+  refused_reason : (phase : Phase) → IsDue phase → (old new : Knowledge Entry) (e : StoreEnd) (calls : List Call)
+      → IsWhy store old e new → IsReason (turns_of store) calls phase new.drawn (ending_of e)
+  refused_reason phase due old new refused.OutOfMemory calls why = due
+  refused_reason phase due old new (refused.StoreFull n) calls why =
+      (due, why.0, ap (λ (k : Knowledge Entry). k.drawn) why.2)
 
-  -- the timer had no turn
-  pub not_timed : (may : ℕ → Bool) (timing : Timing) (k0 : Knowledge Entry) (o0 : Output) (old new : Pass Entry)
-      (o : Output) (e : StoreEnd) → Beating (start_of store) may timing k0 o0 Phase.Beats (known old) o
-      → Refused store old e new
-      → Beaten (start_of store) (turns_of store) may timing k0 o0 (ending_of e) (known new) o
-  not_timed may timing k0 o0 old new o e b r =
-      cut (start_of store) (turns_of store) may timing k0 o0 e Phase.Beats (known old) (known new) o r.made
-      (refused_later (known old) (known new) e r.why) b (refused_reason (known old) (known new) e b.calls r.why)
+  -- the next call had no turn
+  pub not_called : (may : ℕ → Bool) (pulse : Pulse) (k0 : Knowledge Entry) (o0 : Output) (phase : Phase) → IsDue phase
+      → (old new : Pass Entry) (o : Output) (e : StoreEnd)
+      → Beating (start_of store) may pulse k0 o0 phase (known old) o → Refused store old e new
+      → Beaten (start_of store) (turns_of store) may pulse k0 o0 (ending_of e) (known new) o
+  not_called may pulse k0 o0 phase due old new o e b r =
+      cut (start_of store) (turns_of store) may pulse k0 o0 e phase (known old) (known new) o r.made
+      (refused_later (known old) (known new) e r.why) b
+      (refused_reason phase due (known old) (known new) e b.calls r.why)
 
   -- reports had no turn
   pub not_taken : (old new : Pass Entry) (o : Output) (e : StoreEnd) → Refused store old e new
@@ -213,6 +245,40 @@ module _ {B K : Type 0} (store : Store B K) where
     written = adds_none o;
     full = (r.why.0, ap (λ (k : Knowledge Entry). k.drawn) r.why.2);
   }
+
+  -- there is no other list
+  pub unasked : (made : Option TrustedList) (now : ℕ) (set : TrustedList) (k : Knowledge Entry)
+      → IsOtherList made set None → Relisted (start_of store) made now set k set k
+  unasked made now set k same = record {
+    calls = [];
+    asked = Relists.stays same;
+    made = made_none (start_of store) k k refl refl refl;
+    drawn = omega arith;
+  }
+
+  asked : (made : Option TrustedList) (now : ℕ) (set list : TrustedList) (refusal : Option Refusal)
+      (old new : Pass Entry) → IsOtherList made set (Some list)
+      → Made (start_of store) (known old) (known new) (relist now list refusal ∷ [])
+      → (known old).drawn < (known new).drawn
+      → Relisted (start_of store) made now set (known old) (set_after set list refusal) (known new)
+  asked made now set list refusal old new other calls later = record {
+    calls = relist now list refusal ∷ [];
+    asked = Relists.follows list refusal other;
+    made = calls;
+    drawn = omega (arith, later);
+  }
+
+  -- the other list is set
+  pub set_now : (made : Option TrustedList) (now : ℕ) (set list : TrustedList) (old new : Pass Entry)
+      → IsOtherList made set (Some list) → Called store old (Relist now list) Done new
+      → Relisted (start_of store) made now set (known old) list (known new)
+  set_now made now set list old new other c = asked made now set list None old new other c.made c.later
+
+  -- it is refused
+  pub not_set : (made : Option TrustedList) (now : ℕ) (set list : TrustedList) (why : Refusal) (old new : Pass Entry)
+      → IsOtherList made set (Some list) → Called store old (Relist now list) (answer.Refused why) new
+      → Relisted (start_of store) made now set (known old) set (known new)
+  not_set made now set list why old new other c = asked made now set list (Some why) old new other c.made c.later
 
   pub told : (old : Knowledge Entry) (mid new : Pass Entry) → known mid ≡ old → Called store mid Stop Done new
       → Stops (start_of store) (turns_of store) old stopping.Done (known new)

@@ -1,6 +1,7 @@
 -- The heartbeat of a running node, and how reports are taken. Source: this project's own.
 use Rattle.std.specs.Prelude.{◌≡◌, ℕ, ◌+◌, ◌==◌, ◌&&◌, ◌≤◌, nat_le, Bool, true, not, List, [], ◌∷◌, ◌++◌, if◌then◌else◌}
 use Rattle.std.specs.List.{flat_map}
+use Rattle.xl_lists.specs.Lists.{TrustedList}
 use Rattle.xl_turns.specs.declared.view.Knowledge.{Knowledge}
 use Rattle.xl_core.specs.declared.beat.Beat.{Beat}
 use Rattle.xl_core.specs.declared.report.Report.{Report}
@@ -10,6 +11,7 @@ use Rattle.xl_core.specs.Core.{Core}
 use Rattle.xl_store.specs.declared.entry.Entry.{Entry}
 use Rattle.xl_store.specs.Calls.{Call, Made}
 use Rattle.xl_heartbeat.specs.declared.timing.Timing.{Timing}
+use Rattle.xl_heartbeat.specs.declared.pulse.Pulse.{Pulse}
 use Rattle.xl_heartbeat.specs.declared.room.TheConstants.{ROOM}
 use Rattle.xl_heartbeat.specs.declared.ends.Ending.{Ending}
 use Rattle.xl_heartbeat.specs.declared.ends.Ending.TheVariants as ending
@@ -18,6 +20,7 @@ use Rattle.xl_heartbeat.specs.declared.ends.Stopping.TheVariants as stopping
 use Rattle.xl_heartbeat.specs.declared.ends.BeatEnd.{BeatEnd}
 use Rattle.xl_heartbeat.specs.Lines.{report_lines}
 use Rattle.xl_heartbeat.specs.Outputs.{Output, IsWritten}
+use Rattle.xl_heartbeat.specs.Relisting.{made_at, Relists}
 
 abbrev pub timer : ℕ → Beat → Call
 timer now beat = record { event = Timer now; answer = answer.Beats beat }
@@ -37,30 +40,39 @@ lines_of calls = report_lines (flat_map (λ call. answer.handed_in call.answer) 
 abbrev pub is_over : Timing → ℕ → Bool
 is_over timing now = not (timing.run == 0) && nat_le (timing.opened + timing.run) now
 
--- what is to be done next: a timer, reports after the timer of this moment, or nothing, since the time is over
+-- what is to be done next: a beat, this list being the one last set; the timer of a moment; reports after it; or
+-- nothing, since the time is over
 pub data Phase : Type 0 where
-  Beats : Phase
-  Takes : (now : ℕ) → Phase
+  Beats : (set : TrustedList) → Phase
+  Times : (now : ℕ) (set : TrustedList) → Phase
+  Takes : (now : ℕ) (set : TrustedList) → Phase
   Over : Phase
 
-abbrev pub after_beat : Timing → ℕ → Phase
-after_beat timing now = if is_over timing now then Over else Beats
+abbrev pub after_beat : Timing → ℕ → TrustedList → Phase
+after_beat timing now set = if is_over timing now then Over else Beats set
 
 -- a call is to be made next
 abbrev pub IsDue : Phase → Type 0
-IsDue Beats = Unit {0}
-IsDue (Takes now) = Unit {0}
+IsDue (Beats set) = Unit {0}
+IsDue (Times now set) = Unit {0}
+IsDue (Takes now set) = Unit {0}
 IsDue Over = ⊥
 
--- Beats, as far as they came: each is a timer at a moment that the clock may give, and then reports. The first beat at
--- whose moment the time is over is the last
-pub data IsBeating (may_give : ℕ → Bool) (timing : Timing) : List Call → Phase → Type 0 where
-  begins : IsBeating may_give timing [] Beats
-  beats : (calls : List Call) (now : ℕ) (beat : Beat) → IsBeating may_give timing calls Beats
+-- Beats, as far as they came. Each, at a moment that the clock may give, asks for the publishers' list if it is another
+-- than the one last set, then has the timer, and then takes reports. The first beat at whose moment the time is over is
+-- the last
+pub data IsBeating (may_give : ℕ → Bool) (pulse : Pulse) : List Call → Phase → Type 0 where
+  begins : IsBeating may_give pulse [] (Beats pulse.list)
+  relists : (calls asked : List Call) (now : ℕ) (set next : TrustedList) → IsBeating may_give pulse calls (Beats set)
       → may_give now ≡ true
-      → IsBeating may_give timing (calls ++ timer now beat ∷ []) (Takes now)
-  takes : (calls : List Call) (now : ℕ) (handed : List Report) → IsBeating may_give timing calls (Takes now)
-      → IsBeating may_give timing (calls ++ reports handed ∷ []) (after_beat timing now)
+      → Relists (made_at pulse.publishing now) now set asked next
+      → IsBeating may_give pulse (calls ++ asked) (Times now next)
+  beats : (calls : List Call) (now : ℕ) (set : TrustedList) (beat : Beat)
+      → IsBeating may_give pulse calls (Times now set)
+      → IsBeating may_give pulse (calls ++ timer now beat ∷ []) (Takes now set)
+  takes : (calls : List Call) (now : ℕ) (set : TrustedList) (handed : List Report)
+      → IsBeating may_give pulse calls (Takes now set)
+      → IsBeating may_give pulse (calls ++ reports handed ∷ []) (after_beat pulse.timing now set)
 
 -- it was the last call
 abbrev pub IsLast : List Call → Call → Type 0
@@ -87,12 +99,12 @@ IsStop turns drawn (stopping.StoreFull n) = (n ≡ turns) × (drawn ≡ turns)
 -- history at the places that the pass gained, and to the output were added the lines of the reports that they handed
 -- out, in order, and where a write's fault ended it a front of them
 pub record Heartbeat
-    (start : Core) (turns : ℕ) (may_give : ℕ → Bool) (timing : Timing)
+    (start : Core) (turns : ℕ) (may_give : ℕ → Bool) (pulse : Pulse)
     (old : Knowledge Entry) (old_output : Output) (end : BeatEnd) (new : Knowledge Entry) (new_output : Output)
     : Type 0 where
   pub calls : List Call
   pub phase : Phase
-  pub run : IsBeating may_give timing calls phase
+  pub run : IsBeating may_give pulse calls phase
   pub made : Made start old new (calls ++ stop_calls end.stop)
   pub drawn : old.drawn ≤ new.drawn
   pub written : IsWritten end.run (lines_of calls) old_output new_output

@@ -1,5 +1,6 @@
 pub mod Lines
 pub mod Outputs
+pub mod Relisting
 pub mod Beats
 pub mod Statuses
 pub mod Going

@@ -9,12 +9,14 @@ ghost use Rattle.xl_heartbeat.specs.Beats.Phase.{Beats};
 ghost use Rattle.xl_heartbeat.specs.Going.{Beating, Beaten, Follows, Stops};
 
 use crate::ends::{BeatEnd, Ending, Stopping, after_reports, ending_of};
+use crate::pulse::Pulse;
+use crate::relisting::relist_at;
 use crate::reporting::take_reports;
-use crate::timing::Timing;
 use std::sync::Wait;
 use xl_io::{Keeper, Sink};
 use xl_ledger::Branch;
 use xl_links::Clock;
+use xl_lists::List;
 use xl_store::{Pass, Store, StoreEnd};
 
 /// How long to wait before the store is told again that the node is to stop, in milliseconds.
@@ -22,25 +24,25 @@ const PAUSE: u32 = 1000;
 
 /// Beats until the time of the run is over, and then tells the store that the node is to stop.
 ///
-/// Each beat waits, tells the store the clock's moment, takes the reports and writes a line for each. The first beat at
-/// whose moment the time is over is the last. A write's fault, want of memory and a full store end the beats too. The
-/// store is told to stop whatever ended them, and again a second later where memory is wanting; where it is full it
-/// isn't told.
+/// Each beat waits and takes the clock's moment. It sets the publishers' list of that second, if it is another than the
+/// one last set, tells the store the moment, takes the reports and writes a line for each. The first beat at whose
+/// moment the time is over is the last. A write's fault, memory that runs out and a full store end the beats too. The
+/// store is told to stop whatever ended them, and again a second later if memory ran out; if it is full it isn't told.
 pub fn beat<W: Wait, B: Branch + Drop, K: Keeper + Drop, O: Sink, C: Clock>(
     rt: &W,
     store: &Store<B, K>,
     clock: &C,
     sink: &mut O,
-    timing: Timing,
+    pulse: &Pulse,
     pass: &mut Pass,
 ) -> BeatEnd
     requires pass { IsOf store.now pass.old }
     ensures pass { IsOf store.now pass.new }
-    ensures heartbeat { Heartbeat (start_of store.now) (turns_of store.now) (C.may_give clock.now) timing
+    ensures heartbeat { Heartbeat (start_of store.now) (turns_of store.now) (C.may_give clock.now) pulse.now
         (known pass.old) (output (O.held sink.old) (O.faults sink.old)) result
         (known pass.new) (output (O.held sink.new) (O.faults sink.new)) }
 {
-    let run = beat_on(rt, store, clock, sink, timing, pass);
+    let run = beat_on(rt, store, clock, sink, pulse, pass);
     let stop = tell_to_stop(rt, store, clock, pass);
     BeatEnd { run, stop }
 }
@@ -51,17 +53,18 @@ fn beat_on<W: Wait, B: Branch + Drop, K: Keeper + Drop, O: Sink, C: Clock>(
     store: &Store<B, K>,
     clock: &C,
     sink: &mut O,
-    timing: Timing,
+    pulse: &Pulse,
     pass: &mut Pass,
 ) -> Ending
     requires pass { IsOf store.now pass.old }
     ensures pass { IsOf store.now pass.new }
-    ensures beaten { Beaten (start_of store.now) (turns_of store.now) (C.may_give clock.now) timing
+    ensures beaten { Beaten (start_of store.now) (turns_of store.now) (C.may_give clock.now) pulse.now
         (known pass.old) (output (O.held sink.old) (O.faults sink.old)) result
         (known pass.new) (output (O.held sink.new) (O.faults sink.new)) }
 {
+    let mut set = pulse.list.copy();
     for _ in rt.forever() {
-        match beat_once(rt, store, clock, sink, timing, pass) {
+        match beat_once(rt, store, clock, sink, pulse, &mut set, pass) {
             None => {}
             Some(end) => return end,
         }
@@ -69,34 +72,39 @@ fn beat_on<W: Wait, B: Branch + Drop, K: Keeper + Drop, O: Sink, C: Clock>(
     unreachable!()
 }
 
-/// One beat, and why it was the last, if it was.
+/// One beat, and why it was the last, if it was. The publishers' list is set before the timer, which counts by it.
 fn beat_once<W: Wait, B: Branch + Drop, K: Keeper + Drop, O: Sink, C: Clock>(
     rt: &W,
     store: &Store<B, K>,
     clock: &C,
     sink: &mut O,
-    timing: Timing,
+    pulse: &Pulse,
+    set: &mut List,
     pass: &mut Pass,
 ) -> Option<Ending>
     requires pass { IsOf store.now pass.old }
     ensures pass { IsOf store.now pass.new }
     ensures follows { (k : Knowledge Entry) (o : Output)
-        → Beating (start_of store.now) (C.may_give clock.now) timing k o Beats
+        → Beating (start_of store.now) (C.may_give clock.now) pulse.now k o (Beats set.old)
         (known pass.old) (output (O.held sink.old) (O.faults sink.old))
-        → Follows (start_of store.now) (turns_of store.now) (C.may_give clock.now) timing k o result
+        → Follows (start_of store.now) (turns_of store.now) (C.may_give clock.now) pulse.now k o set.new result
         (known pass.new) (output (O.held sink.new) (O.faults sink.new)) }
 {
-    clock.wait(timing.every);
+    clock.wait(pulse.timing.every);
     let now = clock.now();
+    match relist_at(rt, store, &pulse.publishing, set, now, pass) {
+        Ok(()) => {}
+        Err(end) => return Some(ending_of(end)),
+    }
     match store.timer(rt, pass, now) {
         Ok(_) => {}
         Err(end) => return Some(ending_of(end)),
     }
     let taken = take_reports(rt, store, sink, pass);
-    after_reports(taken, timing.is_over(now))
+    after_reports(taken, pulse.timing.is_over(now))
 }
 
-/// Tells the store that the node is to stop, again while memory is wanting.
+/// Tells the store that the node is to stop, again while there is no memory.
 fn tell_to_stop<W: Wait, B: Branch + Drop, K: Keeper + Drop, C: Clock>(
     rt: &W,
     store: &Store<B, K>,

@@ -1,17 +1,21 @@
-//! The heartbeat of a running node: it lets the core's time go on, writes what the core reports, and ends the run.
+//! The heartbeat of a running node: it keeps the node's list that of its publishers, lets the core's time go on, writes
+//! what the core reports, and ends the run.
 //!
-//! Each beat waits, tells the store the moment, takes the reports and writes a line for each. Beats come until the time
-//! of the run is over, a write fails, memory is wanting or the store is full; then the heartbeat tells the store that
+//! Each beat waits and takes the clock's moment. If the publishers have another list then than the one last set, it is
+//! set first. The store then has its timer, and the reports are taken and a line written for each. Beats come until the
+//! time of the run is over, a write fails, memory runs out or the store is full; then the heartbeat tells the store that
 //! the node is to stop. When all workers have ended, the last reports are taken and written.
 //!
-//! It stands on the store of xl_store, the clock of xl_links and the sinks of xl_io. Its one contract: the calls, which
-//! stand in the store's history at the places that the pass gained, are those of beats and of one stop; the lines of
-//! the reports that they handed out are what was written; each end has its cause.
+//! It stands on the store of xl_store, the publishers of xl_publish, the clock of xl_links and the sinks of xl_io. Its
+//! one contract: the calls, which stand in the store's history at the places that the pass gained, are those of beats
+//! and of one stop; the lines of the reports that they handed out are what was written; each end has its cause.
 #![tactic(auto)]
 
 mod beating;
 mod ends;
 mod lines;
+mod pulse;
+mod relisting;
 mod reporting;
 mod room;
 mod status;
@@ -19,6 +23,7 @@ mod timing;
 
 pub use beating::beat;
 pub use ends::{BeatEnd, Ending, Stopping};
+pub use pulse::Pulse;
 pub use reporting::take_reports;
 pub use room::ROOM;
 pub use status::status_of_run;

@@ -26,9 +26,10 @@ no_document bytes none = go (is_utf8 bytes) refl
     go true e = rw e (none (IsUtf8-from_is_utf8 bytes e))
     go false e = rw e refl
 
-pub within : (bytes : List ℕ) (found : Option Members) → length bytes ≤ MOST_BYTES → document_of bytes ≡ found
-    → settings_of bytes ≡ in_document found
-within bytes found small is = rw (is_short (length bytes) small) (ap in_document is)
+pub within : (bytes : List ℕ) (now : ℕ) (found : Option Members) → length bytes ≤ MOST_BYTES
+    → document_of bytes ≡ found → settings_of bytes now ≡ in_document found now
+within bytes now found small is =
+    rw (is_short (length bytes) small) (ap (λ (document : Option Members). in_document document now) is)
 
 pub given_as : (a b : Result Settings SettingsRefusal) (result : Result Settings SettingsFault) → a ≡ b
     → GivenMemory result b → GivenMemory result a

@@ -1,8 +1,13 @@
+pub mod Bounds
 pub mod Documents
+pub mod Fewness
+pub mod Keying
 pub mod Least
+pub mod Naming
 pub mod Numbers
 pub mod Reading
 pub mod Runnable
 pub mod Sources
+pub mod Taking
 pub mod Texts
 pub mod Written

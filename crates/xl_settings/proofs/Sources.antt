@@ -29,8 +29,8 @@ came_more old mid new bytes more first then_ = first ∙ ap (prepend_known bytes
 is_long : (n : ℕ) → MOST_BYTES < n → nat_lt MOST_BYTES n ≡ true
 is_long n big = grind (arith, nat_tests)
 
-too_long : (bytes : List ℕ) → nat_lt MOST_BYTES (length bytes) ≡ true → settings_of bytes ≡ Err Length
-too_long bytes long = rw long refl
+too_long : (bytes : List ℕ) (now : ℕ) → nat_lt MOST_BYTES (length bytes) ≡ true → settings_of bytes now ≡ Err Length
+too_long bytes now long = rw long refl
 
 above : (n : ℕ) → nat_lt MOST_BYTES n ≡ true → MOST_BYTES < n
 above n e = grind (arith, nat_tests)
@@ -39,16 +39,16 @@ below : (n : ℕ) → nat_lt MOST_BYTES n ≡ false → n ≤ MOST_BYTES
 below n e = grind (arith, nat_tests)
 
 -- a front that is long is refused as the whole is, and else it is the whole
-front_says : (bytes rest : List ℕ) → (length bytes ≤ MOST_BYTES → rest ≡ [])
-    → settings_of (bytes ++ rest) ≡ settings_of bytes
-front_says bytes rest ended = go (nat_lt MOST_BYTES (length bytes)) refl
+front_says : (bytes rest : List ℕ) (now : ℕ) → (length bytes ≤ MOST_BYTES → rest ≡ [])
+    → settings_of (bytes ++ rest) now ≡ settings_of bytes now
+front_says bytes rest now ended = go (nat_lt MOST_BYTES (length bytes)) refl
   where
-    go : (b : Bool) → nat_lt MOST_BYTES (length bytes) ≡ b → settings_of (bytes ++ rest) ≡ settings_of bytes
+    go : (b : Bool) → nat_lt MOST_BYTES (length bytes) ≡ b → settings_of (bytes ++ rest) now ≡ settings_of bytes now
     go true e =
         let longer : MOST_BYTES < length (bytes ++ rest) =
         omega (arith, above (length bytes) e, length-append bytes rest) in
-        too_long (bytes ++ rest) (is_long (length (bytes ++ rest)) longer) ∙ sym (too_long bytes e)
-    go false e = rw (ended (below (length bytes) e)) (ap settings_of (append-nil bytes))
+        too_long (bytes ++ rest) now (is_long (length (bytes ++ rest)) longer) ∙ sym (too_long bytes now e)
+    go false e = rw (ended (below (length bytes) e)) (ap (λ (all : List ℕ). settings_of all now) (append-nil bytes))
 
 with_reads : (result : Result Settings SettingsFault) (said : Result Settings SettingsRefusal)
     → GivenMemory result said → GivenBytes result said
@@ -57,13 +57,13 @@ with_reads (Err (Refused refusal)) said h = h
 with_reads (Err Read) said h = absurd h
 with_reads (Err OutOfMemory) said h = tt
 
-pub given_bytes : (old new : Option (List ℕ)) (bytes : List ℕ) (result : Result Settings SettingsFault)
+pub given_bytes : (old new : Option (List ℕ)) (bytes : List ℕ) (now : ℕ) (result : Result Settings SettingsFault)
     → old ≡ prepend_known bytes new → (length bytes ≤ MOST_BYTES → IsAtEnd new)
-    → GivenMemory result (settings_of bytes) → IfSome old (λ all. GivenBytes result (settings_of all))
-given_bytes old None bytes result came ended said = rw came tt
-given_bytes old (Some rest) bytes result came ended said =
+    → GivenMemory result (settings_of bytes now) → IfSome old (λ all. GivenBytes result (settings_of all now))
+given_bytes old None bytes now result came ended said = rw came tt
+given_bytes old (Some rest) bytes now result came ended said =
     rw came (subst (λ (x : Result Settings SettingsRefusal). GivenBytes result x)
-    (sym (front_says bytes rest ended)) (with_reads result (settings_of bytes) said))
+    (sym (front_says bytes rest now ended)) (with_reads result (settings_of bytes now) said))
 
 read_out_of : (result : Result Settings SettingsFault) (said : Result Settings SettingsRefusal)
     (left : Option (List ℕ)) → GivenMemory result said → (said ≡ Err Length) ⊎ IsAtEnd left → IsReadOut result left
@@ -86,20 +86,20 @@ read_out_of (Err (Refused (Known name))) said left h (inl long) = cc
 read_out_of (Err Read) said left h (inl long) = tt
 read_out_of (Err OutOfMemory) said left h (inl long) = tt
 
-pub left_nothing : (bytes : List ℕ) (left : Option (List ℕ)) (result : Result Settings SettingsFault)
-    → (length bytes ≤ MOST_BYTES → IsAtEnd left) → GivenMemory result (settings_of bytes) → IsReadOut result left
-left_nothing bytes left result ended said = go (nat_lt MOST_BYTES (length bytes)) refl
+pub left_nothing : (bytes : List ℕ) (now : ℕ) (left : Option (List ℕ)) (result : Result Settings SettingsFault)
+    → (length bytes ≤ MOST_BYTES → IsAtEnd left) → GivenMemory result (settings_of bytes now) → IsReadOut result left
+left_nothing bytes now left result ended said = go (nat_lt MOST_BYTES (length bytes)) refl
   where
     go : (b : Bool) → nat_lt MOST_BYTES (length bytes) ≡ b → IsReadOut result left
-    go true e = read_out_of result (settings_of bytes) left said (inl (too_long bytes e))
-    go false e = read_out_of result (settings_of bytes) left said (inr (ended (below (length bytes) e)))
+    go true e = read_out_of result (settings_of bytes now) left said (inl (too_long bytes now e))
+    go false e = read_out_of result (settings_of bytes now) left said (inr (ended (below (length bytes) e)))
 
 -- a fault that refuses nothing says nothing of the bytes
-pub by_fault : (old left : Option (List ℕ)) (fault : SettingsFault) → IsNoRefusal fault
-    → IfSome old (λ all. GivenBytes {A = Settings} (Err fault) (settings_of all)) × IsReadOut {A =
+pub by_fault : (old left : Option (List ℕ)) (now : ℕ) (fault : SettingsFault) → IsNoRefusal fault
+    → IfSome old (λ all. GivenBytes {A = Settings} (Err fault) (settings_of all now)) × IsReadOut {A =
     Settings} (Err fault) left
-by_fault old left (Refused refusal) h = absurd h
-by_fault None left Read h = (tt, tt)
-by_fault (Some all) left Read h = (tt, tt)
-by_fault None left OutOfMemory h = (tt, tt)
-by_fault (Some all) left OutOfMemory h = (tt, tt)
+by_fault old left now (Refused refusal) h = absurd h
+by_fault None left now Read h = (tt, tt)
+by_fault (Some all) left now Read h = (tt, tt)
+by_fault None left now OutOfMemory h = (tt, tt)
+by_fault (Some all) left now OutOfMemory h = (tt, tt)

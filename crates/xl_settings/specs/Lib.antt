@@ -4,6 +4,8 @@ pub mod Values
 pub mod Different
 pub mod Submits
 pub mod Peers
+pub mod Publishers
+pub mod Lists
 pub mod Settings
 pub mod Runnable
 pub mod Answers

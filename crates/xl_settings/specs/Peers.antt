@@ -1,14 +1,15 @@
 -- The peers, and which of them a node may have. Source: this project's own format.
-use Rattle.std.specs.Prelude.{ℕ, ◌==◌, ◌||◌, ◌&&◌, not, nat_eq, Bool, true, List, [], map, codes, Option, Some, None, option_map, string_bytes, if◌then◌else◌}
+use Rattle.std.specs.Prelude.{ℕ, ◌==◌, ◌||◌, ◌&&◌, not, nat_eq, Bool, List, [], map, codes, Option, Some, None, option_map, string_bytes, if◌then◌else◌}
 use Rattle.std.specs.List.{list_all, list_any}
 use Rattle.std.specs.Option.{option_and_then}
-use Rattle.toml.specs.Data.{Data, Members, no_members, member, get_member, as_str, as_table}
+use Rattle.toml.specs.Data.{Data, Members, get_member, as_str, as_table}
 use Rattle.xl_base.specs.declared.node_no.TheConstants.{GREATEST_NODE_NO}
 use Rattle.xl_links.specs.declared.hub.Way.{Way}
 use Rattle.xl_links.specs.declared.hub.Way.TheVariants.{Dial, Listen}
+use Rattle.xl_settings.specs.declared.entry.Entry.TheVariants as Entry
 use Rattle.xl_settings.specs.declared.peers.Peer.{Peer}
 use Rattle.xl_settings.specs.Different.{are_different}
-use Rattle.xl_settings.specs.Keys.{is_peer_key}
+use Rattle.xl_settings.specs.Keys.{has_keys_only}
 use Rattle.xl_settings.specs.Submits.{bytes_in}
 use Rattle.xl_settings.specs.Values.{all_read, array_in, whole}
 
@@ -22,10 +23,6 @@ pub record PeerSetting : Type 0 where
   pub number : ℕ
   pub key : List ℕ
   pub reach : Reach
-
-abbrev pub has_peer_keys_only : Members → Bool
-has_peer_keys_only no_members = true
-has_peer_keys_only (member text value rest) = is_peer_key text && has_peer_keys_only rest
 
 -- exactly one of the two addresses stands there, and is a text
 abbrev pub one_reach : Option Data → Option Data → Option Reach
@@ -49,7 +46,7 @@ made_peer _ _ _ = None
 -- a peer has a number, a key and an address, and nothing else
 abbrev pub peer_at : Members → Option PeerSetting
 peer_at table =
-    if has_peer_keys_only table then made_peer (number_at table) (key_at table) (reach_at table) else None
+    if has_keys_only Entry.Peer table then made_peer (number_at table) (key_at table) (reach_at table) else None
 
 abbrev pub peer_in : Data → Option PeerSetting
 peer_in value = option_and_then peer_at (as_table value)

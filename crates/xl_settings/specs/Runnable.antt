@@ -1,9 +1,17 @@
 -- What all settings keep, so that a node can be opened with them. Source: this project's own limits.
-use Rattle.std.specs.Prelude.{◌≡◌, ◌≤◌, true}
+use Rattle.std.specs.Prelude.{◌≡◌, ◌≤◌, ℕ, true, List, IfSome}
 use Rattle.xl_ledger.specs.declared.registry.TheConstants.{LEAST_LIMIT, GREATEST_LIMIT}
+use Rattle.xl_publish.specs.declared.publishing.Publishing.{Publishing}
+use Rattle.xl_publish.specs.Forces.{list_at}
 use Rattle.xl_settings.specs.declared.limits.TheConstants.{GREATEST_TURNS, LEAST_HEARTBEAT_MS, GREATEST_HEARTBEAT_MS, GREATEST_RUN_MS}
 use Rattle.xl_settings.specs.declared.settings.Settings.{Settings}
-use Rattle.xl_settings.specs.Peers.{are_peers}
+use Rattle.xl_settings.specs.Peers.{PeerSetting, are_peers}
+
+-- whatever list the publishers' rolls make at any second, each of its members but me is a peer
+abbrev pub AreEverPeers : ℕ → List PeerSetting → Publishing → Type 0
+AreEverPeers me peers publishing = (second : ℕ) →
+    IfSome (list_at publishing.publishers.kept second publishing.threshold) (λ list.
+    are_peers me list.members peers ≡ true)
 
 pub record AreRunnable (s : Settings) : Type 0 where
   pub limit : (LEAST_LIMIT ≤ s.limit) × (s.limit ≤ GREATEST_LIMIT)
@@ -11,3 +19,5 @@ pub record AreRunnable (s : Settings) : Type 0 where
   pub heartbeat : (LEAST_HEARTBEAT_MS ≤ s.heartbeat_ms) × (s.heartbeat_ms ≤ GREATEST_HEARTBEAT_MS)
   pub run : s.run_ms ≤ GREATEST_RUN_MS
   pub peers : are_peers s.me s.list.members s.peers ≡ true
+  pub ever : IfSome s.publishing (AreEverPeers s.me s.peers)
+  pub threshold : IfSome s.publishing (λ p. (1 ≤ p.threshold) × (p.threshold ≤ 16))

@@ -1,14 +1,12 @@
--- The settings that bytes hold, or why they hold none. Source: this project's own format; documents are those of TOML.
-use Rattle.std.specs.Prelude.{ℕ, nat_lt, Bool, true, List, [], length, Option, Some, None, Result, Ok, Err, if◌then◌else◌}
+-- The settings that bytes hold at a moment, or why they hold none. Source: this project's own format; documents are those of TOML.
+use Rattle.std.specs.Prelude.{ℕ, nat_lt, Bool, true, false, List, [], length, Option, Some, None, Result, Ok, Err, if◌then◌else◌}
 use Rattle.std.specs.Option.{option_and_then}
-use Rattle.std.specs.Result.{is_ok, result_ok}
 use Rattle.std.specs.Str.{is_utf8}
-use Rattle.toml.specs.Data.{Data, Members, as_bool}
+use Rattle.toml.specs.Data.{Members, as_bool}
 use Rattle.toml.specs.Parse.{parse_document}
 use Rattle.xl_base.specs.declared.ids.TxId.{TxId}
 use Rattle.xl_base.specs.declared.node_no.TheConstants.{GREATEST_NODE_NO}
 use Rattle.xl_ledger.specs.declared.registry.TheConstants.{LEAST_LIMIT, GREATEST_LIMIT}
-use Rattle.xl_lists.specs.Lists.{TrustedList, list_of}
 use Rattle.xl_settings.specs.declared.key_name.KeyName.{KeyName}
 use Rattle.xl_settings.specs.declared.key_name.KeyName.TheVariants as key
 use Rattle.xl_settings.specs.declared.limits.TheConstants.{MOST_BYTES, USUAL_LIMIT, USUAL_TURNS, GREATEST_TURNS, USUAL_HEARTBEAT_MS, LEAST_HEARTBEAT_MS, GREATEST_HEARTBEAT_MS, GREATEST_RUN_MS, USUAL_SPEAK, GREATEST_SPEAK}
@@ -16,35 +14,19 @@ use Rattle.xl_settings.specs.declared.refusal.SettingsRefusal.{SettingsRefusal}
 use Rattle.xl_settings.specs.declared.refusal.SettingsRefusal.TheVariants.{Length, Text, Unknown, Known}
 use Rattle.xl_settings.specs.declared.settings.Settings.{Settings}
 use Rattle.xl_settings.specs.Keys.{least_unknown}
+use Rattle.xl_settings.specs.Lists.{members_at, stated_at, met_by, trust_of}
 use Rattle.xl_settings.specs.Peers.{peers_in}
+use Rattle.xl_settings.specs.Publishers.{publishers_at, threshold_at, rolls_at, taken_in}
 use Rattle.xl_settings.specs.Submits.{submits_in}
-use Rattle.xl_settings.specs.Values.{at, whole, number_in, or_default, all_read, array_in}
+use Rattle.xl_settings.specs.Values.{at, whole, or_default}
 
 -- a value, or the refusal of its key; and what follows from it
 abbrev pub needs : {A B : Type 0} → KeyName → Option A → (A → Result B SettingsRefusal) → Result B SettingsRefusal
 needs name None next = Err (Known name)
 needs name (Some x) next = next x
 
--- numbers that are members of a list, if by the quorum that all of them are
-abbrev pub that_are_listed : List ℕ → Option (List ℕ)
-that_are_listed members = if is_ok (list_of members (length members)) then Some members else None
-
-abbrev pub numbers_in : Data → Option (List ℕ)
-numbers_in value = option_and_then (all_read number_in) (array_in value)
-
-abbrev pub members_in : Data → Option (List ℕ)
-members_in value = option_and_then that_are_listed (numbers_in value)
-
 abbrev pub me_at : Members → Option ℕ
 me_at table = option_and_then (whole 1 GREATEST_NODE_NO) (at key.Me table)
-
-abbrev pub members_at : Members → Option (List ℕ)
-members_at table = option_and_then members_in (at key.List table)
-
--- the list of these members and the quorum
-abbrev pub list_at : List ℕ → Members → Option TrustedList
-list_at members table =
-    option_and_then (λ quorum. result_ok (list_of members quorum)) (option_and_then number_in (at key.Quorum table))
 
 abbrev pub validating_at : Members → Option Bool
 validating_at table = or_default true as_bool (at key.Validating table)
@@ -65,26 +47,34 @@ run_at table = or_default 0 (whole 0 GREATEST_RUN_MS) (at key.RunMs table)
 abbrev pub speak_at : Members → Option ℕ
 speak_at table = or_default USUAL_SPEAK (whole USUAL_SPEAK GREATEST_SPEAK) (at key.Speak table)
 
+abbrev pub journal_at : Members → Option Bool
+journal_at table = or_default false as_bool (at key.Journal table)
+
 abbrev pub submits_at : Members → Option (List TxId)
 submits_at table = or_default [] submits_in (at key.Submit table)
 
 -- key by key: the first that is missing though required, of another type, out of range or refused decides
-abbrev pub in_table : Members → Result Settings SettingsRefusal
-in_table table =
+abbrev pub in_table : Members → ℕ → Result Settings SettingsRefusal
+in_table table now =
     needs key.Me (me_at table) (λ me.
     needs key.List (members_at table) (λ members.
-    needs key.Quorum (list_at members table) (λ list.
+    needs key.Quorum (stated_at members table) (λ stated.
     needs key.Validating (validating_at table) (λ validating.
     needs key.Limit (limit_at table) (λ limit.
     needs key.Turns (turns_at table) (λ turns.
     needs key.HeartbeatMs (heartbeat_at table) (λ heartbeat_ms.
     needs key.RunMs (run_at table) (λ run_ms.
     needs key.Submit (submits_at table) (λ submit.
-    needs key.Peer (peers_in me list.members (at key.Peer table)) (λ peers.
+    needs key.Peer (peers_in me (met_by stated (taken_in table)) (at key.Peer table)) (λ peers.
     needs key.Speak (speak_at table) (λ speak.
+    needs key.Publisher (publishers_at table) (λ publishers.
+    needs key.Threshold (threshold_at (length publishers) table) (λ threshold.
+    needs key.Roll (rolls_at table) (λ rolls.
+    needs key.Roll (trust_of stated (taken_in table) threshold now) (λ trust.
+    needs key.Journal (journal_at table) (λ journal.
     Ok (record {
       me = me;
-      list = list;
+      list = trust.list;
       validating = validating;
       limit = limit;
       turns = turns;
@@ -93,21 +83,23 @@ in_table table =
       submit = submit;
       peers = peers;
       speak = speak;
-    }))))))))))))
+      publishing = trust.publishing;
+      journal = journal;
+    })))))))))))))))))
 
-abbrev pub unless_unknown : Members → Option (List ℕ) → Result Settings SettingsRefusal
-unless_unknown table (Some text) = Err (Unknown text)
-unless_unknown table None = in_table table
+abbrev pub unless_unknown : Members → ℕ → Option (List ℕ) → Result Settings SettingsRefusal
+unless_unknown table now (Some text) = Err (Unknown text)
+unless_unknown table now None = in_table table now
 
-abbrev pub in_document : Option Members → Result Settings SettingsRefusal
-in_document None = Err Text
-in_document (Some table) = unless_unknown table (least_unknown table)
+abbrev pub in_document : Option Members → ℕ → Result Settings SettingsRefusal
+in_document None now = Err Text
+in_document (Some table) now = unless_unknown table now (least_unknown table)
 
 -- the document that bytes are, which must be UTF-8
 abbrev pub document_of : List ℕ → Option Members
 document_of bytes = if is_utf8 bytes then parse_document bytes else None
 
--- the settings that bytes hold, or the first cause for which they hold none: their length, their text, the least
--- unknown key, and then the keys in their order
-abbrev pub settings_of : List ℕ → Result Settings SettingsRefusal
-settings_of bytes = if nat_lt MOST_BYTES (length bytes) then Err Length else in_document (document_of bytes)
+-- the settings that bytes hold at the moment of the opening, or the first cause for which they hold none: their length,
+-- their text, the least unknown key, and then the keys in their order
+abbrev pub settings_of : List ℕ → ℕ → Result Settings SettingsRefusal
+settings_of bytes now = if nat_lt MOST_BYTES (length bytes) then Err Length else in_document (document_of bytes) now

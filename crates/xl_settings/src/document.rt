@@ -1,5 +1,6 @@
-ghost use Rattle.std.specs.Prelude.{IfOk, Some};
+ghost use Rattle.std.specs.Prelude.{◌≤◌, IfOk, Some};
 ghost use Rattle.toml.specs.View.{table_view};
+ghost use Rattle.xl_base.specs.declared.moments.TheConstants.{GREATEST_MILLIS};
 ghost use Rattle.xl_settings.specs.Answers.{GivenMemory, NamesKey};
 ghost use Rattle.xl_settings.specs.Runnable.{AreRunnable};
 ghost use Rattle.xl_settings.specs.Settings.{in_document, settings_of};
@@ -10,15 +11,16 @@ use crate::unknown::least_unknown;
 use crate::{Settings, SettingsFault, SettingsRefusal};
 use std::alloc::Global;
 use toml::Table;
-use xl_base::Bytes;
+use xl_base::{Bytes, Millis};
 
-/// Reads the settings that the bytes hold.
+/// Reads the settings that the bytes hold, at the moment at which a node is to be opened with them.
 ///
 /// They are refused by the first of these causes that holds: there are too many bytes; they are no TOML document; a key
 /// is unknown, and the least one is named; and then key by key, in the order of `KeyName`. Nothing is read from
 /// elsewhere, so no fault is `Read`.
-pub fn read_settings(alloc: Global, bytes: &[u8]) -> Result<Settings, SettingsFault>
-    ensures answer { GivenMemory result (settings_of bytes.now) }
+pub fn read_settings(alloc: Global, bytes: &[u8], now: Millis) -> Result<Settings, SettingsFault>
+    requires { now ≤ GREATEST_MILLIS }
+    ensures answer { GivenMemory result (settings_of bytes.now now) }
     // A node can be opened with them.
     ensures runnable { IfOk result AreRunnable }
 {
@@ -26,7 +28,7 @@ pub fn read_settings(alloc: Global, bytes: &[u8]) -> Result<Settings, SettingsFa
         return Err(SettingsFault::Refused(SettingsRefusal::Length));
     }
     match toml::table_from_slice(alloc, bytes) {
-        Ok(table) => from_table(alloc, &table),
+        Ok(table) => from_table(alloc, &table, now),
         Err(error) => {
             if error.is_memory() {
                 Err(SettingsFault::OutOfMemory)
@@ -38,12 +40,13 @@ pub fn read_settings(alloc: Global, bytes: &[u8]) -> Result<Settings, SettingsFa
 }
 
 /// The settings of a table.
-fn from_table(alloc: Global, table: &Table) -> Result<Settings, SettingsFault>
-    ensures { GivenMemory result (in_document (Some (table_view table.now))) }
+fn from_table(alloc: Global, table: &Table, now: Millis) -> Result<Settings, SettingsFault>
+    requires { now ≤ GREATEST_MILLIS }
+    ensures { GivenMemory result (in_document (Some (table_view table.now)) now) }
 {
     match least_unknown(table) {
         Some(key) => Err(refused_key(alloc, key)),
-        None => settings_in(alloc, table),
+        None => settings_in(alloc, table, now),
     }
 }
 

@@ -15,6 +15,10 @@ pub enum KeyName {
     Submit,
     Peer,
     Speak,
+    Publisher,
+    Threshold,
+    Roll,
+    Journal,
 }
 
 impl KeyName {
@@ -34,6 +38,10 @@ impl KeyName {
             KeyName::Submit => "submit",
             KeyName::Peer => "peer",
             KeyName::Speak => "speak",
+            KeyName::Publisher => "publisher",
+            KeyName::Threshold => "threshold",
+            KeyName::Roll => "roll",
+            KeyName::Journal => "journal",
         }
     }
 }
@@ -54,6 +62,10 @@ pub(crate) fn is_known(text: &str) -> bool
         KeyName::Submit,
         KeyName::Peer,
         KeyName::Speak,
+        KeyName::Publisher,
+        KeyName::Threshold,
+        KeyName::Roll,
+        KeyName::Journal,
     ];
     all.iter().any(|name| text == name.text())
 }

@@ -1,13 +1,14 @@
-//! The settings of a node, read from a TOML document: who it is, whom it trusts, its limits, what it submits, and its
-//! peers.
+//! The settings of a node, read from a TOML document: who it is, whom it trusts, its limits, what it submits, its peers,
+//! and the publishers that may make its list.
 //!
-//! It stands on xl_base, xl_io, xl_ledger, xl_lists, xl_links, and the kit's `toml` and `hex`. Its one contract:
-//! `read_settings` and `settings_from` answer the settings that the bytes hold, or the first cause for which they hold
-//! none, exactly by their definition, want of memory and failed reads aside. `write_refusal` writes the one line that
-//! tells such a cause.
+//! It stands on xl_base, xl_io, xl_ledger, xl_lists, xl_links, xl_publish, and the kit's `toml` and `hex`. Its one
+//! contract: `read_settings` and `settings_from` answer the settings that the bytes hold at the moment of the opening,
+//! or the first cause for which they hold none, exactly by their definition, unless memory runs out or a read fails.
+//! `write_refusal` writes the one line that tells such a cause.
 #![tactic(auto)]
 
 mod document;
+mod entry;
 mod fault;
 mod key_name;
 mod limits;
@@ -15,11 +16,16 @@ mod line;
 mod members;
 mod peering;
 mod peers;
+mod publishers;
 mod refusal;
+mod rolls;
 mod settings;
 mod source;
+mod stated;
 mod submits;
 mod table;
+mod taken;
+mod trust;
 mod unknown;
 mod values;
 

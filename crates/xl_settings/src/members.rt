@@ -1,25 +1,28 @@
-// The list, and its quorum.
-ghost use Rattle.std.specs.Prelude.{◌≡◌, length, map, IfOk, option_map};
+// The list that is stated, and its quorum.
+ghost use Rattle.std.specs.Prelude.{◌≡◌, length, map, Some, IfOk, option_map};
 ghost use Rattle.std.specs.Result.{is_ok};
 ghost use Rattle.toml.specs.View.{table_view, view};
 ghost use Rattle.xl_lists.specs.Lists.{list_of};
-ghost use Rattle.xl_settings.specs.Settings.{members_at, members_in, that_are_listed, list_at};
+ghost use Rattle.xl_settings.specs.Lists.{members_at, members_in, that_are_listed, list_from, stated_at};
 ghost use Rattle.xl_settings.specs.Values.{all_read, number_in};
 
 use crate::KeyName;
+use crate::publishers::has_publishers;
+use crate::stated::Stated;
 use crate::values::{array_in, number_in, value_at};
 use std::alloc::Global;
 use toml::{Table, Value};
 use xl_base::{MOST_MEMBERS, OutOfMemory};
 use xl_lists::List;
 
-/// The members of the list, in their order.
+/// The members of the list, in their order; none with publishers, where the key may not stand.
 pub fn members_at(alloc: Global, table: &Table) -> Result<Option<Vec<u32>>, OutOfMemory>
     ensures { IfOk result (λ members. option_map (λ v. v.items) members ≡ members_at (table_view table.now)) }
 {
-    match value_at(table, KeyName::List.text()) {
-        Some(value) => members_in(alloc, value),
-        None => Ok(None),
+    match (has_publishers(table), value_at(table, KeyName::List.text())) {
+        (true, None) => Ok(Some(Vec::new(alloc))),
+        (false, Some(value)) => members_in(alloc, value),
+        _ => Ok(None),
     }
 }
 
@@ -67,10 +70,25 @@ fn are_listed(members: &[u32]) -> bool
     members.len() <= MOST_MEMBERS && List::new(members, members.len() as u32).is_ok()
 }
 
-/// The list of these members and the quorum.
-pub fn list_at(members: &[u32], table: &Table) -> Option<List>
-    ensures { result ≡ list_at members.now (table_view table.now) }
+/// The list of these members and the quorum, where it is stated; with publishers the key may not stand.
+pub fn stated_at(members: &[u32], table: &Table) -> Option<Stated>
+    ensures { result ≡ stated_at members.now (table_view table.now) }
 {
-    let quorum = number_in(value_at(table, KeyName::Quorum.text())?)?;
-    List::new(members, quorum).ok()
+    match (
+        has_publishers(table),
+        value_at(table, KeyName::Quorum.text()),
+    ) {
+        (true, None) => Some(Stated::Published),
+        (false, Some(value)) => listed(members, value),
+        _ => None,
+    }
+}
+
+/// The list of these members and the quorum that the value is.
+fn listed(members: &[u32], value: &Value) -> Option<Stated>
+    ensures { result ≡ option_map Stated.Listed (list_from members.now (Some (view value.now))) }
+{
+    let quorum = number_in(value)?;
+    let list = List::new(members, quorum).ok()?;
+    Some(Stated::Listed(list))
 }

@@ -8,8 +8,9 @@ ghost use Rattle.xl_settings.specs.Peers.{setting_of, reach_of, reach_at, number
 ghost use Rattle.xl_settings.specs.Values.{at, all_read};
 ghost use Rattle.xl_settings.specs.declared.key_name.KeyName.TheVariants as name;
 
+use crate::entry::Entry;
 use crate::peers::has_number;
-use crate::unknown::has_peer_keys_only;
+use crate::unknown::has_keys_only;
 use crate::values::{array_in, bytes_in, member_in, value_at};
 use crate::{KeyName, Peer, Peers};
 use std::alloc::Global;
@@ -73,7 +74,7 @@ fn peer_in(alloc: Global, value: &Value) -> Result<Option<Peer>, OutOfMemory>
     ensures { IfOk result (λ peer. option_map setting_of peer ≡ peer_in (view value.now)) }
 {
     match value.as_table() {
-        Some(table) if has_peer_keys_only(table) => made_peer(alloc, table),
+        Some(table) if has_keys_only(Entry::Peer, table) => made_peer(alloc, table),
         _ => Ok(None),
     }
 }
@@ -96,7 +97,8 @@ fn number_at(table: &Table) -> Option<NodeNo>
     member_in(value_at(table, "number")?)
 }
 
-fn key_at(table: &Table) -> Option<[u8; 32]>
+/// The key of a peer or of a publisher.
+pub fn key_at(table: &Table) -> Option<[u8; 32]>
     ensures { result ≡ key_at (table_view table.now) }
 {
     bytes_in(value_at(table, "key")?)

@@ -1,13 +1,14 @@
 use crate::Peers;
 use xl_base::{Millis, NodeNo, TxIds};
 use xl_lists::List;
+use xl_publish::Publishing;
 
 /// What a node is run with.
 #[derive(Drop)]
 pub struct Settings {
     /// The node's number.
     pub me: NodeNo,
-    /// The members that it hears, and their quorum.
+    /// The members that it hears, and their quorum: as stated, or as publishers make it at the moment of the opening.
     pub list: List,
     /// Whether it is a validator. One that isn't observes: it proposes no position, and validates no ledger.
     pub validating: bool,
@@ -21,8 +22,12 @@ pub struct Settings {
     pub run_ms: Millis,
     /// The transactions that it submits when it opens, at most 256. One may stand twice, its digits of either case.
     pub submit: TxIds,
-    /// Its peers, among them each listed member but itself.
+    /// Its peers, among them each listed member but itself, and each that a kept roll names.
     pub peers: Peers,
     /// The version of its validations, 1 or 2.
     pub speak: u8,
+    /// The publishers that make its list, where it isn't stated.
+    pub publishing: Option<Publishing>,
+    /// Whether its journal is written once it has run.
+    pub journal: bool,
 }

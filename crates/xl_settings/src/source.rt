@@ -1,6 +1,7 @@
 ghost use Rattle.std.specs.Prelude.{◌≡◌, ◌≤◌, ◌++◌, length, IfOk, IfSome, IfErr, IsErrOf, OnOk};
 ghost use Rattle.std.specs.Io.KnownBytes.{IsAtEnd, prepend_known};
 ghost use Rattle.xl_base.specs.Faults.{Rose};
+ghost use Rattle.xl_base.specs.declared.moments.TheConstants.{GREATEST_MILLIS};
 ghost use Rattle.xl_settings.specs.Answers.{GivenBytes, IsReadOut, IsNoRefusal};
 ghost use Rattle.xl_settings.specs.Runnable.{AreRunnable};
 ghost use Rattle.xl_settings.specs.Settings.{settings_of};
@@ -9,7 +10,7 @@ ghost use Rattle.xl_settings.specs.declared.limits.TheConstants.{MOST_BYTES};
 use crate::limits::MOST_BYTES;
 use crate::{Settings, SettingsFault, read_settings};
 use std::alloc::Global;
-use xl_base::OutOfMemory;
+use xl_base::{Millis, OutOfMemory};
 use xl_io::{Piece, Source};
 
 /// The bytes that a read is asked for.
@@ -19,8 +20,13 @@ const ROOM: usize = 8192;
 ///
 /// The source is read to its end, or until more bytes came than settings may have; those are refused by their length. A
 /// failed read ends it with `Read`.
-pub fn settings_from<I: Source>(alloc: Global, input: &mut I) -> Result<Settings, SettingsFault>
-    ensures settings { IfSome (I.left input.old) (λ bytes. GivenBytes result (settings_of bytes)) }
+pub fn settings_from<I: Source>(
+    alloc: Global,
+    input: &mut I,
+    now: Millis,
+) -> Result<Settings, SettingsFault>
+    requires { now ≤ GREATEST_MILLIS }
+    ensures settings { IfSome (I.left input.old) (λ bytes. GivenBytes result (settings_of bytes now)) }
     // A node can be opened with them.
     ensures runnable { IfOk result AreRunnable }
     ensures to_end { IsReadOut result (I.left input.new) }
@@ -28,7 +34,7 @@ pub fn settings_from<I: Source>(alloc: Global, input: &mut I) -> Result<Settings
     ensures read { IsErrOf result SettingsFault.Read → Rose (I.faults input.old) (I.faults input.new) }
 {
     let bytes = read_out(alloc, input)?;
-    read_settings(alloc, &bytes)
+    read_settings(alloc, &bytes, now)
 }
 
 /// The bytes of the source, to its end or beyond the most that settings may have.

@@ -1,13 +1,19 @@
 // The settings of a table, key by key.
 ghost use Rattle.std.specs.Prelude.{◌≡◌, ◌≤◌, IfSome};
 ghost use Rattle.toml.specs.View.{table_view};
+ghost use Rattle.xl_base.specs.declared.moments.TheConstants.{GREATEST_MILLIS};
 ghost use Rattle.xl_settings.specs.Answers.{GivenMemory};
-ghost use Rattle.xl_settings.specs.Settings.{in_table, me_at, validating_at, limit_at, turns_at, heartbeat_at, run_at, speak_at};
+ghost use Rattle.xl_settings.specs.Publishers.{threshold_at};
+ghost use Rattle.xl_settings.specs.Settings.{in_table, me_at, validating_at, limit_at, turns_at, heartbeat_at, run_at, speak_at, journal_at};
 ghost use Rattle.xl_settings.specs.Values.{at, whole, or_default};
 
-use crate::members::{list_at, members_at};
+use crate::members::{members_at, stated_at};
 use crate::peering::peers_at;
+use crate::publishers::publishers_at;
+use crate::rolls::rolls_at;
 use crate::submits::submits_at;
+use crate::taken::taken_of;
+use crate::trust::{met_by, trust_of};
 use crate::values::{member_in, value_at, whole};
 use crate::{KeyName, Settings, SettingsFault, limits};
 use std::alloc::Global;
@@ -15,24 +21,34 @@ use toml::Table;
 use xl_base::{Millis, NodeNo};
 use xl_ledger::{GREATEST_LIMIT, LEAST_LIMIT};
 
-/// The settings of a table with no unknown key.
-pub fn settings_in(alloc: Global, table: &Table) -> Result<Settings, SettingsFault>
-    ensures { GivenMemory result (in_table (table_view table.now)) }
+/// The settings of a table with no unknown key, at the moment of the opening.
+pub fn settings_in(alloc: Global, table: &Table, now: Millis) -> Result<Settings, SettingsFault>
+    requires { now ≤ GREATEST_MILLIS }
+    ensures { GivenMemory result (in_table (table_view table.now) now) }
 {
     let me = me_at(table).ok_or(KeyName::Me)?;
     let members = members_at(alloc, table)?.ok_or(KeyName::List)?;
-    let list = list_at(&members, table).ok_or(KeyName::Quorum)?;
+    let stated = stated_at(&members, table).ok_or(KeyName::Quorum)?;
     let validating = validating_at(table).ok_or(KeyName::Validating)?;
     let limit = limit_at(table).ok_or(KeyName::Limit)?;
     let turns = turns_at(table).ok_or(KeyName::Turns)?;
     let heartbeat_ms = heartbeat_at(table).ok_or(KeyName::HeartbeatMs)?;
     let run_ms = run_at(table).ok_or(KeyName::RunMs)?;
     let submit = submits_at(alloc, table)?.ok_or(KeyName::Submit)?;
-    let peers = peers_at(alloc, me, list.members(), table)?.ok_or(KeyName::Peer)?;
+    let publishers = publishers_at(alloc, table)?;
+    let rolls = rolls_at(alloc, table)?;
+    let taken = taken_of(&publishers, &rolls);
+    let met = met_by(alloc, &stated, &taken)?;
+    let peers = peers_at(alloc, me, &met, table)?.ok_or(KeyName::Peer)?;
     let speak = speak_at(table).ok_or(KeyName::Speak)?;
+    let publishers = publishers.ok_or(KeyName::Publisher)?;
+    let threshold = threshold_at(publishers.len(), table).ok_or(KeyName::Threshold)?;
+    rolls.ok_or(KeyName::Roll)?;
+    let trust = trust_of(stated, taken, threshold, now).ok_or(KeyName::Roll)?;
+    let journal = journal_at(table).ok_or(KeyName::Journal)?;
     Ok(Settings {
         me,
-        list,
+        list: trust.list,
         validating,
         limit,
         turns,
@@ -41,6 +57,8 @@ pub fn settings_in(alloc: Global, table: &Table) -> Result<Settings, SettingsFau
         submit,
         peers,
         speak,
+        publishing: trust.publishing,
+        journal,
     })
 }
 
@@ -113,6 +131,25 @@ fn speak_at(table: &Table) -> Option<u8>
         u64::from(limits::GREATEST_SPEAK),
     )?;
     Some(speak as u8)
+}
+
+fn threshold_at(count: usize, table: &Table) -> Option<u32>
+    requires { count ≤ 16 }
+    ensures { result ≡ threshold_at count (table_view table.now) }
+{
+    match value_at(table, KeyName::Threshold.text()) {
+        Some(value) => Some(whole(value, 1, count as u64)? as u32),
+        None => Some(1),
+    }
+}
+
+fn journal_at(table: &Table) -> Option<bool>
+    ensures { result ≡ journal_at (table_view table.now) }
+{
+    match value_at(table, KeyName::Journal.text()) {
+        Some(value) => value.as_bool(),
+        None => Some(false),
+    }
 }
 
 /// A whole number within bounds, or the usual one where the key doesn't stand.

@@ -5,9 +5,9 @@ ghost use Rattle.std.specs.Prelude.{◌≡◌, option_map};
 ghost use Rattle.std.specs.String.{string_cmp};
 ghost use Rattle.toml.specs.View.{table_view};
 ghost use Rattle.xl_settings.specs.First.{first_unknown};
-ghost use Rattle.xl_settings.specs.Keys.{least_unknown, is_peer_key};
-ghost use Rattle.xl_settings.specs.Peers.{has_peer_keys_only};
+ghost use Rattle.xl_settings.specs.Keys.{least_unknown, has_keys_only, is_key_of};
 
+use crate::entry::Entry;
 use crate::key_name::is_known;
 use toml::Table;
 
@@ -31,20 +31,23 @@ fn first_unknown(table: &Table) -> Option<&str>
     None
 }
 
-/// Whether each key is one of a peer's.
-pub fn has_peer_keys_only(table: &Table) -> bool
-    ensures { result ≡ has_peer_keys_only (table_view table.now) }
+/// Whether each key is one of such a table's.
+pub fn has_keys_only(entry: Entry, table: &Table) -> bool
+    ensures { result ≡ has_keys_only entry (table_view table.now) }
 {
     for (text, _) in table.iter() {
-        if !is_peer_key(text.as_str()) {
+        if !is_key_of(entry, text.as_str()) {
             return false;
         }
     }
     true
 }
 
-fn is_peer_key(text: &str) -> bool
-    ensures { result ≡ is_peer_key text.now }
+fn is_key_of(entry: Entry, text: &str) -> bool
+    ensures { result ≡ is_key_of entry text.now }
 {
-    text == "number" || text == "key" || text == "dial" || text == "listen"
+    match entry {
+        Entry::Peer => text == "number" || text == "key" || text == "dial" || text == "listen",
+        Entry::Publisher => text == "number" || text == "key",
+    }
 }

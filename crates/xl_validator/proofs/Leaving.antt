@@ -31,7 +31,7 @@ module _ {K O : Type 0}
       → end ≡ status_of_end e → new ≡ kept → journal ≡ Some history
       → IsLegal Leads start history
       → NodeRun (setting start task.turns may_give links)
-      (doing task.submits task.members task.timing
+      (doing task.submits task.members task.pulse
       outside.old_faults outside.new_faults outside.old_output outside.new_output) e history
       → KeepsAll held_by saves_of faults_of save_gives start history old kept
       → length history ≤ task.turns

@@ -4,6 +4,7 @@ use Rattle.std.specs.Prelude.{nat_eq, ◌^◌, ◌==◌, ◌||◌, IsSome, slice
 use Rattle.std.specs.List.{All, AllByRecursion, IsDistinct, list_all, list_any}
 use Rattle.std.proofs.lemmas.Bool.{or_cases}
 use Rattle.std.proofs.lemmas.List.{length-map}
+use Rattle.xl_lists.specs.Lists.{TrustedList}
 use Rattle.xl_tags.specs.Opening.{HasKeys}
 use Rattle.xl_tags.specs.Rings.{Ring, key_of}
 use Rattle.xl_core.specs.Rest.{IsKeyed}
@@ -11,7 +12,7 @@ use Rattle.xl_settings.specs.declared.peers.Peer.{Peer}
 use Rattle.xl_settings.specs.Different.{are_different}
 use Rattle.xl_settings.specs.Peers.{PeerSetting, are_peers, is_peer, setting_of}
 use Rattle.xl_base.specs.declared.ids.TxId.{TxId}
-use Rattle.xl_heartbeat.specs.declared.timing.Timing.{Timing}
+use Rattle.xl_heartbeat.specs.declared.pulse.Pulse.{Pulse}
 use Rattle.xl_settings.specs.declared.settings.Settings.{Settings}
 use Rattle.xl_settings.specs.Runnable.{AreRunnable}
 use Rattle.xl_core.specs.Core.{Core}
@@ -19,7 +20,7 @@ use Rattle.xl_workers.specs.declared.plan.Contact.{Contact}
 use Rattle.xl_workers.specs.declared.plan.Plan.{Plan}
 use Rattle.xl_workers.specs.Linking.{contact_of}
 use Rattle.xl_validator.specs.Contacts.{contact_seen, peer_seen, IsNumber}
-use Rattle.xl_validator.specs.Openings.{Task, members_of, number_of, task_of, timing_of}
+use Rattle.xl_validator.specs.Openings.{Task, members_of, number_of, task_of, pulse_of}
 use Rattle.xl_validator.specs.Preparing.{IsPlan, IsReady, task_in}
 use Rattle.xl_validator.proofs.Sharing.{HasKey}
 use Rattle.xl_validator.proofs.Listing.{are_few, distinct}
@@ -92,21 +93,30 @@ few_contacts contacts once all =
     let few = are_few (map contact_of contacts) once (in_range contacts all) in
     let same : length (map contact_of contacts) ≡ length contacts = length-map _ _ in omega (arith, few, same)
 
-abbrev task : ℕ → List TxId → List ℕ → Timing → Task
-task turns submits members timing = record { turns = turns; submits = submits; members = members; timing = timing }
+-- the list that the core is opened with is copied for the heartbeat
+pub same_pulse : (s : Settings) (moment : ℕ) (list : TrustedList) → list ≡ s.list
+    → (let p : Pulse = record {
+      timing = record { opened = moment; every = s.heartbeat_ms; run = s.run_ms };
+      publishing = s.publishing;
+      list = list;
+    } in p) ≡ pulse_of s moment
+same_pulse s moment list same = rw same refl
+
+abbrev task : ℕ → List TxId → List ℕ → Pulse → Task
+task turns submits members pulse = record { turns = turns; submits = submits; members = members; pulse = pulse }
 
 pub same_task : (s : Settings) (moment : ℕ) (plan : Plan) → plan.turns ≡ s.turns → plan.submits.items ≡ s.submit
-    → map contact_of plan.contacts.items ≡ members_of s → plan.timing ≡ timing_of s moment
+    → map contact_of plan.contacts.items ≡ members_of s → plan.pulse ≡ pulse_of s moment
     → task_in plan ≡ task_of s moment
-same_task s moment plan turns submits members timing =
-    ap (λ (x : ℕ). task x plan.submits.items (map contact_of plan.contacts.items) plan.timing) turns
-    ∙ ap (λ (x : List TxId). task s.turns x (map contact_of plan.contacts.items) plan.timing) submits
-    ∙ ap (λ (x : List ℕ). task s.turns s.submit x plan.timing) members
-    ∙ ap (λ (x : Timing). task s.turns s.submit (members_of s) x) timing
+same_task s moment plan turns submits members pulse =
+    ap (λ (x : ℕ). task x plan.submits.items (map contact_of plan.contacts.items) plan.pulse) turns
+    ∙ ap (λ (x : List TxId). task s.turns x (map contact_of plan.contacts.items) plan.pulse) submits
+    ∙ ap (λ (x : List ℕ). task s.turns s.submit x plan.pulse) members
+    ∙ ap (λ (x : Pulse). task s.turns s.submit (members_of s) x) pulse
 
-module _ (s : Settings) (timing : Timing) (core : Core) (plan : Plan) (is : IsPlan s.turns s.submit s.peers timing plan) where
-  pub the_task : (moment : ℕ) → timing ≡ timing_of s moment → task_in plan ≡ task_of s moment
-  the_task moment same = same_task s moment plan is.turns is.submits is.members (is.timing ∙ same)
+module _ (s : Settings) (pulse : Pulse) (core : Core) (plan : Plan) (is : IsPlan s.turns s.submit s.peers pulse plan) where
+  pub the_task : (moment : ℕ) → pulse ≡ pulse_of s moment → task_in plan ≡ task_of s moment
+  the_task moment same = same_task s moment plan is.turns is.submits is.members (is.pulse ∙ same)
 
   pub is_ready : (keys : Ring) (peers : List Peer) → map setting_of peers ≡ s.peers → All (HasKey keys) peers
       → core.node.keys ≡ keys → AreRunnable s → IsReady (record { core = core; plan = plan })

@@ -1,28 +1,127 @@
--- Refused settings, where nothing is written.
-use Rattle.std.proofs.Common.{◌≡◌, ◌≢◌, ℕ, List, [], Option, Some, None, Result, Ok, Err, IfSome, refl, sym}
-use Rattle.std.specs.Prelude.{IfErr}
+-- What a whole run of the command comes to, by how its settings were read.
+use Rattle.std.proofs.Common.{◌≡◌, ◌≢◌, ℕ, Bool, true, List, [], Option, Some, None, Result, Ok, Err, IfSome, refl, sym, subst}
+use Rattle.std.specs.Prelude.{IfOk, IfErr, IsErr}
 use Rattle.xl_base.specs.declared.status.Status.{Status}
 use Rattle.xl_base.specs.declared.status.Status.TheVariants as status
+use Rattle.xl_io.specs.Keepers.{Held}
 use Rattle.xl_io.specs.Sinks.{GrewByFront}
 use Rattle.xl_io.proofs.Growing.{append_known-none}
+use Rattle.xl_links.specs.Links.{Wire}
 use Rattle.xl_store.specs.declared.entry.Entry.{Entry}
+use Rattle.xl_settings.specs.declared.fault.SettingsFault.{SettingsFault}
+use Rattle.xl_settings.specs.declared.fault.SettingsFault.TheVariants.{Refused}
 use Rattle.xl_settings.specs.declared.refusal.SettingsRefusal.{SettingsRefusal}
 use Rattle.xl_settings.specs.declared.settings.Settings.{Settings}
+use Rattle.xl_settings.specs.Answers.{GivenBytes}
 use Rattle.xl_settings.specs.Lines.{refusal_line}
 use Rattle.xl_settings.specs.Settings.{settings_of}
-use Rattle.xl_validator.specs.Validators.{IsRefused}
+use Rattle.xl_validator.specs.Validators.{Between, HasRun, IsOfNode, IsRefused, Judges}
 
 front_none : (held : Option (List ℕ)) (text : List ℕ) → GrewByFront held held text
 front_none held text = record { written = []; missing = text; parts = refl; held = sym (append_known-none held) }
 
-module _ (held : Option (List ℕ)) (end : Status) (journal : Option (List Entry)) where
-  by_answer : (r : Result Settings SettingsRefusal) → journal ≡ None → end ≢ status.InputRefused
-      → IfErr r (λ refusal. (journal ≡ None) × IsRefused (refusal_line refusal) end held held)
-  by_answer (Ok s) none other = tt
-  by_answer (Err refusal) none other =
-      (none, record { front = front_none held (refusal_line refusal); whole = λ is. absurd (other is) })
+-- settings that aren't refused
+module _ (r : Result Settings SettingsRefusal) (s : Settings) (is : r ≡ Ok s) where
+  ok_then : (P : Settings → Type 0) → P s → IfOk r P
+  ok_then P p = subst (λ (x : Result Settings SettingsRefusal). IfOk x P) (sym is) p
 
-  pub refused_by_none : (left : Option (List ℕ)) → journal ≡ None → end ≢ status.InputRefused
-      → IfSome left (λ bytes. IfErr (settings_of bytes) (λ refusal. (journal ≡ None) × IsRefused (refusal_line refusal) end held held))
-  refused_by_none None none other = tt
-  refused_by_none (Some bytes) none other = by_answer (settings_of bytes) none other
+  no_err : (Q : SettingsRefusal → Type 0) → IfErr r Q
+  no_err Q = subst (λ (x : Result Settings SettingsRefusal). IfErr x Q) (sym is) tt
+
+-- settings that are refused
+module _ (r : Result Settings SettingsRefusal) (why : SettingsRefusal) (is : r ≡ Err why) where
+  err_then : (Q : SettingsRefusal → Type 0) → Q why → IfErr r Q
+  err_then Q q = subst (λ (x : Result Settings SettingsRefusal). IfErr x Q) (sym is) q
+
+  no_ok : (P : Settings → Type 0) → IfOk r P
+  no_ok P = subst (λ (x : Result Settings SettingsRefusal). IfOk x P) (sym is) tt
+
+  is_err : IsErr r
+  is_err = subst (λ (x : Result Settings SettingsRefusal). IsErr x) (sym is) refl
+
+-- whatever they are
+any_err : {Q : SettingsRefusal → Type 0} (r : Result Settings SettingsRefusal) → ((why : SettingsRefusal) → Q why)
+    → IfErr r Q
+any_err (Ok s) q = tt
+any_err (Err why) q = q why
+
+any_ok : {P : Settings → Type 0} (r : Result Settings SettingsRefusal) → ((s : Settings) → P s) → IfOk r P
+any_ok (Ok s) p = p s
+any_ok (Err why) p = tt
+
+some_map : {A : Type 0} {P Q : A → Type 0} (o : Option A) → ((x : A) → P x → Q x) → IfSome o P → IfSome o Q
+some_map None f p = tt
+some_map (Some x) f p = f x p
+
+some_any : {A : Type 0} {P : A → Type 0} (o : Option A) → ((x : A) → P x) → IfSome o P
+some_any None p = tt
+some_any (Some x) p = p x
+
+no_run : (P : List Entry → Type 0) (journal : Option (List Entry)) → journal ≡ None → IfSome journal P
+no_run P journal none = subst (λ (j : Option (List Entry)). IfSome j P) (sym none) tt
+
+not_refused : (end : Status) → IsOfNode end → end ≢ status.InputRefused
+not_refused end known is = subst IsOfNode is known
+
+module _ {K O : Type 0}
+    (held_by : K → Option Held) (saves_of : K → Option (List ℕ)) (faults_of : K → ℕ)
+    (load_gives : K → ℕ → K → Type 0) (save_gives : K → ℕ → Bool → K → Type 0)
+    (input : Option (List ℕ)) (may_give : ℕ → Bool) (links : ℕ → Option Wire) (outside : Between)
+    (old_output new_output : O) (old new : K) (end : Status) (journal : Option (List Entry))
+    (moment : ℕ) (given : may_give moment ≡ true) where
+  abbrev pub AreJudged : Type 0
+  AreJudged = Judges held_by saves_of faults_of load_gives save_gives input may_give links outside
+      old_output new_output old new end journal
+
+  -- the settings are those, and a node ran by them, or nothing was written
+  pub judged_right : (s : Settings) → IfSome input (λ bytes. settings_of bytes moment ≡ Ok s)
+      → IfSome journal (λ history. HasRun held_by saves_of faults_of load_gives save_gives
+      s moment may_give links outside old new end history)
+      → (journal ≡ None → new_output ≡ old_output) → IsOfNode end → AreJudged
+  judged_right s are ran unopened known = record {
+    moment = moment;
+    given = given;
+    refused = some_map input (λ bytes is. no_err (settings_of bytes moment) s is _) are;
+    told = λ is. absurd (not_refused end known is);
+    ran = some_map journal (λ history run. (s, are, run)) ran;
+    unopened = some_map input (λ bytes is. ok_then (settings_of bytes moment) s is _ unopened) are;
+  }
+
+  -- they are refused, and their line was told
+  pub judged_refused : (fault : SettingsFault) (why : SettingsRefusal) (told : Status) → fault ≡ Refused why
+      → IfSome input (λ bytes. GivenBytes (Err fault) (settings_of bytes moment))
+      → journal ≡ None → end ≡ told
+      → IsRefused (refusal_line why) told outside.old_output.held outside.new_output.held → AreJudged
+  judged_refused fault why told is given_by none same line =
+      let are : IfSome input (λ bytes. settings_of bytes moment ≡ Err why) =
+      subst (λ (f : SettingsFault). IfSome input (λ bytes. GivenBytes (Err f) (settings_of bytes moment))) is given_by in
+      let line' : IsRefused (refusal_line why) end outside.old_output.held outside.new_output.held =
+      subst (λ (t : Status). IsRefused (refusal_line why) t outside.old_output.held outside.new_output.held)
+      (sym same) line in
+      record {
+        moment = moment;
+        given = given;
+        refused = some_map input (λ bytes e. err_then (settings_of bytes moment) why e _ (none, line')) are;
+        told = λ told. some_map input (λ bytes e. is_err (settings_of bytes moment) why e) are;
+        ran = no_run _ journal none;
+        unopened = some_map input (λ bytes e. no_ok (settings_of bytes moment) why e _) are;
+      }
+
+  -- they weren't read, and nothing was written
+  pub judged_unread : journal ≡ None → end ≢ status.InputRefused
+      → outside.new_output.held ≡ outside.old_output.held → new_output ≡ old_output → AreJudged
+  judged_unread none other held same = record {
+    moment = moment;
+    given = given;
+    refused = some_any input (λ bytes. any_err (settings_of bytes moment) (λ why. (
+      none,
+      record {
+        front = subst (λ now. GrewByFront outside.old_output.held now (refusal_line why)) (sym held)
+            (front_none outside.old_output.held (refusal_line why));
+        whole = λ is. absurd (other is);
+      },
+    )));
+    told = λ is. absurd (other is);
+    ran = no_run _ journal none;
+    unopened = some_any input (λ bytes. any_ok (settings_of bytes moment) (λ s nothing. same));
+  }

@@ -5,7 +5,7 @@ use Rattle.xl_tags.specs.Rings.{Ring, no_keys, with_key}
 use Rattle.xl_core.specs.declared.settings.Settings.{Settings as CoreSettings}
 use Rattle.xl_core.specs.Core.{Core, with_queues}
 use Rattle.xl_core.specs.Node.{opened}
-use Rattle.xl_heartbeat.specs.declared.timing.Timing.{Timing}
+use Rattle.xl_heartbeat.specs.declared.pulse.Pulse.{Pulse}
 use Rattle.xl_settings.specs.declared.settings.Settings.{Settings}
 use Rattle.xl_settings.specs.Peers.{PeerSetting}
 
@@ -30,8 +30,13 @@ core_settings s = record {
 abbrev pub opening_core : Settings → ℕ → ℕ → Core
 opening_core s moment kept = with_queues (opened (core_settings s) moment kept)
 
-abbrev pub timing_of : Settings → ℕ → Timing
-timing_of s moment = record { opened = moment; every = s.heartbeat_ms; run = s.run_ms }
+-- what its heartbeat goes by: the list that was last set is at first the one that the core is opened with
+abbrev pub pulse_of : Settings → ℕ → Pulse
+pulse_of s moment = record {
+  timing = record { opened = moment; every = s.heartbeat_ms; run = s.run_ms };
+  publishing = s.publishing;
+  list = s.list;
+}
 
 abbrev pub number_of : PeerSetting → ℕ
 number_of peer = peer.number
@@ -39,17 +44,17 @@ number_of peer = peer.number
 abbrev pub members_of : Settings → List ℕ
 members_of s = map number_of s.peers
 
--- what a run is to do: its turns, the ids that it submits, the members that it serves, and when it beats
+-- what a run is to do: its turns, the ids that it submits, the members that it serves, and what its heartbeat goes by
 pub record Task : Type 0 where
   pub turns : ℕ
   pub submits : List TxId
   pub members : List ℕ
-  pub timing : Timing
+  pub pulse : Pulse
 
 abbrev pub task_of : Settings → ℕ → Task
 task_of s moment = record {
   turns = s.turns;
   submits = s.submit;
   members = members_of s;
-  timing = timing_of s moment;
+  pulse = pulse_of s moment;
 }

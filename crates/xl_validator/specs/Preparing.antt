@@ -12,7 +12,7 @@ use Rattle.xl_links.specs.Links.{Wire}
 use Rattle.xl_tags.specs.Rings.{key_of}
 use Rattle.xl_core.specs.Core.{Core}
 use Rattle.xl_store.specs.declared.entry.Entry.{Entry}
-use Rattle.xl_heartbeat.specs.declared.timing.Timing.{Timing}
+use Rattle.xl_heartbeat.specs.declared.pulse.Pulse.{Pulse}
 use Rattle.xl_settings.specs.Peers.{PeerSetting}
 use Rattle.xl_workers.specs.declared.plan.Plan.{Plan}
 use Rattle.xl_workers.specs.Linking.{contact_of}
@@ -27,7 +27,7 @@ task_in plan = record {
   turns = plan.turns;
   submits = plan.submits.items;
   members = map contact_of plan.contacts.items;
-  timing = plan.timing;
+  pulse = plan.pulse;
 }
 
 -- a node can be run with it: it has turns, and its members are peers of the core, each once
@@ -38,11 +38,11 @@ pub record IsReady (prepared : Prepared) : Type 0 where
   pub few : length prepared.plan.contacts.items ≤ 64
 
 -- a plan of so many turns, which submits these ids, serves these peers, and beats so
-pub record IsPlan (limit : ℕ) (ids : List TxId) (peers : List PeerSetting) (beats : Timing) (plan : Plan) : Type 0 where
+pub record IsPlan (limit : ℕ) (ids : List TxId) (peers : List PeerSetting) (beats : Pulse) (plan : Plan) : Type 0 where
   pub turns : plan.turns ≡ limit
   pub submits : plan.submits.items ≡ ids
   pub members : map contact_of plan.contacts.items ≡ map number_of peers
-  pub timing : plan.timing ≡ beats
+  pub pulse : plan.pulse ≡ beats
   pub numbers : AllByRecursion IsNumber plan.contacts.items
 
 -- What a run over a prepared core leaves: it goes as `Goes` says, or it left the output; and its status has its cause

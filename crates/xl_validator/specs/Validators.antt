@@ -1,5 +1,5 @@
 -- A whole run of the command `node`. Source: this project's own.
-use Rattle.std.specs.Prelude.{◌≡◌, ℕ, ◌≤◌, Bool, true, List, length, None, Ok, IfSome, IfErr, option_map}
+use Rattle.std.specs.Prelude.{◌≡◌, ℕ, ◌≤◌, Bool, true, List, length, None, Ok, IsErr, IfSome, IfOk, IfErr, option_map}
 use Rattle.std.specs.declared.option.Option.{Option}
 use Rattle.std.specs.Io.KnownBytes.{append_known}
 use Rattle.xl_base.specs.declared.status.Status.{Status}
@@ -27,8 +27,9 @@ pub record IsRefused (line : List ℕ) (end : Status) (old new : Option (List �
   pub whole : end ≡ status.InputRefused → new ≡ append_known old line
 
 -- settings that are refused open no store, and their line is told
-abbrev pub HasRefused : Option (List ℕ) → Option (List Entry) → Status → Option (List ℕ) → Option (List ℕ) → Type 0
-HasRefused input journal end old new = IfSome input (λ bytes. IfErr (settings_of bytes) (λ refusal.
+abbrev pub HasRefused : Option (List ℕ) → ℕ → Option (List Entry) → Status → Option (List ℕ) → Option (List ℕ)
+    → Type 0
+HasRefused input moment journal end old new = IfSome input (λ bytes. IfErr (settings_of bytes moment) (λ refusal.
     (journal ≡ None) × IsRefused (refusal_line refusal) end old new))
 
 -- what a run stands between: the hub and the output before it and after it
@@ -56,7 +57,7 @@ module _ {K : Type 0}
     pub run_end : RunEnd
     pub legal : IsLegal Leads start history
     pub run : NodeRun (setting start task.turns may_give links)
-        (doing task.submits task.members task.timing
+        (doing task.submits task.members task.pulse
         outside.old_faults outside.new_faults outside.old_output outside.new_output) run_end history
     pub keeps : KeepsAll held_by saves_of faults_of save_gives start history old new
     pub limit : length history ≤ task.turns
@@ -73,25 +74,35 @@ module _ {K : Type 0}
     pub gives : load_gives old kept new
     pub later : faults_of old ≤ faults_of new
 
-  -- A node ran by these settings: it was opened at a moment that the clock may give, with the number that its keeper
-  -- loaded
-  pub record HasRun (s : Settings) (may_give : ℕ → Bool) (links : ℕ → Option Wire) (outside : Between)
+  -- A node ran by these settings: it was opened at this moment, with the number that its keeper loaded
+  pub record HasRun (s : Settings) (moment : ℕ) (may_give : ℕ → Bool) (links : ℕ → Option Wire) (outside : Between)
       (old new : K) (end : Status) (history : List Entry) : Type 0 where
-    pub moment : ℕ
     pub kept : ℕ
     pub loaded : K
-    pub given : may_give moment ≡ true
     pub loads : Loads old kept loaded
     pub goes : Goes held_by saves_of faults_of save_gives
         (opening_core s moment kept) (task_of s moment) may_give links outside loaded new end history
 
-  -- a node ran by the settings of what the input held
-  abbrev pub IsNodeRun : Option (List ℕ) → (ℕ → Bool) → (ℕ → Option Wire) → Between → K → K → Status → List Entry
+  -- a node ran by the settings that the input held at the moment of its opening
+  abbrev pub IsNodeRun : Option (List ℕ) → ℕ → (ℕ → Bool) → (ℕ → Option Wire) → Between → K → K → Status → List Entry
       → Type 0
-  IsNodeRun input may_give links outside old new end history =
+  IsNodeRun input moment may_give links outside old new end history =
       (s : Settings)
-      × IfSome input (λ bytes. settings_of bytes ≡ Ok s)
-      × HasRun s may_give links outside old new end history
+      × IfSome input (λ bytes. settings_of bytes moment ≡ Ok s)
+      × HasRun s moment may_give links outside old new end history
+
+  -- A whole run of the command. There is one moment, which the clock may give, at which the settings are judged and at
+  -- which the core is opened
+  pub record Judges {O : Type 0} (input : Option (List ℕ)) (may_give : ℕ → Bool) (links : ℕ → Option Wire)
+      (outside : Between) (old_output new_output : O) (old new : K) (end : Status) (journal : Option (List Entry))
+      : Type 0 where
+    pub moment : ℕ
+    pub given : may_give moment ≡ true
+    pub refused : HasRefused input moment journal end outside.old_output.held outside.new_output.held
+    pub told : end ≡ status.InputRefused → IfSome input (λ bytes. IsErr (settings_of bytes moment))
+    pub ran : IfSome journal (λ history. IsNodeRun input moment may_give links outside old new end history)
+    pub unopened : IfSome input (λ bytes. IfOk (settings_of bytes moment) (λ _.
+        journal ≡ None → new_output ≡ old_output))
 
 -- a status of this command: it finds no fork, and no words are refused
 abbrev pub IsKnown : Status → Type 0

@@ -1,22 +1,22 @@
-ghost use Rattle.std.specs.Prelude.{◌≡◌, ◌≤◌, ◌⊎◌, Some, None, IfSome, IfOk, IsErr};
+ghost use Rattle.std.specs.Prelude.{◌≡◌, ◌≤◌, ◌⊎◌, Some, None, IfSome};
 ghost use Rattle.xl_base.specs.Faults.{Rose};
+ghost use Rattle.xl_base.specs.declared.moments.TheConstants.{GREATEST_MILLIS};
 ghost use Rattle.xl_settings.specs.Lines.{refusal_line};
 ghost use Rattle.xl_settings.specs.Runnable.{AreRunnable};
-ghost use Rattle.xl_settings.specs.Settings.{settings_of};
 ghost use Rattle.xl_workers.specs.Runs.{status_of_end};
 ghost use Rattle.xl_validator.specs.Preparing.{IsReady, Leaves, task_in};
-ghost use Rattle.xl_validator.specs.Validators.{HasRun, IsNodeRun, IsRefused, HasRefused, between};
+ghost use Rattle.xl_validator.specs.Validators.{HasRun, IsRefused, Judges, between};
 ghost use Rattle.xl_validator.specs.Validators.{IsKnown, IsOfNode, IsUnopened};
 
 use crate::ended::Ended;
-use crate::preparing::{Prepared, prepare};
+use crate::preparing::{Judged, Prepared, prepare};
 use std::alloc::Global;
 use std::sync::Wait;
 use std::thread::Threads;
 use xl_base::Status;
 use xl_io::{Keeper, Sink, Source};
 use xl_links::{Clock, Hub, OpenGate};
-use xl_settings::{Settings, SettingsFault, SettingsRefusal, settings_from, write_refusal};
+use xl_settings::{SettingsFault, SettingsRefusal, settings_from, write_refusal};
 use xl_store::{Closed, Spared};
 use xl_trie::Trie;
 use xl_workers::{Ran, node};
@@ -85,7 +85,7 @@ fn keeper_of<K: Drop>(spared: Spared<Trie, K>) -> K
     keeper
 }
 
-/// Opens a node by its settings, and runs it.
+/// Opens a node by its settings, at the moment at which they were judged, and runs it.
 fn start<
     W: Threads + Wait + Sync,
     O: Sink + Send,
@@ -95,15 +95,16 @@ fn start<
 >(
     rt: &W,
     alloc: Global,
-    settings: Settings,
+    judged: Judged,
     output: &mut O,
     keeper: K,
     hub: &mut H,
     clock: &C,
 ) -> Ended<K>
-    requires runnable { AreRunnable settings }
+    requires runnable { AreRunnable judged.settings }
+    requires moment { judged.now ≤ GREATEST_MILLIS }
     ensures ran { IfSome result.journal (λ history. HasRun K.held K.saves K.faults K.load_gives K.save_gives
-        settings (C.may_give clock.now) (H.gives hub.old)
+        judged.settings judged.now (C.may_give clock.now) (H.gives hub.old)
         (between (H.faults hub.old) (H.faults hub.new)
         (O.held output.old) (O.faults output.old) (O.held output.new) (O.faults output.new))
         keeper result.keeper result.status history) }
@@ -118,7 +119,7 @@ fn start<
     let Ok(kept) = keeper.load() else {
         return Ended::unopened(Status::KeepFault, keeper);
     };
-    match prepare(alloc, settings, clock.now(), kept) {
+    match prepare(alloc, judged, kept) {
         Ok(prepared) => run(rt, alloc, prepared, output, keeper, hub, clock),
         Err(_) => Ended::unopened(Status::OutOfMemory, keeper),
     }
@@ -126,9 +127,9 @@ fn start<
 
 /// Runs a validator by the settings that the input holds.
 ///
-/// It reads the settings, loads the kept number, opens the core at the clock's moment, submits the ids, opens a link to
-/// each peer, and serves all peers beside the heartbeat until the run is over. The keeper comes back, and so does the
-/// journal of the node's store, where one was opened.
+/// It asks the clock for the moment of the opening, reads the settings as they are at that moment, loads the kept number
+/// and opens the core at it. It submits the ids, opens a link to each peer, and serves all peers beside the heartbeat
+/// until the run is over. The keeper comes back, and so does the journal of the node's store, if one was opened.
 ///
 /// Refused settings end it with `InputRefused` and the one line that names the key.
 pub fn validator<
@@ -147,29 +148,32 @@ pub fn validator<
     hub: &mut H,
     clock: &C,
 ) -> Ended<K>
-    // Refused settings open no store, and of their line a front is written.
-    ensures refused { HasRefused (I.left input.old) result.journal result.status
-        (O.held output.old) (O.held output.new) }
-    // Other settings run a node, or nothing is written.
-    ensures ran { IfSome result.journal (λ history. IsNodeRun K.held K.saves K.faults K.load_gives K.save_gives
+    // Settings are judged at one moment that the clock may give. If they are refused no store is opened, and of their line
+    // a front is written; others run a node that is opened at that moment, or nothing is written.
+    ensures judged { Judges K.held K.saves K.faults K.load_gives K.save_gives
         (I.left input.old) (C.may_give clock.now) (H.gives hub.old)
         (between (H.faults hub.old) (H.faults hub.new)
         (O.held output.old) (O.faults output.old) (O.held output.new) (O.faults output.new))
-        keeper result.keeper result.status history) }
-    ensures unopened { IfSome (I.left input.old) (λ bytes. IfOk (settings_of bytes) (λ _.
-        result.journal ≡ None → output.new ≡ output.old)) }
+        output.old output.new keeper result.keeper result.status result.journal }
     // Each status has its cause. An end by time, a failed network and a spent store are those of a node that ran.
     ensures opened { result.journal ≡ None → IsUnopened result.status }
     ensures known { IsKnown result.status }
-    ensures input { result.status ≡ Status.InputRefused
-        → IfSome (I.left input.old) (λ bytes. IsErr (settings_of bytes)) }
     ensures read { result.status ≡ Status.ReadFault → Rose (I.faults input.old) (I.faults input.new) }
     ensures write { result.status ≡ Status.WriteFault → Rose (O.faults output.old) (O.faults output.new) }
     ensures keeper { result.status ≡ Status.KeepFault → Rose (K.faults keeper) (K.faults result.keeper) }
     ensures net { result.status ≡ Status.NetFault → Rose (H.faults hub.old) (H.faults hub.new) }
 {
-    match settings_from(alloc, input) {
-        Ok(settings) => start(rt, alloc, settings, output, keeper, hub, clock),
+    let now = clock.now();
+    match settings_from(alloc, input, now) {
+        Ok(settings) => start(
+            rt,
+            alloc,
+            Judged { settings, now },
+            output,
+            keeper,
+            hub,
+            clock,
+        ),
         Err(SettingsFault::Refused(refusal)) => {
             Ended::unopened(refuse(output, &refusal), keeper)
         }

@@ -1,9 +1,10 @@
 //! The command `node`: a validator by the settings that the input holds.
 //!
-//! It stands on xl_settings, which reads them, and on xl_workers, which runs a node. Its one contract: the journal that
-//! is handed back is a legal history of the core that the settings give, opened at a moment of the clock with the
-//! number that the keeper loaded; its places are shared out among submits, heartbeat, workers and the last reports; the
-//! output is the lines of its reports, or the line of what is refused; and each status has its cause.
+//! It stands on xl_settings, which reads them, and on xl_workers, which runs a node. Its one contract: settings are judged
+//! at one moment that the clock gave. The journal that is handed back is a legal history of the core that they give,
+//! opened at that moment with the number that the keeper loaded; its places are shared out among submits, heartbeat,
+//! workers and the last reports; the output is the lines of its reports, or the line of what is refused; and each status
+//! has its cause.
 #![tactic(auto)]
 
 mod command;

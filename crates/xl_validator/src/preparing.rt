@@ -10,10 +10,17 @@ use crate::keys::keys_of;
 use std::alloc::Global;
 use xl_base::{Millis, OutOfMemory, Seq, TxIds};
 use xl_core::Core;
-use xl_heartbeat::Timing;
+use xl_heartbeat::{Pulse, Timing};
 use xl_settings::{Peers, Settings};
 use xl_trie::Trie;
 use xl_workers::Plan;
+
+/// Settings, and the moment of the opening, at which they were judged.
+#[derive(Drop)]
+pub(crate) struct Judged {
+    pub settings: Settings,
+    pub now: Millis,
+}
 
 /// A core at its opening, and what is run with it.
 #[derive(Drop)]
@@ -22,19 +29,15 @@ pub(crate) struct Prepared {
     pub plan: Plan,
 }
 
-/// Opens the core of the settings at a moment, with the number that was kept.
-pub(crate) fn prepare(
-    alloc: Global,
-    settings: Settings,
-    now: Millis,
-    kept: Seq,
-) -> Result<Prepared, OutOfMemory>
-    requires runnable { AreRunnable settings }
-    requires moment { now ≤ GREATEST_MILLIS }
-    ensures core { IfOk result (λ prepared. prepared.core ≡ opening_core settings now kept) }
-    ensures task { IfOk result (λ prepared. task_in prepared.plan ≡ task_of settings now) }
+/// Opens the core of the settings at their moment, with the number that was kept.
+pub(crate) fn prepare(alloc: Global, judged: Judged, kept: Seq) -> Result<Prepared, OutOfMemory>
+    requires runnable { AreRunnable judged.settings }
+    requires moment { judged.now ≤ GREATEST_MILLIS }
+    ensures core { IfOk result (λ prepared. prepared.core ≡ opening_core judged.settings judged.now kept) }
+    ensures task { IfOk result (λ prepared. task_in prepared.plan ≡ task_of judged.settings judged.now) }
     ensures ready { IfOk result IsReady }
 {
+    let Judged { settings, now } = judged;
     let Settings {
         me,
         list,
@@ -46,14 +49,20 @@ pub(crate) fn prepare(
         submit,
         peers,
         speak,
+        publishing,
+        journal: _,
     } = settings;
     let keys = keys_of(me, peers.as_slice());
-    let timing = Timing {
-        opened: now,
-        every: heartbeat_ms as u32,
-        run: run_ms,
+    let pulse = Pulse {
+        timing: Timing {
+            opened: now,
+            every: heartbeat_ms as u32,
+            run: run_ms,
+        },
+        publishing,
+        list: list.copy(),
     };
-    let plan = match plan_of(alloc, turns, submit, peers, timing) {
+    let plan = match plan_of(alloc, turns, submit, peers, pulse) {
         Ok(plan) => plan,
         Err(_) => return Err(OutOfMemory),
     };
@@ -77,9 +86,9 @@ fn plan_of(
     turns: u64,
     submit: TxIds,
     peers: Peers,
-    timing: Timing,
+    pulse: Pulse,
 ) -> Result<Plan, OutOfMemory>
-    ensures plan { IfOk result (IsPlan turns submit peers timing) }
+    ensures plan { IfOk result (IsPlan turns submit peers pulse) }
 {
     let submits = match Vec::from_slice(alloc, submit.as_slice()) {
         Ok(submits) => submits,
@@ -90,7 +99,7 @@ fn plan_of(
             turns,
             submits,
             contacts,
-            timing,
+            pulse,
         }),
         Err(_) => Err(OutOfMemory),
     }

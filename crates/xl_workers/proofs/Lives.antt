@@ -15,7 +15,7 @@ use Rattle.xl_store.specs.declared.store.StoreEnd.TheVariants as refused
 use Rattle.xl_store.specs.Calls.{Made}
 use Rattle.xl_store.proofs.Making.{rise_wider, prefix_length}
 use Rattle.xl_store.proofs.Journals.{stand_in_longer}
-use Rattle.xl_heartbeat.specs.declared.timing.Timing.{Timing}
+use Rattle.xl_heartbeat.specs.declared.pulse.Pulse.{Pulse}
 use Rattle.xl_heartbeat.specs.declared.ends.BeatEnd.{BeatEnd}
 use Rattle.xl_heartbeat.specs.declared.ends.Ending.{Ending}
 use Rattle.xl_heartbeat.specs.declared.ends.Ending.TheVariants as ending
@@ -59,12 +59,12 @@ module _ (start : Core) (turns : ℕ) (old new : Knowledge Entry) (o1 o2 : Outpu
       record { handed = t.handed; made = t.made; drawn = t.drawn; full = t.full; written = same }
 
 module _ (s : Setting) where
-  shared_out : (timing : Timing) (members : List ℕ) (old mid new : Knowledge Entry) (o1 o2 o3 : Output)
-      (beats : BeatEnd) (last : Ending) (w : Worked s timing members old o1 beats mid o2)
+  shared_out : (pulse : Pulse) (members : List ℕ) (old mid new : Knowledge Entry) (o1 o2 o3 : Output)
+      (beats : BeatEnd) (last : Ending) (w : Worked s pulse members old o1 beats mid o2)
       (t : TookLast s.start s.turns beats.run mid o2 last new o3)
       (history : List Entry) → Closes s.turns new history → new.mine ≡ all_below (length history)
-      → SharedOut s timing members history old.mine beats last o1 o3
-  shared_out timing members old mid new o1 o2 o3 beats last w t history close all =
+      → SharedOut s pulse members history old.mine beats last o1 o3
+  shared_out pulse members old mid new o1 o2 o3 beats last w t history close all =
       let before = closes_earlier s.turns mid new history t.made.begins t.drawn close in
       record {
         beat = w.beat;
@@ -87,15 +87,15 @@ module _ (s : Setting) where
         written = outputs w.calls (taking_calls last t.handed) o1 o2 o3 beats last w.written t.written;
       }
 
-  pub lives_ran : (timing : Timing) (members : List ℕ) (ids : List TxId) (old_faults new_faults : ℕ)
+  pub lives_ran : (pulse : Pulse) (members : List ℕ) (ids : List TxId) (old_faults new_faults : ℕ)
       (old mid new : Knowledge Entry) (o1 o2 o3 : Output) (beats : BeatEnd) (last : Ending)
-      → Worked s timing members old o1 beats mid o2
+      → Worked s pulse members old o1 beats mid o2
       → TookLast s.start s.turns beats.run mid o2 last new o3
-      → Lives s (doing ids members timing old_faults new_faults o1 o3) ids (end.Ran beats last) old new
-  lives_ran timing members ids old_faults new_faults old mid new o1 o2 o3 beats last w t = record {
+      → Lives s (doing ids members pulse old_faults new_faults o1 o3) ids (end.Ran beats last) old new
+  lives_ran pulse members ids old_faults new_faults old mid new o1 o2 o3 beats last w t = record {
     share = t.made.share ∙ w.share;
     begins = prefix_trans old.seen mid.seen new.seen w.begins t.made.begins;
-    by = λ history close all. (refl, shared_out timing members old mid new o1 o2 o3 beats last w t history close all);
+    by = λ history close all. (refl, shared_out pulse members old mid new o1 o2 o3 beats last w t history close all);
   }
 
   -- nothing ran, if memory runs out

@@ -20,7 +20,7 @@ use Rattle.xl_store.proofs.Journals.{stand_in_longer}
 use Rattle.xl_peers.specs.declared.ends.Served.{Served}
 use Rattle.xl_peers.specs.declared.ends.Served.TheVariants as served
 use Rattle.xl_peers.specs.Serving.{Deed, IsReason, calls_in}
-use Rattle.xl_heartbeat.specs.declared.timing.Timing.{Timing}
+use Rattle.xl_heartbeat.specs.declared.pulse.Pulse.{Pulse}
 use Rattle.xl_heartbeat.specs.declared.ends.BeatEnd.{BeatEnd}
 use Rattle.xl_heartbeat.specs.declared.ends.Ending.{Ending}
 use Rattle.xl_heartbeat.specs.declared.ends.Ending.TheVariants as ending
@@ -124,9 +124,9 @@ module _ {B K L : Type 0} (store : Store B K) (may : ℕ → Bool) (shows : L �
   same_share old new h = h.serves.serving.made.share
 
   -- what the run, and then the joins, left of the passes
-  pub record Joined (timing : Timing) (first heart beaten one pass : Pass Entry) (old_output new_output : Output)
+  pub record Joined (pulse : Pulse) (first heart beaten one pass : Pass Entry) (old_output new_output : Output)
       (end : BeatEnd) (old new : List (Worker L)) : Type 0 where
-    pub beating : Heartbeat (start_of store) (turns_of store) may timing (known heart) old_output end
+    pub beating : Heartbeat (start_of store) (turns_of store) may pulse (known heart) old_output end
         (known beaten) new_output
     pub served : HaveServed store may shows old new
     pub long : length new ≡ length old
@@ -138,9 +138,9 @@ module _ {B K L : Type 0} (store : Store B K) (may : ℕ → Bool) (shows : L �
     pub each : AllByRecursion (HasSeen (known pass).seen) new
     pub all : AreAll first heart old
 
-  module _ (timing : Timing) (first heart beaten one pass : Pass Entry) (old_output new_output : Output)
+  module _ (pulse : Pulse) (first heart beaten one pass : Pass Entry) (old_output new_output : Output)
       (end : BeatEnd) (old new : List (Worker L))
-      (j : Joined timing first heart beaten one pass old_output new_output end old new) where
+      (j : Joined pulse first heart beaten one pass old_output new_output end old new) where
     -- all shares came together
     whole_share : (known pass).share ≡ whole
     whole_share =
@@ -180,7 +180,7 @@ module _ {B K L : Type 0} (store : Store B K) (may : ℕ → Bool) (shows : L �
       at_store = setting (start_of store) (turns_of store) may gives
 
       beat_part : (history : List Entry) → Closes (turns_of store) (known pass) history
-          → BeatPart at_store timing history end j.beating.calls (known beaten).mine
+          → BeatPart at_store pulse history end j.beating.calls (known beaten).mine
       beat_part history close =
           let le = close.drawn in
           let le' = beat_drawn in
@@ -242,7 +242,7 @@ module _ {B K L : Type 0} (store : Store B K) (may : ℕ → Bool) (shows : L �
           pairs)
 
       pub worked : AllByRecursion (IsAsTold gives shows) (map peer_of old)
-          → Worked at_store timing (map member_of (map peer_of old)) (known first) old_output end
+          → Worked at_store pulse (map member_of (map peer_of old)) (known first) old_output end
           (known pass) new_output
       worked told = record {
         calls = j.beating.calls;

@@ -8,7 +8,7 @@ use Rattle.xl_turns.specs.Passes.{known}
 use mathlib.Core.List.{IsPrefix}
 use Rattle.xl_store.specs.declared.entry.Entry.{Entry}
 use Rattle.xl_store.specs.declared.store.Store.{Store}
-use Rattle.xl_heartbeat.specs.declared.timing.Timing.{Timing}
+use Rattle.xl_heartbeat.specs.declared.pulse.Pulse.{Pulse}
 use Rattle.xl_heartbeat.specs.declared.ends.BeatEnd.{BeatEnd}
 use Rattle.xl_heartbeat.specs.Outputs.{Output}
 use Rattle.xl_workers.specs.declared.linking.Peer.{Peer}
@@ -50,10 +50,10 @@ module _ {B K L : Type 0} (store : Store B K) (pass first heart now : Pass Entry
   same_seen = h.seen ∙ ap (λ (k : Knowledge Entry). k.seen) a
 
 -- of the pass that came before only its places and what it had seen count
-pub worked_from : (s : Setting) (timing : Timing) (members : List ℕ) (old first new : Knowledge Entry) (o1 o2 : Output)
+pub worked_from : (s : Setting) (pulse : Pulse) (members : List ℕ) (old first new : Knowledge Entry) (o1 o2 : Output)
     (end : BeatEnd) → first.mine ≡ old.mine → first.seen ≡ old.seen
-    → Worked s timing members first o1 end new o2 → Worked s timing members old o1 end new o2
-worked_from s timing members old first new o1 o2 end mine seen w = record {
+    → Worked s pulse members first o1 end new o2 → Worked s pulse members old o1 end new o2
+worked_from s pulse members old first new o1 o2 end mine seen w = record {
   calls = w.calls;
   beat = w.beat;
   parts = w.parts;

@@ -7,7 +7,7 @@ use Rattle.xl_base.specs.declared.status.Status.{Status}
 use Rattle.xl_base.specs.declared.status.Status.TheVariants as status
 use Rattle.xl_turns.specs.Places.{all_below}
 use Rattle.xl_store.specs.declared.entry.Entry.{Entry}
-use Rattle.xl_heartbeat.specs.declared.timing.Timing.{Timing}
+use Rattle.xl_heartbeat.specs.declared.pulse.Pulse.{Pulse}
 use Rattle.xl_heartbeat.specs.Outputs.{Output}
 use Rattle.xl_heartbeat.specs.Statuses.{status_of_run}
 use Rattle.xl_workers.specs.declared.ends.RunEnd.{RunEnd}
@@ -25,17 +25,17 @@ status_of_end (end.StoreFull n) = status.StoreFull
 pub record Doing : Type 0 where
   pub ids : List TxId
   pub members : List ℕ
-  pub timing : Timing
+  pub pulse : Pulse
   pub old_faults : ℕ
   pub new_faults : ℕ
   pub old_output : Output
   pub new_output : Output
 
-abbrev pub doing : List TxId → List ℕ → Timing → ℕ → ℕ → Output → Output → Doing
-doing ids members timing old_faults new_faults old_output new_output = record {
+abbrev pub doing : List TxId → List ℕ → Pulse → ℕ → ℕ → Output → Output → Doing
+doing ids members pulse old_faults new_faults old_output new_output = record {
   ids = ids;
   members = members;
-  timing = timing;
+  pulse = pulse;
   old_faults = old_faults;
   new_faults = new_faults;
   old_output = old_output;
@@ -56,7 +56,7 @@ IsLess done ids = (next : TxId) × (rest : List TxId) × (ids ≡ done ++ next �
 abbrev pub EndsBy : Setting → Doing → List Entry → List TxId → List ℕ → RunEnd → Type 0
 EndsBy s d history done submits (end.Ran beats last) =
     (done ≡ d.ids)
-    × SharedOut s d.timing d.members history submits beats last d.old_output d.new_output
+    × SharedOut s d.pulse d.members history submits beats last d.old_output d.new_output
 EndsBy s d history done submits end.NetFault =
     (done ≡ d.ids)
     × NoMore d history submits

@@ -15,7 +15,7 @@ use Rattle.xl_store.specs.Calls.{Call, Rise, StandAt}
 use Rattle.xl_peers.specs.declared.ends.Served.{Served}
 use Rattle.xl_peers.specs.declared.ends.Served.TheVariants as served
 use Rattle.xl_peers.specs.Serving.{Serves, calls_in}
-use Rattle.xl_heartbeat.specs.declared.timing.Timing.{Timing}
+use Rattle.xl_heartbeat.specs.declared.pulse.Pulse.{Pulse}
 use Rattle.xl_heartbeat.specs.declared.ends.Ending.{Ending}
 use Rattle.xl_heartbeat.specs.declared.ends.BeatEnd.{BeatEnd}
 use Rattle.xl_heartbeat.specs.Outputs.{Output, Adds, AddsLess}
@@ -48,10 +48,10 @@ pub record SubmitPart (s : Setting) (history : List Entry) (ids : List TxId) (pl
   pub stand : Stands s.start history places calls
 
 -- beats, and then the stop; if the store had no turn for one, the history has as many entries as that has turns
-pub record BeatPart (s : Setting) (timing : Timing) (history : List Entry) (end : BeatEnd) (calls : List Call)
+pub record BeatPart (s : Setting) (pulse : Pulse) (history : List Entry) (end : BeatEnd) (calls : List Call)
     (places : List ℕ) : Type 0 where
   pub phase : Phase
-  pub run : IsBeating s.may_give timing calls phase
+  pub run : IsBeating s.may_give pulse calls phase
   pub stand : Stands s.start history places (calls ++ stop_calls end.stop)
   pub reason : IsReason s.turns calls phase (length history) end.run
   pub stopped : IsStop s.turns (length history) end.stop
@@ -91,7 +91,7 @@ IsOutput other text old new = Adds text old new
 
 -- Each place of the history is one of the submits, of the heartbeat, of the one worker of a member, or of the last
 -- reports; and the output is the lines of all reports that were handed out, in order
-pub record SharedOut (s : Setting) (timing : Timing) (members : List ℕ) (history : List Entry) (submits : List ℕ)
+pub record SharedOut (s : Setting) (pulse : Pulse) (members : List ℕ) (history : List Entry) (submits : List ℕ)
     (beats : BeatEnd) (last : Ending) (old new : Output) : Type 0 where
   pub beat : List ℕ
   pub parts : List (List ℕ)
@@ -99,7 +99,7 @@ pub record SharedOut (s : Setting) (timing : Timing) (members : List ℕ) (histo
   pub calls : List Call
   pub handed : List Report
   pub all : merge_all submits (beat ∷ parts) ++ end ≡ all_below (length history)
-  pub beating : BeatPart s timing history beats calls beat
+  pub beating : BeatPart s pulse history beats calls beat
   pub serving : Paired (ServePart s history) members parts
   pub ending : LastPart s history last handed end
   pub written : IsOutput (status_of_run beats last) (lines_of (calls ++ taking_calls last handed)) old new

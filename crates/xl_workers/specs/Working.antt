@@ -15,7 +15,7 @@ use Rattle.xl_store.specs.declared.entry.Entry.{Entry}
 use Rattle.xl_store.specs.declared.store.StoreEnd.{StoreEnd}
 use Rattle.xl_store.specs.declared.store.StoreEnd.TheVariants as refused
 use Rattle.xl_store.specs.Calls.{Call, Made}
-use Rattle.xl_heartbeat.specs.declared.timing.Timing.{Timing}
+use Rattle.xl_heartbeat.specs.declared.pulse.Pulse.{Pulse}
 use Rattle.xl_heartbeat.specs.declared.ends.BeatEnd.{BeatEnd}
 use Rattle.xl_heartbeat.specs.declared.ends.Ending.{Ending}
 use Rattle.xl_heartbeat.specs.declared.ends.Ending.TheVariants as ending
@@ -43,7 +43,7 @@ pub record Closes (turns : ℕ) (k : Knowledge Entry) (history : List Entry) : T
   pub limit : length history ≤ turns
 
 -- A whole pass came back, with the places of the heartbeat and of the workers beside the old ones
-pub record Worked (s : Setting) (timing : Timing) (members : List ℕ)
+pub record Worked (s : Setting) (pulse : Pulse) (members : List ℕ)
     (old : Knowledge Entry) (old_output : Output) (end : BeatEnd) (new : Knowledge Entry) (new_output : Output)
     : Type 0 where
   pub calls : List Call
@@ -53,7 +53,7 @@ pub record Worked (s : Setting) (timing : Timing) (members : List ℕ)
   pub begins : IsPrefix old.seen new.seen
   pub mine : new.mine ≡ merge_all old.mine (beat ∷ parts)
   pub written : IsWritten end.run (lines_of calls) old_output new_output
-  pub beating : (history : List Entry) → Closes s.turns new history → BeatPart s timing history end calls beat
+  pub beating : (history : List Entry) → Closes s.turns new history → BeatPart s pulse history end calls beat
   pub serving : (history : List Entry) → Closes s.turns new history → Paired (ServePart s history) members parts
 
 -- where a write's fault had ended the heartbeat nothing more was written

@@ -23,7 +23,7 @@ use std::alloc::Global;
 use std::sync::Wait;
 use std::thread::Threads;
 use xl_base::TxId;
-use xl_heartbeat::{Ending, Timing, take_reports};
+use xl_heartbeat::{Ending, Pulse, take_reports};
 use xl_io::{Discard, Keeper, Sink};
 use xl_ledger::Branch;
 use xl_links::{Clock, Gate, Hub, Link};
@@ -67,7 +67,7 @@ fn serve_all<
     store: &Store<B, K>,
     pass: Pass,
     peers: Vec<Peer<L>>,
-    timing: Timing,
+    pulse: &Pulse,
     gate: &G,
     clock: &C,
     sink: &mut O,
@@ -81,11 +81,11 @@ fn serve_all<
     ensures lives { (gives : ℕ → Option Wire) (ids : List TxId) (old_faults new_faults : ℕ)
         → AllByRecursion (IsAsTold gives L.shows) peers.items
         → Lives (setting (start_of store.now) (turns_of store.now) (C.may_give clock.now) gives)
-        (doing ids (map member_of peers.items) timing old_faults new_faults
+        (doing ids (map member_of peers.items) pulse.now old_faults new_faults
         (output (O.held sink.old) (O.faults sink.old)) (output (O.held sink.new) (O.faults sink.new)))
         ids result.0 (known pass) (known result.1) }
 {
-    match work(rt, alloc, store, pass, peers, timing, gate, clock, sink) {
+    match work(rt, alloc, store, pass, peers, pulse, gate, clock, sink) {
         Ok((mut pass, beats)) => {
             let last = take_last(rt, store, sink, &mut pass, beats.run);
             (RunEnd::Ran { beats, last }, pass)
@@ -109,7 +109,7 @@ fn link_and_serve<
     store: &Store<B, K>,
     pass: Pass,
     contacts: Vec<Contact>,
-    timing: Timing,
+    pulse: &Pulse,
     hub: &mut H,
     gate: &G,
     clock: &C,
@@ -126,12 +126,12 @@ fn link_and_serve<
     ensures not_full { (n : ℕ) → result.0 ≢ RunEnd.StoreFull n }
     ensures lives { (ids : List TxId)
         → Lives (setting (start_of store.now) (turns_of store.now) (C.may_give clock.now) (H.gives hub.old))
-        (doing ids (map contact_of contacts.items) timing (H.faults hub.old) (H.faults hub.new)
+        (doing ids (map contact_of contacts.items) pulse.now (H.faults hub.old) (H.faults hub.new)
         (output (O.held sink.old) (O.faults sink.old)) (output (O.held sink.new) (O.faults sink.new)))
         ids result.0 (known pass) (known result.1) }
 {
     match open_links(alloc, hub, contacts) {
-        Ok(peers) => serve_all(rt, alloc, store, pass, peers, timing, gate, clock, sink),
+        Ok(peers) => serve_all(rt, alloc, store, pass, peers, pulse, gate, clock, sink),
         Err(NoLinks::NetFault) => (RunEnd::NetFault, pass),
         Err(NoLinks::OutOfMemory) => (RunEnd::OutOfMemory, pass),
     }
@@ -163,7 +163,7 @@ pub(crate) fn live<
     mut pass: Pass,
     ids: &[TxId],
     contacts: Vec<Contact>,
-    timing: Timing,
+    pulse: &Pulse,
     hub: &mut H,
     gate: &G,
     clock: &C,
@@ -179,13 +179,13 @@ pub(crate) fn live<
     ensures later { H.faults hub.old ≤ H.faults hub.new }
     ensures unopened { (n : ℕ) → result.0 ≡ RunEnd.StoreFull n → hub.new ≡ hub.old }
     ensures lived { Lived (setting (start_of store.now) (turns_of store.now) (C.may_give clock.now) (H.gives hub.old))
-        (doing ids.now (map contact_of contacts.items) timing (H.faults hub.old) (H.faults hub.new)
+        (doing ids.now (map contact_of contacts.items) pulse.now (H.faults hub.old) (H.faults hub.new)
         (output (O.held sink.old) (O.faults sink.old)) (output (O.held sink.new) (O.faults sink.new)))
         result.0 (known result.1) }
 {
     match submit_all(rt, store, &mut pass, ids, clock) {
         Ok(()) => link_and_serve(
-            rt, alloc, store, pass, contacts, timing, hub, gate, clock, sink,
+            rt, alloc, store, pass, contacts, pulse, hub, gate, clock, sink,
         ),
         Err(end) => (end_of(end), pass),
     }

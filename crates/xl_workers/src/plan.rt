@@ -1,9 +1,9 @@
 use xl_base::{NodeNo, TxId};
-use xl_heartbeat::Timing;
+use xl_heartbeat::Pulse;
 use xl_links::Way;
 
 /// What a run is to do.
-#[derive(Debug, Drop)]
+#[derive(Drop)]
 pub struct Plan {
     /// How many turns the store has in all, 1 to 2^62.
     pub turns: u64,
@@ -11,8 +11,8 @@ pub struct Plan {
     pub submits: Vec<TxId>,
     /// The members that are served, each once. They are peers of the core.
     pub contacts: Vec<Contact>,
-    /// When the heartbeat beats, and until when.
-    pub timing: Timing,
+    /// When the heartbeat beats, until when, and which list it sets at each beat.
+    pub pulse: Pulse,
 }
 
 /// A member that is to be served, and how it is reached.

@@ -66,7 +66,7 @@ pub fn node<
     // its places are shared out, and its lines are the output
     ensures run { IfOk result (λ ran. NodeRun
         (setting core plan.turns (C.may_give clock.now) (H.gives hub.old))
-        (doing plan.submits.items (map contact_of plan.contacts.items) plan.timing (H.faults hub.old) (H.faults hub.new)
+        (doing plan.submits.items (map contact_of plan.contacts.items) plan.pulse (H.faults hub.old) (H.faults hub.new)
         (output (O.held sink.old) (O.faults sink.old)) (output (O.held sink.new) (O.faults sink.new)))
         ran.end ran.closed.journal) }
     ensures unopened { IfOk result (λ ran. (n : ℕ) → ran.end ≡ RunEnd.StoreFull n → hub.new ≡ hub.old) }
@@ -78,14 +78,14 @@ pub fn node<
         turns,
         submits,
         contacts,
-        timing,
+        pulse,
     } = plan;
     let (store, pass) = match Store::open(alloc, core, keeper, turns) {
         Ok(opened) => opened,
         Err(spared) => return Err(spared),
     };
     let (end, pass) = live(
-        rt, alloc, &store, pass, &submits, contacts, timing, hub, gate, clock, sink,
+        rt, alloc, &store, pass, &submits, contacts, &pulse, hub, gate, clock, sink,
     );
     let closed = store.close(pass);
     Ok(Ran { end, closed })

@@ -19,7 +19,7 @@ use std::alloc::Global;
 use std::sync::Wait;
 use std::thread;
 use std::thread::Threads;
-use xl_heartbeat::{BeatEnd, Timing, beat};
+use xl_heartbeat::{BeatEnd, Pulse, beat};
 use xl_io::{Keeper, Sink};
 use xl_ledger::Branch;
 use xl_links::{Clock, Gate, Link};
@@ -40,7 +40,7 @@ fn run<
     store: &Store<B, K>,
     pass: &mut Pass,
     workers: &mut [Worker<L>],
-    timing: Timing,
+    pulse: &Pulse,
     gate: &G,
     clock: &C,
     sink: &mut O,
@@ -48,7 +48,7 @@ fn run<
     requires pass { IsOf store.now pass.old }
     requires ready { AreReady store.now workers.old }
     ensures pass { IsOf store.now pass.new }
-    ensures heartbeat { Heartbeat (start_of store.now) (turns_of store.now) (C.may_give clock.now) timing
+    ensures heartbeat { Heartbeat (start_of store.now) (turns_of store.now) (C.may_give clock.now) pulse.now
         (known pass.old) (output (O.held sink.old) (O.faults sink.old)) result
         (known pass.new) (output (O.held sink.new) (O.faults sink.new)) }
     ensures served { HaveServed store.now (C.may_give clock.now) L.shows workers.old workers.new }
@@ -65,10 +65,10 @@ fn run<
         &mut || -> BeatEnd
             requires { IsOf store.now pass.now }
             ensures { IsOf store.entry.now pass.exit.now
-                × Heartbeat (start_of store.entry.now) (turns_of store.entry.now) (C.may_give clock.entry.now) timing
+                × Heartbeat (start_of store.entry.now) (turns_of store.entry.now) (C.may_give clock.entry.now) pulse.entry.now
                 (known pass.entry.now) (output (O.held sink.entry.now) (O.faults sink.entry.now)) result
                 (known pass.exit.now) (output (O.held sink.exit.now) (O.faults sink.exit.now)) }
-        { beat(rt, store, clock, sink, timing, pass) },
+        { beat(rt, store, clock, sink, pulse, pass) },
     );
     beats
 }
@@ -89,7 +89,7 @@ fn run_and_join<
     first: Pass,
     heart: Pass,
     workers: Vec<Worker<L>>,
-    timing: Timing,
+    pulse: &Pulse,
     gate: &G,
     clock: &C,
     sink: &mut O,
@@ -101,7 +101,7 @@ fn run_and_join<
     ensures pass { IsOf store.now result.0 }
     ensures worked { (gives : ℕ → Option Wire)
         → AllByRecursion (IsAsTold gives L.shows) (map peer_of workers.items)
-        → Worked (setting (start_of store.now) (turns_of store.now) (C.may_give clock.now) gives) timing
+        → Worked (setting (start_of store.now) (turns_of store.now) (C.may_give clock.now) gives) pulse.now
         (map member_of (map peer_of workers.items)) (known first) (output (O.held sink.old) (O.faults sink.old))
         result.1 (known result.0) (output (O.held sink.new) (O.faults sink.new)) }
 {
@@ -113,7 +113,7 @@ fn run_and_join<
         store,
         &mut heart,
         workers.as_mut_slice(),
-        timing,
+        pulse,
         gate,
         clock,
         sink,
@@ -138,7 +138,7 @@ pub(crate) fn work<
     store: &Store<B, K>,
     pass: Pass,
     peers: Vec<Peer<L>>,
-    timing: Timing,
+    pulse: &Pulse,
     gate: &G,
     clock: &C,
     sink: &mut O,
@@ -150,7 +150,7 @@ pub(crate) fn work<
     ensures pass { IfOk result (λ done. IsOf store.now done.0) }
     ensures worked { IfOk result (λ done. (gives : ℕ → Option Wire)
         → AllByRecursion (IsAsTold gives L.shows) peers.items
-        → Worked (setting (start_of store.now) (turns_of store.now) (C.may_give clock.now) gives) timing
+        → Worked (setting (start_of store.now) (turns_of store.now) (C.may_give clock.now) gives) pulse.now
         (map member_of peers.items) (known pass) (output (O.held sink.old) (O.faults sink.old))
         done.1 (known done.0) (output (O.held sink.new) (O.faults sink.new))) }
     ensures spared { IfErr result (λ back. (back ≡ pass) × (sink.new ≡ sink.old)) }
@@ -161,6 +161,6 @@ pub(crate) fn work<
     let (first, heart) = store.split(pass);
     let (first, workers) = hire(store, first, peers, room);
     Ok(run_and_join(
-        rt, alloc, store, first, heart, workers, timing, gate, clock, sink,
+        rt, alloc, store, first, heart, workers, pulse, gate, clock, sink,
     ))
 }

@@ -8,7 +8,7 @@ use Rattle.xl_heartbeat.proofs.beating.beat_on.Given as goal
 abbrev pub invariant-loop : goal.invariant-loop
 invariant-loop g l = record {
   pass : IsOf l.store l.pass;
-  far : Beating (start_of l.store) (g.C.Clock.may_give l.clock) l.timing
-      (known l.initial.pass) (output (g.O.Sink.held l.initial.sink) (g.O.Sink.faults l.initial.sink)) Beats
+  far : Beating (start_of l.store) (g.C.Clock.may_give l.clock) l.pulse
+      (known l.initial.pass) (output (g.O.Sink.held l.initial.sink) (g.O.Sink.faults l.initial.sink)) (Beats l.set)
       (known l.pass) (output (g.O.Sink.held l.sink) (g.O.Sink.faults l.sink));
 }

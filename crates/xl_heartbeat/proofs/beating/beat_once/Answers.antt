@@ -2,8 +2,9 @@ use Rattle.std.proofs.Common.{sym, subst, ◌∙◌, ap}
 use Rattle.xl_turns.specs.Passes.{known}
 use Rattle.xl_store.specs.Stores.{start_of, turns_of}
 use Rattle.xl_heartbeat.specs.Outputs.{output}
+use Rattle.xl_heartbeat.specs.Beats.{Phase}
 use Rattle.xl_heartbeat.specs.Going.{Beaten, Follows, after_reports}
-use Rattle.xl_heartbeat.proofs.Pulses.{timed, taken, not_timed}
+use Rattle.xl_heartbeat.proofs.Pulses.{relisted, timed, taken, not_called}
 use Rattle.xl_heartbeat.proofs.beating.beat_once.Goals as goal
 
 pub returns-clause-follows : goal.returns-clause-follows
@@ -11,23 +12,45 @@ returns-clause-follows g c k0 o0 b =
     let may = g.C.Clock.may_give c.args.clock.now in
     let start = start_of c.args.store.now in
     let turns = turns_of c.args.store.now in
+    let pulse = c.args.pulse.now in
+    let now = c.now-now.result in
+    let set = c.relist_at.new.set in
     let before = output (g.O.Sink.held c.args.sink.now) (g.O.Sink.faults c.args.sink.now) in
     let after = output (g.O.Sink.held c.take_reports-taken.new.sink) (g.O.Sink.faults c.take_reports-taken.new.sink) in
-    let called = c.in-Ok.ensures.called in
-    let due = timed start turns may c.args.timing k0 o0 (known c.args.pass.now) (known c.timer.new.pass) before
-    c.now-now.result c.in-Ok.field-0 c.now-now.ensures.may called.made called.later b in
+    let far = relisted start turns may pulse k0 o0 (known c.args.pass.now) (known c.relist_at.new.pass) before now
+    c.args.set.now set c.now-now.ensures.may c.in-Ok.ensures.relisted b in
+    let called = c.in-Ok-timer.ensures.called in
+    let due = timed start turns may pulse k0 o0 (known c.relist_at.new.pass) (known c.timer.new.pass) before now set
+    c.in-Ok-timer.field-0 called.made called.later far in
     let end = c.take_reports-taken.result in
-    subst (λ o. Follows start turns may c.args.timing k0 o0 o (known c.take_reports-taken.new.pass) after)
+    subst (λ o. Follows start turns may pulse k0 o0 set o (known c.take_reports-taken.new.pass) after)
     (sym (c.after_reports.ensures ∙ ap (after_reports end) c.is_over.ensures))
-    (taken start turns may c.args.timing k0 o0 end (known c.timer.new.pass) (known c.take_reports-taken.new.pass)
-    before after c.now-now.result due c.take_reports-taken.ensures.takes)
+    (taken start turns may pulse k0 o0 end (known c.timer.new.pass) (known c.take_reports-taken.new.pass)
+    before after now set due c.take_reports-taken.ensures.takes)
+
+pub returns-in-Err-timer-clause-follows : goal.returns-in-Err-timer-clause-follows
+returns-in-Err-timer-clause-follows g c k0 o0 b =
+    let may = g.C.Clock.may_give c.args.clock.now in
+    let start = start_of c.args.store.now in
+    let turns = turns_of c.args.store.now in
+    let pulse = c.args.pulse.now in
+    let now = c.now-now.result in
+    let set = c.relist_at.new.set in
+    let before = output (g.O.Sink.held c.args.sink.now) (g.O.Sink.faults c.args.sink.now) in
+    let far = relisted start turns may pulse k0 o0 (known c.args.pass.now) (known c.relist_at.new.pass) before now
+    c.args.set.now set c.now-now.ensures.may c.in-Ok.ensures.relisted b in
+    subst (λ e. Beaten start turns may pulse k0 o0 e (known c.timer.new.pass) before)
+    (sym c.ending_of-in-Err-timer.ensures)
+    (not_called c.args.store.now may pulse k0 o0 (Phase.Times now set) tt c.relist_at.new.pass c.timer.new.pass before
+    c.in-Err-timer.end far c.in-Err-timer.ensures.refused)
 
 pub returns-in-Err-clause-follows : goal.returns-in-Err-clause-follows
 returns-in-Err-clause-follows g c k0 o0 b =
     let may = g.C.Clock.may_give c.args.clock.now in
-    let before = output (g.O.Sink.held c.args.sink.now) (g.O.Sink.faults c.args.sink.now) in
     let start = start_of c.args.store.now in
     let turns = turns_of c.args.store.now in
-    subst (λ e. Beaten start turns may c.args.timing k0 o0 e (known c.timer.new.pass) before) (sym c.ending_of.ensures)
-    (not_timed c.args.store.now may c.args.timing k0 o0 c.args.pass.now c.timer.new.pass before c.in-Err.end b
-    c.in-Err.ensures.refused)
+    let pulse = c.args.pulse.now in
+    let before = output (g.O.Sink.held c.args.sink.now) (g.O.Sink.faults c.args.sink.now) in
+    subst (λ e. Beaten start turns may pulse k0 o0 e (known c.relist_at.new.pass) before) (sym c.ending_of.ensures)
+    (not_called c.args.store.now may pulse k0 o0 (Phase.Beats c.args.set.now) tt c.args.pass.now c.relist_at.new.pass
+    before c.in-Err.end b c.in-Err.ensures.refused)

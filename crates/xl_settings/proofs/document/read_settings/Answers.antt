@@ -8,18 +8,18 @@ use Rattle.xl_settings.proofs.document.read_settings.Goals as goal
 pub returns-in-Ok-clause-answer : goal.returns-in-Ok-clause-answer
 returns-in-Ok-clause-answer c =
     let small : length c.args.bytes.now ≤ MOST_BYTES = search rules in
-    let is = within c.args.bytes.now (Some (table_view c.in-Ok.table)) small (a_document c.args.bytes.now
+    let is = within c.args.bytes.now c.args.now (Some (table_view c.in-Ok.table)) small (a_document c.args.bytes.now
     (table_view c.in-Ok.table) c.in-Ok.ensures.ok.0 c.in-Ok.ensures.ok.1) in
     given_as _ _ c.from_table.result is c.from_table.ensures
 
 pub returns-in-Ok-clause-runnable : goal.returns-in-Ok-clause-runnable
 returns-in-Ok-clause-runnable c =
     let small : length c.args.bytes.now ≤ MOST_BYTES = search rules in
-    let is = within c.args.bytes.now (Some (table_view c.in-Ok.table)) small (a_document c.args.bytes.now
+    let is = within c.args.bytes.now c.args.now (Some (table_view c.in-Ok.table)) small (a_document c.args.bytes.now
     (table_view c.in-Ok.table) c.in-Ok.ensures.ok.0 c.in-Ok.ensures.ok.1) in
-    runs_of c.args.bytes.now c.from_table.result (given_as _ _ c.from_table.result is c.from_table.ensures)
+    runs_of c.args.bytes.now c.args.now c.from_table.result (given_as _ _ c.from_table.result is c.from_table.ensures)
 
 pub returns-else-is_memory-clause-answer : goal.returns-else-is_memory-clause-answer
 returns-else-is_memory-clause-answer c =
     let small : length c.args.bytes.now ≤ MOST_BYTES = search rules in
-    within c.args.bytes.now None small (no_document c.args.bytes.now (c.in-Err.ensures.refused (search rules)))
+    within c.args.bytes.now c.args.now None small (no_document c.args.bytes.now (c.in-Err.ensures.refused (search rules)))

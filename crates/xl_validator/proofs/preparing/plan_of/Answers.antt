@@ -11,7 +11,7 @@ returns-in-Ok-contacts_of c = record {
     members =
         same_numbers c.in-Ok-contacts_of.contacts.items c.into_vec.result.items c.in-Ok-contacts_of.ensures.each
         ∙ ap (map number_of) c.into_vec.ensures;
-    timing = refl;
+    pulse = refl;
     numbers = c.in-Ok-contacts_of.ensures.numbers;
   };
 }

@@ -1,22 +1,23 @@
-use Rattle.std.proofs.Common.{◌∙◌, ap, refl}
+use Rattle.std.proofs.Common.{◌∙◌, ap}
 use Rattle.xl_core.specs.Core.{Core}
 use Rattle.xl_settings.specs.Peers.{are_peers}
-use Rattle.xl_validator.proofs.Opening.{is_ready, keyed, the_task}
+use Rattle.xl_validator.proofs.Opening.{is_ready, keyed, same_pulse, the_task}
 use Rattle.xl_validator.proofs.preparing.prepare.Goals as goal
 
 pub open-requires-clause-keyed : goal.open-requires-clause-keyed
 open-requires-clause-keyed c =
-    let s = c.args.settings in
+    let s = c.args.judged.settings in
     keyed c.keys_of-keys.result s.me c.as_slice.result.now s.list.members
     c.keys_of-keys.ensures.own c.keys_of-keys.ensures.peers
     (ap (are_peers s.me s.list.members) c.as_slice.ensures ∙ c.requires.runnable.peers)
 
 pub returns-in-Ok-open-clause-task : goal.returns-in-Ok-open-clause-task
 returns-in-Ok-open-clause-task c =
-    the_task c.args.settings _ c.in-Ok-open.core c.in-Ok.plan c.in-Ok.ensures.plan c.args.now refl
+    the_task c.args.judged.settings _ c.in-Ok-open.core c.in-Ok.plan c.in-Ok.ensures.plan c.args.judged.now
+    (same_pulse c.args.judged.settings c.args.judged.now c.copy.result c.copy.ensures)
 
 pub returns-in-Ok-open-clause-ready : goal.returns-in-Ok-open-clause-ready
 returns-in-Ok-open-clause-ready c =
-    is_ready c.args.settings _ c.in-Ok-open.core c.in-Ok.plan c.in-Ok.ensures.plan c.keys_of-keys.result
+    is_ready c.args.judged.settings _ c.in-Ok-open.core c.in-Ok.plan c.in-Ok.ensures.plan c.keys_of-keys.result
     c.as_slice.result.now c.as_slice.ensures c.keys_of-keys.ensures.peers
     (ap (λ (core : Core). core.node.keys) c.in-Ok-open.ensures.opened) c.requires.runnable

@@ -42,7 +42,7 @@ returns-in-Ok-clause-lives g c ids =
     let o2 = output (g.O.Sink.held c.serve_all.new.sink) (g.O.Sink.faults c.serve_all.new.sink) in
     subst
     (λ (ms : List ℕ).
-    Lives s (doing ids ms c.args.timing f1 f2 o1 o2) ids c.serve_all.result.0 (known c.args.pass)
+    Lives s (doing ids ms c.args.pulse.now f1 f2 o1 o2) ids c.serve_all.result.0 (known c.args.pass)
     (known c.serve_all.result.1))
     c.in-Ok.ensures.linked.members
     (c.serve_all.ensures.lives gives ids f1 f2 c.in-Ok.ensures.linked.told)
@@ -53,6 +53,6 @@ returns-in-Err-OutOfMemory-clause-lives g c ids =
     (g.H.Hub.gives c.args.hub.now) in
     let o = output (g.O.Sink.held c.args.sink.now) (g.O.Sink.faults c.args.sink.now) in
     lives_none s
-    (doing ids (map contact_of c.args.contacts.items) c.args.timing (g.H.Hub.faults c.args.hub.now)
+    (doing ids (map contact_of c.args.contacts.items) c.args.pulse.now (g.H.Hub.faults c.args.hub.now)
     (g.H.Hub.faults c.open_links.new.hub) o o)
     (known c.args.pass) c.requires.whole refl

@@ -16,7 +16,7 @@ returns-in-Ok-clause-lived g c =
     (g.H.Hub.gives c.args.hub.now) in
     let o1 = output (g.O.Sink.held c.args.sink.now) (g.O.Sink.faults c.args.sink.now) in
     let o2 = output (g.O.Sink.held c.link_and_serve.new.sink) (g.O.Sink.faults c.link_and_serve.new.sink) in
-    let d = doing c.args.ids.now (map contact_of c.args.contacts.items) c.args.timing
+    let d = doing c.args.ids.now (map contact_of c.args.contacts.items) c.args.pulse.now
     (g.H.Hub.faults c.args.hub.now) (g.H.Hub.faults c.link_and_serve.new.hub) o1 o2 in
     lived s d (known c.args.pass) (known c.submit_all.new.pass) (known c.link_and_serve.result.1)
     c.link_and_serve.result.0 c.requires.new c.in-Ok.ensures.all (c.link_and_serve.ensures.lives c.args.ids.now)
@@ -26,7 +26,7 @@ returns-in-Err-clause-lived g c =
     let s = setting (start_of c.args.store.now) (turns_of c.args.store.now) (g.C.Clock.may_give c.args.clock.now)
     (g.H.Hub.gives c.args.hub.now) in
     let o = output (g.O.Sink.held c.args.sink.now) (g.O.Sink.faults c.args.sink.now) in
-    let d = doing c.args.ids.now (map contact_of c.args.contacts.items) c.args.timing
+    let d = doing c.args.ids.now (map contact_of c.args.contacts.items) c.args.pulse.now
     (g.H.Hub.faults c.args.hub.now) (g.H.Hub.faults c.args.hub.now) o o in
     subst (λ (e : RunEnd). Lived s d e (known c.submit_all.new.pass)) (sym c.end_of.ensures)
     (lived_front s d (known c.args.pass) (known c.submit_all.new.pass) c.in-Err.end c.requires.new refl

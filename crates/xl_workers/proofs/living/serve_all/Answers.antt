@@ -19,7 +19,7 @@ returns-in-Ok-clause-lives g c gives ids old_faults new_faults told =
     let o1 = output (g.O.Sink.held c.args.sink.now) (g.O.Sink.faults c.args.sink.now) in
     let o2 = output (g.O.Sink.held c.work.new.sink) (g.O.Sink.faults c.work.new.sink) in
     let o3 = output (g.O.Sink.held c.take_last-last.new.sink) (g.O.Sink.faults c.take_last-last.new.sink) in
-    lives_ran s c.args.timing (map member_of c.args.peers.items) ids old_faults new_faults (known c.args.pass)
+    lives_ran s c.args.pulse.now (map member_of c.args.peers.items) ids old_faults new_faults (known c.args.pass)
     (known c.in-Ok.pass) (known c.take_last-last.new.pass) o1 o2 o3 c.in-Ok.beats c.take_last-last.result
     (c.in-Ok.ensures.worked gives told) c.take_last-last.ensures.last
 
@@ -29,7 +29,7 @@ returns-in-Err-clause-lives g c gives ids old_faults new_faults told =
     gives in
     let o1 = output (g.O.Sink.held c.args.sink.now) (g.O.Sink.faults c.args.sink.now) in
     let o2 = output (g.O.Sink.held c.work.new.sink) (g.O.Sink.faults c.work.new.sink) in
-    let d = doing ids (map member_of c.args.peers.items) c.args.timing old_faults new_faults o1 o2 in
+    let d = doing ids (map member_of c.args.peers.items) c.args.pulse.now old_faults new_faults o1 o2 in
     let silent = ap (λ (o : g.row.O.Denot). output (g.O.Sink.held o) (g.O.Sink.faults o)) c.in-Err.ensures.spared.1 in
     subst (λ (p : Pass Entry). Lives s d ids end.OutOfMemory (known c.args.pass) (known p))
     (sym c.in-Err.ensures.spared.0) (lives_none s d (known c.args.pass) c.requires.whole silent)

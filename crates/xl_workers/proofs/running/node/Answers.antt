@@ -18,7 +18,7 @@ returns-clause-run g c =
     let o1 = output (g.O.Sink.held c.args.sink.now) (g.O.Sink.faults c.args.sink.now) in
     let o2 = output (g.O.Sink.held c.live-end.new.sink) (g.O.Sink.faults c.live-end.new.sink) in
     let of_ids : List TxId → Doing = λ ids.
-    doing ids (map contact_of c.args.plan.contacts.items) c.args.plan.timing (g.H.Hub.faults c.args.hub.now)
+    doing ids (map contact_of c.args.plan.contacts.items) c.args.plan.pulse (g.H.Hub.faults c.args.hub.now)
     (g.H.Hub.faults c.live-end.new.hub) o1 o2 in
     let d = of_ids c.args.plan.submits.items in
     let end = c.live-end.result.0 in

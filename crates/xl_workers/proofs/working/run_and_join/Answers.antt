@@ -48,7 +48,7 @@ returns-clause-worked g c gives told =
     back c.join_all.ensures.each in
     let o1 = output (g.O.Sink.held c.args.sink.now) (g.O.Sink.faults c.args.sink.now) in
     let o2 = output (g.O.Sink.held c.run-beats.new.sink) (g.O.Sink.faults c.run-beats.new.sink) in
-    let j : Joined store may shows c.args.timing c.args.first c.args.heart c.run-beats.new.pass c.join-one.result
+    let j : Joined store may shows c.args.pulse.now c.args.first c.args.heart c.run-beats.new.pass c.join-one.result
     c.join_all.result o1 o2 c.run-beats.result old new = record {
       beating = c.run-beats.ensures.heartbeat;
       served = served;
@@ -61,5 +61,5 @@ returns-clause-worked g c gives told =
       each = each;
       all = c.requires.all;
     } in
-    worked store may shows c.args.timing c.args.first c.args.heart c.run-beats.new.pass c.join-one.result
+    worked store may shows c.args.pulse.now c.args.first c.args.heart c.run-beats.new.pass c.join-one.result
     c.join_all.result o1 o2 c.run-beats.result old new j gives told

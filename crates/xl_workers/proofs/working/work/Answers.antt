@@ -50,9 +50,9 @@ returns-clause-worked g c gives told =
     let same = same_peers store pass first heart now peers workers h a b in
     let told_of = subst (λ (ps : List (Peer g.row.L.Denot)). AllByRecursion (IsAsTold gives g.L.Link.shows) ps)
     (sym same) told in
-    worked_from s c.args.timing (map member_of peers) (known pass) (known now) new o1 o2 end
+    worked_from s c.args.pulse.now (map member_of peers) (known pass) (known now) new o1 o2 end
     (same_mine store pass first heart now peers workers h a b)
     (same_seen store pass first heart now peers workers h a b)
     (subst
-    (λ (ps : List (Peer g.row.L.Denot)). Worked s c.args.timing (map member_of ps) (known now) o1 end new o2) same
+    (λ (ps : List (Peer g.row.L.Denot)). Worked s c.args.pulse.now (map member_of ps) (known now) o1 end new o2) same
     (c.run_and_join.ensures.worked gives told_of))

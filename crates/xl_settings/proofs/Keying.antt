@@ -1,0 +1,31 @@
+-- Publishers of different numbers, and their keys.
+use Rattle.std.proofs.Common.{◌≡◌, ◌∙◌, ◌+◌, ◌<◌, ℕ, Bool, true, false, List, [], ◌∷◌, ◌||◌, map, get_or, take, length, nat_eq, refl, sym, ap}
+use Rattle.std.specs.List.{fold, list_any}
+use Rattle.std.proofs.lemmas.List.{take_more}
+use Rattle.std.proofs.lemmas.List.Sums.{fold-append}
+use Rattle.xl_publish.specs.Registers.{no_publishers}
+use Rattle.xl_settings.specs.declared.publishers.PublisherKey.{PublisherKey}
+use Rattle.xl_settings.specs.Different.{are_different}
+use Rattle.xl_settings.specs.Publishers.{keyed, publisher_number, with_publisher}
+
+among_numbers : (ps : List PublisherKey) (number : ℕ)
+    → list_any (λ p. nat_eq number p.number) ps ≡ list_any (nat_eq number) (map publisher_number ps)
+among_numbers [] number = refl
+among_numbers (p ∷ ps) number = ap (λ (b : Bool). nat_eq number p.number || b) (among_numbers ps number)
+
+pub repeated : (rest others : List PublisherKey) (first : PublisherKey) → rest ≡ first ∷ others
+    → list_any (λ p. nat_eq first.number p.number) others ≡ true
+    → are_different nat_eq (map publisher_number rest) ≡ false
+repeated rest others first is again = rw (is, ← among_numbers others first.number, again) refl
+
+pub single : (rest others : List PublisherKey) (first : PublisherKey) → rest ≡ first ∷ others
+    → list_any (λ p. nat_eq first.number p.number) others ≡ false
+    → are_different nat_eq (map publisher_number rest) ≡ are_different nat_eq (map publisher_number others)
+single rest others first is new = rw (is, ← among_numbers others first.number, new) refl
+
+-- one key more
+pub keyed_more : (ps : List PublisherKey) (i : ℕ) (d : PublisherKey) → i < length ps
+    → with_publisher (keyed (take i ps)) (get_or ps i d) ≡ keyed (take (i + 1) ps)
+keyed_more ps i d lt =
+    sym (fold-append with_publisher no_publishers (take i ps) (get_or ps i d ∷ []))
+    ∙ ap (fold with_publisher no_publishers) (sym (take_more ps i d lt))
