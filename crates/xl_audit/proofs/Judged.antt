@@ -63,7 +63,7 @@ right_is core w counted e =
       reply = (bytes_eq-Decides w.reply (reply_to core w.entry)).0 parts.1;
     }
 
-is_right_of : (core : Core) (w : Written) → IsRight core w → is_right core w ≡ true
+pub is_right_of : (core : Core) (w : Written) → IsRight core w → is_right core w ≡ true
 is_right_of core w right =
     true_both (tells_of (is_some (core_asks core w.entry.event)) w.entry.outcome)
     (bytes_eq w.reply (reply_to core w.entry))
@@ -87,7 +87,7 @@ abbrev pub IsTaken : ℕ → ℕ → Line → Type 0
 IsTaken left n line =
     (stage : Stage) → step_at limits rules left (behind n stage) line ≡ answered n (step stage line.bytes)
 
-taken : (left n : ℕ) (line : Line) → nat_lt limits.bytes (length line.bytes) ≡ false → nat_lt 0 left ≡ true
+pub taken : (left n : ℕ) (line : Line) → nat_lt limits.bytes (length line.bytes) ≡ false → nat_lt 0 left ≡ true
     → nat_lt MOST_BYTES (length (content limits.returns line)) ≡ false → (n == MOST_LINES) ≡ false → IsTaken left n line
 taken left n line short may within few stage =
     let a : Auditing = behind n stage in

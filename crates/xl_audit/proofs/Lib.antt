@@ -9,3 +9,11 @@ pub mod Unmet
 pub mod Aloud
 pub mod Whole
 pub mod Growing
+pub mod Pieces
+pub mod Spelling
+pub mod Numerals
+pub mod Listing
+pub mod Replying
+pub mod Events
+pub mod Heading
+pub mod Rereading

@@ -1,7 +1,8 @@
 -- What is made of one number after another, up to 64.
-use Rattle.std.proofs.Common.{◌≡◌, ◌++◌, ◌+◌, ◌-◌, ◌≤◌, ◌∙◌, ℕ, suc, Bool, true, false, cond, List, ◌∷◌, Some, None, ap, append-nil, append_assoc, arith, sym}
+use Rattle.std.proofs.Common.{◌≡◌, ◌++◌, ◌+◌, ◌-◌, ◌<◌, ◌≤◌, ◌∙◌, ℕ, suc, Bool, true, false, cond, List, ◌∷◌, Some, None, ap, append-nil, append_assoc, arith, inl, inr, subst, sym}
 use Rattle.std.specs.Prelude.{find}
 use Rattle.std.specs.List.{flat_map, range_with_len}
+use Rattle.std.proofs.lemmas.Bool.{cases_lt}
 
 one_left : (n : ℕ) → n ≤ 64 → 65 - n ≡ suc (65 - (n + 1))
 one_left n h = omega (arith, h)
@@ -47,3 +48,10 @@ pub three_parts : (old first second now a b c : List ℕ) → first ≡ old ++ a
     → now ≡ old ++ (a ++ (b ++ c))
 three_parts old first second now a b c one two three =
     three ∙ (ap (λ (xs : List ℕ). xs ++ c) (two ∙ ap (λ (xs : List ℕ). xs ++ b) one) ∙ simp append_assoc)
+
+-- what holds of each number so far, and of the next, holds of each up to it
+pub all_so_far : (P : ℕ → Type 0) (n : ℕ) → ((m : ℕ) → 1 ≤ m → m < n → P m) → P n → (m : ℕ) → 1 ≤ m → m < n + 1 → P m
+all_so_far P n so_far here m low high = elim (cases_lt m n) [
+  | inl lt ↦ so_far m low lt
+  | inr ge ↦ let same : n ≡ m = omega (arith, ge, high) in subst P same here
+]

@@ -2,6 +2,7 @@ pub mod Values
 pub mod Replies
 pub mod Saves
 pub mod Rights
+pub mod Pieces
 pub mod Stepping
 pub mod Laws
 pub mod Words
@@ -14,3 +15,5 @@ pub mod Verdicts
 pub mod Judging
 pub mod States
 pub mod Texts
+pub mod Stored
+pub mod Rereading

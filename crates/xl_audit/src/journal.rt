@@ -1,12 +1,15 @@
 // The text of a journal.
-ghost use Rattle.std.specs.Prelude.{◌≡◌, ◌++◌, OnOk};
+ghost use Rattle.std.specs.Prelude.{◌≡◌, ◌++◌, IfSome, OnOk};
 ghost use Rattle.std.specs.List.{flat_map};
 ghost use Rattle.std.specs.String.{string_bytes};
+ghost use Rattle.hex.specs.Hex.{IsBytes};
+ghost use Rattle.xl_lists.specs.Lists.{IsValid};
 ghost use Rattle.xl_tags.specs.Rings.{key_of};
 ghost use Rattle.xl_core.specs.Core.{core_asks};
 ghost use Rattle.xl_store.specs.Entries.{IsAllowed, IsOutcome, reply_of};
 ghost use Rattle.xl_audit.specs.Laws.{written_with};
 ghost use Rattle.xl_audit.specs.Rights.{reply_to};
+ghost use Rattle.xl_audit.specs.Stored.{AreStored, HasIds, IsId, IsMember, IsStored, IsStoredEvent, IsStoredOutcome};
 ghost use Rattle.xl_audit.specs.Journals.{entry_line, event_text, head_text, key_lines, key_text, kind_text, list_text, members_text, opening_text, other_text, outcome_text, settings_line, validating_text};
 
 use crate::Auditor;
@@ -41,16 +44,18 @@ fn push_frame(
     now: Millis,
     bytes: &[u8],
 ) -> Result<(), OutOfMemory>
-    ensures { OnOk result
+    ensures text { OnOk result
         (string_bytes text.new ≡ string_bytes text.old ++ event_text (CoreEvent.Frame now bytes.now)) }
+    ensures stored { IsBytes bytes.now }
 {
     write!(text, "frame {now} ")?;
     push_bytes(alloc, text, bytes)
 }
 
 fn push_submit(alloc: Global, text: &mut String, now: Millis, tx: &TxId) -> Result<(), OutOfMemory>
-    ensures { OnOk result
+    ensures text { OnOk result
         (string_bytes text.new ≡ string_bytes text.old ++ event_text (CoreEvent.Submit now tx.now)) }
+    ensures stored { OnOk result (IsId tx.now.0) }
 {
     write!(text, "submit {now} ")?;
     push_id(alloc, text, &tx.0)
@@ -64,8 +69,9 @@ fn push_issue(
     id: &LedgerId,
     full: bool,
 ) -> Result<(), OutOfMemory>
-    ensures { OnOk result
+    ensures text { OnOk result
         (string_bytes text.new ≡ string_bytes text.old ++ event_text (CoreEvent.Issue now seq id.now full)) }
+    ensures stored { OnOk result (IsId id.now.0) }
 {
     write!(text, "issue {now} {seq} ")?;
     push_id(alloc, text, &id.0)?;
@@ -83,7 +89,8 @@ fn push_relist(text: &mut String, now: Millis, list: &List) -> Result<(), OutOfM
 }
 
 fn push_event(alloc: Global, text: &mut String, event: &CoreEvent) -> Result<(), OutOfMemory>
-    ensures { OnOk result (string_bytes text.new ≡ string_bytes text.old ++ event_text event.now) }
+    ensures text { OnOk result (string_bytes text.new ≡ string_bytes text.old ++ event_text event.now) }
+    ensures stored { OnOk result (IsStoredEvent event.now) }
 {
     match event {
         CoreEvent::Frame { now, bytes } => push_frame(alloc, text, *now, bytes.as_slice()),
@@ -101,10 +108,12 @@ fn push_event(alloc: Global, text: &mut String, event: &CoreEvent) -> Result<(),
         }
         CoreEvent::Drain { member, room } => {
             let number = member.get();
+            let room = *room;
             write!(text, "drain {number} {room}")?;
             Ok(())
         }
         CoreEvent::Reports { room } => {
+            let room = *room;
             write!(text, "reports {room}")?;
             Ok(())
         }
@@ -115,12 +124,14 @@ fn push_event(alloc: Global, text: &mut String, event: &CoreEvent) -> Result<(),
 
 /// How a save was answered.
 fn push_outcome(text: &mut String, outcome: &Option<Saved>) -> Result<(), OutOfMemory>
-    ensures { OnOk result (string_bytes text.new ≡ string_bytes text.old ++ outcome_text outcome.now) }
+    ensures text { OnOk result (string_bytes text.new ≡ string_bytes text.old ++ outcome_text outcome.now) }
+    ensures stored { OnOk result (IsStoredOutcome outcome.now) }
 {
     match outcome {
         None => push_word(text, "-"),
         Some(Saved::Ok) => push_word(text, "ok"),
         Some(Saved::Failed(count)) => {
+            let count = *count;
             write!(text, "failed {count}")?;
             Ok(())
         }
@@ -154,7 +165,9 @@ fn push_members(text: &mut String, members: &[NodeNo]) -> Result<(), OutOfMemory
 
 #[tactic(auto, unfolding(crate::specs::Journals::list_text))]
 fn push_list(text: &mut String, settings: &Settings) -> Result<(), OutOfMemory>
-    ensures { OnOk result (string_bytes text.new ≡ string_bytes text.old ++ list_text settings.now) }
+    ensures text { OnOk result (string_bytes text.new ≡ string_bytes text.old ++ list_text settings.now) }
+    ensures me { IsMember settings.now.me }
+    ensures list { IsValid settings.now.list }
 {
     let me = settings.me.get();
     let quorum = settings.list.quorum();
@@ -177,7 +190,9 @@ fn push_settings(
     now: Millis,
     kept: Seq,
 ) -> Result<(), OutOfMemory>
-    ensures { OnOk result (string_bytes text.new ≡ string_bytes text.old ++ settings_line settings.now now kept) }
+    ensures text { OnOk result (string_bytes text.new ≡ string_bytes text.old ++ settings_line settings.now now kept) }
+    ensures me { OnOk result (IsMember settings.now.me) }
+    ensures list { OnOk result (IsValid settings.now.list) }
 {
     push_word(text, "settings ")?;
     push_list(text, settings)?;
@@ -197,8 +212,9 @@ fn push_key(
     keys: &Keys,
     member: NodeNo,
 ) -> Result<(), OutOfMemory>
-    ensures { OnOk result
+    ensures text { OnOk result
         (string_bytes text.new ≡ string_bytes text.old ++ key_text member (key_of keys.now member)) }
+    ensures stored { OnOk result (IfSome (key_of keys.now member) IsId) }
 {
     match keys.get(member) {
         Some(key) => {
@@ -215,7 +231,8 @@ fn push_key(
 /// The keys, by rising members.
 #[tactic(auto, unfolding(crate::specs::Journals::key_lines))]
 fn push_keys(alloc: Global, text: &mut String, keys: &Keys) -> Result<(), OutOfMemory>
-    ensures { OnOk result (string_bytes text.new ≡ string_bytes text.old ++ key_lines keys.now) }
+    ensures text { OnOk result (string_bytes text.new ≡ string_bytes text.old ++ key_lines keys.now) }
+    ensures stored { OnOk result (HasIds keys.now) }
 {
     for number in 1..GREATEST_NODE_NO + 1 {
         push_key(alloc, text, keys, numbered(number))?;
@@ -231,8 +248,11 @@ pub fn push_head(
     now: Millis,
     kept: Seq,
 ) -> Result<(), OutOfMemory>
-    ensures { OnOk result (string_bytes text.new ≡ string_bytes text.old ++ head_text settings.now now kept) }
+    ensures text { OnOk result (string_bytes text.new ≡ string_bytes text.old ++ head_text settings.now now kept) }
+    ensures stored { OnOk result (AreStored settings.now) }
 {
+    // A ring has a place for each member, and no key for its own.
+    let _me = settings.keys.me();
     push_word(text, "xl-journal 1\n")?;
     push_settings(text, settings, now, kept)?;
     push_keys(alloc, text, &settings.keys)?;
@@ -251,6 +271,7 @@ pub fn push_entry(
     ensures text { OnOk result (string_bytes text.new
         ≡ string_bytes text.old ++ entry_line (written_with entry.now (reply_to auditor.old entry.now))) }
     ensures core { OnOk result (auditor.new ≡ (reply_of auditor.old entry.now).core) }
+    ensures stored { OnOk result (IsStored entry.now) }
 {
     push_event(alloc, text, &entry.event)?;
     text.push(' ')?;

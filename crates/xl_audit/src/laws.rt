@@ -1,4 +1,5 @@
 ghost use Rattle.xl_audit.specs.Laws.{LegalIsRight, RightIsLegal};
+ghost use Rattle.xl_audit.specs.Rereading.{WrittenGetsYes};
 ghost use Rattle.xl_audit.specs.Texts.{NoOfTheText, TextIsJudged, YesOfTheText};
 ghost use Rattle.xl_audit.specs.Verdicts.{NoNamesTheFirst, YesIsRight};
 
@@ -29,4 +30,10 @@ pub fn whole_texts()
     ensures yes { YesOfTheText }
     // A no names the first entry that isn't right.
     ensures no { NoOfTheText }
+{}
+
+/// The law of what is written, which has no code: the text of a legal history gets yes, if it keeps the limits on its
+/// lines.
+pub fn written_gets_yes()
+    ensures { WrittenGetsYes }
 {}

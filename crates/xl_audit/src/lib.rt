@@ -29,7 +29,7 @@ mod written;
 
 pub use auditor::Auditor;
 pub use command::audit;
-pub use laws::{legal_is_right, right_is_legal, whole_texts, yes_and_no};
+pub use laws::{legal_is_right, right_is_legal, whole_texts, written_gets_yes, yes_and_no};
 pub use limits::{MOST_BYTES, MOST_LINES};
 pub use writing::write_journal;
 pub use written::Written;

@@ -2,7 +2,7 @@
 ghost use Rattle.std.specs.Prelude.{◌≡◌, ◌++◌, OnOk};
 ghost use Rattle.std.specs.String.{string_bytes};
 ghost use Rattle.xl_core.specs.Answers.{Beats, Handed, Told};
-ghost use Rattle.hex.specs.Hex.{encode_lower};
+ghost use Rattle.hex.specs.Hex.{IsBytes, encode_lower};
 ghost use Rattle.xl_core.specs.declared.beat.Beat.TheVariants.{Built, Switched};
 ghost use Rattle.xl_core.specs.Replies.{taken_answer, done_answer};
 ghost use Rattle.xl_audit.specs.Replies.{beat_text, bytes_text, issued_text, moved_text, refusal_text, reply_text, report_text, taken_text, told_text};
@@ -162,7 +162,8 @@ pub fn push_beat(alloc: Global, text: &mut String, beat: &Beat) -> Result<(), Ou
 
 /// Bytes as digits, or `-` for none.
 pub fn push_bytes(alloc: Global, text: &mut String, bytes: &[u8]) -> Result<(), OutOfMemory>
-    ensures { OnOk result (string_bytes text.new ≡ string_bytes text.old ++ bytes_text bytes.now) }
+    ensures text { OnOk result (string_bytes text.new ≡ string_bytes text.old ++ bytes_text bytes.now) }
+    ensures bytes { IsBytes bytes.now }
 {
     if bytes.is_empty() {
         text.push('-')?;

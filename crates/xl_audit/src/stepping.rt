@@ -1,15 +1,18 @@
 // A core that is stepped by an entry, and the text of its reply.
-ghost use Rattle.std.specs.Prelude.{◌≡◌, ◌≤◌, [], length, take, false, IsSome, OnOk};
+ghost use Rattle.std.specs.Prelude.{◌≡◌, ◌≤◌, ◌++◌, [], length, take, false, IfOk, IsSome, OnOk};
 ghost use Rattle.std.specs.declared.option.Option.{Option};
 ghost use Rattle.std.specs.String.{string_bytes};
 ghost use Rattle.xl_base.specs.declared.moments.TheConstants.{GREATEST_MILLIS};
 ghost use Rattle.xl_tags.specs.Rings.{key_of};
 ghost use Rattle.xl_wire.specs.declared.lengths.TheConstants.{LONGEST_FRAME};
 ghost use Rattle.xl_core.specs.Answers.{Beats};
+ghost use Rattle.xl_core.specs.Core.{all_frames, drained};
+ghost use Rattle.xl_core.specs.Queues.{frames_in};
 ghost use Rattle.xl_core.specs.Replies.{done_answer};
 ghost use Rattle.xl_core.specs.declared.event.CoreEvent.TheVariants.{Issue, Frame, Timer, Submit, Relist, Greet, Drain, Reports, Stop, Stopped};
 ghost use Rattle.xl_store.specs.Entries.{IsAllowed};
 ghost use Rattle.xl_store.specs.declared.entry.Saved.{Saved};
+ghost use Rattle.xl_audit.specs.Pieces.{bytes_given, handed_out};
 ghost use Rattle.xl_audit.specs.Saves.{IsFresh};
 ghost use Rattle.xl_audit.specs.Stepping.{Retells, RetellsAs, Replies};
 
@@ -22,9 +25,13 @@ use xl_base::{LedgerId, Millis, NodeNo, OutOfMemory, Seq, TxId};
 use xl_core::{Beat, Core, CoreEvent, Refusal, Report};
 use xl_lists::List;
 use xl_trie::Trie;
+use xl_wire::LONGEST_FRAME;
 
 /// The core that is stepped.
 pub type AuditedCore = Core<Trie>;
+
+/// How many reports are handed out at a time.
+const PIECE: usize = 64;
 
 /// What stands in a room before reports come.
 const BLANK: Report = Report {
@@ -160,24 +167,57 @@ fn first_bytes(bytes: &[u8], count: usize) -> &[u8]
     &bytes[..count]
 }
 
-/// What waits for a peer is written into a room, and told as digits.
-fn drain_into(
-    alloc: Global,
+/// Drains for a peer into the front of a room, and puts what is given behind the rest.
+fn drain_once(
     core: &mut AuditedCore,
     member: NodeNo,
     room: &mut [u8],
-    text: &mut String,
-) -> Result<(), OutOfMemory>
+    part: usize,
+    given: &mut Vec<u8>,
+) -> Result<usize, OutOfMemory>
     requires peer { IsSome (key_of core.old.node.keys member) }
-    requires room { LONGEST_FRAME ≤ length room.old }
-    requires text { string_bytes text.old ≡ [] }
-    ensures { OnOk result (Replies core.old (Drain member (length room.old)) core.new (string_bytes text.new)) }
+    requires least { LONGEST_FRAME ≤ part }
+    requires most { part ≤ length room.old }
+    ensures core { core.new ≡ drained core.old member part }
+    ensures given { OnOk result (given.new.items ≡ given.old.items ++ bytes_given core.old member part) }
+    ensures count { IfOk result (λ count. count ≡ length (bytes_given core.old member part)) }
+    ensures nothing { IfOk result (λ count. count ≡ 0 → frames_in (all_frames core.old member) ≡ []) }
+    ensures room { length room.new ≡ length room.old }
 {
-    let written = core.drain(member, room);
-    push_bytes(alloc, text, first_bytes(room, written))
+    let front = &mut room[..part];
+    let count = core.drain(member, front);
+    given.extend_from_slice(first_bytes(front, count))?;
+    Ok(count)
 }
 
-/// The room is taken as large as the entry tells.
+/// Drains for a peer as into one room of so many bytes, but a piece at a time: the memory that it takes is of what is
+/// given, however large the room is.
+fn drain_all(
+    alloc: Global,
+    core: &mut AuditedCore,
+    member: NodeNo,
+    room: usize,
+) -> Result<Vec<u8>, OutOfMemory>
+    requires peer { IsSome (key_of core.old.node.keys member) }
+    requires room { LONGEST_FRAME ≤ room }
+    ensures core { OnOk result (core.new ≡ drained core.old member room) }
+    ensures given { IfOk result (λ given. given.items ≡ bytes_given core.old member room) }
+{
+    let mut piece = vec![in alloc; 0; 2 * LONGEST_FRAME]?;
+    let mut given = Vec::new(alloc);
+    let mut left = room;
+    while left > 2 * LONGEST_FRAME {
+        let count = drain_once(core, member, &mut piece, LONGEST_FRAME, &mut given)?;
+        if count == 0 {
+            return Ok(given);
+        }
+        left -= count;
+    }
+    drain_once(core, member, &mut piece, left, &mut given)?;
+    Ok(given)
+}
+
+/// What waits for a peer is drained, and told as digits.
 fn reply_to_drain(
     alloc: Global,
     core: &mut AuditedCore,
@@ -190,8 +230,8 @@ fn reply_to_drain(
     requires text { string_bytes text.old ≡ [] }
     ensures { OnOk result (Replies core.old (Drain member room) core.new (string_bytes text.new)) }
 {
-    let mut bytes = vec![in alloc; 0; room]?;
-    drain_into(alloc, core, member, &mut bytes, text)
+    let given = drain_all(alloc, core, member, room)?;
+    push_bytes(alloc, text, given.as_slice())
 }
 
 /// The first so many reports.
@@ -202,21 +242,49 @@ fn first_reports(reports: &[Report], count: usize) -> &[Report]
     &reports[..count]
 }
 
-/// Reports are handed out into a room, and told.
-fn hand_out_into(
-    alloc: Global,
+/// Hands reports out into the front of a room, and puts them behind the rest.
+fn hand_out_once(
     core: &mut AuditedCore,
     room: &mut [Report],
-    text: &mut String,
-) -> Result<(), OutOfMemory>
-    requires text { string_bytes text.old ≡ [] }
-    ensures { OnOk result (Replies core.old (Reports (length room.old)) core.new (string_bytes text.new)) }
+    part: usize,
+    given: &mut Vec<Report>,
+) -> Result<usize, OutOfMemory>
+    requires most { part ≤ length room.old }
+    ensures core { core.new ≡ handed_out core.old part }
+    ensures given { OnOk result (given.new.items ≡ given.old.items ++ take part core.old.untaken.items) }
+    ensures count { IfOk result (λ count. count ≡ length (take part core.old.untaken.items)) }
+    ensures room { length room.new ≡ length room.old }
 {
-    let count = core.reports(room);
-    push_reports(alloc, text, first_reports(room, count))
+    let front = &mut room[..part];
+    let count = core.reports(front);
+    given.extend_from_slice(first_reports(front, count))?;
+    Ok(count)
 }
 
-/// The room is taken as large as the entry tells.
+/// Hands reports out as into one room for so many, but a piece at a time.
+fn hand_out_all(
+    alloc: Global,
+    core: &mut AuditedCore,
+    room: usize,
+) -> Result<Vec<Report>, OutOfMemory>
+    ensures core { OnOk result (core.new ≡ handed_out core.old room) }
+    ensures given { IfOk result (λ given. given.items ≡ take room core.old.untaken.items) }
+{
+    let mut piece = vec![in alloc; BLANK; PIECE]?;
+    let mut given = Vec::new(alloc);
+    let mut left = room;
+    while left > PIECE {
+        let count = hand_out_once(core, &mut piece, PIECE, &mut given)?;
+        if count < PIECE {
+            return Ok(given);
+        }
+        left -= PIECE;
+    }
+    hand_out_once(core, &mut piece, left, &mut given)?;
+    Ok(given)
+}
+
+/// Reports are handed out, and told.
 fn reply_to_reports(
     alloc: Global,
     core: &mut AuditedCore,
@@ -226,8 +294,8 @@ fn reply_to_reports(
     requires text { string_bytes text.old ≡ [] }
     ensures { OnOk result (Replies core.old (Reports room) core.new (string_bytes text.new)) }
 {
-    let mut reports = vec![in alloc; BLANK; room]?;
-    hand_out_into(alloc, core, &mut reports, text)
+    let given = hand_out_all(alloc, core, room)?;
+    push_reports(alloc, text, given.as_slice())
 }
 
 fn reply_to_stop(core: &mut AuditedCore, text: &mut String) -> Result<(), OutOfMemory>

@@ -1,7 +1,8 @@
 // Numbers, digits and the values of refusals, added to a text.
 ghost use Rattle.std.specs.Prelude.{◌≡◌, ◌++◌, decimal, OnOk};
 ghost use Rattle.std.specs.String.{string_bytes};
-ghost use Rattle.hex.specs.Hex.{encode_lower};
+ghost use Rattle.hex.specs.Hex.{IsBytes, encode_lower};
+ghost use Rattle.xl_audit.specs.Stored.{IsId};
 ghost use Rattle.xl_audit.specs.Values.{frame_values, tag_values, header_values, values_text};
 
 use std::alloc::Global;
@@ -21,7 +22,8 @@ pub fn push_number(text: &mut String, number: u64) -> Result<(), OutOfMemory>
 
 /// Bytes as lower-case digits.
 pub fn push_digits(alloc: Global, text: &mut String, bytes: &[u8]) -> Result<(), OutOfMemory>
-    ensures { OnOk result (string_bytes text.new ≡ string_bytes text.old ++ encode_lower bytes.now) }
+    ensures text { OnOk result (string_bytes text.new ≡ string_bytes text.old ++ encode_lower bytes.now) }
+    ensures bytes { IsBytes bytes.now }
 {
     let digits = hex::encode(alloc, bytes)?;
     text.push_str(digits.as_str())?;
@@ -30,7 +32,8 @@ pub fn push_digits(alloc: Global, text: &mut String, bytes: &[u8]) -> Result<(),
 
 /// An id, or a tag, as 64 digits.
 pub fn push_id(alloc: Global, text: &mut String, id: &[u8; 32]) -> Result<(), OutOfMemory>
-    ensures { OnOk result (string_bytes text.new ≡ string_bytes text.old ++ encode_lower id.now) }
+    ensures text { OnOk result (string_bytes text.new ≡ string_bytes text.old ++ encode_lower id.now) }
+    ensures id { IsId id.now }
 {
     push_digits(alloc, text, id.as_slice())
 }

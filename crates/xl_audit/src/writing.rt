@@ -1,4 +1,4 @@
-ghost use Rattle.std.specs.Prelude.{◌≡◌, ◌≤◌, IfOk, IsErrOf, OnOk};
+ghost use Rattle.std.specs.Prelude.{◌≡◌, ◌≤◌, All, IfOk, IsErrOf, OnOk};
 ghost use Rattle.std.specs.Io.KnownBytes.{append_known};
 ghost use Rattle.std.specs.String.{string_bytes};
 ghost use Rattle.xl_base.specs.declared.moments.TheConstants.{GREATEST_MILLIS};
@@ -11,7 +11,9 @@ ghost use Rattle.xl_core.specs.Rest.{IsKeyed};
 ghost use Rattle.xl_store.specs.Entries.{IsAllowed, IsOutcome, Leads, reply_of};
 ghost use Rattle.xl_audit.specs.Journals.{entries_text, entry_line, head_text, journal_text, start_of};
 ghost use Rattle.xl_audit.specs.Laws.{written_with};
+ghost use Rattle.xl_audit.specs.Rereading.{GetsYes};
 ghost use Rattle.xl_audit.specs.Rights.{reply_to};
+ghost use Rattle.xl_audit.specs.Stored.{AreStored, IsStored};
 
 use crate::Auditor;
 use crate::journal::{push_entry, push_head};
@@ -29,6 +31,7 @@ fn line_of(alloc: Global, auditor: &mut Auditor, entry: &Entry) -> Result<String
     ensures text { IfOk result (λ text. string_bytes text
         ≡ entry_line (written_with entry.now (reply_to auditor.old entry.now))) }
     ensures core { OnOk result (auditor.new ≡ (reply_of auditor.old entry.now).core) }
+    ensures stored { OnOk result (IsStored entry.now) }
 {
     let mut text = String::new(alloc);
     push_entry(alloc, &mut text, auditor, entry)?;
@@ -52,6 +55,7 @@ fn write_entry<O: Sink>(
     ensures less { IsErrOf result Fault.Write → GrewByLess (O.held output.old) (O.held output.new)
         (entry_line (written_with entry.now (reply_to auditor.old entry.now))) }
     ensures cause { HasCause (O.faults output.old) (O.faults output.new) result }
+    ensures stored { OnOk result (IsStored entry.now) }
 {
     let text = line_of(alloc, auditor, entry)?;
     write_all(output, text.as_bytes())?;
@@ -72,6 +76,7 @@ fn write_entries<O: Sink>(
     ensures less { IsErrOf result Fault.Write
         → GrewByLess (O.held output.old) (O.held output.new) (entries_text auditor journal) }
     ensures cause { HasCause (O.faults output.old) (O.faults output.new) result }
+    ensures stored { OnOk result (All IsStored journal) }
 {
     let mut auditor = auditor;
     let mut left = journal.oldest();
@@ -88,7 +93,8 @@ fn head_of(
     now: Millis,
     kept: Seq,
 ) -> Result<String, OutOfMemory>
-    ensures { IfOk result (λ text. string_bytes text ≡ head_text settings.now now kept) }
+    ensures text { IfOk result (λ text. string_bytes text ≡ head_text settings.now now kept) }
+    ensures stored { OnOk result (AreStored settings.now) }
 {
     let mut text = String::new(alloc);
     push_head(alloc, &mut text, settings, now, kept)?;
@@ -109,6 +115,7 @@ fn write_head<O: Sink>(
     ensures less { IsErrOf result Fault.Write
         → GrewByLess (O.held output.old) (O.held output.new) (head_text settings.now now kept) }
     ensures cause { HasCause (O.faults output.old) (O.faults output.new) result }
+    ensures stored { OnOk result (AreStored settings.now) }
 {
     let text = head_of(alloc, settings, now, kept)?;
     write_all(output, text.as_bytes())?;
@@ -142,6 +149,8 @@ pub fn write_journal<O: Sink>(
         → GrewByLess (O.held output.old) (O.held output.new) (journal_text settings now kept journal) }
     // Nothing is read, and a fault of the sink is answered only where its count rose.
     ensures cause { HasCause (O.faults output.old) (O.faults output.new) result }
+    // Within the limits on lines and on bytes a line, an auditor says yes to the whole text.
+    ensures yes { OnOk result (1 ≤ settings.speak → settings.speak ≤ 2 → GetsYes settings now kept journal) }
 {
     write_head(alloc, &settings, now, kept, output)?;
     let auditor = Auditor::open(alloc, settings, now, kept)?;

@@ -2,8 +2,16 @@ use Rattle.std.specs.String.{string_bytes}
 use Rattle.xl_audit.proofs.Ranging.{three_parts}
 use Rattle.xl_audit.proofs.journal.push_head.Goals as goal
 
-pub returns : goal.returns
-returns c =
+pub returns-clause-text : goal.returns-clause-text
+returns-clause-text c =
     three_parts (string_bytes c.args.text.now) (string_bytes c.push_word.new.text) (string_bytes c.push_settings.new.text)
-    (string_bytes c.push_keys.new.text) _ _ _ c.in_ok-push_word.ensures c.in_ok-push_settings.ensures
-    c.in_ok-push_keys.ensures
+    (string_bytes c.push_keys.new.text) _ _ _ c.in_ok-push_word.ensures c.in_ok-push_settings.ensures.text
+    c.in_ok-push_keys.ensures.text
+
+pub returns-clause-stored : goal.returns-clause-stored
+returns-clause-stored c = record {
+  me = c.in_ok-push_settings.ensures.me;
+  list = c.in_ok-push_settings.ensures.list;
+  ring = c.me-me.ensures.ring;
+  ids = c.in_ok-push_keys.ensures.stored;
+}

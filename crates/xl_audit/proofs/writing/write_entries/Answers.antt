@@ -1,4 +1,6 @@
 use Rattle.std.proofs.Common.{◌≡◌, ◌++◌, ℕ, List, [], ap, sym, ◌∙◌, subst, arith, refl}
+use Rattle.std.specs.Prelude.{All}
+use Rattle.std.proofs.lemmas.List.Elements.{All-cons, All-nil}
 use Rattle.xl_io.specs.Sinks.{GrewByFront, GrewByLess}
 use Rattle.xl_io.proofs.Growing.{Written, written_none, front_of_written, all_written}
 use Rattle.xl_lines.proofs.Runs.{write_from, passed_on}
@@ -7,6 +9,7 @@ use Rattle.xl_core.specs.Core.{Core}
 use Rattle.xl_store.specs.declared.entry.Entry.{Entry}
 use Rattle.xl_store.specs.Entries.{Leads, reply_of}
 use Rattle.xl_audit.specs.Journals.{entries_text}
+use Rattle.xl_audit.specs.Stored.{IsStored}
 use Rattle.xl_audit.proofs.Growing.{next_allowed, next_outcome, later_legal, next_text, line_of, next_written, last_written, none_left, piece_written, piece_front, piece_less, caused_later}
 use Rattle.xl_audit.proofs.writing.write_entries.Goals as goal
 
@@ -14,6 +17,7 @@ pub loop-entry-init : goal.loop-entry-init
 loop-entry-init g c = record {
   legal = subst (IsLegal Leads c.args.auditor) (sym c.oldest-left.ensures) c.requires.legal;
   written = subst (λ (es : List Entry). Written (g.O.Sink.held c.args.output.now) (g.O.Sink.held c.args.output.now) (entries_text c.args.auditor c.args.journal) (entries_text c.args.auditor es)) (sym c.oldest-left.ensures) (written_none _ _);
+  stored = λ (all : All IsStored c.oldest-left.result). subst (All IsStored) c.oldest-left.ensures all;
   later = omega arith;
 }
 
@@ -32,6 +36,8 @@ loop-entry-preserved-in_ok-write_entry g c =
       written = piece_written _ _ _ _ (line_of c.loop-entry.auditor c.in-Some.entry) (entries_text after c.next.new.self)
           (next_written c.loop-entry.auditor c.loop-entry.left c.in-Some.entry c.next.new.self c.in-Some.ensures.next _ _ _ after moved c.loop-entry.invariant.written)
           c.in_ok-write_entry.ensures.whole;
+      stored = λ (all : All IsStored c.next.new.self).
+          c.loop-entry.invariant.stored (subst (All IsStored) (sym c.in-Some.ensures.next) (All-cons IsStored c.in-Some.entry c.next.new.self c.in_ok-write_entry.ensures.stored all));
       later = omega (arith, c.loop-entry.invariant.later, c.write_entry.ensures.cause.later);
     }
 
@@ -44,6 +50,8 @@ loop-entry-preserved g c =
       written = piece_written _ _ _ _ (line_of c.loop-entry.auditor c.in-Some.entry) (entries_text after c.next.new.self)
           (next_written c.loop-entry.auditor c.loop-entry.left c.in-Some.entry c.next.new.self c.in-Some.ensures.next _ _ _ after moved c.loop-entry.invariant.written)
           c.in_ok-write_entry.ensures.whole;
+      stored = λ (all : All IsStored c.next.new.self).
+          c.loop-entry.invariant.stored (subst (All IsStored) (sym c.in-Some.ensures.next) (All-cons IsStored c.in-Some.entry c.next.new.self c.in_ok-write_entry.ensures.stored all));
       later = omega (arith, c.loop-entry.invariant.later, c.write_entry.ensures.cause.later);
     }
 
@@ -74,3 +82,8 @@ pub returns-in_err-write_entry-clause-cause : goal.returns-in_err-write_entry-cl
 returns-in_err-write_entry-clause-cause g c =
     caused_later c.from_residual.result _ _ _ c.loop-entry.invariant.later
     (passed_on c.from_residual.result c.write_entry.result c.in_err-write_entry.field-0.0 _ _ c.from_residual.ensures.1 c.in_err-write_entry.was c.write_entry.ensures.cause)
+
+pub returns-clause-stored : goal.returns-clause-stored
+returns-clause-stored g c =
+    c.loop-entry.invariant.stored
+    (subst (All IsStored) (sym (none_left c.next.result (c.loop-entry.left ≡ []) (c.next.new.self ≡ []) c.in_default.is c.next.ensures.last)) (All-nil IsStored))

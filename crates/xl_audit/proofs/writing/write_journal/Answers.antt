@@ -8,6 +8,7 @@ use Rattle.xl_store.specs.Entries.{Leads}
 use Rattle.xl_lines.proofs.Runs.{write_from, passed_on}
 use Rattle.xl_audit.specs.Journals.{entries_text, head_text}
 use Rattle.xl_audit.proofs.Growing.{front_before, less_before, front_at, whole_behind, front_behind, less_behind, caused_later}
+use Rattle.xl_audit.proofs.Rereading.{yes_if, written_gets_yes}
 use Rattle.xl_audit.proofs.writing.write_journal.Goals as goal
 
 pub write_entries-requires : goal.write_entries-requires
@@ -52,3 +53,16 @@ returns-in_err-write_head-clause-cause g c =
 
 pub returns-in_err-auditor-clause-front : goal.returns-in_err-auditor-clause-front
 returns-in_err-auditor-clause-front g c = front_at _ _ _ _ c.in_ok-write_head.ensures.whole
+
+pub returns-clause-yes : goal.returns-clause-yes
+returns-clause-yes g c = yes_if c.write_entries.result _ _ c.write_entries.ensures.stored (λ all low high.
+    written_gets_yes c.args.settings c.args.now c.args.kept c.args.journal
+    (record {
+      stored = c.in_ok-write_head.ensures.stored;
+      keyed = c.requires.keyed;
+      least = c.requires.least;
+      most = c.requires.most;
+      speak = (low, high);
+      moment = c.requires.moment;
+      number = omega (arith, c.ranges.kept.fits);
+    }) all c.requires.legal)

@@ -1,0 +1,44 @@
+-- What is written of a legal history is read back, and gets yes. Source: this project's own formats.
+use Rattle.std.specs.Prelude.{◌≡◌, ◌<◌, ◌≤◌, ◌^◌, ℕ, List, length, All}
+use Rattle.xl_base.specs.declared.moments.TheConstants.{GREATEST_MILLIS}
+use Rattle.xl_ledger.specs.declared.registry.TheConstants.{LEAST_LIMIT, GREATEST_LIMIT}
+use Rattle.xl_lines.specs.declared.machine.Verdict.TheVariants.{Good}
+use Rattle.xl_lines.specs.Lines.{lines_of}
+use Rattle.xl_lines.specs.Rules.{closes}
+use Rattle.xl_turns.specs.Histories.{IsLegal}
+use Rattle.xl_core.specs.Rest.{IsKeyed}
+use Rattle.xl_core.specs.declared.settings.Settings.{Settings}
+use Rattle.xl_store.specs.declared.entry.Entry.{Entry}
+use Rattle.xl_store.specs.Entries.{Leads}
+use Rattle.xl_audit.specs.declared.limits.TheConstants.{MOST_BYTES, MOST_LINES}
+use Rattle.xl_audit.specs.Auditing.{audit_of, yes_line}
+use Rattle.xl_audit.specs.Journals.{journal_text, start_of}
+use Rattle.xl_audit.specs.Stored.{AreStored, IsStored}
+
+-- a text with no more lines, and no longer ones, than an auditor takes
+pub record KeepsLimits (text : List ℕ) : Type 0 where
+  pub lines : length (lines_of text) ≤ MOST_LINES
+  pub bytes : All (λ line. length line.bytes ≤ MOST_BYTES) (lines_of text)
+
+-- the text of a history gets a yes that counts its entries
+abbrev pub GetsYes : Settings → ℕ → ℕ → List Entry → Type 0
+GetsYes settings now kept es =
+    KeepsLimits (journal_text settings now kept es) →
+    audit_of (journal_text settings now kept es) ≡ closes (yes_line (length es)) Good
+
+-- a core may be opened so, and its settings can be written
+pub record MayBeWritten (settings : Settings) (opened loaded : ℕ) : Type 0 where
+  pub stored : AreStored settings
+  pub keyed : IsKeyed settings.me settings.list.members settings.keys
+  pub least : LEAST_LIMIT ≤ settings.limit
+  pub most : settings.limit ≤ GREATEST_LIMIT
+  pub speak : (1 ≤ settings.speak) × (settings.speak ≤ 2)
+  pub moment : opened ≤ GREATEST_MILLIS
+  pub number : loaded < 2 ^ 32
+
+-- so does the text of each legal history of such a core
+abbrev pub WrittenGetsYes : Type 0
+WrittenGetsYes =
+    (settings : Settings) (now kept : ℕ) (es : List Entry) →
+    MayBeWritten settings now kept → All IsStored es → IsLegal Leads (start_of settings now kept) es →
+    GetsYes settings now kept es
