@@ -8,3 +8,4 @@ pub mod Whole
 pub mod Going
 pub mod Filtering
 pub mod Happening
+pub mod Tallies

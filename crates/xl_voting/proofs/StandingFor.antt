@@ -1,6 +1,6 @@
 -- What is kept stands for the list of all votes and flag reports.
-use Rattle.std.proofs.Common.{◌≡◌, ◌≢◌, ℕ, zero, suc, ◌+◌, ◌-◌, ◌^◌, ◌<◌, ◌≤◌, List, [], ◌∷◌, Option, Some, None, length, get_or, set, length-set, replicate, refl, sym, ap, ◌∙◌, arith, inl, inr, get_or-set_same, get_or-set_other}
-use Rattle.std.specs.Prelude.{◌==◌, All, find, min, option_map, slice_index_or, unwrap_or}
+use Rattle.std.proofs.Common.{◌≡◌, ◌≢◌, ℕ, zero, suc, ◌+◌, ◌-◌, ◌<◌, ◌≤◌, List, [], ◌∷◌, Option, Some, None, length, get_or, set, length-set, replicate, refl, sym, ap, ◌∙◌, arith, inl, inr, get_or-set_same, get_or-set_other}
+use Rattle.std.specs.Prelude.{◌==◌, All, find, option_map, slice_index_or, unwrap_or}
 use Rattle.std.proofs.lemmas.Bool.{cases_eq, cond-true, cond-false, eq-eqb}
 use Rattle.std.proofs.lemmas.Bool.Decides.{nat_tests}
 use Rattle.std.proofs.lemmas.List.{length-replicate}
@@ -10,14 +10,14 @@ use Rattle.xl_flags.specs.declared.news.FlagLine.{FlagLine}
 use Rattle.xl_flags.proofs.Favoring.{so_many, remembers_vote}
 use Rattle.xl_flags.proofs.Opening.{remembers_nothing}
 use Rattle.xl_flags.proofs.Remembering.{IsMember, lines_are, remembers_report}
-use Rattle.xl_voting.specs.Listing.{Flag, Listing, count_of, last_of, listed, nothing_listed}
+use Rattle.xl_voting.specs.Listing.{Flag, Listing, last_of, listed, nothing_listed}
 use Rattle.xl_voting.specs.Tallying.{Tallying, nothing_tallied, tallied}
 
 pub record StandsFor (t : Tallying) (l : Listing) : Type 0 where
   pub remembers : Remembers t.kept l.past
   pub last : (i : ℕ) → 1 ≤ i → i ≤ 64 → tallied.last t i ≡ listed.last l i
   pub long : length t.last ≡ 64
-  pub count : t.count ≡ count_of l.flags
+  pub count : t.count ≡ length l.flags
 
 -- NOTHING YET
 
@@ -53,15 +53,12 @@ module _ (t : Tallying) (l : Listing) (is : StandsFor t l) (m fee : ℕ) (ids : 
 
 -- A FLAG REPORT MORE
 
-one_counted : (n most : ℕ) → min (min n most + 1) most ≡ min (suc n) most
-one_counted n most = grind (arith, nat_tests)
+one_more : (n : ℕ) → n + 1 ≡ suc n
+one_more n = omega arith
 
 module _ (t : Tallying) (l : Listing) (is : StandsFor t l) (i s close : ℕ) (counted : List ℕ) (member : IsMember i) (members : All IsMember counted) where
   pub same_news : tallied.news t i s close counted ≡ listed.news l i s close counted
   same_news = lines_are l.past i close counted member members t.kept is.remembers s
-
-  flag : Flag
-  flag = record { node = i; seq = s }
 
   last_so : (j : ℕ) → 1 ≤ j → j ≤ 64 → get_or (set t.last (i - 1) s) (j - 1) 0 ≡ last_of (record { node = i; seq = s } ∷ l.flags) j
   last_so j low high =
@@ -83,5 +80,5 @@ module _ (t : Tallying) (l : Listing) (is : StandsFor t l) (i s close : ℕ) (co
     remembers = remembers_report l.past i close counted member members t.kept is.remembers;
     last = last_so;
     long = length-set t.last (i - 1) s ∙ is.long;
-    count = ap (λ (n : ℕ). min (n + 1) (2 ^ 64 - 1)) is.count ∙ one_counted (length l.flags) (2 ^ 64 - 1);
+    count = ap (λ (n : ℕ). n + 1) is.count ∙ one_more (length l.flags);
   }

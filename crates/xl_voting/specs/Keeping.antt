@@ -4,6 +4,7 @@ use Rattle.std.specs.Prelude.{ℕ, List}
 use Rattle.xl_base.specs.declared.ids.TxId.{TxId}
 use Rattle.xl_flags.specs.declared.news.FlagLine.{FlagLine}
 
+-- what is known of what is kept, and what it becomes
 pub record Keeping (V : Type 0) : Type 0 where
   -- how many different amendments are named by then, if a member votes for this fee and these
   pub named : V → ℕ → ℕ → List TxId → ℕ
@@ -15,5 +16,5 @@ pub record Keeping (V : Type 0) : Type 0 where
   pub news : V → ℕ → ℕ → ℕ → List ℕ → List FlagLine
   -- that report was made
   pub reported : V → ℕ → ℕ → ℕ → List ℕ → V
-  -- how many flag reports there were; the count ends at the greatest `u64`
+  -- how many flag reports there were
   pub count : V → ℕ

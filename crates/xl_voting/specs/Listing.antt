@@ -1,5 +1,5 @@
 -- All votes and all flag reports, as lists. Source: rippled's amendment and fee votes; this project's own flag reports.
-use Rattle.std.specs.Prelude.{ℕ, ◌==◌, ◌-◌, ◌^◌, List, [], ◌∷◌, length, min, find, option_map, unwrap_or}
+use Rattle.std.specs.Prelude.{ℕ, ◌==◌, List, [], ◌∷◌, length, find, option_map, unwrap_or}
 use Rattle.xl_flags.specs.Flags.{lines_of, reports_of}
 use Rattle.xl_flags.specs.Kept.{Past, favored, nothing_yet, report_of, with_report}
 use Rattle.xl_flags.specs.Votes.{named}
@@ -15,6 +15,7 @@ pub record Listing : Type 0 where
   pub past : Past
   pub flags : List Flag
 
+-- no vote and no flag report
 abbrev pub nothing_listed : Listing
 nothing_listed = record { past = nothing_yet; flags = [] }
 
@@ -22,10 +23,7 @@ nothing_listed = record { past = nothing_yet; flags = [] }
 abbrev pub last_of : List Flag → ℕ → ℕ
 last_of flags i = unwrap_or (option_map (λ f. f.seq) (find (λ f. f.node == i) flags)) 0
 
--- of how many lists tell: up to the greatest `u64`
-abbrev pub count_of : List Flag → ℕ
-count_of flags = min (length flags) (2 ^ 64 - 1)
-
+-- lists, as what is kept
 abbrev pub listed : Keeping Listing
 listed = record {
   named = λ v m fee ids. length (named (favored v.past m fee ids).favors);
@@ -36,5 +34,5 @@ listed = record {
     past = with_report v.past (report_of v.past i close counted);
     flags = record { node = i; seq = s } ∷ v.flags;
   };
-  count = λ v. count_of v.flags;
+  count = λ v. length v.flags;
 }

@@ -21,6 +21,7 @@ pub record Said (V : Type 0) : Type 0 where
   pub text : List ℕ
   pub votes : V
 
+-- so much is said
 abbrev pub said_so : {V : Type 0} → List ℕ → V → Said V
 said_so text v = record { text = text; votes = v }
 
@@ -62,6 +63,7 @@ abbrev pub known_said : {V : Type 0} → Keeping V → List Named → V → ℕ 
 known_said keeping names v i s id c None = silent v
 known_said keeping names v i s id c (Some close) = flag_said keeping names v i s close (counted_by c s id)
 
+-- where there is such a node
 abbrev pub core_said : {V : Type 0} → Keeping V → List Named → V → ℕ → ℕ → LedgerId → Option Core → Said V
 core_said keeping names v i s id None = silent v
 core_said keeping names v i s id (Some c) = known_said keeping names v i s id c (close_of c id)

@@ -10,6 +10,7 @@
 
 mod command;
 mod counting;
+mod latest;
 mod reports;
 mod tally;
 mod texts;

@@ -1,12 +1,13 @@
-ghost use Rattle.std.specs.Prelude.{◌≡◌, ◌≤◌, ◌<◌, ◌-◌, length, All, IfOk, IfErr, OnOk};
+ghost use Rattle.std.specs.Prelude.{◌≡◌, ◌≤◌, ◌<◌, length, All, IfOk, IfErr, IsTrue, OnOk};
 ghost use Rattle.xl_flags.specs.declared.flag_votes.TheConstants.{MOST_AMENDMENTS};
 ghost use Rattle.xl_flags.specs.declared.refusal.FlagRefusal.TheVariants.{TooMany};
 ghost use Rattle.xl_voting.specs.Tallying.{nothing_tallied, tallied};
 ghost use Rattle.xl_voting.specs.Reports.{is_due};
 
+use crate::latest::Latest;
 use std::alloc::Global;
 use std::marker::Model;
-use xl_base::{MOST_MEMBERS, NodeNo, OutOfMemory, Secs, Seq};
+use xl_base::{NodeNo, OutOfMemory, Secs, Seq};
 use xl_flags::{FlagNews, FlagRefusal, FlagVotes};
 use xl_sched::Favor;
 
@@ -17,9 +18,7 @@ const FLAG: u32 = 256;
 #[derive(Drop)]
 pub struct Tally {
     votes: FlagVotes,
-    /// The sequence of each node's last flag report, or 0.
-    last: [Seq; MOST_MEMBERS],
-    count: u64,
+    latest: Latest,
 }
 
 impl Model for Tally {
@@ -27,7 +26,7 @@ impl Model for Tally {
 
     ghost Value = { Tallying };
 
-    ghost view = { λ t. record { kept = t.votes; last = t.last; count = t.count } };
+    ghost view = { λ t. record { kept = t.votes; last = t.latest.seqs; count = t.latest.count } };
 }
 
 impl Tally {
@@ -37,8 +36,7 @@ impl Tally {
     {
         Tally {
             votes: FlagVotes::open(alloc),
-            last: [0; MOST_MEMBERS],
-            count: 0,
+            latest: Latest::new(),
         }
     }
 
@@ -56,9 +54,10 @@ impl Tally {
 
     /// Whether a node's report of this sequence may be a flag report.
     pub fn is_due(&self, node: NodeNo, seq: Seq) -> bool
-        ensures { result ≡ is_due tallied self.now node seq }
+        ensures value { result ≡ is_due tallied self.now node seq }
+        ensures later { IsTrue result → tallied.last self.now node < seq }
     {
-        seq % FLAG == 0 && self.last[place_of(node)] < seq
+        seq % FLAG == 0 && self.latest.of(node) < seq
     }
 
     /// A node's flag report, of a ledger that closed then and that these members validated. What it says.
@@ -69,30 +68,21 @@ impl Tally {
         close: Secs,
         counted: &[NodeNo],
     ) -> Result<FlagNews, OutOfMemory>
+        requires later { tallied.last self.old node < seq }
         requires few { length counted.now ≤ 64 }
         requires members { All (λ m. (1 ≤ m) × (m ≤ 64)) counted.now }
         ensures said { IfOk result (λ news. news ≡ tallied.news self.old node seq close counted.now) }
         ensures reported { OnOk result (self.new ≡ tallied.reported self.old node seq close counted.now) }
     {
-        let place = place_of(node);
         let news = self.votes.decide(node, seq, close, counted)?;
-        self.last[place] = seq;
-        self.count = self.count.saturating_add(1);
+        self.latest.report(node, seq);
         Ok(news)
     }
 
-    /// How many flag reports there were; the count ends at the greatest `u64`.
+    /// How many flag reports there were.
     pub fn count(&self) -> u64
         ensures { result ≡ tallied.count self.now }
     {
-        self.count
+        self.latest.count()
     }
-}
-
-/// The place of a node's number.
-fn place_of(node: NodeNo) -> usize
-    ensures value { result ≡ node - 1 }
-    ensures within { result < 64 }
-{
-    node.get() as usize - 1
 }
