@@ -2,7 +2,7 @@ ghost use Rattle.std.specs.Prelude.{◌≡◌, ◌+◌, ◌≤◌, ◌<◌, ◌+
 ghost use Rattle.std.specs.List.{flat_map};
 ghost use Rattle.xl_flags.specs.Votes.{named};
 ghost use Rattle.xl_flags.specs.Flags.{reports_of, lines_of};
-ghost use Rattle.xl_flags.specs.Kept.{reported, row_news, favored, favoured_by, fee_line as fee_line_of, has_row, kept_favored, row_place as row_place_of, with_row, with_rows as with_rows_of, listed, kept_after, kept_lines, Past, nothing_yet, Remembers, report_of, with_report};
+ghost use Rattle.xl_flags.specs.Kept.{reported, row_news, favored, favoured_by, fee_line as fee_line_of, has_row, kept_favored, row_place as row_place_of, with_row, with_rows as with_rows_of, listed, kept_after, kept_lines, Past, nothing_kept, nothing_yet, Remembers, report_of, with_report};
 ghost use Rattle.xl_base.specs.Sets.{is_below as is_below_of};
 
 use crate::amendment::{Amendment, place_of};
@@ -14,7 +14,7 @@ use std::marker::Model;
 use xl_base::{MOST_MEMBERS, NodeNo, OutOfMemory, Secs, Seq, TxId};
 
 /// So many different amendments may be named.
-const MOST_AMENDMENTS: usize = 4096;
+pub const MOST_AMENDMENTS: usize = 4096;
 
 /// What members vote for, and what each node's reports of flag ledgers made of it.
 #[derive(Debug, Drop)]
@@ -38,7 +38,8 @@ impl Model for FlagVotes {
 impl FlagVotes {
     /// No votes and no reports. It takes no memory.
     pub fn open(alloc: Global) -> FlagVotes
-        ensures { Remembers result nothing_yet }
+        ensures remembers { Remembers result nothing_yet }
+        ensures kept { result ≡ nothing_kept }
     {
         FlagVotes {
             amendments: Vec::new(alloc),
@@ -58,6 +59,11 @@ impl FlagVotes {
             → MOST_AMENDMENTS < length (named (favored past member fee ids.now).favors)) }
         ensures few { IfOk result (λ done. (past : Past) → Remembers self.old past
             → length (named (favored past member fee ids.now).favors) ≤ MOST_AMENDMENTS) }
+        // So it is with what is kept, whatever that stands for.
+        ensures kept { IfOk result (λ done. self.new ≡ kept_favored member fee ids.now self.old) }
+        ensures many_kept { IfErr result (λ e. e ≡ FlagRefusal.TooMany
+            → MOST_AMENDMENTS < length (with_rows_of self.old.amendments ids.now)) }
+        ensures few_kept { IfOk result (λ done. length (with_rows_of self.old.amendments ids.now) ≤ MOST_AMENDMENTS) }
     {
         self.take_vote(member, fee, ids)
     }
@@ -102,6 +108,9 @@ impl FlagVotes {
             (λ news. (past : Past) → Remembers self.old past
             → Remembers self.new (with_report past (report_of past node close counted.now)))
             (λ e. self.new ≡ self.old) }
+        // The lines, and what is kept then, are functions of what is kept.
+        ensures said { IfOk result (λ news. news ≡ kept_lines node seq close counted.now self.old) }
+        ensures kept { OnOk result (self.new ≡ kept_after node close counted.now self.old) }
     {
         self.take_report(node, seq, close, counted)
     }

@@ -16,7 +16,7 @@ mod news;
 mod refusal;
 mod standing;
 
-pub use flag_votes::FlagVotes;
+pub use flag_votes::{FlagVotes, MOST_AMENDMENTS};
 pub use law::one_moment_is_enough;
 pub use news::{FlagLine, FlagNews};
 pub use refusal::FlagRefusal;

@@ -1,5 +1,5 @@
 use Rattle.std.proofs.Common.{◌≡◌, List, Ok, Err, ◌∙◌, sym, subst}
-use Rattle.std.specs.Prelude.{Result, IfOk, MatchResult}
+use Rattle.std.specs.Prelude.{Result, IfOk, OnOk, MatchResult}
 use Rattle.xl_base.specs.declared.memory.OutOfMemory.{OutOfMemory}
 use Rattle.xl_flags.specs.declared.news.FlagLine.{FlagLine}
 use Rattle.xl_flags.specs.Flags.{lines_of, reports_of}
@@ -16,6 +16,10 @@ both_weaker : (P Q : List FlagLine → Type 0) (R : OutOfMemory → Type 0) → 
 both_weaker P Q R h (Ok news) p = h news p
 both_weaker P Q R h (Err e) p = p
 
+ok_part : (P R : Type 0) → (r : Result (List FlagLine) OutOfMemory) → MatchResult r (λ _. P) (λ _. R) → OnOk r P
+ok_part P R (Ok news) p = p
+ok_part P R (Err e) p = tt
+
 pub returns : goal.returns
 returns c = record {
   news = weaker (λ news. news ≡ kept_lines c.args.node c.args.seq c.args.close c.args.counted.now c.args.self.now)
@@ -28,5 +32,8 @@ returns c = record {
       (λ e. c.take_report.new.self ≡ c.args.self.now)
       (λ news kept past remembers. subst (λ (k : Kept). Remembers k (with_report past (report_of past c.args.node c.args.close c.args.counted.now))) (sym kept)
       (remembers_report past c.args.node c.args.close c.args.counted.now (c.take_report.ensures.first, c.take_report.ensures.last) c.requires.members c.args.self.now remembers))
+      c.take_report.result c.take_report.ensures.kept;
+  said = c.take_report.ensures.said;
+  kept = ok_part (c.take_report.new.self ≡ kept_after c.args.node c.args.close c.args.counted.now c.args.self.now) (c.take_report.new.self ≡ c.args.self.now)
       c.take_report.result c.take_report.ensures.kept;
 }

@@ -20,6 +20,10 @@ module _ {E : Type 0} where
   err_weaker P Q h (Ok u) p = p
   err_weaker P Q h (Err e) p = h e p
 
+  ok_part : (P : Unit {0} → Type 0) (R : E → Type 0) → (r : Result (Unit {0}) E) → MatchResult r P R → IfOk r P
+  ok_part P R (Ok u) p = p
+  ok_part P R (Err e) p = tt
+
 pub returns : goal.returns
 returns c = record {
   remembers = done_weaker (λ u. c.take_vote.new.self ≡ kept_favored c.args.member c.args.fee c.args.ids.now c.args.self.now)
@@ -36,4 +40,8 @@ returns c = record {
       (λ u. (past : Past) → Remembers c.args.self.now past → length (named (favored past c.args.member c.args.fee c.args.ids.now).favors) ≤ MOST_AMENDMENTS)
       (λ u few past is. subst (λ n. n ≤ MOST_AMENDMENTS) (so_many past c.args.member c.args.fee c.args.ids.now c.take_vote.ensures.first c.take_vote.ensures.last c.args.self.now is) few)
       c.take_vote.result c.take_vote.ensures.few;
+  kept = ok_part (λ u. c.take_vote.new.self ≡ kept_favored c.args.member c.args.fee c.args.ids.now c.args.self.now) (λ e. c.take_vote.new.self ≡ c.args.self.now)
+      c.take_vote.result c.take_vote.ensures.kept;
+  many_kept = c.take_vote.ensures.many;
+  few_kept = c.take_vote.ensures.few;
 }

@@ -1,0 +1,11 @@
+pub mod ValidLists
+pub mod StandingFor
+pub mod Telling
+pub mod Saying
+pub mod Joining
+pub mod AtEnd
+pub mod Whole
+pub mod Going
+pub mod Filtering
+pub mod Happening
+pub mod Tallies

@@ -1,0 +1,27 @@
+-- What is kept tells what the list tells.
+use Rattle.std.proofs.Common.{◌≢◌}
+use Rattle.xl_io.specs.Sinks.{GrewByFront, GrewByLess}
+use Rattle.xl_lines.specs.declared.fault.Fault.{Fault}
+use Rattle.xl_lines.specs.declared.fault.Fault.TheVariants.{Memory}
+use Rattle.xl_lines.specs.Rules.{Told}
+use Rattle.xl_lines.specs.Running.{TellsAll}
+use Rattle.xl_voting.specs.States.{state_of}
+use Rattle.xl_voting.proofs.AtEnd.{ends_aloud, finds_at_end}
+use Rattle.xl_voting.proofs.Whole.{err_then, ok_then, told_then}
+use Rattle.xl_voting.proofs.command.flags.Goals as goal
+
+pub returns-clause-whole : goal.returns-clause-whole
+returns-clause-whole g c =
+    ok_then (state_of c.in-Ok.voter) c.in-Ok.ensures (TellsAll (g.O.Sink.held c.args.output.now) (g.O.Sink.held c.run.new.output)) (g.I.Source.left c.args.input.now) c.run.result c.run.ensures.whole
+
+pub returns-clause-to_end : goal.returns-clause-to_end
+returns-clause-to_end g c = c.run.ensures.to_end finds_at_end
+
+pub returns-clause-front : goal.returns-clause-front
+returns-clause-front g c =
+    told_then (state_of c.in-Ok.voter) c.in-Ok.ensures (λ (told : Told). GrewByFront (g.O.Sink.held c.args.output.now) (g.O.Sink.held c.run.new.output) told.text) (g.I.Source.left c.args.input.now) c.run.ensures.front
+
+pub returns-clause-less : goal.returns-clause-less
+returns-clause-less g c =
+    err_then (state_of c.in-Ok.voter) c.in-Ok.ensures (λ (fault : Fault). fault ≢ Memory) (λ (told : Told). GrewByLess (g.O.Sink.held c.args.output.now) (g.O.Sink.held c.run.new.output) told.text)
+    (g.I.Source.left c.args.input.now) c.run.result (c.run.ensures.less ends_aloud)
