@@ -6,6 +6,7 @@ import shutil
 import struct
 import subprocess
 import sys
+import time
 from dataclasses import dataclass, field
 
 import command
@@ -533,6 +534,18 @@ class Follower:
                     self.frames.append(frame)
 
 
+def told_on_the_way(lines):
+    """The lines; on a terminal it is said once a second, from the second on, how many of them are through."""
+    last, was_told = time.monotonic() + 1, False
+    for number, line in enumerate(lines):
+        if number % 64 == 0 and time.monotonic() - last > 1 and sys.stderr.isatty():
+            last, was_told = time.monotonic(), True
+            print('\r%s of %s lines' % (format(number, ','), format(len(lines), ',')), end='', file=sys.stderr, flush=True)
+        yield line
+    if was_told:
+        print('\r\x1b[K', end='', file=sys.stderr, flush=True)
+
+
 class Story:
     """A schedule, its events, and its report."""
 
@@ -545,7 +558,7 @@ class Story:
         taken = lines[: self.report.last_line]
         follower = Follower(program, has_rounds(lines), asks_kept, members_set_later(taken))
         try:
-            for line, words in enumerate(taken, 1):
+            for line, words in enumerate(told_on_the_way(taken), 1):
                 if not is_passed_over(words.split()):
                     follower.take(line, words, words.split())
         except Unfollowed as why:

@@ -85,6 +85,11 @@ def dot(x, y, radius, kind):
     return '<circle class="%s" cx="%.1f" cy="%.1f" r="%s"/>' % (kind, x, y, radius)
 
 
+def diamond(x, y, radius, kind):
+    corners = (x, y - radius, x + radius, y, x, y + radius, x - radius, y)
+    return '<path class="%s" d="M%.1f %.1fL%.1f %.1fL%.1f %.1fL%.1f %.1fZ"/>' % (kind, *corners)
+
+
 def box(x, y, width, height, kind, more='', radius=4):
     return '<rect class="%s" x="%.1f" y="%.1f" width="%.1f" height="%.1f" rx="%d"%s/>' % (
         kind,

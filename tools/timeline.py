@@ -10,10 +10,13 @@ from words import Wording, ranges, seconds
 ROW = 26
 MOST_SHOWN, FIRST_SHOWN, LAST_SHOWN = 100, 60, 40
 FAR = 10**7
+GAP, THIN = 42, 10
+BRIEF = ('built', 'full', 'switched', 'preferred', 'lie', 'restart', 'cut', 'fail', 'list')
 LEGEND = {
     'says': '○ a node says something',
     'built': '■ it builds a ledger',
     'full': '● it reports a ledger as final',
+    'switched': '◇ it goes over to another ledger',
     'deliver': '→ a message arrives',
     'lie': '⇢ a lie, told to one node',
     'raw': '⇢ raw bytes from outside',
@@ -35,6 +38,7 @@ class Timeline:
         self.lanes = sorted([*story.network.nodes, *story.network.liars])
         self.fork = self.words.fork
         self.forked = {event.index: event for event, _ in self.fork or ()}
+        self.arrived = {event.frame for event in story.events}
         self.shown = [event for event in story.events if self.is_shown(event)]
         self.fold()
         self.labels = {event.index: self.beside(event) for event in self.shown}
@@ -45,9 +49,18 @@ class Timeline:
         if event.index in self.forked:
             return True
         if first or last:
-            return (first or 1) <= event.line <= (last or event.line)
+            return (first or 1) <= event.line <= (last or event.line) and self.tells(event)
+        if self.options.brief:
+            return self.tells(event)
         count = len(self.story.events)
         return count <= MOST_SHOWN or not FIRST_SHOWN <= event.index < count - LAST_SHOWN
+
+    def tells(self, event):
+        """Whether the event stands in a brief picture; in another one each does."""
+        if event.word == 'drop':
+            first, last = map(int, event.tokens[1:])
+            return not self.options.brief or first <= last and not self.arrived & set(range(first, last + 1))
+        return not self.options.brief or event.word in BRIEF or any(event.told(word) for word in BRIEF)
 
     def colour(self, token):
         if token is None:
@@ -175,9 +188,11 @@ class Timeline:
         for event in [*self.shown, None]:
             index = event.index if event else len(self.story.events)
             if index > before + 1:
-                self.draw_gap(y + 34, index - before - 1)
-                self.y.update((left_out, y + 44) for left_out in range(before + 1, index))
-                y += 42
+                if not self.options.brief:
+                    self.draw_gap(y + 34, index - before - 1)
+                high = THIN if self.options.brief else GAP
+                self.y.update((left_out, y + high + 2) for left_out in range(before + 1, index))
+                y += high
             before, y = index, y + ROW * (self.folded.get(index) != 0)
             self.y[index] = y
         return y - 4
@@ -240,7 +255,7 @@ class Timeline:
             self.over.append(svg.box(x - 4.5, y - 4.5, 9, 9, 'hole line mute-line', radius=1))
         elif event.word in ('timer', 'greet', 'prefer', 'heard', 'submit', 'issue', 'fail'):
             self.over.append(svg.dot(x, y, 2.5, 'mute'))
-            if not event.told('built'):
+            if not event.told('built') and not event.told('switched'):
                 self.used.add('quiet')
         for outcome in event.outcomes:
             self.draw_outcome(event, outcome, x, y)
@@ -252,6 +267,8 @@ class Timeline:
             self.over.append(svg.box(x - 5, y - 5, 10, 10, self.colour(outcome[3]), radius=1))
         elif outcome[0] == 'full':
             self.over.append(svg.dot(x, y, 7, self.colour(outcome[3])))
+        elif outcome[0] == 'switched':
+            self.over.append(svg.diamond(x, y, 6, 'hole line %s-line' % self.colour(outcome[3])))
         elif outcome[0] == 'refused' and event.word != 'cut':
             self.over.append(svg.line(x - 6, y, x + 6, y, 'mute-line wide'))
 
@@ -271,10 +288,9 @@ class Timeline:
 
     def draw_lost(self):
         """Frames that never arrive, as short open lines: one for each, or one with their number where they are many."""
-        arrived = {event.frame for event in self.story.events}
         lost = {}
         for number, frame in enumerate(self.story.frames, 1):
-            if number not in arrived and frame.event in self.labels:
+            if number not in self.arrived and frame.event in self.labels:
                 side = 1 if self.x[frame.receiver] > self.x[frame.sender] else -1
                 lost.setdefault((frame.event, side), []).append(frame)
         for (index, side), frames in lost.items():
@@ -314,7 +330,7 @@ class Timeline:
         if not self.options.bare:
             parts, y = svg.block(20, y, verdict, kind, self.width - 40, svg.BOLD, 21)
         legend = [LEGEND[word].replace(' ', '\u00a0') for word in LEGEND if word in self.used]
-        for note in notes * (not self.options.bare):
+        for note in (notes + self.brevity()) * (not self.options.bare):
             more, y = svg.block(20, y, note, 'ink', self.width - 40, svg.PLAIN, 18)
             parts += more
         more, y = svg.block(
@@ -322,6 +338,12 @@ class Timeline:
         )
         self.texts += parts + more
         return y + 8
+
+    def brevity(self):
+        """What a brief picture says of what it leaves out."""
+        left_out = len(self.story.events) - len(self.shown)
+        told = ['Left out: %s events without a build, a report or a switch.' % format(left_out, ',')]
+        return told * bool(self.options.brief and left_out)
 
     def description(self, verdict, notes):
         """What a screen reader reads: the end, and each report."""

@@ -294,7 +294,7 @@ class Wording:
                 other[1],
                 short(other[3]),
             )
-        return 'Agreed: no two reports of one number differ.'
+        return 'Agreed: no two reports of one sequence differ.'
 
     def notes(self):
         report, groups = self.story.report, {}
