@@ -15,10 +15,11 @@ use Rattle.xl_merge.specs.Merging.{merge_of}
 use Rattle.xl_pairs.specs.Comparing.{lists_of}
 use Rattle.xl_replay.specs.Replays.{report_of}
 use Rattle.xl_show.specs.Shown.{shown_of}
+use Rattle.xl_voting.specs.Voting.{flags_of}
 use Rattle.xl_words.specs.declared.command.Command.{Command}
 use Rattle.xl_words.specs.declared.command.Command.TheVariants.{Node, Tell}
 use Rattle.xl_words.specs.declared.command.Telling.{Telling}
-use Rattle.xl_words.specs.declared.command.Telling.TheVariants.{Replay, Show, Lists, Merge, Audit, Gen, Help, Version}
+use Rattle.xl_words.specs.declared.command.Telling.TheVariants.{Replay, Show, Lists, Merge, Audit, Flags, Gen, Help, Version}
 use Rattle.xl_words.specs.Commands.{command_of}
 use Rattle.xl_words.specs.Help.{help_text, version_text}
 
@@ -43,6 +44,7 @@ told_by Show bytes = shown_of bytes
 told_by Lists bytes = lists_of bytes
 told_by Merge bytes = merge_of bytes
 told_by Audit bytes = audit_of bytes
+told_by Flags bytes = flags_of bytes
 told_by (Gen rounds) bytes = summary (min rounds MOST_ROUNDS)
 told_by Help bytes = closes help_text Good
 told_by Version bytes = closes version_text Good

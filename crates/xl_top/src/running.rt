@@ -20,6 +20,7 @@ use xl_merge::merge;
 use xl_pairs::lists;
 use xl_replay::replay;
 use xl_show::show;
+use xl_voting::flags;
 use xl_words::Telling;
 
 /// Writes a text.
@@ -44,6 +45,7 @@ pub fn run<I: Source, O: Sink>(
         Telling::Lists => status_after(lists(alloc, input, output)),
         Telling::Merge => status_after(merge(alloc, input, output)),
         Telling::Audit => status_after(audit(alloc, input, output)),
+        Telling::Flags => status_after(flags(alloc, input, output)),
         Telling::Help => status_after(help(alloc, output)),
         Telling::Version => status_after(version(alloc, output)),
         Telling::Gen(rounds) => status_after(make(alloc, rounds, output)),

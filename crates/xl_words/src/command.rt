@@ -31,6 +31,8 @@ pub enum Telling {
     Merge,
     /// Says whether each entry of a written journal is right.
     Audit,
+    /// Says which amendments are enabled, and which fee is set, by the votes of a schedule.
+    Flags,
     /// Makes a schedule of so many rounds, 1 to 1,000, and runs it.
     Gen(u32),
     Help,
@@ -107,6 +109,9 @@ fn named(name: &str, matches: &ArgMatches<'_>) -> Option<Command>
     }
     if name == "audit" {
         return Some(Command::Tell(Telling::Audit));
+    }
+    if name == "flags" {
+        return Some(Command::Tell(Telling::Flags));
     }
     if name == "gen" {
         return made(rounds_of(matches));

@@ -38,5 +38,6 @@ pub fn program<'a>(alloc: Global) -> Result<Command<'a>, AllocError>
         .subcommand(Command::new(alloc, "lists"))?
         .subcommand(Command::new(alloc, "merge"))?
         .subcommand(Command::new(alloc, "audit"))?
+        .subcommand(Command::new(alloc, "flags"))?
         .subcommand(rounds)
 }

@@ -11,7 +11,7 @@ use Rattle.xl_top.specs.Texts.{WritesText, streams}
 use Rattle.xl_top.proofs.After.{if_any, writes_by, cause_after, cause_of, end_after, yes_after, known_after, whole_after, some_after, read_all_after, said, held_same}
 use Rattle.xl_top.proofs.Asking.{whole_of, less_of, only_of}
 use Rattle.xl_words.specs.declared.command.Telling.{Telling}
-use Rattle.xl_words.specs.declared.command.Telling.TheVariants.{Show, Lists, Merge, Audit, Gen, Help, Version}
+use Rattle.xl_words.specs.declared.command.Telling.TheVariants.{Show, Lists, Merge, Audit, Flags, Gen, Help, Version}
 use Rattle.xl_words.specs.Help.{help_text, version_text}
 use Rattle.xl_top.proofs.running.run.Goals as goal
 
@@ -109,6 +109,27 @@ returns-in-Audit-clause-cause g c = cause_after _ c.audit.result _ _ c.status_af
 
 pub returns-in-Audit-clause-known : goal.returns-in-Audit-clause-known
 returns-in-Audit-clause-known g c = subst IsReplayed (sym c.status_after-in-Audit.ensures) (known_after c.audit.result)
+
+pub returns-in-Flags-clause-writes : goal.returns-in-Flags-clause-writes
+returns-in-Flags-clause-writes g c =
+    let old = streams (g.I.Source.left c.args.input.now) (g.I.Source.faults c.args.input.now) (g.O.Sink.held c.args.output.now) (g.O.Sink.faults c.args.output.now) in
+    let new = streams (g.I.Source.left c.flags.new.input) (g.I.Source.faults c.flags.new.input) (g.O.Sink.held c.flags.new.output) (g.O.Sink.faults c.flags.new.output) in
+    writes_by _ Flags old new _ c.flags.result c.in-Flags.is (λ no. cc) c.status_after-in-Flags.ensures (record {
+      whole = c.flags.ensures.whole;
+      at_end = λ ends _. end_after c.flags.result _ c.flags.ensures.to_end ends;
+      front = c.flags.ensures.front;
+      only = c.flags.ensures.complete;
+      ends = said (g.I.Source.left c.args.input.now) _ (whole_after (g.I.Source.left c.args.input.now) (g.O.Sink.held c.args.output.now) (g.O.Sink.held c.flags.new.output) (told_by Flags) c.flags.result c.flags.ensures.whole c.flags.ensures.less);
+    })
+
+pub returns-in-Flags-clause-cause : goal.returns-in-Flags-clause-cause
+returns-in-Flags-clause-cause g c = cause_after _ c.flags.result _ _ c.status_after-in-Flags.ensures c.flags.ensures.read c.flags.ensures.write
+
+pub returns-in-Flags-clause-known : goal.returns-in-Flags-clause-known
+returns-in-Flags-clause-known g c = subst IsReplayed (sym c.status_after-in-Flags.ensures) (known_after c.flags.result)
+
+pub returns-in-Flags-clause-unread : goal.returns-in-Flags-clause-unread
+returns-in-Flags-clause-unread g c = rw c.in-Flags.is (λ no. absurd no)
 
 pub returns-in-Help-clause-writes : goal.returns-in-Help-clause-writes
 returns-in-Help-clause-writes g c =

@@ -16,5 +16,6 @@ returns c =
     let four = c.in_ok-subcommand-4.ensures.shape c.new-5.ensures.local ∙ ap₂ with_subcommand three (ap (λ (a : App). a.top) c.new-5.ensures.app) in
     let five = c.in_ok-subcommand-5.ensures.shape c.new-6.ensures.local ∙ ap₂ with_subcommand four (ap (λ (a : App). a.top) c.new-6.ensures.app) in
     let six = c.in_ok-subcommand-6.ensures.shape c.new-7.ensures.local ∙ ap₂ with_subcommand five (ap (λ (a : App). a.top) c.new-7.ensures.app) in
-    IfOk-weaker c.subcommand-7.result _ _
-    (λ command adds. adds.shape free ∙ ap₂ with_subcommand six (ap (λ (a : App). a.top) rounds)) c.subcommand-7.ensures
+    let seven = c.in_ok-subcommand-7.ensures.shape c.new-8.ensures.local ∙ ap₂ with_subcommand six (ap (λ (a : App). a.top) c.new-8.ensures.app) in
+    IfOk-weaker c.subcommand-8.result _ _
+    (λ command adds. adds.shape free ∙ ap₂ with_subcommand seven (ap (λ (a : App). a.top) rounds)) c.subcommand-8.ensures
