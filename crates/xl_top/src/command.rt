@@ -1,4 +1,4 @@
-ghost use Rattle.std.specs.Prelude.{◌≡◌, ◌≢◌, ◌⊎◌, ℕ, None, Some, IfSome, IfOk, IsErr};
+ghost use Rattle.std.specs.Prelude.{◌≡◌, ◌≢◌, ◌⊎◌, ℕ, None, Some, IfSome};
 ghost use Rattle.xl_base.specs.Faults.{Rose};
 ghost use Rattle.xl_gen.specs.Summaries.{IsSummary};
 ghost use Rattle.xl_lines.specs.declared.machine.Verdict.TheVariants.{Refused};
@@ -6,8 +6,8 @@ ghost use Rattle.xl_replay.specs.Headlines.{names_of, IsReport, IsRefusal};
 ghost use Rattle.xl_replay.specs.Replays.{report_of};
 ghost use Rattle.xl_top.specs.Commands.{asked_of, told_of, ReadsNothing};
 ghost use Rattle.xl_top.specs.Texts.{WritesText, HasCause, streams};
-ghost use Rattle.xl_settings.specs.Settings.{settings_of};
-ghost use Rattle.xl_validator.specs.Validators.{IsNodeRun, HasRefused, IsUnopened, between};
+ghost use Rattle.xl_top.specs.Undone.{IsUndone};
+ghost use Rattle.xl_validator.specs.Validators.{IsUnopened, Judges, between};
 ghost use Rattle.xl_words.specs.Commands.{words_of};
 
 use crate::running::run;
@@ -65,22 +65,21 @@ pub fn top<
     // The last line of each summary that `gen` makes says whether the reports of its schedule agree, and if no frame
     // was forged they do.
     ensures summaries { (rounds : ℕ) → IsSummary rounds }
-    // Of `node`: refused settings open no store, and of their line a front is written.
-    ensures node_refused { asked_of (words_of words.now) ≡ Some Command.Node
-        → HasRefused (I.left input.old) result.journal result.status (O.held output.old) (O.held output.new) }
-    // Other settings run a node, or nothing is written.
-    ensures node_ran { IfSome result.journal (λ history. (asked_of (words_of words.now) ≡ Some Command.Node)
-        × IsNodeRun K.held K.saves K.faults K.load_gives K.save_gives
+    // Of `node`: its settings are judged at one moment that the clock may give. If they are refused no store is opened,
+    // and of their line a front is written; others run a node that is opened at that moment, or nothing is written.
+    // Else memory ran out before the clock was asked, and nothing was done.
+    ensures node { asked_of (words_of words.now) ≡ Some Command.Node
+        → Judges K.held K.saves K.faults K.load_gives K.save_gives
         (I.left input.old) (C.may_give clock.now) (H.gives hub.old)
         (between (H.faults hub.old) (H.faults hub.new)
         (O.held output.old) (O.faults output.old) (O.held output.new) (O.faults output.new))
-        keeper result.keeper result.status history) }
-    ensures node_unopened { asked_of (words_of words.now) ≡ Some Command.Node → IfSome (I.left input.old) (λ bytes.
-        IfOk (settings_of bytes) (λ _. result.journal ≡ None → output.new ≡ output.old)) }
+        output.old output.new keeper result.keeper result.status result.journal
+        ⊎ IsUndone result.status result.journal (input.new ≡ input.old) (output.new ≡ output.old)
+        (result.keeper ≡ keeper) (hub.new ≡ hub.old) }
+    // A journal is that of a node.
+    ensures node_ran { IfSome result.journal (λ _. asked_of (words_of words.now) ≡ Some Command.Node) }
     ensures node_opened { asked_of (words_of words.now) ≡ Some Command.Node → result.journal ≡ None
         → IsUnopened result.status }
-    ensures node_input { asked_of (words_of words.now) ≡ Some Command.Node → result.status ≡ Status.InputRefused
-        → IfSome (I.left input.old) (λ bytes. IsErr (settings_of bytes)) }
     // Every other command leaves keeper and hub.
     ensures others { asked_of (words_of words.now) ≢ Some Command.Node
         → (result.keeper ≡ keeper) × (hub.new ≡ hub.old) × (result.journal ≡ None) }

@@ -1,19 +1,18 @@
 use Rattle.std.proofs.Common.{◌≡◌, Option, Some, None, Err, List, ℕ, inl, inr, refl, sym, ap, subst, ◌∙◌, ◌⊎◌, ⊎_elim, IfSome}
 use Rattle.std.specs.Prelude.{option_and_then}
+use Rattle.xl_base.specs.Faults.{Rose}
 use Rattle.xl_base.specs.declared.status.Status.{Status}
 use Rattle.xl_base.specs.declared.status.Status.TheVariants as status
 use Rattle.xl_replay.specs.Statuses.{IsReplayed}
 use Rattle.xl_replay.proofs.Headline.{headline, refusal}
 use Rattle.xl_gen.proofs.Summing.{summarized}
-use Rattle.xl_settings.specs.Settings.{settings_of}
 use Rattle.xl_validator.specs.Validators.{IsKnown, IsUnopened}
-use Rattle.xl_validator.proofs.Refusing.{refused_by_none}
 use Rattle.xl_words.specs.declared.command.Telling.{Telling}
 use Rattle.xl_words.specs.Commands.{command_of, words_of}
 use Rattle.xl_top.specs.Commands.{telling_in, told_of}
 use Rattle.xl_top.specs.Texts.{WritesText, HasCause, streams}
 use Rattle.xl_top.proofs.After.{if_any, cause_of, cause_among, nothing_done}
-use Rattle.xl_top.proofs.Asking.{if_more, ok_any, by_asked, unasked, by_none}
+use Rattle.xl_top.proofs.Asking.{by_asked, unasked, by_none}
 use Rattle.xl_top.proofs.command.top.Goals as goal
 
 pub returns-in-Ok-Tell-clause-unasked : goal.returns-in-Ok-Tell-clause-unasked
@@ -68,18 +67,6 @@ pub returns-in-Err-Memory-clause-summaries : goal.returns-in-Err-Memory-clause-s
 returns-in-Err-Memory-clause-summaries g c =
     summarized
 
-pub returns-in-Ok-Tell-clause-node_refused : goal.returns-in-Ok-Tell-clause-node_refused
-returns-in-Ok-Tell-clause-node_refused g c =
-    λ is. let no = sym (c.in-Ok-Tell.ensures.found ∙ ap Some c.in-Ok-Tell.field-0-is) ∙ is in absurd cc
-
-pub returns-in-Ok-Tell-clause-node_unopened : goal.returns-in-Ok-Tell-clause-node_unopened
-returns-in-Ok-Tell-clause-node_unopened g c =
-    λ is. let no = sym (c.in-Ok-Tell.ensures.found ∙ ap Some c.in-Ok-Tell.field-0-is) ∙ is in absurd cc
-
-pub returns-in-Ok-Tell-clause-node_ran : goal.returns-in-Ok-Tell-clause-node_ran
-returns-in-Ok-Tell-clause-node_ran g c =
-    by_none c.unopened.result.journal _ c.unopened.ensures.journal
-
 pub returns-in-Ok-Tell-clause-others : goal.returns-in-Ok-Tell-clause-others
 returns-in-Ok-Tell-clause-others g c =
     λ _. (c.unopened.ensures.keeper, refl, c.unopened.ensures.journal)
@@ -91,18 +78,6 @@ returns-in-Ok-Tell-clause-store g c =
 pub returns-in-Ok-Node-clause-unasked : goal.returns-in-Ok-Node-clause-unasked
 returns-in-Ok-Node-clause-unasked g c =
     λ none. let no = sym (c.in-Ok-Node.ensures.found ∙ ap Some c.in-Ok-Node.field-0-is) ∙ none in absurd cc
-
-pub returns-in-Ok-Node-clause-node_refused : goal.returns-in-Ok-Node-clause-node_refused
-returns-in-Ok-Node-clause-node_refused g c =
-    λ _. c.validator.ensures.refused
-
-pub returns-in-Ok-Node-clause-node_unopened : goal.returns-in-Ok-Node-clause-node_unopened
-returns-in-Ok-Node-clause-node_unopened g c =
-    λ _. c.validator.ensures.unopened
-
-pub returns-in-Ok-Node-clause-node_ran : goal.returns-in-Ok-Node-clause-node_ran
-returns-in-Ok-Node-clause-node_ran g c =
-    if_more c.validator.result.journal _ _ (λ history ran. ((c.in-Ok-Node.ensures.found ∙ ap Some c.in-Ok-Node.field-0-is), ran)) c.validator.ensures.ran
 
 pub returns-in-Ok-Node-clause-others : goal.returns-in-Ok-Node-clause-others
 returns-in-Ok-Node-clause-others g c =
@@ -120,18 +95,6 @@ pub returns-in-Err-Refused-clause-store : goal.returns-in-Err-Refused-clause-sto
 returns-in-Err-Refused-clause-store g c =
     λ is. let no = sym c.unopened-in-Err-Refused.ensures.status ∙ is in absurd cc
 
-pub returns-in-Err-Refused-clause-node_refused : goal.returns-in-Err-Refused-clause-node_refused
-returns-in-Err-Refused-clause-node_refused g c =
-    λ is. let no = sym (unasked (command_of (words_of c.args.words.now)) (Err c.in-Err-Refused.field-0) (ap Err c.in-Err-Refused.field-0-is) c.in-Err-Refused.ensures.given) ∙ is in absurd cc
-
-pub returns-in-Err-Refused-clause-node_unopened : goal.returns-in-Err-Refused-clause-node_unopened
-returns-in-Err-Refused-clause-node_unopened g c =
-    λ is. let no = sym (unasked (command_of (words_of c.args.words.now)) (Err c.in-Err-Refused.field-0) (ap Err c.in-Err-Refused.field-0-is) c.in-Err-Refused.ensures.given) ∙ is in absurd cc
-
-pub returns-in-Err-Refused-clause-node_ran : goal.returns-in-Err-Refused-clause-node_ran
-returns-in-Err-Refused-clause-node_ran g c =
-    by_none c.unopened-in-Err-Refused.result.journal _ c.unopened-in-Err-Refused.ensures.journal
-
 pub returns-in-Err-Refused-clause-others : goal.returns-in-Err-Refused-clause-others
 returns-in-Err-Refused-clause-others g c =
     λ _. (c.unopened-in-Err-Refused.ensures.keeper, refl, c.unopened-in-Err-Refused.ensures.journal)
@@ -143,18 +106,6 @@ returns-in-Err-Memory-clause-store g c =
 pub returns-in-Err-Memory-clause-unasked : goal.returns-in-Err-Memory-clause-unasked
 returns-in-Err-Memory-clause-unasked g c =
     λ _. inr c.unopened-in-Err-Memory.ensures.status
-
-pub returns-in-Err-Memory-clause-node_refused : goal.returns-in-Err-Memory-clause-node_refused
-returns-in-Err-Memory-clause-node_refused g c =
-    λ _. refused_by_none (g.O.Sink.held c.args.output.now) c.unopened-in-Err-Memory.result.status c.unopened-in-Err-Memory.result.journal (g.I.Source.left c.args.input.now) c.unopened-in-Err-Memory.ensures.journal (λ is. let no = sym c.unopened-in-Err-Memory.ensures.status ∙ is in absurd cc)
-
-pub returns-in-Err-Memory-clause-node_unopened : goal.returns-in-Err-Memory-clause-node_unopened
-returns-in-Err-Memory-clause-node_unopened g c =
-    λ _. if_any (g.I.Source.left c.args.input.now) _ (λ bytes. ok_any (settings_of bytes) _ (λ _ _. refl))
-
-pub returns-in-Err-Memory-clause-node_ran : goal.returns-in-Err-Memory-clause-node_ran
-returns-in-Err-Memory-clause-node_ran g c =
-    by_none c.unopened-in-Err-Memory.result.journal _ c.unopened-in-Err-Memory.ensures.journal
 
 pub returns-in-Err-Memory-clause-others : goal.returns-in-Err-Memory-clause-others
 returns-in-Err-Memory-clause-others g c =
@@ -168,29 +119,13 @@ pub returns-in-Err-Refused-clause-node_opened : goal.returns-in-Err-Refused-clau
 returns-in-Err-Refused-clause-node_opened g c =
     λ is. let no = sym (unasked (command_of (words_of c.args.words.now)) (Err c.in-Err-Refused.field-0) (ap Err c.in-Err-Refused.field-0-is) c.in-Err-Refused.ensures.given) ∙ is in absurd cc
 
-pub returns-in-Ok-Tell-clause-node_input : goal.returns-in-Ok-Tell-clause-node_input
-returns-in-Ok-Tell-clause-node_input g c =
-    λ is. let no = sym (c.in-Ok-Tell.ensures.found ∙ ap Some c.in-Ok-Tell.field-0-is) ∙ is in absurd cc
-
-pub returns-in-Err-Refused-clause-node_input : goal.returns-in-Err-Refused-clause-node_input
-returns-in-Err-Refused-clause-node_input g c =
-    λ is. let no = sym (unasked (command_of (words_of c.args.words.now)) (Err c.in-Err-Refused.field-0) (ap Err c.in-Err-Refused.field-0-is) c.in-Err-Refused.ensures.given) ∙ is in absurd cc
-
 pub returns-in-Ok-Node-clause-node_opened : goal.returns-in-Ok-Node-clause-node_opened
 returns-in-Ok-Node-clause-node_opened g c =
     λ _. c.validator.ensures.opened
 
-pub returns-in-Ok-Node-clause-node_input : goal.returns-in-Ok-Node-clause-node_input
-returns-in-Ok-Node-clause-node_input g c =
-    λ _. c.validator.ensures.input
-
 pub returns-in-Err-Memory-clause-node_opened : goal.returns-in-Err-Memory-clause-node_opened
 returns-in-Err-Memory-clause-node_opened g c =
     λ _ _. subst IsUnopened (sym c.unopened-in-Err-Memory.ensures.status) tt
-
-pub returns-in-Err-Memory-clause-node_input : goal.returns-in-Err-Memory-clause-node_input
-returns-in-Err-Memory-clause-node_input g c =
-    λ _ is. let no = sym c.unopened-in-Err-Memory.ensures.status ∙ is in absurd cc
 
 pub returns-in-Ok-Tell-clause-words : goal.returns-in-Ok-Tell-clause-words
 returns-in-Ok-Tell-clause-words g c =
@@ -202,7 +137,7 @@ returns-in-Ok-Tell-clause-text g c =
 
 pub returns-in-Ok-Tell-clause-cause : goal.returns-in-Ok-Tell-clause-cause
 returns-in-Ok-Tell-clause-cause g c =
-    subst (λ (x : Status). HasCause x _ _ _ _) (sym c.unopened.ensures.status) (cause_among c.run.result _ _ _ _ c.run.ensures.cause)
+    subst (λ (x : Status). HasCause x (Rose (g.I.Source.faults c.args.input.now) (g.I.Source.faults c.run.new.input)) (Rose (g.O.Sink.faults c.args.output.now) (g.O.Sink.faults c.run.new.output)) (Rose (g.K.Keeper.faults c.args.keeper) (g.K.Keeper.faults c.unopened.result.keeper)) (Rose (g.H.Hub.faults c.args.hub.now) (g.H.Hub.faults c.args.hub.now))) (sym c.unopened.ensures.status) (cause_among c.run.result (Rose (g.I.Source.faults c.args.input.now) (g.I.Source.faults c.run.new.input)) (Rose (g.O.Sink.faults c.args.output.now) (g.O.Sink.faults c.run.new.output)) (Rose (g.K.Keeper.faults c.args.keeper) (g.K.Keeper.faults c.unopened.result.keeper)) (Rose (g.H.Hub.faults c.args.hub.now) (g.H.Hub.faults c.args.hub.now)) c.run.ensures.cause)
 
 pub returns-in-Ok-Node-clause-words : goal.returns-in-Ok-Node-clause-words
 returns-in-Ok-Node-clause-words g c =
@@ -226,7 +161,7 @@ returns-in-Err-Refused-clause-text g c =
 
 pub returns-in-Err-Refused-clause-cause : goal.returns-in-Err-Refused-clause-cause
 returns-in-Err-Refused-clause-cause g c =
-    subst (λ (x : Status). HasCause x _ _ _ _) (sym c.unopened-in-Err-Refused.ensures.status) tt
+    subst (λ (x : Status). HasCause x (Rose (g.I.Source.faults c.args.input.now) (g.I.Source.faults c.args.input.now)) (Rose (g.O.Sink.faults c.args.output.now) (g.O.Sink.faults c.args.output.now)) (Rose (g.K.Keeper.faults c.args.keeper) (g.K.Keeper.faults c.unopened-in-Err-Refused.result.keeper)) (Rose (g.H.Hub.faults c.args.hub.now) (g.H.Hub.faults c.args.hub.now))) (sym c.unopened-in-Err-Refused.ensures.status) tt
 
 pub returns-in-Err-Memory-clause-words : goal.returns-in-Err-Memory-clause-words
 returns-in-Err-Memory-clause-words g c =
@@ -238,7 +173,7 @@ returns-in-Err-Memory-clause-text g c =
 
 pub returns-in-Err-Memory-clause-cause : goal.returns-in-Err-Memory-clause-cause
 returns-in-Err-Memory-clause-cause g c =
-    subst (λ (x : Status). HasCause x _ _ _ _) (sym c.unopened-in-Err-Memory.ensures.status) tt
+    subst (λ (x : Status). HasCause x (Rose (g.I.Source.faults c.args.input.now) (g.I.Source.faults c.args.input.now)) (Rose (g.O.Sink.faults c.args.output.now) (g.O.Sink.faults c.args.output.now)) (Rose (g.K.Keeper.faults c.args.keeper) (g.K.Keeper.faults c.unopened-in-Err-Memory.result.keeper)) (Rose (g.H.Hub.faults c.args.hub.now) (g.H.Hub.faults c.args.hub.now))) (sym c.unopened-in-Err-Memory.ensures.status) tt
 
 pub returns-in-Ok-Tell-clause-unread : goal.returns-in-Ok-Tell-clause-unread
 returns-in-Ok-Tell-clause-unread g c =
@@ -255,3 +190,42 @@ returns-in-Err-Refused-clause-unread g c =
 pub returns-in-Err-Memory-clause-unread : goal.returns-in-Err-Memory-clause-unread
 returns-in-Err-Memory-clause-unread g c =
     if_any (told_of (words_of c.args.words.now)) _ (λ telling _. refl)
+
+pub returns-in-Ok-Tell-clause-node : goal.returns-in-Ok-Tell-clause-node
+returns-in-Ok-Tell-clause-node g c =
+    λ is. let no = sym (c.in-Ok-Tell.ensures.found ∙ ap Some c.in-Ok-Tell.field-0-is) ∙ is in absurd cc
+
+pub returns-in-Ok-Tell-clause-node_ran : goal.returns-in-Ok-Tell-clause-node_ran
+returns-in-Ok-Tell-clause-node_ran g c =
+    by_none c.unopened.result.journal _ c.unopened.ensures.journal
+
+pub returns-in-Ok-Node-clause-node : goal.returns-in-Ok-Node-clause-node
+returns-in-Ok-Node-clause-node g c =
+    λ _. inl c.validator.ensures.judged
+
+pub returns-in-Ok-Node-clause-node_ran : goal.returns-in-Ok-Node-clause-node_ran
+returns-in-Ok-Node-clause-node_ran g c =
+    if_any c.validator.result.journal _ (λ _. (c.in-Ok-Node.ensures.found ∙ ap Some c.in-Ok-Node.field-0-is))
+
+pub returns-in-Err-Refused-clause-node : goal.returns-in-Err-Refused-clause-node
+returns-in-Err-Refused-clause-node g c =
+    λ is. let no = sym (unasked (command_of (words_of c.args.words.now)) (Err c.in-Err-Refused.field-0) (ap Err c.in-Err-Refused.field-0-is) c.in-Err-Refused.ensures.given) ∙ is in absurd cc
+
+pub returns-in-Err-Refused-clause-node_ran : goal.returns-in-Err-Refused-clause-node_ran
+returns-in-Err-Refused-clause-node_ran g c =
+    by_none c.unopened-in-Err-Refused.result.journal _ c.unopened-in-Err-Refused.ensures.journal
+
+pub returns-in-Err-Memory-clause-node : goal.returns-in-Err-Memory-clause-node
+returns-in-Err-Memory-clause-node g c =
+    λ _. inr (record {
+      memory = c.unopened-in-Err-Memory.ensures.status;
+      unopened = c.unopened-in-Err-Memory.ensures.journal;
+      unread = refl;
+      unwritten = refl;
+      kept = c.unopened-in-Err-Memory.ensures.keeper;
+      unlinked = refl;
+    })
+
+pub returns-in-Err-Memory-clause-node_ran : goal.returns-in-Err-Memory-clause-node_ran
+returns-in-Err-Memory-clause-node_ran g c =
+    by_none c.unopened-in-Err-Memory.result.journal _ c.unopened-in-Err-Memory.ensures.journal

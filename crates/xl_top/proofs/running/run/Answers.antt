@@ -141,8 +141,8 @@ returns-in-Help-clause-writes g c =
       front = if_any (g.I.Source.left c.args.input.now) _ (λ bytes. c.help.ensures.front);
       only = only_of c.help.result _ _ c.help.ensures.read c.help.ensures.write;
       ends = said (g.I.Source.left c.args.input.now) _ (whole_after (g.I.Source.left c.args.input.now) (g.O.Sink.held c.args.output.now) (g.O.Sink.held c.help.new.output) (λ (bytes : List ℕ). closes help_text Good) c.help.result
-      (whole_of (g.I.Source.left c.args.input.now) (g.O.Sink.held c.args.output.now) (g.O.Sink.held c.help.new.output) (closes help_text Good) c.help.result c.help.ensures.whole)
-      (less_of (g.I.Source.left c.args.input.now) (g.O.Sink.held c.args.output.now) (g.O.Sink.held c.help.new.output) (closes help_text Good) c.help.result c.help.ensures.read c.help.ensures.less));
+          (whole_of (g.I.Source.left c.args.input.now) (g.O.Sink.held c.args.output.now) (g.O.Sink.held c.help.new.output) (closes help_text Good) c.help.result c.help.ensures.whole)
+          (less_of (g.I.Source.left c.args.input.now) (g.O.Sink.held c.args.output.now) (g.O.Sink.held c.help.new.output) (closes help_text Good) c.help.result c.help.ensures.read c.help.ensures.less));
     })
 
 pub returns-in-Help-clause-cause : goal.returns-in-Help-clause-cause
@@ -161,8 +161,8 @@ returns-in-Version-clause-writes g c =
       front = if_any (g.I.Source.left c.args.input.now) _ (λ bytes. c.version.ensures.front);
       only = only_of c.version.result _ _ c.version.ensures.read c.version.ensures.write;
       ends = said (g.I.Source.left c.args.input.now) _ (whole_after (g.I.Source.left c.args.input.now) (g.O.Sink.held c.args.output.now) (g.O.Sink.held c.version.new.output) (λ (bytes : List ℕ). closes version_text Good) c.version.result
-      (whole_of (g.I.Source.left c.args.input.now) (g.O.Sink.held c.args.output.now) (g.O.Sink.held c.version.new.output) (closes version_text Good) c.version.result c.version.ensures.whole)
-      (less_of (g.I.Source.left c.args.input.now) (g.O.Sink.held c.args.output.now) (g.O.Sink.held c.version.new.output) (closes version_text Good) c.version.result c.version.ensures.read c.version.ensures.less));
+          (whole_of (g.I.Source.left c.args.input.now) (g.O.Sink.held c.args.output.now) (g.O.Sink.held c.version.new.output) (closes version_text Good) c.version.result c.version.ensures.whole)
+          (less_of (g.I.Source.left c.args.input.now) (g.O.Sink.held c.args.output.now) (g.O.Sink.held c.version.new.output) (closes version_text Good) c.version.result c.version.ensures.read c.version.ensures.less));
     })
 
 pub returns-in-Version-clause-cause : goal.returns-in-Version-clause-cause
@@ -181,8 +181,8 @@ returns-in-Gen-clause-writes g c =
       front = if_any (g.I.Source.left c.args.input.now) _ (λ bytes. c.make.ensures.front);
       only = only_of c.make.result _ _ c.make.ensures.read c.make.ensures.write;
       ends = said (g.I.Source.left c.args.input.now) _ (whole_after (g.I.Source.left c.args.input.now) (g.O.Sink.held c.args.output.now) (g.O.Sink.held c.make.new.output) (λ (bytes : List ℕ). summary (min c.in-Gen.rounds MOST_ROUNDS)) c.make.result
-      (whole_of (g.I.Source.left c.args.input.now) (g.O.Sink.held c.args.output.now) (g.O.Sink.held c.make.new.output) (summary (min c.in-Gen.rounds MOST_ROUNDS)) c.make.result c.make.ensures.whole)
-      (less_of (g.I.Source.left c.args.input.now) (g.O.Sink.held c.args.output.now) (g.O.Sink.held c.make.new.output) (summary (min c.in-Gen.rounds MOST_ROUNDS)) c.make.result c.make.ensures.read c.make.ensures.less));
+          (whole_of (g.I.Source.left c.args.input.now) (g.O.Sink.held c.args.output.now) (g.O.Sink.held c.make.new.output) (summary (min c.in-Gen.rounds MOST_ROUNDS)) c.make.result c.make.ensures.whole)
+          (less_of (g.I.Source.left c.args.input.now) (g.O.Sink.held c.args.output.now) (g.O.Sink.held c.make.new.output) (summary (min c.in-Gen.rounds MOST_ROUNDS)) c.make.result c.make.ensures.read c.make.ensures.less));
     })
 
 pub returns-in-Gen-clause-cause : goal.returns-in-Gen-clause-cause
