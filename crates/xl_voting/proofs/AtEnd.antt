@@ -19,7 +19,7 @@ use Rattle.xl_sched.specs.Answers.{LineAnswer, passes, gives, refuses}
 use Rattle.xl_sched.specs.Favors.{after_favor, favor_line}
 use Rattle.xl_voting.specs.Tallying.{Tallying, tallied}
 use Rattle.xl_voting.specs.Texts.{count_line}
-use Rattle.xl_voting.specs.Voting.{Voting, after_answer, after_favored, after_line, after_vote, ending, rules, silent}
+use Rattle.xl_voting.specs.Voting.{after_answer, after_favored, after_line, after_vote, ending, rules, silent}
 
 -- NOTHING IS FOUND
 

@@ -1,5 +1,5 @@
 -- An event goes on, part by part.
-use Rattle.std.proofs.Common.{◌≡◌, ℕ, ◌+◌, ◌-◌, ◌<◌, ◌≤◌, zero, suc, List, [], ◌∷◌, ◌++◌, drop, get_or, length, map, refl, sym, ap, subst, ◌∙◌, arith, Result, Ok, Err}
+use Rattle.std.proofs.Common.{◌≡◌, ℕ, ◌+◌, ◌-◌, ◌<◌, ◌≤◌, suc, List, [], ◌∷◌, ◌++◌, drop, get_or, length, map, refl, sym, ap, subst, ◌∙◌, arith, Result, Ok, Err}
 use Rattle.std.specs.Prelude.{OnOk}
 use Rattle.std.proofs.lemmas.List.{at_drop_more, drop_all}
 use Rattle.xl_running.specs.Running.{Running, happens, in_world, world_of}
@@ -9,9 +9,9 @@ use Rattle.xl_world.specs.Parts.{after_events, delivery_at, drop_at, timer_at}
 use Rattle.xl_world.specs.Plans.{up_from}
 use Rattle.xl_world.specs.Schedule.{after_event, outcomes}
 use Rattle.xl_world.specs.World.{World}
-use Rattle.xl_voting.specs.Reports.{Said, behind, events_said, outcomes_said, said_so}
+use Rattle.xl_voting.specs.Reports.{behind, events_said, outcomes_said, said_so}
 use Rattle.xl_voting.specs.Tallying.{Tallying, tallied}
-use Rattle.xl_voting.proofs.Saying.{events_on, said_first, said_last}
+use Rattle.xl_voting.proofs.Saying.{events_on, said_first}
 
 -- at first it was to go through all parts; now these are left
 pub record GoesOn (r0 : Running) (v0 : Tallying) (text0 : List ℕ) (parts : List Event) (r : Running) (v : Tallying) (text : List ℕ) (left : List Event) : Type 0 where

@@ -1,18 +1,17 @@
 -- An event that went part by part, and a line that is none of votes.
-use Rattle.std.proofs.Common.{◌≡◌, ℕ, List, [], Option, Some, None, Result, Ok, Err, refl, sym, ap, subst, ◌∙◌}
+use Rattle.std.proofs.Common.{◌≡◌, ℕ, List, [], Option, Some, None, Result, Ok, Err, sym, ap, ◌∙◌}
 use Rattle.std.specs.Prelude.{IfOk, OnOk}
-use Rattle.xl_lines.specs.Rules.{Step, goes_on}
+use Rattle.xl_lines.specs.Rules.{goes_on}
 use Rattle.xl_running.specs.Running.{Running, answer_in, happens, in_world, knows, world_of}
 use Rattle.xl_sched.specs.declared.event.Event.{Event}
 use Rattle.xl_sched.specs.declared.event.What.{What}
 use Rattle.xl_sched.specs.declared.favor.Favor.{Favor}
 use Rattle.xl_sched.specs.Favors.{after_favor, favor_line}
 use Rattle.xl_world.specs.Parts.{after_events, parts_at, parts_of}
-use Rattle.xl_world.specs.World.{World}
 use Rattle.xl_world.proofs.Partwise.{parts_are_the_whole}
 use Rattle.xl_voting.specs.Reports.{Said, behind, event_said, events_said, said_so}
 use Rattle.xl_voting.specs.Tallying.{Tallying, tallied}
-use Rattle.xl_voting.specs.Voting.{Voting, after_answer, after_favored, after_happening}
+use Rattle.xl_voting.specs.Voting.{after_answer, after_favored, after_happening}
 
 module _ (r : Running) (v : Tallying) (e : Event) (r2 : Running) (v2 : Tallying) (text text2 : List ℕ) (empty : text ≡ []) where
   whole : r2 ≡ in_world r (after_events (world_of r) (parts_of (world_of r) e)) → said_so text2 v2 ≡ behind text (event_said tallied r.reading.names (world_of r) v e) →

@@ -1,5 +1,5 @@
 -- What is kept tells of a schedule what the list of all votes and flag reports tells.
-use Rattle.std.proofs.Common.{◌≡◌, ℕ, ◌+◌, Bool, true, false, cond, List, [], ◌∷◌, refl, sym, ap, subst, ◌∙◌, Option, Some, None, Result, Ok, Err, length}
+use Rattle.std.proofs.Common.{◌≡◌, ℕ, ◌+◌, Bool, true, false, cond, List, [], ◌∷◌, refl, ap, subst, ◌∙◌, Option, Some, None, Result, Ok, Err, length}
 use Rattle.std.specs.Prelude.{◌==◌, ◌&&◌, ◌||◌, nat_le, nat_lt, codes, decimal, IfOk, IfSome, if◌then◌else◌}
 use Rattle.std.specs.Str.{bytes_eq}
 use Rattle.std.proofs.lemmas.Bool.{and_parts, cond_both, leb-true}
@@ -34,7 +34,7 @@ use Rattle.xl_voting.specs.Tallying.{Tallying, nothing_tallied, tallied}
 use Rattle.xl_voting.specs.Texts.{count_line}
 use Rattle.xl_voting.specs.Voting.{Voting, after_answer, after_favored, after_line, after_vote, ending, flags_of, nothing_read, rules, silent}
 use Rattle.xl_voting.proofs.StandingFor.{StandsFor, as_many, first_stands, voted_stands}
-use Rattle.xl_voting.proofs.Telling.{SaysSame, event_same}
+use Rattle.xl_voting.proofs.Telling.{event_same}
 
 -- WHO VOTES
 

@@ -1,12 +1,11 @@
 -- What is kept stands for the list of all votes and flag reports.
-use Rattle.std.proofs.Common.{◌≡◌, ◌≢◌, ℕ, zero, suc, ◌+◌, ◌-◌, ◌<◌, ◌≤◌, List, [], ◌∷◌, Option, Some, None, length, get_or, set, length-set, replicate, refl, sym, ap, ◌∙◌, arith, inl, inr, get_or-set_same, get_or-set_other}
-use Rattle.std.specs.Prelude.{◌==◌, All, find, option_map, slice_index_or, unwrap_or}
+use Rattle.std.proofs.Common.{◌≡◌, ◌≢◌, ℕ, zero, suc, ◌+◌, ◌-◌, ◌<◌, ◌≤◌, List, [], ◌∷◌, Option, Some, length, get_or, set, length-set, replicate, refl, sym, ap, ◌∙◌, arith, inl, inr, get_or-set_same, get_or-set_other}
+use Rattle.std.specs.Prelude.{◌==◌, All, find, option_map, unwrap_or}
 use Rattle.std.proofs.lemmas.Bool.{cases_eq, cond-true, cond-false, eq-eqb}
 use Rattle.std.proofs.lemmas.Bool.Decides.{nat_tests}
 use Rattle.std.proofs.lemmas.List.{length-replicate}
 use Rattle.xl_base.specs.declared.ids.TxId.{TxId}
 use Rattle.xl_flags.specs.Kept.{Remembers}
-use Rattle.xl_flags.specs.declared.news.FlagLine.{FlagLine}
 use Rattle.xl_flags.proofs.Favoring.{so_many, remembers_vote}
 use Rattle.xl_flags.proofs.Opening.{remembers_nothing}
 use Rattle.xl_flags.proofs.Remembering.{IsMember, lines_are, remembers_report}

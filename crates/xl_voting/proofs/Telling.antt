@@ -1,10 +1,9 @@
 -- What is kept says at each event what the list of all votes and flag reports says.
-use Rattle.std.proofs.Common.{◌≡◌, ℕ, ◌%◌, ◌+◌, ◌-◌, Bool, true, false, List, [], ◌∷◌, ◌++◌, refl, sym, ap, subst, ◌∙◌, Option, Some, None, length}
-use Rattle.std.specs.Prelude.{◌==◌, ◌&&◌, nat_lt, All, filter, map, option_map, if◌then◌else◌}
-use Rattle.std.proofs.lemmas.List.Elements.{All-append, All-cons, All-filter, All-head, All-map, All-nil, All-tail}
+use Rattle.std.proofs.Common.{◌≡◌, ℕ, ◌%◌, ◌+◌, ◌-◌, Bool, true, false, List, [], ◌∷◌, ◌++◌, refl, ap, subst, ◌∙◌, Option, Some, None, length}
+use Rattle.std.specs.Prelude.{◌==◌, ◌&&◌, nat_lt, All, map, option_map, if◌then◌else◌}
+use Rattle.std.proofs.lemmas.List.Elements.{All-append, All-cons, All-filter, All-head, All-nil, All-tail}
 use Rattle.xl_base.specs.declared.ids.LedgerId.{LedgerId}
 use Rattle.xl_core.specs.Core.{Core}
-use Rattle.xl_flags.specs.declared.news.FlagLine.{FlagLine}
 use Rattle.xl_flags.proofs.Remembering.{IsMember}
 use Rattle.xl_sched.specs.declared.event.Event.{Event}
 use Rattle.xl_sched.specs.declared.event.What.{What}

@@ -1,5 +1,5 @@
 -- What holds of the text over what is kept holds of the text over the list.
-use Rattle.std.proofs.Common.{◌≡◌, ℕ, List, Option, Some, None, Result, Ok, Err, ◌∙◌, ap, subst, sym}
+use Rattle.std.proofs.Common.{◌≡◌, ℕ, List, Option, Some, None, Result, Ok, Err, ◌∙◌, ap, subst}
 use Rattle.std.specs.Prelude.{IfErr, IfOk, IfSome}
 use Rattle.xl_lines.specs.Rules.{Told}
 use Rattle.xl_lines.specs.Told.{told_of}
