@@ -15,7 +15,7 @@ use Rattle.xl_world.specs.Schedule.{outcomes}
 use Rattle.xl_running.specs.Running.{answer_in, world_of}
 use Rattle.xl_running.specs.Texts.{bad_line}
 use Rattle.xl_negative.specs.Seats.{seat_at, with_leaving_out}
-use Rattle.xl_negative.specs.Writing.{Writing, Change, added, adds, and_then, after_answer, after_line, after_outcome, after_outcomes, after_report, change_at, counted, ending, goes_over, happened, ledgers_at, list_line, rules, written}
+use Rattle.xl_negative.specs.Writing.{Writing, Change, added, and_then, after_answer, after_line, after_outcome, after_outcomes, change_at, counted, ending, goes_over, happened, ledgers_at, list_line, rules, written}
 
 added_finds : (s : Writing) (text bytes : List ℕ) (a : LineAnswer) → FindsNothing (added s text bytes a)
 added_finds s text bytes (passes reading) = tt

@@ -1,8 +1,8 @@
 -- The decisions on what came of an event, one after the other.
-use Rattle.std.proofs.Common.{◌≡◌, ℕ, ◌+◌, ◌<◌, List, ◌∷◌, length, drop, get_or, sym, ap, ◌∙◌, refl}
+use Rattle.std.proofs.Common.{◌≡◌, ℕ, ◌+◌, ◌<◌, List, length, drop, get_or, sym, ap, ◌∙◌, refl}
 use Rattle.xl_lines.specs.declared.machine.Next.{Next}
 use Rattle.xl_lines.specs.declared.machine.Next.TheVariants as says
-use Rattle.xl_lines.specs.Rules.{Step, goes_on, refuses, finds, step_given}
+use Rattle.xl_lines.specs.Rules.{Step, step_given}
 use Rattle.xl_world.specs.declared.outcome.Outcome.{Outcome}
 use Rattle.xl_negative.specs.Writing.{Writing, after_outcome, after_outcomes, and_then}
 use Rattle.xl_negative.proofs.Taking.{next_left}

@@ -3,10 +3,9 @@ use Rattle.std.specs.Prelude.{nat_le}
 use Rattle.std.proofs.lemmas.Bool.{le-leb}
 use Rattle.std.proofs.lemmas.List.{take_all}
 use Rattle.xl_lists.specs.declared.said.SaidLedger.{SaidLedger}
-use Rattle.xl_wire.specs.Heads.{split_of}
 use Rattle.xl_wire.specs.Kinds.{span}
 use Rattle.xl_wire.specs.Raws.{SpellsRaw, raw_frame}
-use Rattle.xl_negative.specs.Hearing.{said_in_split, said_in_frame}
+use Rattle.xl_negative.specs.Hearing.{said_in_split}
 use Rattle.xl_negative.proofs.hearing.said_in.Goals as goal
 
 pub said_in_frame-requires : goal.said_in_frame-requires
