@@ -31,6 +31,7 @@ mod traffic;
 mod world;
 
 pub use fork::{Fork, first_fork, law_of_forks};
+pub use lie::put_lie;
 pub use outcome::{Happened, Outcome};
 pub use parts::parts_are_the_whole;
 pub use plan::{InForce, Plan, PlanNode};

@@ -1,0 +1,71 @@
+-- Nothing is looked for, so the lines are read to their end.
+use Rattle.std.proofs.Common.{◌≡◌, ◌==◌, ℕ, List, [], ◌∷◌, true, refl, Option, Some, None}
+use Rattle.std.proofs.lemmas.Bool.{cond_both}
+use Rattle.xl_lines.specs.declared.machine.Verdict.TheVariants.{Good, Refused}
+use Rattle.xl_lines.specs.Rules.{Step, goes_on, refuses as stops, finds, closes}
+use Rattle.xl_lines.specs.Ends.{FindsNothing, FindsAtEnd}
+use Rattle.xl_sched.specs.declared.line.Line.{Line}
+use Rattle.xl_sched.specs.declared.line.Line.TheVariants as line
+use Rattle.xl_sched.specs.declared.refusal.SchedRefusal.TheVariants.{Header}
+use Rattle.xl_sched.specs.Answers.{LineAnswer, passes, gives, refuses}
+use Rattle.xl_spelling.specs.Spellings.{spelling}
+use Rattle.xl_world.specs.declared.outcome.Outcome.{Outcome}
+use Rattle.xl_world.specs.declared.outcome.Outcome.TheVariants as outcome
+use Rattle.xl_world.specs.Schedule.{outcomes}
+use Rattle.xl_running.specs.Running.{answer_in, world_of}
+use Rattle.xl_running.specs.Texts.{bad_line}
+use Rattle.xl_negative.specs.Seats.{seat_at, with_leaving_out}
+use Rattle.xl_negative.specs.Writing.{Writing, Change, added, and_then, after_answer, after_line, after_outcome, after_outcomes, change_at, counted, ending, goes_over, happened, ledgers_at, list_line, rules, written}
+
+added_finds : (s : Writing) (text bytes : List ℕ) (a : LineAnswer) → FindsNothing (added s text bytes a)
+added_finds s text bytes (passes reading) = tt
+added_finds s text bytes (gives l reading) = tt
+added_finds s text bytes (refuses why) = tt
+
+over_finds : (s : Writing) (text : List ℕ) (i : ℕ) (change : Option Change) → FindsNothing (goes_over s text i change)
+over_finds s text i None = tt
+over_finds s text i (Some change) =
+    let next : Writing = record s { seats = with_leaving_out s.seats i change.negative } in
+    let bytes : List ℕ = spelling (list_line s.running.reading.now i change.list) in
+    added_finds next text bytes (answer_in next.running bytes)
+
+outcome_finds : (s : Writing) (text : List ℕ) (o : Outcome) → FindsNothing (after_outcome s text o)
+outcome_finds s text (outcome.Switched i seq id) = tt
+outcome_finds s text (outcome.Built i seq id issued) = tt
+outcome_finds s text (outcome.Refused i why) = tt
+outcome_finds s text (outcome.Full i seq id) = over_finds s text i (change_at (seat_at s.seats i) i (ledgers_at s.running.world i) seq id)
+outcome_finds s text (outcome.Preferred i ledger) = tt
+outcome_finds s text (outcome.Heard i member id) = tt
+
+then_finds : (further : Writing → List ℕ → Step Writing) → ((s : Writing) (text : List ℕ) → FindsNothing (further s text)) → (step : Step Writing) → FindsNothing step → FindsNothing (and_then further step)
+unfolding and_then
+then_finds further nothing (goes_on text s) before = nothing s text
+then_finds further nothing (stops text) before = tt
+then_finds further nothing (finds text) before = before
+
+outcomes_find : (os : List Outcome) (s : Writing) (text : List ℕ) → FindsNothing (after_outcomes s text os)
+outcomes_find [] s text = tt
+outcomes_find (o ∷ os) s text =
+    then_finds (λ next further. after_outcomes next further os) (λ next further. outcomes_find os next further) (after_outcome s text o) (outcome_finds s text o)
+
+line_finds : (s : Writing) (text : List ℕ) (l : Line) → FindsNothing (after_line s text l)
+line_finds s text (line.Limit limit) = tt
+line_finds s text (line.Speak version) = tt
+line_finds s text (line.Node me list validating) = tt
+line_finds s text (line.Liar me) = tt
+line_finds s text (line.Name name id) = tt
+line_finds s text (line.Ledger name parent header) = tt
+line_finds s text (line.At at) = tt
+line_finds s text (line.Event e) = outcomes_find (outcomes (world_of s.running) e) (happened s e) text
+
+answer_finds : (s : Writing) (bytes : List ℕ) (a : LineAnswer) → FindsNothing (after_answer s bytes a)
+answer_finds s bytes (passes reading) = tt
+answer_finds s bytes (gives l reading) = line_finds (counted s reading) (written bytes) l
+answer_finds s bytes (refuses why) = tt
+
+closes_at_end : (s : Writing) → (ending s).closed ≡ true
+closes_at_end s =
+    cond_both (s.lines == 0) (closes (bad_line 1 (Header [])) Refused) (closes [] Good) (λ told. told.closed ≡ true) (λ _. refl) (λ _. refl)
+
+pub finds_at_end : FindsAtEnd rules
+finds_at_end = record { step = λ s bytes. answer_finds s bytes (answer_in s.running bytes); closing = closes_at_end }

@@ -1,0 +1,4 @@
+mod Seating
+mod Taking
+mod Decisions
+mod AtEnd

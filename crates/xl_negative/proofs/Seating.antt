@@ -1,0 +1,24 @@
+-- Seats at their start, and of those who leave nobody out.
+use Rattle.std.proofs.Common.{◌≡◌, ℕ, List, [], length, replicate, refl, sym, subst, arith}
+use Rattle.std.specs.Prelude.{IsTrue}
+use Rattle.std.specs.List.{IsDistinct}
+use Rattle.std.proofs.lemmas.List.Elements.{All-nil}
+use Rattle.xl_lists.specs.Lists.{is_on}
+use Rattle.xl_nunl.specs.Lists.{IsNegative}
+use Rattle.xl_negative.specs.Seats.{Seat, empty_seat, no_seats}
+
+none_out : (full : List ℕ) → IsNegative full []
+unfolding IsDistinct
+none_out full = record { once = tt; on = All-nil (λ m. IsTrue (is_on full m)); quarter = omega arith }
+
+-- who leaves nobody out may
+pub nobody_out : (full negative : List ℕ) → negative ≡ [] → IsNegative full negative
+nobody_out full negative none = subst (IsNegative full) (sym none) (none_out full)
+
+pub all_empty : (seats : List Seat) → seats ≡ replicate 64 empty_seat → seats ≡ no_seats
+unfolding no_seats
+all_empty seats is = is
+
+pub all_seats : length no_seats ≡ 64
+unfolding no_seats
+all_seats = refl

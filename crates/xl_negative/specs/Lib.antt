@@ -1,0 +1,4 @@
+pub mod Hearing
+pub mod Seats
+pub mod Writing
+pub mod States

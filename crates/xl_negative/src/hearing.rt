@@ -1,0 +1,223 @@
+// What nodes hear of validations.
+ghost use Rattle.std.specs.Prelude.{◌≡◌, ◌++◌, ◌==◌, ◌&&◌, drop, map, slice_get, option_copied, IfOk, OnOk};
+ghost use Rattle.xl_sched.specs.Fits.{IsFitLied};
+ghost use Rattle.xl_tags.specs.Opening.{is_sealed as is_sealed_by};
+ghost use Rattle.xl_wire.specs.Raws.{SpellsRaw, raw_frame};
+ghost use Rattle.xl_world.specs.Schedule.{IsPlausible, lied_bytes};
+ghost use Rattle.xl_negative.specs.Hearing.{
+  heard_in,
+  heard_if_sent,
+  heard_in_frame,
+  heard_in_sent,
+  heard_itself,
+  heard_of,
+  said_in as said_in_bytes,
+  said_in_body as said_in_the_body,
+  said_in_frame as said_in_the_frame,
+};
+
+use std::alloc::Global;
+use xl_base::{NodeNo, OutOfMemory};
+use xl_lists::SaidLedger;
+use xl_sched::{Lied, What};
+use xl_tags::{Keys, is_sealed};
+use xl_wire::{Body, LONGEST_FRAME, Parted, Raw, read_body, split};
+use xl_world::{Sent, World, put_lie};
+
+/// The node of a number hears that a member says a ledger.
+#[derive(Clone, Copy, Debug, PartialEq, Eq)]
+pub struct Heard {
+    pub node: NodeNo,
+    pub said: SaidLedger,
+}
+
+/// What nodes hear in the frames that are handed to them when something happens.
+pub fn heard_in(alloc: Global, world: &World, what: &What) -> Result<Vec<Heard>, OutOfMemory>
+    requires { IsPlausible what.now }
+    ensures { IfOk result (λ heard. heard.items ≡ heard_in world.now what.now) }
+{
+    let mut heard = Vec::new(alloc);
+    hear(alloc, world, what, &mut heard)?;
+    Ok(heard)
+}
+
+fn hear(
+    alloc: Global,
+    world: &World,
+    what: &What,
+    heard: &mut Vec<Heard>,
+) -> Result<(), OutOfMemory>
+    requires { IsPlausible what.now }
+    ensures { OnOk result (heard.new.items ≡ heard.old.items ++ heard_in world.now what.now) }
+{
+    match what {
+        What::Deliver { place } => match place.checked_sub(1) {
+            Some(before) => hear_place(alloc, world, before as usize, heard),
+            None => Ok(()),
+        },
+        What::All => hear_sent(alloc, world, after_mark(world), heard),
+        What::Lie { from, to, what } => hear_lie(world, *from, *to, what, heard),
+        What::Raw { to, bytes } => hear_bytes(world, *to, bytes.as_slice(), heard),
+        _ => Ok(()),
+    }
+}
+
+/// Nodes hear what they issued themselves, which are these validations.
+pub fn hear_issued(heard: &mut Vec<Heard>, issued: &[SaidLedger]) -> Result<(), OutOfMemory>
+    ensures { OnOk result (heard.new.items ≡ heard.old.items ++ map heard_itself issued.now) }
+{
+    for said in issued {
+        heard.push(Heard {
+            node: said.member,
+            said: *said,
+        })?;
+    }
+    Ok(())
+}
+
+/// The sent frame of a place, from 0 on, is handed to its receiver, if there is one.
+fn hear_place(
+    alloc: Global,
+    world: &World,
+    place: usize,
+    heard: &mut Vec<Heard>,
+) -> Result<(), OutOfMemory>
+    ensures { OnOk result (heard.new.items
+        ≡ heard.old.items ++ heard_if_sent world.now (slice_get world.now.sent place)) }
+{
+    match frame_at(world.sent(), place) {
+        Some(frame) => hear_frame(alloc, world, frame, heard),
+        None => Ok(()),
+    }
+}
+
+fn frame_at(sent: &[Sent], place: usize) -> Option<&Sent>
+    ensures { option_copied result ≡ slice_get sent.now place }
+{
+    sent.get(place)
+}
+
+/// The sent frames after the mark.
+fn after_mark(world: &World) -> &[Sent]
+    ensures { result.now ≡ drop world.now.mark world.now.sent }
+{
+    let (mark, sent) = (world.mark(), world.sent());
+    if mark < sent.len() {
+        &sent[mark..]
+    } else {
+        &[]
+    }
+}
+
+/// Each sent frame is handed to its receiver.
+fn hear_sent(
+    alloc: Global,
+    world: &World,
+    frames: &[Sent],
+    heard: &mut Vec<Heard>,
+) -> Result<(), OutOfMemory>
+    ensures { OnOk result (heard.new.items ≡ heard.old.items ++ heard_in_sent world.now frames.now) }
+{
+    for frame in frames {
+        hear_frame(alloc, world, frame, heard)?;
+    }
+    Ok(())
+}
+
+/// A sent frame is handed to its receiver.
+fn hear_frame(
+    alloc: Global,
+    world: &World,
+    frame: &Sent,
+    heard: &mut Vec<Heard>,
+) -> Result<(), OutOfMemory>
+    ensures { OnOk result (heard.new.items ≡ heard.old.items ++ heard_in_frame world.now frame.now) }
+{
+    let bytes = frame.bytes(alloc)?;
+    hear_bytes(world, frame.to(), bytes.as_slice(), heard)
+}
+
+/// A lie is handed to its receiver.
+fn hear_lie(
+    world: &World,
+    from: NodeNo,
+    to: NodeNo,
+    lie: &Lied,
+    heard: &mut Vec<Heard>,
+) -> Result<(), OutOfMemory>
+    requires { IsFitLied lie.now }
+    ensures { OnOk result (heard.new.items ≡ heard.old.items ++ heard_of world.now to (lied_bytes from to lie.now)) }
+{
+    let mut room = [0; LONGEST_FRAME];
+    let length = put_lie(from, to, lie, &mut room);
+    hear_bytes(world, to, &room[..length], heard)
+}
+
+/// Bytes are handed to the node of a number, if there is one.
+fn hear_bytes(
+    world: &World,
+    to: NodeNo,
+    bytes: &[u8],
+    heard: &mut Vec<Heard>,
+) -> Result<(), OutOfMemory>
+    ensures { OnOk result (heard.new.items ≡ heard.old.items ++ heard_of world.now to bytes.now) }
+{
+    let Some(core) = world.node(to) else {
+        return Ok(());
+    };
+    if let Some(said) = said_in(core.node().keys(), bytes) {
+        heard.push(Heard { node: to, said })?;
+    }
+    Ok(())
+}
+
+/// What the owner of these keys hears in bytes, which must be one whole frame.
+fn said_in(keys: &Keys, bytes: &[u8]) -> Option<SaidLedger>
+    ensures { result ≡ said_in_bytes keys.now bytes.now }
+{
+    match split(bytes) {
+        Parted::Whole(raw) => {
+            if bytes.len() <= raw.length {
+                said_in_frame(keys, &raw, bytes)
+            } else {
+                None
+            }
+        }
+        Parted::Need(_) | Parted::Refused(_) => None,
+    }
+}
+
+fn said_in_frame(keys: &Keys, raw: &Raw<'_>, bytes: &[u8]) -> Option<SaidLedger>
+    requires { SpellsRaw (raw_frame raw.now) bytes.now }
+    ensures { result ≡ said_in_the_frame keys.now (raw_frame raw.now) }
+{
+    let from = NodeNo::new(raw.from)?;
+    if !opens(keys, raw, bytes) {
+        return None;
+    }
+    match read_body(raw) {
+        Ok(body) => said_in_body(from, &body),
+        Err(_) => None,
+    }
+}
+
+/// Whether the owner of the keys opens a frame that comes from a member's number.
+fn opens(keys: &Keys, raw: &Raw<'_>, bytes: &[u8]) -> bool
+    requires { SpellsRaw (raw_frame raw.now) bytes.now }
+    ensures { result ≡ (raw.now.to == keys.now.me && is_sealed_by keys.now (raw_frame raw.now)) }
+{
+    raw.to == keys.me().get() && is_sealed(keys, raw, bytes)
+}
+
+fn said_in_body(from: NodeNo, body: &Body<'_>) -> Option<SaidLedger>
+    ensures { result ≡ said_in_the_body from body.now }
+{
+    match body {
+        Body::Validation(validation) => Some(SaidLedger {
+            member: from,
+            seq: validation.seq,
+            id: validation.id,
+        }),
+        _ => None,
+    }
+}

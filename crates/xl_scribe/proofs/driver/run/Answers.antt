@@ -1,0 +1,17 @@
+use Rattle.xl_lines.proofs.Aloud.{told_at-aloud}
+use Rattle.xl_lines.proofs.ReadingOn.{told_at-reads_on}
+use Rattle.xl_lines.proofs.Runs.{less_same, cut_same}
+use Rattle.xl_scribe.proofs.driver.run.Goals as goal
+
+pub returns-clause-less : goal.returns-clause-less
+returns-clause-less g c aloud =
+    less_same c.drive.result (g.I.Source.left c.args.input.now) (g.O.Sink.held c.args.output.now) (g.O.Sink.held c.drive.new.output) _ _ c.new-lines.ensures
+    (c.drive.ensures.less (λ lines bytes. told_at-aloud lines.limits g.M.Scribe.rules aloud lines.left (g.M.Scribe.state lines.scribe) lines.line.items bytes))
+
+pub returns-clause-cut : goal.returns-clause-cut
+returns-clause-cut g c is =
+    cut_same (g.I.Source.left c.args.input.now) (g.O.Sink.held c.args.output.now) (g.O.Sink.held c.drive.new.output) _ _ c.new-lines.ensures (c.drive.ensures.cut is)
+
+pub returns-clause-to_end : goal.returns-clause-to_end
+returns-clause-to_end g c at_end =
+    c.drive.ensures.to_end (λ lines bytes. told_at-reads_on lines.limits g.M.Scribe.rules at_end lines.left (g.M.Scribe.state lines.scribe) lines.line.items bytes)

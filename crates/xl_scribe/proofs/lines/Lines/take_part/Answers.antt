@@ -1,0 +1,73 @@
+use Rattle.std.proofs.Common.{◌≡◌, ◌+◌, ◌<◌, ◌∷◌, ◌++◌, ℕ, List, true, false, is_some, not, length, drop, ap, ◌∙◌, arith}
+use Rattle.xl_lines.specs.declared.limits.Overrun.TheVariants.{LongLine}
+use Rattle.xl_lines.specs.Rules.{refused}
+use Rattle.xl_lines.specs.Running.{told_at}
+use Rattle.xl_lines.proofs.Newlines.{finds_newline}
+use Rattle.xl_lines.proofs.Parts.{first_end, one_line-first, told_long, told_newline, told_none}
+use Rattle.xl_lines.proofs.Runs.{write_from}
+use Rattle.xl_lines.proofs.Telling.{tells_from, front_from, less_from, tells_refused, tells_none}
+use Rattle.xl_scribe.proofs.lines.Lines.take_part.Goals as goal
+use Rattle.xl_scribe.proofs.lines.Lines.take_part.Goals.{Then-is_long_with, Else-is_none}
+
+-- the line is too long
+long : (g : _) (c : Then-is_long_with g) (rest : List ℕ) → told_at c.args.self.now.limits g.M.Scribe.rules c.args.self.now.left (g.M.Scribe.state c.args.self.now.scribe) c.args.self.now.line.items (c.args.bytes.now ++ rest) ≡ refused (g.M.Scribe.rules.overrun (g.M.Scribe.state c.args.self.now.scribe) LongLine)
+long g c rest =
+    let self = c.args.self.now in
+    let bytes = c.args.bytes.now in
+    let newline = c.newline_in-newline.result in
+    let beyond : self.limits.bytes < length self.line.items + first_end bytes newline = omega (arith, self.line.ok.0, c.unwrap_or-count.ensures) in
+    told_long self.limits g.M.Scribe.rules self.left (g.M.Scribe.state c.args.self.now.scribe) self.line.items bytes newline self.one_line (finds_newline c.args.bytes.now _ c.newline_in-newline.ensures) beyond rest
+
+-- the line is whole
+newline : (g : _) (c : Else-is_none g) (rest : List ℕ) → told_at c.args.self.now.limits g.M.Scribe.rules c.args.self.now.left (g.M.Scribe.state c.args.self.now.scribe) c.args.self.now.line.items (c.args.bytes.now ++ rest) ≡ told_at c.put.new.self.limits g.M.Scribe.rules c.put.new.self.left (g.M.Scribe.state c.put.new.self.scribe) c.put.new.self.line.items (10 ∷ (drop (c.unwrap_or-count.result + 1) c.args.bytes.now ++ rest))
+newline g c rest =
+    let self = c.args.self.now in
+    let found : is_some c.newline_in-newline.result ≡ true = c.is_none.ensures ∙ ap not c.if-is_none.false in
+    told_newline self.limits g.M.Scribe.rules self.left (g.M.Scribe.state c.args.self.now.scribe) self.line.items c.args.bytes.now c.newline_in-newline.result c.unwrap_or-count.result (finds_newline c.args.bytes.now _ c.newline_in-newline.ensures) found c.unwrap_or-count.ensures c.put.new.self.limits c.put.new.self.left c.put.new.self.line.items c.in_ok-put.ensures.limits c.in_ok-put.ensures.left c.in_ok-put.ensures.ok (g.M.Scribe.state c.put.new.self.scribe) (ap g.M.Scribe.state c.in_ok-put.ensures.scribe) rest
+
+pub put-requires-clause-one_line : goal.put-requires-clause-one_line
+put-requires-clause-one_line g c = rw c.unwrap_or-count.ensures (one_line-first c.args.bytes.now c.newline_in-newline.result (finds_newline c.args.bytes.now _ c.newline_in-newline.ensures))
+
+pub returns-in_err-refuse_long-clause-front : goal.returns-in_err-refuse_long-clause-front
+returns-in_err-refuse_long-clause-front g c rest = front_from (long g (goal.at.returns-in_err-refuse_long-clause-front g c).Then-is_long_with rest) c.refuse_long.ensures.front
+
+pub returns-then-is_long_with-clause-ok : goal.returns-then-is_long_with-clause-ok
+returns-then-is_long_with-clause-ok g c rest = tells_from (long g (goal.at.returns-then-is_long_with-clause-ok g c).Then-is_long_with rest) (tells_refused _ c.in_ok-refuse_long.ensures.held)
+
+pub returns-then-is_long_with-clause-front : goal.returns-then-is_long_with-clause-front
+returns-then-is_long_with-clause-front g c rest = front_from (long g (goal.at.returns-then-is_long_with-clause-front g c).Then-is_long_with rest) c.refuse_long.ensures.front
+
+pub returns-then-is_none-clause-ok : goal.returns-then-is_none-clause-ok
+returns-then-is_none-clause-ok g c rest =
+    let self = c.args.self.now in
+    let none : is_some c.newline_in-newline.result ≡ false = c.is_none.ensures ∙ ap not c.if-is_none.true in
+    tells_from (told_none self.limits g.M.Scribe.rules self.left (g.M.Scribe.state c.args.self.now.scribe) self.line.items c.args.bytes.now c.newline_in-newline.result c.unwrap_or-count.result none c.unwrap_or-count.ensures c.put.new.self.limits c.put.new.self.left c.put.new.self.line.items c.in_ok-put.ensures.limits c.in_ok-put.ensures.left c.in_ok-put.ensures.ok (g.M.Scribe.state c.put.new.self.scribe) (ap g.M.Scribe.state c.in_ok-put.ensures.scribe) rest) (tells_none _ _)
+
+pub returns-in_err-end_line-clause-front : goal.returns-in_err-end_line-clause-front
+returns-in_err-end_line-clause-front g c rest = front_from (newline g (goal.at.returns-in_err-end_line-clause-front g c).Else-is_none rest) (c.end_line.ensures.front _)
+
+pub returns-in-Line-clause-ok : goal.returns-in-Line-clause-ok
+returns-in-Line-clause-ok g c rest = tells_from (newline g (goal.at.returns-in-Line-clause-ok g c).Else-is_none rest) (rw c.in-Line.is at (c.in_ok-end_line.ensures.ok (drop (c.unwrap_or-count.result + 1) c.args.bytes.now ++ rest)))
+
+pub returns-in-Line-clause-front : goal.returns-in-Line-clause-front
+returns-in-Line-clause-front g c rest = front_from (newline g (goal.at.returns-in-Line-clause-front g c).Else-is_none rest) (c.end_line.ensures.front _)
+
+pub returns-in-Refused-clause-ok : goal.returns-in-Refused-clause-ok
+returns-in-Refused-clause-ok g c rest = tells_from (newline g (goal.at.returns-in-Refused-clause-ok g c).Else-is_none rest) (rw c.in-Refused.is at (c.in_ok-end_line.ensures.ok (drop (c.unwrap_or-count.result + 1) c.args.bytes.now ++ rest)))
+
+pub returns-in-Refused-clause-front : goal.returns-in-Refused-clause-front
+returns-in-Refused-clause-front g c rest = front_from (newline g (goal.at.returns-in-Refused-clause-front g c).Else-is_none rest) (c.end_line.ensures.front _)
+
+pub returns-in_err-refuse_long-clause-less : goal.returns-in_err-refuse_long-clause-less
+returns-in_err-refuse_long-clause-less g c is rest =
+    less_from (long g (goal.at.returns-in_err-refuse_long-clause-less g c).Then-is_long_with rest) (c.refuse_long.ensures.less (write_from c.from_residual.result c.refuse_long.result c.in_err-refuse_long.field-0.0 c.from_residual.ensures.1 c.in_err-refuse_long.was is))
+
+pub returns-in_err-end_line-clause-less : goal.returns-in_err-end_line-clause-less
+returns-in_err-end_line-clause-less g c is rest =
+    less_from (newline g (goal.at.returns-in_err-end_line-clause-less g c).Else-is_none rest) (c.end_line.ensures.less (write_from c.from_residual-in_err-end_line.result c.end_line.result c.in_err-end_line.field-0.0 c.from_residual-in_err-end_line.ensures.1 c.in_err-end_line.was is) _)
+
+pub returns-in-Found-clause-ok : goal.returns-in-Found-clause-ok
+returns-in-Found-clause-ok g c rest = tells_from (newline g (goal.at.returns-in-Found-clause-ok g c).Else-is_none rest) (rw c.in-Found.is at (c.in_ok-end_line.ensures.ok (drop (c.unwrap_or-count.result + 1) c.args.bytes.now ++ rest)))
+
+pub returns-in-Found-clause-front : goal.returns-in-Found-clause-front
+returns-in-Found-clause-front g c rest = front_from (newline g (goal.at.returns-in-Found-clause-front g c).Else-is_none rest) (c.end_line.ensures.front _)

@@ -1,0 +1,172 @@
+ghost use Rattle.std.specs.Prelude.{◌≡◌, ◌+◌, ◌<◌, ◌≤◌, ◌==◌, ◌↔◌, ℕ, List, [], ◌∷◌, ◌++◌, false, length, vec_len};
+ghost use Rattle.std.specs.Prelude.{IfOk, OnOk, IsErrOf, IsTrue};
+ghost use Rattle.std.specs.List.{list_any};
+ghost use Rattle.xl_io.specs.Sinks.{GrewByFront, GrewByLess};
+ghost use Rattle.xl_lines.specs.Causes.{HasCause};
+ghost use Rattle.xl_lines.specs.Told.{told_of};
+ghost use Rattle.xl_lines.specs.Running.{Tells, TellsAll, told_at, bytes_to_come, left_unless_ended};
+ghost use Rattle.xl_scribe.specs.Parts.{left_after, TakesSome, FewerToCome};
+
+use crate::Scribe;
+use crate::answer::{answer, close, refuse_long};
+use crate::ends::{before_newline, newline_in};
+use std::alloc::Global;
+use xl_base::OutOfMemory;
+use xl_io::Sink;
+use xl_lines::{Fault, Limits, Next, Teller, Verdict};
+
+/// What became of the next bytes.
+#[derive(Clone, Copy, Debug, PartialEq, Eq)]
+pub enum Part {
+    /// So many of them were taken.
+    Taken(usize),
+    /// A line was refused, and the last text is written.
+    Refused,
+    /// What the scribe looks for was found, and the last text is written.
+    Found,
+}
+
+/// Cuts bytes into lines, and hands each to a scribe: the bytes of the line that has begun, and how many lines may
+/// still come, with it.
+#[derive(Drop)]
+pub struct Lines<M> {
+    scribe: M,
+    limits: Limits,
+    line: Vec<u8>,
+    left: usize,
+    text: Vec<u8>,
+    ghost one_line: { list_any (λ byte. byte == 10) line.items ≡ false },
+    ghost short: { vec_len line ≤ limits.bytes },
+}
+
+impl<M: Scribe> Lines<M> {
+    /// Before the first byte. It takes no memory.
+    pub fn new(alloc: Global, limits: Limits, scribe: M) -> Self
+        ensures { (bytes : List ℕ) →
+            ⟦<Lines<M> as Teller>⟧.tells result bytes ≡ told_of limits M.rules (M.state scribe) bytes }
+    {
+        Lines {
+            scribe,
+            limits,
+            line: Vec::new(alloc),
+            left: limits.lines,
+            text: Vec::new(alloc),
+        }
+    }
+
+    /// Whether the line is too long with so many bytes more.
+    fn is_long_with(&self, more: usize) -> bool
+        ensures { IsTrue result ↔ (self.now.limits.bytes < vec_len self.now.line + more) }
+    {
+        more > self.limits.bytes - self.line.len()
+    }
+
+    /// Adds bytes with no newline to the line.
+    fn put(&mut self, bytes: &[u8]) -> Result<(), OutOfMemory>
+        requires one_line { list_any (λ byte. byte == 10) bytes.now ≡ false }
+        requires short { vec_len self.old.line + length bytes.now ≤ self.old.limits.bytes }
+        ensures ok { OnOk result (self.new.line.items ≡ self.old.line.items ++ bytes.now) }
+        ensures limits { self.new.limits ≡ self.old.limits }
+        ensures left { self.new.left ≡ self.old.left }
+        ensures scribe { self.new.scribe ≡ self.old.scribe }
+    {
+        self.line.extend_from_slice(bytes)?;
+        Ok(())
+    }
+
+    /// Hands the line to the scribe, now that its newline has come.
+    fn end_line<O: Sink>(&mut self, output: &mut O) -> Result<Next, Fault>
+        ensures limits { self.new.limits ≡ self.old.limits }
+        ensures next { IfOk result (λ next. next ≡ Next.Line →
+            (self.new.left + 1 ≡ self.old.left) × (self.new.line.items ≡ [])) }
+        ensures ok { IfOk result (λ next. (rest : List ℕ) → Tells (O.held output.old) (O.held output.new)
+            (⟦<Lines<M> as Teller>⟧.tells self.old (10 ∷ rest))
+            (left_unless_ended next (⟦<Lines<M> as Teller>⟧.tells self.new rest))) }
+        ensures front { (rest : List ℕ) → GrewByFront (O.held output.old) (O.held output.new)
+            (⟦<Lines<M> as Teller>⟧.tells self.old (10 ∷ rest)).text }
+        ensures less { IsErrOf result Fault.Write → (rest : List ℕ) → GrewByLess (O.held output.old) (O.held output.new)
+            (⟦<Lines<M> as Teller>⟧.tells self.old (10 ∷ rest)).text }
+        ensures cause { HasCause (O.faults output.old) (O.faults output.new) result }
+    {
+        let line = before_newline(self.limits.returns, &self.line);
+        match answer(&mut self.scribe, output, self.left, line, &mut self.text)? {
+            Next::Line => {
+                self.line.clear();
+                self.left -= 1;
+                Ok(Next::Line)
+            }
+            Next::Refused => Ok(Next::Refused),
+            Next::Found => Ok(Next::Found),
+        }
+    }
+
+    /// Takes the next bytes up to the first newline, and with it.
+    fn take_part<O: Sink>(&mut self, output: &mut O, bytes: &[u8]) -> Result<Part, Fault>
+        requires { 0 < length bytes.now }
+        ensures limits { self.new.limits ≡ self.old.limits }
+        ensures some { IfOk result (λ part. TakesSome part bytes.now) }
+        ensures fewer { IfOk result (λ part. FewerToCome part
+            (bytes_to_come self.old.limits self.old.left (vec_len self.old.line))
+            (bytes_to_come self.new.limits self.new.left (vec_len self.new.line))) }
+        ensures ok { IfOk result (λ part. (rest : List ℕ) → Tells (O.held output.old) (O.held output.new)
+            (⟦<Lines<M> as Teller>⟧.tells self.old (bytes.now ++ rest))
+            (left_after part (λ left. ⟦<Lines<M> as Teller>⟧.tells self.new (left ++ rest)) bytes.now)) }
+        ensures front { (rest : List ℕ) → GrewByFront (O.held output.old) (O.held output.new)
+            (⟦<Lines<M> as Teller>⟧.tells self.old (bytes.now ++ rest)).text }
+        ensures less { IsErrOf result Fault.Write → (rest : List ℕ) → GrewByLess (O.held output.old) (O.held output.new)
+            (⟦<Lines<M> as Teller>⟧.tells self.old (bytes.now ++ rest)).text }
+        ensures cause { HasCause (O.faults output.old) (O.faults output.new) result }
+    {
+        let newline = newline_in(bytes);
+        let count = newline.unwrap_or(bytes.len());
+        if self.is_long_with(count) {
+            refuse_long(&mut self.scribe, output, &mut self.text)?;
+            return Ok(Part::Refused);
+        }
+        self.put(&bytes[..count])?;
+        if newline.is_none() {
+            return Ok(Part::Taken(count));
+        }
+        match self.end_line(output)? {
+            Next::Line => Ok(Part::Taken(count + 1)),
+            Next::Refused => Ok(Part::Refused),
+            Next::Found => Ok(Part::Found),
+        }
+    }
+}
+
+impl<M: Scribe> Teller for Lines<M> {
+    ghost tells = { λ lines rest.
+        told_at lines.limits M.rules lines.left (M.state lines.scribe) lines.line.items rest };
+
+    ghost to_come = { λ lines. bytes_to_come lines.limits lines.left (vec_len lines.line) };
+
+    fn feed<O: Sink>(&mut self, output: &mut O, bytes: &[u8]) -> Result<Next, Fault> {
+        let mut rest = bytes;
+        while !rest.is_empty() {
+            match self.take_part(output, rest)? {
+                Part::Taken(count) => rest = &rest[count..],
+                Part::Refused => return Ok(Next::Refused),
+                Part::Found => return Ok(Next::Found),
+            }
+        }
+        Ok(Next::Line)
+    }
+
+    fn finish<O: Sink>(&mut self, output: &mut O) -> Result<Verdict, Fault> {
+        if self.line.is_empty() {
+            return close(&mut self.scribe, output, &mut self.text);
+        }
+        match answer(
+            &mut self.scribe,
+            output,
+            self.left,
+            &self.line,
+            &mut self.text,
+        )? {
+            Next::Line => close(&mut self.scribe, output, &mut self.text),
+            Next::Refused => Ok(Verdict::Refused),
+            Next::Found => Ok(Verdict::Found),
+        }
+    }
+}
