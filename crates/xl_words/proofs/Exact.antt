@@ -16,7 +16,7 @@ use Rattle.clap.specs.declared.error.kind.ErrorKind.TheVariants.{OutOfMemory}
 use Rattle.clap.specs.Words.{HasKind, IsAmong, Kinds, kind_of, Text, is_simple, is_simple_and_free}
 use Rattle.xl_words.specs.declared.command.Command.{Command}
 use Rattle.xl_words.specs.declared.command.Command.TheVariants.{Node, Tell}
-use Rattle.xl_words.specs.declared.command.Telling.TheVariants.{Replay, Show, Lists, Merge, Audit, Flags, Gen, Help, Version}
+use Rattle.xl_words.specs.declared.command.Telling.TheVariants.{Replay, Show, Lists, Merge, Audit, Flags, Negative, Gen, Help, Version}
 use Rattle.xl_words.specs.declared.command.WordsFault.{WordsFault}
 use Rattle.xl_words.specs.declared.command.WordsFault.TheVariants.{Refused, Memory}
 use Rattle.xl_words.specs.Programs.{program}
@@ -59,6 +59,10 @@ audit_is name = refl
 flags_is : (name : Text) → command_of (name ∷ codes "flags" ∷ []) ≡ Some (Tell Flags)
 unfolding clap_on_literals
 flags_is name = refl
+
+negative_is : (name : Text) → command_of (name ∷ codes "negative" ∷ []) ≡ Some (Tell Negative)
+unfolding clap_on_literals
+negative_is name = refl
 
 help_is : (name : Text) → command_of (name ∷ codes "--help" ∷ []) ≡ Some (Tell Help)
 unfolding clap_on_literals
@@ -157,6 +161,7 @@ exactly [] (Tell Lists) w = absurd cc
 exactly [] (Tell Merge) w = absurd cc
 exactly [] (Tell Audit) w = absurd cc
 exactly [] (Tell Flags) w = absurd cc
+exactly [] (Tell Negative) w = absurd cc
 exactly [] (Tell (Gen n)) w = let bad = w.1 in absurd cc
 exactly [] (Tell Help) (inl w) = absurd cc
 exactly [] (Tell Help) (inr w) = absurd cc
@@ -169,6 +174,7 @@ exactly (name ∷ rest) (Tell Lists) w = rw w (lists_is name)
 exactly (name ∷ rest) (Tell Merge) w = rw w (merge_is name)
 exactly (name ∷ rest) (Tell Audit) w = rw w (audit_is name)
 exactly (name ∷ rest) (Tell Flags) w = rw w (flags_is name)
+exactly (name ∷ rest) (Tell Negative) w = rw w (negative_is name)
 exactly (name ∷ rest) (Tell (Gen n)) w = rw w.1 (gen_text name w.0 n w.2)
 exactly (name ∷ rest) (Tell Help) (inl w) = rw w (help_is name)
 exactly (name ∷ rest) (Tell Help) (inr w) = rw w (short_help_is name)

@@ -15,6 +15,7 @@ commands_text =
     ++ codes "  merge          tells which list is in force, from the rolls of publishers\n"
     ++ codes "  audit          says whether each entry of a written journal is right\n"
     ++ codes "  flags          says which amendments are enabled, by the votes of a schedule\n"
+    ++ codes "  negative       writes a schedule with the lists that leave out silent members\n"
     ++ codes "  show           writes what each frame of a stream says\n"
     ++ codes "  gen N          makes a schedule of N rounds, runs it, and sums it up\n"
     ++ codes "  -h, --help     writes this\n"
@@ -23,8 +24,8 @@ commands_text =
 -- what it reads and writes
 unfoldable pub streams_text : List ℕ
 streams_text =
-    codes "A command reads standard input and writes standard output. replay, lists and\n"
-    ++ codes "flags read a schedule, which is text and begins with the line: xl-schedule 1\n"
+    codes "A command reads standard input and writes standard output. replay, lists, flags\n"
+    ++ codes "and negative read a schedule, which begins with the line: xl-schedule 1\n"
     ++ codes "merge reads rolls, in a text that begins with the line: xl-publish 1\n"
     ++ codes "audit reads a written journal, which begins with the line: xl-journal 1\n"
     ++ codes "show reads the bytes of frames, and node its settings, which are TOML.\n\n"

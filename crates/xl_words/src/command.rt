@@ -33,6 +33,8 @@ pub enum Telling {
     Audit,
     /// Says which amendments are enabled, and which fee is set, by the votes of a schedule.
     Flags,
+    /// Writes a schedule again, with the lists that leave out silent members.
+    Negative,
     /// Makes a schedule of so many rounds, 1 to 1,000, and runs it.
     Gen(u32),
     Help,
@@ -112,6 +114,9 @@ fn named(name: &str, matches: &ArgMatches<'_>) -> Option<Command>
     }
     if name == "flags" {
         return Some(Command::Tell(Telling::Flags));
+    }
+    if name == "negative" {
+        return Some(Command::Tell(Telling::Negative));
     }
     if name == "gen" {
         return made(rounds_of(matches));

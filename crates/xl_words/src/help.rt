@@ -35,6 +35,7 @@ fn push_commands(text: &mut String) -> Result<(), AllocError>
     text.push_str("  merge          tells which list is in force, from the rolls of publishers\n")?;
     text.push_str("  audit          says whether each entry of a written journal is right\n")?;
     text.push_str("  flags          says which amendments are enabled, by the votes of a schedule\n")?;
+    text.push_str("  negative       writes a schedule with the lists that leave out silent members\n")?;
     text.push_str("  show           writes what each frame of a stream says\n")?;
     text.push_str("  gen N          makes a schedule of N rounds, runs it, and sums it up\n")?;
     text.push_str("  -h, --help     writes this\n")?;
@@ -46,9 +47,9 @@ fn push_streams(text: &mut String) -> Result<(), AllocError>
     ensures { OnOk result (string_bytes text.new ≡ string_bytes text.old ++ streams_text) }
 {
     text.push_str(
-        "A command reads standard input and writes standard output. replay, lists and\n",
+        "A command reads standard input and writes standard output. replay, lists, flags\n",
     )?;
-    text.push_str("flags read a schedule, which is text and begins with the line: xl-schedule 1\n")?;
+    text.push_str("and negative read a schedule, which begins with the line: xl-schedule 1\n")?;
     text.push_str("merge reads rolls, in a text that begins with the line: xl-publish 1\n")?;
     text.push_str("audit reads a written journal, which begins with the line: xl-journal 1\n")?;
     text.push_str("show reads the bytes of frames, and node its settings, which are TOML.\n\n")?;

@@ -39,5 +39,6 @@ pub fn program<'a>(alloc: Global) -> Result<Command<'a>, AllocError>
         .subcommand(Command::new(alloc, "merge"))?
         .subcommand(Command::new(alloc, "audit"))?
         .subcommand(Command::new(alloc, "flags"))?
+        .subcommand(Command::new(alloc, "negative"))?
         .subcommand(rounds)
 }

@@ -17,5 +17,6 @@ returns c =
     let five = c.in_ok-subcommand-5.ensures.shape c.new-6.ensures.local ∙ ap₂ with_subcommand four (ap (λ (a : App). a.top) c.new-6.ensures.app) in
     let six = c.in_ok-subcommand-6.ensures.shape c.new-7.ensures.local ∙ ap₂ with_subcommand five (ap (λ (a : App). a.top) c.new-7.ensures.app) in
     let seven = c.in_ok-subcommand-7.ensures.shape c.new-8.ensures.local ∙ ap₂ with_subcommand six (ap (λ (a : App). a.top) c.new-8.ensures.app) in
-    IfOk-weaker c.subcommand-8.result _ _
-    (λ command adds. adds.shape free ∙ ap₂ with_subcommand seven (ap (λ (a : App). a.top) rounds)) c.subcommand-8.ensures
+    let eight = c.in_ok-subcommand-8.ensures.shape c.new-9.ensures.local ∙ ap₂ with_subcommand seven (ap (λ (a : App). a.top) c.new-9.ensures.app) in
+    IfOk-weaker c.subcommand-9.result _ _
+    (λ command adds. adds.shape free ∙ ap₂ with_subcommand eight (ap (λ (a : App). a.top) rounds)) c.subcommand-9.ensures
