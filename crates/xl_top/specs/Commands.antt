@@ -16,10 +16,11 @@ use Rattle.xl_pairs.specs.Comparing.{lists_of}
 use Rattle.xl_replay.specs.Replays.{report_of}
 use Rattle.xl_show.specs.Shown.{shown_of}
 use Rattle.xl_voting.specs.Voting.{flags_of}
+use Rattle.xl_negative.specs.Writing.{negative_of}
 use Rattle.xl_words.specs.declared.command.Command.{Command}
 use Rattle.xl_words.specs.declared.command.Command.TheVariants.{Node, Tell}
 use Rattle.xl_words.specs.declared.command.Telling.{Telling}
-use Rattle.xl_words.specs.declared.command.Telling.TheVariants.{Replay, Show, Lists, Merge, Audit, Flags, Gen, Help, Version}
+use Rattle.xl_words.specs.declared.command.Telling.TheVariants.{Replay, Show, Lists, Merge, Audit, Flags, Negative, Gen, Help, Version}
 use Rattle.xl_words.specs.Commands.{command_of}
 use Rattle.xl_words.specs.Help.{help_text, version_text}
 
@@ -45,6 +46,7 @@ told_by Lists bytes = lists_of bytes
 told_by Merge bytes = merge_of bytes
 told_by Audit bytes = audit_of bytes
 told_by Flags bytes = flags_of bytes
+told_by Negative bytes = negative_of bytes
 told_by (Gen rounds) bytes = summary (min rounds MOST_ROUNDS)
 told_by Help bytes = closes help_text Good
 told_by Version bytes = closes version_text Good
@@ -66,11 +68,12 @@ ReadsNothing Version = Unit {0}
 ReadsNothing command = ⊥
 
 -- What shows that a text that is written whole is at its end, by the counts of the input's faults before and after.
--- The text of `lists` is empty where no node is declared. The last line of `merge` is written before the input's end is
--- read, so a read may fail behind it
+-- The text of `lists` is empty where no node is declared. The last lines of `merge` and of `negative` are written before
+-- the input's end is read, so a read may fail behind them
 abbrev pub IsEnded : Telling → List ℕ → ℕ → ℕ → Type 0
 IsEnded Lists text before after = 0 < length text
 IsEnded Merge text before after = ¬ (Rose before after)
+IsEnded Negative text before after = ¬ (Rose before after)
 IsEnded command text before after = Unit {0}
 
 -- the status of a run by how it ended

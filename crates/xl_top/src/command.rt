@@ -23,7 +23,7 @@ use xl_words::{Command, Telling, WordsFault};
 /// The program: what the words of the command line ask is read from the input and written to the output.
 ///
 /// The words begin with the program's name. They may ask for `replay`, `node`, `show`, `lists`, `merge`, `audit`,
-/// `flags` or `gen`, for help, or for the version. Keeper, hub and clock are those of `node`. The keeper comes back,
+/// `flags`, `negative` or `gen`, for help, or for the version. Keeper, hub and clock are those of `node`. The keeper comes back,
 /// and so does the journal of the node's store, if one was opened.
 pub fn top<
     W: Threads + Wait + Sync,

@@ -17,6 +17,7 @@ use xl_gen::{MOST_ROUNDS, generate};
 use xl_io::{Sink, Source};
 use xl_lines::{Fault, Verdict};
 use xl_merge::merge;
+use xl_negative::negative;
 use xl_pairs::lists;
 use xl_replay::replay;
 use xl_show::show;
@@ -46,6 +47,7 @@ pub fn run<I: Source, O: Sink>(
         Telling::Merge => status_after(merge(alloc, input, output)),
         Telling::Audit => status_after(audit(alloc, input, output)),
         Telling::Flags => status_after(flags(alloc, input, output)),
+        Telling::Negative => status_after(negative(alloc, input, output)),
         Telling::Help => status_after(help(alloc, output)),
         Telling::Version => status_after(version(alloc, output)),
         Telling::Gen(rounds) => status_after(make(alloc, rounds, output)),

@@ -11,7 +11,7 @@ use Rattle.xl_top.specs.Texts.{WritesText, streams}
 use Rattle.xl_top.proofs.After.{if_any, writes_by, cause_after, cause_of, end_after, yes_after, known_after, whole_after, some_after, read_all_after, said, held_same}
 use Rattle.xl_top.proofs.Asking.{whole_of, less_of, only_of}
 use Rattle.xl_words.specs.declared.command.Telling.{Telling}
-use Rattle.xl_words.specs.declared.command.Telling.TheVariants.{Show, Lists, Merge, Audit, Flags, Gen, Help, Version}
+use Rattle.xl_words.specs.declared.command.Telling.TheVariants.{Show, Lists, Merge, Audit, Flags, Negative, Gen, Help, Version}
 use Rattle.xl_words.specs.Help.{help_text, version_text}
 use Rattle.xl_top.proofs.running.run.Goals as goal
 
@@ -130,6 +130,27 @@ returns-in-Flags-clause-known g c = subst IsReplayed (sym c.status_after-in-Flag
 
 pub returns-in-Flags-clause-unread : goal.returns-in-Flags-clause-unread
 returns-in-Flags-clause-unread g c = rw c.in-Flags.is (λ no. absurd no)
+
+pub returns-in-Negative-clause-writes : goal.returns-in-Negative-clause-writes
+returns-in-Negative-clause-writes g c =
+    let old = streams (g.I.Source.left c.args.input.now) (g.I.Source.faults c.args.input.now) (g.O.Sink.held c.args.output.now) (g.O.Sink.faults c.args.output.now) in
+    let new = streams (g.I.Source.left c.negative.new.input) (g.I.Source.faults c.negative.new.input) (g.O.Sink.held c.negative.new.output) (g.O.Sink.faults c.negative.new.output) in
+    writes_by _ Negative old new _ c.negative.result c.in-Negative.is (λ no. cc) c.status_after-in-Negative.ensures (record {
+      whole = c.negative.ensures.whole;
+      at_end = λ ends _. end_after c.negative.result _ c.negative.ensures.to_end ends;
+      front = c.negative.ensures.front;
+      only = c.negative.ensures.complete;
+      ends = read_all_after (g.I.Source.left c.args.input.now) (g.O.Sink.held c.args.output.now) (g.O.Sink.held c.negative.new.output) (told_by Negative) _ c.negative.result c.negative.ensures.whole c.negative.ensures.read c.negative.ensures.cut;
+    })
+
+pub returns-in-Negative-clause-cause : goal.returns-in-Negative-clause-cause
+returns-in-Negative-clause-cause g c = cause_after _ c.negative.result _ _ c.status_after-in-Negative.ensures c.negative.ensures.read c.negative.ensures.write
+
+pub returns-in-Negative-clause-known : goal.returns-in-Negative-clause-known
+returns-in-Negative-clause-known g c = subst IsReplayed (sym c.status_after-in-Negative.ensures) (known_after c.negative.result)
+
+pub returns-in-Negative-clause-unread : goal.returns-in-Negative-clause-unread
+returns-in-Negative-clause-unread g c = rw c.in-Negative.is (λ no. absurd no)
 
 pub returns-in-Help-clause-writes : goal.returns-in-Help-clause-writes
 returns-in-Help-clause-writes g c =
