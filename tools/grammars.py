@@ -112,6 +112,7 @@ VERDICT, PAIR, PAPER, FRAME = lines(VERDICT_FORMS), lines(PAIR_FORMS), lines(PAP
 REPLAY_END, SHOW_END = SHORT + '*' + FORGED + VERDICT, lines(SHOW_END_FORMS)
 REPORT, SETTINGS = lines(REPORT_FORMS), 'settings (?:.|\n)*\n'
 MERGED, AUDITED = lines(MERGE_FORMS), lines(AUDIT_FORMS)
+WRITTEN = '(?:[^\n]*\n)'
 FLAG, FLAGS_END = lines(FLAGS_FORMS[:-1]), lines(FLAGS_FORMS[-1:])
 
 WHOLE = {
@@ -131,6 +132,9 @@ WHOLE = {
     ('audit', 3): BAD_LINE + '|' + AUDITED,
     ('merge', 0): MERGED + '*',
     ('merge', 3): MERGED + '*' + BAD_LINE,
+    # a schedule as it stands, whose last line may lack its end, and `list` lines
+    ('negative', 0): WRITTEN + '*[^\n]*',
+    ('negative', 3): WRITTEN + '*' + BAD_LINE,
     ('flags', 0): FLAG + '*' + FLAGS_END,
     ('flags', 3): FLAG + '*' + BAD_LINE,
 }
@@ -142,6 +146,7 @@ LINE = {
     'merge': '|'.join((MERGED, BAD_LINE)),
     'flags': '|'.join((FLAG, FLAGS_END, BAD_LINE)),
     'audit': '|'.join((AUDITED, BAD_LINE)),
+    'negative': WRITTEN + '?',
 }
 SAID = {8: b'xl: network failed\n', 9: b'xl: store full\n'}
 ENDS = {('replay', 1): b'fork ', ('replay', 0): b'agree', ('show', 0): b'frames ', ('show', 3): b'bad '}

@@ -287,8 +287,8 @@ class Inputs:
 
     def make(self, number):
         dice = random.Random('%d/%d' % (self.seed, number))
-        commands = ('replay', 'lists', 'show', 'node', 'merge', 'audit', 'flags')
-        command = dice.choices(commands, (12, 3, 4, 2, 3, 3, 3))[0]
+        commands = ('replay', 'lists', 'show', 'node', 'merge', 'audit', 'flags', 'negative')
+        command = dice.choices(commands, (12, 3, 4, 2, 3, 3, 3, 2))[0]
         if command == 'node':
             text = mutate(dice, self.seeds.setting(dice), self.seeds.setting(dice), OF_SETTINGS)
             return command, settle(dice, text)
