@@ -1,6 +1,5 @@
 -- A run, as its parts say it.
-use Rattle.std.proofs.Common.{◌≡◌, ◌≤◌, ◌^◌, ◌⊎◌, Bool, ℕ, Option, List, [], ◌∷◌, ◌++◌, length, map, refl, sym, ap, ◌∙◌, subst, arith}
-use Rattle.std.specs.List.{AllByRecursion}
+use Rattle.std.proofs.Common.{◌≡◌, ◌≤◌, ℕ, List, ◌∷◌, ◌++◌, length, refl, sym, ap, ◌∙◌, arith}
 use mathlib.Core.List.{IsPrefix}
 use Rattle.xl_base.specs.Faults.{Rose}
 use Rattle.xl_base.specs.declared.ids.TxId.{TxId}
@@ -12,7 +11,6 @@ use Rattle.xl_core.specs.Core.{Core}
 use Rattle.xl_store.specs.declared.entry.Entry.{Entry}
 use Rattle.xl_store.specs.declared.store.StoreEnd.{StoreEnd}
 use Rattle.xl_store.specs.declared.store.StoreEnd.TheVariants as refused
-use Rattle.xl_store.specs.Calls.{Made}
 use Rattle.xl_store.proofs.Making.{rise_wider, prefix_length}
 use Rattle.xl_store.proofs.Journals.{stand_in_longer}
 use Rattle.xl_heartbeat.specs.declared.pulse.Pulse.{Pulse}
@@ -25,7 +23,7 @@ use Rattle.xl_workers.specs.declared.ends.RunEnd.{RunEnd}
 use Rattle.xl_workers.specs.declared.ends.RunEnd.TheVariants as end
 use Rattle.xl_workers.specs.Submits.{Submitted, SubmittedFront}
 use Rattle.xl_workers.specs.Sharing.{Setting, SharedOut, SubmitPart}
-use Rattle.xl_workers.specs.Runs.{Doing, doing, NoMore, NodeRun}
+use Rattle.xl_workers.specs.Runs.{Doing, doing}
 use Rattle.xl_workers.specs.Working.{Closes, Worked, TookLast, Lives, Lived, end_of}
 use Rattle.xl_workers.proofs.Shared.{stands, full_longer}
 use Rattle.xl_workers.proofs.Outcomes.{outputs}

@@ -1,10 +1,9 @@
 -- What the heartbeat and the last reports wrote together.
-use Rattle.std.proofs.Common.{◌≡◌, ◌≤◌, ◌<◌, ◌+◌, ℕ, Option, List, ◌++◌, length, refl, sym, ap, ◌∙◌, arith, append_assoc, length-append, subst}
+use Rattle.std.proofs.Common.{◌≡◌, ℕ, Option, List, ◌++◌, sym, ap, ◌∙◌, arith, append_assoc, length-append, subst}
 use Rattle.std.specs.List.{flat_map}
 use Rattle.std.specs.Io.KnownBytes.{append_known}
 use Rattle.std.proofs.lemmas.Grind.{flat_map-append}
 use Rattle.xl_io.proofs.Growing.{append_known-twice}
-use Rattle.xl_core.specs.declared.report.Report.{Report}
 use Rattle.xl_core.specs.Answers.{handed_in}
 use Rattle.xl_store.specs.Calls.{Call}
 use Rattle.xl_heartbeat.specs.declared.ends.BeatEnd.{BeatEnd}

@@ -13,7 +13,7 @@ use Rattle.xl_links.specs.Links.{Wire}
 use Rattle.xl_core.specs.Core.{Core}
 use Rattle.xl_store.specs.declared.entry.Entry.{Entry}
 use Rattle.xl_store.specs.declared.store.Store.{Store}
-use Rattle.xl_store.specs.Calls.{Call, Made, Rise}
+use Rattle.xl_store.specs.Calls.{Call, Made}
 use Rattle.xl_store.specs.Stores.{start_of, turns_of}
 use Rattle.xl_store.proofs.Making.{rise_wider, prefix_length}
 use Rattle.xl_store.proofs.Journals.{stand_in_longer}

@@ -1,5 +1,5 @@
 -- Several passes as one. Source: what the code of this crate relies on. No public clause cites this file.
-use Rattle.std.specs.Prelude.{ℕ, List, [], ◌∷◌}
+use Rattle.std.specs.Prelude.{List, [], ◌∷◌}
 use mathlib.Core.List.{IsPrefix}
 use Rattle.xl_turns.specs.declared.view.Knowledge.{Knowledge}
 use Rattle.xl_turns.specs.Knowing.{joined}

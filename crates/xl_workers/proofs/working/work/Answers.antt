@@ -1,4 +1,4 @@
-use Rattle.std.proofs.Common.{ℕ, Option, length, List, map, subst, sym, arith}
+use Rattle.std.proofs.Common.{length, List, map, subst, sym, arith}
 use Rattle.std.specs.List.{AllByRecursion}
 use Rattle.xl_turns.specs.Passes.{known}
 use Rattle.xl_store.specs.Stores.{start_of, turns_of}
