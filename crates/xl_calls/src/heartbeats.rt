@@ -1,16 +1,33 @@
-ghost use Rattle.std.specs.Prelude.{◌<◌, ◌≤◌, ◌^◌};
+ghost use Rattle.std.specs.Prelude.{◌<◌, ◌≤◌, ◌^◌, length};
 
 use crate::fixtures::stored;
 use std::alloc::Global;
 use std::sync::Wait;
 use std::test::Fail;
-use xl_base::{NodeNo, Status};
-use xl_heartbeat::{BeatEnd, Ending, Stopping, Timing, beat, status_of_run, take_reports};
+use xl_base::{Millis, NodeNo, Status};
+use xl_core::CoreEvent;
+use xl_heartbeat::{BeatEnd, Ending, Pulse, Stopping, Timing, beat, status_of_run, take_reports};
 use xl_io::MemSink;
 use xl_links::{Clock, MemClock};
+use xl_lists::List;
+use xl_publish::{Publishers, Publishing, Roll, RollMembers, Took, write_roll};
+use xl_store::{Closed, Journal};
 
-/// How a run of 20 seconds with a beat each second ends, of a node that trusts itself alone, and how its last reports
-/// do, with the clock's moment then.
+/// A beat each second for so long, from second 1 on, of a node that trusts itself alone at first.
+fn pulse_of(run: Millis, publishing: Option<Publishing>) -> Result<Pulse, Fail> {
+    Ok(Pulse {
+        timing: Timing {
+            opened: 1_000,
+            every: 1_000,
+            run,
+        },
+        publishing,
+        list: List::new(&[1], 1)?,
+    })
+}
+
+/// How a run of 20 seconds ends, of a node that trusts itself alone, and how its last reports do, with the clock's
+/// moment then.
 fn run<W: Wait>(
     rt: &W,
     alloc: Global,
@@ -21,12 +38,8 @@ fn run<W: Wait>(
 {
     let (store, mut pass) = stored(alloc, 1, turns, NodeNo::new(2).ok_or("no member")?)?;
     let clock = MemClock::new(1_000);
-    let timing = Timing {
-        opened: 1_000,
-        every: 1_000,
-        run: 20_000,
-    };
-    let end = beat(rt, &store, &clock, sink, timing, &mut pass);
+    let pulse = pulse_of(20_000, None)?;
+    let end = beat(rt, &store, &clock, sink, &pulse, &mut pass);
     let last = take_reports(rt, &store, sink, &mut pass);
     Ok((end, last, clock.now()))
 }
@@ -40,5 +53,90 @@ fn a_failing_write_ends_the_beats(rt: HostRuntime) -> Result<(), Fail> {
     assert!(rt; last == Ending::Done && moment == 18_000);
     assert!(rt; sink.held() == b"full 1 ".as_slice());
     assert!(rt; status_of_run(end, last) == Status::WriteFault);
+    Ok(())
+}
+
+/// Gives a publisher its key, and takes its roll of one or two members.
+fn publish(publishers: &mut Publishers, roll: &Roll) -> bool
+    requires few { length roll.now.members ≤ 2 }
+{
+    let mut room = [0; 61];
+    let length = write_roll(roll, &[7; 32], &mut room);
+    publishers.put(roll.publisher, [7; 32]) && publishers.take(&room[..length]) == Ok(Took::New)
+}
+
+/// Until second 3 a publisher names node 1, and from then until second 5 another one names nodes 1 and 2.
+fn two_publishers() -> Result<Publishing, Fail> {
+    let mut publishers = Publishers::new();
+    let first = Roll {
+        publisher: 1,
+        seq: 1,
+        from: 0,
+        until: 3,
+        members: RollMembers::of(&[1]),
+    };
+    let second = Roll {
+        publisher: 2,
+        seq: 1,
+        from: 3,
+        until: 5,
+        members: RollMembers::of(&[1, 2]),
+    };
+    if publish(&mut publishers, &first) && publish(&mut publishers, &second) {
+        Ok(Publishing {
+            publishers,
+            threshold: 1,
+        })
+    } else {
+        Err(Fail::from("refused"))
+    }
+}
+
+/// The journal of a run with these publishers, and how many members are on the list of its core then.
+fn followed<W: Wait>(rt: &W, alloc: Global, sink: &mut MemSink) -> Result<(Journal, u32), Fail> {
+    let (store, mut pass) = stored(alloc, 1, 100, NodeNo::new(2).ok_or("no member")?)?;
+    let clock = MemClock::new(1_000);
+    let pulse = pulse_of(5_000, Some(two_publishers()?))?;
+    let _ = beat(rt, &store, &clock, sink, &pulse, &mut pass);
+    if !pass.is_whole() {
+        return Err(Fail::from("no whole pass"));
+    }
+    let Closed {
+        core,
+        keeper: _,
+        journal,
+    } = store.close(pass);
+    Ok((journal, core.list().len()))
+}
+
+/// How many lists a journal sets, when the last of them, and behind how many timers; and how many timers it has.
+fn lists_and_timers(journal: Journal) -> (u64, Millis, u64, u64) {
+    let (mut lists, mut moment, mut behind, mut timers) = (0u64, 0, 0u64, 0u64);
+    let mut entries = journal.oldest();
+    for _ in 0..100 {
+        match entries.next() {
+            Some(entry) => match entry.event {
+                CoreEvent::Relist { now, .. } => {
+                    lists = lists.saturating_add(1);
+                    moment = now;
+                    behind = timers;
+                }
+                CoreEvent::Timer { .. } => timers = timers.saturating_add(1),
+                _ => {}
+            },
+            None => break,
+        }
+    }
+    (lists, moment, behind, timers)
+}
+
+/// The list of second 2 is the first one, and from second 5 on there is none: so the one other list is set once.
+#[test]
+fn the_beat_of_a_second_sets_its_other_list_once(rt: HostRuntime) -> Result<(), Fail> {
+    let alloc = rt.alloc();
+    let mut sink = MemSink::new(alloc, 7, Vec::new(alloc));
+    let (journal, members) = followed(&rt, alloc, &mut sink)?;
+    assert!(rt; lists_and_timers(journal) == (1, 3_000, 1, 5));
+    assert!(rt; members == 2);
     Ok(())
 }

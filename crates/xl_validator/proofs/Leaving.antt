@@ -1,5 +1,5 @@
 -- What a run leaves.
-use Rattle.std.proofs.Common.{◌≡◌, Bool, ◌≤◌, ℕ, List, length, Option, Some, None, sym, ◌∙◌, subst}
+use Rattle.std.proofs.Common.{◌≡◌, Bool, ◌≤◌, ℕ, List, length, Option, Some, None, IfSome, sym, ◌∙◌, subst}
 use Rattle.xl_base.specs.declared.status.Status.{Status}
 use Rattle.xl_base.specs.declared.status.Status.TheVariants as status
 use Rattle.xl_io.specs.Keepers.{Held}
@@ -12,9 +12,12 @@ use Rattle.xl_store.specs.Entries.{Leads}
 use Rattle.xl_workers.specs.declared.ends.RunEnd.{RunEnd}
 use Rattle.xl_workers.specs.Runs.{NodeRun, doing, status_of_end}
 use Rattle.xl_workers.specs.Sharing.{setting}
-use Rattle.xl_validator.specs.Openings.{Task}
+use Rattle.xl_settings.specs.declared.settings.Settings.{Settings}
+use Rattle.xl_validator.specs.ListsSet.{IsEverKeyed}
+use Rattle.xl_validator.specs.Openings.{Task, opening_core, task_of}
 use Rattle.xl_validator.specs.Preparing.{Leaves}
-use Rattle.xl_validator.specs.Validators.{Between, IsOfNode}
+use Rattle.xl_validator.specs.Validators.{Between, Goes, HasRun, IsOfNode, Loads}
+use Rattle.xl_validator.proofs.SettingLists.{are_set, some_both}
 use Rattle.xl_validator.proofs.Causes.{known_end, keeps_no_fault, write_cause, net_cause}
 
 module _ {K O : Type 0}
@@ -67,3 +70,34 @@ module _ {K O : Type 0}
         keeper = λ other. cc;
         net = λ other. absurd cc;
       }))
+
+module _ {K : Type 0}
+    (held_by : K → Option Held) (saves_of : K → Option (List ℕ)) (faults_of : K → ℕ)
+    (load_gives : K → ℕ → K → Type 0) (save_gives : K → ℕ → Bool → K → Type 0)
+    (may_give : ℕ → Bool) (links : ℕ → Option Wire) (outside : Between)
+    (old loaded new : K) (end : Status) (s : Settings) (moment kept : ℕ) where
+  -- a node that ran over the core of these settings ran by them
+  pub ran_by : (core : Core) (task : Task) (journal : Option (List Entry)) → core ≡ opening_core s moment kept
+      → task ≡ task_of s moment → IsEverKeyed s.publishing core
+      → Loads held_by saves_of faults_of load_gives save_gives old kept loaded
+      → IfSome journal (λ history. Goes held_by saves_of faults_of save_gives
+      core task may_give links outside loaded new end history)
+      → IfSome journal (λ history. HasRun held_by saves_of faults_of load_gives save_gives
+      s moment may_give links outside old new end history)
+  ran_by core task journal opened tasked ever loads = some_both journal (λ history goes.
+      let legal = subst (λ (c : Core). IsLegal Leads c history) opened goes.legal in
+      record {
+        kept = kept;
+        loaded = loaded;
+        loads = loads;
+        goes = subst
+            (λ (t : Task). Goes held_by saves_of faults_of save_gives
+            (opening_core s moment kept) t may_give links outside loaded new end history)
+            tasked
+            (subst
+            (λ (c : Core). Goes held_by saves_of faults_of save_gives
+            c task may_give links outside loaded new end history)
+            opened goes);
+        set = are_set s.publishing (opening_core s moment kept) history
+            (subst (λ (c : Core). IsEverKeyed s.publishing c) opened ever) legal;
+      })

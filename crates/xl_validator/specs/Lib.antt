@@ -1,4 +1,5 @@
 pub mod Openings
 pub mod Contacts
 pub mod Preparing
+pub mod ListsSet
 pub mod Validators

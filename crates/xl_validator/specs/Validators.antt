@@ -19,6 +19,7 @@ use Rattle.xl_workers.specs.declared.ends.RunEnd.{RunEnd}
 use Rattle.xl_workers.specs.Runs.{NodeRun, doing, status_of_end}
 use Rattle.xl_workers.specs.Sharing.{setting}
 use Rattle.xl_core.specs.Core.{Core}
+use Rattle.xl_validator.specs.ListsSet.{AreSet}
 use Rattle.xl_validator.specs.Openings.{Task, opening_core, task_of}
 
 -- of the line that tells a refusal a front is written, and with the status of a refusal all of it
@@ -74,7 +75,8 @@ module _ {K : Type 0}
     pub gives : load_gives old kept new
     pub later : faults_of old ≤ faults_of new
 
-  -- A node ran by these settings: it was opened at this moment, with the number that its keeper loaded
+  -- A node ran by these settings: it was opened at this moment, with the number that its keeper loaded; and no list of
+  -- its publishers was refused
   pub record HasRun (s : Settings) (moment : ℕ) (may_give : ℕ → Bool) (links : ℕ → Option Wire) (outside : Between)
       (old new : K) (end : Status) (history : List Entry) : Type 0 where
     pub kept : ℕ
@@ -82,6 +84,7 @@ module _ {K : Type 0}
     pub loads : Loads old kept loaded
     pub goes : Goes held_by saves_of faults_of save_gives
         (opening_core s moment kept) (task_of s moment) may_give links outside loaded new end history
+    pub set : AreSet s.publishing (opening_core s moment kept) history
 
   -- a node ran by the settings that the input held at the moment of its opening
   abbrev pub IsNodeRun : Option (List ℕ) → ℕ → (ℕ → Bool) → (ℕ → Option Wire) → Between → K → K → Status → List Entry

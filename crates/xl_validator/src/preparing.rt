@@ -2,6 +2,7 @@
 ghost use Rattle.std.specs.Prelude.{◌≡◌, ◌≤◌, IfOk};
 ghost use Rattle.xl_base.specs.declared.moments.TheConstants.{GREATEST_MILLIS};
 ghost use Rattle.xl_settings.specs.Runnable.{AreRunnable};
+ghost use Rattle.xl_validator.specs.ListsSet.{IsEverKeyed};
 ghost use Rattle.xl_validator.specs.Openings.{opening_core, task_of};
 ghost use Rattle.xl_validator.specs.Preparing.{IsPlan, IsReady, task_in};
 
@@ -36,6 +37,7 @@ pub(crate) fn prepare(alloc: Global, judged: Judged, kept: Seq) -> Result<Prepar
     ensures core { IfOk result (λ prepared. prepared.core ≡ opening_core judged.settings judged.now kept) }
     ensures task { IfOk result (λ prepared. task_in prepared.plan ≡ task_of judged.settings judged.now) }
     ensures ready { IfOk result IsReady }
+    ensures keyed { IfOk result (λ prepared. IsEverKeyed judged.settings.publishing prepared.core) }
 {
     let Judged { settings, now } = judged;
     let Settings {

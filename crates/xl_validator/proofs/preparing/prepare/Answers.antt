@@ -1,7 +1,9 @@
-use Rattle.std.proofs.Common.{◌∙◌, ap}
+use Rattle.std.proofs.Common.{List, IfSome, ◌∙◌, ap, sym, subst}
 use Rattle.xl_core.specs.Core.{Core}
-use Rattle.xl_settings.specs.Peers.{are_peers}
+use Rattle.xl_settings.specs.Peers.{PeerSetting, are_peers}
+use Rattle.xl_settings.specs.Runnable.{AreEverPeers}
 use Rattle.xl_validator.proofs.Opening.{is_ready, keyed, same_pulse, the_task}
+use Rattle.xl_validator.proofs.SettingLists.{ever_keyed}
 use Rattle.xl_validator.proofs.preparing.prepare.Goals as goal
 
 pub open-requires-clause-keyed : goal.open-requires-clause-keyed
@@ -21,3 +23,11 @@ returns-in-Ok-open-clause-ready c =
     is_ready c.args.judged.settings _ c.in-Ok-open.core c.in-Ok.plan c.in-Ok.ensures.plan c.keys_of-keys.result
     c.as_slice.result.now c.as_slice.ensures c.keys_of-keys.ensures.peers
     (ap (λ (core : Core). core.node.keys) c.in-Ok-open.ensures.opened) c.requires.runnable
+
+pub returns-in-Ok-open-clause-keyed : goal.returns-in-Ok-open-clause-keyed
+returns-in-Ok-open-clause-keyed c =
+    let s = c.args.judged.settings in
+    ever_keyed c.keys_of-keys.result s.me c.as_slice.result.now c.keys_of-keys.ensures.own c.keys_of-keys.ensures.peers
+    s.publishing c.in-Ok-open.core (ap (λ (core : Core). core.node.keys) c.in-Ok-open.ensures.opened)
+    (subst (λ (ps : List PeerSetting). IfSome s.publishing (AreEverPeers s.me ps)) (sym c.as_slice.ensures)
+    c.requires.runnable.ever)
