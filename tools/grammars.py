@@ -111,7 +111,7 @@ BAD_LINE, OUTCOME, SHORT, FORGED = lines(BAD_LINE_FORMS), lines(OUTCOME_FORMS), 
 VERDICT, PAIR, PAPER, FRAME = lines(VERDICT_FORMS), lines(PAIR_FORMS), lines(PAPER_FORMS), lines(FRAME_FORMS)
 REPLAY_END, SHOW_END = SHORT + '*' + FORGED + VERDICT, lines(SHOW_END_FORMS)
 REPORT, SETTINGS = lines(REPORT_FORMS), 'settings (?:.|\n)*\n'
-MERGED = lines(MERGE_FORMS)
+MERGED, AUDITED = lines(MERGE_FORMS), lines(AUDIT_FORMS)
 FLAG, FLAGS_END = lines(FLAGS_FORMS[:-1]), lines(FLAGS_FORMS[-1:])
 
 WHOLE = {
@@ -126,6 +126,9 @@ WHOLE = {
     ('node', 3): SETTINGS,
     ('node', 8): REPORT + '*',
     ('node', 9): REPORT + '*',
+    ('audit', 0): AUDITED,
+    ('audit', 1): AUDITED,
+    ('audit', 3): BAD_LINE + '|' + AUDITED,
     ('merge', 0): MERGED + '*',
     ('merge', 3): MERGED + '*' + BAD_LINE,
     ('flags', 0): FLAG + '*' + FLAGS_END,
@@ -138,9 +141,11 @@ LINE = {
     'node': '|'.join((REPORT, SETTINGS)),
     'merge': '|'.join((MERGED, BAD_LINE)),
     'flags': '|'.join((FLAG, FLAGS_END, BAD_LINE)),
+    'audit': '|'.join((AUDITED, BAD_LINE)),
 }
 SAID = {8: b'xl: network failed\n', 9: b'xl: store full\n'}
 ENDS = {('replay', 1): b'fork ', ('replay', 0): b'agree', ('show', 0): b'frames ', ('show', 3): b'bad '}
+ENDS.update({('audit', 0): b'yes ', ('audit', 1): b'no ', ('audit', 3): b'bad '})
 _COMPILED = {}
 
 

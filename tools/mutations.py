@@ -7,6 +7,7 @@ import re
 import struct
 
 import made_schedules
+import rolls
 import schedules
 
 DATA = os.path.join(schedules.TOP, 'crates', 'xl_rows', 'data')
@@ -41,6 +42,8 @@ class Seeds:
         texts = [(os.path.basename(path), self.read(path)) for path in told + rows]
         texts = [(name, text) for name, text in texts if len(text) <= LARGEST_SEED]
         self.schedules = [text for _, text in texts if text.startswith(b'xl-schedule')]
+        self.merges = [text for _, text in texts if text.startswith(b'xl-publish')]
+        self.journals = [text for _, text in texts if text.startswith(b'xl-journal')]
         self.streams = [text for name, text in texts if name.startswith('show_')]
         self.settings = [text for name, text in texts if name.startswith('node_') and text.startswith(b'me = ')]
 
@@ -58,6 +61,21 @@ class Seeds:
             return made_schedules.schedule(made_schedules.RandomSchedule(dice, count).lines).encode()
         return made_schedules.generated(dice.randint(1, 2)).encode()
 
+    def votes(self, dice):
+        """A schedule in which nodes favor amendments and a fee."""
+        lines = self.schedule(dice).split(b'\n')
+        for _ in range(dice.randint(1, 4)):
+            lines.insert(dice.randint(len(lines) // 2, len(lines)), favor(dice))
+        return b'\n'.join(lines)
+
+    def merge(self, dice):
+        if dice.random() < 0.5:
+            return dice.choice(self.merges)
+        return b'\n'.join([b'xl-publish 1', *(publishers_line(dice) for _ in range(dice.randint(1, 12)))])
+
+    def journal(self, dice):
+        return dice.choice(self.journals)
+
     def stream(self, dice):
         if dice.random() < 0.3:
             return dice.choice(self.streams)
@@ -69,6 +87,8 @@ class Seeds:
         lines = [b'dial = "ADDRESS"' if line.startswith(b'dial') else line for line in lines]
         lines = [b'listen = "ADDRESS"' if line.startswith(b'listen') else line for line in lines]
         more = [b'validating = false', b'limit = 100', b'turns = 50', b'heartbeat_ms = 100', b'submit = []']
+        more += [b'journal = true', b'roll = ["5850"]', b'threshold = 1']
+        more += [b'publisher = [{ number = 1, key = "%s" }]' % (b'01' * 32)]
         lines = dice.sample(more, dice.randint(0, 2)) + [line for line in lines if not line.startswith(b'run_ms')]
         return b'\n'.join(lines)
 
@@ -81,6 +101,29 @@ def edge(dice, largest=2**32 - 1):
 def any_digits(dice):
     """32 bytes that are an id."""
     return bytes([dice.choice((0, 17, 255))] * 31 + [dice.randrange(256)])
+
+
+def favor(dice):
+    """A node's vote on amendments and a fee."""
+    ids = sorted({any_digits(dice).hex().encode() for _ in range(dice.choice((0, 1, 1, 2, 5)))})
+    return b'favor %d %d %s' % (dice.randint(1, 5), edge(dice), b','.join(ids) or b'-')
+
+
+def publishers_key(publisher):
+    return hashlib.sha256(b'key of publisher %d' % publisher).digest()
+
+
+def publishers_line(dice):
+    """A line that `merge` reads, often a roll with a right tag."""
+    publisher = dice.randint(1, 3)
+    if dice.random() < 0.3:
+        return b'publisher %d %s' % (publisher, publishers_key(publisher).hex().encode())
+    if dice.random() < 0.3:
+        return dice.choice((b'list', b'threshold %d' % dice.randint(1, 3), b'at %d' % edge(dice)))
+    members = tuple(sorted(dice.sample(range(1, 65), dice.choice((1, 3, 5, 64)))))
+    first = edge(dice, 5000)
+    roll = rolls.Roll(publisher, edge(dice), first, first + dice.choice((0, 1, 5000)), members)
+    return b'roll ' + rolls.written(roll, publishers_key(publisher)).hex().encode()
 
 
 def body(dice, kind):
@@ -244,12 +287,17 @@ class Inputs:
 
     def make(self, number):
         dice = random.Random('%d/%d' % (self.seed, number))
-        command = dice.choices(('replay', 'lists', 'show', 'node'), (12, 3, 4, 2))[0]
+        commands = ('replay', 'lists', 'show', 'node', 'merge', 'audit', 'flags')
+        command = dice.choices(commands, (12, 3, 4, 2, 3, 3, 3))[0]
         if command == 'node':
             text = mutate(dice, self.seeds.setting(dice), self.seeds.setting(dice), OF_SETTINGS)
             return command, settle(dice, text)
         if command == 'show' or dice.random() < 0.02:
             return command, mutate(dice, self.seeds.stream(dice), self.seeds.stream(dice), OF_BYTES)
+        makes = {'merge': self.seeds.merge, 'audit': self.seeds.journal, 'flags': self.seeds.votes}
+        if command in makes:
+            make = makes[command]
+            return command, mutate(dice, make(dice), make(dice), OF_LINES)
         text = self.seeds.schedule(dice)
         if command == 'lists' and dice.random() < 0.8:
             lists = (b'xl-schedule', b'node', b'liar', b'limit', b'at', b'name')

@@ -105,3 +105,7 @@ def second_of(words):
 
 def day_of(second):
     return (FIRST_DAY + datetime.timedelta(seconds=second)).strftime('%Y-%m-%d %H:%M:%S')
+
+
+def second_now():
+    return int((datetime.datetime.now(datetime.timezone.utc) - FIRST_DAY).total_seconds())

@@ -101,6 +101,13 @@ def bytes_of_nodes(text):
     return len(numbers) * (NODE_BYTES + LEDGER_BYTES * limit)
 
 
+def bytes_of_auditor(journal):
+    """The memory that an auditor's core may take, by the limit of the journal's settings, if they have one."""
+    tokens = b'\n'.join(journal.split(b'\n')[1:2]).decode('latin-1').split(' ')
+    limit = int(tokens[4]) if len(tokens) > 4 and re.fullmatch('[0-9]{1,6}', tokens[4]) else 0
+    return NODE_BYTES + LEDGER_BYTES * min(limit, 262144)
+
+
 class Unfollowed(Exception):
     """The schedule can't be followed event by event."""
 

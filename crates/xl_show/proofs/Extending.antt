@@ -194,14 +194,17 @@ need_of_body : (raw : RawFrame) (r : Result Body WireRefusal) (n : ℕ) → with
 need_of_body raw (Ok body) n e = cc
 need_of_body raw (Err refusal) n e = cc
 
-by_split_need : (xs : List ℕ) (n : ℕ) (s : Split) → split_of xs ≡ s → with_bodies s ≡ decoded.Need n → 0 < n
+by_split_need : (xs : List ℕ) (n : ℕ) (s : Split) → split_of xs ≡ s → with_bodies s ≡ decoded.Need n → split_of xs ≡ Need n
 by_split_need xs n (Whole raw) at is = absurd (need_of_body raw (body_of raw.kind raw.body) n is)
-by_split_need xs n (Need lack) at is = let same : lack ≡ n = cc in needs_some (head_refusal xs) (lacking xs) (raw_in xs) n (at ∙ ap Need same)
+by_split_need xs n (Need lack) at is = let same : lack ≡ n = cc in at ∙ ap Need same
 by_split_need xs n (Refused q) at is = absurd cc
+
+pub split_need : (xs : List ℕ) (n : ℕ) → decoded_of xs ≡ decoded.Need n → split_of xs ≡ Need n
+split_need xs n is = by_split_need xs n (split_of xs) refl is
 
 -- where bytes lack, some do
 pub lack_some : (xs : List ℕ) (n : ℕ) → decoded_of xs ≡ decoded.Need n → 0 < n
-lack_some xs n is = by_split_need xs n (split_of xs) refl is
+lack_some xs n is = needs_some (head_refusal xs) (lacking xs) (raw_in xs) n (split_need xs n is)
 
 some_of_body : (raw : RawFrame) (r : Result Body WireRefusal) (f : Frame) (n : ℕ) → with_body raw r ≡ decoded.Whole f n → 0 < n
 some_of_body raw (Ok body) f n e = let long : span raw.body ≡ n = cc in omega (arith, long)

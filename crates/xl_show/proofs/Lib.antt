@@ -2,3 +2,4 @@ pub mod Extending
 pub mod Telling
 pub mod Ending
 pub mod Looking
+pub mod Short

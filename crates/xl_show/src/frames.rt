@@ -10,6 +10,7 @@ ghost use Rattle.xl_show.specs.Texts.{limit_line};
 ghost use Rattle.xl_show.specs.declared.limits.TheConstants.{MOST_BYTES};
 ghost use Rattle.xl_wire.specs.Frames.{decoded_of};
 ghost use Rattle.xl_wire.specs.declared.decoding.Decoded.{Decoded};
+ghost use Rattle.xl_wire.specs.declared.lengths.TheConstants.{LONGEST_FRAME};
 
 use crate::limits::MOST_BYTES;
 use crate::reading::{Look, read};
@@ -29,7 +30,7 @@ pub enum Part {
 }
 
 /// Cuts bytes into frames, and tells of each: the bytes of the frame that has begun, where it begins, and how many
-/// frames stood before it.
+/// frames stood before it. No more bytes are kept than the longest frame has.
 #[derive(Drop)]
 pub struct Frames {
     alloc: Global,
@@ -39,6 +40,7 @@ pub struct Frames {
     text: String,
     ghost within: { place + vec_len begun ≤ MOST_BYTES },
     ghost counted: { count ≤ place },
+    ghost short: { vec_len begun ≤ LONGEST_FRAME },
 }
 
 impl Frames {
@@ -164,7 +166,8 @@ impl Frames {
 
     /// Adds bytes to the frame that has begun.
     fn put(&mut self, bytes: &[u8]) -> Result<(), OutOfMemory>
-        requires { self.old.place + vec_len self.old.begun + length bytes.now ≤ MOST_BYTES }
+        requires within { self.old.place + vec_len self.old.begun + length bytes.now ≤ MOST_BYTES }
+        requires short { vec_len self.old.begun + length bytes.now ≤ LONGEST_FRAME }
         ensures begun { OnOk result (self.new.begun.items ≡ self.old.begun.items ++ bytes.now) }
         ensures place { OnOk result (self.new.place ≡ self.old.place) }
         ensures count { OnOk result (self.new.count ≡ self.old.count) }

@@ -20,8 +20,9 @@ const SHORTEST_FRAME: usize = 48;
 
 /// Callers that aren't served yet, in the order in which they came. Their streams don't wait.
 ///
-/// One is ready as soon as it has sent as many bytes as the shortest frame has, if these begin a frame. One is let go
-/// if it is gone, if what it has sent begins no frame, and if it isn't ready after ten seconds.
+/// One is ready as soon as it has sent as many bytes as the shortest frame has, if these begin a frame. One that has
+/// sent nothing may be a member that has nothing to say, and is served while nobody is ready. One is let go if it is
+/// gone, if what it has sent begins no frame, and if it isn't ready after ten seconds.
 #[derive(Drop)]
 pub(crate) struct Callers<S> {
     waiting: VecDeque<Caller<S>>,
@@ -36,7 +37,10 @@ struct Caller<S> {
 #[derive(Clone, Copy, PartialEq, Eq)]
 enum Standing {
     Gone,
-    Silent,
+    /// It has sent nothing.
+    Quiet,
+    /// It has sent less than the shortest frame.
+    Begun,
     Ready,
 }
 
@@ -77,28 +81,34 @@ impl<S: OpenStream + Drop> Callers<S> {
         Ok(())
     }
 
-    /// The first that is ready. It waits no longer here.
+    /// The first that is ready, and if none is, the first that has sent nothing. It waits no longer here.
     pub(crate) fn next(&mut self) -> Option<S> {
-        let place = self.waiting.iter().position(is_ready)?;
-        let caller = self.waiting.remove(place)?;
+        let place = match self.first(Standing::Ready) {
+            None => self.first(Standing::Quiet),
+            ready => ready,
+        };
+        let caller = self.waiting.remove(place?)?;
         Some(caller.stream)
     }
 
     pub(crate) fn is_any_ready(&self) -> bool {
-        self.waiting.iter().any(is_ready)
+        self.first(Standing::Ready).is_some()
+    }
+
+    /// The place of the first that stands so.
+    fn first(&self, standing: Standing) -> Option<usize> {
+        self.waiting
+            .iter()
+            .position(|caller| standing_of(&caller.stream) == standing)
     }
 }
 
 fn may_wait<S: OpenStream>(caller: &Caller<S>, now: Millis) -> bool {
     match standing_of(&caller.stream) {
         Standing::Gone => false,
-        Standing::Silent => now.saturating_sub(caller.came) < PATIENCE,
+        Standing::Quiet | Standing::Begun => now.saturating_sub(caller.came) < PATIENCE,
         Standing::Ready => true,
     }
-}
-
-fn is_ready<S: OpenStream>(caller: &Caller<S>) -> bool {
-    standing_of(&caller.stream) == Standing::Ready
 }
 
 /// How a caller stands, by what it has sent so far.
@@ -108,10 +118,10 @@ fn standing_of<S: OpenStream>(stream: &S) -> Standing {
         Ok(0) => Standing::Gone,
         Ok(count) => match split(&front[..count]) {
             Parted::Refused(_) => Standing::Gone,
-            _ if count < SHORTEST_FRAME => Standing::Silent,
+            _ if count < SHORTEST_FRAME => Standing::Begun,
             _ => Standing::Ready,
         },
-        Err(error) if is_late(error.kind()) => Standing::Silent,
+        Err(error) if is_late(error.kind()) => Standing::Quiet,
         Err(_) => Standing::Gone,
     }
 }

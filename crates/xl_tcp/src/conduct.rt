@@ -40,6 +40,8 @@ pub(crate) struct Conduct {
 struct Record {
     /// When the latest frame came, or the connection began.
     latest: Millis,
+    /// Whether a frame has come.
+    has_shown: bool,
     /// The sequence of the header with which a greeting goes on.
     next_header: u32,
     greetings: Allowance,
@@ -57,6 +59,7 @@ impl Conduct {
             feed: Feed::open(alloc)?,
             record: Record {
                 latest: now,
+                has_shown: false,
                 next_header: 1,
                 greetings,
                 frames: Allowance::full(FRAMES, FRAMES_EACH_MILLI, now),
@@ -67,6 +70,11 @@ impl Conduct {
     /// For how long no whole frame has come.
     pub(crate) fn silence(&self, now: Millis) -> Millis {
         now.saturating_sub(self.record.latest)
+    }
+
+    /// Whether it has sent a whole frame.
+    pub(crate) fn has_shown(&self) -> bool {
+        self.record.has_shown
     }
 
     /// What the link's callers may still greet with.
@@ -111,6 +119,7 @@ impl Record {
     /// Notes a whole frame, and says whether it may be sent.
     fn may_send(&mut self, frame: &[u8], now: Millis) -> bool {
         self.latest = now;
+        self.has_shown = true;
         if self.is_greeting(frame) {
             self.next_header = self.next_header.saturating_add(1);
             if self.greetings.spend(EACH_HEADER, now) {

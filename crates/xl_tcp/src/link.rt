@@ -26,10 +26,14 @@ const SILENCE: Millis = 60_000;
 /// The same while another is ready. A member whose network stands still sends a frame in 17 seconds.
 const SILENCE_BEFORE_OTHERS: Millis = 20_000;
 
+/// The same of one that has sent no whole frame yet.
+const SILENCE_AT_FIRST: Millis = 2000;
+
 /// A link to one member over TCP, with one connection at a time. What it gives and takes isn't told.
 ///
 /// An opening lets go of the connection before. It dials, and waits 900 milliseconds for the answer; or it takes the
-/// first ready one of those who dialled in, and doesn't wait: whoever else has dialled waits behind it. It answers
+/// first ready one of those who dialled in, or if none is ready the first that has sent nothing, and doesn't wait:
+/// whoever else has dialled waits behind it. It answers
 /// NotYet if nobody is there: the call is refused, isn't answered in time or can't reach the machine, or nobody calls.
 ///
 /// A read waits a second for a byte, and then 50 milliseconds for more. A write waits until the system takes a byte, and
@@ -38,8 +42,8 @@ const SILENCE_BEFORE_OTHERS: Millis = 20_000;
 /// fails.
 ///
 /// Anybody can call, and the link knows no key. So it lets go of a caller that sends more than a member does, and of
-/// one that has sent no whole frame for a minute, or for 20 seconds while another is ready. A read then says that no
-/// more bytes come.
+/// one that has sent no whole frame for a minute, or for 20 seconds while another is ready, or for two seconds then if
+/// it never sent one. A read then says that no more bytes come.
 #[derive(Drop)]
 pub struct TcpLink<R: Net> {
     alloc: Global,
@@ -91,7 +95,7 @@ impl<R: Net + Clock + Drop> TcpLink<R> {
         }
     }
 
-    /// Serves the first caller that is ready.
+    /// Serves the next caller.
     fn serve_next(&mut self, now: Millis) -> io::Result<Connection<R::Stream>>
         ensures faults { self.new.faults ≡ self.old.faults }
     {
@@ -124,13 +128,22 @@ impl<R: Net + Clock + Drop> TcpLink<R> {
     {
         let now = millis_of(&self.net)?;
         let silence = self.silence(now);
-        if silence < SILENCE_BEFORE_OTHERS {
+        if silence < self.silence_before_others() {
             return Ok(false);
         }
         if let Address::Bound(listener) = &self.address {
             self.callers.admit(listener, now)?;
         }
         Ok(silence >= SILENCE || self.callers.is_any_ready())
+    }
+
+    /// For how long the caller that is served may be silent while another is ready.
+    fn silence_before_others(&self) -> Millis {
+        let conduct = self.connection.as_ref().and_then(|it| it.conduct());
+        match conduct.map_or(true, |it| it.has_shown()) {
+            true => SILENCE_BEFORE_OTHERS,
+            false => SILENCE_AT_FIRST,
+        }
     }
 
     /// For how long a caller that is served has sent no whole frame.

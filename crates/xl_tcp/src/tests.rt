@@ -330,6 +330,32 @@ fn who_shows_no_frame_is_passed_over(rt: HostRuntime) -> Result<(), Fail> {
     Ok(())
 }
 
+#[test]
+fn who_has_nothing_to_say_is_served(rt: HostRuntime) -> Result<(), Fail> {
+    let clock = SystemClock::new(rt.clone()?);
+    let Some((mut listening, mut gone)) = pair(&rt)? else {
+        return Err(Fail::from("no link on loopback"));
+    };
+    let mut quiet = another(&rt, &listening)?;
+    let mut member = another(&rt, &listening)?;
+    assert!(rt; opens(&clock, &mut gone));
+    drop(gone);
+    assert!(rt; opens(&clock, &mut quiet));
+    assert!(rt; opens(&clock, &mut listening));
+    let mut room = [0; FRAME];
+    assert!(rt; listening.read(&mut room) == LinkRead::Idle);
+    // While it is silent, a member that shows a frame comes first.
+    assert!(rt; gives(&clock, &mut member, &front()));
+    for _ in 0..4 {
+        if listening.read(&mut room) == LinkRead::End {
+            break;
+        }
+    }
+    assert_eq!(rt; takes(&clock, &mut listening, &mut room), FRAME);
+    assert!(rt; room == front());
+    Ok(())
+}
+
 /// Gives so many frames, and says how many were taken before the connection ended.
 fn gives_frames<L: Link>(link: &mut L, frame: &[u8], count: u32) -> u32 {
     for given in 0..count {

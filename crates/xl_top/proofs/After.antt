@@ -1,10 +1,11 @@
 -- What a status says of the run that it stands for.
-use Rattle.std.proofs.Common.{◌≡◌, ◌≢◌, ◌<◌, ◌++◌, length, length-append, arith, ℕ, List, Option, Some, None, Result, Ok, Err, IfSome, ◌⊎◌, inl, inr, refl, sym, ap, ◌∙◌}
+use Rattle.std.proofs.Common.{◌≡◌, ◌≢◌, ◌<◌, ◌++◌, length, length-append, arith, ℕ, List, [], Option, Some, None, Result, Ok, Err, IfSome, ◌⊎◌, inl, inr, refl, sym, ap, subst, ◌∙◌, ⊎_elim}
 use Rattle.std.specs.Prelude.{IfOk, IfErr, IsErrOf}
-use Rattle.std.specs.Io.KnownBytes.{append_known}
+use Rattle.std.specs.Io.KnownBytes.{append_known, IsAtEnd}
+use Rattle.xl_base.specs.Faults.{Rose}
 use Rattle.xl_base.specs.declared.status.Status.{Status}
-use Rattle.xl_base.specs.declared.status.Status.TheVariants.{Done, Fork, WordsRefused, InputRefused, ReadFault, WriteFault, OutOfMemory}
-use Rattle.xl_io.specs.Sinks.{GrewByLess}
+use Rattle.xl_base.specs.declared.status.Status.TheVariants.{Done, Fork, WordsRefused, InputRefused, ReadFault, WriteFault, OutOfMemory, KeepFault, NetFault, StoreFull}
+use Rattle.xl_io.specs.Sinks.{GrewByFront, GrewByLess}
 use Rattle.xl_lines.specs.declared.fault.Fault.{Fault}
 use Rattle.xl_lines.specs.declared.fault.Fault.TheVariants.{Read, Write, Memory}
 use Rattle.xl_lines.specs.declared.machine.Verdict.{Verdict}
@@ -12,7 +13,20 @@ use Rattle.xl_lines.specs.declared.machine.Verdict.TheVariants.{Good, Found, Ref
 use Rattle.xl_lines.specs.Rules.{Told}
 use Rattle.xl_lines.specs.Running.{TellsAll}
 use Rattle.xl_replay.specs.Statuses.{IsTold, IsReplayed, IsWritten, status_of}
-use Rattle.xl_top.specs.Commands.{status_after}
+use Rattle.xl_replay.proofs.Headline.{nothing_written}
+use Rattle.xl_io.proofs.Growing.{append_known-none}
+use Rattle.xl_words.specs.declared.command.Telling.{Telling}
+use Rattle.xl_words.specs.declared.command.Telling.TheVariants.{Replay}
+use Rattle.xl_top.specs.Commands.{status_after, told_by, ReadsAll, IsEnded}
+use Rattle.xl_top.specs.Texts.{Streams, WritesText, HasCause}
+
+pub if_any : {X : Type 0} (o : Option X) (P : X → Type 0) → ((x : X) → P x) → IfSome o P
+if_any None P all = tt
+if_any (Some x) P all = all x
+
+-- nothing is written
+pub front_none : (held : Option (List ℕ)) (text : List ℕ) → GrewByFront held held text
+front_none held text = record { written = []; missing = text; parts = refl; held = sym (append_known-none held) }
 
 module _ (left held held' : Option (List ℕ)) (told : List ℕ → Told) where
   -- the whole text is written, and the verdict is its own
@@ -100,14 +114,6 @@ known_after (Err Read) = tt
 known_after (Err Write) = tt
 known_after (Err Memory) = tt
 
-pub taken_after : (r : Result Verdict Fault) → status_after r ≢ WordsRefused
-taken_after (Ok Good) = λ is. cc
-taken_after (Ok Found) = λ is. cc
-taken_after (Ok Refused) = λ is. cc
-taken_after (Err Read) = λ is. cc
-taken_after (Err Write) = λ is. cc
-taken_after (Err Memory) = λ is. cc
-
 abbrev len_known : Option (List ℕ) → ℕ
 len_known None = 0
 len_known (Some xs) = length xs
@@ -182,3 +188,81 @@ said (Some bytes) P says = λ _. says
 pub held_same : {K : Type 0} (r : Result Verdict Fault) (old new : K) (held : K → Option (List ℕ)) → IfErr r (λ fault. fault ≢ Write → new ≡ old) → Unwritten (held old) (held new) r
 held_same (Ok v) old new held same = tt
 held_same (Err fault) old new held same = λ other. ap held (same other)
+
+-- what is shown of a command whose answer is a verdict or a fault
+pub record Ends (telling : Telling) (old new : Streams) (r : Result Verdict Fault) : Type 0 where
+  pub whole : Whole old.left old.held new.held (told_by telling) r
+  pub at_end : (status_after r ≡ Done) ⊎ (status_after r ≡ Fork) → ReadsAll telling (status_after r) → IsAtEnd new.left
+  pub front : IfSome old.left (λ bytes. GrewByFront old.held new.held (told_by telling bytes).text)
+  pub only : IfErr r (λ fault. (Rose old.reads new.reads → ⊥) → (Rose old.writes new.writes → ⊥) → fault ≡ Memory)
+  pub ends : IfSome old.left (λ bytes. IsEnded telling (told_by telling bytes).text old.reads new.reads
+      → IsWritten old.held new.held (told_by telling bytes).text
+      → (status_after r ≡ status_of (told_by telling bytes).verdict) ⊎ (status_after r ≡ OutOfMemory))
+
+-- such a command writes its text
+writes_after : (telling : Telling) (old new : Streams) (r : Result Verdict Fault) → (telling ≢ Replay) → Ends telling old new r → WritesText telling old new (status_after r)
+writes_after telling old new r other e = record {
+  done = done_after old.left old.held new.held (told_by telling) r e.whole;
+  fork = fork_after old.left old.held new.held (told_by telling) r e.whole;
+  refused = refused_after old.left old.held new.held (told_by telling) r e.whole;
+  as_written = λ is. absurd (other is);
+  at_end = e.at_end;
+  front = e.front;
+  complete = complete_after r _ _ e.only;
+  whole = e.ends;
+}
+
+pub writes_by : (telling at : Telling) (old new : Streams) (s : Status) (r : Result Verdict Fault) → telling ≡ at → (at ≢ Replay) → s ≡ status_after r → Ends at old new r → WritesText telling old new s
+writes_by telling at old new s r is other ends e =
+    subst (λ (t : Telling). WritesText t old new s) (sym is)
+    (subst (WritesText at old new) (sym ends) (writes_after at old new r other e))
+
+-- a status that names a fault has its cause
+pub cause_after : (s : Status) (r : Result Verdict Fault) (A B : Type 0) → s ≡ status_after r → (IsErrOf r Read → A) → (IsErrOf r Write → B) → HasCause s A B ⊥ ⊥
+cause_after s r A B is read write = subst (λ (x : Status). HasCause x A B ⊥ ⊥) (sym is) (go r read write)
+  where
+    go : (r : Result Verdict Fault) → (IsErrOf r Read → A) → (IsErrOf r Write → B) → HasCause (status_after r) A B ⊥ ⊥
+    go (Ok Good) read write = tt
+    go (Ok Found) read write = tt
+    go (Ok Refused) read write = tt
+    go (Err Read) read write = read refl
+    go (Err Write) read write = write refl
+    go (Err Memory) read write = tt
+
+pub cause_of : (s : Status) (A B C D : Type 0) → (s ≡ ReadFault → A) → (s ≡ WriteFault → B) → (s ≡ KeepFault → C) → (s ≡ NetFault → D) → HasCause s A B C D
+cause_of Done A B C D read write keep net = tt
+cause_of Fork A B C D read write keep net = tt
+cause_of WordsRefused A B C D read write keep net = tt
+cause_of InputRefused A B C D read write keep net = tt
+cause_of ReadFault A B C D read write keep net = read refl
+cause_of WriteFault A B C D read write keep net = write refl
+cause_of OutOfMemory A B C D read write keep net = tt
+cause_of KeepFault A B C D read write keep net = keep refl
+cause_of NetFault A B C D read write keep net = net refl
+cause_of StoreFull A B C D read write keep net = tt
+
+-- what no other call can cause has the cause of these two
+pub cause_among : (s : Status) (A B C D : Type 0) → HasCause s A B ⊥ ⊥ → HasCause s A B C D
+cause_among Done A B C D cause = tt
+cause_among Fork A B C D cause = tt
+cause_among WordsRefused A B C D cause = tt
+cause_among InputRefused A B C D cause = tt
+cause_among ReadFault A B C D cause = cause
+cause_among WriteFault A B C D cause = cause
+cause_among OutOfMemory A B C D cause = tt
+cause_among KeepFault A B C D cause = absurd cause
+cause_among NetFault A B C D cause = absurd cause
+cause_among StoreFull A B C D cause = tt
+
+-- nothing is written if memory runs out before the command begins
+pub nothing_done : (telling : Telling) (at : Streams) → WritesText telling at at OutOfMemory
+nothing_done telling at = record {
+  done = λ is. cc;
+  fork = λ is. cc;
+  refused = λ is. cc;
+  as_written = λ _. nothing_written at.left at.held;
+  at_end = λ ends. ⊎_elim (λ is. absurd cc) (λ is. absurd cc) ends;
+  front = if_any at.left _ (λ bytes. front_none at.held _);
+  complete = λ _ _. inr refl;
+  whole = if_any at.left _ (λ bytes _ _. inr refl);
+}

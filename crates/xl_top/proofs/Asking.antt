@@ -2,21 +2,16 @@
 use Rattle.std.proofs.Common.{◌≡◌, ◌≢◌, ℕ, List, [], Option, Some, None, Result, Ok, Err, IfSome, ◌⊎◌, inl, inr, refl, sym, subst}
 use Rattle.std.specs.Prelude.{IfOk, IfErr, IsErrOf}
 use Rattle.xl_base.specs.declared.status.Status.TheVariants.{OutOfMemory}
-use Rattle.xl_io.specs.Sinks.{GrewByFront, GrewByLess}
-use Rattle.xl_io.proofs.Growing.{append_known-none}
+use Rattle.xl_io.specs.Sinks.{GrewByLess}
 use Rattle.xl_lines.specs.declared.fault.Fault.{Fault}
 use Rattle.xl_lines.specs.declared.fault.Fault.TheVariants.{Read, Write, Memory}
 use Rattle.xl_lines.specs.declared.machine.Verdict.{Verdict}
 use Rattle.xl_lines.specs.Rules.{Told}
 use Rattle.xl_lines.specs.Running.{TellsAll}
-use Rattle.xl_top.proofs.After.{Whole, Less}
+use Rattle.xl_top.proofs.After.{Whole, Less, if_any}
 use Rattle.xl_words.specs.declared.command.Command.{Command}
 use Rattle.xl_words.specs.declared.command.WordsFault.{WordsFault}
 use Rattle.xl_words.specs.declared.command.WordsFault.TheVariants.{Refused as WordsRefused, Memory as NoMemory}
-
-pub if_any : {X : Type 0} (o : Option X) (P : X → Type 0) → ((x : X) → P x) → IfSome o P
-if_any None P all = tt
-if_any (Some x) P all = all x
 
 -- the command that is asked
 pub by_asked : {X : Type 0} (o : Option X) (c : X) (P : X → Type 0) → o ≡ Some c → P c → IfSome o P
@@ -33,14 +28,6 @@ unasked (Some c) r is given = go (given c refl)
 
 pub by_none : {X : Type 0} (o : Option X) (P : X → Type 0) → o ≡ None → IfSome o P
 by_none o P none = rw none tt
-
--- a command that is asked isn't refused as one
-pub taken : (o : Option Command) (P : Type 0) → (P → ⊥) → P → o ≡ None
-taken o P not_refused was = absurd (not_refused was)
-
--- nothing is written
-pub front_none : (held : Option (List ℕ)) (text : List ℕ) → GrewByFront held held text
-front_none held text = record { written = []; missing = text; parts = refl; held = sym (append_known-none held) }
 
 -- a text that no bytes are read for
 pub whole_of : (left held held' : Option (List ℕ)) (told : Told) (r : Result Verdict Fault) → IfOk r (λ verdict. TellsAll held held' verdict told) → Whole left held held' (λ bytes. told) r

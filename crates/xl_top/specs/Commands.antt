@@ -56,6 +56,13 @@ ReadsAll Version status = ⊥
 ReadsAll Audit status = status ≡ Done
 ReadsAll command status = Unit {0}
 
+-- the command needs no input
+abbrev pub ReadsNothing : Telling → Type 0
+ReadsNothing (Gen rounds) = Unit {0}
+ReadsNothing Help = Unit {0}
+ReadsNothing Version = Unit {0}
+ReadsNothing command = ⊥
+
 -- What shows that a text that is written whole is at its end, by the counts of the input's faults before and after.
 -- The text of `lists` is empty where no node is declared. The last line of `merge` is written before the input's end is
 -- read, so a read may fail behind it

@@ -1,14 +1,12 @@
 // A text that a command writes, from its input to its status.
-ghost use Rattle.std.specs.Prelude.{◌≡◌, ◌≢◌, ◌≤◌, ◌⊎◌, min, IfOk, IfSome, IsErrOf};
-ghost use Rattle.std.specs.Io.KnownBytes.{IsAtEnd};
+ghost use Rattle.std.specs.Prelude.{◌≡◌, min, IfOk, IsErrOf};
 ghost use Rattle.xl_base.specs.Faults.{Rose};
 ghost use Rattle.xl_gen.specs.Summaries.{summary};
 ghost use Rattle.xl_io.specs.Sinks.{GrewByFront, GrewByLess};
 ghost use Rattle.xl_lines.specs.Running.{TellsAll};
-ghost use Rattle.xl_replay.specs.Headlines.{names_of, AddsReport};
-ghost use Rattle.xl_replay.specs.Replays.{report_of};
-ghost use Rattle.xl_replay.specs.Statuses.{IsTold, IsReplayed, IsWritten, status_of};
-ghost use Rattle.xl_top.specs.Commands.{told_by, ReadsAll, IsEnded};
+ghost use Rattle.xl_replay.specs.Statuses.{IsReplayed};
+ghost use Rattle.xl_top.specs.Commands.{ReadsNothing};
+ghost use Rattle.xl_top.specs.Texts.{WritesText, HasCause, streams};
 
 use crate::ending::status_after;
 use crate::telling::{help, version};
@@ -31,27 +29,13 @@ pub fn run<I: Source, O: Sink>(
     input: &mut I,
     output: &mut O,
 ) -> Status
-    ensures words { result ≢ Status.WordsRefused }
-    ensures done { result ≡ Status.Done → IfSome (I.left input.old) (λ bytes.
-        TellsAll (O.held output.old) (O.held output.new) Verdict.Good (told_by telling bytes)) }
-    ensures fork { result ≡ Status.Fork → IfSome (I.left input.old) (λ bytes.
-        TellsAll (O.held output.old) (O.held output.new) Verdict.Found (told_by telling bytes)) }
-    ensures refused { result ≡ Status.InputRefused → IfSome (I.left input.old) (λ bytes.
-        TellsAll (O.held output.old) (O.held output.new) Verdict.Refused (told_by telling bytes)) }
-    ensures as_written { telling ≡ Telling.Replay → IfSome (I.left input.old) (λ bytes.
-        AddsReport (names_of bytes) (O.held output.old) (O.held output.new) (report_of bytes)) }
-    ensures at_end { (result ≡ Status.Done) ⊎ (result ≡ Status.Fork)
-        → ReadsAll telling result → IsAtEnd (I.left input.new) }
-    ensures front { IfSome (I.left input.old) (λ bytes.
-        GrewByFront (O.held output.old) (O.held output.new) (told_by telling bytes).text) }
-    ensures read { result ≡ Status.ReadFault → Rose (I.faults input.old) (I.faults input.new) }
-    ensures write { result ≡ Status.WriteFault → Rose (O.faults output.old) (O.faults output.new) }
-    ensures complete { ¬ Rose (I.faults input.old) (I.faults input.new)
-        → ¬ Rose (O.faults output.old) (O.faults output.new) → IsTold result ⊎ (result ≡ Status.OutOfMemory) }
-    ensures whole { IfSome (I.left input.old) (λ bytes.
-        IsEnded telling (told_by telling bytes).text (I.faults input.old) (I.faults input.new)
-        → IsWritten (O.held output.old) (O.held output.new) (told_by telling bytes).text
-        → (result ≡ status_of (told_by telling bytes).verdict) ⊎ (result ≡ Status.OutOfMemory)) }
+    ensures writes { WritesText telling
+        (streams (I.left input.old) (I.faults input.old) (O.held output.old) (O.faults output.old))
+        (streams (I.left input.new) (I.faults input.new) (O.held output.new) (O.faults output.new)) result }
+    ensures cause { HasCause result (Rose (I.faults input.old) (I.faults input.new))
+        (Rose (O.faults output.old) (O.faults output.new)) ⊥ ⊥ }
+    // A command that needs no input reads none.
+    ensures unread { ReadsNothing telling → input.new ≡ input.old }
     ensures known { IsReplayed result }
 {
     match telling {

@@ -1,11 +1,12 @@
 use Rattle.std.proofs.Common.{◌≡◌, ◌+◌, List, ℕ, ◌++◌, length, take, drop, sym, ap, ◌∙◌, arith, append_assoc, length-append}
-use Rattle.std.proofs.lemmas.List.{take-append-drop}
+use Rattle.std.proofs.lemmas.List.{take-append-drop, length-take}
 use Rattle.xl_lines.specs.Rules.{refused}
 use Rattle.xl_lines.proofs.Runs.{write_from}
 use Rattle.xl_lines.proofs.Telling.{tells_from, tells_none, tells_refused, front_from, less_from}
 use Rattle.xl_show.specs.Shown.{told_from}
 use Rattle.xl_show.specs.Texts.{limit_line}
 use Rattle.xl_show.specs.declared.limits.TheConstants.{MOST_BYTES}
+use Rattle.xl_show.proofs.Short.{need_fits}
 use Rattle.xl_show.proofs.Telling.{told_limit}
 use Rattle.xl_show.proofs.frames.Frames.take.Goals as goal
 use Rattle.xl_show.proofs.frames.Frames.take.Goals.{Then-room-eq0}
@@ -44,3 +45,9 @@ returns-clause-ok g c = λ rest.
     let self = c.args.self.now in
     let new = c.put.new.self in
     tells_from (taken self.place self.count new.place new.count c.min-count.result self.begun.items new.begun.items c.args.bytes.now rest c.in_ok-put.ensures.begun c.in_ok-put.ensures.place c.in_ok-put.ensures.count) (tells_none _ _)
+
+pub put-requires-clause-short : goal.put-requires-clause-short
+put-requires-clause-short g c =
+    let self = c.args.self.now in
+    let fits = need_fits self.begun.items c.args.lack c.requires.lacks in
+    omega (arith, fits, self.begun.ok.0, length-take c.min-count.result c.args.bytes.now, c.min.ensures, c.min-count.ensures)
