@@ -1,5 +1,5 @@
 -- What the status of a run says of its end.
-use Rattle.std.proofs.Common.{◌≡◌, ◌≢◌, ℕ, List, subst}
+use Rattle.std.proofs.Common.{◌≡◌, ◌≢◌, ◌≤◌, ℕ, true, List, ap, arith, subst}
 use Rattle.xl_base.specs.Faults.{Rose}
 use Rattle.xl_base.specs.declared.status.Status.{Status}
 use Rattle.xl_base.specs.declared.status.Status.TheVariants as status
@@ -16,6 +16,7 @@ use Rattle.xl_workers.specs.declared.ends.RunEnd.TheVariants as end
 use Rattle.xl_workers.specs.Runs.{Doing, NodeRun, EndsBy, status_of_end}
 use Rattle.xl_workers.specs.Sharing.{Setting, IsOutput}
 use Rattle.xl_base.specs.declared.ids.TxId.{TxId}
+use Rattle.xl_validator.specs.Recordings.{is_over}
 use Rattle.xl_validator.specs.Validators.{IsOfNode}
 
 -- a status of a heartbeat and of the last reports
@@ -109,3 +110,30 @@ net_by s d history done submits (end.StoreFull n) by is = absurd cc
 pub net_cause : (s : Setting) (d : Doing) (e : RunEnd) (history : List Entry) → NodeRun s d e history
     → status_of_end e ≡ status.NetFault → Rose d.old_faults d.new_faults
 net_cause s d e history run is = net_by s d history run.done run.submits e run.by is
+
+-- a run that is over wrote all, or nothing
+all_written : (text : List ℕ) (old new : Output) (s : Status) → is_over s ≡ true → IsOutput s text old new
+    → old.faults ≤ new.faults
+all_written text old new status.Done over out = out.later
+all_written text old new status.StoreFull over out = out.later
+all_written text old new status.Fork over out = absurd cc
+all_written text old new status.WordsRefused over out = absurd cc
+all_written text old new status.InputRefused over out = absurd cc
+all_written text old new status.ReadFault over out = absurd cc
+all_written text old new status.WriteFault over out = absurd cc
+all_written text old new status.OutOfMemory over out = absurd cc
+all_written text old new status.KeepFault over out = absurd cc
+all_written text old new status.NetFault over out = absurd cc
+
+later_by : (s : Setting) (d : Doing) (history : List Entry) (done : List TxId) (submits : List ℕ) (e : RunEnd)
+    → EndsBy s d history done submits e → is_over (status_of_end e) ≡ true → d.old_output.faults ≤ d.new_output.faults
+later_by s d history done submits (end.Ran beats last) by over =
+    all_written _ d.old_output d.new_output (status_of_run beats last) over by.1.written
+later_by s d history done submits end.NetFault by over = absurd cc
+later_by s d history done submits end.OutOfMemory by over = absurd cc
+later_by s d history done submits (end.StoreFull n) by over =
+    let same : d.new_output.faults ≡ d.old_output.faults = ap (λ (o : Output). o.faults) by.1.silent in omega (arith, same)
+
+pub later_cause : (s : Setting) (d : Doing) (e : RunEnd) (history : List Entry) → NodeRun s d e history
+    → is_over (status_of_end e) ≡ true → d.old_output.faults ≤ d.new_output.faults
+later_cause s d e history run over = later_by s d history run.done run.submits e run.by over

@@ -1,5 +1,5 @@
 -- What a run leaves.
-use Rattle.std.proofs.Common.{◌≡◌, Bool, ◌≤◌, ℕ, List, length, Option, Some, None, IfSome, sym, ◌∙◌, subst}
+use Rattle.std.proofs.Common.{◌≡◌, Bool, ◌≤◌, ℕ, List, length, Option, Some, None, IfSome, ap, sym, ◌∙◌, subst}
 use Rattle.xl_base.specs.declared.status.Status.{Status}
 use Rattle.xl_base.specs.declared.status.Status.TheVariants as status
 use Rattle.xl_io.specs.Keepers.{Held}
@@ -16,9 +16,10 @@ use Rattle.xl_settings.specs.declared.settings.Settings.{Settings}
 use Rattle.xl_validator.specs.ListsSet.{IsEverKeyed}
 use Rattle.xl_validator.specs.Openings.{Task, opening_core, task_of}
 use Rattle.xl_validator.specs.Preparing.{Leaves}
+use Rattle.xl_validator.specs.Recordings.{is_over}
 use Rattle.xl_validator.specs.Validators.{Between, Goes, HasRun, IsOfNode, Loads}
 use Rattle.xl_validator.proofs.SettingLists.{are_set, some_both}
-use Rattle.xl_validator.proofs.Causes.{known_end, keeps_no_fault, write_cause, net_cause}
+use Rattle.xl_validator.proofs.Causes.{known_end, keeps_no_fault, write_cause, net_cause, later_cause}
 
 module _ {K O : Type 0}
     (held_by : K → Option Held) (saves_of : K → Option (List ℕ)) (faults_of : K → ℕ)
@@ -55,6 +56,7 @@ module _ {K O : Type 0}
         write = λ other. write_cause _ _ e history run (sym is ∙ other);
         keeper = λ other. keeps_no_fault e (sym is ∙ other);
         net = λ other. net_cause _ _ e history run (sym is ∙ other);
+        later = λ over. later_cause _ _ e history run (ap is_over (sym is) ∙ over);
       })
 
   -- nothing ran
@@ -69,6 +71,7 @@ module _ {K O : Type 0}
         write = λ other. absurd cc;
         keeper = λ other. cc;
         net = λ other. absurd cc;
+        later = λ over. absurd cc;
       }))
 
 module _ {K : Type 0}

@@ -5,3 +5,4 @@ pub mod SettingLists
 pub mod Causes
 pub mod Refusing
 pub mod Leaving
+pub mod Behind

@@ -1,6 +1,6 @@
 -- What a whole run of the command comes to, by how its settings were read.
-use Rattle.std.proofs.Common.{◌≡◌, ◌≢◌, ℕ, Bool, true, List, [], Option, Some, None, Result, Ok, Err, IfSome, refl, sym, subst}
-use Rattle.std.specs.Prelude.{IfOk, IfErr, IsErr}
+use Rattle.std.proofs.Common.{◌≡◌, ◌≢◌, ℕ, Bool, true, false, List, [], Option, Some, None, Result, Ok, Err, IfSome, inl, inr, refl, sym, subst, ⊎_elim}
+use Rattle.std.specs.Prelude.{◌⊎◌, IfOk, IfErr, IsErr}
 use Rattle.xl_base.specs.declared.status.Status.{Status}
 use Rattle.xl_base.specs.declared.status.Status.TheVariants as status
 use Rattle.xl_io.specs.Keepers.{Held}
@@ -15,7 +15,8 @@ use Rattle.xl_settings.specs.declared.settings.Settings.{Settings}
 use Rattle.xl_settings.specs.Answers.{GivenBytes}
 use Rattle.xl_settings.specs.Lines.{refusal_line}
 use Rattle.xl_settings.specs.Settings.{settings_of}
-use Rattle.xl_validator.specs.Validators.{Between, HasRun, IsOfNode, IsRefused, Judges}
+use Rattle.xl_validator.specs.Recordings.{is_written}
+use Rattle.xl_validator.specs.Validators.{Between, HasRecorded, HasRun, IsOfNode, IsRefused, IsUnopened, Judges}
 
 front_none : (held : Option (List ℕ)) (text : List ℕ) → GrewByFront held held text
 front_none held text = record { written = []; missing = text; parts = refl; held = sym (append_known-none held) }
@@ -75,24 +76,32 @@ module _ {K O : Type 0}
 
   -- the settings are those, and a node ran by them, or nothing was written
   pub judged_right : (s : Settings) → IfSome input (λ bytes. settings_of bytes moment ≡ Ok s)
-      → IfSome journal (λ history. HasRun held_by saves_of faults_of load_gives save_gives
-      s moment may_give links outside old new end history)
-      → (journal ≡ None → new_output ≡ old_output) → IsOfNode end → AreJudged
+      → IfSome journal (λ history. (is_written s.journal end ≡ false)
+      × HasRun held_by saves_of faults_of load_gives save_gives s moment may_give links outside old new end history)
+      → (journal ≡ None → (IsUnopened end × (new_output ≡ old_output))
+      ⊎ HasRecorded held_by saves_of faults_of load_gives save_gives s moment may_give links outside old new end)
+      → IsOfNode end → AreJudged
   judged_right s are ran unopened known = record {
     moment = moment;
     given = given;
     refused = some_map input (λ bytes is. no_err (settings_of bytes moment) s is _) are;
     told = λ is. absurd (not_refused end known is);
-    ran = some_map journal (λ history run. (s, are, run)) ran;
-    unopened = some_map input (λ bytes is. ok_then (settings_of bytes moment) s is _ unopened) are;
+    ran = some_map journal (λ history run. (s, are, run.0, run.1)) ran;
+    unopened = λ none. ⊎_elim
+        (λ nothing. inl (
+          nothing.0,
+          some_map input (λ bytes is. ok_then (settings_of bytes moment) s is (λ _. new_output ≡ old_output) nothing.1) are,
+        ))
+        (λ recorded. inr (s, are, recorded))
+        (unopened none);
   }
 
   -- they are refused, and their line was told
   pub judged_refused : (fault : SettingsFault) (why : SettingsRefusal) (told : Status) → fault ≡ Refused why
       → IfSome input (λ bytes. GivenBytes (Err fault) (settings_of bytes moment))
-      → journal ≡ None → end ≡ told
+      → journal ≡ None → end ≡ told → (told ≡ status.InputRefused) ⊎ (told ≡ status.WriteFault)
       → IsRefused (refusal_line why) told outside.old_output.held outside.new_output.held → AreJudged
-  judged_refused fault why told is given_by none same line =
+  judged_refused fault why told is given_by none same known line =
       let are : IfSome input (λ bytes. settings_of bytes moment ≡ Err why) =
       subst (λ (f : SettingsFault). IfSome input (λ bytes. GivenBytes (Err f) (settings_of bytes moment))) is given_by in
       let line' : IsRefused (refusal_line why) end outside.old_output.held outside.new_output.held =
@@ -104,13 +113,16 @@ module _ {K O : Type 0}
         refused = some_map input (λ bytes e. err_then (settings_of bytes moment) why e _ (none, line')) are;
         told = λ told. some_map input (λ bytes e. is_err (settings_of bytes moment) why e) are;
         ran = no_run _ journal none;
-        unopened = some_map input (λ bytes e. no_ok (settings_of bytes moment) why e _) are;
+        unopened = λ _. inl (
+          subst IsUnopened (sym same) (⊎_elim (λ e. subst IsUnopened (sym e) tt) (λ e. subst IsUnopened (sym e) tt) known),
+          some_map input (λ bytes e. no_ok (settings_of bytes moment) why e (λ _. new_output ≡ old_output)) are,
+        );
       }
 
   -- they weren't read, and nothing was written
-  pub judged_unread : journal ≡ None → end ≢ status.InputRefused
+  pub judged_unread : journal ≡ None → IsUnopened end → end ≢ status.InputRefused
       → outside.new_output.held ≡ outside.old_output.held → new_output ≡ old_output → AreJudged
-  judged_unread none other held same = record {
+  judged_unread none known other held same = record {
     moment = moment;
     given = given;
     refused = some_any input (λ bytes. any_err (settings_of bytes moment) (λ why. (
@@ -123,5 +135,5 @@ module _ {K O : Type 0}
     )));
     told = λ is. absurd (other is);
     ran = no_run _ journal none;
-    unopened = some_any input (λ bytes. any_ok (settings_of bytes moment) (λ s nothing. same));
+    unopened = λ _. inl (known, some_any input (λ bytes. any_ok (settings_of bytes moment) (λ s. same)));
   }

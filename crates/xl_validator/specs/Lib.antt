@@ -2,4 +2,5 @@ pub mod Openings
 pub mod Contacts
 pub mod Preparing
 pub mod ListsSet
+pub mod Recordings
 pub mod Validators

@@ -1,6 +1,6 @@
 -- A core at its opening, and what is run with it. Source: what the code of this crate relies on. No public clause cites
 -- this file.
-use Rattle.std.specs.Prelude.{◌≡◌, ◌≢◌, ℕ, Bool, ◌<◌, ◌≤◌, ◌^◌, List, nat_eq, length, map, None, IsSome, IfSome}
+use Rattle.std.specs.Prelude.{◌≡◌, ◌≢◌, ℕ, Bool, true, ◌<◌, ◌≤◌, ◌^◌, List, nat_eq, length, map, None, IsSome, IfSome}
 use Rattle.std.specs.declared.option.Option.{Option}
 use Rattle.std.specs.List.{AllByRecursion, IsDistinct}
 use Rattle.xl_base.specs.Faults.{Rose}
@@ -19,6 +19,7 @@ use Rattle.xl_workers.specs.Linking.{contact_of}
 use Rattle.xl_validator.specs.declared.preparing.Prepared.{Prepared}
 use Rattle.xl_validator.specs.Contacts.{IsNumber}
 use Rattle.xl_validator.specs.Openings.{Task, number_of}
+use Rattle.xl_validator.specs.Recordings.{is_over}
 use Rattle.xl_validator.specs.Validators.{Between, Goes, IsOfNode, IsUnopened}
 
 -- what a plan is to do
@@ -59,3 +60,4 @@ pub record Leaves {K O : Type 0}
   pub write : end ≡ status.WriteFault → Rose outside.old_output.faults outside.new_output.faults
   pub keeper : end ≢ status.KeepFault
   pub net : end ≡ status.NetFault → Rose outside.old_faults outside.new_faults
+  pub later : is_over end ≡ true → outside.old_output.faults ≤ outside.new_output.faults

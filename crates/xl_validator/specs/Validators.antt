@@ -1,5 +1,5 @@
 -- A whole run of the command `node`. Source: this project's own.
-use Rattle.std.specs.Prelude.{◌≡◌, ℕ, ◌≤◌, Bool, true, List, length, None, Ok, IsErr, IfSome, IfOk, IfErr, option_map}
+use Rattle.std.specs.Prelude.{◌≡◌, ◌⊎◌, ℕ, ◌≤◌, Bool, true, false, List, length, None, Ok, IsErr, IfSome, IfOk, IfErr, option_map}
 use Rattle.std.specs.declared.option.Option.{Option}
 use Rattle.std.specs.Io.KnownBytes.{append_known}
 use Rattle.xl_base.specs.declared.status.Status.{Status}
@@ -21,6 +21,7 @@ use Rattle.xl_workers.specs.Sharing.{setting}
 use Rattle.xl_core.specs.Core.{Core}
 use Rattle.xl_validator.specs.ListsSet.{AreSet}
 use Rattle.xl_validator.specs.Openings.{Task, opening_core, task_of}
+use Rattle.xl_validator.specs.Recordings.{IsWritten, is_written, text_of}
 
 -- of the line that tells a refusal a front is written, and with the status of a refusal all of it
 pub record IsRefused (line : List ℕ) (end : Status) (old new : Option (List ℕ)) : Type 0 where
@@ -47,6 +48,20 @@ between old_faults new_faults old_held old_writes new_held new_writes = record {
   old_output = output old_held old_writes;
   new_output = output new_held new_writes;
 }
+
+-- a status of this command where no store was opened
+abbrev pub IsUnopened : Status → Type 0
+IsUnopened status.Done = ⊥
+IsUnopened status.Fork = ⊥
+IsUnopened status.WordsRefused = ⊥
+IsUnopened status.NetFault = ⊥
+IsUnopened status.StoreFull = ⊥
+IsUnopened other = Unit {0}
+
+-- no store was opened, and unless the settings were refused nothing was written
+abbrev pub IsUnopenedAt : Option (List ℕ) → ℕ → Status → Type 0 → Type 0
+IsUnopenedAt input moment end silent =
+    IsUnopened end × IfSome input (λ bytes. IfOk (settings_of bytes moment) (λ _. silent))
 
 module _ {K : Type 0}
     (held_by : K → Option Held) (saves_of : K → Option (List ℕ)) (faults_of : K → ℕ)
@@ -86,13 +101,31 @@ module _ {K : Type 0}
         (opening_core s moment kept) (task_of s moment) may_give links outside loaded new end history
     pub set : AreSet s.publishing (opening_core s moment kept) history
 
-  -- a node ran by the settings that the input held at the moment of its opening
+  -- a node ran by the settings that the input held at the moment of its opening, and its journal isn't written
   abbrev pub IsNodeRun : Option (List ℕ) → ℕ → (ℕ → Bool) → (ℕ → Option Wire) → Between → K → K → Status → List Entry
       → Type 0
   IsNodeRun input moment may_give links outside old new end history =
       (s : Settings)
       × IfSome input (λ bytes. settings_of bytes moment ≡ Ok s)
+      × (is_written s.journal end ≡ false)
       × HasRun s moment may_give links outside old new end history
+
+  -- A node ran by these settings up to an output, and ended so that its journal is written behind it
+  pub record HasRecorded (s : Settings) (moment : ℕ) (may_give : ℕ → Bool) (links : ℕ → Option Wire) (outside : Between)
+      (old new : K) (end : Status) : Type 0 where
+    pub history : List Entry
+    pub ended : Status
+    pub reported : Output
+    pub asked : is_written s.journal ended ≡ true
+    pub run : HasRun s moment may_give links (record outside { new_output = reported }) old new ended history
+    pub text : IsWritten (text_of s moment run.kept history) ended end reported outside.new_output
+
+  -- by the settings that the input held
+  abbrev pub IsRecordedRun : Option (List ℕ) → ℕ → (ℕ → Bool) → (ℕ → Option Wire) → Between → K → K → Status → Type 0
+  IsRecordedRun input moment may_give links outside old new end =
+      (s : Settings)
+      × IfSome input (λ bytes. settings_of bytes moment ≡ Ok s)
+      × HasRecorded s moment may_give links outside old new end
 
   -- A whole run of the command. There is one moment, which the clock may give, at which the settings are judged and at
   -- which the core is opened
@@ -104,8 +137,9 @@ module _ {K : Type 0}
     pub refused : HasRefused input moment journal end outside.old_output.held outside.new_output.held
     pub told : end ≡ status.InputRefused → IfSome input (λ bytes. IsErr (settings_of bytes moment))
     pub ran : IfSome journal (λ history. IsNodeRun input moment may_give links outside old new end history)
-    pub unopened : IfSome input (λ bytes. IfOk (settings_of bytes moment) (λ _.
-        journal ≡ None → new_output ≡ old_output))
+    -- if no journal is handed back it was written, or no store was opened
+    pub unopened : journal ≡ None → IsUnopenedAt input moment end (new_output ≡ old_output)
+        ⊎ IsRecordedRun input moment may_give links outside old new end
 
 -- a status of this command: it finds no fork, and no words are refused
 abbrev pub IsKnown : Status → Type 0
@@ -120,12 +154,3 @@ IsOfNode status.WordsRefused = ⊥
 IsOfNode status.InputRefused = ⊥
 IsOfNode status.ReadFault = ⊥
 IsOfNode other = Unit {0}
-
--- a status of this command where no store was opened
-abbrev pub IsUnopened : Status → Type 0
-IsUnopened status.Done = ⊥
-IsUnopened status.Fork = ⊥
-IsUnopened status.WordsRefused = ⊥
-IsUnopened status.NetFault = ⊥
-IsUnopened status.StoreFull = ⊥
-IsUnopened other = Unit {0}

@@ -1,15 +1,17 @@
-ghost use Rattle.std.specs.Prelude.{◌≡◌, ◌≤◌, ◌⊎◌, Some, None, IfSome};
+ghost use Rattle.std.specs.Prelude.{◌≡◌, ◌≤◌, ◌⊎◌, Some, None, false, IfSome};
 ghost use Rattle.xl_base.specs.Faults.{Rose};
 ghost use Rattle.xl_base.specs.declared.moments.TheConstants.{GREATEST_MILLIS};
 ghost use Rattle.xl_settings.specs.Lines.{refusal_line};
 ghost use Rattle.xl_settings.specs.Runnable.{AreRunnable};
 ghost use Rattle.xl_workers.specs.Runs.{status_of_end};
 ghost use Rattle.xl_validator.specs.Preparing.{IsReady, Leaves, task_in};
-ghost use Rattle.xl_validator.specs.Validators.{HasRun, IsRefused, Judges, between};
+ghost use Rattle.xl_validator.specs.Recordings.{is_written};
+ghost use Rattle.xl_validator.specs.Validators.{HasRecorded, HasRun, IsRefused, Judges, between};
 ghost use Rattle.xl_validator.specs.Validators.{IsKnown, IsOfNode, IsUnopened};
 
 use crate::ended::Ended;
 use crate::preparing::{Judged, Prepared, prepare};
+use crate::recording::{recorded, recording_of};
 use std::alloc::Global;
 use std::sync::Wait;
 use std::thread::Threads;
@@ -103,13 +105,18 @@ fn start<
 ) -> Ended<K>
     requires runnable { AreRunnable judged.settings }
     requires moment { judged.now ≤ GREATEST_MILLIS }
-    ensures ran { IfSome result.journal (λ history. HasRun K.held K.saves K.faults K.load_gives K.save_gives
+    ensures ran { IfSome result.journal (λ history. (is_written judged.settings.journal result.status ≡ false)
+        × HasRun K.held K.saves K.faults K.load_gives K.save_gives
         judged.settings judged.now (C.may_give clock.now) (H.gives hub.old)
         (between (H.faults hub.old) (H.faults hub.new)
         (O.held output.old) (O.faults output.old) (O.held output.new) (O.faults output.new))
         keeper result.keeper result.status history) }
-    ensures unopened { result.journal ≡ None → output.new ≡ output.old }
-    ensures opened { result.journal ≡ None → IsUnopened result.status }
+    ensures unopened { result.journal ≡ None → (IsUnopened result.status × (output.new ≡ output.old))
+        ⊎ HasRecorded K.held K.saves K.faults K.load_gives K.save_gives
+        judged.settings judged.now (C.may_give clock.now) (H.gives hub.old)
+        (between (H.faults hub.old) (H.faults hub.new)
+        (O.held output.old) (O.faults output.old) (O.held output.new) (O.faults output.new))
+        keeper result.keeper result.status }
     ensures known { IsOfNode result.status }
     ensures write { result.status ≡ Status.WriteFault → Rose (O.faults output.old) (O.faults output.new) }
     ensures keeper { result.status ≡ Status.KeepFault → Rose (K.faults keeper) (K.faults result.keeper) }
@@ -119,8 +126,12 @@ fn start<
     let Ok(kept) = keeper.load() else {
         return Ended::unopened(Status::KeepFault, keeper);
     };
+    let recording = recording_of(&judged.settings, judged.now, kept);
     match prepare(alloc, judged, kept) {
-        Ok(prepared) => run(rt, alloc, prepared, output, keeper, hub, clock),
+        Ok(prepared) => {
+            let ended = run(rt, alloc, prepared, output, keeper, hub, clock);
+            recorded(alloc, recording, ended, output)
+        }
         Err(_) => Ended::unopened(Status::OutOfMemory, keeper),
     }
 }
@@ -130,6 +141,10 @@ fn start<
 /// It asks the clock for the moment of the opening, reads the settings as they are at that moment, loads the kept number
 /// and opens the core at it. It submits the ids, opens a link to each peer, and serves all peers beside the heartbeat
 /// until the run is over. The keeper comes back, and so does the journal of the node's store, if one was opened.
+///
+/// If the settings ask for it, the journal of a run that ended by its time, or since its store had no turn left, isn't
+/// handed back: it is written behind the reports. A write that fails there ends the command with `WriteFault`, and want
+/// of memory with `OutOfMemory`.
 ///
 /// Refused settings end it with `InputRefused` and the one line that names the key.
 pub fn validator<
@@ -149,14 +164,14 @@ pub fn validator<
     clock: &C,
 ) -> Ended<K>
     // Settings are judged at one moment that the clock may give. If they are refused no store is opened, and of their line
-    // a front is written; others run a node that is opened at that moment, or nothing is written.
+    // a front is written; others run a node that is opened at that moment, or nothing is written. The journal of the node
+    // is handed back, or written behind what the node wrote.
     ensures judged { Judges K.held K.saves K.faults K.load_gives K.save_gives
         (I.left input.old) (C.may_give clock.now) (H.gives hub.old)
         (between (H.faults hub.old) (H.faults hub.new)
         (O.held output.old) (O.faults output.old) (O.held output.new) (O.faults output.new))
         output.old output.new keeper result.keeper result.status result.journal }
     // Each status has its cause. An end by time, a failed network and a spent store are those of a node that ran.
-    ensures opened { result.journal ≡ None → IsUnopened result.status }
     ensures known { IsKnown result.status }
     ensures read { result.status ≡ Status.ReadFault → Rose (I.faults input.old) (I.faults input.new) }
     ensures write { result.status ≡ Status.WriteFault → Rose (O.faults output.old) (O.faults output.new) }

@@ -12,6 +12,7 @@ mod contacts;
 mod ended;
 mod keys;
 mod preparing;
+mod recording;
 
 pub use command::validator;
 pub use ended::Ended;

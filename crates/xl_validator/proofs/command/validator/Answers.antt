@@ -1,6 +1,6 @@
-use Rattle.std.proofs.Common.{rules, sym, ◌∙◌, refl}
+use Rattle.std.proofs.Common.{rules, sym, ◌∙◌, refl, subst}
 use Rattle.xl_settings.specs.Lines.{refusal_line}
-use Rattle.xl_validator.specs.Validators.{IsRefused, between}
+use Rattle.xl_validator.specs.Validators.{IsRefused, IsUnopened, between}
 use Rattle.xl_validator.proofs.Refusing.{judged_right, judged_refused, judged_unread}
 use Rattle.xl_validator.proofs.command.validator.Goals as goal
 
@@ -28,7 +28,7 @@ returns-in-Err-Refused-clause-judged g c =
     old new c.args.keeper c.unopened.result.keeper c.unopened.result.status c.unopened.result.journal
     c.now-now.result c.now-now.ensures.may c.in-Err-Refused.field-0 c.in-Err-Refused.refusal c.refuse.result
     c.in-Err-Refused.field-0-is c.in-Err-Refused.ensures.settings c.unopened.ensures.journal c.unopened.ensures.status
-    line
+    c.refuse.ensures.told line
 
 pub returns-in-Err-Read-clause-judged : goal.returns-in-Err-Read-clause-judged
 returns-in-Err-Read-clause-judged g c =
@@ -39,7 +39,7 @@ returns-in-Err-Read-clause-judged g c =
     (g.I.Source.left c.args.input.now) (g.C.Clock.may_give c.args.clock.now) (g.H.Hub.gives c.args.hub.now)
     (between (g.H.Hub.faults c.args.hub.now) (g.H.Hub.faults c.args.hub.now) held faults held faults)
     c.args.output.now c.args.output.now c.args.keeper ended.result.keeper ended.result.status ended.result.journal
-    c.now-now.result c.now-now.ensures.may ended.ensures.journal
+    c.now-now.result c.now-now.ensures.may ended.ensures.journal (subst IsUnopened (sym ended.ensures.status) tt)
     (λ is. let no = sym ended.ensures.status ∙ is in cc) refl refl
 
 pub returns-in-Err-OutOfMemory-clause-judged : goal.returns-in-Err-OutOfMemory-clause-judged
@@ -51,5 +51,5 @@ returns-in-Err-OutOfMemory-clause-judged g c =
     (g.I.Source.left c.args.input.now) (g.C.Clock.may_give c.args.clock.now) (g.H.Hub.gives c.args.hub.now)
     (between (g.H.Hub.faults c.args.hub.now) (g.H.Hub.faults c.args.hub.now) held faults held faults)
     c.args.output.now c.args.output.now c.args.keeper ended.result.keeper ended.result.status ended.result.journal
-    c.now-now.result c.now-now.ensures.may ended.ensures.journal
+    c.now-now.result c.now-now.ensures.may ended.ensures.journal (subst IsUnopened (sym ended.ensures.status) tt)
     (λ is. let no = sym ended.ensures.status ∙ is in cc) refl refl

@@ -1,0 +1,135 @@
+// The journal that is written behind a run.
+ghost use Rattle.std.specs.Prelude.{◌≡◌, ◌≤◌, None, Some, true, false, IsSome, IfSome, is_some};
+ghost use Rattle.xl_base.specs.Faults.{Rose};
+ghost use Rattle.xl_base.specs.declared.moments.TheConstants.{GREATEST_MILLIS};
+ghost use Rattle.xl_ledger.specs.declared.registry.TheConstants.{LEAST_LIMIT, GREATEST_LIMIT};
+ghost use Rattle.xl_turns.specs.Histories.{IsLegal};
+ghost use Rattle.xl_core.specs.Rest.{IsKeyed};
+ghost use Rattle.xl_store.specs.Entries.{Leads};
+ghost use Rattle.xl_heartbeat.specs.Outputs.{output};
+ghost use Rattle.xl_audit.specs.Journals.{journal_text, start_of};
+ghost use Rattle.xl_settings.specs.Runnable.{AreRunnable};
+ghost use Rattle.xl_validator.specs.Openings.{core_settings};
+ghost use Rattle.xl_validator.specs.Recordings.{IsWritten, is_over, is_written};
+ghost use Rattle.xl_validator.specs.Validators.{IsUnopened};
+
+use crate::ended::Ended;
+use crate::keys::keys_of;
+use std::alloc::Global;
+use xl_audit::write_journal;
+use xl_base::{Millis, Seq, Status};
+use xl_io::Sink;
+use xl_lines::Fault;
+use xl_settings::Settings;
+use xl_store::Journal;
+
+/// What a written journal begins with: the settings of the core, the moment of its opening, and the number that was
+/// kept.
+#[derive(Drop)]
+pub(crate) struct Recording {
+    pub settings: xl_core::Settings,
+    pub now: Millis,
+    pub kept: Seq,
+    ghost keyed: { IsKeyed settings.me settings.list.members settings.keys },
+    ghost limited: { (LEAST_LIMIT ≤ settings.limit) × (settings.limit ≤ GREATEST_LIMIT) },
+    ghost timely: { now ≤ GREATEST_MILLIS },
+}
+
+/// What the journal of a run begins with, if the settings ask for it to be written.
+pub(crate) fn recording_of(settings: &Settings, now: Millis, kept: Seq) -> Option<Recording>
+    requires runnable { AreRunnable settings.now }
+    requires moment { now ≤ GREATEST_MILLIS }
+    ensures asked { is_some result ≡ settings.now.journal }
+    ensures settings { IfSome result (λ recording. recording.settings ≡ core_settings settings.now) }
+    ensures now { IfSome result (λ recording. recording.now ≡ now) }
+    ensures kept { IfSome result (λ recording. recording.kept ≡ kept) }
+{
+    if !settings.journal {
+        return None;
+    }
+    Some(Recording {
+        settings: xl_core::Settings {
+            me: settings.me,
+            list: settings.list.copy(),
+            keys: keys_of(settings.me, settings.peers.as_slice()),
+            limit: settings.limit,
+            validating: settings.validating,
+            speak: settings.speak,
+        },
+        now,
+        kept,
+    })
+}
+
+/// Whether a run ended by its time, or since all turns of its store were drawn.
+pub(crate) fn is_over(ended: Status) -> bool
+    ensures { result ≡ is_over ended }
+{
+    matches!(ended, Status::Done | Status::StoreFull)
+}
+
+/// Writes the journal of a run that is over, and answers the status that the command then has.
+pub(crate) fn write_behind<O: Sink>(
+    alloc: Global,
+    recording: Recording,
+    journal: Journal,
+    ended: Status,
+    sink: &mut O,
+) -> Status
+    requires over { is_over ended ≡ true }
+    requires legal { IsLegal Leads (start_of recording.settings recording.now recording.kept) journal }
+    ensures written { IsWritten (journal_text recording.settings recording.now recording.kept journal) ended result
+        (output (O.held sink.old) (O.faults sink.old)) (output (O.held sink.new) (O.faults sink.new)) }
+{
+    let Recording {
+        settings,
+        now,
+        kept,
+    } = recording;
+    match write_journal(alloc, settings, now, kept, journal, sink) {
+        Ok(()) => ended,
+        Err(Fault::Write) => Status::WriteFault,
+        Err(_) => Status::OutOfMemory,
+    }
+}
+
+/// Writes the journal of a run that is over behind what the run wrote, if that is asked.
+pub(crate) fn recorded<O: Sink, K: Drop>(
+    alloc: Global,
+    recording: Option<Recording>,
+    ended: Ended<K>,
+    sink: &mut O,
+) -> Ended<K>
+    requires legal { IfSome recording (λ r. IfSome ended.journal (λ history.
+        IsLegal Leads (start_of r.settings r.now r.kept) history)) }
+    requires opened { ended.journal ≡ None → IsUnopened ended.status }
+    ensures keeper { result.keeper ≡ ended.keeper }
+    ensures left { is_written (is_some recording) ended.status ≡ false
+        → (result.status ≡ ended.status) × (result.journal ≡ ended.journal) × (sink.new ≡ sink.old) }
+    ensures none { is_written (is_some recording) ended.status ≡ true → result.journal ≡ None }
+    ensures some { is_written (is_some recording) ended.status ≡ true → IsSome ended.journal }
+    ensures written { is_written (is_some recording) ended.status ≡ true
+        → IfSome recording (λ r. IfSome ended.journal (λ history.
+        IsWritten (journal_text r.settings r.now r.kept history) ended.status result.status
+        (output (O.held sink.old) (O.faults sink.old)) (output (O.held sink.new) (O.faults sink.new)))) }
+{
+    let Some(recording) = recording else {
+        return ended;
+    };
+    if !is_over(ended.status) {
+        return ended;
+    }
+    let Ended {
+        status,
+        keeper,
+        journal,
+    } = ended;
+    let Some(journal) = journal else {
+        unreachable!()
+    };
+    Ended {
+        status: write_behind(alloc, recording, journal, status, sink),
+        keeper,
+        journal: None,
+    }
+}
