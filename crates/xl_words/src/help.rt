@@ -34,8 +34,12 @@ fn push_commands(text: &mut String) -> Result<(), AllocError>
     text.push_str("  lists          compares the trusted lists of a schedule, pair by pair\n")?;
     text.push_str("  merge          tells which list is in force, from the rolls of publishers\n")?;
     text.push_str("  audit          says whether each entry of a written journal is right\n")?;
-    text.push_str("  flags          says which amendments are enabled, by the votes of a schedule\n")?;
-    text.push_str("  negative       writes a schedule with the lists that leave out silent members\n")?;
+    text.push_str(
+        "  flags          says which amendments are enabled, by the votes of a schedule\n",
+    )?;
+    text.push_str(
+        "  negative       writes a schedule with the lists that leave out silent members\n",
+    )?;
     text.push_str("  show           writes what each frame of a stream says\n")?;
     text.push_str("  gen N          makes a schedule of N rounds, runs it, and sums it up\n")?;
     text.push_str("  -h, --help     writes this\n")?;
