@@ -33,7 +33,7 @@ IsInForce full list =
     (list ≡ full) ⊎ ((negative : List ℕ) × IsNegative full.members negative × (list ≡ list_without full.members negative))
 
 -- The law of lists in force: at two nodes with one full list, some of whose members are liars, any two are enough for
--- each other, where twice the least quorum exceeds the members and the liars among them.
+-- each other, if twice the least quorum exceeds the members and the liars among them.
 abbrev pub ListsAreEnough : Type 0
 ListsAreEnough = (full a b : TrustedList) (liars : List ℕ) → IsValid full → least_quorum (length full.members) ≤ full.quorum
     → length full.members + count_by (is_on liars) full.members < 2 * least_quorum (length full.members)
@@ -45,7 +45,7 @@ sets s text i list =
     let l = list_line s.running.reading i list in
     goes_on (text ++ written (spelling l)) (with_running s (takes (knows s.running (after s.running.reading l)) l))
 
--- The law of added lines: each is read as the line that it is, where one line more and one list more may come.
+-- The law of added lines: each is read as the line that it is, if one line more and one list more may come.
 abbrev pub AddedAreLists : Type 0
 AddedAreLists = (s : Writing) (text : List ℕ) (i : ℕ) (list : TrustedList) → MayBeSet s.running.reading i list
     → adds s text (list_line s.running.reading i list) ≡ sets s text i list

@@ -14,7 +14,7 @@ pub fn lists_are_enough()
     ensures { ListsAreEnough }
 {}
 
-/// The law of added lines: each is read as the line that sets the list, where such a line may come.
+/// The law of added lines: each is read as the line that sets the list, if such a line may come.
 pub fn added_are_lists()
     ensures { AddedAreLists }
 {

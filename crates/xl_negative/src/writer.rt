@@ -66,7 +66,7 @@ impl Writer {
         })
     }
 
-    /// A line that was read is taken in, and run where it is an event.
+    /// A line that was read is taken in, and run if it is an event.
     fn take(&mut self, line: &Line) -> Result<(), OutOfMemory>
         requires { IsInRange line.now }
         ensures { OnOk result (state_of self.new
@@ -131,7 +131,7 @@ impl Writer {
         }
     }
 
-    /// A node reported a ledger, and goes over to another list where that is a flag ledger that it knows and its
+    /// A node reported a ledger, and goes over to another list if that is a flag ledger that it knows and its
     /// decision changes something.
     fn report(
         &mut self,
