@@ -8,14 +8,14 @@ use Rattle.xl_sched.specs.declared.line.Line.{Line}
 use Rattle.xl_sched.specs.declared.line.Line.TheVariants as line
 use Rattle.xl_sched.specs.declared.refusal.SchedRefusal.TheVariants.{Header}
 use Rattle.xl_sched.specs.Answers.{LineAnswer, passes, gives, refuses}
-use Rattle.xl_spelling.specs.Spellings.{spelling}
+use Rattle.xl_spelling.specs.Spellings.{list_line, spelling}
 use Rattle.xl_world.specs.declared.outcome.Outcome.{Outcome}
 use Rattle.xl_world.specs.declared.outcome.Outcome.TheVariants as outcome
 use Rattle.xl_world.specs.Schedule.{outcomes}
 use Rattle.xl_running.specs.Running.{answer_in, world_of}
 use Rattle.xl_running.specs.Texts.{bad_line}
 use Rattle.xl_negative.specs.Seats.{seat_at, with_leaving_out}
-use Rattle.xl_negative.specs.Writing.{Writing, Change, added, and_then, after_answer, after_line, after_outcome, after_outcomes, change_at, counted, ending, goes_over, happened, ledgers_at, list_line, rules, written}
+use Rattle.xl_negative.specs.Writing.{Writing, Change, added, and_then, after_answer, after_line, after_outcome, after_outcomes, change_at, counted, ending, goes_over, happened, ledgers_at, rules, written}
 
 added_finds : (s : Writing) (text bytes : List ℕ) (a : LineAnswer) → FindsNothing (added s text bytes a)
 added_finds s text bytes (passes reading) = tt
@@ -26,7 +26,7 @@ over_finds : (s : Writing) (text : List ℕ) (i : ℕ) (change : Option Change) 
 over_finds s text i None = tt
 over_finds s text i (Some change) =
     let next : Writing = record s { seats = with_leaving_out s.seats i change.negative } in
-    let bytes : List ℕ = spelling (list_line s.running.reading.now i change.list) in
+    let bytes : List ℕ = spelling (list_line s.running.reading i change.list) in
     added_finds next text bytes (answer_in next.running bytes)
 
 outcome_finds : (s : Writing) (text : List ℕ) (o : Outcome) → FindsNothing (after_outcome s text o)

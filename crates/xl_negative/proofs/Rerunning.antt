@@ -13,7 +13,7 @@ use Rattle.xl_sched.specs.declared.line.Line.{Line}
 use Rattle.xl_sched.specs.declared.line.Line.TheVariants as line
 use Rattle.xl_sched.specs.declared.refusal.SchedRefusal.TheVariants.{Header}
 use Rattle.xl_sched.specs.Answers.{LineAnswer, passes, gives, refuses}
-use Rattle.xl_spelling.specs.Spellings.{spelling}
+use Rattle.xl_spelling.specs.Spellings.{list_line, spelling}
 use Rattle.xl_world.specs.declared.outcome.Outcome.{Outcome}
 use Rattle.xl_world.specs.declared.outcome.Outcome.TheVariants as outcome
 use Rattle.xl_world.specs.Schedule.{outcomes}
@@ -21,7 +21,7 @@ use Rattle.xl_running.specs.Running.{Running, answer_in, limits, world_of}
 use Rattle.xl_running.specs.Texts.{bad_line}
 use Rattle.xl_negative.specs.Laws.{Runs, WrittenRuns, read_on, runs, texts}
 use Rattle.xl_negative.specs.Seats.{seat_at, with_leaving_out}
-use Rattle.xl_negative.specs.Writing.{Change, Writing, added, after_answer, after_line, after_outcome, after_outcomes, and_then, at_first, change_at, counted, goes_over, happened, ledgers_at, list_line, rules, takes, written}
+use Rattle.xl_negative.specs.Writing.{Change, Writing, added, after_answer, after_line, after_outcome, after_outcomes, and_then, at_first, change_at, counted, goes_over, happened, ledgers_at, rules, takes, written}
 
 -- ---- lines behind lines
 
@@ -68,7 +68,7 @@ over_reaches : (r : Running) (s : Writing) (text : List ℕ) (i : ℕ) (change :
 over_reaches r s text i None before = before
 over_reaches r s text i (Some change) before =
     let next : Writing = record s { seats = with_leaving_out s.seats i change.negative } in
-    let bytes : List ℕ = spelling (list_line s.running.reading.now i change.list) in
+    let bytes : List ℕ = spelling (list_line s.running.reading i change.list) in
     added_reaches r next text bytes (answer_in next.running bytes) before refl
 
 outcome_reaches : (r : Running) (s : Writing) (text : List ℕ) (o : Outcome) → Runs r text s.running → Reaches r (after_outcome s text o)

@@ -1,16 +1,19 @@
 -- What the lists that are written are, and what reading them gives. Source: this project's negative lists.
-use Rattle.std.specs.Prelude.{◌≡◌, ◌⊎◌, ℕ, ◌+◌, ◌*◌, ◌≤◌, ◌<◌, List, [], ◌∷◌, length, count_by, IfSome}
+use Rattle.std.specs.Prelude.{◌≡◌, ◌⊎◌, ℕ, ◌+◌, ◌*◌, ◌≤◌, ◌<◌, List, [], ◌∷◌, ◌++◌, length, count_by, IfSome}
 use Rattle.std.specs.Prelude.{Some, None}
 use Rattle.std.specs.declared.option.Option.{Option}
 use Rattle.std.specs.List.{flat_map}
 use Rattle.std.specs.Option.{option_and_then}
 use Rattle.xl_lines.specs.declared.machine.Verdict.TheVariants.{Good}
+use Rattle.xl_lines.specs.Rules.{Step, goes_on}
 use Rattle.xl_lists.specs.Lists.{TrustedList, IsValid, is_on}
 use Rattle.xl_lists.specs.Quorums.{Enough}
 use Rattle.xl_nunl.specs.Lists.{IsNegative, MayBeInForce, least_quorum, list_without}
 use Rattle.xl_sched.specs.Answers.{LineAnswer, passes, gives, refuses}
+use Rattle.xl_sched.specs.Reading.{after}
 use Rattle.xl_running.specs.Running.{Running, answer_in, at_first, knows}
-use Rattle.xl_negative.specs.Writing.{Change, change_of, negative_of, takes, written}
+use Rattle.xl_spelling.specs.Spellings.{MayBeSet, list_line, spelling}
+use Rattle.xl_negative.specs.Writing.{Change, Writing, adds, change_of, negative_of, takes, with_running, written}
 
 -- a change leaves out different members of the full list, a quarter at most; the list without them is valid, and may be
 -- in force
@@ -30,11 +33,22 @@ IsInForce full list =
     (list ≡ full) ⊎ ((negative : List ℕ) × IsNegative full.members negative × (list ≡ list_without full.members negative))
 
 -- The law of lists in force: at two nodes with one full list, some of whose members are liars, any two are enough for
--- each other, where twice the least quorum exceeds the members and the liars among them.
+-- each other, if twice the least quorum exceeds the members and the liars among them.
 abbrev pub ListsAreEnough : Type 0
 ListsAreEnough = (full a b : TrustedList) (liars : List ℕ) → IsValid full → least_quorum (length full.members) ≤ full.quorum
     → length full.members + count_by (is_on liars) full.members < 2 * least_quorum (length full.members)
     → IsInForce full a → IsInForce full b → Enough liars a b
+
+-- a line that sets a list is added, and the list comes into force
+abbrev pub sets : Writing → List ℕ → ℕ → TrustedList → Step Writing
+sets s text i list =
+    let l = list_line s.running.reading i list in
+    goes_on (text ++ written (spelling l)) (with_running s (takes (knows s.running (after s.running.reading l)) l))
+
+-- The law of added lines: each is read as the line that it is, if one line more and one list more may come.
+abbrev pub AddedAreLists : Type 0
+AddedAreLists = (s : Writing) (text : List ℕ) (i : ℕ) (list : TrustedList) → MayBeSet s.running.reading i list
+    → adds s text (list_line s.running.reading i list) ≡ sets s text i list
 
 -- the schedule behind a line, unless the line is refused
 abbrev pub read_on : Running → LineAnswer → Option Running

@@ -11,7 +11,7 @@ use Rattle.xl_world.specs.Schedule.{node_asked}
 use Rattle.xl_negative.specs.declared.hearing.Heard.{Heard}
 
 pub record Seat : Type 0 where
-  -- the list that it declared, or that a line of the input set; none where no node has the number
+  -- the list that it declared, or that a line of the input set; none if no node has the number
   pub full : Option TrustedList
   -- the members of that list that it leaves out
   pub negative : List ℕ

@@ -17,13 +17,12 @@ use Rattle.xl_nunl.specs.Heard.{score_of}
 use Rattle.xl_nunl.specs.Deciding.{left_of, joined_of, negative_after}
 use Rattle.xl_nunl.specs.Lists.{list_without}
 use Rattle.xl_sched.specs.declared.event.Event.{Event}
-use Rattle.xl_sched.specs.declared.event.What.TheVariants as what
 use Rattle.xl_sched.specs.declared.line.Line.{Line}
 use Rattle.xl_sched.specs.declared.line.Line.TheVariants as line
 use Rattle.xl_sched.specs.declared.refusal.SchedRefusal.TheVariants.{Header as NoHeader}
 use Rattle.xl_sched.specs.Answers.{LineAnswer, passes, gives, refuses}
 use Rattle.xl_sched.specs.Reading.{Reading}
-use Rattle.xl_spelling.specs.Spellings.{spelling}
+use Rattle.xl_spelling.specs.Spellings.{list_line, spelling}
 use Rattle.xl_world.specs.declared.outcome.Outcome.{Outcome}
 use Rattle.xl_world.specs.declared.outcome.Outcome.TheVariants as outcome
 use Rattle.xl_world.specs.Schedule.{outcomes}
@@ -73,10 +72,6 @@ added s text bytes (refuses why) = stops (text ++ bad_line s.lines why)
 abbrev pub adds : Writing → List ℕ → Line → Step Writing
 adds s text l = added s text (spelling l) (answer_in s.running (spelling l))
 
--- the line by which a node goes over to a list
-abbrev pub list_line : ℕ → ℕ → TrustedList → Line
-list_line now i list = line.Event (record { at = now; what = what.List i list })
-
 -- the scores of all numbers, from 1 on
 unfoldable pub scores_of : List Header → List SaidLedger → ℕ → List ℕ
 scores_of ledgers heard flag = map (λ m. score_of ledgers heard m flag) (range_with_len 1 64)
@@ -96,12 +91,12 @@ change_of full negative scores i =
     Some (change_to full (negative_after negative (left_of full negative scores i) (joined_of full negative scores i)))
     else None
 
--- the change of a node is written
+-- the change of a node is written: the line by which it goes over to its list
 abbrev pub goes_over : Writing → List ℕ → ℕ → Option Change → Step Writing
 goes_over s text i None = goes_on text s
 goes_over s text i (Some change) =
     adds (record s { seats = with_leaving_out s.seats i change.negative }) text
-    (list_line s.running.reading.now i change.list)
+    (list_line s.running.reading i change.list)
 
 -- the ledgers that the node of a number knows
 abbrev pub ledgers_in : Option Core → List Header

@@ -16,7 +16,7 @@ use xl_scribe::run;
 /// Reads a schedule from the input to its end, or up to a line that is refused, and writes it to the output with the
 /// lists that its nodes go over to, each part as soon as its line was read.
 ///
-/// The verdict is `Refused` where the last line says which line was refused. A failed read ends it with `Read`, a
+/// The verdict is `Refused` if the last line says which line was refused. A failed read ends it with `Read`, a
 /// failed write with `Write`, and memory that runs out, at any time, with `Memory`.
 pub fn negative<I: Source, O: Sink>(
     alloc: Global,
@@ -35,7 +35,7 @@ pub fn negative<I: Source, O: Sink>(
     ensures cut { IsErrOf result Fault.Write → IfSome (I.left input.old) (λ bytes.
         GrewByLess (O.held output.old) (O.held output.new) (negative_of bytes).text) }
 
-    // A fault is answered only where its count rose.
+    // A fault is answered only if its count rose.
     ensures read { IsErrOf result Fault.Read → Rose (I.faults input.old) (I.faults input.new) }
     ensures write { IsErrOf result Fault.Write → Rose (O.faults output.old) (O.faults output.new) }
     ensures complete { IfErr result (λ fault. ¬ Rose (I.faults input.old) (I.faults input.new)

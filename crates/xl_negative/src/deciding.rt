@@ -102,7 +102,7 @@ fn change_with(
     }))
 }
 
-/// Those that are left out, where one comes back and one more is left out.
+/// Those that are left out, if one comes back and one more is left out.
 fn left_out(
     alloc: Global,
     negative: &[NodeNo],

@@ -1,4 +1,6 @@
-ghost use Rattle.xl_negative.specs.Laws.{ChangesAreLawful, ListsAreEnough, WrittenRuns};
+ghost use Rattle.xl_negative.specs.Laws.{AddedAreLists, ChangesAreLawful, ListsAreEnough, WrittenRuns};
+
+use xl_spelling::lists_are_read;
 
 /// The law of changes, which has no code: of a valid list a node leaves out different members, a quarter at most, and
 /// what is left is a valid list that may be in force.
@@ -11,6 +13,13 @@ pub fn changes_are_lawful()
 pub fn lists_are_enough()
     ensures { ListsAreEnough }
 {}
+
+/// The law of added lines: each is read as the line that sets the list, if such a line may come.
+pub fn added_are_lists()
+    ensures { AddedAreLists }
+{
+    lists_are_read();
+}
 
 /// The law of what is written, which has no code: unless a line is refused, a reader refuses no line of what is written
 /// either, and what it then runs is what ran here.

@@ -11,7 +11,7 @@ use xl_ledger::{LedgerNo, Registry};
 use xl_lists::SaidLedger;
 use xl_nunl::Scores;
 
-/// The scores of all numbers from 1 on at a flag ledger, where this was heard.
+/// The scores of all numbers from 1 on at a flag ledger, if this was heard.
 pub fn scores_of(
     alloc: Global,
     heard: &[SaidLedger],

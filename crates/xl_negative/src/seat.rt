@@ -10,7 +10,7 @@ use xl_lists::{List, SaidLedger};
 /// What is known of a node beside the world.
 #[derive(Drop)]
 pub struct Seat {
-    /// Its full list. No node has the number where there is none.
+    /// Its full list. No node has the number if there is none.
     full: Option<List>,
     /// The members of that list that it leaves out.
     negative: Vec<NodeNo>,

@@ -3,6 +3,7 @@ ghost use Rattle.std.specs.Prelude.{◌≡◌, ◌≤◌, ◌+◌, ◌++◌, [],
 ghost use Rattle.xl_base.specs.declared.moments.TheConstants.{GREATEST_MILLIS};
 ghost use Rattle.xl_lines.specs.Rules.{step_given};
 ghost use Rattle.xl_running.specs.Running.{IsInRange};
+ghost use Rattle.xl_spelling.specs.Spellings.{list_line};
 ghost use Rattle.xl_running.specs.Texts.{bad_line};
 ghost use Rattle.xl_world.specs.Schedule.{IsPlausible};
 ghost use Rattle.xl_negative.specs.Writing.{written};
@@ -44,7 +45,6 @@ impl Writer {
       declared,
       happened,
       ledgers_at,
-      list_line,
       takes,
       with_running,
     };
@@ -66,7 +66,7 @@ impl Writer {
         })
     }
 
-    /// A line that was read is taken in, and run where it is an event.
+    /// A line that was read is taken in, and run if it is an event.
     fn take(&mut self, line: &Line) -> Result<(), OutOfMemory>
         requires { IsInRange line.now }
         ensures { OnOk result (state_of self.new
@@ -107,7 +107,7 @@ impl Writer {
     /// The node of this number goes over to this list, and the line of it is added.
     fn go_over(&mut self, i: NodeNo, list: List, text: &mut Vec<u8>) -> Result<Next, OutOfMemory>
         ensures { IfOk result (λ next. step_given next text.new.items (state_of self.new)
-            ≡ adds (state_of self.old) text.old.items (list_line self.old.running.reading.now i list)) }
+            ≡ adds (state_of self.old) text.old.items (list_line self.old.running.reading i list)) }
     {
         let at = self.running.reader().moment();
         let what = What::List { node: i, list };
@@ -131,7 +131,7 @@ impl Writer {
         }
     }
 
-    /// A node reported a ledger, and goes over to another list where that is a flag ledger that it knows and its
+    /// A node reported a ledger, and goes over to another list if that is a flag ledger that it knows and its
     /// decision changes something.
     fn report(
         &mut self,

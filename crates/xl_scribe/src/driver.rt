@@ -26,8 +26,8 @@ pub fn run<M: Scribe + Drop, I: Source, O: Sink>(
     // The whole text is written, and the verdict is its own.
     ensures whole { IfOk result (λ verdict. IfSome (I.left input.old) (λ bytes.
         TellsAll (O.held output.old) (O.held output.new) verdict (told_of limits M.rules (M.state scribe) bytes))) }
-    // Where the text is told of the whole input, all the bytes were read. So they were where the verdict is `Good`, and
-    // where it isn't `Refused`, if the scribe never ends the text early by what it finds.
+    // If the text is told of the whole input, all the bytes were read. So they were if the verdict is `Good`, and
+    // if it isn't `Refused`, if the scribe never ends the text early by what it finds.
     ensures closed { IfOk result (λ _. IfSome (I.left input.old) (λ bytes.
         (told_of limits M.rules (M.state scribe) bytes).closed ≡ true → IsAtEnd (I.left input.new))) }
     ensures good { IfOk result (λ verdict. verdict ≡ Verdict.Good → IsAtEnd (I.left input.new)) }

@@ -28,7 +28,7 @@ pub trait Scribe {
         requires { text.old.items ≡ [] }
         ensures { OnOk result (text.new.items ≡ rules.overrun (state self.old) overrun) };
 
-    /// Puts the last text into `text`, after the last line or where there is none.
+    /// Puts the last text into `text`, after the last line or if there is none.
     fn close(&mut self, text: &mut Vec<u8>) -> Result<Verdict, OutOfMemory>
         requires { text.old.items ≡ [] }
         ensures { IfOk result (λ verdict. closes (text.new.items) verdict ≡ rules.closing (state self.old)) };

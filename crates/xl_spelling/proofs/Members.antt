@@ -1,5 +1,5 @@
 -- A list, written by its members and read again.
-use Rattle.std.proofs.Common.{◌≡◌, ◌+◌, ◌*◌, ◌^◌, ◌-◌, ◌≤◌, ◌<◌, ◌==◌, ◌&&◌, ◌||◌, ℕ, Bool, true, false, not, cond, nat_le, List, [], ◌∷◌, length, map, get_or, Option, Some, None, Result, Ok, Err, refl, ap, ap₂, sym, ◌∙◌, subst, arith, inl, inr, decimal}
+use Rattle.std.proofs.Common.{◌≡◌, ◌+◌, ◌*◌, ◌^◌, ◌-◌, ◌≤◌, ◌<◌, ◌==◌, ◌&&◌, ◌||◌, ℕ, Bool, true, false, not, cond, nat_le, List, [], ◌∷◌, length, map, get_or, Option, Some, None, Ok, Err, refl, ap, ap₂, sym, ◌∙◌, subst, arith, decimal}
 use Rattle.std.specs.Char.{is_ascii_digit}
 use Rattle.std.specs.Int.Digits.{digits_of}
 use Rattle.std.specs.List.{AllByRecursion, list_all}
@@ -42,15 +42,15 @@ first-digit [] above digits = absurd (omega (arith, above))
 first-digit (d ∷ ds) above digits =
     ap₂ (λ (a b : Bool). a && (not b || length (map (λ d. 48 + d) ds) == 0)) digits (above-zero d above)
 
-record IsMemberAgain (m : ℕ) (t : List ℕ) : Type 0 where
-  number : is_number t ≡ true
-  value : value_of t ≡ m
+pub record IsMemberAgain (m : ℕ) (t : List ℕ) : Type 0 where
+  pub number : is_number t ≡ true
+  pub value : value_of t ≡ m
   some : 1 ≤ length t
   few : length t ≤ 2
   ink : AllByRecursion IsInk t
   clear : Clear (λ b. b == 44) t
 
-member-again : (m : ℕ) → 1 ≤ m → m ≤ 64 → IsMemberAgain m (decimal m)
+pub member-again : (m : ℕ) → 1 ≤ m → m ≤ 64 → IsMemberAgain m (decimal m)
 member-again m least greatest =
     let t = decimal m in
     let small : m < 2 ^ 64 = omega (arith, greatest) in
@@ -67,7 +67,7 @@ member-again m least greatest =
       clear = digits-clear t digits;
     }
 
-number-read : (m : ℕ) → 1 ≤ m → m ≤ 64 → number_of (decimal m) ≡ Ok m
+pub number-read : (m : ℕ) → 1 ≤ m → m ≤ 64 → number_of (decimal m) ≡ Ok m
 number-read m least greatest =
     let again = member-again m least greatest in
     let is = again.number in

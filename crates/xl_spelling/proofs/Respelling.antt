@@ -1,10 +1,16 @@
 -- A line that was read, read again from its spelling.
-use Rattle.std.proofs.Common.{◌≡◌, ◌≤◌, ◌==◌, ◌&&◌, ◌⊎◌, inl, inr, ℕ, Bool, true, false, cond, nat_le, nat_lt, List, [], ◌∷◌, length, Option, Some, None, Result, Ok, Err, refl, ap, sym, ◌∙◌, subst, arith, decimal}
+use Rattle.std.proofs.Common.{◌≡◌, ◌≤◌, ap₂, ◌==◌, ◌&&◌, ◌⊎◌, inl, inr, ℕ, Bool, true, false, cond, nat_le, nat_lt, List, [], ◌∷◌, length, Option, Some, None, Result, Ok, Err, refl, ap, sym, ◌∙◌, subst, arith, codes, decimal}
 use Rattle.std.specs.List.{Contains, AllByRecursion, join_with_byte}
-use Rattle.std.proofs.lemmas.Bool.{and_parts}
+use Rattle.std.proofs.lemmas.Bool.{and_parts, lt-ltb}
 use Rattle.std.proofs.lemmas.Bool.Decides.{nat_tests}
 use Rattle.std.proofs.lemmas.List.Elements.{All-contains_itself, All-from_recursion, recursion_from_All}
-use Rattle.xl_sched.specs.declared.limits.TheConstants.{MOST_LINES, MOST_BYTES}
+use Rattle.xl_sched.specs.declared.limits.TheConstants.{MOST_LINES, MOST_BYTES, MOST_LISTS}
+use Rattle.xl_lists.specs.Lists.{TrustedList, IsValid, is_on}
+use Rattle.xl_sched.specs.declared.event.What.TheVariants as what
+use Rattle.xl_sched.specs.Events.{list_event, set_list}
+use Rattle.xl_sched.specs.Members.{declared_of, member_of, members_of, trusted_of}
+use Rattle.xl_sched.specs.Numbers.{is_number, number_of, value_of}
+use Rattle.xl_sched.specs.Refusals.{◌>>=◌}
 use Rattle.xl_sched.specs.declared.line.Line.{Line}
 use Rattle.xl_sched.specs.declared.line.Line.TheVariants as line
 use Rattle.xl_sched.specs.declared.refusal.SchedRefusal.{SchedRefusal}
@@ -17,11 +23,12 @@ use Rattle.xl_sched.specs.Tokens.{is_blank, tokens}
 use Rattle.xl_sched.specs.Words.{setting_word, event_word, is_declaration, set_line, setting_line, what_of, event_line, event_line_of, line_of, worded_line}
 use Rattle.xl_sched.specs.Reading.{Reading, after}
 use Rattle.xl_sched.specs.Answers.{is_header, first_token, header_line, is_comment, some_line, later_line, line_of_tokens, bounded_line, gives, answer_to, reading_of}
-use Rattle.xl_spelling.specs.Spellings.{line_words, spelling, Says, AddsNoControl}
+use Rattle.xl_spelling.specs.Spellings.{line_words, list_line, spelling, with_commas, Says, AddsNoControl, ListsAreRead, MayBeSet}
 use Rattle.xl_spelling.specs.Stored.{IsStoredWhat, IsStored}
 use Rattle.xl_spelling.proofs.Joins.{Clear, IsToken, tokens-joined, tokens-are, tokens-all, spread, tokens-spread, joined-spread, joined-all}
 use Rattle.xl_spelling.proofs.Parts.{Gives, steps, same-ok, unstopped}
-use Rattle.xl_spelling.proofs.Small.{IsInk, IsInked, IsSmall, are_ink, inked, AreLike}
+use Rattle.xl_spelling.proofs.Small.{IsInk, IsInked, IsSmall, are_ink, declared-small, inked, number-small, small-inked, AreLike}
+use Rattle.xl_spelling.proofs.Members.{list-again, member-again, number-read, texts, trusted-again}
 use Rattle.xl_spelling.proofs.WordLemmas.{event_text, event_text-same, setting_text, setting_text-same}
 use Rattle.xl_spelling.proofs.Happening.{what-again}
 use Rattle.xl_spelling.proofs.Telling.{setting-again}
@@ -255,3 +262,65 @@ spelled-again reading sent bytes l e stored =
           subst (AddsNoControl bytes) (sym text)
           (All-from_recursion (λ b. (32 ≤ b) ⊎ Contains bytes b) (join_with_byte 32 ts) re.bytes_of);
     }
+
+-- A LIST THAT IS SET
+
+member-read : (m : ℕ) → 1 ≤ m → m ≤ 64 → member_of (decimal m) ≡ Ok m
+member-read m least greatest =
+    let again = member-again m least greatest in
+    let is = again.number in
+    let value = again.value in
+    let test : (is_number (decimal m) && nat_le 1 (value_of (decimal m)) && nat_le (value_of (decimal m)) 64) ≡ true = grind (arith, nat_tests) in
+    ap₂ (λ (b : Bool) (v : ℕ). cond b (Ok v) (Err (refusal.Number (decimal m)))) test value
+
+declared-read : (nodes : List ℕ) (m : ℕ) → 1 ≤ m → m ≤ 64 → is_on nodes m ≡ true → declared_of nodes (decimal m) ≡ Ok m
+declared-read nodes m least greatest on =
+    ap (λ read. read >>= (λ member. cond (is_on nodes member) (Ok member) (Err (refusal.Absent (decimal m))))) (member-read m least greatest)
+    ∙ ap (λ b. cond b (Ok m) (Err (refusal.Absent (decimal m)))) on
+
+-- its tokens, behind the first
+list-arguments : ℕ → TrustedList → List (List ℕ)
+list-arguments node list = decimal node ∷ decimal list.quorum ∷ with_commas (texts list.members) ∷ []
+
+quorum-read : (list : TrustedList) → IsValid list → number_of (decimal list.quorum) ≡ Ok list.quorum
+quorum-read list valid =
+    number-read list.quorum (omega (arith, valid.some, valid.majority)) (omega (arith, valid.within, valid.at_most))
+
+list-said : (reading : Reading) (node : ℕ) (list : TrustedList) → MayBeSet reading node list → list_event reading (list-arguments node list) ≡ Ok (what.List node list)
+unfolding list-arguments
+list-said reading node list may =
+    let text = with_commas (texts list.members) in
+    let quorum = decimal list.quorum in
+    ap (λ b. cond b (set_list reading (decimal node ∷ quorum ∷ text ∷ [])) (Err (refusal.Limit (decimal MOST_LISTS)))) (lt-ltb _ _ may.lists)
+    ∙ ap (λ read. read >>= (λ node. number_of quorum >>= (λ least. members_of text >>= (λ numbers. trusted_of numbers least >>= (λ list. Ok (what.List node list)))))) (declared-read reading.nodes node may.least may.greatest may.declared)
+    ∙ ap (λ read. read >>= (λ least. members_of text >>= (λ numbers. trusted_of numbers least >>= (λ list. Ok (what.List node list))))) (quorum-read list may.valid)
+    ∙ ap (λ read. read >>= (λ numbers. trusted_of numbers list.quorum >>= (λ list. Ok (what.List node list)))) (list-again list may.valid).same
+    ∙ ap (λ read. read >>= (λ list. Ok (what.List node list))) (trusted-again list list.quorum (record { valid = may.valid; its_quorum = refl }))
+
+list-respelled : (reading : Reading) (node : ℕ) (list : TrustedList) → MayBeSet reading node list → IsRespelled [] (codes "list" ∷ list-arguments node list)
+unfolding list-arguments
+list-respelled reading node list may =
+    let node-small = declared-small reading.nodes (decimal node) node (declared-read reading.nodes node may.least may.greatest may.declared) in
+    let quorum-small = number-small (decimal list.quorum) list.quorum (quorum-read list may.valid) in
+    let members-small = (list-again list may.valid).small in
+    short-respelled [] (codes "list") (list-arguments node list) (fine-small (event_text event.List) (event_text-fine event.List))
+    (small-inked 10 _ node-small, (small-inked 10 _ quorum-small, (small-inked 192 _ members-small, tt)))
+    (omega (arith, node-small.few, quorum-small.few, members-small.few))
+
+pub lists_read : ListsAreRead
+unfolding list-arguments
+lists_read reading sent node list may =
+    let ts = codes "list" ∷ list-arguments node list in
+    let re = list-respelled reading node list may in
+    let short = re.few in
+    let fits : nat_lt MOST_BYTES (length (join_with_byte 32 ts)) ≡ false = grind (arith, nat_tests) in
+    let many = may.lines in
+    let more : (reading.lines == MOST_LINES) ≡ false = grind (arith, nat_tests) in
+    let first = may.later in
+    let later : (reading.lines == 0) ≡ false = grind (arith, nat_tests) in
+    let tokened : later_line reading sent ts ≡ Ok (Some (list_line reading node list)) = ap (λ read. some_line (event_line reading read)) (list-said reading node list may) in
+    ap (λ b. answer_to reading (cond b (Err (refusal.LongLine (decimal MOST_BYTES))) (cond (reading.lines == MOST_LINES) (Err (refusal.Limit (decimal MOST_LINES))) (line_of_tokens reading sent (tokens (join_with_byte 32 ts)))))) fits
+    ∙ ap (λ b. answer_to reading (cond b (Err (refusal.Limit (decimal MOST_LINES))) (line_of_tokens reading sent (tokens (join_with_byte 32 ts))))) more
+    ∙ ap (λ ts. answer_to reading (line_of_tokens reading sent ts)) (tokens-joined ts re.are)
+    ∙ ap (λ b. answer_to reading (cond b (header_line ts) (later_line reading sent ts))) later
+    ∙ ap (answer_to reading) tokened

@@ -1,5 +1,5 @@
 -- Lines at which nothing happens, said again.
-use Rattle.std.proofs.Common.{◌≡◌, ◌≤◌, ◌&&◌, ◌||◌, inl, inr, ℕ, Bool, true, not, cond, nat_le, List, [], ◌∷◌, length, Option, Some, None, is_some, Result, Ok, Err, refl, ap, sym, ◌∙◌, subst, arith, decimal, codes}
+use Rattle.std.proofs.Common.{◌≡◌, ◌≤◌, ◌&&◌, ◌||◌, inl, inr, ℕ, Bool, true, not, cond, nat_le, List, [], ◌∷◌, length, Some, None, is_some, Result, Ok, Err, refl, ap, sym, ◌∙◌, subst, arith, decimal, codes}
 use Rattle.std.specs.List.{list_all, AllByRecursion}
 use Rattle.std.specs.Char.{is_ascii_digit}
 use Rattle.std.proofs.lemmas.Bool.{and_parts}
@@ -27,7 +27,7 @@ use Rattle.xl_sched.specs.Words.{set_line}
 use Rattle.xl_sched.specs.Reading.{Reading}
 use Rattle.xl_spelling.specs.Spellings.{mode_words, line_words, with_commas}
 use Rattle.xl_spelling.specs.Stored.{IsId, IsStored}
-use Rattle.xl_spelling.proofs.Parts.{Gives, steps, same-ok, unstopped, number_within-same, number-same, new_member-same, mode-same, members-same, id-read}
+use Rattle.xl_spelling.proofs.Parts.{steps, same-ok, unstopped, number_within-same, number-same, new_member-same, mode-same, id-read}
 use Rattle.xl_spelling.proofs.Members.{texts, list-again, trusted-made, trusted-again}
 use Rattle.xl_spelling.proofs.Small.{IsInk, IsSmall, inked, small-inked, number_within-small, number-small, id-small}
 use Rattle.xl_spelling.proofs.Asks.{IsAgain}

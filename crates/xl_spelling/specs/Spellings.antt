@@ -1,9 +1,10 @@
 -- How a line is spelled. Source: this project's schedule language.
-use Rattle.std.specs.Prelude.{◌≡◌, ◌⊎◌, ◌≤◌, ℕ, Bool, List, [], ◌∷◌, map, decimal, codes, Option, Some, None, All, Contains, if◌then◌else◌}
+use Rattle.std.specs.Prelude.{◌≡◌, ◌⊎◌, ◌≤◌, ◌<◌, ℕ, Bool, true, List, [], ◌∷◌, map, decimal, codes, Option, Some, None, All, Contains, if◌then◌else◌}
 use Rattle.std.specs.List.{join_with_byte}
 use Rattle.hex.specs.Hex.{encode_lower}
 use Rattle.xl_base.specs.declared.ids.LedgerId.{LedgerId}
 use Rattle.xl_base.specs.declared.ids.TxId.{TxId}
+use Rattle.xl_lists.specs.Lists.{TrustedList, IsValid, is_on}
 use Rattle.xl_sched.specs.declared.event.Ask.{Ask}
 use Rattle.xl_sched.specs.declared.event.Ask.TheVariants as ask
 use Rattle.xl_sched.specs.declared.event.Lied.{Lied}
@@ -12,6 +13,7 @@ use Rattle.xl_sched.specs.declared.event.What.{What}
 use Rattle.xl_sched.specs.declared.event.What.TheVariants as what
 use Rattle.xl_sched.specs.declared.line.Line.{Line}
 use Rattle.xl_sched.specs.declared.line.Line.TheVariants as line
+use Rattle.xl_sched.specs.declared.limits.TheConstants.{MOST_LINES, MOST_LISTS}
 use Rattle.xl_sched.specs.Reading.{Reading, after}
 use Rattle.xl_sched.specs.Answers.{gives, reading_of}
 
@@ -114,3 +116,22 @@ abbrev pub IsSaidPlainly : Line → Type 0
 IsSaidPlainly line =
     (reading : Reading) → (sent : ℕ) → (bytes : List ℕ) → Says reading sent bytes line →
     AddsNoControl bytes (spelling line)
+
+-- a list that a line may set: of a declared node, and a valid one, where one line more and one list more may come
+pub record MayBeSet (reading : Reading) (node : ℕ) (list : TrustedList) : Type 0 where
+  pub least : 1 ≤ node
+  pub greatest : node ≤ 64
+  pub declared : is_on reading.nodes node ≡ true
+  pub valid : IsValid list
+  pub later : 0 < reading.lines
+  pub lines : reading.lines < MOST_LINES
+  pub lists : reading.lists < MOST_LISTS
+
+-- the line that sets it
+abbrev pub list_line : Reading → ℕ → TrustedList → Line
+list_line reading node list = line.Event (record { at = reading.now; what = what.List node list })
+
+-- The law of lists: the spelling of the line that sets such a list says that line.
+abbrev pub ListsAreRead : Type 0
+ListsAreRead = (reading : Reading) (sent node : ℕ) (list : TrustedList) → MayBeSet reading node list
+    → Says reading sent (spelling (list_line reading node list)) (list_line reading node list)

@@ -9,7 +9,9 @@
 
 mod entries;
 mod event;
+mod law;
 mod line;
 mod tokens;
 
+pub use law::lists_are_read;
 pub use line::print_line;
