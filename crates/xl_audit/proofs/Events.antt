@@ -1,14 +1,11 @@
 -- The line of an entry is read back as the entry.
-use Rattle.std.proofs.Common.{◌≡◌, ◌+◌, ◌-◌, ◌<◌, ◌≤◌, ◌^◌, ℕ, zero, suc, Bool, true, false, List, [], ◌∷◌, ◌++◌, length, drop, nat_lt, Result, Ok, Err, Option, Some, None, refl, ap, sym, ◌∙◌, arith, append_assoc, decimal, codes}
+use Rattle.std.proofs.Common.{◌≡◌, ◌+◌, ℕ, suc, Bool, true, false, List, [], ◌∷◌, ◌++◌, length, drop, nat_lt, Result, Ok, Option, Some, None, refl, ap, sym, ◌∙◌, arith, append_assoc, decimal, codes}
 use Rattle.std.specs.Prelude.{if◌then◌else◌}
 use Rattle.std.specs.Str.{bytes_eq}
-use Rattle.std.specs.List.{join_with_byte, list_all}
 use Rattle.std.proofs.lemmas.Bool.{cond-false, le-ltb, ltb-false}
-use Rattle.std.proofs.lemmas.Bool.Decides.{nat_tests}
 use Rattle.std.proofs.lemmas.List.{length-append}
 use Rattle.hex.specs.Hex.{IsBytes, encode_lower}
-use Rattle.xl_base.specs.declared.moments.TheConstants.{GREATEST_MILLIS}
-use Rattle.xl_tags.specs.Rings.{Ring, key_of}
+use Rattle.xl_tags.specs.Rings.{Ring}
 use Rattle.xl_wire.specs.declared.lengths.TheConstants.{LONGEST_FRAME}
 use Rattle.xl_core.specs.Core.{Core}
 use Rattle.xl_core.specs.declared.event.CoreEvent.{CoreEvent}
@@ -16,21 +13,20 @@ use Rattle.xl_core.specs.declared.event.CoreEvent.TheVariants as event
 use Rattle.xl_sched.specs.declared.refusal.SchedRefusal.{SchedRefusal}
 use Rattle.xl_sched.specs.Choices.{full_of}
 use Rattle.xl_sched.specs.Refusals.{◌>>=◌}
-use Rattle.xl_store.specs.declared.entry.Entry.{Entry}
 use Rattle.xl_store.specs.declared.entry.Saved.{Saved}
 use Rattle.xl_store.specs.declared.entry.Saved.TheVariants as saved
 use Rattle.xl_store.specs.Entries.{IsAllowed, IsOutcome, entry_of}
 use Rattle.xl_audit.specs.declared.word.EntryWord.{EntryWord}
 use Rattle.xl_audit.specs.declared.word.EntryWord.TheVariants as word
 use Rattle.xl_audit.specs.declared.written.Written.{Written}
-use Rattle.xl_audit.specs.Journals.{entry_line, event_text, kind_text, members_text, newline, outcome_text}
-use Rattle.xl_audit.specs.Reading.{arity, event_of, outcome_len, reply_in, least_of, counted_entry, told_entry, relist_entry, counted_relist, entry_in}
+use Rattle.xl_audit.specs.Journals.{entry_line, event_text, kind_text, members_text, outcome_text}
+use Rattle.xl_audit.specs.Reading.{arity, event_of, outcome_len, reply_in, least_of, counted_entry, told_entry, relist_entry, entry_in}
 use Rattle.xl_audit.specs.Replies.{bytes_text}
 use Rattle.xl_audit.specs.Saves.{IsCounted}
 use Rattle.xl_audit.specs.Stored.{IsStoredEvent, IsStoredOutcome}
-use Rattle.xl_audit.specs.Tokens.{bytes_of, outcome_of, number_from}
+use Rattle.xl_audit.specs.Tokens.{bytes_of, outcome_of}
 use Rattle.xl_audit.specs.Values.{space}
-use Rattle.xl_audit.specs.Words.{first, others, tokens, word_at}
+use Rattle.xl_audit.specs.Words.{first, tokens, word_at}
 use Rattle.xl_audit.proofs.Listing.{members_again, members_word, list_again}
 use Rattle.xl_audit.proofs.Numerals.{number_again, moment_again, from_again, id_again, digits_again, peer_again}
 use Rattle.xl_audit.proofs.Parting.{joined_tokens, length-tokens-some}

@@ -1,21 +1,19 @@
 -- The settings' line and the lines of keys are read back.
-use Rattle.std.proofs.Common.{◌≡◌, ◌≢◌, ◌+◌, ◌-◌, ◌<◌, ◌≤◌, ◌==◌, ◌^◌, ℕ, zero, suc, Bool, true, false, List, [], ◌∷◌, ◌++◌, length, get_or, set, replicate, Result, Ok, Err, Option, Some, None, refl, ap, sym, ◌∙◌, arith, append_assoc, decimal, codes}
+use Rattle.std.proofs.Common.{◌≡◌, ◌≢◌, ◌+◌, ◌-◌, ◌≤◌, ◌==◌, ℕ, Bool, true, false, List, [], ◌∷◌, ◌++◌, length, get_or, set, replicate, Result, Ok, Err, Option, Some, None, refl, ap, sym, ◌∙◌, arith, append_assoc, decimal, codes}
 use Rattle.std.specs.Prelude.{is_some}
 use Rattle.std.specs.List.{flat_map, range_with_len}
 use Rattle.std.proofs.lemmas.Bool.{cond-false, ne_eqb}
 use Rattle.std.proofs.lemmas.Bool.Decides.{nat_tests}
 use Rattle.std.proofs.lemmas.List.{length-append}
 use Rattle.hex.specs.Hex.{encode_lower}
-use Rattle.xl_base.specs.declared.moments.TheConstants.{GREATEST_MILLIS}
 use Rattle.xl_ledger.specs.declared.registry.TheConstants.{LEAST_LIMIT, GREATEST_LIMIT}
-use Rattle.xl_tags.specs.Rings.{Ring, key_of, with_key, no_keys}
+use Rattle.xl_tags.specs.Rings.{Ring, key_of, no_keys}
 use Rattle.xl_core.specs.declared.settings.Settings.{Settings}
 use Rattle.xl_sched.specs.declared.refusal.SchedRefusal.{SchedRefusal}
 use Rattle.xl_sched.specs.declared.refusal.SchedRefusal.TheVariants.{Number, Twice}
-use Rattle.xl_sched.specs.Refusals.{◌>>=◌}
 use Rattle.xl_audit.specs.declared.opening.Opening.{Opening}
-use Rattle.xl_audit.specs.Journals.{key_text, list_text, members_text, newline, opening_text, settings_line, validating_text}
-use Rattle.xl_audit.specs.Opening.{opening_of, opening_in, key_in, with_new_key}
+use Rattle.xl_audit.specs.Journals.{key_text, list_text, members_text, opening_text, settings_line, validating_text}
+use Rattle.xl_audit.specs.Opening.{opening_in, key_in}
 use Rattle.xl_audit.specs.Rereading.{MayBeWritten}
 use Rattle.xl_audit.specs.Stored.{IsId}
 use Rattle.xl_audit.specs.Tokens.{yes_of}

@@ -18,8 +18,7 @@ use Rattle.hex.specs.Hex.{IsBytes, encode_lower, encode_with, lower_digits, deco
 use Rattle.hex.proofs.HexLemmas.{decode_of-encode_lower, decode_sized-encode_lower, length-encode_with}
 use Rattle.xl_base.specs.declared.moments.TheConstants.{GREATEST_MILLIS}
 use Rattle.xl_tags.specs.Rings.{Ring, key_of}
-use Rattle.xl_sched.specs.declared.refusal.SchedRefusal.{SchedRefusal}
-use Rattle.xl_sched.specs.declared.refusal.SchedRefusal.TheVariants.{Number, Id, Choice}
+use Rattle.xl_sched.specs.declared.refusal.SchedRefusal.TheVariants.{Number, Id}
 use Rattle.xl_sched.specs.Members.{member_of}
 use Rattle.xl_sched.specs.Numbers.{is_number, value_of, number_within, number_of}
 use Rattle.xl_sched.specs.Refusals.{◌>>=◌}

@@ -1,19 +1,19 @@
 -- A drain into a room is a drain into a part of it, and then one into what is left.
-use Rattle.std.proofs.Common.{◌≡◌, ℕ, zero, suc, ◌+◌, ◌-◌, ◌<◌, ◌≤◌, Bool, true, false, cond, List, [], ◌∷◌, ◌++◌, length, get_or, set, take, drop, map, arith, refl, ap, sym, ◌∙◌, subst, Option, Some, None, inl, inr}
+use Rattle.std.proofs.Common.{◌≡◌, ℕ, zero, suc, ◌+◌, ◌-◌, ◌<◌, ◌≤◌, Bool, true, false, cond, List, [], ◌∷◌, ◌++◌, length, set, take, drop, map, arith, refl, ap, sym, ◌∙◌, subst, Option, Some, None, inl, inr}
 use Rattle.std.specs.Prelude.{count_by, nat_le, option_map}
 use Rattle.std.specs.Option.{is_none}
-use Rattle.std.proofs.lemmas.Bool.{cases_lt, cond-true, cond-false, cond_both, le-leb, leb-true, leb-false, lt-leb}
+use Rattle.std.proofs.lemmas.Bool.{cases_lt, cond-true, cond_both, le-leb, leb-true}
 use Rattle.std.proofs.lemmas.Grind.{flat_map-append}
-use Rattle.std.proofs.lemmas.List.{append-nil, append_assoc, length-append, length-drop, length-take-le, drop-drop, drop-map, drop-append-le, get_or_past, get_or-set_same, set_past, take-append-le, take_all, drop_all}
+use Rattle.std.proofs.lemmas.List.{append_assoc, length-append, length-drop, length-take-le, drop-drop, drop-map, drop-append-le, get_or_past, get_or-set_same, set_past, take-append-le, take_all, drop_all}
 use Rattle.std.proofs.lemmas.List.Elements.{filter_map-append}
 use Rattle.std.proofs.lemmas.List.Sums.{sum_by-append}
-use Rattle.std.proofs.Math.Seq.{drop-append-add, drop-length, take-add, take-length, take-append-add}
+use Rattle.std.proofs.Math.Seq.{drop-append-add, drop-length, take-add}
 use Rattle.xl_base.specs.Counts.{one_more}
 use Rattle.xl_queues.specs.Broadcasts.{queue_of}
 use Rattle.xl_queues.specs.Queues.{Backlog, no_items}
 use Rattle.xl_core.specs.Core.{Core, greeted_frames, all_frames, given_for, drained}
-use Rattle.xl_core.specs.Greetings.{chain_to, greeting_at, greeting_frames, further, further_at, with_greeting}
-use Rattle.xl_core.specs.Items.{framed, frame_of, frames_for, header_body_at}
+use Rattle.xl_core.specs.Greetings.{greeting_at, greeting_frames, further, further_at}
+use Rattle.xl_core.specs.Items.{frame_of, frames_for}
 use Rattle.xl_core.specs.Node.{Node}
 use Rattle.xl_core.specs.Queues.{waiting_at, at_number, after_taking, fitting, that_fit, frames_in, joined, lost_more}
 use Rattle.xl_core.specs.declared.greeting.Greeting.{Greeting}

@@ -1,9 +1,9 @@
 -- What is written of a legal history is read back, and gets yes.
-use Rattle.std.proofs.Common.{◌≡◌, ◌≢◌, ◌+◌, ◌-◌, ◌<◌, ◌≤◌, ◌==◌, ◌||◌, ◌&&◌, not, ℕ, zero, suc, Bool, true, false, cond, List, [], ◌∷◌, ◌++◌, length, Result, Option, Some, None, Ok, Err, refl, ap, sym, ◌∙◌, subst, arith, append_assoc, codes}
+use Rattle.std.proofs.Common.{◌≡◌, ◌≢◌, ◌+◌, ◌-◌, ◌<◌, ◌≤◌, ◌==◌, ◌||◌, ◌&&◌, not, ℕ, zero, suc, Bool, true, false, List, [], ◌∷◌, ◌++◌, length, Result, Option, Some, None, Ok, Err, refl, ap, sym, ◌∙◌, subst, arith, append_assoc, codes}
 use Rattle.std.specs.Prelude.{All, IfSome, IsSome, OnOk, is_some, find}
-use Rattle.std.specs.List.{list_all, range_with_len, flat_map}
+use Rattle.std.specs.List.{range_with_len, flat_map}
 use Rattle.std.specs.Str.{bytes_eq}
-use Rattle.std.proofs.lemmas.Bool.{and_parts, cond-false, cond-true, cond_both, le-ltb, lt-ltb, not-true, ne_eqb, eqb-true}
+use Rattle.std.proofs.lemmas.Bool.{and_parts, cond-false, cond-true, le-ltb, lt-ltb, not-true, ne_eqb, eqb-true}
 use Rattle.std.proofs.lemmas.Bool.Decides.{nat_tests}
 use Rattle.std.proofs.lemmas.List.{length-append}
 use Rattle.std.proofs.lemmas.List.Elements.{All-head, All-tail}
@@ -13,11 +13,11 @@ use Rattle.xl_lines.specs.Lines.{Line, lines_of, onto}
 use Rattle.xl_lines.specs.Rules.{Told, closes}
 use Rattle.xl_lines.specs.Told.{told_by, told_from}
 use Rattle.xl_tags.specs.Opening.{HasKeys}
-use Rattle.xl_tags.specs.Rings.{Ring, IsRing, key_of, no_keys}
+use Rattle.xl_tags.specs.Rings.{Ring, key_of, no_keys}
 use Rattle.xl_turns.specs.Histories.{IsLegal, Runs}
 use Rattle.xl_core.specs.Core.{Core, core_asks}
 use Rattle.xl_core.specs.declared.settings.Settings.{Settings}
-use Rattle.xl_sched.specs.declared.refusal.SchedRefusal.TheVariants.{Header, Late}
+use Rattle.xl_sched.specs.declared.refusal.SchedRefusal.TheVariants.{Late}
 use Rattle.xl_store.specs.declared.entry.Entry.{Entry}
 use Rattle.xl_store.specs.Entries.{Leads, reply_of}
 use Rattle.xl_audit.specs.declared.judging.BadLine.TheVariants.{Refused}
@@ -26,11 +26,11 @@ use Rattle.xl_audit.specs.declared.judging.Stage.TheVariants.{Heading, Setting, 
 use Rattle.xl_audit.specs.declared.limits.TheConstants.{MOST_BYTES, MOST_LINES}
 use Rattle.xl_audit.specs.declared.opening.Opening.{Opening}
 use Rattle.xl_audit.specs.declared.written.Written.{Written}
-use Rattle.xl_audit.specs.Auditing.{Auditing, Step, goes_on, wrong, refuses, answered, judged, entry_step, opening_step, keyed, set, unless_keyless, ended, closing, step, yes_line, limits, rules, audit_of}
-use Rattle.xl_audit.specs.Journals.{entries_text, head_text, journal_text, key_lines, key_text, newline, settings_line, start_of}
-use Rattle.xl_audit.specs.Laws.{written_with, written_over}
+use Rattle.xl_audit.specs.Auditing.{goes_on, wrong, refuses, answered, judged, entry_step, opening_step, keyed, set, unless_keyless, ended, closing, step, yes_line, limits, rules, audit_of}
+use Rattle.xl_audit.specs.Journals.{entries_text, head_text, journal_text, key_lines, key_text, settings_line, start_of}
+use Rattle.xl_audit.specs.Laws.{written_with}
 use Rattle.xl_audit.specs.Opening.{core_of, is_unmet, key_in, unmet}
-use Rattle.xl_audit.specs.Rereading.{KeepsLimits, GetsYes, MayBeWritten, WrittenGetsYes}
+use Rattle.xl_audit.specs.Rereading.{KeepsLimits, WrittenGetsYes}
 use Rattle.xl_audit.specs.Rights.{IsRight, is_right, reply_to}
 use Rattle.xl_audit.specs.Stored.{IsId, IsStored, HasIds}
 use Rattle.xl_audit.specs.Words.{first, tokens}

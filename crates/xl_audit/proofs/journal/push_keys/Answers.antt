@@ -1,4 +1,4 @@
-use Rattle.std.proofs.Common.{◌++◌, ◌∙◌, ℕ, ap, arith, sym, subst}
+use Rattle.std.proofs.Common.{◌++◌, ◌∙◌, ℕ, ap, arith, subst}
 use Rattle.std.specs.Prelude.{IfSome}
 use Rattle.std.specs.String.{string_bytes}
 use Rattle.xl_tags.specs.Rings.{key_of}

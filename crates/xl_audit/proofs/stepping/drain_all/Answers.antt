@@ -1,4 +1,4 @@
-use Rattle.std.proofs.Common.{◌≤◌, ap, sym, ◌∙◌, arith, length}
+use Rattle.std.proofs.Common.{ap, ◌∙◌, arith, length}
 use Rattle.xl_core.specs.Core.{Core}
 use Rattle.xl_audit.proofs.Pieces.{drain_more, drain_over, part_within, still_long}
 use Rattle.xl_audit.proofs.stepping.drain_all.Goals as goal

@@ -1,4 +1,4 @@
-use Rattle.std.proofs.Common.{◌≤◌, ap, ◌∙◌, arith, length}
+use Rattle.std.proofs.Common.{ap, ◌∙◌, arith, length}
 use Rattle.xl_audit.proofs.Pieces.{handing_more, handing_over, still_long}
 use Rattle.xl_audit.proofs.stepping.hand_out_all.Goals as goal
 

@@ -1,7 +1,6 @@
-use Rattle.std.proofs.Common.{◌≡◌, ◌++◌, ℕ, List, [], ap, sym, ◌∙◌, subst, arith, refl}
+use Rattle.std.proofs.Common.{◌≡◌, List, [], sym, subst, arith, refl}
 use Rattle.std.specs.Prelude.{All}
 use Rattle.std.proofs.lemmas.List.Elements.{All-cons, All-nil}
-use Rattle.xl_io.specs.Sinks.{GrewByFront, GrewByLess}
 use Rattle.xl_io.proofs.Growing.{Written, written_none, front_of_written, all_written}
 use Rattle.xl_lines.proofs.Runs.{write_from, passed_on}
 use Rattle.xl_turns.specs.Histories.{IsLegal}
@@ -10,7 +9,7 @@ use Rattle.xl_store.specs.declared.entry.Entry.{Entry}
 use Rattle.xl_store.specs.Entries.{Leads, reply_of}
 use Rattle.xl_audit.specs.Journals.{entries_text}
 use Rattle.xl_audit.specs.Stored.{IsStored}
-use Rattle.xl_audit.proofs.Growing.{next_allowed, next_outcome, later_legal, next_text, line_of, next_written, last_written, none_left, piece_written, piece_front, piece_less, caused_later}
+use Rattle.xl_audit.proofs.Growing.{next_allowed, next_outcome, later_legal, line_of, next_written, last_written, none_left, piece_written, piece_front, piece_less, caused_later}
 use Rattle.xl_audit.proofs.writing.write_entries.Goals as goal
 
 pub loop-entry-init : goal.loop-entry-init
