@@ -2,3 +2,5 @@ mod Seating
 mod Taking
 mod Decisions
 mod AtEnd
+mod Lawful
+mod Rerunning

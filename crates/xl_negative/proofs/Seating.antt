@@ -1,15 +1,8 @@
 -- Seats at their start, and of those who leave nobody out.
 use Rattle.std.proofs.Common.{◌≡◌, ℕ, List, [], length, replicate, refl, sym, subst, arith}
-use Rattle.std.specs.Prelude.{IsTrue}
-use Rattle.std.specs.List.{IsDistinct}
-use Rattle.std.proofs.lemmas.List.Elements.{All-nil}
-use Rattle.xl_lists.specs.Lists.{is_on}
 use Rattle.xl_nunl.specs.Lists.{IsNegative}
+use Rattle.xl_nunl.proofs.Negative.{none_out}
 use Rattle.xl_negative.specs.Seats.{Seat, empty_seat, no_seats}
-
-none_out : (full : List ℕ) → IsNegative full []
-unfolding IsDistinct
-none_out full = record { once = tt; on = All-nil (λ m. IsTrue (is_on full m)); quarter = omega arith }
 
 -- who leaves nobody out may
 pub nobody_out : (full negative : List ℕ) → negative ≡ [] → IsNegative full negative

@@ -12,9 +12,11 @@
 mod command;
 mod deciding;
 mod hearing;
+mod law;
 mod scores;
 mod seat;
 mod seats;
 mod writer;
 
 pub use command::negative;
+pub use law::{changes_are_lawful, written_runs};

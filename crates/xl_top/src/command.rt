@@ -7,7 +7,7 @@ ghost use Rattle.xl_replay.specs.Replays.{report_of};
 ghost use Rattle.xl_top.specs.Commands.{asked_of, told_of, ReadsNothing};
 ghost use Rattle.xl_top.specs.Texts.{WritesText, HasCause, streams};
 ghost use Rattle.xl_top.specs.Undone.{IsUndone};
-ghost use Rattle.xl_validator.specs.Validators.{IsUnopened, Judges, between};
+ghost use Rattle.xl_validator.specs.Validators.{Judges, between};
 ghost use Rattle.xl_words.specs.Commands.{words_of};
 
 use crate::running::run;
@@ -23,8 +23,8 @@ use xl_words::{Command, Telling, WordsFault};
 /// The program: what the words of the command line ask is read from the input and written to the output.
 ///
 /// The words begin with the program's name. They may ask for `replay`, `node`, `show`, `lists`, `merge`, `audit`,
-/// `flags`, `negative` or `gen`, for help, or for the version. Keeper, hub and clock are those of `node`. The keeper comes back,
-/// and so does the journal of the node's store, if one was opened.
+/// `flags`, `negative` or `gen`, for help, or for the version. Keeper, hub and clock are those of `node`. The keeper
+/// comes back, and so does the journal of the node's store, if one was opened and isn't written.
 pub fn top<
     W: Threads + Wait + Sync,
     I: Source,
@@ -66,7 +66,8 @@ pub fn top<
     // was forged they do.
     ensures summaries { (rounds : ℕ) → IsSummary rounds }
     // Of `node`: its settings are judged at one moment that the clock may give. If they are refused no store is opened,
-    // and of their line a front is written; others run a node that is opened at that moment, or nothing is written.
+    // and of their line a front is written; others run a node that is opened at that moment, or nothing is written. The
+    // journal of the node is handed back, or, if the settings ask for it and the run is over, written behind the reports.
     // Else memory ran out before the clock was asked, and nothing was done.
     ensures node { asked_of (words_of words.now) ≡ Some Command.Node
         → Judges K.held K.saves K.faults K.load_gives K.save_gives
@@ -78,8 +79,6 @@ pub fn top<
         (result.keeper ≡ keeper) (hub.new ≡ hub.old) }
     // A journal is that of a node.
     ensures node_ran { IfSome result.journal (λ _. asked_of (words_of words.now) ≡ Some Command.Node) }
-    ensures node_opened { asked_of (words_of words.now) ≡ Some Command.Node → result.journal ≡ None
-        → IsUnopened result.status }
     // Every other command leaves keeper and hub.
     ensures others { asked_of (words_of words.now) ≢ Some Command.Node
         → (result.keeper ≡ keeper) × (hub.new ≡ hub.old) × (result.journal ≡ None) }

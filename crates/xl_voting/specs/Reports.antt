@@ -42,7 +42,7 @@ close_of c id =
 abbrev pub counted_by : Core → ℕ → LedgerId → List ℕ
 counted_by c s id = filter (λ m. is_full_of s id (current_of c.node.rows m)) c.node.list.members
 
--- what a report says, where it is a flag report
+-- what a report says, if it is a flag report
 abbrev pub news_said : {V : Type 0} → List Named → Option (List FlagLine) → V → Said V
 news_said names None v = silent v
 news_said names (Some news) v = said_so (flag_lines names news) v
@@ -58,12 +58,12 @@ flag_said keeping names v i s close counted = record {
   votes = keeping.reported v i s close counted;
 }
 
--- where the node knows the ledger it is one
+-- if the node knows the ledger, its report is a flag report
 abbrev pub known_said : {V : Type 0} → Keeping V → List Named → V → ℕ → ℕ → LedgerId → Core → Option ℕ → Said V
 known_said keeping names v i s id c None = silent v
 known_said keeping names v i s id c (Some close) = flag_said keeping names v i s close (counted_by c s id)
 
--- where there is such a node
+-- if there is such a node
 abbrev pub core_said : {V : Type 0} → Keeping V → List Named → V → ℕ → ℕ → LedgerId → Option Core → Said V
 core_said keeping names v i s id None = silent v
 core_said keeping names v i s id (Some c) = known_said keeping names v i s id c (close_of c id)

@@ -12,11 +12,11 @@ use xl_io::{Sink, Source};
 use xl_lines::{Fault, Verdict, run};
 use xl_running::LIMITS;
 
-/// Reads a schedule with lines of votes from the input to its end, or up to a line that is refused, and writes what each
-/// flag report says to the output, as soon as its line was read.
+/// Reads a schedule with lines of votes from the input to its end, or up to a line that is refused. What each flag
+/// report says is written to the output as soon as its line was read.
 ///
-/// The verdict is `Refused` where the last line says which line was refused. A failed read ends it with `Read`, a
-/// failed write with `Write`, and where memory runs out, at any time, it ends with `Memory`.
+/// The verdict is `Refused` if the last line says which line was refused. A failed read ends the run with `Read`, a
+/// failed write with `Write`. If memory runs out, at any time, the run ends with `Memory`.
 pub fn flags<I: Source, O: Sink>(
     alloc: Global,
     input: &mut I,
@@ -34,7 +34,7 @@ pub fn flags<I: Source, O: Sink>(
     ensures less { IfErr result (λ fault. fault ≢ Fault.Memory → IfSome (I.left input.old) (λ bytes.
         GrewByLess (O.held output.old) (O.held output.new) (flags_of bytes).text)) }
 
-    // A fault is answered only where its count rose.
+    // A fault is answered only if its count rose.
     ensures read { IsErrOf result Fault.Read → Rose (I.faults input.old) (I.faults input.new) }
     ensures write { IsErrOf result Fault.Write → Rose (O.faults output.old) (O.faults output.new) }
     ensures complete { IfErr result (λ fault. ¬ Rose (I.faults input.old) (I.faults input.new)

@@ -28,7 +28,7 @@ pub fn counted_by(
     Ok(counted)
 }
 
-/// When a ledger that a node knows closed, or None where the node doesn't know it.
+/// When a ledger that a node knows closed, or None if the node doesn't know it.
 pub fn close_of(core: &Core<Trie>, id: &LedgerId) -> Option<Secs>
     ensures { result ≡ close_of core.now id.now }
 {

@@ -1,11 +1,11 @@
 //! `xl flags`: which amendments and which fee the members' votes put in force, flag ledger by flag ledger.
 //!
-//! It reads a schedule that may hold lines of votes, and runs it. After each delivery and each timer it looks at what
-//! was reported: a node's report of a flag ledger that it knows is where votes are counted.
+//! It reads a schedule that may hold lines of votes, and runs it. After each delivery, each timer and each other event
+//! it looks at what was reported. At a node's report of a flag ledger that the node knows, votes are counted.
 //!
-//! It is a machine for xl_lines, and stands on xl_running and on xl_flags. Its one contract: what `flags` writes is
-//! read from the list of all votes and flag reports, a function of the bytes that the source held, though one moment
-//! alone is kept for each node and amendment.
+//! Its voter is a machine for xl_lines, and stands on xl_running and on xl_flags. Its one contract: what `flags` writes
+//! is read from the list of all votes and flag reports, a function of the bytes that the source held. One moment alone
+//! is kept for each node and amendment.
 #![tactic(auto)]
 
 mod command;

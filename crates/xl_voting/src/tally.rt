@@ -40,7 +40,7 @@ impl Tally {
         }
     }
 
-    /// A member votes from here on. Refused where too many amendments would be named, or as `OutOfMemory`.
+    /// A member votes from here on. Refused if too many amendments would be named, or as `OutOfMemory`.
     pub fn vote(&mut self, favor: &Favor) -> Result<(), FlagRefusal>
         ensures voted { OnOk result (self.new ≡ tallied.voted self.old favor.now.member favor.now.fee favor.now.ids) }
         ensures many { IfErr result (λ e. e ≡ TooMany

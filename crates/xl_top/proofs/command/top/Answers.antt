@@ -6,7 +6,7 @@ use Rattle.xl_base.specs.declared.status.Status.TheVariants as status
 use Rattle.xl_replay.specs.Statuses.{IsReplayed}
 use Rattle.xl_replay.proofs.Headline.{headline, refusal}
 use Rattle.xl_gen.proofs.Summing.{summarized}
-use Rattle.xl_validator.specs.Validators.{IsKnown, IsUnopened}
+use Rattle.xl_validator.specs.Validators.{IsKnown}
 use Rattle.xl_words.specs.declared.command.Telling.{Telling}
 use Rattle.xl_words.specs.Commands.{command_of, words_of}
 use Rattle.xl_top.specs.Commands.{telling_in, told_of}
@@ -110,22 +110,6 @@ returns-in-Err-Memory-clause-unasked g c =
 pub returns-in-Err-Memory-clause-others : goal.returns-in-Err-Memory-clause-others
 returns-in-Err-Memory-clause-others g c =
     λ _. (c.unopened-in-Err-Memory.ensures.keeper, refl, c.unopened-in-Err-Memory.ensures.journal)
-
-pub returns-in-Ok-Tell-clause-node_opened : goal.returns-in-Ok-Tell-clause-node_opened
-returns-in-Ok-Tell-clause-node_opened g c =
-    λ is. let no = sym (c.in-Ok-Tell.ensures.found ∙ ap Some c.in-Ok-Tell.field-0-is) ∙ is in absurd cc
-
-pub returns-in-Err-Refused-clause-node_opened : goal.returns-in-Err-Refused-clause-node_opened
-returns-in-Err-Refused-clause-node_opened g c =
-    λ is. let no = sym (unasked (command_of (words_of c.args.words.now)) (Err c.in-Err-Refused.field-0) (ap Err c.in-Err-Refused.field-0-is) c.in-Err-Refused.ensures.given) ∙ is in absurd cc
-
-pub returns-in-Ok-Node-clause-node_opened : goal.returns-in-Ok-Node-clause-node_opened
-returns-in-Ok-Node-clause-node_opened g c =
-    λ _. c.validator.ensures.opened
-
-pub returns-in-Err-Memory-clause-node_opened : goal.returns-in-Err-Memory-clause-node_opened
-returns-in-Err-Memory-clause-node_opened g c =
-    λ _ _. subst IsUnopened (sym c.unopened-in-Err-Memory.ensures.status) tt
 
 pub returns-in-Ok-Tell-clause-words : goal.returns-in-Ok-Tell-clause-words
 returns-in-Ok-Tell-clause-words g c =

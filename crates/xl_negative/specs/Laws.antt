@@ -1,0 +1,49 @@
+-- What the lists that are written are, and what reading them gives. Source: this project's negative lists.
+use Rattle.std.specs.Prelude.{◌≡◌, ℕ, List, [], ◌∷◌, IfSome}
+use Rattle.std.specs.Prelude.{Some, None}
+use Rattle.std.specs.declared.option.Option.{Option}
+use Rattle.std.specs.List.{flat_map}
+use Rattle.std.specs.Option.{option_and_then}
+use Rattle.xl_lines.specs.declared.machine.Verdict.TheVariants.{Good}
+use Rattle.xl_lists.specs.Lists.{TrustedList, IsValid}
+use Rattle.xl_nunl.specs.Lists.{IsNegative, MayBeInForce}
+use Rattle.xl_sched.specs.Answers.{LineAnswer, passes, gives, refuses}
+use Rattle.xl_running.specs.Running.{Running, answer_in, at_first, knows}
+use Rattle.xl_negative.specs.Writing.{Change, change_of, negative_of, takes, written}
+
+-- a change leaves out different members of the full list, a quarter at most; the list without them is valid, and may be
+-- in force
+pub record IsLawful (full : List ℕ) (change : Change) : Type 0 where
+  pub negative : IsNegative full change.negative
+  pub valid : IsValid change.list
+  pub in_force : MayBeInForce full change.list
+
+-- The law of changes.
+abbrev pub ChangesAreLawful : Type 0
+ChangesAreLawful = (full : TrustedList) (negative scores : List ℕ) (i : ℕ) → IsValid full → IsNegative full.members negative
+    → IfSome (change_of full.members negative scores i) (IsLawful full.members)
+
+-- the schedule behind a line, unless the line is refused
+abbrev pub read_on : Running → LineAnswer → Option Running
+read_on r (passes reading) = Some (knows r reading)
+read_on r (gives l reading) = Some (takes (knows r reading) l)
+read_on r (refuses why) = None
+
+-- and behind lines
+abbrev pub runs : Running → List (List ℕ) → Option Running
+runs r [] = Some r
+runs r (bytes ∷ lines) = option_and_then (λ next. runs next lines) (read_on r (answer_in r bytes))
+
+-- the text of lines
+abbrev pub texts : List (List ℕ) → List ℕ
+texts lines = flat_map written lines
+
+-- a text is lines that a reader doesn't refuse, and that lead from a schedule to another
+pub record Runs (before : Running) (bytes : List ℕ) (after : Running) : Type 0 where
+  pub lines : List (List ℕ)
+  pub text : bytes ≡ texts lines
+  pub leads : runs before lines ≡ Some after
+
+-- The law of what is written.
+abbrev pub WrittenRuns : Type 0
+WrittenRuns = (bytes : List ℕ) → (negative_of bytes).verdict ≡ Good → (after : Running) × Runs at_first (negative_of bytes).text after

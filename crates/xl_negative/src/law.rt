@@ -1,0 +1,13 @@
+ghost use Rattle.xl_negative.specs.Laws.{ChangesAreLawful, WrittenRuns};
+
+/// The law of changes, which has no code: of a valid list a node leaves out different members, a quarter at most, and
+/// what is left is a valid list that may be in force.
+pub fn changes_are_lawful()
+    ensures { ChangesAreLawful }
+{}
+
+/// The law of what is written, which has no code: unless a line is refused, a reader refuses no line of what is written
+/// either, and what it then runs is what ran here.
+pub fn written_runs()
+    ensures { WrittenRuns }
+{}
