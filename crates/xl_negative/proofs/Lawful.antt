@@ -1,5 +1,5 @@
 -- What a decision leaves out, and the list without that.
-use Rattle.std.proofs.Common.{◌≡◌, ℕ, Bool, true, false, cond, List, Option, Some, None, Result, Ok, Err, refl, subst}
+use Rattle.std.proofs.Common.{◌≡◌, ℕ, Bool, true, false, cond, List, Option, Some, None, Ok, refl, subst}
 use Rattle.std.specs.Prelude.{◌||◌, is_some, IfSome}
 use Rattle.std.proofs.lemmas.Bool.{cond_both}
 use Rattle.xl_base.specs.Refusals.{unless_refused}
@@ -11,7 +11,7 @@ use Rattle.xl_nunl.specs.Deciding.{hears_little, joined_of, joining, leaving, le
 use Rattle.xl_nunl.proofs.Negative.{negative_stays}
 use Rattle.xl_nunl.proofs.Staying.{stays_lawful, stays_list}
 use Rattle.xl_negative.specs.Laws.{ChangesAreLawful, IsLawful}
-use Rattle.xl_negative.specs.Writing.{Change, change_to}
+use Rattle.xl_negative.specs.Writing.{change_to}
 
 -- what is made without a refusal is valid
 made_valid : (r : Option ListRefusal) (l x : TrustedList) → unless_refused r l ≡ Ok x → (r ≡ None → IsValid l) → IsValid x

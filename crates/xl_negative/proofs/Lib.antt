@@ -4,3 +4,4 @@ mod Decisions
 mod AtEnd
 mod Lawful
 mod Rerunning
+mod InForce

@@ -7,7 +7,7 @@ use Rattle.std.proofs.lemmas.Grind.{flat_map-append}
 use Rattle.xl_lines.specs.declared.limits.Overrun.TheVariants.{LongLine, ManyLines}
 use Rattle.xl_lines.specs.declared.machine.Verdict.TheVariants.{Good, Refused}
 use Rattle.xl_lines.specs.Lines.{Line as InputLine, lines_of, content}
-use Rattle.xl_lines.specs.Rules.{Step, Told, goes_on, refuses as stops, finds, closes}
+use Rattle.xl_lines.specs.Rules.{Step, goes_on, refuses as stops, finds, closes}
 use Rattle.xl_lines.specs.Told.{step_at, step_within, told_by, told_from}
 use Rattle.xl_sched.specs.declared.line.Line.{Line}
 use Rattle.xl_sched.specs.declared.line.Line.TheVariants as line
@@ -17,11 +17,11 @@ use Rattle.xl_spelling.specs.Spellings.{spelling}
 use Rattle.xl_world.specs.declared.outcome.Outcome.{Outcome}
 use Rattle.xl_world.specs.declared.outcome.Outcome.TheVariants as outcome
 use Rattle.xl_world.specs.Schedule.{outcomes}
-use Rattle.xl_running.specs.Running.{Running, answer_in, knows, limits, world_of}
+use Rattle.xl_running.specs.Running.{Running, answer_in, limits, world_of}
 use Rattle.xl_running.specs.Texts.{bad_line}
 use Rattle.xl_negative.specs.Laws.{Runs, WrittenRuns, read_on, runs, texts}
 use Rattle.xl_negative.specs.Seats.{seat_at, with_leaving_out}
-use Rattle.xl_negative.specs.Writing.{Change, Writing, added, after_answer, after_line, after_outcome, after_outcomes, and_then, at_first, change_at, counted, ending, goes_over, happened, ledgers_at, list_line, rules, takes, written}
+use Rattle.xl_negative.specs.Writing.{Change, Writing, added, after_answer, after_line, after_outcome, after_outcomes, and_then, at_first, change_at, counted, goes_over, happened, ledgers_at, list_line, rules, takes, written}
 
 -- ---- lines behind lines
 

@@ -1,5 +1,5 @@
 -- Seats at their start, and of those who leave nobody out.
-use Rattle.std.proofs.Common.{◌≡◌, ℕ, List, [], length, replicate, refl, sym, subst, arith}
+use Rattle.std.proofs.Common.{◌≡◌, ℕ, List, [], length, replicate, refl, sym, subst}
 use Rattle.xl_nunl.specs.Lists.{IsNegative}
 use Rattle.xl_nunl.proofs.Negative.{none_out}
 use Rattle.xl_negative.specs.Seats.{Seat, empty_seat, no_seats}

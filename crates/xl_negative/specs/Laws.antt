@@ -1,12 +1,13 @@
 -- What the lists that are written are, and what reading them gives. Source: this project's negative lists.
-use Rattle.std.specs.Prelude.{◌≡◌, ℕ, List, [], ◌∷◌, IfSome}
+use Rattle.std.specs.Prelude.{◌≡◌, ◌⊎◌, ℕ, ◌+◌, ◌*◌, ◌≤◌, ◌<◌, List, [], ◌∷◌, length, count_by, IfSome}
 use Rattle.std.specs.Prelude.{Some, None}
 use Rattle.std.specs.declared.option.Option.{Option}
 use Rattle.std.specs.List.{flat_map}
 use Rattle.std.specs.Option.{option_and_then}
 use Rattle.xl_lines.specs.declared.machine.Verdict.TheVariants.{Good}
-use Rattle.xl_lists.specs.Lists.{TrustedList, IsValid}
-use Rattle.xl_nunl.specs.Lists.{IsNegative, MayBeInForce}
+use Rattle.xl_lists.specs.Lists.{TrustedList, IsValid, is_on}
+use Rattle.xl_lists.specs.Quorums.{Enough}
+use Rattle.xl_nunl.specs.Lists.{IsNegative, MayBeInForce, least_quorum, list_without}
 use Rattle.xl_sched.specs.Answers.{LineAnswer, passes, gives, refuses}
 use Rattle.xl_running.specs.Running.{Running, answer_in, at_first, knows}
 use Rattle.xl_negative.specs.Writing.{Change, change_of, negative_of, takes, written}
@@ -22,6 +23,18 @@ pub record IsLawful (full : List ℕ) (change : Change) : Type 0 where
 abbrev pub ChangesAreLawful : Type 0
 ChangesAreLawful = (full : TrustedList) (negative scores : List ℕ) (i : ℕ) → IsValid full → IsNegative full.members negative
     → IfSome (change_of full.members negative scores i) (IsLawful full.members)
+
+-- a list that may come into force at a node which leaves out members of its full list, and that list itself
+abbrev pub IsInForce : TrustedList → TrustedList → Type 0
+IsInForce full list =
+    (list ≡ full) ⊎ ((negative : List ℕ) × IsNegative full.members negative × (list ≡ list_without full.members negative))
+
+-- The law of lists in force: at two nodes with one full list, some of whose members are liars, any two are enough for
+-- each other, where twice the least quorum exceeds the members and the liars among them.
+abbrev pub ListsAreEnough : Type 0
+ListsAreEnough = (full a b : TrustedList) (liars : List ℕ) → IsValid full → least_quorum (length full.members) ≤ full.quorum
+    → length full.members + count_by (is_on liars) full.members < 2 * least_quorum (length full.members)
+    → IsInForce full a → IsInForce full b → Enough liars a b
 
 -- the schedule behind a line, unless the line is refused
 abbrev pub read_on : Running → LineAnswer → Option Running

@@ -19,4 +19,4 @@ mod seats;
 mod writer;
 
 pub use command::negative;
-pub use law::{changes_are_lawful, written_runs};
+pub use law::{changes_are_lawful, lists_are_enough, written_runs};
