@@ -112,7 +112,6 @@ VERDICT, PAIR, PAPER, FRAME = lines(VERDICT_FORMS), lines(PAIR_FORMS), lines(PAP
 REPLAY_END, SHOW_END = SHORT + '*' + FORGED + VERDICT, lines(SHOW_END_FORMS)
 REPORT, SETTINGS = lines(REPORT_FORMS), 'settings (?:.|\n)*\n'
 MERGED, AUDITED = lines(MERGE_FORMS), lines(AUDIT_FORMS)
-WRITTEN = '(?:[^\n]*\n)'
 FLAG, FLAGS_END = lines(FLAGS_FORMS[:-1]), lines(FLAGS_FORMS[-1:])
 
 WHOLE = {
@@ -132,9 +131,6 @@ WHOLE = {
     ('audit', 3): BAD_LINE + '|' + AUDITED,
     ('merge', 0): MERGED + '*',
     ('merge', 3): MERGED + '*' + BAD_LINE,
-    # a schedule as it stands, whose last line may lack its end, and `list` lines
-    ('negative', 0): WRITTEN + '*[^\n]*',
-    ('negative', 3): WRITTEN + '*' + BAD_LINE,
     ('flags', 0): FLAG + '*' + FLAGS_END,
     ('flags', 3): FLAG + '*' + BAD_LINE,
 }
@@ -146,8 +142,10 @@ LINE = {
     'merge': '|'.join((MERGED, BAD_LINE)),
     'flags': '|'.join((FLAG, FLAGS_END, BAD_LINE)),
     'audit': '|'.join((AUDITED, BAD_LINE)),
-    'negative': WRITTEN + '?',
 }
+# what `negative` writes is no report: lines of a schedule, and behind them `list` lines
+WRITTEN = '(?:[^\n]*\n)'
+SCHEDULES = {('negative', 0): WRITTEN + '*', ('negative', 3): WRITTEN + '*' + BAD_LINE}
 SAID = {8: b'xl: network failed\n', 9: b'xl: store full\n'}
 ENDS = {('replay', 1): b'fork ', ('replay', 0): b'agree', ('show', 0): b'frames ', ('show', 3): b'bad '}
 ENDS.update({('audit', 0): b'yes ', ('audit', 1): b'no ', ('audit', 3): b'bad '})
@@ -163,10 +161,11 @@ def matches(form, text):
 def why_strange(command, status, text):
     """What of the text isn't of the command's forms, or None. The status is one that the command has."""
     last = text[:-1].rpartition(b'\n')[2]
-    if matches(WHOLE[command, status], text) and last.startswith(ENDS.get((command, status), b'')):
+    form = WHOLE.get((command, status)) or SCHEDULES[command, status]
+    if matches(form, text) and last.startswith(ENDS.get((command, status), b'')):
         return None
     for number, line in enumerate(re.findall(b'[^\n]*\n|[^\n]+', text), 1):
-        if not matches(LINE[command], line):
+        if not matches(LINE.get(command, WRITTEN), line):
             return 'line %d of the output has no known form: %r' % (number, line[:200])
     return 'the lines of the output don\'t stand as they may with status %d' % status
 
