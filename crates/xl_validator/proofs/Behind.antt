@@ -10,14 +10,14 @@ use Rattle.xl_turns.specs.Histories.{IsLegal}
 use Rattle.xl_core.specs.Core.{Core}
 use Rattle.xl_store.specs.declared.entry.Entry.{Entry}
 use Rattle.xl_store.specs.Entries.{Leads}
-use Rattle.xl_heartbeat.specs.Outputs.{Output, Adds, AddsLess}
+use Rattle.xl_heartbeat.specs.Outputs.{Output}
 use Rattle.xl_audit.specs.Journals.{journal_text, start_of}
 use Rattle.xl_core.specs.declared.settings.Settings.{Settings as CoreSettings}
 use Rattle.xl_settings.specs.declared.settings.Settings.{Settings}
 use Rattle.xl_validator.specs.ListsSet.{IsEverKeyed}
 use Rattle.xl_validator.specs.Openings.{Task, core_settings, opening_core, task_of}
 use Rattle.xl_validator.specs.Preparing.{Leaves}
-use Rattle.xl_validator.specs.Recordings.{AddsFront, IsWritten, is_over, is_written, text_of}
+use Rattle.xl_validator.specs.Recordings.{IsWritten, is_over, is_written, text_of}
 use Rattle.xl_validator.specs.Validators.{Between, Goes, HasRecorded, HasRun, IsOfNode, IsUnopened, Loads}
 use Rattle.xl_validator.proofs.SettingLists.{are_set}
 
