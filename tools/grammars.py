@@ -111,6 +111,9 @@ BAD_LINE, OUTCOME, SHORT, FORGED = lines(BAD_LINE_FORMS), lines(OUTCOME_FORMS), 
 VERDICT, PAIR, PAPER, FRAME = lines(VERDICT_FORMS), lines(PAIR_FORMS), lines(PAPER_FORMS), lines(FRAME_FORMS)
 REPLAY_END, SHOW_END = SHORT + '*' + FORGED + VERDICT, lines(SHOW_END_FORMS)
 REPORT, SETTINGS = lines(REPORT_FORMS), 'settings (?:.|\n)*\n'
+ENTRIES = 'frame|timer|submit|issue|greet|drain|reports|stop|stopped|relist'
+JOURNAL_LINE = '(?:(?:xl-journal 1|settings|key|%s)(?: [^\n]*)?\n)' % ENTRIES
+JOURNAL = '(?:xl-journal 1\n%s*)?' % JOURNAL_LINE
 MERGED, AUDITED = lines(MERGE_FORMS), lines(AUDIT_FORMS)
 FLAG, FLAGS_END = lines(FLAGS_FORMS[:-1]), lines(FLAGS_FORMS[-1:])
 
@@ -122,10 +125,10 @@ WHOLE = {
     ('lists', 3): BAD_LINE,
     ('show', 0): FRAME + '*' + SHOW_END,
     ('show', 3): FRAME + '*' + SHOW_END,
-    ('node', 0): REPORT + '*',
+    ('node', 0): REPORT + '*' + JOURNAL,
     ('node', 3): SETTINGS,
     ('node', 8): REPORT + '*',
-    ('node', 9): REPORT + '*',
+    ('node', 9): REPORT + '*' + JOURNAL,
     ('audit', 0): AUDITED,
     ('audit', 1): AUDITED,
     ('audit', 3): BAD_LINE + '|' + AUDITED,
@@ -138,7 +141,7 @@ LINE = {
     'replay': '|'.join((OUTCOME, SHORT, FORGED, VERDICT, BAD_LINE)),
     'lists': '|'.join((PAIR, PAPER, BAD_LINE)),
     'show': '|'.join((FRAME, SHOW_END)),
-    'node': '|'.join((REPORT, SETTINGS)),
+    'node': '|'.join((REPORT, JOURNAL_LINE, SETTINGS)),
     'merge': '|'.join((MERGED, BAD_LINE)),
     'flags': '|'.join((FLAG, FLAGS_END, BAD_LINE)),
     'audit': '|'.join((AUDITED, BAD_LINE)),
