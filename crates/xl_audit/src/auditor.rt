@@ -23,7 +23,8 @@ use xl_tags::Keys;
 #[derive(Drop)]
 pub struct Auditor {
     alloc: Global,
-    core: AuditedCore,
+    /// Behind a pointer, since it is large and goes along from line to line.
+    core: Box<AuditedCore>,
 }
 
 impl Model for Auditor {
@@ -31,7 +32,7 @@ impl Model for Auditor {
 
     ghost Value = { Core };
 
-    ghost view = { λ auditor. auditor.core };
+    ghost view = { λ auditor. auditor.core.value };
 }
 
 impl Auditor {
@@ -49,7 +50,7 @@ impl Auditor {
         requires moment { now ≤ GREATEST_MILLIS }
         ensures opened { IfOk result (λ auditor. auditor ≡ with_queues (opened settings now kept)) }
     {
-        let core = Core::open(alloc, settings, now, kept)?;
+        let core = Box::new(alloc, Core::open(alloc, settings, now, kept)?)?;
         Ok(Auditor { alloc, core })
     }
 
@@ -71,7 +72,7 @@ impl Auditor {
         let mut text = String::new(self.alloc);
         reply_to(
             self.alloc,
-            &mut self.core,
+            &mut *self.core,
             &entry.event,
             &mut keeper,
             &mut text,
@@ -92,7 +93,7 @@ impl Auditor {
         let mut text = String::new(self.alloc);
         reply_to(
             self.alloc,
-            &mut self.core,
+            &mut *self.core,
             &written.entry.event,
             &mut keeper,
             &mut text,
