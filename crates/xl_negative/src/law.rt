@@ -21,8 +21,8 @@ pub fn added_are_lists()
     lists_are_read();
 }
 
-/// The law of what is written, which has no code: unless a line is refused, a reader refuses no line of what is written
-/// either, and what it then runs is what ran here.
+/// The law of what is written, which has no code: unless a line is refused, what is written is lines of which a reader
+/// refuses none.
 pub fn written_runs()
     ensures { WrittenRuns }
 {}
