@@ -19,7 +19,7 @@ use Rattle.xl_world.specs.declared.outcome.Outcome.TheVariants as outcome
 use Rattle.xl_world.specs.Schedule.{outcomes}
 use Rattle.xl_running.specs.Running.{Running, answer_in, limits, world_of}
 use Rattle.xl_running.specs.Texts.{bad_line}
-use Rattle.xl_negative.specs.Laws.{Runs, WrittenRuns, read_on, runs, texts}
+use Rattle.xl_negative.specs.Laws.{Runs, WrittenRuns, led_by, ran_from, read_on, runs, texts}
 use Rattle.xl_negative.specs.Seats.{seat_at, with_leaving_out}
 use Rattle.xl_negative.specs.Writing.{Change, Writing, added, after_answer, after_line, after_outcome, after_outcomes, and_then, at_first, change_at, counted, goes_over, happened, ledgers_at, rules, takes, written}
 
@@ -119,21 +119,21 @@ step_reaches left s l =
 
 -- ---- all lines
 
-told_reaches : (left : ℕ) (s : Writing) (ls : List InputLine) → (told_from limits rules left s ls).verdict ≡ Good → (after : Running) × Runs s.running (told_from limits rules left s ls).text after
-unfolding told_by
+told_reaches : (left : ℕ) (s : Writing) (ls : List InputLine) → (told_from limits rules left s ls).verdict ≡ Good → (after : Writing) × (ran_from left s ls ≡ Some after) × Runs s.running (told_from limits rules left s ls).text after.running
+unfolding told_by led_by
 told_reaches left s [] good =
-    cond_both (s.lines == 0) (closes (bad_line 1 (Header [])) Refused) (closes [] Good) (λ told. told.verdict ≡ Good → (after : Running) × Runs s.running told.text after)
-    (λ _ never. absurd cc) (λ _ _. (s.running, runs_nothing s.running)) good
+    cond_both (s.lines == 0) (closes (bad_line 1 (Header [])) Refused) (closes [] Good) (λ told. told.verdict ≡ Good → (after : Writing) × (Some s ≡ Some after) × Runs s.running told.text after.running)
+    (λ _ never. absurd cc) (λ _ _. (s, refl, runs_nothing s.running)) good
 told_reaches left s (l ∷ ls) good =
     by_step (step_at limits rules left s l) (λ next well. told_reaches (left - 1) next ls well) (step_reaches left s l) good
   where
     by_step : (step : Step Writing)
-        → ((next : Writing) → (told_from limits rules (left - 1) next ls).verdict ≡ Good → (after : Running) × Runs next.running (told_from limits rules (left - 1) next ls).text after)
+        → ((next : Writing) → (told_from limits rules (left - 1) next ls).verdict ≡ Good → (after : Writing) × (ran_from (left - 1) next ls ≡ Some after) × Runs next.running (told_from limits rules (left - 1) next ls).text after.running)
         → Reaches s.running step → (told_by (λ next. told_from limits rules (left - 1) next ls) step).verdict ≡ Good
-        → (after : Running) × Runs s.running (told_by (λ next. told_from limits rules (left - 1) next ls) step).text after
+        → (after : Writing) × (led_by (λ next. ran_from (left - 1) next ls) step ≡ Some after) × Runs s.running (told_by (λ next. told_from limits rules (left - 1) next ls) step).text after.running
     by_step (goes_on text next) still reached well =
         let rest = still next well in
-        (rest.0, runs_then text (told_from limits rules (left - 1) next ls).text reached rest.1)
+        (rest.0, rest.1, runs_then text (told_from limits rules (left - 1) next ls).text reached rest.2)
     by_step (stops text) still reached well = absurd cc
     by_step (finds text) still reached well = absurd cc
 

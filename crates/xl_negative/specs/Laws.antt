@@ -1,19 +1,21 @@
 -- What the lists that are written are, and what reading them gives. Source: this project's negative lists.
-use Rattle.std.specs.Prelude.{◌≡◌, ◌⊎◌, ℕ, ◌+◌, ◌*◌, ◌≤◌, ◌<◌, List, [], ◌∷◌, ◌++◌, length, count_by, IfSome}
+use Rattle.std.specs.Prelude.{◌≡◌, ◌⊎◌, ℕ, ◌+◌, ◌-◌, ◌*◌, ◌≤◌, ◌<◌, List, [], ◌∷◌, ◌++◌, length, count_by, IfSome}
 use Rattle.std.specs.Prelude.{Some, None}
 use Rattle.std.specs.declared.option.Option.{Option}
 use Rattle.std.specs.List.{flat_map}
 use Rattle.std.specs.Option.{option_and_then}
 use Rattle.xl_lines.specs.declared.machine.Verdict.TheVariants.{Good}
-use Rattle.xl_lines.specs.Rules.{Step, goes_on}
+use Rattle.xl_lines.specs.Lines.{Line as InputLine, lines_of}
+use Rattle.xl_lines.specs.Rules.{Step, goes_on, refuses as stops, finds}
+use Rattle.xl_lines.specs.Told.{step_at}
 use Rattle.xl_lists.specs.Lists.{TrustedList, IsValid, is_on}
 use Rattle.xl_lists.specs.Quorums.{Enough}
 use Rattle.xl_nunl.specs.Lists.{IsNegative, MayBeInForce, least_quorum, list_without}
 use Rattle.xl_sched.specs.Answers.{LineAnswer, passes, gives, refuses}
 use Rattle.xl_sched.specs.Reading.{after}
-use Rattle.xl_running.specs.Running.{Running, answer_in, at_first, knows}
+use Rattle.xl_running.specs.Running.{Running, answer_in, at_first, knows, limits}
 use Rattle.xl_spelling.specs.Spellings.{MayBeSet, list_line, spelling}
-use Rattle.xl_negative.specs.Writing.{Change, Writing, adds, change_of, negative_of, takes, with_running, written}
+use Rattle.xl_negative.specs.Writing.{Change, Writing, adds, at_first as nothing_read, change_of, negative_of, rules, takes, with_running, written}
 
 -- a change leaves out different members of the full list, a quarter at most; the list without them is valid, and may be
 -- in force
@@ -71,6 +73,22 @@ pub record Runs (before : Running) (bytes : List ℕ) (after : Running) : Type 0
   pub text : bytes ≡ texts lines
   pub leads : runs before lines ≡ Some after
 
--- The law of what is written.
+-- what a step leads to, and what further lines then lead to, unless the text ends there
+unfoldable pub led_by : (Writing → Option Writing) → Step Writing → Option Writing
+led_by further (goes_on text s) = further s
+led_by further (stops text) = None
+led_by further (finds text) = None
+
+-- what the lines of an input lead to
+abbrev pub ran_from : ℕ → Writing → List InputLine → Option Writing
+ran_from left s [] = Some s
+ran_from left s (l ∷ ls) = led_by (λ next. ran_from (left - 1) next ls) (step_at limits rules left s l)
+
+-- what ran here once the whole input was read
+abbrev pub ran_by : List ℕ → Option Writing
+ran_by bytes = ran_from limits.lines nothing_read (lines_of bytes)
+
+-- The law of what is written: it leads to the schedule that ran here.
 abbrev pub WrittenRuns : Type 0
-WrittenRuns = (bytes : List ℕ) → (negative_of bytes).verdict ≡ Good → (after : Running) × Runs at_first (negative_of bytes).text after
+WrittenRuns = (bytes : List ℕ) → (negative_of bytes).verdict ≡ Good
+    → (after : Writing) × (ran_by bytes ≡ Some after) × Runs at_first (negative_of bytes).text after.running

@@ -22,7 +22,7 @@ pub fn added_are_lists()
 }
 
 /// The law of what is written, which has no code: unless a line is refused, what is written is lines of which a reader
-/// refuses none.
+/// refuses none, and who runs them comes to the schedule that ran here.
 pub fn written_runs()
     ensures { WrittenRuns }
 {}
