@@ -1,6 +1,8 @@
 pub mod Counts
 pub mod Faults
 pub mod Statuses
+pub mod Moments
+pub mod Members
 pub mod Hashes
 pub mod Sets
 pub mod Ids

@@ -3,7 +3,7 @@ use Rattle.std.specs.Prelude.{Bool, List, [], ◌∷◌, Option, Some, None, Res
 use Rattle.std.specs.Option.{option_or}
 
 module _ {Cause : Type 0} where
-  -- a cause, where it holds
+  -- a cause, if it holds
   abbrev pub refused_if : Bool → Cause → Option Cause
   refused_if holds cause = if holds then Some cause else None
 
@@ -12,7 +12,7 @@ module _ {Cause : Type 0} where
   first_of [] = None
   first_of (cause ∷ causes) = option_or cause (first_of causes)
 
--- a value, where no cause holds
+-- a value, unless a cause holds
 abbrev pub unless_refused : {X Cause : Type 0} → Option Cause → X → Result X Cause
 unless_refused None x = Ok x
 unless_refused (Some cause) x = Err cause

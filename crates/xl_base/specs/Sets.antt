@@ -7,7 +7,6 @@ use Rattle.std.specs.List.{flat_map}
 use Rattle.xl_base.specs.Hashes.{half}
 use Rattle.xl_base.specs.declared.ids.TxId.{TxId}
 use Rattle.xl_base.specs.declared.ids.SetId.{SetId}
-use Rattle.xl_base.specs.declared.sets.TheConstants.{MOST_IDS}
 
 -- at the first byte where they differ the first list has the lower one
 abbrev pub comes_before : List ℕ → List ℕ → Bool
@@ -25,10 +24,14 @@ abbrev pub IsRising : List TxId → Type 0
 IsRising [] = Unit {0}
 IsRising (a ∷ ids) = RisesFrom a ids
 
--- what every set keeps
+-- the most ids of a set
+abbrev pub most_ids : ℕ
+most_ids = 256
+
+-- what is true of every set
 pub record IsSet (ids : List TxId) : Type 0 where
   pub rising : IsRising ids
-  pub at_most : length ids ≤ MOST_IDS
+  pub at_most : length ids ≤ most_ids
 
 -- one id after the other
 abbrev pub id_bytes : List TxId → List ℕ

@@ -2,15 +2,18 @@
 //! hash, and how fields are put into bytes.
 //!
 //! It stands on the kit's `sha2` and `byteorder`. Its one contract: `half512` is the first half of SHA-512, and
-//! `set_id` is that of a set's prefix and ids. `TxIds` has the ids of a set that an event of a schedule names.
+//! `set_id` is that of a set's prefix and ids. `TxIds` has the ids of a set that an event of a schedule names. Ids are
+//! ordered by their bytes, and are compared eight bytes at a time.
 #![tactic(auto)]
 
 mod bytes;
 mod hash;
 mod ids;
+mod law;
 mod memory;
 mod moments;
 mod node_no;
+mod order;
 mod putting;
 mod sets;
 mod status;
@@ -20,6 +23,7 @@ mod tx_ids;
 pub use bytes::Bytes;
 pub use hash::half512;
 pub use ids::{LedgerId, SetId, TxId};
+pub use law::constants_are_as_defined;
 pub use memory::OutOfMemory;
 pub use moments::{FUTURE_SECS, GREATEST_MILLIS, Millis, PAST_SECS, Secs, Seq, secs_of};
 pub use node_no::{GREATEST_NODE_NO, MOST_MEMBERS, NodeNo};

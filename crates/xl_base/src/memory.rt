@@ -1,6 +1,6 @@
 use std::alloc::{AllocError, AllocFailed};
 
-/// Memory was wanting. The call that answers it says what it leaves.
+/// Memory ran out. The call that returns it says what it leaves.
 #[derive(Clone, Copy, Debug, PartialEq, Eq)]
 pub struct OutOfMemory;
 

@@ -1,12 +1,12 @@
 ghost use Rattle.std.specs.Prelude.{◌≡◌, ◌≤◌, SomeIff};
-ghost use Rattle.xl_base.specs.declared.node_no.TheConstants.{GREATEST_NODE_NO};
+ghost use Rattle.xl_base.specs.Members.{greatest_node_no};
 
 use std::marker::Model;
 
 /// The greatest number of a member.
 pub const GREATEST_NODE_NO: u32 = 64;
 
-/// There are at most so many members, one for each number.
+/// The most members, one for each number.
 pub const MOST_MEMBERS: usize = GREATEST_NODE_NO as usize;
 
 /// A member's number, from 1 to 64.
@@ -30,7 +30,7 @@ impl Model for NodeNo {
 impl NodeNo {
     /// The member of a number, or None for one outside 1 to 64.
     pub fn new(number: u32) -> Option<NodeNo>
-        ensures { SomeIff result ((1 ≤ number) × (number ≤ GREATEST_NODE_NO)) number }
+        ensures { SomeIff result ((1 ≤ number) × (number ≤ greatest_node_no)) number }
     {
         if 1 <= number && number <= GREATEST_NODE_NO {
             Some(NodeNo {
@@ -44,7 +44,7 @@ impl NodeNo {
     pub fn get(self) -> u32
         ensures value { result ≡ self }
         ensures first { 1 ≤ result }
-        ensures last { result ≤ GREATEST_NODE_NO }
+        ensures last { result ≤ greatest_node_no }
     {
         u32::from(self.number)
     }

@@ -5,7 +5,7 @@ use crate::hash::first_half;
 use crate::{SetId, TxId};
 use sha2::{Digest, Sha512};
 
-/// A set has at most so many ids.
+/// The most ids of a set.
 pub const MOST_IDS: usize = 256;
 
 /// The id of a set: the half hash of `TXS`, a zero byte, and the ids one after the other.
