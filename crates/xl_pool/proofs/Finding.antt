@@ -17,13 +17,13 @@ module _ {T : Type 0} where
   given slot generation = cond (slot.generation == generation) slot.value None
 
   -- an empty slot gives nothing, another one its value to its own generation alone
-  given_empty : (slot : Slot T) (generation : ℕ) → slot.value ≡ None → given slot generation ≡ None
+  pub given_empty : (slot : Slot T) (generation : ℕ) → slot.value ≡ None → given slot generation ≡ None
   given_empty slot generation empty = cond_both (slot.generation == generation) slot.value None (λ v. v ≡ None) (λ _. empty) (λ _. refl)
 
   pub given_own : (slot : Slot T) (generation : ℕ) → slot.generation ≡ generation → given slot generation ≡ slot.value
   given_own slot generation same = cond_both (slot.generation == generation) slot.value None (λ v. v ≡ slot.value) (λ _. refl) (λ no. absurd (grind (arith, nat_tests)))
 
-  given_other : (slot : Slot T) (generation : ℕ) → slot.generation ≢ generation → given slot generation ≡ None
+  pub given_other : (slot : Slot T) (generation : ℕ) → slot.generation ≢ generation → given slot generation ≡ None
   given_other slot generation differs = cond_both (slot.generation == generation) slot.value None (λ v. v ≡ None) (λ yes. absurd (differs (grind (arith, nat_tests)))) (λ _. refl)
 
   -- a name that finds a value has its slot's generation

@@ -1,4 +1,5 @@
 pub mod Counting
 pub mod Finding
 mod FreeLists
+mod Untouched
 mod Soundness

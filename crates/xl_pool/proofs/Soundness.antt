@@ -1,5 +1,5 @@
 -- What each change of one slot leaves of the count and of the free list.
-use Rattle.std.proofs.Common.{◌≡◌, ℕ, zero, suc, ◌+◌, ◌-◌, ◌%◌, ◌^◌, ◌<◌, List, length, map, get_or, set, slice_get, Option, Some, None, is_some, IsSome, refl, sym, ap, subst, ◌∙◌, arith, length-set}
+use Rattle.std.proofs.Common.{◌≡◌, ℕ, zero, suc, ◌+◌, ◌-◌, ◌%◌, ◌^◌, ◌<◌, ◌≤◌, List, length, map, get_or, set, slice_get, Option, Some, None, is_some, IsSome, refl, sym, ap, subst, ◌∙◌, arith, length-set}
 use Rattle.std.proofs.lemmas.Bool.{true≢false}
 use Rattle.std.proofs.lemmas.List.{map-set, length-map, get_or-map, set-get_or}
 use Rattle.std.proofs.lemmas.Option.{slice_get_within, slice_get_read, get_or_from_slice_get}
@@ -11,7 +11,7 @@ use Rattle.xl_pool.specs.declared.entry.Content.TheVariants.{Free, Held}
 use Rattle.xl_pool.proofs.Counting.{counts, live-set}
 use Rattle.xl_pool.specs.declared.name.Name.{Name}
 use Rattle.xl_pool.proofs.Finding.{given, given_own, of_found, found_within}
-use Rattle.xl_pool.proofs.FreeLists.{without_first, with_first}
+use Rattle.xl_pool.proofs.FreeLists.{linked_within, without_first, with_first}
 
 module _ {T : Type 0} where
   -- a slot with a value leads to no free one, and is counted
@@ -34,7 +34,7 @@ module _ {T : Type 0} where
       get_or-map seen entries slot e empty_slot (slice_get_within entries slot e found) ∙ ap seen (get_or_from_slice_get entries slot e e found)
 
   -- the link of a slot that is there
-  link_at : (entries : List (Entry T)) (slot : ℕ) (e : Entry T) → slice_get entries slot ≡ Some e → get_or (map link_of entries) slot None ≡ link_of e
+  pub link_at : (entries : List (Entry T)) (slot : ℕ) (e : Entry T) → slice_get entries slot ≡ Some e → get_or (map link_of entries) slot None ≡ link_of e
   link_at entries slot e found =
       get_or-map link_of entries slot e None (slice_get_within entries slot e found) ∙ ap link_of (get_or_from_slice_get entries slot e e found)
 
@@ -153,3 +153,18 @@ module _ {T : Type 0} where
       let gives : get (map seen entries) name ≡ given (seen e) name.generation = ap (λ s. given s name.generation) shown in
       let own = of_found (seen e) name.generation (subst IsSome gives found) in
       record { stands = stands; generation = own.0; held = own.1; finds = gives ∙ given_own (seen e) name.generation own.0 }
+
+  -- a first free slot that is there leaves room, and one that isn't leaves none
+  pub has_room : (entries : List (Entry T)) (count first : ℕ) → IsSound entries count first → first < length entries → live (map seen entries) < length (map seen entries)
+  has_room entries count first sound below = by_count sound.frees sound.total sound.linked
+    where
+      by_count : (n : ℕ) → count + n ≡ length entries → IsFreeList (map link_of entries) n first → live (map seen entries) < length (map seen entries)
+      by_count zero total p = absurd (omega (arith, p, below, length-map entries link_of))
+      by_count (suc n) total p = omega (arith, total, sound.counted, length-map entries seen)
+
+  pub is_full : (entries : List (Entry T)) (count first : ℕ) → IsSound entries count first → length entries ≤ first → live (map seen entries) ≡ length (map seen entries)
+  is_full entries count first sound past = by_count sound.frees sound.total sound.linked
+    where
+      by_count : (n : ℕ) → count + n ≡ length entries → IsFreeList (map link_of entries) n first → live (map seen entries) ≡ length (map seen entries)
+      by_count zero total p = omega (arith, total, sound.counted, length-map entries seen)
+      by_count (suc n) total p = absurd (let within = linked_within (map link_of entries) first p.0 p.1 in omega (arith, within, past, length-map entries link_of))

@@ -1,6 +1,6 @@
 -- How a pool's slots lie in memory, with the list of the free ones inside them.
 -- Source: what the code of this crate keeps. No public clause cites this file.
-use Rattle.std.specs.Prelude.{◌≡◌, ℕ, zero, suc, ◌+◌, ◌%◌, ◌^◌, ◌<◌, List, map, length, Option, Some, None, slice_index_or}
+use Rattle.std.specs.Prelude.{◌≡◌, ℕ, zero, suc, ◌+◌, ◌-◌, ◌%◌, ◌^◌, ◌<◌, ◌≤◌, List, [], ◌∷◌, ◌++◌, map, length, Option, Some, None, slice_index_or}
 use Rattle.xl_pool.specs.Pools.{Slot, live}
 use Rattle.xl_pool.specs.declared.entry.Entry.{Entry}
 use Rattle.xl_pool.specs.declared.entry.Content.{Content}
@@ -45,3 +45,20 @@ module _ {T : Type 0} where
     pub total : count + frees ≡ length entries
     pub linked : IsFreeList (map link_of entries) frees first
     pub fits : length entries < 2 ^ 32
+
+  -- so many slots from this one on in which no value was ever held: each leads to the next
+  abbrev pub untouched : ℕ → ℕ → List (Entry T)
+  untouched slot zero = []
+  untouched slot (suc count) = record { generation = 0; content = Free (slot + 1) } ∷ untouched (slot + 1) count
+
+  -- all slots of a pool: those that lie in memory, and the untouched ones after them
+  abbrev pub all_of : List (Entry T) → ℕ → List (Entry T)
+  all_of entries slots = entries ++ untouched (length entries) (slots - length entries)
+
+  -- the slots are sound, those in memory have room to become all, and no free one leads beyond the first untouched
+  pub record IsKept (entries : List (Entry T)) (slots room count first : ℕ) : Type 0 where
+    pub sound : IsSound (all_of entries slots) count first
+    pub within : length entries ≤ slots
+    pub fits : slots ≤ room
+    pub reached : first ≤ length entries
+    pub leads : (slot next : ℕ) → slice_index_or (map link_of entries) slot None ≡ Some next → next ≤ length entries

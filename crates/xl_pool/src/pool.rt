@@ -1,4 +1,4 @@
-ghost use Rattle.std.specs.Prelude.{◌≡◌, ◌≢◌, ◌+◌, ◌<◌, ◌↔◌, map, length, replicate, None, Some, IsOk, IsErr, IfOk, IfErr, OnOk, OnErr, IsSome, option_copied};
+ghost use Rattle.std.specs.Prelude.{◌≡◌, ◌≢◌, ◌+◌, ◌<◌, ◌≤◌, ◌↔◌, length, replicate, vec_len, vec_capacity, None, Some, IsOk, IsErr, IfOk, IfErr, OnOk, OnErr, IsSome, option_copied};
 ghost use Rattle.std.specs.Option.{option_copied_mut};
 ghost use Rattle.std.specs.Borrow.{sem};
 ghost use Rattle.xl_pool.specs.Pools.{
@@ -11,27 +11,29 @@ ghost use Rattle.xl_pool.specs.Pools.{
   with_value,
   without_value,
 };
-ghost use Rattle.xl_pool.specs.Entries.{seen, link_of, IsFreeList};
+ghost use Rattle.xl_pool.specs.Entries.{all_of};
 
 use crate::entry::{Content, Entry};
 use crate::{Full, Name, Stale};
-use std::alloc::{AllocError, Global};
+use std::alloc::Global;
 use std::marker::Model;
 use xl_base::OutOfMemory;
 
 /// Values in a fixed number of slots, each under a name that the pool picks. No call after `with_slots` takes memory,
-/// and each takes a fixed number of steps.
+/// and each takes a fixed number of steps. A slot's memory is written when the slot first holds a value.
 #[derive(Debug, Drop)]
 pub struct Pool<T> {
+    // The slots that have held a value so far. All others follow them, each free and leading to the next.
     entries: Vec<Entry<T>>,
+    slots: u32,
     // How many slots have a value.
     live: u32,
-    // The first free slot, or the number of slots where there is none.
+    // The first free slot, or the number of slots if there is none.
     free: u32,
 }
 
 impl<T> Model for Pool<T> {
-    ghost use Rattle.std.specs.Prelude.{List, map};
+    ghost use Rattle.std.specs.Prelude.{List, map, vec_capacity};
     ghost use Rattle.std.specs.Coded.{coded_list};
     ghost use Rattle.xl_pool.specs.Pools.{Slot, slot_code};
 
@@ -39,26 +41,30 @@ impl<T> Model for Pool<T> {
 
     ghost coded = { coded_list (slot_code T.code) };
 
-    ghost use Rattle.xl_pool.specs.Entries.{seen, IsSound};
+    ghost use Rattle.xl_pool.specs.Entries.{seen, all_of, IsKept};
 
-    ghost view = { λ a. map seen a.entries.items };
+    ghost view = { λ a. map seen (all_of a.entries.items a.slots) };
 
-    ghost invariant = { λ a. IsSound a.entries.items a.live a.free };
+    ghost invariant = { λ a. IsKept a.entries.items a.slots (vec_capacity a.entries) a.live a.free };
 }
 
-/// So many empty slots, each followed by the next.
-fn empty_entries<T>(alloc: Global, n: u32) -> Result<Vec<Entry<T>>, AllocError>
-    ensures empty { IfOk result (λ entries. map seen entries.items ≡ replicate n empty_slot) }
-    ensures linked { IfOk result (λ entries. IsFreeList (map link_of entries.items) n 0) }
+/// Lays the first free slot into memory, if it is an untouched one.
+fn touch<T>(entries: &mut Vec<Entry<T>>, slots: u32, free: u32)
+    requires within { vec_len entries.old ≤ slots }
+    requires fits { slots ≤ vec_capacity entries.old }
+    requires reached { free ≤ vec_len entries.old }
+    ensures same { all_of entries.new.items slots ≡ all_of entries.old.items slots }
+    ensures within { vec_len entries.new ≤ slots }
+    ensures room { vec_capacity entries.new ≡ vec_capacity entries.old }
+    ensures reached { free < slots → free < vec_len entries.new }
+    ensures more { vec_len entries.old ≤ vec_len entries.new }
 {
-    let mut entries = Vec::with_capacity(alloc, n as usize)?;
-    for slot in 0..n {
+    if free as usize == entries.len() && free < slots {
         entries.push_reserved(Entry {
             generation: 0,
-            content: Content::Free(slot + 1),
+            content: Content::Free(free + 1),
         });
     }
-    Ok(entries)
 }
 
 impl<T> Pool<T> {
@@ -69,7 +75,8 @@ impl<T> Pool<T> {
         ensures empty { IfOk result (λ pool. pool ≡ replicate n empty_slot) }
     {
         Ok(Pool {
-            entries: empty_entries(alloc, n)?,
+            entries: Vec::with_capacity(alloc, n as usize)?,
+            slots: n,
             live: 0,
             free: 0,
         })
@@ -82,7 +89,7 @@ impl<T> Pool<T> {
         self.live
     }
 
-    /// The value of a name, or `None` where its slot is empty, of another generation, or not there.
+    /// The value of a name, or `None` if its slot is empty, of another generation, or not there.
     pub fn get(&self, name: Name) -> Option<&T>
         ensures { option_copied result ≡ get self.now name }
     {
@@ -92,7 +99,7 @@ impl<T> Pool<T> {
         }
     }
 
-    /// The value of a name for writing, or `None` where `get` finds none.
+    /// The value of a name for writing, or `None` if `get` finds none.
     pub fn get_mut(&mut self, name: Name) -> Option<&mut T>
         ensures* writes_back { sem 𝓛 (lends_get T.row self.entry name result) }
         ensures value { option_copied_mut result ≡ get self.old name }
@@ -113,10 +120,10 @@ impl<T> Pool<T> {
         entry.content.value_mut()
     }
 
-    /// Puts the value into an empty slot and tells its name. Where each slot has a value, it hands the value back, and
+    /// Puts the value into an empty slot and tells its name. If each slot has a value, it hands the value back, and
     /// the pool stays.
     pub fn take(&mut self, value: T) -> Result<Name, Full<T>>
-        // it takes the value exactly where a slot is empty
+        // it takes the value exactly if a slot is empty
         ensures room { IsOk result ↔ (live self.old < length self.old) }
         ensures full { IsErr result ↔ (live self.old ≡ length self.old) }
 
@@ -131,6 +138,7 @@ impl<T> Pool<T> {
         ensures refused { OnErr result (self.new ≡ self.old) }
     {
         let slot = self.free;
+        touch(&mut self.entries, self.slots, slot);
         let Some(entry) = self.entries.get_mut(slot as usize) else {
             return Err(Full(value));
         };
@@ -143,7 +151,7 @@ impl<T> Pool<T> {
     /// Hands out the value of a name. Its slot is then empty and of the next generation. A name that finds no value is
     /// refused, and the pool stays.
     pub fn give(&mut self, name: Name) -> Result<T, Stale>
-        // it hands out what `get` finds, and is refused exactly where that finds nothing
+        // it hands out what `get` finds, and is refused exactly if that finds nothing
         ensures given { IfOk result (λ value. get self.old name ≡ Some value) }
         ensures stale { IsErr result ↔ (get self.old name ≡ None) }
         ensures generation { IfErr result (λ stale. stale.0 ≡ generation_of self.old name.slot) }
