@@ -28,7 +28,7 @@ use Rattle.xl_replay.proofs.WholeLines.{IsOther, HasAll, past, not_alone, at_lin
 
 -- THE LINE
 
-abbrev unforged_line : List ℕ
+abbrev pub unforged_line : List ℕ
 unforged_line = codes "forged 0"
 
 longer : (k n : ℕ) (acc : List ℕ) → length acc ≤ length (digits_onto k 10 false n acc)
@@ -125,10 +125,10 @@ outcome_other names n (Full node seq id) = full_other names node seq id n
 outcome_other names n (Preferred node ledger) = preferred_other names node ledger n
 outcome_other names n (Heard node member id) = heard_other names node member id n
 
-spoken_other : (s : Announced) → IsOther unforged_line (announced_line s)
+pub spoken_other : (s : Announced) → IsOther unforged_line (announced_line s)
 spoken_other s = outcome_other s.names s.line s.outcome
 
-short_other : (s : Short) → IsOther unforged_line (short_text s)
+pub short_other : (s : Short) → IsOther unforged_line (short_text s)
 short_other s = record {
   body = codes "short " ++ decimal s.first ++ space ++ decimal s.second ++ space ++ decimal s.sum ++ space ++ decimal s.bound;
   whole = refl;
@@ -149,7 +149,7 @@ bad_other n why = record {
   other = λ e. let wrong : 98 ≡ 102 = ap (λ xs. slice_index xs 0) e in omega (arith, wrong);
 }
 
-agreement_other : (names : List Named) (fork : Option Fork) → IsOther unforged_line (agreement_line names fork)
+pub agreement_other : (names : List Named) (fork : Option Fork) → IsOther unforged_line (agreement_line names fork)
 agreement_other names None = record {
   body = codes "agree";
   whole = refl;

@@ -7,3 +7,5 @@ pub mod Fronts
 pub mod Ending
 pub mod Finding
 pub mod AtEnd
+pub mod SayingOne
+pub mod Reading

@@ -243,8 +243,8 @@ module _ (r : Running) (reading : Reading) (sound : IsSound r) (extends : Extend
     sound = happens_sound known e plausible (knows_sound r reading sound);
   }
 
-  declared_tells : (l : Line) → Declares l → StepTells r (silent (declares known l))
-  declared_tells l declared = quiet_tells r (declares known l) (declares_sound known l declared (knows_sound r reading sound)) (extends_as l) (declares_reports known l)
+  declared_tells : (l : Line) → Declares r.reading.names l → StepTells r (silent (declares known l))
+  declared_tells l declared = quiet_tells r (declares known l) (declares_sound known r.reading.names l declared (knows_sound r reading sound)) (extends_as l) (declares_reports known l)
     where
       extends_as : (l : Line) → Extends r.reading.names (declares known l).reading.names
       extends_as (line.Limit limit) = extends
@@ -256,7 +256,7 @@ module _ (r : Running) (reading : Reading) (sound : IsSound r) (extends : Extend
       extends_as (line.At at) = extends
       extends_as (line.Event e) = extends
 
-  line_tells : (l : Line) → Declares l → StepTells r (after_line known l)
+  line_tells : (l : Line) → Declares r.reading.names l → StepTells r (after_line known l)
   line_tells (line.Limit limit) declared = declared_tells (line.Limit limit) declared
   line_tells (line.Speak version) declared = declared_tells (line.Speak version) declared
   line_tells (line.Node me list validating) declared = declared_tells (line.Node me list validating) declared
@@ -269,7 +269,7 @@ module _ (r : Running) (reading : Reading) (sound : IsSound r) (extends : Extend
   passed_tells : StepTells r (silent known)
   passed_tells = quiet_tells r known (knows_sound r reading sound) extends refl
 
-answer_tells : (r : Running) (a : LineAnswer) → IsSound r → AnswerExtends r.reading a → AnswerDeclares a → StepTells r (after_answer r a)
+answer_tells : (r : Running) (a : LineAnswer) → IsSound r → AnswerExtends r.reading a → AnswerDeclares r.reading.names a → StepTells r (after_answer r a)
 answer_tells r (passes reading) sound extends declared = passed_tells r reading sound extends
 answer_tells r (gives l reading) sound extends declared = line_tells r reading sound extends l declared
 answer_tells r (refuses why) sound extends declared = (r.reading.lines + 1, why, refl)

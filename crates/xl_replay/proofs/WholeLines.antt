@@ -160,7 +160,7 @@ abbrev Has : List ℕ → List Line → Type 0
 Has line lines = Contains lines (record { bytes = line; ended = true })
 
 -- a text with no newline has no whole line
-unended : (front line : List ℕ) → IsOneLine front → HasLine front line → ⊥
+pub unended : (front line : List ℕ) → IsOneLine front → HasLine front line → ⊥
 unended [] line one has = omega (arith, has.1)
 unended (b ∷ front) line one has =
     not_ended (b ∷ front) line (subst (Has line) (lines_of-last b front one) has)
@@ -170,7 +170,7 @@ unended (b ∷ front) line one has =
     not_ended bytes line (suc k, l, e) = omega (arith, l)
 
 -- where a front of lines has a line, the first of them is that line, or it is among the others
-found : (body more line : List ℕ) → IsOneLine body → HasLine (body ++ 10 ∷ more) line → (body ≡ line) ⊎ HasLine more line
+pub found : (body more line : List ℕ) → IsOneLine body → HasLine (body ++ 10 ∷ more) line → (body ≡ line) ⊎ HasLine more line
 found body more line one has =
     elim (Contains-append_cases (record { bytes = body; ended = true } ∷ []) (lines_of more) (record { bytes = line; ended = true }) (subst (Has line) (lines_of-ended body more one) has)) [
       | inl first ↦ inl (the_one body line first)

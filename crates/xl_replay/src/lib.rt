@@ -11,9 +11,11 @@
 
 mod command;
 mod ends;
+mod laws;
 mod outcomes;
 mod replayer;
 mod words;
 
 pub use command::replay;
 pub use ends::push_end;
+pub use laws::law_of_readings;

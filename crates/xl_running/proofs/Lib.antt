@@ -1,5 +1,6 @@
 pub mod Plausible
 pub mod Declaring
+pub mod Naming
 pub mod Fitting
 pub mod Sounding
 pub mod Alike

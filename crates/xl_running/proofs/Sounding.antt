@@ -5,6 +5,7 @@ use Rattle.std.proofs.lemmas.List.Elements.{All-append, All-cons, All-nil}
 use Rattle.xl_sched.specs.declared.event.Event.{Event}
 use Rattle.xl_sched.specs.declared.line.Line.{Line}
 use Rattle.xl_sched.specs.declared.line.Line.TheVariants as line
+use Rattle.xl_sched.specs.declared.named.Named.{Named}
 use Rattle.xl_sched.specs.Reading.{Reading}
 use Rattle.xl_world.specs.declared.plan.PlanNode.{PlanNode}
 use Rattle.xl_world.specs.Plans.{AreDeclared, IsDeclared, Shared}
@@ -51,28 +52,28 @@ same_reports : (r : Running) (shared : Shared) (plan : List PlanNode) (liars : L
 same_reports r shared plan liars None at = rw at refl
 same_reports r shared plan liars (Some w) at = rw at refl
 
-pub declares_sound : (r : Running) (l : Line) → Declares l → IsSound r → IsSound (declares r l)
-declares_sound r (line.Limit limit) declared sound = record {
+pub declares_sound : (r : Running) (names : List Named) (l : Line) → Declares names l → IsSound r → IsSound (declares r l)
+declares_sound r names (line.Limit limit) declared sound = record {
   declared = sound.declared;
   is_run = planned r (record r.shared { limit = limit }) r.plan r.liars sound.declared sound r.world refl;
 }
-declares_sound r (line.Speak version) declared sound = record {
+declares_sound r names (line.Speak version) declared sound = record {
   declared = sound.declared;
   is_run = planned r (record r.shared { speak = version }) r.plan r.liars sound.declared sound r.world refl;
 }
-declares_sound r (line.Node me list validating) declared sound =
+declares_sound r names (line.Node me list validating) declared sound =
     let node : PlanNode = record { me = me; list = list; validating = validating; moment = r.reading.now } in
     let are : AreDeclared (declares r (line.Node me list validating)).plan =
     All-append IsDeclared r.plan (node ∷ []) sound.declared (All-cons IsDeclared node [] (record { least = declared.least; greatest = declared.greatest; list = declared.list }) (All-nil IsDeclared)) in
     record { declared = are; is_run = planned r r.shared (declares r (line.Node me list validating)).plan r.liars are sound r.world refl }
-declares_sound r (line.Liar me) declared sound = record {
+declares_sound r names (line.Liar me) declared sound = record {
   declared = sound.declared;
   is_run = planned r r.shared r.plan (declares r (line.Liar me)).liars sound.declared sound r.world refl;
 }
-declares_sound r (line.Name name id) declared sound = sound
-declares_sound r (line.Ledger name parent header) declared sound = sound
-declares_sound r (line.At at) declared sound = sound
-declares_sound r (line.Event e) declared sound = sound
+declares_sound r names (line.Name name id) declared sound = sound
+declares_sound r names (line.Ledger name parent header) declared sound = sound
+declares_sound r names (line.At at) declared sound = sound
+declares_sound r names (line.Event e) declared sound = sound
 
 -- reports stay where a line declares
 pub declares_reports : (r : Running) (l : Line) → (world_of (declares r l)).reports ≡ (world_of r).reports

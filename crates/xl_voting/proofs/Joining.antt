@@ -19,6 +19,7 @@ use Rattle.xl_running.proofs.Sounding.{IsSound, declares_sound, first_sound, hap
 use Rattle.xl_sched.specs.declared.favor.Favor.{Favor}
 use Rattle.xl_sched.specs.declared.line.Line.{Line}
 use Rattle.xl_sched.specs.declared.line.Line.TheVariants as line
+use Rattle.xl_sched.specs.declared.named.Named.{Named}
 use Rattle.xl_sched.specs.declared.limits.TheConstants.{MOST_BYTES, MOST_LINES}
 use Rattle.xl_sched.specs.declared.refusal.SchedRefusal.{SchedRefusal}
 use Rattle.xl_sched.specs.declared.refusal.SchedRefusal.TheVariants.{Absent, Header, Limit}
@@ -95,15 +96,15 @@ module _ (r : Running) (t : Tallying) (l : Listing) (is : StandsFor t l) where
   silent_alike : (next : Running) → IsSound next → AreAlike Like (silent next t) (silent next l)
   silent_alike next sound = (refl, record { running = refl; sound = sound; votes = is })
 
-  line_alike : IsSound r → (read : Line) → Declares read → AreAlike Like (after_line tallied r t read) (after_line listed r l read)
-  line_alike sound (line.Limit limit) declared = silent_alike _ (declares_sound r (line.Limit limit) declared sound)
-  line_alike sound (line.Speak version) declared = silent_alike _ (declares_sound r (line.Speak version) declared sound)
-  line_alike sound (line.Node me list validating) declared = silent_alike _ (declares_sound r (line.Node me list validating) declared sound)
-  line_alike sound (line.Liar me) declared = silent_alike _ (declares_sound r (line.Liar me) declared sound)
-  line_alike sound (line.Name name id) declared = silent_alike r sound
-  line_alike sound (line.Ledger name parent header) declared = silent_alike r sound
-  line_alike sound (line.At at) declared = silent_alike r sound
-  line_alike sound (line.Event e) declared =
+  line_alike : IsSound r → (names : List Named) (read : Line) → Declares names read → AreAlike Like (after_line tallied r t read) (after_line listed r l read)
+  line_alike sound names (line.Limit limit) declared = silent_alike _ (declares_sound r names (line.Limit limit) declared sound)
+  line_alike sound names (line.Speak version) declared = silent_alike _ (declares_sound r names (line.Speak version) declared sound)
+  line_alike sound names (line.Node me list validating) declared = silent_alike _ (declares_sound r names (line.Node me list validating) declared sound)
+  line_alike sound names (line.Liar me) declared = silent_alike _ (declares_sound r names (line.Liar me) declared sound)
+  line_alike sound names (line.Name name id) declared = silent_alike r sound
+  line_alike sound names (line.Ledger name parent header) declared = silent_alike r sound
+  line_alike sound names (line.At at) declared = silent_alike r sound
+  line_alike sound names (line.Event e) declared =
       let same = event_same r.reading.names (world_of r) sound.is_run t l is e declared in
       (same.text, record { running = refl; sound = happens_sound r e declared sound; votes = same.votes })
 
@@ -119,9 +120,9 @@ module _ (r : Running) (t : Tallying) (l : Listing) (is : StandsFor t l) where
       by true false same = absurd cc
       by false true same = absurd cc
 
-answer_alike : (r : Running) (t : Tallying) (l : Listing) → StandsFor t l → IsSound r → (a : LineAnswer) → AnswerDeclares a → AreAlike Like (after_answer tallied r t a) (after_answer listed r l a)
+answer_alike : (r : Running) (t : Tallying) (l : Listing) → StandsFor t l → IsSound r → (a : LineAnswer) → AnswerDeclares r.reading.names a → AreAlike Like (after_answer tallied r t a) (after_answer listed r l a)
 answer_alike r t l is sound (passes reading) declared = silent_alike r t l is (knows r reading) (knows_sound r reading sound)
-answer_alike r t l is sound (gives read reading) declared = line_alike (knows r reading) t l is (knows_sound r reading sound) read declared
+answer_alike r t l is sound (gives read reading) declared = line_alike (knows r reading) t l is (knows_sound r reading sound) r.reading.names read declared
 answer_alike r t l is sound (refuses why) declared = refl
 
 favored_alike : (r : Running) (t : Tallying) (l : Listing) → StandsFor t l → IsSound r → (bytes : List ℕ) (x : Result (Option Favor) SchedRefusal) → IfVotes x →
