@@ -8,6 +8,7 @@ pub mod Sharing
 pub mod Changing
 pub mod Weighing
 pub mod Standing
+pub mod Unused
 pub mod Votings
 pub mod Which
 pub mod Extending

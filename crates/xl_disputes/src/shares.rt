@@ -204,7 +204,8 @@ impl Shares {
     }
 
     /// How many positions each place's set stands for.
-    pub(crate) fn standings(&self, positions: &[Option<SetId>; 64]) -> [u32; PLACES]
+    pub(crate) fn standings(&self, positions: &[Option<SetId>]) -> [u32; PLACES]
+        requires { length positions.now ≤ 64 }
         ensures value { result ≡ standings_of self.now positions.now }
         ensures few { All (λ weight. weight ≤ 64) result }
     {
@@ -215,12 +216,13 @@ impl Shares {
         weights
     }
 
-    /// Each place's set stands for so many positions.
-    pub(crate) fn weigh_all(&mut self, weights: &[u32; PLACES])
-        requires { All (λ weight. weight ≤ 64) weights.now }
+    /// The sets of the first places stand for these numbers of positions.
+    pub(crate) fn weigh_all(&mut self, weights: &[u32])
+        requires places { length weights.now ≤ PLACES }
+        requires few { All (λ weight. weight ≤ 64) weights.now }
         ensures { self.new ≡ weighed weights.now self.old }
     {
-        for place in 0..PLACES {
+        for place in 0..weights.len() {
             self.weigh(place, weights[place]);
         }
     }
