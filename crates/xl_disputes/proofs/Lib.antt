@@ -17,4 +17,5 @@ pub mod Keeping
 pub mod Pooling
 pub mod Resetting
 pub mod Sweeping
+pub mod Passing
 pub mod Walking

@@ -39,15 +39,15 @@ weighed (weight ∷ weights) (h ∷ hs) = with_weight weight h ∷ weighed weigh
 abbrev pub voters : List Holding → ℕ
 voters hs = sum_by (λ h. h.weight) hs
 
--- what a tally says, where so many vote
+-- what a tally says, if this many positions vote
 abbrev pub votes_by : ℕ → Tally → Votes
 votes_by n tally = record { yays = tally.yays; nays = n - tally.yays; ours = nat_lt 0 tally.ours }
 
--- whether our next vote on a row's id is yes, where so many vote
+-- whether our next vote on a row's id is yes, if this many positions vote
 abbrev pub wins : ℕ → ℕ → Bool → Row → Bool
 wins n needed proposing row = next_vote needed proposing (votes_by n row.tally)
 
--- with a row's id behind others, where our next vote on it is yes, and there aren't 256
+-- with a row's id behind others, if our next vote on it is yes, and there aren't 256
 abbrev pub with_row : ℕ → ℕ → Bool → Row → List TxId → List TxId
 with_row n needed proposing row ids = if wins n needed proposing row then take 256 (ids ++ row.id ∷ []) else ids
 

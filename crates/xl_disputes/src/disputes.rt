@@ -120,7 +120,7 @@ impl Disputes {
         self.shares.own().id()
     }
 
-    /// Makes these ids the member's held set, in place of an older one, and tells their id.
+    /// Makes these ids the member's held set, in place of an older one, and returns their id.
     pub fn hold(&mut self, member: NodeNo, set: &[TxId]) -> SetId
         requires { IsSet set.now }
         ensures named { result ≡ set_id_of set.now }
@@ -167,7 +167,7 @@ impl Disputes {
         settle(&mut self.shares, &self.positions, self.last);
     }
 
-    /// The votes on a transaction, or None where no counted set has it. Counted are our own set and all held ones.
+    /// The votes on a transaction, or None if no counted set has it. Counted are our own set and all held ones.
     pub fn votes_of(&self, tx: &TxId) -> Option<Votes>
         ensures { result ≡ votes_of self.now tx.now }
     {
@@ -180,8 +180,8 @@ impl Disputes {
     }
 
     /// Decides each transaction of the counted sets by its votes, once `percent` percent of the previous round's time
-    /// have passed, and takes those that win as our own set, the 256 lowest where there are more. All votes are decided
-    /// on the same counts. Tells whether our set changed.
+    /// have passed, and takes those that win as our own set, the 256 lowest if there are more. All votes are decided
+    /// on the same counts. Returns whether our set changed.
     pub fn update(&mut self, percent: u64, proposing: bool) -> bool
         ensures changed { IsTrue result ↔ (next_set self.old percent proposing ≢ self.old.own) }
         ensures same { IsFalse result ↔ (next_set self.old percent proposing ≡ self.old.own) }
@@ -190,7 +190,7 @@ impl Disputes {
         self.update_above(threshold(percent), proposing)
     }
 
-    /// The same, where the threshold is known: a yes vote must weigh more than `needed` percent.
+    /// The same with a known threshold: a yes vote must weigh more than `needed` percent.
     pub fn update_above(&mut self, needed: u32, proposing: bool) -> bool
         ensures changed { IsTrue result ↔ (winners self.old needed proposing ≢ self.old.own) }
         ensures same { IsFalse result ↔ (winners self.old needed proposing ≡ self.old.own) }

@@ -159,7 +159,7 @@ impl Shares {
         }
     }
 
-    /// What an id has from all places, which tells the places that have it.
+    /// What an id has from all places, which says which places have it.
     pub(crate) fn tally(&self, id: &TxId) -> Tally
         requires { map (λ h. h.bit) self.now ≡ 0 ∷ member_bits }
         ensures value { result ≡ total self.now id.now }
@@ -180,7 +180,7 @@ impl Shares {
         sum
     }
 
-    /// Puts the ids on which our next vote is yes into this room, the 256 lowest where there are more.
+    /// Puts the ids on which our next vote is yes into this room, the 256 lowest if there are more.
     pub(crate) fn pick(&self, next: &mut Vec<TxId>, needed: u32, proposing: bool)
         requires { SET_IDS ≤ vec_capacity next.old }
         ensures value { next.new.items ≡ next_of self.now needed proposing }
@@ -227,7 +227,7 @@ impl Shares {
         }
     }
 
-    /// The place holds the set of these ids, in place of an older one, and tells its id.
+    /// The place holds the set of these ids, in place of an older one, and returns its id.
     pub(crate) fn take(&mut self, place: usize, ids: &[TxId]) -> SetId
         requires within { place < PLACES }
         requires valid { IsSet ids.now }
@@ -292,7 +292,7 @@ impl Shares {
         held.fill(ids, id);
     }
 
-    /// The place's set stands for so many positions.
+    /// The place's set stands for this many positions.
     fn weigh(&mut self, place: usize, weight: u32)
         requires within { place < PLACES }
         requires few { weight ≤ 64 }
