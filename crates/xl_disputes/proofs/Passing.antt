@@ -16,7 +16,7 @@ drop_rises (suc n) [] rises = tt
 drop_rises (suc n) (id ∷ ids) rises = drop_rises n ids (rises_rest id ids rises)
 
 -- of two different ids one is below the other
-is_above : (id tx : TxId) (low : Bool) → low ≡ is_below tx id → is_below id tx ≡ false → bytes_eq id.0 tx.0 ≡ false → low ≡ true
+pub is_above : (id tx : TxId) (low : Bool) → low ≡ is_below tx id → is_below id tx ≡ false → bytes_eq id.0 tx.0 ≡ false → low ≡ true
 is_above id tx true is high other = refl
 is_above id tx false is high other = absurd (cc (sym other ∙ ap (λ (t : TxId). bytes_eq t.0 tx.0) (neither_below id tx high (sym is)) ∙ same_itself tx))
 
