@@ -8,7 +8,8 @@ use Rattle.xl_base.specs.declared.ids.TxId.{TxId}
 use Rattle.xl_base.specs.declared.ids.SetId.{SetId}
 use Rattle.xl_disputes.specs.Disputes.{with_own}
 use Rattle.xl_disputes.specs.Holdings.{Holding, member_bits, changed, with_set}
-use Rattle.xl_disputes.specs.Standings.{names, stand, with_one, standings, weighed, own_in, own_ids, held_in, known_of, IsReady}
+use Rattle.xl_disputes.specs.Standings.{names, stand, with_one, standings, weighed, own_in, own_ids, held_in, known_of, IsLast, IsReady}
+use Rattle.xl_disputes.proofs.Unused.{last_weighed}
 
 -- ---- weights change nothing else
 
@@ -78,13 +79,13 @@ pub record IsWeighable (hs : List Holding) (positions : List (Option SetId)) : T
   pub bits : map (λ h. h.bit) hs ≡ 0 ∷ member_bits
   pub count : length positions ≡ 64
 
-pub weighable : (hs : List Holding) (positions : List (Option SetId)) (room : ℕ) → IsReady hs positions room → IsWeighable hs positions
-weighable hs positions room ready = record { places = ready.kept.places; own = ready.kept.own; bits = ready.kept.bits; count = ready.kept.count }
+pub weighable : (hs : List Holding) (positions : List (Option SetId)) (last room : ℕ) → IsReady hs positions last room → IsWeighable hs positions
+weighable hs positions last room ready = record { places = ready.kept.places; own = ready.kept.own; bits = ready.kept.bits; count = ready.kept.count }
 
-pub settled : (hs new : List Holding) (positions : List (Option SetId)) (room : ℕ) → IsWeighable hs positions → 256 ≤ room → new ≡ weighed (standings hs positions) hs → IsReady new positions room
-settled hs new positions room can roomy is =
+pub settled : (hs new : List Holding) (positions : List (Option SetId)) (last room : ℕ) → IsWeighable hs positions → IsLast last hs positions → 256 ≤ room → new ≡ weighed (standings hs positions) hs → IsReady new positions last room
+settled hs new positions last room can ends roomy is =
     let weights : List ℕ = standings hs positions in
-    subst (λ x. IsReady x positions room) (sym is) (record {
+    subst (λ x. IsReady x positions last room) (sym is) (record {
       kept = record {
         places = length_weighed weights hs ∙ can.places;
         own = own_weighed weights hs ∙ can.own ∙ ap Some (sym (ids_weighed weights hs));
@@ -92,6 +93,7 @@ settled hs new positions room can roomy is =
         count = can.count;
         weights = weights_weighed weights hs (length_standings hs positions ∙ sym can.places) ∙ sym (standings_weighed weights hs positions);
       };
+      ends = last_weighed last hs positions can.places ends;
       roomy = roomy;
     })
 
@@ -177,5 +179,6 @@ module _ (s : Option (List TxId)) (member : ℕ) (some : 1 ≤ member) (hs next 
 pub moved_weighable : (hs : List Holding) (old new : List (Option SetId)) → length new ≡ 64 → IsWeighable hs old → IsWeighable hs new
 moved_weighable hs old new count can = record { places = can.places; own = can.own; bits = can.bits; count = count }
 
-pub moved_settled : (hs new : List Holding) (old positions : List (Option SetId)) (room : ℕ) → IsReady hs old room → length positions ≡ 64 → new ≡ weighed (standings hs positions) hs → IsReady new positions room
-moved_settled hs new old positions room ready count is = settled hs new positions room (moved_weighable hs old positions count (weighable hs old room ready)) ready.roomy is
+pub moved_settled : (hs new : List Holding) (old positions : List (Option SetId)) (before last room : ℕ) → IsReady hs old before room → length positions ≡ 64 → IsLast last hs positions → new ≡ weighed (standings hs positions) hs → IsReady new positions last room
+moved_settled hs new old positions before last room ready count ends is =
+    settled hs new positions last room (moved_weighable hs old positions count (weighable hs old before room ready)) ends ready.roomy is

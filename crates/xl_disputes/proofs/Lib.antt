@@ -8,6 +8,7 @@ pub mod Sharing
 pub mod Changing
 pub mod Weighing
 pub mod Standing
+pub mod Unused
 pub mod Votings
 pub mod Which
 pub mod Extending
@@ -16,4 +17,5 @@ pub mod Keeping
 pub mod Pooling
 pub mod Resetting
 pub mod Sweeping
+pub mod Passing
 pub mod Walking

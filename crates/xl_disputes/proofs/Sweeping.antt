@@ -1,16 +1,16 @@
 -- Rows whose id is in no set go, all in one walk.
-use Rattle.std.proofs.Common.{◌≡◌, ◌≢◌, ℕ, zero, suc, ◌+◌, ◌<◌, ◌≤◌, ◌==◌, nat_lt, Bool, true, false, cond, List, [], ◌∷◌, ◌++◌, length, take, drop, get_or, refl, sym, ap, subst, ◌∙◌, arith, length-append}
+use Rattle.std.proofs.Common.{◌≡◌, ◌≢◌, ℕ, zero, suc, ◌+◌, ◌<◌, ◌≤◌, Bool, true, false, cond, List, [], ◌∷◌, ◌++◌, length, take, drop, get_or, refl, sym, ap, subst, ◌∙◌, arith, length-append}
 use Rattle.std.specs.Prelude.{All, Option, Some, None, is_some, unwrap_or, filter}
 use Rattle.std.proofs.lemmas.Bool.{cond_both}
 use Rattle.std.proofs.lemmas.Bool.Decides.{nat_tests}
 use Rattle.std.proofs.lemmas.List.{take_more, take_all, drop_more, length-map}
-use Rattle.std.proofs.lemmas.List.Elements.{All-nil, All-cons, All-head, All-tail, All-append, All-weaker, filter-append}
-use Rattle.xl_base.specs.Sets.{is_below, RisesFrom, IsRising}
+use Rattle.std.proofs.lemmas.List.Elements.{All-nil, All-cons, All-head, All-tail, All-append, filter-append}
+use Rattle.xl_base.specs.Sets.{RisesFrom, IsRising}
 use Rattle.xl_base.specs.declared.ids.TxId.{TxId}
 use Rattle.xl_pool.specs.Pools.{Slot, get, live, Updates}
 use Rattle.xl_pool.specs.declared.name.Name.{Name}
 use Rattle.xl_disputes.specs.declared.rows.Row.{Row}
-use Rattle.xl_disputes.specs.Tallies.{no_tally, held_by, IsWhole}
+use Rattle.xl_disputes.specs.Tallies.{held_by, IsWhole}
 use Rattle.xl_disputes.specs.Rows.{is_same, ids_of, tally_of, is_held}
 use Rattle.xl_disputes.specs.Pooled.{no_row, row_of, rows_of, if_held, IsPooled, IsSwept}
 use Rattle.xl_disputes.proofs.IdOrder.{same_is}

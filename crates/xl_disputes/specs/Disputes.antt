@@ -60,7 +60,7 @@ is_named id set = bytes_eq (set_id_of set).0 id.0
 abbrev pub set_of : Known → SetId → Option (List TxId)
 set_of k id = find (is_named id) (counted_sets k)
 
--- what a position says of a transaction, where its set is held
+-- what a position says of a transaction, if its set is held
 abbrev pub vote : Known → TxId → Option SetId → Option Bool
 vote k tx None = None
 vote k tx (Some id) = option_map (λ set. has set tx) (set_of k id)

@@ -9,7 +9,7 @@ use Rattle.xl_disputes.specs.declared.rows.Row.{Row}
 use Rattle.xl_disputes.specs.Disputes.{has}
 use Rattle.xl_disputes.specs.Rows.{tally_of, IsIndex}
 
--- a set, if there is one, how many positions it stands for, and the bit of its member, or 0 where it is our own
+-- a set, if there is one, how many positions it stands for, and the bit of its member, or 0 if it is our own
 pub record Holding : Type 0 where
   pub set : Option (List TxId)
   pub weight : ℕ

@@ -5,7 +5,7 @@ use Rattle.xl_disputes.specs.Disputes.{Known, counted_sets, votes}
 use Rattle.xl_disputes.specs.Rising.{lowest}
 use Rattle.xl_disputes.specs.Votes.{next_vote, threshold}
 
--- whether our next vote on a transaction is yes, where a yes vote must weigh more than needed
+-- whether our next vote on a transaction is yes, if a yes vote must weigh more than needed
 abbrev pub passes : Known → ℕ → Bool → TxId → Bool
 passes k needed proposing tx = next_vote needed proposing (votes k tx)
 

@@ -1,6 +1,6 @@
 -- Which set each position stands for, and what is known from the holdings.
 -- Source: what the code of this crate keeps. No public clause cites this file.
-use Rattle.std.specs.Prelude.{◌≡◌, ℕ, ◌+◌, ◌-◌, ◌≤◌, nat_lt, Bool, false, not, List, [], ◌∷◌, ◌++◌, length, map, replicate, fold, take, filter, flat_map, sum_by, slice_set, slice_index_or, Option, Some, None, if◌then◌else◌}
+use Rattle.std.specs.Prelude.{◌≡◌, ℕ, suc, ◌+◌, ◌-◌, ◌≤◌, nat_lt, Bool, false, not, List, [], ◌∷◌, ◌++◌, length, map, replicate, fold, take, drop, filter, flat_map, sum_by, slice_set, slice_index_or, All, Option, Some, None, if◌then◌else◌}
 use Rattle.std.specs.List.{prefix_len}
 use Rattle.xl_base.specs.declared.ids.TxId.{TxId}
 use Rattle.xl_base.specs.declared.ids.SetId.{SetId}
@@ -10,7 +10,7 @@ use Rattle.xl_disputes.specs.declared.rows.Row.{Row}
 use Rattle.xl_disputes.specs.Disputes.{Known, is_named}
 use Rattle.xl_disputes.specs.Rising.{lowest}
 use Rattle.xl_disputes.specs.Votes.{next_vote}
-use Rattle.xl_disputes.specs.Holdings.{Holding, member_bits, ids_in, total, with_weight}
+use Rattle.xl_disputes.specs.Holdings.{Holding, member_bits, no_holding, ids_in, total, with_weight}
 
 abbrev pub names : SetId → Option (List TxId) → Bool
 names id None = false
@@ -39,15 +39,15 @@ weighed (weight ∷ weights) (h ∷ hs) = with_weight weight h ∷ weighed weigh
 abbrev pub voters : List Holding → ℕ
 voters hs = sum_by (λ h. h.weight) hs
 
--- what a tally says, where so many vote
+-- what a tally says, if this many positions vote
 abbrev pub votes_by : ℕ → Tally → Votes
 votes_by n tally = record { yays = tally.yays; nays = n - tally.yays; ours = nat_lt 0 tally.ours }
 
--- whether our next vote on a row's id is yes, where so many vote
+-- whether our next vote on a row's id is yes, if this many positions vote
 abbrev pub wins : ℕ → ℕ → Bool → Row → Bool
 wins n needed proposing row = next_vote needed proposing (votes_by n row.tally)
 
--- with a row's id behind others, where our next vote on it is yes, and there aren't 256
+-- with a row's id behind others, if our next vote on it is yes, and there aren't 256
 abbrev pub with_row : ℕ → ℕ → Bool → Row → List TxId → List TxId
 with_row n needed proposing row ids = if wins n needed proposing row then take 256 (ids ++ row.id ∷ []) else ids
 
@@ -82,7 +82,14 @@ pub record IsKept (hs : List Holding) (positions : List (Option SetId)) : Type 0
   pub count : length positions ≡ 64
   pub weights : map (λ h. h.weight) hs ≡ standings hs positions
 
+-- no member above this one has a position, or a set
+pub record IsLast (last : ℕ) (hs : List Holding) (positions : List (Option SetId)) : Type 0 where
+  pub within : last ≤ 64
+  pub unnamed : All (λ position. position ≡ None) (drop last positions)
+  pub unheld : All (λ h. h ≡ no_holding h.bit) (drop (suc last) hs)
+
 -- and there is room for our next set
-pub record IsReady (hs : List Holding) (positions : List (Option SetId)) (room : ℕ) : Type 0 where
+pub record IsReady (hs : List Holding) (positions : List (Option SetId)) (last room : ℕ) : Type 0 where
   pub kept : IsKept hs positions
+  pub ends : IsLast last hs positions
   pub roomy : 256 ≤ room

@@ -16,7 +16,7 @@ pub record Tally : Type 0 where
 abbrev pub no_tally : Tally
 no_tally = record { members = 0; yays = 0; ours = 0 }
 
--- 0 exactly where no set has the id
+-- 0 exactly if no set has the id
 abbrev pub held_by : Tally → ℕ
 held_by t = t.members + t.ours
 

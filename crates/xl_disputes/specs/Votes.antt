@@ -16,8 +16,8 @@ weight v = (v.yays * 100 + (if v.ours then 100 else 0)) / (v.yays + v.nays + 1)
 abbrev pub is_settled : Votes → Bool
 is_settled v = if v.ours then v.nays == 0 else v.yays == 0
 
--- a settled vote stays; else the weight decides where we propose, by what it must exceed, and the majority of the
--- others where we don't
+-- a settled vote stays; else the weight decides if we propose, by what it must exceed, and the majority of the others
+-- if we don't
 abbrev pub next_vote : ℕ → Bool → Votes → Bool
 next_vote needed proposing v =
     if is_settled v

@@ -1,4 +1,4 @@
-ghost use Rattle.std.specs.Prelude.{◌≡◌, ◌≢◌, ◌↔◌, ◌-◌, ◌<◌, ◌≤◌, IsTrue, IsFalse, IfOk};
+ghost use Rattle.std.specs.Prelude.{◌≡◌, ◌≢◌, ◌↔◌, ◌-◌, ◌<◌, ◌≤◌, length, IsTrue, IsFalse, IfOk};
 ghost use Rattle.xl_base.specs.Sets.{set_id_of, IsSet};
 ghost use Rattle.xl_disputes.specs.Disputes.{
   nothing_known,
@@ -11,7 +11,7 @@ ghost use Rattle.xl_disputes.specs.Disputes.{
   votes_of,
 };
 ghost use Rattle.xl_disputes.specs.Next.{next_set, winners};
-ghost use Rattle.xl_disputes.specs.Standings.{weighed, standings};
+ghost use Rattle.xl_disputes.specs.Standings.{weighed, standings, IsLast};
 
 use crate::set::SET_IDS;
 use crate::shares::{PLACES, Shares};
@@ -29,6 +29,8 @@ pub struct Disputes {
     shares: Shares,
     /// The set ids of the members' positions, from member 1 on.
     positions: [Option<SetId>; MOST_MEMBERS],
+    /// No member above this number has a position, or a held set.
+    last: usize,
     /// Room for our next set.
     next: Vec<TxId>,
 }
@@ -42,7 +44,7 @@ impl Model for Disputes {
 
     ghost view = { λ a. known_of a.shares a.positions };
 
-    ghost invariant = { λ a. IsReady a.shares a.positions (vec_capacity a.next) };
+    ghost invariant = { λ a. IsReady a.shares a.positions a.last (vec_capacity a.next) };
 }
 
 /// The place of a member's position.
@@ -62,12 +64,14 @@ fn holding_of(member: NodeNo) -> usize
     member.get() as usize
 }
 
-/// Lets each set stand for the positions that name it.
-fn settle(shares: &mut Shares, positions: &[Option<SetId>; MOST_MEMBERS])
+/// Lets each set stand for the positions that name it, if no member above the last one has a position or a set.
+fn settle(shares: &mut Shares, positions: &[Option<SetId>; MOST_MEMBERS], last: usize)
+    requires places { length shares.old ≡ PLACES }
+    requires ends { IsLast last shares.old positions.now }
     ensures { shares.new ≡ weighed (standings shares.old positions.now) shares.old }
 {
-    let weights = shares.standings(positions);
-    shares.weigh_all(&weights);
+    let weights = shares.standings(&positions[..last]);
+    shares.weigh_all(&weights[..last + 1]);
 }
 
 impl Disputes {
@@ -78,6 +82,7 @@ impl Disputes {
         Ok(Disputes {
             shares: Shares::open(alloc)?,
             positions: [None; MOST_MEMBERS],
+            last: 0,
             next: Vec::with_capacity(alloc, SET_IDS)?,
         })
     }
@@ -88,6 +93,7 @@ impl Disputes {
     {
         self.shares.reset();
         self.positions = [None; MOST_MEMBERS];
+        self.last = 0;
     }
 
     /// Makes these ids our own set.
@@ -96,7 +102,7 @@ impl Disputes {
         ensures { self.new ≡ with_own self.old set.now }
     {
         self.shares.take(OWN, set);
-        settle(&mut self.shares, &self.positions);
+        settle(&mut self.shares, &self.positions, self.last);
     }
 
     /// Our own set.
@@ -114,14 +120,16 @@ impl Disputes {
         self.shares.own().id()
     }
 
-    /// Makes these ids the member's held set, in place of an older one, and tells their id.
+    /// Makes these ids the member's held set, in place of an older one, and returns their id.
     pub fn hold(&mut self, member: NodeNo, set: &[TxId]) -> SetId
         requires { IsSet set.now }
         ensures named { result ≡ set_id_of set.now }
         ensures taken { self.new ≡ with_held self.old member set.now }
     {
-        let id = self.shares.take(holding_of(member), set);
-        settle(&mut self.shares, &self.positions);
+        let place = holding_of(member);
+        let id = self.shares.take(place, set);
+        self.last = self.last.max(place);
+        settle(&mut self.shares, &self.positions, self.last);
         id
     }
 
@@ -130,7 +138,8 @@ impl Disputes {
         ensures { self.new ≡ with_position self.old member set }
     {
         self.positions[place_of(member)] = Some(set);
-        settle(&mut self.shares, &self.positions);
+        self.last = self.last.max(holding_of(member));
+        settle(&mut self.shares, &self.positions, self.last);
     }
 
     /// The member has no position any more. What it holds stays.
@@ -138,7 +147,7 @@ impl Disputes {
         ensures { self.new ≡ without_position self.old member }
     {
         self.positions[place_of(member)] = None;
-        settle(&mut self.shares, &self.positions);
+        settle(&mut self.shares, &self.positions, self.last);
     }
 
     /// No member has a position any more.
@@ -146,7 +155,7 @@ impl Disputes {
         ensures { self.new ≡ without_positions self.old }
     {
         self.positions = [None; MOST_MEMBERS];
-        settle(&mut self.shares, &self.positions);
+        settle(&mut self.shares, &self.positions, self.last);
     }
 
     /// The member has neither a position nor a held set any more.
@@ -155,10 +164,10 @@ impl Disputes {
     {
         self.shares.release(holding_of(member));
         self.positions[place_of(member)] = None;
-        settle(&mut self.shares, &self.positions);
+        settle(&mut self.shares, &self.positions, self.last);
     }
 
-    /// The votes on a transaction, or None where no counted set has it. Counted are our own set and all held ones.
+    /// The votes on a transaction, or None if no counted set has it. Counted are our own set and all held ones.
     pub fn votes_of(&self, tx: &TxId) -> Option<Votes>
         ensures { result ≡ votes_of self.now tx.now }
     {
@@ -171,8 +180,8 @@ impl Disputes {
     }
 
     /// Decides each transaction of the counted sets by its votes, once `percent` percent of the previous round's time
-    /// have passed, and takes those that win as our own set, the 256 lowest where there are more. All votes are decided
-    /// on the same counts. Tells whether our set changed.
+    /// have passed, and takes those that win as our own set, the 256 lowest if there are more. All votes are decided
+    /// on the same counts. Returns whether our set changed.
     pub fn update(&mut self, percent: u64, proposing: bool) -> bool
         ensures changed { IsTrue result ↔ (next_set self.old percent proposing ≢ self.old.own) }
         ensures same { IsFalse result ↔ (next_set self.old percent proposing ≡ self.old.own) }
@@ -181,7 +190,7 @@ impl Disputes {
         self.update_above(threshold(percent), proposing)
     }
 
-    /// The same, where the threshold is known: a yes vote must weigh more than `needed` percent.
+    /// The same with a known threshold: a yes vote must weigh more than `needed` percent.
     pub fn update_above(&mut self, needed: u32, proposing: bool) -> bool
         ensures changed { IsTrue result ↔ (winners self.old needed proposing ≢ self.old.own) }
         ensures same { IsFalse result ↔ (winners self.old needed proposing ≡ self.old.own) }
@@ -191,7 +200,7 @@ impl Disputes {
         let changed = self.next.as_slice() != self.shares.own().ids();
         if changed {
             self.shares.replace(OWN, &self.next);
-            settle(&mut self.shares, &self.positions);
+            settle(&mut self.shares, &self.positions, self.last);
         }
         changed
     }

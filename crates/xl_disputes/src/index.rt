@@ -139,7 +139,7 @@ impl Index {
         self.rows.at(place)
     }
 
-    /// Puts the ids on which our next vote is yes into this room, the 256 lowest where there are more.
+    /// Puts the ids on which our next vote is yes into this room, the 256 lowest if there are more.
     pub(crate) fn pick(&self, next: &mut Vec<TxId>, voters: u32, needed: u32, proposing: bool)
         requires { SET_IDS ≤ vec_capacity next.old }
         ensures lowest { next.new.items ≡ take SET_IDS (ids_of (filter (wins voters needed proposing) self.now)) }

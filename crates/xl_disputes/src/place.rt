@@ -16,7 +16,7 @@ pub(crate) struct Place {
     set: Set,
     holds: bool,
     weight: u32,
-    /// The bit of its member, or 0 where it is our own.
+    /// The bit of its member, or 0 if it is our own.
     bit: u64,
 }
 

@@ -12,7 +12,7 @@ use std::mem::align_of;
 use xl_base::{OutOfMemory, TxId};
 use xl_pool::{Name, Pool};
 
-/// So many different ids our own set and the members' held sets have at most.
+/// The most different ids of our own set and the members' held sets.
 pub(crate) const ROWS: u32 = 16_640;
 
 /// An id and what it has.

@@ -6,7 +6,7 @@ use std::alloc::Global;
 use std::marker::Model;
 use xl_base::{MOST_IDS, OutOfMemory, SetId, TxId};
 
-/// A set has at most so many ids.
+/// The most ids of a set.
 pub(crate) const SET_IDS: usize = MOST_IDS;
 
 /// A set of transactions and its id, which is handed in with it. Its room is taken when it is opened.
@@ -28,7 +28,7 @@ impl Model for Set {
     ghost invariant = { λ set. IsNamed set.ids.items set.id (vec_capacity set.ids) };
 }
 
-/// Puts these ids in place of older ones, where there is room for them.
+/// Puts these ids in place of older ones, if there is room for them.
 fn put(room: &mut Vec<TxId>, ids: &[TxId])
     requires { length ids.now ≤ vec_capacity room.old }
     ensures items { room.new.items ≡ ids.now }

@@ -159,7 +159,7 @@ impl Shares {
         }
     }
 
-    /// What an id has from all places, which tells the places that have it.
+    /// What an id has from all places, which says which places have it.
     pub(crate) fn tally(&self, id: &TxId) -> Tally
         requires { map (λ h. h.bit) self.now ≡ 0 ∷ member_bits }
         ensures value { result ≡ total self.now id.now }
@@ -180,7 +180,7 @@ impl Shares {
         sum
     }
 
-    /// Puts the ids on which our next vote is yes into this room, the 256 lowest where there are more.
+    /// Puts the ids on which our next vote is yes into this room, the 256 lowest if there are more.
     pub(crate) fn pick(&self, next: &mut Vec<TxId>, needed: u32, proposing: bool)
         requires { SET_IDS ≤ vec_capacity next.old }
         ensures value { next.new.items ≡ next_of self.now needed proposing }
@@ -204,7 +204,8 @@ impl Shares {
     }
 
     /// How many positions each place's set stands for.
-    pub(crate) fn standings(&self, positions: &[Option<SetId>; 64]) -> [u32; PLACES]
+    pub(crate) fn standings(&self, positions: &[Option<SetId>]) -> [u32; PLACES]
+        requires { length positions.now ≤ 64 }
         ensures value { result ≡ standings_of self.now positions.now }
         ensures few { All (λ weight. weight ≤ 64) result }
     {
@@ -215,17 +216,18 @@ impl Shares {
         weights
     }
 
-    /// Each place's set stands for so many positions.
-    pub(crate) fn weigh_all(&mut self, weights: &[u32; PLACES])
-        requires { All (λ weight. weight ≤ 64) weights.now }
+    /// The sets of the first places stand for these numbers of positions.
+    pub(crate) fn weigh_all(&mut self, weights: &[u32])
+        requires places { length weights.now ≤ PLACES }
+        requires few { All (λ weight. weight ≤ 64) weights.now }
         ensures { self.new ≡ weighed weights.now self.old }
     {
-        for place in 0..PLACES {
+        for place in 0..weights.len() {
             self.weigh(place, weights[place]);
         }
     }
 
-    /// The place holds the set of these ids, in place of an older one, and tells its id.
+    /// The place holds the set of these ids, in place of an older one, and returns its id.
     pub(crate) fn take(&mut self, place: usize, ids: &[TxId]) -> SetId
         requires within { place < PLACES }
         requires valid { IsSet ids.now }
@@ -290,7 +292,7 @@ impl Shares {
         held.fill(ids, id);
     }
 
-    /// The place's set stands for so many positions.
+    /// The place's set stands for this many positions.
     fn weigh(&mut self, place: usize, weight: u32)
         requires within { place < PLACES }
         requires few { weight ≤ 64 }

@@ -68,7 +68,7 @@ impl Tally {
         self.members() == 0 && self.ours == 0
     }
 
-    /// The votes that it says, where so many vote.
+    /// The votes that it stands for, if this many positions vote.
     pub(crate) fn votes(self, voters: u32) -> Votes
         ensures { result ≡ votes_by voters self }
     {

@@ -25,8 +25,7 @@ pub fn threshold(percent: u64) -> u32
 }
 
 impl Votes {
-    /// Our next vote, where a yes vote must weigh more than `needed` percent. It stays where every other vote is ours
-    /// already.
+    /// Our next vote, if a yes vote must weigh more than `needed` percent. It stays if every other vote is ours already.
     pub(crate) fn next(self, needed: u32, proposing: bool) -> bool
         ensures { result ≡ next_vote_of needed proposing self }
     {

@@ -3,13 +3,17 @@ use Rattle.std.proofs.lemmas.List.{length-set}
 use Rattle.xl_disputes.specs.Disputes.{without_position}
 use Rattle.xl_disputes.specs.Standings.{known_of}
 use Rattle.xl_disputes.proofs.Keeping.{known_settled, moved_settled}
+use Rattle.xl_disputes.proofs.Unused.{last_unnamed}
 use Rattle.xl_disputes.proofs.disputes.Disputes.leave.Goals as goal
-use Rattle.xl_disputes.proofs.disputes.Disputes.leave.Goals.{After-settle}
+
+pub settle-requires-clause-ends : goal.settle-requires-clause-ends
+settle-requires-clause-ends c = last_unnamed c.self.inside.last c.place_of.result c.self.inside.shares c.self.inside.positions c.self.invariant.ends
 
 pub invariant_of-self : goal.invariant_of-self
 invariant_of-self c =
-    moved_settled c.self.inside.shares c.settle.new.shares c.self.inside.positions (set c.self.inside.positions c.place_of.result None) (vec_capacity c.self.inside.next) c.self.invariant
-    (length-set c.self.inside.positions c.place_of.result None ∙ c.self.invariant.kept.count) c.settle.ensures
+    moved_settled c.self.inside.shares c.settle.new.shares c.self.inside.positions (set c.self.inside.positions c.place_of.result None) c.self.inside.last c.self.inside.last
+    (vec_capacity c.self.inside.next) c.self.invariant (length-set c.self.inside.positions c.place_of.result None ∙ c.self.invariant.kept.count)
+    (last_unnamed c.self.inside.last c.place_of.result c.self.inside.shares c.self.inside.positions c.self.invariant.ends) c.settle.ensures
 
 pub returns : goal.returns
 returns c =

@@ -1,13 +1,15 @@
-use Rattle.std.proofs.Common.{◌≡◌, vec_capacity, ap, sym, ◌∙◌, arith}
+use Rattle.std.proofs.Common.{◌≡◌, Some, vec_capacity, ap, sym, subst, ◌∙◌, arith}
 use Rattle.std.specs.Prelude.{◌↔◌, ◌≢◌, IsTrue, IsFalse}
 use Rattle.xl_disputes.specs.Disputes.{Known, with_own}
 use Rattle.xl_disputes.specs.Next.{winners}
-use Rattle.xl_disputes.specs.Standings.{known_of}
+use Rattle.xl_disputes.specs.Holdings.{with_set}
+use Rattle.xl_disputes.specs.Standings.{known_of, IsLast}
 use Rattle.xl_disputes.proofs.Ordered.{differ}
 use Rattle.xl_disputes.proofs.Picking.{next_is, next_counted}
 use Rattle.xl_disputes.proofs.Keeping.{IsWeighable, weighable, settled, known_settled, own_weighable, own_known}
+use Rattle.xl_disputes.proofs.Unused.{last_held}
 use Rattle.xl_disputes.proofs.disputes.Disputes.update_above.Goals as goal
-use Rattle.xl_disputes.proofs.disputes.Disputes.update_above.Goals.{After-ne-changed, After-settle}
+use Rattle.xl_disputes.proofs.disputes.Disputes.update_above.Goals.{After-ne-changed, After-replace}
 
 is_next : (c : After-ne-changed) → c.pick.new.next.items ≡ winners c.args.self.now c.args.needed c.args.proposing
 is_next c =
@@ -24,16 +26,32 @@ tested c =
     (c.as_slice.ensures.value ∙ is_next c) (c.ids.ensures.value ∙ c.own.ensures ∙ ap (λ (k : Known). k.own) c.self.view_is) c.ne-changed.ensures
 
 before : (c : After-ne-changed) → IsWeighable c.self.inside.shares c.self.inside.positions
-before c = weighable c.self.inside.shares c.self.inside.positions (vec_capacity c.self.inside.next) c.self.invariant
+before c = weighable c.self.inside.shares c.self.inside.positions c.self.inside.last (vec_capacity c.self.inside.next) c.self.invariant
 
 pub replace-requires-clause-counted : goal.replace-requires-clause-counted
 replace-requires-clause-counted c =
     next_counted c.self.inside.shares c.args.needed c.args.proposing c.deref.result.now (c.deref.ensures.value ∙ c.pick.ensures.value)
 
+after : (c : After-replace) → IsWeighable c.replace.new.self c.self.inside.positions
+after c =
+    own_weighable c.deref.result.now c.self.inside.shares c.replace.new.self c.self.inside.positions c.replace.ensures
+    (weighable c.self.inside.shares c.self.inside.positions c.self.inside.last (vec_capacity c.self.inside.next) c.self.invariant)
+
+ends : (c : After-replace) → IsLast c.self.inside.last c.replace.new.self c.self.inside.positions
+ends c =
+    subst (λ hs. IsLast c.self.inside.last hs c.self.inside.positions) (sym c.replace.ensures)
+    (last_held (with_set (Some c.deref.result.now)) c.self.inside.last 0 c.self.inside.shares c.self.inside.positions (omega arith) c.self.invariant.ends)
+
+pub settle-requires-clause-places : goal.settle-requires-clause-places
+settle-requires-clause-places c = (after (goal.at.settle-requires-clause-places c).After-replace).places
+
+pub settle-requires-clause-ends : goal.settle-requires-clause-ends
+settle-requires-clause-ends c = ends (goal.at.settle-requires-clause-ends c).After-replace
+
 pub invariant_of-self : goal.invariant_of-self
 invariant_of-self c =
-    settled c.replace.new.self c.settle.new.shares c.self.inside.positions (vec_capacity c.pick.new.next)
-    (own_weighable c.deref.result.now c.self.inside.shares c.replace.new.self c.self.inside.positions c.replace.ensures (before (goal.at.invariant_of-self c).After-ne-changed))
+    let put = (goal.at.invariant_of-self c).After-replace in
+    settled c.replace.new.self c.settle.new.shares c.self.inside.positions c.self.inside.last (vec_capacity c.pick.new.next) (after put) (ends put)
     (omega (arith, c.self.invariant.roomy, c.pick.ensures.room)) c.settle.ensures
 
 pub returns-then-changed-clause-changed : goal.returns-then-changed-clause-changed

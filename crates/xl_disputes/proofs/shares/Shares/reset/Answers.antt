@@ -1,4 +1,4 @@
-use Rattle.std.proofs.Common.{◌≡◌, List, [], ◌++◌, length, map, take, drop, set, sym, ap, refl, ◌∙◌, arith}
+use Rattle.std.proofs.Common.{◌≡◌, List, [], ◌++◌, length, map, take, drop, set, ap, refl, ◌∙◌, arith}
 use Rattle.std.proofs.lemmas.List.{length-map}
 use Rattle.xl_disputes.specs.Holdings.{Holding, no_holding, no_holdings}
 use Rattle.xl_disputes.proofs.Changing.{first_shared}

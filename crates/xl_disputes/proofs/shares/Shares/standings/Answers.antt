@@ -16,7 +16,7 @@ loop-position-preserved c = record {
       c.add_one.ensures ∙ ap (λ n. with_one n c.loop-position.weights) c.stand.ensures.value
       ∙ ap (with_one (stand c.args.self.now (get_or c.args.positions.now c.loop-position.position-index None))) c.loop-position.invariant.counted
       ∙ sym (fold_more (λ (weights : List ℕ) (position : Option SetId). with_one (stand c.args.self.now position) weights) (replicate 65 0) c.args.positions.now c.loop-position.position-index None
-      (omega (arith, c.loop-position-test.true, c.told-positions)));
+      (omega (arith, c.loop-position-test.true)));
   places = c.add_one.array_long;
   few =
       subst (λ weights. All (λ weight. weight ≤ c.loop-position.position-index + 1) weights) (sym c.add_one.ensures)

@@ -6,4 +6,4 @@ use Rattle.xl_disputes.proofs.shares.Shares.weigh_all.Goals as goal
 pub loop-place-preserved : goal.loop-place-preserved
 loop-place-preserved c =
     c.weigh.ensures ∙ ap (changed (with_weight (get_or c.args.weights.now c.loop-place.place 0)) c.loop-place.place) c.loop-place.invariant
-    ∙ weighed_more c.args.weights.now c.loop-place.place c.args.self.now (omega (arith, c.loop-place-test.true, c.told-weights))
+    ∙ weighed_more c.args.weights.now c.loop-place.place c.args.self.now (omega (arith, c.loop-place-test.true))
