@@ -1,6 +1,7 @@
--- The close time that a round takes. Source: classical rippled; the percents and the ties are this profile's.
+-- The close time that a round takes. Source: classical rippled; the ties are this profile's.
 use Rattle.std.specs.Prelude.{ℕ, ◌+◌, ◌*◌, ◌/◌, ◌==◌, nat_lt, nat_le, max, count_by, map, length, Bool, true, false, List, [], ◌∷◌, ◌++◌, Option, Some, None, if◌then◌else◌}
 use Rattle.xl_closetime.specs.Rounding.{round_close}
+use Rattle.xl_closetime.specs.Numbers.{agreed_percent}
 use Rattle.xl_closetime.specs.declared.choice.Choice.{Choice}
 
 -- so many of p times are this percent of them, rounded, and at least one
@@ -34,10 +35,10 @@ last_chosen number bound chosen (t ∷ ts) =
 abbrev pub counted : List ℕ → ℕ → Bool → ℕ → List ℕ
 counted times own proposing r = map (λ t. round_close t r) times ++ (if proposing then round_close own r ∷ [] else [])
 
--- a chosen time is agreed on if three quarters of the times are it; if none is chosen it is 0, and not agreed on
+-- a chosen time is agreed on if enough of the times are it; if none is chosen it is 0, and not agreed on
 abbrev pub choice_of : List ℕ → Option ℕ → Choice
 choice_of times None = record { close = 0; agreed = false }
-choice_of times (Some t) = record { close = t; agreed = nat_le (needed (length times) 75) (occurrences times t) }
+choice_of times (Some t) = record { close = t; agreed = nat_le (needed (length times) agreed_percent) (occurrences times t) }
 
 -- the choice among counted times, of which this percent is needed
 abbrev pub choice_among : List ℕ → ℕ → Choice

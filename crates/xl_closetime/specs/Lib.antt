@@ -1,3 +1,4 @@
+pub mod Numbers
 pub mod Resolutions
 pub mod Rounding
 pub mod Choices

@@ -1,6 +1,7 @@
--- Resolutions of close times, in seconds. Source: classical rippled; the six and the 8 are this profile's.
+-- Resolutions of close times, in seconds. Source: classical rippled; the six are this profile's.
 use Rattle.std.specs.Prelude.{ℕ, ◌%◌, ◌==◌, Bool, List, [], ◌∷◌, reverse, IsTrue, if◌then◌else◌}
 use Rattle.std.specs.List.{list_any}
+use Rattle.xl_closetime.specs.Numbers.{finer_once_in}
 
 -- from the finest to the coarsest
 abbrev pub resolutions : List ℕ
@@ -21,6 +22,7 @@ coarser r = after resolutions r
 abbrev pub finer : ℕ → ℕ
 finer r = after (reverse resolutions) r
 
--- the next coarser one if the last close time wasn't agreed on; else the next finer one at each eighth ledger
+-- the next coarser one if the last close time wasn't agreed on; else the next finer one if `finer_once_in`
+-- divides the sequence
 abbrev pub next_resolution : ℕ → Bool → ℕ → ℕ
-next_resolution r agreed seq = if agreed then (if seq % 8 == 0 then finer r else r) else coarser r
+next_resolution r agreed seq = if agreed then (if seq % finer_once_in == 0 then finer r else r) else coarser r

@@ -1,9 +1,6 @@
--- Rounded close times. Source: classical rippled; the limit is this profile's.
+-- Rounded close times. Source: classical rippled.
 use Rattle.std.specs.Prelude.{ℕ, ◌+◌, ◌-◌, ◌/◌, ◌%◌, ◌==◌, min, max, if◌then◌else◌}
-
--- no second is later
-abbrev pub last_second : ℕ
-last_second = 4294967295
+use Rattle.xl_closetime.specs.Numbers.{last_second}
 
 -- the nearest multiple of r, a half rounded up; 0 stays 0
 abbrev pub round_close : ℕ → ℕ → ℕ

@@ -12,7 +12,7 @@ ghost use Rattle.xl_closetime.specs.Frequent.{beats, IsMostFrequent};
 use crate::rounding::round_close;
 use xl_base::{MOST_MEMBERS, Secs};
 
-/// So many percent of the times make an agreement.
+/// This many percent of the times make an agreement.
 const AGREED_PERCENT: u32 = 75;
 
 /// The close time that a round takes, 0 if none is chosen, and whether the members agree on it.

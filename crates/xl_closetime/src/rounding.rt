@@ -1,5 +1,6 @@
 ghost use Rattle.std.specs.Prelude.{◌≡◌, min};
-ghost use Rattle.xl_closetime.specs.Rounding.{round_close as round_close_of, effective as effective_of, last_second};
+ghost use Rattle.xl_closetime.specs.Rounding.{round_close as round_close_of, effective as effective_of};
+ghost use Rattle.xl_closetime.specs.Numbers.{last_second};
 ghost use Rattle.xl_closetime.specs.Resolutions.{IsResolution};
 
 use xl_base::Secs;

@@ -9,7 +9,7 @@ use Rattle.std.proofs.lemmas.Option.{slice_get_read, slice_get-get_or, get_or_fr
 use Rattle.xl_base.specs.Ids.{same_id}
 use Rattle.xl_ledger.specs.declared.header.Header.{Header}
 use Rattle.xl_ledger.specs.declared.ledger.Ledger.{Ledger}
-use Rattle.xl_ledger.specs.declared.ledger.TheConstants.{LEVELS}
+use Rattle.xl_ledger.specs.Limits.{levels}
 use Rattle.xl_ledger.specs.Chains.{root_id, ids, header_at, seq_at, place_of, parent_of, Joins, AreLedgers}
 use Rattle.xl_ledger.specs.Jumps.{ancestor_of, jump_of, AreJumps, AreJumpsBelow}
 use Rattle.xl_ledger.specs.Tables.{headers_of, HaveJumps, IsIndexed}
@@ -19,10 +19,10 @@ use Rattle.xl_ledger.proofs.Walking.{told_parent}
 use Rattle.xl_ledger.proofs.Ancestors.{double, own_ancestor, is_ancestor, ancestor_twice, ancestor_parent, is_jump}
 
 -- all jumps of the root lead to the root
-pub jumps_of_root : (ls : List Header) → AreLedgers ls → (jumps : List ℕ) → jumps ≡ replicate LEVELS 0 → AreJumps ls 0 jumps
+pub jumps_of_root : (ls : List Header) → AreLedgers ls → (jumps : List ℕ) → jumps ≡ replicate levels 0 → AreJumps ls 0 jumps
 jumps_of_root ls ok jumps e level lt =
-    let here : get_or jumps level 0 ≡ 0 = ap (λ (xs : List ℕ). get_or xs level 0) e ∙ get_or-replicate LEVELS level 0 0 lt in
-    let long : level < length jumps = omega (arith, ap length e, length-replicate LEVELS (let root : ℕ = 0 in root)) in
+    let here : get_or jumps level 0 ≡ 0 = ap (λ (xs : List ℕ). get_or xs level 0) e ∙ get_or-replicate levels level 0 0 lt in
+    let long : level < length jumps = omega (arith, ap length e, length-replicate levels (let root : ℕ = 0 in root)) in
     let root : get_or jumps level 0 ≡ jump_of ls 0 level = omega (arith, (is_jump ls ok 0 level ok.some).earlier) in
     slice_get-get_or jumps level 0 long ∙ ap Some root
 
@@ -59,33 +59,33 @@ have_jumps ledgers table ok = record { known = ok.known; each = λ place l found
 
 -- so many jumps are filled, and this is where the last of them leads to
 pub record IsFilled (ls : List Header) (parent : ℕ) (jumps : List ℕ) (n at : ℕ) : Type 0 where
-  pub long : length jumps ≡ LEVELS
+  pub long : length jumps ≡ levels
   pub each : (level : ℕ) → level < n → get_or jumps level 0 ≡ ancestor_of ls parent (seq_at ls parent + 1 - 2 ^ level)
   pub last : at ≡ ancestor_of ls parent (seq_at ls parent + 1 - 2 ^ (n - 1))
   pub known : at < length ls
 
-pub filled_all : (ls : List Header) (parent n at : ℕ) (jumps : List ℕ) → IsFilled ls parent jumps n at → LEVELS ≤ n → AreJumpsBelow ls parent jumps
+pub filled_all : (ls : List Header) (parent n at : ℕ) (jumps : List ℕ) → IsFilled ls parent jumps n at → levels ≤ n → AreJumpsBelow ls parent jumps
 filled_all ls parent n at jumps f all level lt = slice_get-get_or jumps level 0 (omega (arith, f.long)) ∙ ap Some (f.each level (omega arith))
 
 module _ (ledgers : List Ledger) (ok : HaveJumps ledgers) (parent : ℕ) (known : parent < length ledgers) where
   count : length (headers_of ledgers) ≡ length ledgers
   count = length-map ledgers (λ l. l.header)
 
-  pub filled_first : (jumps : List ℕ) → jumps ≡ replicate LEVELS parent → IsFilled (headers_of ledgers) parent jumps 1 parent
+  pub filled_first : (jumps : List ℕ) → jumps ≡ replicate levels parent → IsFilled (headers_of ledgers) parent jumps 1 parent
   filled_first jumps e =
       let hs = headers_of ledgers in
       let own : seq_at hs parent + 1 - 2 ^ 0 ≡ seq_at hs parent = omega arith in
       let is : parent ≡ ancestor_of hs parent (seq_at hs parent + 1 - 2 ^ 0) = sym (own_ancestor hs parent (seq_at hs parent + 1 - 2 ^ 0) own) in
       let first : get_or jumps 0 0 ≡ parent = ap (λ (xs : List ℕ). get_or xs 0 0) e in
       record {
-        long = ap length e ∙ length-replicate LEVELS parent;
+        long = ap length e ∙ length-replicate levels parent;
         each = λ level lt. let zero_is : 0 ≡ level = omega arith in subst (λ (k : ℕ). get_or jumps k 0 ≡ ancestor_of hs parent (seq_at hs parent + 1 - 2 ^ k)) zero_is (first ∙ is);
         last = is;
         known = omega (arith, count);
       }
 
   -- the next is as far again from where the last leads to
-  pub filled_next : (jumps : List ℕ) (n at i next d : ℕ) (l : Ledger) → IsFilled (headers_of ledgers) parent jumps n at → 1 ≤ n → n < LEVELS → i ≡ at → l ≡ get_or ledgers i l → next ≡ get_or l.jumps (n - 1) d
+  pub filled_next : (jumps : List ℕ) (n at i next d : ℕ) (l : Ledger) → IsFilled (headers_of ledgers) parent jumps n at → 1 ≤ n → n < levels → i ≡ at → l ≡ get_or ledgers i l → next ≡ get_or l.jumps (n - 1) d
       → IsFilled (headers_of ledgers) parent (set jumps n next) (n + 1) next
   filled_next jumps n at i next d l f some lt place read next_read = record {
     long = length-set jumps n next ∙ f.long;

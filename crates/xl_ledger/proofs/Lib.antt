@@ -10,4 +10,6 @@ pub mod Storing
 pub mod Walking
 pub mod Climbing
 pub mod Orders
+pub mod Finding
+pub mod OnChains
 pub mod Ranks

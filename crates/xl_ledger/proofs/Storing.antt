@@ -9,7 +9,7 @@ use Rattle.xl_ledger.specs.declared.header.Header.{Header}
 use Rattle.xl_ledger.specs.declared.ledger.Ledger.{Ledger}
 use Rattle.xl_ledger.specs.Headers.{header_id}
 use Rattle.xl_ledger.specs.Chains.{root_id, root_header, ids, id_at, seq_at, place_of, Joins, AreLedgers}
-use Rattle.xl_ledger.specs.declared.ledger.TheConstants.{LEVELS}
+use Rattle.xl_ledger.specs.Limits.{levels}
 use Rattle.xl_ledger.specs.Jumps.{AreJumps, AreJumpsBelow}
 use Rattle.xl_ledger.specs.Tables.{bucket_of, last_in, headers_of, IsPlaced, IsIndexed, IsSound}
 use Rattle.xl_ledger.proofs.Places.{slice_get-front, slice_get-seam}
@@ -44,7 +44,7 @@ written table own bucket n rest lt e =
 pub root_known : AreLedgers (root_header ∷ [])
 root_known = record { some = omega arith; root = refl; each = λ place some within. absurd (omega arith) }
 
-pub root_indexed : (l : Ledger) (limit bucket : ℕ) → 0 < limit → l.header ≡ root_header → l.id ≡ root_id → l.jumps ≡ replicate LEVELS 0 → l.before ≡ None → bucket ≡ bucket_of limit l.id → bucket < limit
+pub root_indexed : (l : Ledger) (limit bucket : ℕ) → 0 < limit → l.header ≡ root_header → l.id ≡ root_id → l.jumps ≡ replicate levels 0 → l.before ≡ None → bucket ≡ bucket_of limit l.id → bucket < limit
     → IsIndexed (l ∷ []) (set (replicate limit None) bucket (Some 0))
 root_indexed l limit bucket some header id jumps before at lt =
     let table : List (Option ℕ) = replicate limit None in
@@ -137,7 +137,7 @@ read_below ledgers table place i limit capacity l sound lt same read =
     omega (arith, seq_le hs sound.indexed.known place lt, sound.room.within, sound.room.most)
 
 pub opened : (l : Ledger) (front items : List Ledger) (table : List (Option ℕ)) (limit size bucket first capacity : ℕ) → 2 ≤ limit → limit ≤ 262144 → limit ≤ capacity
-    → items ≡ front ++ l ∷ [] → front ≡ [] → table ≡ replicate limit None → size ≡ limit → l.header ≡ root_header → l.id ≡ root_id → l.jumps ≡ replicate LEVELS 0 → l.before ≡ None → bucket ≡ bucket_of size l.id → bucket < size → first ≡ 0
+    → items ≡ front ++ l ∷ [] → front ≡ [] → table ≡ replicate limit None → size ≡ limit → l.header ≡ root_header → l.id ≡ root_id → l.jumps ≡ replicate levels 0 → l.before ≡ None → bucket ≡ bucket_of size l.id → bucket < size → first ≡ 0
     → IsSound items (set table bucket (Some first)) limit capacity
 opened l front items table limit size bucket first capacity least most reserved items_are front_is table_is size_is header id jumps before at lt first_is =
     let alone : items ≡ l ∷ [] = items_are ∙ ap (λ (x : List Ledger). x ++ l ∷ []) front_is in

@@ -2,6 +2,7 @@ pub mod Headers
 pub mod Reading
 pub mod Chains
 pub mod Jumps
+pub mod Limits
 pub mod Links
 pub mod Codes
 pub mod Registries

@@ -8,6 +8,7 @@ use Rattle.xl_ledger.specs.declared.header.Header.{Header}
 use Rattle.xl_ledger.specs.declared.ledger.Ledger.{Ledger}
 use Rattle.xl_ledger.specs.Chains.{root_id, ids, AreLedgers}
 use Rattle.xl_ledger.specs.Jumps.{AreJumps}
+use Rattle.xl_ledger.specs.Limits.{least_limit, greatest_limit}
 
 -- the bucket of an id, of so many
 abbrev pub bucket_of : ℕ → LedgerId → ℕ
@@ -44,8 +45,8 @@ pub record IsIndexed (ledgers : List Ledger) (table : List (Option ℕ)) : Type 
 
 -- there is room for as many ledgers as the limit says
 pub record HasRoom (count limit capacity : ℕ) : Type 0 where
-  pub least : 2 ≤ limit
-  pub most : limit ≤ 262144
+  pub least : least_limit ≤ limit
+  pub most : limit ≤ greatest_limit
   pub within : count ≤ limit
   pub reserved : limit ≤ capacity
 

@@ -24,7 +24,7 @@ mod walk;
 
 pub use branch::Branch;
 pub use header::{Header, build_next, header_bytes, id_of, read_header, root_header};
-pub use law::order_of_votes;
+pub use law::{limits, order_of_votes};
 pub use ledger_no::LedgerNo;
 pub use refusal::AddRefusal;
 pub use registry::{GREATEST_LIMIT, LEAST_LIMIT, Registry};

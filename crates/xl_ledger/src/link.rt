@@ -1,5 +1,5 @@
 ghost use Rattle.std.specs.Prelude.{◌≡◌, ◌<◌, None, Some};
-ghost use Rattle.xl_ledger.specs.declared.registry.TheConstants.{GREATEST_LIMIT};
+ghost use Rattle.xl_ledger.specs.Limits.{greatest_limit};
 
 use crate::LedgerNo;
 use std::marker::Model;
@@ -29,7 +29,7 @@ impl Link {
     }
 
     pub(crate) fn to(ledger: LedgerNo) -> Link
-        requires { ledger < GREATEST_LIMIT }
+        requires { ledger < greatest_limit }
         ensures { result ≡ Some ledger }
     {
         Link {

@@ -5,7 +5,7 @@ ghost use Rattle.xl_ledger.specs.Jumps.{jump_of};
 ghost use Rattle.xl_base.specs.Refusals.{unless_refused};
 ghost use Rattle.xl_ledger.specs.Registries.{only_root, with_header, parent_place, add_refusal};
 ghost use Rattle.xl_ledger.specs.Walks.{start_of};
-ghost use Rattle.xl_ledger.specs.declared.registry.TheConstants.{LEAST_LIMIT, GREATEST_LIMIT};
+ghost use Rattle.xl_ledger.specs.Limits.{least_limit, greatest_limit, levels};
 
 use crate::jumps::jumps_below;
 use crate::ledger::{LEVELS, Ledger};
@@ -48,8 +48,8 @@ impl Model for Registry {
 impl Registry {
     /// A registry that knows the root alone, with room for this many ledgers, or `OutOfMemory`.
     pub fn open(alloc: Global, limit: u32) -> Result<Registry, OutOfMemory>
-        requires least { LEAST_LIMIT ≤ limit }
-        requires most { limit ≤ GREATEST_LIMIT }
+        requires least { least_limit ≤ limit }
+        requires most { limit ≤ greatest_limit }
         ensures { IfOk result (λ registry. registry ≡ only_root limit) }
     {
         let mut ledgers = Vec::with_capacity(alloc, limit as usize)?;
@@ -69,7 +69,7 @@ impl Registry {
     pub fn len(&self) -> u32
         ensures value { result ≡ length self.now.headers }
         ensures limit { result ≤ self.now.limit }
-        ensures most { self.now.limit ≤ GREATEST_LIMIT }
+        ensures most { self.now.limit ≤ greatest_limit }
         ensures ledgers { AreLedgers self.now.headers }
     {
         self.ledgers.len() as u32
@@ -78,8 +78,8 @@ impl Registry {
     /// How many ledgers there may be, the root among them.
     pub fn limit(&self) -> u32
         ensures value { result ≡ self.now.limit }
-        ensures least { LEAST_LIMIT ≤ result }
-        ensures most { result ≤ GREATEST_LIMIT }
+        ensures least { least_limit ≤ result }
+        ensures most { result ≤ greatest_limit }
     {
         self.limit
     }
@@ -191,7 +191,7 @@ impl Registry {
     pub fn seq_of(&self, ledger: LedgerNo) -> Seq
         requires { ledger < length self.now.headers }
         ensures value { result ≡ seq_at self.now.headers ledger }
-        ensures below { result < GREATEST_LIMIT }
+        ensures below { result < greatest_limit }
         ensures ledgers { AreLedgers self.now.headers }
     {
         self.ledgers[ledger.place()].header.seq
@@ -214,7 +214,7 @@ impl Registry {
     /// The ledger `2 ^ level` places up, or the root where so many aren't there.
     pub(crate) fn jump(&self, ledger: LedgerNo, level: u32) -> LedgerNo
         requires known { ledger < length self.now.headers }
-        requires level { level < LEVELS }
+        requires level { level < levels }
         ensures { result ≡ jump_of self.now.headers ledger level }
     {
         self.ledgers[ledger.place()].jumps[level as usize]
@@ -232,7 +232,7 @@ fn is_same(one: &Header, other: &Header) -> bool
 fn root() -> Ledger
     ensures header { result.header ≡ root_header }
     ensures id { result.id ≡ root_id }
-    ensures jumps { result.jumps ≡ replicate LEVELS 0 }
+    ensures jumps { result.jumps ≡ replicate levels 0 }
     ensures before { result.before ≡ None }
 {
     Ledger {

@@ -1,7 +1,7 @@
 ghost use Rattle.std.specs.Prelude.{◌≡◌, ◌≢◌, ◌+◌, ◌<◌, ◌≤◌, length, slice_get, Some};
 ghost use Rattle.xl_ledger.specs.Chains.{header_at, id_at, seq_at, chain, common_of, AreLedgers};
 ghost use Rattle.xl_ledger.specs.Jumps.{jump_of};
-ghost use Rattle.xl_ledger.specs.declared.registry.TheConstants.{GREATEST_LIMIT};
+ghost use Rattle.xl_ledger.specs.Limits.{greatest_limit, levels};
 ghost use Rattle.xl_base.specs.Counts.{one_more};
 ghost use Rattle.xl_ledger.specs.Walks.{start_of, GoesOn, TakesStep};
 
@@ -64,7 +64,7 @@ impl<'a> Walk<'a> {
     pub fn seq_of(&self, ledger: LedgerNo) -> Seq
         requires { ledger < length self.now.ledgers.headers }
         ensures value { result ≡ seq_at self.now.ledgers.headers ledger }
-        ensures below { result < GREATEST_LIMIT }
+        ensures below { result < greatest_limit }
         ensures ledgers { AreLedgers self.now.ledgers.headers }
     {
         self.registry.seq_of(ledger)
@@ -139,7 +139,7 @@ impl<'a> Walk<'a> {
         requires b_known { b < length self.old.ledgers.headers }
         requires ledgers { AreLedgers self.old.ledgers.headers }
         requires one_seq { seq_at self.old.ledgers.headers a ≡ seq_at self.old.ledgers.headers b }
-        requires low { seq_at self.old.ledgers.headers a < GREATEST_LIMIT }
+        requires low { seq_at self.old.ledgers.headers a < greatest_limit }
         ensures value { result ≡ common_of self.old.ledgers.headers a b }
         ensures known { result < length self.old.ledgers.headers }
         ensures goes_on { GoesOn self.old self.new }
@@ -166,7 +166,7 @@ impl<'a> Walk<'a> {
     /// Where a jump leads. No step, since it isn't taken.
     fn leads_to(&self, ledger: LedgerNo, level: u32) -> LedgerNo
         requires known { ledger < length self.now.ledgers.headers }
-        requires level { level < LEVELS }
+        requires level { level < levels }
         ensures { result ≡ jump_of self.now.ledgers.headers ledger level }
     {
         self.registry.jump(ledger, level)
@@ -175,7 +175,7 @@ impl<'a> Walk<'a> {
     /// Takes a jump. One step.
     fn jump(&mut self, ledger: LedgerNo, level: u32) -> LedgerNo
         requires known { ledger < length self.old.ledgers.headers }
-        requires level { level < LEVELS }
+        requires level { level < levels }
         ensures value { result ≡ jump_of self.old.ledgers.headers ledger level }
         ensures goes_on { GoesOn self.old self.new }
         ensures step { self.new.taken ≡ one_more self.old.taken }

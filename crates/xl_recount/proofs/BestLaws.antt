@@ -10,12 +10,11 @@ use Rattle.std.proofs.lemmas.List.FromFn.{length-range_with_len, get_or-range_wi
 use Rattle.std.proofs.lemmas.Option.{slice_get_within, slice_get-get_or, get_or_from_slice_get}
 use Rattle.xl_ledger.specs.declared.header.Header.{Header}
 use Rattle.xl_ledger.specs.declared.vote.Vote.{Vote}
-use Rattle.xl_ledger.specs.Chains.{seq_at, parent_of, chain, AreLedgers}
-use Rattle.xl_ledger.specs.Votes.{AreKnown, follows, is_on_chain, branch_of, id_rank, rank, candidates, best_of, others, margin, uncommitted, unless_too_few, next_of, or_stay, prefer}
-use Rattle.xl_ledger.proofs.ChainLaws.{of_chain, length-chain}
+use Rattle.xl_ledger.specs.Chains.{seq_at, parent_of, AreLedgers}
+use Rattle.xl_ledger.specs.Votes.{AreKnown, follows, branch_of, id_rank, rank, candidates, best_of, others, margin, uncommitted, unless_too_few, next_of, or_stay, prefer}
 use Rattle.xl_ledger.proofs.Walking.{told_parent}
 use Rattle.xl_recount.specs.Children.{towards, children_of, votes_for, child_rank, IsOther, Leads, AreChildren, margin_of}
-use Rattle.xl_recount.proofs.Finding.{false_if, some_is, follows_is, follows_some, find_only, find_none, all_if, all_at, of_filter, in_filter, stands_if, any_if}
+use Rattle.xl_ledger.proofs.Finding.{false_if, follows_is, follows_some, find_only, find_none, all_if, all_at, of_filter, in_filter}
 use Rattle.xl_recount.proofs.Towards.{of_towards, counted, branch_of_child}
 use Rattle.xl_ledger.proofs.Ranks.{gt_back}
 
@@ -160,27 +159,9 @@ module _ (ls : List Header) (ok : AreLedgers ls) (votes : List Vote) (known : Ar
       ∙ ap (λ (n : ℕ). cond (nat_lt (uncommitted ls votes (seq_at ls from + 1) largest) n) (Some b) None) (margin_is b second first.0.0 later)
       ∙ ap (λ (s : ℕ). cond (nat_lt (uncommitted ls votes s largest) (margin_of ls children b second)) (Some b) None) (sym (seq_of_child b (candidate_if b first.0.0)))
 
--- ---- whether a ledger stands on a chain
+-- ---- picking, and going on
 
 module _ (ls : List Header) (ok : AreLedgers ls) where
-  pub on_low : (ledger of : ℕ) → of < length ls → seq_at ls of < seq_at ls ledger → false ≡ is_on_chain ls ledger of
-  on_low ledger of within lt = sym (false_if (is_on_chain ls ledger of) (λ t.
-      let there = stands_if (chain ls of) ledger t in
-      let is = of_chain ls ok of within there.at ledger there.is in
-      omega (arith, is.seq, slice_get_within (chain ls of) there.at ledger there.is, length-chain ls of)))
-
-  pub on_at : (ledger of r : ℕ) → of < length ls → slice_get (chain ls of) (seq_at ls ledger) ≡ Some r → (r == ledger) ≡ is_on_chain ls ledger of
-  on_at ledger of r within at = by_cases (is_on_chain ls ledger of) refl
-    where
-      by_cases : (b : Bool) → is_on_chain ls ledger of ≡ b → (r == ledger) ≡ is_on_chain ls ledger of
-      by_cases true is =
-          let there = stands_if (chain ls of) ledger is in
-          let place = of_chain ls ok of within there.at ledger there.is in
-          eq-eqb r ledger (some_is r ledger (sym at ∙ ap (slice_get (chain ls of)) place.seq ∙ there.is)) ∙ sym is
-      by_cases false is = false_if (r == ledger) (λ t. let on = any_if (chain ls of) ledger (seq_at ls ledger) (at ∙ ap Some (eqb-true r ledger t)) in let f : true ≡ false = sym on ∙ is in cc) ∙ sym is
-
-  -- ---- picking, and going on
-
   child_known : (from to : ℕ) → to < length ls → IfSome (towards ls from to) (λ c. c < length ls)
   child_known from to within = by_cases (towards ls from to) refl
     where

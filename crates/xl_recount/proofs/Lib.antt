@@ -1,4 +1,3 @@
-pub mod Finding
 pub mod Towards
 pub mod Ranks
 pub mod BestLaws

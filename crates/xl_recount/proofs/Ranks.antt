@@ -9,7 +9,7 @@ use Rattle.xl_ledger.specs.Chains.{AreLedgers}
 use Rattle.xl_ledger.specs.Votes.{follows}
 use Rattle.xl_ledger.proofs.Ranks.{gt_then, gt_or}
 use Rattle.xl_recount.specs.Children.{votes_for, child_rank, IsOther, IsCounted, Leads}
-use Rattle.xl_recount.proofs.Finding.{false_if, some_is, follows_is}
+use Rattle.xl_ledger.proofs.Finding.{false_if, some_is, follows_is}
 
 pub other_if : (a b : ℕ) (n : Bool) → n ≡ not (a == b) → n ≡ true → a ≢ b
 other_if a b n d other e = true_is_false (sym other ∙ d ∙ ap not (same (a == b) (grind (arith, nat_tests))))

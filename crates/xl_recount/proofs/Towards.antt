@@ -14,7 +14,7 @@ use Rattle.xl_ledger.proofs.Places.{slice_get-front, slice_get-seam}
 use Rattle.xl_ledger.proofs.ChainLaws.{parent_known, parent_of_known, above_is, seq_of_root, length-lineage, length-chain, lineage_ends, of_chain}
 use Rattle.xl_ledger.proofs.Walking.{told_parent}
 use Rattle.xl_recount.specs.Children.{towards, children_of, votes_for}
-use Rattle.xl_recount.proofs.Finding.{false_if, some_is, follows_is, follows_some, find_is, find_none, find_found, stands_if, any_if}
+use Rattle.xl_ledger.proofs.Finding.{false_if, some_is, follows_is, follows_some, find_is, find_none, find_found, stands_if, any_if}
 
 module _ (ls : List Header) (ok : AreLedgers ls) where
   -- what follows on a chain has what stands before it as its parent

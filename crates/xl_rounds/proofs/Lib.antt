@@ -8,3 +8,5 @@ pub mod PositionLaws
 pub mod Agreeing
 pub mod Newer
 pub mod Waiting
+pub mod KeptLaws
+pub mod Skipping

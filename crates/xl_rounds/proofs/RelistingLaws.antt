@@ -2,7 +2,6 @@
 use Rattle.std.proofs.Common.{◌≡◌, ℕ, suc, ◌+◌, List, refl, ap, sym, ◌∙◌, arith}
 use Rattle.std.proofs.lemmas.Bool.{cond_both}
 use Rattle.xl_lists.specs.Lists.{is_on}
-use Rattle.xl_rounds.specs.declared.setting.Setting.{Setting}
 use Rattle.xl_rounds.specs.Rounds.{Round}
 use Rattle.xl_rounds.specs.Relisting.{without_member, unless_listed, relisted_to}
 

@@ -1,5 +1,5 @@
 -- What a heartbeat does to a round, in each phase.
--- Source: classical rippled's Consensus; the numbers and the order of the lines are this profile's.
+-- Source: classical rippled's Consensus; the order of the lines is this profile's.
 use Rattle.std.specs.Prelude.{ℕ, ◌+◌, ◌-◌, ◌*◌, ◌/◌, ◌==◌, ◌||◌, not, min, max, nat_lt, nat_le, Bool, true, false, List, length, Option, Some, None, if◌then◌else◌}
 use Rattle.std.specs.Cmp.Lexicographic.{pointwise}
 use Rattle.std.specs.Str.{bytes_eq}
@@ -22,6 +22,7 @@ use Rattle.xl_rounds.specs.declared.pulse.Said.{Said}
 use Rattle.xl_rounds.specs.declared.pulse.Kind.{Kind}
 use Rattle.xl_rounds.specs.declared.pulse.Kind.TheVariants.{Nothing, Closed, Updated, Ready}
 use Rattle.xl_rounds.specs.declared.pulse.Pulse.{Pulse}
+use Rattle.xl_rounds.specs.Numbers.{least_ms, least_former_ms, renewed_secs, last_sequence}
 use Rattle.xl_rounds.specs.Closing.{should_close}
 use Rattle.xl_rounds.specs.Agreement.{consensus}
 use Rattle.xl_rounds.specs.Positions.{Positions, with_own, without_old, count, next_set, close_times, agreeing}
@@ -78,7 +79,7 @@ open_beat now validated r = if should_close (waiting r now validated) then close
 
 -- how long the round has taken, in percent of the previous one
 abbrev pub percent_of : Former → ℕ → ℕ
-percent_of former round_ms = round_ms * 100 / max former.round_ms 5000
+percent_of former round_ms = round_ms * 100 / max former.round_ms least_former_ms
 
 -- the threshold of that percent
 abbrev pub needed : Round → ℕ → ℕ
@@ -110,15 +111,11 @@ decision r round_ms second = record {
   choice = chosen r round_ms second;
 }
 
--- the third line: our position is renewed if our set or the close time changed, or once twelve seconds have passed
+-- the third line: our position is renewed if our set or the close time changed, or once it has aged
 abbrev pub is_renewed : Round → ℕ → Decision → Bool
 is_renewed r second d =
     d.changed || not (d.choice.close == round_close r.stance.close r.setting.resolution)
-    || nat_le r.stance.time (second - 12)
-
--- the greatest propose sequence except for the one that says that a member leaves
-abbrev pub last_sequence : ℕ
-last_sequence = 4294967294
+    || nat_le r.stance.time (second - renewed_secs)
 
 abbrev pub renewed : ℕ → ℕ → Stance → Stance
 renewed close second s = record {
@@ -186,7 +183,7 @@ established round_ms second finished r =
 
 abbrev pub establish_beat : ℕ → ℕ → Round → Beat
 establish_beat now finished r =
-    if nat_lt (now - r.stance.closed) 1950 then quiet r else established (now - r.stance.closed) (now / 1000) finished r
+    if nat_lt (now - r.stance.closed) least_ms then quiet r else established (now - r.stance.closed) (now / 1000) finished r
 
 -- ---- any
 

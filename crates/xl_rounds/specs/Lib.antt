@@ -1,5 +1,6 @@
 pub mod Codes
 pub mod Lines
+pub mod Numbers
 pub mod Closing
 pub mod Agreement
 pub mod Pending

@@ -1,6 +1,6 @@
 -- The members' positions, the sets that members hold, and our own set. Each list has a place for each member, from 1 to
 -- 64.
--- Source: classical rippled's Consensus; the limits of time are this profile's.
+-- Source: classical rippled's Consensus.
 use Rattle.std.specs.Prelude.{ℕ, ◌-◌, nat_le, Bool, false, List, replicate, map, filter_map, count_by, slice_set, slice_index_or, Option, Some, None, is_some, option_map, if◌then◌else◌}
 use Rattle.std.specs.Str.{bytes_eq}
 use Rattle.xl_base.specs.Sets.{set_id_of}
@@ -9,6 +9,7 @@ use Rattle.xl_base.specs.declared.ids.SetId.{SetId}
 use Rattle.xl_wire.specs.declared.proposal.Proposal.{Proposal}
 use Rattle.xl_disputes.specs.Disputes.{Known}
 use Rattle.xl_disputes.specs.Next.{winners}
+use Rattle.xl_rounds.specs.Numbers.{fresh_secs}
 
 pub record Positions : Type 0 where
   pub members : List (Option Proposal)
@@ -49,9 +50,9 @@ with_own set a = record a { own = set }
 abbrev pub count : Positions → ℕ
 count a = count_by is_some a.members
 
--- a position is old once twenty seconds have passed since it was taken
+-- a position is old once `fresh_secs` seconds have passed since it was taken
 abbrev pub is_old : ℕ → Proposal → Bool
-is_old now p = nat_le p.time (now - 20)
+is_old now p = nat_le p.time (now - fresh_secs)
 
 abbrev pub unless_old : ℕ → Option Proposal → Option Proposal
 unless_old now None = None

@@ -1,5 +1,5 @@
 -- Members' proposals, and those that wait for a later ledger.
--- Source: classical rippled's Consensus; the order of the lines and the numbers are this profile's.
+-- Source: classical rippled's Consensus; the order of the lines is this profile's.
 use Rattle.std.specs.Prelude.{ℕ, zero, suc, ◌-◌, ◌/◌, ◌==◌, ◌&&◌, not, nat_le, Bool, true, false, List, [], ◌∷◌, slice_index_or, Option, Some, None, Result, Ok, Err, if◌then◌else◌}
 use Rattle.xl_base.specs.Ids.{same_id}
 use Rattle.xl_base.specs.declared.ids.LedgerId.{LedgerId}
@@ -12,6 +12,7 @@ use Rattle.xl_rounds.specs.declared.placed.Placed.TheVariants.{Position, Later, 
 use Rattle.xl_rounds.specs.declared.refusal.RoundRefusal.{RoundRefusal}
 use Rattle.xl_rounds.specs.declared.refusal.RoundRefusal.TheVariants.{WrongPrev, OldPosition, Left, StaleProposal}
 use Rattle.xl_rounds.specs.Lines.{first_line}
+use Rattle.xl_rounds.specs.Numbers.{leaving}
 use Rattle.xl_rounds.specs.Positions.{with_at, position_of, with_position, is_old}
 use Rattle.xl_rounds.specs.Settings.{setting_on}
 use Rattle.xl_rounds.specs.Rounds.{Round, on_ledger}
@@ -53,7 +54,7 @@ answer_here r member p now = first_line (
     -- it is old
     ∷ (is_old now p, Err (StaleProposal now))
     -- the member leaves
-    ∷ (p.pseq == 4294967295, Ok Gone)
+    ∷ (p.pseq == leaving, Ok Gone)
     ∷ []) (Ok Position)
 
 -- the answer to a proposal

@@ -1,6 +1,7 @@
 -- What the code of this crate keeps besides. No public clause cites this file.
-use Rattle.std.specs.Prelude.{◌≡◌, ℕ, ◌≤◌, Bool, false, List, [], ◌∷◌, length, drop, map, count_by, slice_set, slice_index_or, Option, Some, None, is_some, if◌then◌else◌}
+use Rattle.std.specs.Prelude.{◌≡◌, ℕ, ◌<◌, ◌≤◌, Bool, false, List, [], ◌∷◌, length, drop, map, count_by, slice_set, slice_index_or, Option, Some, None, is_some, if◌then◌else◌}
 use Rattle.std.specs.List.{prefix_len}
+use Rattle.std.specs.Int.{bit_at}
 use Rattle.std.specs.Str.{bytes_eq}
 use Rattle.xl_base.specs.Sets.{is_below, IsSet}
 use Rattle.xl_base.specs.declared.ids.TxId.{TxId}
@@ -8,12 +9,13 @@ use Rattle.xl_base.specs.declared.ids.SetId.{SetId}
 use Rattle.xl_wire.specs.declared.proposal.Proposal.{Proposal}
 use Rattle.xl_closetime.specs.Resolutions.{IsResolution}
 use Rattle.xl_rounds.specs.declared.setting.Setting.{Setting}
+use Rattle.xl_rounds.specs.Numbers.{most_pending}
 use Rattle.xl_rounds.specs.Positions.{Positions, set_named, is_old, unless_old}
 
 -- the pending transactions are a set, and there is room for as many as may be
 pub record HasRoom (pending : List TxId) (capacity : ℕ) : Type 0 where
   pub set : IsSet pending
-  pub room : 256 ≤ capacity
+  pub room : most_pending ≤ capacity
 
 -- of rising ids those that aren't below one
 abbrev pub not_below : TxId → List TxId → List TxId
@@ -27,6 +29,11 @@ is_first tx (id ∷ ids) = bytes_eq id.0 tx.0
 -- how many positions it is: one or none
 abbrev pub one_if : Option Proposal → ℕ
 one_if position = if is_some position then 1 else 0
+
+-- a place for each member, and a proposal at marked places alone: the lowest bit marks the first place
+pub record AreKept (marks : ℕ) (proposals : List (Option Proposal)) : Type 0 where
+  pub places : length proposals ≡ 64
+  pub unmarked : (i : ℕ) → i < 64 → bit_at marks i ≡ 0 → slice_index_or proposals i None ≡ None
 
 -- a place for each member, so many positions in them, and the disputes know the sets that the positions name
 pub record AreNamed (members : List (Option Proposal)) (count : ℕ) (named : List (Option SetId)) : Type 0 where

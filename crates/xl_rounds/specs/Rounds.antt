@@ -1,6 +1,6 @@
 -- A round: what it is on, how far it has come, what the members propose in it, and what is kept for later.
 -- Source: Chase and MacBrough, "Analysis of the XRP Ledger Consensus Protocol" (2018); classical rippled's Consensus.
--- The numbers and the order of the lines are this profile's.
+-- The order of the lines is this profile's.
 use Rattle.std.specs.Prelude.{ℕ, ◌/◌, Bool, true, false, List, [], replicate, Option, Some, None, if◌then◌else◌}
 use Rattle.xl_base.specs.Sets.{set_id_of}
 use Rattle.xl_base.specs.declared.ids.TxId.{TxId}
@@ -15,6 +15,7 @@ use Rattle.xl_rounds.specs.declared.setting.Setting.{Setting}
 use Rattle.xl_rounds.specs.declared.setting.Former.{Former}
 use Rattle.xl_rounds.specs.declared.setting.Stance.{Stance}
 use Rattle.xl_rounds.specs.declared.pulse.Agreed.{Agreed}
+use Rattle.xl_rounds.specs.Numbers.{first_former_ms, leaving}
 use Rattle.xl_rounds.specs.Settings.{setting_on}
 use Rattle.xl_rounds.specs.Positions.{Positions, nowhere, no_positions, without_positions, with_held, count}
 use Rattle.xl_rounds.specs.Pending.{without_accepted}
@@ -49,7 +50,7 @@ no_stance = record { closed = 0; propose_sequence = 0; close = 0; time = 0 }
 abbrev pub opened : List Header → ℕ → Mode → ℕ → Round
 opened ledgers root mode now = record {
   setting = setting_on ledgers root mode now;
-  former = record { round_ms = 15000; proposers = 0 };
+  former = record { round_ms = first_former_ms; proposers = 0 };
   phase = Open;
   stance = no_stance;
   ready = None;
@@ -81,7 +82,7 @@ our_position r = record {
 
 -- the position by which we leave the round
 abbrev pub bow_out : ℕ → Round → Proposal
-bow_out now r = record (our_position r) { pseq = 4294967295; time = now / 1000 }
+bow_out now r = record (our_position r) { pseq = leaving; time = now / 1000 }
 
 abbrev pub is_establish : Phase → Bool
 is_establish Open = false

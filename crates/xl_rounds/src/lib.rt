@@ -3,7 +3,7 @@
 //!
 //! A round is first open, while transactions are collected. It closes once enough others have, and what is pending then
 //! is our first set. In the phase establish each heartbeat counts the members' votes on each transaction, takes the set
-//! that wins, chooses a close time, and renews our position where either changed. Once four fifths agree the round is
+//! that wins, chooses a close time, and renews our position if either changed. Once four fifths agree the round is
 //! ready: the caller builds the next ledger by what `agreed` says, calls `accept`, and starts a round on that ledger.
 //! Time, messages and what the node knows of ledgers and validations are handed in; what is to be sent comes out.
 //!
@@ -15,6 +15,7 @@
 mod agreement;
 mod closing;
 mod decision;
+mod kept;
 mod law;
 mod members;
 mod pending;

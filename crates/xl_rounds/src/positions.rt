@@ -9,6 +9,7 @@ ghost use Rattle.std.specs.Prelude.{
   take,
   map,
   filter_map,
+  count_by,
   option_map,
   slice_index_or,
   None,
@@ -39,6 +40,7 @@ ghost use Rattle.xl_rounds.specs.Positions.{
 };
 ghost use Rattle.xl_rounds.specs.Rest.{is_old_position as is_old_position_of, one_if as one_if_of, without_old_at};
 
+use crate::kept::Kept;
 use crate::members::{member_at, place_of};
 use std::alloc::Global;
 use std::marker::Model;
@@ -47,14 +49,13 @@ use xl_closetime::{Choice, choose_close};
 use xl_disputes::Disputes;
 use xl_wire::Proposal;
 
-/// A position is old once so many seconds have passed since it was taken.
+/// A position is old once this many seconds have passed since it was taken.
 const FRESH_SECS: Secs = 20;
 
 /// The members' positions, the sets that members hold, and our own set. No call after `open` takes memory.
 #[derive(Drop)]
 pub(crate) struct Positions {
-    /// The positions, from member 1 on.
-    members: [Option<Proposal>; MOST_MEMBERS],
+    members: Kept,
     /// How many there are.
     count: u32,
     /// The sets, and what the positions say of them.
@@ -109,21 +110,41 @@ fn names(id: &SetId, position: &Option<Proposal>) -> bool
     }
 }
 
-/// Writes the close times of the positions into the front of the room, and tells how many they are.
-fn close_times(members: &[Option<Proposal>], room: &mut [Secs]) -> usize
-    requires fits { length members.now ≤ length room.old }
+/// Writes the close times of the positions into the front of the room, and says how many they are.
+fn close_times(members: &Kept, room: &mut [Secs]) -> usize
+    requires places { length members.now ≡ 64 }
+    requires fits { 64 ≤ length room.old }
     ensures len { result ≡ length (times_of members.now) }
-    ensures within { result ≤ length members.now }
+    ensures within { result ≤ 64 }
     ensures times { take result room.new ≡ times_of members.now }
 {
     let mut len = 0;
-    for position in members {
-        if let Some(p) = position {
+    let mut place = members.next(0);
+    while place < MOST_MEMBERS {
+        if let Some(p) = members.at(place) {
             room[len] = p.close;
             len += 1;
         }
+        place = members.next(place + 1);
     }
     len
+}
+
+/// How many positions name a set.
+fn naming(members: &Kept, id: &SetId) -> u32
+    requires places { length members.now ≡ 64 }
+    ensures value { result ≡ count_by (names_of id.now) members.now }
+    ensures most { result ≤ 64 }
+{
+    let mut count = 0;
+    let mut place = members.next(0);
+    while place < MOST_MEMBERS {
+        if names(id, members.at(place)) {
+            count += 1;
+        }
+        place = members.next(place + 1);
+    }
+    count
 }
 
 impl Positions {
@@ -132,7 +153,7 @@ impl Positions {
         ensures { IfOk result (λ positions. positions ≡ no_positions []) }
     {
         Ok(Positions {
-            members: [None; MOST_MEMBERS],
+            members: Kept::none(),
             count: 0,
             disputes: Disputes::open(alloc)?,
         })
@@ -142,7 +163,7 @@ impl Positions {
     pub(crate) fn reset(&mut self)
         ensures { self.new ≡ no_positions [] }
     {
-        self.members = [None; MOST_MEMBERS];
+        self.members.clear();
         self.count = 0;
         self.disputes.reset();
     }
@@ -151,7 +172,7 @@ impl Positions {
     pub(crate) fn of(&self, member: NodeNo) -> Option<Proposal>
         ensures { result ≡ position_of self.now member }
     {
-        self.members[place_of(member)]
+        *self.members.at(place_of(member))
     }
 
     /// The member's position is this proposal, in place of an older one.
@@ -159,8 +180,8 @@ impl Positions {
         ensures { self.new ≡ with_position member (Some p.now) self.old }
     {
         let place = place_of(member);
-        let had = one_if(&self.members[place]);
-        self.members[place] = Some(*p);
+        let had = one_if(self.members.at(place));
+        self.members.put(place, p);
         self.count = self.count + 1 - had;
         self.disputes.position(member, p.set);
     }
@@ -170,8 +191,8 @@ impl Positions {
         ensures { self.new ≡ with_position member None self.old }
     {
         let place = place_of(member);
-        let had = one_if(&self.members[place]);
-        self.members[place] = None;
+        let had = one_if(self.members.at(place));
+        self.members.remove(place);
         self.count -= had;
         self.disputes.leave(member);
     }
@@ -180,7 +201,7 @@ impl Positions {
     pub(crate) fn clear(&mut self)
         ensures { self.new ≡ without_positions self.old }
     {
-        self.members = [None; MOST_MEMBERS];
+        self.members.clear();
         self.count = 0;
         self.disputes.clear();
     }
@@ -189,18 +210,18 @@ impl Positions {
     pub(crate) fn remove_old(&mut self, now: Secs)
         ensures { self.new ≡ without_old now self.old }
     {
-        // Each member has a place.
-        let _ = &self.members;
-        for place in 0..MOST_MEMBERS {
+        let mut place = self.members.next(0);
+        while place < MOST_MEMBERS {
             self.remove_if_old(place, now);
+            place = self.members.next(place + 1);
         }
     }
 
     fn remove_if_old(&mut self, place: usize, now: Secs)
-        requires { place < MOST_MEMBERS }
+        requires { place < 64 }
         ensures { self.new ≡ without_old_at now place self.old }
     {
-        if is_old_position(now, &self.members[place]) {
+        if is_old_position(now, self.members.at(place)) {
             self.remove(member_at(place));
         }
     }
@@ -219,8 +240,8 @@ impl Positions {
         ensures { self.new ≡ without_member member self.old }
     {
         let place = place_of(member);
-        let had = one_if(&self.members[place]);
-        self.members[place] = None;
+        let had = one_if(self.members.at(place));
+        self.members.remove(place);
         self.count -= had;
         self.disputes.forget(member);
     }
@@ -268,11 +289,7 @@ impl Positions {
         ensures value { result ≡ agreeing_of self.now }
         ensures most { result ≤ 64 }
     {
-        let id = self.own_id();
-        self.members
-            .iter()
-            .filter(|position| names(&id, position))
-            .count() as u32
+        naming(&self.members, &self.own_id())
     }
 
     /// The close time that the positions give, and whether it is agreed on.

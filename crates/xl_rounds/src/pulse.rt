@@ -1,7 +1,7 @@
 use xl_base::{Secs, SetId};
 use xl_wire::Proposal;
 
-/// What a heartbeat is told of the validations that the node holds.
+/// What a heartbeat learns of the validations that the node holds.
 #[derive(Clone, Copy, Debug, PartialEq, Eq)]
 pub struct Seen {
     /// The members other than us whose current validation names the previous ledger.

@@ -16,6 +16,7 @@ ghost use Rattle.xl_rounds.specs.Rounds.{
   is_proposing as is_proposing_of,
 };
 
+use crate::kept::Kept;
 use crate::pending::Pending;
 use crate::positions::Positions;
 use crate::setting::{Former, Setting, Stance, setting_on};
@@ -60,8 +61,8 @@ pub struct Round {
     positions: Positions,
     /// Which members left this round, from member 1 on.
     left: [bool; MOST_MEMBERS],
-    /// The members' proposals on later ledgers, from member 1 on.
-    later: [Option<Proposal>; MOST_MEMBERS],
+    /// The members' proposals on later ledgers.
+    later: Kept,
     pending: Pending,
 }
 
@@ -114,7 +115,7 @@ impl Round {
             ready: None,
             positions: Positions::open(alloc)?,
             left: [false; MOST_MEMBERS],
-            later: [None; MOST_MEMBERS],
+            later: Kept::none(),
             pending: Pending::open(alloc)?,
         })
     }
@@ -132,7 +133,7 @@ impl Round {
         self.ready = None;
         self.positions.reset();
         self.left = [false; MOST_MEMBERS];
-        self.later = [None; MOST_MEMBERS];
+        self.later.clear();
         self.pending.clear();
     }
 

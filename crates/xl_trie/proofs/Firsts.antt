@@ -1,7 +1,7 @@
 -- The first ledgers of the spans below one are the candidates of the definitions.
 use Rattle.std.proofs.Common.{◌≡◌, ◌≢◌, ℕ, zero, suc, ◌+◌, ◌<◌, ◌≤◌, ◌&&◌, ◌==◌, List, length, take, Option, Some, None, sym, ap, subst, ◌∙◌, arith, inl, inr}
 use Rattle.xl_trie.proofs.Common.{range_with_len, nat_lt, and_parts, and_from, eqb-true, ltb-true, lt-ltb, Header, Vote, parent_of, AreLedgers, is_on_chain, branch_of, follows, candidates, Name, Span, In, IsKid, AreSpans, way, OnWay, IsBegin}
-use Rattle.xl_recount.proofs.Finding.{follows_is, follows_some}
+use Rattle.xl_ledger.proofs.Finding.{follows_is, follows_some}
 use Rattle.xl_trie.proofs.Listing.{none_some, in_range, of_range, counted, count_some, in_filter, to_filter}
 use Rattle.xl_trie.proofs.Trees.{on_self, front_of, on_through, root_short, begin_size, begin_on, hung, leads_to, toward_vote, known_vote, span_branch}
 use Rattle.xl_trie.proofs.Ways.{way_one, way_short, parent_if, of_parent, on_true, on_from}

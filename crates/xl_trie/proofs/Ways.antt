@@ -1,5 +1,5 @@
 -- The way to a ledger, and what the chains of ledgers say of it.
-use Rattle.std.proofs.Common.{◌≡◌, ℕ, zero, suc, ◌+◌, ◌<◌, ◌≤◌, ◌==◌, Bool, true, false, cond, List, [], ◌∷◌, ◌++◌, length, get_or, take, drop, Some, slice_get, refl, sym, ap, ◌∙◌, arith, inl, inr}
+use Rattle.std.proofs.Common.{◌≡◌, ℕ, zero, suc, ◌+◌, ◌<◌, ◌≤◌, ◌==◌, true, List, [], ◌∷◌, ◌++◌, length, get_or, take, drop, Some, slice_get, refl, sym, ap, ◌∙◌, arith, inl, inr}
 use Rattle.xl_trie.proofs.Common.{cases_Bool, cases_lt, eqb-true, eq-eqb, length-append, length-drop, take-append-le, drop-append-le, list_any_at, slice_get_within, slice_get-get_or, get_or_from_slice_get, Header, seq_at, parent_of, chain, last_common, common_of, AreLedgers, is_on_chain, slice_get-front, HasParent, parent_known, parent_of_known, seq_of_root, seq_of_added, chain_of_root, chain_more, length-chain, chain_ends, of_chain, way, OnWay, take_all}
 use Rattle.xl_trie.proofs.Fronts.{shared, shared_low}
 use Rattle.xl_trie.proofs.Listing.{some_is, at_in, any_in}

@@ -13,8 +13,8 @@ use Rattle.xl_ledger.specs.Chains.{seq_at, parent_of, chain, AreLedgers}
 use Rattle.xl_ledger.specs.Votes.{follows, is_on_chain, branch_of, rank, candidates, best_of, unless_too_few, next_of, or_stay, prefer, preferred_of}
 use Rattle.xl_ledger.proofs.ChainLaws.{parent_known, parent_of_known, chain_more, chain_ends, length-chain, seq_of_root}
 use Rattle.xl_ledger.proofs.Places.{slice_get-front}
-use Rattle.xl_recount.proofs.Finding.{find_found, of_filter, some_is, false_if}
-use Rattle.xl_recount.proofs.BestLaws.{on_at}
+use Rattle.xl_ledger.proofs.Finding.{find_found, of_filter, some_is, false_if}
+use Rattle.xl_ledger.proofs.OnChains.{on_at}
 use Rattle.xl_validations.specs.Votes.{choose_by}
 
 module _ (ls : List Header) (votes : List Vote) (largest : ℕ) where

@@ -8,3 +8,4 @@ pub mod Choosing
 pub mod Tallying
 pub mod Relisting
 pub mod Knowing
+pub mod Expiring

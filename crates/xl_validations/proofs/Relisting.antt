@@ -1,5 +1,5 @@
 -- Rows of another list: the votes that are left of the former ones are those of the new rows.
-use Rattle.std.proofs.Common.{◌≡◌, ℕ, ◌+◌, ◌≤◌, ◌==◌, ◌||◌, Bool, true, false, cond, List, [], ◌∷◌, ◌++◌, length, map, Option, Some, None, refl, sym, ap, subst, ◌∙◌, arith, inl, inr}
+use Rattle.std.proofs.Common.{◌≡◌, ℕ, ◌+◌, ◌≤◌, ◌==◌, ◌||◌, Bool, true, false, cond, List, [], ◌∷◌, length, map, Option, Some, None, refl, sym, ap, subst, ◌∙◌, arith, inl, inr}
 use Rattle.std.specs.Prelude.{nat_eq, count_by, unwrap_or}
 use Rattle.std.specs.List.{IsDistinct, AllByRecursion}
 use Rattle.std.specs.Option.{option_and_then}
@@ -12,7 +12,7 @@ use Rattle.xl_ledger.specs.declared.vote.Vote.{Vote}
 use Rattle.xl_ledger.specs.Chains.{AreLedgers}
 use Rattle.xl_validations.specs.declared.row.Row.{Row}
 use Rattle.xl_validations.specs.Rows.{empty_row, row_of, current_of, row_for, relisted}
-use Rattle.xl_validations.specs.Votes.{cast, ledger_named, votes_of}
+use Rattle.xl_validations.specs.Votes.{ledger_named, votes_of}
 use Rattle.xl_validations.specs.Tallies.{IsTally, kept_on}
 use Rattle.xl_validations.proofs.Splitting.{members, own, votes_by, count-own}
 use Rattle.xl_validations.proofs.Turning.{HasTurned, all_turned, length-members}

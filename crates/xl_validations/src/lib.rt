@@ -7,6 +7,7 @@
 //! `finished` answer as counting the votes of the rows over whole chains does, for whichever `Branch` keeps them.
 #![tactic(auto)]
 
+mod counted;
 mod refusal;
 mod row;
 mod rows;

@@ -1,4 +1,5 @@
 ghost use Rattle.std.specs.Prelude.{◌≡◌, ◌==◌, ◌≤◌, map, length, vec_capacity, position, option_map, Some, IsSome, is_some, IfOk, OnOk, OnErr};
+ghost use Rattle.std.specs.List.{list_any};
 ghost use Rattle.std.specs.Result.{result_err};
 ghost use Rattle.xl_lists.specs.Lists.{IsValid};
 ghost use Rattle.xl_validations.specs.Rows.{
@@ -15,8 +16,10 @@ ghost use Rattle.xl_validations.specs.Rows.{
   row_at,
   count_full,
   named,
+  is_expired,
 };
 
+use crate::counted::{Counted, count_full_in, recount};
 use crate::{Row, ValRefusal};
 use std::alloc::Global;
 use std::marker::Model;
@@ -31,18 +34,20 @@ pub struct Rows {
     rows: Vec<Row>,
     /// Room for the rows of another list.
     beside: Vec<Row>,
+    /// How many hold the full validation that was taken last.
+    last: Counted,
 }
 
 impl Model for Rows {
-    ghost use Rattle.std.specs.Prelude.{List, length, vec_capacity};
-    ghost use Rattle.xl_validations.specs.Stored.{IsRoomy};
+    ghost use Rattle.std.specs.Prelude.{List, vec_capacity};
+    ghost use Rattle.xl_validations.specs.Stored.{AreStored};
     ghost use Rattle.xl_validations.specs.declared.row.Row.{Row};
 
     ghost Value = { List Row };
 
     ghost view = { λ a. a.rows.items };
 
-    ghost invariant = { λ a. IsRoomy (length a.rows.items) (vec_capacity a.rows) (vec_capacity a.beside) };
+    ghost invariant = { λ a. AreStored a.rows.items (vec_capacity a.rows) (vec_capacity a.beside) a.last };
 }
 
 /// The row of a member, or an empty one.
@@ -89,6 +94,13 @@ fn find_row(rows: &[Row], member: NodeNo) -> Option<&Row>
     rows.iter().find(|row| row.member == member)
 }
 
+/// Whether a row holds a validation that is no longer current at a second.
+fn is_any_expired(rows: &[Row], now: Secs) -> bool
+    ensures { result ≡ list_any (λ row. is_expired now row.current) rows.now }
+{
+    rows.iter().any(|row| row.is_expired(now))
+}
+
 /// Expires each row.
 fn expire_all(rows: &mut [Row], now: Secs)
     ensures { rows.new ≡ map (row_at now) rows.old }
@@ -108,7 +120,8 @@ impl Rows {
         let mut rows = Vec::with_capacity(alloc, MOST_MEMBERS)?;
         let beside = Vec::with_capacity(alloc, MOST_MEMBERS)?;
         fill(&mut rows, members, &[]);
-        Ok(Rows { rows, beside })
+        let last = recount(&rows, 0, LedgerId([0; 32]));
+        Ok(Rows { rows, beside, last })
     }
 
     /// The rows.
@@ -135,15 +148,23 @@ impl Rows {
         ensures refused { OnErr result (self.new ≡ self.old) }
     {
         let place = place_of(&self.rows, from);
+        let had = self.last.has(&self.rows[place]);
         let row = &mut self.rows[place];
-        row.take(v, now)
+        let answer = row.take(v, now);
+        if answer.is_ok() {
+            self.last = self.last.after(&self.rows, had, v);
+        }
+        answer
     }
 
     /// Removes the validations that are no longer current at a second. Each row keeps its greatest sequence.
     pub fn expire(&mut self, now: Secs)
         ensures { self.new ≡ map (row_at now) self.old }
     {
-        expire_all(&mut self.rows, now);
+        if is_any_expired(&self.rows, now) {
+            expire_all(&mut self.rows, now);
+            self.last = recount(&self.rows, self.last.seq, self.last.id);
+        }
     }
 
     /// Goes over to another list: members that stay keep their rows, and each new one has an empty row.
@@ -153,13 +174,18 @@ impl Rows {
     {
         fill(&mut self.beside, list.members(), &self.rows);
         swap(&mut self.rows, &mut self.beside);
+        self.last = recount(&self.rows, self.last.seq, self.last.id);
     }
 
     /// How many members' current full validations are of this sequence and name this id: at most 64.
     pub fn count_full(&self, seq: Seq, id: &LedgerId) -> u32
         ensures { result ≡ count_full seq id.now self.now }
     {
-        self.rows.iter().filter(|row| row.is_full(seq, id)).count() as u32
+        if self.last.is_of(seq, id) {
+            self.last.count
+        } else {
+            count_full_in(&self.rows, seq, id)
+        }
     }
 
     /// How many members other than `me` have a current validation, full or partial, that names this id: at most 64.

@@ -1,4 +1,4 @@
-ghost use Rattle.std.specs.Prelude.{◌≡◌, ◌+◌, ◌<◌, ◌≤◌, map, length, take, Some, IsSome, if◌then◌else◌, IfSome, IfOk, OnOk, OnErr};
+ghost use Rattle.std.specs.Prelude.{◌≡◌, ◌+◌, ◌<◌, ◌≤◌, map, length, take, Some, IsSome, is_some, if◌then◌else◌, IfSome, IfOk, OnOk, OnErr};
 ghost use Rattle.std.specs.Result.{result_err};
 ghost use Rattle.xl_lists.specs.Lists.{IsValid};
 ghost use Rattle.xl_ledger.specs.Walks.{GoesOn};
@@ -129,6 +129,13 @@ impl<B: Branch> Table<B> {
         self.rows.relist(&list);
     }
 
+    /// Whether the member has a row: it is on the list.
+    pub fn has(&self, member: NodeNo) -> bool
+        ensures { result ≡ is_some (row_of self.now.rows member) }
+    {
+        self.rows.has(member)
+    }
+
     /// How many members' current full validations are of this sequence and name this id: at most 64.
     pub fn count_full(&self, seq: Seq, id: &LedgerId) -> u32
         ensures { result ≡ count_full seq id.now self.now.rows }
@@ -223,6 +230,3 @@ fn goes_elsewhere(walk: &mut Walk<'_>, current: LedgerNo, preferred: LedgerNo) -
         walk.ancestor(current, preferred_seq) != preferred
     }
 }
-
-#[cfg(test)]
-mod tests;

@@ -37,7 +37,7 @@ use xl_disputes::threshold;
 /// The percent of time is taken of no less than this.
 const LEAST_FORMER_MS: Millis = 5_000;
 
-/// Our position is renewed after so many seconds.
+/// Our position is renewed after this many seconds.
 const RENEWED_SECS: Secs = 12;
 
 /// The greatest propose sequence except for the one that says that a member leaves.

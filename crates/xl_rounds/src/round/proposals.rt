@@ -47,8 +47,10 @@ impl Round {
     {
         self.begin(setting_on(registry, previous, mode, now));
         let second = secs_of(now);
-        for place in 0..MOST_MEMBERS {
+        let mut place = self.later.next(0);
+        while place < MOST_MEMBERS {
             self.hand(registry, member_at(place), second);
+            place = self.later.next(place + 1);
         }
     }
 
@@ -122,7 +124,7 @@ impl Round {
     {
         match placed {
             Placed::Position => self.positions.put(member, p),
-            Placed::Later => self.later[place_of(member)] = Some(*p),
+            Placed::Later => self.later.put(place_of(member), p),
             Placed::Gone => {
                 self.positions.remove(member);
                 self.left[place_of(member)] = true;
@@ -148,14 +150,14 @@ impl Round {
         ensures { self.new ≡ with_handed registry.now.headers member (later_of self.old member) now self.old }
     {
         let place = place_of(member);
-        let Some(p) = self.later[place] else {
+        let Some(p) = *self.later.at(place) else {
             return;
         };
         if p.prev == self.setting.previous_id {
-            self.later[place] = None;
+            self.later.remove(place);
             let _ = self.proposal(registry, member, &p, now);
         } else if is_past(registry, self.setting.previous, &p.prev) {
-            self.later[place] = None;
+            self.later.remove(place);
         }
     }
 }

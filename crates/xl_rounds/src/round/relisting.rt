@@ -34,6 +34,6 @@ impl Round {
         let place = place_of(member);
         self.positions.forget(member);
         self.left[place] = false;
-        self.later[place] = None;
+        self.later.remove(place);
     }
 }

@@ -1,6 +1,6 @@
 use Rattle.std.proofs.Common.{◌≡◌, slice_get, Some, sym, ap, ◌∙◌, arith}
 use Rattle.xl_ledger.specs.Chains.{chain, seq_at}
-use Rattle.xl_recount.proofs.BestLaws.{on_low, on_at}
+use Rattle.xl_ledger.proofs.OnChains.{on_low, on_at}
 use Rattle.xl_recount.proofs.preferring.is_on_chain.Goals as goal
 
 pub returns-then-seq_of-seq-clause-value : goal.returns-then-seq_of-seq-clause-value

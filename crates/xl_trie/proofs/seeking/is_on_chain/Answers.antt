@@ -1,6 +1,6 @@
 use Rattle.std.proofs.Common.{◌≡◌, slice_get, Some, subst, ◌∙◌, arith}
 use Rattle.xl_trie.proofs.Common.{Walked, chain}
-use Rattle.xl_recount.proofs.BestLaws.{on_low, on_at}
+use Rattle.xl_ledger.proofs.OnChains.{on_low, on_at}
 use Rattle.xl_trie.proofs.seeking.is_on_chain.Goals as goal
 
 pub returns-then-seq_of-seq : goal.returns-then-seq_of-seq
