@@ -16,10 +16,10 @@ use Rattle.xl_wire.specs.Heads.Split.{Whole, Need, Refused}
 use Rattle.xl_core.specs.declared.event.CoreEvent.{CoreEvent}
 use Rattle.xl_core.specs.declared.report.Report.{Report}
 use Rattle.xl_core.specs.declared.settings.Settings.{Settings}
-use Rattle.xl_core.specs.declared.untaken.TheConstants.{UNTAKEN}
 use Rattle.xl_core.specs.Answers.{given_in, handed_in}
 use Rattle.xl_core.specs.Core.{Core, core_happens, core_asks, with_queues}
 use Rattle.xl_core.specs.Node.{Save, is_kept, opened}
+use Rattle.xl_core.specs.Queues.{most_untaken}
 use Rattle.xl_core.specs.Rest.{IsKeyed}
 
 -- an event, and how its save was answered
@@ -105,5 +105,5 @@ NoneIsLost =
     (settings : Settings) (now kept : ℕ) (life : List CoreHappening) →
     let core = with_queues (opened settings now kept) in
     let after = core_after core life in
-    NeverMore UNTAKEN core life →
+    NeverMore most_untaken core life →
     (arisen_over core life ≡ handed_over core life ++ after.untaken.items) × (after.untaken.lost ≡ 0)

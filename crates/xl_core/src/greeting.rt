@@ -25,7 +25,8 @@ pub type Greetings = [Option<Greeting>; MOST_MEMBERS];
 
 /// A member is greeted from now on, and no longer as it was before.
 pub fn greet(greetings: &mut Greetings, member: NodeNo, greeting: Greeting)
-    ensures { greetings.new ≡ with_greeting greetings.old member (Some greeting) }
+    ensures numbers { length greetings.old ≡ 64 }
+    ensures greeted { greetings.new ≡ with_greeting greetings.old member (Some greeting) }
 {
     greetings[reader_of(member)] = Some(greeting);
 }
