@@ -118,12 +118,5 @@ core_happens core (Relist now list) save = stepped core (happens core.node (node
 -- the save that an event asks
 abbrev pub core_asks : Core → CoreEvent → Option ℕ
 core_asks core (Issue now seq id full) = asks core.node (nodes.Issue now seq id full)
-core_asks core (Frame now bytes) = None
 core_asks core (Timer now) = asks core.node (nodes.Timer now)
-core_asks core (Submit now tx) = None
-core_asks core (Greet member) = None
-core_asks core (Drain member room) = None
-core_asks core (Reports room) = None
-core_asks core Stop = None
-core_asks core Stopped = None
-core_asks core (Relist now list) = None
+core_asks core other = None

@@ -59,7 +59,7 @@ pub fn hand_chain<B: Branch + Drop>(
     }
 }
 
-/// The same, of one greeting.
+/// Writes the headers of one greeting, as many as fit.
 fn hand_headers<B: Branch + Drop>(
     node: &Node<B>,
     member: NodeNo,

@@ -137,7 +137,7 @@ impl<B: Branch + Drop> Core<B> {
         Ok(())
     }
 
-    /// Hears bytes that come, and tells what was taken. What the node reports waits to be taken, and nothing is sent.
+    /// Hears bytes that come, and says what was taken. What the node reports waits to be taken, and nothing is sent.
     ///
     /// Refused as the node refuses them. First the time is set, and rows expire; nothing else changes then.
     pub fn frame(&mut self, now: Millis, bytes: &[u8]) -> Result<Taken, Refusal>
@@ -175,7 +175,7 @@ impl<B: Branch + Drop> Core<B> {
         self.hear(now, Tags::Assumed, bytes)
     }
 
-    /// Hears bytes, with the tag taken as it is to be.
+    /// Hears bytes, with the tag tested or assumed.
     fn hear(&mut self, now: Millis, tags: Tags, bytes: &[u8]) -> Result<Taken, Refusal>
         requires moment { now ≤ GREATEST_MILLIS }
         ensures step { Answers (core_happens self.old (Frame now (bytes_with tags self.old.node.keys bytes.now)) Kept)
@@ -312,8 +312,8 @@ impl<B: Branch + Drop> Core<B> {
     /// Goes over to another list: what is known of members that stay is kept, and of new ones nothing is. What the rows
     /// then give to report is reported under the new list, and waits to be taken. Nothing is sent.
     ///
-    /// Refused if a listed member other than the node has no key, of which the lowest is told. First the time is
-    /// set, and rows expire; nothing else changes then.
+    /// Refused if a listed member other than the node has no key; the refusal names the lowest of these. First the time
+    /// is set, and rows expire; nothing else changes then.
     pub fn relist(&mut self, now: Millis, list: List) -> Result<(), Refusal>
         requires moment { now ≤ GREATEST_MILLIS }
         ensures step { Answers (core_happens self.old (Relist now list) Kept) self.new (done_answer result) }
@@ -356,8 +356,8 @@ impl<B: Branch + Drop> Core<B> {
         self.write(member, TagPlace::Sealed, room)
     }
 
-    /// The same, but that no frame is sealed: the place of its tag, its last 32 bytes, is left blank. `frame_as_sealed`
-    /// hears such a frame as the sealed one.
+    /// Writes frames as `drain` does, except that it seals none: the last 32 bytes of each, where its tag goes, are zero.
+    /// `frame_as_sealed` hears such a frame as the sealed one.
     pub fn drain_blank(&mut self, member: NodeNo, room: &mut [u8]) -> usize
         requires peer { IsSome (key_of self.old.node.keys member) }
         requires room { LONGEST_FRAME ≤ length room.old }
