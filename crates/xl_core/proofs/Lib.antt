@@ -25,3 +25,4 @@ pub mod Stopping
 pub mod Concluding
 pub mod Covering
 pub mod Accounted
+pub mod Marking

@@ -25,29 +25,14 @@ pub data Answer : Type 0 where
 -- why it was refused, if it was
 abbrev pub refusal_in : Answer → Option Refusal
 refusal_in (Refused why) = Some why
-refusal_in (Took taken) = None
-refusal_in (Beats beat) = None
-refusal_in Done = None
-refusal_in (Gave to frames) = None
-refusal_in (Handed reports) = None
-refusal_in (Told stopped) = None
+refusal_in other = None
 
 -- the reports that it hands out
 abbrev pub handed_in : Answer → List Report
-handed_in (Refused why) = []
-handed_in (Took taken) = []
-handed_in (Beats beat) = []
-handed_in Done = []
-handed_in (Gave to frames) = []
 handed_in (Handed reports) = reports
-handed_in (Told stopped) = []
+handed_in other = []
 
 -- the frames that it gives
 abbrev pub given_in : Answer → List (List ℕ)
-given_in (Refused why) = []
-given_in (Took taken) = []
-given_in (Beats beat) = []
-given_in Done = []
 given_in (Gave to frames) = frames
-given_in (Handed reports) = []
-given_in (Told stopped) = []
+given_in other = []

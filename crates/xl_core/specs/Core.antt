@@ -1,8 +1,9 @@
 -- A core: a node with what waits at it, to be sent and to be read, and everything that may happen to it. Source: this
 -- profile.
-use Rattle.std.specs.Prelude.{ℕ, ◌==◌, Bool, true, false, List, ◌++◌, length, take, drop, is_some, if◌then◌else◌}
+use Rattle.std.specs.Prelude.{◌≡◌, ℕ, suc, ◌<◌, ◌==◌, Bool, true, false, List, ◌++◌, length, take, drop, is_some, if◌then◌else◌}
 use Rattle.std.specs.Prelude.{Some, None}
 use Rattle.std.specs.declared.option.Option.{Option}
+use Rattle.std.specs.Int.{bit_at}
 use Rattle.xl_queues.specs.Queues.{Backlog, no_items}
 use Rattle.xl_wire.specs.declared.validation.Validation.{Validation}
 use Rattle.xl_core.specs.declared.event.CoreEvent.{CoreEvent}
@@ -71,9 +72,16 @@ abbrev pub all_frames : Core → ℕ → List (Option (List ℕ))
 all_frames core to = greeted_frames core to ++ frames_for core.node core.waiting to
 
 -- nothing is left for a number: it wasn't greeted since the core opened, and nothing waits for it
+abbrev pub is_idle_among : List (Option Greeting) → List (Backlog Item) → ℕ → Bool
+is_idle_among greetings waiting to =
+    if is_some (greeting_at greetings to) then false else (length (waiting_at waiting to).items == 0)
+
 abbrev pub is_idle : Core → ℕ → Bool
-is_idle core to =
-    if is_some (greeting_at core.greetings to) then false else (length (waiting_at core.waiting to).items == 0)
+is_idle core to = is_idle_among core.greetings core.waiting to
+
+-- a word whose bits, from the lowest on, tell for which numbers from 1 to 64 something is left
+abbrev pub Marks : ℕ → Core → Type 0
+Marks word core = (place : ℕ) → place < 64 → bit_at word place ≡ (if is_idle core (suc place) then 0 else 1)
 
 -- the longest front of them that fits into a room
 abbrev pub given_for : Core → ℕ → ℕ → List (Option (List ℕ))
@@ -110,12 +118,5 @@ core_happens core (Relist now list) save = stepped core (happens core.node (node
 -- the save that an event asks
 abbrev pub core_asks : Core → CoreEvent → Option ℕ
 core_asks core (Issue now seq id full) = asks core.node (nodes.Issue now seq id full)
-core_asks core (Frame now bytes) = None
 core_asks core (Timer now) = asks core.node (nodes.Timer now)
-core_asks core (Submit now tx) = None
-core_asks core (Greet member) = None
-core_asks core (Drain member room) = None
-core_asks core (Reports room) = None
-core_asks core Stop = None
-core_asks core Stopped = None
-core_asks core (Relist now list) = None
+core_asks core other = None

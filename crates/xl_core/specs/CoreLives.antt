@@ -2,7 +2,7 @@
 -- report.
 -- Source: this profile, by which a node saves a sequence before it says it, and a full queue drops its oldest item.
 use Rattle.std.specs.Prelude.{◌≡◌, ℕ, ◌+◌, ◌≤◌, List, [], ◌∷◌, ◌++◌, length, take, option_to_list, All, IfSome}
-use Rattle.std.specs.Prelude.{Some, None, Result, Ok, Err}
+use Rattle.std.specs.Prelude.{Some, None, Result, Ok}
 use Rattle.std.specs.declared.option.Option.{Option}
 use Rattle.xl_io.specs.Keepers.{Held, MayHold, after_save}
 use Rattle.xl_queues.specs.Accounts.{IsAccounted}
@@ -12,14 +12,14 @@ use Rattle.xl_wire.specs.declared.refusal.WireRefusal.{WireRefusal}
 use Rattle.xl_wire.specs.declared.validation.Validation.{Validation}
 use Rattle.xl_wire.specs.Bodies.{body_of}
 use Rattle.xl_wire.specs.Heads.{Split, split_of}
-use Rattle.xl_wire.specs.Heads.Split.{Whole, Need, Refused}
+use Rattle.xl_wire.specs.Heads.Split.{Whole}
 use Rattle.xl_core.specs.declared.event.CoreEvent.{CoreEvent}
 use Rattle.xl_core.specs.declared.report.Report.{Report}
 use Rattle.xl_core.specs.declared.settings.Settings.{Settings}
-use Rattle.xl_core.specs.declared.untaken.TheConstants.{UNTAKEN}
 use Rattle.xl_core.specs.Answers.{given_in, handed_in}
 use Rattle.xl_core.specs.Core.{Core, core_happens, core_asks, with_queues}
 use Rattle.xl_core.specs.Node.{Save, is_kept, opened}
+use Rattle.xl_core.specs.Queues.{most_untaken}
 use Rattle.xl_core.specs.Rest.{IsKeyed}
 
 -- an event, and how its save was answered
@@ -47,16 +47,11 @@ given_over core (h ∷ hs) =
 -- the validation that a body is, if it is one
 abbrev pub validation_of : Result Body WireRefusal → Option Validation
 validation_of (Ok (bodies.Validation v)) = Some v
-validation_of (Ok (bodies.Proposal proposal)) = None
-validation_of (Ok (bodies.Header header)) = None
-validation_of (Ok (bodies.TxSet ids)) = None
-validation_of (Ok (bodies.Tx id)) = None
-validation_of (Err why) = None
+validation_of other = None
 
 abbrev pub validation_split : Split → Option Validation
 validation_split (Whole f) = validation_of (body_of f.kind f.body)
-validation_split (Need lack) = None
-validation_split (Refused why) = None
+validation_split other = None
 
 -- the validation in the bytes of a frame, if there is one
 abbrev pub validation_in : List ℕ → Option Validation
@@ -105,5 +100,5 @@ NoneIsLost =
     (settings : Settings) (now kept : ℕ) (life : List CoreHappening) →
     let core = with_queues (opened settings now kept) in
     let after = core_after core life in
-    NeverMore UNTAKEN core life →
+    NeverMore most_untaken core life →
     (arisen_over core life ≡ handed_over core life ++ after.untaken.items) × (after.untaken.lost ≡ 0)

@@ -9,6 +9,7 @@ pub mod Queues
 pub mod Items
 pub mod Greetings
 pub mod Core
+pub mod Marks
 pub mod Replies
 pub mod Ticks
 pub mod Draining

@@ -9,7 +9,7 @@ use Rattle.xl_lists.specs.Lists.{IsValid}
 use Rattle.xl_validations.specs.Rows.{count_full}
 use Rattle.xl_core.specs.declared.report.Report.{Report}
 use Rattle.xl_core.specs.declared.settings.Settings.{Settings}
-use Rattle.xl_core.specs.Node.{Node, Event, Issue, Frame, Timer, Submit, Relist, Save, opened, happens, key_refusal}
+use Rattle.xl_core.specs.Node.{Node, Event, Relist, Save, opened, happens, key_refusal}
 
 -- an event, and how its save was answered
 pub record Happening : Type 0 where
@@ -18,30 +18,21 @@ pub record Happening : Type 0 where
 
 -- a list that is handed in is one
 abbrev pub IsFitEvent : Event → Type 0
-IsFitEvent (Issue now seq id full) = Unit {0}
-IsFitEvent (Frame now bytes) = Unit {0}
-IsFitEvent (Timer now) = Unit {0}
-IsFitEvent (Submit now tx) = Unit {0}
 IsFitEvent (Relist now list) = IsValid list
+IsFitEvent other = Unit {0}
 
 abbrev pub IsFit : Happening → Type 0
 IsFit h = IsFitEvent h.event
 
 -- whether a list is handed in
 abbrev pub is_relist : Event → Bool
-is_relist (Issue now seq id full) = false
-is_relist (Frame now bytes) = false
-is_relist (Timer now) = false
-is_relist (Submit now tx) = false
 is_relist (Relist now list) = true
+is_relist other = false
 
 -- whether an event sets the list
 abbrev pub sets_list : Node → Event → Bool
-sets_list n (Issue now seq id full) = false
-sets_list n (Frame now bytes) = false
-sets_list n (Timer now) = false
-sets_list n (Submit now tx) = false
 sets_list n (Relist now list) = is_none (key_refusal n list)
+sets_list n other = false
 
 -- the node after these happenings, the first of them first
 abbrev pub node_after : Node → List Happening → Node

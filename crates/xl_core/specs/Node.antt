@@ -446,10 +446,8 @@ asks_of (Ending n said h place moved_on) = if validates n moved_on then asks_for
 -- the save that an event asks
 abbrev pub asks : Node → Event → Option ℕ
 asks n (Issue now seq id full) = asks_for n seq
-asks n (Frame now bytes) = None
 asks n (Timer now) = asks_of (timed (at_moment now n))
-asks n (Submit now tx) = None
-asks n (Relist now list) = None
+asks n other = None
 
 -- what came of an event, whose save was answered so: first the time is set, and rows expire
 abbrev pub happens : Node → Event → Save → Reply

@@ -10,18 +10,23 @@ use Rattle.xl_base.specs.Counts.{one_more}
 use Rattle.xl_base.specs.declared.node_no.TheConstants.{MOST_MEMBERS}
 use Rattle.xl_queues.specs.Queues.{Backlog, no_items, with_item}
 use Rattle.xl_core.specs.declared.item.Item.{Item}
-use Rattle.xl_core.specs.declared.outgoing.TheConstants.{OUTGOING}
 use Rattle.xl_core.specs.declared.report.Report.{Report}
-use Rattle.xl_core.specs.declared.untaken.TheConstants.{UNTAKEN}
 
 -- nothing waits for the numbers from 1 to 64
 abbrev pub none_waiting : List (Backlog Item)
 none_waiting = replicate MOST_MEMBERS no_items
 
+-- so many items wait for a number at most, and so many reports to be taken. Source: this profile
+abbrev pub most_waiting : ℕ
+most_waiting = 64
+
+abbrev pub most_untaken : ℕ
+most_untaken = 1024
+
 -- items wait for every number, in this order
 abbrev pub with_items : List (Backlog Item) → List Item → List (Backlog Item)
 with_items waiting [] = waiting
-with_items waiting (item ∷ items) = with_items (pushed_to_all OUTGOING waiting item) items
+with_items waiting (item ∷ items) = with_items (pushed_to_all most_waiting waiting item) items
 
 -- what waits for a number; nothing does for one outside 1 to 64
 abbrev pub waiting_at : List (Backlog Item) → ℕ → Backlog Item
@@ -68,7 +73,7 @@ at_number waiting (suc place) change = at_reader waiting place change
 -- a report waits to be taken
 abbrev pub with_report : Backlog Report → Option Report → Backlog Report
 with_report untaken None = untaken
-with_report untaken (Some report) = with_item UNTAKEN untaken report
+with_report untaken (Some report) = with_item most_untaken untaken report
 
 -- the first items have been taken
 abbrev pub without : {T : Type 0} → ℕ → Backlog T → Backlog T

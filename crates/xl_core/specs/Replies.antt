@@ -107,24 +107,7 @@ pub record HandsOut (before : Core) (after : Core) (written : ℕ) (old new : Li
 -- how the save was answered, as the refusal tells it
 abbrev pub save_of : Refusal → Save
 save_of (node.KeepFault count) = Failed count
-save_of (node.Frame why) = Kept
-save_of (node.Short lack) = Kept
-save_of (node.Extra more) = Kept
-save_of (node.Tag why) = Kept
-save_of (node.Header why) = Kept
-save_of (node.Pending tx) = Kept
-save_of (node.PoolFull most) = Kept
-save_of (node.WrongPrev ours) = Kept
-save_of (node.OldPosition kept) = Kept
-save_of (node.Left member) = Kept
-save_of (node.StaleProposal now) = Kept
-save_of (node.Stale now signed) = Kept
-save_of (node.Repeat id) = Kept
-save_of (node.Conflict id) = Kept
-save_of (node.OldSeq largest) = Kept
-save_of (node.NotAfter kept) = Kept
-save_of (node.IssuingOff failed) = Kept
-save_of (node.NoKey member) = Kept
+save_of other = Kept
 
 abbrev pub save_in : {X : Type 0} → Result X Refusal → Save
 save_in (Ok done) = Kept

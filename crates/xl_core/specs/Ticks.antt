@@ -36,12 +36,8 @@ pub record IsBuilt (n : Node) (b : Built) : Type 0 where
 
 -- what a timer tells that built nothing
 abbrev pub IsQuiet : Beat → Type 0
-IsQuiet beat.Nothing = ⊤
-IsQuiet beat.Closed = ⊤
-IsQuiet beat.Updated = ⊤
-IsQuiet (beat.Switched seq id) = ⊤
-IsQuiet (beat.NoRoom limit) = ⊤
 IsQuiet (beat.Built seq id moved_on how) = ⊥
+IsQuiet other = ⊤
 
 abbrev pub IsTicked : Node → Tick → Type 0
 IsTicked n (tick.Quiet told said) = IsQuiet told
@@ -71,18 +67,12 @@ validated_reply (Err why) n = refusing n why
 
 -- how the save was answered, as a timer tells it
 abbrev pub save_as : Issued → Save
-save_as issued.Full = Kept
-save_as issued.Partial = Kept
-save_as issued.Silent = Kept
 save_as (issued.Refused why) = save_of why
+save_as other = Kept
 
 abbrev pub save_at : Beat → Save
-save_at beat.Nothing = Kept
-save_at beat.Closed = Kept
-save_at beat.Updated = Kept
-save_at (beat.Switched seq id) = Kept
-save_at (beat.NoRoom limit) = Kept
 save_at (beat.Built seq id moved_on how) = save_as how
+save_at other = Kept
 
 -- whether the save that a timer asked was answered with Ok, if it asked one
 abbrev pub beat_was_kept : Beat → Bool

@@ -25,7 +25,8 @@ pub type Greetings = [Option<Greeting>; MOST_MEMBERS];
 
 /// A member is greeted from now on, and no longer as it was before.
 pub fn greet(greetings: &mut Greetings, member: NodeNo, greeting: Greeting)
-    ensures { greetings.new ≡ with_greeting greetings.old member (Some greeting) }
+    ensures numbers { length greetings.old ≡ 64 }
+    ensures greeted { greetings.new ≡ with_greeting greetings.old member (Some greeting) }
 {
     greetings[reader_of(member)] = Some(greeting);
 }
@@ -58,7 +59,7 @@ pub fn hand_chain<B: Branch + Drop>(
     }
 }
 
-/// The same, of one greeting.
+/// Writes the headers of one greeting, as many as fit.
 fn hand_headers<B: Branch + Drop>(
     node: &Node<B>,
     member: NodeNo,

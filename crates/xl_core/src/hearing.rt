@@ -69,7 +69,7 @@ pub fn hear<'a>(
     })
 }
 
-/// Opens a whole frame, and tells who sent it.
+/// Opens a whole frame, and answers who sent it.
 fn open(
     keys: &Keys,
     list: &List,

@@ -24,6 +24,7 @@ mod hearing;
 mod item;
 mod last;
 mod laws;
+mod marks;
 mod node;
 mod outgoing;
 mod putting;

@@ -28,7 +28,6 @@ ghost use Rattle.xl_core.specs.Node.{
   issues_own,
   IsOff,
   HearsOthers,
-  own_validation,
   told_by,
 };
 ghost use Rattle.xl_core.specs.Hearing.{bytes_with};
@@ -251,7 +250,7 @@ impl<B: Branch + Drop> Node<B> {
         self.issue_now(seq, id, full, keeper)
     }
 
-    /// The same, at the time that it is.
+    /// Issues as `issue` does, at the node's present time.
     fn issue_now<K: Keeper>(
         &mut self,
         seq: Seq,
@@ -310,7 +309,7 @@ impl<B: Branch + Drop> Node<B> {
         Ok(())
     }
 
-    /// Hears bytes that come, and tells what they give to report.
+    /// Hears bytes that come, and says what they give to report.
     ///
     /// Refused if they are no frame, not whole or followed by more; if the frame isn't for the node, comes from
     /// a stranger or carries another tag; if its body is none; and then by what it says. The sender's row refuses a
@@ -330,7 +329,7 @@ impl<B: Branch + Drop> Node<B> {
         self.hear(now, Tags::Tested, bytes)
     }
 
-    /// The same, with the tag taken as it is to be.
+    /// Hears as `frame` does, with the tag tested or assumed.
     pub(crate) fn hear(&mut self, now: Millis, tags: Tags, bytes: &[u8]) -> Result<Heard, Refusal>
         requires moment { now ≤ GREATEST_MILLIS }
         ensures exact { hear_reply result self.new
@@ -403,20 +402,6 @@ impl<B: Branch + Drop> Node<B> {
             })
         } else {
             None
-        }
-    }
-
-    /// The validation that it would issue at a moment.
-    pub fn own_validation(&self, now: Millis, seq: Seq, id: LedgerId, full: bool) -> Validation
-        requires { now ≤ GREATEST_MILLIS }
-        ensures { result ≡ own_validation (at_moment now self.now) seq id full }
-    {
-        Validation {
-            id,
-            seq,
-            signed: secs_of(self.time.max(now)),
-            full,
-            validated: self.told(),
         }
     }
 
@@ -537,13 +522,6 @@ impl<B: Branch + Drop> Node<B> {
         self.time
     }
 
-    /// Whether it is a validator.
-    pub fn is_validating(&self) -> bool
-        ensures { result ≡ self.now.validating }
-    {
-        self.validating
-    }
-
     /// How many ledgers it may know, the root among them.
     pub fn limit(&self) -> u32
         ensures value { result ≡ self.now.ledgers.limit }
@@ -579,13 +557,6 @@ impl<B: Branch + Drop> Node<B> {
         ensures { result ≡ self.now.failed_save }
     {
         self.failed_save
-    }
-
-    /// The last report since the node opened.
-    pub fn last_report(&self) -> Option<Report>
-        ensures { result ≡ self.now.last.report }
-    {
-        self.last.report
     }
 
     /// The ledgers that it knows.

@@ -8,8 +8,9 @@ ghost use Rattle.xl_io.specs.Keepers.{Held};
 ghost use Rattle.xl_tags.specs.Rings.{key_of};
 ghost use Rattle.xl_core.specs.Answers.{Done, Gave, Told};
 ghost use Rattle.xl_core.specs.Building.{said_items};
-ghost use Rattle.xl_core.specs.Core.{all_frames, answering, is_idle, with_queues, core_happens, core_asks};
+ghost use Rattle.xl_core.specs.Core.{all_frames, answering, is_idle, with_queues, core_happens, core_asks, Marks};
 ghost use Rattle.xl_core.specs.Items.{lost_for};
+ghost use Rattle.xl_core.specs.Marks.{StayMarks};
 ghost use Rattle.xl_core.specs.Queues.{with_items, frames_in};
 ghost use Rattle.xl_core.specs.declared.event.CoreEvent.TheVariants.{Issue, Frame, Timer, Submit, Greet, Drain, Stop, Stopped, Relist};
 ghost use Rattle.xl_core.specs.Stops.{HoldsAtLeast, IsCovered, StaysCovered};
@@ -26,9 +27,10 @@ ghost use Rattle.xl_wire.specs.Raws.{RawFrame};
 ghost use Rattle.xl_core.specs.declared.refusal.Refusal.TheVariants.{NotAfter, IssuingOff};
 
 use crate::beat::full_or_partial;
-use crate::greeting::{Greetings, greet, hand_chain, has_greeting, is_greeted};
+use crate::greeting::{Greetings, greet, hand_chain, is_greeted};
 use crate::hearing::Tags;
-use crate::outgoing::{Waiting, count_for, drain, lost_for};
+use crate::marks::{is_idle, is_marked, noted, push};
+use crate::outgoing::{Waiting, drain, lost_for};
 use crate::sending::TagPlace;
 use crate::tick::{Built, Tick};
 use crate::untaken::{UNTAKEN, push_report, take_reports};
@@ -50,12 +52,15 @@ pub struct Core<B: Branch> {
     node: Node<B>,
     waiting: Waiting,
     greetings: Greetings,
+    /// For whom anything of these is left.
+    marks: u64,
     untaken: Queue<Report, UNTAKEN>,
     stopped: bool,
 }
 
 impl<B: Branch> Model for Core<B> {
     ghost use Rattle.xl_core.specs.Core.{Core};
+    ghost use Rattle.xl_core.specs.Marks.{AreMarks};
 
     ghost Value = { Core };
 
@@ -66,17 +71,20 @@ impl<B: Branch> Model for Core<B> {
       untaken = a.untaken;
       stopped = a.stopped;
     } };
+
+    ghost invariant = { λ a. AreMarks a.marks a.greetings a.waiting };
 }
 
 /// What is said waits for every peer: our set, if it goes with our position, and then the position.
-fn push_said(waiting: &mut Waiting, said: &Option<Said>)
-    ensures { waiting.new ≡ with_items waiting.old (said_items said.now) }
+fn push_said(waiting: &mut Waiting, marks: &mut u64, said: &Option<Said>)
+    ensures pushed { waiting.new ≡ with_items waiting.old (said_items said.now) }
+    ensures marks { StayMarks marks.old marks.new waiting.old waiting.new }
 {
     if let Some(said) = said {
         if said.with_set {
-            waiting.push(Item::TxSet(said.proposal.set));
+            push(waiting, marks, Item::TxSet(said.proposal.set));
         }
-        waiting.push(Item::Proposal(said.proposal));
+        push(waiting, marks, Item::Proposal(said.proposal));
     }
 }
 
@@ -103,6 +111,7 @@ impl<B: Branch + Drop> Core<B> {
             node,
             waiting,
             greetings: [None; MOST_MEMBERS],
+            marks: 0,
             untaken,
             stopped: false,
         })
@@ -122,12 +131,13 @@ impl<B: Branch + Drop> Core<B> {
         self.node.reopen(alloc, now, kept)?;
         self.waiting = waiting;
         self.greetings = [None; MOST_MEMBERS];
+        self.marks = 0;
         self.untaken = untaken;
         self.stopped = false;
         Ok(())
     }
 
-    /// Hears bytes that come, and tells what was taken. What the node reports waits to be taken, and nothing is sent.
+    /// Hears bytes that come, and says what was taken. What the node reports waits to be taken, and nothing is sent.
     ///
     /// Refused as the node refuses them. First the time is set, and rows expire; nothing else changes then.
     pub fn frame(&mut self, now: Millis, bytes: &[u8]) -> Result<Taken, Refusal>
@@ -165,7 +175,7 @@ impl<B: Branch + Drop> Core<B> {
         self.hear(now, Tags::Assumed, bytes)
     }
 
-    /// Hears bytes, with the tag taken as it is to be.
+    /// Hears bytes, with the tag tested or assumed.
     fn hear(&mut self, now: Millis, tags: Tags, bytes: &[u8]) -> Result<Taken, Refusal>
         requires moment { now ≤ GREATEST_MILLIS }
         ensures step { Answers (core_happens self.old (Frame now (bytes_with tags self.old.node.keys bytes.now)) Kept)
@@ -211,7 +221,11 @@ impl<B: Branch + Drop> Core<B> {
     {
         match self.node.issue(now, seq, id, full, keeper) {
             Ok(issued) => {
-                self.waiting.push(Item::Vote(issued.validation));
+                push(
+                    &mut self.waiting,
+                    &mut self.marks,
+                    Item::Vote(issued.validation),
+                );
                 push_report(&mut self.untaken, issued.report);
                 Ok(())
             }
@@ -241,7 +255,7 @@ impl<B: Branch + Drop> Core<B> {
     {
         match self.node.tick(now) {
             Tick::Quiet { beat, said } => {
-                push_said(&mut self.waiting, &said);
+                push_said(&mut self.waiting, &mut self.marks, &said);
                 beat
             }
             Tick::Built(built) => self.conclude(&built, keeper),
@@ -256,11 +270,15 @@ impl<B: Branch + Drop> Core<B> {
         ensures asks { IsAsked K.held K.saves K.faults K.save_gives
             (asks_in self.old.node built.now) (beat_was_kept result) keeper.old keeper.new }
     {
-        push_said(&mut self.waiting, &built.said);
-        self.waiting.push(Item::Header(built.id));
+        push_said(&mut self.waiting, &mut self.marks, &built.said);
+        push(&mut self.waiting, &mut self.marks, Item::Header(built.id));
         let issued = match self.node.conclude(built, keeper) {
             Ok(Some(own)) => {
-                self.waiting.push(Item::Vote(own.validation));
+                push(
+                    &mut self.waiting,
+                    &mut self.marks,
+                    Item::Vote(own.validation),
+                );
                 push_report(&mut self.untaken, own.report);
                 full_or_partial(own.validation.full)
             }
@@ -287,15 +305,15 @@ impl<B: Branch + Drop> Core<B> {
         ensures stop { (held : Held) → IsCovered held self.old → IsCovered held self.new }
     {
         self.node.submit(now, tx)?;
-        self.waiting.push(Item::Tx(tx));
+        push(&mut self.waiting, &mut self.marks, Item::Tx(tx));
         Ok(())
     }
 
     /// Goes over to another list: what is known of members that stay is kept, and of new ones nothing is. What the rows
     /// then give to report is reported under the new list, and waits to be taken. Nothing is sent.
     ///
-    /// Refused if a listed member other than the node has no key, of which the lowest is told. First the time is
-    /// set, and rows expire; nothing else changes then.
+    /// Refused if a listed member other than the node has no key; the refusal names the lowest of these. First the time
+    /// is set, and rows expire; nothing else changes then.
     pub fn relist(&mut self, now: Millis, list: List) -> Result<(), Refusal>
         requires moment { now ≤ GREATEST_MILLIS }
         ensures step { Answers (core_happens self.old (Relist now list) Kept) self.new (done_answer result) }
@@ -321,6 +339,7 @@ impl<B: Branch + Drop> Core<B> {
         ensures stop { (held : Held) → IsCovered held self.old → IsCovered held self.new }
     {
         greet(&mut self.greetings, member, self.node.greeting());
+        self.marks = noted(self.marks, member, false);
     }
 
     /// Writes frames for a peer into the room, as many as fit: first of the headers with which it is greeted, then of
@@ -337,8 +356,8 @@ impl<B: Branch + Drop> Core<B> {
         self.write(member, TagPlace::Sealed, room)
     }
 
-    /// The same, but that no frame is sealed: the place of its tag, its last 32 bytes, is left blank. `frame_as_sealed`
-    /// hears such a frame as the sealed one.
+    /// Writes frames as `drain` does, except that it seals none: the last 32 bytes of each, where its tag goes, are zero.
+    /// `frame_as_sealed` hears such a frame as the sealed one.
     pub fn drain_blank(&mut self, member: NodeNo, room: &mut [u8]) -> usize
         requires peer { IsSome (key_of self.old.node.keys member) }
         requires room { LONGEST_FRAME ≤ length room.old }
@@ -360,7 +379,18 @@ impl<B: Branch + Drop> Core<B> {
         if !is_greeted(&self.greetings, &self.node, member) {
             return at;
         }
-        at + drain(&mut self.waiting, &self.node, member, tags, &mut room[at..])
+        let count = drain(&mut self.waiting, &self.node, member, tags, &mut room[at..]);
+        let idle = is_idle(&self.greetings, &self.waiting, member);
+        self.marks = noted(self.marks, member, idle);
+        at + count
+    }
+
+    /// For whom something is left, as bits: the one at place n - 1, from the lowest on, is that of the member of number
+    /// n. A drain for a member whose bit is clear gives nothing, and changes nothing.
+    pub fn waiting(&self) -> u64
+        ensures { Marks result self.now }
+    {
+        self.marks
     }
 
     /// Whether a member wasn't greeted since the core opened, and nothing waits for it: a drain for it gives nothing
@@ -370,10 +400,7 @@ impl<B: Branch + Drop> Core<B> {
         ensures idle { IsTrue result → (room : ℕ)
             → core_happens self.now (Drain member room) Kept ≡ answering self.now (Gave member []) }
     {
-        if has_greeting(&self.greetings, member) {
-            return false;
-        }
-        count_for(&self.waiting, member) == 0
+        !is_marked(self.marks, member)
     }
 
     /// How many items for a member were lost, since its queue was full or they were passed over: none for one that is

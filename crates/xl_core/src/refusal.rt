@@ -49,7 +49,7 @@ pub enum Refusal {
     IssuingOff(Seq),
     /// The save failed in this call; the keeper's count of faults then is given.
     KeepFault(u64),
-    /// The list isn't set: its member of this number is another than the node and has no key, and no lower one is so.
+    /// The list isn't set: its member of this number isn't the node and has no key, and each lower one has.
     NoKey(u32),
 }
 

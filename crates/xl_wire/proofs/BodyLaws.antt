@@ -16,7 +16,7 @@ use Rattle.xl_wire.specs.declared.validation.Validation.{Validation}
 use Rattle.xl_wire.specs.declared.refusal.WireRefusal.{WireRefusal}
 use Rattle.xl_wire.specs.declared.refusal.WireRefusal.TheVariants.{Flags, Order, Count}
 use Rattle.xl_wire.specs.Kinds.{can_have, can_have_first, can_hold, is_set_length}
-use Rattle.xl_wire.specs.declared.lengths.TheConstants.{LONGEST_BODY}
+use Rattle.xl_wire.specs.Lengths.{longest_body}
 use Rattle.xl_base.specs.Refusals.{refused_if, unless_refused}
 use Rattle.xl_base.specs.Sets.{is_below, RisesFrom, IsRising, IsSet, id_bytes}
 use Rattle.xl_wire.specs.Sets.{ids_in, fall_from, first_fall}
@@ -251,7 +251,7 @@ set_passes : (t : Bool) (c : ℕ) (fall : Option ℕ) → cond t (option_map Ord
 set_passes true c fall h = (refl, none_mapped fall h)
 set_passes false c fall h = absurd cc
 
-set_length : (n : ℕ) → is_set_length n ≡ true → (2 ≤ n) × (n ≤ LONGEST_BODY)
+set_length : (n : ℕ) → is_set_length n ≡ true → (2 ≤ n) × (n ≤ longest_body)
 set_length n h = (grind (arith, nat_tests), grind (arith, nat_tests))
 
 -- what a set that isn't refused keeps
@@ -303,7 +303,7 @@ same_length n m e = grind (arith, nat_tests)
 set_long : (c n : ℕ) → c ≤ 256 → n ≡ 2 + 32 * c → is_set_length n ≡ true
 set_long c n small e =
     let low : nat_le 2 n ≡ true = grind (arith, nat_tests) in
-    let high : nat_le n LONGEST_BODY ≡ true = grind (arith, nat_tests) in
+    let high : nat_le n longest_body ≡ true = grind (arith, nat_tests) in
     let whole : ((n - 2) % 32 == 0) ≡ true = same_length 0 ((n - 2) % 32) (omega arith) in
     rw (low, high, whole) refl
 

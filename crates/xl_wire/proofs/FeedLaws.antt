@@ -3,7 +3,7 @@ use Rattle.std.proofs.Common.{◌≡◌, ℕ, ◌+◌, ◌-◌, ◌≤◌, Bool,
 use Rattle.std.proofs.lemmas.List.{take_at, take-take, drop-take, drop-drop, drop-append-le, length-append, length-take, length-drop}
 use Rattle.xl_base.specs.Putting.{Puts}
 use Rattle.std.specs.Prelude.{min, false, if◌then◌else◌}
-use Rattle.xl_wire.specs.declared.lengths.TheConstants.{LONGEST_FRAME}
+use Rattle.xl_wire.specs.Lengths.{longest_frame}
 use Rattle.xl_wire.specs.Feeding.{Fed, held_in, taken_of, after_push, IsFed, offer_from, offer_of, after_split, after_next}
 use Rattle.xl_wire.specs.Feeding.Offer.{Frame}
 use Rattle.xl_wire.specs.Heads.{Split, split_of}
@@ -42,7 +42,7 @@ fed_of held refused = record { held = held; refused = refused }
 
 -- a piece that is taken, as far as there is room, behind what is held
 pub after_pushed : (xs ys piece : List ℕ) (start end from count : ℕ) (refused : Bool) (fed : Fed) → fed_of (held_in xs start end) refused ≡ fed → IsFed xs start end → refused ≡ false
-    → count ≡ min (length piece) (LONGEST_FRAME - (end - start)) → held_in ys from (from + (end - start) + length (take count piece)) ≡ held_in xs start end ++ take count piece
+    → count ≡ min (length piece) (longest_frame - (end - start)) → held_in ys from (from + (end - start) + length (take count piece)) ≡ held_in xs start end ++ take count piece
     → fed_of (held_in ys from (from + (end - start) + count)) refused ≡ after_push fed piece
 after_pushed xs ys piece start end from count refused fed view ok takes is added =
     let held = held_in xs start end in
@@ -51,7 +51,7 @@ after_pushed xs ys piece start end from count refused fed view ok takes is added
     let now : held_in ys from (from + (end - start) + count) ≡ held ++ take count piece =
     ap (λ (k : ℕ). held_in ys from (from + (end - start) + k)) (sym few) ∙ added in
     let taken : count ≡ taken_of (fed_of held refused) piece =
-    is ∙ ap (λ (k : ℕ). min (length piece) (LONGEST_FRAME - k)) (sym long) ∙ sym (ap (λ (b : Bool). if b then 0 else min (length piece) (LONGEST_FRAME - length held)) takes) in
+    is ∙ ap (λ (k : ℕ). min (length piece) (longest_frame - k)) (sym long) ∙ sym (ap (λ (b : Bool). if b then 0 else min (length piece) (longest_frame - length held)) takes) in
     ap (λ (x : List ℕ). fed_of x refused) (now ∙ ap (λ (k : ℕ). held ++ take k piece) taken) ∙ ap (λ (f : Fed). after_push f piece) view
 
 -- a frame that is handed out

@@ -1,10 +1,10 @@
 -- Feeds: what is held of a stream that comes in pieces, and what is handed out of it.
 -- Source: this project's own; a feed has room for the longest frame of its layout.
 use Rattle.std.specs.Prelude.{◌≡◌, ℕ, ◌-◌, ◌≤◌, min, Bool, true, List, ◌++◌, length, take, drop, if◌then◌else◌}
-use Rattle.xl_wire.specs.declared.lengths.TheConstants.{LONGEST_FRAME}
 use Rattle.xl_wire.specs.declared.refusal.WireRefusal.{WireRefusal}
 use Rattle.xl_wire.specs.Heads.{Split, split_of}
 use Rattle.xl_wire.specs.Kinds.{span}
+use Rattle.xl_wire.specs.Lengths.{longest_frame}
 
 -- what a feed holds, and whether it has refused
 pub record Fed : Type 0 where
@@ -13,7 +13,7 @@ pub record Fed : Type 0 where
 
 -- how many bytes of a piece are taken: as many as there is room for, and none after a refusal
 abbrev pub taken_of : Fed → List ℕ → ℕ
-taken_of fed piece = if fed.refused then 0 else min (length piece) (LONGEST_FRAME - length fed.held)
+taken_of fed piece = if fed.refused then 0 else min (length piece) (longest_frame - length fed.held)
 
 abbrev pub after_push : Fed → List ℕ → Fed
 after_push fed piece = record { held = fed.held ++ take (taken_of fed piece) piece; refused = fed.refused }
@@ -48,5 +48,5 @@ held_in bytes start end = take (end - start) (drop start bytes)
 
 pub record IsFed (bytes : List ℕ) (start end : ℕ) : Type 0 where
   pub ordered : start ≤ end
-  pub within : end ≤ LONGEST_FRAME
-  pub room : length bytes ≡ LONGEST_FRAME
+  pub within : end ≤ longest_frame
+  pub room : length bytes ≡ longest_frame

@@ -1,6 +1,6 @@
 -- The versions and kinds of frames, and how long their bodies are. Source: this project's own layout.
 use Rattle.std.specs.Prelude.{ℕ, ◌+◌, ◌-◌, ◌%◌, ◌==◌, ◌&&◌, ◌||◌, nat_le, Bool, false, List, length, IsTrue, if◌then◌else◌}
-use Rattle.xl_wire.specs.declared.lengths.TheConstants.{LONGEST_BODY}
+use Rattle.xl_wire.specs.Lengths.{longest_body}
 
 -- there are two
 abbrev pub is_version : ℕ → Bool
@@ -12,7 +12,7 @@ is_kind version kind = if version == 2 then kind == 2 else nat_le 1 kind && nat_
 
 -- a count of 2 bytes, and so many ids of 32 bytes, at most as many as a set may have
 abbrev pub is_set_length : ℕ → Bool
-is_set_length n = nat_le 2 n && nat_le n LONGEST_BODY && (n - 2) % 32 == 0
+is_set_length n = nat_le 2 n && nat_le n longest_body && (n - 2) % 32 == 0
 
 -- whether a body of this kind can have n bytes in version 1
 abbrev pub can_have_first : ℕ → ℕ → Bool

@@ -1,5 +1,6 @@
 pub mod Codes
 pub mod Heads
+pub mod Lengths
 pub mod Kinds
 pub mod Raws
 pub mod Sets

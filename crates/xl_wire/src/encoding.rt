@@ -4,9 +4,9 @@ ghost use Rattle.xl_wire.specs.Bodies.{IsBody, IsProposal, IsValidation, IsTxSet
 ghost use Rattle.xl_wire.specs.Frames.{Spells};
 ghost use Rattle.xl_base.specs.Putting.{Puts};
 ghost use Rattle.xl_wire.specs.Writing.{body_length, frame_length, validated_length};
-ghost use Rattle.xl_wire.specs.declared.lengths.TheConstants.{LONGEST_BODY};
 
 use crate::kinds::{FIRST, HEADER, PROPOSAL, SECOND, TX, TX_SET, VALIDATION};
+use crate::lengths::{AROUND, HEAD};
 use crate::{Body, Frame, Ids, Proposal, Validation};
 use xl_base::{LedgerId, put, put_field, put_u16, put_u32};
 
@@ -17,7 +17,7 @@ pub fn encode(frame: &Frame<'_>, room: &mut [u8]) -> usize
     ensures spelled { Spells frame.now (take result room.new) }
     ensures rest { drop result room.new ≡ drop result room.old }
 {
-    let length = body_length(&frame.body);
+    let length = frame.body.len();
     put_head(
         room,
         version_of(&frame.body),
@@ -27,8 +27,8 @@ pub fn encode(frame: &Frame<'_>, room: &mut [u8]) -> usize
     put_u32(room, 6, frame.from);
     put_u32(room, 10, frame.to);
     put_body(room, &frame.body);
-    put_field(room, 14 + length, &frame.tag);
-    46 + length
+    put_field(room, HEAD + length, &frame.tag);
+    AROUND + length
 }
 
 /// The version in which a validation is that tells this.
@@ -59,29 +59,6 @@ fn kind_of(body: &Body<'_>) -> u8
         Body::Header(_) => HEADER,
         Body::TxSet(_) => TX_SET,
         Body::Tx(_) => TX,
-    }
-}
-
-fn validated_length(validated: &Option<LedgerId>) -> usize
-    ensures value { result ≡ validated_length validated.now }
-    ensures small { result ≤ 32 }
-{
-    match validated {
-        Some(_) => 32,
-        None => 0,
-    }
-}
-
-fn body_length(body: &Body<'_>) -> usize
-    ensures value { result ≡ body_length body.now }
-    ensures small { result ≤ LONGEST_BODY }
-{
-    match body {
-        Body::Proposal(_) => 76,
-        Body::Validation(validation) => 41 + validated_length(&validation.validated),
-        Body::Header(_) => 118,
-        Body::TxSet(ids) => 2 + 32 * ids.len(),
-        Body::Tx(_) => 32,
     }
 }
 

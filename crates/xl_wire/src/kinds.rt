@@ -1,7 +1,7 @@
 ghost use Rattle.std.specs.Prelude.{◌≡◌};
 ghost use Rattle.xl_wire.specs.Kinds.{can_have, can_have_first, is_kind, is_set_length, is_version};
 
-use crate::lengths::LONGEST_BODY;
+use crate::lengths::{COUNT, HEADER_BODY, ID, LONGEST_BODY, PROPOSAL_BODY, VALIDATION_BODY};
 
 /// The first version.
 pub const FIRST: u8 = 1;
@@ -43,7 +43,7 @@ pub fn can_have(version: u8, kind: u8, length: u16) -> bool
     if version == FIRST {
         can_have_first(kind, length)
     } else {
-        version == SECOND && kind == VALIDATION && length == 73
+        version == SECOND && kind == VALIDATION && length as usize == VALIDATION_BODY + ID
     }
 }
 
@@ -51,18 +51,18 @@ fn can_have_first(kind: u8, length: u16) -> bool
     ensures { result ≡ can_have_first kind length }
 {
     match kind {
-        PROPOSAL => length == 76,
-        VALIDATION => length == 41,
-        HEADER => length == 118,
-        TX_SET => is_set_length(length),
-        TX => length == 32,
+        PROPOSAL => length as usize == PROPOSAL_BODY,
+        VALIDATION => length as usize == VALIDATION_BODY,
+        HEADER => length as usize == HEADER_BODY,
+        TX_SET => is_set_length(length as usize),
+        TX => length as usize == ID,
         _ => false,
     }
 }
 
 /// Whether it is the length of a count and so many ids, at most 256.
-fn is_set_length(length: u16) -> bool
+fn is_set_length(length: usize) -> bool
     ensures { result ≡ is_set_length length }
 {
-    2 <= length && length as usize <= LONGEST_BODY && (length - 2) % 32 == 0
+    COUNT <= length && length <= LONGEST_BODY && (length - COUNT) % ID == 0
 }

@@ -4,6 +4,7 @@ ghost use Rattle.xl_wire.specs.Kinds.{span};
 ghost use Rattle.xl_wire.specs.Raws.{RawFrame, SpellsRaw, raw_frame};
 
 use crate::kinds::{can_have, is_kind, is_version};
+use crate::lengths::{AROUND, HEAD, TAG};
 use crate::{Raw, WireRefusal};
 use byteorder::{BigEndian, ByteOrder};
 use xl_base::bytes_at;
@@ -48,15 +49,15 @@ fn whole(bytes: &[u8]) -> Raw<'_>
     requires long { lacking bytes.now ≡ 0 }
     ensures { raw_frame result ≡ raw_in bytes.now }
 {
-    let end = 14 + body_length(bytes) as usize;
+    let end = HEAD + body_length(bytes) as usize;
     Raw {
         version: bytes[2],
         kind: bytes[3],
         from: BigEndian::read_u32(&bytes[6..]),
         to: BigEndian::read_u32(&bytes[10..]),
-        body: &bytes[14..end],
+        body: &bytes[HEAD..end],
         tag: bytes_at(bytes, end),
-        length: end + 32,
+        length: end + TAG,
     }
 }
 
@@ -67,7 +68,7 @@ fn lacking(bytes: &[u8]) -> usize
     if bytes.len() < 6 {
         return 6 - bytes.len();
     }
-    let length = 46 + body_length(bytes) as usize;
+    let length = AROUND + body_length(bytes) as usize;
     length.saturating_sub(bytes.len())
 }
 

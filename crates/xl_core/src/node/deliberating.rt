@@ -16,7 +16,7 @@ use xl_wire::{Ids, Proposal};
 /// So many ids a set has at most for which a short room is cleared.
 const SHORT_SET: usize = 16;
 
-/// Copies the ids of a set to the front of a room, and tells how many they are.
+/// Copies the ids of a set to the front of a room, and answers how many they are.
 fn copy_ids(ids: &Ids<'_>, room: &mut [TxId]) -> usize
     requires { length ids.now ≤ length room.old }
     ensures count { result ≡ length ids.now }
@@ -68,7 +68,7 @@ impl<B: Branch + Drop> Node<B> {
         }
     }
 
-    /// The same, of a set that the short room doesn't hold. Inlined, it would clear its room for each set.
+    /// Holds a set that is too long for the short room. Inlined, it would clear its room for each set.
     #[inline(never)]
     fn hold_long(&mut self, from: NodeNo, ids: &Ids<'_>) -> Heard
         ensures { hear_reply (Ok result) self.new ≡ hears self.old from (speech.TxSet ids.now) }
@@ -78,7 +78,7 @@ impl<B: Branch + Drop> Node<B> {
         self.hold_through(&mut [TxId([0; 32]); MOST_IDS], from, ids)
     }
 
-    /// The same through a room, into which it is copied once.
+    /// Copies a set into a room, and holds it.
     fn hold_through(&mut self, room: &mut [TxId], from: NodeNo, ids: &Ids<'_>) -> Heard
         requires { length ids.now ≤ length room.old }
         ensures { hear_reply (Ok result) self.new ≡ hears self.old from (speech.TxSet ids.now) }

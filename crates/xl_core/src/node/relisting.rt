@@ -36,8 +36,8 @@ impl<B: Branch + Drop> Node<B> {
     /// Goes over to another list: what is known of members that stay is kept, and of new ones nothing is. What the rows
     /// then give to report is reported under the new list.
     ///
-    /// Refused if a listed member other than the node has no key, of which the lowest is told. First the time is
-    /// set, and rows expire; nothing else changes then.
+    /// Refused if a listed member other than the node has no key; the refusal names the lowest of these. First the time
+    /// is set, and rows expire; nothing else changes then.
     pub fn relist(&mut self, now: Millis, list: List) -> Result<Option<Report>, Refusal>
         requires moment { now ≤ GREATEST_MILLIS }
         ensures exact { list_reply result self.new ≡ happens self.old (Relist now list) Kept }

@@ -81,7 +81,7 @@ impl<B: Branch + Drop> Node<B> {
         }
     }
 
-    /// What the round is told of the validations.
+    /// What the round learns of the validations.
     fn seen(&self) -> Seen
         ensures { result ≡ seen_of self.now }
     {
@@ -170,7 +170,7 @@ impl<B: Branch + Drop> Node<B> {
         build_next(id, parent, agreed.set, close, agreed.resolution)
     }
 
-    /// Adds the built ledger, unless it is known, and tells its place; None if there is no room for it.
+    /// Adds the built ledger, unless it is known, and answers its place; None if there is no room for it.
     fn know(&mut self, h: &Header, id: &LedgerId) -> Option<LedgerNo>
         requires built { h.now ≡ built_of self.old }
         requires id { id.now ≡ header_id h.now }

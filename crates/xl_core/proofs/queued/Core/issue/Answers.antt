@@ -15,9 +15,9 @@ use Rattle.xl_core.proofs.queued.Core.issue.Goals as goal
 pub returns-in-Ok-clause-step : goal.returns-in-Ok-clause-step
 returns-in-Ok-clause-step g c =
     let old : Core = record { node = c.self.inside.node; waiting = c.self.inside.waiting; greetings = c.self.inside.greetings; untaken = c.self.inside.untaken; stopped = c.self.inside.stopped } in
-    let new : Core = record { node = c.issue.new.self; waiting = c.push.new.self; greetings = c.self.inside.greetings; untaken = c.push_report.new.untaken; stopped = c.self.inside.stopped } in
+    let new : Core = record { node = c.issue.new.self; waiting = c.push.new.waiting; greetings = c.self.inside.greetings; untaken = c.push_report.new.untaken; stopped = c.self.inside.stopped } in
     subst (λ (a : Core). Answers (core_happens a (event.Issue c.args.now c.args.seq c.args.id c.args.full) Kept) new Done) c.self.view_is
-    (issued_step old c.issue.new.self c.in-Ok.issued c.push.new.self c.push_report.new.untaken (happens c.self.inside.node (Issue c.args.now c.args.seq c.args.id c.args.full) Kept)
+    (issued_step old c.issue.new.self c.in-Ok.issued c.push.new.waiting c.push_report.new.untaken (happens c.self.inside.node (Issue c.args.now c.args.seq c.args.id c.args.full) Kept)
     c.in-Ok.ensures.exact c.push.ensures.pushed c.push_report.ensures)
 
 pub returns-in-Ok-clause-stop : goal.returns-in-Ok-clause-stop
@@ -42,3 +42,6 @@ returns-in-Err-clause-stop g c = λ before after was_told is_told was.
     let told = subst (λ (a : Core). g.K.Keeper.held c.issue.new.keeper ≡ option_map (λ held. after_save held (core_asks a e) (is_kept save)) (g.K.Keeper.held c.args.keeper.now)) c.self.view_is c.in-Err.ensures.held in
     subst (IsCovered after) (sym (returns-in-Err-clause-step g c).core)
     (issue_covers before after (g.K.Keeper.held c.args.keeper.now) (g.K.Keeper.held c.issue.new.keeper) c.args.self.now c.args.now c.args.seq c.args.id c.args.full save told was_told is_told was)
+
+pub invariant_of-self : goal.invariant_of-self
+invariant_of-self g c = c.push.ensures.marks c.self.inside.greetings c.self.invariant

@@ -12,4 +12,7 @@ returns-in_err-submit-clause-stop g c = λ held was.
 pub returns-clause-stop : goal.returns-clause-stop
 returns-clause-stop g c = λ held was.
     let old : Core = record { node = c.self.inside.node; waiting = c.self.inside.waiting; greetings = c.self.inside.greetings; untaken = c.self.inside.untaken; stopped = c.self.inside.stopped } in
-    submitted_covered held old c.args.now c.args.tx c.submit.new.self c.push.new.self c.in_ok-submit.ensures.exact c.push.ensures.pushed (subst (IsCovered held) (sym c.self.view_is) was)
+    submitted_covered held old c.args.now c.args.tx c.submit.new.self c.push.new.waiting c.in_ok-submit.ensures.exact c.push.ensures.pushed (subst (IsCovered held) (sym c.self.view_is) was)
+
+pub invariant_of-self-2 : goal.invariant_of-self-2
+invariant_of-self-2 g c = c.push.ensures.marks c.self.inside.greetings c.self.invariant

@@ -14,7 +14,7 @@ returns-in-Quiet-clause-step g c =
     let old : Core = record { node = c.self.inside.node; waiting = c.self.inside.waiting; greetings = c.self.inside.greetings; untaken = c.self.inside.untaken; stopped = c.self.inside.stopped } in
     let new : Core = record { node = c.tick.new.self; waiting = c.push_said.new.waiting; greetings = c.self.inside.greetings; untaken = c.self.inside.untaken; stopped = c.self.inside.stopped } in
     subst (λ (a : Core). Beaten a c.args.now c.in-Quiet.beat new) c.self.view_is
-    (quiet_step old (at_moment c.args.now c.self.inside.node) c.tick.new.self c.in-Quiet.beat c.in-Quiet.said c.push_said.new.waiting (save_at c.in-Quiet.beat) c.in-Quiet.ensures.exact c.push_said.ensures)
+    (quiet_step old (at_moment c.args.now c.self.inside.node) c.tick.new.self c.in-Quiet.beat c.in-Quiet.said c.push_said.new.waiting (save_at c.in-Quiet.beat) c.in-Quiet.ensures.exact c.push_said.ensures.pushed)
 
 -- nothing was asked of the keeper
 quiet : (g : _) (c : goal.After-push_said g) → IsAsked g.K.Keeper.held g.K.Keeper.saves g.K.Keeper.faults g.K.Keeper.save_gives (core_asks c.args.self.now (Timer c.args.now)) (beat_was_kept c.in-Quiet.beat) c.args.keeper.now c.args.keeper.now
@@ -64,3 +64,6 @@ pub returns-in-Built-clause-stop : goal.returns-in-Built-clause-stop
 returns-in-Built-clause-stop g c = λ before after was_told is_told was.
     subst (IsCovered after) (sym (returns-in-Built-clause-step g c).core)
     (timer_covers before after (g.K.Keeper.held c.args.keeper.now) (g.K.Keeper.held c.conclude.new.keeper) c.args.self.now c.args.now (save_at c.conclude.result) (asked g c).held was_told is_told was)
+
+pub invariant_of-self : goal.invariant_of-self
+invariant_of-self g c = c.push_said.ensures.marks c.self.inside.greetings c.self.invariant

@@ -17,8 +17,8 @@ returns-clause-step g c =
     let at = c.hand_chain-at.result in
     let mid = c.hand_chain-at.new.room in
     let old : Core = record { node = c.self.inside.node; waiting = c.self.inside.waiting; greetings = c.self.inside.greetings; untaken = c.self.inside.untaken; stopped = c.self.inside.stopped } in
-    subst (λ (a : Core). Drains (core_for c.args.tags a) c.args.member (let b : Core = record old { waiting = c.drain.new.waiting; greetings = c.hand_chain-at.new.greetings } in core_for c.args.tags b) (at + c.drain.result) c.args.room.now
-    (take at mid ++ (c.drain.new.room ++ drop (length mid - at) (drop at mid)))) c.self.view_is
-    (drains_both (core_for c.args.tags old) c.args.member at c.drain.result c.hand_chain-at.new.greetings c.drain.new.waiting c.args.room.now mid (take (length mid - at) (drop at mid)) c.drain.new.room (drop (length mid - at) (drop at mid))
+    subst (λ (a : Core). Drains (core_for c.args.tags a) c.args.member (let b : Core = record old { waiting = c.drain-count.new.waiting; greetings = c.hand_chain-at.new.greetings } in core_for c.args.tags b) (at + c.drain-count.result) c.args.room.now
+    (take at mid ++ (c.drain-count.new.room ++ drop (length mid - at) (drop at mid)))) c.self.view_is
+    (drains_both (core_for c.args.tags old) c.args.member at c.drain-count.result c.hand_chain-at.new.greetings c.drain-count.new.waiting c.args.room.now mid (take (length mid - at) (drop at mid)) c.drain-count.new.room (drop (length mid - at) (drop at mid))
     c.hand_chain-at.ensures.written c.hand_chain-at.ensures.handed (sym c.is_greeted.ensures ∙ c.if-not-is_greeted.false) (take_rest mid at) (behind_end at mid)
-    c.drain.ensures.count c.drain.ensures.frames c.drain.ensures.taken)
+    c.drain-count.ensures.count c.drain-count.ensures.frames c.drain-count.ensures.taken)
