@@ -1,9 +1,9 @@
 -- What is kept stands for all votes and reports, one vote after the other.
 use Rattle.std.proofs.Common.{◌≡◌, ◌≢◌, ℕ, zero, suc, ◌+◌, ◌-◌, ◌<◌, ◌≤◌, Bool, true, false, List, [], ◌∷◌, ◌++◌, Option, Some, None, length, map, get_or, set, take, drop, replicate, length-set, refl, sym, ap, subst, ◌∙◌, arith, inl, inr, append_assoc, get_or-set_same, get_or-set_other}
 use Rattle.std.specs.Prelude.{◌==◌, ◌||◌, insert, All, option_map, nat_le}
-use Rattle.std.specs.List.{list_any}
+use Rattle.std.specs.List.{list_all, list_any}
 use Rattle.xl_base.specs.Sets.{IsRising}
-use Rattle.std.proofs.lemmas.Bool.{cases_Bool, cases_eq, eq-eqb, cond-true, cond-false}
+use Rattle.std.proofs.lemmas.Bool.{and_parts, cases_Bool, cases_eq, eq-eqb, cond-true, cond-false}
 use Rattle.std.proofs.lemmas.Bool.Decides.{nat_tests}
 use Rattle.std.proofs.lemmas.List.{append-nil, length-map, length-replicate}
 use Rattle.std.proofs.lemmas.List.Elements.{All-head, All-tail, All-cons, All-append, All-take, All-drop, All-weaker, All-map, All-filter}
@@ -18,6 +18,14 @@ use Rattle.xl_flags.specs.Flags.{run, lasts, is_enabled, reports_of}
 use Rattle.xl_flags.specs.Kept.{earlier, since, from_since, standing_of, is_favoured, Kept, fee_voted, Past, IsRow, IsLater, Remembers, favored, ids_of, new_row, has_row, row_place, with_row, with_rows, favoured_by, kept_favored}
 use Rattle.xl_flags.proofs.Naming.{same_has, ids_with_row, rising_more, rising_rises}
 use Rattle.xl_flags.proofs.Remembering.{neither, has_append, all_ids, latest, unnamed}
+
+-- ---- ids that have their amendments already
+
+pub all_rows : (rows : List Amendment) (ids : List TxId) → list_all (has_row rows) ids ≡ true → with_rows rows ids ≡ rows
+all_rows rows [] all = refl
+all_rows rows (a ∷ ids) all =
+    ap (λ (more : List Amendment). with_rows more ids) (cond-true (has_row rows a) rows (insert rows (row_place rows a) (new_row a)) (and_parts _ _ all).0)
+    ∙ all_rows rows ids (and_parts _ _ all).1
 
 -- ---- an amendment that was never named stands nowhere
 

@@ -201,6 +201,9 @@ with_row rows a = if has_row rows a then rows else insert rows (row_place rows a
 abbrev pub with_rows : List Amendment → List TxId → List Amendment
 with_rows rows ids = fold with_row rows ids
 
+abbrev pub kept_named : List TxId → Kept → Kept
+kept_named ids kept = record kept { amendments = with_rows kept.amendments ids }
+
 -- a member favours an amendment where it is among these
 abbrev pub favoured_by : ℕ → List TxId → Amendment → Amendment
 favoured_by m ids row = record row { favoured = slice_set row.favoured (m - 1) (has ids row.id) }

@@ -7,6 +7,10 @@ use Rattle.xl_firsts.specs.Firsts.{first_by}
 use Rattle.xl_disputes.specs.Disputes.{has}
 use Rattle.xl_disputes.specs.Rising.{rising}
 
+-- so many different amendments may be named
+abbrev pub most_amendments : ℕ
+most_amendments = 4096
+
 -- from here on a member votes for a fee and for some amendments
 pub record Favor : Type 0 where
   pub member : ℕ

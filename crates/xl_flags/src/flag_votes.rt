@@ -1,8 +1,8 @@
 ghost use Rattle.std.specs.Prelude.{◌≡◌, ◌+◌, ◌≤◌, ◌<◌, ◌++◌, length, map, vec_len, vec_capacity, All, IfOk, IfErr, OnOk, MatchResult};
-ghost use Rattle.std.specs.List.{flat_map};
-ghost use Rattle.xl_flags.specs.Votes.{named};
+ghost use Rattle.std.specs.List.{flat_map, list_all};
+ghost use Rattle.xl_flags.specs.Votes.{most_amendments, named};
 ghost use Rattle.xl_flags.specs.Flags.{reports_of, lines_of};
-ghost use Rattle.xl_flags.specs.Kept.{reported, row_news, favored, favoured_by, fee_line as fee_line_of, has_row, kept_favored, row_place as row_place_of, with_row, with_rows as with_rows_of, listed, kept_after, kept_lines, Past, nothing_kept, nothing_yet, Remembers, report_of, with_report};
+ghost use Rattle.xl_flags.specs.Kept.{reported, row_news, favored, favoured_by, fee_line as fee_line_of, has_row, kept_favored, kept_named, row_place as row_place_of, with_row, with_rows as with_rows_of, listed, kept_after, kept_lines, Past, nothing_kept, nothing_yet, Remembers, report_of, with_report};
 ghost use Rattle.xl_base.specs.Sets.{is_below as is_below_of};
 
 use crate::amendment::{Amendment, place_of};
@@ -56,14 +56,14 @@ impl FlagVotes {
             (λ done. (past : Past) → Remembers self.old past → Remembers self.new (favored past member fee ids.now))
             (λ e. self.new ≡ self.old) }
         ensures many { IfErr result (λ e. e ≡ FlagRefusal.TooMany → (past : Past) → Remembers self.old past
-            → MOST_AMENDMENTS < length (named (favored past member fee ids.now).favors)) }
+            → most_amendments < length (named (favored past member fee ids.now).favors)) }
         ensures few { IfOk result (λ done. (past : Past) → Remembers self.old past
-            → length (named (favored past member fee ids.now).favors) ≤ MOST_AMENDMENTS) }
+            → length (named (favored past member fee ids.now).favors) ≤ most_amendments) }
         // So it is with what is kept, whatever that stands for.
         ensures kept { IfOk result (λ done. self.new ≡ kept_favored member fee ids.now self.old) }
         ensures many_kept { IfErr result (λ e. e ≡ FlagRefusal.TooMany
-            → MOST_AMENDMENTS < length (with_rows_of self.old.amendments ids.now)) }
-        ensures few_kept { IfOk result (λ done. length (with_rows_of self.old.amendments ids.now) ≤ MOST_AMENDMENTS) }
+            → most_amendments < length (with_rows_of self.old.amendments ids.now)) }
+        ensures few_kept { IfOk result (λ done. length (with_rows_of self.old.amendments ids.now) ≤ most_amendments) }
     {
         self.take_vote(member, fee, ids)
     }
@@ -71,12 +71,27 @@ impl FlagVotes {
     /// The same over what is kept.
     fn take_vote(&mut self, member: NodeNo, fee: u32, ids: &[TxId]) -> Result<(), FlagRefusal>
         ensures kept { MatchResult result (λ done. self.new ≡ kept_favored member fee ids.now self.old) (λ e. self.new ≡ self.old) }
-        ensures many { IfErr result (λ e. e ≡ FlagRefusal.TooMany → MOST_AMENDMENTS < length (with_rows_of self.old.amendments ids.now)) }
-        ensures few { IfOk result (λ done. length (with_rows_of self.old.amendments ids.now) ≤ MOST_AMENDMENTS) }
+        ensures many { IfErr result (λ e. e ≡ FlagRefusal.TooMany → most_amendments < length (with_rows_of self.old.amendments ids.now)) }
+        ensures few { IfOk result (λ done. length (with_rows_of self.old.amendments ids.now) ≤ most_amendments) }
         ensures first { 1 ≤ member }
         ensures last { member ≤ 64 }
     {
         let place = place_of(member);
+        self.name_all(ids)?;
+        favour_all(&mut self.amendments, member, ids);
+        self.votes[place] = Some(fee);
+        Ok(())
+    }
+
+    /// Gives each id its amendment, unless there would be too many. The amendments are copied only if an id is new.
+    fn name_all(&mut self, ids: &[TxId]) -> Result<(), FlagRefusal>
+        ensures rows { MatchResult result (λ done. self.new ≡ kept_named ids.now self.old) (λ e. self.new ≡ self.old) }
+        ensures many { IfErr result (λ e. e ≡ FlagRefusal.TooMany → most_amendments < length (with_rows_of self.old.amendments ids.now)) }
+        ensures few { IfOk result (λ done. length (with_rows_of self.old.amendments ids.now) ≤ most_amendments) }
+    {
+        if self.amendments.len() <= MOST_AMENDMENTS && are_named(&self.amendments, ids) {
+            return Ok(());
+        }
         let Ok(rows) = with_rows(&self.amendments, ids) else {
             return Err(FlagRefusal::OutOfMemory);
         };
@@ -84,8 +99,6 @@ impl FlagVotes {
             return Err(FlagRefusal::TooMany);
         }
         self.amendments = rows;
-        favour_all(&mut self.amendments, member, ids);
-        self.votes[place] = Some(fee);
         Ok(())
     }
 
@@ -213,6 +226,12 @@ fn is_named(amendments: &[Amendment], id: &TxId) -> bool
     ensures { result ≡ has_row amendments.now id.now }
 {
     amendments.iter().any(|amendment| amendment.id == *id)
+}
+
+fn are_named(amendments: &[Amendment], ids: &[TxId]) -> bool
+    ensures { result ≡ list_all (has_row amendments.now) ids.now }
+{
+    ids.iter().all(|id| is_named(amendments, id))
 }
 
 /// How many amendments stand before an id.

@@ -3,3 +3,4 @@ pub mod Negative
 pub mod Staying
 pub mod Enough
 pub mod Rings
+pub mod Kept

@@ -11,7 +11,7 @@ use Rattle.xl_ledger.proofs.Ancestors.{own_ancestor, ancestor_twice}
 use Rattle.xl_lists.specs.declared.said.SaidLedger.{SaidLedger}
 use Rattle.xl_lists.proofs.Counting.{count_by-cons}
 use Rattle.xl_nunl.specs.Heard.{agrees, score_of}
-use Rattle.xl_nunl.specs.Rings.{place_of, Remembers}
+use Rattle.xl_nunl.specs.Rings.{Remembers, agrees_in, place_of, score_in}
 
 -- ---- nothing was heard
 
@@ -58,6 +58,13 @@ all_down ls heard m flag back end =
     let first : seq_at ls flag + 1 - 256 ≡ seq_at ls flag - 255 = omega arith in
     ap (λ (n : ℕ). count_by (agrees ls heard m flag) (range_with_len (seq_at ls flag + 1 - n) n)) end
     ∙ ap (λ (a : ℕ). count_by (agrees ls heard m flag) (range_with_len a 256)) first
+
+pub all_kept_down : (ls : List Header) (places : List (Option SaidLedger)) (m flag back : ℕ) → back ≡ 256 → counted_down (agrees_in ls places m flag) (seq_at ls flag) back ≡ score_in ls places m flag
+unfolding score_in
+all_kept_down ls places m flag back end =
+    let first : seq_at ls flag + 1 - 256 ≡ seq_at ls flag - 255 = omega arith in
+    ap (λ (n : ℕ). count_by (agrees_in ls places m flag) (range_with_len (seq_at ls flag + 1 - n) n)) end
+    ∙ ap (λ (a : ℕ). count_by (agrees_in ls places m flag) (range_with_len a 256)) first
 
 pub starts_at : (ls : List Header) (flag top : ℕ) → top ≡ seq_at ls flag → flag ≡ ancestor_of ls flag (top - (0 - 1))
 starts_at ls flag top is = let own : top - (0 - 1) ≡ seq_at ls flag = omega arith in sym (own_ancestor ls flag (top - (0 - 1)) own)

@@ -13,7 +13,7 @@ mod law;
 mod score;
 
 pub use deciding::{Decided, decide};
-pub use law::negative_lists_are_enough;
+pub use law::{negative_lists_are_enough, rings_are_enough};
 pub use score::Scores;
 
 #[cfg(test)]

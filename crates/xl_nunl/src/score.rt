@@ -3,7 +3,7 @@ ghost use Rattle.xl_ledger.specs.Chains.{seq_at, id_at};
 ghost use Rattle.xl_ledger.specs.Walks.{GoesOn};
 ghost use Rattle.xl_lists.specs.declared.said.SaidLedger.{SaidLedger};
 ghost use Rattle.xl_nunl.specs.Heard.{last_heard, names as names_of, score_of};
-ghost use Rattle.xl_nunl.specs.Rings.{place_of, Remembers};
+ghost use Rattle.xl_nunl.specs.Rings.{Remembers, last_kept, nothing_kept, place_of, score_in, with_heard};
 
 use std::alloc::Global;
 use std::marker::Model;
@@ -38,7 +38,8 @@ impl Model for Scores {
 impl Scores {
     /// Nothing was heard yet. Or `OutOfMemory`.
     pub fn open(alloc: Global) -> Result<Scores, OutOfMemory>
-        ensures { IfOk result (λ scores. Remembers scores []) }
+        ensures remembers { IfOk result (λ scores. Remembers scores []) }
+        ensures kept { IfOk result (λ scores. scores ≡ nothing_kept) }
     {
         let places = empty_places(alloc)?;
         Ok(Scores { places })
@@ -46,15 +47,17 @@ impl Scores {
 
     /// This member said that this ledger is the one of this sequence.
     pub fn heard(&mut self, member: NodeNo, seq: Seq, id: LedgerId)
-        ensures { (heard : List SaidLedger) → Remembers self.old heard
+        ensures remembers { (heard : List SaidLedger) → Remembers self.old heard
             → Remembers self.new (heard ++ record { member = member; seq = seq; id = id } ∷ []) }
+        ensures kept { self.new ≡ with_heard self.old (record { member = member; seq = seq; id = id }) }
     {
         self.places[place_of(member, seq)] = Some(SaidLedger { member, seq, id });
     }
 
     /// Forgets all that was heard.
     pub fn clear(&mut self)
-        ensures { Remembers self.new [] }
+        ensures remembers { Remembers self.new [] }
+        ensures kept { self.new ≡ nothing_kept }
     {
         for place in self.places.iter_mut() {
             *place = None;
@@ -69,6 +72,7 @@ impl Scores {
         requires high { 255 ≤ seq_at walk.old.ledgers.headers flag }
         ensures value { (heard : List SaidLedger) → Remembers self.now heard
             → result ≡ score_of walk.old.ledgers.headers heard member flag }
+        ensures kept { result ≡ score_in walk.old.ledgers.headers self.now member flag }
         ensures most { result ≤ 256 }
         ensures goes_on { GoesOn walk.old walk.new }
     {
@@ -87,8 +91,9 @@ impl Scores {
 
     /// Whether the last that was heard of the member, among sequences that are alike, names this ledger.
     fn agrees(&self, member: NodeNo, seq: Seq, id: LedgerId) -> bool
-        ensures { (heard : List SaidLedger) → Remembers self.now heard
+        ensures value { (heard : List SaidLedger) → Remembers self.now heard
             → result ≡ names_of (last_heard heard member seq) seq id }
+        ensures kept { result ≡ names_of (last_kept self.now member seq) seq id }
     {
         names(&self.places[place_of(member, seq)], seq, id)
     }

@@ -5,8 +5,8 @@ use Rattle.xl_ledger.specs.Jumps.{ancestor_of}
 use Rattle.xl_ledger.specs.Registries.{Ledgers}
 use Rattle.xl_lists.specs.declared.said.SaidLedger.{SaidLedger}
 use Rattle.xl_nunl.specs.Heard.{names, last_heard, agrees}
-use Rattle.xl_nunl.specs.Rings.{Remembers}
-use Rattle.xl_nunl.proofs.Rings.{counted_down, one_down, all_down, starts_at, goes_up}
+use Rattle.xl_nunl.specs.Rings.{Remembers, agrees_in, last_kept}
+use Rattle.xl_nunl.proofs.Rings.{counted_down, one_down, all_down, all_kept_down, starts_at, goes_up}
 use Rattle.xl_nunl.proofs.score.Scores.score.Goals as goal
 use Rattle.xl_nunl.proofs.score.Scores.score.Goals.{then-agrees, else-agrees}
 
@@ -18,6 +18,7 @@ loop-back-init c = record {
   at = starts_at c.args.walk.now.ledgers.headers c.args.flag c.seq_of-top.result c.seq_of-top.ensures.value;
   most = omega arith;
   counted = λ heard remembers. refl;
+  kept = refl;
 }
 
 pub loop-back-preserved : goal.loop-back-preserved
@@ -36,12 +37,18 @@ loop-back-preserved c =
     let id : c.id_at.result ≡ id_at ls (ancestor_of ls c.args.flag (top - back)) =
     c.id_at.ensures ∙ ap (λ (hs : List Header). id_at hs c.ancestor-at.result) after ∙ ap (id_at ls) up in
     let told : (heard : List SaidLedger) → Remembers c.args.self.now heard → agrees ls heard c.args.member c.args.flag (top - back) ≡ c.agrees.result =
-    λ heard remembers. sym (c.agrees.ensures heard remembers ∙ ap (names (last_heard heard c.args.member (top - back)) (top - back)) id) in
+    λ heard remembers. sym (c.agrees.ensures.value heard remembers ∙ ap (names (last_heard heard c.args.member (top - back)) (top - back)) id) in
+    let told_kept : agrees_in ls c.args.self.now c.args.member c.args.flag (top - back) ≡ c.agrees.result =
+    sym (c.agrees.ensures.kept ∙ ap (names (last_kept c.args.self.now c.args.member (top - back)) (top - back)) id) in
     let low : back ≤ top = omega (arith, c.loop-back-test.true, c.requires.high, c.seq_of-top.ensures.value) in
     let score_next : (b : Bool) → c.agrees.result ≡ b → c.if-agrees.score ≡ cond b 1 0 + c.loop-back.score →
     (heard : List SaidLedger) → Remembers c.args.self.now heard → c.if-agrees.score ≡ counted_down (agrees ls heard c.args.member c.args.flag) top (back + 1) =
     λ b is more heard remembers. more ∙ ap (λ (n : ℕ). cond b 1 0 + n) (c.loop-back.invariant.counted heard remembers)
     ∙ sym (one_down (agrees ls heard c.args.member c.args.flag) top back b low (told heard remembers ∙ is)) in
+    let kept_next : (b : Bool) → c.agrees.result ≡ b → c.if-agrees.score ≡ cond b 1 0 + c.loop-back.score →
+    c.if-agrees.score ≡ counted_down (agrees_in ls c.args.self.now c.args.member c.args.flag) top (back + 1) =
+    λ b is more. more ∙ ap (λ (n : ℕ). cond b 1 0 + n) c.loop-back.invariant.kept
+    ∙ sym (one_down (agrees_in ls c.args.self.now c.args.member c.args.flag) top back b low (told_kept ∙ is)) in
     record {
       goes_on = record {
         stays = c.ancestor-at.ensures.goes_on.stays ∙ c.loop-back.invariant.goes_on.stays;
@@ -58,6 +65,10 @@ loop-back-preserved c =
         | then-agrees w ↦ score_next true w.if-agrees.true (omega (arith, w.score-is))
         | else-agrees w ↦ score_next false w.if-agrees.false (omega (arith, w.score-is))
       ];
+      kept = elim c.if-agrees.branch [
+        | then-agrees w ↦ kept_next true w.if-agrees.true (omega (arith, w.score-is))
+        | else-agrees w ↦ kept_next false w.if-agrees.false (omega (arith, w.score-is))
+      ];
     }
 
 pub returns-clause-value : goal.returns-clause-value
@@ -67,3 +78,11 @@ returns-clause-value c heard remembers =
     c.loop-back.invariant.counted heard remembers
     ∙ ap (λ (n : ℕ). counted_down (agrees ls heard c.args.member c.args.flag) n c.loop-back.back) c.seq_of-top.ensures.value
     ∙ all_down ls heard c.args.member c.args.flag c.loop-back.back all
+
+pub returns-clause-kept : goal.returns-clause-kept
+returns-clause-kept c =
+    let ls : List Header = c.args.walk.now.ledgers.headers in
+    let all : c.loop-back.back ≡ 256 = omega (arith, c.loop-back-test.false, c.loop-back.auto.back-end) in
+    c.loop-back.invariant.kept
+    ∙ ap (λ (n : ℕ). counted_down (agrees_in ls c.args.self.now c.args.member c.args.flag) n c.loop-back.back) c.seq_of-top.ensures.value
+    ∙ all_kept_down ls c.args.self.now c.args.member c.args.flag c.loop-back.back all

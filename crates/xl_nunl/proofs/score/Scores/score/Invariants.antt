@@ -4,7 +4,7 @@ use Rattle.xl_ledger.specs.Jumps.{ancestor_of}
 use Rattle.xl_ledger.specs.Walks.{GoesOn}
 use Rattle.xl_lists.specs.declared.said.SaidLedger.{SaidLedger}
 use Rattle.xl_nunl.specs.Heard.{agrees}
-use Rattle.xl_nunl.specs.Rings.{Remembers}
+use Rattle.xl_nunl.specs.Rings.{Remembers, agrees_in}
 use Rattle.xl_nunl.proofs.Rings.{counted_down}
 use Rattle.xl_nunl.proofs.score.Scores.score.Given as goal
 
@@ -18,4 +18,5 @@ invariant-loop-back l = record {
   most : l.score ≤ l.back;
   counted : (heard : List SaidLedger) → Remembers l.self heard
       → l.score ≡ counted_down (agrees l.fn.walk.ledgers.headers heard l.member l.fn.flag) l.top l.back;
+  kept : l.score ≡ counted_down (agrees_in l.fn.walk.ledgers.headers l.self l.member l.fn.flag) l.top l.back;
 }
