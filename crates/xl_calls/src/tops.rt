@@ -47,7 +47,12 @@ fn end<R: Threads + Wait + Sync>(
     );
     let mut output = MemSink::new(alloc, 5, failing.writes.to_vec(alloc)?);
     let keeper = MemKeeper::new(alloc, 0, failing.loads.to_vec(alloc)?, Vec::new(alloc))?;
-    let mut hub: MemHub<PlainLink> = MemHub::new(Vec::new(alloc), failing.links.to_vec(alloc)?);
+    let mut hub: MemHub<PlainLink> = MemHub::new(
+        alloc,
+        Vec::new(alloc),
+        failing.links.to_vec(alloc)?,
+        1,
+    )?;
     let clock = MemClock::new(1000);
     let ended = top(
         rt,

@@ -27,11 +27,11 @@ use Rattle.xl_heartbeat.specs.declared.ends.Ending.{Ending}
 use Rattle.xl_heartbeat.specs.declared.ends.Ending.TheVariants as ending
 use Rattle.xl_heartbeat.specs.declared.ends.Stopping.TheVariants as stopping
 use Rattle.xl_heartbeat.specs.declared.ends.BeatEnd.{BeatEnd}
-use Rattle.xl_heartbeat.specs.declared.room.TheConstants.{ROOM}
 use Rattle.xl_heartbeat.specs.Lines.{report_line, report_lines}
 use Rattle.xl_heartbeat.specs.Outputs.{Output, Adds, AddsLess, IsWritten}
 use Rattle.xl_heartbeat.specs.Relisting.{made_at, relist, set_after, Relists, IsOtherList}
 use Rattle.xl_heartbeat.specs.Beats.{timer, reports, Phase, IsDue, after_beat, is_over, IsBeating, IsReason, Heartbeat, TakesReports, lines_of, stop_calls}
+use Rattle.xl_heartbeat.specs.Rooms.{room}
 use Rattle.xl_heartbeat.specs.Going.{Beating, Beaten, Follows, Relisted, Stops, ending_of, after_reports}
 use Rattle.xl_heartbeat.proofs.Writing.{adds_none, adds_both, written_both}
 
@@ -288,7 +288,7 @@ module _ {B K : Type 0} (store : Store B K) where
       subst (λ (k : Knowledge Entry). Stops (start_of store) (turns_of store) k stopping.Done (known new)) same
       (record { made = c.made; drawn = omega arith; stopped = tt; full = λ e. absurd (omega (arith, e, more, most)) })
 
-  -- memory was wanting
+  -- memory ran out
   pub again : (old : Knowledge Entry) (mid new : Pass Entry) (e : StoreEnd) → e ≡ refused.OutOfMemory → known mid ≡ old
       → Refused store mid e new → known new ≡ old
   again old mid new e is same r = (subst (λ (x : StoreEnd). IsWhy store (known mid) x (known new)) is r.why) ∙ same
@@ -309,7 +309,7 @@ module _ {B K : Type 0} (store : Store B K) where
 
   -- the reports that were handed out stand at the front of the room, and their lines were written
   module _ (old new : Pass Entry) (o o' : Output) (count : ℕ) (before after : List Report)
-      (out : HandedOut store old count before after new) (full : length before ≡ ROOM) where
+      (out : HandedOut store old count before after new) (full : length before ≡ room) where
     front : take count after ≡ out.reports
     front = ap (take count) out.room
         ∙ ap (λ (n : ℕ). take n (out.reports ++ drop count before)) out.count

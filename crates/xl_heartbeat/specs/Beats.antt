@@ -12,7 +12,6 @@ use Rattle.xl_store.specs.declared.entry.Entry.{Entry}
 use Rattle.xl_store.specs.Calls.{Call, Made}
 use Rattle.xl_heartbeat.specs.declared.timing.Timing.{Timing}
 use Rattle.xl_heartbeat.specs.declared.pulse.Pulse.{Pulse}
-use Rattle.xl_heartbeat.specs.declared.room.TheConstants.{ROOM}
 use Rattle.xl_heartbeat.specs.declared.ends.Ending.{Ending}
 use Rattle.xl_heartbeat.specs.declared.ends.Ending.TheVariants as ending
 use Rattle.xl_heartbeat.specs.declared.ends.Stopping.{Stopping}
@@ -21,13 +20,14 @@ use Rattle.xl_heartbeat.specs.declared.ends.BeatEnd.{BeatEnd}
 use Rattle.xl_heartbeat.specs.Lines.{report_lines}
 use Rattle.xl_heartbeat.specs.Outputs.{Output, IsWritten}
 use Rattle.xl_heartbeat.specs.Relisting.{made_at, Relists}
+use Rattle.xl_heartbeat.specs.Rooms.{room}
 
 abbrev pub timer : ℕ → Beat → Call
 timer now beat = record { event = Timer now; answer = answer.Beats beat }
 
--- reports are taken into a room for 1,024
+-- reports are taken
 abbrev pub reports : List Report → Call
-reports handed = record { event = Reports ROOM; answer = answer.Handed handed }
+reports handed = record { event = Reports room; answer = answer.Handed handed }
 
 abbrev pub stop : Call
 stop = record { event = Stop; answer = answer.Done }
@@ -79,7 +79,7 @@ abbrev pub IsLast : List Call → Call → Type 0
 IsLast calls call = (earlier : List Call) × (calls ≡ earlier ++ call ∷ [])
 
 -- why no further beat came: the time is over; a write of the reports just taken failed; or the next call had no turn,
--- for want of memory, or since all turns of the store are drawn
+-- since memory ran out, or since all turns of the store are drawn
 abbrev pub IsReason : ℕ → List Call → Phase → ℕ → Ending → Type 0
 IsReason turns calls phase drawn ending.Done = phase ≡ Over
 IsReason turns calls phase drawn ending.WriteFault = (handed : List Report) × IsLast calls (reports handed)
@@ -97,7 +97,7 @@ IsStop turns drawn (stopping.StoreFull n) = (n ≡ turns) × (drawn ≡ turns)
 
 -- A whole heartbeat of a pass, at a store that was opened with this core and has so many turns: its calls stand in the
 -- history at the places that the pass gained, and to the output were added the lines of the reports that they handed
--- out, in order, and where a write's fault ended it a front of them
+-- out, in order, and if a write's fault ended it a front of them
 pub record Heartbeat
     (start : Core) (turns : ℕ) (may_give : ℕ → Bool) (pulse : Pulse)
     (old : Knowledge Entry) (old_output : Output) (end : BeatEnd) (new : Knowledge Entry) (new_output : Output)
@@ -118,7 +118,7 @@ taking_calls ending.WriteFault handed = reports handed ∷ []
 taking_calls ending.OutOfMemory handed = []
 taking_calls (ending.StoreFull n) handed = []
 
--- a full store is named only where all turns are drawn
+-- a full store is named only if all turns are drawn
 abbrev pub IsFull : ℕ → ℕ → Ending → Type 0
 IsFull turns drawn ending.Done = Unit {0}
 IsFull turns drawn ending.WriteFault = Unit {0}

@@ -1,17 +1,23 @@
 -- The links that a hub in memory still has to give, and its script. Source: this project's own, for tests of what opens
 -- links.
-use Rattle.std.specs.Prelude.{◌≡◌, ℕ, ◌<◌, ◌==◌, Bool, List, [], ◌∷◌, length, slice_get, Some, None, option_map, if◌then◌else◌}
+use Rattle.std.specs.Prelude.{◌≡◌, ℕ, ◌<◌, ◌==◌, Bool, List, [], ◌∷◌, length, map, slice_get, Some, None, option_map, if◌then◌else◌}
 use Rattle.std.specs.List.{remove}
 use Rattle.std.specs.declared.option.Option.{Option}
 use Rattle.xl_base.specs.Counts.{one_more}
 use Rattle.xl_links.specs.declared.hub.Spare.{Spare}
 use Rattle.xl_links.specs.declared.hub.scripted.MemHub.{MemHub}
+use Rattle.xl_links.specs.declared.hub.scripted.Asked.{Asked}
 use Rattle.xl_links.specs.Links.{Wire}
 use Rattle.xl_links.specs.Scripts.{is_listed}
+use Rattle.xl_links.specs.Tellings.{Telling, telling_of}
+use Rattle.xl_links.specs.Ways.{Target, target}
 
 -- a link to a member that says nothing
 abbrev pub silent_wire : Wire
-silent_wire = record { left = Some []; took = None; openings = None; faults = 0 }
+silent_wire = record { left = Some []; took = None; openings = None; readings = None; faults = 0 }
+
+abbrev pub target_of : Asked → Target
+target_of asked = target asked.member asked.way
 
 module _ {L : Type 0} where
   -- the first of the links that is to this member
@@ -36,6 +42,13 @@ module _ {L : Type 0} where
   -- the links that a hub in memory still has to give
   abbrev pub spares_of : MemHub L → List (Spare L)
   spares_of hub = hub.spares.items
+
+  -- the links that it was asked for, in room that was taken when it was made
+  abbrev pub list_of_asked : MemHub L → Telling Asked
+  list_of_asked hub = telling_of hub.asked
+
+  abbrev pub targets_of : MemHub L → Option (List Target)
+  targets_of hub = option_map (map target_of) (list_of_asked hub).told
 
   abbrev pub hub_faults : MemHub L → ℕ
   hub_faults hub = hub.faults

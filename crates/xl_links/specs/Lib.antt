@@ -1,5 +1,6 @@
+pub mod Tellings
+pub mod Ways
 pub mod Links
 pub mod Scripts
-pub mod Openings
-pub mod Memory
 pub mod Hubs
+pub mod Memory

@@ -1,6 +1,6 @@
 -- What a link to another member does: it is opened, it gives bytes and it takes bytes. Source: a TCP connection, with a
 -- count of faults.
-use Rattle.std.specs.Prelude.{◌≡◌, ℕ, ◌<◌, ◌≤◌, ◌⊎◌, List, [], ◌∷◌, ◌++◌, length, take, None, option_map}
+use Rattle.std.specs.Prelude.{◌≡◌, ℕ, ◌<◌, ◌≤◌, List, [], ◌∷◌, length, take}
 use Rattle.std.specs.declared.option.Option.{Option}
 use Rattle.std.specs.Io.KnownBytes.{prepend_known, append_known}
 use Rattle.xl_base.specs.Faults.{Rose}
@@ -11,14 +11,7 @@ use Rattle.xl_links.specs.declared.link.Opening.{Opening}
 use Rattle.xl_links.specs.declared.link.Opening.TheVariants as opening
 use Rattle.xl_links.specs.declared.link.LinkRead.{LinkRead}
 use Rattle.xl_links.specs.declared.link.LinkRead.TheVariants as read
-
--- what a link shows: the bytes that it still has to give, those that it took, and what its openings answered, each
--- where the link tells it; and how often a call has failed, up to the greatest `u64`
-pub record Wire : Type 0 where
-  pub left : Option (List ℕ)
-  pub took : Option (List ℕ)
-  pub openings : Option (List Opening)
-  pub faults : ℕ
+use Rattle.xl_links.specs.Tellings.{AddsTold}
 
 -- what a read answered
 pub data Reading : Type 0 where
@@ -26,6 +19,15 @@ pub data Reading : Type 0 where
   Idle : Reading
   End : Reading
   Failed : Reading
+
+-- what a link shows: the bytes that it still has to give, those that it took, and what its openings and its reads
+-- answered, first to last, each if the link tells it; and how often a call has failed, up to the greatest `u64`
+pub record Wire : Type 0 where
+  pub left : Option (List ℕ)
+  pub took : Option (List ℕ)
+  pub openings : Option (List Opening)
+  pub readings : Option (List Reading)
+  pub faults : ℕ
 
 -- the bytes that it gave
 abbrev pub bytes_of : Reading → List ℕ
@@ -46,17 +48,10 @@ abbrev pub taken_of : List ℕ → Wrote → List ℕ
 taken_of piece (wrote.Took n) = take n piece
 taken_of piece wrote.Failed = []
 
--- the openings that are told, and then these
-abbrev pub append_openings : Option (List Opening) → List Opening → Option (List Opening)
-append_openings known openings = option_map (λ (told : List Opening). told ++ openings) known
-
--- these are the last of all openings, unless they aren't told any more
-abbrev pub AddsOpenings : Option (List Opening) → Option (List Opening) → List Opening → Type 0
-AddsOpenings old new openings = (new ≡ None) ⊎ (new ≡ append_openings old openings)
-
 -- an opening is told, and changes no bytes
 pub record Opens (old : Wire) (answer : Opening) (new : Wire) : Type 0 where
-  pub openings : AddsOpenings old.openings new.openings (answer ∷ [])
+  pub openings : AddsTold old.openings new.openings (answer ∷ [])
+  pub readings : new.readings ≡ old.readings
   pub left : new.left ≡ old.left
   pub took : new.took ≡ old.took
   pub later : old.faults ≤ new.faults
@@ -69,12 +64,13 @@ FitsRoom read.Idle room = Unit {0}
 FitsRoom read.End room = Unit {0}
 FitsRoom read.Failed room = Unit {0}
 
--- a read gives the next of the bytes that were left. An end is the connection's: more may come on the next one
+-- a read is told, and gives the next of the bytes that were left. An end is the connection's: more may come on the next one
 pub record Reads (old : Wire) (answer : LinkRead) (room : List ℕ) (new : Wire) : Type 0 where
   pub fits : FitsRoom answer room
   pub left : old.left ≡ prepend_known (bytes_of (reading_in room answer)) new.left
   pub took : new.took ≡ old.took
   pub openings : new.openings ≡ old.openings
+  pub readings : AddsTold old.readings new.readings (reading_in room answer ∷ [])
   pub later : old.faults ≤ new.faults
   pub failed : answer ≡ read.Failed → Rose old.faults new.faults
 
@@ -84,5 +80,6 @@ pub record Writes (old : Wire) (answer : Wrote) (piece : List ℕ) (new : Wire) 
   pub took : new.took ≡ append_known old.took (taken_of piece answer)
   pub left : new.left ≡ old.left
   pub openings : new.openings ≡ old.openings
+  pub readings : new.readings ≡ old.readings
   pub later : old.faults ≤ new.faults
   pub failed : answer ≡ wrote.Failed → Rose old.faults new.faults

@@ -1,6 +1,6 @@
 -- What links and clocks in memory show: their content, their faults and their script. Source: this project's own, for
 -- tests of what is said over links.
-use Rattle.std.specs.Prelude.{ℕ, ◌&&◌, nat_le, min, max, Bool, List, [], ◌∷◌, Some, None, drop}
+use Rattle.std.specs.Prelude.{ℕ, ◌&&◌, nat_le, min, max, Bool, List, [], ◌∷◌, map, Some, None, option_map, drop}
 use Rattle.xl_base.specs.Counts.{one_more}
 use Rattle.xl_base.specs.declared.moments.TheConstants.{GREATEST_MILLIS}
 use Rattle.xl_links.specs.declared.link.Opening.{Opening}
@@ -11,15 +11,24 @@ use Rattle.xl_links.specs.declared.script.Course.{Course}
 use Rattle.xl_links.specs.declared.script.Course.TheVariants as course
 use Rattle.xl_links.specs.declared.link.plain.PlainLink.{PlainLink}
 use Rattle.xl_links.specs.declared.link.scripted.Calls.{Calls}
+use Rattle.xl_links.specs.declared.link.scripted.Given.{Given}
 use Rattle.xl_links.specs.declared.link.scripted.MemLink.{MemLink}
 use Rattle.xl_links.specs.declared.clock.MemClock.{MemClock}
-use Rattle.xl_links.specs.Links.{Wire}
-use Rattle.xl_links.specs.Openings.{OpeningList}
+use Rattle.xl_links.specs.Links.{Wire, Reading, reading_in}
 use Rattle.xl_links.specs.Scripts.{opening_at, course_at, is_listed}
+use Rattle.xl_links.specs.Tellings.{Telling, telling_of}
 
--- the bytes that a link which never fails still has to give
+-- all bytes of a link which never fails
+abbrev pub plain_bytes : PlainLink → List ℕ
+plain_bytes link = link.bytes.items
+
+-- how many of them it gave
+abbrev pub plain_given : PlainLink → ℕ
+plain_given link = link.given
+
+-- those that it still has to give
 abbrev pub plain_left : PlainLink → List ℕ
-plain_left link = drop link.given link.bytes.items
+plain_left link = drop (plain_given link) (plain_bytes link)
 
 -- the most bytes that a read gives or a write takes, 0 being read as 1
 abbrev pub plain_piece : PlainLink → ℕ
@@ -29,9 +38,13 @@ plain_piece link = link.piece
 abbrev pub piece_of : ℕ → ℕ → ℕ
 piece_of most bytes = min bytes (max most 1)
 
--- it tells nothing of what it takes, nor of its openings
+-- it tells nothing of what it takes, nor of its openings and reads
 abbrev pub plain_wire : PlainLink → Wire
-plain_wire link = record { left = Some (plain_left link); took = None; openings = None; faults = 0 }
+plain_wire link = record { left = Some (plain_left link); took = None; openings = None; readings = None; faults = 0 }
+
+-- the same with a count of faults
+abbrev pub counted_wire : PlainLink → ℕ → Wire
+counted_wire link faults = record (plain_wire link) { faults = faults }
 
 -- the bytes that a link in memory still has to give
 abbrev pub bytes_left : MemLink → List ℕ
@@ -44,14 +57,27 @@ link_piece link = plain_piece link.source
 abbrev pub bytes_taken : MemLink → List ℕ
 bytes_taken link = link.taken.items
 
-abbrev pub list_of_openings : MemLink → OpeningList
-list_of_openings link = link.openings
+-- what its openings answered, in room that was taken when it was made
+abbrev pub list_of_openings : MemLink → Telling Opening
+list_of_openings link = telling_of link.openings
+
+-- a read, by its answer and by which of all bytes were next then
+abbrev pub reading_given : List ℕ → Given → Reading
+reading_given bytes given = reading_in (drop given.from bytes) given.answer
+
+-- what its reads answered, in such room
+abbrev pub list_of_readings : MemLink → Telling Reading
+list_of_readings link = record {
+  told = option_map (map (reading_given (plain_bytes link.source))) (telling_of link.readings).told;
+  room = (telling_of link.readings).room;
+}
 
 abbrev pub wire_of : MemLink → Wire
 wire_of link = record {
   left = Some (bytes_left link);
   took = Some (bytes_taken link);
   openings = (list_of_openings link).told;
+  readings = (list_of_readings link).told;
   faults = link.faults;
 }
 

@@ -1,7 +1,9 @@
-ghost use Rattle.std.specs.Prelude.{◌≡◌, ◌≢◌, ◌≤◌, ℕ, IfOk, IfSome, OnErr};
+ghost use Rattle.std.specs.Prelude.{◌≡◌, ◌≢◌, ◌≤◌, ℕ, List, [], ◌∷◌, IfOk, IfSome, OnErr};
 ghost use Rattle.std.specs.declared.option.Option.{Option};
 ghost use Rattle.xl_base.specs.Faults.{Rose};
 ghost use Rattle.xl_links.specs.Links.{Wire};
+ghost use Rattle.xl_links.specs.Tellings.{AddsTold};
+ghost use Rattle.xl_links.specs.Ways.{Target, target};
 
 pub mod plain;
 pub mod scripted;
@@ -28,8 +30,11 @@ pub struct Spare<L> {
 pub trait Hub {
     type L: Link + Send + Drop;
 
-    /// What the next link to a member will show, where the hub tells it.
+    /// What the next link to a member will show, if the hub tells it.
     ghost gives: { Self → ℕ → Option Wire };
+
+    /// Which links it was asked for, first to last, if it tells that.
+    ghost asked: { Self → Option (List Target) };
 
     /// How often a call has failed, up to the greatest `u64`.
     ghost faults: { Self → ℕ };
@@ -38,6 +43,7 @@ pub trait Hub {
     fn open_link(&mut self, member: NodeNo, way: Way) -> Result<Self::L, Failed>
         ensures given { IfOk result (λ link. IfSome (gives self.old member) (λ wire. Self.L.Link.shows link ≡ wire)) }
         ensures others { (other : ℕ) → other ≢ member → gives self.new other ≡ gives self.old other }
+        ensures asked { AddsTold (asked self.old) (asked self.new) (target member way ∷ []) }
         ensures later { faults self.old ≤ faults self.new }
         ensures failed { OnErr result (Rose (faults self.old) (faults self.new)) };
 }

@@ -1,8 +1,9 @@
 //! The members that a node talks to, and the time, as the program sees them: a link to one member, the hub that makes
 //! the links, the clock, and a gate at which a test can hold a call. Links, hubs and clocks are in memory.
 //!
-//! It stands on xl_base and xl_io. Its one contract: a call answers `Failed` only where the count rose in that call;
-//! what a link gave, took and answered is exact where it is told; and a clock's moment is one that it may give.
+//! It stands on xl_base and xl_io. Its one contract: a call answers `Failed` only if the count rose in that call; what a
+//! link gave, took and answered is exact if it is told, and so is which links a hub was asked for; and a clock's moment
+//! is one that it may give.
 #![tactic(auto)]
 
 mod clock;
@@ -10,11 +11,12 @@ mod gate;
 mod hub;
 mod link;
 mod script;
+mod told;
 
 pub use clock::{Clock, MemClock};
 pub use gate::{Gate, OpenGate};
 pub use hub::plain::PlainHub;
-pub use hub::scripted::MemHub;
+pub use hub::scripted::{Asked, MemHub};
 pub use hub::{Hub, Spare, Way};
 pub use link::plain::PlainLink;
 pub use link::scripted::MemLink;

@@ -1,7 +1,6 @@
 ghost use Rattle.std.specs.Prelude.{◌≡◌, length};
 ghost use Rattle.xl_links.specs.Links.{Wire, Opens, Reads, Writes};
 
-mod openings;
 pub mod plain;
 pub mod scripted;
 
@@ -32,7 +31,7 @@ pub enum LinkRead {
 
 /// A link to one member, over which one connection after the other may be held.
 pub trait Link {
-    /// What it has left, took and answered, where it tells it, and how often a call has failed.
+    /// What it has left, took and answered, if it tells that, and how often a call has failed.
     ghost shows: { Self → Wire };
 
     /// Begins a connection.

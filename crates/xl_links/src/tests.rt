@@ -69,7 +69,7 @@ fn a_hub_gives_each_link_once(rt: HostRuntime) -> Result<(), Fail> {
         let link = link_of(alloc, bytes)?;
         spares.push(Spare { member, link })?;
     }
-    let mut hub = MemHub::new(spares, [2].to_vec(alloc)?);
+    let mut hub = MemHub::new(alloc, spares, [2].to_vec(alloc)?, 5)?;
     let mut room = [0; 1];
     for (member, answer) in [
         (two, Some(b'a')),
@@ -87,6 +87,7 @@ fn a_hub_gives_each_link_once(rt: HostRuntime) -> Result<(), Fail> {
             Err(Failed) => assert!(rt; answer.is_none()),
         }
     }
+    assert!(rt; hub.asked().is_some_and(|asked| asked.len() == 5));
     Ok(())
 }
 

@@ -22,11 +22,12 @@ use Rattle.xl_store.specs.Stores.{start_of, turns_of, IsWhy, Refused}
 use Rattle.xl_store.proofs.Making.{made_none, made_both}
 use Rattle.xl_peers.specs.declared.ends.End.{End}
 use Rattle.xl_peers.specs.declared.ends.End.TheVariants as end
-use Rattle.xl_peers.specs.Steps.{Step, drain, call_in, read_in, drained_in, calls, bytes_read, bytes_drained}
+use Rattle.xl_peers.specs.Steps.{Step, drain, call_in, read_in, readings_in, drained_in, calls, bytes_read, bytes_drained}
+use Rattle.xl_peers.specs.Steps.{read_answers}
 use Rattle.xl_peers.specs.Sessions.{Phase, IsSession, EndsBy, IsCutOff, IsCause, Session}
 use Rattle.xl_peers.specs.Going.{SoFar, SentFront, end_of}
 use Rattle.xl_peers.proofs.Stepping.{more, so_none}
-use Rattle.xl_peers.proofs.Growing.{append_known-none, append_known-twice, prepend_known-none}
+use Rattle.xl_peers.proofs.Growing.{append_known-none, append_known-twice, prepend_known-none, tells_nothing, tells_same}
 
 module _ (start : Core) (turns : ℕ) (may_give : ℕ → Bool) (member : ℕ) (k0 : Knowledge Entry) (w0 : Wire) where
   -- all that was drained was written
@@ -43,6 +44,7 @@ module _ (start : Core) (turns : ℕ) (may_give : ℕ → Bool) (member : ℕ) (
     read = s.read;
     took = s.took;
     openings = s.openings;
+    readings = s.readings;
     later = s.later;
     cause = cause;
   }
@@ -86,6 +88,9 @@ module _ (start : Core) (turns : ℕ) (may_give : ℕ → Bool) (member : ℕ) (
         took = sent.sent.took ∙ ap (λ (known : Option (List ℕ)). append_known known sent.written) s.took
             ∙ append_known-twice w0.took (bytes_drained s.steps) sent.written;
         openings = sent.sent.openings ∙ s.openings;
+        readings = tells_same w0.readings w.readings new_link.readings (read_answers s.steps)
+            (read_answers (s.steps ++ step ∷ [])) sent.sent.readings
+            (more readings_in s.steps step ∙ append-nil (read_answers s.steps)) s.readings;
         later = let q = s.later in let r = sent.sent.later in omega arith;
         cause = rose;
       }
@@ -101,6 +106,7 @@ starts start may_give member k0 w0 = record {
   read = sym (prepend_known-none w0.left);
   took = sym (append_known-none w0.took);
   openings = refl;
+  readings = tells_nothing w0.readings;
   later = omega arith;
   first = record { frames = []; handed = refl; whole = refl; each = tt };
   bytes = λ i. omega arith;

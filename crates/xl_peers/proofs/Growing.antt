@@ -1,10 +1,11 @@
--- What a link took, as it grows.
+-- What a link took and told, as it grows.
 use Rattle.std.proofs.Common.{◌≡◌, ◌++◌, ℕ, List, [], Some, None, Option, take, drop, refl, sym, ap, ◌∙◌, append_assoc}
-use Rattle.std.proofs.Common.{append-nil, arith, subst}
+use Rattle.std.proofs.Common.{append-nil, arith, subst, inl, inr}
 use Rattle.std.proofs.lemmas.List.{take-append-drop}
 use Rattle.std.specs.Io.KnownBytes.{prepend_known, append_known}
 use Rattle.xl_io.specs.declared.sink.Wrote.TheVariants.{Took, Failed}
 use Rattle.xl_links.specs.Links.{Wire, Writes}
+use Rattle.xl_links.specs.Tellings.{append_told, AddsTold}
 use Rattle.xl_peers.specs.Going.{Sent, SentFront}
 
 pub append_known-none : (known : Option (List ℕ)) → append_known known [] ≡ known
@@ -25,6 +26,36 @@ pub prepend_known-twice : (xs ys : List ℕ) (known : Option (List ℕ))
 prepend_known-twice xs ys None = refl
 prepend_known-twice xs ys (Some bytes) = ap Some (sym (append_assoc xs ys bytes))
 
+module _ {A : Type 0} where
+  pub append_told-none : (told : Option (List A)) → append_told told [] ≡ told
+  append_told-none None = refl
+  append_told-none (Some xs) = ap Some (append-nil xs)
+
+  append_told-twice : (told : Option (List A)) (xs ys : List A)
+      → append_told (append_told told xs) ys ≡ append_told told (xs ++ ys)
+  append_told-twice None xs ys = refl
+  append_told-twice (Some zs) xs ys = ap Some (append_assoc zs xs ys)
+
+  -- nothing more is told
+  pub tells_nothing : (told : Option (List A)) → AddsTold told told []
+  tells_nothing told = inr (sym (append_told-none told))
+
+  -- first some, and then others
+  pub tells_both : (old mid new : Option (List A)) (xs ys : List A) → AddsTold old mid xs → AddsTold mid new ys
+      → AddsTold old new (xs ++ ys)
+  tells_both old mid new xs ys a (inl none) = inl none
+  tells_both old mid new xs ys (inl none) (inr e) =
+      inl (e ∙ ap (λ (told : Option (List A)). append_told told ys) none)
+  tells_both old mid new xs ys (inr d) (inr e) =
+      inr (e ∙ ap (λ (told : Option (List A)). append_told told ys) d ∙ append_told-twice old xs ys)
+
+  -- what is told stays, and so do those that were added
+  pub tells_same : (old mid new : Option (List A)) (xs ys : List A) → new ≡ mid → ys ≡ xs → AddsTold old mid xs
+      → AddsTold old new ys
+  tells_same old mid new xs ys stays are a =
+      subst (λ (l : List A). AddsTold old new l) (sym are)
+      (subst (λ (told : Option (List A)). AddsTold old told xs) (sym stays) a)
+
 -- of all the bytes, those that aren't in the rest were sent
 pub record Sending (old new : Wire) (all rest : List ℕ) : Type 0 where
   pub front : List ℕ
@@ -32,13 +63,14 @@ pub record Sending (old new : Wire) (all rest : List ℕ) : Type 0 where
   pub sent : Sent old front new
 
 pub sent_none : (w : Wire) → Sent w [] w
-sent_none w = record { took = sym (append_known-none w.took); left = refl; openings = refl; later = omega arith }
+sent_none w = record { took = sym (append_known-none w.took); left = refl; openings = refl; readings = refl; later = omega arith }
 
 pub sent_both : (old mid new : Wire) (xs ys : List ℕ) → Sent old xs mid → Sent mid ys new → Sent old (xs ++ ys) new
 sent_both old mid new xs ys a b = record {
   took = b.took ∙ ap (λ known. append_known known ys) a.took ∙ append_known-twice old.took xs ys;
   left = b.left ∙ a.left;
   openings = b.openings ∙ a.openings;
+  readings = b.readings ∙ a.readings;
   later = let p = a.later in let q = b.later in omega arith;
 }
 
@@ -55,13 +87,13 @@ sending_more old mid new all rest n s more = record {
 }
 
 pub sent_took : (old new : Wire) (n : ℕ) (rest : List ℕ) → Writes old (Took n) rest new → Sent old (take n rest) new
-sent_took old new n rest w = record { took = w.took; left = w.left; openings = w.openings; later = w.later }
+sent_took old new n rest w = record { took = w.took; left = w.left; openings = w.openings; readings = w.readings; later = w.later }
 
 -- a failed write changes nothing but the count
 pub sent_front : (start old new : Wire) (all rest : List ℕ) → Sending start old all rest → Writes old Failed rest new
     → SentFront start all new
 sent_front start old new all rest s w =
-    let none : Sent old [] new = record { took = w.took; left = w.left; openings = w.openings; later = w.later } in
+    let none : Sent old [] new = record { took = w.took; left = w.left; openings = w.openings; readings = w.readings; later = w.later } in
     let sent : Sent start s.front new = subst (λ xs. Sent start xs new) (append-nil s.front)
     (sent_both start old new s.front [] s.sent none) in
     record {

@@ -9,7 +9,8 @@ use Rattle.xl_turns.specs.declared.view.Knowledge.{Knowledge}
 use Rattle.xl_turns.specs.declared.pass.Pass.{Pass}
 use Rattle.xl_turns.specs.Passes.{known}
 use Rattle.xl_links.specs.declared.link.Opening.{Opening}
-use Rattle.xl_links.specs.Links.{Wire, append_openings, AddsOpenings}
+use Rattle.xl_links.specs.Links.{Wire, Reading}
+use Rattle.xl_links.specs.Tellings.{AddsTold}
 use Rattle.xl_links.specs.Links as links
 use Rattle.xl_core.specs.declared.event.CoreEvent.TheVariants.{Stopped}
 use Rattle.xl_core.specs.Answers.{Told}
@@ -24,11 +25,13 @@ use Rattle.xl_peers.specs.declared.ends.End.{End}
 use Rattle.xl_peers.specs.declared.ends.End.TheVariants as end
 use Rattle.xl_peers.specs.declared.ends.Served.TheVariants as served
 use Rattle.xl_peers.specs.Sessions.{Session, IsCutOff, IsCause}
-use Rattle.xl_peers.specs.Steps.{bytes_drained}
-use Rattle.xl_peers.specs.Serving.{Deed, Asked, Opened, Talked, calls_in, read_in, drained_in, written_in, opened_in}
+use Rattle.xl_peers.specs.Steps.{bytes_drained, read_answers}
+use Rattle.xl_peers.specs.Serving.{Deed, Asked, Opened, Talked, calls_in, read_in, readings_in, drained_in, written_in}
+use Rattle.xl_peers.specs.Serving.{opened_in}
 use Rattle.xl_peers.specs.Serving.{Round, after_answer, after_opening, after_session, served_of, IsServing, Serving}
 use Rattle.xl_peers.specs.Serving.{Serves, Follows}
 use Rattle.xl_peers.proofs.Growing.{append_known-none, append_known-twice, prepend_known-none, prepend_known-twice}
+use Rattle.xl_peers.proofs.Growing.{tells_nothing, tells_both, tells_same}
 use Rattle.xl_peers.proofs.Finishing.{refused_later}
 
 -- one deed more
@@ -40,25 +43,6 @@ more f deeds d = flat_map-append f deeds (d ∷ []) ∙ ap (λ l. flat_map f dee
 same : {A : Type 0} (f : Deed → List A) (deeds : List Deed) (d : Deed) → f d ≡ []
     → flat_map f (deeds ++ d ∷ []) ≡ flat_map f deeds
 same f deeds d e = more f deeds d ∙ ap (λ l. flat_map f deeds ++ l) e ∙ append-nil (flat_map f deeds)
-
-append_openings-none : (told : Option (List Opening)) → append_openings told [] ≡ told
-append_openings-none None = refl
-append_openings-none (Some xs) = ap Some (append-nil xs)
-
-append_openings-twice : (told : Option (List Opening)) (xs ys : List Opening)
-    → append_openings (append_openings told xs) ys ≡ append_openings told (xs ++ ys)
-append_openings-twice None xs ys = refl
-append_openings-twice (Some os) xs ys = ap Some (append_assoc os xs ys)
-
--- first some openings, and then others
-adds_both : (old mid new : Option (List Opening)) (xs ys : List Opening) → AddsOpenings old mid xs
-    → AddsOpenings mid new ys
-    → AddsOpenings old new (xs ++ ys)
-adds_both old mid new xs ys a (inl none) = inl none
-adds_both old mid new xs ys (inl none) (inr e) =
-    inl (e ∙ ap (λ (told : Option (List Opening)). append_openings told ys) none)
-adds_both old mid new xs ys (inr d) (inr e) =
-    inr (e ∙ ap (λ (told : Option (List Opening)). append_openings told ys) d ∙ append_openings-twice old xs ys)
 
 -- all was written, or the link's count rose
 all_or_rose : (turns before after drawn : ℕ) (written drained : List ℕ) (e : End) (X : Type 0)
@@ -90,8 +74,10 @@ module _ (start : Core) (may : ℕ → Bool) (member : ℕ) (k0 : Knowledge Entr
         took = s.took ∙ ap (append_known w0.took) (sym (same written_in s.deeds d refl));
         all = subst (λ (p : List ℕ × List ℕ). Rose w0.faults w.faults ⊎ (p.0 ≡ p.1))
             (λ i. (sym (same written_in s.deeds d refl) i, sym (same drained_in s.deeds d refl) i)) s.all;
-        openings = subst (λ (os : List Opening). AddsOpenings w0.openings w.openings os)
+        openings = subst (λ (os : List Opening). AddsTold w0.openings w.openings os)
             (sym (same opened_in s.deeds d refl)) s.openings;
+        readings = tells_same w0.readings w.readings w.readings (flat_map readings_in s.deeds)
+            (flat_map readings_in (s.deeds ++ d ∷ [])) refl (same readings_in s.deeds d refl) s.readings;
         later = s.later;
       }
 
@@ -118,6 +104,7 @@ module _ (start : Core) (may : ℕ → Bool) (member : ℕ) (k0 : Knowledge Entr
     took = s.took;
     all = s.all;
     openings = s.openings;
+    readings = s.readings;
     later = s.later;
   }
 
@@ -138,10 +125,12 @@ module _ (start : Core) (may : ℕ → Bool) (member : ℕ) (k0 : Knowledge Entr
             (λ i. (sym (more written_in s.deeds d) i, sym (more drained_in s.deeds d) i))
             (both_written w0.faults w.faults new_link.faults (flat_map written_in s.deeds) []
             (flat_map drained_in s.deeds) [] s.later o.later s.all (inr refl));
-        openings = subst (λ (os : List Opening). AddsOpenings w0.openings new_link.openings os)
+        openings = subst (λ (os : List Opening). AddsTold w0.openings new_link.openings os)
             (sym (more opened_in s.deeds d))
-            (adds_both w0.openings w.openings new_link.openings (flat_map opened_in s.deeds) (answer ∷ []) s.openings
+            (tells_both w0.openings w.openings new_link.openings (flat_map opened_in s.deeds) (answer ∷ []) s.openings
             o.openings);
+        readings = tells_same w0.readings w.readings new_link.readings (flat_map readings_in s.deeds)
+            (flat_map readings_in (s.deeds ++ d ∷ [])) o.readings (same readings_in s.deeds d refl) s.readings;
         later = let p = s.later in let q = o.later in omega arith;
       }
 
@@ -169,10 +158,14 @@ module _ (start : Core) (may : ℕ → Bool) (member : ℕ) (k0 : Knowledge Entr
             (flat_map drained_in s.deeds) (drained_in d) s.later t.later s.all
             (all_or_rose turns w.faults new_link.faults new.drawn t.written (bytes_drained t.steps) e
             (IsCutOff member t.steps t.written) t.cause t.talk.all));
-        openings = subst (λ (os : List Opening). AddsOpenings w0.openings new_link.openings os)
+        openings = subst (λ (os : List Opening). AddsTold w0.openings new_link.openings os)
             (sym (same opened_in s.deeds d refl))
-            (subst (λ (known : Option (List Opening)). AddsOpenings w0.openings known (flat_map opened_in s.deeds))
+            (subst (λ (known : Option (List Opening)). AddsTold w0.openings known (flat_map opened_in s.deeds))
             (sym t.openings) s.openings);
+        readings = subst (λ (rs : List Reading). AddsTold w0.readings new_link.readings rs)
+            (sym (more readings_in s.deeds d))
+            (tells_both w0.readings w.readings new_link.readings (flat_map readings_in s.deeds) (read_answers t.steps)
+            s.readings t.readings);
         later = let p = s.later in let q = t.later in omega arith;
       }
 
@@ -208,12 +201,13 @@ serving_starts start may member k0 w0 = record {
   read = sym (prepend_known-none w0.left);
   took = sym (append_known-none w0.took);
   all = inr refl;
-  openings = inr (sym (append_openings-none w0.openings));
+  openings = tells_nothing w0.openings;
+  readings = tells_nothing w0.readings;
   later = omega arith;
 }
 
 module _ {B K : Type 0} (store : Store B K) (may : ℕ → Bool) (member : ℕ) (k0 : Knowledge Entry) (w0 : Wire) where
-  -- where all turns are drawn the serving is over
+  -- if all turns are drawn the serving is over
   pub full_on : (old new : Pass Entry) (w : Wire) (n : ℕ)
       → Serving (start_of store) may member k0 w0 Round.Asks (known old) w
       → Refused store old (refused.StoreFull n) new

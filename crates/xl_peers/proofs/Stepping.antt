@@ -10,6 +10,7 @@ use Rattle.xl_turns.specs.declared.view.Knowledge.{Knowledge}
 use Rattle.xl_links.specs.declared.link.LinkRead.{LinkRead}
 use Rattle.xl_links.specs.declared.link.LinkRead.TheVariants as read
 use Rattle.xl_links.specs.Links.{Wire, Reading, Reads, FitsRoom, bytes_of, reading_in}
+use Rattle.xl_links.specs.Tellings.{AddsTold}
 use Rattle.xl_core.specs.declared.event.CoreEvent.TheVariants.{Frame}
 use Rattle.xl_core.specs.Answers.{Answer, given_in}
 use Rattle.xl_core.specs.Core.{Core}
@@ -17,12 +18,12 @@ use Rattle.xl_core.specs.Queues.{joined}
 use Rattle.xl_store.specs.declared.entry.Entry.{Entry}
 use Rattle.xl_store.specs.Calls.{Call, Made}
 use Rattle.xl_store.proofs.Making.{made_both}
-use Rattle.xl_peers.specs.Steps.{Step, Called, Read, frame, call_in, read_in, drained_in, handed_in, handed_by, calls}
-use Rattle.xl_peers.specs.Steps.{bytes_read, bytes_drained, frames_handed, IsLast}
+use Rattle.xl_peers.specs.Steps.{Step, Called, Read, frame, call_in, read_in, readings_in, drained_in, handed_in, handed_by}
+use Rattle.xl_peers.specs.Steps.{calls, bytes_read, bytes_drained, frames_handed, read_answers, IsLast}
 use Rattle.xl_peers.specs.Sessions.{Phase, IsSession, HandsFirst, NeedsMore, after_read}
 use Rattle.xl_peers.specs.Sessions.Phase.{Asks, Hands}
 use Rattle.xl_peers.specs.Going.{AreBytes, SoFar, Sent}
-use Rattle.xl_peers.proofs.Growing.{append_known-twice, prepend_known-twice}
+use Rattle.xl_peers.proofs.Growing.{append_known-twice, prepend_known-twice, tells_both, tells_same}
 
 -- one step more
 pub more : {A : Type 0} (f : Step → List A) (steps : List Step) (s : Step)
@@ -104,6 +105,9 @@ module _ (start : Core) (may_give : ℕ → Bool) (member : ℕ) (k0 : Knowledge
         ∙ append_known-twice w0.took (bytes_drained s.steps) (joined (given_in c.answer))
         ∙ ap (append_known w0.took) (sym (more drained_in s.steps (Called c)));
     openings = sent.openings ∙ s.openings;
+    readings = tells_same w0.readings w.readings new_link.readings (read_answers s.steps)
+        (read_answers (s.steps ++ Called c ∷ [])) sent.readings
+        (more readings_in s.steps (Called c) ∙ append-nil (read_answers s.steps)) s.readings;
     later = let p = s.later in let q = sent.later in omega arith;
     first = first_stays s.steps (Called c) held refl none s.first;
     bytes = s.bytes;
@@ -141,6 +145,9 @@ module _ (start : Core) (may_give : ℕ → Bool) (member : ℕ) (k0 : Knowledge
         took = reads.took ∙ s.took
             ∙ ap (append_known w0.took) (sym (more drained_in s.steps (Read a) ∙ append-nil (bytes_drained s.steps)));
         openings = reads.openings ∙ s.openings;
+        readings = subst (λ (rs : List Reading). AddsTold w0.readings new_link.readings rs)
+            (sym (more readings_in s.steps (Read a)))
+            (tells_both w0.readings w.readings new_link.readings (read_answers s.steps) (a ∷ []) s.readings reads.readings);
         later = let p = s.later in let q = reads.later in omega arith;
         first = first_read s.steps a held s.first;
         bytes = fit;
@@ -178,6 +185,8 @@ module _ (start : Core) (may_give : ℕ → Bool) (member : ℕ) (k0 : Knowledge
             (sym (more drained_in s.steps step ∙ ap (λ l. bytes_drained s.steps ++ l) nothing
             ∙ append-nil (bytes_drained s.steps)));
         openings = s.openings;
+        readings = tells_same w0.readings w.readings w.readings (read_answers s.steps) (read_answers (s.steps ++ step ∷ [])) refl
+            (more readings_in s.steps step ∙ append-nil (read_answers s.steps)) s.readings;
         later = s.later;
         first = first;
         bytes = fit;
@@ -195,6 +204,7 @@ module _ (start : Core) (may_give : ℕ → Bool) (member : ℕ) (k0 : Knowledge
     read = s.read;
     took = s.took;
     openings = s.openings;
+    readings = s.readings;
     later = s.later;
     first = s.first;
     bytes = s.bytes;
@@ -213,6 +223,7 @@ module _ (start : Core) (may_give : ℕ → Bool) (member : ℕ) (k0 : Knowledge
     read = s.read;
     took = s.took;
     openings = s.openings;
+    readings = s.readings;
     later = s.later;
     first = s.first;
     bytes = s.bytes;

@@ -9,6 +9,7 @@ use Rattle.xl_turns.specs.declared.pass.Pass.{Pass}
 use Rattle.xl_turns.specs.Passes.{known}
 use Rattle.xl_wire.specs.Feeding.{Fed}
 use Rattle.xl_links.specs.Links.{Wire}
+use Rattle.xl_links.specs.Tellings.{AddsTold}
 use Rattle.xl_core.specs.declared.event.CoreEvent.TheVariants.{Frame}
 use Rattle.xl_core.specs.declared.refusal.Refusal.{Refusal}
 use Rattle.xl_core.specs.declared.taken.Taken.{Taken}
@@ -22,7 +23,7 @@ use Rattle.xl_store.specs.Calls.{Made}
 use Rattle.xl_store.specs.Stores.{start_of, turns_of, Called}
 use Rattle.xl_peers.specs.declared.ends.End.{End}
 use Rattle.xl_peers.specs.declared.ends.End.TheVariants as end
-use Rattle.xl_peers.specs.Steps.{Step, calls, bytes_read, bytes_drained}
+use Rattle.xl_peers.specs.Steps.{Step, calls, bytes_read, bytes_drained, read_answers}
 use Rattle.xl_peers.specs.Sessions.{Phase, IsSession, HandsFirst, NeedsMore, Session}
 use Rattle.xl_peers.specs.Sessions.Phase.{Asks, Reads, Hands, Drains}
 
@@ -38,6 +39,7 @@ pub record SoFar
   pub run : IsSession may_give member steps phase
   pub made : Made start old new (calls steps)
   pub drawn : old.drawn ≤ new.drawn
+  pub readings : AddsTold old_link.readings new_link.readings (read_answers steps)
   pub read : old_link.left ≡ prepend_known (bytes_read steps) new_link.left
   pub took : new_link.took ≡ append_known old_link.took (bytes_drained steps)
   pub openings : new_link.openings ≡ old_link.openings
@@ -65,6 +67,7 @@ pub record Sent (old : Wire) (bytes : List ℕ) (new : Wire) : Type 0 where
   pub took : new.took ≡ append_known old.took bytes
   pub left : new.left ≡ old.left
   pub openings : new.openings ≡ old.openings
+  pub readings : new.readings ≡ old.readings
   pub later : old.faults ≤ new.faults
 
 -- a front of them was

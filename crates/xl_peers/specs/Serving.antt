@@ -7,7 +7,8 @@ use Rattle.xl_base.specs.Faults.{Rose}
 use Rattle.xl_turns.specs.declared.view.Knowledge.{Knowledge}
 use Rattle.xl_links.specs.declared.link.Opening.{Opening}
 use Rattle.xl_links.specs.declared.link.Opening.TheVariants as opening
-use Rattle.xl_links.specs.Links.{Wire, AddsOpenings}
+use Rattle.xl_links.specs.Links.{Wire, Reading}
+use Rattle.xl_links.specs.Tellings.{AddsTold}
 use Rattle.xl_core.specs.declared.event.CoreEvent.TheVariants.{Stopped}
 use Rattle.xl_core.specs.Answers.{Told}
 use Rattle.xl_core.specs.Core.{Core}
@@ -17,7 +18,7 @@ use Rattle.xl_peers.specs.declared.ends.End.{End}
 use Rattle.xl_peers.specs.declared.ends.End.TheVariants as end
 use Rattle.xl_peers.specs.declared.ends.Served.{Served}
 use Rattle.xl_peers.specs.declared.ends.Served.TheVariants as served
-use Rattle.xl_peers.specs.Steps.{Step, calls, bytes_read, bytes_drained}
+use Rattle.xl_peers.specs.Steps.{Step, calls, bytes_read, bytes_drained, read_answers}
 use Rattle.xl_peers.specs.Sessions.{IsTalk}
 
 -- the store was asked whether the node is to stop; the link was opened; a session was held, of which these bytes were
@@ -46,6 +47,11 @@ abbrev pub written_in : Deed → List ℕ
 written_in (Asked answer) = []
 written_in (Opened answer) = []
 written_in (Talked steps written e) = written
+
+abbrev pub readings_in : Deed → List Reading
+readings_in (Asked answer) = []
+readings_in (Opened answer) = []
+readings_in (Talked steps written e) = read_answers steps
 
 abbrev pub opened_in : Deed → List Opening
 opened_in (Asked answer) = []
@@ -94,7 +100,7 @@ pub data IsServing (may_give : ℕ → Bool) (member : ℕ) : List Deed → Roun
 
 -- A pass's serving of a member, as far as it came, at a store that was opened with this core: its calls stand in the
 -- history at the places that the pass gained, and the link gave the bytes that were read, took those that were written,
--- and answered these openings. If its count didn't rise, all that was drained was written
+-- and answered these openings and these reads. If its count didn't rise, all that was drained was written
 pub record Serving
     (start : Core) (may_give : ℕ → Bool) (member : ℕ)
     (old : Knowledge Entry) (old_link : Wire) (round : Round) (new : Knowledge Entry) (new_link : Wire) : Type 0 where
@@ -105,7 +111,8 @@ pub record Serving
   pub read : old_link.left ≡ prepend_known (flat_map read_in deeds) new_link.left
   pub took : new_link.took ≡ append_known old_link.took (flat_map written_in deeds)
   pub all : Rose old_link.faults new_link.faults ⊎ (flat_map written_in deeds ≡ flat_map drained_in deeds)
-  pub openings : AddsOpenings old_link.openings new_link.openings (flat_map opened_in deeds)
+  pub openings : AddsTold old_link.openings new_link.openings (flat_map opened_in deeds)
+  pub readings : AddsTold old_link.readings new_link.readings (flat_map readings_in deeds)
   pub later : old_link.faults ≤ new_link.faults
 
 -- the last deed
@@ -129,7 +136,7 @@ pub record Serves
 
 -- the link was opened once, whatever that was answered
 abbrev pub IsOpened : Wire → Wire → Type 0
-IsOpened old new = (answer : Opening) × AddsOpenings old.openings new.openings (answer ∷ [])
+IsOpened old new = (answer : Opening) × AddsTold old.openings new.openings (answer ∷ [])
 
 -- it goes on, or is over
 abbrev pub Follows : Core → ℕ → (ℕ → Bool) → ℕ

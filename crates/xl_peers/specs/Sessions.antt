@@ -9,6 +9,7 @@ use Rattle.xl_wire.specs.Raws.{RawFrame, raw_bytes, IsRaw}
 use Rattle.xl_wire.specs.Heads.{Split, split_of}
 use Rattle.xl_turns.specs.declared.view.Knowledge.{Knowledge}
 use Rattle.xl_links.specs.Links.{Wire, Reading}
+use Rattle.xl_links.specs.Tellings.{AddsTold}
 use Rattle.xl_core.specs.Answers.{Answer}
 use Rattle.xl_core.specs.Core.{Core}
 use Rattle.xl_core.specs.Queues.{joined}
@@ -17,7 +18,7 @@ use Rattle.xl_store.specs.Calls.{Made}
 use Rattle.xl_peers.specs.declared.ends.End.{End}
 use Rattle.xl_peers.specs.declared.ends.End.TheVariants as end
 use Rattle.xl_peers.specs.Steps.{Step, Read, greet, stopped, drain, frame, calls, bytes_read, bytes_drained}
-use Rattle.xl_peers.specs.Steps.{frames_handed, IsLast}
+use Rattle.xl_peers.specs.Steps.{frames_handed, read_answers, IsLast}
 
 -- What was handed to the core are the first frames of the bytes read, each once and in order, and this is the rest
 pub record HandsFirst (steps : List Step) (rest : List ℕ) : Type 0 where
@@ -115,8 +116,8 @@ IsCause turns before after drawn end.OutOfMemory = Unit {0}
 IsCause turns before after drawn (end.StoreFull n) = (n ≡ turns) × (drawn ≡ turns)
 
 -- A whole session of a pass over a link, at a store that was opened with this core and has so many turns: its calls
--- stand in the history at the places that the pass gained, the link gave the bytes that were read and took those that
--- were written, and no call of it opened the link
+-- stand in the history at the places that the pass gained, its reads are those that the link answered, each once and in
+-- order, the link gave the bytes that were read and took those that were written, and no call of it opened the link
 pub record Session
     (start : Core) (turns : ℕ) (may_give : ℕ → Bool) (member : ℕ)
     (old : Knowledge Entry) (old_link : Wire) (e : End) (new : Knowledge Entry) (new_link : Wire) : Type 0 where
@@ -125,6 +126,7 @@ pub record Session
   pub talk : IsTalk may_give member steps written e
   pub made : Made start old new (calls steps)
   pub drawn : old.drawn ≤ new.drawn
+  pub readings : AddsTold old_link.readings new_link.readings (read_answers steps)
   pub read : old_link.left ≡ prepend_known (bytes_read steps) new_link.left
   pub took : new_link.took ≡ append_known old_link.took written
   pub openings : new_link.openings ≡ old_link.openings

@@ -37,6 +37,10 @@ abbrev pub read_in : Step → List ℕ
 read_in (Called call) = []
 read_in (Read reading) = bytes_of reading
 
+abbrev pub readings_in : Step → List Reading
+readings_in (Called call) = []
+readings_in (Read reading) = reading ∷ []
+
 abbrev pub drained_in : Step → List ℕ
 drained_in (Called call) = joined (given_in call.answer)
 drained_in (Read reading) = []
@@ -65,6 +69,10 @@ calls steps = flat_map call_in steps
 -- all bytes that its reads gave
 abbrev pub bytes_read : List Step → List ℕ
 bytes_read steps = flat_map read_in steps
+
+-- what its reads answered, in order
+abbrev pub read_answers : List Step → List Reading
+read_answers steps = flat_map readings_in steps
 
 -- all bytes that its drains gave
 abbrev pub bytes_drained : List Step → List ℕ

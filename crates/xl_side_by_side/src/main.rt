@@ -90,7 +90,9 @@ fn run<R: Threads + Wait + Sync>(
     let Ok(keeper) = MemKeeper::new(alloc, 0, Vec::new(alloc), Vec::new(alloc)) else {
         return Err(AllocError);
     };
-    let mut hub = MemHub::new(links, Vec::new(alloc));
+    let Ok(mut hub) = MemHub::new(alloc, links, Vec::new(alloc), 2) else {
+        return Err(AllocError);
+    };
     let ended = top(
         threads,
         alloc,

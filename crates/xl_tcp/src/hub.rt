@@ -10,7 +10,7 @@ use xl_base::NodeNo;
 use xl_io::Failed;
 use xl_links::{Hub, Way};
 
-/// A hub over the network. What its links will give isn't told.
+/// A hub over the network. What its links will give isn't told, nor which it was asked for.
 #[derive(Drop)]
 pub struct TcpHub<R> {
     alloc: Global,
@@ -44,10 +44,12 @@ where
 
     ghost gives = { λ _ _. None };
 
+    ghost asked = { λ _. None };
+
     ghost faults = { λ hub. hub.faults };
 
-    /// It fails where the address isn't an IP address and a port; where it is one to listen at that can't be bound, or
-    /// whose listener can't be set not to wait; and where memory is wanting for one more handle of the network.
+    /// It fails if the address isn't an IP address and a port, or is one to listen at that can't be bound or whose
+    /// listener can't be set not to wait. It also fails if memory runs out for one more handle of the network.
     fn open_link(&mut self, _member: NodeNo, way: Way) -> Result<TcpLink<R>, Failed> {
         match self.link(&way) {
             Ok(link) => Ok(link),

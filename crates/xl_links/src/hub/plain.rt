@@ -1,4 +1,4 @@
-ghost use Rattle.std.specs.Prelude.{◌≡◌, ℕ, Some};
+ghost use Rattle.std.specs.Prelude.{◌≡◌, ℕ, Some, None};
 ghost use Rattle.xl_links.specs.Hubs.{silent_wire};
 
 use crate::hub::{Hub, Way};
@@ -7,7 +7,8 @@ use std::alloc::Global;
 use xl_base::NodeNo;
 use xl_io::Failed;
 
-/// A hub in memory that never fails: its count of faults is 0. Its links are to members that say nothing.
+/// A hub in memory that never fails: its count of faults is 0. Its links are to members that say nothing. It tells
+/// nothing of what it is asked for.
 #[derive(Drop)]
 pub struct PlainHub {
     alloc: Global,
@@ -27,6 +28,8 @@ impl Hub for PlainHub {
     type L = PlainLink;
 
     ghost gives = { λ _ _. Some silent_wire };
+
+    ghost asked = { λ _. None };
 
     ghost faults = { λ _. 0 };
 

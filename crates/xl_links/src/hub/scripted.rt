@@ -3,62 +3,96 @@ ghost use Rattle.xl_links.specs.Hubs.{IsPlaceFor, first_for, without_first};
 
 use crate::hub::{Hub, Spare, Way};
 use crate::link::Link;
-use xl_base::NodeNo;
+use crate::told::Told;
+use std::alloc::Global;
+use xl_base::{NodeNo, OutOfMemory};
 use xl_io::Failed;
 
+/// A link that was asked for: to whom, and how the member is reached.
+#[derive(Debug, Drop)]
+pub struct Asked {
+    pub member: NodeNo,
+    pub way: Way,
+}
+
 /// A hub in memory with links of its own, and the calls that are to fail. A member's links are given in the order in
-/// which they stand here; where none is left for it, the call fails too.
+/// which they stand here; if none is left for it, the call fails too. The hub tells what it was asked for while there is
+/// room for that.
 #[derive(Drop)]
 pub struct MemHub<L> {
     spares: Vec<Spare<L>>,
     failing: Vec<u64>,
+    asked: Told<Asked>,
     calls: u64,
     faults: u64,
 }
 
-impl<L> MemHub<L> {
-    ghost use Rattle.xl_links.specs.Hubs.{hub_calls, hub_failing, hub_faults, spares_of};
+impl<L: Drop> MemHub<L> {
+    ghost use Rattle.std.specs.Prelude.{map, option_map, IfOk};
+    ghost use Rattle.xl_links.specs.Hubs.{hub_calls, hub_failing, hub_faults, list_of_asked, spares_of, target_of, targets_of};
+    ghost use Rattle.xl_links.specs.Tellings.{nothing_told};
 
-    /// A hub with these links, whose calls of these numbers, from 1, fail.
-    pub fn new(spares: Vec<Spare<L>>, failing: Vec<u64>) -> Self
-        ensures spares { spares_of result ≡ spares.items }
-        ensures failing { hub_failing result ≡ failing.items }
-        ensures calls { hub_calls result ≡ 0 }
-        ensures faults { hub_faults result ≡ 0 }
+    /// A hub with these links, whose calls of these numbers, from 1, fail, and with room to tell so many calls.
+    pub fn new(
+        alloc: Global,
+        spares: Vec<Spare<L>>,
+        failing: Vec<u64>,
+        room: usize,
+    ) -> Result<Self, OutOfMemory>
+        ensures spares { IfOk result (λ hub. spares_of hub ≡ spares.items) }
+        ensures failing { IfOk result (λ hub. hub_failing hub ≡ failing.items) }
+        ensures asked { IfOk result (λ hub. list_of_asked hub ≡ nothing_told room) }
+        ensures calls { IfOk result (λ hub. hub_calls hub ≡ 0) }
+        ensures faults { IfOk result (λ hub. hub_faults hub ≡ 0) }
     {
-        MemHub {
+        Ok(MemHub {
             spares,
             failing,
+            asked: Told::with_room(alloc, room)?,
             calls: 0,
             faults: 0,
-        }
+        })
+    }
+
+    /// What it was asked for, if that is told.
+    pub fn asked(&self) -> Option<&[Asked]>
+        ensures { option_map (λ asked. map target_of asked.now) result ≡ targets_of self.now }
+    {
+        self.asked.items()
     }
 }
 
 impl<L: Link + Send + Drop> Hub for MemHub<L> {
-    ghost use Rattle.std.specs.Prelude.{◌≢◌, ◌≤◌, ℕ, Some, None, false, IfOk, OnOk, OnErr, option_map};
+    ghost use Rattle.std.specs.Prelude.{◌≢◌, ◌≤◌, ℕ, [], ◌∷◌, Some, None, false, IfOk, OnOk, OnErr, option_map};
     ghost use Rattle.xl_base.specs.Counts.{one_more};
     ghost use Rattle.xl_base.specs.Faults.{Rose};
     ghost use Rattle.xl_links.specs.Hubs.{
       hub_calls,
       hub_failing,
       hub_faults,
+      list_of_asked,
       next_link_fails,
       spares_of,
+      targets_of,
     };
+    ghost use Rattle.xl_links.specs.Tellings.{AddsTold, with_told};
+    ghost use Rattle.xl_links.specs.Ways.{target};
 
     type L = L;
 
     ghost gives = { λ hub member. option_map L.shows (first_for (spares_of hub) member) };
 
+    ghost asked = { targets_of };
+
     ghost faults = { hub_faults };
 
-    fn open_link(&mut self, member: NodeNo, _way: Way) -> Result<L, Failed>
+    fn open_link(&mut self, member: NodeNo, way: Way) -> Result<L, Failed>
         ensures given { IfOk result (λ link. first_for (spares_of self.old) member ≡ Some link) }
         ensures taken { OnOk result (spares_of self.new ≡ without_first (spares_of self.old) member) }
         ensures kept { OnErr result (spares_of self.new ≡ spares_of self.old) }
         ensures others { (other : ℕ) → other ≢ member
             → first_for (spares_of self.new) other ≡ first_for (spares_of self.old) other }
+        ensures asked { AddsTold (targets_of self.old) (targets_of self.new) (target member way ∷ []) }
         ensures later { hub_faults self.old ≤ hub_faults self.new }
         ensures failed { OnErr result (Rose (hub_faults self.old) (hub_faults self.new)) }
 
@@ -67,7 +101,9 @@ impl<L: Link + Send + Drop> Hub for MemHub<L> {
         ensures none { OnErr result (next_link_fails self.old ≡ false → first_for (spares_of self.old) member ≡ None) }
         ensures calls { hub_calls self.new ≡ one_more (hub_calls self.old) }
         ensures failing { hub_failing self.new ≡ hub_failing self.old }
+        ensures list { list_of_asked self.new ≡ with_told (list_of_asked self.old) (record { member = member; way = way }) }
     {
+        self.asked.push(Asked { member, way });
         self.calls = self.calls.saturating_add(1);
         if self.failing.contains(&self.calls) {
             self.faults = self.faults.saturating_add(1);

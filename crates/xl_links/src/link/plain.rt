@@ -4,8 +4,8 @@ use crate::link::{Link, LinkRead, Opening};
 use std::alloc::Global;
 use xl_io::{Discard, Sink, Wrote};
 
-/// A link in memory that never fails: its count of faults is 0. It is open at once, a connection ends where no byte is
-/// left, and it takes what is written and tells nothing of it.
+/// A link in memory that never fails: its count of faults is 0. It is open at once, and a connection ends if no byte is
+/// left. It takes what is written, and tells nothing of that, nor of its openings and reads.
 #[derive(Drop)]
 pub struct PlainLink {
     bytes: Vec<u8>,
@@ -16,7 +16,7 @@ pub struct PlainLink {
 
 impl PlainLink {
     ghost use Rattle.std.specs.Prelude.{[]};
-    ghost use Rattle.xl_links.specs.Memory.{piece_of, plain_left, plain_piece};
+    ghost use Rattle.xl_links.specs.Memory.{piece_of, plain_given, plain_left, plain_piece};
 
     /// A link with these bytes to give, in pieces of at most `piece` bytes, 0 being read as 1.
     pub fn new(bytes: Vec<u8>, piece: usize) -> Self
@@ -37,6 +37,13 @@ impl PlainLink {
         Self::new(Vec::new(alloc), 1)
     }
 
+    /// How many bytes it gave.
+    pub(crate) fn given(&self) -> usize
+        ensures { result ≡ plain_given self.now }
+    {
+        self.given
+    }
+
     /// How long a piece is, of so many bytes that there are.
     pub(crate) fn piece_of(&self, bytes: usize) -> usize
         ensures { result ≡ piece_of (plain_piece self.now) bytes }
@@ -50,7 +57,7 @@ impl Link for PlainLink {
     ghost use Rattle.xl_links.specs.declared.link.LinkRead.TheVariants as read;
     ghost use Rattle.xl_links.specs.declared.script.Course.TheVariants as course;
     ghost use Rattle.xl_links.specs.Links.{Opens, Reads};
-    ghost use Rattle.xl_links.specs.Memory.{course_of, course_over, piece_of, plain_left, plain_piece, plain_wire};
+    ghost use Rattle.xl_links.specs.Memory.{course_of, course_over, piece_of, plain_bytes, plain_left, plain_piece, plain_wire};
 
     ghost shows = { plain_wire };
 
@@ -69,6 +76,7 @@ impl Link for PlainLink {
         ensures piece { (n : ℕ) → result ≡ read.Got n
             → n ≡ piece_of (plain_piece self.old) (min (length (plain_left self.old)) (length room.old)) }
         ensures kept { plain_piece self.new ≡ plain_piece self.old }
+        ensures bytes { plain_bytes self.new ≡ plain_bytes self.old }
     {
         let left = &self.bytes[self.given..];
         if left.is_empty() {

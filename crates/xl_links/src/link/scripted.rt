@@ -1,11 +1,12 @@
-ghost use Rattle.std.specs.Prelude.{◌≡◌, [], Some, IfOk, option_map};
-ghost use Rattle.xl_links.specs.Links.{Wire};
-ghost use Rattle.xl_links.specs.Openings.{no_openings};
+ghost use Rattle.std.specs.Prelude.{◌≡◌, ◌<◌, ℕ, [], Some, length, min, IfOk, option_map};
+ghost use Rattle.xl_links.specs.declared.link.LinkRead.TheVariants as read;
+ghost use Rattle.xl_links.specs.Links.{Reads};
+ghost use Rattle.xl_links.specs.Memory.{counted_wire, course_of, course_over, piece_of, plain_bytes, plain_left, plain_piece};
 
-use crate::link::openings::Openings;
 use crate::link::plain::PlainLink;
 use crate::link::{Link, LinkRead, Opening};
 use crate::script::{Course, LinkScript};
+use crate::told::Told;
 use std::alloc::Global;
 use xl_base::OutOfMemory;
 use xl_io::Wrote;
@@ -18,24 +19,33 @@ struct Calls {
     writes: u64,
 }
 
+/// What a read answered, and how many bytes were given before.
+#[derive(Clone, Copy, Debug, PartialEq, Eq)]
+struct Given {
+    answer: LinkRead,
+    from: usize,
+}
+
 /// A link in memory, and the calls that are to fail, to find no peer, to be idle or to end its connection. It tells its
-/// openings while there is room for them. A write also fails where memory is wanting.
+/// openings and its reads while there is room for them. A write also fails if memory runs out.
 #[derive(Drop)]
 pub struct MemLink {
     source: PlainLink,
     taken: Vec<u8>,
     script: LinkScript,
-    openings: Openings,
+    openings: Told<Opening>,
+    readings: Told<Given>,
     calls: Calls,
     faults: u64,
 }
 
 impl MemLink {
-    ghost use Rattle.xl_links.specs.Memory.{bytes_taken, calls_of, link_piece, list_of_openings, no_calls};
+    ghost use Rattle.xl_links.specs.Memory.{bytes_taken, calls_of, link_piece, list_of_openings, list_of_readings, no_calls};
     ghost use Rattle.xl_links.specs.Memory.{script_of, wire_of};
+    ghost use Rattle.xl_links.specs.Tellings.{nothing_told};
 
-    /// A link with these bytes to give, and with room to tell so many openings. Reads give and writes take at most
-    /// `piece` bytes, 0 being read as 1. Where no byte is left, a read that would give some ends the connection.
+    /// A link with these bytes to give, and with room to tell so many openings and as many reads. Reads give and writes
+    /// take at most `piece` bytes, 0 being read as 1. If no byte is left, a read that would give some ends the connection.
     pub fn new(
         alloc: Global,
         bytes: Vec<u8>,
@@ -46,7 +56,8 @@ impl MemLink {
         ensures left { IfOk result (λ link. (wire_of link).left ≡ Some bytes.items) }
         ensures piece { IfOk result (λ link. link_piece link ≡ piece) }
         ensures taken { IfOk result (λ link. bytes_taken link ≡ []) }
-        ensures openings { IfOk result (λ link. list_of_openings link ≡ no_openings room) }
+        ensures openings { IfOk result (λ link. list_of_openings link ≡ nothing_told room) }
+        ensures readings { IfOk result (λ link. list_of_readings link ≡ nothing_told room) }
         ensures faults { IfOk result (λ link. (wire_of link).faults ≡ 0) }
         ensures script { IfOk result (λ link. script_of link ≡ script) }
         ensures calls { IfOk result (λ link. calls_of link ≡ no_calls) }
@@ -55,7 +66,8 @@ impl MemLink {
             source: PlainLink::new(bytes, piece),
             taken: Vec::new(alloc),
             script,
-            openings: Openings::with_room(alloc, room)?,
+            openings: Told::with_room(alloc, room)?,
+            readings: Told::with_room(alloc, room)?,
             calls: Calls {
                 openings: 0,
                 reads: 0,
@@ -72,11 +84,11 @@ impl MemLink {
         &self.taken
     }
 
-    /// What all openings answered, where they are told.
+    /// What all openings answered, if they are told.
     pub fn openings(&self) -> Option<&[Opening]>
         ensures { option_map (λ answers. answers.now) result ≡ (wire_of self.now).openings }
     {
-        self.openings.told()
+        self.openings.items()
     }
 
     /// How often a call has failed.
@@ -88,27 +100,25 @@ impl MemLink {
 }
 
 impl Link for MemLink {
-    ghost use Rattle.std.specs.Prelude.{ℕ, ◌<◌, min, length, IsTrue};
-    ghost use Rattle.xl_links.specs.declared.link.LinkRead.TheVariants as read;
+    ghost use Rattle.std.specs.Prelude.{IsTrue};
     ghost use Rattle.xl_io.specs.declared.sink.Wrote.TheVariants as wrote;
-    ghost use Rattle.xl_links.specs.Links.{Opens, Reads, Writes};
+    ghost use Rattle.xl_links.specs.Links.{Opens, Writes, reading_in};
     ghost use Rattle.xl_links.specs.Memory.{
       bytes_left,
       calls_of,
-      course_of,
       link_piece,
       list_of_openings,
+      list_of_readings,
       next_course,
       next_opening,
       next_write_fails,
-      piece_of,
       script_of,
       wire_of,
       with_opening_call,
       with_read_call,
       with_write_call,
     };
-    ghost use Rattle.xl_links.specs.Openings.{with_opening};
+    ghost use Rattle.xl_links.specs.Tellings.{with_told};
 
     ghost shows = { wire_of };
 
@@ -117,7 +127,8 @@ impl Link for MemLink {
 
         // What the script makes of it.
         ensures answer { result ≡ next_opening self.old }
-        ensures list { list_of_openings self.new ≡ with_opening (list_of_openings self.old) result }
+        ensures list { list_of_openings self.new ≡ with_told (list_of_openings self.old) result }
+        ensures readings { list_of_readings self.new ≡ list_of_readings self.old }
         ensures calls { calls_of self.new ≡ with_opening_call (calls_of self.old) }
         ensures script { script_of self.new ≡ script_of self.old }
         ensures kept { link_piece self.new ≡ link_piece self.old }
@@ -140,20 +151,17 @@ impl Link for MemLink {
         ensures piece { (n : ℕ) → result ≡ read.Got n
             → n ≡ piece_of (link_piece self.old) (min (length (bytes_left self.old)) (length room.old)) }
         ensures list { list_of_openings self.new ≡ list_of_openings self.old }
+        ensures readings { list_of_readings self.new ≡ with_told (list_of_readings self.old) (reading_in room.new result) }
         ensures calls { calls_of self.new ≡ with_read_call (calls_of self.old) }
         ensures script { script_of self.new ≡ script_of self.old }
         ensures kept { link_piece self.new ≡ link_piece self.old }
     {
         self.calls.reads = self.calls.reads.saturating_add(1);
-        match self.script.course(self.calls.reads) {
-            Course::Gives => self.source.read(room),
-            Course::Idles => LinkRead::Idle,
-            Course::Ends => LinkRead::End,
-            Course::Fails => {
-                self.faults = self.faults.saturating_add(1);
-                LinkRead::Failed
-            }
-        }
+        let course = self.script.course(self.calls.reads);
+        let from = self.source.given();
+        let answer = read_by(course, &mut self.source, &mut self.faults, room);
+        self.readings.push(Given { answer, from });
+        answer
     }
 
     fn write(&mut self, piece: &[u8]) -> Wrote
@@ -163,6 +171,7 @@ impl Link for MemLink {
         ensures fails { IsTrue (next_write_fails self.old) → result ≡ wrote.Failed }
         ensures piece { (n : ℕ) → result ≡ wrote.Took n → n ≡ piece_of (link_piece self.old) (length piece.now) }
         ensures list { list_of_openings self.new ≡ list_of_openings self.old }
+        ensures readings { list_of_readings self.new ≡ list_of_readings self.old }
         ensures calls { calls_of self.new ≡ with_write_call (calls_of self.old) }
         ensures script { script_of self.new ≡ script_of self.old }
         ensures kept { link_piece self.new ≡ link_piece self.old }
@@ -176,5 +185,26 @@ impl Link for MemLink {
         }
         self.faults = self.faults.saturating_add(1);
         Wrote::Failed
+    }
+}
+
+/// A read that goes so.
+fn read_by(course: Course, source: &mut PlainLink, faults: &mut u64, room: &mut [u8]) -> LinkRead
+    ensures same { length room.new ≡ length room.old }
+    ensures read { Reads (counted_wire source.old faults.old) result room.new (counted_wire source.new faults.new) }
+    ensures course { 0 < length room.old → course_of result ≡ course_over (plain_left source.old) course }
+    ensures piece { (n : ℕ) → result ≡ read.Got n
+        → n ≡ piece_of (plain_piece source.old) (min (length (plain_left source.old)) (length room.old)) }
+    ensures kept { plain_piece source.new ≡ plain_piece source.old }
+    ensures bytes { plain_bytes source.new ≡ plain_bytes source.old }
+{
+    match course {
+        Course::Gives => source.read(room),
+        Course::Idles => LinkRead::Idle,
+        Course::Ends => LinkRead::End,
+        Course::Fails => {
+            *faults = faults.saturating_add(1);
+            LinkRead::Failed
+        }
     }
 }

@@ -1,7 +1,7 @@
 use Rattle.std.proofs.Common.{◌∷◌, [], sym, subst}
 use Rattle.xl_turns.specs.Passes.{known}
 use Rattle.xl_links.specs.declared.link.Opening.TheVariants as opening
-use Rattle.xl_links.specs.Links.{AddsOpenings}
+use Rattle.xl_links.specs.Tellings.{AddsTold}
 use Rattle.xl_store.specs.Stores.{start_of, turns_of}
 use Rattle.xl_peers.specs.Serving.{Follows}
 use Rattle.xl_peers.proofs.Rounds.{opened, talked_on}
@@ -31,7 +31,7 @@ returns-in-Failed-clause-follows g c k0 w0 s =
 pub returns-in-Open-clause-opened : goal.returns-in-Open-clause-opened
 returns-in-Open-clause-opened g c = (
   opening.Open,
-  subst (λ told. AddsOpenings (g.L.Link.shows c.args.link.now).openings told (opening.Open ∷ []))
+  subst (λ told. AddsTold (g.L.Link.shows c.args.link.now).openings told (opening.Open ∷ []))
       (sym c.talk-end.ensures.session.openings) c.in-Open.ensures.openings,
 )
 

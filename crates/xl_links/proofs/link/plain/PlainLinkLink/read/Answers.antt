@@ -1,4 +1,4 @@
-use Rattle.std.proofs.Common.{◌≡◌, Some, ap, arith, refl, length, take, drop}
+use Rattle.std.proofs.Common.{◌≡◌, Some, ap, arith, refl, inl, length, take, drop}
 use Rattle.std.proofs.lemmas.Grind.{common_steps}
 use Rattle.xl_io.proofs.Pieces.{front_and_rest}
 use Rattle.xl_links.proofs.link.plain.PlainLinkLink.read.Goals as goal
@@ -15,6 +15,7 @@ returns-clause-read c =
       left = ap Some (front_and_rest bytes c.args.room.now c.copy_from_slice.new.self given count same long);
       took = refl;
       openings = refl;
+      readings = inl refl;
       later = omega arith;
       failed = λ no. absurd cc;
     }
