@@ -1,20 +1,12 @@
-#!/usr/bin/env python3
-"""Counts the instructions of a SHA-2 block function in C, with its words in locals: what one of our own could take.
-
-The function is written and compiled in a temporary folder, its digest of the empty message is compared with Python's,
-and a block is the difference of two runs that are 1,000 blocks apart.
-usage: tools/measure_blocks [COMPILER ...]     needs valgrind and a C compiler; without names it takes cc
-"""
-import sys
-
-sys.dont_write_bytecode = True
-import command
-
+"""A SHA-2 block function in C, with its words in locals: what one of our own could take."""
 import hashlib
 import math
 import pathlib
 import subprocess
 import tempfile
+
+import command
+import counting
 
 PROGRAM = """
 #include <stdint.h>
@@ -72,43 +64,33 @@ def cube_root(number):
 
 
 def words_of(roots, bits):
-    return ", ".join(f"{root % 2**bits}u" + "ll" * (bits == 64) for root in roots)
+    return ', '.join('%du' % (root % 2**bits) + 'll' * (bits == 64) for root in roots)
 
 
 def program_of(form, steps):
-    bits = form["bits"]
+    bits = form['bits']
     return PROGRAM % dict(
         form,
         steps=words_of((cube_root(prime << 3 * bits) for prime in primes(steps)), bits),
         start=words_of((math.isqrt(prime << 2 * bits) for prime in primes(8)), bits),
-        rest=" ".join(f"EIGHT({at}, NEXT)" for at in range(16, steps, 8)),
+        rest=' '.join('EIGHT(%d, NEXT)' % at for at in range(16, steps, 8)),
     )
 
 
-def instructions(program, blocks, folder):
-    counts = folder / "counts"
-    words = ["valgrind", "--tool=callgrind", f"--callgrind-out-file={counts}", program, str(blocks)]
-    subprocess.run(words, check=True, capture_output=True)
-    return next(int(line.split()[1]) for line in counts.read_text().splitlines() if line.startswith("totals:"))
+def each(program):
+    """What a block takes: the difference of two runs that are 1,000 blocks apart."""
+    return (counting.instructions([str(program), '1100']) - counting.instructions([str(program), '100'])) // 1000
 
 
-def main():
-    if sys.argv[1:2] in (["--help"], ["-h"]):
-        print(__doc__.strip())
-        return
-    for compiler in sys.argv[1:] or ["cc"]:
-        for name, form, steps in ("sha256", SHA256, 64), ("sha512", SHA512, 80):
+def rows(compilers):
+    """A line for each hash and compiler. The digest of the empty message is compared with Python's first."""
+    for compiler in compilers or ['cc']:
+        for name, form, steps in ('sha256', SHA256, 64), ('sha512', SHA512, 80):
             with tempfile.TemporaryDirectory() as folder:
-                folder = pathlib.Path(folder)
-                source, program = folder / "block.c", folder / "block"
-                source.write_text(program_of(form, steps))
-                subprocess.run([compiler, "-O2", "-march=x86-64-v2", "-o", program, source], check=True)
-                digest = subprocess.run([program, "1"], check=True, capture_output=True, text=True).stdout
-                if digest != hashlib.new(name, b"").hexdigest():
-                    sys.exit(f"measure_blocks: {name} by {compiler} hashes nothing to {digest}")
-                more = instructions(program, 1100, folder) - instructions(program, 100, folder)
-                print(f"{name} by {compiler}: {more // 1000} instructions a block")
-
-
-if __name__ == "__main__":
-    command.run(main)
+                source, program = pathlib.Path(folder, 'block.c'), pathlib.Path(folder, 'block')
+                source.write_text(program_of(form, steps), encoding='utf-8')
+                subprocess.run([compiler, '-O2', '-march=x86-64-v2', '-o', program, source], check=True)
+                digest = subprocess.run([program, '1'], check=True, capture_output=True, text=True).stdout
+                if digest != hashlib.new(name, b'').hexdigest():
+                    command.stop('%s by %s hashes nothing to %s' % (name, compiler, digest), 1)
+                yield '%s by %s: %d instructions a block' % (name, compiler, each(program))

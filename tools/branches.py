@@ -1,0 +1,99 @@
+"""Tries by rounds, in which the nodes decide for themselves, and whether their reports stand on two branches.
+
+No message is forged and nobody lies in them: some of what is said is lost, and that is all. Two reports stand on two
+branches if the later ledger doesn't follow the earlier one. With one sequence that would be a fork; with two it isn't."""
+from dataclasses import dataclass
+
+FIRST_SECOND = 16  # before that no node's round has anything to close
+ROOT = 'root'
+HEARD, LOST = ['timers', 'all'], ['timers', 'drop']
+
+
+@dataclass(frozen=True)
+class Told:
+    """A line `full`: who reports which ledger of which sequence."""
+
+    node: str
+    sequence: int
+    ledger: str
+
+
+def told_in(report):
+    """The reports in order, and for each built ledger the one that it was built on."""
+    tips, parents, told = {}, {}, []
+    for word, node, *rest in (outcome for outcome in report.outcomes if outcome[0] in ('built', 'switched', 'full')):
+        sequence, ledger = rest[:2]
+        if word == 'full':
+            told.append(Told(node, int(sequence), ledger))
+            continue
+        if word == 'built':
+            parents.setdefault(ledger, tips.get(node, ROOT))
+        tips[node] = ledger
+    return told, parents
+
+
+def follows(parents, ledger, earlier):
+    while ledger != earlier and ledger in parents:
+        ledger = parents[ledger]
+    return ledger == earlier
+
+
+def two_branches(report):
+    """The first two reports of different sequences that stand on two branches, the lower one first; or None."""
+    told, parents = told_in(report)
+    for place, late in enumerate(told):
+        for early in told[:place]:
+            low, high = sorted((early, late), key=lambda it: it.sequence)
+            if low.sequence < high.sequence and not follows(parents, high.ledger, low.ledger):
+                return low, high
+    return None
+
+
+class Rounds:
+    """One schedule: transactions that some nodes are given, and then seconds. Each is a block of lines."""
+
+    def __init__(self, lists, dice, heading):
+        self.dice, self.nodes = dice, sorted(lists.network.nodes)
+        given = [line for line, number in zip(lists.lines, lists.numbers) if number or line.startswith('node')]
+        self.head = ['xl-schedule 1', '# ' + heading, *given]
+        self.lost, self.mute = dice.choice((0, 0.02, 0.1, 0.3)), dice.choice((0, 0, 0.1, 0.3))
+        self.blocks = [self.submits(number) for number in range(1, dice.choice((1, 1, 2)) + 1)]
+        start = FIRST_SECOND + (lists.moment // 1000 if lists.moment > 1000 else 0)
+        for second in range(start, start + dice.randint(8, 30)):
+            is_lost = second == start and dice.random() < 0.5
+            self.blocks.append(['at %d' % (1000 * second), *(LOST if is_lost else self.second())])
+
+    def submits(self, number):
+        given = self.dice.sample(self.nodes, self.dice.randint(1, len(self.nodes)))
+        return ['submit %d %064x' % (node, number) for node in sorted(given)]
+
+    def second(self):
+        """What is said in a second reaches all, or nobody, or some nodes' words are lost."""
+        if self.dice.random() < self.lost:
+            return LOST
+        lost = [node for node in self.nodes if self.dice.random() < self.mute]
+        heard = [node for node in self.nodes if node not in lost]
+        if not lost:
+            return HEARD
+        return [*('timer %d' % it for it in lost), 'drop', *('timer %d' % it for it in heard), 'all']
+
+    def text(self, blocks=None):
+        return '\n'.join(self.head + sum(self.blocks if blocks is None else blocks, [])) + '\n'
+
+
+def smaller(rounds, replay):
+    """The schedule without what isn't needed for its two branches: blocks, then lines of them, from the end on."""
+    blocks = [list(block) for block in rounds.blocks]
+    holds = lambda some: two_branches(replay(rounds.text(some))) is not None
+    for place in reversed(range(len(blocks))):
+        without = blocks[:place] + blocks[place + 1 :]
+        if holds(without):
+            blocks = without
+    for place in reversed(range(len(blocks))):
+        if blocks[place][1:] != HEARD and blocks[place][0].startswith('at '):
+            plain = blocks[:place] + [[blocks[place][0], *HEARD]] + blocks[place + 1 :]
+            blocks = plain if holds(plain) else blocks
+        for line in reversed(range(len(blocks[place]))):
+            without = blocks[:place] + [blocks[place][:line] + blocks[place][line + 1 :]] + blocks[place + 1 :]
+            blocks = without if holds(without) else blocks
+    return rounds.text(blocks)

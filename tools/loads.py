@@ -1,0 +1,98 @@
+"""The schedules whose cost tools/measure counts, each of a given length."""
+
+X = 'name x %064x' % 1
+ROUND_OF_FIVE = 25  # lines: five issues, and a delivery of each of their twenty frames
+
+
+def text_of(lines):
+    return '\n'.join(['xl-schedule 1', *lines, ''])
+
+
+def full_lists(count, quorum):
+    """So many nodes that all trust all of them."""
+    members = ','.join(map(str, range(1, count + 1)))
+    return ['node %d %d %s' % (node, quorum, members) for node in range(1, count + 1)]
+
+
+def rounds_of_five(lines, events):
+    """Five nodes with one list: in each round each issues once, and then twenty frames come, a line each."""
+    made = [X, *full_lists(5, 4)]
+    for number in range(lines // ROUND_OF_FIVE):
+        made += ['issue %d %d x full' % (node, number + 1) for node in range(1, 6)]
+        made += events(number)
+    return text_of(made)
+
+
+def issues(lines):
+    """Each frame is delivered once, in the order in which they were sent."""
+    return rounds_of_five(lines, lambda number: ['deliver %d' % (20 * number + it) for it in range(1, 21)])
+
+
+def raws(lines):
+    """In place of each delivery a frame comes that nobody sent, and whose tag is right."""
+    return rounds_of_five(lines, lambda number: [FORGED] * 20)
+
+
+def one_all(frames):
+    """Seven nodes issue again and again, and one `all` delivers so many frames."""
+    each = frames // 42
+    made = ['issue %d %d x full' % (node, number) for number in range(1, each + 1) for node in range(1, 8)]
+    return text_of([X, *full_lists(7, 5), *made, 'all'])
+
+
+def wide(rounds):
+    """64 nodes with full lists: in each round each issues, and one `all` delivers its 4,032 frames."""
+    made = []
+    for number in range(1, rounds + 1):
+        made += ['issue %d %d x full' % (node, number) for node in range(1, 65)] + ['all']
+    return text_of([X, *full_lists(64, 52), *made])
+
+
+def timer(lines):
+    """One node's timer, at one moment: the round is open, and nothing comes of it."""
+    return text_of([*full_lists(1, 1), *['timer 1'] * lines])
+
+
+def timers(lines):
+    """The timers of five nodes, at one moment."""
+    return text_of([*full_lists(5, 4), *['timers'] * lines])
+
+
+def comments(lines):
+    return text_of(['# nothing that the program reads'] * lines)
+
+
+def names(lines):
+    return text_of('name n%d %064x' % (number, number) for number in range(1, lines + 1))
+
+
+def two_with_a_liar(lines):
+    return text_of([X, 'liar 2', 'node 1 2 1,2', *lines])
+
+
+def lies(lines):
+    return two_with_a_liar('lie 2 1 validation %d x 1 full' % it for it in range(1, lines + 1))
+
+
+def cuts(lines):
+    """An issue that is cut off behind its save, so that the node is opened anew."""
+    return two_with_a_liar('cut new issue 1 %d x full' % it for it in range(1, lines + 1))
+
+
+def restarts(lines):
+    return two_with_a_liar(['restart 1'] * lines)
+
+
+def submits(lines):
+    """One of five nodes is given a transaction, and `all` delivers it: two lines each."""
+    made = []
+    for number in range(1, lines // 2 + 1):
+        made += ['submit 1 %064x' % number, 'all']
+    return text_of([*full_lists(5, 4), *made])
+
+
+# a validation of x by member 2 for member 1, version 1, with its tag
+FORGED = (
+    'raw 1 584c01020029000000020000000111111111111111111111111111111111111111111111111111111111111111110000000100000001'
+    '01e2f42a741c9932e22fc36d6ff3c5ec1335bdd86d943bd377179ccd73889cfb74'
+)
