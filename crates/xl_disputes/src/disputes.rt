@@ -180,8 +180,8 @@ impl Disputes {
     }
 
     /// Decides each transaction of the counted sets by its votes, once `percent` percent of the previous round's time
-    /// have passed, and takes those that win as our own set, the 256 lowest if there are more. All votes are decided
-    /// on the same counts. Returns whether our set changed.
+    /// have passed. Those that win become our own set, the 256 lowest if there are more. All votes are decided on the
+    /// same counts. Returns whether our set changed.
     pub fn update(&mut self, percent: u64, proposing: bool) -> bool
         ensures changed { IsTrue result ↔ (next_set self.old percent proposing ≢ self.old.own) }
         ensures same { IsFalse result ↔ (next_set self.old percent proposing ≡ self.old.own) }

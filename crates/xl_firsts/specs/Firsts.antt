@@ -22,7 +22,7 @@ abbrev pub or_one : (ℕ → ℕ → Bool) → Option ℕ → ℕ → ℕ
 or_one before None m = m
 or_one before (Some first) m = if before m first then m else first
 
--- what is kept of the numbers that were seen: it is one of them and comes before each other; none where none was seen
+-- what is kept of the numbers that were seen: it is one of them and comes before each other; none if none was seen
 abbrev pub IsFirst : (ℕ → ℕ → Bool) → List ℕ → Option ℕ → Type 0
 IsFirst before seen None = seen ≡ []
 IsFirst before seen (Some first) = IsTrue (is_on seen first) × IsTrue (leads before first seen)

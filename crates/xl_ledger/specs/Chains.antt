@@ -38,7 +38,7 @@ id_at ledgers place = slice_index_or (ids ledgers) place root_id
 abbrev pub seq_at : List Header → ℕ → ℕ
 seq_at ledgers place = (header_at ledgers place).seq
 
--- the ledger of an id, where one is known
+-- the ledger of an id, if one is known
 abbrev pub place_of : List Header → LedgerId → Option ℕ
 place_of ledgers id = position (same_id id) (ids ledgers)
 
@@ -49,7 +49,7 @@ parent_of ledgers place = if place == 0 then None else place_of ledgers (header_
 abbrev pub above : List Header → ℕ → ℕ
 above ledgers place = unwrap_or (parent_of ledgers place) 0
 
--- the ledger, and so many above it, the highest first
+-- the ledger, and this many above it, the highest first
 abbrev pub lineage : List Header → ℕ → ℕ → List ℕ
 lineage ledgers zero place = place ∷ []
 lineage ledgers (suc n) place = lineage ledgers n (above ledgers place) ++ place ∷ []
@@ -58,7 +58,7 @@ lineage ledgers (suc n) place = lineage ledgers n (above ledgers place) ++ place
 abbrev pub chain : List Header → ℕ → List ℕ
 chain ledgers place = lineage ledgers (seq_at ledgers place) place
 
--- the last element of the longest front that two lists share, or another value where there is none
+-- the last element of the longest front that two lists share, or another value if there is none
 abbrev pub last_common : ℕ → List ℕ → List ℕ → ℕ
 last_common last [] ys = last
 last_common last (x ∷ xs) [] = last

@@ -10,7 +10,7 @@ use Rattle.xl_ledger.specs.Chains.{root_id, ids, AreLedgers}
 use Rattle.xl_ledger.specs.Jumps.{AreJumps}
 use Rattle.xl_ledger.specs.Limits.{least_limit, greatest_limit}
 
--- the bucket of an id, of so many
+-- the bucket of an id, of this many
 abbrev pub bucket_of : ℕ → LedgerId → ℕ
 bucket_of buckets id = big_number 4 id.0 % buckets
 

@@ -15,7 +15,7 @@ use xl_base::{NodeNo, OutOfMemory, Seq};
 pub trait Branch: Sized {
     ghost JUMPS: { Option ℕ };
 
-    /// At most so many steps a call of `preferred` takes, where that is known.
+    /// At most this many steps a call of `preferred` takes, if that is known.
     const JUMPS: Option<u64>;
 
     /// The votes that stand.
@@ -65,7 +65,7 @@ pub trait Branch: Sized {
         requires known { ledger < length registry.now.headers }
         ensures { result ≡ branch_of registry.now.headers (votes self.now) ledger };
 
-    /// The ledger that the votes prefer, or None exactly where there are none. It is the root, or the end of the way
+    /// The ledger that the votes prefer, or None exactly if there are none. It is the root, or the end of the way
     /// from there to the best child, again and again, as long as that one's margin exceeds the uncommitted votes.
     fn preferred(&self, walk: &mut Walk<'_>, largest: Seq) -> Option<LedgerNo>
         requires { goes_with self.now walk.old.ledgers.headers }

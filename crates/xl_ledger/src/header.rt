@@ -119,7 +119,7 @@ pub fn root_header() -> Header
 
 /// The header of the ledger that follows the parent by the set that was agreed on.
 ///
-/// The close time is handed in as it is to stand. Where there was no agreement on one, it is 0: the ledger then closes
+/// The close time is handed in as it is to stand. If there was no agreement on one, it is 0: the ledger then closes
 /// a second after its parent, and its flags say so.
 pub fn build_next(
     parent_id: LedgerId,

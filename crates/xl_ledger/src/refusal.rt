@@ -3,7 +3,7 @@ ghost use Rattle.xl_ledger.specs.Codes.{code_of};
 
 use xl_base::{LedgerId, Seq};
 
-/// Why a header isn't added. The causes are tested in this order, and the first that holds is told.
+/// Why a header isn't added. The causes are tested in this order, and the first that holds is answered.
 #[derive(Clone, Copy, Debug, PartialEq, Eq)]
 pub enum AddRefusal {
     /// A ledger of this id is known.

@@ -86,10 +86,10 @@ impl Registry {
 
     /// Adds the ledger of a header, and tells its place.
     ///
-    /// Refused as known, as an orphan, for its sequence, or for want of room, in this order; the registry then stays.
+    /// Refused as known, as an orphan, for its sequence, or for lack of room, in this order; the registry then stays.
     pub fn add(&mut self, h: &Header) -> Result<LedgerNo, AddRefusal>
         ensures exact { result ≡ unless_refused (add_refusal self.old h.now) (length self.old.headers) }
-        // It is added exactly where it joins the known ledgers and there is room.
+        // It is added exactly if it joins the known ledgers and there is room.
         ensures joins { IsOk result ↔ (Joins self.old.headers h.now × (length self.old.headers < self.old.limit)) }
         ensures added { OnOk result (self.new ≡ with_header self.old h.now) }
         ensures refused { OnErr result (self.new ≡ self.old) }
@@ -113,7 +113,7 @@ impl Registry {
         Ok(self.push(h, *id, parent))
     }
 
-    /// The id of the ledger that was added last, where it has this header.
+    /// The id of the ledger that was added last, if it has this header.
     fn id_if_newest(&self, h: &Header) -> Option<LedgerId>
         ensures { IfSome result (λ id. (id ≡ header_id h.now) × IsSome (place_of self.now.headers id)) }
     {
@@ -174,7 +174,7 @@ impl Registry {
         place
     }
 
-    /// The ledger of an id, or None where none is known.
+    /// The ledger of an id, or None if none is known.
     pub fn find(&self, id: &LedgerId) -> Option<LedgerNo>
         ensures { result ≡ place_of self.now.headers id.now }
     {
@@ -211,7 +211,7 @@ impl Registry {
         &self.ledgers[ledger.place()].header
     }
 
-    /// The ledger `2 ^ level` places up, or the root where so many aren't there.
+    /// The ledger `2 ^ level` places up, or the root if that many aren't there.
     pub(crate) fn jump(&self, ledger: LedgerNo, level: u32) -> LedgerNo
         requires known { ledger < length self.now.headers }
         requires level { level < levels }

@@ -9,7 +9,7 @@ use byteorder::{BigEndian, ByteOrder};
 use std::alloc::{AllocError, Global};
 use xl_base::LedgerId;
 
-/// So many buckets that lead to no ledger.
+/// This many buckets that lead to no ledger.
 pub(crate) fn empty_table(alloc: Global, buckets: u32) -> Result<Vec<Link>, AllocError>
     ensures { IfOk result (λ table. table.items ≡ replicate buckets None) }
 {

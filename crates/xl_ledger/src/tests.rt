@@ -86,7 +86,7 @@ fn walks_along_two_chains(rt: HostRuntime) -> Result<(), Fail> {
     Ok(())
 }
 
-/// Adds so many ledgers, each above the one before, and tells the last.
+/// Adds this many ledgers, each above the one before, and tells the last.
 fn grow(
     registry: &mut Registry,
     from: LedgerNo,

@@ -35,7 +35,7 @@ impl List {
     /// The list of these members, in whatever order they are given, and this quorum.
     ///
     /// Refused as empty, as too many, for a number outside 1 to 64, for a repeated one, or for the quorum, in this
-    /// order; the number that a refusal names is the first such one in the given order.
+    /// order. The number that a refusal names is the first such one in the given order.
     pub fn new(members: &[u32], quorum: u32) -> Result<List, ListRefusal>
         ensures { result ≡ list_of members.now quorum }
     {

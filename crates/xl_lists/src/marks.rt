@@ -1,5 +1,5 @@
 ghost use Rattle.std.specs.Prelude.{◌≡◌, ◌==◌, ◌||◌, ◌≤◌, ℕ, [], length, take};
-ghost use Rattle.xl_base.specs.declared.node_no.TheConstants.{GREATEST_NODE_NO};
+ghost use Rattle.xl_base.specs.Members.{greatest_node_no};
 ghost use Rattle.xl_lists.specs.Marks.{is_marked, marked, AreMarked};
 
 use xl_base::{GREATEST_NODE_NO, MOST_MEMBERS, NodeNo};
@@ -60,7 +60,7 @@ impl Marks {
 }
 
 fn member_of(number: u32) -> NodeNo
-    requires { (1 ≤ number) × (number ≤ GREATEST_NODE_NO) }
+    requires { (1 ≤ number) × (number ≤ greatest_node_no) }
     ensures { result ≡ number }
 {
     NodeNo::new(number).unwrap()

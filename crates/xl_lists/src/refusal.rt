@@ -1,7 +1,7 @@
 ghost use Rattle.std.specs.Prelude.{◌≡◌};
 ghost use Rattle.xl_lists.specs.Lists.{code_of};
 
-/// Why numbers and a quorum are no list. The causes are tested in this order, and the first that holds is told.
+/// Why numbers and a quorum are no list. The causes are tested in this order, and the first that holds is answered.
 #[derive(Clone, Copy, Debug, PartialEq, Eq)]
 pub enum ListRefusal {
     /// There are no members.

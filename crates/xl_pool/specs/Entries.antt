@@ -6,7 +6,7 @@ use Rattle.xl_pool.specs.declared.entry.Entry.{Entry}
 use Rattle.xl_pool.specs.declared.entry.Content.{Content}
 use Rattle.xl_pool.specs.declared.entry.Content.TheVariants.{Free, Held}
 
--- from this slot on so many free slots each lead to the next, and the last one to the end
+-- from this slot on this many free slots each lead to the next, and the last one to the end
 abbrev pub IsFreeList : List (Option ℕ) → ℕ → ℕ → Type 0
 IsFreeList links zero slot = slot ≡ length links
 IsFreeList links (suc count) slot =

@@ -19,7 +19,7 @@ until_in bytes = big_number 4 (drop 15 bytes)
 abbrev pub count_in : List ℕ → ℕ
 count_in bytes = big_number 2 (drop 19 bytes)
 
--- so many numbers of four bytes that the bytes begin with
+-- this many numbers of four bytes that the bytes begin with
 abbrev pub numbers_in : ℕ → List ℕ → List ℕ
 numbers_in zero bytes = []
 numbers_in (suc count) bytes = big_number 4 bytes ∷ numbers_in count (drop 4 bytes)

@@ -22,7 +22,7 @@ abbrev pub stands_for : ℕ → ℕ → Option (List ℕ) → Bool
 stands_for now member None = false
 stands_for now member (Some roll) = is_in_force now roll && is_on (members_in roll) member
 
--- whether so many publishers have
+-- whether this many publishers have
 abbrev pub is_supported : List (Option (List ℕ)) → ℕ → ℕ → ℕ → Bool
 is_supported kept now threshold member = nat_le threshold (count_by (stands_for now member) kept)
 
@@ -34,10 +34,10 @@ members_at kept now threshold = filter (is_supported kept now threshold) all_num
 abbrev pub usual_list : List ℕ → TrustedList
 usual_list members = record { members = members; quorum = (4 * length members + 4) / 5 }
 
--- where there are any
+-- if there are any
 abbrev pub list_of : List ℕ → Option TrustedList
 list_of members = if length members == 0 then None else Some (usual_list members)
 
--- the list in force: none where no member is, or the threshold is 0
+-- the list in force: none if no member is, or the threshold is 0
 abbrev pub list_at : List (Option (List ℕ)) → ℕ → ℕ → Option TrustedList
 list_at kept now threshold = if threshold == 0 then None else list_of (members_at kept now threshold)

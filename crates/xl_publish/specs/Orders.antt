@@ -7,7 +7,7 @@ use Rattle.xl_publish.specs.Fields.{seq_in}
 abbrev pub is_below : List ℕ → List ℕ → Bool
 is_below a b = if seq_in a == seq_in b then comes_before a b else nat_lt (seq_in a) (seq_in b)
 
--- the greater of a roll and the one before it, where there is one
+-- the greater of a roll and the one before it, if there is one
 abbrev pub greater : Option (List ℕ) → List ℕ → List ℕ
 greater None roll = roll
 greater (Some before) roll = if is_below before roll then roll else before

@@ -19,7 +19,7 @@ said_bytes r =
 abbrev pub roll_bytes : List ℕ → Roll → List ℕ
 roll_bytes key r = said_bytes r ++ mac key (said_bytes r)
 
--- how many bytes a roll of so many members has
+-- how many bytes a roll of this many members has
 abbrev pub length_of : ℕ → ℕ
 length_of count = 53 + 4 * count
 

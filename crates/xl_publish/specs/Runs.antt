@@ -24,7 +24,7 @@ after_from register (act ∷ acts) = after_from (after_act register act) acts
 abbrev pub after : List Act → Register
 after acts = after_from no_publishers acts
 
--- the roll of an act, where it is taken
+-- the roll of an act, if it is taken
 abbrev pub taken_at : Register → Act → List (List ℕ)
 taken_at register (Key publisher key) = []
 taken_at register (Rolled bytes) = if is_none (refusal_of register.keys bytes) then bytes ∷ [] else []

@@ -1,5 +1,5 @@
 ghost use Rattle.std.specs.Prelude.{◌≡◌, ◌≤◌, ◌<◌, ◌++◌, ◌∷◌, [], length};
-ghost use Rattle.xl_base.specs.declared.node_no.TheConstants.{MOST_MEMBERS};
+ghost use Rattle.xl_base.specs.Members.{most_members};
 
 use std::marker::Model;
 use xl_base::MOST_MEMBERS;
@@ -14,19 +14,19 @@ pub struct RollMembers {
 
 impl Model for RollMembers {
     ghost use Rattle.std.specs.Prelude.{◌≤◌, ℕ, List, take};
-    ghost use Rattle.xl_base.specs.declared.node_no.TheConstants.{MOST_MEMBERS};
+    ghost use Rattle.xl_base.specs.Members.{most_members};
 
     ghost Value = { List ℕ };
 
     ghost view = { λ m. take m.len m.places };
 
-    ghost invariant = { λ m. m.len ≤ MOST_MEMBERS };
+    ghost invariant = { λ m. m.len ≤ most_members };
 }
 
 impl RollMembers {
     /// These numbers.
     pub fn of(numbers: &[u32]) -> RollMembers
-        requires { length numbers.now ≤ MOST_MEMBERS }
+        requires { length numbers.now ≤ most_members }
         ensures { result ≡ numbers.now }
     {
         let mut places = [0; MOST_MEMBERS];
@@ -49,7 +49,7 @@ impl RollMembers {
 
     /// One number more.
     pub(crate) fn push(&mut self, number: u32)
-        requires { length self.old < MOST_MEMBERS }
+        requires { length self.old < most_members }
         ensures { self.new ≡ self.old ++ number ∷ [] }
     {
         self.places[self.len] = number;
@@ -58,7 +58,7 @@ impl RollMembers {
 
     pub fn as_slice(&self) -> &[u32]
         ensures value { result.now ≡ self.now }
-        ensures few { length result.now ≤ MOST_MEMBERS }
+        ensures few { length result.now ≤ most_members }
     {
         &self.places[..self.len]
     }

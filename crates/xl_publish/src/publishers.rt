@@ -1,6 +1,6 @@
 ghost use Rattle.std.specs.Prelude.{◌≡◌, ◌↔◌, ◌≤◌, ◌-◌, IfNone, OnSome, is_some, IsOk, count_by, SomeIff, if◌then◌else◌};
 ghost use Rattle.xl_publish.specs.Fields.{publisher_in, seq_in, roll_in, IsShaped};
-ghost use Rattle.xl_base.specs.declared.node_no.TheConstants.{GREATEST_NODE_NO};
+ghost use Rattle.xl_base.specs.Members.{greatest_node_no};
 ghost use Rattle.xl_publish.specs.Forces.{is_named, is_supported, list_of, list_at, members_at, names_in, stands_for};
 ghost use Rattle.xl_publish.specs.Refusing.{refusal_of, tag_refusal, IsPublisher, IsRight};
 ghost use Rattle.xl_publish.specs.declared.roll.Roll.{Roll};
@@ -22,7 +22,7 @@ use xl_base::{GREATEST_NODE_NO, NodeNo, Secs};
 use xl_lists::{List, default_quorum};
 use xl_tags::{hmac, is_same_tag};
 
-/// There are at most so many publishers, one for each number.
+/// There are at most this many publishers, one for each number.
 const MOST_PUBLISHERS: usize = GREATEST_PUBLISHER as usize;
 
 /// What became of a roll that isn't refused.
@@ -87,7 +87,7 @@ impl Publishers {
     }
 
     /// Takes a roll. It is kept where it is above its publisher's kept roll, by its sequence and then by its bytes, or
-    /// where there is none.
+    /// if there is none.
     ///
     /// Refused for the mark, the version, the count, as too short, as too long, for an unknown publisher, for the tag,
     /// for a member, or for the seconds, in this order.
@@ -103,8 +103,8 @@ impl Publishers {
         self.judge(bytes)
     }
 
-    /// The list in force at a second: the members that at least so many publishers' kept rolls name then, with the
-    /// usual quorum. There is none exactly where no member is, or the threshold is 0.
+    /// The list in force at a second: the members that at least this many publishers' kept rolls name then, with the
+    /// usual quorum. There is none exactly if no member is, or the threshold is 0.
     pub fn list_at(&self, now: Secs, threshold: u32) -> Option<List>
         ensures value { result ≡ list_at self.now.kept now threshold }
         // Where the same rolls were taken, in whatever order and however often, the same list is in force.
@@ -212,7 +212,7 @@ impl Publishers {
         members
     }
 
-    /// Whether at least so many publishers stand for the member.
+    /// Whether at least this many publishers stand for the member.
     fn supports(&self, member: NodeNo, now: Secs, threshold: u32) -> bool
         ensures { result ≡ is_supported self.now.kept now threshold member }
     {
@@ -295,7 +295,7 @@ fn stands_for(kept: &Option<KeptRoll>, member: NodeNo, now: Secs) -> bool
     }
 }
 
-/// The list of rising members with the usual quorum, where there are any.
+/// The list of rising members with the usual quorum, if there are any.
 fn usual_list(members: &[u32]) -> Option<List>
     requires { RisesFrom 0 members.now }
     ensures { result ≡ list_of members.now }
@@ -309,7 +309,7 @@ fn usual_list(members: &[u32]) -> Option<List>
 /// The member of a number that one may have.
 fn member(number: u32) -> NodeNo
     requires least { 1 ≤ number }
-    requires greatest { number ≤ GREATEST_NODE_NO }
+    requires greatest { number ≤ greatest_node_no }
     ensures { result ≡ number }
 {
     NodeNo::new(number).unwrap()

@@ -3,18 +3,18 @@ ghost use Rattle.xl_publish.specs.Codes.{code_of};
 
 use xl_base::Secs;
 
-/// Why bytes aren't taken as a roll. The causes are tested in this order, and the first that holds is told.
+/// Why bytes aren't taken as a roll. The causes are tested in this order, and the first that holds is answered.
 #[derive(Clone, Copy, Debug, PartialEq, Eq)]
 pub enum RollRefusal {
     /// The byte at this place, 0 or 1, is the first that isn't the mark's.
     Magic(usize),
     /// Another version than 1.
     Version(u8),
-    /// So many members are counted, none or above 64.
+    /// This many members are counted, none or above 64.
     Count(u16),
-    /// So many bytes lack: up to the end of the count, and once that is there up to the end of the roll.
+    /// This many bytes lack: up to the end of the count, and once that is there up to the end of the roll.
     Short(usize),
-    /// So many bytes follow the roll.
+    /// This many bytes follow the roll.
     Long(usize),
     /// The publisher of this number has no key.
     Unknown(u32),

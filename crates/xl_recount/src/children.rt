@@ -68,7 +68,7 @@ fn is_child(child: &Option<LedgerNo>, ledger: LedgerNo) -> bool
     }
 }
 
-/// The best so far, where one more vote is counted.
+/// The best so far, if one more vote is counted.
 fn better(
     walk: &Walk<'_>,
     children: &[Option<LedgerNo>],
@@ -95,7 +95,7 @@ fn better(
     }
 }
 
-/// The child that ranks above each other, but for the one that is left out.
+/// The child that ranks above each other, except the one that is left out.
 pub(crate) fn best_child(
     walk: &Walk<'_>,
     children: &[Option<LedgerNo>],
@@ -113,7 +113,7 @@ pub(crate) fn best_child(
     best
 }
 
-/// By how many votes the best is ahead of the second, with one more where it has the greater id.
+/// By how many votes the best is ahead of the second, with one more if it has the greater id.
 pub(crate) fn margin(
     walk: &Walk<'_>,
     children: &[Option<LedgerNo>],

@@ -35,7 +35,7 @@ pub record AreKept (marks : ℕ) (proposals : List (Option Proposal)) : Type 0 w
   pub places : length proposals ≡ 64
   pub unmarked : (i : ℕ) → i < 64 → bit_at marks i ≡ 0 → slice_index_or proposals i None ≡ None
 
--- a place for each member, so many positions in them, and the disputes know the sets that the positions name
+-- a place for each member, this many positions in them, and the disputes know the sets that the positions name
 pub record AreNamed (members : List (Option Proposal)) (count : ℕ) (named : List (Option SetId)) : Type 0 where
   pub places : length members ≡ 64
   pub counted : count ≡ count_by is_some members

@@ -6,7 +6,7 @@ use xl_base::Millis;
 /// No consensus is found before this time.
 pub(crate) const LEAST_MS: Millis = 1_950;
 
-/// So many percent make a consensus.
+/// This many percent make a consensus.
 const CONSENSUS_PERCENT: u64 = 80;
 
 /// What says whether there is consensus.

@@ -9,7 +9,7 @@ use xl_base::{LedgerId, NodeNo, Secs, TxId};
 pub enum RoundRefusal {
     /// The transaction is pending.
     Pending(TxId),
-    /// So many transactions are pending, as many as may be.
+    /// This many transactions are pending, as many as may be.
     PoolFull(u32),
     /// The proposal builds on another ledger than ours, which is given, and on one that is known and not later than
     /// ours.

@@ -1,7 +1,7 @@
 ghost use Rattle.std.specs.Prelude.{◌≡◌, ◌<◌, ◌≤◌, ◌/◌, length, IsSome, IfSome, IfOk, OnOk, OnErr};
 ghost use Rattle.std.specs.Result.{result_err};
 ghost use Rattle.xl_base.specs.Sets.{set_id_of, IsSet};
-ghost use Rattle.xl_base.specs.declared.moments.TheConstants.{GREATEST_MILLIS};
+ghost use Rattle.xl_base.specs.Moments.{greatest_millis};
 ghost use Rattle.xl_closetime.specs.Resolutions.{IsResolution};
 ghost use Rattle.xl_rounds.specs.Pending.{submit_refusal};
 ghost use Rattle.xl_rounds.specs.Rounds.{
@@ -195,7 +195,7 @@ impl Round {
     /// The position by which a proposing node leaves the round in the phase establish, or None. The round stays as it
     /// is.
     pub fn leave(&mut self, now: Millis) -> Option<Proposal>
-        requires { now ≤ GREATEST_MILLIS }
+        requires { now ≤ greatest_millis }
         ensures answer { result ≡ leave_of now self.old }
         ensures same { self.new ≡ self.old }
     {
@@ -207,7 +207,7 @@ impl Round {
     }
 
     fn bow_out(&self, now: Millis) -> Proposal
-        requires { now ≤ GREATEST_MILLIS }
+        requires { now ≤ greatest_millis }
         ensures { result ≡ bow_out now self.now }
     {
         let mut position = self.our_position();

@@ -4,9 +4,8 @@ use Rattle.std.specs.Option.{unwrap_or}
 use Rattle.std.specs.Result.{result_ok, is_ok}
 use Rattle.std.proofs.lemmas.Bool.{false≢true}
 use Rattle.std.proofs.lemmas.List.{at_drop_more, at_drop_all}
-use Rattle.xl_base.specs.Sets.{IsRising, RisesFrom, IsSet}
+use Rattle.xl_base.specs.Sets.{IsRising, RisesFrom, IsSet, most_ids}
 use Rattle.xl_base.specs.declared.ids.TxId.{TxId}
-use Rattle.xl_base.specs.declared.sets.TheConstants.{MOST_IDS}
 use Rattle.xl_sched.specs.declared.named.Named.{Named}
 use Rattle.xl_sched.specs.declared.refusal.SchedRefusal.{SchedRefusal}
 use Rattle.xl_sched.specs.declared.refusal.SchedRefusal.TheVariants.{Id}
@@ -81,7 +80,7 @@ ids-rise names before (entry ∷ rest) ids h =
     ] refl h
 
 -- ids that were read, and are no more than a set's
-pub IsSet-risen : (names : List Named) (entries : List (List ℕ)) (ids : List TxId) → risen_ids_of names None entries ≡ Ok ids → length ids ≤ MOST_IDS → IsSet ids
+pub IsSet-risen : (names : List Named) (entries : List (List ℕ)) (ids : List TxId) → risen_ids_of names None entries ≡ Ok ids → length ids ≤ most_ids → IsSet ids
 IsSet-risen names entries ids read few = record { rising = ids-rise names None entries ids read; at_most = few }
 
 pub IsSet-none : IsSet []

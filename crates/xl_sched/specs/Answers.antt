@@ -1,7 +1,7 @@
 -- What a reader answers to a line. Source: this project's schedule language.
 use Rattle.std.specs.Prelude.{ℕ, ◌==◌, ◌&&◌, Bool, false, nat_lt, List, [], ◌∷◌, length, decimal, codes, Option, Some, None, Result, Ok, Err, if◌then◌else◌}
 use Rattle.std.specs.Str.{bytes_eq}
-use Rattle.xl_sched.specs.declared.limits.TheConstants.{MOST_LINES, MOST_BYTES}
+use Rattle.xl_sched.specs.Limits.{most_bytes, most_lines}
 use Rattle.xl_sched.specs.declared.line.Line.{Line}
 use Rattle.xl_sched.specs.declared.refusal.SchedRefusal.{SchedRefusal}
 use Rattle.xl_sched.specs.declared.refusal.SchedRefusal.TheVariants.{Header, LongLine, Limit}
@@ -48,8 +48,8 @@ line_of_tokens reading sent line =
 -- a line, unless it has too many bytes or is one too many
 abbrev pub bounded_line : Reading → ℕ → List ℕ → Result (Option Line) SchedRefusal
 bounded_line reading sent bytes =
-    if nat_lt MOST_BYTES (length bytes) then Err (LongLine (decimal MOST_BYTES))
-    else if reading.lines == MOST_LINES then Err (Limit (decimal MOST_LINES))
+    if nat_lt most_bytes (length bytes) then Err (LongLine (decimal most_bytes))
+    else if reading.lines == most_lines then Err (Limit (decimal most_lines))
     else line_of_tokens reading sent (tokens bytes)
 
 -- a line that was passed over or was the header, a line that says something, or a refusal; with what is known then
@@ -68,6 +68,6 @@ abbrev pub answered : Option Line → Reading → LineAnswer
 answered None known = passes known
 answered (Some line) known = gives line known
 
--- the answer to a line where so many frames were sent; a refused line changes nothing
+-- the answer to a line where this many frames were sent; a refused line changes nothing
 abbrev pub reading_of : Reading → ℕ → List ℕ → LineAnswer
 reading_of reading sent bytes = answer_to reading (bounded_line reading sent bytes)

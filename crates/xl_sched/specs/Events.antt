@@ -8,7 +8,7 @@ use Rattle.xl_sched.specs.declared.event.Ask.{Ask}
 use Rattle.xl_sched.specs.declared.event.Ask.TheVariants as ask
 use Rattle.xl_sched.specs.declared.event.What.{What}
 use Rattle.xl_sched.specs.declared.event.What.TheVariants as what
-use Rattle.xl_sched.specs.declared.limits.TheConstants.{MOST_LISTS, MOST_RAW_BYTES}
+use Rattle.xl_sched.specs.Limits.{most_lists, most_raw_bytes}
 use Rattle.xl_sched.specs.declared.refusal.SchedRefusal.{SchedRefusal}
 use Rattle.xl_sched.specs.declared.refusal.SchedRefusal.TheVariants.{Id, Absent, Limit}
 use Rattle.xl_sched.specs.Refusals.{◌>>=◌, miscounted}
@@ -110,7 +110,7 @@ restart_event reading arguments = miscounted arguments
 abbrev pub raw_bytes_of : List ℕ → Result (List ℕ) SchedRefusal
 raw_bytes_of digits = do
   bytes ← ok_or (result_ok (decode_of digits)) (Id digits)
-  if nat_le 1 (length bytes) && nat_le (length bytes) MOST_RAW_BYTES then Ok bytes else Err (Id digits)
+  if nat_le 1 (length bytes) && nat_le (length bytes) most_raw_bytes then Ok bytes else Err (Id digits)
 
 -- `raw t digits`
 abbrev pub raw_event : Reading → List (List ℕ) → Result What SchedRefusal
@@ -137,7 +137,7 @@ set_list reading arguments = miscounted arguments
 -- `list i q list`, if not as many stood before as may be
 abbrev pub list_event : Reading → List (List ℕ) → Result What SchedRefusal
 list_event reading arguments =
-    if nat_lt reading.lists MOST_LISTS then set_list reading arguments else Err (Limit (decimal MOST_LISTS))
+    if nat_lt reading.lists most_lists then set_list reading arguments else Err (Limit (decimal most_lists))
 
 -- `heard i`
 abbrev pub heard_event : Reading → List (List ℕ) → Result What SchedRefusal

@@ -4,7 +4,7 @@ use Rattle.std.specs.Str.{bytes_eq}
 use Rattle.xl_base.specs.declared.ids.TxId.{TxId}
 use Rattle.xl_lists.specs.Lists.{is_on}
 use Rattle.xl_sched.specs.declared.favor.Favor.{Favor}
-use Rattle.xl_sched.specs.declared.limits.TheConstants.{MOST_LINES, MOST_BYTES}
+use Rattle.xl_sched.specs.Limits.{most_bytes, most_lines}
 use Rattle.xl_sched.specs.declared.named.Named.{Named}
 use Rattle.xl_sched.specs.declared.refusal.SchedRefusal.{SchedRefusal}
 use Rattle.xl_sched.specs.declared.refusal.SchedRefusal.TheVariants.{Id, Absent}
@@ -50,7 +50,7 @@ favor_by reading (token ∷ arguments) =
 -- line 1 is none, and neither is a line that is too long or one too many
 abbrev pub favor_line : Reading → List ℕ → Result (Option Favor) SchedRefusal
 favor_line reading bytes =
-    if reading.lines == 0 || reading.lines == MOST_LINES || nat_lt MOST_BYTES (length bytes) then Ok None
+    if reading.lines == 0 || reading.lines == most_lines || nat_lt most_bytes (length bytes) then Ok None
     else favor_by reading (tokens bytes)
 
 -- what is known then; where it was none nothing was read

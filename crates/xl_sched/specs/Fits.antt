@@ -1,8 +1,8 @@
 -- Lines that fit what was read before them. Source: this project's schedule language.
 use Rattle.std.specs.Prelude.{◌≡◌, ◌≤◌, ◌<◌, ℕ, ◌+◌, true, false, length, None}
 use Rattle.xl_base.specs.Sets.{IsSet}
-use Rattle.xl_base.specs.declared.moments.TheConstants.{GREATEST_MILLIS}
-use Rattle.xl_ledger.specs.declared.registry.TheConstants.{LEAST_LIMIT}
+use Rattle.xl_base.specs.Moments.{greatest_millis}
+use Rattle.xl_ledger.specs.Limits.{least_limit}
 use Rattle.xl_lists.specs.Lists.{IsValid, is_on}
 use Rattle.xl_sched.specs.declared.event.Ask.{Ask}
 use Rattle.xl_sched.specs.declared.event.Ask.TheVariants as ask
@@ -10,7 +10,7 @@ use Rattle.xl_sched.specs.declared.event.Lied.{Lied}
 use Rattle.xl_sched.specs.declared.event.Lied.TheVariants as lied
 use Rattle.xl_sched.specs.declared.event.What.{What}
 use Rattle.xl_sched.specs.declared.event.What.TheVariants as what
-use Rattle.xl_sched.specs.declared.limits.TheConstants.{MOST_LEDGERS, MOST_LISTS, MOST_RAW_BYTES}
+use Rattle.xl_sched.specs.Limits.{most_ledgers, most_lists, most_raw_bytes}
 use Rattle.xl_sched.specs.declared.line.Line.{Line}
 use Rattle.xl_sched.specs.declared.line.Line.TheVariants as line
 use Rattle.xl_sched.specs.Events.{is_peer}
@@ -49,10 +49,10 @@ IsFitWhat reading sent (what.Cut new ask) = IsFitAsk reading ask
 IsFitWhat reading sent (what.Fail new ask) = IsFitAsk reading ask
 IsFitWhat reading sent (what.Lie from to lie) = IsFitPair reading from to × IsFitLied lie
 IsFitWhat reading sent (what.Raw to bytes) =
-    (is_on reading.nodes to ≡ true) × (1 ≤ length bytes) × (length bytes ≤ MOST_RAW_BYTES)
+    (is_on reading.nodes to ≡ true) × (1 ≤ length bytes) × (length bytes ≤ most_raw_bytes)
 IsFitWhat reading sent (what.Prefer node) = is_on reading.nodes node ≡ true
 IsFitWhat reading sent (what.List node list) =
-    (is_on reading.nodes node ≡ true) × (reading.lists < MOST_LISTS) × IsValid list
+    (is_on reading.nodes node ≡ true) × (reading.lists < most_lists) × IsValid list
 IsFitWhat reading sent (what.Heard node) = is_on reading.nodes node ≡ true
 
 -- a line that declares nothing twice and no ledger above all that may be, or such an event at a moment that there may
@@ -61,9 +61,9 @@ abbrev pub IsFit : Reading → ℕ → Line → Type 0
 IsFit reading sent (line.Node me list validating) = IsUndeclared reading me
 IsFit reading sent (line.Liar me) = IsUndeclared reading me
 IsFit reading sent (line.Name name id) = id_named reading.names name ≡ None
-IsFit reading sent (line.Limit limit) = (LEAST_LIMIT ≤ limit) × (limit ≤ MOST_LEDGERS) × (reading.limited ≡ false)
+IsFit reading sent (line.Limit limit) = (least_limit ≤ limit) × (limit ≤ most_ledgers) × (reading.limited ≡ false)
 IsFit reading sent (line.Speak version) = (1 ≤ version) × (version ≤ 2) × (reading.spoken ≡ false)
 IsFit reading sent (line.Ledger name parent header) =
     (id_named reading.names name ≡ None) × (header.seq ≤ length reading.names + 1)
-IsFit reading sent (line.At at) = at ≤ GREATEST_MILLIS
-IsFit reading sent (line.Event event) = (event.at ≤ GREATEST_MILLIS) × IsFitWhat reading sent event.what
+IsFit reading sent (line.At at) = at ≤ greatest_millis
+IsFit reading sent (line.Event event) = (event.at ≤ greatest_millis) × IsFitWhat reading sent event.what

@@ -30,7 +30,7 @@ lie_word token =
     else if bytes_eq token (codes "tx") then Some word.Tx
     else None
 
--- whether so many tokens may stand after the word of a lie; after no such word as many as after any
+-- whether this many tokens may stand after the word of a lie; after no such word as many as after any
 abbrev pub may_say : Option LieWord → ℕ → Bool
 may_say (Some word.Proposal) count = count == 5
 may_say (Some word.Validation) count = count == 4 || count == 5

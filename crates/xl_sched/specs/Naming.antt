@@ -1,6 +1,6 @@
 -- Lines that give names, to ids and to ledgers. Source: this project's schedule language.
 use Rattle.std.specs.Prelude.{ℕ, Bool, nat_lt, List, [], ◌∷◌, length, decimal, Result, Ok, Err, if◌then◌else◌}
-use Rattle.xl_sched.specs.declared.limits.TheConstants.{MOST_NAMES}
+use Rattle.xl_sched.specs.Limits.{most_names}
 use Rattle.xl_sched.specs.declared.line.Line.{Line}
 use Rattle.xl_sched.specs.declared.line.Line.TheVariants as line
 use Rattle.xl_sched.specs.declared.refusal.SchedRefusal.{SchedRefusal}
@@ -13,7 +13,7 @@ use Rattle.xl_sched.specs.Reading.{Reading}
 
 -- whether as many names are declared as may be, `root` not counted
 abbrev pub has_most_names : Reading → Bool
-has_most_names reading = nat_lt MOST_NAMES (length reading.names)
+has_most_names reading = nat_lt most_names (length reading.names)
 
 -- `name w id`
 abbrev pub named_line : Reading → List (List ℕ) → Result Line SchedRefusal
@@ -26,7 +26,7 @@ named_line reading arguments = miscounted arguments
 -- the limit is tested before all else
 abbrev pub name_line : Reading → List (List ℕ) → Result Line SchedRefusal
 name_line reading arguments =
-    if has_most_names reading then Err (Limit (decimal MOST_NAMES)) else named_line reading arguments
+    if has_most_names reading then Err (Limit (decimal most_names)) else named_line reading arguments
 
 -- `ledger w p close`
 abbrev pub named_ledger_line : Reading → List (List ℕ) → Result Line SchedRefusal
@@ -40,4 +40,4 @@ named_ledger_line reading arguments = miscounted arguments
 -- the limit of names is tested before all else
 abbrev pub ledger_line : Reading → List (List ℕ) → Result Line SchedRefusal
 ledger_line reading arguments =
-    if has_most_names reading then Err (Limit (decimal MOST_NAMES)) else named_ledger_line reading arguments
+    if has_most_names reading then Err (Limit (decimal most_names)) else named_ledger_line reading arguments

@@ -9,7 +9,7 @@ abbrev pub ◌>>=◌ : {A B : Type 0} → Result A SchedRefusal → (A → Resul
 Ok x >>= f = f x
 Err e >>= f = Err e
 
--- what a call answers is this, unless memory was wanting
+-- what a call answers is this, unless memory ran out
 abbrev pub GivenMemory : {A : Type 0} → Result A SchedRefusal → Result A SchedRefusal → Type 0
 GivenMemory (Ok x) exact = exact ≡ Ok x
 GivenMemory (Err e) exact = (e ≡ OutOfMemory) ⊎ (exact ≡ Err e)
@@ -36,6 +36,6 @@ code_of refusal = (parts_of refusal).0
 abbrev pub token_of : SchedRefusal → List ℕ
 token_of refusal = (parts_of refusal).1
 
--- so many tokens no line of the word has, the word counted
+-- this many tokens no line of the word has, the word counted
 abbrev pub miscounted : {A : Type 0} → List (List ℕ) → Result A SchedRefusal
 miscounted arguments = Err (Count (decimal (length arguments + 1)))

@@ -11,7 +11,7 @@ use Rattle.xl_sched.specs.Choices.{new_of}
 use Rattle.xl_sched.specs.Events.{asked_issue, asked_timer}
 use Rattle.xl_sched.specs.Reading.{Reading}
 
--- whether so many tokens may stand after the word of what is asked; after no such word as many as after any
+-- whether this many tokens may stand after the word of what is asked; after no such word as many as after any
 abbrev pub may_ask : List ℕ → ℕ → Bool
 may_ask word count =
     if bytes_eq word (codes "issue") then count == 4

@@ -1,8 +1,8 @@
 -- Lines at which nothing happens: the limit, nodes, liars and the moment. Source: this project's schedule language.
 use Rattle.std.specs.Prelude.{ℕ, Bool, true, List, [], ◌∷◌, Option, Some, None, Result, Ok, Err, if◌then◌else◌}
-use Rattle.xl_base.specs.declared.moments.TheConstants.{GREATEST_MILLIS}
-use Rattle.xl_ledger.specs.declared.registry.TheConstants.{LEAST_LIMIT}
-use Rattle.xl_sched.specs.declared.limits.TheConstants.{MOST_LEDGERS}
+use Rattle.xl_base.specs.Moments.{greatest_millis}
+use Rattle.xl_ledger.specs.Limits.{least_limit}
+use Rattle.xl_sched.specs.Limits.{most_ledgers}
 use Rattle.xl_sched.specs.declared.line.Line.{Line}
 use Rattle.xl_sched.specs.declared.line.Line.TheVariants as line
 use Rattle.xl_sched.specs.declared.refusal.SchedRefusal.{SchedRefusal}
@@ -16,7 +16,7 @@ use Rattle.xl_sched.specs.Reading.{Reading}
 -- `limit n`
 abbrev pub limit_line : Reading → List (List ℕ) → Result Line SchedRefusal
 limit_line reading (number ∷ []) = do
-  limit ← number_within LEAST_LIMIT MOST_LEDGERS number
+  limit ← number_within least_limit most_ledgers number
   if reading.limited then Err (Twice number) else Ok (line.Limit limit)
 limit_line reading arguments = miscounted arguments
 
@@ -58,6 +58,6 @@ liar_line reading arguments = miscounted arguments
 -- `at ms`
 abbrev pub at_line : List (List ℕ) → Result Line SchedRefusal
 at_line (moment ∷ []) = do
-  at ← number_within 0 GREATEST_MILLIS moment
+  at ← number_within 0 greatest_millis moment
   Ok (line.At at)
 at_line arguments = miscounted arguments

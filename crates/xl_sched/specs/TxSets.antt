@@ -1,9 +1,8 @@
 -- Sets of transactions, by their ids. Source: this project's schedule language.
 use Rattle.std.specs.Prelude.{ℕ, Bool, true, nat_le, List, [], ◌∷◌, length, codes, Option, Some, None, Result, Ok, Err, if◌then◌else◌}
 use Rattle.std.specs.Str.{bytes_eq}
-use Rattle.xl_base.specs.Sets.{is_below}
+use Rattle.xl_base.specs.Sets.{is_below, most_ids}
 use Rattle.xl_base.specs.declared.ids.TxId.{TxId}
-use Rattle.xl_base.specs.declared.sets.TheConstants.{MOST_IDS}
 use Rattle.xl_sched.specs.declared.named.Named.{Named}
 use Rattle.xl_sched.specs.declared.refusal.SchedRefusal.{SchedRefusal}
 use Rattle.xl_sched.specs.declared.refusal.SchedRefusal.TheVariants.{Id}
@@ -34,7 +33,7 @@ risen_ids_of names before (entry ∷ rest) = do
 abbrev pub joined_ids_of : List Named → List ℕ → Result (List TxId) SchedRefusal
 joined_ids_of names token = do
   ids ← risen_ids_of names None (entries token)
-  if nat_le (length ids) MOST_IDS then Ok ids else Err (Id token)
+  if nat_le (length ids) most_ids then Ok ids else Err (Id token)
 
 -- such ids, or `-` for none
 abbrev pub tx_set_of : List Named → List ℕ → Result (List TxId) SchedRefusal

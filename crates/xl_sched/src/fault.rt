@@ -113,7 +113,7 @@ impl<'a> LineFault<'a> {
         LineFault::with_number(Cause::OutOfMemory, 0)
     }
 
-    /// The refusal with its token copied, or that memory was wanting.
+    /// The refusal with its token copied, or that memory ran out.
     pub fn refusal(self, alloc: Global) -> SchedRefusal
         ensures { (result ≡ SchedRefusal.OutOfMemory) ⊎ (result ≡ self.entry) }
     {

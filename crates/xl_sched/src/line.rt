@@ -6,7 +6,7 @@ use xl_lists::List;
 /// What a line says, unless it is passed over.
 #[derive(Debug, Drop)]
 pub enum Line {
-    /// Each node may know so many ledgers, 2 to 16,384. No such line stood before.
+    /// Each node may know this many ledgers, 2 to 16,384. No such line stood before.
     Limit(u32),
     /// The validations of all nodes are of this version, 1 or 2. No such line stood before.
     Speak(u8),

@@ -4,7 +4,7 @@ use std::alloc::{AllocError, Global};
 use std::collections::BTreeMap;
 use xl_base::OutOfMemory;
 
-/// Where each name, and the first name of each id, stands in the order of declaration.
+/// If each name, and the first name of each id, stands in the order of declaration.
 #[derive(Debug, Drop)]
 pub struct Places {
     by_name: BTreeMap<Vec<u8>, usize>,

@@ -8,7 +8,7 @@ use xl_base::OutOfMemory;
 const MOST_SHOWN: usize = 32;
 
 /// Appends a token as it is printed: its first 32 bytes, each that is no visible one of ASCII as `?`, and `-` for none.
-/// If memory is wanting, a front of that may have been appended.
+/// If memory runs out, a front of that may have been appended.
 pub fn printed_token(token: &[u8], text: &mut String) -> Result<(), OutOfMemory>
     ensures { OnOk result (string_bytes text.new ≡ string_bytes text.old ++ shown_token token.now) }
 {

@@ -9,7 +9,7 @@ mod words;
 ghost use Rattle.std.specs.Prelude.{◌≡◌, ◌⊎◌, ℕ, ◌≤◌, ◌<◌, OnOk, OnErr, IfOk, IfErr, IfSome, option_copied};
 ghost use Rattle.xl_sched.specs.Answers.{header_line, is_comment};
 ghost use Rattle.xl_sched.specs.Reading.{lists_in};
-ghost use Rattle.xl_sched.specs.declared.limits.TheConstants.{MOST_LINES};
+ghost use Rattle.xl_sched.specs.Limits.{most_lines};
 
 use crate::event::What;
 use crate::fault::{Cause, LineFault};
@@ -43,8 +43,8 @@ pub struct Reader {
 
 impl Model for Reader {
     ghost use Rattle.std.specs.Prelude.{◌≤◌};
-    ghost use Rattle.xl_base.specs.declared.moments.TheConstants.{GREATEST_MILLIS};
-    ghost use Rattle.xl_sched.specs.declared.limits.TheConstants.{MOST_LINES, MOST_LISTS};
+    ghost use Rattle.xl_base.specs.Moments.{greatest_millis};
+    ghost use Rattle.xl_sched.specs.Limits.{most_lines, most_lists};
     ghost use Rattle.xl_sched.specs.Reading.{Reading};
 
     ghost Value = { Reading };
@@ -61,11 +61,11 @@ impl Model for Reader {
       names = r.names;
     } };
 
-    ghost invariant = { λ r. (r.lines ≤ MOST_LINES) × (r.moment ≤ GREATEST_MILLIS) × (r.lists ≤ MOST_LISTS) };
+    ghost invariant = { λ r. (r.lines ≤ most_lines) × (r.moment ≤ greatest_millis) × (r.lists ≤ most_lists) };
 }
 
 impl Reader {
-    ghost use Rattle.xl_base.specs.declared.moments.TheConstants.{GREATEST_MILLIS};
+    ghost use Rattle.xl_base.specs.Moments.{greatest_millis};
     ghost use Rattle.xl_sched.specs.Fits.{IsFit};
     ghost use Rattle.xl_sched.specs.Names.{name_of};
     ghost use Rattle.xl_sched.specs.Refusals.{GivenMemory};
@@ -93,18 +93,18 @@ impl Reader {
     /// The moment in force, in milliseconds.
     pub fn moment(&self) -> Millis
         ensures value { result ≡ self.now.now }
-        ensures most { result ≤ GREATEST_MILLIS }
+        ensures most { result ≤ greatest_millis }
     {
         self.moment
     }
 
-    /// Reads the next line, without the byte that ends it, if so many frames were sent so far. None comes exactly
+    /// Reads the next line, without the byte that ends it, if this many frames were sent so far. None comes exactly
     /// for the header, an empty line and a comment.
     ///
     /// Refused with the first of the causes that holds: the line is too long; there are too many lines, or names; line
     /// 1 is no header; the first token is no word; a declaration comes after an event; no line of the word has so many
     /// tokens; a token, from left to right, is no number, no id, no choice, was declared before or isn't declared; the
-    /// numbers are no list. Or memory was wanting.
+    /// numbers are no list. Or memory ran out.
     pub fn read_line(&mut self, line: &[u8], sent: u64) -> Result<Option<Line>, SchedRefusal>
         ensures read { IfOk result (λ read. reading_of self.old sent line.now ≡ answered read self.new) }
         ensures refused { IfErr result (λ refusal.
@@ -169,7 +169,7 @@ impl Reader {
 
     /// Counts a line, and takes in what it says.
     fn learn(&mut self, line: &Line) -> Result<(), OutOfMemory>
-        requires more { self.old.lines < MOST_LINES }
+        requires more { self.old.lines < most_lines }
         requires fit { (sent : ℕ) × IsFit self.old sent line.now }
         ensures learnt { OnOk result (self.new ≡ after self.old line.now) }
         ensures kept { OnErr result (self.new ≡ self.old) }
@@ -197,7 +197,7 @@ impl Reader {
     /// How many lines were read, the refused ones not counted; at most 1,000,000.
     pub fn lines(&self) -> u64
         ensures value { result ≡ self.now.lines }
-        ensures most { result ≤ MOST_LINES }
+        ensures most { result ≤ most_lines }
     {
         u64::from(self.lines)
     }

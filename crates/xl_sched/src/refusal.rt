@@ -15,7 +15,7 @@ pub enum SchedRefusal {
     Limit(Bytes),
     /// The first token is no word.
     Word(Bytes),
-    /// No line of the word has so many tokens. The token is their number.
+    /// No line of the word has this many tokens. The token is their number.
     Count(Bytes),
     /// A number is asked, and the token is none, or out of range.
     Number(Bytes),
@@ -31,7 +31,7 @@ pub enum SchedRefusal {
     List(Bytes),
     /// The token is a number that isn't declared as the line asks, or the place of no sent frame.
     Absent(Bytes),
-    /// Memory was wanting. It is no refusal of the line.
+    /// Memory ran out. It is no refusal of the line.
     OutOfMemory,
 }
 

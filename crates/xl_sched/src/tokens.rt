@@ -1,7 +1,7 @@
 ghost use Rattle.std.specs.Prelude.{◌≡◌, ◌≢◌, ◌<◌, ◌≤◌, ◌+◌, [], ◌∷◌, length, MatchOption, MatchResult, position, decimal};
 ghost use Rattle.std.specs.List.{position_or_len};
 ghost use Rattle.xl_sched.specs.Tokens.{tokens, is_blank, BeginsToken, IsTokenSplit};
-ghost use Rattle.xl_sched.specs.declared.limits.TheConstants.{MOST_BYTES};
+ghost use Rattle.xl_sched.specs.Limits.{most_bytes};
 ghost use Rattle.xl_sched.specs.declared.refusal.SchedRefusal.TheVariants.{Count};
 
 use crate::fault::{Cause, LineFault};
@@ -22,14 +22,14 @@ impl<'a> Model for Tokens<'a> {
     ghost view = { λ t. tokens t.rest.now };
 
     ghost use Rattle.std.specs.Prelude.{◌≤◌, length};
-    ghost use Rattle.xl_sched.specs.declared.limits.TheConstants.{MOST_BYTES};
+    ghost use Rattle.xl_sched.specs.Limits.{most_bytes};
 
-    ghost invariant = { λ t. length t.rest.now ≤ MOST_BYTES };
+    ghost invariant = { λ t. length t.rest.now ≤ most_bytes };
 }
 
 impl<'a> Tokens<'a> {
     pub fn of(line: &'a [u8]) -> Self
-        requires { length line.now ≤ MOST_BYTES }
+        requires { length line.now ≤ most_bytes }
         ensures { result ≡ tokens line.now }
     {
         Tokens { rest: line }
@@ -207,7 +207,7 @@ impl<'a> Tokens<'a> {
         }
     }
 
-    /// The refusal of so many tokens, the word before them counted.
+    /// The refusal of this many tokens, the word before them counted.
     pub fn miscounted(&self) -> LineFault<'a>
         ensures { result ≡ Count (decimal (length self.now + 1)) }
     {
@@ -217,7 +217,7 @@ impl<'a> Tokens<'a> {
     /// How many they are.
     pub fn count(&self) -> usize
         ensures value { result ≡ length self.now }
-        ensures few { result ≤ MOST_BYTES + 1 }
+        ensures few { result ≤ most_bytes + 1 }
     {
         let mut left = Tokens { rest: self.rest };
         let mut count = 0;

@@ -8,7 +8,7 @@ use Rattle.hex.specs.Hex.{IsBytes, encode_lower, decode_of}
 use Rattle.hex.proofs.HexLemmas.{decode_of-encode_lower}
 use Rattle.xl_sched.specs.declared.event.What.{What}
 use Rattle.xl_sched.specs.declared.event.What.TheVariants as what
-use Rattle.xl_sched.specs.declared.limits.TheConstants.{MOST_LISTS, MOST_RAW_BYTES}
+use Rattle.xl_sched.specs.Limits.{most_lists, most_raw_bytes}
 use Rattle.xl_sched.specs.declared.refusal.SchedRefusal.{SchedRefusal}
 use Rattle.xl_sched.specs.declared.refusal.SchedRefusal.TheVariants as refusal
 use Rattle.xl_sched.specs.declared.word.EventWord.{EventWord}
@@ -187,12 +187,12 @@ set_list-again reading (number ∷ quorum ∷ members ∷ []) w e =
 
 list_event-again : (reading : Reading) (old : List (List ℕ)) (w : What) → list_event reading old ≡ Ok w → IsEventAgain (list_event reading) (codes "list") old w
 list_event-again reading old w e =
-    let room = passed_by (nat_lt reading.lists MOST_LISTS) (set_list reading old) w (refusal.Limit (decimal MOST_LISTS)) e in
+    let room = passed_by (nat_lt reading.lists most_lists) (set_list reading old) w (refusal.Limit (decimal most_lists)) e in
     let again = set_list-again reading old w room.1 in
     record {
       arguments = again.arguments;
       words = again.words;
-      same = ap (λ b. cond b (set_list reading again.arguments) (Err (refusal.Limit (decimal MOST_LISTS)))) room.0 ∙ again.same;
+      same = ap (λ b. cond b (set_list reading again.arguments) (Err (refusal.Limit (decimal most_lists)))) room.0 ∙ again.same;
       count = again.count;
       like = again.like;
     }
@@ -243,15 +243,15 @@ raw_event-again reading (honest ∷ digits ∷ []) w e stored =
     let r = steps (raw_bytes_of digits) (λ bytes. Ok (what.Raw n.value bytes)) w n.rest in
     let is = same-ok (what.Raw n.value r.value) w r.rest in
     let fits : IsBytes r.value = subst IsStoredWhat (sym is) stored in
-    let d = steps (ok_or (result_ok (decode_of digits)) (refusal.Id digits)) (λ bytes. cond (nat_le 1 (length bytes) && nat_le (length bytes) MOST_RAW_BYTES) (Ok bytes) (Err (refusal.Id digits))) r.value r.gave in
-    let p = passed (nat_le 1 (length d.value) && nat_le (length d.value) MOST_RAW_BYTES) d.value r.value (refusal.Id digits) d.rest in
-    let within : (nat_le 1 (length r.value) && nat_le (length r.value) MOST_RAW_BYTES) ≡ true = subst (λ (bytes : List ℕ). (nat_le 1 (length bytes) && nat_le (length bytes) MOST_RAW_BYTES) ≡ true) p.1 p.0 in
-    let parts = and_parts (nat_le 1 (length r.value)) (nat_le (length r.value) MOST_RAW_BYTES) within in
+    let d = steps (ok_or (result_ok (decode_of digits)) (refusal.Id digits)) (λ bytes. cond (nat_le 1 (length bytes) && nat_le (length bytes) most_raw_bytes) (Ok bytes) (Err (refusal.Id digits))) r.value r.gave in
+    let p = passed (nat_le 1 (length d.value) && nat_le (length d.value) most_raw_bytes) d.value r.value (refusal.Id digits) d.rest in
+    let within : (nat_le 1 (length r.value) && nat_le (length r.value) most_raw_bytes) ≡ true = subst (λ (bytes : List ℕ). (nat_le 1 (length bytes) && nat_le (length bytes) most_raw_bytes) ≡ true) p.1 p.0 in
+    let parts = and_parts (nat_le 1 (length r.value)) (nat_le (length r.value) most_raw_bytes) within in
     let some : 1 ≤ length r.value = grind (arith, nat_tests) in
     let few : length r.value ≤ 8240 = grind (arith, nat_tests) in
     let text = encode_lower r.value in
     let again : raw_bytes_of text ≡ Ok r.value =
-    ap (λ read. ok_or (result_ok read) (refusal.Id text) >>= (λ bytes. cond (nat_le 1 (length bytes) && nat_le (length bytes) MOST_RAW_BYTES) (Ok bytes) (Err (refusal.Id text)))) (decode_of-encode_lower r.value fits)
+    ap (λ read. ok_or (result_ok read) (refusal.Id text) >>= (λ bytes. cond (nat_le 1 (length bytes) && nat_le (length bytes) most_raw_bytes) (Ok bytes) (Err (refusal.Id text)))) (decode_of-encode_lower r.value fits)
     ∙ ap (λ b. cond b (Ok r.value) (Err (refusal.Id text))) within in
     let node = declared-same reading.nodes honest n.value n.gave in
     let node-small = declared-small reading.nodes honest n.value n.gave in

@@ -4,7 +4,7 @@ use Rattle.std.specs.List.{Contains, AllByRecursion, join_with_byte}
 use Rattle.std.proofs.lemmas.Bool.{and_parts, lt-ltb}
 use Rattle.std.proofs.lemmas.Bool.Decides.{nat_tests}
 use Rattle.std.proofs.lemmas.List.Elements.{All-contains_itself, All-from_recursion, recursion_from_All}
-use Rattle.xl_sched.specs.declared.limits.TheConstants.{MOST_LINES, MOST_BYTES, MOST_LISTS}
+use Rattle.xl_sched.specs.Limits.{most_bytes, most_lines, most_lists}
 use Rattle.xl_lists.specs.Lists.{TrustedList, IsValid, is_on}
 use Rattle.xl_sched.specs.declared.event.What.TheVariants as what
 use Rattle.xl_sched.specs.Events.{list_event, set_list}
@@ -183,7 +183,7 @@ inked-tokens (t ∷ ts) h = ((h.0.0, ink-clear t h.0.1), inked-tokens ts h.1)
 -- what the spelling of a line is, beside the line that it was read from
 record IsRespelled (bytes : List ℕ) (ts : List (List ℕ)) : Type 0 where
   are : AllByRecursion IsToken ts
-  few : length (join_with_byte 32 ts) ≤ MOST_BYTES
+  few : length (join_with_byte 32 ts) ≤ most_bytes
   bytes_of : AllByRecursion (λ b. (32 ≤ b) ⊎ Contains bytes b) (join_with_byte 32 ts)
 
 there : (bytes : List ℕ) (t : List ℕ) → AllByRecursion (Contains bytes) t → AllByRecursion (λ b. (32 ≤ b) ⊎ Contains bytes b) t
@@ -203,7 +203,7 @@ all-visible bytes [] h = tt
 all-visible bytes (t ∷ ts) h = (visible bytes t h.0.1, all-visible bytes ts h.1)
 
 -- the very tokens of the line
-same-respelled : (bytes token : List ℕ) (rest : List (List ℕ)) → tokens bytes ≡ token ∷ rest → length bytes ≤ MOST_BYTES → IsRespelled bytes (token ∷ rest)
+same-respelled : (bytes token : List ℕ) (rest : List (List ℕ)) → tokens bytes ≡ token ∷ rest → length bytes ≤ most_bytes → IsRespelled bytes (token ∷ rest)
 same-respelled bytes token rest whole few = record {
   are = subst (AllByRecursion IsToken) whole (tokens-are bytes);
   few = omega (arith, joined-spread 32 token rest, tokens-spread bytes, ap spread whole, few);
@@ -224,7 +224,7 @@ short-respelled bytes token arguments small ink few =
       bytes_of = joined-all (λ b. (32 ≤ b) ⊎ Contains bytes b) 32 (token ∷ arguments) (inl (omega arith)) (all-visible bytes (token ∷ arguments) all);
     }
 
-like-respelled : (bytes token : List ℕ) (old new : List (List ℕ)) → tokens bytes ≡ token ∷ old → length bytes ≤ MOST_BYTES → IsSmall 10 token → AreLike 16900 old new → IsRespelled bytes (token ∷ new)
+like-respelled : (bytes token : List ℕ) (old new : List (List ℕ)) → tokens bytes ≡ token ∷ old → length bytes ≤ most_bytes → IsSmall 10 token → AreLike 16900 old new → IsRespelled bytes (token ∷ new)
 like-respelled bytes token old new whole few small (inl same) = same-respelled bytes token new (whole ∙ ap (λ ts. token ∷ ts) (sym same)) few
 like-respelled bytes token old new whole few small (inr short) = short-respelled bytes token new small short.0 short.1
 
@@ -236,25 +236,25 @@ pub record IsSpelled (reading : Reading) (sent : ℕ) (bytes : List ℕ) (l : Li
 pub spelled-again : (reading : Reading) (sent : ℕ) (bytes : List ℕ) (l : Line) → Says reading sent bytes l → IsStored l → IsSpelled reading sent bytes l
 spelled-again reading sent bytes l e stored =
     let read = answer-gave reading (after reading l) (bounded_line reading sent bytes) l e in
-    let length-ok = unstopped (nat_lt MOST_BYTES (length bytes)) (cond (reading.lines == MOST_LINES) (Err (refusal.Limit (decimal MOST_LINES))) (line_of_tokens reading sent (tokens bytes))) (Some l) (refusal.LongLine (decimal MOST_BYTES)) read in
-    let lines-ok = unstopped (reading.lines == MOST_LINES) (line_of_tokens reading sent (tokens bytes)) (Some l) (refusal.Limit (decimal MOST_LINES)) length-ok.1 in
+    let length-ok = unstopped (nat_lt most_bytes (length bytes)) (cond (reading.lines == most_lines) (Err (refusal.Limit (decimal most_lines))) (line_of_tokens reading sent (tokens bytes))) (Some l) (refusal.LongLine (decimal most_bytes)) read in
+    let lines-ok = unstopped (reading.lines == most_lines) (line_of_tokens reading sent (tokens bytes)) (Some l) (refusal.Limit (decimal most_lines)) length-ok.1 in
     let later = tokens-later reading sent (tokens bytes) l lines-ok.1 in
     let w = later.worded in
     let again = worded-again reading sent w.token w.rest l w.says stored in
     let not-long = length-ok.0 in
-    let few : length bytes ≤ MOST_BYTES = grind (arith, nat_tests) in
+    let few : length bytes ≤ most_bytes = grind (arith, nat_tests) in
     let re = like-respelled bytes w.token w.rest again.arguments w.whole few again.small again.like in
     let ts = w.token ∷ again.arguments in
     let text : spelling l ≡ join_with_byte 32 ts = ap (join_with_byte 32) again.words in
     let short = re.few in
-    let fits : nat_lt MOST_BYTES (length (join_with_byte 32 ts)) ≡ false = grind (arith, nat_tests) in
+    let fits : nat_lt most_bytes (length (join_with_byte 32 ts)) ≡ false = grind (arith, nat_tests) in
     let tokened : later_line reading sent ts ≡ Ok (Some l) =
     ap (λ b. cond b (Ok None) (some_line (worded_line reading sent w.token again.arguments))) w.no_comment ∙ ap some_line again.same in
     record {
       same =
           ap (reading_of reading sent) text
-          ∙ ap (λ b. answer_to reading (cond b (Err (refusal.LongLine (decimal MOST_BYTES))) (cond (reading.lines == MOST_LINES) (Err (refusal.Limit (decimal MOST_LINES))) (line_of_tokens reading sent (tokens (join_with_byte 32 ts)))))) fits
-          ∙ ap (λ b. answer_to reading (cond b (Err (refusal.Limit (decimal MOST_LINES))) (line_of_tokens reading sent (tokens (join_with_byte 32 ts))))) lines-ok.0
+          ∙ ap (λ b. answer_to reading (cond b (Err (refusal.LongLine (decimal most_bytes))) (cond (reading.lines == most_lines) (Err (refusal.Limit (decimal most_lines))) (line_of_tokens reading sent (tokens (join_with_byte 32 ts)))))) fits
+          ∙ ap (λ b. answer_to reading (cond b (Err (refusal.Limit (decimal most_lines))) (line_of_tokens reading sent (tokens (join_with_byte 32 ts))))) lines-ok.0
           ∙ ap (λ ts. answer_to reading (line_of_tokens reading sent ts)) (tokens-joined ts re.are)
           ∙ ap (λ b. answer_to reading (cond b (header_line ts) (later_line reading sent ts))) later.later
           ∙ ap (answer_to reading) tokened;
@@ -291,7 +291,7 @@ unfolding list-arguments
 list-said reading node list may =
     let text = with_commas (texts list.members) in
     let quorum = decimal list.quorum in
-    ap (λ b. cond b (set_list reading (decimal node ∷ quorum ∷ text ∷ [])) (Err (refusal.Limit (decimal MOST_LISTS)))) (lt-ltb _ _ may.lists)
+    ap (λ b. cond b (set_list reading (decimal node ∷ quorum ∷ text ∷ [])) (Err (refusal.Limit (decimal most_lists)))) (lt-ltb _ _ may.lists)
     ∙ ap (λ read. read >>= (λ node. number_of quorum >>= (λ least. members_of text >>= (λ numbers. trusted_of numbers least >>= (λ list. Ok (what.List node list)))))) (declared-read reading.nodes node may.least may.greatest may.declared)
     ∙ ap (λ read. read >>= (λ least. members_of text >>= (λ numbers. trusted_of numbers least >>= (λ list. Ok (what.List node list))))) (quorum-read list may.valid)
     ∙ ap (λ read. read >>= (λ numbers. trusted_of numbers list.quorum >>= (λ list. Ok (what.List node list)))) (list-again list may.valid).same
@@ -313,14 +313,14 @@ lists_read reading sent node list may =
     let ts = codes "list" ∷ list-arguments node list in
     let re = list-respelled reading node list may in
     let short = re.few in
-    let fits : nat_lt MOST_BYTES (length (join_with_byte 32 ts)) ≡ false = grind (arith, nat_tests) in
+    let fits : nat_lt most_bytes (length (join_with_byte 32 ts)) ≡ false = grind (arith, nat_tests) in
     let many = may.lines in
-    let more : (reading.lines == MOST_LINES) ≡ false = grind (arith, nat_tests) in
+    let more : (reading.lines == most_lines) ≡ false = grind (arith, nat_tests) in
     let first = may.later in
     let later : (reading.lines == 0) ≡ false = grind (arith, nat_tests) in
     let tokened : later_line reading sent ts ≡ Ok (Some (list_line reading node list)) = ap (λ read. some_line (event_line reading read)) (list-said reading node list may) in
-    ap (λ b. answer_to reading (cond b (Err (refusal.LongLine (decimal MOST_BYTES))) (cond (reading.lines == MOST_LINES) (Err (refusal.Limit (decimal MOST_LINES))) (line_of_tokens reading sent (tokens (join_with_byte 32 ts)))))) fits
-    ∙ ap (λ b. answer_to reading (cond b (Err (refusal.Limit (decimal MOST_LINES))) (line_of_tokens reading sent (tokens (join_with_byte 32 ts))))) more
+    ap (λ b. answer_to reading (cond b (Err (refusal.LongLine (decimal most_bytes))) (cond (reading.lines == most_lines) (Err (refusal.Limit (decimal most_lines))) (line_of_tokens reading sent (tokens (join_with_byte 32 ts)))))) fits
+    ∙ ap (λ b. answer_to reading (cond b (Err (refusal.Limit (decimal most_lines))) (line_of_tokens reading sent (tokens (join_with_byte 32 ts))))) more
     ∙ ap (λ ts. answer_to reading (line_of_tokens reading sent ts)) (tokens-joined ts re.are)
     ∙ ap (λ b. answer_to reading (cond b (header_line ts) (later_line reading sent ts))) later
     ∙ ap (answer_to reading) tokened

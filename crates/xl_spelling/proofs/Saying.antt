@@ -11,7 +11,7 @@ use Rattle.hex.proofs.HexLemmas.{length-encode_with}
 use Rattle.xl_base.specs.declared.ids.LedgerId.{LedgerId}
 use Rattle.xl_base.specs.declared.ids.SetId.{SetId}
 use Rattle.xl_base.specs.declared.ids.TxId.{TxId}
-use Rattle.xl_base.specs.declared.sets.TheConstants.{MOST_IDS}
+use Rattle.xl_base.specs.Sets.{most_ids}
 use Rattle.xl_sched.specs.declared.event.Lied.{Lied}
 use Rattle.xl_sched.specs.declared.event.Lied.TheVariants as lied
 use Rattle.xl_sched.specs.declared.named.Named.{Named}
@@ -276,19 +276,19 @@ never-true true h = absurd (h refl)
 never-true false h = refl
 
 -- as many ids as a set may have
-set-few : (names : List Named) (token : List ℕ) (ids : List TxId) → joined_ids_of names token ≡ Ok ids → (risen_ids_of names None (entries token) ≡ Ok ids) × (length ids ≤ MOST_IDS)
+set-few : (names : List Named) (token : List ℕ) (ids : List TxId) → joined_ids_of names token ≡ Ok ids → (risen_ids_of names None (entries token) ≡ Ok ids) × (length ids ≤ most_ids)
 set-few names token ids e =
-    let r = steps (risen_ids_of names None (entries token)) (λ ids. cond (nat_le (length ids) MOST_IDS) (Ok ids) (Err (refusal.Id token))) ids e in
-    let p = passed (nat_le (length r.value) MOST_IDS) r.value ids (refusal.Id token) r.rest in
-    let within : length r.value ≤ MOST_IDS = grind (arith, nat_tests) in
-    (r.gave ∙ ap (λ ids. Ok ids) p.1, subst (λ (ids : List TxId). length ids ≤ MOST_IDS) p.1 within)
+    let r = steps (risen_ids_of names None (entries token)) (λ ids. cond (nat_le (length ids) most_ids) (Ok ids) (Err (refusal.Id token))) ids e in
+    let p = passed (nat_le (length r.value) most_ids) r.value ids (refusal.Id token) r.rest in
+    let within : length r.value ≤ most_ids = grind (arith, nat_tests) in
+    (r.gave ∙ ap (λ ids. Ok ids) p.1, subst (λ (ids : List TxId). length ids ≤ most_ids) p.1 within)
 
 -- the spelling of a set
 record IsSetAgain (names : List Named) (ids : List TxId) : Type 0 where
   same : tx_set_of names (set_word ids) ≡ Ok ids
   small : IsSmall 16640 (set_word ids)
 
-joined-again : (names : List Named) (parts : List (List ℕ)) (ids : List TxId) → risen_ids_of names None parts ≡ Ok ids → length ids ≤ MOST_IDS → AreIds ids → IsSetAgain names ids
+joined-again : (names : List Named) (parts : List (List ℕ)) (ids : List TxId) → risen_ids_of names None parts ≡ Ok ids → length ids ≤ most_ids → AreIds ids → IsSetAgain names ids
 joined-again names parts [] e few h = record { same = refl; small = record { some = omega arith; few = omega arith; ink = inked (codes "-") refl } }
 joined-again names parts (id ∷ ids) e few h =
     let token = with_commas (hexes (id ∷ ids)) in
@@ -296,11 +296,11 @@ joined-again names parts (id ∷ ids) e few h =
     let cut : entries token ≡ hexes (id ∷ ids) = cut-joined 44 (λ b. b == 44) (encode_lower id.0) (hexes ids) refl clear.0 clear.1 in
     let long : length token + 1 ≡ 65 * length (id ∷ ids) = joined-spread 44 (encode_lower id.0) (hexes ids) ∙ hexes-spread (id ∷ ids) h in
     let none : bytes_eq token (codes "-") ≡ false = never-true (bytes_eq token (codes "-")) (λ same. omega (arith, long, ap length ((bytes_eq-Decides token (codes "-")).0 same))) in
-    let within : nat_le (length (id ∷ ids)) MOST_IDS ≡ true = grind (arith, nat_tests) in
+    let within : nat_le (length (id ∷ ids)) most_ids ≡ true = grind (arith, nat_tests) in
     record {
       same =
           ap (λ b. cond b (Ok []) (joined_ids_of names token)) none
-          ∙ ap (λ read. read >>= (λ ids. cond (nat_le (length ids) MOST_IDS) (Ok ids) (Err (refusal.Id token))))
+          ∙ ap (λ read. read >>= (λ ids. cond (nat_le (length ids) most_ids) (Ok ids) (Err (refusal.Id token))))
           (ap (risen_ids_of names None) cut ∙ risen-again names None parts (id ∷ ids) e h)
           ∙ ap (λ b. cond b (Ok (id ∷ ids)) (Err (refusal.Id token))) within;
       small = record {

@@ -5,10 +5,10 @@ use Rattle.std.specs.Char.{is_ascii_digit}
 use Rattle.std.proofs.lemmas.Bool.{and_parts}
 use Rattle.std.proofs.lemmas.Bool.Decides.{nat_tests}
 use Rattle.hex.specs.Hex.{encode_lower}
-use Rattle.xl_base.specs.declared.moments.TheConstants.{GREATEST_MILLIS}
-use Rattle.xl_ledger.specs.declared.registry.TheConstants.{LEAST_LIMIT}
+use Rattle.xl_base.specs.Moments.{greatest_millis}
+use Rattle.xl_ledger.specs.Limits.{least_limit}
 use Rattle.xl_lists.specs.Lists.{is_on}
-use Rattle.xl_sched.specs.declared.limits.TheConstants.{MOST_LEDGERS, MOST_NAMES}
+use Rattle.xl_sched.specs.Limits.{most_ledgers, most_names}
 use Rattle.xl_sched.specs.declared.line.Line.{Line}
 use Rattle.xl_sched.specs.declared.line.Line.TheVariants as line
 use Rattle.xl_sched.specs.declared.named.Named.{Named}
@@ -41,10 +41,10 @@ limit_line-again : (reading : Reading) (old : List (List ℕ)) (l : Line) → li
 limit_line-again reading [] l e = absurd (cc)
 limit_line-again reading (number ∷ more ∷ rest) l e = absurd (cc)
 limit_line-again reading (number ∷ []) l e =
-    let n = steps (number_within LEAST_LIMIT MOST_LEDGERS number) (λ limit. cond reading.limited (Err (refusal.Twice number)) (Ok (line.Limit limit))) l e in
+    let n = steps (number_within least_limit most_ledgers number) (λ limit. cond reading.limited (Err (refusal.Twice number)) (Ok (line.Limit limit))) l e in
     let u = unstopped reading.limited (Ok (line.Limit n.value)) l (refusal.Twice number) n.rest in
     let is = same-ok (line.Limit n.value) l u.1 in
-    let limit = number_within-same LEAST_LIMIT MOST_LEDGERS number n.value (omega arith) n.gave in
+    let limit = number_within-same least_limit most_ledgers number n.value (omega arith) n.gave in
     record { arguments = number ∷ []; words = ap line_words (sym is) ∙ cc (limit.1); same = e; count = refl; like = inl refl }
 
 speak_line-again : (reading : Reading) (old : List (List ℕ)) (l : Line) → speak_line reading old ≡ Ok l → IsLineAgain (speak_line reading) (codes "speak") old l
@@ -157,9 +157,9 @@ at_line-again : (old : List (List ℕ)) (l : Line) → at_line old ≡ Ok l → 
 at_line-again [] l e = absurd (cc)
 at_line-again (moment ∷ more ∷ rest) l e = absurd (cc)
 at_line-again (moment ∷ []) l e =
-    let n = steps (number_within 0 GREATEST_MILLIS moment) (λ at. Ok (line.At at)) l e in
+    let n = steps (number_within 0 greatest_millis moment) (λ at. Ok (line.At at)) l e in
     let is = same-ok (line.At n.value) l n.rest in
-    let at = number_within-same 0 GREATEST_MILLIS moment n.value (omega arith) n.gave in
+    let at = number_within-same 0 greatest_millis moment n.value (omega arith) n.gave in
     record { arguments = moment ∷ []; words = ap line_words (sym is) ∙ cc (at.1); same = e; count = refl; like = inl refl }
 
 -- a new name is the token itself, and a name
@@ -239,24 +239,24 @@ named_ledger_line-again reading (name ∷ parent ∷ second ∷ []) l e =
 
 name_line-again : (reading : Reading) (old : List (List ℕ)) (l : Line) → name_line reading old ≡ Ok l → IsStored l → IsLineAgain (name_line reading) (codes "name") old l
 name_line-again reading old l e stored =
-    let room = unstopped (has_most_names reading) (named_line reading old) l (refusal.Limit (decimal MOST_NAMES)) e in
+    let room = unstopped (has_most_names reading) (named_line reading old) l (refusal.Limit (decimal most_names)) e in
     let again = named_line-again reading old l room.1 stored in
     record {
       arguments = again.arguments;
       words = again.words;
-      same = ap (λ b. cond b (Err (refusal.Limit (decimal MOST_NAMES))) (named_line reading again.arguments)) room.0 ∙ again.same;
+      same = ap (λ b. cond b (Err (refusal.Limit (decimal most_names))) (named_line reading again.arguments)) room.0 ∙ again.same;
       count = again.count;
       like = again.like;
     }
 
 ledger_line-again : (reading : Reading) (old : List (List ℕ)) (l : Line) → ledger_line reading old ≡ Ok l → IsLineAgain (ledger_line reading) (codes "ledger") old l
 ledger_line-again reading old l e =
-    let room = unstopped (has_most_names reading) (named_ledger_line reading old) l (refusal.Limit (decimal MOST_NAMES)) e in
+    let room = unstopped (has_most_names reading) (named_ledger_line reading old) l (refusal.Limit (decimal most_names)) e in
     let again = named_ledger_line-again reading old l room.1 in
     record {
       arguments = again.arguments;
       words = again.words;
-      same = ap (λ b. cond b (Err (refusal.Limit (decimal MOST_NAMES))) (named_ledger_line reading again.arguments)) room.0 ∙ again.same;
+      same = ap (λ b. cond b (Err (refusal.Limit (decimal most_names))) (named_ledger_line reading again.arguments)) room.0 ∙ again.same;
       count = again.count;
       like = again.like;
     }

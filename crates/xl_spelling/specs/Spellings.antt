@@ -13,7 +13,7 @@ use Rattle.xl_sched.specs.declared.event.What.{What}
 use Rattle.xl_sched.specs.declared.event.What.TheVariants as what
 use Rattle.xl_sched.specs.declared.line.Line.{Line}
 use Rattle.xl_sched.specs.declared.line.Line.TheVariants as line
-use Rattle.xl_sched.specs.declared.limits.TheConstants.{MOST_LINES, MOST_LISTS}
+use Rattle.xl_sched.specs.Limits.{most_lines, most_lists}
 use Rattle.xl_sched.specs.Reading.{Reading, after}
 use Rattle.xl_sched.specs.Answers.{gives, reading_of}
 
@@ -38,7 +38,7 @@ abbrev pub set_word : List TxId → List ℕ
 set_word [] = codes "-"
 set_word (id ∷ ids) = with_commas (map (λ id. encode_lower id.0) (id ∷ ids))
 
--- the id of the ledger that was last reported, where one is told
+-- the id of the ledger that was last reported, if there is one
 abbrev pub validated_words : Option LedgerId → List (List ℕ)
 validated_words None = []
 validated_words (Some id) = encode_lower id.0 ∷ []
@@ -117,15 +117,15 @@ IsSaidPlainly line =
     (reading : Reading) → (sent : ℕ) → (bytes : List ℕ) → Says reading sent bytes line →
     AddsNoControl bytes (spelling line)
 
--- a list that a line may set: of a declared node, and a valid one, where one line more and one list more may come
+-- a list that a line may set: of a declared node, and a valid one, if one line more and one list more may come
 pub record MayBeSet (reading : Reading) (node : ℕ) (list : TrustedList) : Type 0 where
   pub least : 1 ≤ node
   pub greatest : node ≤ 64
   pub declared : is_on reading.nodes node ≡ true
   pub valid : IsValid list
   pub later : 0 < reading.lines
-  pub lines : reading.lines < MOST_LINES
-  pub lists : reading.lists < MOST_LISTS
+  pub lines : reading.lines < most_lines
+  pub lists : reading.lists < most_lists
 
 -- the line that sets it
 abbrev pub list_line : Reading → ℕ → TrustedList → Line

@@ -10,7 +10,7 @@ use xl_base::{NodeNo, OutOfMemory};
 use xl_lists::List;
 use xl_sched::Line;
 
-/// Appends the spelling of a line, without a byte that ends it. Where memory is wanting, nothing is appended.
+/// Appends the spelling of a line, without a byte that ends it. If memory runs out, nothing is appended.
 ///
 /// Where some bytes say the line to a reader, the spelling says it to a reader in the same state; so it has at most
 /// 17,000 bytes. No byte below 32 is in it that isn't in those.

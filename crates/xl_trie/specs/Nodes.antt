@@ -57,7 +57,7 @@ AllKids nodes = (a : Name) (n : Node) → get nodes a ≡ Some n → HasKids nod
 abbrev pub AllHang : (Name → Option Span) → Type 0
 AllHang S = (a : Name) (s : Span) (b : Name) → S a ≡ Some s → s.parent ≡ Some b → (t : Span) × (S b ≡ Some t)
 
--- the child of a that leads to c, or none where c is the first
+-- the child of a that leads to c, or none if c is the first
 abbrev pub IsBefore : List (Slot Node) → Name → Name → Option Name → Type 0
 IsBefore nodes a c None = (b : Name) (m : Node) → get nodes b ≡ Some m → m.span.parent ≡ Some a → m.sibling ≢ Some c
 IsBefore nodes a c (Some b) = (m : Node) × (get nodes b ≡ Some m) × (m.span.parent ≡ Some a) × (m.sibling ≡ Some c)
@@ -71,6 +71,6 @@ LeadsNow old new a (Some b) to =
     (n : Node) × (get old b ≡ Some n) ×
     Updates old new b (Some (record { span = n.span; child = n.child; sibling = to }))
 
--- the span, where it hangs there and begins with this ledger
+-- the span, if it hangs there and begins with this ledger
 abbrev pub hung_at : Span → Option Name → ℕ → Span
 hung_at s parent first = record { ledger = s.ledger; first = first; parent = parent; tip = s.tip; branch = s.branch }

@@ -21,7 +21,7 @@ fn leads(walk: &Walk<'_>, a: &Span, b: &Span) -> bool
         .is_gt()
 }
 
-/// The best so far, where one more child is looked at.
+/// The best so far, if one more child is looked at.
 fn better(
     nodes: &Pool<Node>,
     walk: &Walk<'_>,
@@ -49,7 +49,7 @@ fn better(
     }
 }
 
-/// The child that no other one leads, but for the one that is left out.
+/// The child that no other one leads, except the one that is left out.
 pub(crate) fn best_kid(
     nodes: &Pool<Node>,
     walk: &Walk<'_>,
@@ -73,7 +73,7 @@ pub(crate) fn best_kid(
     best
 }
 
-/// By how many votes a span is ahead of the second, with one more where it has the greater id.
+/// By how many votes a span is ahead of the second, with one more if it has the greater id.
 pub(crate) fn lead(walk: &Walk<'_>, best: &Span, second: Option<Span>) -> u64
     requires best { best.now.first < length walk.now.ledgers.headers }
     requires second { IfSome second (λ s. s.first < length walk.now.ledgers.headers) }

@@ -59,7 +59,7 @@ pub(crate) fn give(nodes: &mut Pool<Node>, name: Name)
     }
 }
 
-/// The child of a node that leads to this one, or None where it is the first.
+/// The child of a node that leads to this one, or None if it is the first.
 pub(crate) fn before(nodes: &Pool<Node>, of: Name, name: Name) -> Option<Name>
     requires kids { AllKids nodes.now }
     requires stands { IsSome (spans nodes.now of) }

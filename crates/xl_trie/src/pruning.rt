@@ -9,7 +9,7 @@ use crate::linking::{give, hang, unhang};
 use crate::node::{Node, node_at, span_at};
 use xl_pool::{Name, Pool};
 
-/// A node without votes of its own and without children goes, but for the root. Which node may have to be merged then:
+/// A node without votes of its own and without children goes, except the root. Which node may have to be merged then:
 /// the one above it, or the node itself where it stays.
 fn drop_empty(nodes: &mut Pool<Node>, name: Name) -> Name
     requires trie { IsSomeTrie nodes.old (Some name) }
@@ -52,7 +52,7 @@ fn lift(nodes: &mut Pool<Node>, of: Name, name: Name, kid: Name)
     give(nodes, name);
 }
 
-/// A node without votes of its own and with one child is merged with it, but for the root.
+/// A node without votes of its own and with one child is merged with it, except the root.
 fn merge(nodes: &mut Pool<Node>, name: Name)
     requires trie { IsSomeTrie nodes.old (Some name) }
     requires half { IsHalfNeeded (spans nodes.old) name }

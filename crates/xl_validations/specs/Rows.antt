@@ -4,7 +4,7 @@ use Rattle.std.specs.Prelude.{Some, None}
 use Rattle.std.specs.declared.option.Option.{Option}
 use Rattle.std.specs.Option.{option_and_then, option_map_or}
 use Rattle.xl_base.specs.Ids.{same_id}
-use Rattle.xl_base.specs.declared.moments.TheConstants.{PAST_SECS, FUTURE_SECS}
+use Rattle.xl_base.specs.Moments.{future_secs, past_secs}
 use Rattle.xl_base.specs.declared.ids.LedgerId.{LedgerId}
 use Rattle.xl_wire.specs.declared.validation.Validation.{Validation}
 use Rattle.xl_validations.specs.declared.row.Row.{Row}
@@ -13,7 +13,7 @@ use Rattle.xl_validations.specs.declared.refusal.ValRefusal.TheVariants.{Stale, 
 
 -- signed less than 180 seconds ago, and less than 300 seconds ahead
 abbrev pub is_current : ℕ → Validation → Bool
-is_current now v = nat_lt (now - PAST_SECS) v.signed && nat_lt v.signed (now + FUTURE_SECS)
+is_current now v = nat_lt (now - past_secs) v.signed && nat_lt v.signed (now + future_secs)
 
 -- a row at the opening
 abbrev pub empty_row : ℕ → Row

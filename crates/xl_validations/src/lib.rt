@@ -3,8 +3,8 @@
 //! which ledger to go on with.
 //!
 //! It stands on xl_lists, xl_wire and xl_ledger. Its one contract: `take` answers as the rows say (stale, a repeat, a
-//! conflict, old, or taken) and changes the sender's row alone; and whatever comes, `preferred`, `choose` and
-//! `finished` answer as counting the votes of the rows over whole chains does, for whichever `Branch` keeps them.
+//! conflict, old, or taken) and changes the sender's row alone. Whatever comes, `preferred`, `choose` and `finished`
+//! answer as counting the votes of the rows over whole chains does, for whichever `Branch` keeps them.
 #![tactic(auto)]
 
 mod counted;

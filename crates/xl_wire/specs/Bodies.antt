@@ -51,7 +51,7 @@ abbrev pub validated_bytes : Option LedgerId → List ℕ
 validated_bytes None = []
 validated_bytes (Some id) = id.0
 
--- and then the id of the ledger that its sender last reported, where it tells that
+-- and then the id of the ledger that its sender last reported, if it tells that
 abbrev pub validation_bytes : Validation → List ℕ
 validation_bytes v = vote_bytes v ++ validated_bytes v.validated
 
@@ -119,7 +119,7 @@ proposal_in bytes = record {
   time = big_number 4 (drop 72 bytes);
 }
 
--- the id behind what both versions have, where there is more
+-- the id behind what both versions have, if there is more
 abbrev pub validated_in : List ℕ → Option LedgerId
 validated_in bytes = if nat_lt 41 (length bytes) then Some (record { 0 = take 32 (drop 41 bytes) }) else None
 

@@ -10,7 +10,7 @@ is_version version = version == 1 || version == 2
 abbrev pub is_kind : ℕ → ℕ → Bool
 is_kind version kind = if version == 2 then kind == 2 else nat_le 1 kind && nat_le kind 5
 
--- a count of 2 bytes, and so many ids of 32 bytes, at most as many as a set may have
+-- a count of 2 bytes, and this many ids of 32 bytes, at most as many as a set may have
 abbrev pub is_set_length : ℕ → Bool
 is_set_length n = nat_le 2 n && nat_le n longest_body && (n - 2) % 32 == 0
 

@@ -3,7 +3,7 @@ use Rattle.std.specs.Prelude.{ℕ, zero, suc, ◌+◌, List, [], ◌∷◌, take
 use Rattle.xl_base.specs.declared.ids.TxId.{TxId}
 use Rattle.xl_base.specs.Sets.{is_below}
 
--- so many ids of 32 bytes that the bytes begin with
+-- this many ids of 32 bytes that the bytes begin with
 abbrev pub ids_in : ℕ → List ℕ → List TxId
 ids_in zero bytes = []
 ids_in (suc count) bytes = record { 0 = take 32 bytes } ∷ ids_in count (drop 32 bytes)

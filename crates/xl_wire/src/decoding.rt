@@ -9,7 +9,7 @@ use crate::{Frame, Parted, WireRefusal, read_body, split};
 pub enum Decoded<'a> {
     /// A frame, and how many bytes it has.
     Whole(Frame<'a>, usize),
-    /// Nothing that is refused, and less than a frame: so many bytes lack, first of the length and then of the frame.
+    /// Nothing that is refused, and less than a frame: this many bytes lack, first of the length and then of the frame.
     Need(usize),
     Refused(WireRefusal),
 }

@@ -12,7 +12,7 @@ use xl_base::{OutOfMemory, put};
 pub enum Next<'a> {
     /// The bytes of the next whole frame.
     Frame(&'a [u8]),
-    /// Less than a frame is held: so many bytes lack, first of the length and then of the frame.
+    /// Less than a frame is held: this many bytes lack, first of the length and then of the frame.
     Need(usize),
     /// What is held begins no frame: Magic, Version, Kind or Length. No more is taken.
     Refused(WireRefusal),
@@ -92,7 +92,7 @@ impl Feed {
 
 /// Where bytes are cut.
 enum Cut {
-    /// After so many bytes, which are a frame.
+    /// After this many bytes, which are a frame.
     Frame(usize),
     Need(usize),
     Refused(WireRefusal),

@@ -60,7 +60,7 @@ fn can_have_first(kind: u8, length: u16) -> bool
     }
 }
 
-/// Whether it is the length of a count and so many ids, at most 256.
+/// Whether it is the length of a count and this many ids, at most 256.
 fn is_set_length(length: usize) -> bool
     ensures { result ≡ is_set_length length }
 {

@@ -15,7 +15,7 @@ pub fn one_spelling()
 {}
 
 /// A law of every feed: however a stream is cut into pieces, the frames handed out so far, and then those of what is
-/// held, are the frames of the bytes taken. Where no frame is held any more, those handed out are all of them, and
+/// held, are the frames of the bytes taken. If no frame is held any more, those handed out are all of them, and
 /// what is held is the rest. Bytes have one such list of frames, with one rest.
 pub fn cut_anywhere()
     ensures handed { (acts : List Act) (more : List RawFrame) (rest : List ℕ) → AllByRecursion IsAct acts

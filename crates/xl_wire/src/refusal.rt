@@ -17,7 +17,7 @@ pub enum WireRefusal {
     Flags(u8),
     /// The id at this place of a set, counted from 0, is the first that isn't greater than the one before.
     Order(usize),
-    /// A set counts so many ids, and its length is another number's.
+    /// A set counts this many ids, and its length is another number's.
     Count(u16),
 }
 

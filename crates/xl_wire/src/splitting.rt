@@ -14,7 +14,7 @@ use xl_base::bytes_at;
 pub enum Parted<'a> {
     /// A whole frame.
     Whole(Raw<'a>),
-    /// Nothing that is refused, and less than a frame: so many bytes lack, first of the length and then of the frame.
+    /// Nothing that is refused, and less than a frame: this many bytes lack, first of the length and then of the frame.
     Need(usize),
     /// No frame begins so: Magic, Version, Kind or Length.
     Refused(WireRefusal),

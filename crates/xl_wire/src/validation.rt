@@ -9,7 +9,7 @@ pub struct Validation {
     pub signed: Secs,
     /// A partial validation is a vote for the branch and counts for no quorum.
     pub full: bool,
-    /// The ledger that its sender last reported as fully validated, or no ledger's id where there is none. A validation
+    /// The ledger that its sender last reported as fully validated, or no ledger's id if there is none. A validation
     /// of version 2 tells it, one of version 1 doesn't.
     pub validated: Option<LedgerId>,
 }

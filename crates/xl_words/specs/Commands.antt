@@ -39,7 +39,7 @@ abbrev pub rounds_in : List Row → Option ℕ
 rounds_in rows =
     option_and_then (λ text. if is_plain text then number_in rows else None) (first_of (codes "rounds") rows)
 
--- the command that makes so many rounds
+-- the command that makes this many rounds
 abbrev pub gen : ℕ → Command
 gen rounds = Tell (Gen rounds)
 

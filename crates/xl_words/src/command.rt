@@ -35,7 +35,7 @@ pub enum Telling {
     Flags,
     /// Writes a schedule again, with the lists that leave out silent members.
     Negative,
-    /// Makes a schedule of so many rounds, 1 to 1,000, and runs it.
+    /// Makes a schedule of this many rounds, 1 to 1,000, and runs it.
     Gen(u32),
     Help,
     Version,
@@ -46,7 +46,7 @@ pub enum Telling {
 pub enum WordsFault {
     /// They are no command.
     Refused,
-    /// Memory was wanting.
+    /// Memory ran out.
     Memory,
 }
 
@@ -124,7 +124,7 @@ fn named(name: &str, matches: &ArgMatches<'_>) -> Option<Command>
     None
 }
 
-/// The command that makes so many rounds, if that is a number that it takes.
+/// The command that makes this many rounds, if that is a number that it takes.
 fn made(rounds: Option<u32>) -> Option<Command>
     ensures { result ≡ option_map gen rounds }
 {

@@ -1,5 +1,5 @@
 ghost use Rattle.std.specs.Prelude.{◌≡◌, ◌≤◌, ◌+◌, ◌*◌, ◌/◌, is_some};
-ghost use Rattle.xl_base.specs.declared.moments.TheConstants.{GREATEST_MILLIS};
+ghost use Rattle.xl_base.specs.Moments.{greatest_millis};
 ghost use Rattle.xl_rounds.specs.Heartbeats.{
   quiet,
   said_of,
@@ -45,7 +45,7 @@ const LAST_SEQUENCE: u32 = u32::MAX - 1;
 
 /// How long a round has taken, in percent of the one before it.
 fn percent_of(former: Former, round_ms: Millis) -> u64
-    requires { round_ms ≤ GREATEST_MILLIS }
+    requires { round_ms ≤ greatest_millis }
     ensures { result ≡ percent_of_former former round_ms }
 {
     round_ms * 100 / former.round_ms.max(LEAST_FORMER_MS)
@@ -90,7 +90,7 @@ impl Round {
     /// An open round closes, or nothing happens. An established one may renew our position, and may come to be ready,
     /// which is when the ledger that it agreed on is to be accepted. An accepted one waits for the next start.
     pub fn heartbeat(&mut self, now: Millis, seen: Seen) -> Pulse
-        requires { now ≤ GREATEST_MILLIS }
+        requires { now ≤ greatest_millis }
         ensures told { result ≡ (heartbeat_of now seen self.old).pulse }
         ensures after { self.new ≡ (heartbeat_of now seen self.old).round }
         // So a round is ready after this heartbeat exactly if it tells so, and stays on its ledger.
@@ -130,7 +130,7 @@ impl Round {
     }
 
     fn open_beat(&mut self, now: Millis, validated: u32) -> Pulse
-        requires { now ≤ GREATEST_MILLIS }
+        requires { now ≤ greatest_millis }
         ensures told { result ≡ (open_beat_of now validated self.old).pulse }
         ensures after { self.new ≡ (open_beat_of now validated self.old).round }
     {
@@ -159,7 +159,7 @@ impl Round {
 
     /// Closes the open phase: the pending ids are our set.
     fn close(&mut self, now: Millis)
-        requires { now ≤ GREATEST_MILLIS }
+        requires { now ≤ greatest_millis }
         ensures { self.new ≡ closed_at now self.old }
     {
         let second = secs_of(now);
@@ -175,7 +175,7 @@ impl Round {
     }
 
     fn establish_beat(&mut self, now: Millis, finished: u32) -> Pulse
-        requires { now ≤ GREATEST_MILLIS }
+        requires { now ≤ greatest_millis }
         ensures told { result ≡ (establish_beat_of now finished self.old).pulse }
         ensures after { self.new ≡ (establish_beat_of now finished self.old).round }
     {
@@ -188,7 +188,7 @@ impl Round {
 
     /// The lines of the phase establish, in their order.
     fn establish(&mut self, round_ms: Millis, second: Secs, finished: u32) -> Pulse
-        requires { round_ms ≤ GREATEST_MILLIS }
+        requires { round_ms ≤ greatest_millis }
         ensures told { result ≡ (established round_ms second finished self.old).pulse }
         ensures after { self.new ≡ (established round_ms second finished self.old).round }
     {
@@ -206,7 +206,7 @@ impl Round {
 
     /// Removes old positions, takes the set that wins by the votes, and chooses a close time.
     fn decide(&mut self, round_ms: Millis, second: Secs) -> Decision
-        requires { round_ms ≤ GREATEST_MILLIS }
+        requires { round_ms ≤ greatest_millis }
         ensures decision { result ≡ decision_of self.old round_ms second }
         ensures voted { self.new ≡ voted self.old round_ms second }
     {

@@ -1,5 +1,5 @@
 ghost use Rattle.std.specs.Prelude.{◌≡◌, ◌<◌, ◌≤◌, length, Some, None, Ok, OnErr};
-ghost use Rattle.xl_base.specs.declared.moments.TheConstants.{GREATEST_MILLIS};
+ghost use Rattle.xl_base.specs.Moments.{greatest_millis};
 ghost use Rattle.xl_closetime.specs.Resolutions.{IsResolution};
 ghost use Rattle.xl_rounds.specs.Settings.{setting_on as setting_on_of};
 ghost use Rattle.xl_rounds.specs.Rounds.{on_ledger};
@@ -40,7 +40,7 @@ impl Round {
     /// ledger are handed to the rule, by rising member, and those on a ledger that is known and not later are dropped.
     pub fn start(&mut self, registry: &Registry, previous: LedgerNo, mode: Mode, now: Millis)
         requires known { previous < length registry.now.headers }
-        requires moment { now ≤ GREATEST_MILLIS }
+        requires moment { now ≤ greatest_millis }
         ensures started { self.new ≡ started registry.now.headers previous mode now self.old }
         // So the round is on that ledger.
         ensures setting { self.new.setting ≡ setting_on_of registry.now.headers previous mode now }

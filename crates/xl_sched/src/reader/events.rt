@@ -2,7 +2,7 @@
 ghost use Rattle.std.specs.Prelude.{◌≡◌, ◌≤◌, ◌<◌, ℕ, true, length, IfOk};
 ghost use Rattle.xl_sched.specs.Events.{raw_bytes_of};
 ghost use Rattle.xl_sched.specs.Refusals.{GivenMemory};
-ghost use Rattle.xl_sched.specs.declared.limits.TheConstants.{MOST_LISTS, MOST_RAW_BYTES};
+ghost use Rattle.xl_sched.specs.Limits.{most_lists, most_raw_bytes};
 
 use crate::choices::full;
 use crate::event::{Ask, What};
@@ -195,7 +195,7 @@ impl Reader {
     }
 
     fn set_list<'a>(&self, arguments: Tokens<'a>) -> Result<What, LineFault<'a>>
-        requires { self.now.lists < MOST_LISTS }
+        requires { self.now.lists < most_lists }
         ensures value { GivenMemory result (set_list self.now arguments.entry) }
         ensures fit { IfOk result (λ what. (sent : ℕ) → IsFitWhat self.now sent what) }
     {
@@ -210,7 +210,7 @@ impl Reader {
         quorum: &'a [u8],
         list: &'a [u8],
     ) -> Result<What, LineFault<'a>>
-        requires { self.now.lists < MOST_LISTS }
+        requires { self.now.lists < most_lists }
         ensures value { GivenMemory result (list_of self.now node.now quorum.now list.now) }
         ensures fit { IfOk result (λ what. (sent : ℕ) → IsFitWhat self.now sent what) }
     {
@@ -250,7 +250,7 @@ impl Reader {
 fn raw_bytes<'a>(alloc: Global, digits: &'a [u8]) -> Result<Bytes, LineFault<'a>>
     ensures value { GivenMemory result (raw_bytes_of digits.now) }
     ensures least { IfOk result (λ bytes. 1 ≤ length bytes) }
-    ensures most { IfOk result (λ bytes. length bytes ≤ MOST_RAW_BYTES) }
+    ensures most { IfOk result (λ bytes. length bytes ≤ most_raw_bytes) }
 {
     match hex::decode(alloc, digits) {
         Ok(bytes) if !bytes.is_empty() && bytes.len() <= MOST_RAW_BYTES => {

@@ -1,7 +1,7 @@
 // Votes on amendments and the fee.
 ghost use Rattle.std.specs.Prelude.{◌≡◌, ◌⊎◌, ◌<◌, ◌||◌, Err, Ok, IfOk, IfSome, OnErr, MatchResult};
 ghost use Rattle.xl_lists.specs.Lists.{is_on};
-ghost use Rattle.xl_sched.specs.declared.limits.TheConstants.{MOST_LINES};
+ghost use Rattle.xl_sched.specs.Limits.{most_lines};
 
 use crate::fault::{Cause, LineFault};
 use crate::favor::Favor;
@@ -46,7 +46,7 @@ impl Reader {
 
     fn favor_line<'a>(&self, line: &'a [u8]) -> Result<Option<Favor>, LineFault<'a>>
         ensures value { GivenMemory result (favor_line self.now line.now) }
-        ensures more { IfOk result (λ read. IfSome read (λ _. self.now.lines < MOST_LINES)) }
+        ensures more { IfOk result (λ read. IfSome read (λ _. self.now.lines < most_lines)) }
     {
         if self.lines == 0 || self.lines == MOST_LINES || line.len() > MOST_BYTES {
             return Ok(None);

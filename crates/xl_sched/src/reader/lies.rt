@@ -168,7 +168,7 @@ impl Reader {
     }
 }
 
-/// Whether so many tokens may stand after the word of a lie; after no such word as many as after any.
+/// Whether this many tokens may stand after the word of a lie; after no such word as many as after any.
 fn may_say(word: Option<LieWord>, count: usize) -> bool
     ensures { result ≡ may_say word count }
 {

@@ -1,6 +1,6 @@
 // Lines that give names: to ids and to ledgers.
 ghost use Rattle.std.specs.Prelude.{◌≡◌, ◌≤◌, ℕ, length, IfOk};
-ghost use Rattle.xl_sched.specs.declared.limits.TheConstants.{MOST_NAMES};
+ghost use Rattle.xl_sched.specs.Limits.{most_names};
 
 use crate::fault::{Cause, LineFault};
 use crate::limits::MOST_NAMES;
@@ -45,7 +45,7 @@ impl Reader {
     }
 
     fn named_ledger<'a>(&self, arguments: Tokens<'a>) -> Result<Line, LineFault<'a>>
-        requires { length self.now.names ≤ MOST_NAMES }
+        requires { length self.now.names ≤ most_names }
         ensures value { GivenMemory result (named_ledger_line self.now arguments.entry) }
         ensures fit { IfOk result (λ line. (sent : ℕ) → IsFit self.now sent line) }
     {

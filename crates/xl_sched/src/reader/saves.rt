@@ -57,7 +57,7 @@ impl Reader {
     }
 }
 
-/// Whether so many tokens may stand after the word of what is asked.
+/// Whether this many tokens may stand after the word of what is asked.
 fn may_ask(word: &[u8], count: usize) -> bool
     ensures { result ≡ may_ask word.now count }
 {
