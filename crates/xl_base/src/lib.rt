@@ -28,7 +28,7 @@ pub use memory::OutOfMemory;
 pub use moments::{FUTURE_SECS, GREATEST_MILLIS, Millis, PAST_SECS, Secs, Seq, secs_of};
 pub use node_no::{GREATEST_NODE_NO, MOST_MEMBERS, NodeNo};
 pub use putting::{bytes_at, put, put_field, put_u16, put_u32, put_u64};
-pub use sets::{MOST_IDS, set_id};
+pub use sets::{MOST_IDS, empty_set, set_id};
 pub use status::Status;
 pub use steps::Steps;
 pub use tx_ids::TxIds;

@@ -52,7 +52,7 @@ use crate::set::{SET_IDS, Set};
 use crate::tally::Tally;
 use std::alloc::Global;
 use std::marker::Model;
-use xl_base::{OutOfMemory, SetId, TxId, set_id};
+use xl_base::{OutOfMemory, SetId, TxId, empty_set, set_id};
 
 /// A place for our own set, and one for each member's.
 pub(crate) const PLACES: usize = 65;
@@ -89,7 +89,7 @@ fn no_places(alloc: Global) -> Result<Vec<Place>, OutOfMemory>
     ensures { IfOk result (λ places. places.items ≡ no_holdings) }
 {
     let mut places = Vec::with_capacity(alloc, PLACES)?;
-    let empty = set_id(&[]);
+    let empty = empty_set();
     places.push_reserved(Place::own(alloc, empty)?);
     for place in 1..PLACES {
         places.push_reserved(Place::free(alloc, empty, bit_of(place))?);
@@ -145,7 +145,7 @@ impl Shares {
     {
         self.index.clear();
         reset_all(&mut self.places);
-        self.places[0].fill(&[], set_id(&[]));
+        self.places[0].fill(&[], empty_set());
     }
 
     /// Our own set.

@@ -1,7 +1,7 @@
 ghost use Rattle.std.specs.Prelude.{◌≡◌};
 ghost use Rattle.xl_ledger.specs.Limits.{least_limit, greatest_limit};
 ghost use Rattle.xl_ledger.specs.Votes.{BranchesAreSame, PreferredAreSame, TipsAreSame};
-ghost use Rattle.xl_ledger.specs.Limits.{greatest_limit, least_limit};
+ghost use Rattle.xl_ledger.specs.declared.registry.TheConstants.{LEAST_LIMIT, GREATEST_LIMIT};
 
 /// The law of votes in another order, which has no code: the same votes in whatever order say the same of each ledger.
 pub fn order_of_votes()
@@ -15,6 +15,6 @@ pub fn order_of_votes()
 
 /// What the limits are, which has no code.
 pub fn limits()
-    ensures least { least_limit ≡ least_limit }
-    ensures greatest { greatest_limit ≡ greatest_limit }
+    ensures least { LEAST_LIMIT ≡ least_limit }
+    ensures greatest { GREATEST_LIMIT ≡ greatest_limit }
 {}
