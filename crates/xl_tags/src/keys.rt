@@ -93,7 +93,7 @@ impl Keys {
         self.knows(member.get())
     }
 
-    /// Whether each listed member but me has a key.
+    /// Whether each listed member except me has a key.
     pub fn has_all(&self, list: &List) -> bool
         ensures { IsTrue result ↔ HasKeys self.now list.now.members }
     {
@@ -175,7 +175,7 @@ impl Keys {
     }
 }
 
-/// Tells no key.
+/// Shows no key.
 impl fmt::Debug for Keys {
     fn fmt<W: fmt::Write>(&self, f: &mut fmt::Formatter<W>) -> fmt::Result {
         f.write_str("Keys { .. }")

@@ -1,10 +1,10 @@
 ghost use Rattle.std.specs.Prelude.{◌≡◌, ◌-◌, ◌≤◌, ◌++◌, ℕ, List, length, map, replicate, bit_xor};
-ghost use Rattle.xl_tags.specs.declared.macs.TheConstants.{BLOCK};
 ghost use Rattle.xl_tags.specs.Macs.{mac, key_block};
 ghost use Rattle.xl_tags.specs.Prepared.{ArePads};
 
 use sha2::{Digest, Sha256};
 
+/// How many bytes a block of SHA-256 has.
 const BLOCK: usize = 64;
 
 const INNER_PAD: u8 = 0x36;
@@ -77,8 +77,8 @@ fn key_block(key: &[u8]) -> [u8; BLOCK]
 }
 
 fn filled(bytes: &[u8]) -> [u8; BLOCK]
-    requires { length bytes.now ≤ BLOCK }
-    ensures { result ≡ bytes.now ++ replicate (BLOCK - length bytes.now) 0 }
+    requires { length bytes.now ≤ 64 }
+    ensures { result ≡ bytes.now ++ replicate (64 - length bytes.now) 0 }
 {
     let mut block = [0; BLOCK];
     block[..bytes.len()].copy_from_slice(bytes);

@@ -27,7 +27,7 @@ pub fn open(keys: &Keys, list: &List, frame: &[u8]) -> Result<(), TagRefusal>
     }
 }
 
-/// The same of a frame that was split off its bytes already, and it tells who sent it.
+/// Opens, as `open` does, a frame that was split off its bytes already, and answers who sent it.
 pub fn open_raw(keys: &Keys, list: &List, raw: &Raw<'_>, bytes: &[u8]) -> Result<NodeNo, TagRefusal>
     requires whole { SpellsRaw (raw_frame raw.now) bytes.now }
     requires keyed { HasKeys keys.now list.now.members }
@@ -45,7 +45,7 @@ pub fn open_raw(keys: &Keys, list: &List, raw: &Raw<'_>, bytes: &[u8]) -> Result
     Ok(sender)
 }
 
-/// The same of a frame as if it carried the tag under our key, so it isn't refused for its tag, which isn't looked at.
+/// Opens a frame as if it carried the tag under our key. Its tag isn't looked at, so no frame is refused for that.
 pub fn open_as_sealed(keys: &Keys, list: &List, raw: &Raw<'_>) -> Result<NodeNo, TagRefusal>
     requires spelled { IsRaw (raw_frame raw.now) }
     requires keyed { HasKeys keys.now list.now.members }

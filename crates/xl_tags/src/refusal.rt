@@ -1,7 +1,7 @@
 ghost use Rattle.std.specs.Prelude.{◌≡◌};
 ghost use Rattle.xl_tags.specs.Codes.{code_of};
 
-/// Why a frame isn't opened. The causes are tested in this order, and the first that holds is answered.
+/// Why a frame isn't opened. The causes are tested in this order, and the first that holds is the answer.
 #[derive(Clone, Copy, Debug, PartialEq, Eq)]
 pub enum TagRefusal {
     /// The frame is for this number, which isn't mine.

@@ -17,7 +17,7 @@ pub fn seal(keys: &Keys, frame: &mut [u8])
     put_tag(frame, &tag);
 }
 
-/// All bytes of a frame but the 32 of its tag.
+/// All bytes of a frame except the 32 of its tag.
 pub(crate) fn before_tag(bytes: &[u8]) -> &[u8]
     requires { 32 ≤ length bytes.now }
     ensures { result.now ≡ before_tag bytes.now }
