@@ -21,7 +21,7 @@ ghost use Rattle.xl_core.specs.Hearing.{Carries, bytes_as_sealed, bytes_with, sp
 ghost use Rattle.xl_core.specs.Node.{opened, settings_of, at_moment, asks_for, frame_refusal, key_refusal, speech_refusal, tx_refusal, preferred, IsOff};
 ghost use Rattle.xl_core.specs.Ticks.{Beaten, Concludes, CountsBeatFault, IsBuilt, asks_in, beat_was_kept};
 ghost use Rattle.xl_core.specs.Node.Save.{Kept};
-ghost use Rattle.xl_wire.specs.declared.lengths.TheConstants.{LONGEST_FRAME};
+ghost use Rattle.xl_wire.specs.Lengths.{longest_frame};
 ghost use Rattle.xl_wire.specs.declared.body.Body.{Body};
 ghost use Rattle.xl_wire.specs.Raws.{RawFrame};
 ghost use Rattle.xl_core.specs.declared.refusal.Refusal.TheVariants.{NotAfter, IssuingOff};
@@ -347,7 +347,7 @@ impl<B: Branch + Drop> Core<B> {
     /// rest of the room is as it was. A frame is sealed here and nowhere else.
     pub fn drain(&mut self, member: NodeNo, room: &mut [u8]) -> usize
         requires peer { IsSome (key_of self.old.node.keys member) }
-        requires room { LONGEST_FRAME ≤ length room.old }
+        requires room { longest_frame ≤ length room.old }
         ensures step { Drains self.old member self.new result room.old room.new }
         // It answers 0 exactly if nothing is left but items that are passed over.
         ensures nothing { (result ≡ 0) ↔ (frames_in (all_frames self.old member) ≡ []) }
@@ -360,7 +360,7 @@ impl<B: Branch + Drop> Core<B> {
     /// `frame_as_sealed` hears such a frame as the sealed one.
     pub fn drain_blank(&mut self, member: NodeNo, room: &mut [u8]) -> usize
         requires peer { IsSome (key_of self.old.node.keys member) }
-        requires room { LONGEST_FRAME ≤ length room.old }
+        requires room { longest_frame ≤ length room.old }
         ensures step { DrainsBlank self.old member self.new result room.old room.new }
         // It answers 0 exactly if nothing is left but items that are passed over.
         ensures nothing { (result ≡ 0) ↔ (frames_in (all_frames self.old member) ≡ []) }

@@ -2,14 +2,13 @@
 ghost use Rattle.std.specs.Prelude.{◌≡◌, ◌+◌, ◌≤◌, Some, IsSome, IsTrue, length};
 ghost use Rattle.xl_tags.specs.Rings.{key_of};
 ghost use Rattle.xl_wire.specs.Writing.{body_length as body_length_of};
-ghost use Rattle.xl_wire.specs.declared.body.Body.TheVariants as bodies;
 ghost use Rattle.xl_core.specs.Draining.{IsPut};
 ghost use Rattle.xl_core.specs.Sending.{keys_for, sealed_bytes, has_spelling};
 
 use crate::putting::{Put, put_frame};
 use xl_base::NodeNo;
 use xl_tags::{Keys, seal};
-use xl_wire::{Body, Frame, LONGEST_FRAME, Validation, encode};
+use xl_wire::{Body, Frame, LONGEST_FRAME, encode};
 
 /// What is written where the tag of a frame goes.
 #[derive(Clone, Copy, Debug)]
@@ -36,7 +35,7 @@ pub fn put_body(
         at room.old room.new result }
     ensures spelled { IsTrue (has_spelling keys.now.me to body.entry) }
 {
-    let length = 46 + body_length(&body);
+    let length = 46 + body.len();
     if room.len() - at < length {
         return put_through(&mut [0; LONGEST_FRAME], keys, to, tags, body, at, room);
     }
@@ -61,7 +60,7 @@ fn put_through(
         at room.old room.new result }
     ensures spelled { IsTrue (has_spelling keys.now.me to body.entry) }
 {
-    let frame = &mut own[..46 + body_length(&body)];
+    let frame = &mut own[..46 + body.len()];
     write_into(keys, to, tags, body, frame);
     put_frame(frame, at, room)
 }
@@ -84,30 +83,5 @@ fn write_into(keys: &Keys, to: NodeNo, tags: TagPlace, body: Body<'_>, place: &m
     match tags {
         TagPlace::Sealed => seal(keys, place),
         TagPlace::Blank => (),
-    }
-}
-
-/// How many bytes a validation has: one that tells what was last reported has that id more.
-fn validation_length(validation: &Validation) -> usize
-    ensures value { result ≡ body_length_of (bodies.Validation validation.now) }
-    ensures most { result ≤ 73 }
-{
-    match validation.validated {
-        Some(_) => 73,
-        None => 41,
-    }
-}
-
-/// How many bytes a body has.
-fn body_length(body: &Body<'_>) -> usize
-    ensures value { result ≡ body_length_of body.now }
-    ensures most { result ≤ 8194 }
-{
-    match body {
-        Body::Proposal(_) => 76,
-        Body::Validation(validation) => validation_length(validation),
-        Body::Header(_) => 118,
-        Body::TxSet(ids) => 2 + 32 * ids.len(),
-        Body::Tx(_) => 32,
     }
 }
