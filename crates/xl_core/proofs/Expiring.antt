@@ -4,7 +4,7 @@ use Rattle.std.specs.Prelude.{◌&&◌, ◌||◌, ◌==◌, map, max, count_by, 
 use Rattle.std.proofs.lemmas.List.Elements.{All-head, All-tail, All-cons}
 use Rattle.std.proofs.lemmas.Bool.{cond_both}
 use Rattle.xl_base.specs.declared.ids.LedgerId.{LedgerId}
-use Rattle.xl_base.specs.declared.moments.TheConstants.{GREATEST_MILLIS}
+use Rattle.xl_base.specs.Moments.{greatest_millis}
 use Rattle.xl_lists.proofs.Counting.{count_by-cons}
 use Rattle.xl_wire.specs.declared.validation.Validation.{Validation}
 use Rattle.xl_validations.specs.declared.row.Row.{Row}
@@ -35,7 +35,7 @@ rest_then now n rest = record {
   reported = λ seq id enough. rest.reported seq id (omega (arith, enough, fewer_then seq id (max n.time now / 1000) n.rows));
 }
 
-pub ready_then : (now : ℕ) (n : Node) → now ≤ GREATEST_MILLIS → IsReady n → IsReady (at_moment now n)
+pub ready_then : (now : ℕ) (n : Node) → now ≤ greatest_millis → IsReady n → IsReady (at_moment now n)
 ready_then now n le ready = record {
   rest = rest_then now n ready.rest;
   keyed = record { own = ready.keyed.own; listed = ready.keyed.listed };
@@ -53,7 +53,7 @@ same_second now n time before after ready time_is before_is after_is same =
     (sym (ap (λ (s : ℕ). map (row_at s) n.rows) still ∙ none_expire (n.time / 1000) n.rows ready.current))
 
 -- the time as the code has it, within a second
-pub ready_within : (now : ℕ) (n : Node) (time : ℕ) → now ≤ GREATEST_MILLIS → time ≡ max n.time now → time / 1000 ≡ n.time / 1000 → IsReady n → IsReady (record n { time = time })
+pub ready_within : (now : ℕ) (n : Node) (time : ℕ) → now ≤ greatest_millis → time ≡ max n.time now → time / 1000 ≡ n.time / 1000 → IsReady n → IsReady (record n { time = time })
 ready_within now n time le time_is same ready = record {
   rest = record { valid = ready.rest.valid; members = ready.rest.members; reported = ready.rest.reported };
   keyed = record { own = ready.keyed.own; listed = ready.keyed.listed };
@@ -63,7 +63,7 @@ ready_within now n time le time_is same ready = record {
 }
 
 -- the time and the rows as the code has them
-pub ready_after : (now : ℕ) (n : Node) (time second : ℕ) (rows : List Row) → now ≤ GREATEST_MILLIS → time ≡ max n.time now → second ≡ time / 1000 → rows ≡ map (row_at second) n.rows → IsReady n → IsReady (record n { time = time; rows = rows })
+pub ready_after : (now : ℕ) (n : Node) (time second : ℕ) (rows : List Row) → now ≤ greatest_millis → time ≡ max n.time now → second ≡ time / 1000 → rows ≡ map (row_at second) n.rows → IsReady n → IsReady (record n { time = time; rows = rows })
 ready_after now n time second rows le time_is second_is rows_are ready =
     let at : second ≡ max n.time now / 1000 = second_is ∙ ap (λ (t : ℕ). t / 1000) time_is in
     let is : rows ≡ map (row_at (max n.time now / 1000)) n.rows = rows_are ∙ ap (λ (s : ℕ). map (row_at s) n.rows) at in

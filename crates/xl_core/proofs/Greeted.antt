@@ -12,7 +12,7 @@ use Rattle.std.proofs.Math.ListN.{drop_of_length-le}
 use Rattle.std.proofs.Math.Seq.{take-append-add, take-length}
 use Rattle.xl_queues.specs.Queues.{Backlog}
 use Rattle.xl_ledger.specs.declared.header.Header.{Header}
-use Rattle.xl_ledger.specs.declared.registry.TheConstants.{GREATEST_LIMIT}
+use Rattle.xl_ledger.specs.Limits.{greatest_limit}
 use Rattle.xl_ledger.specs.Chains.{chain, place_of, seq_at}
 use Rattle.xl_ledger.proofs.ChainLaws.{length-chain}
 use Rattle.xl_tags.specs.Rings.{Ring}
@@ -68,7 +68,7 @@ framed_sealed n ring to body its own spelled =
 
 -- it was put at a place
 pub puts_next : (n : Node) (ring : Ring) (to : ℕ) (g : Greeting) (ledger : ℕ) (body : Body) (at count next : ℕ) (old new : List ℕ) → next_on n.ledgers.headers g ≡ Some ledger → body ≡ header_body_at n ledger →
-    ring ≡ n.keys → n.keys.me ≡ n.me → has_spelling ring.me to body ≡ true → IsPut (Some (sealed_bytes ring ring.me to body)) at old new (Written count) → Some (at + count) ≡ Some next → g.next < GREATEST_LIMIT →
+    ring ≡ n.keys → n.keys.me ≡ n.me → has_spelling ring.me to body ≡ true → IsPut (Some (sealed_bytes ring ring.me to body)) at old new (Written count) → Some (at + count) ≡ Some next → g.next < greatest_limit →
     PutsNext n to g at next old new
 puts_next n ring to g ledger body at count next old new is its_body its own spelled put then_ few = record {
   first = sealed_bytes ring ring.me to body;

@@ -15,7 +15,7 @@ use Rattle.xl_core.specs.Core.{Core, with_queues}
 use Rattle.xl_core.specs.Node.{Node, opened}
 use Rattle.xl_core.specs.Rest.{IsAtRest, IsKeyed, IsReady}
 use Rattle.xl_core.proofs.Current.{opened_current}
-use Rattle.xl_base.specs.declared.moments.TheConstants.{GREATEST_MILLIS}
+use Rattle.xl_base.specs.Moments.{greatest_millis}
 use Rattle.xl_ledger.specs.Registries.{Ledgers, only_root}
 use Rattle.xl_tags.specs.Rings.{Ring}
 use Rattle.xl_rounds.specs.Rounds.{Round, opened as opened_round}
@@ -42,7 +42,7 @@ first_round ledgers root mode validating time is_root is_mode =
     ap (λ (r : ℕ). opened_round ledgers r mode time) is_root ∙ ap (λ (m : Mode). opened_round ledgers 0 m time) is_mode
 
 -- and ready, as the code has its parts
-pub opened_ready : (settings : Settings) (now kept time : ℕ) (ledgers : Ledgers) (rows : List Row) (round : Round) (keys : Ring) → IsValid settings.list → IsKeyed settings.me settings.list.members settings.keys → now ≤ GREATEST_MILLIS →
+pub opened_ready : (settings : Settings) (now kept time : ℕ) (ledgers : Ledgers) (rows : List Row) (round : Round) (keys : Ring) → IsValid settings.list → IsKeyed settings.me settings.list.members settings.keys → now ≤ greatest_millis →
     time ≡ max now 1000 → ledgers ≡ only_root settings.limit → rows ≡ map empty_row settings.list.members →
     round ≡ opened_round ledgers.headers 0 (usual_mode settings.validating) time → keys ≡ settings.keys →
     IsReady (record (opened settings now kept) { time = time; ledgers = ledgers; rows = rows; round = round; keys = keys })

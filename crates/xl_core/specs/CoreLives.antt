@@ -61,8 +61,8 @@ validation_in bytes = validation_split (split_of bytes)
 abbrev pub IsFrameCovered : ℕ → List ℕ → Type 0
 IsFrameCovered kept frame = IfSome (validation_in frame) (λ v. v.seq ≤ kept)
 
--- Every validation in a frame that a drain ever gave is of a sequence that is at most each number that the keeper may
--- hold: so a stop at any moment leaves no number below it.
+-- every validation in a frame that a drain ever gave has a sequence of at most each number that the keeper may hold;
+-- so a stop at any moment leaves no number below it
 abbrev pub SaidIsSaved : Type 0
 SaidIsSaved =
     (settings : Settings) (now kept : ℕ) (held : Held) (life : List CoreHappening) (n : ℕ) →
@@ -90,7 +90,7 @@ ReportsAreHandedOut =
     let core = with_queues (opened settings now kept) in
     IsAccounted (arisen_over core life) (handed_over core life) (core_after core life).untaken
 
--- never did more than so many wait, of the reports that arose in these happenings
+-- never did more than this many wait, of the reports that arose in these happenings
 abbrev pub NeverMore : ℕ → Core → List CoreHappening → Type 0
 NeverMore n core life = (k : ℕ) → length (arisen_over core (take k life)) ≤ length (handed_over core (take k life)) + n
 

@@ -6,7 +6,7 @@ use Rattle.std.specs.Option.{is_none}
 use Rattle.xl_queues.specs.Queues.{Backlog}
 use Rattle.xl_base.specs.Putting.{Puts}
 use Rattle.xl_ledger.specs.declared.header.Header.{Header}
-use Rattle.xl_ledger.specs.declared.registry.TheConstants.{GREATEST_LIMIT}
+use Rattle.xl_ledger.specs.Limits.{greatest_limit}
 use Rattle.xl_core.specs.declared.item.Item.{Item}
 use Rattle.xl_core.specs.declared.putting.Put.{Put}
 use Rattle.xl_core.specs.declared.putting.Put.TheVariants.{Written, PassedOver, NoRoom}
@@ -68,7 +68,7 @@ is_handed n (Some g) = is_none (next_on n.ledgers.headers g)
 -- a header of a known ledger comes next
 abbrev pub IsNext : Node → Greeting → Option ℕ → Type 0
 IsNext n g result =
-    (ledger : ℕ) → result ≡ Some ledger → (ledger < length n.ledgers.headers) × (g.next < GREATEST_LIMIT)
+    (ledger : ℕ) → result ≡ Some ledger → (ledger < length n.ledgers.headers) × (g.next < greatest_limit)
 
 -- none of these frames fits into a room from a place on
 abbrev pub PutsNone : List (Option (List ℕ)) → ℕ → List ℕ → List ℕ → Type 0
@@ -79,7 +79,7 @@ pub record PutsNext (n : Node) (to : ℕ) (g : Greeting) (at next : ℕ) (old ne
   pub first : List ℕ
   pub is : greeting_frames n (Some g) to ≡ Some first ∷ greeting_frames n (Some (further 1 g)) to
   pub stands : Stands (Some first) at next old new
-  pub few : g.next < GREATEST_LIMIT
+  pub few : g.next < greatest_limit
 
 -- and this is where the next one goes
 abbrev pub PutsOne : Node → ℕ → Greeting → ℕ → Option ℕ → List ℕ → List ℕ → Type 0

@@ -4,7 +4,7 @@ use Rattle.std.specs.Prelude.{ℕ, zero, suc, ◌+◌, List, [], map, drop, set,
 use Rattle.std.specs.Prelude.{Some, None}
 use Rattle.std.specs.declared.option.Option.{Option}
 use Rattle.xl_base.specs.declared.ids.LedgerId.{LedgerId}
-use Rattle.xl_base.specs.declared.node_no.TheConstants.{MOST_MEMBERS}
+use Rattle.xl_base.specs.Members.{most_members}
 use Rattle.xl_ledger.specs.declared.header.Header.{Header}
 use Rattle.xl_ledger.specs.Chains.{chain, id_at, place_of}
 use Rattle.xl_core.specs.declared.greeting.Greeting.{Greeting}
@@ -13,7 +13,7 @@ use Rattle.xl_core.specs.Node.{Node}
 
 -- none of the numbers from 1 to 64 is greeted
 abbrev pub none_greeted : List (Option Greeting)
-none_greeted = replicate MOST_MEMBERS None
+none_greeted = replicate most_members None
 
 -- the chain of the ledger on which a node's round is, from sequence 1 on: every node knows the root
 abbrev pub greeting_of : Node → Greeting
@@ -42,11 +42,11 @@ abbrev pub greeting_frames : Node → Option Greeting → ℕ → List (Option (
 greeting_frames n None to = []
 greeting_frames n (Some g) to = map (λ ledger. framed n to (header_body_at n ledger)) (yet_to_hand n.ledgers.headers g)
 
--- a greeting once so many more headers were handed out
+-- a greeting once this many more headers were handed out
 abbrev pub further : ℕ → Greeting → Greeting
 further count g = record { target = g.target; next = g.next + count }
 
--- all greetings, once so many more were handed out to a number
+-- all greetings, once this many more were handed out to a number
 abbrev pub further_at : List (Option Greeting) → ℕ → ℕ → List (Option Greeting)
 further_at greetings number count =
     with_greeting greetings number (option_map (further count) (greeting_at greetings number))

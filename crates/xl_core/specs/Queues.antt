@@ -7,14 +7,14 @@ use Rattle.std.specs.List.{flat_map}
 use Rattle.std.specs.Option.{is_none}
 use Rattle.xl_queues.specs.Broadcasts.{queue_of, at_reader, pushed_to_all}
 use Rattle.xl_base.specs.Counts.{one_more}
-use Rattle.xl_base.specs.declared.node_no.TheConstants.{MOST_MEMBERS}
+use Rattle.xl_base.specs.Members.{most_members}
 use Rattle.xl_queues.specs.Queues.{Backlog, no_items, with_item}
 use Rattle.xl_core.specs.declared.item.Item.{Item}
 use Rattle.xl_core.specs.declared.report.Report.{Report}
 
 -- nothing waits for the numbers from 1 to 64
 abbrev pub none_waiting : List (Backlog Item)
-none_waiting = replicate MOST_MEMBERS no_items
+none_waiting = replicate most_members no_items
 
 -- so many items wait for a number at most, and so many reports to be taken. Source: this profile
 abbrev pub most_waiting : ℕ
@@ -53,7 +53,7 @@ frames_in frames = filter_map (λ frame. frame) frames
 abbrev pub joined : List (List ℕ) → List ℕ
 joined frames = flat_map (λ frame. frame) frames
 
--- the count once so many more were lost
+-- the count once this many more were lost
 abbrev pub lost_more : ℕ → ℕ → ℕ
 lost_more zero lost = lost
 lost_more (suc n) lost = one_more (lost_more n lost)

@@ -4,7 +4,7 @@ use Rattle.xl_tags.specs.Opening.{HasKeys}
 use Rattle.xl_tags.specs.Rings.{Ring}
 use Rattle.std.specs.declared.option.Option.{Option}
 use Rattle.xl_base.specs.declared.ids.LedgerId.{LedgerId}
-use Rattle.xl_base.specs.declared.moments.TheConstants.{GREATEST_MILLIS}
+use Rattle.xl_base.specs.Moments.{greatest_millis}
 use Rattle.xl_lists.specs.Lists.{IsValid}
 use Rattle.xl_validations.specs.declared.row.Row.{Row}
 use Rattle.xl_validations.specs.Rows.{count_full, is_current}
@@ -38,7 +38,7 @@ IsCurrent second row = IfSome row.current (λ v. is_current second v ≡ true)
 pub record IsReady (n : Node) : Type 0 where
   pub rest : IsAtRest n
   pub keyed : IsKeyed n.me n.list.members n.keys
-  pub time : n.time ≤ GREATEST_MILLIS
+  pub time : n.time ≤ greatest_millis
   -- no validation would expire in the second of its time
   pub current : All (IsCurrent (second_of n)) n.rows
   pub known : n.round.setting.previous < length n.ledgers.headers

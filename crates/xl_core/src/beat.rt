@@ -28,7 +28,7 @@ pub enum Beat {
     Updated,
     /// The votes chose the ledger of this sequence and id, on which it started a round.
     Switched(Seq, LedgerId),
-    /// The next ledger is agreed on, but so many ledgers are known, as many as may be.
+    /// The next ledger is agreed on, but this many ledgers are known, as many as may be.
     NoRoom(u32),
     /// It built the next ledger, and started a round on it.
     Built {

@@ -29,7 +29,7 @@ pub enum CoreEvent {
     Greet {
         member: NodeNo,
     },
-    /// What waits for a member is written into a room of so many bytes.
+    /// What waits for a member is written into a room of this many bytes.
     Drain {
         member: NodeNo,
         room: usize,

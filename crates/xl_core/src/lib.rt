@@ -12,9 +12,9 @@
 //! them. `CoreEvent` is everything that may happen to a core, drains and handing out included.
 //!
 //! It stands on xl_validations, xl_rounds and xl_ledger, on xl_queues, on xl_io's keepers, and on xl_wire and xl_tags,
-//! by which it reads, opens and seals frames. Its one contract: each call leaves the core and answers as `core_happens`
-//! says of its event, so that nothing is said before the keeper has saved its sequence; and no call after `open` but
-//! `reopen` takes memory.
+//! by which it reads, opens and seals frames. Its one contract: each call leaves the core and answers as
+//! `core_happens` says of its event. So nothing is said before the keeper has saved its sequence. No call after `open`
+//! except `reopen` takes memory.
 #![tactic(auto)]
 
 mod beat;

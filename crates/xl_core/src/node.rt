@@ -1,6 +1,6 @@
 ghost use Rattle.std.specs.Prelude.{◌≡◌, ◌≢◌, ◌↔◌, ◌<◌, ◌≤◌, IfOk, OnOk, OnErr, IsSome, IsTrue, Some, Ok, Err, ℕ, option_map, None, [], length};
 ghost use Rattle.std.specs.Result.{result_err};
-ghost use Rattle.xl_base.specs.declared.moments.TheConstants.{GREATEST_MILLIS};
+ghost use Rattle.xl_base.specs.Moments.{greatest_millis};
 ghost use Rattle.xl_lists.specs.Lists.{is_on};
 ghost use Rattle.xl_tags.specs.Rings.{key_of};
 ghost use Rattle.xl_validations.specs.Rows.{current_of, heard_of, is_full_of};
@@ -33,7 +33,7 @@ ghost use Rattle.xl_core.specs.Node.{
 ghost use Rattle.xl_core.specs.Hearing.{bytes_with};
 ghost use Rattle.xl_core.specs.declared.refusal.Refusal.TheVariants.{NotAfter, IssuingOff};
 ghost use Rattle.xl_core.specs.declared.hearing.Speech.TheVariants as speech;
-ghost use Rattle.xl_ledger.specs.declared.registry.TheConstants.{LEAST_LIMIT, GREATEST_LIMIT};
+ghost use Rattle.xl_ledger.specs.Limits.{greatest_limit, least_limit};
 ghost use Rattle.xl_core.specs.Draining.{IsPut, node_for};
 ghost use Rattle.xl_core.specs.Items.{frame_of, body_in as body_in_of, header_body as header_body_of, header_body_at as header_body_at_of};
 ghost use Rattle.xl_core.specs.declared.item.Item.TheVariants as items;
@@ -147,9 +147,9 @@ impl<B: Branch + Drop> Node<B> {
         kept: Seq,
     ) -> Result<Node<B>, OutOfMemory>
         requires keyed { IsKeyed settings.me settings.list.members settings.keys }
-        requires least { LEAST_LIMIT ≤ settings.limit }
-        requires most { settings.limit ≤ GREATEST_LIMIT }
-        requires moment { now ≤ GREATEST_MILLIS }
+        requires least { least_limit ≤ settings.limit }
+        requires most { settings.limit ≤ greatest_limit }
+        requires moment { now ≤ greatest_millis }
         ensures { IfOk result (λ node. node ≡ opened settings now kept) }
     {
         let Settings {
@@ -189,7 +189,7 @@ impl<B: Branch + Drop> Node<B> {
 
     /// Opens the node anew in its place, with the number that its keeper holds. An `Err` changes nothing.
     pub fn reopen(&mut self, alloc: Global, now: Millis, kept: Seq) -> Result<(), OutOfMemory>
-        requires moment { now ≤ GREATEST_MILLIS }
+        requires moment { now ≤ greatest_millis }
         ensures opened { OnOk result (self.new ≡ opened (settings_of self.old) now kept) }
         ensures err { OnErr result (self.new ≡ self.old) }
     {
@@ -210,7 +210,7 @@ impl<B: Branch + Drop> Node<B> {
     /// Sets the time, which never goes back, and removes the validations that are no longer current. Within a second
     /// none ceases to be.
     fn advance(&mut self, now: Millis)
-        requires { now ≤ GREATEST_MILLIS }
+        requires { now ≤ greatest_millis }
         ensures { self.new ≡ at_moment now self.old }
     {
         let second = secs_of(self.time);
@@ -235,7 +235,7 @@ impl<B: Branch + Drop> Node<B> {
         full: bool,
         keeper: &mut K,
     ) -> Result<OwnValidation, Refusal>
-        requires moment { now ≤ GREATEST_MILLIS }
+        requires moment { now ≤ greatest_millis }
         ensures exact { issue_reply result self.new ≡ happens self.old (Issue now seq id full) (save_in result) }
         ensures not_after { (result ≡ Err (NotAfter self.old.kept)) ↔ (seq ≤ self.old.kept) }
         ensures off { (failed : ℕ) → (result ≡ Err (IssuingOff failed)) ↔ IsOff self.old seq failed }
@@ -299,7 +299,7 @@ impl<B: Branch + Drop> Node<B> {
     /// Refused if it is pending, or if as many are as may be, in this order. First the time is set, and rows
     /// expire; nothing else changes then.
     pub fn submit(&mut self, now: Millis, tx: TxId) -> Result<(), Refusal>
-        requires moment { now ≤ GREATEST_MILLIS }
+        requires moment { now ≤ greatest_millis }
         ensures exact { submit_reply tx result self.new ≡ happens self.old (Submit now tx) Kept }
         ensures refused { result_err result ≡ tx_refusal self.old tx }
         ensures unchanged { OnErr result (self.new ≡ at_moment now self.old) }
@@ -319,7 +319,7 @@ impl<B: Branch + Drop> Node<B> {
     /// many as may be are. A set is never refused. All is in this order. First the time is set, and rows expire;
     /// nothing else changes then.
     pub fn frame(&mut self, now: Millis, bytes: &[u8]) -> Result<Heard, Refusal>
-        requires moment { now ≤ GREATEST_MILLIS }
+        requires moment { now ≤ greatest_millis }
         ensures exact { hear_reply result self.new ≡ happens self.old (Frame now bytes.now) Kept }
         ensures refused { result_err result ≡ frame_refusal (at_moment now self.old) bytes.now }
         ensures unchanged { OnErr result (self.new ≡ at_moment now self.old) }
@@ -331,7 +331,7 @@ impl<B: Branch + Drop> Node<B> {
 
     /// Hears as `frame` does, with the tag tested or assumed.
     pub(crate) fn hear(&mut self, now: Millis, tags: Tags, bytes: &[u8]) -> Result<Heard, Refusal>
-        requires moment { now ≤ GREATEST_MILLIS }
+        requires moment { now ≤ greatest_millis }
         ensures exact { hear_reply result self.new
             ≡ happens self.old (Frame now (bytes_with tags self.old.keys bytes.now)) Kept }
         ensures refused { result_err result
@@ -517,7 +517,7 @@ impl<B: Branch + Drop> Node<B> {
     /// The greatest moment since it opened, in milliseconds; at least 1,000.
     pub fn time(&self) -> Millis
         ensures value { result ≡ self.now.time }
-        ensures most { result ≤ GREATEST_MILLIS }
+        ensures most { result ≤ greatest_millis }
     {
         self.time
     }
@@ -525,8 +525,8 @@ impl<B: Branch + Drop> Node<B> {
     /// How many ledgers it may know, the root among them.
     pub fn limit(&self) -> u32
         ensures value { result ≡ self.now.ledgers.limit }
-        ensures least { LEAST_LIMIT ≤ result }
-        ensures most { result ≤ GREATEST_LIMIT }
+        ensures least { least_limit ≤ result }
+        ensures most { result ≤ greatest_limit }
     {
         self.registry.limit()
     }

@@ -5,7 +5,7 @@ ghost use Rattle.xl_core.specs.Draining.{IsPut};
 /// What became of an item that is to be sent.
 #[derive(Clone, Copy, Debug, PartialEq, Eq)]
 pub enum Put {
-    /// Its frame, of so many bytes, was put into the room.
+    /// Its frame, of this many bytes, was put into the room.
     Written(usize),
     /// It isn't sent.
     PassedOver,

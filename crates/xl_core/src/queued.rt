@@ -1,9 +1,9 @@
 ghost use Rattle.std.specs.Prelude.{◌≡◌, ◌↔◌, ◌<◌, ◌≤◌, [], ℕ, IfOk, IsSome, IsTrue, OnOk, OnErr, Some, Err, length, option_map, None};
 ghost use Rattle.std.specs.Result.{result_err};
-ghost use Rattle.xl_base.specs.declared.moments.TheConstants.{GREATEST_MILLIS};
+ghost use Rattle.xl_base.specs.Moments.{greatest_millis};
 ghost use Rattle.xl_validations.specs.Rows.{current_of, heard_of, is_full_of};
 ghost use Rattle.xl_validations.specs.Votes.{votes_of};
-ghost use Rattle.xl_ledger.specs.declared.registry.TheConstants.{LEAST_LIMIT, GREATEST_LIMIT};
+ghost use Rattle.xl_ledger.specs.Limits.{greatest_limit, least_limit};
 ghost use Rattle.xl_io.specs.Keepers.{Held};
 ghost use Rattle.xl_tags.specs.Rings.{key_of};
 ghost use Rattle.xl_core.specs.Answers.{Done, Gave, Told};
@@ -97,9 +97,9 @@ impl<B: Branch + Drop> Core<B> {
         kept: Seq,
     ) -> Result<Core<B>, OutOfMemory>
         requires keyed { IsKeyed settings.me settings.list.members settings.keys }
-        requires least { LEAST_LIMIT ≤ settings.limit }
-        requires most { settings.limit ≤ GREATEST_LIMIT }
-        requires moment { now ≤ GREATEST_MILLIS }
+        requires least { least_limit ≤ settings.limit }
+        requires most { settings.limit ≤ greatest_limit }
+        requires moment { now ≤ greatest_millis }
         ensures opened { IfOk result (λ core. core ≡ with_queues (opened settings now kept)) }
         // The keeper holds nothing below the number.
         ensures stop { (held : Held) → HoldsAtLeast kept held → IfOk result (λ core. IsCovered held core) }
@@ -120,7 +120,7 @@ impl<B: Branch + Drop> Core<B> {
     /// Opens the node anew in its place, with the number that its keeper holds and with nothing waiting. An `Err`
     /// changes nothing.
     pub fn reopen(&mut self, alloc: Global, now: Millis, kept: Seq) -> Result<(), OutOfMemory>
-        requires moment { now ≤ GREATEST_MILLIS }
+        requires moment { now ≤ greatest_millis }
         ensures opened { OnOk result (self.new ≡ with_queues (opened (settings_of self.old.node) now kept)) }
         ensures err { OnErr result (self.new ≡ self.old) }
         // The keeper holds nothing below the number.
@@ -141,7 +141,7 @@ impl<B: Branch + Drop> Core<B> {
     ///
     /// Refused as the node refuses them. First the time is set, and rows expire; nothing else changes then.
     pub fn frame(&mut self, now: Millis, bytes: &[u8]) -> Result<Taken, Refusal>
-        requires moment { now ≤ GREATEST_MILLIS }
+        requires moment { now ≤ greatest_millis }
         ensures step { Answers (core_happens self.old (Frame now bytes.now) Kept) self.new (taken_answer result) }
         ensures refused { result_err result ≡ frame_refusal (at_moment now self.old.node) bytes.now }
         // What another listed member seals is refused for what the node knows of it alone, and else it is taken.
@@ -163,7 +163,7 @@ impl<B: Branch + Drop> Core<B> {
     /// Refused as the node refuses them, and so never for the tag. First the time is set, and rows expire; nothing else
     /// changes then.
     pub fn frame_as_sealed(&mut self, now: Millis, bytes: &[u8]) -> Result<Taken, Refusal>
-        requires moment { now ≤ GREATEST_MILLIS }
+        requires moment { now ≤ greatest_millis }
         ensures step { Answers (core_happens self.old (Frame now (bytes_as_sealed self.old.node.keys bytes.now)) Kept)
             self.new (taken_answer result) }
         ensures refused { result_err result
@@ -177,7 +177,7 @@ impl<B: Branch + Drop> Core<B> {
 
     /// Hears bytes, with the tag tested or assumed.
     fn hear(&mut self, now: Millis, tags: Tags, bytes: &[u8]) -> Result<Taken, Refusal>
-        requires moment { now ≤ GREATEST_MILLIS }
+        requires moment { now ≤ greatest_millis }
         ensures step { Answers (core_happens self.old (Frame now (bytes_with tags self.old.node.keys bytes.now)) Kept)
             self.new (taken_answer result) }
         ensures refused { result_err result
@@ -206,7 +206,7 @@ impl<B: Branch + Drop> Core<B> {
         full: bool,
         keeper: &mut K,
     ) -> Result<(), Refusal>
-        requires moment { now ≤ GREATEST_MILLIS }
+        requires moment { now ≤ greatest_millis }
         ensures step { Issues self.old (Issue now seq id full) result self.new }
         ensures unsent { OnErr result (self.new.waiting ≡ self.old.waiting) }
         ensures not_after { (result ≡ Err (NotAfter self.old.node.kept)) ↔ (seq ≤ self.old.node.kept) }
@@ -241,7 +241,7 @@ impl<B: Branch + Drop> Core<B> {
     /// and a round starts on it. A validation waits only after its save. If the save fails, the ledger and the new
     /// round stand all the same; if there is no room for the ledger, the round stays as it is.
     pub fn timer<K: Keeper>(&mut self, now: Millis, keeper: &mut K) -> Beat
-        requires moment { now ≤ GREATEST_MILLIS }
+        requires moment { now ≤ greatest_millis }
         ensures step { Beaten self.old now result self.new }
         ensures fault { CountsBeatFault result (K.faults keeper.old) (K.faults keeper.new) }
         // At most one save is asked, of a number above the kept one.
@@ -298,7 +298,7 @@ impl<B: Branch + Drop> Core<B> {
     /// Refused if it is pending, or if as many are as may be, in this order. First the time is set, and rows
     /// expire; nothing else changes then.
     pub fn submit(&mut self, now: Millis, tx: TxId) -> Result<(), Refusal>
-        requires moment { now ≤ GREATEST_MILLIS }
+        requires moment { now ≤ greatest_millis }
         ensures step { Answers (core_happens self.old (Submit now tx) Kept) self.new (done_answer result) }
         ensures refused { result_err result ≡ tx_refusal self.old.node tx }
         ensures unchanged { OnErr result (self.new ≡ record self.old { node = at_moment now self.old.node }) }
@@ -315,7 +315,7 @@ impl<B: Branch + Drop> Core<B> {
     /// Refused if a listed member other than the node has no key; the refusal names the lowest of these. First the time
     /// is set, and rows expire; nothing else changes then.
     pub fn relist(&mut self, now: Millis, list: List) -> Result<(), Refusal>
-        requires moment { now ≤ GREATEST_MILLIS }
+        requires moment { now ≤ greatest_millis }
         ensures step { Answers (core_happens self.old (Relist now list) Kept) self.new (done_answer result) }
         ensures refused { result_err result ≡ key_refusal self.old.node list }
         ensures unchanged { OnErr result (self.new ≡ record self.old { node = at_moment now self.old.node }) }

@@ -14,9 +14,9 @@ use xl_wire::WireRefusal;
 pub enum Refusal {
     /// The bytes begin no frame, or the frame's body is none.
     Frame(WireRefusal),
-    /// The bytes end within a frame: so many lack.
+    /// The bytes end within a frame: this many lack.
     Short(usize),
-    /// So many bytes follow the frame.
+    /// This many bytes follow the frame.
     Extra(usize),
     /// The frame isn't for the node, not from another listed member, or not sealed by their key.
     Tag(TagRefusal),
@@ -32,7 +32,7 @@ pub enum Refusal {
     OldSeq(Seq),
     /// The transaction is pending.
     Pending(TxId),
-    /// So many transactions are pending, as many as may be.
+    /// This many transactions are pending, as many as may be.
     PoolFull(u32),
     /// The proposal builds on another ledger than the round's, which is given, and on one that is known and not later
     /// than the round's.

@@ -73,7 +73,7 @@ impl<B: Branch + Drop> Node<B> {
     fn hold_long(&mut self, from: NodeNo, ids: &Ids<'_>) -> Heard
         ensures { hear_reply (Ok result) self.new ≡ hears self.old from (speech.TxSet ids.now) }
     {
-        // A set has so many ids at most.
+        // A set has this many ids at most.
         let _count = ids.len();
         self.hold_through(&mut [TxId([0; 32]); MOST_IDS], from, ids)
     }

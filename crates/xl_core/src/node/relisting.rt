@@ -1,6 +1,6 @@
 ghost use Rattle.std.specs.Prelude.{◌≡◌, ◌≤◌, map, Ok, OnErr};
 ghost use Rattle.std.specs.Result.{result_err};
-ghost use Rattle.xl_base.specs.declared.moments.TheConstants.{GREATEST_MILLIS};
+ghost use Rattle.xl_base.specs.Moments.{greatest_millis};
 ghost use Rattle.xl_tags.specs.Opening.{HasKeys};
 ghost use Rattle.xl_core.specs.Answers.{Done};
 ghost use Rattle.xl_core.specs.Node.{Relist, arisen_in, at_moment, happens, key_refusal, reporting, with_list};
@@ -39,7 +39,7 @@ impl<B: Branch + Drop> Node<B> {
     /// Refused if a listed member other than the node has no key; the refusal names the lowest of these. First the time
     /// is set, and rows expire; nothing else changes then.
     pub fn relist(&mut self, now: Millis, list: List) -> Result<Option<Report>, Refusal>
-        requires moment { now ≤ GREATEST_MILLIS }
+        requires moment { now ≤ greatest_millis }
         ensures exact { list_reply result self.new ≡ happens self.old (Relist now list) Kept }
         ensures refused { result_err result ≡ key_refusal self.old list }
         ensures unchanged { OnErr result (self.new ≡ at_moment now self.old) }

@@ -1,5 +1,5 @@
 ghost use Rattle.std.specs.Prelude.{◌≡◌, ◌<◌, ◌≤◌, IsSome, IfSome, OnOk, OnErr, is_some, None, length};
-ghost use Rattle.xl_base.specs.declared.moments.TheConstants.{GREATEST_MILLIS};
+ghost use Rattle.xl_base.specs.Moments.{greatest_millis};
 ghost use Rattle.xl_ledger.specs.Headers.{header_id};
 ghost use Rattle.xl_ledger.specs.Registries.{add_refusal, with_header};
 ghost use Rattle.xl_base.specs.Refusals.{unless_refused};
@@ -43,7 +43,7 @@ impl<B: Branch + Drop> Node<B> {
     /// Looks at the votes, and lets the round go on or switches to another ledger. A ledger on which the round agreed
     /// is built and accepted, if there is room for it; `conclude` goes on from there.
     pub(crate) fn tick(&mut self, now: Millis) -> Tick
-        requires moment { now ≤ GREATEST_MILLIS }
+        requires moment { now ≤ greatest_millis }
         ensures exact { timed_by result self.new ≡ timed (at_moment now self.old) }
         ensures ticked { IsTicked self.new result }
     {
