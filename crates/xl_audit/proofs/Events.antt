@@ -1,9 +1,9 @@
 -- The line of an entry is read back as the entry.
-use Rattle.std.proofs.Common.{◌≡◌, ◌+◌, ℕ, suc, Bool, true, false, List, [], ◌∷◌, ◌++◌, length, drop, nat_lt, Result, Ok, Option, Some, None, refl, ap, sym, ◌∙◌, arith, append_assoc, decimal, codes}
+use Rattle.std.proofs.Common.{◌≡◌, ◌+◌, ◌≤◌, ℕ, suc, Bool, true, false, List, [], ◌∷◌, ◌++◌, length, drop, nat_lt, Result, Ok, Option, Some, None, refl, ap, sym, subst, ◌∙◌, arith, append_assoc, decimal, codes}
 use Rattle.std.specs.Prelude.{if◌then◌else◌}
 use Rattle.std.specs.Str.{bytes_eq}
-use Rattle.std.proofs.lemmas.Bool.{cond-false, le-ltb, ltb-false}
-use Rattle.std.proofs.lemmas.List.{length-append}
+use Rattle.std.proofs.lemmas.Bool.{cond-false, cond_both, le-ltb}
+use Rattle.std.proofs.lemmas.List.{length-drop}
 use Rattle.hex.specs.Hex.{IsBytes, encode_lower}
 use Rattle.xl_tags.specs.Rings.{Ring}
 use Rattle.xl_wire.specs.declared.lengths.TheConstants.{LONGEST_FRAME}
@@ -20,7 +20,7 @@ use Rattle.xl_audit.specs.declared.word.EntryWord.{EntryWord}
 use Rattle.xl_audit.specs.declared.word.EntryWord.TheVariants as word
 use Rattle.xl_audit.specs.declared.written.Written.{Written}
 use Rattle.xl_audit.specs.Journals.{entry_line, event_text, kind_text, members_text, outcome_text}
-use Rattle.xl_audit.specs.Reading.{arity, event_of, outcome_len, reply_in, least_of, counted_entry, told_entry, relist_entry, entry_in}
+use Rattle.xl_audit.specs.Reading.{arity, event_of, outcome_len, reply_in, least_behind, least_of, counted_entry, told_entry, relist_entry, entry_in}
 use Rattle.xl_audit.specs.Replies.{bytes_text}
 use Rattle.xl_audit.specs.Saves.{IsCounted}
 use Rattle.xl_audit.specs.Stored.{IsStoredEvent, IsStoredOutcome}
@@ -205,72 +205,62 @@ entry_line_is w rest = simp append_assoc
 
 -- BEHIND THE EVENT
 
--- behind so many tokens stand an outcome, `=`, and a reply
-record IsTail (at : ℕ) (args : List (List ℕ)) (o : Option Saved) (reply : List ℕ) : Type 0 where
-  how : outcome_of (word_at args at) (word_at args (at + 1)) ≡ Ok o
-  rest : reply_in (drop (at + outcome_len o) args) ≡ Ok reply
-  enough : nat_lt (length args) (least_of at args) ≡ false
+-- behind an event stand an outcome, `=`, and a reply
+record IsTail (behind : List (List ℕ)) (o : Option Saved) (reply : List ℕ) : Type 0 where
+  how : outcome_of (word_at behind 0) (word_at behind 1) ≡ Ok o
+  rest : reply_in (drop (outcome_len o) behind) ≡ Ok reply
+  enough : least_behind behind ≤ length behind
 
 reply_again : (reply : List ℕ) → reply_in (codes "=" ∷ tokens reply) ≡ Ok reply
 reply_again reply = ap (λ (xs : List ℕ). let r : Result (List ℕ) SchedRefusal = Ok xs in r) (joined_tokens reply)
 
-tail_here : (o : Option Saved) (reply : List ℕ) → IsStoredOutcome o → IsCounted o → IsTail 0 (tail_words o reply) o reply
+tail_here : (o : Option Saved) (reply : List ℕ) → IsStoredOutcome o → IsCounted o → IsTail (tail_words o reply) o reply
 tail_here None reply stored counted = record {
   how = refl;
   rest = reply_again reply;
-  enough = le-ltb (length (tail_words None reply)) 3 (omega (arith, length-tokens-some reply));
+  enough = let le : 3 ≤ length (tail_words None reply) = omega (arith, length-tokens-some reply) in le;
 }
 tail_here (Some saved.Ok) reply stored counted = record {
   how = refl;
   rest = reply_again reply;
-  enough = le-ltb (length (tail_words (Some saved.Ok) reply)) 3 (omega (arith, length-tokens-some reply));
+  enough = let le : 3 ≤ length (tail_words (Some saved.Ok) reply) = omega (arith, length-tokens-some reply) in le;
 }
 tail_here (Some (saved.Failed count)) reply stored counted = record {
   how = ap (λ read. read >>= (λ n. Ok (Some (saved.Failed n)))) (from_again 1 count (omega (arith, counted)) stored);
   rest = reply_again reply;
-  enough = le-ltb (length (tail_words (Some (saved.Failed count)) reply)) 4 (omega (arith, length-tokens-some reply));
+  enough = let le : 4 ≤ length (tail_words (Some (saved.Failed count)) reply) = omega (arith, length-tokens-some reply) in le;
 }
 
-drop_behind : (front tail : List (List ℕ)) (k : ℕ) → drop (length front + k) (front ++ tail) ≡ drop k tail
-drop_behind [] tail k = let same : 0 + k ≡ k = omega arith in ap (λ (n : ℕ). drop n tail) same
-drop_behind (t ∷ front) tail k =
-    let next : suc (length front) + k ≡ suc (length front + k) = omega arith in
-    ap (λ (n : ℕ). drop n (t ∷ (front ++ tail))) next ∙ drop_behind front tail k
+behind_front : (front tail : List (List ℕ)) → drop (length front) (front ++ tail) ≡ tail
+behind_front [] tail = refl
+behind_front (t ∷ front) tail = behind_front front tail
 
-tail_behind : (front tail : List (List ℕ)) (o : Option Saved) (reply : List ℕ) → IsTail 0 tail o reply → IsTail (length front) (front ++ tail) o reply
-tail_behind front tail o reply is =
-    let n : ℕ = length front in
-    let same : n ≡ n + 0 = omega arith in
-    let here : word_at (front ++ tail) n ≡ word_at tail 0 = ap (λ (k : ℕ). word_at (front ++ tail) k) same ∙ ap first (drop_behind front tail 0) in
-    let next : word_at (front ++ tail) (n + 1) ≡ word_at tail (0 + 1) = ap first (drop_behind front tail 1) in
-    let sum : 0 + outcome_len o ≡ outcome_len o = omega arith in
-    let more : drop (n + outcome_len o) (front ++ tail) ≡ drop (0 + outcome_len o) tail =
-    drop_behind front tail (outcome_len o) ∙ ap (λ (k : ℕ). drop k tail) (sym sum) in
-    let least : least_of n (front ++ tail) ≡ n + least_of 0 tail =
-    ap (λ (t : List ℕ). n + (if bytes_eq t (codes "failed") then 4 else 3)) here ∙ omega arith in
-    record {
-      how = ap (λ (t : List ℕ). outcome_of t (word_at (front ++ tail) (n + 1))) here ∙ ap (outcome_of (word_at tail 0)) next ∙ is.how;
-      rest = ap reply_in more ∙ is.rest;
-      enough = le-ltb (length (front ++ tail)) (least_of n (front ++ tail))
-          (omega (arith, least, length-append front tail, ltb-false (length tail) (least_of 0 tail) is.enough));
-    }
+tail_behind : (front tail : List (List ℕ)) (o : Option Saved) (reply : List ℕ) → IsTail tail o reply → IsTail (drop (length front) (front ++ tail)) o reply
+tail_behind front tail o reply is = subst (λ (ws : List (List ℕ)). IsTail ws o reply) (sym (behind_front front tail)) is
+
+least_some : (behind : List (List ℕ)) → 3 ≤ least_behind behind
+least_some behind = cond_both (bytes_eq (word_at behind 0) (codes "failed")) 4 3 (λ n. 3 ≤ n) (λ _. omega arith) (λ _. omega arith)
+
+enough_of : (n : ℕ) (args : List (List ℕ)) → least_behind (drop n args) ≤ length (drop n args) → nat_lt (length args) (least_of n args) ≡ false
+enough_of n args le = le-ltb (length args) (least_of n args) (omega (arith, le, length-drop n args, least_some (drop n args)))
 
 -- AN ENTRY
 
 counted_again : (ring : Ring) (w : EntryWord) (args : List (List ℕ)) (e : CoreEvent) (o : Option Saved) (reply : List ℕ)
-    → event_of ring w args ≡ Ok e → IsTail (arity w) args o reply
+    → event_of ring w args ≡ Ok e → IsTail (drop (arity w) args) o reply
     → counted_entry ring w args ≡ Ok (record { entry = entry_of e o; reply = reply })
 counted_again ring w args e o reply read is =
-    cond-false (nat_lt (length args) (least_of (arity w) args)) _ (told_entry ring w args) is.enough
+    let behind : List (List ℕ) = drop (arity w) args in
+    cond-false (nat_lt (length args) (least_of (arity w) args)) _ (told_entry ring w args) (enough_of (arity w) args is.enough)
     ∙ then_ok (event_of ring w args) _ e _ read
-    (then_ok (outcome_of (word_at args (arity w)) (word_at args (arity w + 1))) _ o _ is.how
-    (then_ok (reply_in (drop (arity w + outcome_len o) args)) _ reply _ is.rest refl))
+    (then_ok (outcome_of (word_at behind 0) (word_at behind 1)) _ o _ is.how
+    (then_ok (reply_in (drop (outcome_len o) behind)) _ reply _ is.rest refl))
 
 bytes_again : (bytes : List ℕ) → IsBytes bytes → bytes_of (bytes_text bytes) ≡ Ok bytes
 bytes_again [] h = refl
 bytes_again (b ∷ bs) h = digits_again b bs h
 
-module _ (core : Core) (o : Option Saved) (reply : List ℕ) (tail : IsTail 0 (tail_words o reply) o reply) where
+module _ (core : Core) (o : Option Saved) (reply : List ℕ) (tail : IsTail (tail_words o reply) o reply) where
   abbrev ring : Ring
   ring = core.node.keys
 
@@ -306,7 +296,7 @@ module _ (core : Core) (o : Option Saved) (reply : List ℕ) (tail : IsTail 0 (t
       let front : List (List ℕ) = decimal now ∷ decimal list.quorum ∷ members_text list.members ∷ [] in
       let args : List (List ℕ) = behind front in
       let behind_it = tail_behind front (tail_words o reply) o reply tail in
-      cond-false (nat_lt (length args) (least_of 3 args)) _ (relist_entry args) behind_it.enough
+      cond-false (nat_lt (length args) (least_of 3 args)) _ (relist_entry args) (enough_of 3 args behind_it.enough)
       ∙ then_ok _ _ now _ (moment_again now allowed.0) (then_ok _ _ list.quorum _ (number_again list.quorum (omega (arith, allowed.1.within, allowed.1.at_most)))
       (then_ok _ _ list.members _ (members_again list allowed.1) (then_ok _ _ o _ behind_it.how
       (then_ok _ _ reply _ behind_it.rest (then_ok _ _ list _ (list_again list allowed.1) refl)))))

@@ -126,10 +126,11 @@ outcome_counted how count =
 
 told_fits : (core : Core) (w : EntryWord) (args : List (List ℕ)) → Holds (IsAsked core) (told_entry core.node.keys w args)
 told_fits core w args =
+    let behind : List (List ℕ) = drop (arity w) args in
     both (IsAllowed core) (IsAsked core) (event_of core.node.keys w args) _ (event_fits core w args)
-    (λ event allowed. both IsCounted (IsAsked core) (outcome_of (word_at args (arity w)) (word_at args (arity w + 1))) _
-    (outcome_counted (word_at args (arity w)) (word_at args (arity w + 1)))
-    (λ outcome counted. then_ (IsAsked core) (reply_in (drop (arity w + outcome_len outcome) args)) _
+    (λ event allowed. both IsCounted (IsAsked core) (outcome_of (word_at behind 0) (word_at behind 1)) _
+    (outcome_counted (word_at behind 0) (word_at behind 1))
+    (λ outcome counted. then_ (IsAsked core) (reply_in (drop (outcome_len outcome) behind)) _
     (λ reply. record { allowed = allowed; counted = counted })))
 
 worded_fits : (core : Core) (w : Option EntryWord) (words : List (List ℕ))
@@ -152,12 +153,13 @@ trusted_fits members quorum =
 
 relist_fits : (core : Core) (args : List (List ℕ)) → Holds (IsAsked core) (relist_entry args)
 relist_fits core args =
+    let behind : List (List ℕ) = drop 3 args in
     both (λ n. n ≤ GREATEST_MILLIS) (IsAsked core) (moment_of (word_at args 0)) _ (timely (word_at args 0))
     (λ now h. then_ (IsAsked core) (number_of (word_at args 1)) _
     (λ quorum. then_ (IsAsked core) (members_of (word_at args 2)) _
-    (λ members. both IsCounted (IsAsked core) (outcome_of (word_at args 3) (word_at args 4)) _
-    (outcome_counted (word_at args 3) (word_at args 4))
-    (λ outcome counted. then_ (IsAsked core) (reply_in (drop (3 + outcome_len outcome) args)) _
+    (λ members. both IsCounted (IsAsked core) (outcome_of (word_at behind 0) (word_at behind 1)) _
+    (outcome_counted (word_at behind 0) (word_at behind 1))
+    (λ outcome counted. then_ (IsAsked core) (reply_in (drop (outcome_len outcome) behind)) _
     (λ reply. both IsValid (IsAsked core) (trusted_of members quorum) _ (trusted_fits members quorum)
     (λ list valid. record { allowed = (h, valid); counted = counted }))))))
 

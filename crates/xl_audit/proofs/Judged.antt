@@ -15,7 +15,7 @@ use Rattle.xl_store.specs.Entries.{IsOutcome, reply_of}
 use Rattle.xl_audit.specs.declared.judging.BadLine.TheVariants.{Refused}
 use Rattle.xl_audit.specs.declared.judging.Stage.{Stage}
 use Rattle.xl_audit.specs.declared.judging.Stage.TheVariants.{Judging}
-use Rattle.xl_audit.specs.declared.limits.TheConstants.{MOST_BYTES, MOST_LINES}
+use Rattle.xl_audit.specs.Limits.{most_bytes, most_lines}
 use Rattle.xl_audit.specs.declared.written.Written.{Written}
 use Rattle.xl_lines.specs.declared.machine.Verdict.TheVariants.{Good, Found}
 use Rattle.xl_lines.specs.Rules.{Told, Step as LineStep, refuses as line_refuses}
@@ -88,15 +88,15 @@ IsTaken left n line =
     (stage : Stage) → step_at limits rules left (behind n stage) line ≡ answered n (step stage line.bytes)
 
 pub taken : (left n : ℕ) (line : Line) → nat_lt limits.bytes (length line.bytes) ≡ false → nat_lt 0 left ≡ true
-    → nat_lt MOST_BYTES (length (content limits.returns line)) ≡ false → (n == MOST_LINES) ≡ false → IsTaken left n line
+    → nat_lt most_bytes (length (content limits.returns line)) ≡ false → (n == most_lines) ≡ false → IsTaken left n line
 taken left n line short may within few stage =
     let a : Auditing = behind n stage in
     let bytes : List ℕ = content limits.returns line in
     cond-false (nat_lt limits.bytes (length line.bytes)) (line_refuses (rules.overrun a overrun.LongLine)) (step_within rules left a bytes) short
     ∙ cond-true (nat_lt 0 left) (rules.step a bytes) (line_refuses (rules.overrun a overrun.ManyLines)) may
     ∙ ap (answered n)
-    (cond-false (nat_lt MOST_BYTES (length bytes)) (refuses (beyond overrun.LongLine)) (if n == MOST_LINES then refuses (beyond overrun.ManyLines) else step stage bytes) within
-    ∙ cond-false (n == MOST_LINES) (refuses (beyond overrun.ManyLines)) (step stage bytes) few
+    (cond-false (nat_lt most_bytes (length bytes)) (refuses (beyond overrun.LongLine)) (if n == most_lines then refuses (beyond overrun.ManyLines) else step stage bytes) within
+    ∙ cond-false (n == most_lines) (refuses (beyond overrun.ManyLines)) (step stage bytes) few
     ∙ ap (step stage) (kept line))
 
 -- a line is refused at a limit, or it is taken
@@ -108,8 +108,8 @@ at_step P left n stage line refused told =
     let bytes : List ℕ = content limits.returns line in
     cond_both (nat_lt limits.bytes (length line.bytes)) (line_refuses (rules.overrun a overrun.LongLine)) (step_within rules left a bytes) P (λ _. refused _)
     (λ short. cond_both (nat_lt 0 left) (rules.step a bytes) (line_refuses (rules.overrun a overrun.ManyLines)) P
-    (λ may. cond_both (nat_lt MOST_BYTES (length bytes)) (refuses (beyond overrun.LongLine)) (if n == MOST_LINES then refuses (beyond overrun.ManyLines) else step stage bytes) (λ (s : Step). P (answered n s)) (λ _. refused _)
-    (λ within. cond_both (n == MOST_LINES) (refuses (beyond overrun.ManyLines)) (step stage bytes) (λ (s : Step). P (answered n s)) (λ _. refused _)
+    (λ may. cond_both (nat_lt most_bytes (length bytes)) (refuses (beyond overrun.LongLine)) (if n == most_lines then refuses (beyond overrun.ManyLines) else step stage bytes) (λ (s : Step). P (answered n s)) (λ _. refused _)
+    (λ within. cond_both (n == most_lines) (refuses (beyond overrun.ManyLines)) (step stage bytes) (λ (s : Step). P (answered n s)) (λ _. refused _)
     (λ few. subst (λ (b : List ℕ). P (answered n (step stage b))) (sym (kept line)) (told (taken left n line short may within few)))))
     (λ _. refused _))
 

@@ -23,7 +23,7 @@ use Rattle.xl_store.specs.Entries.{Leads, reply_of}
 use Rattle.xl_audit.specs.declared.judging.BadLine.TheVariants.{Refused}
 use Rattle.xl_audit.specs.declared.judging.Stage.{Stage}
 use Rattle.xl_audit.specs.declared.judging.Stage.TheVariants.{Heading, Setting, Keying, Judging}
-use Rattle.xl_audit.specs.declared.limits.TheConstants.{MOST_BYTES, MOST_LINES}
+use Rattle.xl_audit.specs.Limits.{most_bytes, most_lines}
 use Rattle.xl_audit.specs.declared.opening.Opening.{Opening}
 use Rattle.xl_audit.specs.declared.written.Written.{Written}
 use Rattle.xl_audit.specs.Auditing.{goes_on, wrong, refuses, answered, judged, entry_step, opening_step, keyed, set, unless_keyless, ended, closing, step, yes_line, limits, rules, audit_of}
@@ -57,8 +57,8 @@ record IsAt (told : Told) (stage : Stage) (text : List ℕ) : Type 0 where
   n : ℕ
   same : told ≡ told_from limits rules left (behind n stage) (lines_of text)
   few : length (lines_of text) ≤ left
-  within : n + length (lines_of text) ≤ MOST_LINES
-  short : All (λ line. length line.bytes ≤ MOST_BYTES) (lines_of text)
+  within : n + length (lines_of text) ≤ most_lines
+  short : All (λ line. length line.bytes ≤ most_bytes) (lines_of text)
 
 -- the first line is in order
 one_line : (told : Told) (stage next : Stage) (text rest : List ℕ) → is_line text ≡ true → step stage text ≡ goes_on next
@@ -67,8 +67,8 @@ unfolding told_by
 one_line told stage next text rest plain leads at =
     let line : Line = record { bytes = text; ended = true } in
     let parts : lines_of (text ++ 10 ∷ rest) ≡ line ∷ lines_of rest = lines_are text rest plain in
-    let all : All (λ l. length l.bytes ≤ MOST_BYTES) (line ∷ lines_of rest) = subst (All (λ l. length l.bytes ≤ MOST_BYTES)) parts at.short in
-    let short : length text ≤ MOST_BYTES = All-head (λ l. length l.bytes ≤ MOST_BYTES) line (lines_of rest) all in
+    let all : All (λ l. length l.bytes ≤ most_bytes) (line ∷ lines_of rest) = subst (All (λ l. length l.bytes ≤ most_bytes)) parts at.short in
+    let short : length text ≤ most_bytes = All-head (λ l. length l.bytes ≤ most_bytes) line (lines_of rest) all in
     let long : length (lines_of (text ++ 10 ∷ rest)) ≡ suc (length (lines_of rest)) = ap length parts in
     record {
       left = at.left - 1;
@@ -76,16 +76,16 @@ one_line told stage next text rest plain leads at =
       same = at.same
           ∙ ap (told_from limits rules at.left (behind at.n stage)) parts
           ∙ ap (told_by (λ a. told_from limits rules (at.left - 1) a (lines_of rest)))
-          (taken at.left at.n line (le-ltb MOST_BYTES (length text) short) (lt-ltb 0 at.left (omega (arith, at.few, long)))
-          (le-ltb MOST_BYTES (length text) short) (fewer at.n (omega (arith, at.within, long))) stage
+          (taken at.left at.n line (le-ltb most_bytes (length text) short) (lt-ltb 0 at.left (omega (arith, at.few, long)))
+          (le-ltb most_bytes (length text) short) (fewer at.n (omega (arith, at.within, long))) stage
           ∙ ap (answered at.n) leads);
       few = omega (arith, at.few, long);
       within = omega (arith, at.within, long);
-      short = All-tail (λ l. length l.bytes ≤ MOST_BYTES) line (lines_of rest) all;
+      short = All-tail (λ l. length l.bytes ≤ most_bytes) line (lines_of rest) all;
     }
   where
-    fewer : (n : ℕ) → n < MOST_LINES → (n == MOST_LINES) ≡ false
-    fewer n lt = ne_eqb n MOST_LINES (λ e. omega (arith, e, lt))
+    fewer : (n : ℕ) → n < most_lines → (n == most_lines) ≡ false
+    fewer n lt = ne_eqb n most_lines (λ e. omega (arith, e, lt))
 
 -- THE ENTRIES
 
@@ -205,7 +205,7 @@ all_met ring members has = find_none (is_unmet ring members) (each_met ring memb
 
 at_start : (text : List ℕ) → KeepsLimits text → IsAt (audit_of text) Heading text
 at_start text keeps = record {
-  left = MOST_LINES;
+  left = most_lines;
   n = 0;
   same = refl;
   few = keeps.lines;

@@ -14,7 +14,7 @@ use Rattle.xl_sched.specs.declared.refusal.SchedRefusal.{SchedRefusal}
 use Rattle.xl_sched.specs.declared.refusal.SchedRefusal.TheVariants.{Header, Late}
 use Rattle.xl_audit.specs.declared.judging.BadLine.TheVariants.{Refused}
 use Rattle.xl_audit.specs.declared.judging.Stage.TheVariants.{Heading, Setting, Keying, Judging}
-use Rattle.xl_audit.specs.declared.limits.TheConstants.{MOST_LINES}
+use Rattle.xl_audit.specs.Limits.{most_lines}
 use Rattle.xl_audit.specs.declared.opening.Opening.{Opening}
 use Rattle.xl_audit.specs.Auditing.{Step, Auditing, goes_on, refuses, answered, set, keyed, opening_step, entry_step, unless_keyless, closing, audit_of, limits, rules}
 use Rattle.xl_audit.specs.Opening.{core_of, key_in, opening_in, unmet}
@@ -196,7 +196,7 @@ headed left (line ∷ lines) =
         }
 
 pub text_is_judged : TextIsJudged
-text_is_judged bytes = headed MOST_LINES (lines_of bytes)
+text_is_judged bytes = headed most_lines (lines_of bytes)
 
 pub yes_of_the_text : YesOfTheText
 yes_of_the_text bytes good =

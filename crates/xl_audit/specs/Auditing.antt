@@ -15,7 +15,7 @@ use Rattle.xl_sched.specs.declared.refusal.SchedRefusal.{SchedRefusal}
 use Rattle.xl_sched.specs.declared.refusal.SchedRefusal.TheVariants.{Header, LongLine, Limit, Word, Late}
 use Rattle.xl_sched.specs.Refusals.{code_of, token_of}
 use Rattle.xl_sched.specs.Tokens.{shown_token}
-use Rattle.xl_audit.specs.declared.limits.TheConstants.{MOST_BYTES, MOST_LINES}
+use Rattle.xl_audit.specs.Limits.{most_bytes, most_lines}
 use Rattle.xl_audit.specs.declared.judging.BadLine.{BadLine}
 use Rattle.xl_audit.specs.declared.judging.BadLine.TheVariants.{Refused, Keyless}
 use Rattle.xl_audit.specs.declared.judging.Stage.{Stage}
@@ -105,14 +105,14 @@ abbrev pub at_first : Auditing
 at_first = record { lines = 0; stage = Heading }
 
 abbrev pub beyond : Overrun → BadLine
-beyond overrun.LongLine = Refused (LongLine (decimal MOST_BYTES))
-beyond overrun.ManyLines = Refused (Limit (decimal MOST_LINES))
+beyond overrun.LongLine = Refused (LongLine (decimal most_bytes))
+beyond overrun.ManyLines = Refused (Limit (decimal most_lines))
 
 -- what the next line leads to, unless it is too long or one too many
 abbrev pub bounded_step : Auditing → List ℕ → Step
 bounded_step a line =
-    if nat_lt MOST_BYTES (length line) then refuses (beyond overrun.LongLine)
-    else if a.lines == MOST_LINES then refuses (beyond overrun.ManyLines)
+    if nat_lt most_bytes (length line) then refuses (beyond overrun.LongLine)
+    else if a.lines == most_lines then refuses (beyond overrun.ManyLines)
     else step a.stage line
 
 -- nothing is told of a line that is in order, and the first that isn't ends the text
@@ -145,7 +145,7 @@ rules = record {
 }
 
 abbrev pub limits : Limits
-limits = record { lines = MOST_LINES; bytes = MOST_BYTES; returns = Kept }
+limits = record { lines = most_lines; bytes = most_bytes; returns = Kept }
 
 -- what is told of these bytes
 abbrev pub audit_of : List ℕ → Told

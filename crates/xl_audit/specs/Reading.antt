@@ -120,32 +120,43 @@ outcome_len (Some (saved.Failed count)) = 2
 abbrev pub reply_in : List (List ℕ) → Result (List ℕ) SchedRefusal
 reply_in words = if bytes_eq (first words) (codes "=") then Ok (join_with_byte 32 (others words)) else Err (Choice (first words))
 
--- how many tokens stand behind the word of an event of so many: the event, the outcome, `=`, and a reply at least
+-- how many tokens stand behind an event at least: the outcome, `=`, and a reply
+abbrev pub least_behind : List (List ℕ) → ℕ
+least_behind behind = if bytes_eq (word_at behind 0) (codes "failed") then 4 else 3
+
+-- how many stand behind the word of an event of so many
 abbrev pub least_of : ℕ → List (List ℕ) → ℕ
-least_of arity args = arity + (if bytes_eq (word_at args arity) (codes "failed") then 4 else 3)
+least_of arity args = arity + least_behind (drop arity args)
+
+-- the entry of a word, of the tokens after it, and of those behind its event
+abbrev pub told_behind : Ring → EntryWord → List (List ℕ) → List (List ℕ) → Result Written SchedRefusal
+told_behind ring word args behind = do
+  event ← event_of ring word args
+  outcome ← outcome_of (word_at behind 0) (word_at behind 1)
+  reply ← reply_in (drop (outcome_len outcome) behind)
+  Ok (record { entry = entry_of event outcome; reply = reply })
 
 -- the entry of a word, and of the tokens after it
 abbrev pub told_entry : Ring → EntryWord → List (List ℕ) → Result Written SchedRefusal
-told_entry ring word args = do
-  event ← event_of ring word args
-  outcome ← outcome_of (word_at args (arity word)) (word_at args (arity word + 1))
-  reply ← reply_in (drop (arity word + outcome_len outcome) args)
-  Ok (record { entry = entry_of event outcome; reply = reply })
+told_entry ring word args = told_behind ring word args (drop (arity word) args)
 
 abbrev pub counted_entry : Ring → EntryWord → List (List ℕ) → Result Written SchedRefusal
 counted_entry ring word args =
     if nat_lt (length args) (least_of (arity word) args) then miscounted args else told_entry ring word args
 
--- `now q list`; whether they are a list is asked behind all the rest
-abbrev pub relist_entry : List (List ℕ) → Result Written SchedRefusal
-relist_entry args = do
+-- `now q list`, and what stands behind them; whether they are a list is asked behind all the rest
+abbrev pub relist_behind : List (List ℕ) → List (List ℕ) → Result Written SchedRefusal
+relist_behind args behind = do
   now ← moment_of (word_at args 0)
   quorum ← number_of (word_at args 1)
   members ← members_of (word_at args 2)
-  outcome ← outcome_of (word_at args 3) (word_at args 4)
-  reply ← reply_in (drop (3 + outcome_len outcome) args)
+  outcome ← outcome_of (word_at behind 0) (word_at behind 1)
+  reply ← reply_in (drop (outcome_len outcome) behind)
   list ← trusted_of members quorum
   Ok (record { entry = entry_of (event.Relist now list) outcome; reply = reply })
+
+abbrev pub relist_entry : List (List ℕ) → Result Written SchedRefusal
+relist_entry args = relist_behind args (drop 3 args)
 
 abbrev pub counted_relist : List (List ℕ) → Result Written SchedRefusal
 counted_relist args = if nat_lt (length args) (least_of 3 args) then miscounted args else relist_entry args

@@ -10,15 +10,15 @@ use Rattle.xl_core.specs.Rest.{IsKeyed}
 use Rattle.xl_core.specs.declared.settings.Settings.{Settings}
 use Rattle.xl_store.specs.declared.entry.Entry.{Entry}
 use Rattle.xl_store.specs.Entries.{Leads}
-use Rattle.xl_audit.specs.declared.limits.TheConstants.{MOST_BYTES, MOST_LINES}
+use Rattle.xl_audit.specs.Limits.{most_bytes, most_lines}
 use Rattle.xl_audit.specs.Auditing.{audit_of, yes_line}
 use Rattle.xl_audit.specs.Journals.{journal_text, start_of}
 use Rattle.xl_audit.specs.Stored.{AreStored, IsStored}
 
 -- a text with no more lines, and no longer ones, than an auditor takes
 pub record KeepsLimits (text : List ℕ) : Type 0 where
-  pub lines : length (lines_of text) ≤ MOST_LINES
-  pub bytes : All (λ line. length line.bytes ≤ MOST_BYTES) (lines_of text)
+  pub lines : length (lines_of text) ≤ most_lines
+  pub bytes : All (λ line. length line.bytes ≤ most_bytes) (lines_of text)
 
 -- the text of a history gets a yes that counts its entries
 abbrev pub GetsYes : Settings → ℕ → ℕ → List Entry → Type 0

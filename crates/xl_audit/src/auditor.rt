@@ -11,7 +11,7 @@ ghost use Rattle.xl_audit.specs.Rights.{IsAsked, IsRight, is_right, reply_to as 
 
 use crate::Written;
 use crate::saving::EntryKeeper;
-use crate::stepping::{AuditedCore, reply_to};
+use crate::stepping::{AuditedCore, ROOM, reply_to};
 use std::alloc::Global;
 use std::marker::Model;
 use xl_base::{Millis, OutOfMemory, Seq};
@@ -25,6 +25,8 @@ pub struct Auditor {
     alloc: Global,
     /// Behind a pointer, since it is large and goes along from line to line.
     core: Box<AuditedCore>,
+    /// What waits for a peer is drained by way of it.
+    piece: Box<[u8; ROOM]>,
 }
 
 impl Model for Auditor {
@@ -51,7 +53,8 @@ impl Auditor {
         ensures opened { IfOk result (λ auditor. auditor ≡ with_queues (opened settings now kept)) }
     {
         let core = Box::new(alloc, Core::open(alloc, settings, now, kept)?)?;
-        Ok(Auditor { alloc, core })
+        let piece = Box::new(alloc, [0; ROOM])?;
+        Ok(Auditor { alloc, core, piece })
     }
 
     /// The keys of the core's peers.
@@ -75,6 +78,7 @@ impl Auditor {
             &mut *self.core,
             &entry.event,
             &mut keeper,
+            &mut self.piece,
             &mut text,
         )?;
         Ok(text)
@@ -96,6 +100,7 @@ impl Auditor {
             &mut *self.core,
             &written.entry.event,
             &mut keeper,
+            &mut self.piece,
             &mut text,
         )?;
         Ok(tells_of(keeper.was_asked(), &outcome) && text.as_bytes() == written.reply.as_slice())

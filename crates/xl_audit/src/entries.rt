@@ -2,7 +2,7 @@
 ghost use Rattle.std.specs.Prelude.{◌≡◌, ◌+◌, ◌≤◌, IfOk};
 ghost use Rattle.xl_sched.specs.Refusals.{GivenMemory};
 ghost use Rattle.xl_store.specs.declared.entry.Saved.{Saved};
-ghost use Rattle.xl_audit.specs.Reading.{counted_entry, counted_relist, drain_event, entry_in, event_of, frame_event, greet_event, issue_event, least_of, outcome_len, relist_entry, reply_in, reports_event, submit_event, timer_event, told_entry, IsFit};
+ghost use Rattle.xl_audit.specs.Reading.{counted_entry, counted_relist, drain_event, entry_in, event_of, frame_event, greet_event, issue_event, least_behind, outcome_len, relist_behind, reply_in, reports_event, submit_event, timer_event, told_behind, IsFit};
 
 use crate::Written;
 use crate::tokens::{bytes, id, moment, number_from, outcome, peer};
@@ -130,34 +130,34 @@ fn reply<'a>(alloc: Global, words: &Words<'a>) -> Result<Bytes, LineFault<'a>>
     Ok(Bytes::from_vec(text))
 }
 
-/// The entry of a word, and of the tokens after it.
+/// The entry of a word, of the tokens after it, and of those behind its event.
 fn told_entry<'a>(
     alloc: Global,
     keys: &Keys,
     word: EntryWord,
     args: &Words<'a>,
+    behind: &Words<'a>,
 ) -> Result<Written, LineFault<'a>>
-    ensures { GivenMemory result (told_entry keys.now word args.now) }
+    ensures { GivenMemory result (told_behind keys.now word args.now behind.now) }
 {
     let event = event(alloc, keys, word, args)?;
-    let at = word.arity();
-    let outcome = outcome(args.at(at), args.at(at + 1))?;
-    let reply = reply(alloc, &args.after(at + outcome_len(&outcome)))?;
+    let outcome = outcome(behind.first(), behind.at(1))?;
+    let reply = reply(alloc, &behind.after(outcome_len(&outcome)))?;
     Ok(Written {
         entry: Entry { event, outcome },
         reply,
     })
 }
 
-/// How many tokens stand behind the word of an event of so many at least.
-fn least_of(at: usize, args: &Words<'_>) -> usize
-    requires { at ≤ 4 }
-    ensures { result ≡ least_of at args.now }
+/// How many tokens stand at least behind the event: the outcome, `=`, and a reply.
+fn least_behind(behind: &Words<'_>) -> usize
+    ensures value { result ≡ least_behind behind.now }
+    ensures most { result ≤ 4 }
 {
-    if args.at(at) == b"failed".as_slice() {
-        at + 4
+    if behind.first() == b"failed".as_slice() {
+        4
     } else {
-        at + 3
+        3
     }
 }
 
@@ -171,21 +171,26 @@ fn counted_entry<'a>(
     ensures { GivenMemory result (counted_entry keys.now word args.now) }
 {
     let count = args.count();
-    if count < least_of(word.arity(), args) {
+    let behind = args.after(word.arity());
+    if count < word.arity() + least_behind(&behind) {
         return Err(LineFault::with_number(Cause::Count, count as u64 + 1));
     }
-    told_entry(alloc, keys, word, args)
+    told_entry(alloc, keys, word, args, &behind)
 }
 
 /// `now q list`, and what stands behind them. The list is made last.
-fn relist_entry<'a>(alloc: Global, args: &Words<'a>) -> Result<Written, LineFault<'a>>
-    ensures { GivenMemory result (relist_entry args.now) }
+fn relist_entry<'a>(
+    alloc: Global,
+    args: &Words<'a>,
+    behind: &Words<'a>,
+) -> Result<Written, LineFault<'a>>
+    ensures { GivenMemory result (relist_behind args.now behind.now) }
 {
     let now = moment(args.at(0))?;
     let quorum = number(args.at(1))?;
     let members = member_numbers(alloc, args.at(2))?;
-    let outcome = outcome(args.at(3), args.at(4))?;
-    let reply = reply(alloc, &args.after(3 + outcome_len(&outcome)))?;
+    let outcome = outcome(behind.first(), behind.at(1))?;
+    let reply = reply(alloc, &behind.after(outcome_len(&outcome)))?;
     let event = CoreEvent::Relist {
         now,
         list: trusted(&members, quorum)?,
@@ -201,10 +206,11 @@ fn counted_relist<'a>(alloc: Global, args: &Words<'a>) -> Result<Written, LineFa
     ensures { GivenMemory result (counted_relist args.now) }
 {
     let count = args.count();
-    if count < least_of(3, args) {
+    let behind = args.after(3);
+    if count < 3 + least_behind(&behind) {
         return Err(LineFault::with_number(Cause::Count, count as u64 + 1));
     }
-    relist_entry(alloc, args)
+    relist_entry(alloc, args, &behind)
 }
 
 /// The entry that a line of these tokens tells.

@@ -4,22 +4,22 @@ ghost use Rattle.xl_audit.specs.Auditing.{entry_step, judging_step, keying_step,
 ghost use Rattle.xl_audit.specs.Judging.{IsReady, IsReady-prop, MayOpen, entries_of, step_given};
 ghost use Rattle.xl_audit.specs.Opening.{core_of, unmet};
 ghost use Rattle.xl_audit.specs.Words.{tokens};
-ghost use Rattle.xl_audit.specs.declared.limits.TheConstants.{MOST_LINES};
+ghost use Rattle.xl_audit.specs.Limits.{most_lines};
 
 use crate::Auditor;
 use crate::judging::{
     BadLine, Stage, Step, beyond, ended, heading, judge_entry, opened, push_bad, push_no, push_yes,
     refused, setting,
 };
+use crate::key_ring::KeyRing;
 use crate::limits::{MOST_BYTES, MOST_LINES};
-use crate::opening::{Opening, add_key, unmet};
+use crate::opening::{Opening, unmet};
 use crate::words::Words;
 use std::alloc::Global;
 use std::mem;
 use xl_base::OutOfMemory;
 use xl_lines::{Machine, Next, Overrun, Verdict};
 use xl_sched::{Cause, LineFault};
-use xl_tags::Keys;
 
 /// A journal so far: what its lines lead to, and how many were read.
 #[derive(Drop)]
@@ -29,7 +29,7 @@ pub struct Judge {
     lines: u32,
     ghost ready: { IsReady stage } by { IsReady-prop stage },
     ghost counted: { entries_of stage ≤ lines },
-    ghost within: { lines ≤ MOST_LINES },
+    ghost within: { lines ≤ most_lines },
 }
 
 impl Judge {
@@ -116,7 +116,7 @@ impl Machine for Judge {
 fn first_entry(
     alloc: Global,
     opening: Opening,
-    keys: Keys,
+    keys: KeyRing,
     words: &Words<'_>,
 ) -> Result<(Stage, Step), OutOfMemory>
     requires may { MayOpen opening keys }
@@ -133,7 +133,7 @@ fn first_entry(
 fn opening_line(
     alloc: Global,
     opening: Opening,
-    keys: Keys,
+    keys: KeyRing,
     words: &Words<'_>,
 ) -> Result<(Stage, Step), OutOfMemory>
     requires may { MayOpen opening keys }
@@ -142,7 +142,7 @@ fn opening_line(
     ensures ready { IfOk result (λ done. IsReady done.0) }
     ensures more { IfOk result (λ done. entries_of done.0 ≤ 1) }
 {
-    match unmet(&keys, &opening.list) {
+    match unmet(keys.keys(), &opening.list) {
         Some(member) => {
             let step = Step::Refused(BadLine::Keyless(member));
             Ok((Stage::Keying { opening, keys }, step))
@@ -155,7 +155,7 @@ fn opening_line(
 fn keying(
     alloc: Global,
     opening: Opening,
-    keys: Keys,
+    keys: KeyRing,
     words: &Words<'_>,
 ) -> Result<(Stage, Step), OutOfMemory>
     requires may { MayOpen opening keys }
@@ -165,7 +165,7 @@ fn keying(
 {
     let mut keys = keys;
     if words.first() == b"key".as_slice() {
-        return match add_key(&mut keys, words) {
+        return match keys.add(words) {
             Ok(()) => Ok((Stage::Keying { opening, keys }, Step::GoesOn)),
             Err(fault) => {
                 let step = refused(alloc, fault)?;

@@ -9,6 +9,7 @@ ghost use Rattle.xl_audit.specs.Words.{tokens};
 
 use crate::Auditor;
 use crate::entries::entry;
+use crate::key_ring::KeyRing;
 use crate::limits::{MOST_BYTES, MOST_LINES};
 use crate::opening::{Opening, read_opening, unmet};
 use crate::words::Words;
@@ -18,7 +19,6 @@ use xl_base::{Bytes, NodeNo, OutOfMemory};
 use xl_core::Settings;
 use xl_lines::Overrun;
 use xl_sched::{Cause, LineFault, SchedRefusal, printed_token};
-use xl_tags::Keys;
 
 /// How far a journal has come.
 #[derive(Drop)]
@@ -28,7 +28,7 @@ pub enum Stage {
     /// The first was.
     Setting,
     /// The settings were, and these keys.
-    Keying { opening: Opening, keys: Keys },
+    Keying { opening: Opening, keys: KeyRing },
     /// So many entries were, which were right.
     Judging { auditor: Auditor, entries: u64 },
 }
@@ -82,7 +82,7 @@ pub fn setting(alloc: Global, words: &Words<'_>) -> Result<(Stage, Step), OutOfM
 {
     match read_opening(alloc, words) {
         Ok(opening) => {
-            let keys = Keys::new(opening.me);
+            let keys = KeyRing::new(alloc, opening.me)?;
             Ok((Stage::Keying { opening, keys }, Step::GoesOn))
         }
         Err(fault) => Ok((Stage::Setting, refused(alloc, fault)?)),
@@ -123,7 +123,7 @@ pub fn judge_entry(
 }
 
 /// The core opens, now that its keys are there.
-pub fn opened(alloc: Global, opening: Opening, keys: Keys) -> Result<Auditor, OutOfMemory>
+pub fn opened(alloc: Global, opening: Opening, keys: KeyRing) -> Result<Auditor, OutOfMemory>
     requires may { MayOpen opening keys }
     requires met { unmet keys opening.list.members ≡ None }
     ensures { IfOk result (λ auditor. auditor ≡ core_of opening keys) }
@@ -142,7 +142,7 @@ pub fn opened(alloc: Global, opening: Opening, keys: Keys) -> Result<Auditor, Ou
     let settings = Settings {
         me,
         list,
-        keys,
+        keys: keys.into_keys(),
         limit,
         validating,
         speak,
@@ -177,7 +177,7 @@ pub fn ended(alloc: Global, stage: &Stage) -> Result<u64, BadLine>
             let nothing = Bytes::from_vec(Vec::new(alloc));
             Err(BadLine::Refused(SchedRefusal::Word(nothing)))
         }
-        Stage::Keying { opening, keys } => match unmet(keys, &opening.list) {
+        Stage::Keying { opening, keys } => match unmet(keys.keys(), &opening.list) {
             Some(member) => Err(BadLine::Keyless(member)),
             None => Ok(0),
         },

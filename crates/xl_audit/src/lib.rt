@@ -14,6 +14,7 @@ mod entries;
 mod journal;
 mod judge;
 mod judging;
+mod key_ring;
 mod laws;
 mod limits;
 mod opening;

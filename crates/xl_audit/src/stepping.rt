@@ -30,8 +30,11 @@ use xl_wire::LONGEST_FRAME;
 /// The core that is stepped.
 pub type AuditedCore = Core<Trie>;
 
-/// How many reports are handed out at a time.
-const PIECE: usize = 64;
+/// How many bytes are drained at a time at most.
+pub const ROOM: usize = 2 * LONGEST_FRAME;
+
+/// How many reports are handed out at a time. Most entries hand out none.
+const PIECE: usize = 4;
 
 /// What stands in a room before reports come.
 const BLANK: Report = Report {
@@ -171,18 +174,17 @@ fn first_bytes(bytes: &[u8], count: usize) -> &[u8]
 fn drain_once(
     core: &mut AuditedCore,
     member: NodeNo,
-    room: &mut [u8],
+    room: &mut [u8; ROOM],
     part: usize,
     given: &mut Vec<u8>,
 ) -> Result<usize, OutOfMemory>
     requires peer { IsSome (key_of core.old.node.keys member) }
     requires least { LONGEST_FRAME ≤ part }
-    requires most { part ≤ length room.old }
+    requires most { part ≤ 16480 }
     ensures core { core.new ≡ drained core.old member part }
     ensures given { OnOk result (given.new.items ≡ given.old.items ++ bytes_given core.old member part) }
     ensures count { IfOk result (λ count. count ≡ length (bytes_given core.old member part)) }
     ensures nothing { IfOk result (λ count. count ≡ 0 → frames_in (all_frames core.old member) ≡ []) }
-    ensures room { length room.new ≡ length room.old }
 {
     let front = &mut room[..part];
     let count = core.drain(member, front);
@@ -197,23 +199,23 @@ fn drain_all(
     core: &mut AuditedCore,
     member: NodeNo,
     room: usize,
+    piece: &mut [u8; ROOM],
 ) -> Result<Vec<u8>, OutOfMemory>
     requires peer { IsSome (key_of core.old.node.keys member) }
     requires room { LONGEST_FRAME ≤ room }
     ensures core { OnOk result (core.new ≡ drained core.old member room) }
     ensures given { IfOk result (λ given. given.items ≡ bytes_given core.old member room) }
 {
-    let mut piece = vec![in alloc; 0; 2 * LONGEST_FRAME]?;
     let mut given = Vec::new(alloc);
     let mut left = room;
-    while left > 2 * LONGEST_FRAME {
-        let count = drain_once(core, member, &mut piece, LONGEST_FRAME, &mut given)?;
+    while left > ROOM {
+        let count = drain_once(core, member, piece, LONGEST_FRAME, &mut given)?;
         if count == 0 {
             return Ok(given);
         }
         left -= count;
     }
-    drain_once(core, member, &mut piece, left, &mut given)?;
+    drain_once(core, member, piece, left, &mut given)?;
     Ok(given)
 }
 
@@ -223,6 +225,7 @@ fn reply_to_drain(
     core: &mut AuditedCore,
     member: NodeNo,
     room: usize,
+    piece: &mut [u8; ROOM],
     text: &mut String,
 ) -> Result<(), OutOfMemory>
     requires peer { IsSome (key_of core.old.node.keys member) }
@@ -230,7 +233,7 @@ fn reply_to_drain(
     requires text { string_bytes text.old ≡ [] }
     ensures { OnOk result (Replies core.old (Drain member room) core.new (string_bytes text.new)) }
 {
-    let given = drain_all(alloc, core, member, room)?;
+    let given = drain_all(alloc, core, member, room, piece)?;
     push_bytes(alloc, text, given.as_slice())
 }
 
@@ -314,12 +317,13 @@ fn reply_to_stopped(core: &AuditedCore, text: &mut String) -> Result<(), OutOfMe
 }
 
 /// Something happens at the core, under a keeper that answers a save as an entry tells. The text of the reply is put
-/// into `text`.
+/// into `text`, and what waits is drained by way of `piece`.
 pub fn reply_to(
     alloc: Global,
     core: &mut AuditedCore,
     event: &CoreEvent,
     keeper: &mut EntryKeeper,
+    piece: &mut [u8; ROOM],
     text: &mut String,
 ) -> Result<(), OutOfMemory>
     requires allowed { IsAllowed core.old event.now }
@@ -339,7 +343,9 @@ pub fn reply_to(
         CoreEvent::Submit { now, tx } => reply_to_submit(alloc, core, *now, *tx, text),
         CoreEvent::Relist { now, list } => reply_to_relist(alloc, core, *now, list, text),
         CoreEvent::Greet { member } => reply_to_greet(core, *member, text),
-        CoreEvent::Drain { member, room } => reply_to_drain(alloc, core, *member, *room, text),
+        CoreEvent::Drain { member, room } => {
+            reply_to_drain(alloc, core, *member, *room, piece, text)
+        }
         CoreEvent::Reports { room } => reply_to_reports(alloc, core, *room, text),
         CoreEvent::Stop => reply_to_stop(core, text),
         CoreEvent::Stopped => reply_to_stopped(core, text),

@@ -2,7 +2,7 @@
 ghost use Rattle.std.specs.Prelude.{◌≡◌, ◌+◌, ◌≤◌, [], count_by, drop, length, position};
 ghost use Rattle.std.specs.List.{join_with_byte};
 ghost use Rattle.xl_audit.specs.Words.{first, is_space, others, tokens, word_at};
-ghost use Rattle.xl_audit.specs.declared.limits.TheConstants.{MOST_BYTES};
+ghost use Rattle.xl_audit.specs.Limits.{most_bytes};
 
 use std::marker::Model;
 
@@ -18,19 +18,19 @@ pub struct Words<'a> {
 impl<'a> Model for Words<'a> {
     ghost use Rattle.std.specs.Prelude.{ℕ, List, ◌≤◌, length};
     ghost use Rattle.xl_audit.specs.Words.{tokens_if};
-    ghost use Rattle.xl_audit.specs.declared.limits.TheConstants.{MOST_BYTES};
+    ghost use Rattle.xl_audit.specs.Limits.{most_bytes};
 
     ghost Value = { List (List ℕ) };
 
     ghost view = { λ w. tokens_if w.more w.bytes.now };
 
-    ghost invariant = { λ w. length w.bytes.now ≤ MOST_BYTES };
+    ghost invariant = { λ w. length w.bytes.now ≤ most_bytes };
 }
 
 impl<'a> Words<'a> {
     /// All tokens of a line.
     pub fn of(line: &'a [u8]) -> Words<'a>
-        requires { length line.now ≤ MOST_BYTES }
+        requires { length line.now ≤ most_bytes }
         ensures { result ≡ tokens line.now }
     {
         Words {
@@ -92,7 +92,7 @@ impl<'a> Words<'a> {
     /// How many they are.
     pub fn count(&self) -> usize
         ensures value { result ≡ length self.now }
-        ensures few { result ≤ MOST_BYTES + 1 }
+        ensures few { result ≤ most_bytes + 1 }
     {
         if self.more {
             spaces_in(self.bytes) + 1

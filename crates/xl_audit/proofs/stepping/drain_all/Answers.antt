@@ -1,6 +1,6 @@
-use Rattle.std.proofs.Common.{ap, ◌∙◌, arith, length}
+use Rattle.std.proofs.Common.{arith}
 use Rattle.xl_core.specs.Core.{Core}
-use Rattle.xl_audit.proofs.Pieces.{drain_more, drain_over, part_within, still_long}
+use Rattle.xl_audit.proofs.Pieces.{drain_more, drain_over, part_within}
 use Rattle.xl_audit.proofs.stepping.drain_all.Goals as goal
 
 pub loop-left-preserved : goal.loop-left-preserved
@@ -13,8 +13,6 @@ loop-left-preserved c =
           c.in_ok-count.count c.loop-left.given.items c.drain_once.new.given.items c.loop-left.invariant.so_far
           c.drain_once.ensures.core c.in_ok-count.ensures.given (omega (arith, c.loop-left-test.true)) count;
       enough = omega (arith, c.loop-left-test.true, count, within);
-      long = still_long c.loop-left.piece.len c.loop-left.piece.items c.drain_once.new.room c.loop-left.piece.ok.0
-          (c.drain_once.ensures.room ∙ ap length c.deref_mut.ensures.value) ∙ c.loop-left.invariant.long;
     }
 
 pub overflow_sub-left : goal.overflow_sub-left

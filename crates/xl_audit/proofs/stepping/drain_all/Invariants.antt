@@ -1,4 +1,4 @@
-use Rattle.std.proofs.Common.{◌≡◌, ◌≤◌, length}
+use Rattle.std.proofs.Common.{◌≡◌, ◌≤◌}
 use Rattle.xl_wire.specs.declared.lengths.TheConstants.{LONGEST_FRAME}
 use Rattle.xl_audit.specs.Pieces.{HasDrained}
 use Rattle.xl_audit.proofs.stepping.drain_all.Given as goal
@@ -8,7 +8,6 @@ abbrev pub invariant-loop-left : goal.invariant-loop-left
 invariant-loop-left l = record {
   so_far : HasDrained l.initial.core l.member l.room l.core l.left l.given.items;
   enough : LONGEST_FRAME ≤ l.left;
-  long : length l.piece.items ≡ 16480;
 }
 
 abbrev pub decreases-loop-left : goal.decreases-loop-left

@@ -4,7 +4,7 @@ use Rattle.xl_audit.proofs.stepping.hand_out_all.Goals as goal
 
 pub loop-left-preserved : goal.loop-left-preserved
 loop-left-preserved c = record {
-  so_far = handing_more c.args.core.now c.args.room c.loop-left.core c.hand_out_once.new.core c.loop-left.left 64
+  so_far = handing_more c.args.core.now c.args.room c.loop-left.core c.hand_out_once.new.core c.loop-left.left 4
       c.loop-left.given.items c.hand_out_once.new.given.items c.loop-left.invariant.so_far c.hand_out_once.ensures.core
       c.in_ok-count.ensures.given (omega (arith, c.loop-left-test.true));
   long = still_long c.loop-left.piece.len c.loop-left.piece.items c.hand_out_once.new.room c.loop-left.piece.ok.0
@@ -13,14 +13,14 @@ loop-left-preserved c = record {
 
 pub returns-then-count-lt-PIECE-clause-core : goal.returns-then-count-lt-PIECE-clause-core
 returns-then-count-lt-PIECE-clause-core c =
-    (handing_over c.args.core.now c.args.room c.loop-left.core c.hand_out_once.new.core c.loop-left.left 64
+    (handing_over c.args.core.now c.args.room c.loop-left.core c.hand_out_once.new.core c.loop-left.left 4
     c.loop-left.given.items c.hand_out_once.new.given.items c.loop-left.invariant.so_far c.hand_out_once.ensures.core
     c.in_ok-count.ensures.given (omega (arith, c.loop-left-test.true))
     (omega (arith, c.in_ok-count.ensures.count, c.if-count-lt-PIECE.true))).0
 
 pub returns-then-count-lt-PIECE-clause-given : goal.returns-then-count-lt-PIECE-clause-given
 returns-then-count-lt-PIECE-clause-given c =
-    (handing_over c.args.core.now c.args.room c.loop-left.core c.hand_out_once.new.core c.loop-left.left 64
+    (handing_over c.args.core.now c.args.room c.loop-left.core c.hand_out_once.new.core c.loop-left.left 4
     c.loop-left.given.items c.hand_out_once.new.given.items c.loop-left.invariant.so_far c.hand_out_once.ensures.core
     c.in_ok-count.ensures.given (omega (arith, c.loop-left-test.true))
     (omega (arith, c.in_ok-count.ensures.count, c.if-count-lt-PIECE.true))).1

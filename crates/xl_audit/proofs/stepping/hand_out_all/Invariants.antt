@@ -6,7 +6,7 @@ use Rattle.xl_audit.proofs.stepping.hand_out_all.Given as goal
 abbrev pub invariant-loop-left : goal.invariant-loop-left
 invariant-loop-left l = record {
   so_far : HasHanded l.initial.core l.room l.core l.left l.given.items;
-  long : length l.piece.items ≡ 64;
+  long : length l.piece.items ≡ 4;
 }
 
 abbrev pub decreases-loop-left : goal.decreases-loop-left
