@@ -68,7 +68,7 @@ deed_unsent core now (deed.Relist list) save from =
 
 abbrev pub with_all : World → List Place → List Sent → List SaidLedger → List Reported → List InForce → World
 with_all w places sent said reports lists =
-    record { liars = w.liars; numbers = w.numbers; places = places; sent = sent; mark = w.mark; said = said; reports = reports; lists = lists; forged = w.forged }
+    record { liars = w.liars; numbers = w.numbers; places = places; sent = sent; mark = w.mark; said = said; reports = reports; lists = lists; forged = w.forged; spent = w.spent }
 
 same_all : (w : World) {p p' : List Place} {f f' : List Sent} {s s' : List SaidLedger} {r r' : List Reported} {l l' : List InForce} → p ≡ p' → f ≡ f' → s ≡ s' → r ≡ r' → l ≡ l' → with_all w p f s r l ≡ with_all w p' f' s' r' l'
 same_all w {p} {p'} {f} {f'} {s} {s'} {r} {r'} {l} {l'} a b c d e =

@@ -86,12 +86,12 @@ untaken_still core (e ∷ es) are =
 
 -- the world with a place changed, and with these frames sent
 abbrev pub moved : World → Place → List Sent → World
-moved w q frames = record { liars = w.liars; numbers = w.numbers; places = put q w.places; sent = w.sent ++ frames; mark = w.mark; said = w.said; reports = w.reports; lists = w.lists; forged = w.forged }
+moved w q frames = record { liars = w.liars; numbers = w.numbers; places = put q w.places; sent = w.sent ++ frames; mark = w.mark; said = w.said; reports = w.reports; lists = w.lists; forged = w.forged; spent = w.spent }
 
 -- what changes of a world
 abbrev with_lists : World → List Place → List Sent → List Reported → List InForce → World
 with_lists w places sent reports lists =
-    record { liars = w.liars; numbers = w.numbers; places = places; sent = sent; mark = w.mark; said = w.said; reports = reports; lists = lists; forged = w.forged }
+    record { liars = w.liars; numbers = w.numbers; places = places; sent = sent; mark = w.mark; said = w.said; reports = reports; lists = lists; forged = w.forged; spent = w.spent }
 
 abbrev once : Place → CoreEvent → Place
 once p e = record { core = (core_happens p.core e AnsweredOk).core; keeper = p.keeper }
@@ -164,6 +164,7 @@ emptied_then w i forged set r keeper = record {
   reports = w.reports ++ option_to_list (option_map (reported_by r.core.node) r.report);
   lists = w.lists ++ option_to_list set;
   forged = if forged then one_more w.forged else w.forged;
+  spent = w.spent;
 }
 
 abbrev pub emptied_acts : World → ℕ → CoreEvent → Fate → Option Place → World

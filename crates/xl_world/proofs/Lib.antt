@@ -8,6 +8,8 @@ pub mod Settling
 pub mod CoreSteps
 pub mod Runs
 pub mod Lists
+pub mod Growing
+pub mod Ending
 pub mod Listing
 pub mod Agreeing
 pub mod Numbers

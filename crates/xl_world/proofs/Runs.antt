@@ -140,37 +140,38 @@ step_sound w Mark fit same sound = marked_sound w sound
 
 -- WHAT STAYS OVER A RUN
 
--- the liars stay, and where no frame was forged in the end none was at first
+-- the liars stay, a world that isn't spent isn't in the end, and if no frame was forged in the end none was at first
 pub record Stays (w v : World) : Type 0 where
   pub liars : v.liars ≡ w.liars
   pub forged : v.forged ≡ 0 → w.forged ≡ 0
+  pub spent : v.spent ≡ w.spent
 
 acts_stays : (w : World) (i : ℕ) (e : CoreEvent) (fate : Fate) (o : Option Place) → Stays w (acts w i e fate o)
-acts_stays w i e fate None = record { liars = refl; forged = λ h. h }
-acts_stays w i e fate (Some p) = record { liars = refl; forged = cond_both (is_forged w p.core.node e) (one_more w.forged) w.forged (λ k. k ≡ 0 → w.forged ≡ 0) (λ _ h. absurd (never_none w.forged h)) (λ _ h. h) }
+acts_stays w i e fate None = record { liars = refl; forged = λ h. h; spent = refl }
+acts_stays w i e fate (Some p) = record { liars = refl; forged = cond_both (is_forged w p.core.node e) (one_more w.forged) w.forged (λ k. k ≡ 0 → w.forged ≡ 0) (λ _ h. absurd (never_none w.forged h)) (λ _ h. h); spent = refl }
 
 again_stays : (w : World) (i now number : ℕ) (o : Option Place) → Stays w (again w i now number o)
-again_stays w i now number None = record { liars = refl; forged = λ h. h }
+again_stays w i now number None = record { liars = refl; forged = λ h. h; spent = refl }
 again_stays w i now number (Some p) =
-    cond_both (may_hold (held_by p.keeper) number) (reopened w i p now number) w (Stays w) (λ _. record { liars = refl; forged = λ h. h }) (λ _. record { liars = refl; forged = λ h. h })
+    cond_both (may_hold (held_by p.keeper) number) (reopened w i p now number) w (Stays w) (λ _. record { liars = refl; forged = λ h. h; spent = refl }) (λ _. record { liars = refl; forged = λ h. h; spent = refl })
 
 torn_stays : (w : World) (i now number : ℕ) (o : Option Place) (asked : Option ℕ) → Stays w (torn w i now number o asked)
-torn_stays w i now number None asked = record { liars = refl; forged = λ h. h }
-torn_stays w i now number (Some p) None = record { liars = refl; forged = λ h. h }
+torn_stays w i now number None asked = record { liars = refl; forged = λ h. h; spent = refl }
+torn_stays w i now number (Some p) None = record { liars = refl; forged = λ h. h; spent = refl }
 torn_stays w i now number (Some p) (Some s) = again_stays w i now number (Some (record { core = p.core; keeper = record p.keeper { asked = Some s } }))
 
 step_stays : (w : World) (s : Step) → Stays w (step w s)
 step_stays w (Act i e fate) = acts_stays w i e fate (place_at i w.places)
 step_stays w (Again i now number) = again_stays w i now number (place_at i w.places)
 step_stays w (Torn i e number) = torn_stays w i (moment_in e) number (place_at i w.places) (asked_at (place_at i w.places) e)
-step_stays w Mark = record { liars = refl; forged = λ h. h }
+step_stays w Mark = record { liars = refl; forged = λ h. h; spent = refl }
 
 pub run_stays : (w : World) (ss : List Step) → Stays w (run w ss)
-run_stays w [] = record { liars = refl; forged = λ h. h }
+run_stays w [] = record { liars = refl; forged = λ h. h; spent = refl }
 run_stays w (s ∷ ss) =
     let first = step_stays w s in
     let rest = run_stays (step w s) ss in
-    record { liars = rest.liars ∙ first.liars; forged = λ h. first.forged (rest.forged h) }
+    record { liars = rest.liars ∙ first.liars; forged = λ h. first.forged (rest.forged h); spent = rest.spent ∙ first.spent }
 
 -- each world of an unforged run is sound
 pub run_sound : (w : World) (ss : List Step) → AreFit ss → (run w ss).forged ≡ 0 → IsSound w → IsSound (run w ss)

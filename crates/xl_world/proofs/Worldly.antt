@@ -1,15 +1,13 @@
--- Worlds that keep what the type keeps: at the start, after an event, and where nobody is left.
-use Rattle.std.proofs.Common.{◌≡◌, ℕ, List, [], refl, sym, subst, Option, Some, None}
-use Rattle.std.specs.Prelude.{IfSome}
+-- Worlds that keep what the type keeps: at the start, after an event, and once they are spent.
+use Rattle.std.proofs.Common.{◌≡◌, ℕ, List, [], refl, sym, subst}
 use Rattle.std.proofs.lemmas.List.Elements.{All-nil}
 use Rattle.xl_sched.specs.declared.event.What.{What}
 use Rattle.xl_world.specs.declared.plan.PlanNode.{PlanNode}
-use Rattle.xl_world.specs.Plans.{AreDeclared, IsDeclared, Shared}
+use Rattle.xl_world.specs.Plans.{AreDeclared, Shared}
 use Rattle.xl_world.specs.Rested.{IsAtRest}
 use Rattle.xl_world.specs.Schedule.{IsPlausible, steps_at}
 use Rattle.xl_world.specs.Starts.{IsRun, start}
 use Rattle.xl_world.specs.World.{World, IsFit, run}
-use Rattle.xl_world.specs.Worlds.{nobody}
 use Rattle.xl_world.proofs.Events.{event_leaves}
 use Rattle.xl_world.proofs.Fitting.{steps_fit}
 use Rattle.xl_world.proofs.Resting.{start_rests}
@@ -23,14 +21,3 @@ starts_well w shared liars plan is declared = subst Keeps (sym is) ((shared, pla
 
 pub goes_well : (w v : World) (at : ℕ) (happening : What) → v ≡ run w (steps_at w at happening) → IsPlausible happening → Keeps w → Keeps v
 goes_well w v at happening is plausible keeps = (run_on w v (steps_at w at happening) is (steps_fit w at happening plausible) keeps.0, subst IsAtRest (sym is) (event_leaves w at happening keeps.1))
-
-pub nobody_runs : IsRun nobody
-nobody_runs = (record { limit = 0; speak = 1 }, [], [], All-nil IsDeclared, All-nil IsFit, refl)
-
--- what is taken out of a world keeps it
-pub taken_well : (o : Option World) (w : World) → o ≡ Some w → IfSome o Keeps → Keeps w
-taken_well None w is keeps = cc
-taken_well (Some x) w is keeps = subst Keeps (same x w is) keeps
-  where
-    same : (x y : World) → Some x ≡ Some y → x ≡ y
-    same x y e = cc

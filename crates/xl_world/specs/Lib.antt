@@ -3,6 +3,7 @@ pub mod Plans
 pub mod Forgeries
 pub mod World
 pub mod Starts
+pub mod Ends
 pub mod Headline
 pub mod Emptying
 pub mod Rested

@@ -1,5 +1,5 @@
 -- The network of a plan at its start, and what comes of it. Source: this project's schedule language.
-use Rattle.std.specs.Prelude.{◌≡◌, ℕ, List, [], filter, map}
+use Rattle.std.specs.Prelude.{◌≡◌, ℕ, false, List, [], filter, map}
 use Rattle.xl_core.specs.Core.{with_queues}
 use Rattle.xl_core.specs.Node.{opened}
 use Rattle.xl_world.specs.declared.place.Place.{Place}
@@ -29,6 +29,7 @@ start shared liars plan = record {
   reports = [];
   lists = map list_of plan;
   forged = 0;
+  spent = false;
 }
 
 -- the world comes from a declared one by steps that are fit to happen

@@ -45,6 +45,8 @@ pub record World : Type 0 where
   pub lists : List InForce
   -- how many sealed frames came that no liar signed and nobody had sent; the count ends at the greatest `u64`
   pub forged : ℕ
+  -- whether an event ran out of memory: none happens from then on
+  pub spent : Bool
 
 -- What may happen next: something at a node, whose save meets some fate; a node is opened again at a moment; it stops
 -- in the event's save, and is opened again with what that leaves; or the mark moves to the end of what was sent.

@@ -1,13 +1,14 @@
 -- A world of the code, as the definitions see it. Source: what the code of this crate keeps.
-use Rattle.std.specs.Prelude.{◌≤◌, [], IfSome, length, unwrap_or}
+use Rattle.std.specs.Prelude.{◌≡◌, ◌≤◌, Bool, true, false, [], length}
 use Rattle.xl_world.specs.declared.network.Network.TheInside.{Inside as NetworkInside}
 use Rattle.xl_world.specs.declared.sent.Sent.TheInside.{Inside as SentInside}
 use Rattle.xl_world.specs.declared.traffic.Traffic.TheInside.{Inside as TrafficInside}
 use Rattle.xl_world.specs.declared.world.World.TheInside.{Inside}
+use Rattle.xl_world.specs.Ends.{IsLeft}
 use Rattle.xl_world.specs.Indexes.{IsIndex, Traffic}
 use Rattle.xl_world.specs.Rested.{IsAtRest}
 use Rattle.xl_world.specs.Sending.{Sent, sent_as}
-use Rattle.xl_world.specs.Starts.{IsRun, start}
+use Rattle.xl_world.specs.Starts.{IsRun}
 use Rattle.xl_world.specs.World.{World}
 
 abbrev pub sent_seen : SentInside → Sent
@@ -32,16 +33,17 @@ network_seen n = record {
   reports = n.reports.items;
   lists = n.lists.items;
   forged = n.forged;
+  spent = false;
 }
 
--- a world of nobody
-abbrev pub nobody : World
-nobody = start (record { limit = 0; speak = 1 }) [] []
-
--- once memory was wanting nobody is left
 abbrev pub world_seen : Inside → World
-world_seen w = unwrap_or w.network nobody
+world_seen w = record (w.network) { spent = w.spent }
 
--- what the type keeps: the world is a run, and at rest
+-- the world is a run, and at rest; or it is what is left of one
+abbrev pub IsKept : Bool → World → Type 0
+IsKept false w = IsRun w × IsAtRest w
+IsKept true w = IsLeft (record w { spent = true })
+
+-- what the type keeps
 abbrev pub IsWhole : Inside → Type 0
-IsWhole w = IfSome w.network (λ n. IsRun n × IsAtRest n)
+IsWhole w = IsKept w.spent w.network

@@ -11,6 +11,7 @@ ghost use Rattle.xl_tags.specs.Rings.{schedule_ring};
 ghost use Rattle.xl_world.specs.declared.place.Place.{Place};
 ghost use Rattle.xl_world.specs.World.{place_at};
 ghost use Rattle.xl_world.specs.Emptying.{after_events, draining, drained_once, drains_for, given_by};
+ghost use Rattle.xl_world.specs.Ends.{IsLonger};
 ghost use Rattle.xl_world.specs.Indexes.{with_frames};
 ghost use Rattle.xl_world.specs.Rested.{Between, IsRested};
 ghost use Rattle.xl_world.specs.Seen.{AreFrames, IsFirstFrame, given_at, put_drained};
@@ -50,8 +51,9 @@ fn send_each(
     frames: &[u8],
     traffic: &mut Traffic,
 ) -> Result<(), OutOfMemory>
-    ensures { (each : List (List ℕ)) → AreFrames each → frames.now ≡ joined each →
+    ensures sent { (each : List (List ℕ)) → AreFrames each → frames.now ≡ joined each →
         OnOk result (traffic.new ≡ with_frames traffic.old (map (sent_as from to) each)) }
+    ensures longer { IsLonger traffic.old.frames traffic.new.frames }
 {
     let mut at = 0;
     while let Some(length) = first_length(&frames[at..]) {
@@ -91,6 +93,7 @@ fn drain_for(
     requires keys { core.old.node.keys ≡ schedule_ring core.old.node.me }
     ensures core { OnOk result (core.new ≡ after_events core.old (drains_for core.old to)) }
     ensures sent { OnOk result (traffic.new ≡ with_frames traffic.old (given_by core.old (drains_for core.old to))) }
+    ensures longer { IsLonger traffic.old.frames traffic.new.frames }
 {
     let from = core.node().me();
     // A member's number, for which the receiver has a key.
@@ -113,6 +116,7 @@ fn drain(
     ensures core { OnOk result (core.new ≡ after_events core.old (draining numbers.now core.old)) }
     ensures sent { OnOk result
         (traffic.new ≡ with_frames traffic.old (given_by core.old (draining numbers.now core.old))) }
+    ensures longer { IsLonger traffic.old.frames traffic.new.frames }
 {
     for &to in numbers {
         if to != core.node().me() {
@@ -136,6 +140,7 @@ pub fn drain_at(
         (places.new ≡ put_drained numbers.now (place_at i places.old) places.old) }
     ensures sent { OnOk result
         (traffic.new ≡ with_frames traffic.old (given_at numbers.now (place_at i places.old))) }
+    ensures longer { IsLonger traffic.old.frames traffic.new.frames }
 {
     match position_of(places, i) {
         Some(k) => {

@@ -32,6 +32,15 @@ impl TagIndex {
         }
     }
 
+    /// It is given up, and says nothing of any frame.
+    pub fn give_up(&mut self)
+        ensures given_up { self.new.given_up ≡ true }
+        ensures none { self.new.indexed ≡ 0 }
+    {
+        self.indexed = 0;
+        self.given_up = true;
+    }
+
     /// Whether these bytes were sent.
     pub fn has(&mut self, sent: &[Sent], bytes: &[u8]) -> bool
         requires { IsIndex self.old sent.now }

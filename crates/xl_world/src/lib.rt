@@ -14,6 +14,7 @@ mod act;
 mod agreement;
 mod anew;
 mod draining;
+mod extent;
 mod forged;
 mod fork;
 mod index;

@@ -5,12 +5,13 @@ ghost use Rattle.xl_world.specs.Schedule.{event_asked, failing, node_asked};
 ghost use Rattle.xl_world.specs.Seen.{MayDo, deed_event};
 ghost use Rattle.std.specs.Prelude.{◌≡◌};
 
-use crate::act::{Deed, NodeAnswer, act_at, preferred_at};
+use crate::act::{Deed, NodeAnswer, act_at, core_at, preferred_at};
 use crate::anew::{keeper_at, reopen_at};
 use crate::draining::drain_at;
+use crate::extent::Extent;
 use crate::forged::is_forged;
 use crate::lie::put_lie;
-use crate::place::{Fate, Keeper, Place};
+use crate::place::{Fate, Keeper, NodeCore, Place};
 use crate::settle::{push_some, tell, tell_heard_at};
 use crate::traffic::Traffic;
 use crate::{Happened, InForce, Outcome, Plan, WorldReport, open};
@@ -21,8 +22,8 @@ use xl_lists::SaidLedger;
 use xl_sched::{Ask, Event, Lied, What};
 use xl_wire::LONGEST_FRAME;
 
-/// The nodes of a world, and all that they ever sent, said and reported. A call that wants memory may leave it in the
-/// middle of a step: whoever has it lets it go then.
+/// The nodes of a world, and all that they ever sent, said and reported. A call that runs out of memory may leave it in
+/// the middle of a step, with more told than before: whoever has it calls `end` then.
 #[derive(Drop)]
 pub struct Network {
     pub alloc: Global,
@@ -49,14 +50,15 @@ impl Model for Network {
 }
 
 impl Network {
-    ghost use Rattle.std.specs.Prelude.{◌≡◌, ◌≤◌, ◌++◌, slice_get, Some, IfOk, OnOk};
+    ghost use Rattle.std.specs.Prelude.{◌≡◌, ◌≤◌, ◌++◌, length, option_copied, slice_get, Some, IfOk, OnOk};
     ghost use Rattle.xl_base.specs.declared.moments.TheConstants.{GREATEST_MILLIS};
     ghost use Rattle.xl_ledger.specs.declared.registry.TheConstants.{LEAST_LIMIT, GREATEST_LIMIT};
     ghost use Rattle.xl_sched.specs.Fits.{IsFitLied};
     ghost use Rattle.xl_world.specs.Plans.{AreDeclared, AreTimely};
     ghost use Rattle.xl_world.specs.Starts.{start};
-    ghost use Rattle.xl_world.specs.World.{marked, place_at, run};
+    ghost use Rattle.xl_world.specs.World.{core_in, marked, place_at, run};
     ghost use Rattle.xl_world.specs.Emptying.{event_steps};
+    ghost use Rattle.xl_world.specs.Ends.{Grows, cut_back, extent_of};
     ghost use Rattle.xl_world.specs.Rested.{IsAtRest, IsRested};
     ghost use Rattle.xl_world.specs.Schedule.{
       IsPlausible,
@@ -110,6 +112,7 @@ impl Network {
         requires rested { (p : _) → place_at i self.old.places ≡ Some p → IsRested p.core }
         ensures world { OnOk result (self.new ≡ noted self.old i answer) }
         ensures told { OnOk result (told.new.items ≡ told.old.items ++ outcomes_told i answer) }
+        ensures grows { Grows self.old self.new }
     {
         tell(told, i, &answer)?;
         push_some(&mut self.said, answer.said)?;
@@ -141,6 +144,7 @@ impl Network {
             ≡ with_forged self.old.forged (run self.old (event_steps self.old i (deed_event at deed.now) fate))) }
         ensures told { OnOk result (told.new.items
             ≡ told.old.items ++ told_in self.old (event_steps self.old i (deed_event at deed.now) fate)) }
+        ensures grows { Grows self.old self.new }
     {
         match act_at(&mut self.places, i, at, deed, fate) {
             Some(answer) => self.settle(i, answer, told),
@@ -161,6 +165,7 @@ impl Network {
         ensures world { OnOk result (self.new ≡ run self.old (ask_steps self.old at ask.now fate)) }
         ensures told { OnOk result (told.new.items
             ≡ told.old.items ++ told_in self.old (ask_steps self.old at ask.now fate)) }
+        ensures grows { Grows self.old self.new }
     {
         let (node, deed) = asked_by(ask);
         self.act(node, at, &deed, fate, told)
@@ -173,6 +178,7 @@ impl Network {
         ensures world { OnOk result (self.new ≡ run self.old (timers self.old at self.old.numbers)) }
         ensures told { OnOk result (told.new.items
             ≡ told.old.items ++ told_in self.old (timers self.old at self.old.numbers)) }
+        ensures grows { Grows self.old self.new }
     {
         for k in 0..self.numbers.len() {
             let node = self.numbers[k];
@@ -196,6 +202,7 @@ impl Network {
         ensures world { OnOk result (self.new ≡ run self.old (greet_steps self.old node peer)) }
         ensures told { OnOk result (told.new.items
             ≡ told.old.items ++ told_in self.old (greet_steps self.old node peer)) }
+        ensures grows { Grows self.old self.new }
     {
         if node == peer {
             return Ok(());
@@ -217,6 +224,7 @@ impl Network {
             (self.new ≡ run self.old (delivery_of self.old at (slice_get self.old.sent place))) }
         ensures told { OnOk result (told.new.items
             ≡ told.old.items ++ told_in self.old (delivery_of self.old at (slice_get self.old.sent place))) }
+        ensures grows { Grows self.old self.new }
     {
         let Some(frame) = self.traffic.frame(place) else {
             return Ok(());
@@ -236,6 +244,7 @@ impl Network {
         requires rest { IsAtRest self.old }
         ensures world { OnOk result (self.new ≡ run self.old (steps_at self.old at What.All)) }
         ensures told { OnOk result (told.new.items ≡ told.old.items ++ outcomes_at self.old at What.All) }
+        ensures grows { Grows self.old self.new }
     {
         for place in self.traffic.mark()..self.traffic.as_slice().len() {
             self.deliver(at, place, told)?;
@@ -257,6 +266,7 @@ impl Network {
         ensures world { OnOk result (self.new ≡ run self.old (hand_steps self.old at to bytes.now)) }
         ensures told { OnOk result (told.new.items
             ≡ told.old.items ++ told_in self.old (hand_steps self.old at to bytes.now)) }
+        ensures grows { Grows self.old self.new }
     {
         let forged = is_forged(&self.liars, &mut self.traffic, &self.places, to, bytes);
         self.act(to, at, &Deed::Frame(bytes), Fate::Saved, told)?;
@@ -279,6 +289,7 @@ impl Network {
         ensures world { OnOk result (self.new ≡ run self.old (hand_steps self.old at to (lied_bytes from to lie.now))) }
         ensures told { OnOk result (told.new.items
             ≡ told.old.items ++ told_in self.old (hand_steps self.old at to (lied_bytes from to lie.now))) }
+        ensures grows { Grows self.old self.new }
     {
         let mut room = [0; LONGEST_FRAME];
         let length = put_lie(from, to, lie, &mut room);
@@ -288,8 +299,9 @@ impl Network {
     /// The node of a number, where there is one, is opened anew in its place, with what its keeper then holds.
     fn reopen(&mut self, at: Millis, node: NodeNo, keeper: Keeper) -> Result<(), OutOfMemory>
         requires { at ≤ GREATEST_MILLIS }
-        ensures { OnOk result (self.new
+        ensures places { OnOk result (self.new
             ≡ with_places self.old (put_again at keeper (place_at node self.old.places) self.old.places)) }
+        ensures grows { Grows self.old self.new }
     {
         reopen_at(self.alloc, &mut self.places, node, at, keeper)
     }
@@ -298,7 +310,8 @@ impl Network {
     fn restart(&mut self, at: Millis, node: NodeNo) -> Result<(), OutOfMemory>
         requires moment { at ≤ GREATEST_MILLIS }
         requires rest { IsAtRest self.old }
-        ensures { OnOk result (self.new ≡ run self.old (steps_at self.old at (What.Restart node))) }
+        ensures world { OnOk result (self.new ≡ run self.old (steps_at self.old at (What.Restart node))) }
+        ensures grows { Grows self.old self.new }
     {
         match keeper_at(&self.places, node) {
             Some(keeper) => self.reopen(at, node, keeper.restored(keeper.found())),
@@ -319,6 +332,7 @@ impl Network {
         requires rest { IsAtRest self.old }
         ensures world { OnOk result (self.new ≡ run self.old (steps_at self.old at (What.Cut new ask.now))) }
         ensures told { OnOk result (told.new.items ≡ told.old.items ++ outcomes_at self.old at (What.Cut new ask.now)) }
+        ensures grows { Grows self.old self.new }
     {
         let (node, deed) = asked_by(ask);
         let Some(keeper) = keeper_at(&self.places, node) else {
@@ -345,6 +359,7 @@ impl Network {
         requires plausible { IsPlausible what.now }
         ensures world { OnOk result (self.new ≡ run self.old (steps_at self.old at what.now)) }
         ensures told { OnOk result (told.new.items ≡ told.old.items ++ outcomes_at self.old at what.now) }
+        ensures grows { Grows self.old self.new }
     {
         match what {
             What::Ask(ask) => self.ask(at, ask, Fate::Saved, told),
@@ -384,10 +399,47 @@ impl Network {
         requires plausible { IsPlausible event.now.what }
         ensures world { OnOk result (self.new ≡ run self.old (steps_at self.old event.now.at event.now.what)) }
         ensures told { IfOk result (λ told. told ≡ outcomes_at self.old event.now.at event.now.what) }
+        ensures grows { Grows self.old self.new }
     {
         let mut told = Vec::new(self.alloc);
         self.take(event.at, &event.what, &mut told)?;
         Ok(Happened::from_vec(told))
+    }
+
+    /// The core of a number, where there is one.
+    pub fn core_of(&self, node: NodeNo) -> Option<&NodeCore>
+        ensures { option_copied result ≡ core_in self.now node }
+    {
+        core_at(&self.places, node)
+    }
+
+    /// How much it has told.
+    pub fn extent(&self) -> Extent
+        ensures extent { result ≡ extent_of self.now }
+        ensures mark { result.mark ≤ result.sent }
+    {
+        Extent {
+            sent: self.traffic.as_slice().len(),
+            mark: self.traffic.mark(),
+            said: self.said.len(),
+            reports: self.reports.len(),
+            lists: self.lists.len(),
+            forged: self.forged,
+        }
+    }
+
+    /// It has told no more than it had before, and no node is left in it.
+    pub fn end(&mut self, before: &Extent)
+        requires sent { before.now.sent ≤ length self.old.sent }
+        requires mark { before.now.mark ≤ before.now.sent }
+        ensures { self.new ≡ cut_back before.now self.old }
+    {
+        self.places.clear();
+        self.traffic.cut_back(before.sent, before.mark);
+        self.said.truncate(before.said);
+        self.reports.truncate(before.reports);
+        self.lists.truncate(before.lists);
+        self.forged = before.forged;
     }
 }
 

@@ -2,6 +2,7 @@
 ghost use Rattle.std.specs.Prelude.{◌≡◌, ◌++◌, [], ◌∷◌, map, option_map, option_to_list, OnOk};
 ghost use Rattle.xl_world.specs.Schedule.{hearsay, hearsay_of, told_of_beat, told_of_issued};
 ghost use Rattle.xl_world.specs.World.{place_at};
+ghost use Rattle.xl_world.specs.Ends.{IsLonger};
 ghost use Rattle.xl_world.specs.Seen.{outcomes_told, told_of_reaction};
 
 use crate::act::{NodeAnswer, Reaction, core_at};
@@ -13,7 +14,8 @@ use xl_ledger::AddRefusal;
 
 /// Adds an element where there is one.
 pub fn push_some<T: Drop>(list: &mut Vec<T>, element: Option<T>) -> Result<(), OutOfMemory>
-    ensures { OnOk result (list.new.items ≡ list.old.items ++ option_to_list element) }
+    ensures pushed { OnOk result (list.new.items ≡ list.old.items ++ option_to_list element) }
+    ensures longer { IsLonger list.old.items list.new.items }
 {
     if let Some(element) = element {
         list.push(element)?;

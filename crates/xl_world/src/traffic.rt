@@ -1,5 +1,5 @@
 // All that was sent, and how much of it stands before the mark.
-ghost use Rattle.std.specs.Prelude.{◌≡◌, ◌≤◌, [], length, drop, slice_get, option_copied, OnOk};
+ghost use Rattle.std.specs.Prelude.{◌≡◌, ◌≤◌, [], length, drop, slice_get, take, option_copied, OnOk, OnErr};
 ghost use Rattle.xl_world.specs.Indexes.{Traffic as TheTraffic, with_frame};
 ghost use Rattle.xl_world.specs.Forgeries.{was_sent};
 
@@ -66,10 +66,24 @@ impl Traffic {
 
     /// A frame is sent.
     pub fn push(&mut self, frame: Sent) -> Result<(), OutOfMemory>
-        ensures { OnOk result (self.new ≡ with_frame self.old frame) }
+        ensures sent { OnOk result (self.new ≡ with_frame self.old frame) }
+        ensures err { OnErr result (self.new ≡ self.old) }
     {
         self.frames.push(frame)?;
         Ok(())
+    }
+
+    /// No more frames are kept than so many of the first, and the mark is this one. The index is given up, since it may
+    /// hold later frames.
+    pub fn cut_back(&mut self, count: usize, mark: usize)
+        requires within { count ≤ length self.old.frames }
+        requires mark { mark ≤ count }
+        ensures frames { self.new.frames ≡ take count self.old.frames }
+        ensures mark { self.new.mark ≡ mark }
+    {
+        self.frames.truncate(count);
+        self.mark = mark;
+        self.index.give_up();
     }
 
     /// The mark moves to the end.

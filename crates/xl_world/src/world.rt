@@ -1,6 +1,6 @@
 mod readers;
 
-use crate::act::{core_at, list_at};
+use crate::act::list_at;
 use crate::agreement::all_agree;
 use crate::network::Network;
 use crate::place::NodeCore;
@@ -11,11 +11,14 @@ use xl_base::{NodeNo, OutOfMemory};
 use xl_lists::List;
 use xl_sched::Event;
 
-/// A world: the cores, and all that they ever sent, said and reported. Once an event has wanted memory nobody is left
-/// in it, and each later event answers the same.
+/// A world: the cores, and all that they ever sent, said and reported.
+///
+/// Once an event has run out of memory the world is spent: each later event answers the same. What it told before that
+/// event stays, and no node is left in it.
 #[derive(Drop)]
 pub struct World {
-    network: Option<Network>,
+    network: Network,
+    spent: bool,
 }
 
 impl Model for World {
@@ -31,7 +34,7 @@ impl Model for World {
 }
 
 impl World {
-    ghost use Rattle.std.specs.Prelude.{◌≡◌, ◌≤◌, ◌↔◌, option_copied, None, IsTrue, IfOk, OnOk, OnErr};
+    ghost use Rattle.std.specs.Prelude.{◌≡◌, ◌≤◌, ◌↔◌, option_copied, None, true, false, IsErr, IsTrue, IfOk, OnOk, OnErr};
     ghost use Rattle.xl_base.specs.declared.moments.TheConstants.{GREATEST_MILLIS};
     ghost use Rattle.xl_ledger.specs.declared.registry.TheConstants.{LEAST_LIMIT, GREATEST_LIMIT};
     ghost use Rattle.xl_world.specs.Headline.{AgreeAt, EnoughAt, Headline};
@@ -39,7 +42,7 @@ impl World {
     ghost use Rattle.xl_world.specs.Schedule.{IsPlausible, after_event, outcomes};
     ghost use Rattle.xl_world.specs.Starts.{IsRun, start};
     ghost use Rattle.xl_world.specs.World.{core_in, list_in, run};
-    ghost use Rattle.xl_world.specs.Worlds.{nobody};
+    ghost use Rattle.xl_world.specs.Ends.{IsLeft, ended};
 
     /// The world of a plan, at its start.
     // Its frame is large, and in the caller's each event would pay for it.
@@ -52,28 +55,32 @@ impl World {
             ≡ start (record { limit = plan.now.limit; speak = plan.now.speak }) plan.now.liars.items plan.now.nodes.items) }
     {
         Ok(World {
-            network: Some(Network::open(alloc, plan)?),
+            network: Network::open(alloc, plan)?,
+            spent: false,
         })
     }
 
-    /// An event of a schedule, and what is told of it, in order. Where memory is wanting the world ends: nobody is left
-    /// in it.
+    /// An event of a schedule, and what is told of it, in order.
     ///
-    /// A set that a liar says in it is one, and so is a list.
+    /// If it runs out of memory, the world is spent: nothing more happens in it, no node is left in it, and all else is
+    /// as it was before the event. A set that a liar says is one, and so is a list that is handed in.
     pub fn event(&mut self, event: &Event) -> Result<Happened, OutOfMemory>
         requires moment { event.now.at ≤ GREATEST_MILLIS }
         requires plausible { IsPlausible event.now.what }
         ensures world { OnOk result (self.new ≡ after_event self.old event.now) }
         ensures told { IfOk result (λ told. told ≡ outcomes self.old event.now) }
-        ensures err { OnErr result (self.new ≡ nobody) }
+        ensures err { OnErr result (self.new ≡ ended self.old) }
+        ensures spent { self.old.spent ≡ true → IsErr result }
     {
-        let Some(network) = &mut self.network else {
+        if self.spent {
             return Err(OutOfMemory);
-        };
-        match network.happen(event) {
+        }
+        let before = self.network.extent();
+        match self.network.happen(event) {
             Ok(told) => Ok(told),
             Err(fault) => {
-                self.network = None;
+                self.network.end(&before);
+                self.spent = true;
                 Err(fault)
             }
         }
@@ -83,74 +90,55 @@ impl World {
     pub fn sent(&self) -> &[Sent]
         ensures { result.now ≡ self.now.sent }
     {
-        match &self.network {
-            Some(network) => network.traffic.as_slice(),
-            None => &[],
-        }
+        self.network.traffic.as_slice()
     }
 
     /// The declared liars.
     pub fn liars(&self) -> &[NodeNo]
         ensures { result.now ≡ self.now.liars }
     {
-        match &self.network {
-            Some(network) => &network.liars,
-            None => &[],
-        }
+        &self.network.liars
     }
 
-    /// The list in force at a node, or None for a number that no honest node has.
+    /// The list in force at a node, or None for a number that no honest node has, and for all in a spent world.
     pub fn list_of(&self, node: NodeNo) -> Option<&List>
         ensures { option_copied result ≡ list_in self.now node }
     {
-        match &self.network {
-            Some(network) => list_at(&network.places, node),
-            None => None,
-        }
+        list_at(&self.network.places, node)
     }
 
-    /// The core of a node, or None for a number that isn't a declared honest node.
+    /// The core of a node, or None for a number that isn't a declared honest node. In a spent world it is None for all.
     pub fn node(&self, node: NodeNo) -> Option<&NodeCore>
         ensures core { option_copied result ≡ core_in self.now node }
         ensures none { (shared : _) (liars : _) (plan : _) (steps : _) → self.now ≡ run (start shared liars plan) steps →
             (option_copied result ≡ None) ↔ (list_at plan node ≡ None) }
+        ensures spent { self.now.spent ≡ true → option_copied result ≡ None }
     {
-        match &self.network {
-            Some(network) => core_at(&network.places, node),
-            None => None,
-        }
+        self.network.core_of(node)
     }
 
     /// Every report of a node, in order.
     pub fn reports(&self) -> &[WorldReport]
         ensures reports { result.now ≡ self.now.reports }
-        // The world comes from a declared one by steps that are fit to happen.
-        ensures run { IsRun self.now }
+        // The world comes from a declared one by steps that are fit to happen, or it is what is left of one that does.
+        ensures run { self.now.spent ≡ false → IsRun self.now }
+        ensures left { self.now.spent ≡ true → IsLeft self.now }
     {
-        match &self.network {
-            Some(network) => &network.reports,
-            None => &[],
-        }
+        &self.network.reports
     }
 
     /// Every list that was in force at a node, in order: first those that were declared.
     pub fn lists(&self) -> &[InForce]
         ensures { result.now ≡ self.now.lists }
     {
-        match &self.network {
-            Some(network) => &network.lists,
-            None => &[],
-        }
+        &self.network.lists
     }
 
     /// How many sealed frames came that no liar signed and nobody had sent; the count ends at the greatest `u64`.
     pub fn forged(&self) -> u64
         ensures { result ≡ self.now.forged }
     {
-        match &self.network {
-            Some(network) => network.forged,
-            None => 0,
-        }
+        self.network.forged
     }
 
     /// Whether no report of `i` and no report of `j` share a sequence and differ in id. `i` may be `j`: reports of all

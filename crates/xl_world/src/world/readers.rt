@@ -10,29 +10,20 @@ impl World {
     pub fn numbers(&self) -> &[NodeNo]
         ensures { result.now ≡ self.now.numbers }
     {
-        match &self.network {
-            Some(network) => &network.numbers,
-            None => &[],
-        }
+        &self.network.numbers
     }
 
     /// How many of the sent frames stand before the mark.
     pub fn mark(&self) -> usize
         ensures { result ≡ self.now.mark }
     {
-        match &self.network {
-            Some(network) => network.traffic.mark(),
-            None => 0,
-        }
+        self.network.traffic.mark()
     }
 
     /// Every validation that a node ever issued, in order.
     pub fn said(&self) -> &[SaidLedger]
         ensures { result.now ≡ self.now.said }
     {
-        match &self.network {
-            Some(network) => &network.said,
-            None => &[],
-        }
+        &self.network.said
     }
 }

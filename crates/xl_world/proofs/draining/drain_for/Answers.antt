@@ -10,6 +10,7 @@ use Rattle.xl_world.specs.Seen.{sent_from}
 use Rattle.xl_world.specs.Sending.{sent_as}
 use Rattle.xl_world.proofs.Drains.{given_is, given_whole, left_more, some_given}
 use Rattle.xl_world.proofs.Sealing.{IsFor, IsNumber, framed_for, sent_so}
+use Rattle.xl_world.proofs.Growing.{longer_on}
 use Rattle.xl_world.proofs.Shortening.{fewer_left}
 use Rattle.xl_world.proofs.draining.drain_for.Goals as goal
 use Rattle.xl_world.proofs.draining.drain_for.Goals.{In-Some}
@@ -36,7 +37,12 @@ loop-count-preserved c =
     let so : map (sent_as core.node.me c.args.to) (map blanked given) ≡ map (sent_from core.node.me c.args.to) given =
     sent_so core.node.me c.args.to given (given_is (IsFor c.args.to) core c.args.to (λ body. framed_for core.node c.args.to body keys mine (omega arith, omega arith) other)) in (
       left_more c.args.core.now core c.drain_once.new.core c.args.to c.args.traffic.now c.loop-count.traffic c.send_each.new.traffic c.loop-count.invariant.0 (some d) c.drain_once.ensures.core
-          (c.in_ok-send_each.ensures (map blanked given) (given_whole core c.args.to) c.in-Some.ensures.some.2
+          (c.in_ok-send_each.ensures.sent (map blanked given) (given_whole core c.args.to) c.in-Some.ensures.some.2
           ∙ ap (λ (m : ℕ). with_frames c.loop-count.traffic (map (sent_as m c.args.to) (map blanked given))) from ∙ ap (with_frames c.loop-count.traffic) so),
       c.loop-count.invariant.1,
+      longer_on c.args.traffic.now.frames c.loop-count.traffic.frames c.send_each.new.traffic.frames c.loop-count.invariant.2 c.send_each.ensures.longer,
     )
+
+pub returns-in_err-send_each-clause-longer : goal.returns-in_err-send_each-clause-longer
+returns-in_err-send_each-clause-longer c =
+    longer_on c.args.traffic.now.frames c.loop-count.traffic.frames c.send_each.new.traffic.frames c.loop-count.invariant.2 c.send_each.ensures.longer

@@ -10,6 +10,8 @@ use Rattle.xl_world.specs.Seen.{AnswersAt, acted_at, deed_event, noted, with_pla
 use Rattle.xl_world.specs.World.{World, place_at}
 use Rattle.xl_world.proofs.Acting.{acted_rests, deed_unsent, noted_ran}
 use Rattle.xl_world.proofs.Telling.{told_ran}
+use Rattle.xl_world.specs.Worlds.{network_seen}
+use Rattle.xl_world.proofs.Growing.{grows_from, grows_placed}
 use Rattle.xl_world.proofs.network.Network.act.Goals as goal
 use Rattle.xl_world.proofs.network.Network.act.Goals.{After-act_at, In-Some}
 
@@ -52,3 +54,9 @@ pub returns-in-Some-clause-told : goal.returns-in-Some-clause-told
 returns-in-Some-clause-told c =
     let s = (goal.at.returns-in-Some-clause-told c).In-Some in
     subst (λ (os : List Outcome). OnOk c.settle.result (c.settle.new.told.items ≡ c.args.told.now.items ++ os)) (told_ran c.args.self.now c.args.i (deed_event c.args.at c.args.deed.now) c.args.fate c.in-Some.answer (answers s)) c.settle.ensures.told
+
+pub returns-in-Some-clause-grows : goal.returns-in-Some-clause-grows
+returns-in-Some-clause-grows c = grows_from c.args.self.now (network_seen c.self.inside) c.settle.new.self (with_items c.self.inside.places c.act_at.new.places).items c.self.view_is c.settle.ensures.grows
+
+pub returns-in-None-clause-grows : goal.returns-in-None-clause-grows
+returns-in-None-clause-grows c = grows_placed c.args.self.now (network_seen c.self.inside) (with_items c.self.inside.places c.act_at.new.places).items c.self.view_is

@@ -12,6 +12,8 @@ use Rattle.xl_world.specs.Seen.{AnswersAt, acted_at, deed_event, keeper_in, note
 use Rattle.xl_world.specs.World.{World, place_at}
 use Rattle.xl_world.proofs.Acting.{acted_rests, deed_unsent}
 use Rattle.xl_world.proofs.Cutting.{any_ok, cuts_none, cuts_torn}
+use Rattle.xl_world.specs.Worlds.{network_seen}
+use Rattle.xl_world.proofs.Growing.{grows_from, grows_on, grows_placed, grows_same}
 use Rattle.xl_world.proofs.network.Network.cut.Goals as goal
 use Rattle.xl_world.proofs.network.Network.cut.Goals.{After-act_at, In-Some-act_at}
 
@@ -67,7 +69,7 @@ returns-in-Some-asked-clause-world c =
     ∙ (ap (λ (xs : List Place). with_places w (put_again at c.restored.result (place_at i xs) xs)) (placed d)
     ∙ (ap (λ (k : Keeper). with_places w (put_again at k (place_at i acted) acted)) its
     ∙ (cuts_torn w at c.args.new c.args.ask.now i (event d) Unwritten kept c.in-Some-act_at.answer c.in-Some-asked.seq c.asked_by-node.ensures.node (c.asked_by-node.ensures.deed at) (held d) (answers s) c.in-Some-asked.is).world)))
-    c.reopen.ensures
+    c.reopen.ensures.places
 
 pub returns-in_ok-settle-in-None-clause-world : goal.returns-in_ok-settle-in-None-clause-world
 returns-in_ok-settle-in-None-clause-world c =
@@ -87,7 +89,7 @@ returns-in_ok-settle-in-None-clause-world c =
     (ap (λ (k : Keeper). with_places v (put_again at k (place_at i v.places) v.places)) its
     ∙ (cuts_none w v at c.args.new c.args.ask.now i (event d) Unwritten kept c.in-Some-act_at.answer c.asked_by-node.ensures.node (c.asked_by-node.ensures.deed at) (held d) (answers s) c.in-None.is
     (λ p from. deed_unsent p.core at c.asked_by-node.result.1 (answer_of p.keeper Unwritten) from) settled).world)
-    c.reopen-in-None.ensures
+    c.reopen-in-None.ensures.places
 
 pub returns-in_ok-settle-in-None-clause-told : goal.returns-in_ok-settle-in-None-clause-told
 returns-in_ok-settle-in-None-clause-told c =
@@ -106,3 +108,17 @@ returns-in_ok-settle-in-None-clause-told c =
     ∙ ap (λ (os : List Outcome). c.args.told.now.items ++ os)
     (cuts_none w v at c.args.new c.args.ask.now i (event d) Unwritten c.in-Some.keeper c.in-Some-act_at.answer c.asked_by-node.ensures.node (c.asked_by-node.ensures.deed at) (held d) (answers s) c.in-None.is
     (λ p from. deed_unsent p.core at c.asked_by-node.result.1 (answer_of p.keeper Unwritten) from) settled).tells)
+
+-- WHAT WAS TOLD STAYS
+
+pub returns-in-Some-asked-clause-grows : goal.returns-in-Some-asked-clause-grows
+returns-in-Some-asked-clause-grows c = grows_from c.args.self.now (network_seen c.self.inside) c.reopen.new.self (with_items c.self.inside.places c.act_at.new.places).items c.self.view_is c.reopen.ensures.grows
+
+pub returns-in_err-settle-in-None-clause-grows : goal.returns-in_err-settle-in-None-clause-grows
+returns-in_err-settle-in-None-clause-grows c = grows_from c.args.self.now (network_seen c.self.inside) c.settle.new.self (with_items c.self.inside.places c.act_at.new.places).items c.self.view_is c.settle.ensures.grows
+
+pub returns-in_ok-settle-in-None-clause-grows : goal.returns-in_ok-settle-in-None-clause-grows
+returns-in_ok-settle-in-None-clause-grows c =
+    grows_on c.args.self.now c.settle.new.self c.reopen-in-None.new.self
+    (grows_from c.args.self.now (network_seen c.self.inside) c.settle.new.self (with_items c.self.inside.places c.act_at.new.places).items c.self.view_is c.settle.ensures.grows)
+    c.reopen-in-None.ensures.grows

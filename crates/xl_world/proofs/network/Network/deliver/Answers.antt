@@ -1,4 +1,4 @@
-use Rattle.std.proofs.Common.{◌≡◌, ◌++◌, ◌∙◌, ℕ, List, Option, Some, None, ap, subst, sym}
+use Rattle.std.proofs.Common.{◌≡◌, ◌++◌, ◌∙◌, ℕ, List, Option, Some, None, ap, refl, subst, sym}
 use Rattle.std.specs.Prelude.{OnOk, slice_get}
 use Rattle.std.specs.Vec.{with_items}
 use Rattle.std.proofs.lemmas.List.{with_items_is}
@@ -18,6 +18,8 @@ use Rattle.xl_core.specs.Hearing.{bytes_as_sealed}
 use Rattle.xl_world.proofs.Acting.{acted_rests, noted_ran, nothing_ran, sent_ran}
 use Rattle.xl_world.proofs.CoreSteps.{frame_plain}
 use Rattle.xl_world.proofs.Telling.{told_ran}
+use Rattle.xl_world.specs.Worlds.{network_seen}
+use Rattle.xl_world.proofs.Growing.{grows_from, grows_placed, grows_same}
 use Rattle.xl_world.proofs.network.Network.deliver.Goals as goal
 use Rattle.xl_world.proofs.network.Network.deliver.Goals.{After-act_at, In-Some-act_at}
 
@@ -99,3 +101,14 @@ returns-in-None-clause-world c =
     ∙ (nothing_ran w i (event d) Saved nobody
     ∙ (ap (λ steps. with_forged w.forged (run w steps)) (delivered d ∙ ap (delivery_of w c.args.at) (found d))
     ∙ (sent_ran w c.args.at c.in-Some.frame.now c.args.place (found d) ∙ ap (λ (o : Option Sent). run w (delivery_of w c.args.at o)) (sym (found d))))))
+
+-- WHAT WAS TOLD STAYS
+
+pub returns-in-Some-act_at-clause-grows : goal.returns-in-Some-act_at-clause-grows
+returns-in-Some-act_at-clause-grows c = grows_from c.args.self.now (network_seen c.self.inside) c.settle.new.self (with_items c.self.inside.places c.act_at.new.places).items c.self.view_is c.settle.ensures.grows
+
+pub returns-in-None-clause-grows : goal.returns-in-None-clause-grows
+returns-in-None-clause-grows c = grows_placed c.args.self.now (network_seen c.self.inside) (with_items c.self.inside.places c.act_at.new.places).items c.self.view_is
+
+pub returns-in_default-clause-grows : goal.returns-in_default-clause-grows
+returns-in_default-clause-grows c = grows_same c.args.self.now c.args.self.now refl

@@ -1,4 +1,4 @@
-use Rattle.std.proofs.Common.{◌≡◌, ◌∙◌, ℕ, Bool, List, ap}
+use Rattle.std.proofs.Common.{◌≡◌, ◌∙◌, ℕ, Bool, List, ap, subst, sym}
 use Rattle.std.specs.Prelude.{if◌then◌else◌}
 use Rattle.xl_base.specs.Counts.{one_more}
 use Rattle.xl_core.specs.declared.event.CoreEvent.TheVariants.{Frame}
@@ -10,6 +10,8 @@ use Rattle.xl_world.specs.Seen.{forged_at, with_forged}
 use Rattle.xl_world.specs.World.{World, place_at, run}
 use Rattle.xl_world.specs.Worlds.{network_seen}
 use Rattle.xl_world.proofs.Acting.{counted_ran}
+use Rattle.xl_world.specs.Ends.{Grows}
+use Rattle.xl_world.proofs.Growing.{grows_counted}
 use Rattle.xl_world.proofs.network.Network.hand_in.Goals as goal
 use Rattle.xl_world.proofs.network.Network.hand_in.Goals.{In_ok-act}
 
@@ -39,3 +41,18 @@ returns-clause-world c =
     ∙ counted_ran w c.args.to c.args.at c.args.bytes.now c.counted-self-inside.result
     (c.counted-self-inside.ensures
     ∙ (ap (λ (n : ℕ). if c.is_forged-forged.result then one_more n else n) before ∙ ap (λ (b : Bool). if b then one_more w.forged else w.forged) (tested d)))
+
+-- WHAT WAS TOLD STAYS
+
+pub returns-in_err-act-clause-grows : goal.returns-in_err-act-clause-grows
+returns-in_err-act-clause-grows c =
+    subst (λ (w : World). Grows w c.act.new.self)
+    (ap (λ (t : Traffic). let w : World = record (network_seen c.self.inside) { sent = t.frames; mark = t.mark } in w) c.is_forged-forged.ensures.same ∙ c.self.view_is)
+    c.act.ensures.grows
+
+pub returns-clause-grows : goal.returns-clause-grows
+returns-clause-grows c =
+    let d = (goal.at.returns-clause-grows c).In_ok-act in
+    let w : World = c.args.self.now in
+    grows_counted w (network_seen c.self-2.inside) c.counted-self-inside.result
+    (subst (Grows w) (sym c.self-2.view_is) (subst (λ (u : World). Grows u c.act.new.self) (same_world d) c.act.ensures.grows))

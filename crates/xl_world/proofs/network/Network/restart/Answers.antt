@@ -9,8 +9,8 @@ use Rattle.xl_world.proofs.Cutting.{restarts}
 use Rattle.xl_world.proofs.Places.{on_ok}
 use Rattle.xl_world.proofs.network.Network.restart.Goals as goal
 
-pub returns-in-Some : goal.returns-in-Some
-returns-in-Some c =
+pub returns-in-Some-clause-world : goal.returns-in-Some-clause-world
+returns-in-Some-clause-world c =
     let w : World = c.args.self.now in
     let at = c.args.at in
     let node = c.args.node in
@@ -18,5 +18,5 @@ returns-in-Some c =
     let held : Some kept ≡ keeper_in node w.places = c.in-Some.ensures ∙ ap (keeper_in node) (c.deref.ensures.value ∙ ap (λ (v : World). v.places) c.self.view_is) in
     let its : c.restored.result ≡ restored kept (found kept) = c.restored.ensures ∙ ap (restored kept) c.found.ensures in
     on_ok (c.reopen.new.self ≡ with_places w (put_again at c.restored.result (place_at node w.places) w.places)) (c.reopen.new.self ≡ run w (steps_at w at (Restart node)))
-    c.reopen.result c.reopen.ensures
+    c.reopen.result c.reopen.ensures.places
     (λ is. is ∙ (ap (λ (k : Keeper). with_places w (put_again at k (place_at node w.places) w.places)) its ∙ restarts w at node kept held))

@@ -1,7 +1,18 @@
-use Rattle.xl_world.proofs.Worldly.{goes_well, taken_well}
+use Rattle.std.proofs.Common.{◌∙◌, ap}
+use Rattle.xl_world.specs.Schedule.{outcomes_at}
+use Rattle.xl_world.specs.World.{World}
+use Rattle.xl_world.proofs.Ending.{event_same, kept_on, kept_same}
 use Rattle.xl_world.proofs.world.World.event.Goals as goal
 
-pub invariant_of-self-in-Ok : goal.invariant_of-self-in-Ok
-invariant_of-self-in-Ok c =
-    goes_well c.in-Some.network c.happen.new.self c.args.event.now.at c.args.event.now.what c.in-Ok.ensures.world c.requires.plausible
-    (taken_well c.self.inside.network c.in-Some.network c.in-Some.is c.self.invariant)
+pub invariant_of-self : goal.invariant_of-self
+invariant_of-self c =
+    kept_on c.self.inside.spent c.self.inside.network c.happen.new.self c.args.event.now.at c.args.event.now.what c.if-self.false c.in-Ok.ensures.world c.requires.plausible c.self.invariant
+
+pub returns-in-Ok-clause-world : goal.returns-in-Ok-clause-world
+returns-in-Ok-clause-world c =
+    event_same c.self.inside.spent c.self.inside.network c.happen.new.self c.args.self.now c.args.event.now c.self.view_is c.self.invariant c.if-self.false c.in-Ok.ensures.world
+
+pub returns-in-Ok-clause-told : goal.returns-in-Ok-clause-told
+returns-in-Ok-clause-told c =
+    c.in-Ok.ensures.told
+    ∙ ap (λ (w : World). outcomes_at w c.args.event.now.at c.args.event.now.what) (kept_same c.self.inside.spent c.self.inside.network c.args.self.now c.self.view_is c.self.invariant c.if-self.false)

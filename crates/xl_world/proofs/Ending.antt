@@ -1,0 +1,91 @@
+-- Spent worlds, and worlds that are not.
+use Rattle.std.proofs.Common.{◌≡◌, ℕ, Bool, true, false, refl, ap, sym, subst, ◌∙◌, inl, inr}
+use Rattle.std.specs.Prelude.{All}
+use Rattle.std.proofs.lemmas.Bool.{cases_Bool}
+use Rattle.xl_sched.specs.declared.event.Event.{Event}
+use Rattle.xl_sched.specs.declared.event.What.{What}
+use Rattle.xl_world.specs.declared.extent.Extent.{Extent}
+use Rattle.xl_world.specs.Ends.{Grows, IsLeft, cut_back, ended, extent_of}
+use Rattle.xl_world.specs.Headline.{AgreeAt, EnoughAt}
+use Rattle.xl_world.specs.Schedule.{IsPlausible, after_event, steps_at}
+use Rattle.xl_world.specs.Starts.{IsRun, start}
+use Rattle.xl_world.specs.World.{World, run}
+use Rattle.xl_world.specs.Worlds.{IsKept}
+use Rattle.xl_world.proofs.Growing.{cut_ended}
+use Rattle.xl_world.proofs.Lists.{world_agrees}
+use Rattle.xl_world.proofs.Runs.{run_stays}
+use Rattle.xl_world.proofs.Worldly.{goes_well}
+
+-- a world with this mark
+abbrev pub with_spent : World → Bool → World
+with_spent w spent = record w { spent = spent }
+
+never : true ≡ false → ⊥
+never e = cc
+
+-- a run isn't spent
+pub run_unspent : (w : World) → IsRun w → w.spent ≡ false
+run_unspent w is_run = ap (λ (u : World). u.spent) is_run.5 ∙ (run_stays (start is_run.0 w.liars is_run.1) is_run.2).spent
+
+pub unspent_same : (w : World) → w.spent ≡ false → with_spent w false ≡ w
+unspent_same w h = ap (with_spent w) (sym h)
+
+-- what a world keeps that isn't spent, and what one keeps that is
+pub kept_run : (b : Bool) (n w : World) → with_spent n b ≡ w → IsKept b n → w.spent ≡ false → IsRun w
+kept_run false n w is kept h = subst (λ (u : World). IsRun u) (sym (unspent_same n (run_unspent n kept.0)) ∙ is) kept.0
+kept_run true n w is kept h = absurd (never (ap (λ (u : World). u.spent) is ∙ h))
+
+pub kept_left : (b : Bool) (n w : World) → with_spent n b ≡ w → IsKept b n → w.spent ≡ true → IsLeft w
+kept_left false n w is kept h = absurd (never (sym h ∙ sym (ap (λ (u : World). u.spent) is)))
+kept_left true n w is kept h = subst IsLeft is kept
+
+-- what is left of a world doesn't change any more
+pub left_ended : (w : World) → IsLeft w → w ≡ ended w
+left_ended w left = left.2 ∙ ap ended (sym left.2)
+
+-- the network of a world that isn't spent is the world
+pub kept_same : (b : Bool) (n w : World) → with_spent n b ≡ w → IsKept b n → b ≡ false → n ≡ w
+kept_same false n w is kept h = sym (unspent_same n (run_unspent n kept.0)) ∙ is
+kept_same true n w is kept h = absurd (never h)
+
+-- reports that agree in a run agree in what is left of it
+left_agrees : (w : World) → IsLeft w → (i j : ℕ) → EnoughAt w.liars w.reports i j → w.forged ≡ 0 → AgreeAt w.reports i j
+left_agrees w left i j enough none =
+    let v : World = left.0 in
+    let is : w ≡ ended v = left.2 in
+    subst (λ (u : World). AgreeAt u.reports i j) (sym is)
+    (world_agrees v left.1 i j (subst (λ (u : World). EnoughAt u.liars u.reports i j) is enough) (subst (λ (u : World). u.forged ≡ 0) is none))
+
+pub all_agree : (w : World) → (w.spent ≡ false → IsRun w) → (w.spent ≡ true → IsLeft w) → (i j : ℕ) → EnoughAt w.liars w.reports i j → w.forged ≡ 0 → AgreeAt w.reports i j
+all_agree w is_run is_left i j enough none = elim (cases_Bool w.spent) [
+  | inl spent ↦ left_agrees w (is_left spent) i j enough none
+  | inr going ↦ world_agrees w (is_run going) i j enough none
+]
+
+-- AN EVENT
+
+-- a world whose mark is set is no world whose mark isn't
+pub unspent_never : (b : Bool) (n w : World) → with_spent n b ≡ w → b ≡ false → w.spent ≡ true → ⊥
+unspent_never b n w is going h = never (sym h ∙ (sym (ap (λ (u : World). u.spent) is) ∙ going))
+
+pub spent_so : (b : Bool) (n w : World) → with_spent n b ≡ w → b ≡ true → w.spent ≡ true
+spent_so b n w is h = sym (ap (λ (u : World). u.spent) is) ∙ h
+
+-- what an event leaves that comes to its end
+pub event_same : (b : Bool) (n v w : World) (e : Event) → with_spent n b ≡ w → IsKept b n → b ≡ false → v ≡ run n (steps_at n e.at e.what) → with_spent v b ≡ after_event w e
+event_same false n v w e is kept going ran =
+    let unspent : v.spent ≡ false = ap (λ (u : World). u.spent) ran ∙ ((run_stays n (steps_at n e.at e.what)).spent ∙ run_unspent n kept.0) in
+    unspent_same v unspent ∙ (ran ∙ ap (λ (u : World). run u (steps_at u e.at e.what)) (kept_same false n w is kept going))
+event_same true n v w e is kept going ran = absurd (never going)
+
+pub kept_on : (b : Bool) (n v : World) (at : ℕ) (happening : What) → b ≡ false → v ≡ run n (steps_at n at happening) → IsPlausible happening → IsKept b n → IsKept b v
+kept_on false n v at happening going ran plausible kept = goes_well n v at happening ran plausible kept
+kept_on true n v at happening going ran plausible kept = absurd (never going)
+
+-- and one that runs out of memory
+pub cut_so : (n v u : World) (x : Extent) → x ≡ extent_of n → Grows n v → u ≡ cut_back x v → with_spent u true ≡ ended n
+cut_so n v u x is_x grows is_u = ap (λ (y : World). with_spent y true) (is_u ∙ ap (λ (e : Extent). cut_back e v) is_x) ∙ cut_ended n v grows
+
+pub kept_end : (b : Bool) (n v u : World) (x : Extent) → b ≡ false → IsKept b n → x ≡ extent_of n → Grows n v → u ≡ cut_back x v → IsKept true u
+kept_end false n v u x going kept is_x grows is_u = (n, kept.0, cut_so n v u x is_x grows is_u)
+kept_end true n v u x going kept is_x grows is_u = absurd (never going)
