@@ -16,6 +16,7 @@ mod limits;
 mod lines;
 mod machine;
 mod teller;
+mod text;
 
 pub use driver::{drive, run};
 pub use fault::Fault;
@@ -23,3 +24,4 @@ pub use limits::{Limits, Overrun, Returns};
 pub use lines::Lines;
 pub use machine::{Machine, Next, Verdict};
 pub use teller::Teller;
+pub use text::Text;

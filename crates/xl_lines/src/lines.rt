@@ -9,7 +9,7 @@ ghost use Rattle.xl_lines.specs.Running.{TakesSome, bytes_to_come, FewerToCome};
 
 use crate::answer::{answer, close, refuse_long};
 use crate::ends::{before_newline, newline_in};
-use crate::{Fault, Limits, Machine, Next, Teller, Verdict};
+use crate::{Fault, Limits, Machine, Next, Teller, Text, Verdict};
 use std::alloc::Global;
 use xl_base::OutOfMemory;
 use xl_io::Sink;
@@ -28,12 +28,12 @@ pub enum Part {
 /// Cuts bytes into lines, and hands each to a machine: the bytes of the line that has begun, and how many lines may
 /// still come, with it.
 #[derive(Drop)]
-pub struct Lines<M> {
+pub struct Lines<M: Machine> {
     machine: M,
     limits: Limits,
     line: Vec<u8>,
     left: usize,
-    text: String,
+    text: M::Answer,
     ghost one_line: { list_any (λ byte. byte == 10) line.items ≡ false },
     ghost short: { vec_len line ≤ limits.bytes },
 }
@@ -49,7 +49,7 @@ impl<M: Machine> Lines<M> {
             limits,
             line: Vec::new(alloc),
             left: limits.lines,
-            text: String::new(alloc),
+            text: M::Answer::empty(alloc),
         }
     }
 

@@ -9,9 +9,8 @@ ghost use Rattle.xl_negative.specs.Writing.{negative_of};
 use crate::writer::Writer;
 use std::alloc::Global;
 use xl_io::{Sink, Source};
-use xl_lines::{Fault, Verdict};
+use xl_lines::{Fault, Verdict, run};
 use xl_running::LIMITS;
-use xl_scribe::run;
 
 /// Reads a schedule from the input to its end, or up to a line that is refused, and writes it to the output with the
 /// lists that its nodes go over to, each part as soon as its line was read.
