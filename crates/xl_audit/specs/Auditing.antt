@@ -11,6 +11,7 @@ use Rattle.xl_lines.specs.declared.limits.Returns.TheVariants.{Kept}
 use Rattle.xl_lines.specs.declared.machine.Verdict.TheVariants as verdict
 use Rattle.xl_lines.specs.Rules.{Rules, Step as LineStep, goes_on as line_goes_on, refuses as line_refuses, finds as line_finds, Told, closes}
 use Rattle.xl_lines.specs.Told.{told_of}
+use Rattle.xl_lines.specs.Soon.{told_soon}
 use Rattle.xl_sched.specs.declared.refusal.SchedRefusal.{SchedRefusal}
 use Rattle.xl_sched.specs.declared.refusal.SchedRefusal.TheVariants.{Header, LongLine, Limit, Word, Late}
 use Rattle.xl_sched.specs.Refusals.{code_of, token_of}
@@ -150,3 +151,7 @@ limits = record { lines = most_lines; bytes = most_bytes; returns = Kept }
 -- what is told of these bytes
 abbrev pub audit_of : List ℕ → Told
 audit_of bytes = told_of limits rules at_first bytes
+
+-- what is told of the lines that have ended in them
+abbrev pub audit_soon : List ℕ → List ℕ
+audit_soon bytes = told_soon limits rules at_first bytes

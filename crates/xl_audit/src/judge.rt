@@ -72,6 +72,8 @@ impl Machine for Judge {
     ghost use Rattle.xl_audit.specs.Auditing.{Auditing, rules as the_rules};
     ghost use Rattle.xl_audit.specs.States.{state_of};
 
+    type Answer = String;
+
     ghost State = { Auditing };
 
     ghost state = { state_of };

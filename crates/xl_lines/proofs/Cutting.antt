@@ -76,11 +76,6 @@ module _ {S : Type 0} (limits : Limits) (rules : Rules S) (left : ℕ) (state : 
       ap (λ bytes. told_from limits rules left state (lines_of bytes)) (append-nil (byte ∷ line))
       ∙ rw (lines_of-last byte line one, le-ltb _ _ short, is) refl
 
-  -- what has come of the line may be put with the rest
-  pub told_at-moved : (line part rest : List ℕ) → told_at limits rules left state line (part ++ rest) ≡ told_at limits rules left state (line ++ part) rest
-  unfolding told_at
-  told_at-moved line part rest = ap (λ bytes. told_from limits rules left state (lines_of bytes)) (sym (append_assoc line part rest))
-
   -- the input ends, and no line has begun
   pub told_at-end : (line : List ℕ) → length line ≡ 0 → told_at limits rules left state line [] ≡ rules.closing state
   unfolding told_at

@@ -20,11 +20,11 @@ pub record Runs (left0 left held0 held : Option (List ℕ)) (all now : List ℕ 
   pub source : left0 ≡ prepend_known consumed left
   pub tells : (rest : List ℕ) → Tells held0 held (all (consumed ++ rest)) (now rest)
 
-prepend_known-none : (known : Option (List ℕ)) → known ≡ prepend_known [] known
+pub prepend_known-none : (known : Option (List ℕ)) → known ≡ prepend_known [] known
 prepend_known-none None = refl
 prepend_known-none (Some xs) = refl
 
-prepend_known-twice : (xs ys : List ℕ) (known : Option (List ℕ)) → prepend_known xs (prepend_known ys known) ≡ prepend_known (xs ++ ys) known
+pub prepend_known-twice : (xs ys : List ℕ) (known : Option (List ℕ)) → prepend_known xs (prepend_known ys known) ≡ prepend_known (xs ++ ys) known
 prepend_known-twice xs ys None = refl
 prepend_known-twice xs ys (Some bytes) = ap Some (sym (append_assoc xs ys bytes))
 

@@ -1,5 +1,5 @@
 // The answers of a machine, written to an output as soon as they are given.
-ghost use Rattle.std.specs.Prelude.{◌≡◌, ◌<◌, [], IfOk, OnOk, IsErrOf, string_bytes};
+ghost use Rattle.std.specs.Prelude.{◌≡◌, ◌<◌, [], IfOk, OnOk, IsErrOf};
 ghost use Rattle.std.specs.Io.KnownBytes.{append_known};
 ghost use Rattle.xl_io.specs.Sinks.{GrewByFront, GrewByLess};
 ghost use Rattle.xl_lines.specs.Causes.{HasCause};
@@ -7,7 +7,7 @@ ghost use Rattle.xl_lines.specs.Rules.{step_given};
 ghost use Rattle.xl_lines.specs.Told.{step_within};
 ghost use Rattle.xl_lines.specs.Running.{TellsAll, step_text};
 
-use crate::{Fault, Machine, Next, Overrun, Verdict};
+use crate::{Fault, Machine, Next, Overrun, Text, Verdict};
 use xl_base::OutOfMemory;
 use xl_io::{Sink, write_all};
 
@@ -16,10 +16,10 @@ fn step<M: Machine>(
     machine: &mut M,
     left: usize,
     line: &[u8],
-    text: &mut String,
+    text: &mut M::Answer,
 ) -> Result<Next, OutOfMemory>
-    requires { string_bytes text.old ≡ [] }
-    ensures step { IfOk result (λ next. step_given next (string_bytes text.new) (M.state machine.new)
+    requires { M.Answer.bytes text.old ≡ [] }
+    ensures step { IfOk result (λ next. step_given next (M.Answer.bytes text.new) (M.state machine.new)
         ≡ step_within M.rules left (M.state machine.old) line.now) }
     ensures within { IfOk result (λ next. next ≡ Next.Line → 0 < left) }
 {
@@ -36,12 +36,12 @@ pub fn answer<M: Machine, O: Sink>(
     output: &mut O,
     left: usize,
     line: &[u8],
-    text: &mut String,
+    text: &mut M::Answer,
 ) -> Result<Next, Fault>
-    ensures step { IfOk result (λ next. step_given next (string_bytes text.new) (M.state machine.new)
+    ensures step { IfOk result (λ next. step_given next (M.Answer.bytes text.new) (M.state machine.new)
         ≡ step_within M.rules left (M.state machine.old) line.now) }
     ensures within { IfOk result (λ next. next ≡ Next.Line → 0 < left) }
-    ensures held { OnOk result (O.held output.new ≡ append_known (O.held output.old) (string_bytes text.new)) }
+    ensures held { OnOk result (O.held output.new ≡ append_known (O.held output.old) (M.Answer.bytes text.new)) }
     ensures front { GrewByFront (O.held output.old) (O.held output.new)
         (step_text (step_within M.rules left (M.state machine.old) line.now)) }
     ensures less { IsErrOf result Fault.Write → GrewByLess (O.held output.old) (O.held output.new)
@@ -58,7 +58,7 @@ pub fn answer<M: Machine, O: Sink>(
 pub fn refuse_long<M: Machine, O: Sink>(
     machine: &mut M,
     output: &mut O,
-    text: &mut String,
+    text: &mut M::Answer,
 ) -> Result<(), Fault>
     ensures held { OnOk result (O.held output.new
         ≡ append_known (O.held output.old) ((M.rules).overrun (M.state machine.old) Overrun.LongLine)) }
@@ -78,7 +78,7 @@ pub fn refuse_long<M: Machine, O: Sink>(
 pub fn close<M: Machine, O: Sink>(
     machine: &mut M,
     output: &mut O,
-    text: &mut String,
+    text: &mut M::Answer,
 ) -> Result<Verdict, Fault>
     ensures all { IfOk result (λ verdict. TellsAll (O.held output.old) (O.held output.new) verdict
         ((M.rules).closing (M.state machine.old))) }

@@ -1,9 +1,10 @@
-ghost use Rattle.std.specs.Prelude.{◌≡◌, ◌≢◌, ◌≤◌, true, ℕ, List, IfOk, IfSome, IfErr, IsErrOf};
-ghost use Rattle.std.specs.Io.KnownBytes.{IsAtEnd};
+ghost use Rattle.std.specs.Prelude.{◌≡◌, ◌≢◌, ◌≤◌, true, ℕ, List, [], IfOk, IfSome, IfErr, IsErrOf};
+ghost use Rattle.std.specs.Io.KnownBytes.{IsAtEnd, append_known};
 ghost use Rattle.xl_base.specs.Faults.{Rose};
 ghost use Rattle.xl_io.specs.Sinks.{GrewByFront, GrewByLess};
 ghost use Rattle.xl_lines.specs.Causes.{IsAloud, EndsAloud};
 ghost use Rattle.xl_lines.specs.Running.{TellsAll};
+ghost use Rattle.xl_lines.specs.Soon.{told_soon, WasRead};
 ghost use Rattle.xl_lines.specs.Told.{told_of};
 ghost use Rattle.xl_lines.specs.Ends.{ReadsOn, FindsAtEnd};
 
@@ -25,8 +26,8 @@ pub fn drive<T: Teller, I: Source, O: Sink>(
     // The whole text is written, and the verdict is its own.
     ensures whole { IfOk result (λ verdict. IfSome (I.left input.old) (λ bytes.
         TellsAll (O.held output.old) (O.held output.new) verdict (T.tells teller.old bytes))) }
-    // Where the text is told of the whole input, all the bytes were read. So they were where the verdict is `Good`, and
-    // where it isn't `Refused`, if nothing else ends the text early.
+    // If the text is told of the whole input, all the bytes were read. So they were if the verdict is `Good`, and
+    // if it isn't `Refused`, if nothing else ends the text early.
     ensures closed { IfOk result (λ _. IfSome (I.left input.old) (λ bytes.
         (T.tells teller.old bytes).closed ≡ true → IsAtEnd (I.left input.new))) }
     ensures good { IfOk result (λ verdict. verdict ≡ Verdict.Good → IsAtEnd (I.left input.new)) }
@@ -34,6 +35,11 @@ pub fn drive<T: Teller, I: Source, O: Sink>(
     // A front of the text is written, whatever happens.
     ensures front { IfSome (I.left input.old) (λ bytes.
         GrewByFront (O.held output.old) (O.held output.new) (T.tells teller.old bytes).text) }
+    // If a read failed, all is written that is told as soon as the bytes that were read have come, and no more, if
+    // nothing is told before the first byte.
+    ensures soon { T.soon teller.old [] ≡ [] → IsErrOf result Fault.Read → (bytes : List ℕ) →
+        WasRead (I.left input.old) (I.left input.new) bytes →
+        O.held output.new ≡ append_known (O.held output.old) (T.soon teller.old bytes) }
     // With a fault of the source or the sink some of the text isn't written, if there is always some to come.
     ensures less { IsAloud T.tells → IfErr result (λ fault. fault ≢ Fault.Memory → IfSome (I.left input.old) (λ bytes.
         GrewByLess (O.held output.old) (O.held output.new) (T.tells teller.old bytes).text)) }
@@ -77,8 +83,8 @@ pub fn run<M: Machine + Drop, I: Source, O: Sink>(
     // The whole text is written, and the verdict is its own.
     ensures whole { IfOk result (λ verdict. IfSome (I.left input.old) (λ bytes.
         TellsAll (O.held output.old) (O.held output.new) verdict (told_of limits M.rules (M.state machine) bytes))) }
-    // Where the text is told of the whole input, all the bytes were read. So they were where the verdict is `Good`, and
-    // where it isn't `Refused`, if the machine never ends the text early by what it finds.
+    // If the text is told of the whole input, all the bytes were read. So they were if the verdict is `Good`, and
+    // if it isn't `Refused`, if the machine never ends the text early by what it finds.
     ensures closed { IfOk result (λ _. IfSome (I.left input.old) (λ bytes.
         (told_of limits M.rules (M.state machine) bytes).closed ≡ true → IsAtEnd (I.left input.new))) }
     ensures good { IfOk result (λ verdict. verdict ≡ Verdict.Good → IsAtEnd (I.left input.new)) }
@@ -87,6 +93,10 @@ pub fn run<M: Machine + Drop, I: Source, O: Sink>(
     // A front of the text is written, whatever happens.
     ensures front { IfSome (I.left input.old) (λ bytes. GrewByFront (O.held output.old) (O.held output.new)
         (told_of limits M.rules (M.state machine) bytes).text) }
+    // If a read failed, the answers to all lines that had ended in the bytes that were read are written, and no more.
+    ensures soon { IsErrOf result Fault.Read → (bytes : List ℕ) →
+        WasRead (I.left input.old) (I.left input.new) bytes →
+        O.held output.new ≡ append_known (O.held output.old) (told_soon limits M.rules (M.state machine) bytes) }
     // With a fault of the source or the sink some of the text isn't written, if a last text is never empty.
     ensures less { EndsAloud M.rules → IfErr result (λ fault. fault ≢ Fault.Memory → IfSome (I.left input.old) (λ bytes.
         GrewByLess (O.held output.old) (O.held output.new) (told_of limits M.rules (M.state machine) bytes).text)) }

@@ -8,7 +8,7 @@ pub enum Fault {
     Read,
     /// A write to the sink failed.
     Write,
-    /// Memory was wanting.
+    /// Memory ran out.
     Memory,
 }
 

@@ -4,8 +4,9 @@
 //! `run` does this for any `Machine`, by `Lines`, which cuts lines, and `drive`, which runs any `Teller` over an input
 //! in pieces. It stands on xl_base and xl_io. Its one contract: the text is a function of the bytes alone, however they
 //! come; a run writes the whole text and answers its verdict, or writes a front of it and answers a fault, and never a
-//! fault of a source or a sink whose count of faults didn't rise. A machine may end its text before the input's end: it
-//! refuses a line, or has found what it looks for.
+//! fault of a source or a sink whose count of faults didn't rise. If a read failed, that front is the answers to the
+//! lines that had ended. A machine may end its text before the input's end: it refuses a line, or has found what it
+//! looks for. Its answers are a text, or bytes whatever they are.
 #![tactic(auto)]
 
 mod answer;
@@ -16,6 +17,7 @@ mod limits;
 mod lines;
 mod machine;
 mod teller;
+mod text;
 
 pub use driver::{drive, run};
 pub use fault::Fault;
@@ -23,3 +25,4 @@ pub use limits::{Limits, Overrun, Returns};
 pub use lines::Lines;
 pub use machine::{Machine, Next, Verdict};
 pub use teller::Teller;
+pub use text::Text;

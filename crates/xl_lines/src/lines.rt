@@ -4,12 +4,14 @@ ghost use Rattle.std.specs.List.{list_any};
 ghost use Rattle.xl_io.specs.Sinks.{GrewByFront, GrewByLess};
 ghost use Rattle.xl_lines.specs.Causes.{HasCause};
 ghost use Rattle.xl_lines.specs.Told.{told_of};
+ghost use Rattle.xl_lines.specs.Soon.{told_soon};
 ghost use Rattle.xl_lines.specs.Running.{Tells, TellsAll, told_at, left_after, left_unless_ended};
+ghost use Rattle.xl_lines.specs.Running.{Puts, PutsPart, soon_at};
 ghost use Rattle.xl_lines.specs.Running.{TakesSome, bytes_to_come, FewerToCome};
 
 use crate::answer::{answer, close, refuse_long};
 use crate::ends::{before_newline, newline_in};
-use crate::{Fault, Limits, Machine, Next, Teller, Verdict};
+use crate::{Fault, Limits, Machine, Next, Teller, Text, Verdict};
 use std::alloc::Global;
 use xl_base::OutOfMemory;
 use xl_io::Sink;
@@ -28,12 +30,12 @@ pub enum Part {
 /// Cuts bytes into lines, and hands each to a machine: the bytes of the line that has begun, and how many lines may
 /// still come, with it.
 #[derive(Drop)]
-pub struct Lines<M> {
+pub struct Lines<M: Machine> {
     machine: M,
     limits: Limits,
     line: Vec<u8>,
     left: usize,
-    text: String,
+    text: M::Answer,
     ghost one_line: { list_any (λ byte. byte == 10) line.items ≡ false },
     ghost short: { vec_len line ≤ limits.bytes },
 }
@@ -41,15 +43,17 @@ pub struct Lines<M> {
 impl<M: Machine> Lines<M> {
     /// Before the first byte. It takes no memory.
     pub fn new(alloc: Global, limits: Limits, machine: M) -> Self
-        ensures { (bytes : List ℕ) →
+        ensures tells { (bytes : List ℕ) →
             ⟦<Lines<M> as Teller>⟧.tells result bytes ≡ told_of limits M.rules (M.state machine) bytes }
+        ensures soon { (bytes : List ℕ) →
+            ⟦<Lines<M> as Teller>⟧.soon result bytes ≡ told_soon limits M.rules (M.state machine) bytes }
     {
         Lines {
             machine,
             limits,
             line: Vec::new(alloc),
             left: limits.lines,
-            text: String::new(alloc),
+            text: M::Answer::empty(alloc),
         }
     }
 
@@ -81,6 +85,8 @@ impl<M: Machine> Lines<M> {
         ensures ok { IfOk result (λ next. (rest : List ℕ) → Tells (O.held output.old) (O.held output.new)
             (⟦<Lines<M> as Teller>⟧.tells self.old (10 ∷ rest))
             (left_unless_ended next (⟦<Lines<M> as Teller>⟧.tells self.new rest))) }
+        ensures soon { IfOk result (λ next. next ≡ Next.Line → Puts (O.held output.old) (O.held output.new)
+            (λ rest. ⟦<Lines<M> as Teller>⟧.soon self.old (10 ∷ rest)) (⟦<Lines<M> as Teller>⟧.soon self.new)) }
         ensures front { (rest : List ℕ) → GrewByFront (O.held output.old) (O.held output.new)
             (⟦<Lines<M> as Teller>⟧.tells self.old (10 ∷ rest)).text }
         ensures less { IsErrOf result Fault.Write → (rest : List ℕ) → GrewByLess (O.held output.old) (O.held output.new)
@@ -110,6 +116,8 @@ impl<M: Machine> Lines<M> {
         ensures ok { IfOk result (λ part. (rest : List ℕ) → Tells (O.held output.old) (O.held output.new)
             (⟦<Lines<M> as Teller>⟧.tells self.old (bytes.now ++ rest))
             (left_after part (λ left. ⟦<Lines<M> as Teller>⟧.tells self.new (left ++ rest)) bytes.now)) }
+        ensures soon { IfOk result (λ part. PutsPart part (O.held output.old) (O.held output.new)
+            (⟦<Lines<M> as Teller>⟧.soon self.old) (⟦<Lines<M> as Teller>⟧.soon self.new) bytes.now) }
         ensures front { (rest : List ℕ) → GrewByFront (O.held output.old) (O.held output.new)
             (⟦<Lines<M> as Teller>⟧.tells self.old (bytes.now ++ rest)).text }
         ensures less { IsErrOf result Fault.Write → (rest : List ℕ) → GrewByLess (O.held output.old) (O.held output.new)
@@ -137,6 +145,9 @@ impl<M: Machine> Lines<M> {
 impl<M: Machine> Teller for Lines<M> {
     ghost tells = { λ lines rest.
         told_at lines.limits M.rules lines.left (M.state lines.machine) lines.line.items rest };
+
+    ghost soon = { λ lines bytes.
+        soon_at lines.limits M.rules lines.left (M.state lines.machine) lines.line.items bytes };
 
     ghost to_come = { λ lines. bytes_to_come lines.limits lines.left (vec_len lines.line) };
 

@@ -1,7 +1,7 @@
-ghost use Rattle.std.specs.Prelude.{◌≡◌, List, ℕ, [], IfOk, OnOk, string_bytes};
+ghost use Rattle.std.specs.Prelude.{◌≡◌, List, ℕ, [], IfOk, OnOk};
 ghost use Rattle.xl_lines.specs.Rules.{Rules, step_given, closes};
 
-use crate::Overrun;
+use crate::{Overrun, Text};
 use xl_base::OutOfMemory;
 
 /// Whether a machine goes on to the next line.
@@ -28,6 +28,9 @@ pub enum Verdict {
 ///
 /// Each call is handed an empty text for its answer. After `OutOfMemory` the state and the text may be any.
 pub trait Machine {
+    /// What it puts its answers into.
+    type Answer: Text;
+
     ghost State: { Type 0 };
 
     /// What a state means.
@@ -38,18 +41,18 @@ pub trait Machine {
 
     /// Takes a line, without its newline and, unless the limits keep it, a return before it. It puts the answer into
     /// `text`.
-    fn line(&mut self, line: &[u8], text: &mut String) -> Result<Next, OutOfMemory>
-        requires { string_bytes text.old ≡ [] }
+    fn line(&mut self, line: &[u8], text: &mut Self::Answer) -> Result<Next, OutOfMemory>
+        requires { Self.Answer.bytes text.old ≡ [] }
         ensures { IfOk result (λ next.
-            step_given next (string_bytes text.new) (state self.new) ≡ rules.step (state self.old) line.now) };
+            step_given next (Self.Answer.bytes text.new) (state self.new) ≡ rules.step (state self.old) line.now) };
 
     /// Puts the last text into `text`, if a line is too long or one too many.
-    fn overrun(&mut self, overrun: Overrun, text: &mut String) -> Result<(), OutOfMemory>
-        requires { string_bytes text.old ≡ [] }
-        ensures { OnOk result (string_bytes text.new ≡ rules.overrun (state self.old) overrun) };
+    fn overrun(&mut self, overrun: Overrun, text: &mut Self::Answer) -> Result<(), OutOfMemory>
+        requires { Self.Answer.bytes text.old ≡ [] }
+        ensures { OnOk result (Self.Answer.bytes text.new ≡ rules.overrun (state self.old) overrun) };
 
-    /// Puts the last text into `text`, after the last line or where there is none.
-    fn close(&mut self, text: &mut String) -> Result<Verdict, OutOfMemory>
-        requires { string_bytes text.old ≡ [] }
-        ensures { IfOk result (λ verdict. closes (string_bytes text.new) verdict ≡ rules.closing (state self.old)) };
+    /// Puts the last text into `text`, after the last line or if there is none.
+    fn close(&mut self, text: &mut Self::Answer) -> Result<Verdict, OutOfMemory>
+        requires { Self.Answer.bytes text.old ≡ [] }
+        ensures { IfOk result (λ verdict. closes (Self.Answer.bytes text.new) verdict ≡ rules.closing (state self.old)) };
 }

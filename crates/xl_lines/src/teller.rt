@@ -1,4 +1,5 @@
 ghost use Rattle.std.specs.Prelude.{◌≡◌, ◌+◌, ◌≤◌, ℕ, List, [], ◌++◌, length, IfOk, IsErrOf};
+ghost use Rattle.std.specs.Io.KnownBytes.{append_known};
 ghost use Rattle.xl_io.specs.Sinks.{GrewByFront, GrewByLess};
 ghost use Rattle.xl_lines.specs.Causes.{HasCause};
 ghost use Rattle.xl_lines.specs.Rules.{Told};
@@ -12,6 +13,9 @@ pub trait Teller {
     /// What it tells about all the bytes that are still to come.
     ghost tells: { Self → List ℕ → Told };
 
+    /// What of that it tells as soon as these bytes have come.
+    ghost soon: { Self → List ℕ → List ℕ };
+
     /// How many bytes may come at most before it refuses them.
     ghost to_come: { Self → ℕ };
 
@@ -24,6 +28,11 @@ pub trait Teller {
             GrewByFront (O.held output.old) (O.held output.new) (tells self.old (bytes.now ++ rest)).text }
         ensures less { IsErrOf result Fault.Write → (rest : List ℕ) →
             GrewByLess (O.held output.old) (O.held output.new) (tells self.old (bytes.now ++ rest)).text }
+        // All that is told as soon as these bytes have come is written, and what is told later comes behind it.
+        ensures soon { IfOk result (λ next. next ≡ Next.Line →
+            O.held output.new ≡ append_known (O.held output.old) (soon self.old bytes.now)) }
+        ensures later { IfOk result (λ next. next ≡ Next.Line → (rest : List ℕ) →
+            soon self.old (bytes.now ++ rest) ≡ soon self.old bytes.now ++ soon self.new rest) }
         ensures fewer { IfOk result (λ next. next ≡ Next.Line →
             to_come self.new + length bytes.now ≤ to_come self.old) }
         ensures cause { HasCause (O.faults output.old) (O.faults output.new) result };

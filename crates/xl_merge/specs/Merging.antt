@@ -7,6 +7,7 @@ use Rattle.xl_lines.specs.declared.limits.Returns.TheVariants.{Dropped}
 use Rattle.xl_lines.specs.declared.machine.Verdict.TheVariants.{Good, Refused}
 use Rattle.xl_lines.specs.Rules.{Rules, Step, goes_on, refuses, Told, closes}
 use Rattle.xl_lines.specs.Told.{told_of}
+use Rattle.xl_lines.specs.Soon.{told_soon}
 use Rattle.xl_publish.specs.Forces.{list_at}
 use Rattle.xl_publish.specs.Registers.{Register, no_publishers, after_key, after_roll, answer_to}
 use Rattle.xl_sched.specs.declared.limits.TheConstants.{MOST_LINES, MOST_BYTES}
@@ -91,3 +92,7 @@ limits = record { lines = MOST_LINES; bytes = MOST_BYTES; returns = Dropped }
 -- what is told of these bytes
 abbrev pub merge_of : List ℕ → Told
 merge_of bytes = told_of limits rules at_first bytes
+
+-- what is told of the lines that have ended in them
+abbrev pub merge_soon : List ℕ → List ℕ
+merge_soon bytes = told_soon limits rules at_first bytes

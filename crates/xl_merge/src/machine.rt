@@ -113,6 +113,8 @@ impl Machine for Merger {
     ghost use Rattle.xl_merge.specs.Merging.{Merging, rules as the_rules};
     ghost use Rattle.xl_merge.specs.States.{state_of};
 
+    type Answer = String;
+
     ghost State = { Merging };
 
     ghost state = { state_of };

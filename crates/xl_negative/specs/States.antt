@@ -1,4 +1,4 @@
--- The state of the scribe, as the definitions see it. Source: what the code of this crate keeps.
+-- The state of the machine, as the definitions see it. Source: what the code of this crate keeps.
 use Rattle.std.specs.Prelude.{List, [], Some, None}
 use Rattle.std.specs.declared.option.Option.{Option}
 use Rattle.xl_lists.specs.declared.said.SaidLedger.{SaidLedger}

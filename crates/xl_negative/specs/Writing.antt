@@ -13,6 +13,7 @@ use Rattle.xl_lists.specs.declared.said.SaidLedger.{SaidLedger}
 use Rattle.xl_lines.specs.declared.machine.Verdict.TheVariants.{Good, Refused}
 use Rattle.xl_lines.specs.Rules.{Rules, Step, goes_on, refuses as stops, finds, Told, closes}
 use Rattle.xl_lines.specs.Told.{told_of}
+use Rattle.xl_lines.specs.Soon.{told_soon}
 use Rattle.xl_nunl.specs.Heard.{score_of}
 use Rattle.xl_nunl.specs.Deciding.{left_of, joined_of, negative_after}
 use Rattle.xl_nunl.specs.Lists.{list_without}
@@ -207,3 +208,7 @@ rules = record {
 -- what is written of a schedule, and what it says
 abbrev pub negative_of : List ℕ → Told
 negative_of bytes = told_of limits rules at_first bytes
+
+-- what is written of the lines that have ended in these bytes
+abbrev pub negative_soon : List ℕ → List ℕ
+negative_soon bytes = told_soon limits rules at_first bytes

@@ -1,17 +1,17 @@
 // A whole run of `xl negative`.
-ghost use Rattle.std.specs.Prelude.{◌≡◌, ◌≢◌, IfOk, IfErr, IfSome, IsErrOf};
-ghost use Rattle.std.specs.Io.KnownBytes.{IsAtEnd};
+ghost use Rattle.std.specs.Prelude.{◌≡◌, ◌≢◌, ℕ, List, IfOk, IfErr, IfSome, IsErrOf};
+ghost use Rattle.std.specs.Io.KnownBytes.{IsAtEnd, append_known};
 ghost use Rattle.xl_base.specs.Faults.{Rose};
 ghost use Rattle.xl_io.specs.Sinks.{GrewByFront, GrewByLess};
 ghost use Rattle.xl_lines.specs.Running.{TellsAll};
-ghost use Rattle.xl_negative.specs.Writing.{negative_of};
+ghost use Rattle.xl_lines.specs.Soon.{WasRead};
+ghost use Rattle.xl_negative.specs.Writing.{negative_of, negative_soon};
 
 use crate::writer::Writer;
 use std::alloc::Global;
 use xl_io::{Sink, Source};
-use xl_lines::{Fault, Verdict};
+use xl_lines::{Fault, Verdict, run};
 use xl_running::LIMITS;
-use xl_scribe::run;
 
 /// Reads a schedule from the input to its end, or up to a line that is refused, and writes it to the output with the
 /// lists that its nodes go over to, each part as soon as its line was read.
@@ -31,6 +31,10 @@ pub fn negative<I: Source, O: Sink>(
     // A front of the text is written, whatever happens.
     ensures front { IfSome (I.left input.old) (λ bytes.
         GrewByFront (O.held output.old) (O.held output.new) (negative_of bytes).text) }
+    // If a read failed, what is told of all lines that had ended in the bytes that were read is written, and no more.
+    ensures soon { IsErrOf result Fault.Read → (bytes : List ℕ) →
+        WasRead (I.left input.old) (I.left input.new) bytes →
+        O.held output.new ≡ append_known (O.held output.old) (negative_soon bytes) }
     // With a fault of the sink some of it isn't written.
     ensures cut { IsErrOf result Fault.Write → IfSome (I.left input.old) (λ bytes.
         GrewByLess (O.held output.old) (O.held output.new) (negative_of bytes).text) }

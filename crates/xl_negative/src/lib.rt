@@ -4,7 +4,7 @@
 //! and knows it decides by what it heard, by the rules of xl_nunl, and the line of its new list stands behind the line
 //! of the schedule at which it decided. So `replay` reads what is written, and runs what was run here.
 //!
-//! It stands on xl_nunl, xl_running, xl_spelling and xl_scribe. Its one contract: what `negative` writes is the
+//! It stands on xl_nunl, xl_running, xl_spelling and xl_lines. Its one contract: what `negative` writes is the
 //! schedule with the lists that the rules give behind its lines, and with no others: a function of the bytes that the
 //! source held.
 #![tactic(auto)]

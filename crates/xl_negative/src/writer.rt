@@ -1,4 +1,4 @@
-// The scribe of `xl negative`.
+// The machine of `xl negative`.
 ghost use Rattle.std.specs.Prelude.{◌≡◌, ◌≤◌, ◌+◌, ◌++◌, [], drop, IfOk, IfSome, OnOk};
 ghost use Rattle.xl_base.specs.declared.moments.TheConstants.{GREATEST_MILLIS};
 ghost use Rattle.xl_lines.specs.Rules.{step_given};
@@ -13,11 +13,10 @@ use crate::hearing::{Heard, hear_issued, heard_in};
 use crate::seats::Seats;
 use std::alloc::Global;
 use xl_base::{LedgerId, NodeNo, OutOfMemory, Seq};
-use xl_lines::{Next, Overrun, Verdict};
+use xl_lines::{Machine, Next, Overrun, Verdict};
 use xl_lists::{List, SaidLedger};
 use xl_running::{Running, beyond, push_bad};
 use xl_sched::{Event, Line, SchedRefusal, What};
-use xl_scribe::Scribe;
 use xl_spelling::print_line;
 use xl_world::{Happened, Outcome};
 
@@ -246,9 +245,11 @@ impl Writer {
     }
 }
 
-impl Scribe for Writer {
+impl Machine for Writer {
     ghost use Rattle.xl_negative.specs.States.{state_of};
     ghost use Rattle.xl_negative.specs.Writing.{Writing, rules as the_rules};
+
+    type Answer = Vec<u8>;
 
     ghost State = { Writing };
 

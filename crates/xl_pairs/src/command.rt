@@ -13,10 +13,11 @@ use xl_lines::{Fault, Limits, Returns, Verdict, run};
 use xl_sched::{MOST_BYTES, MOST_LINES};
 
 /// Reads the declarations of a schedule from the input to its end, or up to a line that is refused, and then writes
-/// what the lists of each pair of nodes have in common to the output. Nothing is written before that.
+/// what the lists of each pair of nodes have in common to the output. Nothing is written before that, since a later
+/// line may declare a liar of an earlier pair.
 ///
-/// The verdict is `Refused` where the text is the line that says which line was refused. A failed read ends it with
-/// `Read`, a failed write with `Write`, and want of memory, at any time, with `Memory`.
+/// The verdict is `Refused` if the text is the line that says which line was refused. A failed read ends it with
+/// `Read`, a failed write with `Write`, and lack of memory, at any time, with `Memory`.
 pub fn lists<I: Source, O: Sink>(
     alloc: Global,
     input: &mut I,
@@ -35,7 +36,7 @@ pub fn lists<I: Source, O: Sink>(
     ensures less { IsErrOf result Fault.Write → IfSome (I.left input.old) (λ bytes.
         GrewByLess (O.held output.old) (O.held output.new) (lists_of bytes).text) }
 
-    // A fault is answered only where its count rose.
+    // A fault is answered only if its count rose.
     ensures read { IsErrOf result Fault.Read → Rose (I.faults input.old) (I.faults input.new) }
     ensures write { IsErrOf result Fault.Write → Rose (O.faults output.old) (O.faults output.new) }
     ensures complete { IfErr result (λ fault. ¬ Rose (I.faults input.old) (I.faults input.new)
@@ -62,7 +63,7 @@ fn compare<I: Source>(alloc: Global, input: &mut I, text: &mut MemSink) -> Resul
         returns: Returns::Dropped,
     };
     match run(alloc, limits, comparer, input, text) {
-        // The text has no place where memory is wanting.
+        // The text has no place if memory runs out.
         Err(Fault::Write) => Err(Fault::Memory),
         end => end,
     }

@@ -107,6 +107,8 @@ impl Machine for Comparer {
     ghost use Rattle.xl_pairs.specs.Comparing.{Comparing, rules as the_rules};
     ghost use Rattle.xl_pairs.specs.States.{state_of};
 
+    type Answer = String;
+
     ghost State = { Comparing };
 
     ghost state = { state_of };

@@ -1,11 +1,12 @@
 // A whole run of `xl replay`.
-ghost use Rattle.std.specs.Prelude.{◌≡◌, ◌≢◌, ◌≤◌, ◌⊎◌, IfSome};
-ghost use Rattle.std.specs.Io.KnownBytes.{IsAtEnd};
+ghost use Rattle.std.specs.Prelude.{◌≡◌, ◌≢◌, ◌≤◌, ◌⊎◌, ℕ, List, IfSome};
+ghost use Rattle.std.specs.Io.KnownBytes.{IsAtEnd, append_known};
 ghost use Rattle.xl_base.specs.Faults.{Rose};
 ghost use Rattle.xl_io.specs.Sinks.{GrewByFront};
 ghost use Rattle.xl_lines.specs.Running.{TellsAll};
+ghost use Rattle.xl_lines.specs.Soon.{WasRead};
 ghost use Rattle.xl_replay.specs.Headlines.{names_of, IsReport, IsRefusal, AddsReport};
-ghost use Rattle.xl_replay.specs.Replays.{report_of};
+ghost use Rattle.xl_replay.specs.Replays.{report_of, report_soon};
 ghost use Rattle.xl_replay.specs.Statuses.{IsTold, IsReplayed, IsWritten, status_of};
 
 use crate::replayer::Replayer;
@@ -27,7 +28,7 @@ pub fn replay<I: Source, O: Sink>(alloc: Global, input: &mut I, output: &mut O) 
         TellsAll (O.held output.old) (O.held output.new) Verdict.Found (report_of bytes)) }
     ensures refused { result ≡ Status.InputRefused → IfSome (I.left input.old) (λ bytes.
         TellsAll (O.held output.old) (O.held output.new) Verdict.Refused (report_of bytes)) }
-    // Unless a line is refused, the report is lines in which, where it says `forged 0`, no two `full` lines of a pair
+    // Unless a line is refused, the report is lines in which, if it says `forged 0`, no two `full` lines of a pair
     // with no `short` line share a sequence and stand for different ids, by the names that the schedule declares. The
     // last of them says whether the reports that the `full` lines tell agree, or names the first fork.
     ensures headline { IfSome (I.left input.old) (λ bytes.
@@ -35,7 +36,7 @@ pub fn replay<I: Source, O: Sink>(alloc: Global, input: &mut I, output: &mut O) 
     // A report that is refused ends with a `bad` line.
     ensures refusal { IfSome (I.left input.old) (λ bytes.
         (report_of bytes).verdict ≡ Verdict.Refused → IsRefusal (report_of bytes).text) }
-    // However the run ends, where the line `forged 0` was written, so were all `full` and `short` lines of such a
+    // However the run ends, if the line `forged 0` was written, so were all `full` and `short` lines of such a
     // report.
     ensures as_written { IfSome (I.left input.old) (λ bytes.
         AddsReport (names_of bytes) (O.held output.old) (O.held output.new) (report_of bytes)) }
@@ -45,15 +46,18 @@ pub fn replay<I: Source, O: Sink>(alloc: Global, input: &mut I, output: &mut O) 
     // A front of the report is written, whatever happens.
     ensures front { IfSome (I.left input.old) (λ bytes.
         GrewByFront (O.held output.old) (O.held output.new) (report_of bytes).text) }
+    // If a read failed, what is told of all lines that had ended in the bytes that were read is written, and no more.
+    ensures soon { result ≡ Status.ReadFault → (bytes : List ℕ) →
+        WasRead (I.left input.old) (I.left input.new) bytes →
+        O.held output.new ≡ append_known (O.held output.old) (report_soon bytes) }
 
-    // A fault is answered only where its count rose, and where neither did the whole report is written, or memory was
-    // wanting.
+    // A fault is answered only if its count rose. If neither did, the whole report is written, or memory ran out.
     ensures read { result ≡ Status.ReadFault → Rose (I.faults input.old) (I.faults input.new) }
     ensures write { result ≡ Status.WriteFault → Rose (O.faults output.old) (O.faults output.new) }
     ensures complete { ¬ Rose (I.faults input.old) (I.faults input.new)
         → ¬ Rose (O.faults output.old) (O.faults output.new)
         → IsTold result ⊎ (result ≡ Status.OutOfMemory) }
-    // Where the whole report is written, the status is the one of its end, or memory was wanting.
+    // If the whole report is written, the status is the one of its end, or memory ran out.
     ensures whole { IfSome (I.left input.old) (λ bytes.
         IsWritten (O.held output.old) (O.held output.new) (report_of bytes).text
         → (result ≡ status_of (report_of bytes).verdict) ⊎ (result ≡ Status.OutOfMemory)) }

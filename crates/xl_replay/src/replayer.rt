@@ -83,6 +83,8 @@ impl Machine for Replayer {
     ghost use Rattle.xl_replay.specs.Replays.{rules as the_rules};
     ghost use Rattle.xl_running.specs.Running.{Running as TheRunning};
 
+    type Answer = String;
+
     ghost State = { TheRunning };
 
     ghost state = { λ r. r.running };

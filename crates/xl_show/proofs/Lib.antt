@@ -2,4 +2,5 @@ pub mod Extending
 pub mod Telling
 pub mod Ending
 pub mod Looking
+pub mod Soon
 pub mod Short

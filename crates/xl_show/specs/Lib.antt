@@ -1,4 +1,5 @@
 pub mod Texts
 pub mod Shown
+pub mod Soon
 pub mod Reading
 pub mod Steps

@@ -1,6 +1,7 @@
 -- How the machine of `xl show` goes on. Source: what the code of this crate relies on.
-use Rattle.std.specs.Prelude.{◌≡◌, ℕ, ◌+◌, ◌<◌, ◌≤◌, List, [], length, drop}
+use Rattle.std.specs.Prelude.{◌≡◌, ℕ, ◌+◌, ◌<◌, ◌≤◌, List, [], ◌++◌, length, drop, Option}
 use Rattle.xl_lines.specs.Rules.{Told, refused}
+use Rattle.xl_lines.specs.Running.{Puts}
 use Rattle.xl_wire.specs.declared.decoding.Decoded.TheVariants as decoded
 use Rattle.xl_wire.specs.Frames.{decoded_of}
 use Rattle.xl_show.specs.declared.frames.Frames.{Frames}
@@ -35,3 +36,15 @@ left_of part.Refused told bytes = refused []
 abbrev pub Goes : Part → Frames → Frames → Type 0
 Goes (part.Taken n) old new = (reach new ≡ reach old + n) × (length new.begun.items ≡ length old.begun.items + n)
 Goes part.Refused old new = Unit {0}
+
+-- what is told soon is written, unless the text ended
+abbrev pub PutsLook : Look → (old new : Option (List ℕ)) → (soon left : List ℕ → List ℕ) → Type 0
+PutsLook (look.Frame n) old new soon left = Puts old new soon left
+PutsLook (look.Lacks n) old new soon left = Puts old new soon left
+PutsLook look.Refused old new soon left = Unit {0}
+
+-- so it is after a part of the bytes
+abbrev pub PutsPart : Part → (old new : Option (List ℕ)) → (soon left : List ℕ → List ℕ) → List ℕ → Type 0
+PutsPart (part.Taken n) old new soon left bytes =
+    Puts old new (λ rest. soon (bytes ++ rest)) (λ rest. left (drop n bytes ++ rest))
+PutsPart part.Refused old new soon left bytes = Unit {0}

@@ -6,6 +6,7 @@ ghost use Rattle.xl_lines.specs.Rules.{closes};
 ghost use Rattle.xl_lines.specs.Running.{Tells, TellsAll};
 ghost use Rattle.xl_show.specs.Reading.{left_after};
 ghost use Rattle.xl_show.specs.Shown.{ending, told_from, shown_of};
+ghost use Rattle.xl_show.specs.Soon.{shown_soon};
 ghost use Rattle.xl_show.specs.Texts.{limit_line};
 ghost use Rattle.xl_show.specs.declared.limits.TheConstants.{MOST_BYTES};
 ghost use Rattle.xl_wire.specs.Frames.{decoded_of};
@@ -44,11 +45,12 @@ pub struct Frames {
 }
 
 impl Frames {
-    ghost use Rattle.xl_show.specs.Steps.{left_of, Follows, TakesSome, Goes};
+    ghost use Rattle.xl_show.specs.Steps.{left_of, Follows, TakesSome, Goes, PutsLook, PutsPart};
 
     /// Before the first byte. It takes no memory.
     pub fn new(alloc: Global) -> Self
-        ensures { (bytes : List ℕ) → ⟦<Frames as Teller>⟧.tells result bytes ≡ shown_of bytes }
+        ensures tells { (bytes : List ℕ) → ⟦<Frames as Teller>⟧.tells result bytes ≡ shown_of bytes }
+        ensures soon { (bytes : List ℕ) → ⟦<Frames as Teller>⟧.soon result bytes ≡ shown_soon bytes }
     {
         Frames {
             alloc,
@@ -63,6 +65,8 @@ impl Frames {
     fn advance<O: Sink>(&mut self, output: &mut O) -> Result<Look, Fault>
         ensures ok { IfOk result (λ look. (rest : List ℕ) → Tells (O.held output.old) (O.held output.new)
             (⟦<Frames as Teller>⟧.tells self.old rest) (left_after look (⟦<Frames as Teller>⟧.tells self.new rest))) }
+        ensures soon { IfOk result (λ look. PutsLook look (O.held output.old) (O.held output.new)
+            (⟦<Frames as Teller>⟧.soon self.old) (⟦<Frames as Teller>⟧.soon self.new)) }
         ensures follows { IfOk result (λ look. Follows look self.old self.new) }
         ensures front { (rest : List ℕ) → GrewByFront (O.held output.old) (O.held output.new)
             (⟦<Frames as Teller>⟧.tells self.old rest).text }
@@ -94,7 +98,7 @@ impl Frames {
         self.count += 1;
     }
 
-    /// Writes the last text, where a byte too many comes.
+    /// Writes the last text, if a byte too many comes.
     fn refuse<O: Sink>(&mut self, output: &mut O) -> Result<(), Fault>
         ensures held { OnOk result (O.held output.new ≡ append_known (O.held output.old) limit_line) }
         ensures front { GrewByFront (O.held output.old) (O.held output.new) limit_line }
@@ -148,6 +152,8 @@ impl Frames {
         ensures ok { IfOk result (λ part. (rest : List ℕ) → Tells (O.held output.old) (O.held output.new)
             (⟦<Frames as Teller>⟧.tells self.old (bytes.now ++ rest))
             (left_of part (λ left. ⟦<Frames as Teller>⟧.tells self.new (left ++ rest)) bytes.now)) }
+        ensures soon { IfOk result (λ part. PutsPart part (O.held output.old) (O.held output.new)
+            (⟦<Frames as Teller>⟧.soon self.old) (⟦<Frames as Teller>⟧.soon self.new) bytes.now) }
         ensures front { (rest : List ℕ) → GrewByFront (O.held output.old) (O.held output.new)
             (⟦<Frames as Teller>⟧.tells self.old (bytes.now ++ rest)).text }
         ensures less { IsErrOf result Fault.Write → (rest : List ℕ) → GrewByLess (O.held output.old) (O.held output.new)
@@ -179,6 +185,8 @@ impl Frames {
 
 impl Teller for Frames {
     ghost tells = { λ frames rest. told_from frames.place frames.count (frames.begun.items ++ rest) };
+
+    ghost soon = { λ frames bytes. shown_soon (frames.begun.items ++ bytes) };
 
     ghost to_come = { λ frames. MOST_BYTES - (frames.place + length frames.begun.items) };
 

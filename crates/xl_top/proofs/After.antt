@@ -12,12 +12,13 @@ use Rattle.xl_lines.specs.declared.machine.Verdict.{Verdict}
 use Rattle.xl_lines.specs.declared.machine.Verdict.TheVariants.{Good, Found, Refused}
 use Rattle.xl_lines.specs.Rules.{Told}
 use Rattle.xl_lines.specs.Running.{TellsAll}
+use Rattle.xl_lines.specs.Soon.{WasRead}
 use Rattle.xl_replay.specs.Statuses.{IsTold, IsReplayed, IsWritten, status_of}
 use Rattle.xl_replay.proofs.Headline.{nothing_written}
 use Rattle.xl_io.proofs.Growing.{append_known-none}
 use Rattle.xl_words.specs.declared.command.Telling.{Telling}
 use Rattle.xl_words.specs.declared.command.Telling.TheVariants.{Replay}
-use Rattle.xl_top.specs.Commands.{status_after, told_by, ReadsAll, IsEnded}
+use Rattle.xl_top.specs.Commands.{status_after, told_by, soon_by, ReadsAll, IsEnded}
 use Rattle.xl_top.specs.Texts.{Streams, WritesText, HasCause}
 
 pub if_any : {X : Type 0} (o : Option X) (P : X → Type 0) → ((x : X) → P x) → IfSome o P
@@ -189,11 +190,17 @@ pub held_same : {K : Type 0} (r : Result Verdict Fault) (old new : K) (held : K 
 held_same (Ok v) old new held same = tt
 held_same (Err fault) old new held same = λ other. ap held (same other)
 
+-- nothing was written, and that is all that is told soon
+pub none_soon : (r : Result Verdict Fault) (held held' : Option (List ℕ)) → Unwritten held held' r → IsErrOf r Read → held' ≡ append_known held []
+none_soon (Ok v) held held' same is = absurd cc
+none_soon (Err fault) held held' same is = let read : fault ≡ Read = cc in same (λ no. cc) ∙ sym (append_known-none held)
+
 -- what is shown of a command whose answer is a verdict or a fault
 pub record Ends (telling : Telling) (old new : Streams) (r : Result Verdict Fault) : Type 0 where
   pub whole : Whole old.left old.held new.held (told_by telling) r
   pub at_end : (status_after r ≡ Done) ⊎ (status_after r ≡ Fork) → ReadsAll telling (status_after r) → IsAtEnd new.left
   pub front : IfSome old.left (λ bytes. GrewByFront old.held new.held (told_by telling bytes).text)
+  pub soon : IsErrOf r Read → (bytes : List ℕ) → WasRead old.left new.left bytes → new.held ≡ append_known old.held (soon_by telling bytes)
   pub only : IfErr r (λ fault. (Rose old.reads new.reads → ⊥) → (Rose old.writes new.writes → ⊥) → fault ≡ Memory)
   pub ends : IfSome old.left (λ bytes. IsEnded telling (told_by telling bytes).text old.reads new.reads
       → IsWritten old.held new.held (told_by telling bytes).text
@@ -208,6 +215,7 @@ writes_after telling old new r other e = record {
   as_written = λ is. absurd (other is);
   at_end = e.at_end;
   front = e.front;
+  soon = λ is. read_after r _ e.soon is;
   complete = complete_after r _ _ e.only;
   whole = e.ends;
 }
@@ -263,6 +271,7 @@ nothing_done telling at = record {
   as_written = λ _. nothing_written at.left at.held;
   at_end = λ ends. ⊎_elim (λ is. absurd cc) (λ is. absurd cc) ends;
   front = if_any at.left _ (λ bytes. front_none at.held _);
+  soon = λ is. absurd cc;
   complete = λ _ _. inr refl;
   whole = if_any at.left _ (λ bytes _ _. inr refl);
 }

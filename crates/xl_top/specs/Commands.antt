@@ -1,5 +1,5 @@
 -- What the program does for the words of its command line. Source: this project's own.
-use Rattle.std.specs.Prelude.{◌≡◌, ◌<◌, ℕ, min, List, length, Option, Some, None, Result, Ok, Err, option_and_then}
+use Rattle.std.specs.Prelude.{◌≡◌, ◌<◌, ℕ, min, List, [], length, Option, Some, None, Result, Ok, Err, option_and_then}
 use Rattle.xl_base.specs.Faults.{Rose}
 use Rattle.xl_base.specs.declared.status.Status.{Status}
 use Rattle.xl_base.specs.declared.status.Status.TheVariants.{Done, Fork, InputRefused, ReadFault, WriteFault, OutOfMemory}
@@ -10,13 +10,14 @@ use Rattle.xl_lines.specs.declared.fault.Fault.TheVariants.{Read, Write, Memory}
 use Rattle.xl_lines.specs.declared.machine.Verdict.{Verdict}
 use Rattle.xl_lines.specs.declared.machine.Verdict.TheVariants.{Good, Found, Refused}
 use Rattle.xl_lines.specs.Rules.{Told, closes}
-use Rattle.xl_audit.specs.Auditing.{audit_of}
-use Rattle.xl_merge.specs.Merging.{merge_of}
+use Rattle.xl_audit.specs.Auditing.{audit_of, audit_soon}
+use Rattle.xl_merge.specs.Merging.{merge_of, merge_soon}
 use Rattle.xl_pairs.specs.Comparing.{lists_of}
-use Rattle.xl_replay.specs.Replays.{report_of}
+use Rattle.xl_replay.specs.Replays.{report_of, report_soon}
 use Rattle.xl_show.specs.Shown.{shown_of}
-use Rattle.xl_voting.specs.Voting.{flags_of}
-use Rattle.xl_negative.specs.Writing.{negative_of}
+use Rattle.xl_show.specs.Soon.{shown_soon}
+use Rattle.xl_voting.specs.Voting.{flags_of, flags_soon}
+use Rattle.xl_negative.specs.Writing.{negative_of, negative_soon}
 use Rattle.xl_words.specs.declared.command.Command.{Command}
 use Rattle.xl_words.specs.declared.command.Command.TheVariants.{Node, Tell}
 use Rattle.xl_words.specs.declared.command.Telling.{Telling}
@@ -50,6 +51,17 @@ told_by Negative bytes = negative_of bytes
 told_by (Gen rounds) bytes = summary (min rounds MOST_ROUNDS)
 told_by Help bytes = closes help_text Good
 told_by Version bytes = closes version_text Good
+
+-- what a command writes about these bytes as soon as they have come: of the lines that have ended, or of the frames
+-- that are whole. A line of `lists` may change what all earlier ones say, so it writes nothing before the end
+abbrev pub soon_by : Telling → List ℕ → List ℕ
+soon_by Replay bytes = report_soon bytes
+soon_by Show bytes = shown_soon bytes
+soon_by Merge bytes = merge_soon bytes
+soon_by Audit bytes = audit_soon bytes
+soon_by Flags bytes = flags_soon bytes
+soon_by Negative bytes = negative_soon bytes
+soon_by other bytes = []
 
 -- with this status, whether the command reads its input to the end. An auditor reads nothing after the first entry that
 -- isn't right

@@ -1,18 +1,19 @@
 -- What came of a command that writes a text. Source: this project's own.
 use Rattle.std.specs.Prelude.{◌≡◌, ℕ, List, Option, IfSome, ◌⊎◌}
-use Rattle.std.specs.Io.KnownBytes.{IsAtEnd}
+use Rattle.std.specs.Io.KnownBytes.{IsAtEnd, append_known}
 use Rattle.xl_base.specs.Faults.{Rose}
 use Rattle.xl_base.specs.declared.status.Status.{Status}
 use Rattle.xl_base.specs.declared.status.Status.TheVariants as status
 use Rattle.xl_io.specs.Sinks.{GrewByFront}
 use Rattle.xl_lines.specs.declared.machine.Verdict.TheVariants.{Good, Found, Refused}
 use Rattle.xl_lines.specs.Running.{TellsAll}
+use Rattle.xl_lines.specs.Soon.{WasRead}
 use Rattle.xl_replay.specs.Headlines.{names_of, AddsReport}
 use Rattle.xl_replay.specs.Replays.{report_of}
 use Rattle.xl_replay.specs.Statuses.{IsTold, IsWritten, status_of}
 use Rattle.xl_words.specs.declared.command.Telling.{Telling}
 use Rattle.xl_words.specs.declared.command.Telling.TheVariants.{Replay}
-use Rattle.xl_top.specs.Commands.{told_by, ReadsAll, IsEnded}
+use Rattle.xl_top.specs.Commands.{told_by, soon_by, ReadsAll, IsEnded}
 
 -- what the streams show: the bytes that the input has left and those that the output holds, where they tell them, and
 -- how many reads and writes have failed
@@ -40,6 +41,9 @@ pub record WritesText (telling : Telling) (old new : Streams) (end : Status) : T
   pub at_end : (end ≡ status.Done) ⊎ (end ≡ status.Fork) → ReadsAll telling end → IsAtEnd new.left
   -- a front of the text is written, whatever happens
   pub front : IfSome old.left (λ bytes. GrewByFront old.held new.held (told_by telling bytes).text)
+  -- if a read failed, all is written that is told as soon as the bytes that were read have come, and no more
+  pub soon : end ≡ status.ReadFault → (bytes : List ℕ) → WasRead old.left new.left bytes
+      → new.held ≡ append_known old.held (soon_by telling bytes)
   -- if no read and no write failed, the whole text is written, or memory ran out
   pub complete : ¬ (Rose old.reads new.reads) → ¬ (Rose old.writes new.writes)
       → IsTold end ⊎ (end ≡ status.OutOfMemory)

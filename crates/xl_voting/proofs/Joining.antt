@@ -8,7 +8,8 @@ use Rattle.xl_flags.specs.declared.flag_votes.TheConstants.{MOST_AMENDMENTS}
 use Rattle.xl_flags.proofs.Remembering.{IsMember}
 use Rattle.xl_lines.specs.declared.machine.Verdict.TheVariants.{Good, Refused}
 use Rattle.xl_lines.specs.Lines.{lines_of}
-use Rattle.xl_lines.specs.Rules.{closes, refuses as refuses_line}
+use Rattle.xl_lines.specs.Rules.{Told, closes, refuses as refuses_line}
+use Rattle.xl_lines.specs.Soon.{told_soon, unclosed, ended}
 use Rattle.xl_lines.specs.Told.{told_of}
 use Rattle.xl_lists.specs.Lists.{is_on}
 use Rattle.xl_running.specs.Running.{Running, answer_in, beyond, knows, limits, world_of}
@@ -33,7 +34,7 @@ use Rattle.xl_sched.specs.Tokens.{tokens}
 use Rattle.xl_voting.specs.Listing.{Listing, listed, nothing_listed}
 use Rattle.xl_voting.specs.Tallying.{Tallying, nothing_tallied, tallied}
 use Rattle.xl_voting.specs.Texts.{count_line}
-use Rattle.xl_voting.specs.Voting.{Voting, after_answer, after_favored, after_line, after_vote, ending, flags_of, nothing_read, rules, silent}
+use Rattle.xl_voting.specs.Voting.{Voting, after_answer, after_favored, after_line, after_vote, ending, flags_of, flags_soon, nothing_read, rules, silent}
 use Rattle.xl_voting.proofs.StandingFor.{StandsFor, as_many, first_stands, voted_stands}
 use Rattle.xl_voting.proofs.Telling.{event_same}
 
@@ -151,6 +152,15 @@ tells_alike = record {
   overrun = λ p q overrun like. ap (λ (r : Running). bad_line (r.reading.lines + 1) (beyond overrun)) like.running;
   closing = closing_alike;
 }
+
+closed_alike : DoAlike Like (unclosed (rules tallied)) (unclosed (rules listed))
+closed_alike = record { step = step_alike; overrun = tells_alike.overrun; closing = λ p q like. refl }
+
+pub soon_same : (bytes : List ℕ) → told_soon limits (rules tallied) (nothing_read nothing_tallied) bytes ≡ flags_soon bytes
+soon_same bytes =
+    ap (λ (told : Told). told.text) (
+    told_alike Like (unclosed (rules tallied)) (unclosed (rules listed)) closed_alike limits limits.lines (nothing_read nothing_tallied) (nothing_read nothing_listed) (ended (lines_of bytes))
+    (record { running = refl; sound = first_sound; votes = first_stands }))
 
 pub told_same : (bytes : List ℕ) → told_of limits (rules tallied) (nothing_read nothing_tallied) bytes ≡ flags_of bytes
 told_same bytes =

@@ -4,6 +4,7 @@ use Rattle.xl_flags.specs.declared.flag_votes.TheConstants.{MOST_AMENDMENTS}
 use Rattle.xl_lines.specs.declared.machine.Verdict.TheVariants.{Good, Refused}
 use Rattle.xl_lines.specs.Rules.{Rules, Step, goes_on, refuses as refuses_line, Told, closes}
 use Rattle.xl_lines.specs.Told.{told_of}
+use Rattle.xl_lines.specs.Soon.{told_soon}
 use Rattle.xl_running.specs.Running.{Running, answer_in, at_first, beyond, declares, happens, knows, limits, world_of}
 use Rattle.xl_running.specs.Texts.{bad_line}
 use Rattle.xl_sched.specs.declared.event.Event.{Event}
@@ -89,3 +90,7 @@ nothing_read v = record { running = at_first; votes = v }
 -- what is told about a schedule: the list of all votes and flag reports says it
 abbrev pub flags_of : List ℕ → Told
 flags_of bytes = told_of limits (rules listed) (nothing_read nothing_listed) bytes
+
+-- what is told of the lines that have ended in these bytes
+abbrev pub flags_soon : List ℕ → List ℕ
+flags_soon bytes = told_soon limits (rules listed) (nothing_read nothing_listed) bytes

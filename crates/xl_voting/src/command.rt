@@ -1,10 +1,11 @@
 // A whole run of `xl flags`.
-ghost use Rattle.std.specs.Prelude.{◌≡◌, ◌≢◌, IfOk, IfErr, IfSome, IsErrOf};
-ghost use Rattle.std.specs.Io.KnownBytes.{IsAtEnd};
+ghost use Rattle.std.specs.Prelude.{◌≡◌, ◌≢◌, ℕ, List, IfOk, IfErr, IfSome, IsErrOf};
+ghost use Rattle.std.specs.Io.KnownBytes.{IsAtEnd, append_known};
 ghost use Rattle.xl_base.specs.Faults.{Rose};
 ghost use Rattle.xl_io.specs.Sinks.{GrewByFront, GrewByLess};
 ghost use Rattle.xl_lines.specs.Running.{TellsAll};
-ghost use Rattle.xl_voting.specs.Voting.{flags_of};
+ghost use Rattle.xl_lines.specs.Soon.{WasRead};
+ghost use Rattle.xl_voting.specs.Voting.{flags_of, flags_soon};
 
 use crate::voter::Voter;
 use std::alloc::Global;
@@ -30,6 +31,10 @@ pub fn flags<I: Source, O: Sink>(
     // A front of the text is written, whatever happens.
     ensures front { IfSome (I.left input.old) (λ bytes.
         GrewByFront (O.held output.old) (O.held output.new) (flags_of bytes).text) }
+    // If a read failed, what is told of all lines that had ended in the bytes that were read is written, and no more.
+    ensures soon { IsErrOf result Fault.Read → (bytes : List ℕ) →
+        WasRead (I.left input.old) (I.left input.new) bytes →
+        O.held output.new ≡ append_known (O.held output.old) (flags_soon bytes) }
     // With a fault of the source or the sink some of it isn't written.
     ensures less { IfErr result (λ fault. fault ≢ Fault.Memory → IfSome (I.left input.old) (λ bytes.
         GrewByLess (O.held output.old) (O.held output.new) (flags_of bytes).text)) }

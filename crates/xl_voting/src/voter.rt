@@ -185,6 +185,8 @@ impl Machine for Voter {
     ghost use Rattle.xl_voting.specs.Tallying.{Tallying, tallied};
     ghost use Rattle.xl_voting.specs.Voting.{Voting, rules as the_rules};
 
+    type Answer = String;
+
     ghost State = { Voting Tallying };
 
     ghost state = { state_of };

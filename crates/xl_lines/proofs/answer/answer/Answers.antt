@@ -6,4 +6,4 @@ use Rattle.xl_lines.proofs.answer.answer.Goals as goal
 pub returns-in_err-write_all-clause-less : goal.returns-in_err-write_all-clause-less
 returns-in_err-write_all-clause-less g c is =
     less_answered c.in_ok-next.next _ _ _ c.in_ok-next.ensures.step
-    (subst (λ bytes. GrewByLess (g.O.Sink.held c.args.output.now) (g.O.Sink.held c.write_all.new.sink) bytes) c.as_bytes.ensures.value c.in_err-write_all.ensures.less)
+    (subst (λ bytes. GrewByLess (g.O.Sink.held c.args.output.now) (g.O.Sink.held c.write_all.new.sink) bytes) c.as_bytes.ensures c.in_err-write_all.ensures.less)

@@ -1,9 +1,11 @@
-use Rattle.std.proofs.Common.{take, arith}
+use Rattle.std.proofs.Common.{take, arith, subst}
+use Rattle.xl_lines.specs.Soon.{WasRead}
+use Rattle.xl_lines.proofs.Soon.{runs_soon_none, runs_soon_more, runs_soon_all}
 use Rattle.xl_lines.proofs.Runs.{runs_none, runs_more, runs_more_front, runs_last_front, runs_less, runs_more_less, runs_last_less, runs_on, by_fault, write_from, passed_on}
 use Rattle.xl_lines.proofs.driver.drive.Goals as goal
 
 pub loop-count-init : goal.loop-count-init
-loop-count-init g c = record { runs = runs_none _ _ _; later_read = omega arith; later_write = omega arith }
+loop-count-init g c = record { runs = runs_none _ _ _; soon = runs_soon_none _ _ _; later_read = omega arith; later_write = omega arith }
 
 pub returns-in_err-feed-in-Got-clause-front : goal.returns-in_err-feed-in-Got-clause-front
 returns-in_err-feed-in-Got-clause-front g c = runs_more_front c.loop-count.invariant.runs _ (take c.in-Got.count c.read.new.room) c.in-Got.ensures.bytes c.feed.ensures.front
@@ -11,9 +13,14 @@ returns-in_err-feed-in-Got-clause-front g c = runs_more_front c.loop-count.invar
 pub loop-count-preserved : goal.loop-count-preserved
 loop-count-preserved g c = record {
   runs = runs_more c.loop-count.invariant.runs _ (take c.in-Got.count c.read.new.room) c.in-Got.ensures.bytes (rw c.in-Line.is at c.in_ok-feed-in-Got.ensures.ok);
+  soon = runs_soon_more c.loop-count.invariant.soon _ (take c.in-Got.count c.read.new.room) c.in-Got.ensures.bytes (c.in_ok-feed-in-Got.ensures.soon c.in-Line.is) (c.in_ok-feed-in-Got.ensures.later c.in-Line.is);
   later_read = omega arith;
   later_write = omega arith;
 }
+
+pub returns-in-Failed-clause-soon : goal.returns-in-Failed-clause-soon
+returns-in-Failed-clause-soon g c quiet is bytes read =
+    runs_soon_all c.loop-count.invariant.soon quiet bytes (subst (λ left. WasRead (g.I.Source.left c.args.input.now) left bytes) c.in-Failed.ensures.bytes read)
 
 pub returns-in-Refused-clause-front : goal.returns-in-Refused-clause-front
 returns-in-Refused-clause-front g c = runs_more_front c.loop-count.invariant.runs _ (take c.in-Got.count c.read.new.room) c.in-Got.ensures.bytes c.feed.ensures.front

@@ -1,7 +1,9 @@
-use Rattle.std.proofs.Common.{subst}
+use Rattle.std.proofs.Common.{◌≡◌, subst}
+use Rattle.std.specs.Io.KnownBytes.{append_known}
 use Rattle.std.specs.Prelude.{IfSome}
 use Rattle.xl_io.specs.Sinks.{GrewByLess}
 use Rattle.xl_lines.specs.Told.{told_of}
+use Rattle.xl_lines.specs.Soon.{told_soon}
 use Rattle.xl_merge.specs.Merging.{Merging, limits, rules}
 use Rattle.xl_merge.proofs.AtEnd.{finds_at_end}
 use Rattle.xl_merge.proofs.command.merge.Goals as goal
@@ -14,3 +16,9 @@ returns-clause-cut g c is =
 
 pub returns-clause-to_end : goal.returns-clause-to_end
 returns-clause-to_end g c = c.run.ensures.to_end finds_at_end
+
+pub returns-clause-soon : goal.returns-clause-soon
+returns-clause-soon g c is bytes read =
+    subst
+    (λ (m : Merging). g.O.Sink.held c.run.new.output ≡ append_known (g.O.Sink.held c.args.output.now) (told_soon limits rules m bytes))
+    c.new.ensures (c.run.ensures.soon is bytes read)

@@ -1,5 +1,9 @@
 -- What is said of the report holds whatever is answered; a status says the report's end, or some of it is unwritten.
-use Rattle.std.proofs.Common.{refl}
+use Rattle.std.proofs.Common.{◌≡◌, Err, refl, ap, subst}
+use Rattle.std.specs.Io.KnownBytes.{append_known}
+use Rattle.xl_lines.specs.Soon.{told_soon}
+use Rattle.xl_running.specs.Running.{Running, limits}
+use Rattle.xl_replay.specs.Replays.{rules}
 use Rattle.xl_base.specs.declared.status.Status.TheVariants.{Done, Fork, InputRefused, ReadFault, WriteFault}
 use Rattle.xl_lines.specs.declared.machine.Verdict.TheVariants.{Good, Found, Refused}
 use Rattle.xl_replay.proofs.Ending.{ends_aloud, says_end, less_end, memory_end}
@@ -96,3 +100,9 @@ returns-in-Ok-Good-clause-done_at_end g c _ = c.in-Ok-Good.ensures.to_end finds_
 
 pub returns-in-Ok-Found-clause-fork_at_end : goal.returns-in-Ok-Found-clause-fork_at_end
 returns-in-Ok-Found-clause-fork_at_end g c _ = c.in-Ok-Found.ensures.to_end finds_at_end (λ e. let is = c.in-Ok-Found.field-0-is in cc)
+
+pub returns-in-Err-Read-clause-soon : goal.returns-in-Err-Read-clause-soon
+returns-in-Err-Read-clause-soon g c is bytes read =
+    subst
+    (λ (r : Running). g.O.Sink.held c.run.new.output ≡ append_known (g.O.Sink.held c.args.output.now) (told_soon limits rules r bytes))
+    c.in-Ok.ensures (c.in-Err-Read.ensures.soon (ap Err c.in-Err-Read.field-0-is) bytes read)

@@ -8,7 +8,7 @@ use Rattle.xl_lines.specs.declared.machine.Verdict.TheVariants.{Good}
 use Rattle.xl_replay.specs.Statuses.{IsReplayed}
 use Rattle.xl_top.specs.Commands.{told_by}
 use Rattle.xl_top.specs.Texts.{WritesText, streams}
-use Rattle.xl_top.proofs.After.{if_any, writes_by, cause_after, cause_of, end_after, yes_after, known_after, whole_after, some_after, read_all_after, said, held_same}
+use Rattle.xl_top.proofs.After.{if_any, writes_by, cause_after, cause_of, end_after, yes_after, known_after, whole_after, some_after, none_soon, read_all_after, said, held_same}
 use Rattle.xl_top.proofs.Asking.{whole_of, less_of, only_of}
 use Rattle.xl_words.specs.declared.command.Telling.{Telling}
 use Rattle.xl_words.specs.declared.command.Telling.TheVariants.{Show, Lists, Merge, Audit, Flags, Negative, Gen, Help, Version}
@@ -26,6 +26,7 @@ returns-in-Replay-clause-writes g c =
       as_written = λ _. c.replay.ensures.as_written;
       at_end = λ ends _. ⊎_elim c.replay.ensures.done_at_end c.replay.ensures.fork_at_end ends;
       front = c.replay.ensures.front;
+      soon = c.replay.ensures.soon;
       complete = c.replay.ensures.complete;
       whole = said (g.I.Source.left c.args.input.now) _ c.replay.ensures.whole;
     })
@@ -46,6 +47,7 @@ returns-in-Show-clause-writes g c =
       whole = c.show.ensures.whole;
       at_end = λ ends _. end_after c.show.result _ c.show.ensures.to_end ends;
       front = c.show.ensures.front;
+      soon = c.show.ensures.soon;
       only = c.show.ensures.complete;
       ends = said (g.I.Source.left c.args.input.now) _ (whole_after (g.I.Source.left c.args.input.now) (g.O.Sink.held c.args.output.now) (g.O.Sink.held c.show.new.output) (told_by Show) c.show.result c.show.ensures.whole c.show.ensures.less);
     })
@@ -64,6 +66,7 @@ returns-in-Lists-clause-writes g c =
       whole = c.lists.ensures.whole;
       at_end = λ ends _. end_after c.lists.result _ c.lists.ensures.to_end ends;
       front = c.lists.ensures.front;
+      soon = λ is _ _. none_soon c.lists.result _ _ (held_same c.lists.result _ _ g.O.Sink.held c.lists.ensures.unwritten) is;
       only = c.lists.ensures.complete;
       ends = some_after (g.I.Source.left c.args.input.now) (g.O.Sink.held c.args.output.now) (g.O.Sink.held c.lists.new.output) (told_by Lists) c.lists.result c.lists.ensures.whole (held_same c.lists.result _ _ g.O.Sink.held c.lists.ensures.unwritten) c.lists.ensures.less;
     })
@@ -82,6 +85,7 @@ returns-in-Merge-clause-writes g c =
       whole = c.merge.ensures.whole;
       at_end = λ ends _. end_after c.merge.result _ c.merge.ensures.to_end ends;
       front = c.merge.ensures.front;
+      soon = c.merge.ensures.soon;
       only = c.merge.ensures.complete;
       ends = read_all_after (g.I.Source.left c.args.input.now) (g.O.Sink.held c.args.output.now) (g.O.Sink.held c.merge.new.output) (told_by Merge) _ c.merge.result c.merge.ensures.whole c.merge.ensures.read c.merge.ensures.cut;
     })
@@ -100,6 +104,7 @@ returns-in-Audit-clause-writes g c =
       whole = c.audit.ensures.whole;
       at_end = λ _ done. yes_after c.audit.result _ c.audit.ensures.to_end done;
       front = c.audit.ensures.front;
+      soon = c.audit.ensures.soon;
       only = c.audit.ensures.complete;
       ends = said (g.I.Source.left c.args.input.now) _ (whole_after (g.I.Source.left c.args.input.now) (g.O.Sink.held c.args.output.now) (g.O.Sink.held c.audit.new.output) (told_by Audit) c.audit.result c.audit.ensures.whole c.audit.ensures.less);
     })
@@ -118,6 +123,7 @@ returns-in-Flags-clause-writes g c =
       whole = c.flags.ensures.whole;
       at_end = λ ends _. end_after c.flags.result _ c.flags.ensures.to_end ends;
       front = c.flags.ensures.front;
+      soon = c.flags.ensures.soon;
       only = c.flags.ensures.complete;
       ends = said (g.I.Source.left c.args.input.now) _ (whole_after (g.I.Source.left c.args.input.now) (g.O.Sink.held c.args.output.now) (g.O.Sink.held c.flags.new.output) (told_by Flags) c.flags.result c.flags.ensures.whole c.flags.ensures.less);
     })
@@ -139,6 +145,7 @@ returns-in-Negative-clause-writes g c =
       whole = c.negative.ensures.whole;
       at_end = λ ends _. end_after c.negative.result _ c.negative.ensures.to_end ends;
       front = c.negative.ensures.front;
+      soon = c.negative.ensures.soon;
       only = c.negative.ensures.complete;
       ends = read_all_after (g.I.Source.left c.args.input.now) (g.O.Sink.held c.args.output.now) (g.O.Sink.held c.negative.new.output) (told_by Negative) _ c.negative.result c.negative.ensures.whole c.negative.ensures.read c.negative.ensures.cut;
     })
@@ -160,6 +167,7 @@ returns-in-Help-clause-writes g c =
       whole = whole_of (g.I.Source.left c.args.input.now) (g.O.Sink.held c.args.output.now) (g.O.Sink.held c.help.new.output) (closes help_text Good) c.help.result c.help.ensures.whole;
       at_end = λ _ no. absurd no;
       front = if_any (g.I.Source.left c.args.input.now) _ (λ bytes. c.help.ensures.front);
+      soon = λ is. absurd (c.help.ensures.read is);
       only = only_of c.help.result _ _ c.help.ensures.read c.help.ensures.write;
       ends = said (g.I.Source.left c.args.input.now) _ (whole_after (g.I.Source.left c.args.input.now) (g.O.Sink.held c.args.output.now) (g.O.Sink.held c.help.new.output) (λ (bytes : List ℕ). closes help_text Good) c.help.result
           (whole_of (g.I.Source.left c.args.input.now) (g.O.Sink.held c.args.output.now) (g.O.Sink.held c.help.new.output) (closes help_text Good) c.help.result c.help.ensures.whole)
@@ -180,6 +188,7 @@ returns-in-Version-clause-writes g c =
       whole = whole_of (g.I.Source.left c.args.input.now) (g.O.Sink.held c.args.output.now) (g.O.Sink.held c.version.new.output) (closes version_text Good) c.version.result c.version.ensures.whole;
       at_end = λ _ no. absurd no;
       front = if_any (g.I.Source.left c.args.input.now) _ (λ bytes. c.version.ensures.front);
+      soon = λ is. absurd (c.version.ensures.read is);
       only = only_of c.version.result _ _ c.version.ensures.read c.version.ensures.write;
       ends = said (g.I.Source.left c.args.input.now) _ (whole_after (g.I.Source.left c.args.input.now) (g.O.Sink.held c.args.output.now) (g.O.Sink.held c.version.new.output) (λ (bytes : List ℕ). closes version_text Good) c.version.result
           (whole_of (g.I.Source.left c.args.input.now) (g.O.Sink.held c.args.output.now) (g.O.Sink.held c.version.new.output) (closes version_text Good) c.version.result c.version.ensures.whole)
@@ -200,6 +209,7 @@ returns-in-Gen-clause-writes g c =
       whole = whole_of (g.I.Source.left c.args.input.now) (g.O.Sink.held c.args.output.now) (g.O.Sink.held c.make.new.output) (summary (min c.in-Gen.rounds MOST_ROUNDS)) c.make.result c.make.ensures.whole;
       at_end = λ _ no. absurd no;
       front = if_any (g.I.Source.left c.args.input.now) _ (λ bytes. c.make.ensures.front);
+      soon = λ is. absurd (c.make.ensures.read is);
       only = only_of c.make.result _ _ c.make.ensures.read c.make.ensures.write;
       ends = said (g.I.Source.left c.args.input.now) _ (whole_after (g.I.Source.left c.args.input.now) (g.O.Sink.held c.args.output.now) (g.O.Sink.held c.make.new.output) (λ (bytes : List ℕ). summary (min c.in-Gen.rounds MOST_ROUNDS)) c.make.result
           (whole_of (g.I.Source.left c.args.input.now) (g.O.Sink.held c.args.output.now) (g.O.Sink.held c.make.new.output) (summary (min c.in-Gen.rounds MOST_ROUNDS)) c.make.result c.make.ensures.whole)

@@ -1,5 +1,6 @@
 -- What is kept tells what the list tells.
-use Rattle.std.proofs.Common.{◌≢◌}
+use Rattle.std.proofs.Common.{◌≢◌, ap, ◌∙◌}
+use Rattle.std.specs.Io.KnownBytes.{append_known}
 use Rattle.xl_io.specs.Sinks.{GrewByFront, GrewByLess}
 use Rattle.xl_lines.specs.declared.fault.Fault.{Fault}
 use Rattle.xl_lines.specs.declared.fault.Fault.TheVariants.{Memory}
@@ -7,7 +8,7 @@ use Rattle.xl_lines.specs.Rules.{Told}
 use Rattle.xl_lines.specs.Running.{TellsAll}
 use Rattle.xl_voting.specs.States.{state_of}
 use Rattle.xl_voting.proofs.AtEnd.{ends_aloud, finds_at_end}
-use Rattle.xl_voting.proofs.Whole.{err_then, ok_then, told_then}
+use Rattle.xl_voting.proofs.Whole.{err_then, ok_then, same_soon, told_then}
 use Rattle.xl_voting.proofs.command.flags.Goals as goal
 
 pub returns-clause-whole : goal.returns-clause-whole
@@ -25,3 +26,7 @@ pub returns-clause-less : goal.returns-clause-less
 returns-clause-less g c =
     err_then (state_of c.in-Ok.voter) c.in-Ok.ensures (λ (fault : Fault). fault ≢ Memory) (λ (told : Told). GrewByLess (g.O.Sink.held c.args.output.now) (g.O.Sink.held c.run.new.output) told.text)
     (g.I.Source.left c.args.input.now) c.run.result (c.run.ensures.less ends_aloud)
+
+pub returns-clause-soon : goal.returns-clause-soon
+returns-clause-soon g c is bytes read =
+    c.run.ensures.soon is bytes read ∙ ap (append_known (g.O.Sink.held c.args.output.now)) (same_soon (state_of c.in-Ok.voter) c.in-Ok.ensures bytes)

@@ -3,6 +3,7 @@ use Rattle.xl_lines.specs.declared.machine.Next.TheVariants as next
 use Rattle.xl_lines.specs.Lines.{before_newline}
 use Rattle.xl_lines.proofs.Runs.{write_from}
 use Rattle.xl_lines.proofs.Telling.{LineEnds, tells_line, front_of_line, less_of_line}
+use Rattle.xl_lines.proofs.Soon.{puts_line}
 use Rattle.xl_lines.proofs.lines.Lines.end_line.Goals as goal
 use Rattle.xl_lines.proofs.lines.Lines.end_line.Goals.{After-answer}
 
@@ -46,3 +47,7 @@ returns-in-Found-clause-ok g c rest =
 pub returns-in-Found-clause-front : goal.returns-in-Found-clause-front
 returns-in-Found-clause-front g c =
     front_of_line g.M.Machine.rules _ c.args.self.now.left (ends g (goal.at.returns-in-Found-clause-front g c).After-answer) c.answer.ensures.front
+
+pub returns-in-Line-clause-soon : goal.returns-in-Line-clause-soon
+returns-in-Line-clause-soon g c is =
+    puts_line c.args.self.now.limits g.M.Machine.rules c.args.self.now.left _ _ _ (ends g (goal.at.returns-in-Line-clause-soon g c).After-answer) (rw c.in-Line.is at c.in_ok-answer.ensures.step) c.in_ok-answer.ensures.held c.clear.ensures.items

@@ -6,6 +6,7 @@ use Rattle.xl_lines.proofs.Newlines.{finds_newline}
 use Rattle.xl_lines.proofs.Parts.{first_end, one_line-first, told_long, told_newline, told_none}
 use Rattle.xl_lines.proofs.Runs.{write_from}
 use Rattle.xl_lines.proofs.Telling.{tells_from, front_from, less_from, tells_refused, tells_none}
+use Rattle.xl_lines.proofs.Soon.{puts_none, soon_newline, soon_none}
 use Rattle.xl_lines.proofs.lines.Lines.take_part.Goals as goal
 use Rattle.xl_lines.proofs.lines.Lines.take_part.Goals.{Then-is_long_with, Else-is_none}
 
@@ -71,3 +72,22 @@ returns-in-Found-clause-ok g c rest = tells_from (newline g (goal.at.returns-in-
 
 pub returns-in-Found-clause-front : goal.returns-in-Found-clause-front
 returns-in-Found-clause-front g c rest = front_from (newline g (goal.at.returns-in-Found-clause-front g c).Else-is_none rest) (c.end_line.ensures.front _)
+
+pub returns-then-is_none-clause-soon : goal.returns-then-is_none-clause-soon
+returns-then-is_none-clause-soon g c =
+    let self = c.args.self.now in
+    let none : is_some c.newline_in-newline.result ≡ false = c.is_none.ensures ∙ ap not c.if-is_none.true in
+    puts_none _ _ _ (soon_none self.limits g.M.Machine.rules self.left (g.M.Machine.state self.machine) self.line.items c.args.bytes.now c.newline_in-newline.result c.unwrap_or-count.result none c.unwrap_or-count.ensures c.put.new.self.limits c.put.new.self.left c.put.new.self.line.items c.in_ok-put.ensures.limits c.in_ok-put.ensures.left c.in_ok-put.ensures.ok (g.M.Machine.state c.put.new.self.machine) (ap g.M.Machine.state c.in_ok-put.ensures.machine))
+
+pub returns-in-Line-clause-soon : goal.returns-in-Line-clause-soon
+returns-in-Line-clause-soon g c =
+    let self = c.args.self.now in
+    let found : is_some c.newline_in-newline.result ≡ true = c.is_none.ensures ∙ ap not c.if-is_none.false in
+    let puts = c.in_ok-end_line.ensures.soon c.in-Line.is in
+    record {
+      written = puts.written;
+      held = puts.held;
+      parts = λ rest.
+          soon_newline self.limits g.M.Machine.rules self.left (g.M.Machine.state self.machine) self.line.items c.args.bytes.now c.newline_in-newline.result c.unwrap_or-count.result (finds_newline c.args.bytes.now _ c.newline_in-newline.ensures) found c.unwrap_or-count.ensures c.put.new.self.limits c.put.new.self.left c.put.new.self.line.items c.in_ok-put.ensures.limits c.in_ok-put.ensures.left c.in_ok-put.ensures.ok (g.M.Machine.state c.put.new.self.machine) (ap g.M.Machine.state c.in_ok-put.ensures.machine) rest
+          ∙ puts.parts (drop (c.unwrap_or-count.result + 1) c.args.bytes.now ++ rest);
+    }

@@ -1,7 +1,10 @@
-use Rattle.std.proofs.Common.{◌∙◌, ◌+◌, ◌-◌, ◌≤◌, ℕ, arith, length-drop}
+use Rattle.xl_lines.specs.Running.{soon_at}
+use Rattle.std.proofs.Common.{◌∙◌, sym, ◌+◌, ◌-◌, ◌≤◌, ℕ, arith, length-drop}
+use Rattle.std.proofs.lemmas.Bool.{eqb-true}
 use Rattle.std.proofs.lemmas.List.{take_rest}
 use Rattle.xl_lines.proofs.Runs.{write_from}
 use Rattle.xl_lines.proofs.Telling.{tells_then, tells_front, tells_less}
+use Rattle.xl_lines.proofs.Soon.{puts_then, puts_rest, puts_all, puts_later, soon_at-begun}
 use Rattle.xl_lines.proofs.lines.LinesTeller.feed.Goals as goal
 
 fewer_still : (new mid old all rest count : ℕ) → new + count ≤ mid → mid + all ≤ old + rest → count ≤ rest → new + all ≤ old + (rest - count)
@@ -12,6 +15,7 @@ loop-rest-preserved g c = rw take_rest (record {
   limits = c.in_ok-count.ensures.limits ∙ c.loop-rest.invariant.limits;
   fewer = rw length-drop (fewer_still _ _ _ _ _ _ (rw c.in-Taken.is at c.in_ok-count.ensures.fewer) c.loop-rest.invariant.fewer (rw c.in-Taken.is at c.in_ok-count.ensures.some).1);
   tells = λ more. tells_then (c.loop-rest.invariant.tells more) (rw c.in-Taken.is at (c.in_ok-count.ensures.ok more));
+  soon = puts_then c.loop-rest.invariant.soon (rw c.in-Taken.is at c.in_ok-count.ensures.soon);
   later = omega arith;
 })
 
@@ -30,3 +34,21 @@ returns-in-Found-clause-ok g c more = tells_then (c.loop-rest.invariant.tells mo
 
 pub returns-in-Found-clause-front : goal.returns-in-Found-clause-front
 returns-in-Found-clause-front g c more = tells_front (c.loop-rest.invariant.tells more) (c.take_part.ensures.front more)
+
+pub returns-clause-soon : goal.returns-clause-soon
+returns-clause-soon g c is =
+    let self = c.args.self.now in
+    let later = c.loop-rest.self in
+    let now = soon_at later.limits g.M.Machine.rules later.left (g.M.Machine.state later.machine) later.line.items in
+    puts_all (soon_at self.limits g.M.Machine.rules self.left (g.M.Machine.state self.machine) self.line.items) now c.args.bytes.now
+    (puts_rest now c.loop-rest.rest.now (eqb-true _ _ (sym c.is_empty.ensures ∙ c.loop-rest-test.false)) c.loop-rest.invariant.soon)
+    (soon_at-begun later.limits g.M.Machine.rules later.left (g.M.Machine.state later.machine) later.line.items later.one_line)
+
+pub returns-clause-later : goal.returns-clause-later
+returns-clause-later g c is =
+    let self = c.args.self.now in
+    let later = c.loop-rest.self in
+    let now = soon_at later.limits g.M.Machine.rules later.left (g.M.Machine.state later.machine) later.line.items in
+    puts_later (soon_at self.limits g.M.Machine.rules self.left (g.M.Machine.state self.machine) self.line.items) now c.args.bytes.now
+    (puts_rest now c.loop-rest.rest.now (eqb-true _ _ (sym c.is_empty.ensures ∙ c.loop-rest-test.false)) c.loop-rest.invariant.soon)
+    (soon_at-begun later.limits g.M.Machine.rules later.left (g.M.Machine.state later.machine) later.line.items later.one_line)

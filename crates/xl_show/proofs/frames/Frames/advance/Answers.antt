@@ -3,6 +3,7 @@ use Rattle.std.specs.String.{string_bytes}
 use Rattle.xl_show.specs.Reading.{IsSeen}
 use Rattle.xl_show.specs.declared.limits.TheConstants.{MOST_BYTES}
 use Rattle.xl_show.proofs.Looking.{stays_without, follows_without, tells_seen, front_seen, less_seen}
+use Rattle.xl_show.proofs.Soon.{puts_seen}
 use Rattle.xl_show.proofs.frames.Frames.advance.Goals as goal
 use Rattle.xl_show.proofs.frames.Frames.advance.Goals.{After-write_all}
 
@@ -56,3 +57,16 @@ returns-in_default-clause-front g c = λ rest.
     let at = (goal.at.returns-in_default-clause-front g c).After-write_all in
     let self = c.args.self.now in
     front_seen self.place self.count self.begun.items (within g at) c.in_ok-look.look c.as_bytes.result.now (seen g at) c.in_ok-write_all.ensures.front rest
+
+pub returns-in-Frame-clause-soon : goal.returns-in-Frame-clause-soon
+returns-in-Frame-clause-soon g c =
+    let at = (goal.at.returns-in-Frame-clause-soon g c).After-write_all in
+    let self = c.args.self.now in
+    let new = c.leave.new.self in
+    rw c.in-Frame.is at (puts_seen self.place self.count self.begun.items c.in_ok-look.look c.as_bytes.result.now (seen g at) new.place new.count new.begun.items (rw c.in-Frame.is (c.leave.ensures.place, c.leave.ensures.count, c.leave.ensures.begun)) _ _ c.in_ok-write_all.ensures.whole)
+
+pub returns-in_default-clause-soon : goal.returns-in_default-clause-soon
+returns-in_default-clause-soon g c =
+    let at = (goal.at.returns-in_default-clause-soon g c).After-write_all in
+    let self = c.args.self.now in
+    puts_seen self.place self.count self.begun.items c.in_ok-look.look c.as_bytes.result.now (seen g at) self.place self.count self.begun.items (stays_without c.in_ok-look.look self.place self.count self.begun.items c.in_default.not-Frame) _ _ c.in_ok-write_all.ensures.whole

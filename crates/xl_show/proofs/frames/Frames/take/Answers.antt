@@ -8,6 +8,8 @@ use Rattle.xl_show.specs.Texts.{limit_line}
 use Rattle.xl_show.specs.declared.limits.TheConstants.{MOST_BYTES}
 use Rattle.xl_show.proofs.Short.{need_fits}
 use Rattle.xl_show.proofs.Telling.{told_limit}
+use Rattle.xl_lines.proofs.Soon.{puts_none}
+use Rattle.xl_show.proofs.Soon.{soon_taken}
 use Rattle.xl_show.proofs.frames.Frames.take.Goals as goal
 use Rattle.xl_show.proofs.frames.Frames.take.Goals.{Then-room-eq0}
 
@@ -51,3 +53,7 @@ put-requires-clause-short g c =
     let self = c.args.self.now in
     let fits = need_fits self.begun.items c.args.lack c.requires.lacks in
     omega (arith, fits, self.begun.ok.0, length-take c.min-count.result c.args.bytes.now, c.min.ensures, c.min-count.ensures)
+
+pub returns-clause-soon : goal.returns-clause-soon
+returns-clause-soon g c =
+    puts_none _ _ _ (λ rest. soon_taken c.min-count.result c.args.self.now.begun.items c.put.new.self.begun.items c.args.bytes.now rest c.in_ok-put.ensures.begun)

@@ -1,10 +1,14 @@
-use Rattle.std.proofs.Common.{◌≡◌, ◌++◌, ℕ, List, [], ◌∷◌, length, length-drop, ap, subst, arith, refl}
+use Rattle.std.proofs.Common.{◌≡◌, ◌++◌, ℕ, List, [], ◌∷◌, length, length-drop, ap, subst, arith, refl, sym, ◌∙◌}
 use Rattle.std.proofs.lemmas.Bool.Decides.{nat_tests}
 use Rattle.std.proofs.lemmas.List.{take_rest}
 use Rattle.xl_lines.specs.Running.{Tells}
 use Rattle.xl_lines.proofs.Runs.{write_from}
 use Rattle.xl_lines.proofs.Telling.{tells_then, tells_front, tells_less}
 use Rattle.xl_show.specs.Shown.{told_from}
+use Rattle.xl_wire.specs.Frames.{decoded_of}
+use Rattle.xl_lines.proofs.Soon.{puts_then, puts_rest, puts_all, puts_later}
+use Rattle.xl_show.specs.Soon.{shown_soon}
+use Rattle.xl_show.proofs.Soon.{puts_more, soon_begun}
 use Rattle.xl_show.proofs.frames.FramesTeller.feed.Goals as goal
 
 empty : (xs : List ℕ) → length xs ≡ 0 → xs ≡ []
@@ -25,6 +29,7 @@ loop-lack-preserved-in-Frame g c =
     record {
       reach = omega (arith, follows.0, c.loop-lack.invariant.reach);
       tells = λ more. tells_then (c.loop-lack.invariant.tells more) (rw c.in-Frame.is at (c.in_ok-advance.ensures.ok (c.loop-lack.rest.now ++ more)));
+      soon = puts_then c.loop-lack.invariant.soon (puts_more _ _ c.loop-lack.rest.now (rw c.in-Frame.is at c.in_ok-advance.ensures.soon));
       later = omega arith;
     }
 
@@ -66,6 +71,7 @@ loop-lack-preserved g c =
       reach = omega (arith, follows.1, same, some.1, goes.0, c.loop-lack.invariant.reach, length-drop c.in-Taken.count rest);
       tells = λ more.
           tells_then (tells_then (c.loop-lack.invariant.tells more) (rw c.in-Lacks-2.is at (c.in_ok-advance.ensures.ok (rest ++ more)))) (rw c.in-Taken.is at (c.in_ok-count-in-Lacks-2.ensures.ok more));
+      soon = puts_then (puts_then c.loop-lack.invariant.soon (puts_more _ _ rest (rw c.in-Lacks-2.is at c.in_ok-advance.ensures.soon))) (rw c.in-Taken.is at c.in_ok-count-in-Lacks-2.ensures.soon);
       later = omega arith;
     })
 
@@ -76,3 +82,21 @@ returns-in-Refused-2-clause-ok g c = λ more.
 pub returns-in-Refused-2-clause-front : goal.returns-in-Refused-2-clause-front
 returns-in-Refused-2-clause-front g c = λ more.
     tells_front (tells_then (c.loop-lack.invariant.tells more) (rw c.in-Lacks-2.is at (c.in_ok-advance.ensures.ok (c.loop-lack.rest.now ++ more)))) (c.take.ensures.front more)
+
+pub returns-in-Lacks-clause-soon : goal.returns-in-Lacks-clause-soon
+returns-in-Lacks-clause-soon g c is =
+    let none : length c.loop-lack.rest.now ≡ 0 = grind (arith, nat_tests) in
+    let follows = rw c.in-Lacks.is at c.in_ok-advance.ensures.follows in
+    let now = λ (more : List ℕ). shown_soon (c.advance.new.self.begun.items ++ more) in
+    puts_all (λ more. shown_soon (c.args.self.now.begun.items ++ more)) now c.args.bytes.now
+    (puts_rest now c.loop-lack.rest.now none (puts_then c.loop-lack.invariant.soon (puts_more _ _ c.loop-lack.rest.now (rw c.in-Lacks.is at c.in_ok-advance.ensures.soon))))
+    (soon_begun c.advance.new.self.begun.items c.in-Lacks.field-0 (ap (λ begun. decoded_of begun.items) follows.0 ∙ follows.3))
+
+pub returns-in-Lacks-clause-later : goal.returns-in-Lacks-clause-later
+returns-in-Lacks-clause-later g c is =
+    let none : length c.loop-lack.rest.now ≡ 0 = grind (arith, nat_tests) in
+    let follows = rw c.in-Lacks.is at c.in_ok-advance.ensures.follows in
+    let now = λ (more : List ℕ). shown_soon (c.advance.new.self.begun.items ++ more) in
+    puts_later (λ more. shown_soon (c.args.self.now.begun.items ++ more)) now c.args.bytes.now
+    (puts_rest now c.loop-lack.rest.now none (puts_then c.loop-lack.invariant.soon (puts_more _ _ c.loop-lack.rest.now (rw c.in-Lacks.is at c.in_ok-advance.ensures.soon))))
+    (soon_begun c.advance.new.self.begun.items c.in-Lacks.field-0 (ap (λ begun. decoded_of begun.items) follows.0 ∙ follows.3))
