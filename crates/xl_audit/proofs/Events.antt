@@ -6,7 +6,7 @@ use Rattle.std.proofs.lemmas.Bool.{cond-false, cond_both, le-ltb}
 use Rattle.std.proofs.lemmas.List.{length-drop}
 use Rattle.hex.specs.Hex.{IsBytes, encode_lower}
 use Rattle.xl_tags.specs.Rings.{Ring}
-use Rattle.xl_wire.specs.declared.lengths.TheConstants.{LONGEST_FRAME}
+use Rattle.xl_wire.specs.Lengths.{longest_frame}
 use Rattle.xl_core.specs.Core.{Core}
 use Rattle.xl_core.specs.declared.event.CoreEvent.{CoreEvent}
 use Rattle.xl_core.specs.declared.event.CoreEvent.TheVariants as event
@@ -309,7 +309,7 @@ module _ (core : Core) (o : Option Saved) (reply : List ℕ) (tail : IsTail (tai
       let front : List (List ℕ) = decimal member ∷ decimal room ∷ [] in
       counted_again ring word.Drain (behind front) (event.Drain member room) o reply
       (then_ok _ _ member _ (peer_again ring member stored.0.0 stored.0.1 allowed.0)
-      (then_ok _ _ room _ (from_again LONGEST_FRAME room allowed.1 stored.1) refl))
+      (then_ok _ _ room _ (from_again longest_frame room allowed.1 stored.1) refl))
       (tail_behind front (tail_words o reply) o reply tail)
   event_again (event.Reports room) allowed stored =
       let front : List (List ℕ) = decimal room ∷ [] in

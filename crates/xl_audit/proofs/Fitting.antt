@@ -4,9 +4,9 @@ use Rattle.std.specs.Prelude.{IsSome, is_some, nat_le, nat_lt, codes, length, dr
 use Rattle.std.specs.Str.{bytes_eq}
 use Rattle.std.proofs.lemmas.Bool.{cond_both}
 use Rattle.std.proofs.lemmas.Bool.Decides.{nat_tests}
-use Rattle.xl_base.specs.declared.moments.TheConstants.{GREATEST_MILLIS}
+use Rattle.xl_base.specs.Moments.{greatest_millis}
 use Rattle.xl_tags.specs.Rings.{Ring, key_of}
-use Rattle.xl_wire.specs.declared.lengths.TheConstants.{LONGEST_FRAME}
+use Rattle.xl_wire.specs.Lengths.{longest_frame}
 use Rattle.xl_core.specs.Core.{Core}
 use Rattle.xl_core.specs.declared.event.CoreEvent.{CoreEvent}
 use Rattle.xl_sched.specs.declared.refusal.SchedRefusal.{SchedRefusal}
@@ -59,11 +59,11 @@ within least greatest token =
     (Holds (λ n. (least ≤ n) × (n ≤ greatest)))
     (λ e. (grind (arith, nat_tests), grind (arith, nat_tests))) (λ e. tt)
 
-timely : (token : List ℕ) → Holds (λ n. n ≤ GREATEST_MILLIS) (moment_of token)
-timely token = weaker (moment_of token) (within 0 GREATEST_MILLIS token)
+timely : (token : List ℕ) → Holds (λ n. n ≤ greatest_millis) (moment_of token)
+timely token = weaker (moment_of token) (within 0 greatest_millis token)
   where
-    weaker : (r : Result ℕ SchedRefusal) → Holds (λ n. (0 ≤ n) × (n ≤ GREATEST_MILLIS)) r
-        → Holds (λ n. n ≤ GREATEST_MILLIS) r
+    weaker : (r : Result ℕ SchedRefusal) → Holds (λ n. (0 ≤ n) × (n ≤ greatest_millis)) r
+        → Holds (λ n. n ≤ greatest_millis) r
     weaker (Ok n) h = h.1
     weaker (Err why) h = tt
 
@@ -88,15 +88,15 @@ module _ (core : Core) where
 
   event_fits : (w : EntryWord) (args : List (List ℕ)) → Fits (event_of core.node.keys w args)
   event_fits word.Frame args =
-      both (λ n. n ≤ GREATEST_MILLIS) (IsAllowed core) (moment_of (word_at args 0)) _ (timely (word_at args 0))
+      both (λ n. n ≤ greatest_millis) (IsAllowed core) (moment_of (word_at args 0)) _ (timely (word_at args 0))
       (λ now h. then_ (IsAllowed core) (bytes_of (word_at args 1)) _ (λ bytes. h))
   event_fits word.Timer args =
-      both (λ n. n ≤ GREATEST_MILLIS) (IsAllowed core) (moment_of (word_at args 0)) _ (timely (word_at args 0)) (λ now h. h)
+      both (λ n. n ≤ greatest_millis) (IsAllowed core) (moment_of (word_at args 0)) _ (timely (word_at args 0)) (λ now h. h)
   event_fits word.Submit args =
-      both (λ n. n ≤ GREATEST_MILLIS) (IsAllowed core) (moment_of (word_at args 0)) _ (timely (word_at args 0))
+      both (λ n. n ≤ greatest_millis) (IsAllowed core) (moment_of (word_at args 0)) _ (timely (word_at args 0))
       (λ now h. then_ (IsAllowed core) (id_of (word_at args 1)) _ (λ id. h))
   event_fits word.Issue args =
-      both (λ n. n ≤ GREATEST_MILLIS) (IsAllowed core) (moment_of (word_at args 0)) _ (timely (word_at args 0))
+      both (λ n. n ≤ greatest_millis) (IsAllowed core) (moment_of (word_at args 0)) _ (timely (word_at args 0))
       (λ now h. then_ (IsAllowed core) (number_of (word_at args 1)) _
       (λ seq. then_ (IsAllowed core) (id_of (word_at args 2)) _
       (λ id. then_ (IsAllowed core) (full_of (word_at args 3)) _ (λ full. h))))
@@ -106,8 +106,8 @@ module _ (core : Core) where
   event_fits word.Drain args =
       both (λ m. IsSome (key_of core.node.keys m)) (IsAllowed core) (peer_of core.node.keys (word_at args 0)) _
       (keyed core.node.keys (word_at args 0))
-      (λ m h. both (λ n. LONGEST_FRAME ≤ n) (IsAllowed core) (number_from LONGEST_FRAME (word_at args 1)) _
-      (at_least LONGEST_FRAME (word_at args 1)) (λ room l. (h, l)))
+      (λ m h. both (λ n. longest_frame ≤ n) (IsAllowed core) (number_from longest_frame (word_at args 1)) _
+      (at_least longest_frame (word_at args 1)) (λ room l. (h, l)))
   event_fits word.Reports args =
       then_ (IsAllowed core) (number_from 0 (word_at args 0)) _ (λ room. tt)
   event_fits word.Stop args = tt
@@ -154,7 +154,7 @@ trusted_fits members quorum =
 relist_fits : (core : Core) (args : List (List ℕ)) → Holds (IsAsked core) (relist_entry args)
 relist_fits core args =
     let behind : List (List ℕ) = drop 3 args in
-    both (λ n. n ≤ GREATEST_MILLIS) (IsAsked core) (moment_of (word_at args 0)) _ (timely (word_at args 0))
+    both (λ n. n ≤ greatest_millis) (IsAsked core) (moment_of (word_at args 0)) _ (timely (word_at args 0))
     (λ now h. then_ (IsAsked core) (number_of (word_at args 1)) _
     (λ quorum. then_ (IsAsked core) (members_of (word_at args 2)) _
     (λ members. both IsCounted (IsAsked core) (outcome_of (word_at behind 0) (word_at behind 1)) _

@@ -6,7 +6,7 @@ use Rattle.std.proofs.lemmas.Bool.{cond-false, ne_eqb}
 use Rattle.std.proofs.lemmas.Bool.Decides.{nat_tests}
 use Rattle.std.proofs.lemmas.List.{length-append}
 use Rattle.hex.specs.Hex.{encode_lower}
-use Rattle.xl_ledger.specs.declared.registry.TheConstants.{LEAST_LIMIT, GREATEST_LIMIT}
+use Rattle.xl_ledger.specs.Limits.{greatest_limit, least_limit}
 use Rattle.xl_tags.specs.Rings.{Ring, key_of, no_keys}
 use Rattle.xl_core.specs.declared.settings.Settings.{Settings}
 use Rattle.xl_sched.specs.declared.refusal.SchedRefusal.{SchedRefusal}
@@ -132,7 +132,7 @@ settings_again s now kept may =
     ∙ then_ok _ _ s.me _ (member_again s.me may.stored.me.0 may.stored.me.1)
     (then_ok _ _ s.list.quorum _ (number_again s.list.quorum (omega (arith, may.stored.list.within, may.stored.list.at_most)))
     (then_ok _ _ s.list.members _ (members_again s.list may.stored.list)
-    (then_ok _ _ s.limit _ (within_again LEAST_LIMIT GREATEST_LIMIT s.limit may.least may.most (omega arith))
+    (then_ok _ _ s.limit _ (within_again least_limit greatest_limit s.limit may.least may.most (omega arith))
     (then_ok _ _ s.validating _ (yes_again s.validating)
     (then_ok _ _ s.speak _ (within_again 1 2 s.speak may.speak.0 may.speak.1 (omega arith))
     (then_ok _ _ now _ (moment_again now may.moment)

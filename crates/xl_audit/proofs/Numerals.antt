@@ -16,7 +16,7 @@ use Rattle.std.proofs.lemmas.Slice.Eq.{bytes_eq-Decides}
 use Rattle.std.proofs.lemmas.Str.Parse.{IsNumeralModel, numerals_by_value}
 use Rattle.hex.specs.Hex.{IsBytes, encode_lower, encode_with, lower_digits, decode_of, decode_sized}
 use Rattle.hex.proofs.HexLemmas.{decode_of-encode_lower, decode_sized-encode_lower, length-encode_with}
-use Rattle.xl_base.specs.declared.moments.TheConstants.{GREATEST_MILLIS}
+use Rattle.xl_base.specs.Moments.{greatest_millis}
 use Rattle.xl_tags.specs.Rings.{Ring, key_of}
 use Rattle.xl_sched.specs.declared.refusal.SchedRefusal.TheVariants.{Number, Id}
 use Rattle.xl_sched.specs.Members.{member_of}
@@ -74,8 +74,8 @@ number_again n small = within_again 0 (2 ^ 32 - 1) n (omega arith) (omega (arith
 pub member_again : (n : ℕ) → 1 ≤ n → n ≤ 64 → member_of (decimal n) ≡ Ok n
 member_again n low high = within_again 1 64 n low high (omega arith)
 
-pub moment_again : (n : ℕ) → n ≤ GREATEST_MILLIS → moment_of (decimal n) ≡ Ok n
-moment_again n high = within_again 0 GREATEST_MILLIS n (omega arith) high (omega arith)
+pub moment_again : (n : ℕ) → n ≤ greatest_millis → moment_of (decimal n) ≡ Ok n
+moment_again n high = within_again 0 greatest_millis n (omega arith) high (omega arith)
 
 pub from_again : (least n : ℕ) → least ≤ n → n < 2 ^ 64 → number_from least (decimal n) ≡ Ok n
 from_again least n low small = within_again least (2 ^ 64 - 1) n low (omega (arith, small)) (omega arith)

@@ -116,7 +116,7 @@ bounded_step a line =
     else if a.lines == most_lines then refuses (beyond overrun.ManyLines)
     else step a.stage line
 
--- nothing is told of a line that is in order, and the first that isn't ends the text
+-- nothing is written of a line that is in order, and the first that isn't ends the text
 abbrev pub answered : ℕ → Step → LineStep Auditing
 answered lines (goes_on stage) = line_goes_on [] (record { lines = lines + 1; stage = stage })
 answered lines (wrong place) = line_finds (no_line place)
@@ -148,7 +148,7 @@ rules = record {
 abbrev pub limits : Limits
 limits = record { lines = most_lines; bytes = most_bytes; returns = Kept }
 
--- what is told of these bytes
+-- what is written of these bytes
 abbrev pub audit_of : List ℕ → Told
 audit_of bytes = told_of limits rules at_first bytes
 

@@ -1,8 +1,8 @@
 -- What a judge of lines keeps, and what its answer is. Source: what the code of this crate relies on.
 use Rattle.std.specs.Prelude.{◌≡◌, ℕ, ◌≤◌}
 use Rattle.std.specs.Coded.{×_prop, Unit-prop, le_prop, Coded-set, coded_ℕ}
-use Rattle.xl_base.specs.declared.moments.TheConstants.{GREATEST_MILLIS}
-use Rattle.xl_ledger.specs.declared.registry.TheConstants.{LEAST_LIMIT, GREATEST_LIMIT}
+use Rattle.xl_base.specs.Moments.{greatest_millis}
+use Rattle.xl_ledger.specs.Limits.{greatest_limit, least_limit}
 use Rattle.xl_sched.specs.declared.refusal.SchedRefusal.{SchedRefusal}
 use Rattle.xl_sched.specs.declared.refusal.SchedRefusal.TheVariants.{OutOfMemory}
 use Rattle.xl_tags.specs.Rings.{Ring}
@@ -20,7 +20,7 @@ step_given answer.GoesOn stage = goes_on stage
 step_given (answer.Wrong place) stage = wrong place
 step_given (answer.Refused why) stage = refuses why
 
--- a line is refused so, and not for want of memory
+-- a line is refused so, and not for lack of memory
 pub record IsRefused (why : SchedRefusal) (told : Answer) : Type 0 where
   pub is : told ≡ answer.Refused (bad.Refused why)
   pub remembered : why ≡ OutOfMemory → ⊥
@@ -35,8 +35,8 @@ entries_of (Judging core entries) = entries
 -- a core may be opened so
 abbrev pub MayOpen : Opening → Ring → Type 0
 MayOpen opening ring =
-    (LEAST_LIMIT ≤ opening.limit)
-    × ((opening.limit ≤ GREATEST_LIMIT) × ((opening.now ≤ GREATEST_MILLIS) × (ring.me ≡ opening.me)))
+    (least_limit ≤ opening.limit)
+    × ((opening.limit ≤ greatest_limit) × ((opening.now ≤ greatest_millis) × (ring.me ≡ opening.me)))
 
 abbrev pub IsReady : Stage → Type 0
 IsReady Heading = Unit {0}

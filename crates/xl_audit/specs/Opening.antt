@@ -2,7 +2,7 @@
 use Rattle.std.specs.Prelude.{ℕ, ◌==◌, ◌&&◌, not, Bool, List, length, find, is_some, codes, Result, Ok, Err, Option, if◌then◌else◌}
 use Rattle.std.specs.List.{range_with_len}
 use Rattle.std.specs.Str.{bytes_eq}
-use Rattle.xl_ledger.specs.declared.registry.TheConstants.{LEAST_LIMIT, GREATEST_LIMIT}
+use Rattle.xl_ledger.specs.Limits.{greatest_limit, least_limit}
 use Rattle.xl_lists.specs.Lists.{is_on}
 use Rattle.xl_tags.specs.Rings.{Ring, key_of, with_key}
 use Rattle.xl_core.specs.Core.{Core, with_queues}
@@ -23,7 +23,7 @@ opening_of args = do
   me ← member_of (word_at args 0)
   quorum ← number_of (word_at args 1)
   members ← members_of (word_at args 2)
-  limit ← number_within LEAST_LIMIT GREATEST_LIMIT (word_at args 3)
+  limit ← number_within least_limit greatest_limit (word_at args 3)
   validating ← yes_of (word_at args 4)
   speak ← number_within 1 2 (word_at args 5)
   now ← moment_of (word_at args 6)

@@ -4,7 +4,7 @@ use Rattle.std.specs.declared.option.Option.{Option}
 use Rattle.std.specs.List.{join_with_byte}
 use Rattle.std.specs.Str.{bytes_eq}
 use Rattle.xl_tags.specs.Rings.{Ring}
-use Rattle.xl_wire.specs.declared.lengths.TheConstants.{LONGEST_FRAME}
+use Rattle.xl_wire.specs.Lengths.{longest_frame}
 use Rattle.xl_core.specs.Core.{Core}
 use Rattle.xl_core.specs.declared.event.CoreEvent.{CoreEvent}
 use Rattle.xl_core.specs.declared.event.CoreEvent.TheVariants as event
@@ -24,7 +24,7 @@ use Rattle.xl_audit.specs.Rights.{IsAsked}
 use Rattle.xl_audit.specs.Tokens.{moment_of, number_from, id_of, bytes_of, peer_of, outcome_of}
 use Rattle.xl_audit.specs.Words.{first, others, word_at}
 
--- the word of an event, but for a list that changes
+-- the word of an event, except a list that changes
 abbrev pub entry_word : List ℕ → Option EntryWord
 entry_word token =
     if bytes_eq token (codes "frame") then Some word.Frame
@@ -89,7 +89,7 @@ greet_event ring args = do
 abbrev pub drain_event : Ring → List (List ℕ) → Result CoreEvent SchedRefusal
 drain_event ring args = do
   member ← peer_of ring (word_at args 0)
-  room ← number_from LONGEST_FRAME (word_at args 1)
+  room ← number_from longest_frame (word_at args 1)
   Ok (event.Drain member room)
 
 -- `room`

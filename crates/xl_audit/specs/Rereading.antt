@@ -1,7 +1,7 @@
 -- What is written of a legal history is read back, and gets yes. Source: this project's own formats.
 use Rattle.std.specs.Prelude.{◌≡◌, ◌<◌, ◌≤◌, ◌^◌, ℕ, List, length, All}
-use Rattle.xl_base.specs.declared.moments.TheConstants.{GREATEST_MILLIS}
-use Rattle.xl_ledger.specs.declared.registry.TheConstants.{LEAST_LIMIT, GREATEST_LIMIT}
+use Rattle.xl_base.specs.Moments.{greatest_millis}
+use Rattle.xl_ledger.specs.Limits.{greatest_limit, least_limit}
 use Rattle.xl_lines.specs.declared.machine.Verdict.TheVariants.{Good}
 use Rattle.xl_lines.specs.Lines.{lines_of}
 use Rattle.xl_lines.specs.Rules.{closes}
@@ -30,10 +30,10 @@ GetsYes settings now kept es =
 pub record MayBeWritten (settings : Settings) (opened loaded : ℕ) : Type 0 where
   pub stored : AreStored settings
   pub keyed : IsKeyed settings.me settings.list.members settings.keys
-  pub least : LEAST_LIMIT ≤ settings.limit
-  pub most : settings.limit ≤ GREATEST_LIMIT
+  pub least : least_limit ≤ settings.limit
+  pub most : settings.limit ≤ greatest_limit
   pub speak : (1 ≤ settings.speak) × (settings.speak ≤ 2)
-  pub moment : opened ≤ GREATEST_MILLIS
+  pub moment : opened ≤ greatest_millis
   pub number : loaded < 2 ^ 32
 
 -- so does the text of each legal history of such a core

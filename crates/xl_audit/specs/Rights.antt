@@ -12,7 +12,7 @@ use Rattle.xl_audit.specs.declared.written.Written.{Written}
 use Rattle.xl_audit.specs.Replies.{reply_text}
 use Rattle.xl_audit.specs.Saves.{IsCounted}
 
--- whether an entry tells of a save exactly where one was asked
+-- whether an entry tells of a save exactly if one was asked
 abbrev pub tells_of : Bool → Option Saved → Bool
 tells_of asked (Some how) = asked
 tells_of asked None = not asked
@@ -31,7 +31,7 @@ pub record IsRight (core : Core) (w : Written) : Type 0 where
   pub outcome : IsOutcome (core_asks core w.entry.event) w.entry.outcome
   pub reply : w.reply ≡ reply_to core w.entry
 
--- the conditions of the core's call, and of what is told of a save
+-- the conditions of the core's call, and of what is written of a save
 pub record IsAsked (core : Core) (w : Written) : Type 0 where
   pub allowed : IsAllowed core w.entry.event
   pub counted : IsCounted w.entry.outcome

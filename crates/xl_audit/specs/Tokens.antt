@@ -6,7 +6,7 @@ use Rattle.std.specs.Option.{ok_or}
 use Rattle.std.specs.Result.{result_ok}
 use Rattle.std.specs.Str.{bytes_eq}
 use Rattle.hex.specs.Hex.{decode_of, decode_sized}
-use Rattle.xl_base.specs.declared.moments.TheConstants.{GREATEST_MILLIS}
+use Rattle.xl_base.specs.Moments.{greatest_millis}
 use Rattle.xl_tags.specs.Rings.{Ring, key_of}
 use Rattle.xl_store.specs.declared.entry.Saved.{Saved}
 use Rattle.xl_store.specs.declared.entry.Saved.TheVariants as saved
@@ -18,7 +18,7 @@ use Rattle.xl_sched.specs.Refusals.{◌>>=◌}
 
 -- a moment in milliseconds
 abbrev pub moment_of : List ℕ → Result ℕ SchedRefusal
-moment_of token = number_within 0 GREATEST_MILLIS token
+moment_of token = number_within 0 greatest_millis token
 
 -- a number from this one to the greatest of 64 bits
 abbrev pub number_from : ℕ → List ℕ → Result ℕ SchedRefusal

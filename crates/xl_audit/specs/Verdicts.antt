@@ -52,7 +52,7 @@ pub record FirstWrong (core : Core) (entries : ℕ) (lines : List Line) (text : 
   pub wrong : ¬ (IsRight (core_after core ws) w)
   pub says : text ≡ no_line (entries + length ws + 1)
 
--- what is told of lines of entries, behind n lines and so many entries, where left lines may come
+-- what is written of lines of entries, behind n lines and this many entries, where left lines may come
 abbrev pub told_behind : ℕ → ℕ → ℕ → Core → List Line → Told
 told_behind left n entries core lines =
     told_from limits rules left (record { lines = n; stage = Judging core entries }) lines

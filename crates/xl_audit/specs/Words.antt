@@ -8,7 +8,7 @@ is_space b = b == 32
 abbrev pub tokens : List ℕ → List (List ℕ)
 tokens line = slice_split is_space line
 
--- the first token, or nothing where there is none
+-- the first token, or nothing if there is none
 abbrev pub first : List (List ℕ) → List ℕ
 first [] = []
 first (word ∷ words) = word
@@ -18,7 +18,7 @@ abbrev pub others : List (List ℕ) → List (List ℕ)
 others [] = []
 others (word ∷ words) = words
 
--- the token behind so many
+-- the token behind this many
 abbrev pub word_at : List (List ℕ) → ℕ → List ℕ
 word_at words n = first (drop n words)
 

@@ -1,6 +1,6 @@
 ghost use Rattle.std.specs.Prelude.{◌≡◌, ◌↔◌, ◌≤◌, IfOk, IsTrue, OnOk, not};
-ghost use Rattle.xl_base.specs.declared.moments.TheConstants.{GREATEST_MILLIS};
-ghost use Rattle.xl_ledger.specs.declared.registry.TheConstants.{LEAST_LIMIT, GREATEST_LIMIT};
+ghost use Rattle.xl_base.specs.Moments.{greatest_millis};
+ghost use Rattle.xl_ledger.specs.Limits.{greatest_limit, least_limit};
 ghost use Rattle.xl_core.specs.Core.{with_queues};
 ghost use Rattle.xl_core.specs.Node.{opened};
 ghost use Rattle.xl_core.specs.Rest.{IsKeyed};
@@ -47,9 +47,9 @@ impl Auditor {
         kept: Seq,
     ) -> Result<Auditor, OutOfMemory>
         requires keyed { IsKeyed settings.me settings.list.members settings.keys }
-        requires least { LEAST_LIMIT ≤ settings.limit }
-        requires most { settings.limit ≤ GREATEST_LIMIT }
-        requires moment { now ≤ GREATEST_MILLIS }
+        requires least { least_limit ≤ settings.limit }
+        requires most { settings.limit ≤ greatest_limit }
+        requires moment { now ≤ greatest_millis }
         ensures opened { IfOk result (λ auditor. auditor ≡ with_queues (opened settings now kept)) }
     {
         let core = Box::new(alloc, Core::open(alloc, settings, now, kept)?)?;
@@ -107,7 +107,7 @@ impl Auditor {
     }
 }
 
-/// Whether a save is told of exactly where one was asked.
+/// Whether a save is told of exactly if one was asked.
 fn tells_of(asked: bool, outcome: &Option<Saved>) -> bool
     ensures { result ≡ tells_of asked outcome.now }
 {

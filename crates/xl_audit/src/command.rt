@@ -12,7 +12,7 @@ use std::alloc::Global;
 use xl_io::{Sink, Source};
 use xl_lines::{Fault, Limits, Returns, Verdict, run};
 
-/// Reads a written journal to its end, or up to a line that is refused or tells an entry that isn't right, and writes
+/// Reads a written journal to its end, or up to a line that is refused or tells an entry that isn't right. It writes
 /// one line: `yes` and how many entries there are, `no` and the place of the entry, or why a line is refused.
 ///
 /// The verdict is `Good` for `yes`, `Found` for `no`, and `Refused` for a refused line. A failed read ends it with

@@ -161,7 +161,7 @@ fn least_behind(behind: &Words<'_>) -> usize
     }
 }
 
-/// The entry of a word, and of the tokens after it, where they are enough.
+/// The entry of a word, and of the tokens after it, if they are enough.
 fn counted_entry<'a>(
     alloc: Global,
     keys: &Keys,

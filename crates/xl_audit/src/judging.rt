@@ -29,7 +29,7 @@ pub enum Stage {
     Setting,
     /// The settings were, and these keys.
     Keying { opening: Opening, keys: KeyRing },
-    /// So many entries were, which were right.
+    /// This many entries were, which were right.
     Judging { auditor: Auditor, entries: u64 },
 }
 

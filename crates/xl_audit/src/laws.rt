@@ -14,7 +14,7 @@ pub fn legal_is_right()
     ensures { LegalIsRight }
 {}
 
-/// The law of what is told of the lines of entries, which has no code.
+/// The law of what is written of the lines of entries, which has no code.
 pub fn yes_and_no()
     // A yes says that each line tells an entry, and that each entry is right.
     ensures yes { YesIsRight }
@@ -24,7 +24,7 @@ pub fn yes_and_no()
 
 /// The law of what `audit` tells of a whole text, which has no code.
 pub fn whole_texts()
-    // Where no line is refused, the text is a header, settings, keys, and entries that decide.
+    // If no line is refused, the text is a header, settings, keys, and entries that decide.
     ensures judged { TextIsJudged }
     // A yes says that all entries are right, at the core that opens with the settings and the keys.
     ensures yes { YesOfTheText }

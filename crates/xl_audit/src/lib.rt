@@ -1,8 +1,8 @@
 //! Written journals and their auditor.
 //!
 //! A written journal tells what happened at a core: each event, how its save was answered, and the reply. `Auditor`
-//! opens a core anew and steps it by each entry: an entry is right exactly where its save can have been answered so,
-//! and where its reply is the one that the core's step gives.
+//! opens a core anew and steps it by each entry. An entry is right exactly if its save can have been answered so, and
+//! if its reply is the one that the core's step gives.
 //!
 //! It stands on xl_core and on xl_store's journals. Its one contract: where each entry is right, the entries are a legal
 //! history of the core, with the replies that are written.

@@ -1,8 +1,8 @@
 // What a journal says before its entries: the settings of its core, and its keys.
 ghost use Rattle.std.specs.Prelude.{◌≡◌, ◌≤◌, IfOk, OnErr};
 ghost use Rattle.std.specs.Prelude.{MatchResult};
-ghost use Rattle.xl_base.specs.declared.moments.TheConstants.{GREATEST_MILLIS};
-ghost use Rattle.xl_ledger.specs.declared.registry.TheConstants.{LEAST_LIMIT, GREATEST_LIMIT};
+ghost use Rattle.xl_base.specs.Moments.{greatest_millis};
+ghost use Rattle.xl_ledger.specs.Limits.{greatest_limit, least_limit};
 ghost use Rattle.xl_sched.specs.Refusals.{GivenMemory};
 ghost use Rattle.xl_audit.specs.Opening.{is_unmet, key_in, opening_in, opening_of, unmet};
 
@@ -15,7 +15,7 @@ use xl_lists::List;
 use xl_sched::{Cause, LineFault, member, member_numbers, number, number_within, trusted};
 use xl_tags::Keys;
 
-/// The settings of a journal's core, but for its keys, and what it was opened with.
+/// The settings of a journal's core, except its keys, and what it was opened with.
 #[derive(Debug, Drop)]
 pub struct Opening {
     pub me: NodeNo,
@@ -30,9 +30,9 @@ pub struct Opening {
 /// `me q list limit validating speak now kept`.
 fn opening_of<'a>(alloc: Global, args: &Words<'a>) -> Result<Opening, LineFault<'a>>
     ensures value { GivenMemory result (opening_of args.now) }
-    ensures least { IfOk result (λ opening. LEAST_LIMIT ≤ opening.limit) }
-    ensures most { IfOk result (λ opening. opening.limit ≤ GREATEST_LIMIT) }
-    ensures moment { IfOk result (λ opening. opening.now ≤ GREATEST_MILLIS) }
+    ensures least { IfOk result (λ opening. least_limit ≤ opening.limit) }
+    ensures most { IfOk result (λ opening. opening.limit ≤ greatest_limit) }
+    ensures moment { IfOk result (λ opening. opening.now ≤ greatest_millis) }
 {
     let me = member(args.at(0))?;
     let quorum = number(args.at(1))?;
@@ -61,9 +61,9 @@ fn opening_of<'a>(alloc: Global, args: &Words<'a>) -> Result<Opening, LineFault<
 /// The settings that the line of these tokens tells.
 pub fn read_opening<'a>(alloc: Global, words: &Words<'a>) -> Result<Opening, LineFault<'a>>
     ensures value { GivenMemory result (opening_in words.now) }
-    ensures least { IfOk result (λ opening. LEAST_LIMIT ≤ opening.limit) }
-    ensures most { IfOk result (λ opening. opening.limit ≤ GREATEST_LIMIT) }
-    ensures moment { IfOk result (λ opening. opening.now ≤ GREATEST_MILLIS) }
+    ensures least { IfOk result (λ opening. least_limit ≤ opening.limit) }
+    ensures most { IfOk result (λ opening. opening.limit ≤ greatest_limit) }
+    ensures moment { IfOk result (λ opening. opening.now ≤ greatest_millis) }
 {
     let token = words.first();
     if token != b"settings".as_slice() {

@@ -2,9 +2,9 @@
 ghost use Rattle.std.specs.Prelude.{◌≡◌, ◌≤◌, ◌++◌, [], length, take, false, IfOk, IsSome, OnOk};
 ghost use Rattle.std.specs.declared.option.Option.{Option};
 ghost use Rattle.std.specs.String.{string_bytes};
-ghost use Rattle.xl_base.specs.declared.moments.TheConstants.{GREATEST_MILLIS};
+ghost use Rattle.xl_base.specs.Moments.{greatest_millis};
 ghost use Rattle.xl_tags.specs.Rings.{key_of};
-ghost use Rattle.xl_wire.specs.declared.lengths.TheConstants.{LONGEST_FRAME};
+ghost use Rattle.xl_wire.specs.Lengths.{longest_frame};
 ghost use Rattle.xl_core.specs.Answers.{Beats};
 ghost use Rattle.xl_core.specs.Core.{all_frames, drained};
 ghost use Rattle.xl_core.specs.Queues.{frames_in};
@@ -51,7 +51,7 @@ fn issue(
     full: bool,
     keeper: &mut EntryKeeper,
 ) -> Result<(), Refusal>
-    requires moment { now ≤ GREATEST_MILLIS }
+    requires moment { now ≤ greatest_millis }
     requires fresh { IsFresh keeper.old }
     ensures { Retells core.old (Issue now seq id full) keeper.old.answer core.new (done_answer result) keeper.new.asked }
 {
@@ -60,7 +60,7 @@ fn issue(
 
 /// It has its timer.
 fn timer(core: &mut AuditedCore, now: Millis, keeper: &mut EntryKeeper) -> Beat
-    requires moment { now ≤ GREATEST_MILLIS }
+    requires moment { now ≤ greatest_millis }
     requires fresh { IsFresh keeper.old }
     ensures { Retells core.old (Timer now) keeper.old.answer core.new (Beats result) keeper.new.asked }
 {
@@ -77,7 +77,7 @@ fn reply_to_issue(
     keeper: &mut EntryKeeper,
     text: &mut String,
 ) -> Result<(), OutOfMemory>
-    requires moment { now ≤ GREATEST_MILLIS }
+    requires moment { now ≤ greatest_millis }
     requires fresh { IsFresh keeper.old }
     requires text { string_bytes text.old ≡ [] }
     ensures { OnOk result (RetellsAs core.old (Issue now seq id full) keeper.old.answer
@@ -94,7 +94,7 @@ fn reply_to_timer(
     keeper: &mut EntryKeeper,
     text: &mut String,
 ) -> Result<(), OutOfMemory>
-    requires moment { now ≤ GREATEST_MILLIS }
+    requires moment { now ≤ greatest_millis }
     requires fresh { IsFresh keeper.old }
     requires text { string_bytes text.old ≡ [] }
     ensures { OnOk result (RetellsAs core.old (Timer now) keeper.old.answer
@@ -111,7 +111,7 @@ fn reply_to_frame(
     bytes: &[u8],
     text: &mut String,
 ) -> Result<(), OutOfMemory>
-    requires moment { now ≤ GREATEST_MILLIS }
+    requires moment { now ≤ greatest_millis }
     requires text { string_bytes text.old ≡ [] }
     ensures { OnOk result (Replies core.old (Frame now bytes.now) core.new (string_bytes text.new)) }
 {
@@ -126,7 +126,7 @@ fn reply_to_submit(
     tx: TxId,
     text: &mut String,
 ) -> Result<(), OutOfMemory>
-    requires moment { now ≤ GREATEST_MILLIS }
+    requires moment { now ≤ greatest_millis }
     requires text { string_bytes text.old ≡ [] }
     ensures { OnOk result (Replies core.old (Submit now tx) core.new (string_bytes text.new)) }
 {
@@ -141,7 +141,7 @@ fn reply_to_relist(
     list: &List,
     text: &mut String,
 ) -> Result<(), OutOfMemory>
-    requires moment { now ≤ GREATEST_MILLIS }
+    requires moment { now ≤ greatest_millis }
     requires text { string_bytes text.old ≡ [] }
     ensures { OnOk result (Replies core.old (Relist now list.now) core.new (string_bytes text.new)) }
 {
@@ -179,7 +179,7 @@ fn drain_once(
     given: &mut Vec<u8>,
 ) -> Result<usize, OutOfMemory>
     requires peer { IsSome (key_of core.old.node.keys member) }
-    requires least { LONGEST_FRAME ≤ part }
+    requires least { longest_frame ≤ part }
     requires most { part ≤ 16480 }
     ensures core { core.new ≡ drained core.old member part }
     ensures given { OnOk result (given.new.items ≡ given.old.items ++ bytes_given core.old member part) }
@@ -192,7 +192,7 @@ fn drain_once(
     Ok(count)
 }
 
-/// Drains for a peer as into one room of so many bytes, but a piece at a time: the memory that it takes is of what is
+/// Drains for a peer as into one room of this many bytes, but a piece at a time: the memory that it takes is of what is
 /// given, however large the room is.
 fn drain_all(
     alloc: Global,
@@ -202,7 +202,7 @@ fn drain_all(
     piece: &mut [u8; ROOM],
 ) -> Result<Vec<u8>, OutOfMemory>
     requires peer { IsSome (key_of core.old.node.keys member) }
-    requires room { LONGEST_FRAME ≤ room }
+    requires room { longest_frame ≤ room }
     ensures core { OnOk result (core.new ≡ drained core.old member room) }
     ensures given { IfOk result (λ given. given.items ≡ bytes_given core.old member room) }
 {
@@ -229,7 +229,7 @@ fn reply_to_drain(
     text: &mut String,
 ) -> Result<(), OutOfMemory>
     requires peer { IsSome (key_of core.old.node.keys member) }
-    requires room { LONGEST_FRAME ≤ room }
+    requires room { longest_frame ≤ room }
     requires text { string_bytes text.old ≡ [] }
     ensures { OnOk result (Replies core.old (Drain member room) core.new (string_bytes text.new)) }
 {

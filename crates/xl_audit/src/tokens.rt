@@ -1,7 +1,7 @@
 // Tokens of a line: numbers, digits and words.
 ghost use Rattle.std.specs.Prelude.{◌≡◌, ◌<◌, ◌≤◌, IfOk};
 ghost use Rattle.std.specs.List.{list_all};
-ghost use Rattle.xl_base.specs.declared.moments.TheConstants.{GREATEST_MILLIS};
+ghost use Rattle.xl_base.specs.Moments.{greatest_millis};
 ghost use Rattle.xl_sched.specs.Refusals.{GivenMemory};
 ghost use Rattle.xl_audit.specs.Saves.{IsCounted};
 ghost use Rattle.xl_audit.specs.Tokens.{bytes_of, id_of, is_lower_digit, moment_of, number_from as number_of_64, outcome_of, peer_of, yes_of};
@@ -16,7 +16,7 @@ use xl_tags::Keys;
 /// A moment in milliseconds.
 pub fn moment<'a>(token: &'a [u8]) -> Result<Millis, LineFault<'a>>
     ensures value { result ≡ moment_of token.now }
-    ensures most { IfOk result (λ moment. moment ≤ GREATEST_MILLIS) }
+    ensures most { IfOk result (λ moment. moment ≤ greatest_millis) }
 {
     number_within(token, 0, GREATEST_MILLIS)
 }

@@ -2,7 +2,7 @@
 ghost use Rattle.std.specs.Prelude.{◌≡◌, ◌≤◌};
 ghost use Rattle.xl_audit.specs.Reading.{arity, entry_word};
 
-/// The word of an event, but for a list that changes.
+/// The word of an event, except a list that changes.
 #[derive(Clone, Copy, Debug, PartialEq, Eq)]
 pub enum EntryWord {
     Frame,

@@ -39,7 +39,7 @@ impl<'a> Words<'a> {
         }
     }
 
-    /// The first token, or nothing where there is none.
+    /// The first token, or nothing if there is none.
     pub fn first(&self) -> &'a [u8]
         ensures { result.now ≡ first self.now }
     {
@@ -82,7 +82,7 @@ impl<'a> Words<'a> {
         left
     }
 
-    /// The token behind the first so many, or nothing where there is none.
+    /// The token behind the first so many, or nothing if there is none.
     pub fn at(&self, count: usize) -> &'a [u8]
         ensures { result.now ≡ word_at self.now count }
     {

@@ -1,8 +1,8 @@
 ghost use Rattle.std.specs.Prelude.{◌≡◌, ◌≤◌, All, IfOk, IsErrOf, OnOk};
 ghost use Rattle.std.specs.Io.KnownBytes.{append_known};
 ghost use Rattle.std.specs.String.{string_bytes};
-ghost use Rattle.xl_base.specs.declared.moments.TheConstants.{GREATEST_MILLIS};
-ghost use Rattle.xl_ledger.specs.declared.registry.TheConstants.{LEAST_LIMIT, GREATEST_LIMIT};
+ghost use Rattle.xl_base.specs.Moments.{greatest_millis};
+ghost use Rattle.xl_ledger.specs.Limits.{greatest_limit, least_limit};
 ghost use Rattle.xl_io.specs.Sinks.{GrewByFront, GrewByLess};
 ghost use Rattle.xl_lines.specs.Causes.{HasCause};
 ghost use Rattle.xl_turns.specs.Histories.{IsLegal};
@@ -136,9 +136,9 @@ pub fn write_journal<O: Sink>(
     output: &mut O,
 ) -> Result<(), Fault>
     requires keyed { IsKeyed settings.me settings.list.members settings.keys }
-    requires least { LEAST_LIMIT ≤ settings.limit }
-    requires most { settings.limit ≤ GREATEST_LIMIT }
-    requires moment { now ≤ GREATEST_MILLIS }
+    requires least { least_limit ≤ settings.limit }
+    requires most { settings.limit ≤ greatest_limit }
+    requires moment { now ≤ greatest_millis }
     requires legal { IsLegal Leads (start_of settings now kept) journal }
     // The text of the journal is written, or a front of it, whatever happens.
     ensures whole { OnOk result (O.held output.new
@@ -147,7 +147,7 @@ pub fn write_journal<O: Sink>(
     // With a fault of the sink some of it isn't.
     ensures less { IsErrOf result Fault.Write
         → GrewByLess (O.held output.old) (O.held output.new) (journal_text settings now kept journal) }
-    // Nothing is read, and a fault of the sink is answered only where its count rose.
+    // Nothing is read, and a fault of the sink is answered only if its count rose.
     ensures cause { HasCause (O.faults output.old) (O.faults output.new) result }
     // Within the limits on lines and on bytes a line, an auditor says yes to the whole text.
     ensures yes { OnOk result (1 ≤ settings.speak → settings.speak ≤ 2 → GetsYes settings now kept journal) }

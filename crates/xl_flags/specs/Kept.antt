@@ -95,7 +95,7 @@ pub record Kept : Type 0 where
 abbrev pub nothing_kept : Kept
 nothing_kept = record { amendments = []; votes = replicate 64 None; fees = replicate 64 10 }
 
--- the fee that a member votes for, where it voted
+-- the fee that a member votes for, if it voted
 abbrev pub fee_voted : List (Option ℕ) → ℕ → Option ℕ
 fee_voted votes m = slice_index_or votes (m - 1) None
 

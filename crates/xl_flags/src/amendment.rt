@@ -27,7 +27,7 @@ impl Amendment {
         }
     }
 
-    /// A member favours it where it is among these, and no longer where it isn't.
+    /// A member favours it if it is among these, and no longer if it isn't.
     pub(crate) fn favour(&mut self, member: NodeNo, ids: &[TxId])
         ensures { self.new ≡ favoured_by member ids.now self.old }
     {

@@ -6,7 +6,7 @@ ghost use Rattle.xl_firsts.specs.Firsts.{or_one};
 use crate::amendment::place_of;
 use xl_base::{MOST_MEMBERS, NodeNo};
 
-/// The fee where nothing was decided yet.
+/// The fee if nothing was decided yet.
 pub(crate) const FIRST_FEE: u32 = 10;
 
 /// The fee that most of the counted members vote for, the lowest on a tie; without counted members it stays. A member

@@ -13,7 +13,7 @@ use std::alloc::Global;
 use std::marker::Model;
 use xl_base::{MOST_MEMBERS, NodeNo, OutOfMemory, Secs, Seq, TxId};
 
-/// So many different amendments may be named.
+/// This many different amendments may be named.
 pub const MOST_AMENDMENTS: usize = 4096;
 
 /// What members vote for, and what each node's reports of flag ledgers made of it.
@@ -50,7 +50,7 @@ impl FlagVotes {
 
     /// From here on the member votes for this fee and these amendments, and for no others.
     ///
-    /// Refused where more than 4096 different amendments would be named, or as `OutOfMemory`; all stays then.
+    /// Refused if more than 4096 different amendments would be named, or as `OutOfMemory`; all stays then.
     pub fn favor(&mut self, member: NodeNo, fee: u32, ids: &[TxId]) -> Result<(), FlagRefusal>
         ensures remembers { MatchResult result
             (λ done. (past : Past) → Remembers self.old past → Remembers self.new (favored past member fee ids.now))
@@ -187,7 +187,7 @@ fn report_all(
     }
 }
 
-/// Puts a line behind others, where there is one.
+/// Puts a line behind others, if there is one.
 fn push_line(lines: &mut Vec<FlagLine>, line: Option<FlagLine>)
     requires { vec_len lines.old + 1 ≤ vec_capacity lines.old }
     ensures said { lines.new.items ≡ lines.old.items ++ listed line }

@@ -4,7 +4,7 @@ ghost use Rattle.xl_flags.specs.Kept.{listed, news_between, stands_after as stan
 use crate::news::FlagLine;
 use xl_base::{NodeNo, Secs, Seq, TxId};
 
-/// A majority that lasts so many seconds enables an amendment: two weeks.
+/// A majority that lasts this many seconds enables an amendment: two weeks.
 const LASTING: u64 = 1_209_600;
 
 /// How an amendment stands at a node, after its last report.

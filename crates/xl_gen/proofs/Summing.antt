@@ -25,7 +25,7 @@ use Rattle.xl_world.proofs.Listing.{HasLists, at_node, run_has_lists}
 use Rattle.xl_world.proofs.Lists.{core_headline}
 use Rattle.xl_world.proofs.Runs.{run-append}
 use Rattle.xl_world.proofs.Unlisted.{SetsNone, lists_stay}
-use Rattle.xl_running.specs.declared.running.TheConstants.{DEFAULT_LIMIT, DEFAULT_SPEAK}
+use Rattle.xl_running.specs.Defaults.{default_limit, default_speak}
 use Rattle.xl_replay.specs.Headlines.{full_of, is_full}
 use Rattle.xl_replay.specs.Texts.{agreement_line, forged_line, short_lines}
 use Rattle.xl_replay.proofs.Telling.{Adds, adds_none, adds_then, event_adds}
@@ -35,7 +35,7 @@ use Rattle.xl_gen.specs.Summaries.{IsSummary, at_last, counted, counts_text, not
 
 -- what the seven are opened with
 abbrev at_first_shared : Shared
-at_first_shared = record { limit = DEFAULT_LIMIT; speak = DEFAULT_SPEAK }
+at_first_shared = record { limit = default_limit; speak = default_speak }
 
 -- events are steps
 abbrev steps_in : World → List Event → List Step

@@ -1,5 +1,5 @@
--- The schedule that is made for a number of rounds: seven nodes that trust each other, a timer at each once a second,
--- and a transaction for each round that only three of them have at first. Source: this project's own.
+-- The schedule that is made for a number of rounds. Seven nodes trust each other, and each has its timer once a
+-- second. In each round there is a transaction that only three of them have at first. Source: this project's own.
 use Rattle.std.specs.Prelude.{ℕ, ◌+◌, ◌*◌, ◌/◌, ◌%◌, ◌==◌, ◌&&◌, nat_le, List, [], ◌∷◌, ◌++◌, map, length, replicate, true, if◌then◌else◌}
 use Rattle.std.specs.Int.{w32, to_be_bytes}
 use Rattle.std.specs.List.{flat_map}
@@ -16,12 +16,12 @@ use Rattle.xl_world.specs.Plans.{up_from}
 use Rattle.xl_world.specs.Schedule.{after_event, outcomes}
 use Rattle.xl_world.specs.Starts.{start}
 use Rattle.xl_world.specs.World.{World}
-use Rattle.xl_running.specs.declared.running.TheConstants.{DEFAULT_LIMIT, DEFAULT_SPEAK}
-use Rattle.xl_gen.specs.declared.generator.TheConstants.{FIRST_MOMENT}
+use Rattle.xl_running.specs.Defaults.{default_limit, default_speak}
+use Rattle.xl_gen.specs.Sizes.{first_moment}
 
 -- the moment of a second
 abbrev pub moment_of : ℕ → ℕ
-moment_of second = FIRST_MOMENT + 1000 * second
+moment_of second = first_moment + 1000 * second
 
 -- the transaction of a number: its 32 bytes, the most significant first
 abbrev pub tx_of : ℕ → TxId
@@ -35,7 +35,7 @@ abbrev pub list : TrustedList
 list = record { members = everyone; quorum = 6 }
 
 abbrev pub node_of : ℕ → PlanNode
-node_of me = record { me = me; list = list; validating = true; moment = FIRST_MOMENT }
+node_of me = record { me = me; list = list; validating = true; moment = first_moment }
 
 abbrev pub plan : List PlanNode
 plan = map node_of everyone
@@ -83,11 +83,11 @@ node_line me = line.Node me list true
 
 -- the lines after the first, which is the header
 abbrev pub lines : ℕ → List Line
-lines rounds = line.At FIRST_MOMENT ∷ map node_line everyone ++ flat_map second_lines (up_from 1 (seconds rounds))
+lines rounds = line.At first_moment ∷ map node_line everyone ++ flat_map second_lines (up_from 1 (seconds rounds))
 
 -- the world before anything happens
 abbrev pub at_first : World
-at_first = start (record { limit = DEFAULT_LIMIT; speak = DEFAULT_SPEAK }) [] plan
+at_first = start (record { limit = default_limit; speak = default_speak }) [] plan
 
 -- the world after these events
 abbrev pub after : World → List Event → World

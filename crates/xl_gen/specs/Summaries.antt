@@ -77,7 +77,7 @@ summary rounds =
     closes (summary_of rounds (at_last rounds) (counted nothing_told (told at_first (events rounds))))
     (verdict_of (first_fork (at_last rounds).reports))
 
--- The summary of a world whose reports are these: its last line says what they say together, and where no frame was
+-- The summary of a world whose reports are these: its last line says what they say together, and if no frame was
 -- forged, they agree.
 pub record IsSummary (rounds : ℕ) : Type 0 where
   pub reports : List Report

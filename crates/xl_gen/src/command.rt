@@ -18,7 +18,7 @@ use xl_world::first_fork;
 /// More rounds aren't made: each node has room for 1,024 ledgers.
 pub const MOST_ROUNDS: u32 = 1_000;
 
-/// The summary of so many rounds, and what it says.
+/// The summary of this many rounds, and what it says.
 fn told(alloc: Global, rounds: u32, text: &mut String) -> Result<Verdict, OutOfMemory>
     requires rounds { rounds ≤ MOST_ROUNDS }
     requires empty { string_bytes text.old ≡ [] }
@@ -42,21 +42,21 @@ fn told(alloc: Global, rounds: u32, text: &mut String) -> Result<Verdict, OutOfM
     })
 }
 
-/// Makes the schedule of so many rounds, 1 to 1,000, replays it in memory, and writes its summary to the output.
+/// Makes the schedule of this many rounds, 1 to 1,000, replays it in memory, and writes its summary to the output.
 ///
-/// A failed write ends it with `Write`, and want of memory with `Memory`.
+/// A failed write ends it with `Write`, and lack of memory with `Memory`.
 #[tactic(auto, using(crate::proofs::Summing::summarized))]
 pub fn generate<O: Sink>(alloc: Global, rounds: u32, output: &mut O) -> Result<Verdict, Fault>
     requires { rounds ≤ MOST_ROUNDS }
     // The whole summary is written, and the verdict is its own.
     ensures whole { IfOk result (λ verdict. TellsAll (O.held output.old) (O.held output.new) verdict (summary rounds)) }
-    // The last line of the summary says whether the reports agree, and where no frame was forged they do.
+    // The last line of the summary says whether the reports agree, and if no frame was forged they do.
     ensures headline { IsSummary rounds }
     // A front of the summary is written, whatever happens, and with a fault of the sink some of it isn't.
     ensures front { GrewByFront (O.held output.old) (O.held output.new) (summary rounds).text }
     ensures less { IsErrOf result Fault.Write
         → GrewByLess (O.held output.old) (O.held output.new) (summary rounds).text }
-    // Nothing is read, and a fault of the sink is answered only where its count rose.
+    // Nothing is read, and a fault of the sink is answered only if its count rose.
     ensures read { IsErrOf result Fault.Read → ⊥ }
     ensures write { IsErrOf result Fault.Write → Rose (O.faults output.old) (O.faults output.new) }
 {

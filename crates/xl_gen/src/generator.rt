@@ -1,7 +1,7 @@
 // The schedule, made and replayed event by event.
 ghost use Rattle.std.specs.Prelude.{◌≡◌, ◌≤◌, [], ◌∷◌, IfOk, OnOk};
-ghost use Rattle.xl_base.specs.declared.moments.TheConstants.{GREATEST_MILLIS};
-ghost use Rattle.xl_base.specs.declared.node_no.TheConstants.{GREATEST_NODE_NO};
+ghost use Rattle.xl_base.specs.Moments.{greatest_millis};
+ghost use Rattle.xl_base.specs.Members.{greatest_node_no};
 ghost use Rattle.xl_gen.specs.Schedule.{
   at_first,
   events,
@@ -35,7 +35,7 @@ const NODES: u32 = 7;
 
 const QUORUM: u32 = 6;
 
-/// So many seconds the most rounds take.
+/// This many seconds the most rounds take.
 const MOST_SECONDS: u32 = 4 * MOST_ROUNDS + 7;
 
 /// The world so far, and what was told in it.
@@ -56,7 +56,7 @@ fn everyone() -> List
 /// The member of a number that one may have.
 fn member(number: u32) -> NodeNo
     requires least { 1 ≤ number }
-    requires greatest { number ≤ GREATEST_NODE_NO }
+    requires greatest { number ≤ greatest_node_no }
     ensures { result ≡ number }
 {
     NodeNo::new(number).unwrap()
@@ -64,7 +64,7 @@ fn member(number: u32) -> NodeNo
 
 fn node(number: u32) -> PlanNode
     requires least { 1 ≤ number }
-    requires most { number ≤ GREATEST_NODE_NO }
+    requires most { number ≤ greatest_node_no }
     ensures { result ≡ node_of number }
 {
     PlanNode {
@@ -107,7 +107,7 @@ fn tx(number: u32) -> TxId
 fn moment(second: u32) -> Millis
     requires { second ≤ MOST_SECONDS }
     ensures value { result ≡ moment_of second }
-    ensures within { result ≤ GREATEST_MILLIS }
+    ensures within { result ≤ greatest_millis }
 {
     FIRST_MOMENT + 1_000 * u64::from(second)
 }
@@ -130,7 +130,7 @@ impl Generator {
     }
 
     fn happen(&mut self, at: Millis, what: What) -> Result<(), OutOfMemory>
-        requires moment { at ≤ GREATEST_MILLIS }
+        requires moment { at ≤ greatest_millis }
         requires plausible { IsPlausible what }
         ensures { OnOk result (Comes self.old self.new (record { at = at; what = what } ∷ [])) }
     {
@@ -142,9 +142,9 @@ impl Generator {
 
     /// The transaction of a number is submitted at a node.
     fn submit(&mut self, at: Millis, node: u32, number: u32) -> Result<(), OutOfMemory>
-        requires moment { at ≤ GREATEST_MILLIS }
+        requires moment { at ≤ greatest_millis }
         requires least { 1 ≤ node }
-        requires most { node ≤ GREATEST_NODE_NO }
+        requires most { node ≤ greatest_node_no }
         ensures { OnOk result (Comes self.old self.new (events_at at (submits (node ∷ []) number))) }
     {
         let node = member(node);
@@ -154,7 +154,7 @@ impl Generator {
 
     /// The transaction of a number is submitted at the first three nodes.
     fn submit_at_three(&mut self, at: Millis, number: u32) -> Result<(), OutOfMemory>
-        requires moment { at ≤ GREATEST_MILLIS }
+        requires moment { at ≤ greatest_millis }
         ensures { OnOk result (Comes self.old self.new (events_at at (submits (1 ∷ 2 ∷ 3 ∷ []) number))) }
     {
         self.submit(at, 1, number)?;
@@ -164,7 +164,7 @@ impl Generator {
 
     /// What is submitted in a second.
     fn submit_all(&mut self, at: Millis, second: u32) -> Result<(), OutOfMemory>
-        requires moment { at ≤ GREATEST_MILLIS }
+        requires moment { at ≤ greatest_millis }
         ensures { OnOk result (Comes self.old self.new (events_at at (submitted second))) }
     {
         if second == 1 {
@@ -187,7 +187,7 @@ impl Generator {
         self.happen(at, What::All)
     }
 
-    /// All that happens in so many rounds.
+    /// All that happens in this many rounds.
     pub fn run(&mut self, rounds: u32) -> Result<(), OutOfMemory>
         requires { rounds ≤ MOST_ROUNDS }
         ensures { OnOk result (Comes self.old self.new (events rounds)) }

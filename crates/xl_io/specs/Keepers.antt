@@ -1,4 +1,4 @@
--- What a keeper may hold over a stop, and what it was asked to save, where that is told.
+-- What a keeper may hold over a stop, and what it was asked to save, if that is known.
 -- Source: this profile, by which a stop in a save may leave the former number or the asked one.
 use Rattle.std.specs.Prelude.{◌≡◌, ℕ, ◌==◌, ◌||◌, ◌⊎◌, Bool, true, false, List, [], ◌∷◌, Option, Some, None}
 use Rattle.std.specs.Io.KnownBytes.{append_known}

@@ -3,7 +3,7 @@
 use Rattle.std.specs.Prelude.{ℕ, ◌-◌, ◌==◌, List, [], ◌∷◌, Option, Some, None, if◌then◌else◌}
 use Rattle.std.specs.Io.KnownBytes.{append_known}
 
--- all numbers that were asked to be saved, first to last, where they are told, and for how many more there is room
+-- all numbers that were asked to be saved, first to last, if they are known, and for how many more there is room
 pub record SaveList : Type 0 where
   pub told : Option (List ℕ)
   pub room : ℕ

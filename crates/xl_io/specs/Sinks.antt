@@ -1,4 +1,4 @@
--- What a write does to the bytes that a sink holds, where they are told. Source: the POSIX call write, with a count
+-- What a write does to the bytes that a sink holds, if they are known. Source: the POSIX call write, with a count
 -- of faults.
 use Rattle.std.specs.Prelude.{◌≡◌, ℕ, ◌<◌, ◌≤◌, List, ◌++◌, length, take}
 use Rattle.std.specs.declared.option.Option.{Option}

@@ -25,7 +25,7 @@ impl Failures {
         }
     }
 
-    /// The number of the last call, 0 where there was none.
+    /// The number of the last call, 0 if there was none.
     pub fn calls(&self) -> u64
         ensures { result ≡ self.now.calls }
     {

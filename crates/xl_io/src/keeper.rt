@@ -12,10 +12,10 @@ use xl_base::Seq;
 
 /// Where a node keeps the last sequence that it issued, so that it outlives a stop. One that never saved loads 0.
 pub trait Keeper {
-    /// The numbers that a stop at this moment may leave, where they are told.
+    /// The numbers that a stop at this moment may leave, if they are known.
     ghost held: { Self → Option Held };
 
-    /// All numbers that were asked to be saved, first to last, where they are told.
+    /// All numbers that were asked to be saved, first to last, if they are known.
     ghost saves: { Self → Option (List ℕ) };
 
     /// How often a call has failed, up to the greatest `u64`.

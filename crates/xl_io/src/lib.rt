@@ -2,9 +2,8 @@
 //! last issued sequence, each with a count of its faults. Sources and sinks are over the streams of the system and in
 //! memory, keepers in memory.
 //!
-//! It stands on xl_base. Its one contract: a call answers `Failed` only where the count rose in that call, so no code
-//! above can invent a fault; and where content is told, what was read, what is held and what a stop may leave is
-//! exact.
+//! It stands on xl_base. Its one contract: a call answers `Failed` only if the count rose in that call, so no code
+//! above can invent a fault. If content is known, what was read, what is held and what a stop may leave is exact.
 #![tactic(auto)]
 
 mod failed;

@@ -12,7 +12,7 @@ use crate::Failed;
 /// What a write answers.
 #[derive(Clone, Copy, Debug, PartialEq, Eq)]
 pub enum Wrote {
-    /// It took so many bytes from the front of the piece.
+    /// It took this many bytes from the front of the piece.
     Took(usize),
     /// The count of faults rose, and no byte was taken.
     Failed,
@@ -20,13 +20,13 @@ pub enum Wrote {
 
 /// Where bytes go.
 pub trait Sink {
-    /// The bytes that it holds, where it tells them.
+    /// The bytes that it holds, if it tells them.
     ghost held: { Self → Option (List ℕ) };
 
     /// How often a write has failed, up to the greatest `u64`.
     ghost faults: { Self → ℕ };
 
-    /// Takes bytes from the front of the piece, at least one where there is one.
+    /// Takes bytes from the front of the piece, at least one if there is one.
     fn write(&mut self, piece: &[u8]) -> Wrote
         ensures fits { FitsPiece result piece.now }
         ensures bytes { Writes (held self.old) (held self.new) result piece.now }
@@ -34,7 +34,7 @@ pub trait Sink {
         ensures failed { result ≡ Wrote.Failed → Rose (faults self.old) (faults self.new) };
 }
 
-/// Writes all the bytes. It fails where a write of the sink does, and the sink then holds a front of them, not all.
+/// Writes all the bytes. It fails if a write of the sink does, and the sink then holds a front of them, not all.
 pub fn write_all<K: Sink>(sink: &mut K, bytes: &[u8]) -> Result<(), Failed>
     ensures whole { OnOk result (K.held sink.new ≡ append_known (K.held sink.old) bytes.now) }
     ensures front { GrewByFront (K.held sink.old) (K.held sink.new) bytes.now }

@@ -9,7 +9,7 @@ pub mod standard;
 /// What a read answers.
 #[derive(Clone, Copy, Debug, PartialEq, Eq)]
 pub enum Piece {
-    /// So many bytes stand at the front of the room.
+    /// This many bytes stand at the front of the room.
     Got(usize),
     /// No more bytes come.
     End,
@@ -19,13 +19,13 @@ pub enum Piece {
 
 /// Where bytes come from.
 pub trait Source {
-    /// The bytes that it still has to give, where it tells them.
+    /// The bytes that it still has to give, if it tells them.
     ghost left: { Self → Option (List ℕ) };
 
     /// How often a read has failed, up to the greatest `u64`.
     ghost faults: { Self → ℕ };
 
-    /// Reads the next bytes to the front of the room, at least one where there is room.
+    /// Reads the next bytes to the front of the room, at least one if there is room.
     fn read(&mut self, room: &mut [u8]) -> Piece
         ensures fits { FitsRoom result room.new }
         ensures bytes { Reads (left self.old) (left self.new) result room.new }

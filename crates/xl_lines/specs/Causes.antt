@@ -12,7 +12,7 @@ pub record HasCause {T : Type 0} (before now : ℕ) (result : Result T Fault) : 
   pub write : IsErrOf result Write → Rose before now
   pub read : IsErrOf result Read → ⊥
 
--- whatever is still to come, something is told
+-- whatever is still to come, something is written
 abbrev pub IsAloud : {T : Type 0} → (T → List ℕ → Told) → Type 0
 IsAloud {T} tells = (teller : T) (bytes : List ℕ) → 0 < length (tells teller bytes).text
 

@@ -24,7 +24,7 @@ refused text = record { text = text; verdict = Refused; closed = false }
 abbrev pub found : List ℕ → Told
 found text = record { text = text; verdict = Found; closed = false }
 
--- what a state answers to a line: a text and the next state, or the last text, where it refuses the line or has found
+-- what a state answers to a line: a text and the next state, or the last text, if it refuses the line or has found
 -- what it looks for
 pub data Step (S : Type 0) : Type 0 where
   goes_on : List ℕ → S → Step S

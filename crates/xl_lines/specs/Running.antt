@@ -1,4 +1,4 @@
--- How far a run has come. Source: the definitions of lines and of what is told about them.
+-- How far a run has come. Source: the definitions of lines and of what is written about them.
 use Rattle.std.specs.Prelude.{◌≡◌, ℕ, ◌+◌, ◌-◌, ◌*◌, ◌<◌, ◌≤◌, List, [], ◌++◌, length, drop}
 use Rattle.std.specs.declared.option.Option.{Option}
 use Rattle.std.specs.Io.KnownBytes.{append_known}

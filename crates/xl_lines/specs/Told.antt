@@ -10,7 +10,7 @@ use Rattle.xl_lines.specs.Rules.{Rules, Step, goes_on, refuses, finds, Told, ref
 abbrev pub after : List ℕ → Told → Told
 after text told = record { text = text ++ told.text; verdict = told.verdict; closed = told.closed }
 
--- what is told from a step on, if next says what is told of the state that it leads to
+-- what is written from a step on, if next says what is written of the state that it leads to
 unfoldable pub told_by : {S : Type 0} → (S → Told) → Step S → Told
 told_by next (goes_on text state) = after text (next state)
 told_by next (refuses text) = refused text
@@ -34,6 +34,6 @@ told_from limits rules left state [] = rules.closing state
 told_from limits rules left state (line ∷ lines) =
     told_by (λ next. told_from limits rules (left - 1) next lines) (step_at limits rules left state line)
 
--- what is told about these bytes
+-- what is written about these bytes
 abbrev pub told_of : {S : Type 0} → Limits → Rules S → S → List ℕ → Told
 told_of limits rules state bytes = told_from limits rules limits.lines state (lines_of bytes)

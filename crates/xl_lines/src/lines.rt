@@ -19,7 +19,7 @@ use xl_io::Sink;
 /// What became of the next bytes.
 #[derive(Clone, Copy, Debug, PartialEq, Eq)]
 pub enum Part {
-    /// So many of them were taken.
+    /// This many of them were taken.
     Taken(usize),
     /// A line was refused, and the last text is written.
     Refused,
@@ -57,7 +57,7 @@ impl<M: Machine> Lines<M> {
         }
     }
 
-    /// Whether the line is too long with so many bytes more.
+    /// Whether the line is too long with this many bytes more.
     fn is_long_with(&self, more: usize) -> bool
         ensures { IsTrue result ↔ (self.now.limits.bytes < vec_len self.now.line + more) }
     {

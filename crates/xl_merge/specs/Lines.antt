@@ -5,7 +5,7 @@ use Rattle.std.specs.Option.{ok_or}
 use Rattle.std.specs.Result.{result_ok}
 use Rattle.std.specs.Str.{bytes_eq}
 use Rattle.hex.specs.Hex.{decode_of}
-use Rattle.xl_base.specs.declared.moments.TheConstants.{GREATEST_MILLIS}
+use Rattle.xl_base.specs.Moments.{greatest_millis}
 use Rattle.xl_publish.specs.Registers.{Register, key_of as kept_key_of}
 use Rattle.xl_sched.specs.declared.refusal.SchedRefusal.{SchedRefusal}
 use Rattle.xl_sched.specs.declared.refusal.SchedRefusal.TheVariants.{Header, Word, Id, Twice}
@@ -66,7 +66,7 @@ roll_line arguments = miscounted arguments
 -- `at ms`
 abbrev pub at_line : List (List ℕ) → Result Line SchedRefusal
 at_line (moment ∷ []) = do
-  at ← number_within 0 GREATEST_MILLIS moment
+  at ← number_within 0 greatest_millis moment
   Ok (line.At at)
 at_line arguments = miscounted arguments
 
@@ -98,7 +98,7 @@ later_line register (token ∷ arguments) =
 
 -- its moment is one that there may be
 abbrev pub IsFitLine : Line → Type 0
-IsFitLine (line.At at) = at ≤ GREATEST_MILLIS
+IsFitLine (line.At at) = at ≤ greatest_millis
 IsFitLine other = Unit {0}
 
 abbrev pub IsFit : Option Line → Type 0

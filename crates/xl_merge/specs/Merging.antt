@@ -10,7 +10,7 @@ use Rattle.xl_lines.specs.Told.{told_of}
 use Rattle.xl_lines.specs.Soon.{told_soon}
 use Rattle.xl_publish.specs.Forces.{list_at}
 use Rattle.xl_publish.specs.Registers.{Register, no_publishers, after_key, after_roll, answer_to}
-use Rattle.xl_sched.specs.declared.limits.TheConstants.{MOST_LINES, MOST_BYTES}
+use Rattle.xl_sched.specs.Limits.{most_bytes, most_lines}
 use Rattle.xl_sched.specs.declared.refusal.SchedRefusal.{SchedRefusal}
 use Rattle.xl_sched.specs.declared.refusal.SchedRefusal.TheVariants.{Header, LongLine, Limit}
 use Rattle.xl_sched.specs.Tokens.{tokens}
@@ -41,8 +41,8 @@ line_of_tokens m tokens = if m.lines == 0 then header_line tokens else later_lin
 -- a line, unless it has too many bytes or is one too many
 abbrev pub bounded_line : Merging → List ℕ → Result (Option Line) SchedRefusal
 bounded_line m bytes =
-    if nat_lt MOST_BYTES (length bytes) then Err (LongLine (decimal MOST_BYTES))
-    else if m.lines == MOST_LINES then Err (Limit (decimal MOST_LINES))
+    if nat_lt most_bytes (length bytes) then Err (LongLine (decimal most_bytes))
+    else if m.lines == most_lines then Err (Limit (decimal most_lines))
     else line_of_tokens m (tokens bytes)
 
 abbrev pub counted : Merging → Merging
@@ -56,7 +56,7 @@ after_line m (line.Roll bytes) = record (counted m) { register = after_roll m.re
 after_line m (line.At at) = record (counted m) { now = at }
 after_line m line.List = counted m
 
--- what is told of a line
+-- what is written of a line
 abbrev pub text_of : Merging → Line → List ℕ
 text_of m (line.Roll bytes) = roll_text (m.lines + 1) (answer_to m.register bytes)
 text_of m line.List = list_text (list_at m.register.kept (m.now / 1000) m.threshold)
@@ -72,10 +72,10 @@ abbrev pub step_of : Merging → List ℕ → Step Merging
 step_of m bytes = answered m (bounded_line m bytes)
 
 abbrev pub beyond : Overrun → SchedRefusal
-beyond overrun.LongLine = LongLine (decimal MOST_BYTES)
-beyond overrun.ManyLines = Limit (decimal MOST_LINES)
+beyond overrun.LongLine = LongLine (decimal most_bytes)
+beyond overrun.ManyLines = Limit (decimal most_lines)
 
--- the end of the lines: where there is none the header is lacking
+-- the end of the lines: if there is none the header is lacking
 abbrev pub ending : Merging → Told
 ending m = if m.lines == 0 then closes (bad_line 1 (Header [])) Refused else closes [] Good
 
@@ -87,9 +87,9 @@ rules = record {
 }
 
 abbrev pub limits : Limits
-limits = record { lines = MOST_LINES; bytes = MOST_BYTES; returns = Dropped }
+limits = record { lines = most_lines; bytes = most_bytes; returns = Dropped }
 
--- what is told of these bytes
+-- what is written of these bytes
 abbrev pub merge_of : List ℕ → Told
 merge_of bytes = told_of limits rules at_first bytes
 

@@ -36,7 +36,7 @@ values_text (roll.BadTag read computed) = encode_lower read ++ space ++ encode_l
 values_text (roll.Member place) = decimal place
 values_text (roll.Dates from until) = decimal from ++ space ++ decimal until
 
--- what is told of a roll that line n hands in: nothing where it is kept now
+-- what is written of a roll that line n hands in: nothing if it is kept now
 abbrev pub roll_text : ℕ → Result Took RollRefusal → List ℕ
 roll_text n (Ok New) = []
 roll_text n (Ok (Kept seq)) = codes "kept " ++ decimal n ++ space ++ decimal seq ++ newline

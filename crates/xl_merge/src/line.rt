@@ -5,7 +5,7 @@ use xl_base::{Bytes, Millis};
 pub enum Line {
     /// A publisher has this key, which had none before.
     Publisher { publisher: u32, key: [u8; 32] },
-    /// So many publishers must name a member from here on.
+    /// This many publishers must name a member from here on.
     Threshold(u32),
     /// A roll comes.
     Roll(Bytes),

@@ -1,7 +1,7 @@
 // The machine of `xl merge`.
 ghost use Rattle.std.specs.Prelude.{◌≡◌, ◌≤◌, ◌<◌, ◌+◌, [], IfOk, OnOk, string_bytes, decimal};
-ghost use Rattle.xl_base.specs.declared.moments.TheConstants.{GREATEST_MILLIS};
-ghost use Rattle.xl_sched.specs.declared.limits.TheConstants.{MOST_LINES};
+ghost use Rattle.xl_base.specs.Moments.{greatest_millis};
+ghost use Rattle.xl_sched.specs.Limits.{most_lines};
 ghost use Rattle.xl_merge.specs.Merging.{beyond};
 
 use crate::line::Line;
@@ -24,8 +24,8 @@ pub struct Merger {
     publishers: Publishers,
     threshold: u32,
     moment: Millis,
-    ghost few: { lines ≤ MOST_LINES },
-    ghost early: { moment ≤ GREATEST_MILLIS },
+    ghost few: { lines ≤ most_lines },
+    ghost early: { moment ≤ greatest_millis },
 }
 
 impl Merger {
@@ -51,7 +51,7 @@ impl Merger {
     fn read<'a>(&self, line: &'a [u8]) -> Result<Option<Line>, LineFault<'a>>
         ensures value { GivenMemory result (bounded_line (state_of self.now) line.now) }
         ensures fit { IfOk result IsFit }
-        ensures more { OnOk result (self.now.lines < MOST_LINES) }
+        ensures more { OnOk result (self.now.lines < most_lines) }
     {
         if line.len() > MOST_BYTES {
             return Err(LineFault::with_number(Cause::LongLine, MOST_BYTES as u64));
@@ -73,9 +73,9 @@ impl Merger {
         }
     }
 
-    /// Counts a line, takes in what it says, and puts what is told of it into the text.
+    /// Counts a line, takes in what it says, and puts what is written of it into the text.
     fn take(&mut self, line: &Line, text: &mut String) -> Result<(), OutOfMemory>
-        requires more { self.old.lines < MOST_LINES }
+        requires more { self.old.lines < most_lines }
         requires fit { IsFitLine line.now }
         requires empty { string_bytes text.old ≡ [] }
         ensures state { OnOk result (state_of self.new ≡ after_line (state_of self.old) line.now) }

@@ -23,7 +23,7 @@ pub fn push_bad(text: &mut String, line: u64, refusal: &SchedRefusal) -> Result<
     Ok(())
 }
 
-/// What is told of a roll that a line hands in.
+/// What is written of a roll that a line hands in.
 pub fn push_roll(
     alloc: Global,
     text: &mut String,

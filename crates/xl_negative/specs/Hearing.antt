@@ -98,7 +98,7 @@ heard_in w (what.Heard node) = []
 abbrev pub heard_itself : SaidLedger → Heard
 heard_itself said = record { node = said.member; said = said }
 
--- what was issued since so many validations were
+-- what was issued since this many validations were
 abbrev pub issued_since : ℕ → World → List Heard
 issued_since before w = map heard_itself (drop before w.said)
 

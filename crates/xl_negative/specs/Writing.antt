@@ -63,7 +63,7 @@ takes r (line.Event e) = happens r e
 abbrev pub with_running : Writing → Running → Writing
 with_running s r = record s { running = r }
 
--- a line is added behind what is written so far, and read and run like any other. Where it is refused, the number is
+-- a line is added behind what is written so far, and read and run like any other. If it is refused, the number is
 -- that of the input's line
 abbrev pub added : Writing → List ℕ → List ℕ → LineAnswer → Step Writing
 added s text bytes (passes reading) = goes_on (text ++ written bytes) (with_running s (knows s.running reading))

@@ -13,8 +13,8 @@ use xl_io::{Sink, Source};
 use xl_lines::{Fault, Verdict, run};
 use xl_running::LIMITS;
 
-/// Reads a schedule from the input to its end, or up to a line that is refused, and writes it to the output with the
-/// lists that its nodes go over to, each part as soon as its line was read.
+/// Reads a schedule from the input to its end, or up to a line that is refused. It writes the schedule to the output
+/// with the lists that its nodes go over to, each part as soon as its line was read.
 ///
 /// The verdict is `Refused` if the last line says which line was refused. A failed read ends it with `Read`, a
 /// failed write with `Write`, and memory that runs out, at any time, with `Memory`.

@@ -21,8 +21,8 @@ pub fn added_are_lists()
     lists_are_read();
 }
 
-/// The law of what is written, which has no code: unless a line is refused, what is written is lines of which a reader
-/// refuses none, and who runs them comes to the schedule that ran here.
+/// The law of what is written, which has no code. Unless a line is refused, a reader refuses none of the written
+/// lines, and who runs them comes to the schedule that ran here.
 pub fn written_runs()
     ensures { WrittenRuns }
 {}

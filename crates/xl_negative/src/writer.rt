@@ -1,6 +1,6 @@
 // The machine of `xl negative`.
 ghost use Rattle.std.specs.Prelude.{◌≡◌, ◌≤◌, ◌+◌, ◌++◌, [], drop, IfOk, IfSome, OnOk};
-ghost use Rattle.xl_base.specs.declared.moments.TheConstants.{GREATEST_MILLIS};
+ghost use Rattle.xl_base.specs.Moments.{greatest_millis};
 ghost use Rattle.xl_lines.specs.Rules.{step_given};
 ghost use Rattle.xl_running.specs.Running.{IsInRange};
 ghost use Rattle.xl_spelling.specs.Spellings.{list_line};
@@ -177,7 +177,7 @@ impl Writer {
 
     /// An event of the input is run, and what nodes hear in it is kept. What came of it comes back.
     fn run(&mut self, event: &Event) -> Result<Happened, OutOfMemory>
-        requires timely { event.now.at ≤ GREATEST_MILLIS }
+        requires timely { event.now.at ≤ greatest_millis }
         requires plausible { IsPlausible event.now.what }
         ensures state { OnOk result (state_of self.new ≡ happened (state_of self.old) event.now) }
         ensures told { IfOk result (λ told. told ≡ outcomes (world_of self.old.running) event.now) }

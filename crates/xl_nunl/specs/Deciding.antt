@@ -16,7 +16,7 @@ is_better scores a b = nat_lt (score_at scores b) (score_at scores a) || score_a
 abbrev pub is_worse : List ℕ → ℕ → ℕ → Bool
 is_worse scores a b = nat_lt (score_at scores a) (score_at scores b) || score_at scores a == score_at scores b && nat_lt a b
 
--- the first by one of these orders, where it passes a test
+-- the first by one of these orders, if it passes a test
 abbrev pub only_if : (ℕ → Bool) → Option ℕ → Option ℕ
 only_if test None = None
 only_if test (Some m) = if test m then Some m else None

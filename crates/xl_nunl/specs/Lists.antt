@@ -11,7 +11,7 @@ pub record IsNegative (full negative : List ℕ) : Type 0 where
   pub on : All (λ m. IsTrue (is_on full m)) negative
   pub quarter : length negative ≤ length full / 4
 
--- a quorum of a list of n members has at least so many, whoever is left out
+-- a quorum of a list of n members has at least this many, whoever is left out
 abbrev pub least_quorum : ℕ → ℕ
 least_quorum n = (3 * n + 4) / 5
 

@@ -79,7 +79,7 @@ fn leaving(negative: &[NodeNo], scores: &[u32; MOST_MEMBERS]) -> Option<NodeNo>
     }
 }
 
-/// The member that is left out next, where one comes back.
+/// The member that is left out next, if one comes back.
 fn joining(
     full: &List,
     negative: &[NodeNo],
@@ -183,14 +183,14 @@ fn score_of(scores: &[u32; MOST_MEMBERS], member: NodeNo) -> u32
     scores[member.get() as usize - 1]
 }
 
-/// Whether a member may be left out next, where one comes back.
+/// Whether a member may be left out next, if one comes back.
 fn may_join(negative: &[NodeNo], left: &Option<NodeNo>, me: NodeNo, member: NodeNo) -> bool
     ensures { result ≡ (not (is_on (without negative.now left.now) member) && not (member == me)) }
 {
     !is_left_out(negative, left, member) && member != me
 }
 
-/// Whether a member is left out, where one comes back.
+/// Whether a member is left out, if one comes back.
 fn is_left_out(negative: &[NodeNo], left: &Option<NodeNo>, member: NodeNo) -> bool
     ensures { result ≡ is_on (without negative.now left.now) member }
 {
@@ -212,7 +212,7 @@ fn stands_among(members: &[NodeNo], member: NodeNo) -> bool
     members.iter().any(|&k| member == k)
 }
 
-/// How many are left out, where one comes back.
+/// How many are left out, if one comes back.
 fn count_without(negative: &[NodeNo], left: &Option<NodeNo>) -> u32
     requires { length negative.now ≤ 64 }
     ensures { result ≡ length (without negative.now left.now) }
@@ -277,7 +277,7 @@ fn put_staying(
     len
 }
 
-/// Whether a member stays, where one comes back and one more is left out.
+/// Whether a member stays, if one comes back and one more is left out.
 fn stays(
     full: &List,
     negative: &[NodeNo],
@@ -291,7 +291,7 @@ fn stays(
     full.has(member) && !is_out_after(negative, left, joined, member)
 }
 
-/// Whether a member is left out, where one comes back and one more is left out.
+/// Whether a member is left out, if one comes back and one more is left out.
 fn is_out_after(
     negative: &[NodeNo],
     left: &Option<NodeNo>,

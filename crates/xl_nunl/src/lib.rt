@@ -4,8 +4,8 @@
 //! that it left out, and leaves out the worst of the others. Each node decides for itself.
 //!
 //! It stands on xl_lists and xl_ledger; only opening the scores takes memory. Its one contract: scores and decisions
-//! are those of the list of all that was heard, and two lists that come from one declared list have quorums that are
-//! enough where three fifths of it, twice, exceed its members and the liars among them.
+//! are those of the list of all that was heard. Two lists that come from one declared list have quorums that are
+//! enough if three fifths of it, twice, exceed its members and the liars among them.
 #![tactic(auto)]
 
 mod deciding;

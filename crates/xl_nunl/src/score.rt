@@ -14,7 +14,7 @@ use xl_lists::SaidLedger;
 /// Sequences are alike where they differ by a multiple of this.
 pub(crate) const RING: usize = 512;
 
-/// A score counts so many sequences.
+/// A score counts this many sequences.
 pub(crate) const SCORED: u32 = 256;
 
 /// What was heard last of each member, for each of 512 kinds of sequences that are alike.

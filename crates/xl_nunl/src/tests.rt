@@ -63,7 +63,7 @@ fn scored(registry: &Registry, scores: &Scores, member: NodeNo, flag: LedgerNo) 
     Some(scores.score(member, &mut registry.walk(), flag))
 }
 
-/// Scores of 256, but for these.
+/// Scores of 256, except these.
 fn scores(low: &[(NodeNo, u32)]) -> [u32; MOST_MEMBERS] {
     let mut scores = [256; MOST_MEMBERS];
     for &(member, score) in low {

@@ -1,4 +1,4 @@
--- What is told of the lists of a schedule. Source: this project's own formats.
+-- What is written of the lists of a schedule. Source: this project's own formats.
 use Rattle.std.specs.Prelude.{ℕ, ◌+◌, ◌==◌, List, [], ◌∷◌, ◌++◌, decimal, Option, Some, None, if◌then◌else◌}
 use Rattle.xl_lines.specs.declared.limits.Limits.{Limits}
 use Rattle.xl_lines.specs.declared.limits.Overrun.{Overrun}
@@ -7,7 +7,7 @@ use Rattle.xl_lines.specs.declared.limits.Returns.TheVariants.{Dropped}
 use Rattle.xl_lines.specs.declared.machine.Verdict.TheVariants.{Good, Refused}
 use Rattle.xl_lines.specs.Rules.{Rules, Step, goes_on, refuses as refuses_line, Told, closes}
 use Rattle.xl_lines.specs.Told.{told_of}
-use Rattle.xl_sched.specs.declared.limits.TheConstants.{MOST_LINES, MOST_BYTES}
+use Rattle.xl_sched.specs.Limits.{most_bytes, most_lines}
 use Rattle.xl_sched.specs.declared.line.Line.{Line}
 use Rattle.xl_sched.specs.declared.line.Line.TheVariants as line
 use Rattle.xl_sched.specs.declared.refusal.SchedRefusal.{SchedRefusal}
@@ -52,8 +52,8 @@ step_of c bytes =
     else unless_foreign c (foreign_word bytes) bytes
 
 abbrev pub beyond : Overrun → SchedRefusal
-beyond overrun.LongLine = LongLine (decimal MOST_BYTES)
-beyond overrun.ManyLines = Limit (decimal MOST_LINES)
+beyond overrun.LongLine = LongLine (decimal most_bytes)
+beyond overrun.ManyLines = Limit (decimal most_lines)
 
 -- the end of a schedule: one with no line lacks its header
 abbrev pub ending : Comparing → Told
@@ -68,8 +68,8 @@ rules = record {
 }
 
 abbrev pub limits : Limits
-limits = record { lines = MOST_LINES; bytes = MOST_BYTES; returns = Dropped }
+limits = record { lines = most_lines; bytes = most_bytes; returns = Dropped }
 
--- what is told about a schedule
+-- what is written about a schedule
 abbrev pub lists_of : List ℕ → Told
 lists_of bytes = told_of limits rules at_first bytes

@@ -60,7 +60,7 @@ paper_text i j left right = paper_numbers i j left right ++ yes_text (nat_lt rig
 abbrev pub paper_line : List ℕ → ℕ → TrustedList → ℕ → TrustedList → List ℕ
 paper_line liars i a j b = paper_text i j (paper_left a b) (paper_right liars a b)
 
--- of two different nodes both conditions are told
+-- of two different nodes both conditions are written
 abbrev pub papers_of : List ℕ → ℕ → TrustedList → ℕ → TrustedList → List ℕ
 papers_of liars i a j b = if i == j then [] else paper_line liars i a j b ++ paper_line liars j b i a
 
@@ -68,17 +68,17 @@ papers_of liars i a j b = if i == j then [] else paper_line liars i a j b ++ pap
 abbrev pub list_in : List Node → ℕ → Option TrustedList
 list_in nodes i = option_map (λ node. node.list) (find (λ node. node.me == i) nodes)
 
--- the pair of a node and a number, where that is a node too
+-- the pair of a node and a number, if that is a node too
 abbrev pub pair_with : List ℕ → ℕ → TrustedList → ℕ → Option TrustedList → List ℕ
 pair_with liars i a j None = []
 pair_with liars i a j (Some b) = pair_line liars i a j b ++ papers_of liars i a j b
 
--- so many numbers from one on
+-- this many numbers from one on
 unfoldable pub up_from : ℕ → ℕ → List ℕ
 up_from n zero = []
 up_from n (suc k) = n ∷ up_from (n + 1) k
 
--- the pairs of a number, where it is a node, with the numbers from it on
+-- the pairs of a number, if it is a node, with the numbers from it on
 abbrev pub pairs_of : List ℕ → List Node → ℕ → Option TrustedList → List ℕ
 pairs_of liars nodes i None = []
 pairs_of liars nodes i (Some a) = flat_map (λ j. pair_with liars i a j (list_in nodes j)) (up_from i (65 - i))

@@ -23,6 +23,6 @@ is_own word =
 abbrev pub is_foreign : List ℕ → Bool
 is_foreign word = not (length word == 0) && not (is_comment word) && not (is_own word)
 
--- the first word of a line, where it may not stand there
+-- the first word of a line, if it may not stand there
 abbrev pub foreign_word : List ℕ → Option (List ℕ)
 foreign_word line = if is_foreign (first_word line) then Some (first_word line) else None

@@ -12,9 +12,9 @@ use xl_io::{MemSink, Sink, Source, write_all};
 use xl_lines::{Fault, Limits, Returns, Verdict, run};
 use xl_sched::{MOST_BYTES, MOST_LINES};
 
-/// Reads the declarations of a schedule from the input to its end, or up to a line that is refused, and then writes
-/// what the lists of each pair of nodes have in common to the output. Nothing is written before that, since a later
-/// line may declare a liar of an earlier pair.
+/// Reads the declarations of a schedule from the input to its end, or up to a line that is refused. Then it writes to
+/// the output what the lists of each pair of nodes have in common. Nothing is written before that, since a later line
+/// may declare a liar of an earlier pair.
 ///
 /// The verdict is `Refused` if the text is the line that says which line was refused. A failed read ends it with
 /// `Read`, a failed write with `Write`, and lack of memory, at any time, with `Memory`.
@@ -48,7 +48,7 @@ pub fn lists<I: Source, O: Sink>(
     Ok(verdict)
 }
 
-/// Puts what is told about the input into a text in memory.
+/// Puts what is written about the input into a text in memory.
 fn compare<I: Source>(alloc: Global, input: &mut I, text: &mut MemSink) -> Result<Verdict, Fault>
     ensures whole { IfOk result (λ verdict. IfSome (I.left input.old) (λ bytes.
         TellsAll (bytes_held text.old) (bytes_held text.new) verdict (lists_of bytes))) }

@@ -12,7 +12,7 @@ pub struct Node {
     pub list: List,
 }
 
-/// The list of the node of a number, where there is one.
+/// The list of the node of a number, if there is one.
 pub fn list_in(nodes: &[Node], number: NodeNo) -> Option<&List>
     ensures { option_copied result ≡ list_in nodes.now number }
 {

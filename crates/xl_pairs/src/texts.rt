@@ -2,7 +2,7 @@
 ghost use Rattle.std.specs.Prelude.{◌≡◌, ◌≤◌, ◌++◌, ◌-◌, OnOk};
 ghost use Rattle.std.specs.List.{flat_map};
 ghost use Rattle.std.specs.String.{string_bytes};
-ghost use Rattle.xl_base.specs.declared.node_no.TheConstants.{GREATEST_NODE_NO};
+ghost use Rattle.xl_base.specs.Members.{greatest_node_no};
 ghost use Rattle.xl_lists.specs.Quorums.{liars_shared as liars_shared_of};
 ghost use Rattle.xl_pairs.specs.Texts.{bad_line, enough_text, pair_numbers, pair_text, pair_line};
 ghost use Rattle.xl_pairs.specs.Texts.{yes_text, paper_numbers, paper_text, paper_line};
@@ -35,7 +35,7 @@ pub fn push_pairs(text: &mut String, liars: &[NodeNo], nodes: &[Node]) -> Result
     Ok(())
 }
 
-/// The pairs of a number, where it is a node.
+/// The pairs of a number, if it is a node.
 fn push_pairs_of(
     text: &mut String,
     liars: &[NodeNo],
@@ -69,7 +69,7 @@ fn push_pairs_from(
     Ok(())
 }
 
-/// The pair of a node and a number, where that is a node too.
+/// The pair of a node and a number, if that is a node too.
 fn push_pair_with(
     text: &mut String,
     liars: &[NodeNo],
@@ -225,7 +225,7 @@ fn yes_text(holds: bool) -> &'static str
 /// The member of a number that one may have.
 fn member(number: u32) -> NodeNo
     requires least { 1 ≤ number }
-    requires greatest { number ≤ GREATEST_NODE_NO }
+    requires greatest { number ≤ greatest_node_no }
     ensures { result ≡ number }
 {
     NodeNo::new(number).unwrap()

@@ -5,7 +5,7 @@ ghost use Rattle.xl_sched.specs.Answers.{is_comment};
 ghost use Rattle.xl_sched.specs.Tokens.{is_blank};
 ghost use Rattle.xl_pairs.specs.Words.{first_word, foreign_word, is_foreign, is_own};
 
-/// The first word of a line, where it is none that may stand there.
+/// The first word of a line, if it is none that may stand there.
 pub fn foreign_word(line: &[u8]) -> Option<&[u8]>
     ensures { option_map (λ word. word.now) result ≡ foreign_word line.now }
 {

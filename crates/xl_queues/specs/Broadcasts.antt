@@ -14,18 +14,18 @@ module _ {T : Type 0} where
   abbrev pub at_reader : List (Backlog T) → ℕ → (Backlog T → Backlog T) → List (Backlog T)
   at_reader queues reader change = set queues reader (change (queue_of queues reader))
 
-  -- the new item comes last for every reader, and where there are n already the oldest goes
+  -- the new item comes last for every reader, and if there are n already the oldest goes
   abbrev pub pushed_to_all : ℕ → List (Backlog T) → T → List (Backlog T)
   pushed_to_all n queues item = map (λ q. with_item n q item) queues
 
-  -- what waits for a reader when so many items were pushed, of which the last n are held: those that it hasn't read
+  -- what waits for a reader when this many items were pushed, of which the last n are held: those that it hasn't read
   abbrev pub waiting_for : ℕ → List T → ℕ → Reader → Backlog T
   waiting_for n items pushed r = record {
     items = keep_last (pushed - r.read) items;
     lost = min (r.lost + (pushed - r.read - n)) (2 ^ 64 - 1);
   }
 
-  -- a reader's queue with so many of its last items, and this count of lost ones
+  -- a reader's queue with this many of its last items, and this count of lost ones
   abbrev pub left_with : ℕ → ℕ → Backlog T → Backlog T
   left_with left lost q = record { items = keep_last left q.items; lost = lost }
 

@@ -13,7 +13,7 @@ module _ {T : Type 0} where
   abbrev pub no_items : Backlog T
   no_items = record { items = []; lost = 0 }
 
-  -- the new item comes last, and where there are n already the oldest goes
+  -- the new item comes last, and if there are n already the oldest goes
   abbrev pub pushed : ℕ → List T → T → List T
   pushed n items item = if nat_lt (length items) n then items ++ item ∷ [] else drop 1 (items ++ item ∷ [])
 

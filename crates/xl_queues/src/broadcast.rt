@@ -125,7 +125,7 @@ impl<T: Copy + Drop, const N: usize, const R: usize> Broadcast<T, N, R> {
         }
     }
 
-    /// Leaves a reader so many of its last items, with this count of lost ones.
+    /// Leaves a reader this many of its last items, with this count of lost ones.
     fn leave(&mut self, reader: usize, left: usize, lost: u64)
         requires reader { reader < R }
         requires left { left ≤ length (queue_of self.old reader).items }

@@ -20,7 +20,7 @@ use Rattle.xl_replay.specs.Replays.{rules, verdict_of}
 use Rattle.xl_running.specs.Texts.{bad_line}
 use Rattle.xl_replay.specs.Texts.{outcome_line, short_line, forged_line, agreement_line}
 
--- what is told of an event: the names that are declared by then, the line of the schedule, and the outcome
+-- what is written of an event: the names that are declared by then, the line of the schedule, and the outcome
 pub record Announced : Type 0 where
   pub names : List Named
   pub line : ℕ
@@ -33,7 +33,7 @@ announced_line s = outcome_line s.names s.line s.outcome
 abbrev pub Extends : List Named → List Named → Type 0
 Extends names all = (more : List Named) × (all ≡ names ++ more)
 
--- what is told of a pair whose quorums aren't enough
+-- what is written of a pair whose quorums aren't enough
 pub record Short : Type 0 where
   pub first : ℕ
   pub second : ℕ
@@ -119,7 +119,7 @@ pub record IsUnforged (names : List Named) (told : Told) (front : List ℕ) : Ty
   pub rest : List ℕ
   pub has_all : front ≡ up_to_forged report.spoken report.shorts 0 ++ rest
 
--- A front of the text was written after what was there. Where it has the line `forged 0`, it is a report's.
+-- A front of the text was written after what was there. If it has the line `forged 0`, it is a report's.
 pub record AddsReport (names : List Named) (before after : Option (List ℕ)) (told : Told) : Type 0 where
   pub written : List ℕ
   pub missing : List ℕ

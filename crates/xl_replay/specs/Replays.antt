@@ -31,7 +31,7 @@ after_line r (line.At at) = silent r
 after_line r (line.Event e) =
     goes_on (outcome_lines r.reading.names r.reading.lines (outcomes (world_of r) e)) (happens r e)
 
--- what is told of a line as it was read
+-- what is written of a line as it was read
 abbrev pub after_answer : Running → LineAnswer → Step Running
 after_answer r (passes reading) = silent (knows r reading)
 after_answer r (gives line reading) = after_line (knows r reading) line
@@ -55,7 +55,7 @@ rules = record {
   closing = ending;
 }
 
--- what is told about a schedule: the report, and what it says
+-- what is written about a schedule: the report, and what it says
 abbrev pub report_of : List ℕ → Told
 report_of bytes = told_of limits rules at_first bytes
 

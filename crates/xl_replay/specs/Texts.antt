@@ -73,12 +73,12 @@ values_text names (IssuingOff failed) = decimal failed
 values_text names (KeepFault count) = decimal count
 values_text names (NoKey member) = decimal member
 
--- the ledger that is preferred, where one is
+-- the ledger that is preferred, if one is
 abbrev pub preferred_text : List Named → Option Report → List ℕ
 preferred_text names None = codes "none"
 preferred_text names (Some ledger) = decimal ledger.seq ++ space ++ id_text names ledger.id
 
--- the ledger that was heard of, where one was
+-- the ledger that was heard of, if one was
 abbrev pub heard_text : List Named → Option LedgerId → List ℕ
 heard_text names None = codes "none"
 heard_text names (Some id) = id_text names id
@@ -90,7 +90,7 @@ how_text issued.Partial = codes "partial"
 how_text issued.Silent = codes "none"
 how_text (issued.Refused why) = codes "none"
 
--- what is told of the event in line n of the schedule
+-- what is written of the event in line n of the schedule
 abbrev pub outcome_line : List Named → ℕ → Outcome → List ℕ
 outcome_line names n (Switched node seq id) =
     codes "switched " ++ decimal node ++ space ++ decimal seq ++ space ++ id_text names id ++ newline

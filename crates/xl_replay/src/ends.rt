@@ -5,7 +5,7 @@ ghost use Rattle.xl_world.specs.Forks.{first_fork};
 ghost use Rattle.xl_world.specs.Seen.{fork_seen};
 ghost use Rattle.xl_replay.specs.Texts.{is_short, short_at, short_of, short_pair, short_with, shorts_of};
 ghost use Rattle.xl_replay.specs.Texts.{short_lines, forged_line, agreement_line, end_lines};
-ghost use Rattle.xl_base.specs.declared.node_no.TheConstants.{GREATEST_NODE_NO};
+ghost use Rattle.xl_base.specs.Members.{greatest_node_no};
 
 use std::alloc::Global;
 use std::fmt::Write;
@@ -79,7 +79,7 @@ fn short_at<'a>(liars: &[NodeNo], lists: &'a [InForce], i: NodeNo, j: NodeNo) ->
     }
 }
 
-/// The line of two lists, where there is another.
+/// The line of two lists, if there is another.
 fn push_short(
     text: &mut String,
     liars: &[NodeNo],
@@ -118,7 +118,7 @@ fn push_pair(text: &mut String, world: &World, i: NodeNo, j: NodeNo) -> Result<(
 /// The member of a number that one may have.
 fn member(number: u32) -> NodeNo
     requires least { 1 ≤ number }
-    requires greatest { number ≤ GREATEST_NODE_NO }
+    requires greatest { number ≤ greatest_node_no }
     ensures { result ≡ number }
 {
     NodeNo::new(number).unwrap()

@@ -1,4 +1,4 @@
-// What is told of one line of a schedule.
+// What is written of one line of a schedule.
 ghost use Rattle.std.specs.Prelude.{◌≡◌, ◌++◌, OnOk};
 ghost use Rattle.std.specs.String.{string_bytes};
 ghost use Rattle.xl_running.specs.Texts.{bad_line};
@@ -104,7 +104,7 @@ fn push_full(
     Ok(())
 }
 
-/// The ledger that a node prefers, where there is one.
+/// The ledger that a node prefers, if there is one.
 fn push_preferred(
     alloc: Global,
     text: &mut String,
@@ -127,7 +127,7 @@ fn push_preferred(
     Ok(())
 }
 
-/// What a node heard of the ledger that a member last reported, where it did.
+/// What a node heard of the ledger that a member last reported, if it did.
 fn push_heard(
     alloc: Global,
     text: &mut String,
@@ -182,7 +182,7 @@ fn push_outcome(
     }
 }
 
-/// What is told of the event in a line, a line each.
+/// What is written of the event in a line, a line each.
 pub fn push_outcomes(
     alloc: Global,
     text: &mut String,

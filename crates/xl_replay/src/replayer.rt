@@ -1,6 +1,6 @@
 // The machine of `xl replay`.
 ghost use Rattle.std.specs.Prelude.{◌≡◌, ◌+◌, [], IfOk, OnOk, string_bytes};
-ghost use Rattle.xl_base.specs.declared.moments.TheConstants.{GREATEST_MILLIS};
+ghost use Rattle.xl_base.specs.Moments.{greatest_millis};
 ghost use Rattle.xl_running.specs.Texts.{bad_line};
 
 use crate::ends::push_end;
@@ -37,9 +37,9 @@ impl Replayer {
         })
     }
 
-    /// An event is a step of the world, and what came of it is told.
+    /// An event is a step of the world, and what came of it is written.
     fn happen(&mut self, event: &Event, text: &mut String) -> Result<(), OutOfMemory>
-        requires timely { event.now.at ≤ GREATEST_MILLIS }
+        requires timely { event.now.at ≤ greatest_millis }
         requires plausible { IsPlausible event.now.what }
         requires empty { string_bytes text.old ≡ [] }
         ensures { OnOk result (goes_on (string_bytes text.new) self.new.running

@@ -9,10 +9,10 @@ use Rattle.xl_lists.specs.declared.refusal.ListRefusal.TheVariants.{Empty, TooMa
 use Rattle.xl_lists.specs.Lists.{TrustedList, IsValid, is_on, is_outside, repeated_after, is_quorum, refusal_of, list_of}
 use Rattle.xl_base.specs.Refusals.{refused_if, unless_refused as list_unless}
 use Rattle.xl_lists.proofs.Rereading.{unrefused}
-use Rattle.xl_ledger.specs.declared.registry.TheConstants.{LEAST_LIMIT}
+use Rattle.xl_ledger.specs.Limits.{least_limit}
 use Rattle.xl_sched.specs.declared.refusal.SchedRefusal.{SchedRefusal}
 use Rattle.xl_sched.specs.declared.refusal.SchedRefusal.TheVariants.{Id, Twice, Late}
-use Rattle.xl_sched.specs.declared.limits.TheConstants.{MOST_LINES, MOST_BYTES, MOST_LEDGERS}
+use Rattle.xl_sched.specs.Limits.{most_bytes, most_ledgers, most_lines}
 use Rattle.xl_sched.specs.declared.ledger.Ledger.{Ledger}
 use Rattle.xl_sched.specs.declared.line.Line.{Line}
 use Rattle.xl_sched.specs.declared.line.Line.TheVariants as line
@@ -21,7 +21,7 @@ use Rattle.xl_sched.specs.declared.event.What.{What}
 use Rattle.xl_sched.specs.declared.word.EventWord.{EventWord}
 use Rattle.xl_sched.specs.declared.word.SettingWord.{SettingWord}
 use Rattle.xl_sched.specs.declared.word.SettingWord.TheVariants as setting
-use Rattle.xl_base.specs.declared.moments.TheConstants.{GREATEST_MILLIS}
+use Rattle.xl_base.specs.Moments.{greatest_millis}
 use Rattle.xl_sched.specs.Refusals.{◌>>=◌}
 use Rattle.xl_sched.specs.Tokens.{tokens}
 use Rattle.xl_sched.specs.Numbers.{is_number, value_of, number_within, number_of}
@@ -167,7 +167,7 @@ limit_declares names limited token (Ok n) = cond_both limited (Err (Twice token)
 
 limit_line_declares : (reading : Reading) (arguments : List (List ℕ)) → IfOk (limit_line reading arguments) (Declares reading.names)
 limit_line_declares reading [] = tt
-limit_line_declares reading (a ∷ []) = limit_declares reading.names reading.limited a (number_within LEAST_LIMIT MOST_LEDGERS a)
+limit_line_declares reading (a ∷ []) = limit_declares reading.names reading.limited a (number_within least_limit most_ledgers a)
 limit_line_declares reading (a ∷ b ∷ rest) = tt
 
 speak_declares : (names : List Named) (spoken : Bool) (token : List ℕ) (version : Result ℕ SchedRefusal) → IfOk (version >>= (λ v. cond spoken (Err (Twice token)) (Ok (line.Speak v)))) (Declares names)
@@ -185,7 +185,7 @@ at_declares names (Ok at) = tt
 
 at_line_declares : (names : List Named) (arguments : List (List ℕ)) → IfOk (at_line arguments) (Declares names)
 at_line_declares names [] = tt
-at_line_declares names (a ∷ []) = at_declares names (number_within 0 GREATEST_MILLIS a)
+at_line_declares names (a ∷ []) = at_declares names (number_within 0 greatest_millis a)
 at_line_declares names (a ∷ b ∷ rest) = tt
 
 set_line_declares : (reading : Reading) (w : SettingWord) (arguments : List (List ℕ)) → IfOk (set_line reading w arguments) (Declares reading.names)
@@ -224,8 +224,8 @@ later_declares reading sent (token ∷ arguments) =
 
 bounded_declares : (reading : Reading) (sent : ℕ) (bytes : List ℕ) → IfOk (bounded_line reading sent bytes) (λ o. IfSome o (Declares reading.names))
 bounded_declares reading sent bytes =
-    cond_both (nat_lt MOST_BYTES (length bytes)) _ _ (λ r. IfOk r (λ o. IfSome o (Declares reading.names))) (λ _. tt)
-    (λ _. cond_both (reading.lines == MOST_LINES) _ _ (λ r. IfOk r (λ o. IfSome o (Declares reading.names))) (λ _. tt)
+    cond_both (nat_lt most_bytes (length bytes)) _ _ (λ r. IfOk r (λ o. IfSome o (Declares reading.names))) (λ _. tt)
+    (λ _. cond_both (reading.lines == most_lines) _ _ (λ r. IfOk r (λ o. IfSome o (Declares reading.names))) (λ _. tt)
     (λ _. cond_both (reading.lines == 0) (header_line (tokens bytes)) (later_line reading sent (tokens bytes)) (λ r. IfOk r (λ o. IfSome o (Declares reading.names)))
     (λ _. cond_both (is_header (tokens bytes)) (Ok None) _ (λ r. IfOk r (λ o. IfSome o (Declares reading.names))) (λ _. tt) (λ _. tt))
     (λ _. later_declares reading sent (tokens bytes))))

@@ -3,18 +3,17 @@ use Rattle.std.proofs.Common.{◌≡◌, ℕ, Bool, true, false, cond, List, [],
 use Rattle.std.specs.Prelude.{codes, nat_le, nat_lt, IfOk}
 use Rattle.std.specs.Str.{bytes_eq}
 use Rattle.std.proofs.lemmas.Bool.{cond_both, leb-true}
-use Rattle.xl_base.specs.Sets.{IsSet}
+use Rattle.xl_base.specs.Sets.{IsSet, most_ids}
 use Rattle.xl_base.specs.declared.ids.LedgerId.{LedgerId}
 use Rattle.xl_base.specs.declared.ids.SetId.{SetId}
 use Rattle.xl_base.specs.declared.ids.TxId.{TxId}
-use Rattle.xl_base.specs.declared.sets.TheConstants.{MOST_IDS}
 use Rattle.xl_lists.specs.Lists.{TrustedList, IsValid}
 use Rattle.xl_sched.specs.declared.event.Lied.{Lied}
 use Rattle.xl_sched.specs.declared.event.Lied.TheVariants as lied
 use Rattle.xl_sched.specs.declared.event.What.{What}
 use Rattle.xl_sched.specs.declared.event.What.TheVariants as what
 use Rattle.xl_sched.specs.declared.ledger.Ledger.{Ledger}
-use Rattle.xl_sched.specs.declared.limits.TheConstants.{MOST_LISTS}
+use Rattle.xl_sched.specs.Limits.{most_lists}
 use Rattle.xl_sched.specs.declared.named.Named.{Named}
 use Rattle.xl_sched.specs.declared.refusal.SchedRefusal.{SchedRefusal}
 use Rattle.xl_sched.specs.declared.refusal.SchedRefusal.TheVariants.{Id}
@@ -72,10 +71,10 @@ list_set reading (a ∷ b ∷ c ∷ d ∷ rest) valid = tt
 -- SETS
 
 set_read : (names : List Named) (token : List ℕ) (r : Result (List TxId) SchedRefusal) → risen_ids_of names None (entries token) ≡ r →
-    IfOk (r >>= (λ ids. cond (nat_le (length ids) MOST_IDS) (Ok ids) (Err (Id token)))) IsSet
+    IfOk (r >>= (λ ids. cond (nat_le (length ids) most_ids) (Ok ids) (Err (Id token)))) IsSet
 set_read names token (Err e) read = tt
 set_read names token (Ok ids) read =
-    cond_both (nat_le (length ids) MOST_IDS) (Ok ids) (Err (Id token)) (λ r. IfOk r IsSet)
+    cond_both (nat_le (length ids) most_ids) (Ok ids) (Err (Id token)) (λ r. IfOk r IsSet)
     (λ few. IsSet-risen names (entries token) ids read (leb-true _ _ few)) (λ _. tt)
 
 set_valid : (names : List Named) (token : List ℕ) → IfOk (tx_set_of names token) IsSet
@@ -223,7 +222,7 @@ heard_plausible reading (a ∷ b ∷ rest) = tt
 
 list_plausible : (reading : Reading) (arguments : List (List ℕ)) → ((members : List ℕ) (quorum : ℕ) → IfOk (trusted_of members quorum) IsValid) → IfOk (list_event reading arguments) IsPlausible
 list_plausible reading arguments valid =
-    cond_both (nat_lt reading.lists MOST_LISTS) (set_list reading arguments) _ (λ r. IfOk r IsPlausible) (λ _. list_set reading arguments valid) (λ _. tt)
+    cond_both (nat_lt reading.lists most_lists) (set_list reading arguments) _ (λ r. IfOk r IsPlausible) (λ _. list_set reading arguments valid) (λ _. tt)
 
 -- what happens at a line of a schedule is plausible
 pub what_plausible : (reading : Reading) (sent : ℕ) (w : EventWord) (arguments : List (List ℕ)) → ((members : List ℕ) (quorum : ℕ) → IfOk (trusted_of members quorum) IsValid) →

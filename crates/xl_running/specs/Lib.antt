@@ -1,3 +1,4 @@
+pub mod Defaults
 pub mod Running
 pub mod Seen
 pub mod Texts

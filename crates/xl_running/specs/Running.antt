@@ -2,14 +2,14 @@
 use Rattle.std.specs.Prelude.{ℕ, ◌≤◌, List, [], ◌∷◌, ◌++◌, length, decimal, unwrap_or}
 use Rattle.std.specs.Prelude.{Some, None}
 use Rattle.std.specs.declared.option.Option.{Option}
-use Rattle.xl_base.specs.declared.moments.TheConstants.{GREATEST_MILLIS}
-use Rattle.xl_ledger.specs.declared.registry.TheConstants.{LEAST_LIMIT}
+use Rattle.xl_base.specs.Moments.{greatest_millis}
+use Rattle.xl_ledger.specs.Limits.{least_limit}
 use Rattle.xl_lines.specs.declared.limits.Limits.{Limits}
 use Rattle.xl_lines.specs.declared.limits.Overrun.{Overrun}
 use Rattle.xl_lines.specs.declared.limits.Overrun.TheVariants as overrun
 use Rattle.xl_lines.specs.declared.limits.Returns.TheVariants.{Dropped}
 use Rattle.xl_sched.specs.declared.event.Event.{Event}
-use Rattle.xl_sched.specs.declared.limits.TheConstants.{MOST_LINES, MOST_BYTES, MOST_LEDGERS}
+use Rattle.xl_sched.specs.Limits.{most_bytes, most_ledgers, most_lines}
 use Rattle.xl_sched.specs.declared.line.Line.{Line}
 use Rattle.xl_sched.specs.declared.line.Line.TheVariants as line
 use Rattle.xl_sched.specs.declared.refusal.SchedRefusal.{SchedRefusal}
@@ -21,7 +21,7 @@ use Rattle.xl_world.specs.Schedule.{IsPlausible, after_event}
 use Rattle.xl_world.specs.World.{World}
 use Rattle.xl_world.specs.Plans.{Shared}
 use Rattle.xl_world.specs.Starts.{start}
-use Rattle.xl_running.specs.declared.running.TheConstants.{DEFAULT_LIMIT, DEFAULT_SPEAK}
+use Rattle.xl_running.specs.Defaults.{default_limit, default_speak}
 
 -- what is known of a schedule so far: what was read, how many ledgers each node may know and the version of its
 -- validations, the nodes and liars that are declared, and from the first event on the world
@@ -36,7 +36,7 @@ pub record Running : Type 0 where
 abbrev pub at_first : Running
 at_first = record {
   reading = opened;
-  shared = record { limit = DEFAULT_LIMIT; speak = DEFAULT_SPEAK };
+  shared = record { limit = default_limit; speak = default_speak };
   plan = [];
   liars = [];
   world = None;
@@ -78,18 +78,18 @@ happens r e = in_world r (after_event (world_of r) e)
 -- a line's limit, or its event's moment and the set that a liar says in it or the list that it hands in, is one that
 -- there may be
 abbrev pub IsInRange : Line → Type 0
-IsInRange (line.Limit limit) = (LEAST_LIMIT ≤ limit) × (limit ≤ MOST_LEDGERS)
+IsInRange (line.Limit limit) = (least_limit ≤ limit) × (limit ≤ most_ledgers)
 IsInRange (line.Node me list validating) = Unit {0}
 IsInRange (line.Liar me) = Unit {0}
 IsInRange (line.Name name id) = Unit {0}
 IsInRange (line.Ledger name parent header) = Unit {0}
 IsInRange (line.At at) = Unit {0}
 IsInRange (line.Speak version) = Unit {0}
-IsInRange (line.Event event) = (event.at ≤ GREATEST_MILLIS) × IsPlausible event.what
+IsInRange (line.Event event) = (event.at ≤ greatest_millis) × IsPlausible event.what
 
 abbrev pub beyond : Overrun → SchedRefusal
-beyond overrun.LongLine = LongLine (decimal MOST_BYTES)
-beyond overrun.ManyLines = Limit (decimal MOST_LINES)
+beyond overrun.LongLine = LongLine (decimal most_bytes)
+beyond overrun.ManyLines = Limit (decimal most_lines)
 
 abbrev pub limits : Limits
-limits = record { lines = MOST_LINES; bytes = MOST_BYTES; returns = Dropped }
+limits = record { lines = most_lines; bytes = most_bytes; returns = Dropped }

@@ -1,5 +1,5 @@
 ghost use Rattle.std.specs.Prelude.{◌≡◌, ◌≤◌, ◌⊎◌, length, option_copied, Err, Ok, IfOk, IfErr, IfSome, MatchResult, OnOk, OnErr};
-ghost use Rattle.xl_base.specs.declared.moments.TheConstants.{GREATEST_MILLIS};
+ghost use Rattle.xl_base.specs.Moments.{greatest_millis};
 ghost use Rattle.xl_sched.specs.Answers.{answered, refuses};
 ghost use Rattle.xl_sched.specs.Favors.{after_favor, favor_line};
 ghost use Rattle.xl_world.specs.Schedule.{IsPlausible, outcomes};
@@ -11,10 +11,10 @@ use xl_base::{NodeNo, OutOfMemory};
 use xl_sched::{Event, Favor, Line, Reader, SchedRefusal};
 use xl_world::{Happened, Plan, PlanNode, World};
 
-/// How many ledgers each node may know where no `limit` line says it.
+/// How many ledgers each node may know if no `limit` line says it.
 pub const DEFAULT_LIMIT: u32 = 1_024;
 
-/// The version of all validations where no `speak` line says it.
+/// The version of all validations if no `speak` line says it.
 pub const DEFAULT_SPEAK: u8 = 1;
 
 /// A schedule so far: what was read, the limit, version, nodes and liars that are declared, and from the first event on
@@ -130,7 +130,7 @@ impl Running {
         Ok(())
     }
 
-    /// Opens the world where there is none yet: before the first event it is the one of the plan.
+    /// Opens the world if there is none yet: before the first event it is the one of the plan.
     pub fn open_world(&mut self) -> Result<(), OutOfMemory>
         ensures { OnOk result (self.new ≡ in_world self.old (world_of self.old)) }
     {
@@ -151,7 +151,7 @@ impl Running {
         }
     }
 
-    /// All declared numbers, rising. The world is opened where there is none yet.
+    /// All declared numbers, rising. The world is opened if there is none yet.
     pub fn numbers(&mut self) -> Result<Vec<NodeNo>, OutOfMemory>
         ensures numbers { IfOk result (λ numbers. numbers.items ≡ (world_of self.old).numbers) }
         ensures world { OnOk result (self.new ≡ in_world self.old (world_of self.old)) }
@@ -165,7 +165,7 @@ impl Running {
 
     /// An event is a step of the world. What is told of it comes back, in order.
     pub fn event(&mut self, event: &Event) -> Result<Happened, OutOfMemory>
-        requires timely { event.now.at ≤ GREATEST_MILLIS }
+        requires timely { event.now.at ≤ greatest_millis }
         requires plausible { IsPlausible event.now.what }
         ensures world { OnOk result (self.new ≡ happens self.old event.now) }
         ensures told { IfOk result (λ told. told ≡ outcomes (world_of self.old) event.now) }

@@ -5,7 +5,7 @@ use Rattle.xl_io.specs.Sinks.{GrewByFront, GrewByLess}
 use Rattle.xl_lines.specs.Rules.{Told, refused}
 use Rattle.xl_lines.specs.Told.{after}
 use Rattle.xl_lines.specs.Running.{Tells}
-use Rattle.xl_show.specs.declared.limits.TheConstants.{MOST_BYTES}
+use Rattle.xl_show.specs.Limits.{most_bytes}
 use Rattle.xl_show.specs.declared.reading.Look.{Look}
 use Rattle.xl_show.specs.declared.reading.Look.TheVariants as look
 use Rattle.xl_show.specs.declared.frames.Frames.{Frames}
@@ -31,7 +31,7 @@ follows_without (look.Frame n) old new text other b p c is = absurd (other n ref
 follows_without (look.Lacks n) old new text other b p c is = (b, p, c, is.0, is.2)
 follows_without look.Refused old new text other b p c is = tt
 
-module _ (place count : ℕ) (begun : List ℕ) (within : place + length begun ≤ MOST_BYTES) where
+module _ (place count : ℕ) (begun : List ℕ) (within : place + length begun ≤ most_bytes) where
   -- the text of the look comes first, and then what is left
   pub told_seen : (seen : Look) (text : List ℕ) → IsSeen seen place begun text → (place' count' : ℕ) (begun' : List ℕ) → Moves seen place count begun place' count' begun' → (rest : List ℕ) → told_from place count (begun ++ rest) ≡ after text (left_after seen (told_from place' count' (begun' ++ rest)))
   told_seen (look.Frame n) text is place' count' begun' moves rest =

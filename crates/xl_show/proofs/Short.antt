@@ -3,7 +3,7 @@ use Rattle.std.proofs.Common.{◌≡◌, ◌∙◌, ◌+◌, ◌-◌, ◌≤◌,
 use Rattle.std.proofs.lemmas.Bool.Decides.{nat_tests}
 use Rattle.xl_base.specs.Refusals.{refused_if, first_of}
 use Rattle.xl_wire.specs.declared.decoding.Decoded.TheVariants as decoded
-use Rattle.xl_wire.specs.declared.lengths.TheConstants.{LONGEST_FRAME}
+use Rattle.xl_wire.specs.Lengths.{longest_frame}
 use Rattle.xl_wire.specs.declared.refusal.WireRefusal.{WireRefusal}
 use Rattle.xl_wire.specs.declared.refusal.WireRefusal.TheVariants.{Magic, Version, Kind, Length}
 use Rattle.xl_wire.specs.Frames.{decoded_of}
@@ -14,10 +14,10 @@ use Rattle.xl_wire.specs.Raws.{RawFrame}
 use Rattle.xl_wire.proofs.RawLaws.{by_version}
 use Rattle.xl_show.proofs.Extending.{lack_some, split_need}
 
-body_fits : (version kind n : ℕ) → can_have version kind n ≡ true → 46 + n ≤ LONGEST_FRAME
-body_fits = by_version (λ version kind n. 46 + n ≤ LONGEST_FRAME) first (omega arith)
+body_fits : (version kind n : ℕ) → can_have version kind n ≡ true → 46 + n ≤ longest_frame
+body_fits = by_version (λ version kind n. 46 + n ≤ longest_frame) first (omega arith)
   where
-    first : (kind n : ℕ) → can_have_first kind n ≡ true → 46 + n ≤ LONGEST_FRAME
+    first : (kind n : ℕ) → can_have_first kind n ≡ true → 46 + n ≤ longest_frame
     first kind n h = grind (arith, nat_tests)
 
 last_none : (a b c d e : Option WireRefusal) → first_of (a ∷ b ∷ c ∷ d ∷ e ∷ []) ≡ None → e ≡ None
@@ -49,13 +49,13 @@ of_need (Some refusal) lack n raw h = absurd cc
 of_need None zero n raw h = absurd cc
 of_need None (suc lack) n raw h = let same : suc lack ≡ n = cc in (refl, same)
 
-pub need_fits : (xs : List ℕ) (n : ℕ) → decoded_of xs ≡ decoded.Need n → length xs + n ≤ LONGEST_FRAME
+pub need_fits : (xs : List ℕ) (n : ℕ) → decoded_of xs ≡ decoded.Need n → length xs + n ≤ longest_frame
 need_fits xs n is =
     let some = lack_some xs n is in
     let both = of_need (head_refusal xs) (lacking xs) n (raw_in xs) (split_need xs n is) in
     by_length (nat_lt (length xs) 6) refl some both
   where
-    by_length : (short : Bool) → nat_lt (length xs) 6 ≡ short → 0 < n → (head_refusal xs ≡ None) × (lacking xs ≡ n) → length xs + n ≤ LONGEST_FRAME
+    by_length : (short : Bool) → nat_lt (length xs) 6 ≡ short → 0 < n → (head_refusal xs ≡ None) × (lacking xs ≡ n) → length xs + n ≤ longest_frame
     by_length true at some both =
         let lack : 6 - length xs ≡ n = sym (ap (λ (b : Bool). if b then 6 - length xs else 46 + length_in xs - length xs) at) ∙ both.1 in
         grind (arith, nat_tests, at, lack)

@@ -10,7 +10,7 @@ use Rattle.xl_wire.specs.declared.decoding.Decoded.TheVariants.{Whole, Need, Ref
 use Rattle.xl_wire.specs.declared.frame.Frame.{Frame}
 use Rattle.xl_wire.specs.declared.refusal.WireRefusal.{WireRefusal}
 use Rattle.xl_wire.specs.Frames.{decoded_of}
-use Rattle.xl_show.specs.declared.limits.TheConstants.{MOST_BYTES}
+use Rattle.xl_show.specs.Limits.{most_bytes}
 use Rattle.xl_show.proofs.Extending.{frame_some}
 use Rattle.xl_show.specs.Shown.{ending, told_by, told_frames, told_from}
 use Rattle.xl_show.specs.Texts.{frame_line, refusal_line, limit_line}
@@ -36,10 +36,10 @@ enough (suc most) (suc most') beyond place count bytes a b =
 
 -- the bytes that are looked at
 abbrev front : ℕ → List ℕ → List ℕ
-front place bytes = take (MOST_BYTES - place) bytes
+front place bytes = take (most_bytes - place) bytes
 
 abbrev beyond : ℕ → List ℕ → Bool
-beyond place bytes = nat_lt MOST_BYTES (place + length bytes)
+beyond place bytes = nat_lt most_bytes (place + length bytes)
 
 -- one look
 told_once : (place count : ℕ) (bytes : List ℕ) (d : Decoded) → decoded_of (front place bytes) ≡ d → told_from place count bytes ≡ told_by (λ n. told_frames (length (front place bytes)) (beyond place bytes) (place + n) (count + 1) (drop n (front place bytes))) (beyond place bytes) place count (front place bytes) d
@@ -50,29 +50,29 @@ told_once place count bytes d is =
     ∙ ap (told_by (λ n. told_frames (length xs) (beyond place bytes) (place + n) (count + 1) (drop n xs)) (beyond place bytes) place count xs) is
 
 -- bytes that have come are looked at, with some of the rest
-front_of : (place : ℕ) (xs rest : List ℕ) → place + length xs ≤ MOST_BYTES → front place (xs ++ rest) ≡ xs ++ take (MOST_BYTES - place - length xs) rest
+front_of : (place : ℕ) (xs rest : List ℕ) → place + length xs ≤ most_bytes → front place (xs ++ rest) ≡ xs ++ take (most_bytes - place - length xs) rest
 front_of place xs rest within =
-    let parts : MOST_BYTES - place ≡ length xs + (MOST_BYTES - place - length xs) = omega (arith, within) in
-    ap (λ (k : ℕ). take k (xs ++ rest)) parts ∙ take-append-add xs rest (MOST_BYTES - place - length xs)
+    let parts : most_bytes - place ≡ length xs + (most_bytes - place - length xs) = omega (arith, within) in
+    ap (λ (k : ℕ). take k (xs ++ rest)) parts ∙ take-append-add xs rest (most_bytes - place - length xs)
 
-front_left : (place n : ℕ) (xs rest : List ℕ) → place + length xs ≤ MOST_BYTES → n ≤ length xs → drop n (front place (xs ++ rest)) ≡ front (place + n) (drop n xs ++ rest)
+front_left : (place n : ℕ) (xs rest : List ℕ) → place + length xs ≤ most_bytes → n ≤ length xs → drop n (front place (xs ++ rest)) ≡ front (place + n) (drop n xs ++ rest)
 front_left place n xs rest within there =
-    let parts : MOST_BYTES - place ≡ n + (MOST_BYTES - (place + n)) = omega (arith, within, there) in
-    ap (λ (k : ℕ). drop n (take k (xs ++ rest))) parts ∙ drop-take n (MOST_BYTES - (place + n)) (xs ++ rest) ∙ ap (take (MOST_BYTES - (place + n))) (drop-append-le n xs rest there)
+    let parts : most_bytes - place ≡ n + (most_bytes - (place + n)) = omega (arith, within, there) in
+    ap (λ (k : ℕ). drop n (take k (xs ++ rest))) parts ∙ drop-take n (most_bytes - (place + n)) (xs ++ rest) ∙ ap (take (most_bytes - (place + n))) (drop-append-le n xs rest there)
 
 beyond_left : (place n : ℕ) (xs rest : List ℕ) → n ≤ length xs → beyond place (xs ++ rest) ≡ beyond (place + n) (drop n xs ++ rest)
 beyond_left place n xs rest there =
     let same : place + length (xs ++ rest) ≡ place + n + length (drop n xs ++ rest) = omega (arith, length-append xs rest, length-append (drop n xs) rest, length-drop n xs, there) in
-    ap (nat_lt MOST_BYTES) same
+    ap (nat_lt most_bytes) same
 
-module _ (place count : ℕ) (xs : List ℕ) (within : place + length xs ≤ MOST_BYTES) where
+module _ (place count : ℕ) (xs : List ℕ) (within : place + length xs ≤ most_bytes) where
   -- a frame
   pub told_frame : (f : Frame) (n : ℕ) → ((ys : List ℕ) → decoded_of (xs ++ ys) ≡ Whole f n) → n ≤ length xs → (rest : List ℕ) → told_from place count (xs ++ rest) ≡ after (frame_line f) (told_from (place + n) (count + 1) (drop n xs ++ rest))
   unfolding told_from told_by
   told_frame f n is there rest =
       let left = drop n (front place (xs ++ rest)) in
       let fewer = length-drop n (front place (xs ++ rest)) in
-      told_once place count (xs ++ rest) (Whole f n) (ap decoded_of (front_of place xs rest within) ∙ is (take (MOST_BYTES - place - length xs) rest))
+      told_once place count (xs ++ rest) (Whole f n) (ap decoded_of (front_of place xs rest within) ∙ is (take (most_bytes - place - length xs) rest))
       ∙ ap (after (frame_line f)) (
       enough (length (front place (xs ++ rest))) (length left) (beyond place (xs ++ rest)) (place + n) (count + 1) left (omega (arith, fewer)) (omega arith)
       ∙ ap₂ (λ (b : Bool) (bytes : List ℕ). told_frames (length bytes) b (place + n) (count + 1) bytes) (beyond_left place n xs rest there) (front_left place n xs rest within there))
@@ -80,24 +80,24 @@ module _ (place count : ℕ) (xs : List ℕ) (within : place + length xs ≤ MOS
   -- a refusal
   pub told_refusal : (refusal : WireRefusal) → ((ys : List ℕ) → decoded_of (xs ++ ys) ≡ Refused refusal) → (rest : List ℕ) → told_from place count (xs ++ rest) ≡ refused (refusal_line place refusal)
   unfolding told_by
-  told_refusal refusal is rest = told_once place count (xs ++ rest) (Refused refusal) (ap decoded_of (front_of place xs rest within) ∙ is (take (MOST_BYTES - place - length xs) rest))
+  told_refusal refusal is rest = told_once place count (xs ++ rest) (Refused refusal) (ap decoded_of (front_of place xs rest within) ∙ is (take (most_bytes - place - length xs) rest))
 
   -- the end
   pub told_end : (lack : ℕ) → decoded_of xs ≡ Need lack → told_from place count (xs ++ []) ≡ ending false place count lack xs
   unfolding told_by
   told_end lack is =
-      let all : front place (xs ++ []) ≡ xs = ap (front place) (append-nil xs) ∙ take_all (MOST_BYTES - place) xs (omega (arith, within)) in
-      let none : beyond place (xs ++ []) ≡ false = le-ltb MOST_BYTES (place + length (xs ++ [])) (omega (arith, within, length-append {A = ℕ} xs [])) in
+      let all : front place (xs ++ []) ≡ xs = ap (front place) (append-nil xs) ∙ take_all (most_bytes - place) xs (omega (arith, within)) in
+      let none : beyond place (xs ++ []) ≡ false = le-ltb most_bytes (place + length (xs ++ [])) (omega (arith, within, length-append {A = ℕ} xs [])) in
       told_once place count (xs ++ []) (Need lack) (ap decoded_of all ∙ is)
       ∙ ap₂ (λ (b : Bool) (bytes : List ℕ). ending b place count lack bytes) none all
 
   -- a byte too many
-  pub told_limit : (lack : ℕ) → decoded_of xs ≡ Need lack → place + length xs ≡ MOST_BYTES → (rest : List ℕ) → 0 < length rest → told_from place count (xs ++ rest) ≡ refused limit_line
+  pub told_limit : (lack : ℕ) → decoded_of xs ≡ Need lack → place + length xs ≡ most_bytes → (rest : List ℕ) → 0 < length rest → told_from place count (xs ++ rest) ≡ refused limit_line
   unfolding told_by
   told_limit lack is full rest some =
-      let no_room : MOST_BYTES - place - length xs ≡ 0 = omega (arith, full) in
-      let none : take (MOST_BYTES - place - length xs) rest ≡ [] = ap (λ (k : ℕ). take k rest) no_room in
+      let no_room : most_bytes - place - length xs ≡ 0 = omega (arith, full) in
+      let none : take (most_bytes - place - length xs) rest ≡ [] = ap (λ (k : ℕ). take k rest) no_room in
       let all : front place (xs ++ rest) ≡ xs = front_of place xs rest within ∙ ap (λ (ys : List ℕ). xs ++ ys) none ∙ append-nil xs in
-      let more : beyond place (xs ++ rest) ≡ true = lt-ltb MOST_BYTES (place + length (xs ++ rest)) (omega (arith, full, some, length-append xs rest)) in
+      let more : beyond place (xs ++ rest) ≡ true = lt-ltb most_bytes (place + length (xs ++ rest)) (omega (arith, full, some, length-append xs rest)) in
       told_once place count (xs ++ rest) (Need lack) (ap decoded_of all ∙ is)
       ∙ ap (λ (b : Bool). ending b place count lack (front place (xs ++ rest))) more

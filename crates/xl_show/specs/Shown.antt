@@ -1,4 +1,4 @@
--- What is told about a stream of frames. Source: this project's own formats.
+-- What is written about a stream of frames. Source: this project's own formats.
 use Rattle.std.specs.Prelude.{ℕ, zero, suc, ◌+◌, ◌-◌, ◌==◌, nat_lt, Bool, List, length, take, drop, if◌then◌else◌}
 use Rattle.xl_lines.specs.declared.machine.Verdict.TheVariants.{Good, Refused as IsRefused}
 use Rattle.xl_lines.specs.Rules.{Told, closes, refused}
@@ -6,23 +6,23 @@ use Rattle.xl_lines.specs.Told.{after}
 use Rattle.xl_wire.specs.declared.decoding.Decoded.{Decoded}
 use Rattle.xl_wire.specs.declared.decoding.Decoded.TheVariants.{Whole, Need, Refused}
 use Rattle.xl_wire.specs.Frames.{decoded_of}
-use Rattle.xl_show.specs.declared.limits.TheConstants.{MOST_BYTES}
+use Rattle.xl_show.specs.Limits.{most_bytes}
 use Rattle.xl_show.specs.Texts.{frame_line, refusal_line, short_line, limit_line, count_line}
 
--- behind the last whole frame: more bytes come than may, or none is left, or so many lack
+-- behind the last whole frame: more bytes come than may, or none is left, or this many lack
 abbrev pub ending : Bool → ℕ → ℕ → ℕ → List ℕ → Told
 ending beyond place count lack bytes =
     if beyond then refused limit_line
     else if length bytes == 0 then closes (count_line count) Good
     else closes (short_line place lack) IsRefused
 
--- what is told of what the bytes begin with, where next says what is told behind a frame of so many bytes
+-- what is written of what the bytes begin with, where next says what is written behind a frame of this many bytes
 unfoldable pub told_by : (ℕ → Told) → Bool → ℕ → ℕ → List ℕ → Decoded → Told
 told_by next beyond place count bytes (Whole frame n) = after (frame_line frame) (next n)
 told_by next beyond place count bytes (Refused refusal) = refused (refusal_line place refusal)
 told_by next beyond place count bytes (Need lack) = ending beyond place count lack bytes
 
--- frame after frame, at most so many
+-- frame after frame, at most this many
 unfoldable pub told_frames : ℕ → Bool → ℕ → ℕ → List ℕ → Told
 told_frames zero beyond place count bytes = ending beyond place count 0 bytes
 told_frames (suc most) beyond place count bytes =
@@ -33,9 +33,9 @@ told_frames (suc most) beyond place count bytes =
 -- bytes can stand there.
 unfoldable pub told_from : ℕ → ℕ → List ℕ → Told
 told_from place count bytes =
-    let front = take (MOST_BYTES - place) bytes in
-    told_frames (length front) (nat_lt MOST_BYTES (place + length bytes)) place count front
+    let front = take (most_bytes - place) bytes in
+    told_frames (length front) (nat_lt most_bytes (place + length bytes)) place count front
 
--- what is told about a stream
+-- what is written about a stream
 abbrev pub shown_of : List ℕ → Told
 shown_of bytes = told_from 0 0 bytes

@@ -6,7 +6,7 @@ use Rattle.xl_base.specs.Sets.{set_id_of}
 use Rattle.xl_ledger.specs.declared.header.Header.{Header}
 use Rattle.xl_ledger.specs.Headers.{header_id}
 use Rattle.xl_ledger.specs.Reading.{header_in}
-use Rattle.xl_show.specs.declared.limits.TheConstants.{MOST_BYTES}
+use Rattle.xl_show.specs.Limits.{most_bytes}
 use Rattle.xl_wire.specs.declared.body.Body.{Body}
 use Rattle.xl_wire.specs.declared.body.Body.TheVariants as body
 use Rattle.xl_wire.specs.declared.frame.Frame.{Frame}
@@ -34,7 +34,7 @@ fullness_text full = if full then codes "full" else codes "partial"
 abbrev pub vote_text : Validation → List ℕ
 vote_text v = decimal v.seq ++ space ++ encode_lower v.id.0 ++ space ++ decimal v.signed
 
--- the id of the ledger that was last reported, where one is told
+-- the id of the ledger that was last reported, if there is one
 abbrev pub validated_text : Option LedgerId → List ℕ
 validated_text None = []
 validated_text (Some id) = space ++ encode_lower id.0
@@ -67,7 +67,7 @@ values_text (Flags flags) = decimal flags
 values_text (Order place) = decimal place
 values_text (Count count) = decimal count
 
--- why the text ends at the frame that begins after so many bytes
+-- why the text ends at the frame that begins after this many bytes
 abbrev pub bad_line : ℕ → ℕ → List ℕ → List ℕ
 bad_line place code values = codes "bad " ++ decimal place ++ space ++ decimal code ++ space ++ values ++ newline
 
@@ -75,14 +75,14 @@ bad_line place code values = codes "bad " ++ decimal place ++ space ++ decimal c
 abbrev pub refusal_line : ℕ → WireRefusal → List ℕ
 refusal_line place refusal = bad_line place (code_of refusal) (values_text refusal)
 
--- the input ends within the frame, and so many bytes lack
+-- the input ends within the frame, and this many bytes lack
 abbrev pub short_line : ℕ → ℕ → List ℕ
 short_line place lack = bad_line place 45 (decimal lack)
 
 -- one byte too many comes
 abbrev pub limit_line : List ℕ
-limit_line = bad_line MOST_BYTES 35 (decimal MOST_BYTES)
+limit_line = bad_line most_bytes 35 (decimal most_bytes)
 
--- so many frames were shown
+-- this many frames were shown
 abbrev pub count_line : ℕ → List ℕ
 count_line count = codes "frames " ++ decimal count ++ newline

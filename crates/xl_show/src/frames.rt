@@ -8,10 +8,10 @@ ghost use Rattle.xl_show.specs.Reading.{left_after};
 ghost use Rattle.xl_show.specs.Shown.{ending, told_from, shown_of};
 ghost use Rattle.xl_show.specs.Soon.{shown_soon};
 ghost use Rattle.xl_show.specs.Texts.{limit_line};
-ghost use Rattle.xl_show.specs.declared.limits.TheConstants.{MOST_BYTES};
+ghost use Rattle.xl_show.specs.Limits.{most_bytes};
 ghost use Rattle.xl_wire.specs.Frames.{decoded_of};
 ghost use Rattle.xl_wire.specs.declared.decoding.Decoded.{Decoded};
-ghost use Rattle.xl_wire.specs.declared.lengths.TheConstants.{LONGEST_FRAME};
+ghost use Rattle.xl_wire.specs.Lengths.{longest_frame};
 
 use crate::limits::MOST_BYTES;
 use crate::reading::{Look, read};
@@ -24,7 +24,7 @@ use xl_lines::{Fault, Next, Teller, Verdict};
 /// What became of the next bytes.
 #[derive(Clone, Copy, Debug, PartialEq, Eq)]
 pub enum Part {
-    /// So many of them were taken.
+    /// This many of them were taken.
     Taken(usize),
     /// One is too many, and the last text is written.
     Refused,
@@ -39,9 +39,9 @@ pub struct Frames {
     place: usize,
     count: usize,
     text: String,
-    ghost within: { place + vec_len begun ≤ MOST_BYTES },
+    ghost within: { place + vec_len begun ≤ most_bytes },
     ghost counted: { count ≤ place },
-    ghost short: { vec_len begun ≤ LONGEST_FRAME },
+    ghost short: { vec_len begun ≤ longest_frame },
 }
 
 impl Frames {
@@ -83,7 +83,7 @@ impl Frames {
         Ok(look)
     }
 
-    /// Leaves a frame of so many bytes behind.
+    /// Leaves a frame of this many bytes behind.
     fn leave(&mut self, length: usize)
         requires some { 0 < length }
         requires there { length ≤ vec_len self.old.begun }
@@ -111,7 +111,7 @@ impl Frames {
         Ok(())
     }
 
-    /// Writes the last text of a whole input, of whose last frame so many bytes lack.
+    /// Writes the last text of a whole input, of whose last frame this many bytes lack.
     fn end<O: Sink>(&mut self, output: &mut O, lack: usize) -> Result<Verdict, Fault>
         ensures all { IfOk result (λ verdict. TellsAll (O.held output.old) (O.held output.new) verdict
             (ending false self.old.place self.old.count lack self.old.begun.items)) }
@@ -172,8 +172,8 @@ impl Frames {
 
     /// Adds bytes to the frame that has begun.
     fn put(&mut self, bytes: &[u8]) -> Result<(), OutOfMemory>
-        requires within { self.old.place + vec_len self.old.begun + length bytes.now ≤ MOST_BYTES }
-        requires short { vec_len self.old.begun + length bytes.now ≤ LONGEST_FRAME }
+        requires within { self.old.place + vec_len self.old.begun + length bytes.now ≤ most_bytes }
+        requires short { vec_len self.old.begun + length bytes.now ≤ longest_frame }
         ensures begun { OnOk result (self.new.begun.items ≡ self.old.begun.items ++ bytes.now) }
         ensures place { OnOk result (self.new.place ≡ self.old.place) }
         ensures count { OnOk result (self.new.count ≡ self.old.count) }
@@ -188,7 +188,7 @@ impl Teller for Frames {
 
     ghost soon = { λ frames bytes. shown_soon (frames.begun.items ++ bytes) };
 
-    ghost to_come = { λ frames. MOST_BYTES - (frames.place + length frames.begun.items) };
+    ghost to_come = { λ frames. most_bytes - (frames.place + length frames.begun.items) };
 
     fn feed<O: Sink>(&mut self, output: &mut O, bytes: &[u8]) -> Result<Next, Fault> {
         let mut rest = bytes;

@@ -10,9 +10,9 @@ use xl_wire::{Decoded, decode};
 /// What the bytes that have come begin with.
 #[derive(Clone, Copy, Debug, PartialEq, Eq)]
 pub enum Look {
-    /// A frame of so many bytes.
+    /// A frame of this many bytes.
     Frame(usize),
-    /// Less than a frame: so many bytes lack, first of its length and then of it.
+    /// Less than a frame: this many bytes lack, first of its length and then of it.
     Lacks(usize),
     /// No frame.
     Refused,

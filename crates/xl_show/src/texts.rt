@@ -71,7 +71,7 @@ fn push_validation(
     push_validated(alloc, text, &validation.validated)
 }
 
-/// The id of the ledger that was last reported, where one is told, as one token more.
+/// The id of the ledger that was last reported, if there is one, as one token more.
 fn push_validated(
     alloc: Global,
     text: &mut String,

@@ -3,10 +3,10 @@
 -- could have made. The step is the core's.
 use Rattle.std.specs.Prelude.{◌≡◌, ℕ, ◌<◌, ◌≤◌, List, [], ◌∷◌, map, Some, None, IsSome}
 use Rattle.std.specs.declared.option.Option.{Option}
-use Rattle.xl_base.specs.declared.moments.TheConstants.{GREATEST_MILLIS}
+use Rattle.xl_base.specs.Moments.{greatest_millis}
 use Rattle.xl_lists.specs.Lists.{IsValid}
 use Rattle.xl_tags.specs.Rings.{key_of}
-use Rattle.xl_wire.specs.declared.lengths.TheConstants.{LONGEST_FRAME}
+use Rattle.xl_wire.specs.Lengths.{longest_frame}
 use Rattle.xl_core.specs.declared.event.CoreEvent.{CoreEvent}
 use Rattle.xl_core.specs.declared.event.CoreEvent.TheVariants.{Issue, Frame, Timer, Submit, Relist, Greet, Drain, Reports, Stop, Stopped}
 use Rattle.xl_core.specs.Core.{Core, CoreReply, core_happens, core_asks}
@@ -48,13 +48,13 @@ IsOutcome (Some seq) (Some (saved.Failed count)) = 0 < count
 
 -- the conditions of the core's call
 abbrev pub IsAllowed : Core → CoreEvent → Type 0
-IsAllowed core (Issue now seq id full) = now ≤ GREATEST_MILLIS
-IsAllowed core (Frame now bytes) = now ≤ GREATEST_MILLIS
-IsAllowed core (Timer now) = now ≤ GREATEST_MILLIS
-IsAllowed core (Submit now tx) = now ≤ GREATEST_MILLIS
-IsAllowed core (Relist now list) = (now ≤ GREATEST_MILLIS) × IsValid list
+IsAllowed core (Issue now seq id full) = now ≤ greatest_millis
+IsAllowed core (Frame now bytes) = now ≤ greatest_millis
+IsAllowed core (Timer now) = now ≤ greatest_millis
+IsAllowed core (Submit now tx) = now ≤ greatest_millis
+IsAllowed core (Relist now list) = (now ≤ greatest_millis) × IsValid list
 IsAllowed core (Greet member) = IsSome (key_of core.node.keys member)
-IsAllowed core (Drain member room) = IsSome (key_of core.node.keys member) × (LONGEST_FRAME ≤ room)
+IsAllowed core (Drain member room) = IsSome (key_of core.node.keys member) × (longest_frame ≤ room)
 IsAllowed core (Reports room) = Unit {0}
 IsAllowed core Stop = Unit {0}
 IsAllowed core Stopped = Unit {0}

@@ -1,5 +1,5 @@
 ghost use Rattle.std.specs.Prelude.{◌≤◌};
-ghost use Rattle.xl_base.specs.declared.moments.TheConstants.{GREATEST_MILLIS};
+ghost use Rattle.xl_base.specs.Moments.{greatest_millis};
 ghost use Rattle.xl_core.specs.declared.event.CoreEvent.TheVariants.{Issue, Timer};
 ghost use Rattle.xl_core.specs.Answers.{Beats};
 ghost use Rattle.xl_core.specs.Replies.{done_answer};
@@ -22,7 +22,7 @@ pub struct Home<B: Branch, K> {
 impl<B: Branch + Drop, K: Keeper> Home<B, K> {
     /// Lets the core's round go on; what is validated then is first saved with the keeper.
     pub(crate) fn timer(&mut self, now: Millis) -> Beat
-        requires moment { now ≤ GREATEST_MILLIS }
+        requires moment { now ≤ greatest_millis }
         ensures { AnswersHome K.held K.saves K.faults K.save_gives
             self.old (entry_of (Timer now) (outcome_at result)) (Beats result) self.new }
     {
@@ -37,7 +37,7 @@ impl<B: Branch + Drop, K: Keeper> Home<B, K> {
         id: LedgerId,
         full: bool,
     ) -> Result<(), Refusal>
-        requires moment { now ≤ GREATEST_MILLIS }
+        requires moment { now ≤ greatest_millis }
         ensures { AnswersHome K.held K.saves K.faults K.save_gives
             self.old (entry_of (Issue now seq id full) (outcome_in result)) (done_answer result) self.new }
     {

@@ -1,11 +1,11 @@
 //! One core and its keeper, shared by threads. All calls of all threads stand in one legal history.
 //!
-//! A store has the calls of the core. Each is one turn of a ticket lock: it waits until those before it are done, has
-//! the core and the keeper for itself, and leaves one entry in the journal, which tells the event and how its save was
-//! answered. The memory of the entry is taken before the turn, and the turn itself moves one pointer. So the body of
-//! each call enters, calls the core, and finishes. Each caller has a pass, which has seen a beginning of the journal; a
-//! pass may be split for another thread, and two may be joined. Who has the whole share closes the store, and gets
-//! core, keeper and journal.
+//! A store has the calls of the core. Each is one turn of a ticket lock: it waits until those before it are done, and
+//! has the core and the keeper for itself. It leaves one entry in the journal, which tells the event and how its save
+//! was answered. The memory of the entry is taken before the turn, and the turn itself moves one pointer. So the body
+//! of each call enters, calls the core, and finishes. Each caller has a pass, which has seen a beginning of the
+//! journal; a pass may be split for another thread, and two may be joined. Who has the whole share closes the store,
+//! and gets core, keeper and journal.
 //!
 //! It stands on the lock of xl_turns and on the core of xl_core. Its one contract: the journal is a legal history of
 //! the core that the store was opened with, and each call answers what the core's step answers at its place in it.

@@ -69,7 +69,7 @@ pub struct Closed<B: Branch, K> {
 }
 
 impl<B: Branch + Drop, K: Keeper + Drop> Store<B, K> {
-    /// A store over a core and its keeper, which has so many turns in all, 1 to 2^62, and its first pass. For want of
+    /// A store over a core and its keeper, which has this many turns in all, 1 to 2^62, and its first pass. For lack of
     /// memory it hands both back.
     pub fn open(
         alloc: Global,

@@ -2,7 +2,7 @@
 use Rattle.std.proofs.Common.{◌≡◌, ◌<◌, ◌++◌, ℕ, List, [], length, true, refl, Option, Some, None, Result, Ok, Err}
 use Rattle.std.specs.Prelude.{◌==◌, ◌+◌, codes, decimal, nat_lt}
 use Rattle.std.proofs.lemmas.Bool.{cond_both}
-use Rattle.xl_flags.specs.declared.flag_votes.TheConstants.{MOST_AMENDMENTS}
+use Rattle.xl_flags.specs.Votes.{most_amendments}
 use Rattle.xl_lines.specs.declared.machine.Verdict.TheVariants.{Good, Refused}
 use Rattle.xl_lines.specs.Causes.{EndsAloud, RefusesAloud}
 use Rattle.xl_lines.specs.Ends.{FindsAtEnd, FindsNothing}
@@ -40,7 +40,7 @@ answer_finds r t (refuses why) = tt
 
 vote_finds : (r : Running) (t : Tallying) (f : Favor) → FindsNothing (after_vote tallied r t f)
 vote_finds r t f =
-    cond_both (nat_lt MOST_AMENDMENTS (tallied.named t f.member f.fee f.ids)) (refuses_line (bad_line r.reading.lines (Limit (decimal MOST_AMENDMENTS)))) (silent r (tallied.voted t f.member f.fee f.ids)) FindsNothing
+    cond_both (nat_lt most_amendments (tallied.named t f.member f.fee f.ids)) (refuses_line (bad_line r.reading.lines (Limit (decimal most_amendments)))) (silent r (tallied.voted t f.member f.fee f.ids)) FindsNothing
     (λ _. tt) (λ _. tt)
 
 favored_finds : (r : Running) (t : Tallying) (bytes : List ℕ) (x : Result (Option Favor) SchedRefusal) → FindsNothing (after_favored tallied r t bytes x)
@@ -76,8 +76,8 @@ answer_aloud r t (refuses why) = bad_some (r.reading.lines + 1) why
 
 vote_aloud : (r : Running) (t : Tallying) (f : Favor) → RefusesAloud (after_vote tallied r t f)
 vote_aloud r t f =
-    cond_both (nat_lt MOST_AMENDMENTS (tallied.named t f.member f.fee f.ids)) (refuses_line (bad_line r.reading.lines (Limit (decimal MOST_AMENDMENTS)))) (silent r (tallied.voted t f.member f.fee f.ids)) RefusesAloud
-    (λ _. bad_some r.reading.lines (Limit (decimal MOST_AMENDMENTS))) (λ _. tt)
+    cond_both (nat_lt most_amendments (tallied.named t f.member f.fee f.ids)) (refuses_line (bad_line r.reading.lines (Limit (decimal most_amendments)))) (silent r (tallied.voted t f.member f.fee f.ids)) RefusesAloud
+    (λ _. bad_some r.reading.lines (Limit (decimal most_amendments))) (λ _. tt)
 
 favored_aloud : (r : Running) (t : Tallying) (bytes : List ℕ) (x : Result (Option Favor) SchedRefusal) → RefusesAloud (after_favored tallied r t bytes x)
 favored_aloud r t bytes (Ok None) = answer_aloud r t (answer_in r bytes)

@@ -4,7 +4,7 @@ use Rattle.std.specs.Prelude.{◌==◌, ◌&&◌, ◌||◌, nat_le, nat_lt, code
 use Rattle.std.specs.Str.{bytes_eq}
 use Rattle.std.proofs.lemmas.Bool.{and_parts, cond_both, leb-true}
 use Rattle.xl_base.specs.declared.ids.TxId.{TxId}
-use Rattle.xl_flags.specs.declared.flag_votes.TheConstants.{MOST_AMENDMENTS}
+use Rattle.xl_flags.specs.Votes.{most_amendments}
 use Rattle.xl_flags.proofs.Remembering.{IsMember}
 use Rattle.xl_lines.specs.declared.machine.Verdict.TheVariants.{Good, Refused}
 use Rattle.xl_lines.specs.Lines.{lines_of}
@@ -21,7 +21,7 @@ use Rattle.xl_sched.specs.declared.favor.Favor.{Favor}
 use Rattle.xl_sched.specs.declared.line.Line.{Line}
 use Rattle.xl_sched.specs.declared.line.Line.TheVariants as line
 use Rattle.xl_sched.specs.declared.named.Named.{Named}
-use Rattle.xl_sched.specs.declared.limits.TheConstants.{MOST_BYTES, MOST_LINES}
+use Rattle.xl_sched.specs.Limits.{most_bytes, most_lines}
 use Rattle.xl_sched.specs.declared.refusal.SchedRefusal.{SchedRefusal}
 use Rattle.xl_sched.specs.declared.refusal.SchedRefusal.TheVariants.{Absent, Header, Limit}
 use Rattle.xl_sched.specs.Answers.{LineAnswer, passes, gives, refuses}
@@ -83,7 +83,7 @@ tokens_read reading (token ∷ arguments) =
 -- a line of votes names a member
 line_votes : (reading : Reading) (bytes : List ℕ) → IfVotes (favor_line reading bytes)
 line_votes reading bytes =
-    cond_both (reading.lines == 0 || reading.lines == MOST_LINES || nat_lt MOST_BYTES (length bytes)) (Ok None) (favor_by reading (tokens bytes)) IfVotes (λ _. tt) (λ _. tokens_read reading (tokens bytes))
+    cond_both (reading.lines == 0 || reading.lines == most_lines || nat_lt most_bytes (length bytes)) (Ok None) (favor_by reading (tokens bytes)) IfVotes (λ _. tt) (λ _. tokens_read reading (tokens bytes))
 
 -- LINES
 
@@ -110,12 +110,12 @@ module _ (r : Running) (t : Tallying) (l : Listing) (is : StandsFor t l) where
       (same.text, record { running = refl; sound = happens_sound r e declared sound; votes = same.votes })
 
   vote_alike : IsSound r → (f : Favor) → IsMember f.member → AreAlike Like (after_vote tallied r t f) (after_vote listed r l f)
-  vote_alike sound f member = by _ _ (ap (λ (n : ℕ). nat_lt MOST_AMENDMENTS n) (as_many t l is f.member f.fee f.ids member))
+  vote_alike sound f member = by _ _ (ap (λ (n : ℕ). nat_lt most_amendments n) (as_many t l is f.member f.fee f.ids member))
     where
       by : (a b : Bool) → a ≡ b →
           AreAlike Like
-          (if a then refuses_line (bad_line r.reading.lines (Limit (decimal MOST_AMENDMENTS))) else silent r (tallied.voted t f.member f.fee f.ids))
-          (if b then refuses_line (bad_line r.reading.lines (Limit (decimal MOST_AMENDMENTS))) else silent r (listed.voted l f.member f.fee f.ids))
+          (if a then refuses_line (bad_line r.reading.lines (Limit (decimal most_amendments))) else silent r (tallied.voted t f.member f.fee f.ids))
+          (if b then refuses_line (bad_line r.reading.lines (Limit (decimal most_amendments))) else silent r (listed.voted l f.member f.fee f.ids))
       by true true same = refl
       by false false same = (refl, record { running = refl; sound = sound; votes = voted_stands t l is f.member f.fee f.ids member })
       by true false same = absurd cc

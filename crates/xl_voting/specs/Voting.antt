@@ -1,6 +1,6 @@
 -- What `xl flags` writes of a schedule. Source: this project's own formats.
 use Rattle.std.specs.Prelude.{ℕ, ◌+◌, ◌==◌, nat_lt, List, [], decimal, Option, Some, None, Result, Ok, Err, if◌then◌else◌}
-use Rattle.xl_flags.specs.declared.flag_votes.TheConstants.{MOST_AMENDMENTS}
+use Rattle.xl_flags.specs.Votes.{most_amendments}
 use Rattle.xl_lines.specs.declared.machine.Verdict.TheVariants.{Good, Refused}
 use Rattle.xl_lines.specs.Rules.{Rules, Step, goes_on, refuses as refuses_line, Told, closes}
 use Rattle.xl_lines.specs.Told.{told_of}
@@ -59,8 +59,8 @@ after_answer keeping r v (refuses refusal) = refused_line r refusal
 -- a vote is taken, unless too many amendments would be named; its line is counted already
 abbrev pub after_vote : {V : Type 0} → Keeping V → Running → V → Favor → Step (Voting V)
 after_vote keeping r v f =
-    if nat_lt MOST_AMENDMENTS (keeping.named v f.member f.fee f.ids)
-    then refuses_line (bad_line r.reading.lines (Limit (decimal MOST_AMENDMENTS)))
+    if nat_lt most_amendments (keeping.named v f.member f.fee f.ids)
+    then refuses_line (bad_line r.reading.lines (Limit (decimal most_amendments)))
     else silent r (keeping.voted v f.member f.fee f.ids)
 
 -- a line of votes, or another

@@ -1,5 +1,5 @@
 ghost use Rattle.std.specs.Prelude.{◌≡◌, ◌≤◌, ◌<◌, length, All, IfOk, IfErr, IsTrue, OnOk};
-ghost use Rattle.xl_flags.specs.declared.flag_votes.TheConstants.{MOST_AMENDMENTS};
+ghost use Rattle.xl_flags.specs.Votes.{most_amendments};
 ghost use Rattle.xl_flags.specs.declared.refusal.FlagRefusal.TheVariants.{TooMany};
 ghost use Rattle.xl_voting.specs.Tallying.{nothing_tallied, tallied};
 ghost use Rattle.xl_voting.specs.Reports.{is_due};
@@ -44,9 +44,9 @@ impl Tally {
     pub fn vote(&mut self, favor: &Favor) -> Result<(), FlagRefusal>
         ensures voted { OnOk result (self.new ≡ tallied.voted self.old favor.now.member favor.now.fee favor.now.ids) }
         ensures many { IfErr result (λ e. e ≡ TooMany
-            → MOST_AMENDMENTS < tallied.named self.old favor.now.member favor.now.fee favor.now.ids) }
+            → most_amendments < tallied.named self.old favor.now.member favor.now.fee favor.now.ids) }
         ensures few { OnOk result
-            (tallied.named self.old favor.now.member favor.now.fee favor.now.ids ≤ MOST_AMENDMENTS) }
+            (tallied.named self.old favor.now.member favor.now.fee favor.now.ids ≤ most_amendments) }
     {
         self.votes
             .favor(favor.member, favor.fee, favor.ids.as_slice())

@@ -1,7 +1,7 @@
 // The machine of `xl flags`.
 ghost use Rattle.std.specs.Prelude.{◌≡◌, ◌≤◌, ◌+◌, [], decimal, IfOk, OnOk, string_bytes};
-ghost use Rattle.xl_base.specs.declared.moments.TheConstants.{GREATEST_MILLIS};
-ghost use Rattle.xl_flags.specs.declared.flag_votes.TheConstants.{MOST_AMENDMENTS};
+ghost use Rattle.xl_base.specs.Moments.{greatest_millis};
+ghost use Rattle.xl_flags.specs.Votes.{most_amendments};
 ghost use Rattle.xl_running.specs.Texts.{bad_line};
 ghost use Rattle.xl_sched.specs.declared.refusal.SchedRefusal.TheVariants.{Limit};
 
@@ -47,7 +47,7 @@ impl Voter {
 
     /// An event is a step of the world, and then it is looked at what was told of it.
     fn part(&mut self, event: &Event, text: &mut String) -> Result<(), OutOfMemory>
-        requires timely { event.now.at ≤ GREATEST_MILLIS }
+        requires timely { event.now.at ≤ greatest_millis }
         requires plausible { IsPlausible event.now.what }
         ensures world { OnOk result (self.new.running ≡ happens self.old.running event.now) }
         ensures said { OnOk result (said_so (string_bytes text.new) self.new.tally
@@ -71,7 +71,7 @@ impl Voter {
 
     /// The frames that were sent by now and stand after the mark are delivered, one at a time, and the mark moves.
     fn deliver_all(&mut self, at: Millis, text: &mut String) -> Result<(), OutOfMemory>
-        requires { at ≤ GREATEST_MILLIS }
+        requires { at ≤ greatest_millis }
         ensures world { OnOk result (self.new.running ≡ in_world self.old.running
             (after_events (world_of self.old.running) (parts_at (world_of self.old.running) at All))) }
         ensures said { OnOk result (said_so (string_bytes text.new) self.new.tally
@@ -90,7 +90,7 @@ impl Voter {
 
     /// A timer comes to each declared number, one at a time.
     fn time_all(&mut self, at: Millis, text: &mut String) -> Result<(), OutOfMemory>
-        requires { at ≤ GREATEST_MILLIS }
+        requires { at ≤ greatest_millis }
         ensures world { OnOk result (self.new.running ≡ in_world self.old.running
             (after_events (world_of self.old.running) (parts_at (world_of self.old.running) at Timers))) }
         ensures said { OnOk result (said_so (string_bytes text.new) self.new.tally
@@ -107,7 +107,7 @@ impl Voter {
 
     /// An event, one delivery or one node's timer at a time.
     fn happen(&mut self, event: &Event, text: &mut String) -> Result<(), OutOfMemory>
-        requires timely { event.now.at ≤ GREATEST_MILLIS }
+        requires timely { event.now.at ≤ greatest_millis }
         requires plausible { IsPlausible event.now.what }
         requires empty { string_bytes text.old ≡ [] }
         ensures { OnOk result (goes_on (string_bytes text.new) (state_of self.new)
@@ -222,7 +222,7 @@ impl Machine for Voter {
 
 /// The refusal of a vote by which too many amendments would be named.
 fn too_many(alloc: Global) -> Result<SchedRefusal, OutOfMemory>
-    ensures { IfOk result (λ refusal. refusal ≡ Limit (decimal MOST_AMENDMENTS)) }
+    ensures { IfOk result (λ refusal. refusal ≡ Limit (decimal most_amendments)) }
 {
     let most = (MOST_AMENDMENTS as u64).to_string(alloc)?;
     Ok(SchedRefusal::Limit(Bytes::from_vec(most.into_bytes())))

@@ -12,7 +12,7 @@ use Rattle.xl_wire.specs.Heads.Split.{Whole}
 use Rattle.xl_wire.specs.Kinds.{span}
 use Rattle.xl_wire.specs.Raws.{RawFrame, SpellsRaw}
 use Rattle.xl_wire.specs.declared.body.Body.{Body}
-use Rattle.xl_wire.specs.declared.lengths.TheConstants.{LONGEST_FRAME}
+use Rattle.xl_wire.specs.Lengths.{longest_frame}
 use Rattle.xl_wire.proofs.RawLaws.{length-raw_bytes, split_again}
 use Rattle.xl_tags.specs.Rings.{Ring}
 use Rattle.xl_tags.specs.Sealing.{sealed}
@@ -85,7 +85,7 @@ module _ (P : List ℕ → Type 0) where
 
   pub given_is : (core : Core) (m : ℕ) → ((body : Body) → IfIs (framed core.node m body)) → All P (given_in (drained_once core m).answer)
   given_is core m each =
-      front_is (fitting (all_frames core m) LONGEST_FRAME) (all_frames core m)
+      front_is (fitting (all_frames core m) longest_frame) (all_frames core m)
       (All-append IfIs (greeted_frames core m) (frames_for core.node core.waiting m) (greeting_is core.node m each (greeting_at core.greetings m))
       (map_is (frame_of core.node m) (item_is core.node m each) (waiting_at core.waiting m).items))
 
@@ -164,15 +164,15 @@ unsent_none from to each before now rest so ends = by_left so.left so.frames so.
 -- ONE DRAIN AFTER THE OTHER
 
 -- a drain that gives nothing is the last
-drains_end : (core : Core) (m more : ℕ) → given_in (drained_once core m).answer ≡ [] → drains core m more ≡ Drain m LONGEST_FRAME ∷ []
+drains_end : (core : Core) (m more : ℕ) → given_in (drained_once core m).answer ≡ [] → drains core m more ≡ Drain m longest_frame ∷ []
 drains_end core m zero none = refl
 drains_end core m (suc more) none =
-    ap (λ (es : List CoreEvent). Drain m LONGEST_FRAME ∷ es) (cond-true (length (given_in (drained_once core m).answer) == 0) [] (drains (drained_once core m).core m more) (eq-eqb _ 0 (ap length none)))
+    ap (λ (es : List CoreEvent). Drain m longest_frame ∷ es) (cond-true (length (given_in (drained_once core m).answer) == 0) [] (drains (drained_once core m).core m more) (eq-eqb _ 0 (ap length none)))
 
 -- one that gives something is followed by another
-drains_more : (core : Core) (m more : ℕ) → (length (given_in (drained_once core m).answer) ≡ 0 → ⊥) → drains core m (suc more) ≡ Drain m LONGEST_FRAME ∷ drains (drained_once core m).core m more
+drains_more : (core : Core) (m more : ℕ) → (length (given_in (drained_once core m).answer) ≡ 0 → ⊥) → drains core m (suc more) ≡ Drain m longest_frame ∷ drains (drained_once core m).core m more
 drains_more core m more some =
-    ap (λ (es : List CoreEvent). Drain m LONGEST_FRAME ∷ es) (cond-false (length (given_in (drained_once core m).answer) == 0) [] (drains (drained_once core m).core m more) (not_none _ some))
+    ap (λ (es : List CoreEvent). Drain m longest_frame ∷ es) (cond-false (length (given_in (drained_once core m).answer) == 0) [] (drains (drained_once core m).core m more) (not_none _ some))
   where
     not_none : (n : ℕ) → (n ≡ 0 → ⊥) → (n == 0) ≡ false
     not_none n h = grind (arith, nat_tests)

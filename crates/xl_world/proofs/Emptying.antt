@@ -11,7 +11,7 @@ use Rattle.xl_core.specs.Node.{Node}
 use Rattle.xl_core.specs.Node.Save.{Kept as AnsweredOk}
 use Rattle.xl_core.specs.declared.event.CoreEvent.{CoreEvent}
 use Rattle.xl_core.specs.declared.event.CoreEvent.TheVariants.{Issue, Frame, Timer, Submit, Greet, Drain, Reports, Stop, Stopped, Relist}
-use Rattle.xl_wire.specs.declared.lengths.TheConstants.{LONGEST_FRAME}
+use Rattle.xl_wire.specs.Lengths.{longest_frame}
 use Rattle.xl_world.specs.declared.place.Fate.{Fate}
 use Rattle.xl_world.specs.declared.place.Fate.TheVariants.{Saved}
 use Rattle.xl_world.specs.declared.place.Keeper.{Keeper}
@@ -59,7 +59,7 @@ drain_by P each (Relist now list) is = absurd is
 pub drains_are : (core : Core) (m more : ℕ) → AreDrains (drains core m more)
 drains_are core m zero = (tt, tt)
 drains_are core m (suc more) =
-    let r : CoreReply = core_happens core (Drain m LONGEST_FRAME) AnsweredOk in
+    let r : CoreReply = core_happens core (Drain m longest_frame) AnsweredOk in
     (tt, cond_both (length (given_in r.answer) == 0) [] (drains r.core m more) AreDrains (λ _. tt) (λ _. drains_are r.core m more))
 
 append_are : (es fs : List CoreEvent) → AreDrains es → AreDrains fs → AreDrains (es ++ fs)

@@ -5,7 +5,7 @@ use Rattle.std.proofs.lemmas.Bool.{cases_Bool, cases_lt, cond-true, cond-false}
 use Rattle.std.proofs.lemmas.List.{get_or-set_same, get_or_past, length-append, length-drop, length-map, length-set, length-take}
 use Rattle.xl_queues.specs.Broadcasts.{queue_of}
 use Rattle.xl_queues.specs.Queues.{Backlog, no_items}
-use Rattle.xl_wire.specs.declared.lengths.TheConstants.{LONGEST_FRAME}
+use Rattle.xl_wire.specs.Lengths.{longest_frame}
 use Rattle.xl_core.specs.declared.greeting.Greeting.{Greeting}
 use Rattle.xl_core.specs.declared.item.Item.{Item}
 use Rattle.xl_core.specs.Answers.{given_in}
@@ -84,10 +84,10 @@ pub fewer_left : (core : Core) (m : ℕ) → (length (given_in (drained_once cor
 fewer_left core m some =
     let gs : Frames = greeted_frames core m in
     let ws : Frames = frames_for core.node core.waiting m in
-    let after : Core = drained core m LONGEST_FRAME in
-    let taken : Frames = drop (length gs) (given_for core m LONGEST_FRAME) in
-    let greeted : length (greeted_frames after m) ≡ length gs - fitting gs LONGEST_FRAME = greeting_short core.node core.greetings m m (fitting gs LONGEST_FRAME) in
+    let after : Core = drained core m longest_frame in
+    let taken : Frames = drop (length gs) (given_for core m longest_frame) in
+    let greeted : length (greeted_frames after m) ≡ length gs - fitting gs longest_frame = greeting_short core.node core.greetings m m (fitting gs longest_frame) in
     let waits : length (frames_for core.node after.waiting m) ≡ length ws - length taken =
     length-map (waiting_at after.waiting m).items (frame_of core.node m)
     ∙ (queue_short core.waiting m taken ∙ ap (λ (k : ℕ). k - length taken) (sym (length-map (waiting_at core.waiting m).items (frame_of core.node m)))) in
-    omega (arith, greeted, waits, shorter gs ws LONGEST_FRAME some, length-append gs ws, length-append (greeted_frames after m) (frames_for core.node after.waiting m))
+    omega (arith, greeted, waits, shorter gs ws longest_frame some, length-append gs ws, length-append (greeted_frames after m) (frames_for core.node after.waiting m))

@@ -5,7 +5,7 @@ use Rattle.std.specs.Prelude.{Some, None}
 use Rattle.std.specs.declared.option.Option.{Option}
 use Rattle.xl_core.specs.declared.event.CoreEvent.{CoreEvent}
 use Rattle.xl_core.specs.declared.event.CoreEvent.TheVariants.{Drain, Reports}
-use Rattle.xl_wire.specs.declared.lengths.TheConstants.{LONGEST_FRAME}
+use Rattle.xl_wire.specs.Lengths.{longest_frame}
 use Rattle.xl_core.specs.Answers.{given_in}
 use Rattle.xl_core.specs.Core.{Core, CoreReply, all_frames, core_happens}
 use Rattle.xl_core.specs.Node.Save.{Kept as AnsweredOk}
@@ -33,14 +33,14 @@ handed_out core = (core_happens core (Reports 1) AnsweredOk).core
 
 -- what comes of one drain for a member
 abbrev pub drained_once : Core → ℕ → CoreReply
-drained_once core member = core_happens core (Drain member LONGEST_FRAME) AnsweredOk
+drained_once core member = core_happens core (Drain member longest_frame) AnsweredOk
 
--- drains for a member until one gives nothing, so many more at most
+-- drains for a member until one gives nothing, this many more at most
 abbrev pub drains : Core → ℕ → ℕ → List CoreEvent
-drains core member zero = Drain member LONGEST_FRAME ∷ []
+drains core member zero = Drain member longest_frame ∷ []
 drains core member (suc more) =
     let reply = drained_once core member in
-    Drain member LONGEST_FRAME ∷ (if length (given_in reply.answer) == 0 then [] else drains reply.core member more)
+    Drain member longest_frame ∷ (if length (given_in reply.answer) == 0 then [] else drains reply.core member more)
 
 -- each that gives something takes one at least of the frames that are left
 abbrev pub drains_for : Core → ℕ → List CoreEvent

@@ -26,7 +26,7 @@ fork_after earlier (r ∷ rs) =
 abbrev pub first_fork : List Report → Option Fork
 first_fork reports = fork_after [] reports
 
--- where there is no fork, no two reports of one sequence name different ledgers
+-- if there is no fork, no two reports of one sequence name different ledgers
 abbrev pub NoForkAgrees : Type 0
 NoForkAgrees = (reports : List Report) → first_fork reports ≡ None →
     All (λ r. All (λ q. r.seq ≡ q.seq → r.id ≡ q.id) reports) reports

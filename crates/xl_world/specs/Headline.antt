@@ -18,7 +18,7 @@ abbrev pub EnoughAt : List ℕ → List Reported → ℕ → ℕ → Type 0
 EnoughAt liars reports i j =
     All (λ r. All (λ q. r.node ≡ i → q.node ≡ j → r.seq ≡ q.seq → Enough liars r.list q.list) reports) reports
 
--- The headline, of every run of cores: where no frame is forged, the nodes of two numbers never report different
+-- The headline, of every run of cores: if no frame is forged, the nodes of two numbers never report different
 -- ledgers of one sequence, if the quorums of the lists that were in force at the reports are enough. A node's list may
 -- change at any step.
 abbrev pub Headline : Type 0

@@ -7,7 +7,7 @@ use Rattle.std.specs.BTreeMap.{get_by}
 use Rattle.xl_world.specs.declared.index.TagIndex.{TagIndex}
 use Rattle.xl_world.specs.Sending.{Sent}
 
--- the last 32 bytes, or all where they are fewer
+-- the last 32 bytes, or all if they are fewer
 abbrev pub tag_in : List ℕ → List ℕ
 tag_in bytes = drop (length bytes - 32) bytes
 

@@ -2,13 +2,13 @@
 use Rattle.std.specs.Prelude.{ℕ, ◌+◌, ◌≤◌, ◌==◌, ◌||◌, Bool, List, [], ◌∷◌, zero, suc, All, find, option_map}
 use Rattle.std.specs.declared.option.Option.{Option}
 use Rattle.std.specs.List.{list_any}
-use Rattle.xl_base.specs.declared.moments.TheConstants.{GREATEST_MILLIS}
+use Rattle.xl_base.specs.Moments.{greatest_millis}
 use Rattle.xl_lists.specs.Lists.{TrustedList, IsValid, is_on}
 use Rattle.xl_tags.specs.Rings.{schedule_ring}
 use Rattle.xl_core.specs.declared.settings.Settings.{Settings}
 use Rattle.xl_world.specs.declared.plan.PlanNode.{PlanNode}
 
--- so many numbers from one on
+-- this many numbers from one on
 unfoldable pub up_from : ℕ → ℕ → List ℕ
 up_from n zero = []
 up_from n (suc k) = n ∷ up_from (n + 1) k
@@ -47,7 +47,7 @@ AreDeclared plan = All IsDeclared plan
 
 -- each node is opened at a moment that there may be
 abbrev pub AreTimely : List PlanNode → Type 0
-AreTimely plan = All (λ d. d.moment ≤ GREATEST_MILLIS) plan
+AreTimely plan = All (λ d. d.moment ≤ greatest_millis) plan
 
 -- the list that a number is declared with
 abbrev pub list_at : List PlanNode → ℕ → Option TrustedList

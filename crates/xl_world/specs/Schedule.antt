@@ -206,7 +206,7 @@ abbrev pub told_in : World → List Step → List Outcome
 told_in w [] = []
 told_in w (s ∷ ss) = told_of_step w s ++ told_in (step w s) ss
 
--- the ledger that the node of a number prefers, where there is such a node
+-- the ledger that the node of a number prefers, if there is such a node
 abbrev pub preference : ℕ → Option Place → List Outcome
 preference i place = option_to_list (option_map (λ p. Preferred i (preferred p.core.node)) place)
 
@@ -214,7 +214,7 @@ preference i place = option_to_list (option_map (λ p. Preferred i (preferred p.
 abbrev pub hearsay_of : Core → ℕ → Outcome
 hearsay_of core member = Heard core.node.me member (heard_of core.node.rows member)
 
--- of each member of its list, rising, where there is such a node
+-- of each member of its list, rising, if there is such a node
 abbrev pub hearsay : ℕ → Option Place → List Outcome
 hearsay i None = []
 hearsay i (Some p) = map (hearsay_of p.core) p.core.node.list.members

@@ -137,7 +137,7 @@ put_acted e fate (Some p) places = put (place_after p e fate) places
 abbrev pub acted_at : ℕ → CoreEvent → Fate → List Place → List Place
 acted_at i e fate places = put_acted e fate (place_at i places) places
 
--- what the node of a number answered, where there is one
+-- what the node of a number answered, if there is one
 abbrev pub Answers : CoreEvent → Fate → Option Place → Option NodeAnswer → Type 0
 Answers e fate None None = Unit {0}
 Answers e fate None (Some a) = ⊥
@@ -187,11 +187,11 @@ noted w i a = record w {
 abbrev pub with_places : World → List Place → World
 with_places w places = record w { places = places }
 
--- a world in which so many frames came forged
+-- a world in which this many frames came forged
 abbrev pub with_forged : ℕ → World → World
 with_forged n w = record w { forged = n }
 
--- whether what comes to a place, where there is one, is forged
+-- whether what comes to a place, if there is one, is forged
 abbrev pub forged_at : List ℕ → List Sent → List ℕ → Option Place → Bool
 forged_at liars sent bytes None = false
 forged_at liars sent bytes (Some p) = forges liars sent p.core.node.keys bytes (split_of bytes)

@@ -1,8 +1,7 @@
--- A network of honest nodes and liars, and its runs: a drain of a core and the handing out of its reports are steps
--- like any other, and what a drain gives is what was sent. Whatever was ever sent may come never, once or often, at any
--- later place.
--- Source: Chase and MacBrough, "Analysis of the XRP Ledger Consensus Protocol" (2018); restarts, keepers and queues by
--- this profile.
+-- A network of honest nodes and liars, and its runs. A drain of a core and the handing out of its reports are steps
+-- like any other, and what a drain gives is what was sent. Whatever was ever sent may come never, once or often, at
+-- any later place. Source: Chase and MacBrough, "Analysis of the XRP Ledger Consensus Protocol" (2018); restarts,
+-- keepers and queues by this profile.
 use Rattle.std.specs.Prelude.{ℕ, All, ◌==◌, Bool, false, List, [], ◌∷◌, ◌++◌, length, map, option_map, option_to_list, find, if◌then◌else◌}
 use Rattle.std.specs.Prelude.{Some, None}
 use Rattle.std.specs.declared.option.Option.{Option}

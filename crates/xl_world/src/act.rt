@@ -3,7 +3,7 @@ ghost use Rattle.std.specs.Prelude.{◌≡◌, ◌≢◌, ◌≤◌, ◌==◌, [
 ghost use Rattle.xl_core.specs.Node.{preferred};
 ghost use Rattle.xl_core.specs.Core.{core_asks, core_happens};
 ghost use Rattle.xl_tags.specs.Rings.{schedule_ring};
-ghost use Rattle.xl_base.specs.declared.moments.TheConstants.{GREATEST_MILLIS};
+ghost use Rattle.xl_base.specs.Moments.{greatest_millis};
 ghost use Rattle.xl_world.specs.declared.outcome.Outcome.TheVariants.{Preferred};
 ghost use Rattle.xl_world.specs.World.{reported_by};
 ghost use Rattle.xl_world.specs.World.{place_at, reply_at, set_by};
@@ -85,7 +85,7 @@ fn done_or_refused<T: Drop>(outcome: Result<T, Refusal>) -> Reaction
     }
 }
 
-/// What came of a timer; the validation of a built ledger is the node's, where it issued one.
+/// What came of a timer; the validation of a built ledger is the node's, if it issued one.
 fn beaten(member: NodeNo, beat: Beat) -> Done
     ensures { IsBeaten member beat result }
 {
@@ -113,7 +113,7 @@ fn issue(
     full: bool,
     keeper: &mut Fated,
 ) -> Done
-    requires { now ≤ GREATEST_MILLIS }
+    requires { now ≤ greatest_millis }
     ensures { Does core.old (deed_event now (Deed.Issue seq id full)) keeper.old core.new result keeper.new }
 {
     let member = core.node().me();
@@ -128,7 +128,7 @@ fn issue(
 
 /// Something happens at a core.
 fn happen(core: &mut NodeCore, now: Millis, deed: &Deed<'_>, keeper: &mut Fated) -> Done
-    requires moment { now ≤ GREATEST_MILLIS }
+    requires moment { now ≤ greatest_millis }
     requires keys { core.old.node.keys ≡ schedule_ring core.old.node.me }
     requires may { MayDo core.old.node.me deed.now }
     ensures { Does core.old (deed_event now deed.now) keeper.old core.new result keeper.new }
@@ -209,7 +209,7 @@ fn set_by(node: NodeNo, deed: &Deed<'_>, reaction: &Reaction) -> Option<InForce>
 
 /// Something happens at a place, and the save that it asks, if any, meets a fate. The report that arises is taken.
 pub fn act(place: &mut Place, now: Millis, deed: &Deed<'_>, fate: Fate) -> NodeAnswer
-    requires moment { now ≤ GREATEST_MILLIS }
+    requires moment { now ≤ greatest_millis }
     requires rested { IsRested place.old.core }
     requires may { MayDo place.old.core.node.me deed.now }
     ensures place { place.new ≡ place_after place.old (deed_event now deed.now) fate }
@@ -244,7 +244,7 @@ pub fn position_of(places: &[Place], i: NodeNo) -> Option<usize>
     places.iter().position(|place| place.core.node().me() == i)
 }
 
-/// The list of the node of a number, where there is one.
+/// The list of the node of a number, if there is one.
 pub fn list_at(places: &[Place], i: NodeNo) -> Option<&List>
     ensures { option_copied result ≡ option_map (λ p. p.core.node.list) (place_at i places.now) }
 {
@@ -257,7 +257,7 @@ pub fn list_at(places: &[Place], i: NodeNo) -> Option<&List>
     }
 }
 
-/// The core of a number, where there is one.
+/// The core of a number, if there is one.
 pub fn core_at(places: &[Place], i: NodeNo) -> Option<&NodeCore>
     ensures { option_copied result ≡ option_map (λ p. p.core) (place_at i places.now) }
 {
@@ -270,7 +270,7 @@ pub fn core_at(places: &[Place], i: NodeNo) -> Option<&NodeCore>
     }
 }
 
-/// The ledger that the node of a number prefers, where there is such a node.
+/// The ledger that the node of a number prefers, if there is such a node.
 pub fn preferred_at(places: &[Place], i: NodeNo) -> Option<Outcome>
     ensures { result ≡ option_map (λ p. Preferred i (preferred p.core.node)) (place_at i places.now) }
 {
@@ -286,7 +286,7 @@ pub fn preferred_at(places: &[Place], i: NodeNo) -> Option<Outcome>
     }
 }
 
-/// Something happens at the node of a number, where there is one.
+/// Something happens at the node of a number, if there is one.
 pub fn act_at(
     places: &mut [Place],
     i: NodeNo,
@@ -294,7 +294,7 @@ pub fn act_at(
     deed: &Deed<'_>,
     fate: Fate,
 ) -> Option<NodeAnswer>
-    requires moment { now ≤ GREATEST_MILLIS }
+    requires moment { now ≤ greatest_millis }
     requires rested { (p : _) → place_at i places.old ≡ Some p → IsRested p.core }
     requires may { MayDo i deed.now }
     ensures places { places.new ≡ acted_at i (deed_event now deed.now) fate places.old }

@@ -1,6 +1,6 @@
 // Nodes that are opened anew, each with a number that its keeper may hold.
 ghost use Rattle.std.specs.Prelude.{◌≡◌, ◌≤◌, OnOk};
-ghost use Rattle.xl_base.specs.declared.moments.TheConstants.{GREATEST_MILLIS};
+ghost use Rattle.xl_base.specs.Moments.{greatest_millis};
 ghost use Rattle.xl_world.specs.Seen.{keeper_in, place_again, put_again};
 ghost use Rattle.xl_world.specs.World.{place_at};
 
@@ -9,7 +9,7 @@ use crate::place::{Keeper, Place};
 use std::alloc::Global;
 use xl_base::{Millis, NodeNo, OutOfMemory};
 
-/// The keeper of the node of a number, where there is one.
+/// The keeper of the node of a number, if there is one.
 pub fn keeper_at(places: &[Place], i: NodeNo) -> Option<Keeper>
     ensures { result ≡ keeper_in i places.now }
 {
@@ -24,7 +24,7 @@ pub fn keeper_at(places: &[Place], i: NodeNo) -> Option<Keeper>
 
 /// The node is opened anew with the number that this keeper holds, which is its own from then on.
 fn reopen(alloc: Global, place: &mut Place, now: Millis, keeper: Keeper) -> Result<(), OutOfMemory>
-    requires { now ≤ GREATEST_MILLIS }
+    requires { now ≤ greatest_millis }
     ensures { OnOk result (place.new ≡ place_again place.old now keeper) }
 {
     place.core.reopen(alloc, now, keeper.in_force)?;
@@ -32,7 +32,7 @@ fn reopen(alloc: Global, place: &mut Place, now: Millis, keeper: Keeper) -> Resu
     Ok(())
 }
 
-/// The node of a number, where there is one, is opened anew in its place.
+/// The node of a number, if there is one, is opened anew in its place.
 pub fn reopen_at(
     alloc: Global,
     places: &mut [Place],
@@ -40,7 +40,7 @@ pub fn reopen_at(
     now: Millis,
     keeper: Keeper,
 ) -> Result<(), OutOfMemory>
-    requires { now ≤ GREATEST_MILLIS }
+    requires { now ≤ greatest_millis }
     ensures { OnOk result (places.new ≡ put_again now keeper (place_at i places.old) places.old) }
 {
     match position_of(places, i) {

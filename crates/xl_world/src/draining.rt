@@ -4,7 +4,7 @@ ghost use Rattle.xl_core.specs.Answers.{given_in};
 ghost use Rattle.xl_wire.specs.Heads.{split_of};
 ghost use Rattle.xl_wire.specs.Heads.Split.{Whole};
 ghost use Rattle.xl_wire.specs.Raws.{RawFrame};
-ghost use Rattle.xl_wire.specs.declared.lengths.TheConstants.{LONGEST_FRAME};
+ghost use Rattle.xl_wire.specs.Lengths.{longest_frame};
 ghost use Rattle.xl_core.specs.Queues.{joined};
 ghost use Rattle.xl_core.specs.Sending.{blanked};
 ghost use Rattle.xl_tags.specs.Rings.{schedule_ring};
@@ -32,7 +32,7 @@ fn copied(alloc: Global, bytes: &[u8]) -> Result<Bytes, OutOfMemory>
     Ok(Bytes::from_vec(Vec::from_slice(alloc, bytes)?))
 }
 
-/// How many bytes the frame has with which these begin, or None where they begin with no whole frame.
+/// How many bytes the frame has with which these begin, or None if they begin with no whole frame.
 fn first_length(bytes: &[u8]) -> Option<usize>
     ensures some { IfSome result (λ length. IsFirstFrame length bytes.now) }
     ensures none { result ≡ None → (f : RawFrame) → split_of bytes.now ≢ Whole f }
@@ -64,14 +64,14 @@ fn send_each(
     Ok(())
 }
 
-/// One drain for another number: how many bytes it gave, or None where it gave nothing. Its frames have no tags.
+/// One drain for another number: how many bytes it gave, or None if it gave nothing. Its frames have no tags.
 fn drain_once(core: &mut NodeCore, to: NodeNo, room: &mut [u8; LONGEST_FRAME]) -> Option<usize>
     requires other { to ≢ core.old.node.me }
     requires keys { core.old.node.keys ≡ schedule_ring core.old.node.me }
     ensures core { core.new ≡ (drained_once core.old to).core }
     ensures none { result ≡ None → given_in (drained_once core.old to).answer ≡ [] }
     ensures some { IfSome result (λ count.
-        (0 < count) × (count ≤ LONGEST_FRAME)
+        (0 < count) × (count ≤ longest_frame)
         × (take count room.new ≡ joined (map blanked (given_in (drained_once core.old to).answer)))) }
 {
     if core.is_idle(to) {
@@ -126,7 +126,7 @@ fn drain(
     Ok(())
 }
 
-/// What waits at the node of a number, where there is one, is drained for each other number and sent.
+/// What waits at the node of a number, if there is one, is drained for each other number and sent.
 pub fn drain_at(
     alloc: Global,
     places: &mut [Place],

@@ -52,7 +52,7 @@ fn forges(liars: &[NodeNo], traffic: &mut Traffic, keys: &Keys, bytes: &[u8]) ->
     }
 }
 
-/// Whether what comes to the node of a number, where there is one, is forged.
+/// Whether what comes to the node of a number, if there is one, is forged.
 pub fn is_forged(
     liars: &[NodeNo],
     traffic: &mut Traffic,

@@ -15,7 +15,7 @@ pub struct Fork<'a> {
     pub later: &'a WorldReport,
 }
 
-/// The first fork of these reports, in their order, or none where all reports of one sequence name one ledger.
+/// The first fork of these reports, in their order, or none if all reports of one sequence name one ledger.
 ///
 /// It keeps the first report of each sequence and looks at each report once: until there is a fork, all reports of a
 /// sequence name the ledger of the first.
@@ -42,8 +42,8 @@ pub fn first_fork<'a>(
 
 /// What the first fork says of any reports. It has no code.
 pub fn law_of_forks()
-    // Where there is none, no two reports of one sequence name different ledgers.
+    // If there is none, no two reports of one sequence name different ledgers.
     ensures none { NoForkAgrees }
-    // Where there is one, its two are among the reports, of one sequence, and name different ledgers.
+    // If there is one, its two are among the reports, of one sequence, and name different ledgers.
     ensures differs { ForkDiffers }
 {}

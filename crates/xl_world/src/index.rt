@@ -11,7 +11,7 @@ use std::collections::BTreeMap;
 /// Where sent frames stand by their tags: the first of each tag.
 ///
 /// Frames are added when bytes are looked up, so that a schedule that hands in no bytes pays nothing. A frame that was
-/// sent again is found where it was sent first. Where two different frames have one tag, or memory is wanting, the
+/// sent again is found where it was sent first. Where two different frames have one tag, or memory runs out, the
 /// index is given up, and all frames are looked at.
 #[derive(Drop)]
 pub struct TagIndex {
@@ -140,7 +140,7 @@ fn sent_at(sent: &[Sent], place: usize) -> Option<&Sent>
     sent.get(place)
 }
 
-/// The last 32 bytes, where there are so many.
+/// The last 32 bytes, if there are that many.
 fn tag_of(bytes: &[u8]) -> Option<[u8; 32]>
     ensures some { IfSome result (λ tag. tag ≡ tag_in bytes.now) }
     ensures none { result ≡ None → length bytes.now < 32 }

@@ -3,7 +3,7 @@ ghost use Rattle.std.specs.Prelude.{◌≡◌, ◌≤◌, ◌++◌, length, take
 ghost use Rattle.xl_wire.specs.Raws.{RawFrame, SpellsRaw};
 ghost use Rattle.xl_tags.specs.Rings.{schedule_ring};
 ghost use Rattle.xl_tags.specs.Sealing.{before_tag, sealed};
-ghost use Rattle.xl_wire.specs.declared.lengths.TheConstants.{LONGEST_FRAME};
+ghost use Rattle.xl_wire.specs.Lengths.{longest_frame};
 ghost use Rattle.xl_sched.specs.Fits.{IsFitLied};
 ghost use Rattle.xl_world.specs.Schedule.{lied_body, lied_bytes};
 
@@ -17,7 +17,7 @@ use xl_wire::{Body, Frame, Ids, encode};
 /// how many bytes it has.
 pub fn put_lie(from: NodeNo, to: NodeNo, lie: &Lied, room: &mut [u8]) -> usize
     requires sayable { IsFitLied lie.now }
-    requires room { LONGEST_FRAME ≤ length room.old }
+    requires room { longest_frame ≤ length room.old }
     ensures within { result ≤ length room.new }
     ensures written { take result room.new ≡ lied_bytes from to lie.now }
 {

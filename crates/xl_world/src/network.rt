@@ -51,8 +51,8 @@ impl Model for Network {
 
 impl Network {
     ghost use Rattle.std.specs.Prelude.{◌≡◌, ◌≤◌, ◌++◌, length, option_copied, slice_get, Some, IfOk, OnOk};
-    ghost use Rattle.xl_base.specs.declared.moments.TheConstants.{GREATEST_MILLIS};
-    ghost use Rattle.xl_ledger.specs.declared.registry.TheConstants.{LEAST_LIMIT, GREATEST_LIMIT};
+    ghost use Rattle.xl_base.specs.Moments.{greatest_millis};
+    ghost use Rattle.xl_ledger.specs.Limits.{greatest_limit, least_limit};
     ghost use Rattle.xl_sched.specs.Fits.{IsFitLied};
     ghost use Rattle.xl_world.specs.Plans.{AreDeclared, AreTimely};
     ghost use Rattle.xl_world.specs.Starts.{start};
@@ -80,8 +80,8 @@ impl Network {
 
     /// The network of a plan, at its start.
     pub fn open(alloc: Global, plan: &Plan) -> Result<Network, OutOfMemory>
-        requires least { LEAST_LIMIT ≤ plan.now.limit }
-        requires most { plan.now.limit ≤ GREATEST_LIMIT }
+        requires least { least_limit ≤ plan.now.limit }
+        requires most { plan.now.limit ≤ greatest_limit }
         requires moments { AreTimely plan.now.nodes.items }
         ensures start { IfOk result (λ network.
             network ≡ start (record { limit = plan.now.limit; speak = plan.now.speak }) plan.now.liars.items plan.now.nodes.items) }
@@ -128,7 +128,7 @@ impl Network {
         )
     }
 
-    /// Something happens at a node, where there is one of the number. What comes forged isn't counted here.
+    /// Something happens at a node, if there is one of the number. What comes forged isn't counted here.
     fn act(
         &mut self,
         i: NodeNo,
@@ -137,7 +137,7 @@ impl Network {
         fate: Fate,
         told: &mut Vec<Outcome>,
     ) -> Result<(), OutOfMemory>
-        requires moment { at ≤ GREATEST_MILLIS }
+        requires moment { at ≤ greatest_millis }
         requires rest { IsAtRest self.old }
         requires may { MayDo i deed.now }
         ensures world { OnOk result (self.new
@@ -160,7 +160,7 @@ impl Network {
         fate: Fate,
         told: &mut Vec<Outcome>,
     ) -> Result<(), OutOfMemory>
-        requires moment { at ≤ GREATEST_MILLIS }
+        requires moment { at ≤ greatest_millis }
         requires rest { IsAtRest self.old }
         ensures world { OnOk result (self.new ≡ run self.old (ask_steps self.old at ask.now fate)) }
         ensures told { OnOk result (told.new.items
@@ -173,7 +173,7 @@ impl Network {
 
     /// A timer comes to each node, by rising number.
     fn timers(&mut self, at: Millis, told: &mut Vec<Outcome>) -> Result<(), OutOfMemory>
-        requires moment { at ≤ GREATEST_MILLIS }
+        requires moment { at ≤ greatest_millis }
         requires rest { IsAtRest self.old }
         ensures world { OnOk result (self.new ≡ run self.old (timers self.old at self.old.numbers)) }
         ensures told { OnOk result (told.new.items
@@ -196,7 +196,7 @@ impl Network {
         deed: &Deed<'_>,
         told: &mut Vec<Outcome>,
     ) -> Result<(), OutOfMemory>
-        requires moment { at ≤ GREATEST_MILLIS }
+        requires moment { at ≤ greatest_millis }
         requires deed { deed.now ≡ Deed.Greet peer }
         requires rest { IsAtRest self.old }
         ensures world { OnOk result (self.new ≡ run self.old (greet_steps self.old node peer)) }
@@ -218,7 +218,7 @@ impl Network {
         place: usize,
         told: &mut Vec<Outcome>,
     ) -> Result<(), OutOfMemory>
-        requires moment { at ≤ GREATEST_MILLIS }
+        requires moment { at ≤ greatest_millis }
         requires rest { IsAtRest self.old }
         ensures world { OnOk result
             (self.new ≡ run self.old (delivery_of self.old at (slice_get self.old.sent place))) }
@@ -240,7 +240,7 @@ impl Network {
 
     /// The sent frames after the mark are handed to their receivers, and the mark moves to the end.
     fn deliver_all(&mut self, at: Millis, told: &mut Vec<Outcome>) -> Result<(), OutOfMemory>
-        requires moment { at ≤ GREATEST_MILLIS }
+        requires moment { at ≤ greatest_millis }
         requires rest { IsAtRest self.old }
         ensures world { OnOk result (self.new ≡ run self.old (steps_at self.old at What.All)) }
         ensures told { OnOk result (told.new.items ≡ told.old.items ++ outcomes_at self.old at What.All) }
@@ -261,7 +261,7 @@ impl Network {
         bytes: &[u8],
         told: &mut Vec<Outcome>,
     ) -> Result<(), OutOfMemory>
-        requires moment { at ≤ GREATEST_MILLIS }
+        requires moment { at ≤ greatest_millis }
         requires rest { IsAtRest self.old }
         ensures world { OnOk result (self.new ≡ run self.old (hand_steps self.old at to bytes.now)) }
         ensures told { OnOk result (told.new.items
@@ -283,7 +283,7 @@ impl Network {
         lie: &Lied,
         told: &mut Vec<Outcome>,
     ) -> Result<(), OutOfMemory>
-        requires moment { at ≤ GREATEST_MILLIS }
+        requires moment { at ≤ greatest_millis }
         requires rest { IsAtRest self.old }
         requires fit { IsFitLied lie.now }
         ensures world { OnOk result (self.new ≡ run self.old (hand_steps self.old at to (lied_bytes from to lie.now))) }
@@ -296,9 +296,9 @@ impl Network {
         self.hand_in(at, to, &room[..length], told)
     }
 
-    /// The node of a number, where there is one, is opened anew in its place, with what its keeper then holds.
+    /// The node of a number, if there is one, is opened anew in its place, with what its keeper then holds.
     fn reopen(&mut self, at: Millis, node: NodeNo, keeper: Keeper) -> Result<(), OutOfMemory>
-        requires { at ≤ GREATEST_MILLIS }
+        requires { at ≤ greatest_millis }
         ensures places { OnOk result (self.new
             ≡ with_places self.old (put_again at keeper (place_at node self.old.places) self.old.places)) }
         ensures grows { Grows self.old self.new }
@@ -308,7 +308,7 @@ impl Network {
 
     /// Opens a node anew with the number that its keeper holds.
     fn restart(&mut self, at: Millis, node: NodeNo) -> Result<(), OutOfMemory>
-        requires moment { at ≤ GREATEST_MILLIS }
+        requires moment { at ≤ greatest_millis }
         requires rest { IsAtRest self.old }
         ensures world { OnOk result (self.new ≡ run self.old (steps_at self.old at (What.Restart node))) }
         ensures grows { Grows self.old self.new }
@@ -320,7 +320,7 @@ impl Network {
     }
 
     /// A node is asked something, and its save is cut off, which leaves the new number or the old one; it is opened
-    /// anew then. Where no save is asked, it is opened anew after what it was asked came to its end.
+    /// anew then. If no save is asked, it is opened anew after what it was asked came to its end.
     fn cut(
         &mut self,
         at: Millis,
@@ -328,7 +328,7 @@ impl Network {
         ask: &Ask,
         told: &mut Vec<Outcome>,
     ) -> Result<(), OutOfMemory>
-        requires moment { at ≤ GREATEST_MILLIS }
+        requires moment { at ≤ greatest_millis }
         requires rest { IsAtRest self.old }
         ensures world { OnOk result (self.new ≡ run self.old (steps_at self.old at (What.Cut new ask.now))) }
         ensures told { OnOk result (told.new.items ≡ told.old.items ++ outcomes_at self.old at (What.Cut new ask.now)) }
@@ -354,7 +354,7 @@ impl Network {
 
     /// Something happens at a moment, and what is told of it comes after what was told.
     fn take(&mut self, at: Millis, what: &What, told: &mut Vec<Outcome>) -> Result<(), OutOfMemory>
-        requires moment { at ≤ GREATEST_MILLIS }
+        requires moment { at ≤ greatest_millis }
         requires rest { IsAtRest self.old }
         requires plausible { IsPlausible what.now }
         ensures world { OnOk result (self.new ≡ run self.old (steps_at self.old at what.now)) }
@@ -394,7 +394,7 @@ impl Network {
 
     /// An event of a schedule, and what is told of it, in order.
     pub fn happen(&mut self, event: &Event) -> Result<Happened, OutOfMemory>
-        requires moment { event.now.at ≤ GREATEST_MILLIS }
+        requires moment { event.now.at ≤ greatest_millis }
         requires rest { IsAtRest self.old }
         requires plausible { IsPlausible event.now.what }
         ensures world { OnOk result (self.new ≡ run self.old (steps_at self.old event.now.at event.now.what)) }
@@ -443,7 +443,7 @@ impl Network {
     }
 }
 
-/// The count, with one more where something was forged.
+/// The count, with one more if something was forged.
 fn counted(count: u64, forged: bool) -> u64
     ensures { result ≡ (if forged then one_more count else count) }
 {

@@ -1,9 +1,9 @@
 // A world at its start.
 ghost use Rattle.std.specs.Prelude.{◌≡◌, ◌++◌, option_to_list, ◌≤◌, ◌||◌, ◌==◌, IfOk, OnOk, Some, None, map, filter, All, if◌then◌else◌};
 ghost use Rattle.std.specs.List.{list_any};
-ghost use Rattle.xl_ledger.specs.declared.registry.TheConstants.{LEAST_LIMIT, GREATEST_LIMIT};
+ghost use Rattle.xl_ledger.specs.Limits.{greatest_limit, least_limit};
 ghost use Rattle.xl_lists.specs.Lists.{is_on};
-ghost use Rattle.xl_base.specs.declared.moments.TheConstants.{GREATEST_MILLIS};
+ghost use Rattle.xl_base.specs.Moments.{greatest_millis};
 ghost use Rattle.xl_world.specs.Plans.{is_declared, all_numbers, AreDeclared, AreTimely, Shared};
 ghost use Rattle.xl_world.specs.Starts.{list_of, start_of};
 
@@ -16,9 +16,9 @@ use xl_tags::Keys;
 
 /// A core at its start, with room for so many ledgers and validations of a version, and its keeper.
 fn place(alloc: Global, limit: u32, speak: u8, node: &PlanNode) -> Result<Place, OutOfMemory>
-    requires least { LEAST_LIMIT ≤ limit }
-    requires most { limit ≤ GREATEST_LIMIT }
-    requires moment { node.now.moment ≤ GREATEST_MILLIS }
+    requires least { least_limit ≤ limit }
+    requires most { limit ≤ greatest_limit }
+    requires moment { node.now.moment ≤ greatest_millis }
     ensures { IfOk result (λ place. place ≡ start_of (record { limit = limit; speak = speak }) node.now) }
 {
     let settings = Settings {
@@ -42,8 +42,8 @@ pub fn places(
     speak: u8,
     nodes: &[PlanNode],
 ) -> Result<Vec<Place>, OutOfMemory>
-    requires least { LEAST_LIMIT ≤ limit }
-    requires most { limit ≤ GREATEST_LIMIT }
+    requires least { least_limit ≤ limit }
+    requires most { limit ≤ greatest_limit }
     requires moments { AreTimely nodes.now }
     ensures opened { IfOk result (λ places.
         places.items ≡ map (start_of (record { limit = limit; speak = speak })) nodes.now) }
@@ -90,7 +90,7 @@ fn is_declared(plan: &Plan, number: NodeNo) -> bool
     is_honest(&plan.nodes, number) || is_liar(&plan.liars, number)
 }
 
-/// The member of a number, where it is declared.
+/// The member of a number, if it is declared.
 fn declared(plan: &Plan, number: u32) -> Option<NodeNo>
     requires least { 1 ≤ number }
     requires greatest { number ≤ 64 }

@@ -13,8 +13,8 @@ pub enum Fate {
     Written,
 }
 
-/// What outlives a stop of a node: the number in force; after a save that failed the one that was asked, and whether it
-/// was written all the same; and how often a save has failed, up to the greatest `u64`.
+/// What outlives a stop of a node: the number in force; after a save that failed the one that was asked, and whether
+/// it was written all the same. Also how often a save has failed, up to the greatest `u64`.
 #[derive(Clone, Copy, Debug, PartialEq, Eq)]
 pub struct Keeper {
     pub in_force: Seq,

@@ -12,7 +12,7 @@ use xl_base::{NodeNo, OutOfMemory};
 use xl_core::{Beat, Issued, Refusal};
 use xl_ledger::AddRefusal;
 
-/// Adds an element where there is one.
+/// Adds an element if there is one.
 pub fn push_some<T: Drop>(list: &mut Vec<T>, element: Option<T>) -> Result<(), OutOfMemory>
     ensures pushed { OnOk result (list.new.items ≡ list.old.items ++ option_to_list element) }
     ensures longer { IsLonger list.old.items list.new.items }
@@ -23,7 +23,7 @@ pub fn push_some<T: Drop>(list: &mut Vec<T>, element: Option<T>) -> Result<(), O
     Ok(())
 }
 
-/// The ledger that a node built, and that its validation of it was refused, where it was.
+/// The ledger that a node built, and that its validation of it was refused, if it was.
 fn tell_built(
     told: &mut Vec<Outcome>,
     node: NodeNo,
@@ -125,7 +125,7 @@ fn tell_heard(told: &mut Vec<Outcome>, core: &NodeCore) -> Result<(), OutOfMemor
     Ok(())
 }
 
-/// The same of the node of a number, where there is one.
+/// The same of the node of a number, if there is one.
 pub fn tell_heard_at(
     told: &mut Vec<Outcome>,
     places: &[Place],

@@ -35,8 +35,8 @@ impl Model for World {
 
 impl World {
     ghost use Rattle.std.specs.Prelude.{◌≡◌, ◌≤◌, ◌↔◌, option_copied, None, true, false, IsErr, IsTrue, IfOk, OnOk, OnErr};
-    ghost use Rattle.xl_base.specs.declared.moments.TheConstants.{GREATEST_MILLIS};
-    ghost use Rattle.xl_ledger.specs.declared.registry.TheConstants.{LEAST_LIMIT, GREATEST_LIMIT};
+    ghost use Rattle.xl_base.specs.Moments.{greatest_millis};
+    ghost use Rattle.xl_ledger.specs.Limits.{greatest_limit, least_limit};
     ghost use Rattle.xl_world.specs.Headline.{AgreeAt, EnoughAt, Headline};
     ghost use Rattle.xl_world.specs.Plans.{AreTimely, list_at};
     ghost use Rattle.xl_world.specs.Schedule.{IsPlausible, after_event, outcomes};
@@ -48,8 +48,8 @@ impl World {
     // Its frame is large, and in the caller's each event would pay for it.
     #[inline(never)]
     pub fn open(alloc: Global, plan: &Plan) -> Result<World, OutOfMemory>
-        requires least { LEAST_LIMIT ≤ plan.now.limit }
-        requires most { plan.now.limit ≤ GREATEST_LIMIT }
+        requires least { least_limit ≤ plan.now.limit }
+        requires most { plan.now.limit ≤ greatest_limit }
         requires moments { AreTimely plan.now.nodes.items }
         ensures { IfOk result (λ world. world
             ≡ start (record { limit = plan.now.limit; speak = plan.now.speak }) plan.now.liars.items plan.now.nodes.items) }
@@ -65,7 +65,7 @@ impl World {
     /// If it runs out of memory, the world is spent: nothing more happens in it, no node is left in it, and all else is
     /// as it was before the event. A set that a liar says is one, and so is a list that is handed in.
     pub fn event(&mut self, event: &Event) -> Result<Happened, OutOfMemory>
-        requires moment { event.now.at ≤ GREATEST_MILLIS }
+        requires moment { event.now.at ≤ greatest_millis }
         requires plausible { IsPlausible event.now.what }
         ensures world { OnOk result (self.new ≡ after_event self.old event.now) }
         ensures told { IfOk result (λ told. told ≡ outcomes self.old event.now) }
@@ -145,7 +145,7 @@ impl World {
     /// its lives count.
     pub fn agreement(&self, i: NodeNo, j: NodeNo) -> bool
         ensures exact { IsTrue result ↔ AgreeAt self.now.reports i j }
-        // It is so where no frame was forged, and the quorums of the lists that were in force at any two reports of one
+        // It is so if no frame was forged, and the quorums of the lists that were in force at any two reports of one
         // sequence are enough.
         ensures enough { EnoughAt self.now.liars self.now.reports i j → self.now.forged ≡ 0 → IsTrue result }
         // And in every run of every declared plan in which no frame was forged, not in this world's alone.

@@ -17,7 +17,7 @@ pub struct PlainKeeper {
 impl PlainKeeper {
     ghost use Rattle.xl_io.specs.Memory.{plain_saves};
 
-    /// A keeper that never saved, with room to tell so many saves.
+    /// A keeper that never saved, with room to tell this many saves.
     pub fn new(alloc: Global, room: usize) -> Result<Self, OutOfMemory>
         ensures held { IfOk result (λ keeper. ⟦<PlainKeeper as Keeper>⟧.held keeper ≡ Some (holding 0)) }
         ensures saves { IfOk result (λ keeper. plain_saves keeper ≡ no_saves room) }
@@ -28,7 +28,7 @@ impl PlainKeeper {
         })
     }
 
-    /// All numbers that were asked to be saved, where they are told.
+    /// All numbers that were asked to be saved, if they are known.
     pub fn saves(&self) -> Option<&[Seq]>
         ensures { option_map (λ seqs. seqs.now) result ≡ ⟦<PlainKeeper as Keeper>⟧.saves self.now }
     {

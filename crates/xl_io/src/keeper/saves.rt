@@ -45,7 +45,7 @@ impl Saves {
         }
     }
 
-    /// The numbers, where they are told.
+    /// The numbers, if they are known.
     pub(crate) fn told(&self) -> Option<&[Seq]>
         ensures { option_map (λ seqs. seqs.now) result ≡ self.now.told }
     {

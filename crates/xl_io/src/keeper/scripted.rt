@@ -29,7 +29,7 @@ impl MemKeeper {
     ghost use Rattle.xl_io.specs.Memory.{fault_script, list_of_saves, next_load, written_script};
     ghost use Rattle.xl_io.specs.Scripts.{script_of};
 
-    /// A keeper that never saved, with room to tell so many saves.
+    /// A keeper that never saved, with room to tell this many saves.
     ///
     /// The calls whose numbers, from 1, are listed as failing fail. A save that fails leaves the number in force for
     /// the next load, or the one that was asked if it is listed as written too.
@@ -55,7 +55,7 @@ impl MemKeeper {
         })
     }
 
-    /// All numbers that were asked to be saved, where they are told.
+    /// All numbers that were asked to be saved, if they are known.
     pub fn saves(&self) -> Option<&[Seq]>
         ensures { option_map (λ seqs. seqs.now) result ≡ ⟦<MemKeeper as Keeper>⟧.saves self.now }
     {

@@ -4,7 +4,7 @@ use crate::failures::Failures;
 use crate::{Sink, Wrote};
 use std::alloc::Global;
 
-/// A sink in memory, and the writes that are to fail. A write also fails where memory is wanting.
+/// A sink in memory, and the writes that are to fail. A write also fails if memory runs out.
 #[derive(Drop)]
 pub struct MemSink {
     held: Vec<u8>,

@@ -35,7 +35,7 @@ impl<W: Write> Sink for StdSink<W> {
     }
 }
 
-/// Writes again after each write that was interrupted, and answers how many bytes were taken, or None where the
+/// Writes again after each write that was interrupted, and answers how many bytes were taken, or None if the
 /// writer failed.
 fn write_uninterrupted<W: Write>(writer: &mut W, piece: &[u8]) -> Option<usize>
     ensures { IfSome result (λ count. count ≤ length piece.now) }

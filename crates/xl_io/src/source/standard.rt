@@ -36,7 +36,7 @@ impl<R: Read> Source for StdSource<R> {
     }
 }
 
-/// Reads again after each read that was interrupted, and answers how many bytes came, or None where the reader failed.
+/// Reads again after each read that was interrupted, and answers how many bytes came, or None if the reader failed.
 fn read_uninterrupted<R: Read>(reader: &mut R, room: &mut [u8]) -> Option<usize>
     ensures { IfSome result (λ count. count ≤ length room.new) }
 {

@@ -1,7 +1,7 @@
 ghost use Rattle.std.specs.Prelude.{◌≡◌, ◌≤◌, length, IfOk, IfErr, IsSome};
-ghost use Rattle.xl_base.specs.declared.moments.TheConstants.{GREATEST_MILLIS};
+ghost use Rattle.xl_base.specs.Moments.{greatest_millis};
 ghost use Rattle.xl_tags.specs.Rings.{key_of};
-ghost use Rattle.xl_wire.specs.declared.lengths.TheConstants.{LONGEST_FRAME};
+ghost use Rattle.xl_wire.specs.Lengths.{longest_frame};
 ghost use Rattle.xl_core.specs.Answers.{Beats, Done, Told};
 ghost use Rattle.xl_core.specs.Replies.{taken_answer, done_answer};
 ghost use Rattle.xl_core.specs.declared.event.CoreEvent.TheVariants.{Issue, Frame, Timer, Submit, Greet, Stop, Stopped, Relist};
@@ -29,7 +29,7 @@ impl<B: Branch + Drop, K: Keeper + Drop> Store<B, K> {
         bytes: &[u8],
     ) -> Result<Result<Taken, Refusal>, StoreEnd>
         requires pass { IsOf self.now pass.old }
-        requires moment { now ≤ GREATEST_MILLIS }
+        requires moment { now ≤ greatest_millis }
         ensures pass { IsOf self.now pass.new }
         ensures called { IfOk result (λ answer.
             Called self.now pass.old (Frame now bytes.now) (taken_answer answer) pass.new) }
@@ -45,7 +45,7 @@ impl<B: Branch + Drop, K: Keeper + Drop> Store<B, K> {
     /// Looks at the votes and lets the round go on. What is validated then is first saved with the keeper.
     pub fn timer<W: Wait>(&self, rt: &W, pass: &mut Pass, now: Millis) -> Result<Beat, StoreEnd>
         requires pass { IsOf self.now pass.old }
-        requires moment { now ≤ GREATEST_MILLIS }
+        requires moment { now ≤ greatest_millis }
         ensures pass { IsOf self.now pass.new }
         ensures called { IfOk result (λ beat. Called self.now pass.old (Timer now) (Beats beat) pass.new) }
         ensures refused { IfErr result (λ end. Refused self.now pass.old end pass.new) }
@@ -66,7 +66,7 @@ impl<B: Branch + Drop, K: Keeper + Drop> Store<B, K> {
         tx: TxId,
     ) -> Result<Result<(), Refusal>, StoreEnd>
         requires pass { IsOf self.now pass.old }
-        requires moment { now ≤ GREATEST_MILLIS }
+        requires moment { now ≤ greatest_millis }
         ensures pass { IsOf self.now pass.new }
         ensures called { IfOk result (λ answer.
             Called self.now pass.old (Submit now tx) (done_answer answer) pass.new) }
@@ -87,7 +87,7 @@ impl<B: Branch + Drop, K: Keeper + Drop> Store<B, K> {
         list: List,
     ) -> Result<Result<(), Refusal>, StoreEnd>
         requires pass { IsOf self.now pass.old }
-        requires moment { now ≤ GREATEST_MILLIS }
+        requires moment { now ≤ greatest_millis }
         ensures pass { IsOf self.now pass.new }
         ensures called { IfOk result (λ answer.
             Called self.now pass.old (Relist now list) (done_answer answer) pass.new) }
@@ -116,7 +116,7 @@ impl<B: Branch + Drop, K: Keeper + Drop> Store<B, K> {
         full: bool,
     ) -> Result<Result<(), Refusal>, StoreEnd>
         requires pass { IsOf self.now pass.old }
-        requires moment { now ≤ GREATEST_MILLIS }
+        requires moment { now ≤ greatest_millis }
         ensures pass { IsOf self.now pass.new }
         ensures called { IfOk result (λ answer.
             Called self.now pass.old (Issue now seq id full) (done_answer answer) pass.new) }
@@ -156,7 +156,7 @@ impl<B: Branch + Drop, K: Keeper + Drop> Store<B, K> {
     ) -> Result<usize, StoreEnd>
         requires pass { IsOf self.now pass.old }
         requires peer { IsSome (key_of (start_of self.now).node.keys member) }
-        requires room { LONGEST_FRAME ≤ length room.old }
+        requires room { longest_frame ≤ length room.old }
         ensures pass { IsOf self.now pass.new }
         ensures called { IfOk result (λ written. Drained self.now pass.old member written room.old room.new pass.new) }
         ensures refused { IfErr result (λ end. Refused self.now pass.old end pass.new) }

@@ -1,5 +1,5 @@
 use Rattle.std.proofs.Common.{◌≡◌, ◌≤◌}
-use Rattle.xl_wire.specs.declared.lengths.TheConstants.{LONGEST_FRAME}
+use Rattle.xl_wire.specs.Lengths.{longest_frame}
 use Rattle.xl_audit.specs.Pieces.{HasDrained}
 use Rattle.xl_audit.proofs.stepping.drain_all.Given as goal
 
@@ -7,7 +7,7 @@ use Rattle.xl_audit.proofs.stepping.drain_all.Given as goal
 abbrev pub invariant-loop-left : goal.invariant-loop-left
 invariant-loop-left l = record {
   so_far : HasDrained l.initial.core l.member l.room l.core l.left l.given.items;
-  enough : LONGEST_FRAME ≤ l.left;
+  enough : longest_frame ≤ l.left;
 }
 
 abbrev pub decreases-loop-left : goal.decreases-loop-left

@@ -1,7 +1,7 @@
 use Rattle.std.proofs.Common.{ap, arith, subst, sym}
 use Rattle.std.specs.Prelude.{IsSome}
 use Rattle.xl_tags.specs.Rings.{Ring, key_of}
-use Rattle.xl_wire.specs.declared.lengths.TheConstants.{LONGEST_FRAME}
+use Rattle.xl_wire.specs.Lengths.{longest_frame}
 use Rattle.xl_core.specs.Answers.{given_in}
 use Rattle.xl_core.specs.Core.{CoreReply, all_frames}
 use Rattle.xl_core.specs.Queues.{fitting}
@@ -14,10 +14,10 @@ drain_blank-count-requires-clause-peer c = subst (λ (ring : Ring). IsSome (key_
 
 pub returns-then-count-eq0-clause-none : goal.returns-then-count-eq0-clause-none
 returns-then-count-eq0-clause-none c = λ _.
-    none_in_front (fitting (all_frames c.args.core.now c.args.to) LONGEST_FRAME) (all_frames c.args.core.now c.args.to) (c.drain_blank-count.ensures.nothing.0 c.if-count-eq0.true)
+    none_in_front (fitting (all_frames c.args.core.now c.args.to) longest_frame) (all_frames c.args.core.now c.args.to) (c.drain_blank-count.ensures.nothing.0 c.if-count-eq0.true)
 
 pub returns-then-is_idle-clause-core : goal.returns-then-is_idle-clause-core
-returns-then-is_idle-clause-core c = sym (ap (λ (r : CoreReply). r.core) (c.is_idle.ensures.idle c.if-is_idle.true LONGEST_FRAME))
+returns-then-is_idle-clause-core c = sym (ap (λ (r : CoreReply). r.core) (c.is_idle.ensures.idle c.if-is_idle.true longest_frame))
 
 pub returns-then-is_idle-clause-none : goal.returns-then-is_idle-clause-none
-returns-then-is_idle-clause-none c = λ _. ap (λ (r : CoreReply). given_in r.answer) (c.is_idle.ensures.idle c.if-is_idle.true LONGEST_FRAME)
+returns-then-is_idle-clause-none c = λ _. ap (λ (r : CoreReply). given_in r.answer) (c.is_idle.ensures.idle c.if-is_idle.true longest_frame)

@@ -1,7 +1,7 @@
 use Rattle.std.proofs.Common.{◌≤◌, ◌+◌, List, ℕ, length, sym, subst, refl, arith}
 use Rattle.std.specs.String.{string_bytes}
 use Rattle.xl_show.specs.Reading.{IsSeen}
-use Rattle.xl_show.specs.declared.limits.TheConstants.{MOST_BYTES}
+use Rattle.xl_show.specs.Limits.{most_bytes}
 use Rattle.xl_show.proofs.Looking.{stays_without, follows_without, tells_seen, front_seen, less_seen}
 use Rattle.xl_show.proofs.Soon.{puts_seen}
 use Rattle.xl_show.proofs.frames.Frames.advance.Goals as goal
@@ -13,7 +13,7 @@ seen g c =
     subst (λ (text : List ℕ). IsSeen c.in_ok-look.look c.args.self.now.place c.args.self.now.begun.items text) (sym c.as_bytes.ensures.value)
     (subst (λ (bytes : List ℕ). IsSeen c.in_ok-look.look c.args.self.now.place bytes (string_bytes c.read.new.text)) c.deref.ensures.value c.in_ok-look.ensures)
 
-within : (g : _) (c : After-write_all g) → c.args.self.now.place + length c.args.self.now.begun.items ≤ MOST_BYTES
+within : (g : _) (c : After-write_all g) → c.args.self.now.place + length c.args.self.now.begun.items ≤ most_bytes
 within g c = let self = c.args.self.now in omega (arith, self.within, self.begun.ok.0)
 
 pub returns-in_err-write_all-clause-front : goal.returns-in_err-write_all-clause-front

@@ -5,7 +5,7 @@ use Rattle.xl_lines.proofs.Runs.{write_from}
 use Rattle.xl_lines.proofs.Telling.{tells_from, tells_none, tells_refused, front_from, less_from}
 use Rattle.xl_show.specs.Shown.{told_from}
 use Rattle.xl_show.specs.Texts.{limit_line}
-use Rattle.xl_show.specs.declared.limits.TheConstants.{MOST_BYTES}
+use Rattle.xl_show.specs.Limits.{most_bytes}
 use Rattle.xl_show.proofs.Short.{need_fits}
 use Rattle.xl_show.proofs.Telling.{told_limit}
 use Rattle.xl_lines.proofs.Soon.{puts_none}
@@ -17,7 +17,7 @@ use Rattle.xl_show.proofs.frames.Frames.take.Goals.{Then-room-eq0}
 limit : (g : _) (c : Then-room-eq0 g) (rest : List ℕ) → told_from c.args.self.now.place c.args.self.now.count (c.args.self.now.begun.items ++ (c.args.bytes.now ++ rest)) ≡ refused limit_line
 limit g c rest =
     let self = c.args.self.now in
-    let full : self.place + length self.begun.items ≡ MOST_BYTES = omega (arith, self.within, self.begun.ok.0, c.len.ensures, c.if-room-eq0.true) in
+    let full : self.place + length self.begun.items ≡ most_bytes = omega (arith, self.within, self.begun.ok.0, c.len.ensures, c.if-room-eq0.true) in
     told_limit self.place self.count self.begun.items (omega (arith, full)) c.args.lack c.requires.lacks full (c.args.bytes.now ++ rest) (omega (arith, c.requires.some, length-append c.args.bytes.now rest))
 
 pub returns-in_err-refuse-clause-front : goal.returns-in_err-refuse-clause-front
