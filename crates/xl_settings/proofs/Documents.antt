@@ -8,11 +8,11 @@ use Rattle.toml.specs.Parse.{parse_document}
 use Rattle.xl_settings.specs.Answers.{GivenMemory}
 use Rattle.xl_settings.specs.Settings.{document_of, in_document, settings_of}
 use Rattle.xl_settings.specs.declared.fault.SettingsFault.{SettingsFault}
-use Rattle.xl_settings.specs.declared.limits.TheConstants.{MOST_BYTES}
+use Rattle.xl_settings.specs.Limits.{most_bytes}
 use Rattle.xl_settings.specs.declared.refusal.SettingsRefusal.{SettingsRefusal}
 use Rattle.xl_settings.specs.declared.settings.Settings.{Settings}
 
-pub is_short : (n : ℕ) → n ≤ MOST_BYTES → nat_lt MOST_BYTES n ≡ false
+pub is_short : (n : ℕ) → n ≤ most_bytes → nat_lt most_bytes n ≡ false
 is_short n small = grind (arith, nat_tests)
 
 pub a_document : (bytes : List ℕ) (table : Members) → IsUtf8 bytes → parse_document bytes ≡ Some table
@@ -26,7 +26,7 @@ no_document bytes none = go (is_utf8 bytes) refl
     go true e = rw e (none (IsUtf8-from_is_utf8 bytes e))
     go false e = rw e refl
 
-pub within : (bytes : List ℕ) (now : ℕ) (found : Option Members) → length bytes ≤ MOST_BYTES
+pub within : (bytes : List ℕ) (now : ℕ) (found : Option Members) → length bytes ≤ most_bytes
     → document_of bytes ≡ found → settings_of bytes now ≡ in_document found now
 within bytes now found small is =
     rw (is_short (length bytes) small) (ap (λ (document : Option Members). in_document document now) is)

@@ -9,7 +9,7 @@ use Rattle.xl_publish.specs.Forces.{list_at}
 use Rattle.xl_settings.specs.declared.fault.SettingsFault.{SettingsFault}
 use Rattle.xl_settings.specs.declared.key_name.KeyName.{KeyName}
 use Rattle.xl_settings.specs.declared.key_name.KeyName.TheVariants as key
-use Rattle.xl_settings.specs.declared.limits.TheConstants.{MOST_BYTES, USUAL_LIMIT, USUAL_TURNS, GREATEST_TURNS, USUAL_HEARTBEAT_MS, LEAST_HEARTBEAT_MS, GREATEST_HEARTBEAT_MS, GREATEST_RUN_MS}
+use Rattle.xl_settings.specs.Limits.{most_bytes, usual_limit, usual_turns, greatest_turns, usual_heartbeat_ms, least_heartbeat_ms, greatest_heartbeat_ms, greatest_run_ms}
 use Rattle.xl_settings.specs.declared.refusal.SettingsRefusal.{SettingsRefusal}
 use Rattle.xl_settings.specs.declared.refusal.SettingsRefusal.TheVariants.{Length}
 use Rattle.xl_settings.specs.declared.settings.Settings.{Settings}
@@ -118,13 +118,13 @@ table_runs table now s e =
     (few_publishers table publishers publishers_is) threshold_is)
     (fits me (met_by stated (taken_in table)) (found_peers (at key.Peer table)) peers peers_is) trust_is in
     subst AreRunnable (same_Ok _ _ s refl e16) (record {
-      limit = usual_bounded USUAL_LIMIT LEAST_LIMIT GREATEST_LIMIT limit (at key.Limit table) (omega arith)
+      limit = usual_bounded usual_limit LEAST_LIMIT GREATEST_LIMIT limit (at key.Limit table) (omega arith)
           (omega arith) limit_is;
-      turns = usual_bounded USUAL_TURNS 1 GREATEST_TURNS turns (at key.Turns table) (omega arith)
+      turns = usual_bounded usual_turns 1 greatest_turns turns (at key.Turns table) (omega arith)
           (omega arith) turns_is;
-      heartbeat = usual_bounded USUAL_HEARTBEAT_MS LEAST_HEARTBEAT_MS GREATEST_HEARTBEAT_MS heartbeat_ms
+      heartbeat = usual_bounded usual_heartbeat_ms least_heartbeat_ms greatest_heartbeat_ms heartbeat_ms
           (at key.HeartbeatMs table) (omega arith) (omega arith) heartbeat_is;
-      run = (usual_bounded 0 0 GREATEST_RUN_MS run_ms (at key.RunMs table) (omega arith) (omega arith) run_is).1;
+      run = (usual_bounded 0 0 greatest_run_ms run_ms (at key.RunMs table) (omega arith) (omega arith) run_is).1;
       peers = met.now_met;
       ever = met.ever;
       threshold = met.threshold;
@@ -133,7 +133,7 @@ table_runs table now s e =
 
 -- settings that bytes hold can be run
 pub can_run : (bytes : List ℕ) (now : ℕ) (s : Settings) → settings_of bytes now ≡ Ok s → AreRunnable s
-can_run bytes now s e = long (nat_lt MOST_BYTES (length bytes)) e
+can_run bytes now s e = long (nat_lt most_bytes (length bytes)) e
   where
     known : (table : Members) (unknown : Option (List ℕ)) → unless_unknown table now unknown ≡ Ok s → AreRunnable s
     known table (Some text) e = cc

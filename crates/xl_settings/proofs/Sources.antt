@@ -7,7 +7,7 @@ use Rattle.xl_settings.specs.Answers.{GivenBytes, GivenMemory, IsNoRefusal, IsRe
 use Rattle.xl_settings.specs.Settings.{settings_of}
 use Rattle.xl_settings.specs.declared.fault.SettingsFault.{SettingsFault}
 use Rattle.xl_settings.specs.declared.fault.SettingsFault.TheVariants.{Refused, Read, OutOfMemory}
-use Rattle.xl_settings.specs.declared.limits.TheConstants.{MOST_BYTES}
+use Rattle.xl_settings.specs.Limits.{most_bytes}
 use Rattle.xl_settings.specs.declared.refusal.SettingsRefusal.{SettingsRefusal}
 use Rattle.xl_settings.specs.declared.refusal.SettingsRefusal.TheVariants.{Length, Text, Unknown, Known}
 use Rattle.xl_settings.specs.declared.settings.Settings.{Settings}
@@ -26,26 +26,26 @@ pub came_more : (old mid new : Option (List ℕ)) (bytes more : List ℕ) → ol
     → mid ≡ prepend_known more new → old ≡ prepend_known (bytes ++ more) new
 came_more old mid new bytes more first then_ = first ∙ ap (prepend_known bytes) then_ ∙ prepend-twice bytes more new
 
-is_long : (n : ℕ) → MOST_BYTES < n → nat_lt MOST_BYTES n ≡ true
+is_long : (n : ℕ) → most_bytes < n → nat_lt most_bytes n ≡ true
 is_long n big = grind (arith, nat_tests)
 
-too_long : (bytes : List ℕ) (now : ℕ) → nat_lt MOST_BYTES (length bytes) ≡ true → settings_of bytes now ≡ Err Length
+too_long : (bytes : List ℕ) (now : ℕ) → nat_lt most_bytes (length bytes) ≡ true → settings_of bytes now ≡ Err Length
 too_long bytes now long = rw long refl
 
-above : (n : ℕ) → nat_lt MOST_BYTES n ≡ true → MOST_BYTES < n
+above : (n : ℕ) → nat_lt most_bytes n ≡ true → most_bytes < n
 above n e = grind (arith, nat_tests)
 
-below : (n : ℕ) → nat_lt MOST_BYTES n ≡ false → n ≤ MOST_BYTES
+below : (n : ℕ) → nat_lt most_bytes n ≡ false → n ≤ most_bytes
 below n e = grind (arith, nat_tests)
 
 -- a front that is long is refused as the whole is, and else it is the whole
-front_says : (bytes rest : List ℕ) (now : ℕ) → (length bytes ≤ MOST_BYTES → rest ≡ [])
+front_says : (bytes rest : List ℕ) (now : ℕ) → (length bytes ≤ most_bytes → rest ≡ [])
     → settings_of (bytes ++ rest) now ≡ settings_of bytes now
-front_says bytes rest now ended = go (nat_lt MOST_BYTES (length bytes)) refl
+front_says bytes rest now ended = go (nat_lt most_bytes (length bytes)) refl
   where
-    go : (b : Bool) → nat_lt MOST_BYTES (length bytes) ≡ b → settings_of (bytes ++ rest) now ≡ settings_of bytes now
+    go : (b : Bool) → nat_lt most_bytes (length bytes) ≡ b → settings_of (bytes ++ rest) now ≡ settings_of bytes now
     go true e =
-        let longer : MOST_BYTES < length (bytes ++ rest) =
+        let longer : most_bytes < length (bytes ++ rest) =
         omega (arith, above (length bytes) e, length-append bytes rest) in
         too_long (bytes ++ rest) now (is_long (length (bytes ++ rest)) longer) ∙ sym (too_long bytes now e)
     go false e = rw (ended (below (length bytes) e)) (ap (λ (all : List ℕ). settings_of all now) (append-nil bytes))
@@ -58,7 +58,7 @@ with_reads (Err Read) said h = absurd h
 with_reads (Err OutOfMemory) said h = tt
 
 pub given_bytes : (old new : Option (List ℕ)) (bytes : List ℕ) (now : ℕ) (result : Result Settings SettingsFault)
-    → old ≡ prepend_known bytes new → (length bytes ≤ MOST_BYTES → IsAtEnd new)
+    → old ≡ prepend_known bytes new → (length bytes ≤ most_bytes → IsAtEnd new)
     → GivenMemory result (settings_of bytes now) → IfSome old (λ all. GivenBytes result (settings_of all now))
 given_bytes old None bytes now result came ended said = rw came tt
 given_bytes old (Some rest) bytes now result came ended said =
@@ -87,10 +87,10 @@ read_out_of (Err Read) said left h (inl long) = tt
 read_out_of (Err OutOfMemory) said left h (inl long) = tt
 
 pub left_nothing : (bytes : List ℕ) (now : ℕ) (left : Option (List ℕ)) (result : Result Settings SettingsFault)
-    → (length bytes ≤ MOST_BYTES → IsAtEnd left) → GivenMemory result (settings_of bytes now) → IsReadOut result left
-left_nothing bytes now left result ended said = go (nat_lt MOST_BYTES (length bytes)) refl
+    → (length bytes ≤ most_bytes → IsAtEnd left) → GivenMemory result (settings_of bytes now) → IsReadOut result left
+left_nothing bytes now left result ended said = go (nat_lt most_bytes (length bytes)) refl
   where
-    go : (b : Bool) → nat_lt MOST_BYTES (length bytes) ≡ b → IsReadOut result left
+    go : (b : Bool) → nat_lt most_bytes (length bytes) ≡ b → IsReadOut result left
     go true e = read_out_of result (settings_of bytes now) left said (inl (too_long bytes now e))
     go false e = read_out_of result (settings_of bytes now) left said (inr (ended (below (length bytes) e)))
 

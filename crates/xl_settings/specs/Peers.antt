@@ -1,22 +1,16 @@
 -- The peers, and which of them a node may have. Source: this project's own format.
-use Rattle.std.specs.Prelude.{ℕ, ◌==◌, ◌||◌, ◌&&◌, not, nat_eq, Bool, List, [], map, codes, Option, Some, None, option_map, string_bytes, if◌then◌else◌}
+use Rattle.std.specs.Prelude.{ℕ, ◌==◌, ◌||◌, ◌&&◌, not, nat_eq, Bool, List, [], map, codes, Option, Some, None, option_map, if◌then◌else◌}
 use Rattle.std.specs.List.{list_all, list_any}
 use Rattle.std.specs.Option.{option_and_then}
 use Rattle.toml.specs.Data.{Data, Members, get_member, as_str, as_table}
 use Rattle.xl_base.specs.declared.node_no.TheConstants.{GREATEST_NODE_NO}
-use Rattle.xl_links.specs.declared.hub.Way.{Way}
-use Rattle.xl_links.specs.declared.hub.Way.TheVariants.{Dial, Listen}
+use Rattle.xl_links.specs.Ways.{Reach, dialled_at, listened_at, reach_of}
 use Rattle.xl_settings.specs.declared.entry.Entry.TheVariants as Entry
 use Rattle.xl_settings.specs.declared.peers.Peer.{Peer}
 use Rattle.xl_settings.specs.Different.{are_different}
 use Rattle.xl_settings.specs.Keys.{has_keys_only}
 use Rattle.xl_settings.specs.Submits.{bytes_in}
 use Rattle.xl_settings.specs.Values.{all_read, array_in, whole}
-
--- how a member is reached: it is dialled at an address, or it dials in at one
-pub data Reach : Type 0 where
-  dialled_at : List ℕ → Reach
-  listened_at : List ℕ → Reach
 
 -- another member, the key that is shared with it, and how it is reached
 pub record PeerSetting : Type 0 where
@@ -72,9 +66,5 @@ abbrev pub peers_in : ℕ → List ℕ → Option Data → Option (List PeerSett
 peers_in me members value = option_and_then (fitting me members) (found_peers value)
 
 -- what a peer of the code stands for
-abbrev pub reach_of : Way → Reach
-reach_of (Dial address) = dialled_at (string_bytes address)
-reach_of (Listen address) = listened_at (string_bytes address)
-
 abbrev pub setting_of : Peer → PeerSetting
 setting_of peer = record { number = peer.number; key = peer.key; reach = reach_of peer.way }

@@ -3,7 +3,7 @@ use Rattle.std.specs.Prelude.{◌≡◌, ◌≤◌, ℕ, true, List, IfSome}
 use Rattle.xl_ledger.specs.declared.registry.TheConstants.{LEAST_LIMIT, GREATEST_LIMIT}
 use Rattle.xl_publish.specs.declared.publishing.Publishing.{Publishing}
 use Rattle.xl_publish.specs.Forces.{list_at}
-use Rattle.xl_settings.specs.declared.limits.TheConstants.{GREATEST_TURNS, LEAST_HEARTBEAT_MS, GREATEST_HEARTBEAT_MS, GREATEST_RUN_MS}
+use Rattle.xl_settings.specs.Limits.{greatest_turns, least_heartbeat_ms, greatest_heartbeat_ms, greatest_run_ms}
 use Rattle.xl_settings.specs.declared.settings.Settings.{Settings}
 use Rattle.xl_settings.specs.Peers.{PeerSetting, are_peers}
 
@@ -15,9 +15,9 @@ AreEverPeers me peers publishing = (second : ℕ) →
 
 pub record AreRunnable (s : Settings) : Type 0 where
   pub limit : (LEAST_LIMIT ≤ s.limit) × (s.limit ≤ GREATEST_LIMIT)
-  pub turns : (1 ≤ s.turns) × (s.turns ≤ GREATEST_TURNS)
-  pub heartbeat : (LEAST_HEARTBEAT_MS ≤ s.heartbeat_ms) × (s.heartbeat_ms ≤ GREATEST_HEARTBEAT_MS)
-  pub run : s.run_ms ≤ GREATEST_RUN_MS
+  pub turns : (1 ≤ s.turns) × (s.turns ≤ greatest_turns)
+  pub heartbeat : (least_heartbeat_ms ≤ s.heartbeat_ms) × (s.heartbeat_ms ≤ greatest_heartbeat_ms)
+  pub run : s.run_ms ≤ greatest_run_ms
   pub peers : are_peers s.me s.list.members s.peers ≡ true
   pub ever : IfSome s.publishing (AreEverPeers s.me s.peers)
   pub threshold : IfSome s.publishing (λ p. (1 ≤ p.threshold) × (p.threshold ≤ 16))

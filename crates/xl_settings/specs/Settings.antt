@@ -9,7 +9,7 @@ use Rattle.xl_base.specs.declared.node_no.TheConstants.{GREATEST_NODE_NO}
 use Rattle.xl_ledger.specs.declared.registry.TheConstants.{LEAST_LIMIT, GREATEST_LIMIT}
 use Rattle.xl_settings.specs.declared.key_name.KeyName.{KeyName}
 use Rattle.xl_settings.specs.declared.key_name.KeyName.TheVariants as key
-use Rattle.xl_settings.specs.declared.limits.TheConstants.{MOST_BYTES, USUAL_LIMIT, USUAL_TURNS, GREATEST_TURNS, USUAL_HEARTBEAT_MS, LEAST_HEARTBEAT_MS, GREATEST_HEARTBEAT_MS, GREATEST_RUN_MS, USUAL_SPEAK, GREATEST_SPEAK}
+use Rattle.xl_settings.specs.Limits.{most_bytes, usual_limit, usual_turns, greatest_turns, usual_heartbeat_ms, least_heartbeat_ms, greatest_heartbeat_ms, greatest_run_ms, usual_speak, greatest_speak}
 use Rattle.xl_settings.specs.declared.refusal.SettingsRefusal.{SettingsRefusal}
 use Rattle.xl_settings.specs.declared.refusal.SettingsRefusal.TheVariants.{Length, Text, Unknown, Known}
 use Rattle.xl_settings.specs.declared.settings.Settings.{Settings}
@@ -32,20 +32,20 @@ abbrev pub validating_at : Members → Option Bool
 validating_at table = or_default true as_bool (at key.Validating table)
 
 abbrev pub limit_at : Members → Option ℕ
-limit_at table = or_default USUAL_LIMIT (whole LEAST_LIMIT GREATEST_LIMIT) (at key.Limit table)
+limit_at table = or_default usual_limit (whole LEAST_LIMIT GREATEST_LIMIT) (at key.Limit table)
 
 abbrev pub turns_at : Members → Option ℕ
-turns_at table = or_default USUAL_TURNS (whole 1 GREATEST_TURNS) (at key.Turns table)
+turns_at table = or_default usual_turns (whole 1 greatest_turns) (at key.Turns table)
 
 abbrev pub heartbeat_at : Members → Option ℕ
 heartbeat_at table =
-    or_default USUAL_HEARTBEAT_MS (whole LEAST_HEARTBEAT_MS GREATEST_HEARTBEAT_MS) (at key.HeartbeatMs table)
+    or_default usual_heartbeat_ms (whole least_heartbeat_ms greatest_heartbeat_ms) (at key.HeartbeatMs table)
 
 abbrev pub run_at : Members → Option ℕ
-run_at table = or_default 0 (whole 0 GREATEST_RUN_MS) (at key.RunMs table)
+run_at table = or_default 0 (whole 0 greatest_run_ms) (at key.RunMs table)
 
 abbrev pub speak_at : Members → Option ℕ
-speak_at table = or_default USUAL_SPEAK (whole USUAL_SPEAK GREATEST_SPEAK) (at key.Speak table)
+speak_at table = or_default usual_speak (whole usual_speak greatest_speak) (at key.Speak table)
 
 abbrev pub journal_at : Members → Option Bool
 journal_at table = or_default false as_bool (at key.Journal table)
@@ -102,4 +102,4 @@ document_of bytes = if is_utf8 bytes then parse_document bytes else None
 -- the settings that bytes hold at the moment of the opening, or the first cause for which they hold none: their length,
 -- their text, the least unknown key, and then the keys in their order
 abbrev pub settings_of : List ℕ → ℕ → Result Settings SettingsRefusal
-settings_of bytes now = if nat_lt MOST_BYTES (length bytes) then Err Length else in_document (document_of bytes) now
+settings_of bytes now = if nat_lt most_bytes (length bytes) then Err Length else in_document (document_of bytes) now

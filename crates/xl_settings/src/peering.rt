@@ -4,7 +4,8 @@ ghost use Rattle.std.specs.Prelude.{◌≡◌, ◌||◌, ◌==◌, map, nat_eq, 
 ghost use Rattle.toml.specs.Data.{as_str};
 ghost use Rattle.toml.specs.View.{table_view, view};
 ghost use Rattle.xl_settings.specs.Different.{are_different};
-ghost use Rattle.xl_settings.specs.Peers.{setting_of, reach_of, reach_at, number_at, key_at, made_peer, peer_in, peers_in, found_peers, fitting, are_peers, is_peer};
+ghost use Rattle.xl_links.specs.Ways.{reach_of};
+ghost use Rattle.xl_settings.specs.Peers.{setting_of, reach_at, number_at, key_at, made_peer, peer_in, peers_in, found_peers, fitting, are_peers, is_peer};
 ghost use Rattle.xl_settings.specs.Values.{at, all_read};
 ghost use Rattle.xl_settings.specs.declared.key_name.KeyName.TheVariants as name;
 

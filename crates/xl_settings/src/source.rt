@@ -5,7 +5,7 @@ ghost use Rattle.xl_base.specs.declared.moments.TheConstants.{GREATEST_MILLIS};
 ghost use Rattle.xl_settings.specs.Answers.{GivenBytes, IsReadOut, IsNoRefusal};
 ghost use Rattle.xl_settings.specs.Runnable.{AreRunnable};
 ghost use Rattle.xl_settings.specs.Settings.{settings_of};
-ghost use Rattle.xl_settings.specs.declared.limits.TheConstants.{MOST_BYTES};
+ghost use Rattle.xl_settings.specs.Limits.{most_bytes};
 
 use crate::limits::MOST_BYTES;
 use crate::{Settings, SettingsFault, read_settings};
@@ -40,7 +40,7 @@ pub fn settings_from<I: Source>(
 /// The bytes of the source, to its end or beyond the most that settings may have.
 fn read_out<I: Source>(alloc: Global, input: &mut I) -> Result<Vec<u8>, SettingsFault>
     ensures came { IfOk result (λ bytes. I.left input.old ≡ prepend_known bytes.items (I.left input.new)) }
-    ensures to_end { IfOk result (λ bytes. length bytes.items ≤ MOST_BYTES → IsAtEnd (I.left input.new)) }
+    ensures to_end { IfOk result (λ bytes. length bytes.items ≤ most_bytes → IsAtEnd (I.left input.new)) }
     ensures fault { IfErr result IsNoRefusal }
     ensures later { I.faults input.old ≤ I.faults input.new }
     ensures read { IsErrOf result SettingsFault.Read → Rose (I.faults input.old) (I.faults input.new) }

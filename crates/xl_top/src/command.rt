@@ -7,6 +7,7 @@ ghost use Rattle.xl_replay.specs.Replays.{report_of};
 ghost use Rattle.xl_top.specs.Commands.{asked_of, told_of, ReadsNothing};
 ghost use Rattle.xl_top.specs.Texts.{WritesText, HasCause, streams};
 ghost use Rattle.xl_top.specs.Undone.{IsUndone};
+ghost use Rattle.xl_workers.specs.Linking.{hub_seen};
 ghost use Rattle.xl_validator.specs.Validators.{Judges, between};
 ghost use Rattle.xl_words.specs.Commands.{words_of};
 
@@ -66,13 +67,14 @@ pub fn top<
     // was forged they do.
     ensures summaries { (rounds : ℕ) → IsSummary rounds }
     // Of `node`: its settings are judged at one moment that the clock may give. If they are refused no store is opened,
-    // and of their line a front is written; others run a node that is opened at that moment, or nothing is written. The
-    // journal of the node is handed back, or, if the settings ask for it and the run is over, written behind the reports.
-    // Else memory ran out before the clock was asked, and nothing was done.
+    // the keeper is asked nothing, and of their line a front is written. Others run a node that is opened at that moment,
+    // or nothing is written and no save is asked. The journal of the node is handed back, or, if the settings ask for it
+    // and the run is over, written behind the reports. Else memory ran out before the clock was asked, and nothing was
+    // done.
     ensures node { asked_of (words_of words.now) ≡ Some Command.Node
         → Judges K.held K.saves K.faults K.load_gives K.save_gives
         (I.left input.old) (C.may_give clock.now) (H.gives hub.old)
-        (between (H.faults hub.old) (H.faults hub.new)
+        (between (hub_seen (H.faults hub.old) (H.asked hub.old)) (hub_seen (H.faults hub.new) (H.asked hub.new))
         (O.held output.old) (O.faults output.old) (O.held output.new) (O.faults output.new))
         output.old output.new keeper result.keeper result.status result.journal
         ⊎ IsUndone result.status result.journal (input.new ≡ input.old) (output.new ≡ output.old)

@@ -14,6 +14,7 @@ use Rattle.xl_heartbeat.specs.Outputs.{Output}
 use Rattle.xl_audit.specs.Journals.{journal_text, start_of}
 use Rattle.xl_core.specs.declared.settings.Settings.{Settings as CoreSettings}
 use Rattle.xl_settings.specs.declared.settings.Settings.{Settings}
+use Rattle.xl_workers.specs.Linking.{HubSeen}
 use Rattle.xl_validator.specs.ListsSet.{IsEverKeyed}
 use Rattle.xl_validator.specs.Openings.{Task, core_settings, opening_core, task_of}
 use Rattle.xl_validator.specs.Preparing.{Leaves}
@@ -69,13 +70,13 @@ module _ {K O : Type 0}
     (held_by : K → Option Held) (saves_of : K → Option (List ℕ)) (faults_of : K → ℕ)
     (load_gives : K → ℕ → K → Type 0) (save_gives : K → ℕ → Bool → K → Type 0)
     (s : Settings) (moment kept : ℕ) (may_give : ℕ → Bool) (links : ℕ → Option Wire)
-    (old_faults new_faults : ℕ) (before reported after : Output) (old_output new_output end_output : O)
+    (old_hub new_hub : HubSeen) (before reported after : Output) (old_output new_output end_output : O)
     (old loaded kept_by new : K) (ended end : Status) (ran journal : Option (List Entry)) where
   abbrev at_run : Between
-  at_run = record { old_faults = old_faults; new_faults = new_faults; old_output = before; new_output = reported }
+  at_run = record { old_hub = old_hub; new_hub = new_hub; old_output = before; new_output = reported }
 
   abbrev at_end : Between
-  at_end = record { old_faults = old_faults; new_faults = new_faults; old_output = before; new_output = after }
+  at_end = record { old_hub = old_hub; new_hub = new_hub; old_output = before; new_output = after }
 
   abbrev Ran : Between → Status → List Entry → Type 0
   Ran outside by history =
@@ -88,11 +89,11 @@ module _ {K O : Type 0}
   -- what `start` promises of how it ends
   pub record Ends : Type 0 where
     pub runs : IfSome journal (Ran at_end end)
-    pub unopened : journal ≡ None → (IsUnopened end × (end_output ≡ old_output)) ⊎ Recorded
+    pub unopened : journal ≡ None → (IsUnopened end × (saves_of new ≡ saves_of old) × (end_output ≡ old_output)) ⊎ Recorded
     pub known : IsOfNode end
     pub write : end ≡ status.WriteFault → Rose before.faults after.faults
     pub keeper : end ≢ status.KeepFault
-    pub net : end ≡ status.NetFault → Rose old_faults new_faults
+    pub net : end ≡ status.NetFault → Rose old_hub.faults new_hub.faults
 
   module _ (core : Core) (task : Task) (opened : core ≡ opening_core s moment kept) (tasked : task ≡ task_of s moment)
       (ever : IsEverKeyed s.publishing core)
@@ -119,10 +120,11 @@ module _ {K O : Type 0}
     stays : is_written s.journal ended ≡ false → end ≡ ended → journal ≡ ran → end_output ≡ new_output → after ≡ reported → Ends
     stays not_so is handed silent same_output = record {
       runs = subst (λ (j : Option (List Entry)). IfSome j (Ran at_end end)) (sym handed)
-          (subst (λ (o : Output). IfSome ran (Ran (record { old_faults = old_faults; new_faults = new_faults; old_output = before; new_output = o }) end)) (sym same_output)
+          (subst (λ (o : Output). IfSome ran (Ran (record { old_hub = old_hub; new_hub = new_hub; old_output = before; new_output = o }) end)) (sym same_output)
           (subst (λ (e : Status). IfSome ran (Ran at_run e)) (sym is) (all ran leaves.goes)));
       unopened = λ none. inl (
         subst IsUnopened (sym is) (leaves.opened (sym handed ∙ none)),
+        ap saves_of (same ∙ leaves.unsaved (sym handed ∙ none)) ∙ loads.saves,
         silent ∙ leaves.unopened (sym handed ∙ none),
       );
       known = subst IsOfNode (sym is) leaves.known;

@@ -101,14 +101,14 @@ pub write_cause : (s : Setting) (d : Doing) (e : RunEnd) (history : List Entry) 
 write_cause s d e history run is = write_by s d history run.done run.submits e run.by is
 
 net_by : (s : Setting) (d : Doing) (history : List Entry) (done : List TxId) (submits : List ℕ) (e : RunEnd)
-    → EndsBy s d history done submits e → status_of_end e ≡ status.NetFault → Rose d.old_faults d.new_faults
+    → EndsBy s d history done submits e → status_of_end e ≡ status.NetFault → Rose d.old_hub.faults d.new_hub.faults
 net_by s d history done submits (end.Ran beats last) by is = absurd (subst IsOfRun is (of_run beats last))
 net_by s d history done submits end.NetFault by is = by.2
 net_by s d history done submits end.OutOfMemory by is = absurd cc
 net_by s d history done submits (end.StoreFull n) by is = absurd cc
 
 pub net_cause : (s : Setting) (d : Doing) (e : RunEnd) (history : List Entry) → NodeRun s d e history
-    → status_of_end e ≡ status.NetFault → Rose d.old_faults d.new_faults
+    → status_of_end e ≡ status.NetFault → Rose d.old_hub.faults d.new_hub.faults
 net_cause s d e history run is = net_by s d history run.done run.submits e run.by is
 
 -- a run that is over wrote all, or nothing

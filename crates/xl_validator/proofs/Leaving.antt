@@ -35,8 +35,8 @@ module _ {K O : Type 0}
       → end ≡ status_of_end e → new ≡ kept → journal ≡ Some history
       → IsLegal Leads start history
       → NodeRun (setting start task.turns may_give links)
-      (doing task.submits task.members task.pulse
-      outside.old_faults outside.new_faults outside.old_output outside.new_output) e history
+      (doing task.submits task.targets task.pulse
+      outside.old_hub outside.new_hub outside.old_output outside.new_output) e history
       → KeepsAll held_by saves_of faults_of save_gives start history old kept
       → length history ≤ task.turns
       → Left end journal
@@ -51,6 +51,7 @@ module _ {K O : Type 0}
           is = is;
         };
         unopened = λ none. absurd cc;
+        unsaved = λ none. absurd cc;
         opened = λ none. absurd cc;
         known = subst IsOfNode (sym is) (known_end e);
         write = λ other. write_cause _ _ e history run (sym is ∙ other);
@@ -60,12 +61,13 @@ module _ {K O : Type 0}
       })
 
   -- nothing ran
-  pub leaves_none : end ≡ status.OutOfMemory → journal ≡ None → new_output ≡ old_output → Left end journal
-  leaves_none is none same = subst (Left end) (sym none)
+  pub leaves_none : end ≡ status.OutOfMemory → journal ≡ None → new_output ≡ old_output → new ≡ old → Left end journal
+  leaves_none is none same kept = subst (Left end) (sym none)
       (subst (λ (s : Status). Left s None) (sym is)
       (record {
         goes = tt;
         unopened = λ nothing. same;
+        unsaved = λ nothing. kept;
         opened = λ nothing. tt;
         known = tt;
         write = λ other. absurd cc;

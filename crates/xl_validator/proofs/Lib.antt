@@ -6,3 +6,6 @@ pub mod Causes
 pub mod Refusing
 pub mod Leaving
 pub mod Behind
+pub mod Timers
+pub mod Beating
+pub mod Ending

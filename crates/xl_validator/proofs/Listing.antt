@@ -9,13 +9,21 @@ use Rattle.std.proofs.lemmas.Bool.Decides.{nat_tests}
 use Rattle.std.proofs.lemmas.Map.Made.{length-le_from_is_member}
 use Rattle.xl_settings.specs.declared.peers.Peer.{Peer}
 use Rattle.xl_settings.specs.Different.{are_different}
-use Rattle.xl_settings.specs.Peers.{Reach}
+use Rattle.xl_links.specs.Ways.{Target}
+use Rattle.xl_settings.specs.Peers.{PeerSetting, setting_of}
 use Rattle.xl_workers.specs.declared.plan.Contact.{Contact}
-use Rattle.xl_validator.specs.Contacts.{contact_seen, peer_seen, IsNumber}
+use Rattle.xl_workers.specs.Linking.{contact_of, member_in, target_of}
+use Rattle.xl_workers.proofs.Links.{same_members}
+use Rattle.xl_validator.specs.Contacts.{IsNumber}
+use Rattle.xl_validator.specs.Openings.{number_of, target_at}
+
+-- the link to a peer of the code
+abbrev pub link_to : Peer → Target
+link_to peer = target_at (setting_of peer)
 
 -- so many contacts are made, and these peers are left
 pub record AreMade (all : List Peer) (rest : List Peer) (contacts : List Contact) : Type 0 where
-  pub each : map contact_seen contacts ++ map peer_seen rest ≡ map peer_seen all
+  pub each : map target_of contacts ++ map link_to rest ≡ map link_to all
   pub numbers : AllByRecursion IsNumber contacts
   pub long : length contacts + length rest ≡ length all
 
@@ -28,19 +36,33 @@ numbers_more [] c is all = (is, tt)
 numbers_more (d ∷ ds) c is all = (all.0, numbers_more ds c is all.1)
 
 pub one_made : (all : List Peer) (p : Peer) (rest : List Peer) (contacts : List Contact) (c : Contact)
-    → AreMade all (p ∷ rest) contacts → contact_seen c ≡ peer_seen p → IsNumber c
+    → AreMade all (p ∷ rest) contacts → target_of c ≡ link_to p → IsNumber c
     → AreMade all rest (contacts ++ c ∷ [])
 one_made all p rest contacts c made same is = record {
-  each = ap (λ (l : List (ℕ × Reach)). l ++ map peer_seen rest) (map-append contact_seen contacts (c ∷ []))
-      ∙ append_assoc (map contact_seen contacts) (contact_seen c ∷ []) (map peer_seen rest)
-      ∙ ap (λ (x : ℕ × Reach). map contact_seen contacts ++ (x ∷ map peer_seen rest)) same
+  each = ap (λ (l : List Target). l ++ map link_to rest) (map-append target_of contacts (c ∷ []))
+      ∙ append_assoc (map target_of contacts) (target_of c ∷ []) (map link_to rest)
+      ∙ ap (λ (x : Target). map target_of contacts ++ (x ∷ map link_to rest)) same
       ∙ made.each;
   numbers = numbers_more contacts c is made.numbers;
   long = let e = made.long in omega (arith, e, length-append contacts (c ∷ []));
 }
 
-pub all_made : (all : List Peer) (contacts : List Contact) → AreMade all [] contacts → map contact_seen contacts ≡ map peer_seen all
-all_made all contacts made = sym (append-nil (map contact_seen contacts)) ∙ made.each
+links_to : (peers : List Peer) → map link_to peers ≡ map target_at (map setting_of peers)
+links_to [] = refl
+links_to (p ∷ ps) = ap (λ (l : List Target). link_to p ∷ l) (links_to ps)
+
+pub all_made : (all : List Peer) (contacts : List Contact) → AreMade all [] contacts
+    → map target_of contacts ≡ map target_at (map setting_of all)
+all_made all contacts made = sym (append-nil (map target_of contacts)) ∙ made.each ∙ links_to all
+
+numbers_at : (peers : List PeerSetting) → map member_in (map target_at peers) ≡ map number_of peers
+numbers_at [] = refl
+numbers_at (p ∷ ps) = ap (λ (l : List ℕ). number_of p ∷ l) (numbers_at ps)
+
+-- the contacts have the peers' numbers
+pub same_numbers : (contacts : List Contact) (peers : List PeerSetting) → map target_of contacts ≡ map target_at peers
+    → map contact_of contacts ≡ map number_of peers
+same_numbers contacts peers same = sym (same_members contacts) ∙ ap (map member_in) same ∙ numbers_at peers
 
 -- numbers of members, each once, are no more than 64
 within : (xs : List ℕ) → AllByRecursion (λ m. (1 ≤ m) × (m ≤ 64)) xs → (q : ℕ) → list_any (nat_eq q) xs ≡ true → (1 ≤ q) × (q ≤ 64)

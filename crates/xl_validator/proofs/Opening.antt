@@ -18,12 +18,13 @@ use Rattle.xl_settings.specs.Runnable.{AreRunnable}
 use Rattle.xl_core.specs.Core.{Core}
 use Rattle.xl_workers.specs.declared.plan.Contact.{Contact}
 use Rattle.xl_workers.specs.declared.plan.Plan.{Plan}
-use Rattle.xl_workers.specs.Linking.{contact_of}
-use Rattle.xl_validator.specs.Contacts.{contact_seen, peer_seen, IsNumber}
-use Rattle.xl_validator.specs.Openings.{Task, members_of, number_of, task_of, pulse_of}
+use Rattle.xl_links.specs.Ways.{Target}
+use Rattle.xl_workers.specs.Linking.{contact_of, target_of}
+use Rattle.xl_validator.specs.Contacts.{IsNumber}
+use Rattle.xl_validator.specs.Openings.{Task, number_of, target_at, task_of, pulse_of}
 use Rattle.xl_validator.specs.Preparing.{IsPlan, IsReady, task_in}
 use Rattle.xl_validator.proofs.Sharing.{HasKey}
-use Rattle.xl_validator.proofs.Listing.{are_few, distinct}
+use Rattle.xl_validator.proofs.Listing.{are_few, distinct, same_numbers}
 
 pub not_me : (me : ℕ) (members : List ℕ) (ps : List PeerSetting) → are_peers me members ps ≡ true → is_peer ps me ≡ false
 not_me me members ps are = grind (arith, are)
@@ -67,18 +68,6 @@ keyed keys me peers members own each are = record {
   listed = listed_has keys me peers members own each (are_listed me members (map setting_of peers) are);
 }
 
--- the contacts have the peers' numbers
-pub same_numbers : (contacts : List Contact) (peers : List Peer) → map contact_seen contacts ≡ map peer_seen peers
-    → map contact_of contacts ≡ map number_of (map setting_of peers)
-same_numbers [] [] same = refl
-same_numbers [] (p ∷ ps) same = cc
-same_numbers (c ∷ cs) [] same = cc
-same_numbers (c ∷ cs) (p ∷ ps) same =
-    let first : contact_seen c ≡ peer_seen p = cc in
-    let number : contact_of c ≡ p.number = ap (λ x. x.0) first in
-    let rest = same_numbers cs ps cc in
-    cc
-
 pub all_keyed : (keys : Ring) (peers : List Peer) → All (HasKey keys) peers
     → AllByRecursion (λ m. IsSome (key_of keys m)) (map number_of (map setting_of peers))
 all_keyed keys [] each = tt
@@ -102,30 +91,32 @@ pub same_pulse : (s : Settings) (moment : ℕ) (list : TrustedList) → list ≡
     } in p) ≡ pulse_of s moment
 same_pulse s moment list same = rw same refl
 
-abbrev task : ℕ → List TxId → List ℕ → Pulse → Task
-task turns submits members pulse = record { turns = turns; submits = submits; members = members; pulse = pulse }
+abbrev task : ℕ → List TxId → List Target → Pulse → Task
+task turns submits targets pulse = record { turns = turns; submits = submits; targets = targets; pulse = pulse }
 
 pub same_task : (s : Settings) (moment : ℕ) (plan : Plan) → plan.turns ≡ s.turns → plan.submits.items ≡ s.submit
-    → map contact_of plan.contacts.items ≡ members_of s → plan.pulse ≡ pulse_of s moment
+    → map target_of plan.contacts.items ≡ map target_at s.peers → plan.pulse ≡ pulse_of s moment
     → task_in plan ≡ task_of s moment
-same_task s moment plan turns submits members pulse =
-    ap (λ (x : ℕ). task x plan.submits.items (map contact_of plan.contacts.items) plan.pulse) turns
-    ∙ ap (λ (x : List TxId). task s.turns x (map contact_of plan.contacts.items) plan.pulse) submits
-    ∙ ap (λ (x : List ℕ). task s.turns s.submit x plan.pulse) members
-    ∙ ap (λ (x : Pulse). task s.turns s.submit (members_of s) x) pulse
+same_task s moment plan turns submits targets pulse =
+    ap (λ (x : ℕ). task x plan.submits.items (map target_of plan.contacts.items) plan.pulse) turns
+    ∙ ap (λ (x : List TxId). task s.turns x (map target_of plan.contacts.items) plan.pulse) submits
+    ∙ ap (λ (x : List Target). task s.turns s.submit x plan.pulse) targets
+    ∙ ap (λ (x : Pulse). task s.turns s.submit (map target_at s.peers) x) pulse
 
 module _ (s : Settings) (pulse : Pulse) (core : Core) (plan : Plan) (is : IsPlan s.turns s.submit s.peers pulse plan) where
   pub the_task : (moment : ℕ) → pulse ≡ pulse_of s moment → task_in plan ≡ task_of s moment
-  the_task moment same = same_task s moment plan is.turns is.submits is.members (is.pulse ∙ same)
+  the_task moment same = same_task s moment plan is.turns is.submits is.targets (is.pulse ∙ same)
 
   pub is_ready : (keys : Ring) (peers : List Peer) → map setting_of peers ≡ s.peers → All (HasKey keys) peers
       → core.node.keys ≡ keys → AreRunnable s → IsReady (record { core = core; plan = plan })
   is_ready keys peers seen each same run =
+      let members : map contact_of plan.contacts.items ≡ map number_of s.peers =
+      same_numbers plan.contacts.items s.peers is.targets in
       let numbers : map number_of (map setting_of peers) ≡ map contact_of plan.contacts.items =
-      ap (map number_of) seen ∙ sym is.members in
+      ap (map number_of) seen ∙ sym members in
       let once : IsDistinct nat_eq (map contact_of plan.contacts.items) =
       distinct (map contact_of plan.contacts.items)
-      (ap (are_different nat_eq) is.members ∙ are_apart s.me s.list.members s.peers run.peers) in
+      (ap (are_different nat_eq) members ∙ are_apart s.me s.list.members s.peers run.peers) in
       record {
         turns = subst (λ (n : ℕ). (0 < n) × (n ≤ 2 ^ 62)) (sym is.turns) (omega (arith, run.turns), run.turns.1);
         peers = subst (λ (ring : Ring). AllByRecursion (λ m. IsSome (key_of ring m)) (map contact_of plan.contacts.items))

@@ -1,5 +1,5 @@
 -- What a whole run of the command comes to, by how its settings were read.
-use Rattle.std.proofs.Common.{◌≡◌, ◌≢◌, ℕ, Bool, true, false, List, [], Option, Some, None, Result, Ok, Err, IfSome, inl, inr, refl, sym, subst, ⊎_elim}
+use Rattle.std.proofs.Common.{◌≡◌, ◌≢◌, ℕ, Bool, true, false, List, [], Option, Some, None, Result, Ok, Err, IfSome, inl, inr, refl, sym, ap, subst, ⊎_elim}
 use Rattle.std.specs.Prelude.{◌⊎◌, IfOk, IfErr, IsErr}
 use Rattle.xl_base.specs.declared.status.Status.{Status}
 use Rattle.xl_base.specs.declared.status.Status.TheVariants as status
@@ -64,6 +64,10 @@ no_run P journal none = subst (λ (j : Option (List Entry)). IfSome j P) (sym no
 not_refused : (end : Status) → IsOfNode end → end ≢ status.InputRefused
 not_refused end known is = subst IsOfNode is known
 
+not_unread : (end : Status) → IsOfNode end → (end ≡ status.InputRefused) ⊎ (end ≡ status.ReadFault) → ⊥
+not_unread end known (inl is) = subst IsOfNode is known
+not_unread end known (inr is) = subst IsOfNode is known
+
 module _ {K O : Type 0}
     (held_by : K → Option Held) (saves_of : K → Option (List ℕ)) (faults_of : K → ℕ)
     (load_gives : K → ℕ → K → Type 0) (save_gives : K → ℕ → Bool → K → Type 0)
@@ -78,7 +82,7 @@ module _ {K O : Type 0}
   pub judged_right : (s : Settings) → IfSome input (λ bytes. settings_of bytes moment ≡ Ok s)
       → IfSome journal (λ history. (is_written s.journal end ≡ false)
       × HasRun held_by saves_of faults_of load_gives save_gives s moment may_give links outside old new end history)
-      → (journal ≡ None → (IsUnopened end × (new_output ≡ old_output))
+      → (journal ≡ None → (IsUnopened end × (saves_of new ≡ saves_of old) × (new_output ≡ old_output))
       ⊎ HasRecorded held_by saves_of faults_of load_gives save_gives s moment may_give links outside old new end)
       → IsOfNode end → AreJudged
   judged_right s are ran unopened known = record {
@@ -86,11 +90,13 @@ module _ {K O : Type 0}
     given = given;
     refused = some_map input (λ bytes is. no_err (settings_of bytes moment) s is _) are;
     told = λ is. absurd (not_refused end known is);
+    untouched = λ is. absurd (not_unread end known is);
     ran = some_map journal (λ history run. (s, are, run.0, run.1)) ran;
     unopened = λ none. ⊎_elim
         (λ nothing. inl (
           nothing.0,
-          some_map input (λ bytes is. ok_then (settings_of bytes moment) s is (λ _. new_output ≡ old_output) nothing.1) are,
+          nothing.1,
+          some_map input (λ bytes is. ok_then (settings_of bytes moment) s is (λ _. new_output ≡ old_output) nothing.2) are,
         ))
         (λ recorded. inr (s, are, recorded))
         (unopened none);
@@ -100,8 +106,8 @@ module _ {K O : Type 0}
   pub judged_refused : (fault : SettingsFault) (why : SettingsRefusal) (told : Status) → fault ≡ Refused why
       → IfSome input (λ bytes. GivenBytes (Err fault) (settings_of bytes moment))
       → journal ≡ None → end ≡ told → (told ≡ status.InputRefused) ⊎ (told ≡ status.WriteFault)
-      → IsRefused (refusal_line why) told outside.old_output.held outside.new_output.held → AreJudged
-  judged_refused fault why told is given_by none same known line =
+      → IsRefused (refusal_line why) told outside.old_output.held outside.new_output.held → new ≡ old → AreJudged
+  judged_refused fault why told is given_by none same known line kept =
       let are : IfSome input (λ bytes. settings_of bytes moment ≡ Err why) =
       subst (λ (f : SettingsFault). IfSome input (λ bytes. GivenBytes (Err f) (settings_of bytes moment))) is given_by in
       let line' : IsRefused (refusal_line why) end outside.old_output.held outside.new_output.held =
@@ -110,23 +116,26 @@ module _ {K O : Type 0}
       record {
         moment = moment;
         given = given;
-        refused = some_map input (λ bytes e. err_then (settings_of bytes moment) why e _ (none, line')) are;
+        refused = some_map input (λ bytes e. err_then (settings_of bytes moment) why e _ (none, kept, line')) are;
+        untouched = λ _. kept;
         told = λ told. some_map input (λ bytes e. is_err (settings_of bytes moment) why e) are;
         ran = no_run _ journal none;
         unopened = λ _. inl (
           subst IsUnopened (sym same) (⊎_elim (λ e. subst IsUnopened (sym e) tt) (λ e. subst IsUnopened (sym e) tt) known),
+          ap saves_of kept,
           some_map input (λ bytes e. no_ok (settings_of bytes moment) why e (λ _. new_output ≡ old_output)) are,
         );
       }
 
   -- they weren't read, and nothing was written
   pub judged_unread : journal ≡ None → IsUnopened end → end ≢ status.InputRefused
-      → outside.new_output.held ≡ outside.old_output.held → new_output ≡ old_output → AreJudged
-  judged_unread none known other held same = record {
+      → outside.new_output.held ≡ outside.old_output.held → new_output ≡ old_output → new ≡ old → AreJudged
+  judged_unread none known other held same kept = record {
     moment = moment;
     given = given;
     refused = some_any input (λ bytes. any_err (settings_of bytes moment) (λ why. (
       none,
+      kept,
       record {
         front = subst (λ now. GrewByFront outside.old_output.held now (refusal_line why)) (sym held)
             (front_none outside.old_output.held (refusal_line why));
@@ -134,6 +143,7 @@ module _ {K O : Type 0}
       },
     )));
     told = λ is. absurd (other is);
+    untouched = λ _. kept;
     ran = no_run _ journal none;
-    unopened = λ _. inl (known, some_any input (λ bytes. any_ok (settings_of bytes moment) (λ s. same)));
+    unopened = λ _. inl (known, ap saves_of kept, some_any input (λ bytes. any_ok (settings_of bytes moment) (λ s. same)));
   }

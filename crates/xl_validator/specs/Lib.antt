@@ -4,3 +4,4 @@ pub mod Preparing
 pub mod ListsSet
 pub mod Recordings
 pub mod Validators
+pub mod Ends

@@ -1,6 +1,7 @@
 -- What settings say of the core that a node is opened with, and of what is run with it. Source: this project's own.
 use Rattle.std.specs.Prelude.{ℕ, List, map, fold}
 use Rattle.xl_base.specs.declared.ids.TxId.{TxId}
+use Rattle.xl_links.specs.Ways.{Target}
 use Rattle.xl_tags.specs.Rings.{Ring, no_keys, with_key}
 use Rattle.xl_core.specs.declared.settings.Settings.{Settings as CoreSettings}
 use Rattle.xl_core.specs.Core.{Core, with_queues}
@@ -41,20 +42,21 @@ pulse_of s moment = record {
 abbrev pub number_of : PeerSetting → ℕ
 number_of peer = peer.number
 
-abbrev pub members_of : Settings → List ℕ
-members_of s = map number_of s.peers
+-- the link that is opened to a peer: it is to the number, and in the way, that the settings name
+abbrev pub target_at : PeerSetting → Target
+target_at peer = record { member = peer.number; reach = peer.reach }
 
--- what a run is to do: its turns, the ids that it submits, the members that it serves, and what its heartbeat goes by
+-- what a run is to do: its turns, the ids that it submits, the links that it opens, and what its heartbeat goes by
 pub record Task : Type 0 where
   pub turns : ℕ
   pub submits : List TxId
-  pub members : List ℕ
+  pub targets : List Target
   pub pulse : Pulse
 
 abbrev pub task_of : Settings → ℕ → Task
 task_of s moment = record {
   turns = s.turns;
   submits = s.submit;
-  members = members_of s;
+  targets = map target_at s.peers;
   pulse = pulse_of s moment;
 }

@@ -15,10 +15,10 @@ use Rattle.xl_store.specs.declared.entry.Entry.{Entry}
 use Rattle.xl_heartbeat.specs.declared.pulse.Pulse.{Pulse}
 use Rattle.xl_settings.specs.Peers.{PeerSetting}
 use Rattle.xl_workers.specs.declared.plan.Plan.{Plan}
-use Rattle.xl_workers.specs.Linking.{contact_of}
+use Rattle.xl_workers.specs.Linking.{contact_of, target_of}
 use Rattle.xl_validator.specs.declared.preparing.Prepared.{Prepared}
 use Rattle.xl_validator.specs.Contacts.{IsNumber}
-use Rattle.xl_validator.specs.Openings.{Task, number_of}
+use Rattle.xl_validator.specs.Openings.{Task, target_at}
 use Rattle.xl_validator.specs.Recordings.{is_over}
 use Rattle.xl_validator.specs.Validators.{Between, Goes, IsOfNode, IsUnopened}
 
@@ -27,22 +27,22 @@ abbrev pub task_in : Plan → Task
 task_in plan = record {
   turns = plan.turns;
   submits = plan.submits.items;
-  members = map contact_of plan.contacts.items;
+  targets = map target_of plan.contacts.items;
   pulse = plan.pulse;
 }
 
 -- a node can be run with it: it has turns, and its members are peers of the core, each once
 pub record IsReady (prepared : Prepared) : Type 0 where
   pub turns : (0 < prepared.plan.turns) × (prepared.plan.turns ≤ 2 ^ 62)
-  pub peers : AllByRecursion (λ m. IsSome (key_of prepared.core.node.keys m)) (task_in prepared.plan).members
-  pub once : IsDistinct nat_eq (task_in prepared.plan).members
+  pub peers : AllByRecursion (λ m. IsSome (key_of prepared.core.node.keys m)) (map contact_of prepared.plan.contacts.items)
+  pub once : IsDistinct nat_eq (map contact_of prepared.plan.contacts.items)
   pub few : length prepared.plan.contacts.items ≤ 64
 
 -- a plan of so many turns, which submits these ids, serves these peers, and beats so
 pub record IsPlan (limit : ℕ) (ids : List TxId) (peers : List PeerSetting) (beats : Pulse) (plan : Plan) : Type 0 where
   pub turns : plan.turns ≡ limit
   pub submits : plan.submits.items ≡ ids
-  pub members : map contact_of plan.contacts.items ≡ map number_of peers
+  pub targets : map target_of plan.contacts.items ≡ map target_at peers
   pub pulse : plan.pulse ≡ beats
   pub numbers : AllByRecursion IsNumber plan.contacts.items
 
@@ -55,9 +55,10 @@ pub record Leaves {K O : Type 0}
   pub goes : IfSome journal (λ history. Goes held_by saves_of faults_of save_gives
       start task may_give links outside old new end history)
   pub unopened : journal ≡ None → new_output ≡ old_output
+  pub unsaved : journal ≡ None → new ≡ old
   pub opened : journal ≡ None → IsUnopened end
   pub known : IsOfNode end
   pub write : end ≡ status.WriteFault → Rose outside.old_output.faults outside.new_output.faults
   pub keeper : end ≢ status.KeepFault
-  pub net : end ≡ status.NetFault → Rose outside.old_faults outside.new_faults
+  pub net : end ≡ status.NetFault → Rose outside.old_hub.faults outside.new_hub.faults
   pub later : is_over end ≡ true → outside.old_output.faults ≤ outside.new_output.faults

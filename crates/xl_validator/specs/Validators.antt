@@ -16,6 +16,7 @@ use Rattle.xl_settings.specs.declared.settings.Settings.{Settings}
 use Rattle.xl_settings.specs.Lines.{refusal_line}
 use Rattle.xl_settings.specs.Settings.{settings_of}
 use Rattle.xl_workers.specs.declared.ends.RunEnd.{RunEnd}
+use Rattle.xl_workers.specs.Linking.{HubSeen}
 use Rattle.xl_workers.specs.Runs.{NodeRun, doing, status_of_end}
 use Rattle.xl_workers.specs.Sharing.{setting}
 use Rattle.xl_core.specs.Core.{Core}
@@ -28,28 +29,29 @@ pub record IsRefused (line : List ℕ) (end : Status) (old new : Option (List �
   pub front : GrewByFront old new line
   pub whole : end ≡ status.InputRefused → new ≡ append_known old line
 
--- settings that are refused open no store, and their line is told
-abbrev pub HasRefused : Option (List ℕ) → ℕ → Option (List Entry) → Status → Option (List ℕ) → Option (List ℕ)
-    → Type 0
-HasRefused input moment journal end old new = IfSome input (λ bytes. IfErr (settings_of bytes moment) (λ refusal.
-    (journal ≡ None) × IsRefused (refusal_line refusal) end old new))
+-- settings that are refused open no store and leave the keeper, and their line is told
+abbrev pub HasRefused : Option (List ℕ) → ℕ → Type 0 → Option (List Entry) → Status → Option (List ℕ)
+    → Option (List ℕ) → Type 0
+HasRefused input moment untouched journal end old new =
+    IfSome input (λ bytes. IfErr (settings_of bytes moment) (λ refusal.
+    (journal ≡ None) × untouched × IsRefused (refusal_line refusal) end old new))
 
 -- what a run stands between: the hub and the output before it and after it
 pub record Between : Type 0 where
-  pub old_faults : ℕ
-  pub new_faults : ℕ
+  pub old_hub : HubSeen
+  pub new_hub : HubSeen
   pub old_output : Output
   pub new_output : Output
 
-abbrev pub between : (old_faults new_faults : ℕ) → Option (List ℕ) → ℕ → Option (List ℕ) → ℕ → Between
-between old_faults new_faults old_held old_writes new_held new_writes = record {
-  old_faults = old_faults;
-  new_faults = new_faults;
+abbrev pub between : HubSeen → HubSeen → Option (List ℕ) → ℕ → Option (List ℕ) → ℕ → Between
+between old_hub new_hub old_held old_writes new_held new_writes = record {
+  old_hub = old_hub;
+  new_hub = new_hub;
   old_output = output old_held old_writes;
   new_output = output new_held new_writes;
 }
 
--- a status of this command where no store was opened
+-- a status of this command if no store was opened
 abbrev pub IsUnopened : Status → Type 0
 IsUnopened status.Done = ⊥
 IsUnopened status.Fork = ⊥
@@ -58,10 +60,10 @@ IsUnopened status.NetFault = ⊥
 IsUnopened status.StoreFull = ⊥
 IsUnopened other = Unit {0}
 
--- no store was opened, and unless the settings were refused nothing was written
-abbrev pub IsUnopenedAt : Option (List ℕ) → ℕ → Status → Type 0 → Type 0
-IsUnopenedAt input moment end silent =
-    IsUnopened end × IfSome input (λ bytes. IfOk (settings_of bytes moment) (λ _. silent))
+-- no store was opened and no save was asked, and unless the settings were refused nothing was written
+abbrev pub IsUnopenedAt : Option (List ℕ) → ℕ → Status → Type 0 → Type 0 → Type 0
+IsUnopenedAt input moment end unsaved silent =
+    IsUnopened end × unsaved × IfSome input (λ bytes. IfOk (settings_of bytes moment) (λ _. silent))
 
 module _ {K : Type 0}
     (held_by : K → Option Held) (saves_of : K → Option (List ℕ)) (faults_of : K → ℕ)
@@ -73,8 +75,8 @@ module _ {K : Type 0}
     pub run_end : RunEnd
     pub legal : IsLegal Leads start history
     pub run : NodeRun (setting start task.turns may_give links)
-        (doing task.submits task.members task.pulse
-        outside.old_faults outside.new_faults outside.old_output outside.new_output) run_end history
+        (doing task.submits task.targets task.pulse
+        outside.old_hub outside.new_hub outside.old_output outside.new_output) run_end history
     pub keeps : KeepsAll held_by saves_of faults_of save_gives start history old new
     pub limit : length history ≤ task.turns
     pub is : end ≡ status_of_end run_end
@@ -134,11 +136,14 @@ module _ {K : Type 0}
       : Type 0 where
     pub moment : ℕ
     pub given : may_give moment ≡ true
-    pub refused : HasRefused input moment journal end outside.old_output.held outside.new_output.held
+    pub refused : HasRefused input moment (new ≡ old) journal end outside.old_output.held outside.new_output.held
     pub told : end ≡ status.InputRefused → IfSome input (λ bytes. IsErr (settings_of bytes moment))
+    -- without settings the keeper is asked nothing
+    pub untouched : (end ≡ status.InputRefused) ⊎ (end ≡ status.ReadFault) → new ≡ old
     pub ran : IfSome journal (λ history. IsNodeRun input moment may_give links outside old new end history)
     -- if no journal is handed back it was written, or no store was opened
-    pub unopened : journal ≡ None → IsUnopenedAt input moment end (new_output ≡ old_output)
+    pub unopened : journal ≡ None
+        → IsUnopenedAt input moment end (saves_of new ≡ saves_of old) (new_output ≡ old_output)
         ⊎ IsRecordedRun input moment may_give links outside old new end
 
 -- a status of this command: it finds no fork, and no words are refused

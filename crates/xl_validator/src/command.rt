@@ -1,9 +1,11 @@
-ghost use Rattle.std.specs.Prelude.{◌≡◌, ◌≤◌, ◌⊎◌, Some, None, false, IfSome};
+ghost use Rattle.std.specs.Prelude.{◌≡◌, ◌≢◌, ◌≤◌, ◌⊎◌, Some, None, false, IfSome};
 ghost use Rattle.xl_base.specs.Faults.{Rose};
 ghost use Rattle.xl_base.specs.declared.moments.TheConstants.{GREATEST_MILLIS};
 ghost use Rattle.xl_settings.specs.Lines.{refusal_line};
 ghost use Rattle.xl_settings.specs.Runnable.{AreRunnable};
+ghost use Rattle.xl_workers.specs.Linking.{hub_seen};
 ghost use Rattle.xl_workers.specs.Runs.{status_of_end};
+ghost use Rattle.xl_validator.specs.Ends.{AreSubmits, CompletesAt, EndsByTime, EndsFull, HasBeats, HasRunSo, IsQuiet};
 ghost use Rattle.xl_validator.specs.Preparing.{IsReady, Leaves, task_in};
 ghost use Rattle.xl_validator.specs.Recordings.{is_written};
 ghost use Rattle.xl_validator.specs.Validators.{HasRecorded, HasRun, IsRefused, Judges, between};
@@ -49,7 +51,7 @@ fn run<W: Threads + Wait + Sync, O: Sink + Send, K: Keeper + Drop + Send, H: Hub
     requires ready { IsReady prepared }
     ensures leaves { Leaves K.held K.saves K.faults K.save_gives
         prepared.core (task_in prepared.plan) (C.may_give clock.now) (H.gives hub.old)
-        (between (H.faults hub.old) (H.faults hub.new)
+        (between (hub_seen (H.faults hub.old) (H.asked hub.old)) (hub_seen (H.faults hub.new) (H.asked hub.new))
         (O.held output.old) (O.faults output.old) (O.held output.new) (O.faults output.new))
         output.old output.new keeper result.keeper result.status result.journal }
 {
@@ -108,13 +110,14 @@ fn start<
     ensures ran { IfSome result.journal (λ history. (is_written judged.settings.journal result.status ≡ false)
         × HasRun K.held K.saves K.faults K.load_gives K.save_gives
         judged.settings judged.now (C.may_give clock.now) (H.gives hub.old)
-        (between (H.faults hub.old) (H.faults hub.new)
+        (between (hub_seen (H.faults hub.old) (H.asked hub.old)) (hub_seen (H.faults hub.new) (H.asked hub.new))
         (O.held output.old) (O.faults output.old) (O.held output.new) (O.faults output.new))
         keeper result.keeper result.status history) }
-    ensures unopened { result.journal ≡ None → (IsUnopened result.status × (output.new ≡ output.old))
+    ensures unopened { result.journal ≡ None
+        → (IsUnopened result.status × (K.saves result.keeper ≡ K.saves keeper) × (output.new ≡ output.old))
         ⊎ HasRecorded K.held K.saves K.faults K.load_gives K.save_gives
         judged.settings judged.now (C.may_give clock.now) (H.gives hub.old)
-        (between (H.faults hub.old) (H.faults hub.new)
+        (between (hub_seen (H.faults hub.old) (H.asked hub.old)) (hub_seen (H.faults hub.new) (H.asked hub.new))
         (O.held output.old) (O.faults output.old) (O.held output.new) (O.faults output.new))
         keeper result.keeper result.status }
     ensures known { IsOfNode result.status }
@@ -143,8 +146,8 @@ fn start<
 /// until the run is over. The keeper comes back, and so does the journal of the node's store, if one was opened.
 ///
 /// If the settings ask for it, the journal of a run that ended by its time, or since its store had no turn left, isn't
-/// handed back: it is written behind the reports. A write that fails there ends the command with `WriteFault`, and want
-/// of memory with `OutOfMemory`.
+/// handed back: it is written behind the reports. A write that fails there ends the command with `WriteFault`, and
+/// memory that runs out with `OutOfMemory`.
 ///
 /// Refused settings end it with `InputRefused` and the one line that names the key.
 pub fn validator<
@@ -163,12 +166,12 @@ pub fn validator<
     hub: &mut H,
     clock: &C,
 ) -> Ended<K>
-    // Settings are judged at one moment that the clock may give. If they are refused no store is opened, and of their line
-    // a front is written; others run a node that is opened at that moment, or nothing is written. The journal of the node
-    // is handed back, or written behind what the node wrote.
+    // Settings are judged at one moment that the clock may give. If they are refused no store is opened, the keeper is
+    // asked nothing, and of their line a front is written. Others run a node that is opened at that moment, or nothing is
+    // written and no save is asked. The journal of the node is handed back, or written behind what the node wrote.
     ensures judged { Judges K.held K.saves K.faults K.load_gives K.save_gives
         (I.left input.old) (C.may_give clock.now) (H.gives hub.old)
-        (between (H.faults hub.old) (H.faults hub.new)
+        (between (hub_seen (H.faults hub.old) (H.asked hub.old)) (hub_seen (H.faults hub.new) (H.asked hub.new))
         (O.held output.old) (O.faults output.old) (O.held output.new) (O.faults output.new))
         output.old output.new keeper result.keeper result.status result.journal }
     // Each status has its cause. An end by time, a failed network and a spent store are those of a node that ran.
@@ -177,6 +180,23 @@ pub fn validator<
     ensures write { result.status ≡ Status.WriteFault → Rose (O.faults output.old) (O.faults output.new) }
     ensures keeper { result.status ≡ Status.KeepFault → Rose (K.faults keeper) (K.faults result.keeper) }
     ensures net { result.status ≡ Status.NetFault → Rose (H.faults hub.old) (H.faults hub.new) }
+    // A run ends by time only if it has an end, which its last timer reached.
+    ensures done { result.status ≡ Status.Done
+        → HasRunSo EndsByTime (I.left input.old) (C.may_give clock.now) result.journal }
+    // A store has no turn left only if the history has as many entries as the settings allow.
+    ensures full { result.status ≡ Status.StoreFull
+        → HasRunSo EndsFull (I.left input.old) (C.may_give clock.now) result.journal }
+    // If the hub failed, all ids were submitted, and nothing else happened.
+    ensures submits { result.status ≡ Status.NetFault
+        → HasRunSo (AreSubmits (C.may_give clock.now)) (I.left input.old) (C.may_give clock.now) result.journal }
+    // Its timers are those of whole beats, of which only the last may be cut short.
+    ensures beats { IfSome result.journal (λ _.
+        HasRunSo HasBeats (I.left input.old) (C.may_give clock.now) result.journal) }
+    // If nothing fails and turns are left, refused settings end it so, and others by time, unless memory runs out.
+    ensures complete { IsQuiet (I.faults input.old) (I.faults input.new)
+        → IsQuiet (O.faults output.old) (O.faults output.new) → IsQuiet (K.faults keeper) (K.faults result.keeper)
+        → IsQuiet (H.faults hub.old) (H.faults hub.new) → result.status ≢ Status.StoreFull
+        → CompletesAt (I.left input.old) (C.may_give clock.now) result.status }
 {
     let now = clock.now();
     match settings_from(alloc, input, now) {

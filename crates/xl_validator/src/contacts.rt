@@ -1,7 +1,10 @@
 // The members that are served.
 ghost use Rattle.std.specs.Prelude.{◌≡◌, map, IfOk};
 ghost use Rattle.std.specs.List.{AllByRecursion};
-ghost use Rattle.xl_validator.specs.Contacts.{contact_seen, peer_seen, IsNumber};
+ghost use Rattle.xl_settings.specs.Peers.{setting_of};
+ghost use Rattle.xl_workers.specs.Linking.{target_of};
+ghost use Rattle.xl_validator.specs.Contacts.{IsNumber};
+ghost use Rattle.xl_validator.specs.Openings.{target_at};
 
 use std::alloc::Global;
 use xl_base::OutOfMemory;
@@ -10,7 +13,7 @@ use xl_workers::Contact;
 
 /// A contact for each peer, in order.
 pub(crate) fn contacts_of(alloc: Global, peers: Vec<Peer>) -> Result<Vec<Contact>, OutOfMemory>
-    ensures each { IfOk result (λ contacts. map contact_seen contacts.items ≡ map peer_seen peers.items) }
+    ensures each { IfOk result (λ contacts. map target_of contacts.items ≡ map target_at (map setting_of peers.items)) }
     ensures numbers { IfOk result (λ contacts. AllByRecursion IsNumber contacts.items) }
 {
     let mut contacts = Vec::with_capacity(alloc, peers.len())?;
@@ -24,7 +27,7 @@ pub(crate) fn contacts_of(alloc: Global, peers: Vec<Peer>) -> Result<Vec<Contact
 
 /// The contact of a peer.
 fn contact_of(peer: Peer) -> Contact
-    ensures same { contact_seen result ≡ peer_seen peer }
+    ensures same { target_of result ≡ target_at (setting_of peer) }
     ensures number { IsNumber result }
 {
     let Peer {

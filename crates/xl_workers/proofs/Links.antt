@@ -3,11 +3,61 @@ use Rattle.std.proofs.Common.{◌≡◌, ◌≢◌, ◌+◌, ℕ, false, Option,
 use Rattle.std.specs.Prelude.{nat_eq, IfSome}
 use Rattle.std.proofs.lemmas.List.{map-append}
 use Rattle.std.specs.List.{AllByRecursion, IsDistinct}
+use mathlib.Core.List.{IsPrefix}
 use Rattle.xl_links.specs.Links.{Wire}
+use Rattle.xl_links.specs.Tellings.{AddsTold}
+use Rattle.xl_links.specs.Ways.{Target}
+use Rattle.xl_peers.proofs.Growing.{tells_nothing, tells_both}
 use Rattle.xl_workers.specs.declared.plan.Contact.{Contact}
 use Rattle.xl_workers.specs.declared.linking.Peer.{Peer}
-use Rattle.xl_workers.specs.Linking.{contact_of, member_of, IsAsTold, AreLinked}
+use Rattle.xl_workers.specs.Linking.{contact_of, member_of, member_in, target_of, HubSeen, hub_seen, AsksFront, IsAsTold, AreLinked}
 use Rattle.xl_workers.proofs.Pairs.{all_more}
+
+-- the targets of contacts have their members
+pub same_members : (contacts : List Contact) → map member_in (map target_of contacts) ≡ map contact_of contacts
+same_members [] = refl
+same_members (c ∷ cs) = ap (λ (l : List ℕ). contact_of c ∷ l) (same_members cs)
+
+-- the hub was asked for the links to all contacts but these
+pub record AsksSome (old now : Option (List Target)) (all rest : List Contact) : Type 0 where
+  pub done : List Target
+  pub parts : done ++ map target_of rest ≡ map target_of all
+  pub asked : AddsTold old now done
+
+pub asks_none : (told : Option (List Target)) (all : List Contact) → AsksSome told told all all
+asks_none told all = record { done = []; parts = refl; asked = tells_nothing told }
+
+pub asks_more : (old now later : Option (List Target)) (all rest : List Contact) (contact : Contact)
+    → AsksSome old now all (contact ∷ rest) → AddsTold now later (target_of contact ∷ []) → AsksSome old later all rest
+asks_more old now later all rest contact s more = record {
+  done = s.done ++ target_of contact ∷ [];
+  parts = append_assoc s.done (target_of contact ∷ []) (map target_of rest) ∙ s.parts;
+  asked = tells_both old now later s.done (target_of contact ∷ []) s.asked more;
+}
+
+pub asks_all : (old now : Option (List Target)) (all : List Contact) → AsksSome old now all []
+    → AddsTold old now (map target_of all)
+asks_all old now all s =
+    subst (λ (l : List Target). AddsTold old now l) (sym (append-nil s.done) ∙ s.parts) s.asked
+
+pub asks_front : (old_faults now_faults : ℕ) (old now : Option (List Target)) (all rest : List Contact)
+    → AsksSome old now all rest
+    → AsksFront (hub_seen old_faults old) (map target_of all) (hub_seen now_faults now)
+asks_front old_faults now_faults old now all rest s =
+    record { front = s.done; first = (map target_of rest, s.parts); asked = s.asked }
+
+-- all links of a plan begin with all of them
+pub all_front : (old new : HubSeen) (targets : List Target) → AddsTold old.asked new.asked targets
+    → AsksFront old targets new
+all_front old new targets a = record { front = targets; first = ([], append-nil targets); asked = a }
+
+-- and with none
+pub none_front : (old new : HubSeen) (targets : List Target) → new.asked ≡ old.asked → AsksFront old targets new
+none_front old new targets same = record {
+  front = [];
+  first = (targets, refl);
+  asked = subst (λ (told : Option (List Target)). AddsTold old.asked told []) (sym same) (tells_nothing old.asked);
+}
 
 -- the hub tells of this contact's link what it told at first
 abbrev pub IsStill : (ℕ → Option Wire) → (ℕ → Option Wire) → Contact → Type 0

@@ -1,5 +1,5 @@
 -- A run, as its parts say it.
-use Rattle.std.proofs.Common.{◌≡◌, ◌≤◌, ℕ, List, ◌∷◌, ◌++◌, length, refl, sym, ap, ◌∙◌, arith}
+use Rattle.std.proofs.Common.{◌≡◌, ◌≤◌, ℕ, List, ◌∷◌, ◌++◌, length, map, refl, sym, ap, ◌∙◌, arith}
 use mathlib.Core.List.{IsPrefix}
 use Rattle.xl_base.specs.Faults.{Rose}
 use Rattle.xl_base.specs.declared.ids.TxId.{TxId}
@@ -7,6 +7,8 @@ use Rattle.xl_turns.specs.declared.view.Knowledge.{Knowledge}
 use Rattle.xl_turns.specs.Knowing.{newcomer, whole}
 use Rattle.xl_turns.specs.Places.{all_below}
 use Rattle.xl_turns.proofs.Prefixes.{prefix_all, prefix_trans}
+use Rattle.xl_links.specs.Tellings.{AddsTold}
+use Rattle.xl_links.specs.Ways.{Target}
 use Rattle.xl_core.specs.Core.{Core}
 use Rattle.xl_store.specs.declared.entry.Entry.{Entry}
 use Rattle.xl_store.specs.declared.store.StoreEnd.{StoreEnd}
@@ -21,10 +23,12 @@ use Rattle.xl_heartbeat.specs.Outputs.{Output}
 use Rattle.xl_heartbeat.specs.Beats.{taking_calls, TakesReports}
 use Rattle.xl_workers.specs.declared.ends.RunEnd.{RunEnd}
 use Rattle.xl_workers.specs.declared.ends.RunEnd.TheVariants as end
+use Rattle.xl_workers.specs.Linking.{HubSeen, AsksFront, member_in}
 use Rattle.xl_workers.specs.Submits.{Submitted, SubmittedFront}
 use Rattle.xl_workers.specs.Sharing.{Setting, SharedOut, SubmitPart}
 use Rattle.xl_workers.specs.Runs.{Doing, doing}
 use Rattle.xl_workers.specs.Working.{Closes, Worked, TookLast, Lives, Lived, end_of}
+use Rattle.xl_workers.proofs.Links.{none_front}
 use Rattle.xl_workers.proofs.Shared.{stands, full_longer}
 use Rattle.xl_workers.proofs.Outcomes.{outputs}
 
@@ -85,21 +89,24 @@ module _ (s : Setting) where
         written = outputs w.calls (taking_calls last t.handed) o1 o2 o3 beats last w.written t.written;
       }
 
-  pub lives_ran : (pulse : Pulse) (members : List ℕ) (ids : List TxId) (old_faults new_faults : ℕ)
+  pub lives_ran : (pulse : Pulse) (targets : List Target) (ids : List TxId) (old_hub new_hub : HubSeen)
       (old mid new : Knowledge Entry) (o1 o2 o3 : Output) (beats : BeatEnd) (last : Ending)
-      → Worked s pulse members old o1 beats mid o2
+      → AddsTold old_hub.asked new_hub.asked targets
+      → Worked s pulse (map member_in targets) old o1 beats mid o2
       → TookLast s.start s.turns beats.run mid o2 last new o3
-      → Lives s (doing ids members pulse old_faults new_faults o1 o3) ids (end.Ran beats last) old new
-  lives_ran pulse members ids old_faults new_faults old mid new o1 o2 o3 beats last w t = record {
+      → Lives s (doing ids targets pulse old_hub new_hub o1 o3) ids (end.Ran beats last) old new
+  lives_ran pulse targets ids old_hub new_hub old mid new o1 o2 o3 beats last asked w t = record {
+    asked = asked;
     share = t.made.share ∙ w.share;
     begins = prefix_trans old.seen mid.seen new.seen w.begins t.made.begins;
-    by = λ history close all. (refl, shared_out pulse members old mid new o1 o2 o3 beats last w t history close all);
+    by = λ history close all. (refl, shared_out pulse (map member_in targets) old mid new o1 o2 o3 beats last w t history close all);
   }
 
   -- nothing ran, if memory runs out
   pub lives_none : (d : Doing) (k : Knowledge Entry) → k.share ≡ whole → d.new_output ≡ d.old_output
-      → Lives s d d.ids end.OutOfMemory k k
-  lives_none d k share silent = record {
+      → AsksFront d.old_hub d.targets d.new_hub → Lives s d d.ids end.OutOfMemory k k
+  lives_none d k share silent asked = record {
+    asked = asked;
     share = share;
     begins = prefix_all k.seen;
     by = λ history close all. (prefix_all d.ids, record { all = all; silent = silent });
@@ -107,8 +114,10 @@ module _ (s : Setting) where
 
   -- nothing ran, since the hub failed
   pub lives_unlinked : (d : Doing) (k : Knowledge Entry) → k.share ≡ whole → d.new_output ≡ d.old_output
-      → Rose d.old_faults d.new_faults → Lives s d d.ids end.NetFault k k
-  lives_unlinked d k share silent rose = record {
+      → AsksFront d.old_hub d.targets d.new_hub → Rose d.old_hub.faults d.new_hub.faults
+      → Lives s d d.ids end.NetFault k k
+  lives_unlinked d k share silent asked rose = record {
+    asked = asked;
     share = share;
     begins = prefix_all k.seen;
     by = λ history close all. (refl, record { all = all; silent = silent }, rose);
@@ -129,6 +138,7 @@ module _ (s : Setting) where
             (prefix_trans mid.seen new.seen history lives.begins close.begins);
       };
       by = lives.by history close all;
+      asked = lives.asked;
     };
   }
 
@@ -144,18 +154,20 @@ module _ (s : Setting) where
 
   -- a submit had no turn
   pub lived_front : (d : Doing) (old new : Knowledge Entry) (why : StoreEnd) → old ≡ newcomer
-      → d.new_output ≡ d.old_output → SubmittedFront s.start s.turns s.may_give old d.ids why new
+      → d.new_output ≡ d.old_output → d.new_hub.asked ≡ d.old_hub.asked
+      → SubmittedFront s.start s.turns s.may_give old d.ids why new
       → Lived s d (end_of why) new
-  lived_front d old new refused.OutOfMemory first silent f = record {
+  lived_front d old new refused.OutOfMemory first silent unasked f = record {
     share = f.submitted.made.share ∙ ap (λ (k : Knowledge Entry). k.share) first;
     run = λ history close all. record {
       done = f.done;
       submits = new.mine;
       submitting = front_part old new d.ids refused.OutOfMemory history first f close.begins;
       by = ((f.next ∷ f.rest, sym f.front), record { all = all; silent = silent });
+      asked = none_front d.old_hub d.new_hub d.targets unasked;
     };
   }
-  lived_front d old new (refused.StoreFull n) first silent f = record {
+  lived_front d old new (refused.StoreFull n) first silent unasked f = record {
     share = f.submitted.made.share ∙ ap (λ (k : Knowledge Entry). k.share) first;
     run = λ history close all. record {
       done = f.done;
@@ -167,5 +179,6 @@ module _ (s : Setting) where
         f.why.0,
         (let p = close.drawn in let q = close.limit in let e = f.why.1 in omega (arith, p, q, e)),
       );
+      asked = unasked;
     };
   }

@@ -1,17 +1,20 @@
 -- A whole run of a node. Source: this project's own.
-use Rattle.std.specs.Prelude.{◌≡◌, ℕ, List, ◌∷◌, ◌++◌, length}
+use Rattle.std.specs.Prelude.{◌≡◌, ℕ, List, ◌∷◌, ◌++◌, length, map}
 use mathlib.Core.List.{IsPrefix}
 use Rattle.xl_base.specs.Faults.{Rose}
 use Rattle.xl_base.specs.declared.ids.TxId.{TxId}
 use Rattle.xl_base.specs.declared.status.Status.{Status}
 use Rattle.xl_base.specs.declared.status.Status.TheVariants as status
 use Rattle.xl_turns.specs.Places.{all_below}
+use Rattle.xl_links.specs.Tellings.{AddsTold}
+use Rattle.xl_links.specs.Ways.{Target}
 use Rattle.xl_store.specs.declared.entry.Entry.{Entry}
 use Rattle.xl_heartbeat.specs.declared.pulse.Pulse.{Pulse}
 use Rattle.xl_heartbeat.specs.Outputs.{Output}
 use Rattle.xl_heartbeat.specs.Statuses.{status_of_run}
 use Rattle.xl_workers.specs.declared.ends.RunEnd.{RunEnd}
 use Rattle.xl_workers.specs.declared.ends.RunEnd.TheVariants as end
+use Rattle.xl_workers.specs.Linking.{HubSeen, AsksFront, member_in}
 use Rattle.xl_workers.specs.Sharing.{Setting, SubmitPart, SharedOut}
 
 -- the status that a run ends with
@@ -21,23 +24,23 @@ status_of_end end.NetFault = status.NetFault
 status_of_end end.OutOfMemory = status.OutOfMemory
 status_of_end (end.StoreFull n) = status.StoreFull
 
--- what a run is to do, and what it does to the hub's count of faults and to the output
+-- what a run is to do, and what the hub and the output show before it and after it
 pub record Doing : Type 0 where
   pub ids : List TxId
-  pub members : List ℕ
+  pub targets : List Target
   pub pulse : Pulse
-  pub old_faults : ℕ
-  pub new_faults : ℕ
+  pub old_hub : HubSeen
+  pub new_hub : HubSeen
   pub old_output : Output
   pub new_output : Output
 
-abbrev pub doing : List TxId → List ℕ → Pulse → ℕ → ℕ → Output → Output → Doing
-doing ids members pulse old_faults new_faults old_output new_output = record {
+abbrev pub doing : List TxId → List Target → Pulse → HubSeen → HubSeen → Output → Output → Doing
+doing ids targets pulse old_hub new_hub old_output new_output = record {
   ids = ids;
-  members = members;
+  targets = targets;
   pulse = pulse;
-  old_faults = old_faults;
-  new_faults = new_faults;
+  old_hub = old_hub;
+  new_hub = new_hub;
   old_output = old_output;
   new_output = new_output;
 }
@@ -51,16 +54,23 @@ pub record NoMore (d : Doing) (history : List Entry) (submits : List ℕ) : Type
 abbrev pub IsLess : List TxId → List TxId → Type 0
 IsLess done ids = (next : TxId) × (rest : List TxId) × (ids ≡ done ++ next ∷ rest)
 
+-- The links that the hub was asked for: all if the workers ran, none if a submit had no turn, and else the first of them
+abbrev pub IsAsked : Doing → RunEnd → Type 0
+IsAsked d (end.Ran beats last) = AddsTold d.old_hub.asked d.new_hub.asked d.targets
+IsAsked d end.NetFault = AsksFront d.old_hub d.targets d.new_hub
+IsAsked d end.OutOfMemory = AsksFront d.old_hub d.targets d.new_hub
+IsAsked d (end.StoreFull n) = d.new_hub.asked ≡ d.old_hub.asked
+
 -- What each end says. If the workers ran, all ids were submitted and the other places are shared out. Else the
--- submits have all places: the hub failed after all of them, memory was wanting, or all turns of the store were drawn
+-- submits have all places: the hub failed after all of them, memory ran out, or all turns of the store were drawn
 abbrev pub EndsBy : Setting → Doing → List Entry → List TxId → List ℕ → RunEnd → Type 0
 EndsBy s d history done submits (end.Ran beats last) =
     (done ≡ d.ids)
-    × SharedOut s d.pulse d.members history submits beats last d.old_output d.new_output
+    × SharedOut s d.pulse (map member_in d.targets) history submits beats last d.old_output d.new_output
 EndsBy s d history done submits end.NetFault =
     (done ≡ d.ids)
     × NoMore d history submits
-    × Rose d.old_faults d.new_faults
+    × Rose d.old_hub.faults d.new_hub.faults
 EndsBy s d history done submits end.OutOfMemory = IsPrefix done d.ids × NoMore d history submits
 EndsBy s d history done submits (end.StoreFull n) =
     IsLess done d.ids
@@ -68,9 +78,11 @@ EndsBy s d history done submits (end.StoreFull n) =
     × (n ≡ s.turns)
     × (length history ≡ s.turns)
 
--- The submits are of the first ids, in order and each once, and the end says how many they are and what else there is
+-- The submits are of the first ids, in order and each once, the hub was asked for links as the plan names them, and the
+-- end says how many of both there are and what else there is
 pub record NodeRun (s : Setting) (d : Doing) (end : RunEnd) (history : List Entry) : Type 0 where
   pub done : List TxId
   pub submits : List ℕ
   pub submitting : SubmitPart s history done submits
   pub by : EndsBy s d history done submits end
+  pub asked : IsAsked d end

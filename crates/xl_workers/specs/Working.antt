@@ -27,7 +27,7 @@ use Rattle.xl_workers.specs.declared.worker.Worker.{Worker}
 use Rattle.xl_workers.specs.Pairing.{Paired, total}
 use Rattle.xl_workers.specs.Serving.{share_of, IsFresh}
 use Rattle.xl_workers.specs.Sharing.{Setting, BeatPart, ServePart, merge_all}
-use Rattle.xl_workers.specs.Runs.{Doing, EndsBy, NodeRun}
+use Rattle.xl_workers.specs.Runs.{Doing, EndsBy, IsAsked, NodeRun}
 
 module _ {L : Type 0} where
   -- all shares are there, and only the first pass may have places
@@ -56,7 +56,7 @@ pub record Worked (s : Setting) (pulse : Pulse) (members : List ℕ)
   pub beating : (history : List Entry) → Closes s.turns new history → BeatPart s pulse history end calls beat
   pub serving : (history : List Entry) → Closes s.turns new history → Paired (ServePart s history) members parts
 
--- where a write's fault had ended the heartbeat nothing more was written
+-- if a write's fault had ended the heartbeat nothing more was written
 abbrev pub IsWrittenAfter : Ending → Ending → List ℕ → Output → Output → Type 0
 IsWrittenAfter ending.Done end text old new = IsWritten end text old new
 IsWrittenAfter ending.WriteFault end text old new = new ≡ old
@@ -78,6 +78,7 @@ pub record Lives (s : Setting) (d : Doing) (done : List TxId) (end : RunEnd) (ol
     : Type 0 where
   pub share : new.share ≡ whole
   pub begins : IsPrefix old.seen new.seen
+  pub asked : IsAsked d end
   pub by : (history : List Entry) → Closes s.turns new history → new.mine ≡ all_below (length history)
       → EndsBy s d history done old.mine end
 

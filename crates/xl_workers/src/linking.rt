@@ -1,7 +1,8 @@
-ghost use Rattle.std.specs.Prelude.{◌≡◌, ◌≤◌, nat_eq, map, IfOk, IfErr};
+ghost use Rattle.std.specs.Prelude.{◌≡◌, ◌≤◌, nat_eq, map, IfOk, IfErr, OnOk, OnErr};
 ghost use Rattle.std.specs.List.{IsDistinct};
 ghost use Rattle.xl_base.specs.Faults.{Rose};
-ghost use Rattle.xl_workers.specs.Linking.{contact_of, AreLinked};
+ghost use Rattle.xl_links.specs.Tellings.{AddsTold};
+ghost use Rattle.xl_workers.specs.Linking.{contact_of, hub_seen, target_of, AreLinked, AsksFront};
 
 use crate::plan::Contact;
 use std::alloc::Global;
@@ -23,7 +24,7 @@ pub(crate) enum NoLinks {
     OutOfMemory,
 }
 
-/// Opens a link to each member, in order. It ends at the first that the hub can't make.
+/// Opens a link to each member, in order, in the way that its contact says. It ends at the first that the hub can't make.
 pub(crate) fn open_links<H: Hub>(
     alloc: Global,
     hub: &mut H,
@@ -32,6 +33,9 @@ pub(crate) fn open_links<H: Hub>(
     requires once { IsDistinct nat_eq (map contact_of contacts.items) }
     ensures linked { IfOk result (λ peers.
         AreLinked (H.gives hub.old) H.L.Link.shows contacts.items peers.items) }
+    ensures asked { OnOk result (AddsTold (H.asked hub.old) (H.asked hub.new) (map target_of contacts.items)) }
+    ensures front { OnErr result (AsksFront (hub_seen (H.faults hub.old) (H.asked hub.old)) (map target_of contacts.items)
+        (hub_seen (H.faults hub.new) (H.asked hub.new))) }
     ensures later { H.faults hub.old ≤ H.faults hub.new }
     ensures failed { IfErr result (λ why. why ≡ NoLinks.NetFault → Rose (H.faults hub.old) (H.faults hub.new)) }
 {

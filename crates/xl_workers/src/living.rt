@@ -6,9 +6,11 @@ ghost use Rattle.xl_tags.specs.Rings.{key_of};
 ghost use Rattle.xl_turns.specs.Passes.{known};
 ghost use Rattle.xl_turns.specs.Knowing.{newcomer};
 ghost use Rattle.xl_links.specs.Links.{Wire};
+ghost use Rattle.xl_links.specs.Tellings.{AddsTold};
+ghost use Rattle.xl_links.specs.Ways.{Target};
 ghost use Rattle.xl_store.specs.Stores.{start_of, turns_of, IsOf};
 ghost use Rattle.xl_heartbeat.specs.Outputs.{output};
-ghost use Rattle.xl_workers.specs.Linking.{member_of, contact_of, IsAsTold};
+ghost use Rattle.xl_workers.specs.Linking.{member_of, member_in, contact_of, target_of, hub_seen, HubSeen, IsAsTold};
 ghost use Rattle.xl_workers.specs.Serving.{IsPeer};
 ghost use Rattle.xl_workers.specs.Sharing.{setting};
 ghost use Rattle.xl_workers.specs.Runs.{doing};
@@ -78,10 +80,12 @@ fn serve_all<
     requires few { length peers.items ≤ 64 }
     ensures pass { IsOf store.now result.1 }
     ensures not_full { (n : ℕ) → result.0 ≢ RunEnd.StoreFull n }
-    ensures lives { (gives : ℕ → Option Wire) (ids : List TxId) (old_faults new_faults : ℕ)
+    ensures lives { (gives : ℕ → Option Wire) (ids : List TxId) (targets : List Target) (old_hub new_hub : HubSeen)
+        → map member_of peers.items ≡ map member_in targets
+        → AddsTold old_hub.asked new_hub.asked targets
         → AllByRecursion (IsAsTold gives L.shows) peers.items
         → Lives (setting (start_of store.now) (turns_of store.now) (C.may_give clock.now) gives)
-        (doing ids (map member_of peers.items) pulse.now old_faults new_faults
+        (doing ids targets pulse.now old_hub new_hub
         (output (O.held sink.old) (O.faults sink.old)) (output (O.held sink.new) (O.faults sink.new)))
         ids result.0 (known pass) (known result.1) }
 {
@@ -126,7 +130,8 @@ fn link_and_serve<
     ensures not_full { (n : ℕ) → result.0 ≢ RunEnd.StoreFull n }
     ensures lives { (ids : List TxId)
         → Lives (setting (start_of store.now) (turns_of store.now) (C.may_give clock.now) (H.gives hub.old))
-        (doing ids (map contact_of contacts.items) pulse.now (H.faults hub.old) (H.faults hub.new)
+        (doing ids (map target_of contacts.items) pulse.now
+        (hub_seen (H.faults hub.old) (H.asked hub.old)) (hub_seen (H.faults hub.new) (H.asked hub.new))
         (output (O.held sink.old) (O.faults sink.old)) (output (O.held sink.new) (O.faults sink.new)))
         ids result.0 (known pass) (known result.1) }
 {
@@ -179,7 +184,8 @@ pub(crate) fn live<
     ensures later { H.faults hub.old ≤ H.faults hub.new }
     ensures unopened { (n : ℕ) → result.0 ≡ RunEnd.StoreFull n → hub.new ≡ hub.old }
     ensures lived { Lived (setting (start_of store.now) (turns_of store.now) (C.may_give clock.now) (H.gives hub.old))
-        (doing ids.now (map contact_of contacts.items) pulse.now (H.faults hub.old) (H.faults hub.new)
+        (doing ids.now (map target_of contacts.items) pulse.now
+        (hub_seen (H.faults hub.old) (H.asked hub.old)) (hub_seen (H.faults hub.new) (H.asked hub.new))
         (output (O.held sink.old) (O.faults sink.old)) (output (O.held sink.new) (O.faults sink.new)))
         result.0 (known result.1) }
 {

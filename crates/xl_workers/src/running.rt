@@ -6,7 +6,7 @@ ghost use Rattle.xl_core.specs.CoreLives.{core_after};
 ghost use Rattle.xl_store.specs.Entries.{Leads, life_of};
 ghost use Rattle.xl_store.specs.Closing.{KeepsAll};
 ghost use Rattle.xl_heartbeat.specs.Outputs.{output};
-ghost use Rattle.xl_workers.specs.Linking.{contact_of};
+ghost use Rattle.xl_workers.specs.Linking.{contact_of, hub_seen, target_of};
 ghost use Rattle.xl_workers.specs.Sharing.{setting};
 ghost use Rattle.xl_workers.specs.Runs.{doing, NodeRun};
 
@@ -33,7 +33,7 @@ pub struct Ran<B: Branch, K> {
 /// them all side by side with the heartbeat until that ends the run, takes the last reports and closes the store.
 ///
 /// The members are peers of the core, and none stands twice. If there was no memory for the store, core and keeper
-/// come back, and nothing happened. How every other run ended is told in what it leaves.
+/// come back, and nothing happened. What it leaves tells how every other run ended.
 pub fn node<
     W: Threads + Wait + Sync,
     B: Branch + Drop + Send,
@@ -63,10 +63,11 @@ pub fn node<
     ensures keeper { IfOk result (λ ran. KeepsAll K.held K.saves K.faults K.save_gives
         core ran.closed.journal keeper ran.closed.keeper) }
     ensures limit { IfOk result (λ ran. length ran.closed.journal ≤ plan.turns) }
-    // its places are shared out, and its lines are the output
+    // its places are shared out, its lines are the output, and the hub was asked for links as the plan names them
     ensures run { IfOk result (λ ran. NodeRun
         (setting core plan.turns (C.may_give clock.now) (H.gives hub.old))
-        (doing plan.submits.items (map contact_of plan.contacts.items) plan.pulse (H.faults hub.old) (H.faults hub.new)
+        (doing plan.submits.items (map target_of plan.contacts.items) plan.pulse
+        (hub_seen (H.faults hub.old) (H.asked hub.old)) (hub_seen (H.faults hub.new) (H.asked hub.new))
         (output (O.held sink.old) (O.faults sink.old)) (output (O.held sink.new) (O.faults sink.new)))
         ran.end ran.closed.journal) }
     ensures unopened { IfOk result (λ ran. (n : ℕ) → ran.end ≡ RunEnd.StoreFull n → hub.new ≡ hub.old) }

@@ -1,6 +1,6 @@
 use Rattle.std.proofs.Common.{◌≡◌, ◌≤◌, ◌+◌, ◌-◌, length}
 use Rattle.std.specs.Io.KnownBytes.{prepend_known}
-use Rattle.xl_settings.specs.declared.limits.TheConstants.{MOST_BYTES}
+use Rattle.xl_settings.specs.Limits.{most_bytes}
 use Rattle.xl_settings.proofs.source.read_out.Given as goal
 
 abbrev pub invariant-loop-room : goal.invariant-loop-room
@@ -9,4 +9,4 @@ invariant-loop-room g l =
     × (g.I.Source.faults l.initial.input ≤ g.I.Source.faults l.input)
 
 abbrev pub decreases-loop-room : goal.decreases-loop-room
-decreases-loop-room g l = MOST_BYTES + 1 - length l.bytes.items
+decreases-loop-room g l = most_bytes + 1 - length l.bytes.items

@@ -1,3 +1,5 @@
+use Rattle.std.proofs.Common.{◌∙◌}
+use Rattle.xl_workers.specs.Linking.{hub_seen}
 use Rattle.xl_validator.specs.Preparing.{task_in}
 use Rattle.xl_validator.specs.Validators.{between}
 use Rattle.xl_validator.proofs.Leaving.{leaves_run, leaves_none}
@@ -12,7 +14,8 @@ returns-in-Ok g c =
       leaves = leaves_run g.K.Keeper.held g.K.Keeper.saves g.K.Keeper.faults g.K.Keeper.save_gives
           c.args.prepared.core (task_in c.args.prepared.plan) (g.C.Clock.may_give c.args.clock.now)
           (g.H.Hub.gives c.args.hub.now)
-          (between (g.H.Hub.faults c.args.hub.now) (g.H.Hub.faults c.node.new.hub)
+          (between (hub_seen (g.H.Hub.faults c.args.hub.now) (g.H.Hub.asked c.args.hub.now))
+          (hub_seen (g.H.Hub.faults c.node.new.hub) (g.H.Hub.asked c.node.new.hub))
           (g.O.Sink.held old) (g.O.Sink.faults old) (g.O.Sink.held new) (g.O.Sink.faults new))
           old new c.args.keeper c.ended.result.keeper c.ended.result.status c.ended.result.journal
           ran.end ran.closed.keeper ran.closed.journal
@@ -28,8 +31,10 @@ returns-in-Err g c =
       leaves = leaves_none g.K.Keeper.held g.K.Keeper.saves g.K.Keeper.faults g.K.Keeper.save_gives
           c.args.prepared.core (task_in c.args.prepared.plan) (g.C.Clock.may_give c.args.clock.now)
           (g.H.Hub.gives c.args.hub.now)
-          (between (g.H.Hub.faults c.args.hub.now) (g.H.Hub.faults c.node.new.hub)
+          (between (hub_seen (g.H.Hub.faults c.args.hub.now) (g.H.Hub.asked c.args.hub.now))
+          (hub_seen (g.H.Hub.faults c.node.new.hub) (g.H.Hub.asked c.node.new.hub))
           (g.O.Sink.held old) (g.O.Sink.faults old) (g.O.Sink.held new) (g.O.Sink.faults new))
           old new c.args.keeper c.unopened.result.keeper c.unopened.result.status c.unopened.result.journal
-          c.unopened.ensures.status c.unopened.ensures.journal c.in-Err.ensures.nothing.1;
+          c.unopened.ensures.status c.unopened.ensures.journal c.in-Err.ensures.nothing.1
+          (c.unopened.ensures.keeper ∙ c.keeper_of.ensures ∙ c.in-Err.ensures.spared.1);
     }

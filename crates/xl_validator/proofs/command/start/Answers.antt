@@ -1,6 +1,7 @@
 use Rattle.std.proofs.Common.{ap}
 use Rattle.std.specs.Prelude.{is_some}
 use Rattle.xl_heartbeat.specs.Outputs.{Output, output}
+use Rattle.xl_workers.specs.Linking.{hub_seen}
 use Rattle.xl_validator.specs.Preparing.{task_in}
 use Rattle.xl_validator.specs.Validators.{between}
 use Rattle.xl_validator.specs.declared.recording.Recording.{Recording}
@@ -19,7 +20,8 @@ recorded-requires g c =
           c.in-Ok-prepare.ensures.core made.ensures.settings made.ensures.now made.ensures.kept
           (legal_of g.K.Keeper.held g.K.Keeper.saves g.K.Keeper.faults g.K.Keeper.save_gives prepared.core
           (task_in prepared.plan) (g.C.Clock.may_give c.args.clock.now) (g.H.Hub.gives c.args.hub.now)
-          (between (g.H.Hub.faults c.args.hub.now) (g.H.Hub.faults c.run-ended.new.hub)
+          (between (hub_seen (g.H.Hub.faults c.args.hub.now) (g.H.Hub.asked c.args.hub.now))
+          (hub_seen (g.H.Hub.faults c.run-ended.new.hub) (g.H.Hub.asked c.run-ended.new.hub))
           (g.O.Sink.held old) (g.O.Sink.faults old) (g.O.Sink.held new) (g.O.Sink.faults new))
           c.load.new.self c.run-ended.result.keeper c.run-ended.result.status c.run-ended.result.journal
           c.run-ended.ensures.leaves.goes);
@@ -37,7 +39,8 @@ returns-in-Ok-prepare g c =
     ends g.K.Keeper.held g.K.Keeper.saves g.K.Keeper.faults g.K.Keeper.load_gives g.K.Keeper.save_gives
     c.args.judged.settings c.args.judged.now c.in-Ok.kept
     (g.C.Clock.may_give c.args.clock.now) (g.H.Hub.gives c.args.hub.now)
-    (g.H.Hub.faults c.args.hub.now) (g.H.Hub.faults ran.new.hub)
+    (hub_seen (g.H.Hub.faults c.args.hub.now) (g.H.Hub.asked c.args.hub.now))
+    (hub_seen (g.H.Hub.faults ran.new.hub) (g.H.Hub.asked ran.new.hub))
     (shown c.args.output.now) (shown ran.new.output) (shown done.new.sink)
     c.args.output.now ran.new.output done.new.sink
     c.args.keeper c.load.new.self ran.result.keeper done.result.keeper ran.result.status done.result.status

@@ -1,10 +1,12 @@
-use Rattle.std.proofs.Common.{◌≡◌, ◌<◌, length, List, [], refl, sym, subst, arith}
+use Rattle.std.proofs.Common.{◌≡◌, ◌<◌, length, List, [], map, refl, sym, subst, arith}
 use Rattle.std.proofs.lemmas.List.{nil_from_length}
 use Rattle.std.proofs.lemmas.Bool.{eqb-true}
 use Rattle.xl_workers.specs.declared.plan.Contact.{Contact}
 use Rattle.xl_workers.specs.declared.linking.Peer.{Peer}
 use Rattle.xl_workers.proofs.Pairs.{first_off}
-use Rattle.xl_workers.proofs.Links.{SomeLinked, linked_none, linked_more, linked_all}
+use Rattle.xl_workers.proofs.Links.{AsksSome, SomeLinked, asks_none, asks_more, asks_all, asks_front, none_front}
+use Rattle.xl_workers.proofs.Links.{linked_none, linked_more, linked_all}
+use Rattle.xl_workers.specs.Linking.{hub_seen, target_of}
 use Rattle.xl_workers.proofs.linking.open_links.Goals as goal
 
 pub loop-rest-init : goal.loop-rest-init
@@ -16,6 +18,7 @@ loop-rest-init g c =
       linked = subst (λ (ps : List (Peer g.row.H-L.Denot)). SomeLinked gives shows all gives all ps)
           (sym c.in-Ok.ensures.items) (linked_none gives shows all c.requires.once);
       room = omega (arith, c.in-Ok.ensures.capacity, c.len.ensures, c.args.contacts.ok.0);
+      asked = asks_none (g.H.Hub.asked c.args.hub.now) all;
       later = omega arith;
     }
 
@@ -41,6 +44,10 @@ loop-rest-preserved g c =
           (linked_more first shows all now later c.remove-member.result c.remove-member.new.self.items
           c.loop-rest.peers.items peer before refl c.in-Ok-open_link.ensures.given c.open_link.ensures.others);
       room = omega (arith, c.push_reserved.ensures.capacity, c.loop-rest.invariant.room);
+      asked = asks_more (g.H.Hub.asked c.args.hub.now) (g.H.Hub.asked c.loop-rest.hub)
+          (g.H.Hub.asked c.open_link.new.self) all c.remove-member.new.self.items c.remove-member.result
+          (subst (λ (l : List Contact). AsksSome (g.H.Hub.asked c.args.hub.now) (g.H.Hub.asked c.loop-rest.hub) all l) off
+          c.loop-rest.invariant.asked) c.open_link.ensures.asked;
       later = omega (arith, c.loop-rest.invariant.later, c.open_link.ensures.later);
     }
 
@@ -56,6 +63,29 @@ returns g c =
       linked = linked_all first shows all now c.loop-rest.peers.items
           (subst (λ (l : List Contact). SomeLinked first shows all now l c.loop-rest.peers.items) none
           c.loop-rest.invariant.linked);
+      asked = asks_all (g.H.Hub.asked c.args.hub.now) (g.H.Hub.asked c.loop-rest.hub) all
+          (subst (λ (l : List Contact). AsksSome (g.H.Hub.asked c.args.hub.now) (g.H.Hub.asked c.loop-rest.hub) all l) none
+          c.loop-rest.invariant.asked);
+      front = tt;
       later = c.loop-rest.invariant.later;
       failed = tt;
     }
+
+pub returns-in_default-clause-front : goal.returns-in_default-clause-front
+returns-in_default-clause-front g c =
+    let hub = hub_seen (g.H.Hub.faults c.args.hub.now) (g.H.Hub.asked c.args.hub.now) in
+    none_front hub hub (map target_of c.args.contacts.items) refl
+
+pub returns-in-Err-clause-front : goal.returns-in-Err-clause-front
+returns-in-Err-clause-front g c =
+    let all = c.args.contacts.items in
+    let some_left : 0 < length c.loop-rest.rest.items = omega
+    (arith, c.loop-rest.rest.ok.0, c.remove-member.ensures.len) in
+    let off = first_off c.loop-rest.rest.items c.remove-member.new.self.items c.remove-member.result some_left
+    c.remove-member.ensures.value c.remove-member.ensures.items in
+    asks_front (g.H.Hub.faults c.args.hub.now) (g.H.Hub.faults c.open_link.new.self) (g.H.Hub.asked c.args.hub.now)
+    (g.H.Hub.asked c.open_link.new.self) all c.remove-member.new.self.items
+    (asks_more (g.H.Hub.asked c.args.hub.now) (g.H.Hub.asked c.loop-rest.hub) (g.H.Hub.asked c.open_link.new.self) all
+    c.remove-member.new.self.items c.remove-member.result
+    (subst (λ (l : List Contact). AsksSome (g.H.Hub.asked c.args.hub.now) (g.H.Hub.asked c.loop-rest.hub) all l) off
+    c.loop-rest.invariant.asked) c.open_link.ensures.asked)

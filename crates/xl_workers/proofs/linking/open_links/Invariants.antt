@@ -1,6 +1,6 @@
 use Rattle.std.proofs.Common.{◌≤◌, length}
 use Rattle.std.specs.Vec.{vec_capacity}
-use Rattle.xl_workers.proofs.Links.{SomeLinked}
+use Rattle.xl_workers.proofs.Links.{AsksSome, SomeLinked}
 use Rattle.xl_workers.proofs.linking.open_links.Given as goal
 
 abbrev pub invariant-loop-rest : goal.invariant-loop-rest
@@ -8,6 +8,7 @@ invariant-loop-rest g l = record {
   linked : SomeLinked (g.H.Hub.gives l.initial.hub) g.H.L.Link.shows l.fn.contacts.items (g.H.Hub.gives l.hub)
       l.rest.items l.peers.items;
   room : length l.fn.contacts.items ≤ vec_capacity l.peers;
+  asked : AsksSome (g.H.Hub.asked l.initial.hub) (g.H.Hub.asked l.hub) l.fn.contacts.items l.rest.items;
   later : g.H.Hub.faults l.initial.hub ≤ g.H.Hub.faults l.hub;
 }
 

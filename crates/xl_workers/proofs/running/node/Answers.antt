@@ -4,7 +4,7 @@ use Rattle.xl_turns.specs.Passes.{known}
 use Rattle.xl_core.specs.Core.{Core}
 use Rattle.xl_store.specs.Stores.{start_of, turns_of}
 use Rattle.xl_heartbeat.specs.Outputs.{output}
-use Rattle.xl_workers.specs.Linking.{contact_of}
+use Rattle.xl_workers.specs.Linking.{hub_seen, target_of}
 use Rattle.xl_workers.specs.Sharing.{setting}
 use Rattle.xl_workers.specs.Runs.{Doing, doing, NodeRun}
 use Rattle.xl_workers.specs.Working.{Closes}
@@ -18,8 +18,9 @@ returns-clause-run g c =
     let o1 = output (g.O.Sink.held c.args.sink.now) (g.O.Sink.faults c.args.sink.now) in
     let o2 = output (g.O.Sink.held c.live-end.new.sink) (g.O.Sink.faults c.live-end.new.sink) in
     let of_ids : List TxId → Doing = λ ids.
-    doing ids (map contact_of c.args.plan.contacts.items) c.args.plan.pulse (g.H.Hub.faults c.args.hub.now)
-    (g.H.Hub.faults c.live-end.new.hub) o1 o2 in
+    doing ids (map target_of c.args.plan.contacts.items) c.args.plan.pulse
+    (hub_seen (g.H.Hub.faults c.args.hub.now) (g.H.Hub.asked c.args.hub.now))
+    (hub_seen (g.H.Hub.faults c.live-end.new.hub) (g.H.Hub.asked c.live-end.new.hub)) o1 o2 in
     let d = of_ids c.args.plan.submits.items in
     let end = c.live-end.result.0 in
     let history = c.close-closed.result.journal in
