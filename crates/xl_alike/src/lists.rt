@@ -116,7 +116,7 @@ impl Lists {
     }
 }
 
-/// Whether our next vote is yes. It stays where nobody says otherwise.
+/// Whether our next vote is yes. It stays if nobody says otherwise.
 fn wins(votes: &Votes, needed: u64, proposing: bool) -> bool {
     let (yays, nays) = (u64::from(votes.yays), u64::from(votes.nays));
     if votes.ours && nays == 0 || !votes.ours && yays == 0 {

@@ -41,7 +41,7 @@ fn core_with(alloc: Global, trusted: u32, member: NodeNo) -> Result<Core<Trie>, 
     }
 }
 
-/// A store of so many turns over a core, and its first pass.
+/// A store of this many turns over a core, and its first pass.
 fn store_of(
     alloc: Global,
     core: Core<Trie>,
@@ -58,7 +58,7 @@ fn store_of(
     }
 }
 
-/// A store of so many turns over node 1, and its first pass. The member is a peer. The second save fails.
+/// A store of this many turns over node 1, and its first pass. The member is a peer. The second save fails.
 pub fn stored(
     alloc: Global,
     trusted: u32,

@@ -1,6 +1,6 @@
 ghost use Rattle.std.specs.Prelude.{◌≤◌, length, IsSome};
 ghost use Rattle.xl_tags.specs.Rings.{key_of};
-ghost use Rattle.xl_wire.specs.declared.lengths.TheConstants.{LONGEST_FRAME};
+ghost use Rattle.xl_wire.specs.Lengths.{longest_frame};
 ghost use Rattle.xl_store.specs.Stores.{start_of, IsOf};
 
 use crate::fixtures::{Stored, core_of, said, stored};
@@ -17,7 +17,7 @@ use xl_store::Pass;
 use xl_trie::Trie;
 use xl_wire::LONGEST_FRAME;
 
-/// Hands in so many different transactions.
+/// Hands in this many different transactions.
 fn submit_all<W: Wait>(rt: &W, store: &Stored, pass: &mut Pass, count: u8) -> bool
     requires pass { IsOf store.now pass.old }
     ensures pass { IsOf store.now pass.new }
@@ -40,7 +40,7 @@ fn drain_twice<W: Wait>(
 ) -> Option<(usize, usize)>
     requires pass { IsOf store.now pass.old }
     requires peer { IsSome (key_of (start_of store.now).node.keys member) }
-    requires room { LONGEST_FRAME ≤ length room.old }
+    requires room { longest_frame ≤ length room.old }
     ensures pass { IsOf store.now pass.new }
 {
     let first = store.drain(rt, pass, member, room).ok()?;
@@ -111,7 +111,7 @@ fn hear<W: Wait>(
     }
 }
 
-/// The same of so many sequences.
+/// The same of this many sequences.
 fn hear_all<W: Wait>(
     rt: &W,
     alloc: Global,
@@ -129,7 +129,7 @@ fn hear_all<W: Wait>(
     Ok(())
 }
 
-/// How many reports there are of so many sequences.
+/// How many reports there are of this many sequences.
 fn report_many<W: Wait>(
     rt: &W,
     alloc: Global,

@@ -1,5 +1,5 @@
 //! Calls of the crates below, from one crate at the top. What no contract says of them is shown here: that they
-//! succeed where memory is ample, that turns come and sleepers wake, and what faults of links and of keepers come to.
+//! succeed if memory is ample, that turns come and sleepers wake, and what faults of links and of keepers come to.
 //!
 //! It has tests alone, and no call of its own.
 #![tactic(auto)]

@@ -1,5 +1,5 @@
 ghost use Rattle.std.specs.Prelude.{◌≤◌};
-ghost use Rattle.xl_base.specs.declared.moments.TheConstants.{GREATEST_MILLIS};
+ghost use Rattle.xl_base.specs.Moments.{greatest_millis};
 
 use std::alloc::Global;
 use std::process::Abort;
@@ -76,7 +76,7 @@ roll = [
 
 /// The document refuses this key at a moment.
 fn refuses(rt: &impl Abort, alloc: Global, text: &str, now: u64, key: &str) -> Result<(), Fail>
-    requires { now ≤ GREATEST_MILLIS }
+    requires { now ≤ greatest_millis }
 {
     match read_settings(alloc, text.as_bytes(), now) {
         Err(SettingsFault::Refused(refusal)) => {

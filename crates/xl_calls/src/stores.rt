@@ -97,7 +97,7 @@ fn made_by_many<W: Wait>(rt: &W, store: Stored, pass: Pass) -> Option<u64>
     entries(store, pass)
 }
 
-/// A recursion over so many entries would run out of stack.
+/// A recursion over this many entries would run out of stack.
 #[test]
 fn a_long_journal_is_let_go_of(rt: HostRuntime) -> Result<(), Fail> {
     let (store, pass) = stored(rt.alloc(), 1, 1_000_000, NodeNo::new(2).ok_or("no member")?)?;

@@ -64,7 +64,7 @@ fn add_ones<W: Wait>(
     Some((pass, answers))
 }
 
-/// The same in as many threads as so many halvings make.
+/// The same in as many threads as this many halvings make.
 fn add_in_threads<W: Threads + Wait + Sync>(
     rt: &W,
     alloc: Global,

@@ -24,7 +24,7 @@ fn child(parent: LedgerId, seq: u32, mark: u8) -> Header
 
 const ROOT: LedgerId = LedgerId([0; 32]);
 
-/// Five votes along two branches: they prefer the ledger to which most go on, and the root where a later one was
+/// Five votes along two branches: they prefer the ledger to which most go on, and the root if a later one was
 /// issued. Taken back, they leave the root alone.
 #[test]
 fn five_votes_come_and_go(rt: HostRuntime) -> Result<(), Fail> {

@@ -7,7 +7,7 @@ use Rattle.xl_io.specs.Sinks.{GrewByLess}
 use Rattle.xl_heartbeat.specs.declared.ends.Ending.{Ending}
 use Rattle.xl_heartbeat.specs.declared.ends.Ending.TheVariants.{Done, WriteFault, OutOfMemory, StoreFull}
 
--- the bytes that it holds, where it tells them, and how often a write has failed, up to the greatest `u64`
+-- the bytes that it holds, if it tells them, and how often a write has failed, up to the greatest `u64`
 pub record Output : Type 0 where
   pub held : Option (List ℕ)
   pub faults : ℕ

@@ -18,7 +18,7 @@ abbrev pub stop_status : Stopping → Status
 stop_status stopping.Done = status.Done
 stop_status (stopping.StoreFull n) = status.StoreFull
 
--- what a later part tells counts only where all was well before
+-- what a later part tells counts only if all was well before
 abbrev pub first_of : Status → Status → Status
 first_of status.Done later = later
 first_of earlier later = earlier

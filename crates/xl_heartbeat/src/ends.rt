@@ -15,11 +15,11 @@ pub enum Ending {
     StoreFull(u64),
 }
 
-/// How the telling of the store that the node is to stop ended. For want of memory it is told again.
+/// How the telling of the store that the node is to stop ended. For lack of memory it is told again.
 #[derive(Clone, Copy, Debug, PartialEq, Eq)]
 pub enum Stopping {
     Done,
-    /// All turns of the store are drawn: it has so many, and wasn't told.
+    /// All turns of the store are drawn: it has this many, and wasn't told.
     StoreFull(u64),
 }
 

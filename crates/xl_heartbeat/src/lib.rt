@@ -8,7 +8,7 @@
 //!
 //! It stands on the store of xl_store, the publishers of xl_publish, the clock of xl_links and the sinks of xl_io. Its
 //! one contract: the calls, which stand in the store's history at the places that the pass gained, are those of beats
-//! and of one stop; the lines of the reports that they handed out are what was written; each end has its cause.
+//! and of one stop. What was written is the lines of the reports that they handed out, and each end has its cause.
 #![tactic(auto)]
 
 mod beating;

@@ -10,7 +10,7 @@ use xl_io::{Failed, Sink, write_all};
 /// The length of a line whose sequence has ten digits.
 const LONGEST_LINE: usize = 81;
 
-/// Writes a line for each report. It takes no memory: so no report that was taken goes without a line for want of it.
+/// Writes a line for each report. It takes no memory: so no report that was taken goes without a line for lack of it.
 pub(crate) fn write_reports<O: Sink>(sink: &mut O, reports: &[Report]) -> Result<(), Failed>
     ensures adds { OnOk result (Adds (report_lines reports.now)
         (output (O.held sink.old) (O.faults sink.old)) (output (O.held sink.new) (O.faults sink.new))) }

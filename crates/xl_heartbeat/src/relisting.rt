@@ -1,6 +1,6 @@
 ghost use Rattle.std.specs.Prelude.{◌≡◌, ◌/◌, ◌≤◌, IfOk, IfErr};
 ghost use Rattle.std.specs.Bool.{Decides};
-ghost use Rattle.xl_base.specs.declared.moments.TheConstants.{GREATEST_MILLIS};
+ghost use Rattle.xl_base.specs.Moments.{greatest_millis};
 ghost use Rattle.xl_turns.specs.Passes.{known};
 ghost use Rattle.xl_store.specs.Stores.{start_of, IsOf, Refused};
 ghost use Rattle.xl_heartbeat.specs.Relisting.{made_at, IsOtherList};
@@ -25,7 +25,7 @@ pub(crate) fn relist_at<W: Wait, B: Branch + Drop, K: Keeper + Drop>(
     pass: &mut Pass,
 ) -> Result<(), StoreEnd>
     requires pass { IsOf store.now pass.old }
-    requires moment { now ≤ GREATEST_MILLIS }
+    requires moment { now ≤ greatest_millis }
     ensures pass { IsOf store.now pass.new }
     ensures relisted { IfOk result (λ _. Relisted (start_of store.now) (made_at publishing.now now) now set.old
         (known pass.old) set.new (known pass.new)) }
@@ -46,7 +46,7 @@ pub(crate) fn relist_at<W: Wait, B: Branch + Drop, K: Keeper + Drop>(
 
 /// The publishers' list of a moment, if it is another than this one.
 fn other_list(publishing: &Option<Publishing>, set: &List, now: Millis) -> Option<List>
-    requires moment { now ≤ GREATEST_MILLIS }
+    requires moment { now ≤ greatest_millis }
     ensures other { IsOtherList (made_at publishing.now now) set.now result }
 {
     let list = list_at(publishing, now)?;
@@ -59,7 +59,7 @@ fn other_list(publishing: &Option<Publishing>, set: &List, now: Millis) -> Optio
 
 /// The publishers' list of a moment.
 fn list_at(publishing: &Option<Publishing>, now: Millis) -> Option<List>
-    requires moment { now ≤ GREATEST_MILLIS }
+    requires moment { now ≤ greatest_millis }
     ensures { result ≡ made_at publishing.now now }
 {
     match publishing {

@@ -6,7 +6,7 @@ use xl_base::Status;
 
 /// The status that a run ends with whose workers have run, from its heartbeat's end and from that of the last reports.
 ///
-/// It is the first of a write's fault, want of memory or a full store that ended the beats. Where they ended since the
+/// It is the first of a write's fault, lack of memory or a full store that ended the beats. If they ended since the
 /// time was over, it is a full store in the stop, and else what the last reports met. A write's fault in the last
 /// reports is told whatever came before.
 pub fn status_of_run(beats: BeatEnd, last: Ending) -> Status

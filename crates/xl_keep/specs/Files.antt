@@ -3,7 +3,7 @@
 use Rattle.std.specs.Prelude.{◌≡◌, ℕ, ◌⊎◌, Bool, IsTrue, List, take, Option, Some, None, Result, Ok, Err}
 use Rattle.std.specs.declared.io.Error.{Error}
 
--- the text that a stop at this moment leaves in place, and the one that it leaves beside it, none where there is no
+-- the text that a stop at this moment leaves in place, and the one that it leaves beside it, none if there is no
 -- file
 pub record Places : Type 0 where
   pub stands : Option (List ℕ)

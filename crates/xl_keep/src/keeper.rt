@@ -102,13 +102,13 @@ impl<F: WholeFile + Drop> Keeper for FileKeeper<F> {
 
     ghost save_gives = { λ old seq ok new. Saving seq ok (F.shows old.file) (F.shows new.file) old.faults new.faults };
 
-    /// It fails where the file can't be read, and where its text isn't that of a number.
+    /// It fails if the file can't be read, and if its text isn't that of a number.
     fn load(&mut self) -> Result<Seq, Failed> {
         let loaded = self.number();
         self.answer(loaded)
     }
 
-    /// It fails where the number can't be written beside the file, or not put in its place, in each of some tries.
+    /// It fails if the number can't be written beside the file, or not put in its place, in each of some tries.
     fn save(&mut self, seq: Seq) -> Result<(), Failed> {
         let saved = self.replace_in_the_end(seq);
         self.answer(saved)

@@ -1,9 +1,8 @@
 //! The kept number of a node, in a file: the keeper that outlives the process.
 //!
-//! It stands on xl_base and xl_io. Its one contract: a call answers `Failed` only where the count rose in that call;
-//! and over a file that tells what it holds, a save that was answered with Ok leaves the number's text in place, one
-//! that failed leaves that or the former text, and a load answers the number whose text it is, 0 where there is no
-//! file.
+//! It stands on xl_base and xl_io. Its one contract: a call answers `Failed` only if the count rose in that call. Over
+//! a file that tells what it holds, a save that was answered with Ok leaves the number's text in place; one that
+//! failed leaves that or the former text. A load answers the number whose text it is, 0 if there is no file.
 #![tactic(auto)]
 
 mod keeper;

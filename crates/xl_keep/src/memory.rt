@@ -6,7 +6,7 @@ use std::alloc::Global;
 use std::io::{self, ErrorKind};
 
 /// A file in memory, of whose calls some fail: those that are listed, by their numbers from 1 on, and those for which
-/// memory is wanting.
+/// memory runs out.
 #[derive(Drop)]
 pub struct MemFile {
     alloc: Global,

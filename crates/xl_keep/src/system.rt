@@ -44,7 +44,7 @@ impl<R: Files<File = File> + Drop> SystemFile<R> {
         File::open(&self.files, self.folder.as_str())?.sync_all()
     }
 
-    /// Locks the folder, where it hasn't yet.
+    /// Locks the folder, if it hasn't yet.
     fn lock_folder(&mut self) -> io::Result<()> {
         if self.locked.is_none() {
             let folder = File::open(&self.files, self.folder.as_str())?;

@@ -15,7 +15,7 @@ pub(crate) fn spell(text: &mut String, seq: Seq) -> Result<(), AllocError>
     write!(text, "{seq}\n")
 }
 
-/// The number whose text this is, or None where it is that of no number. The room is overwritten.
+/// The number whose text this is, or None if it is that of no number. The room is overwritten.
 pub(crate) fn number_of(room: &mut String, bytes: &[u8]) -> Result<Option<Seq>, AllocError>
     ensures some { IfOk result (λ answer. IfSome answer (λ n. bytes.now ≡ text_of n)) }
     ensures none { result ≡ Ok None → (n : ℕ) → n < 2 ^ 32 → bytes.now ≢ text_of n }

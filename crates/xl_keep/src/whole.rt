@@ -6,11 +6,11 @@ use std::io;
 
 /// A file that is only ever replaced as a whole: a new text is written beside it, and then put in its place.
 pub trait WholeFile {
-    /// The text that a stop at this moment leaves in place, and the one beside it, where they are told.
+    /// The text that a stop at this moment leaves in place, and the one beside it, if they are known.
     ghost shows: { Self → Option Places };
 
-    /// Reads the whole text to the front of the room, and answers how long it is, or None where there is no file. It
-    /// fails where the text leaves no room.
+    /// Reads the whole text to the front of the room, and answers how long it is, or None if there is no file. It
+    /// fails if the text leaves no room.
     fn read(&mut self, room: &mut [u8]) -> io::Result<Option<usize>>
         ensures same { length room.new ≡ length room.old }
         ensures fits { IfOk result (λ answer. IfSome answer (λ n. n < length room.new)) }

@@ -2,7 +2,7 @@
 -- tests of what is said over links.
 use Rattle.std.specs.Prelude.{ℕ, ◌&&◌, nat_le, min, max, Bool, List, [], ◌∷◌, map, Some, None, option_map, drop}
 use Rattle.xl_base.specs.Counts.{one_more}
-use Rattle.xl_base.specs.declared.moments.TheConstants.{GREATEST_MILLIS}
+use Rattle.xl_base.specs.Moments.{greatest_millis}
 use Rattle.xl_links.specs.declared.link.Opening.{Opening}
 use Rattle.xl_links.specs.declared.link.LinkRead.{LinkRead}
 use Rattle.xl_links.specs.declared.link.LinkRead.TheVariants as read
@@ -105,7 +105,7 @@ with_write_call calls = record calls { writes = one_more calls.writes }
 abbrev pub next_opening : MemLink → Opening
 next_opening link = opening_at (script_of link) (one_more (calls_of link).openings)
 
--- where no byte is left, a read that would give some ends the connection
+-- if no byte is left, a read that would give some ends the connection
 abbrev pub course_over : List ℕ → Course → Course
 course_over [] course.Gives = course.Ends
 course_over (b ∷ bytes) course.Gives = course.Gives
@@ -134,4 +134,4 @@ first_moment clock = clock.first
 
 -- it may give that moment, and each later one
 abbrev pub is_moment : MemClock → ℕ → Bool
-is_moment clock moment = nat_le (first_moment clock) moment && nat_le moment GREATEST_MILLIS
+is_moment clock moment = nat_le (first_moment clock) moment && nat_le moment greatest_millis

@@ -1,5 +1,5 @@
 ghost use Rattle.std.specs.Prelude.{◌≡◌, ◌≤◌, ℕ, Bool, true};
-ghost use Rattle.xl_base.specs.declared.moments.TheConstants.{GREATEST_MILLIS};
+ghost use Rattle.xl_base.specs.Moments.{greatest_millis};
 
 use std::sync::atomic::{AtomicU64, Ordering};
 use xl_base::{GREATEST_MILLIS, Millis};
@@ -12,13 +12,13 @@ pub trait Clock {
     /// A moment that it may give.
     fn now(&self) -> Millis
         ensures may { may_give self.now result ≡ true }
-        ensures limit { result ≤ GREATEST_MILLIS };
+        ensures limit { result ≤ greatest_millis };
 
-    /// Waits so many milliseconds.
+    /// Waits this many milliseconds.
     fn wait(&self, millis: u32);
 
     /// It may give no later moment than the greatest.
-    ghost limited: { (clock : Self) → (moment : ℕ) → may_give clock moment ≡ true → moment ≤ GREATEST_MILLIS };
+    ghost limited: { (clock : Self) → (moment : ℕ) → may_give clock moment ≡ true → moment ≤ greatest_millis };
 }
 
 /// A clock in memory, whose `wait` moves its moment. It may give its first moment and each later one.
@@ -26,7 +26,7 @@ pub trait Clock {
 pub struct MemClock {
     first: Millis,
     waited: AtomicU64,
-    ghost in_range: { first ≤ GREATEST_MILLIS },
+    ghost in_range: { first ≤ greatest_millis },
 }
 
 impl MemClock {
@@ -34,7 +34,7 @@ impl MemClock {
 
     /// A clock that stands at this moment.
     pub fn new(first: Millis) -> Self
-        requires { first ≤ GREATEST_MILLIS }
+        requires { first ≤ greatest_millis }
         ensures { first_moment result ≡ first }
     {
         MemClock {

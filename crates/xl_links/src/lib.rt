@@ -1,9 +1,8 @@
-//! The members that a node talks to, and the time, as the program sees them: a link to one member, the hub that makes
-//! the links, the clock, and a gate at which a test can hold a call. Links, hubs and clocks are in memory.
+//! The members that a node talks to, and the time, as the program sees them. There is a link to one member, the hub
+//! that makes the links, the clock, and a gate at which a test can hold a call. Links, hubs and clocks are in memory.
 //!
-//! It stands on xl_base and xl_io. Its one contract: a call answers `Failed` only if the count rose in that call; what a
-//! link gave, took and answered is exact if it is told, and so is which links a hub was asked for; and a clock's moment
-//! is one that it may give.
+//! It stands on xl_base and xl_io. Its one contract: a call answers `Failed` only if the count rose in that call. What
+//! a link gave, took and answered is exact if it is known, and a clock's moment is one that it may give.
 #![tactic(auto)]
 
 mod clock;

@@ -19,7 +19,7 @@ pub enum Opening {
 /// What a read answers.
 #[derive(Clone, Copy, Debug, PartialEq, Eq)]
 pub enum LinkRead {
-    /// So many bytes stand at the front of the room.
+    /// This many bytes stand at the front of the room.
     Got(usize),
     /// No byte came within one second.
     Idle,
@@ -38,12 +38,12 @@ pub trait Link {
     fn open(&mut self) -> Opening
         ensures { Opens (shows self.old) result (shows self.new) };
 
-    /// Reads the next bytes to the front of the room, at least one where there is room.
+    /// Reads the next bytes to the front of the room, at least one if there is room.
     fn read(&mut self, room: &mut [u8]) -> LinkRead
         ensures same { length room.new ≡ length room.old }
         ensures read { Reads (shows self.old) result room.new (shows self.new) };
 
-    /// Takes bytes from the front of the piece, at least one where there is one.
+    /// Takes bytes from the front of the piece, at least one if there is one.
     fn write(&mut self, piece: &[u8]) -> Wrote
         ensures { Writes (shows self.old) result piece.now (shows self.new) };
 }

@@ -3,7 +3,7 @@ use Rattle.std.proofs.Common.{◌≡◌, ◌≢◌, Bool, ◌≤◌, ◌++◌, �
 use Rattle.std.proofs.Common.{subst, arith}
 use Rattle.std.proofs.lemmas.List.{take_at}
 use Rattle.std.specs.Prelude.{drop}
-use Rattle.xl_wire.specs.declared.lengths.TheConstants.{LONGEST_FRAME}
+use Rattle.xl_wire.specs.Lengths.{longest_frame}
 use Rattle.xl_turns.specs.declared.view.Knowledge.{Knowledge}
 use Rattle.xl_turns.specs.declared.pass.Pass.{Pass}
 use Rattle.xl_turns.specs.Passes.{known}
@@ -39,11 +39,11 @@ drain_run may member steps frames (suc n) e run =
     IsSession.drains steps frames run (some_long (joined frames) n (sym e))
 
 module _ {B K : Type 0} (store : Store B K) (may : ℕ → Bool) (member : ℕ) (k0 : Knowledge Entry) (w0 : Wire)
-    (old new : Pass Entry) (count : ℕ) (before after : List ℕ) (whole : length before ≡ LONGEST_FRAME)
+    (old new : Pass Entry) (count : ℕ) (before after : List ℕ) (whole : length before ≡ longest_frame)
     (d : Drained store old member count before after new)
     (w new_link : Wire) (held : List ℕ) (s : SoFar (start_of store) may member k0 w0 Drains (known old) w held) where
   made_whole : Made (start_of store) (known old) (known new)
-      (record { event = Drain member LONGEST_FRAME; answer = Gave member d.frames } ∷ [])
+      (record { event = Drain member longest_frame; answer = Gave member d.frames } ∷ [])
   made_whole = subst
       (λ (n : ℕ). Made (start_of store) (known old) (known new)
       (record { event = Drain member n; answer = Gave member d.frames } ∷ []))

@@ -3,7 +3,7 @@ use Rattle.std.proofs.Common.{◌≡◌, Bool, ◌≤◌, ◌++◌, ◌∷◌, �
 use Rattle.std.proofs.Common.{append-nil, arith, subst, inl, inr}
 use Rattle.std.specs.Io.KnownBytes.{prepend_known, append_known}
 use Rattle.xl_base.specs.Faults.{Rose}
-use Rattle.xl_wire.specs.declared.lengths.TheConstants.{LONGEST_FRAME}
+use Rattle.xl_wire.specs.Lengths.{longest_frame}
 use Rattle.xl_turns.specs.declared.view.Knowledge.{Knowledge}
 use Rattle.xl_turns.specs.declared.pass.Pass.{Pass}
 use Rattle.xl_turns.specs.Passes.{known}
@@ -53,7 +53,7 @@ module _ (start : Core) (turns : ℕ) (may_give : ℕ → Bool) (member : ℕ) (
   pub ends_cut : (k new : Knowledge Entry) (w new_link : Wire) (held : List ℕ) (frames : List (List ℕ))
       (s : SoFar start may_give member k0 w0 Phase.Drains k w held)
       (p : Phase) → IsSession may_give member (s.steps ++ drain member frames ∷ []) p
-      → Made start k new (record { event = Drain member LONGEST_FRAME; answer = Gave member frames } ∷ [])
+      → Made start k new (record { event = Drain member longest_frame; answer = Gave member frames } ∷ [])
       → k.drawn ≤ new.drawn
       → SentFront w (joined frames) new_link
       → Session start turns may_give member k0 w0 end.LinkFault new new_link

@@ -3,7 +3,7 @@ use Rattle.std.specs.Prelude.{min, if◌then◌else◌}
 use Rattle.std.proofs.Common.{◌≡◌, Bool, false, ◌-◌, ◌≤◌, ◌<◌, ◌++◌, ◌∷◌, ℕ, true, List, [], length, take, drop, Result}
 use Rattle.std.proofs.Common.{Ok, Err, refl, sym, ap, ◌∙◌, subst, append_assoc, arith}
 use Rattle.std.proofs.lemmas.List.{take-append-drop}
-use Rattle.xl_wire.specs.declared.lengths.TheConstants.{LONGEST_FRAME}
+use Rattle.xl_wire.specs.Lengths.{longest_frame}
 use Rattle.xl_wire.specs.Raws.{raw_bytes}
 use Rattle.xl_wire.specs.Feeding.{Fed, Offer, offer_of, taken_of, after_push, after_next}
 use Rattle.xl_wire.specs.declared.refusal.WireRefusal.{WireRefusal}
@@ -77,8 +77,8 @@ pub takes_some : (fed : Fed) (piece : List ℕ) (count : ℕ) → fed.refused �
     → (0 < count) × (count ≤ length piece)
 takes_some fed piece count takes needs some is =
     let room = needs_room fed.held needs in
-    let taken : count ≡ min (length piece) (LONGEST_FRAME - length fed.held) = is
-    ∙ ap (λ (b : Bool). if b then 0 else min (length piece) (LONGEST_FRAME - length fed.held)) takes in
+    let taken : count ≡ min (length piece) (longest_frame - length fed.held) = is
+    ∙ ap (λ (b : Bool). if b then 0 else min (length piece) (longest_frame - length fed.held)) takes in
     (omega (arith, room, some, taken), omega (arith, taken))
 
 module _ {B K : Type 0} (store : Store B K) (may : ℕ → Bool) where

@@ -4,7 +4,7 @@ use Rattle.std.proofs.Common.{◌++◌, length, slice_index, Option, Some, None,
 use Rattle.std.proofs.lemmas.Bool.Decides.{nat_tests}
 use Rattle.std.proofs.lemmas.List.{length-append}
 use Rattle.xl_base.specs.Refusals.{refused_if, first_of}
-use Rattle.xl_wire.specs.declared.lengths.TheConstants.{LONGEST_FRAME}
+use Rattle.xl_wire.specs.Lengths.{longest_frame}
 use Rattle.xl_wire.specs.declared.refusal.WireRefusal.{WireRefusal}
 use Rattle.xl_wire.specs.declared.refusal.WireRefusal.TheVariants.{Magic, Version, Kind, Length}
 use Rattle.xl_wire.specs.Kinds.{is_version, is_kind, can_have, can_have_first}
@@ -252,7 +252,7 @@ at_most = by_version (λ version kind n. n ≤ 8194) first (omega arith)
     first kind n h = grind (arith, nat_tests)
 
 room_by : (bytes : List ℕ) (b : Bool) → nat_lt 5 (length bytes) ≡ b → head_refusal bytes ≡ None → 0 < lacking bytes
-    → length bytes < LONGEST_FRAME
+    → length bytes < longest_frame
 room_by bytes false is head lacks = grind (arith, nat_tests)
 room_by bytes true is head lacks =
     let ok = lawful (nat_lt 5 (length bytes)) (can_have (version_in bytes) (kind_in bytes) (length_in bytes))
@@ -261,7 +261,7 @@ room_by bytes true is head lacks =
     let most = at_most (version_in bytes) (kind_in bytes) (length_in bytes) ok in
     grind (arith, nat_tests)
 
-pub needs_room : (bytes : List ℕ) → NeedsMore bytes → length bytes < LONGEST_FRAME
+pub needs_room : (bytes : List ℕ) → NeedsMore bytes → length bytes < longest_frame
 needs_room bytes needs =
     let need = need_in (head_refusal bytes) (lacking bytes) (raw_in bytes) needs.0 needs.1 in
     room_by bytes (nat_lt 5 (length bytes)) refl need.0 need.1

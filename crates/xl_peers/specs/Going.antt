@@ -89,7 +89,7 @@ abbrev pub end_of : StoreEnd → End
 end_of refused.OutOfMemory = end.OutOfMemory
 end_of (refused.StoreFull n) = end.StoreFull n
 
--- after a drain that gave so many bytes
+-- after a drain that gave this many bytes
 abbrev pub after_drain : ℕ → Phase
 after_drain zero = Reads
 after_drain (suc n) = Drains

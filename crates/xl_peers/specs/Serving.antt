@@ -126,7 +126,7 @@ IsReason turns deeds k served.Stopped =
     ⊎ ((steps : List Step) × (written : List ℕ) × IsLastDeed deeds (Talked steps written end.Stopped))
 IsReason turns deeds k (served.StoreFull n) = (n ≡ turns) × (k.drawn ≡ turns)
 
--- the whole serving, at a store that has so many turns
+-- the whole serving, at a store that has this many turns
 pub record Serves
     (start : Core) (turns : ℕ) (may_give : ℕ → Bool) (member : ℕ)
     (old : Knowledge Entry) (old_link : Wire) (why : Served) (new : Knowledge Entry) (new_link : Wire) : Type 0 where

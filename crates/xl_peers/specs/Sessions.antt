@@ -115,7 +115,7 @@ IsCause turns before after drawn end.LinkFault = Rose before after
 IsCause turns before after drawn end.OutOfMemory = Unit {0}
 IsCause turns before after drawn (end.StoreFull n) = (n ≡ turns) × (drawn ≡ turns)
 
--- A whole session of a pass over a link, at a store that was opened with this core and has so many turns: its calls
+-- A whole session of a pass over a link, at a store that was opened with this core and has this many turns: its calls
 -- stand in the history at the places that the pass gained, its reads are those that the link answered, each once and in
 -- order, the link gave the bytes that were read and took those that were written, and no call of it opened the link
 pub record Session

@@ -1,7 +1,7 @@
 -- What a session does, step by step: calls of the store, and reads of its link. Source: this project's own.
 use Rattle.std.specs.Prelude.{◌≡◌, ℕ, Bool, List, [], ◌∷◌, ◌++◌}
 use Rattle.std.specs.List.{flat_map}
-use Rattle.xl_wire.specs.declared.lengths.TheConstants.{LONGEST_FRAME}
+use Rattle.xl_wire.specs.Lengths.{longest_frame}
 use Rattle.xl_links.specs.Links.{Reading, bytes_of}
 use Rattle.xl_core.specs.declared.event.CoreEvent.{CoreEvent}
 use Rattle.xl_core.specs.declared.event.CoreEvent.TheVariants.{Issue, Frame, Timer, Submit, Greet, Drain, Reports, Stop}
@@ -23,7 +23,7 @@ stopped answer = Called (record { event = Stopped; answer = Told answer })
 
 -- a drain into a room for the longest frame, and the frames that it gave
 abbrev pub drain : ℕ → List (List ℕ) → Step
-drain member frames = Called (record { event = Drain member LONGEST_FRAME; answer = Gave member frames })
+drain member frames = Called (record { event = Drain member longest_frame; answer = Gave member frames })
 
 -- bytes are handed to the core, whatever it answers
 abbrev pub frame : ℕ → List ℕ → Answer → Step

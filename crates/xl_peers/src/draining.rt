@@ -1,6 +1,6 @@
 ghost use Rattle.std.specs.Prelude.{◌≡◌, length, IsSome};
 ghost use Rattle.xl_tags.specs.Rings.{key_of};
-ghost use Rattle.xl_wire.specs.declared.lengths.TheConstants.{LONGEST_FRAME};
+ghost use Rattle.xl_wire.specs.Lengths.{longest_frame};
 ghost use Rattle.xl_store.specs.Stores.{start_of, IsOf};
 ghost use Rattle.xl_peers.specs.Going.{DrainsOnce, DrainsAll};
 
@@ -24,9 +24,9 @@ fn drain_once<W: Wait, B: Branch + Drop, K: Keeper + Drop, L: Link>(
 ) -> Result<usize, End>
     requires pass { IsOf store.now pass.old }
     requires peer { IsSome (key_of (start_of store.now).node.keys member) }
-    requires room { length room.old ≡ LONGEST_FRAME }
+    requires room { length room.old ≡ longest_frame }
     ensures pass { IsOf store.now pass.new }
-    ensures room { length room.new ≡ LONGEST_FRAME }
+    ensures room { length room.new ≡ longest_frame }
     ensures drained { DrainsOnce store.now member pass.old (L.shows link.old) result pass.new (L.shows link.new) }
 {
     match store.drain(rt, pass, member, room) {
@@ -49,9 +49,9 @@ pub(crate) fn drain<W: Wait, B: Branch + Drop, K: Keeper + Drop, L: Link>(
 ) -> Result<(), End>
     requires pass { IsOf store.now pass.old }
     requires peer { IsSome (key_of (start_of store.now).node.keys member) }
-    requires room { length room.old ≡ LONGEST_FRAME }
+    requires room { length room.old ≡ longest_frame }
     ensures pass { IsOf store.now pass.new }
-    ensures room { length room.new ≡ LONGEST_FRAME }
+    ensures room { length room.new ≡ longest_frame }
     ensures drained { DrainsAll store.now member pass.old (L.shows link.old) result pass.new (L.shows link.new) }
 {
     for _ in rt.forever() {

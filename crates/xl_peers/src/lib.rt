@@ -1,13 +1,13 @@
 //! Sessions with the members: one connection's bytes become calls of the store, and what the store has for the member
 //! is written to the connection.
 //!
-//! A session greets the member. In each turn it asks whether the node is to stop, writes all that waits for the member,
-//! reads once, and hands each frame that this read made whole to the core, between two passes of a gate that lets a
-//! test hold it. Serving a member is one session after the other, over one link.
+//! A session greets the member. In each turn it asks whether the node is to stop, writes all that waits for the
+//! member, and reads once. Each frame that this read made whole is handed to the core, between two passes of a gate
+//! that lets a test hold it. Serving a member is one session after the other, over one link.
 //!
 //! It stands on the store of xl_store, the links of xl_links and the feed of xl_wire. Its one contract: a session's
-//! calls, which stand in the store's history at the places that its pass gained, are those of its steps; what its reads
-//! gave is what the link had, and what its drains gave was written; each end has its cause.
+//! calls, which stand in the store's history at the places that its pass gained, are those of its steps. What its
+//! reads gave is what the link had, what its drains gave was written, and each end has its cause.
 #![tactic(auto)]
 
 mod asking;

@@ -24,7 +24,7 @@ const PAUSE: u32 = 1000;
 /// Serves one connection after the other over the link, until the node is to stop or all turns of the store are drawn.
 ///
 /// The store is asked whether to stop before each opening. It is asked again a second after an opening that found no
-/// peer or failed, after a session's end that isn't one of these two, and where memory is wanting. The member is a peer
+/// peer or failed, after a session's end that isn't one of these two, and if memory runs out. The member is a peer
 /// of the core that the store was opened with.
 pub fn serve<W: Wait, B: Branch + Drop, K: Keeper + Drop, L: Link, G: Gate, C: Clock>(
     rt: &W,
@@ -74,7 +74,7 @@ pub fn attend<W: Wait, B: Branch + Drop, K: Keeper + Drop, L: Link, G: Gate, C: 
 }
 
 /// Asks whether to stop, connects if the node isn't to, and answers why the serving is over, if it is. It fails only
-/// where memory was wanting for the question, and then nothing happened.
+/// if memory ran out for the question, and then nothing happened.
 fn round<W: Wait, B: Branch + Drop, K: Keeper + Drop, L: Link, G: Gate, C: Clock>(
     rt: &W,
     alloc: Global,

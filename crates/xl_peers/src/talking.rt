@@ -1,6 +1,6 @@
 ghost use Rattle.std.specs.Prelude.{◌≡◌, ℕ, [], length, false, IsSome};
 ghost use Rattle.xl_tags.specs.Rings.{key_of};
-ghost use Rattle.xl_wire.specs.declared.lengths.TheConstants.{LONGEST_FRAME};
+ghost use Rattle.xl_wire.specs.Lengths.{longest_frame};
 ghost use Rattle.xl_turns.specs.Passes.{known};
 ghost use Rattle.xl_store.specs.Stores.{start_of, turns_of, IsOf};
 ghost use Rattle.xl_peers.specs.Sessions.{Session, NeedsMore};
@@ -87,7 +87,7 @@ fn turns<W: Wait, B: Branch + Drop, K: Keeper + Drop, L: Link, G: Gate, C: Clock
     requires pass { IsOf store.now pass.old }
     requires peer { IsSome (key_of (start_of store.now).node.keys member) }
     requires feed { feed.old ≡ record { held = []; refused = false } }
-    requires room { length room.old ≡ LONGEST_FRAME }
+    requires room { length room.old ≡ longest_frame }
     ensures pass { IsOf store.now pass.new }
     ensures session { Session (start_of store.now) (turns_of store.now) (C.may_give clock.now) member
         (known pass.old) (L.shows link.old) result (known pass.new) (L.shows link.new) }
@@ -133,9 +133,9 @@ fn hear<W: Wait, B: Branch + Drop, K: Keeper + Drop, L: Link, G: Gate, C: Clock>
     requires pass { IsOf store.now pass.old }
     requires takes { feed.old.refused ≡ false }
     requires needs { NeedsMore feed.old.held }
-    requires room { length room.old ≡ LONGEST_FRAME }
+    requires room { length room.old ≡ longest_frame }
     ensures pass { IsOf store.now pass.new }
-    ensures room { length room.new ≡ LONGEST_FRAME }
+    ensures room { length room.new ≡ longest_frame }
     ensures heard { (member : ℕ) → Hears store.now (C.may_give clock.now) member
         pass.old (L.shows link.old) feed.old result pass.new (L.shows link.new) feed.new }
 {
@@ -163,9 +163,9 @@ fn turn<W: Wait, B: Branch + Drop, K: Keeper + Drop, L: Link, G: Gate, C: Clock>
     requires peer { IsSome (key_of (start_of store.now).node.keys member) }
     requires takes { feed.old.refused ≡ false }
     requires needs { NeedsMore feed.old.held }
-    requires room { length room.old ≡ LONGEST_FRAME }
+    requires room { length room.old ≡ longest_frame }
     ensures pass { IsOf store.now pass.new }
-    ensures room { length room.new ≡ LONGEST_FRAME }
+    ensures room { length room.new ≡ longest_frame }
     ensures turned { Turns store.now (C.may_give clock.now) member
         pass.old (L.shows link.old) feed.old result pass.new (L.shows link.new) feed.new }
 {

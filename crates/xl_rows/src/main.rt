@@ -3,8 +3,9 @@
 //!
 //! The file `runs` has a line for each: its name, the status, and the command line. The input is in `NAME.in` and the
 //! text in `NAME.out`. The file `refusals` has a schedule a line, ` / ` between its lines, and behind ` -> ` the text
-//! that refuses the last. The file `faults` has such a line as `runs`, with the bytes of a piece in front: each read of
-//! that run fails once, and each write, and must end it with the status of that fault and a front of the text.
+//! that refuses the last. The file `faults` has such a line as `runs`, with the bytes of a piece in front. Each read
+//! of that run fails once, and each write. The run must then end with the status of that fault and a front of the
+//! text.
 //!
 //! It stands on xl_top. Its one contract: a run is called the same exactly if both the text and the status are.
 #![tactic(auto)]

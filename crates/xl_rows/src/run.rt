@@ -31,7 +31,7 @@ pub struct Ended {
 }
 
 impl Run {
-    /// The program on the input in memory, in pieces of so many bytes; the reads and the writes of these numbers
+    /// The program on the input in memory, in pieces of this many bytes; the reads and the writes of these numbers
     /// fail. Of `node` the keeper, the clock and the links are in memory too; its peers say nothing.
     pub fn end<R: Threads + Wait + Sync>(
         &self,

@@ -7,7 +7,7 @@ use Rattle.std.proofs.lemmas.List.{length-map}
 use Rattle.std.proofs.lemmas.Map.Steps.{length-le_from_distinct_below}
 use Rattle.std.proofs.lemmas.Option.{same_Some}
 use Rattle.toml.specs.Data.{Data, Members, as_table, get_member}
-use Rattle.xl_publish.specs.declared.roll.TheConstants.{GREATEST_PUBLISHER}
+use Rattle.xl_publish.specs.Sizes.{greatest_publisher}
 use Rattle.xl_settings.specs.declared.entry.Entry.TheVariants as Entry
 use Rattle.xl_settings.specs.declared.key_name.KeyName.TheVariants as key
 use Rattle.xl_settings.specs.declared.publishers.PublisherKey.{PublisherKey}
@@ -44,11 +44,11 @@ abbrev pub IsNumbered : PublisherKey → Type 0
 IsNumbered publisher = (1 ≤ publisher.number) × (publisher.number ≤ 16)
 
 made_numbered : (found : Option Data) (key : Option (List ℕ)) (p : PublisherKey)
-    → made_publisher (option_and_then (whole 1 GREATEST_PUBLISHER) found) key ≡ Some p → IsNumbered p
+    → made_publisher (option_and_then (whole 1 greatest_publisher) found) key ≡ Some p → IsNumbered p
 made_numbered None key p e = cc
-made_numbered (Some value) key p e = go (whole 1 GREATEST_PUBLISHER value) key refl e
+made_numbered (Some value) key p e = go (whole 1 greatest_publisher value) key refl e
   where
-    go : (o : Option ℕ) (k : Option (List ℕ)) → whole 1 GREATEST_PUBLISHER value ≡ o → made_publisher o k ≡ Some p
+    go : (o : Option ℕ) (k : Option (List ℕ)) → whole 1 greatest_publisher value ≡ o → made_publisher o k ≡ Some p
         → IsNumbered p
     go None k is e = cc
     go (Some n) None is e = cc

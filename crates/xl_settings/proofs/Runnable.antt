@@ -3,7 +3,7 @@ use Rattle.std.proofs.Common.{◌≡◌, ◌∙◌, ◌≤◌, ◌/◌, ℕ, Boo
 use Rattle.std.proofs.lemmas.Option.{same_Some}
 use Rattle.std.specs.Result.{result_ok}
 use Rattle.toml.specs.Data.{Members}
-use Rattle.xl_ledger.specs.declared.registry.TheConstants.{LEAST_LIMIT, GREATEST_LIMIT}
+use Rattle.xl_ledger.specs.Limits.{greatest_limit, least_limit}
 use Rattle.xl_lists.specs.Lists.{TrustedList}
 use Rattle.xl_publish.specs.Forces.{list_at}
 use Rattle.xl_settings.specs.declared.fault.SettingsFault.{SettingsFault}
@@ -118,7 +118,7 @@ table_runs table now s e =
     (few_publishers table publishers publishers_is) threshold_is)
     (fits me (met_by stated (taken_in table)) (found_peers (at key.Peer table)) peers peers_is) trust_is in
     subst AreRunnable (same_Ok _ _ s refl e16) (record {
-      limit = usual_bounded usual_limit LEAST_LIMIT GREATEST_LIMIT limit (at key.Limit table) (omega arith)
+      limit = usual_bounded usual_limit least_limit greatest_limit limit (at key.Limit table) (omega arith)
           (omega arith) limit_is;
       turns = usual_bounded usual_turns 1 greatest_turns turns (at key.Turns table) (omega arith)
           (omega arith) turns_is;

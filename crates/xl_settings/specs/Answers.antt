@@ -8,26 +8,26 @@ use Rattle.xl_settings.specs.declared.refusal.SettingsRefusal.{SettingsRefusal}
 use Rattle.xl_settings.specs.declared.refusal.SettingsRefusal.TheVariants.{Length, Unknown}
 
 module _ {A : Type 0} where
-  -- what a call answers is this, unless memory was wanting
+  -- what a call answers is this, unless memory ran out
   abbrev pub GivenMemory : Result A SettingsFault → Result A SettingsRefusal → Type 0
   GivenMemory (Ok x) exact = exact ≡ Ok x
   GivenMemory (Err (Refused refusal)) exact = exact ≡ Err refusal
   GivenMemory (Err Read) exact = ⊥
   GivenMemory (Err OutOfMemory) exact = Unit {0}
 
-  -- what a call answers is this, unless memory was wanting or a read failed
+  -- what a call answers is this, unless memory ran out or a read failed
   abbrev pub GivenBytes : Result A SettingsFault → Result A SettingsRefusal → Type 0
   GivenBytes (Ok x) exact = exact ≡ Ok x
   GivenBytes (Err (Refused refusal)) exact = exact ≡ Err refusal
   GivenBytes (Err Read) exact = Unit {0}
   GivenBytes (Err OutOfMemory) exact = Unit {0}
 
--- what a refusal leaves of a source: nothing, but where there are too many bytes
+-- what a refusal leaves of a source: nothing, but if there are too many bytes
 abbrev pub LeavesNone : SettingsRefusal → Option (List ℕ) → Type 0
 LeavesNone Length left = Unit {0}
 LeavesNone _ left = IsAtEnd left
 
--- a source was read to its end, unless a read failed, memory was wanting, or it had too many bytes
+-- a source was read to its end, unless a read failed, memory ran out, or it had too many bytes
 abbrev pub IsReadOut : {A : Type 0} → Result A SettingsFault → Option (List ℕ) → Type 0
 IsReadOut (Ok x) left = IsAtEnd left
 IsReadOut (Err (Refused refusal)) left = LeavesNone refusal left
@@ -40,7 +40,7 @@ IsNoRefusal (Refused refusal) = ⊥
 IsNoRefusal Read = Unit {0}
 IsNoRefusal OutOfMemory = Unit {0}
 
--- the fault names this unknown key, unless memory was wanting
+-- the fault names this unknown key, unless memory ran out
 abbrev pub NamesKey : SettingsFault → List ℕ → Type 0
 NamesKey (Refused refusal) text = refusal ≡ Unknown text
 NamesKey Read text = ⊥

@@ -51,7 +51,7 @@ abbrev pub met_by : Stated → Taken → List ℕ
 met_by (Listed list) taken = list.members
 met_by Published taken = named_by taken.publishers
 
--- the list that publishers make at a moment, where no roll was refused
+-- the list that publishers make at a moment, if no roll was refused
 abbrev pub published : Taken → ℕ → ℕ → Option Trust
 published taken threshold now =
     if taken.all

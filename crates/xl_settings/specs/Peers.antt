@@ -3,7 +3,7 @@ use Rattle.std.specs.Prelude.{ℕ, ◌==◌, ◌||◌, ◌&&◌, not, nat_eq, Bo
 use Rattle.std.specs.List.{list_all, list_any}
 use Rattle.std.specs.Option.{option_and_then}
 use Rattle.toml.specs.Data.{Data, Members, get_member, as_str, as_table}
-use Rattle.xl_base.specs.declared.node_no.TheConstants.{GREATEST_NODE_NO}
+use Rattle.xl_base.specs.Members.{greatest_node_no}
 use Rattle.xl_links.specs.Ways.{Reach, dialled_at, listened_at, reach_of}
 use Rattle.xl_settings.specs.declared.entry.Entry.TheVariants as Entry
 use Rattle.xl_settings.specs.declared.peers.Peer.{Peer}
@@ -25,7 +25,7 @@ one_reach None (Some listen) = option_map listened_at (as_str listen)
 one_reach _ _ = None
 
 abbrev pub number_at : Members → Option ℕ
-number_at table = option_and_then (whole 1 GREATEST_NODE_NO) (get_member (codes "number") table)
+number_at table = option_and_then (whole 1 greatest_node_no) (get_member (codes "number") table)
 
 abbrev pub key_at : Members → Option (List ℕ)
 key_at table = option_and_then bytes_in (get_member (codes "key") table)
@@ -57,7 +57,7 @@ are_peers me members peers =
 abbrev pub fitting : ℕ → List ℕ → List PeerSetting → Option (List PeerSetting)
 fitting me members peers = if are_peers me members peers then Some peers else None
 
--- what stands at a key, as peers; none where nothing stands there
+-- what stands at a key, as peers; none if nothing stands there
 abbrev pub found_peers : Option Data → Option (List PeerSetting)
 found_peers None = Some []
 found_peers (Some value) = option_and_then (all_read peer_in) (array_in value)

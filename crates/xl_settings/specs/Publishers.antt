@@ -6,7 +6,7 @@ use Rattle.std.specs.Result.{result_ok}
 use Rattle.hex.specs.Hex.{decode_of}
 use Rattle.toml.specs.Data.{Data, Members, get_member, as_str, as_table}
 use Rattle.xl_lists.specs.Lists.{all_numbers}
-use Rattle.xl_publish.specs.declared.roll.TheConstants.{GREATEST_PUBLISHER}
+use Rattle.xl_publish.specs.Sizes.{greatest_publisher}
 use Rattle.xl_publish.specs.Forces.{is_named}
 use Rattle.xl_publish.specs.Refusing.{refusal_of}
 use Rattle.xl_publish.specs.Registers.{Register, no_publishers, after_key, after_roll}
@@ -22,7 +22,7 @@ use Rattle.xl_settings.specs.Values.{all_read, array_in, at, or_default, whole}
 -- ---- the key `publisher`
 
 abbrev pub publisher_number_at : Members → Option ℕ
-publisher_number_at table = option_and_then (whole 1 GREATEST_PUBLISHER) (get_member (codes "number") table)
+publisher_number_at table = option_and_then (whole 1 greatest_publisher) (get_member (codes "number") table)
 
 abbrev pub made_publisher : Option ℕ → Option (List ℕ) → Option PublisherKey
 made_publisher (Some number) (Some key) = Some (record { number = number; key = key })
@@ -47,7 +47,7 @@ of_different publishers =
 abbrev pub publishers_in : Data → Option (List PublisherKey)
 publishers_in value = option_and_then of_different (option_and_then (all_read publisher_in) (array_in value))
 
--- none where the key doesn't stand
+-- none if the key doesn't stand
 abbrev pub publishers_at : Members → Option (List PublisherKey)
 publishers_at table = or_default [] publishers_in (at key.Publisher table)
 
@@ -77,7 +77,7 @@ roll_in value = option_and_then (λ text. result_ok (decode_of text)) (as_str va
 abbrev pub rolls_in : Data → Option (List (List ℕ))
 rolls_in value = option_and_then (all_read roll_in) (array_in value)
 
--- none where the key doesn't stand
+-- none if the key doesn't stand
 abbrev pub rolls_at : Members → Option (List (List ℕ))
 rolls_at table = or_default [] rolls_in (at key.Roll table)
 

@@ -1,6 +1,6 @@
 -- What all settings keep, so that a node can be opened with them. Source: this project's own limits.
 use Rattle.std.specs.Prelude.{◌≡◌, ◌≤◌, ℕ, true, List, IfSome}
-use Rattle.xl_ledger.specs.declared.registry.TheConstants.{LEAST_LIMIT, GREATEST_LIMIT}
+use Rattle.xl_ledger.specs.Limits.{greatest_limit, least_limit}
 use Rattle.xl_publish.specs.declared.publishing.Publishing.{Publishing}
 use Rattle.xl_publish.specs.Forces.{list_at}
 use Rattle.xl_settings.specs.Limits.{greatest_turns, least_heartbeat_ms, greatest_heartbeat_ms, greatest_run_ms}
@@ -14,7 +14,7 @@ AreEverPeers me peers publishing = (second : ℕ) →
     are_peers me list.members peers ≡ true)
 
 pub record AreRunnable (s : Settings) : Type 0 where
-  pub limit : (LEAST_LIMIT ≤ s.limit) × (s.limit ≤ GREATEST_LIMIT)
+  pub limit : (least_limit ≤ s.limit) × (s.limit ≤ greatest_limit)
   pub turns : (1 ≤ s.turns) × (s.turns ≤ greatest_turns)
   pub heartbeat : (least_heartbeat_ms ≤ s.heartbeat_ms) × (s.heartbeat_ms ≤ greatest_heartbeat_ms)
   pub run : s.run_ms ≤ greatest_run_ms

@@ -5,8 +5,8 @@ use Rattle.std.specs.Str.{is_utf8}
 use Rattle.toml.specs.Data.{Members, as_bool}
 use Rattle.toml.specs.Parse.{parse_document}
 use Rattle.xl_base.specs.declared.ids.TxId.{TxId}
-use Rattle.xl_base.specs.declared.node_no.TheConstants.{GREATEST_NODE_NO}
-use Rattle.xl_ledger.specs.declared.registry.TheConstants.{LEAST_LIMIT, GREATEST_LIMIT}
+use Rattle.xl_base.specs.Members.{greatest_node_no}
+use Rattle.xl_ledger.specs.Limits.{greatest_limit, least_limit}
 use Rattle.xl_settings.specs.declared.key_name.KeyName.{KeyName}
 use Rattle.xl_settings.specs.declared.key_name.KeyName.TheVariants as key
 use Rattle.xl_settings.specs.Limits.{most_bytes, usual_limit, usual_turns, greatest_turns, usual_heartbeat_ms, least_heartbeat_ms, greatest_heartbeat_ms, greatest_run_ms, usual_speak, greatest_speak}
@@ -26,13 +26,13 @@ needs name None next = Err (Known name)
 needs name (Some x) next = next x
 
 abbrev pub me_at : Members → Option ℕ
-me_at table = option_and_then (whole 1 GREATEST_NODE_NO) (at key.Me table)
+me_at table = option_and_then (whole 1 greatest_node_no) (at key.Me table)
 
 abbrev pub validating_at : Members → Option Bool
 validating_at table = or_default true as_bool (at key.Validating table)
 
 abbrev pub limit_at : Members → Option ℕ
-limit_at table = or_default usual_limit (whole LEAST_LIMIT GREATEST_LIMIT) (at key.Limit table)
+limit_at table = or_default usual_limit (whole least_limit greatest_limit) (at key.Limit table)
 
 abbrev pub turns_at : Members → Option ℕ
 turns_at table = or_default usual_turns (whole 1 greatest_turns) (at key.Turns table)

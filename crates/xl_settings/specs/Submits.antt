@@ -6,7 +6,7 @@ use Rattle.std.specs.Str.{bytes_eq}
 use Rattle.hex.specs.Hex.{decode_sized}
 use Rattle.toml.specs.Data.{Data, as_str}
 use Rattle.xl_base.specs.declared.ids.TxId.{TxId}
-use Rattle.xl_base.specs.declared.sets.TheConstants.{MOST_IDS}
+use Rattle.xl_base.specs.Sets.{most_ids}
 use Rattle.xl_settings.specs.Different.{are_different}
 use Rattle.xl_settings.specs.Values.{all_read, array_in}
 
@@ -28,7 +28,7 @@ same_text a b = are_same (as_str a) (as_str b)
 -- at most 256 different texts, and the id that each writes
 abbrev pub ids_in : List Data → Option (List TxId)
 ids_in values =
-    if nat_le (length values) MOST_IDS && are_different same_text values then all_read id_in values else None
+    if nat_le (length values) most_ids && are_different same_text values then all_read id_in values else None
 
 abbrev pub submits_in : Data → Option (List TxId)
 submits_in value = option_and_then ids_in (array_in value)

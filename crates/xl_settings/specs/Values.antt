@@ -28,7 +28,7 @@ values_in no_items = []
 values_in (item value rest) = value ∷ values_in rest
 
 module _ {A : Type 0} where
-  -- a value as it is read, or the default where none stands there
+  -- a value as it is read, or the default if none stands there
   abbrev pub or_default : A → (Data → Option A) → Option Data → Option A
   or_default default read None = Some default
   or_default default read (Some value) = read value
@@ -39,6 +39,6 @@ module _ {A : Type 0} where
   all_read read (value ∷ rest) =
       option_and_then (λ x. option_map (λ xs. x ∷ xs) (all_read read rest)) (read value)
 
--- the values of an array, where it is one
+-- the values of an array, if it is one
 abbrev pub array_in : Data → Option (List Data)
 array_in value = option_map values_in (as_array value)

@@ -1,6 +1,6 @@
 ghost use Rattle.std.specs.Prelude.{◌≤◌, IfOk, Some};
 ghost use Rattle.toml.specs.View.{table_view};
-ghost use Rattle.xl_base.specs.declared.moments.TheConstants.{GREATEST_MILLIS};
+ghost use Rattle.xl_base.specs.Moments.{greatest_millis};
 ghost use Rattle.xl_settings.specs.Answers.{GivenMemory, NamesKey};
 ghost use Rattle.xl_settings.specs.Runnable.{AreRunnable};
 ghost use Rattle.xl_settings.specs.Settings.{in_document, settings_of};
@@ -19,7 +19,7 @@ use xl_base::{Bytes, Millis};
 /// is unknown, and the least one is named; and then key by key, in the order of `KeyName`. Nothing is read from
 /// elsewhere, so no fault is `Read`.
 pub fn read_settings(alloc: Global, bytes: &[u8], now: Millis) -> Result<Settings, SettingsFault>
-    requires { now ≤ GREATEST_MILLIS }
+    requires { now ≤ greatest_millis }
     ensures answer { GivenMemory result (settings_of bytes.now now) }
     // A node can be opened with them.
     ensures runnable { IfOk result AreRunnable }
@@ -41,7 +41,7 @@ pub fn read_settings(alloc: Global, bytes: &[u8], now: Millis) -> Result<Setting
 
 /// The settings of a table.
 fn from_table(alloc: Global, table: &Table, now: Millis) -> Result<Settings, SettingsFault>
-    requires { now ≤ GREATEST_MILLIS }
+    requires { now ≤ greatest_millis }
     ensures { GivenMemory result (in_document (Some (table_view table.now)) now) }
 {
     match least_unknown(table) {

@@ -7,7 +7,7 @@ pub enum SettingsFault {
     Refused(SettingsRefusal),
     /// A read of the source failed.
     Read,
-    /// Memory was wanting.
+    /// Memory ran out.
     OutOfMemory,
 }
 

@@ -3,7 +3,7 @@
 //!
 //! It stands on xl_base, xl_io, xl_ledger, xl_lists, xl_links, xl_publish, and the kit's `toml` and `hex`. Its one
 //! contract: `read_settings` and `settings_from` answer the settings that the bytes hold at the moment of the opening,
-//! or the first cause for which they hold none, exactly by their definition, unless memory runs out or a read fails.
+//! or the first cause for which they hold none, exactly by their definition. Or memory runs out, or a read fails.
 //! `write_refusal` writes the one line that tells such a cause.
 #![tactic(auto)]
 

@@ -9,7 +9,7 @@ use xl_io::{Failed, Sink, write_all};
 
 /// Writes the line that tells a refusal: `settings`, and what is refused. It takes no memory.
 ///
-/// It fails where a write of the sink does, and the sink then holds a front of the line, not all.
+/// It fails if a write of the sink does, and the sink then holds a front of the line, not all.
 pub fn write_refusal<O: Sink>(output: &mut O, refusal: &SettingsRefusal) -> Result<(), Failed>
     ensures whole { OnOk result (O.held output.new ≡ append_known (O.held output.old) (refusal_line refusal.now)) }
     ensures front { GrewByFront (O.held output.old) (O.held output.new) (refusal_line refusal.now) }

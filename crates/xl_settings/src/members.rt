@@ -38,7 +38,7 @@ fn members_in(alloc: Global, value: &Value) -> Result<Option<Vec<u32>>, OutOfMem
     }
 }
 
-/// The numbers, where they are members of a list.
+/// The numbers, if they are members of a list.
 fn that_are_listed(numbers: Vec<u32>) -> Option<Vec<u32>>
     ensures { option_map (λ v. v.items) result ≡ that_are_listed numbers.items }
 {
@@ -70,7 +70,7 @@ fn are_listed(members: &[u32]) -> bool
     members.len() <= MOST_MEMBERS && List::new(members, members.len() as u32).is_ok()
 }
 
-/// The list of these members and the quorum, where it is stated; with publishers the key may not stand.
+/// The list of these members and the quorum, if it is stated; with publishers the key may not stand.
 pub fn stated_at(members: &[u32], table: &Table) -> Option<Stated>
     ensures { result ≡ stated_at members.now (table_view table.now) }
 {

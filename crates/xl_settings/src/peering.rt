@@ -19,7 +19,7 @@ use toml::{Table, Value};
 use xl_base::{NodeNo, OutOfMemory};
 use xl_links::Way;
 
-/// The peers, where they fit me and the members; none where the key doesn't stand.
+/// The peers, if they fit me and the members; none if the key doesn't stand.
 pub fn peers_at(
     alloc: Global,
     me: NodeNo,
@@ -34,7 +34,7 @@ pub fn peers_at(
     }
 }
 
-/// The peers, where they fit me and the members.
+/// The peers, if they fit me and the members.
 fn fitting(me: NodeNo, members: &[NodeNo], peers: Peers) -> Option<Peers>
     ensures { result ≡ fitting me members.now peers }
 {

@@ -45,7 +45,7 @@ fn is_filled(value: &Value) -> bool
     }
 }
 
-/// The publishers; none where the key doesn't stand.
+/// The publishers; none if the key doesn't stand.
 pub fn publishers_at(alloc: Global, table: &Table) -> Result<Option<Vec<PublisherKey>>, OutOfMemory>
     ensures value { IfOk result (λ found. option_map (λ v. v.items) found ≡ publishers_at (table_view table.now)) }
     ensures few { IfOk result (λ found. IfSome found (λ v. length v.items ≤ 16)) }
@@ -74,7 +74,7 @@ fn publishers_in(alloc: Global, value: &Value) -> Result<Option<Vec<PublisherKey
     }
 }
 
-/// The publishers, where no number stands twice.
+/// The publishers, if no number stands twice.
 fn of_different(publishers: Vec<PublisherKey>) -> Option<Vec<PublisherKey>>
     ensures { option_map (λ v. v.items) result ≡ of_different publishers.items }
 {

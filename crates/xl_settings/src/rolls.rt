@@ -11,7 +11,7 @@ use std::alloc::Global;
 use toml::{Table, Value};
 use xl_base::{Bytes, OutOfMemory};
 
-/// The bytes of the rolls, in their order; none where the key doesn't stand.
+/// The bytes of the rolls, in their order; none if the key doesn't stand.
 pub fn rolls_at(alloc: Global, table: &Table) -> Result<Option<Vec<Bytes>>, OutOfMemory>
     ensures { IfOk result (λ rolls. option_map (λ v. v.items) rolls ≡ rolls_at (table_view table.now)) }
 {

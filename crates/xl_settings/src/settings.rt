@@ -18,7 +18,7 @@ pub struct Settings {
     pub turns: u64,
     /// The milliseconds from heartbeat to heartbeat, 100 to 10,000.
     pub heartbeat_ms: Millis,
-    /// After how many milliseconds its run ends: up to 1,000,000,000,000, and 0 where it has no end.
+    /// After how many milliseconds its run ends: up to 1,000,000,000,000, and 0 if it has no end.
     pub run_ms: Millis,
     /// The transactions that it submits when it opens, at most 256. One may stand twice, its digits of either case.
     pub submit: TxIds,
@@ -26,7 +26,7 @@ pub struct Settings {
     pub peers: Peers,
     /// The version of its validations, 1 or 2.
     pub speak: u8,
-    /// The publishers that make its list, where it isn't stated.
+    /// The publishers that make its list, if it isn't stated.
     pub publishing: Option<Publishing>,
     /// Whether its journal is written once it has run.
     pub journal: bool,

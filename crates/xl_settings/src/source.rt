@@ -1,7 +1,7 @@
 ghost use Rattle.std.specs.Prelude.{◌≡◌, ◌≤◌, ◌++◌, length, IfOk, IfSome, IfErr, IsErrOf, OnOk};
 ghost use Rattle.std.specs.Io.KnownBytes.{IsAtEnd, prepend_known};
 ghost use Rattle.xl_base.specs.Faults.{Rose};
-ghost use Rattle.xl_base.specs.declared.moments.TheConstants.{GREATEST_MILLIS};
+ghost use Rattle.xl_base.specs.Moments.{greatest_millis};
 ghost use Rattle.xl_settings.specs.Answers.{GivenBytes, IsReadOut, IsNoRefusal};
 ghost use Rattle.xl_settings.specs.Runnable.{AreRunnable};
 ghost use Rattle.xl_settings.specs.Settings.{settings_of};
@@ -25,7 +25,7 @@ pub fn settings_from<I: Source>(
     input: &mut I,
     now: Millis,
 ) -> Result<Settings, SettingsFault>
-    requires { now ≤ GREATEST_MILLIS }
+    requires { now ≤ greatest_millis }
     ensures settings { IfSome (I.left input.old) (λ bytes. GivenBytes result (settings_of bytes now)) }
     // A node can be opened with them.
     ensures runnable { IfOk result AreRunnable }

@@ -2,7 +2,7 @@
 ghost use Rattle.std.specs.Prelude.{◌≡◌, ◌&&◌, nat_le, length, map, IfOk};
 ghost use Rattle.std.specs.List.{list_any};
 ghost use Rattle.toml.specs.View.{table_view, view};
-ghost use Rattle.xl_base.specs.declared.sets.TheConstants.{MOST_IDS};
+ghost use Rattle.xl_base.specs.Sets.{most_ids};
 ghost use Rattle.xl_settings.specs.Different.{are_different};
 ghost use Rattle.xl_settings.specs.Settings.{submits_at};
 ghost use Rattle.xl_settings.specs.Submits.{id_in, ids_in, same_text, submits_in};
@@ -14,7 +14,7 @@ use std::alloc::Global;
 use toml::{Table, Value};
 use xl_base::{MOST_IDS, OutOfMemory, TxId, TxIds};
 
-/// The ids to submit, in their order; none where the key doesn't stand.
+/// The ids to submit, in their order; none if the key doesn't stand.
 pub fn submits_at(alloc: Global, table: &Table) -> Result<Option<TxIds>, OutOfMemory>
     ensures { IfOk result (λ ids. ids ≡ submits_at (table_view table.now)) }
 {
@@ -46,7 +46,7 @@ fn ids_in(alloc: Global, values: &[Value]) -> Result<Option<TxIds>, OutOfMemory>
 
 /// Whether they are at most 256, and no text stands twice.
 fn are_few_texts(values: &[Value]) -> bool
-    ensures { result ≡ (nat_le (length values.now) MOST_IDS && are_different same_text (map view values.now)) }
+    ensures { result ≡ (nat_le (length values.now) most_ids && are_different same_text (map view values.now)) }
 {
     values.len() <= MOST_IDS && are_different(values)
 }

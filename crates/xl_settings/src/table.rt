@@ -1,7 +1,7 @@
 // The settings of a table, key by key.
 ghost use Rattle.std.specs.Prelude.{◌≡◌, ◌≤◌, IfSome};
 ghost use Rattle.toml.specs.View.{table_view};
-ghost use Rattle.xl_base.specs.declared.moments.TheConstants.{GREATEST_MILLIS};
+ghost use Rattle.xl_base.specs.Moments.{greatest_millis};
 ghost use Rattle.xl_settings.specs.Answers.{GivenMemory};
 ghost use Rattle.xl_settings.specs.Publishers.{threshold_at};
 ghost use Rattle.xl_settings.specs.Settings.{in_table, me_at, validating_at, limit_at, turns_at, heartbeat_at, run_at, speak_at, journal_at};
@@ -23,7 +23,7 @@ use xl_ledger::{GREATEST_LIMIT, LEAST_LIMIT};
 
 /// The settings of a table with no unknown key, at the moment of the opening.
 pub fn settings_in(alloc: Global, table: &Table, now: Millis) -> Result<Settings, SettingsFault>
-    requires { now ≤ GREATEST_MILLIS }
+    requires { now ≤ greatest_millis }
     ensures { GivenMemory result (in_table (table_view table.now) now) }
 {
     let me = me_at(table).ok_or(KeyName::Me)?;

@@ -1,6 +1,6 @@
 // What is kept of publishers' rolls.
 ghost use Rattle.std.specs.Prelude.{◌≡◌, ◌≤◌, IfOk, option_map};
-ghost use Rattle.xl_base.specs.declared.node_no.TheConstants.{GREATEST_NODE_NO};
+ghost use Rattle.xl_base.specs.Members.{greatest_node_no};
 ghost use Rattle.xl_settings.specs.Publishers.{keyed, after_rolls, taken_of, named_by};
 
 use crate::publishers::PublisherKey;
@@ -17,7 +17,7 @@ pub(crate) struct Taken {
     pub all: bool,
 }
 
-/// What is kept of the rolls: nothing where the publishers or the rolls can't be read.
+/// What is kept of the rolls: nothing if the publishers or the rolls can't be read.
 pub fn taken_of(publishers: &Option<Vec<PublisherKey>>, rolls: &Option<Vec<Bytes>>) -> Taken
     ensures { result ≡ taken_of (option_map (λ v. v.items) publishers.now) (option_map (λ v. v.items) rolls.now) }
 {
@@ -72,7 +72,7 @@ pub fn named_by(alloc: Global, publishers: &Publishers) -> Result<Vec<NodeNo>, O
 /// The member of a number that one may have.
 fn member(number: u32) -> NodeNo
     requires least { 1 ≤ number }
-    requires greatest { number ≤ GREATEST_NODE_NO }
+    requires greatest { number ≤ greatest_node_no }
     ensures { result ≡ number }
 {
     NodeNo::new(number).unwrap()

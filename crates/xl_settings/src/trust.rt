@@ -1,6 +1,6 @@
 // The list of a node, stated or made by publishers.
 ghost use Rattle.std.specs.Prelude.{◌≡◌, ◌≤◌, IfOk};
-ghost use Rattle.xl_base.specs.declared.moments.TheConstants.{GREATEST_MILLIS};
+ghost use Rattle.xl_base.specs.Moments.{greatest_millis};
 ghost use Rattle.xl_settings.specs.Lists.{met_by, published, trust_of};
 
 use crate::stated::Stated;
@@ -14,7 +14,7 @@ use xl_publish::Publishing;
 #[derive(Drop)]
 pub(crate) struct Trust {
     pub list: List,
-    /// The publishers that make the list, where it isn't stated.
+    /// The publishers that make the list, if it isn't stated.
     pub publishing: Option<Publishing>,
 }
 
@@ -37,9 +37,9 @@ fn copied(alloc: Global, members: &[NodeNo]) -> Result<Vec<NodeNo>, OutOfMemory>
     }
 }
 
-/// The list at a moment, and who makes it; none where a roll was refused, or publishers make no list then.
+/// The list at a moment, and who makes it; none if a roll was refused, or publishers make no list then.
 pub fn trust_of(stated: Stated, taken: Taken, threshold: u32, now: Millis) -> Option<Trust>
-    requires { now ≤ GREATEST_MILLIS }
+    requires { now ≤ greatest_millis }
     ensures { result ≡ trust_of stated taken threshold now }
 {
     match stated {
@@ -53,7 +53,7 @@ pub fn trust_of(stated: Stated, taken: Taken, threshold: u32, now: Millis) -> Op
 
 /// The list that publishers make.
 fn published(taken: Taken, threshold: u32, now: Millis) -> Option<Trust>
-    requires { now ≤ GREATEST_MILLIS }
+    requires { now ≤ greatest_millis }
     ensures { result ≡ published taken threshold now }
 {
     let Taken { publishers, all } = taken;

@@ -1,6 +1,6 @@
 // Single values, as a document has them.
 ghost use Rattle.std.specs.Prelude.{◌≡◌, ◌≤◌, map, IfSome, option_map};
-ghost use Rattle.xl_base.specs.declared.node_no.TheConstants.{GREATEST_NODE_NO};
+ghost use Rattle.xl_base.specs.Members.{greatest_node_no};
 ghost use Rattle.toml.specs.Data.{get_member};
 ghost use Rattle.toml.specs.View.{table_view, view};
 ghost use Rattle.xl_settings.specs.Submits.{bytes_in};
@@ -60,7 +60,7 @@ pub fn array_in(value: &Value) -> Option<&[Value]>
 
 /// A member's number.
 pub fn member_in(value: &Value) -> Option<NodeNo>
-    ensures { result ≡ whole 1 GREATEST_NODE_NO (view value.now) }
+    ensures { result ≡ whole 1 greatest_node_no (view value.now) }
 {
     let number = whole(value, 1, u64::from(GREATEST_NODE_NO))?;
     NodeNo::new(number as u32)

@@ -6,7 +6,7 @@
 #![tactic(auto)]
 
 ghost use Rattle.std.specs.Prelude.{◌<◌, ◌≤◌, length};
-ghost use Rattle.xl_base.specs.declared.moments.TheConstants.{GREATEST_MILLIS};
+ghost use Rattle.xl_base.specs.Moments.{greatest_millis};
 
 mod member;
 
@@ -25,7 +25,7 @@ const SECONDS: Millis = 14;
 
 const TX: TxId = TxId([0xA1; 32]);
 
-/// The seven, who trust each other, or None where memory is wanting.
+/// The seven, who trust each other, or None if memory runs out.
 fn open_all(alloc: Global) -> Option<Vec<Member>> {
     let list = List::new(&NUMBERS, default_quorum(7)).ok()?;
     let mut members = Vec::new(alloc);
@@ -45,7 +45,7 @@ fn brief(id: &LedgerId) -> u32 {
 fn hand_on(members: &mut [Member], from: usize, to: usize, now: Millis)
     requires from { from < length members.old }
     requires to { to < length members.old }
-    requires moment { now ≤ GREATEST_MILLIS }
+    requires moment { now ≤ greatest_millis }
 {
     let mut room = [0; LONGEST_FRAME];
     let receiver = members[to].me();
@@ -58,7 +58,7 @@ fn hand_on(members: &mut [Member], from: usize, to: usize, now: Millis)
 /// Hands what waits at one member to each other.
 fn hand_around(members: &mut [Member], from: usize, now: Millis)
     requires from { from < length members.old }
-    requires moment { now ≤ GREATEST_MILLIS }
+    requires moment { now ≤ greatest_millis }
 {
     for to in 0..members.len() {
         if to != from {
@@ -129,7 +129,7 @@ fn tell_all_reports(rt: &HostRuntime, now: Millis, members: &mut [Member]) -> io
 
 /// One timer at each member, after each of which all is handed on.
 fn beat_all(rt: &HostRuntime, members: &mut [Member], now: Millis) -> io::Result<()>
-    requires { now ≤ GREATEST_MILLIS }
+    requires { now ≤ greatest_millis }
 {
     for k in 0..members.len() {
         let beat = members[k].timer(now);

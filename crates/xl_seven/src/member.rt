@@ -1,5 +1,5 @@
 ghost use Rattle.std.specs.Prelude.{◌≤◌};
-ghost use Rattle.xl_base.specs.declared.moments.TheConstants.{GREATEST_MILLIS};
+ghost use Rattle.xl_base.specs.Moments.{greatest_millis};
 
 use std::alloc::Global;
 use xl_base::{LedgerId, Millis, NodeNo, OutOfMemory, TxId};
@@ -49,13 +49,13 @@ impl Member {
 
     /// Whether the transaction was taken.
     pub fn submit(&mut self, now: Millis, tx: TxId) -> bool
-        requires { now ≤ GREATEST_MILLIS }
+        requires { now ≤ greatest_millis }
     {
         self.core.submit(now, tx).is_ok()
     }
 
     pub fn timer(&mut self, now: Millis) -> Beat
-        requires { now ≤ GREATEST_MILLIS }
+        requires { now ≤ greatest_millis }
     {
         self.core.timer(now, &mut self.keeper)
     }
@@ -71,7 +71,7 @@ impl Member {
 
     /// Hears each of these frames.
     pub fn hear_all(&mut self, now: Millis, frames: &[u8])
-        requires { now ≤ GREATEST_MILLIS }
+        requires { now ≤ greatest_millis }
     {
         let mut rest = frames;
         // Each frame has some bytes.

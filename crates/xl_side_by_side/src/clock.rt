@@ -19,11 +19,11 @@ pub struct HeldClock<'a> {
 
 impl<'a> HeldClock<'a> {
     ghost use Rattle.std.specs.Prelude.{◌≤◌};
-    ghost use Rattle.xl_base.specs.declared.moments.TheConstants.{GREATEST_MILLIS};
+    ghost use Rattle.xl_base.specs.Moments.{greatest_millis};
 
     /// A clock that stands at this moment, over the counts of two links.
     pub fn new(first: Millis, left: &'a AtomicU64, right: &'a AtomicU64) -> Self
-        requires { first ≤ GREATEST_MILLIS }
+        requires { first ≤ greatest_millis }
     {
         HeldClock {
             clock: MemClock::new(first),

@@ -1,6 +1,6 @@
 ghost use Rattle.std.specs.Prelude.{◌≡◌, ◌≤◌, nat_le};
 ghost use Rattle.std.specs.Duration.{as_nanos};
-ghost use Rattle.xl_base.specs.declared.moments.TheConstants.{GREATEST_MILLIS};
+ghost use Rattle.xl_base.specs.Moments.{greatest_millis};
 ghost use Rattle.xl_tcp.specs.Moments.{moment_at};
 
 use std::time::{self, Duration};
@@ -55,7 +55,7 @@ fn start_of<C: time::Clock>(system: &C) -> io::Result<Start> {
 impl<C: time::Clock> Clock for SystemClock<C> {
     ghost use Rattle.std.proofs.Common.{rules};
 
-    ghost may_give = { λ _ moment. nat_le moment GREATEST_MILLIS };
+    ghost may_give = { λ _ moment. nat_le moment greatest_millis };
 
     fn now(&self) -> Millis {
         match self.since_1970() {

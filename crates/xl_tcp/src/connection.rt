@@ -19,10 +19,10 @@ const GATHERS: u64 = 50;
 /// How long a write waits for room before it reads ahead, in milliseconds.
 const WRITE_WAITS: u64 = 50;
 
-/// After so many waits in a row, in which no byte went either way, a write fails: 900 milliseconds.
+/// After this many waits in a row, in which no byte went either way, a write fails: 900 milliseconds.
 const FRUITLESS_WAITS: u32 = 18;
 
-/// After so many waits a write fails in any case: five minutes.
+/// After this many waits a write fails in any case: five minutes.
 const MOST_WAITS: u32 = 6000;
 
 /// How many bytes are read ahead at once, and how often between two tries to write.
@@ -30,15 +30,15 @@ const PIECE: usize = 16_384;
 
 const PIECES: usize = 64;
 
-/// No more is read ahead where so many bytes wait: the greeting of a peer that knows as many ledgers as a node may know,
-/// 262,144 frames of 164 bytes each, and what else it says.
+/// No more is read ahead if this many bytes wait. They are the greeting of a peer that knows as many ledgers as a node
+/// may know, 262,144 frames of 164 bytes each, and what else it says.
 const MOST_AHEAD: usize = 48_000_000;
 
 /// A connection with a peer. What it gives and takes isn't told.
 ///
 /// A read waits a second for a byte, and once one came 50 milliseconds for more. A write waits until the system takes a
 /// byte. While it does, it reads ahead what the peer says, and later reads give that first: two peers that write to each
-/// other at once would else wait for each other. It fails where for 900 milliseconds no byte went either way. As long as
+/// other at once would else wait for each other. It fails if for 900 milliseconds no byte went either way. As long as
 /// bytes that were read ahead are given, as many are read ahead again.
 ///
 /// A caller that sends more than a member does is let go: a read says that no more bytes come, and a write fails.
@@ -66,7 +66,7 @@ impl<S: Read + Write + OpenStream + Drop> Connection<S> {
         self.conduct.as_ref()
     }
 
-    /// Reads the next bytes, at least one where there is room, or none at the connection's end.
+    /// Reads the next bytes, at least one if there is room, or none at the connection's end.
     pub(crate) fn read<C: Clock>(&mut self, clock: &C, room: &mut [u8]) -> io::Result<usize>
         ensures same { length room.new ≡ length room.old }
         ensures fits { IfOk result (λ count. count ≤ length room.new) }
@@ -126,7 +126,7 @@ impl<S: Read + Write + OpenStream + Drop> Connection<S> {
         Ok(self.ahead.len() > before)
     }
 
-    /// Reads ahead what has come, at most so many bytes and no more than a piece, and says how many they are.
+    /// Reads ahead what has come, at most this many bytes and no more than a piece, and says how many they are.
     fn read_piece_ahead<C: Clock>(&mut self, clock: &C, most: usize) -> io::Result<usize> {
         let mut piece = [0; PIECE];
         let count = read_at_hand(&mut self.stream, &mut piece[..most.min(PIECE)])?;

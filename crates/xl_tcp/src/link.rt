@@ -31,10 +31,10 @@ const SILENCE_AT_FIRST: Millis = 2000;
 
 /// A link to one member over TCP, with one connection at a time. What it gives and takes isn't told.
 ///
-/// An opening lets go of the connection before. It dials, and waits 900 milliseconds for the answer; or it takes the
-/// first ready one of those who dialled in, or if none is ready the first that has sent nothing, and doesn't wait:
-/// whoever else has dialled waits behind it. It answers
-/// NotYet if nobody is there: the call is refused, isn't answered in time or can't reach the machine, or nobody calls.
+/// An opening lets go of the connection before. It dials, and waits 900 milliseconds for the answer. Or it takes the
+/// first ready one of those who dialled in, or if none is ready the first that has sent nothing, and doesn't wait.
+/// Whoever else has dialled waits behind it. It answers NotYet if nobody is there: the call is refused, isn't answered
+/// in time or can't reach the machine, or nobody calls.
 ///
 /// A read waits a second for a byte, and then 50 milliseconds for more. A write waits until the system takes a byte, and
 /// reads ahead meanwhile what the peer says, for later reads; it fails if for 900 milliseconds no byte went either way.
@@ -42,7 +42,7 @@ const SILENCE_AT_FIRST: Millis = 2000;
 /// fails.
 ///
 /// Anybody can call, and the link knows no key. So it lets go of a caller that sends more than a member does, and of
-/// one that has sent no whole frame for a minute, or for 20 seconds while another is ready, or for two seconds then if
+/// one that has sent no whole frame for a minute. While another is ready the bound is 20 seconds, and two seconds if
 /// it never sent one. A read then says that no more bytes come.
 #[derive(Drop)]
 pub struct TcpLink<R: Net> {
@@ -68,7 +68,7 @@ impl<R: Net + Drop> TcpLink<R> {
         }
     }
 
-    /// The address that it listens at, where it does and the system tells it. Where port 0 was asked, it has the port
+    /// The address that it listens at, if it does and the system tells it. Where port 0 was asked, it has the port
     /// that the system chose.
     pub fn listens_at(&self) -> Option<SocketAddr> {
         match &self.address {

@@ -56,7 +56,7 @@ fn a_time_of_day_that_is_set_moves_no_clock(rt: HostRuntime) -> Result<(), Fail>
     Ok(())
 }
 
-/// A link of member 2 over loopback, or none where the address is refused.
+/// A link of member 2 over loopback, or none if the address is refused.
 fn link_of(rt: &HostRuntime, way: Way) -> Result<Option<TcpLink<HostRuntime>>, Fail> {
     let mut hub = TcpHub::new(rt.alloc(), rt.clone()?);
     let Some(member) = NodeNo::new(2) else {
@@ -356,7 +356,7 @@ fn who_has_nothing_to_say_is_served(rt: HostRuntime) -> Result<(), Fail> {
     Ok(())
 }
 
-/// Gives so many frames, and says how many were taken before the connection ended.
+/// Gives this many frames, and says how many were taken before the connection ended.
 fn gives_frames<L: Link>(link: &mut L, frame: &[u8], count: u32) -> u32 {
     for given in 0..count {
         if link.write(frame) != Wrote::Took(frame.len()) {

@@ -3,7 +3,7 @@ use Rattle.std.specs.Prelude.{◌≡◌, ◌<◌, ℕ, min, List, [], length, Op
 use Rattle.xl_base.specs.Faults.{Rose}
 use Rattle.xl_base.specs.declared.status.Status.{Status}
 use Rattle.xl_base.specs.declared.status.Status.TheVariants.{Done, Fork, InputRefused, ReadFault, WriteFault, OutOfMemory}
-use Rattle.xl_gen.specs.declared.command.TheConstants.{MOST_ROUNDS}
+use Rattle.xl_gen.specs.Sizes.{most_rounds}
 use Rattle.xl_gen.specs.Summaries.{summary}
 use Rattle.xl_lines.specs.declared.fault.Fault.{Fault}
 use Rattle.xl_lines.specs.declared.fault.Fault.TheVariants.{Read, Write, Memory}
@@ -48,7 +48,7 @@ told_by Merge bytes = merge_of bytes
 told_by Audit bytes = audit_of bytes
 told_by Flags bytes = flags_of bytes
 told_by Negative bytes = negative_of bytes
-told_by (Gen rounds) bytes = summary (min rounds MOST_ROUNDS)
+told_by (Gen rounds) bytes = summary (min rounds most_rounds)
 told_by Help bytes = closes help_text Good
 told_by Version bytes = closes version_text Good
 
@@ -80,7 +80,7 @@ ReadsNothing Version = Unit {0}
 ReadsNothing command = ⊥
 
 -- What shows that a text that is written whole is at its end, by the counts of the input's faults before and after.
--- The text of `lists` is empty where no node is declared. The last lines of `merge` and of `negative` are written before
+-- The text of `lists` is empty if no node is declared. The last lines of `merge` and of `negative` are written before
 -- the input's end is read, so a read may fail behind them
 abbrev pub IsEnded : Telling → List ℕ → ℕ → ℕ → Type 0
 IsEnded Lists text before after = 0 < length text

@@ -15,7 +15,7 @@ use Rattle.xl_words.specs.declared.command.Telling.{Telling}
 use Rattle.xl_words.specs.declared.command.Telling.TheVariants.{Replay}
 use Rattle.xl_top.specs.Commands.{told_by, soon_by, ReadsAll, IsEnded}
 
--- what the streams show: the bytes that the input has left and those that the output holds, where they tell them, and
+-- what the streams show: the bytes that the input has left and those that the output holds, if they tell them, and
 -- how many reads and writes have failed
 pub record Streams : Type 0 where
   pub left : Option (List ℕ)

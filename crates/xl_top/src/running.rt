@@ -54,7 +54,7 @@ pub fn run<I: Source, O: Sink>(
     }
 }
 
-/// Makes the schedule of so many rounds, or of the most.
+/// Makes the schedule of this many rounds, or of the most.
 fn make<O: Sink>(alloc: Global, rounds: u32, output: &mut O) -> Result<Verdict, Fault>
     ensures whole { IfOk result (λ verdict. TellsAll (O.held output.old) (O.held output.new) verdict
         (summary (min rounds MOST_ROUNDS))) }

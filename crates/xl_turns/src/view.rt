@@ -7,7 +7,7 @@ pub struct Knowledge<E> {
     pub seen: LinkedList<E>,
     /// The places of the pass's own entries in the journal, rising.
     pub mine: LinkedList<u64>,
-    /// At least so many tickets were drawn.
+    /// At least this many tickets were drawn.
     pub drawn: u64,
     /// Its share in the right to close the lock. All shares add up to 2^126.
     pub share: u128,

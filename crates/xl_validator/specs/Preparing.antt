@@ -38,7 +38,7 @@ pub record IsReady (prepared : Prepared) : Type 0 where
   pub once : IsDistinct nat_eq (map contact_of prepared.plan.contacts.items)
   pub few : length prepared.plan.contacts.items ≤ 64
 
--- a plan of so many turns, which submits these ids, serves these peers, and beats so
+-- a plan of this many turns, which submits these ids, serves these peers, and beats so
 pub record IsPlan (limit : ℕ) (ids : List TxId) (peers : List PeerSetting) (beats : Pulse) (plan : Plan) : Type 0 where
   pub turns : plan.turns ≡ limit
   pub submits : plan.submits.items ≡ ids

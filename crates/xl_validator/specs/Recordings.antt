@@ -15,7 +15,7 @@ is_over status.Done = true
 is_over status.StoreFull = true
 is_over other = false
 
--- whether the journal of a run that ended so is written, where it is asked
+-- whether the journal of a run that ended so is written, if it is asked
 abbrev pub is_written : Bool → Status → Bool
 is_written asked ended = asked && is_over ended
 
@@ -29,7 +29,7 @@ pub record AddsFront (text : List ℕ) (old new : Output) : Type 0 where
   pub later : old.faults ≤ new.faults
 
 -- What is written of a text behind a run that ended so, by the status that the command then has: with a write's fault not
--- all of it, where memory ran out a front, and else all of it, and the status is the run's
+-- all of it, if memory ran out a front, and else all of it, and the status is the run's
 abbrev pub IsWritten : List ℕ → Status → Status → Output → Output → Type 0
 IsWritten text ended status.WriteFault old new = AddsLess text old new
 IsWritten text ended status.OutOfMemory old new = AddsFront text old new

@@ -1,6 +1,6 @@
 ghost use Rattle.std.specs.Prelude.{◌≡◌, ◌≢◌, ◌≤◌, ◌⊎◌, Some, None, false, IfSome};
 ghost use Rattle.xl_base.specs.Faults.{Rose};
-ghost use Rattle.xl_base.specs.declared.moments.TheConstants.{GREATEST_MILLIS};
+ghost use Rattle.xl_base.specs.Moments.{greatest_millis};
 ghost use Rattle.xl_settings.specs.Lines.{refusal_line};
 ghost use Rattle.xl_settings.specs.Runnable.{AreRunnable};
 ghost use Rattle.xl_workers.specs.Linking.{hub_seen};
@@ -106,7 +106,7 @@ fn start<
     clock: &C,
 ) -> Ended<K>
     requires runnable { AreRunnable judged.settings }
-    requires moment { judged.now ≤ GREATEST_MILLIS }
+    requires moment { judged.now ≤ greatest_millis }
     ensures ran { IfSome result.journal (λ history. (is_written judged.settings.journal result.status ≡ false)
         × HasRun K.held K.saves K.faults K.load_gives K.save_gives
         judged.settings judged.now (C.may_give clock.now) (H.gives hub.old)

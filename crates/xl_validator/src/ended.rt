@@ -3,7 +3,7 @@ ghost use Rattle.std.specs.Prelude.{◌≡◌, None};
 use xl_base::Status;
 use xl_store::Journal;
 
-/// What a command leaves: how it ended, the keeper, and the journal of the node's store, where one was opened.
+/// What a command leaves: how it ended, the keeper, and the journal of the node's store, if one was opened.
 #[derive(Drop)]
 pub struct Ended<K> {
     pub status: Status,

@@ -2,9 +2,9 @@
 //!
 //! It stands on xl_settings, which reads them, and on xl_workers, which runs a node. Its one contract: settings are judged
 //! at one moment that the clock gave. The journal that is handed back is a legal history of the core that they give,
-//! opened at that moment with the number that the keeper loaded; its places are shared out among submits, heartbeat,
-//! workers and the last reports; the output is the lines of its reports, or the line of what is refused; and each status
-//! has its cause. If the settings ask for it, xl_audit writes that journal behind the reports instead.
+//! opened at that moment with the number that the keeper loaded. Its places are shared out among submits, heartbeat,
+//! workers and the last reports. The output is the lines of its reports, or the line of what is refused, and each
+//! status has its cause. If the settings ask for it, xl_audit writes that journal behind the reports instead.
 #![tactic(auto)]
 
 mod command;

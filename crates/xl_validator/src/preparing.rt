@@ -1,6 +1,6 @@
 // What a node is opened with, and what it is to do.
 ghost use Rattle.std.specs.Prelude.{◌≡◌, ◌≤◌, IfOk};
-ghost use Rattle.xl_base.specs.declared.moments.TheConstants.{GREATEST_MILLIS};
+ghost use Rattle.xl_base.specs.Moments.{greatest_millis};
 ghost use Rattle.xl_settings.specs.Runnable.{AreRunnable};
 ghost use Rattle.xl_validator.specs.ListsSet.{IsEverKeyed};
 ghost use Rattle.xl_validator.specs.Openings.{opening_core, task_of};
@@ -33,7 +33,7 @@ pub(crate) struct Prepared {
 /// Opens the core of the settings at their moment, with the number that was kept.
 pub(crate) fn prepare(alloc: Global, judged: Judged, kept: Seq) -> Result<Prepared, OutOfMemory>
     requires runnable { AreRunnable judged.settings }
-    requires moment { judged.now ≤ GREATEST_MILLIS }
+    requires moment { judged.now ≤ greatest_millis }
     ensures core { IfOk result (λ prepared. prepared.core ≡ opening_core judged.settings judged.now kept) }
     ensures task { IfOk result (λ prepared. task_in prepared.plan ≡ task_of judged.settings judged.now) }
     ensures ready { IfOk result IsReady }

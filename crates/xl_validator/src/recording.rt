@@ -1,8 +1,8 @@
 // The journal that is written behind a run.
 ghost use Rattle.std.specs.Prelude.{◌≡◌, ◌≤◌, None, Some, true, false, IsSome, IfSome, is_some};
 ghost use Rattle.xl_base.specs.Faults.{Rose};
-ghost use Rattle.xl_base.specs.declared.moments.TheConstants.{GREATEST_MILLIS};
-ghost use Rattle.xl_ledger.specs.declared.registry.TheConstants.{LEAST_LIMIT, GREATEST_LIMIT};
+ghost use Rattle.xl_base.specs.Moments.{greatest_millis};
+ghost use Rattle.xl_ledger.specs.Limits.{greatest_limit, least_limit};
 ghost use Rattle.xl_turns.specs.Histories.{IsLegal};
 ghost use Rattle.xl_core.specs.Rest.{IsKeyed};
 ghost use Rattle.xl_store.specs.Entries.{Leads};
@@ -31,14 +31,14 @@ pub(crate) struct Recording {
     pub now: Millis,
     pub kept: Seq,
     ghost keyed: { IsKeyed settings.me settings.list.members settings.keys },
-    ghost limited: { (LEAST_LIMIT ≤ settings.limit) × (settings.limit ≤ GREATEST_LIMIT) },
-    ghost timely: { now ≤ GREATEST_MILLIS },
+    ghost limited: { (least_limit ≤ settings.limit) × (settings.limit ≤ greatest_limit) },
+    ghost timely: { now ≤ greatest_millis },
 }
 
 /// What the journal of a run begins with, if the settings ask for it to be written.
 pub(crate) fn recording_of(settings: &Settings, now: Millis, kept: Seq) -> Option<Recording>
     requires runnable { AreRunnable settings.now }
-    requires moment { now ≤ GREATEST_MILLIS }
+    requires moment { now ≤ greatest_millis }
     ensures asked { is_some result ≡ settings.now.journal }
     ensures settings { IfSome result (λ recording. recording.settings ≡ core_settings settings.now) }
     ensures now { IfSome result (λ recording. recording.now ≡ now) }

@@ -13,7 +13,7 @@ use Rattle.xl_workers.specs.Pairing.{total}
 use Rattle.xl_workers.specs.Serving.{IsPeer, IsReady, peer_of, share_of, IsFresh}
 
 module _ {B K L : Type 0} where
-  -- So many peers are left. Each other one has a worker, with a part of the pass and no places yet
+  -- This many peers are left. Each other one has a worker, with a part of the pass and no places yet
   pub record Hired (store : Store B K) (one : Pass Entry) (all : List (Peer L))
       (now : Pass Entry) (rest : List (Peer L)) (workers : List (Worker L)) : Type 0 where
     pub pass : IsOf store now

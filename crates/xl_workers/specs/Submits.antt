@@ -21,7 +21,7 @@ pub record Submitted (start : Core) (may_give : ℕ → Bool)
   pub each : Paired (IsSubmit may_give) ids calls
   pub made : Made start old new calls
 
--- a call had no turn: memory was wanting, or as many tickets are known to be drawn as the store has turns
+-- a call had no turn: memory ran out, or as many tickets are known to be drawn as the store has turns
 abbrev pub HadNoTurn : ℕ → Knowledge Entry → StoreEnd → Type 0
 HadNoTurn turns new OutOfMemory = Unit {0}
 HadNoTurn turns new (StoreFull n) = (n ≡ turns) × (new.drawn ≡ turns)

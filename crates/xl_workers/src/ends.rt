@@ -11,9 +11,9 @@ pub enum RunEnd {
     Ran { beats: BeatEnd, last: Ending },
     /// The hub could not make a link: its count of faults rose. Nothing but the submits happened at the core.
     NetFault,
-    /// Memory was wanting before the heartbeat and the workers ran.
+    /// Memory ran out before the heartbeat and the workers ran.
     OutOfMemory,
-    /// A submit found all turns of the store drawn: it has so many. No link was opened.
+    /// A submit found all turns of the store drawn: it has this many. No link was opened.
     StoreFull(u64),
 }
 

@@ -5,9 +5,9 @@
 //! have seen it, their passes are joined, the last reports are taken, and the store is closed.
 //!
 //! It stands on the store of xl_store, the sessions of xl_peers, the heartbeat of xl_heartbeat and the hub of xl_links.
-//! Its one contract: the journal of the closed store is a legal history of the core that was handed in, and each place
-//! of it is one of the submits, of the heartbeat, of the one worker of a member, or of the last reports; the output is
-//! the lines of what the reports handed out; and each end has its cause.
+//! Its one contract: the journal of the closed store is a legal history of the core that was handed in. Each place of
+//! it is one of the submits, of the heartbeat, of the one worker of a member, or of the last reports. The output is
+//! the lines of what the reports handed out, and each end has its cause.
 #![tactic(auto)]
 
 mod ends;

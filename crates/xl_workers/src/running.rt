@@ -29,8 +29,9 @@ pub struct Ran<B: Branch, K> {
     pub closed: Closed<B, K>,
 }
 
-/// Runs a validator over a core and its keeper: submits the plan's ids, opens a link to each of its members, serves
-/// them all side by side with the heartbeat until that ends the run, takes the last reports and closes the store.
+/// Runs a validator over a core and its keeper. It submits the plan's ids, opens a link to each of its members, and
+/// serves them all side by side with the heartbeat until that ends the run. Then it takes the last reports and closes
+/// the store.
 ///
 /// The members are peers of the core, and none stands twice. If there was no memory for the store, core and keeper
 /// come back, and nothing happened. What it leaves tells how every other run ended.

@@ -1,5 +1,5 @@
 ghost use Rattle.std.specs.Prelude.{◌≤◌};
-ghost use Rattle.xl_base.specs.declared.moments.TheConstants.{GREATEST_MILLIS};
+ghost use Rattle.xl_base.specs.Moments.{greatest_millis};
 
 use std::alloc::Global;
 use std::marker::Model;
@@ -112,7 +112,7 @@ impl Node {
     /// What a heartbeat does and says: the propose sequence, the close time and the second of the position, and whether
     /// it goes with the set.
     pub fn brief(&mut self, now: Millis) -> (Kind, Option<(u32, Secs, Secs, bool)>)
-        requires { now ≤ GREATEST_MILLIS }
+        requires { now ≤ greatest_millis }
     {
         let pulse = self.round.heartbeat(now, NOTHING);
         let said = match pulse.said {
@@ -127,7 +127,7 @@ impl Node {
 
     /// The set, the propose sequence, the close time and the second of the position by which the node leaves.
     pub fn leaving(&mut self, now: Millis) -> Option<(SetId, u32, Secs, Secs)>
-        requires { now ≤ GREATEST_MILLIS }
+        requires { now ≤ greatest_millis }
     {
         let p = self.round.leave(now)?;
         Some((p.set, p.pseq, p.close, p.time))
@@ -161,21 +161,21 @@ impl Node {
     }
 
     pub fn beat(&mut self, now: Millis, seen: Seen) -> Pulse
-        requires { now ≤ GREATEST_MILLIS }
+        requires { now ≤ greatest_millis }
     {
         self.round.heartbeat(now, seen)
     }
 
     /// What kind of heartbeat it is.
     pub fn kind(&mut self, now: Millis, seen: Seen) -> Kind
-        requires { now ≤ GREATEST_MILLIS }
+        requires { now ≤ greatest_millis }
     {
         self.beat(now, seen).kind
     }
 
     /// A heartbeat that is ready, and accepted.
     pub fn accept(&mut self, now: Millis, seen: Seen) -> Result<(Pulse, Agreed), Fail>
-        requires { now ≤ GREATEST_MILLIS }
+        requires { now ≤ greatest_millis }
     {
         let pulse = self.round.heartbeat(now, seen);
         if let Kind::Ready { .. } = pulse.kind {

@@ -19,7 +19,7 @@ use std::mem;
 use std::sync::Wait;
 
 impl<O: Drop, E: Drop, P: History<O, E>> TicketLock<O, E, P> {
-    /// A lock over the object, which gives out so many tickets in all, 1 to 2^62, and its first pass. For want of
+    /// A lock over the object, which gives out this many tickets in all, 1 to 2^62, and its first pass. For lack of
     /// memory it hands the object back.
     pub fn open(
         alloc: Global,

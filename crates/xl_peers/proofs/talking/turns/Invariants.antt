@@ -1,5 +1,5 @@
 use Rattle.std.proofs.Common.{◌≡◌, length, false}
-use Rattle.xl_wire.specs.declared.lengths.TheConstants.{LONGEST_FRAME}
+use Rattle.xl_wire.specs.Lengths.{longest_frame}
 use Rattle.xl_turns.specs.Passes.{known}
 use Rattle.xl_store.specs.Stores.{start_of, IsOf}
 use Rattle.xl_peers.specs.Sessions.{NeedsMore}
@@ -12,7 +12,7 @@ invariant-loop g l = record {
   pass : IsOf l.store l.pass;
   takes : l.feed.refused ≡ false;
   needs : NeedsMore l.feed.held;
-  room : length l.room ≡ LONGEST_FRAME;
+  room : length l.room ≡ longest_frame;
   far : SoFar (start_of l.store) (g.C.Clock.may_give l.clock) l.member (known l.fn.pass) (g.L.Link.shows l.fn.link) Asks
       (known l.pass) (g.L.Link.shows l.link) l.feed.held;
 }

@@ -1,7 +1,7 @@
 use Rattle.std.specs.Prelude.{min}
 use Rattle.std.proofs.Common.{◌≡◌, ℕ, List, refl, sym, subst, ⊎_elim}
 use Rattle.xl_base.specs.Faults.{Rose}
-use Rattle.xl_gen.specs.declared.command.TheConstants.{MOST_ROUNDS}
+use Rattle.xl_gen.specs.Sizes.{most_rounds}
 use Rattle.xl_gen.specs.Summaries.{summary}
 use Rattle.xl_lines.specs.Rules.{closes}
 use Rattle.xl_lines.specs.declared.machine.Verdict.TheVariants.{Good}
@@ -206,14 +206,14 @@ returns-in-Gen-clause-writes g c =
     let old = streams (g.I.Source.left c.args.input.now) (g.I.Source.faults c.args.input.now) (g.O.Sink.held c.args.output.now) (g.O.Sink.faults c.args.output.now) in
     let new = streams (g.I.Source.left c.args.input.now) (g.I.Source.faults c.args.input.now) (g.O.Sink.held c.make.new.output) (g.O.Sink.faults c.make.new.output) in
     writes_by _ (Gen c.in-Gen.rounds) old new _ c.make.result c.in-Gen.is (λ no. cc) c.status_after-in-Gen.ensures (record {
-      whole = whole_of (g.I.Source.left c.args.input.now) (g.O.Sink.held c.args.output.now) (g.O.Sink.held c.make.new.output) (summary (min c.in-Gen.rounds MOST_ROUNDS)) c.make.result c.make.ensures.whole;
+      whole = whole_of (g.I.Source.left c.args.input.now) (g.O.Sink.held c.args.output.now) (g.O.Sink.held c.make.new.output) (summary (min c.in-Gen.rounds most_rounds)) c.make.result c.make.ensures.whole;
       at_end = λ _ no. absurd no;
       front = if_any (g.I.Source.left c.args.input.now) _ (λ bytes. c.make.ensures.front);
       soon = λ is. absurd (c.make.ensures.read is);
       only = only_of c.make.result _ _ c.make.ensures.read c.make.ensures.write;
-      ends = said (g.I.Source.left c.args.input.now) _ (whole_after (g.I.Source.left c.args.input.now) (g.O.Sink.held c.args.output.now) (g.O.Sink.held c.make.new.output) (λ (bytes : List ℕ). summary (min c.in-Gen.rounds MOST_ROUNDS)) c.make.result
-          (whole_of (g.I.Source.left c.args.input.now) (g.O.Sink.held c.args.output.now) (g.O.Sink.held c.make.new.output) (summary (min c.in-Gen.rounds MOST_ROUNDS)) c.make.result c.make.ensures.whole)
-          (less_of (g.I.Source.left c.args.input.now) (g.O.Sink.held c.args.output.now) (g.O.Sink.held c.make.new.output) (summary (min c.in-Gen.rounds MOST_ROUNDS)) c.make.result c.make.ensures.read c.make.ensures.less));
+      ends = said (g.I.Source.left c.args.input.now) _ (whole_after (g.I.Source.left c.args.input.now) (g.O.Sink.held c.args.output.now) (g.O.Sink.held c.make.new.output) (λ (bytes : List ℕ). summary (min c.in-Gen.rounds most_rounds)) c.make.result
+          (whole_of (g.I.Source.left c.args.input.now) (g.O.Sink.held c.args.output.now) (g.O.Sink.held c.make.new.output) (summary (min c.in-Gen.rounds most_rounds)) c.make.result c.make.ensures.whole)
+          (less_of (g.I.Source.left c.args.input.now) (g.O.Sink.held c.args.output.now) (g.O.Sink.held c.make.new.output) (summary (min c.in-Gen.rounds most_rounds)) c.make.result c.make.ensures.read c.make.ensures.less));
     })
 
 pub returns-in-Gen-clause-cause : goal.returns-in-Gen-clause-cause
