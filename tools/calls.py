@@ -47,7 +47,7 @@ def of_tags():
 
 
 def of_heartbeats():
-    tests = made('xl_calls', 'test')
+    tests = made('test_calls', 'test')
     for test, names in HEARTBEATS:
         counts = counting.calls([tests, test], 'xl_rounds::round::Round::heartbeat', len(names))
         yield from map(line, names, counts)

@@ -10,7 +10,7 @@ import made_schedules
 import rolls
 import schedules
 
-DATA = os.path.join(schedules.TOP, 'crates', 'xl_rows', 'data')
+DATA = os.path.join(schedules.TOP, 'crates', 'test_runs', 'data')
 LARGEST_SEED, LARGEST_INPUT, MOST_LINES = 20000, 100000, 1200
 NUMBERS = [0, 1, 2, 7, 11, 12, 41, 63, 64, 65, 76, 118, 255, 256, 257, 300, 301, 1000, 1024, 4096, 8240, 16384]
 NUMBERS += [16385, 262144, 262145, 10**6, 2**31, 2**32 - 1, 2**32, 2**53]
