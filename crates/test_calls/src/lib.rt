@@ -33,6 +33,8 @@ mod tops;
 #[cfg(test)]
 mod turns;
 #[cfg(test)]
+mod validations;
+#[cfg(test)]
 mod votes;
 #[cfg(test)]
 mod worlds;
