@@ -283,7 +283,7 @@ module _ {K O : Type 0}
       → EndsByTime s moment (calls_of (opening_core s moment run.kept) history)
   by_time s moment between history run =
       let t = run_timed _ _ history run.goes.run_end run.goes.run (sym run.goes.is) in
-      let bounds = bounded _ t.now t.over in
+      let bounds = bounded (record { opened = moment; every = s.heartbeat_ms; run = s.run_ms }) t.now t.over in
       record {
         earlier = t.last.earlier;
         now = t.now;
