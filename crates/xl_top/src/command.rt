@@ -5,9 +5,11 @@ ghost use Rattle.xl_lines.specs.declared.machine.Verdict.TheVariants.{Refused};
 ghost use Rattle.xl_replay.specs.Headlines.{names_of, IsReport, IsRefusal};
 ghost use Rattle.xl_replay.specs.Replays.{report_of};
 ghost use Rattle.xl_top.specs.Commands.{asked_of, told_of, ReadsNothing};
+ghost use Rattle.xl_top.specs.Nodes.{EndsSo};
 ghost use Rattle.xl_top.specs.Texts.{WritesText, HasCause, streams};
 ghost use Rattle.xl_top.specs.Undone.{IsUndone};
 ghost use Rattle.xl_workers.specs.Linking.{hub_seen};
+ghost use Rattle.xl_validator.specs.Ends.{IsQuiet};
 ghost use Rattle.xl_validator.specs.Validators.{Judges, between};
 ghost use Rattle.xl_words.specs.Commands.{words_of};
 
@@ -79,6 +81,12 @@ pub fn top<
         output.old output.new keeper result.keeper result.status result.journal
         ⊎ IsUndone result.status result.journal (input.new ≡ input.old) (output.new ≡ output.old)
         (result.keeper ≡ keeper) (hub.new ≡ hub.old) }
+    // Its status says how its run ended.
+    ensures ends { asked_of (words_of words.now) ≡ Some Command.Node
+        → EndsSo (I.left input.old) (C.may_give clock.now)
+        (IsQuiet (I.faults input.old) (I.faults input.new) × IsQuiet (O.faults output.old) (O.faults output.new)
+        × IsQuiet (K.faults keeper) (K.faults result.keeper) × IsQuiet (H.faults hub.old) (H.faults hub.new))
+        result.status result.journal }
     // A journal is that of a node.
     ensures node_ran { IfSome result.journal (λ _. asked_of (words_of words.now) ≡ Some Command.Node) }
     // Every other command leaves keeper and hub.

@@ -179,6 +179,10 @@ pub returns-in-Ok-Tell-clause-node : goal.returns-in-Ok-Tell-clause-node
 returns-in-Ok-Tell-clause-node g c =
     λ is. let no = sym (c.in-Ok-Tell.ensures.found ∙ ap Some c.in-Ok-Tell.field-0-is) ∙ is in absurd cc
 
+pub returns-in-Ok-Tell-clause-ends : goal.returns-in-Ok-Tell-clause-ends
+returns-in-Ok-Tell-clause-ends g c =
+    λ is. let no = sym (c.in-Ok-Tell.ensures.found ∙ ap Some c.in-Ok-Tell.field-0-is) ∙ is in absurd cc
+
 pub returns-in-Ok-Tell-clause-node_ran : goal.returns-in-Ok-Tell-clause-node_ran
 returns-in-Ok-Tell-clause-node_ran g c =
     by_none c.unopened.result.journal _ c.unopened.ensures.journal
@@ -187,12 +191,26 @@ pub returns-in-Ok-Node-clause-node : goal.returns-in-Ok-Node-clause-node
 returns-in-Ok-Node-clause-node g c =
     λ _. inl c.validator.ensures.judged
 
+pub returns-in-Ok-Node-clause-ends : goal.returns-in-Ok-Node-clause-ends
+returns-in-Ok-Node-clause-ends g c =
+    λ _. record {
+      done = c.validator.ensures.done;
+      full = c.validator.ensures.full;
+      submits = c.validator.ensures.submits;
+      beats = c.validator.ensures.beats;
+      complete = λ quiet turns. inl (c.validator.ensures.complete quiet.0 quiet.1 quiet.2 quiet.3 turns);
+    }
+
 pub returns-in-Ok-Node-clause-node_ran : goal.returns-in-Ok-Node-clause-node_ran
 returns-in-Ok-Node-clause-node_ran g c =
     if_any c.validator.result.journal _ (λ _. (c.in-Ok-Node.ensures.found ∙ ap Some c.in-Ok-Node.field-0-is))
 
 pub returns-in-Err-Refused-clause-node : goal.returns-in-Err-Refused-clause-node
 returns-in-Err-Refused-clause-node g c =
+    λ is. let no = sym (unasked (command_of (words_of c.args.words.now)) (Err c.in-Err-Refused.field-0) (ap Err c.in-Err-Refused.field-0-is) c.in-Err-Refused.ensures.given) ∙ is in absurd cc
+
+pub returns-in-Err-Refused-clause-ends : goal.returns-in-Err-Refused-clause-ends
+returns-in-Err-Refused-clause-ends g c =
     λ is. let no = sym (unasked (command_of (words_of c.args.words.now)) (Err c.in-Err-Refused.field-0) (ap Err c.in-Err-Refused.field-0-is) c.in-Err-Refused.ensures.given) ∙ is in absurd cc
 
 pub returns-in-Err-Refused-clause-node_ran : goal.returns-in-Err-Refused-clause-node_ran
@@ -209,6 +227,16 @@ returns-in-Err-Memory-clause-node g c =
       kept = c.unopened-in-Err-Memory.ensures.keeper;
       unlinked = refl;
     })
+
+pub returns-in-Err-Memory-clause-ends : goal.returns-in-Err-Memory-clause-ends
+returns-in-Err-Memory-clause-ends g c =
+    λ _. record {
+      done = λ is. let no = sym c.unopened-in-Err-Memory.ensures.status ∙ is in absurd cc;
+      full = λ is. let no = sym c.unopened-in-Err-Memory.ensures.status ∙ is in absurd cc;
+      submits = λ is. let no = sym c.unopened-in-Err-Memory.ensures.status ∙ is in absurd cc;
+      beats = by_none c.unopened-in-Err-Memory.result.journal _ c.unopened-in-Err-Memory.ensures.journal;
+      complete = λ quiet turns. inr c.unopened-in-Err-Memory.ensures.status;
+    }
 
 pub returns-in-Err-Memory-clause-node_ran : goal.returns-in-Err-Memory-clause-node_ran
 returns-in-Err-Memory-clause-node_ran g c =
