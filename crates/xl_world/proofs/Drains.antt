@@ -164,7 +164,7 @@ unsent_none from to each before now rest so ends = by_left so.left so.frames so.
 -- ONE DRAIN AFTER THE OTHER
 
 -- a drain that gives nothing is the last
-drains_end : (core : Core) (m more : ℕ) → given_in (drained_once core m).answer ≡ [] → drains core m more ≡ Drain m longest_frame ∷ []
+pub drains_end : (core : Core) (m more : ℕ) → given_in (drained_once core m).answer ≡ [] → drains core m more ≡ Drain m longest_frame ∷ []
 drains_end core m zero none = refl
 drains_end core m (suc more) none =
     ap (λ (es : List CoreEvent). Drain m longest_frame ∷ es) (cond-true (length (given_in (drained_once core m).answer) == 0) [] (drains (drained_once core m).core m more) (eq-eqb _ 0 (ap length none)))
@@ -223,11 +223,11 @@ left_none before core after m sent now so none is_after =
 
 -- NUMBER AFTER NUMBER
 
-after_then : (core : Core) (xs ys : List CoreEvent) → after_events core (xs ++ ys) ≡ after_events (after_events core xs) ys
+pub after_then : (core : Core) (xs ys : List CoreEvent) → after_events core (xs ++ ys) ≡ after_events (after_events core xs) ys
 after_then core [] ys = refl
 after_then core (e ∷ es) ys = after_then (core_happens core e AnsweredOk).core es ys
 
-given_then : (core : Core) (xs ys : List CoreEvent) → given_by core (xs ++ ys) ≡ given_by core xs ++ given_by (after_events core xs) ys
+pub given_then : (core : Core) (xs ys : List CoreEvent) → given_by core (xs ++ ys) ≡ given_by core xs ++ given_by (after_events core xs) ys
 given_then core [] ys = refl
 given_then core (e ∷ es) ys =
     let r : CoreReply = core_happens core e AnsweredOk in

@@ -29,6 +29,7 @@ pub mod Acting
 pub mod Telling
 pub mod Shortening
 pub mod Drains
+pub mod Idling
 pub mod Reopening
 pub mod Taking
 pub mod Cutting

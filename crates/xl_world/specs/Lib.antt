@@ -1,4 +1,5 @@
 pub mod Keeper
+pub mod Marked
 pub mod Plans
 pub mod Forgeries
 pub mod World

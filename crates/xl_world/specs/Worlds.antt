@@ -1,5 +1,5 @@
 -- A world of the code, as the definitions see it. Source: what the code of this crate keeps.
-use Rattle.std.specs.Prelude.{◌≡◌, ◌≤◌, Bool, true, false, [], length}
+use Rattle.std.specs.Prelude.{◌≤◌, Bool, true, false, length}
 use Rattle.xl_world.specs.declared.network.Network.TheInside.{Inside as NetworkInside}
 use Rattle.xl_world.specs.declared.sent.Sent.TheInside.{Inside as SentInside}
 use Rattle.xl_world.specs.declared.traffic.Traffic.TheInside.{Inside as TrafficInside}
@@ -25,7 +25,7 @@ pub record IsTraffic (t : TrafficInside) : Type 0 where
 abbrev pub network_seen : NetworkInside → World
 network_seen n = record {
   liars = n.liars.items;
-  numbers = n.numbers.items;
+  numbers = n.numbers;
   places = n.places.items;
   sent = n.traffic.frames;
   mark = n.traffic.mark;

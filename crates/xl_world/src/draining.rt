@@ -19,6 +19,7 @@ ghost use Rattle.xl_world.specs.Sending.{sent_as};
 
 use crate::Sent;
 use crate::act::position_of;
+use crate::members::Members;
 use crate::place::{NodeCore, Place};
 use crate::traffic::Traffic;
 use std::alloc::Global;
@@ -105,7 +106,7 @@ fn drain_for(
 }
 
 /// What waits for each other number is drained and sent, for each in its turn.
-fn drain(
+fn drain_each(
     alloc: Global,
     core: &mut NodeCore,
     numbers: &[NodeNo],
@@ -126,12 +127,32 @@ fn drain(
     Ok(())
 }
 
+/// What waits for each other number is drained and sent. Mostly nothing waits for any.
+fn drain(
+    alloc: Global,
+    core: &mut NodeCore,
+    numbers: &Members,
+    room: &mut [u8; LONGEST_FRAME],
+    traffic: &mut Traffic,
+) -> Result<(), OutOfMemory>
+    requires keys { core.old.node.keys ≡ schedule_ring core.old.node.me }
+    ensures core { OnOk result (core.new ≡ after_events core.old (draining numbers.now core.old)) }
+    ensures sent { OnOk result
+        (traffic.new ≡ with_frames traffic.old (given_by core.old (draining numbers.now core.old))) }
+    ensures longer { IsLonger traffic.old.frames traffic.new.frames }
+{
+    if numbers.are_idle(core) {
+        return Ok(());
+    }
+    drain_each(alloc, core, numbers.as_slice(), room, traffic)
+}
+
 /// What waits at the node of a number, if there is one, is drained for each other number and sent.
 pub fn drain_at(
     alloc: Global,
     places: &mut [Place],
     i: NodeNo,
-    numbers: &[NodeNo],
+    numbers: &Members,
     room: &mut [u8; LONGEST_FRAME],
     traffic: &mut Traffic,
 ) -> Result<(), OutOfMemory>

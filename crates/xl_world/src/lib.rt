@@ -19,6 +19,7 @@ mod forged;
 mod fork;
 mod index;
 mod lie;
+mod members;
 mod network;
 mod open;
 mod outcome;

@@ -11,6 +11,7 @@ use crate::draining::drain_at;
 use crate::extent::Extent;
 use crate::forged::is_forged;
 use crate::lie::put_lie;
+use crate::members::Members;
 use crate::place::{Fate, Keeper, NodeCore, Place};
 use crate::settle::{push_some, tell, tell_heard_at};
 use crate::traffic::Traffic;
@@ -28,7 +29,7 @@ use xl_wire::LONGEST_FRAME;
 pub struct Network {
     pub alloc: Global,
     pub liars: Vec<NodeNo>,
-    pub numbers: Vec<NodeNo>,
+    pub numbers: Members,
     pub places: Vec<Place>,
     /// What a drain writes into.
     pub room: Box<[u8; LONGEST_FRAME]>,
@@ -91,7 +92,7 @@ impl Network {
         Ok(Network {
             alloc,
             liars: Vec::from_slice(alloc, &plan.liars)?,
-            numbers: open::numbers(alloc, plan)?,
+            numbers: Members::new(open::numbers(alloc, plan)?),
             places,
             room: Box::new(alloc, [0; LONGEST_FRAME])?,
             traffic: Traffic::new(alloc),
@@ -180,8 +181,8 @@ impl Network {
             ≡ told.old.items ++ told_in self.old (timers self.old at self.old.numbers)) }
         ensures grows { Grows self.old self.new }
     {
-        for k in 0..self.numbers.len() {
-            let node = self.numbers[k];
+        for k in 0..self.numbers.as_slice().len() {
+            let node = self.numbers.as_slice()[k];
             self.ask(at, &Ask::Timer { node }, Fate::Saved, told)?;
         }
         Ok(())

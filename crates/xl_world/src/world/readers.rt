@@ -10,7 +10,7 @@ impl World {
     pub fn numbers(&self) -> &[NodeNo]
         ensures { result.now ≡ self.now.numbers }
     {
-        &self.network.numbers
+        self.network.numbers.as_slice()
     }
 
     /// How many of the sent frames stand before the mark.

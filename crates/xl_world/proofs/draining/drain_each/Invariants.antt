@@ -1,6 +1,6 @@
 use Rattle.xl_world.specs.Ends.{IsLonger}
 use Rattle.xl_world.proofs.Drains.{IsDrainedTo}
-use Rattle.xl_world.proofs.draining.drain.Given as goal
+use Rattle.xl_world.proofs.draining.drain_each.Given as goal
 
 -- drained for the numbers so far, and sent so
 abbrev pub invariant-loop-to : goal.invariant-loop-to
