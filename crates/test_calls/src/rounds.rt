@@ -3,18 +3,18 @@ mod node;
 use node::{NOTHING, Node, ROOT, Told, on, tx};
 use std::test::Fail;
 use xl_base::{Secs, TxId, set_id};
-use xl_rounds::{Agreed, Kind, Mode, Phase, Placed, Pulse, RoundRefusal, Said};
+use xl_rounds::{Agreed, Heartbeat, HeartbeatKind, Mode, Phase, Placed, RoundRefusal, Said};
 use xl_wire::Proposal;
 
 #[test]
 fn an_idle_round_closes_and_is_ready(rt: HostRuntime) -> Result<(), Fail> {
     let mut node = Node::open(rt.alloc(), Mode::Proposing)?;
-    assert_eq!(rt; node.kind(15_999, NOTHING), Kind::Nothing);
+    assert_eq!(rt; node.kind(15_999, NOTHING), HeartbeatKind::Nothing);
     let ours = on(ROOT, set_id(&[]), 0, 16);
     assert_eq!(rt;
         node.beat(16_000, NOTHING),
-        Pulse {
-            kind: Kind::Closed,
+        Heartbeat {
+            kind: HeartbeatKind::Closed,
             said: Some(Said {
                 proposal: ours,
                 with_set: true
@@ -22,11 +22,11 @@ fn an_idle_round_closes_and_is_ready(rt: HostRuntime) -> Result<(), Fail> {
         }
     );
     assert_eq!(rt; node.phase(), Phase::Establish);
-    assert_eq!(rt; node.kind(17_949, NOTHING), Kind::Nothing);
+    assert_eq!(rt; node.kind(17_949, NOTHING), HeartbeatKind::Nothing);
     // 1,950 ms are not more than 1,950.
-    assert_eq!(rt; node.kind(17_950, NOTHING), Kind::Nothing);
+    assert_eq!(rt; node.kind(17_950, NOTHING), HeartbeatKind::Nothing);
     let (pulse, agreed) = node.accept(17_951, NOTHING)?;
-    assert_eq!(rt; pulse.kind, Kind::Ready { moved_on: false });
+    assert_eq!(rt; pulse.kind, HeartbeatKind::Ready { moved_on: false });
     assert_eq!(rt; pulse.said, None);
     assert_eq!(rt;
         agreed,
@@ -37,7 +37,7 @@ fn an_idle_round_closes_and_is_ready(rt: HostRuntime) -> Result<(), Fail> {
         }
     );
     assert_eq!(rt; node.phase(), Phase::Accepted);
-    assert_eq!(rt; node.kind(40_000, NOTHING), Kind::Nothing);
+    assert_eq!(rt; node.kind(40_000, NOTHING), HeartbeatKind::Nothing);
     Ok(())
 }
 
@@ -53,7 +53,7 @@ fn a_transaction_is_pending_once(rt: HostRuntime) -> Result<(), Fail> {
         Err(RoundRefusal::PoolFull(256))
     );
     // They are our set, in rising order.
-    assert_eq!(rt; node.kind(16_000, NOTHING), Kind::Closed);
+    assert_eq!(rt; node.kind(16_000, NOTHING), HeartbeatKind::Closed);
     assert_eq!(rt; node.own(), (256, Some(tx(0)), Some(tx(255))));
     Ok(())
 }
@@ -77,11 +77,17 @@ fn a_proposal_is_refused_by_the_first_cause(rt: HostRuntime) -> Result<(), Fail>
 #[test]
 fn members_come_to_agree(rt: HostRuntime) -> Result<(), Fail> {
     let (mut node, theirs) = Node::with_three(rt.alloc())?;
-    let ready = Kind::Ready { moved_on: false };
-    assert_eq!(rt; node.brief(2_999), (Kind::Closed, Some((0, 2, 2, true))));
-    assert_eq!(rt; node.brief(4_948), (Kind::Nothing, None));
+    let ready = HeartbeatKind::Ready { moved_on: false };
+    assert_eq!(rt;
+        node.brief(2_999),
+        (HeartbeatKind::Closed, Some((0, 2, 2, true)))
+    );
+    assert_eq!(rt; node.brief(4_948), (HeartbeatKind::Nothing, None));
     // Our set loses the transaction that the others lack, and the rounded close time of all is 0.
-    assert_eq!(rt; node.brief(4_949), (Kind::Updated, Some((1, 0, 4, true))));
+    assert_eq!(rt;
+        node.brief(4_949),
+        (HeartbeatKind::Updated, Some((1, 0, 4, true)))
+    );
     assert_eq!(rt; node.brief(4_950), (ready, None));
     // Our position is twelve seconds old.
     assert_eq!(rt; node.brief(16_000), (ready, Some((2, 0, 16, false))));

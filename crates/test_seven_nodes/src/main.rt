@@ -14,7 +14,7 @@ use member::Member;
 use std::alloc::Global;
 use std::io;
 use xl_base::{LedgerId, Millis, NodeNo, TxId};
-use xl_core::{Beat, Issued, UNTAKEN};
+use xl_core::{Issued, TimerAnswer, UNTAKEN};
 use xl_lists::{List, default_quorum};
 use xl_wire::LONGEST_FRAME;
 
@@ -77,18 +77,18 @@ fn how(issued: &Issued) -> &'static str {
 }
 
 /// Prints what came of a member's timer, unless nothing did.
-fn tell_beat(rt: &HostRuntime, now: Millis, me: NodeNo, beat: &Beat) -> io::Result<()> {
+fn tell_beat(rt: &HostRuntime, now: Millis, me: NodeNo, beat: &TimerAnswer) -> io::Result<()> {
     match beat {
-        Beat::Nothing => Ok(()),
-        Beat::Closed => println!(rt; "{now} closed {}", me.get()),
-        Beat::Updated => println!(rt; "{now} updated {}", me.get()),
-        Beat::Switched(seq, id) => println!(rt;
+        TimerAnswer::Nothing => Ok(()),
+        TimerAnswer::Closed => println!(rt; "{now} closed {}", me.get()),
+        TimerAnswer::Updated => println!(rt; "{now} updated {}", me.get()),
+        TimerAnswer::Switched(seq, id) => println!(rt;
             "{now} switched {} {seq} {:08x}",
             me.get(),
             brief(id)
         ),
-        Beat::NoRoom(known) => println!(rt; "{now} no room {} {known}", me.get()),
-        Beat::Built {
+        TimerAnswer::NoRoom(known) => println!(rt; "{now} no room {} {known}", me.get()),
+        TimerAnswer::Built {
             seq,
             id,
             issued,

@@ -3,7 +3,7 @@ ghost use Rattle.xl_base.specs.Moments.{greatest_millis};
 
 use std::alloc::Global;
 use xl_base::{LedgerId, Millis, NodeNo, OutOfMemory, TxId};
-use xl_core::{Beat, Core, Report, Settings};
+use xl_core::{Core, Report, Settings, TimerAnswer};
 use xl_io::PlainKeeper;
 use xl_lists::List;
 use xl_tags::Keys;
@@ -54,7 +54,7 @@ impl Member {
         self.core.submit(now, tx).is_ok()
     }
 
-    pub fn timer(&mut self, now: Millis) -> Beat
+    pub fn timer(&mut self, now: Millis) -> TimerAnswer
         requires { now ≤ greatest_millis }
     {
         self.core.timer(now, &mut self.keeper)

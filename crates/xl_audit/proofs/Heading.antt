@@ -15,7 +15,7 @@ use Rattle.xl_audit.specs.declared.opening.Opening.{Opening}
 use Rattle.xl_audit.specs.Journals.{key_text, list_text, members_text, opening_text, settings_line, validating_text}
 use Rattle.xl_audit.specs.Opening.{opening_in, key_in}
 use Rattle.xl_audit.specs.Rereading.{MayBeWritten}
-use Rattle.xl_audit.specs.Stored.{IsId}
+use Rattle.xl_base.specs.Ids.{IsId}
 use Rattle.xl_audit.specs.Tokens.{yes_of}
 use Rattle.xl_audit.specs.Values.{space}
 use Rattle.xl_audit.specs.Words.{tokens}

@@ -22,7 +22,7 @@ use Rattle.xl_sched.specs.declared.refusal.SchedRefusal.TheVariants.{Number, Id}
 use Rattle.xl_sched.specs.Members.{member_of}
 use Rattle.xl_sched.specs.Numbers.{is_number, value_of, number_within, number_of}
 use Rattle.xl_sched.specs.Refusals.{◌>>=◌}
-use Rattle.xl_audit.specs.Stored.{IsId}
+use Rattle.xl_base.specs.Ids.{IsId}
 use Rattle.xl_audit.specs.Tokens.{moment_of, number_from, is_lower_digit, id_of, bytes_of, peer_of}
 
 -- NUMBERS

@@ -8,10 +8,10 @@ use Rattle.xl_tags.specs.declared.refusal.TagRefusal.{TagRefusal}
 use Rattle.xl_tags.specs.declared.refusal.TagRefusal.TheVariants.{NotForMe, Stranger, BadTag}
 use Rattle.xl_wire.specs.declared.refusal.WireRefusal.{WireRefusal}
 use Rattle.xl_wire.specs.declared.refusal.WireRefusal.TheVariants as wire
-use Rattle.xl_core.specs.declared.beat.Beat.{Beat}
-use Rattle.xl_core.specs.declared.beat.Beat.TheVariants as beat
-use Rattle.xl_core.specs.declared.beat.Issued.{Issued}
-use Rattle.xl_core.specs.declared.beat.Issued.TheVariants as issued
+use Rattle.xl_core.specs.declared.timer_answer.TimerAnswer.{TimerAnswer}
+use Rattle.xl_core.specs.declared.timer_answer.TimerAnswer.TheVariants as timer_answer
+use Rattle.xl_core.specs.declared.timer_answer.Issued.{Issued}
+use Rattle.xl_core.specs.declared.timer_answer.Issued.TheVariants as issued
 use Rattle.xl_core.specs.declared.refusal.Refusal.{Refusal}
 use Rattle.xl_core.specs.declared.refusal.Refusal.TheVariants.{Frame, Short, Extra, Tag, Header, Stale, Repeat, Conflict, OldSeq, Pending, PoolFull, WrongPrev, OldPosition, Left, StaleProposal, NotAfter, IssuingOff, KeepFault, NoKey}
 use Rattle.xl_core.specs.declared.report.Report.{Report}
@@ -80,7 +80,7 @@ refusal_line why = spaced (decimal (code_of why)) (values_text why) (decimal_lin
 -- WHAT IS ANSWERED
 
 taken_line : (what : Taken) → is_line (taken_text what) ≡ true
-taken_line taken.Vote = refl
+taken_line taken.Validation = refl
 taken_line (taken.Header id) = hex_line id.0
 taken_line taken.Position = refl
 taken_line taken.Later = refl
@@ -99,13 +99,13 @@ unfolding moved_text
 moved_line true = refl
 moved_line false = refl
 
-beat_line : (told : Beat) → is_line (beat_text told) ≡ true
-beat_line beat.Nothing = refl
-beat_line beat.Closed = refl
-beat_line beat.Updated = refl
-beat_line (beat.Switched seq id) = spaced (decimal seq) (encode_lower id.0) (decimal_line seq) (hex_line id.0)
-beat_line (beat.NoRoom limit) = decimal_line limit
-beat_line (beat.Built seq id moved_on how) =
+beat_line : (told : TimerAnswer) → is_line (beat_text told) ≡ true
+beat_line timer_answer.Nothing = refl
+beat_line timer_answer.Closed = refl
+beat_line timer_answer.Updated = refl
+beat_line (timer_answer.Switched seq id) = spaced (decimal seq) (encode_lower id.0) (decimal_line seq) (hex_line id.0)
+beat_line (timer_answer.NoRoom limit) = decimal_line limit
+beat_line (timer_answer.Built seq id moved_on how) =
     let ledger : List ℕ = decimal seq ++ space ++ encode_lower id.0 in
     both_lines (ledger ++ moved_text moved_on) (issued_text how)
     (both_lines ledger (moved_text moved_on) (spaced (decimal seq) (encode_lower id.0) (decimal_line seq) (hex_line id.0)) (moved_line moved_on))

@@ -32,7 +32,8 @@ use Rattle.xl_audit.specs.Laws.{written_with}
 use Rattle.xl_audit.specs.Opening.{core_of, is_unmet, key_in, unmet}
 use Rattle.xl_audit.specs.Rereading.{KeepsLimits, WrittenGetsYes}
 use Rattle.xl_audit.specs.Rights.{IsRight, is_right, reply_to}
-use Rattle.xl_audit.specs.Stored.{IsId, IsStored, HasIds}
+use Rattle.xl_base.specs.Ids.{IsId}
+use Rattle.xl_audit.specs.Stored.{IsStored, HasIds}
 use Rattle.xl_audit.specs.Words.{first, tokens}
 use Rattle.xl_audit.proofs.Events.{entry_text, entry_line_is, text_line, entry_again, counted_of, is_no_key}
 use Rattle.xl_audit.proofs.Heading.{settings_text, settings_line_is, settings_one_line, settings_again, opening_for, Places, ring_of, key_line, key_one_line, key_tokens, key_there, key_again, blank, no_keys_is, keys_text, key_text_is, keys_text_is}

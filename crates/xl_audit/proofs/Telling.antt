@@ -9,10 +9,10 @@ use Rattle.xl_core.specs.Keeping.{Saves}
 use Rattle.xl_core.specs.Node.{Save, is_kept}
 use Rattle.xl_core.specs.Node.Save.{Kept, Failed}
 use Rattle.xl_core.specs.Replies.{Answers, save_of as save_of_refusal}
-use Rattle.xl_core.specs.Ticks.{CountsBeatFault, save_at}
-use Rattle.xl_core.specs.declared.beat.Beat.{Beat}
-use Rattle.xl_core.specs.declared.beat.Beat.TheVariants as beat
-use Rattle.xl_core.specs.declared.beat.Issued.TheVariants as issued
+use Rattle.xl_core.specs.TimerParts.{CountsBeatFault, save_at}
+use Rattle.xl_core.specs.declared.timer_answer.TimerAnswer.{TimerAnswer}
+use Rattle.xl_core.specs.declared.timer_answer.TimerAnswer.TheVariants as timer_answer
+use Rattle.xl_core.specs.declared.timer_answer.Issued.TheVariants as issued
 use Rattle.xl_core.specs.declared.refusal.Refusal.{Refusal}
 use Rattle.xl_core.specs.declared.refusal.Refusal.TheVariants as why
 use Rattle.xl_store.specs.declared.entry.Saved.{Saved}
@@ -120,16 +120,16 @@ failed_why : (w : Refusal) (count : ℕ) → save_of_refusal w ≡ Failed count 
 failed_why (why.KeepFault n) count is = cc
 failed_why _ count is = cc
 
-pub beat_counts : (told : Beat) (old new : ℕ) → CountsBeatFault told old new → (count : ℕ)
+pub beat_counts : (told : TimerAnswer) (old new : ℕ) → CountsBeatFault told old new → (count : ℕ)
     → save_at told ≡ Failed count → count ≡ new
-beat_counts (beat.Built seq id moved_on (issued.Refused w)) old new counts count is =
+beat_counts (timer_answer.Built seq id moved_on (issued.Refused w)) old new counts count is =
     (counts seq id moved_on count
-    (ap (λ (v : Refusal). beat.Built seq id moved_on (issued.Refused v)) (failed_why w count is))).1
-beat_counts (beat.Built seq id moved_on issued.Full) old new counts count is = cc
-beat_counts (beat.Built seq id moved_on issued.Partial) old new counts count is = cc
-beat_counts (beat.Built seq id moved_on issued.Silent) old new counts count is = cc
-beat_counts beat.Nothing old new counts count is = cc
-beat_counts beat.Closed old new counts count is = cc
-beat_counts beat.Updated old new counts count is = cc
-beat_counts (beat.Switched seq id) old new counts count is = cc
-beat_counts (beat.NoRoom limit) old new counts count is = cc
+    (ap (λ (v : Refusal). timer_answer.Built seq id moved_on (issued.Refused v)) (failed_why w count is))).1
+beat_counts (timer_answer.Built seq id moved_on issued.Full) old new counts count is = cc
+beat_counts (timer_answer.Built seq id moved_on issued.Partial) old new counts count is = cc
+beat_counts (timer_answer.Built seq id moved_on issued.Silent) old new counts count is = cc
+beat_counts timer_answer.Nothing old new counts count is = cc
+beat_counts timer_answer.Closed old new counts count is = cc
+beat_counts timer_answer.Updated old new counts count is = cc
+beat_counts (timer_answer.Switched seq id) old new counts count is = cc
+beat_counts (timer_answer.NoRoom limit) old new counts count is = cc

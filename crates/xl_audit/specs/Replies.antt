@@ -2,10 +2,10 @@
 use Rattle.std.specs.Prelude.{ℕ, Bool, List, [], ◌∷◌, ◌++◌, length, decimal, codes, if◌then◌else◌}
 use Rattle.std.specs.List.{flat_map}
 use Rattle.hex.specs.Hex.{encode_lower}
-use Rattle.xl_core.specs.declared.beat.Beat.{Beat}
-use Rattle.xl_core.specs.declared.beat.Beat.TheVariants as beat
-use Rattle.xl_core.specs.declared.beat.Issued.{Issued}
-use Rattle.xl_core.specs.declared.beat.Issued.TheVariants as issued
+use Rattle.xl_core.specs.declared.timer_answer.TimerAnswer.{TimerAnswer}
+use Rattle.xl_core.specs.declared.timer_answer.TimerAnswer.TheVariants as timer_answer
+use Rattle.xl_core.specs.declared.timer_answer.Issued.{Issued}
+use Rattle.xl_core.specs.declared.timer_answer.Issued.TheVariants as issued
 use Rattle.xl_core.specs.declared.refusal.Refusal.{Refusal}
 use Rattle.xl_core.specs.declared.report.Report.{Report}
 use Rattle.xl_core.specs.declared.taken.Taken.{Taken}
@@ -20,7 +20,7 @@ refusal_text why = codes "refused " ++ decimal (code_of why) ++ space ++ values_
 
 -- what was taken of a frame
 abbrev pub taken_text : Taken → List ℕ
-taken_text taken.Vote = codes "vote"
+taken_text taken.Validation = codes "vote"
 taken_text (taken.Header id) = codes "header " ++ encode_lower id.0
 taken_text taken.Position = codes "position"
 taken_text taken.Later = codes "later"
@@ -40,13 +40,13 @@ unfoldable pub moved_text : Bool → List ℕ
 moved_text moved_on = if moved_on then codes " moved " else codes " agreed "
 
 -- what came of a timer
-abbrev pub beat_text : Beat → List ℕ
-beat_text beat.Nothing = codes "nothing"
-beat_text beat.Closed = codes "closed"
-beat_text beat.Updated = codes "updated"
-beat_text (beat.Switched seq id) = codes "switched " ++ decimal seq ++ space ++ encode_lower id.0
-beat_text (beat.NoRoom limit) = codes "noroom " ++ decimal limit
-beat_text (beat.Built seq id moved_on how) =
+abbrev pub beat_text : TimerAnswer → List ℕ
+beat_text timer_answer.Nothing = codes "nothing"
+beat_text timer_answer.Closed = codes "closed"
+beat_text timer_answer.Updated = codes "updated"
+beat_text (timer_answer.Switched seq id) = codes "switched " ++ decimal seq ++ space ++ encode_lower id.0
+beat_text (timer_answer.NoRoom limit) = codes "noroom " ++ decimal limit
+beat_text (timer_answer.Built seq id moved_on how) =
     codes "built " ++ decimal seq ++ space ++ encode_lower id.0 ++ moved_text moved_on ++ issued_text how
 
 -- bytes as lower-case digits, or `-` for none

@@ -2,6 +2,7 @@
 use Rattle.std.specs.Prelude.{◌≡◌, ◌<◌, ◌≤◌, ◌^◌, ℕ, List, length, IfSome, Some, None}
 use Rattle.std.specs.declared.option.Option.{Option}
 use Rattle.hex.specs.Hex.{IsBytes}
+use Rattle.xl_base.specs.Ids.{IsId}
 use Rattle.xl_lists.specs.Lists.{IsValid}
 use Rattle.xl_tags.specs.Rings.{Ring, IsRing, key_of}
 use Rattle.xl_core.specs.declared.event.CoreEvent.{CoreEvent}
@@ -10,10 +11,6 @@ use Rattle.xl_core.specs.declared.settings.Settings.{Settings}
 use Rattle.xl_store.specs.declared.entry.Entry.{Entry}
 use Rattle.xl_store.specs.declared.entry.Saved.{Saved}
 use Rattle.xl_store.specs.declared.entry.Saved.TheVariants as saved
-
--- an id is 32 bytes
-abbrev pub IsId : List ℕ → Type 0
-IsId id = (length id ≡ 32) × IsBytes id
 
 -- a member's number
 abbrev pub IsMember : ℕ → Type 0

@@ -9,7 +9,8 @@ ghost use Rattle.xl_core.specs.Core.{core_asks};
 ghost use Rattle.xl_store.specs.Entries.{IsAllowed, IsOutcome, reply_of};
 ghost use Rattle.xl_audit.specs.Laws.{written_with};
 ghost use Rattle.xl_audit.specs.Rights.{reply_to};
-ghost use Rattle.xl_audit.specs.Stored.{AreStored, HasIds, IsId, IsMember, IsStored, IsStoredEvent, IsStoredOutcome};
+ghost use Rattle.xl_base.specs.Ids.{IsId};
+ghost use Rattle.xl_audit.specs.Stored.{AreStored, HasIds, IsMember, IsStored, IsStoredEvent, IsStoredOutcome};
 ghost use Rattle.xl_audit.specs.Journals.{entry_line, event_text, head_text, key_lines, key_text, kind_text, list_text, members_text, opening_text, other_text, outcome_text, settings_line, validating_text};
 
 use crate::Auditor;

@@ -3,7 +3,7 @@ ghost use Rattle.std.specs.Prelude.{◌≡◌, ◌++◌, OnOk};
 ghost use Rattle.std.specs.String.{string_bytes};
 ghost use Rattle.xl_core.specs.Answers.{Beats, Handed, Told};
 ghost use Rattle.hex.specs.Hex.{IsBytes, encode_lower};
-ghost use Rattle.xl_core.specs.declared.beat.Beat.TheVariants.{Built, Switched};
+ghost use Rattle.xl_core.specs.declared.timer_answer.TimerAnswer.TheVariants.{Built, Switched};
 ghost use Rattle.xl_core.specs.Replies.{taken_answer, done_answer};
 ghost use Rattle.xl_audit.specs.Replies.{beat_text, bytes_text, issued_text, moved_text, refusal_text, reply_text, report_text, taken_text, told_text};
 
@@ -11,7 +11,7 @@ use crate::values::{push_digits, push_id, push_values};
 use std::alloc::Global;
 use std::fmt::Write;
 use xl_base::{LedgerId, OutOfMemory, Seq};
-use xl_core::{Beat, Issued, Refusal, Report, Taken};
+use xl_core::{Issued, Refusal, Report, Taken, TimerAnswer};
 
 fn push_refusal(alloc: Global, text: &mut String, why: &Refusal) -> Result<(), OutOfMemory>
     ensures { OnOk result (string_bytes text.new ≡ string_bytes text.old ++ refusal_text why.now) }
@@ -46,7 +46,7 @@ fn push_taken(alloc: Global, text: &mut String, taken: &Taken) -> Result<(), Out
     ensures { OnOk result (string_bytes text.new ≡ string_bytes text.old ++ taken_text taken.now) }
 {
     match taken {
-        Taken::Vote => push_word(text, "vote"),
+        Taken::Validation => push_word(text, "vote"),
         Taken::Header(id) => push_of_id(alloc, text, "header ", &id.0),
         Taken::Position => push_word(text, "position"),
         Taken::Later => push_word(text, "later"),
@@ -139,19 +139,19 @@ fn push_switched(
 }
 
 /// The reply to a timer.
-pub fn push_beat(alloc: Global, text: &mut String, beat: &Beat) -> Result<(), OutOfMemory>
+pub fn push_beat(alloc: Global, text: &mut String, beat: &TimerAnswer) -> Result<(), OutOfMemory>
     ensures { OnOk result (string_bytes text.new ≡ string_bytes text.old ++ reply_text (Beats beat.now)) }
 {
     match beat {
-        Beat::Nothing => push_word(text, "nothing"),
-        Beat::Closed => push_word(text, "closed"),
-        Beat::Updated => push_word(text, "updated"),
-        Beat::Switched(seq, id) => push_switched(alloc, text, *seq, id),
-        Beat::NoRoom(limit) => {
+        TimerAnswer::Nothing => push_word(text, "nothing"),
+        TimerAnswer::Closed => push_word(text, "closed"),
+        TimerAnswer::Updated => push_word(text, "updated"),
+        TimerAnswer::Switched(seq, id) => push_switched(alloc, text, *seq, id),
+        TimerAnswer::NoRoom(limit) => {
             write!(text, "noroom {limit}")?;
             Ok(())
         }
-        Beat::Built {
+        TimerAnswer::Built {
             seq,
             id,
             moved_on,

@@ -22,7 +22,7 @@ use crate::replies::{
 use crate::saving::EntryKeeper;
 use std::alloc::Global;
 use xl_base::{LedgerId, Millis, NodeNo, OutOfMemory, Seq, TxId};
-use xl_core::{Beat, Core, CoreEvent, Refusal, Report};
+use xl_core::{Core, CoreEvent, Refusal, Report, TimerAnswer};
 use xl_lists::List;
 use xl_trie::Trie;
 use xl_wire::LONGEST_FRAME;
@@ -59,7 +59,7 @@ fn issue(
 }
 
 /// It has its timer.
-fn timer(core: &mut AuditedCore, now: Millis, keeper: &mut EntryKeeper) -> Beat
+fn timer(core: &mut AuditedCore, now: Millis, keeper: &mut EntryKeeper) -> TimerAnswer
     requires moment { now ≤ greatest_millis }
     requires fresh { IsFresh keeper.old }
     ensures { Retells core.old (Timer now) keeper.old.answer core.new (Beats result) keeper.new.asked }

@@ -2,7 +2,7 @@
 ghost use Rattle.std.specs.Prelude.{◌≡◌, ◌++◌, decimal, OnOk};
 ghost use Rattle.std.specs.String.{string_bytes};
 ghost use Rattle.hex.specs.Hex.{IsBytes, encode_lower};
-ghost use Rattle.xl_audit.specs.Stored.{IsId};
+ghost use Rattle.xl_base.specs.Ids.{IsId};
 ghost use Rattle.xl_audit.specs.Values.{frame_values, tag_values, header_values, values_text};
 
 use std::alloc::Global;

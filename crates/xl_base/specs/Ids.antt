@@ -1,8 +1,13 @@
--- Ids of ledgers. Source: rippled, which compares them byte for byte.
-use Rattle.std.specs.Prelude.{ℕ, Bool, List, [], ◌∷◌, drop}
+-- Ids of ledgers, sets and transactions. Source: rippled, which compares them byte for byte.
+use Rattle.std.specs.Prelude.{◌≡◌, ℕ, Bool, List, [], ◌∷◌, drop, length}
+use Rattle.hex.specs.Hex.{IsBytes}
 use Rattle.byteorder.specs.Endian.{big_number}
 use Rattle.std.specs.Str.{bytes_eq}
 use Rattle.xl_base.specs.declared.ids.LedgerId.{LedgerId}
+
+-- an id is 32 bytes
+abbrev pub IsId : List ℕ → Type 0
+IsId id = (length id ≡ 32) × IsBytes id
 
 -- whether two ids have the same bytes
 abbrev pub same_id : LedgerId → LedgerId → Bool

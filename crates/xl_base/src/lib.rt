@@ -9,7 +9,7 @@
 mod bytes;
 mod hash;
 mod ids;
-mod law;
+mod laws;
 mod memory;
 mod moments;
 mod node_no;
@@ -23,7 +23,7 @@ mod tx_ids;
 pub use bytes::Bytes;
 pub use hash::half512;
 pub use ids::{LedgerId, SetId, TxId};
-pub use law::constants_are_as_defined;
+pub use laws::law_of_constants;
 pub use memory::OutOfMemory;
 pub use moments::{FUTURE_SECS, GREATEST_MILLIS, Millis, PAST_SECS, Secs, Seq, secs_of};
 pub use node_no::{GREATEST_NODE_NO, MOST_MEMBERS, NodeNo};

@@ -1,4 +1,5 @@
 ghost use Rattle.std.specs.Prelude.{◌≡◌, ◌+◌, ◌≤◌, length, map, take, if◌then◌else◌};
+ghost use Rattle.xl_base.specs.Members.{most_members};
 ghost use Rattle.xl_closetime.specs.Choices.{
   needed as needed_of,
   occurrences as occurrences_of,
@@ -58,7 +59,7 @@ pub fn needed(p: u32, pct: u32) -> u32
 /// in rising order, the choice is the last that occurs at least as often as `pct` percent of all need and at least as
 /// often as every time chosen before it. It is agreed on if it occurs as often as 75 percent of all need.
 pub fn choose_close(times: &[Secs], own: Secs, proposing: bool, pct: u32, r: u8) -> Choice
-    requires positions { length times.now ≤ MOST_MEMBERS }
+    requires positions { length times.now ≤ most_members }
     requires percent { pct ≤ 100 }
     requires resolution { IsResolution r }
     ensures { result ≡ choose_close_of times.now own proposing pct r }
@@ -93,7 +94,7 @@ fn round_all(times: &[Secs], r: u8, room: &mut [Secs]) -> usize
 
 /// The choice among the counted times.
 fn choice_among(times: &[Secs], pct: u32) -> Choice
-    requires times { length times.now ≤ MOST_MEMBERS + 1 }
+    requires times { length times.now ≤ most_members + 1 }
     requires percent { pct ≤ 100 }
     ensures { result ≡ choice_among_of times.now pct }
 {
@@ -113,7 +114,7 @@ fn choice_among(times: &[Secs], pct: u32) -> Choice
 
 /// The time that occurs most often, the last of those on a tie.
 fn most_frequent(times: &[Secs]) -> Frequent
-    requires { length times.now ≤ MOST_MEMBERS + 1 }
+    requires { length times.now ≤ most_members + 1 }
     ensures { IsMostFrequent times.now times.now result }
 {
     let mut most = Frequent { time: 0, count: 0 };
@@ -125,7 +126,7 @@ fn most_frequent(times: &[Secs]) -> Frequent
 }
 
 fn occurrences(times: &[Secs], time: Secs) -> u32
-    requires { length times.now ≤ MOST_MEMBERS + 1 }
+    requires { length times.now ≤ most_members + 1 }
     ensures { result ≡ occurrences_of times.now time }
 {
     times.iter().filter(|&&t| t == time).count() as u32

@@ -17,14 +17,14 @@ use Rattle.xl_core.specs.Answers.{handed_in}
 use Rattle.xl_core.specs.Core.{Core, core_happens, with_queues}
 use Rattle.xl_core.specs.CoreLives.{CoreHappening, core_after, arisen_over, handed_over, ReportsAreHandedOut, NoneIsLost}
 use Rattle.xl_core.specs.Node as nodes
-use Rattle.xl_core.specs.Node.{Node, Event, Reply, Save, happens, completed, issues_unless, refusing, at_moment, own_validation, opened}
+use Rattle.xl_core.specs.Node.{Node, Event, Reply, Save, happens, timer_reply, issued_unless_off, refusing, at_moment, own_validation, opened}
 use Rattle.xl_core.specs.Node.Save.{Kept, Failed}
 use Rattle.xl_core.specs.Queues.{with_report, without}
 use Rattle.xl_core.proofs.Stopping.{heard_keeps}
 
 -- AN EVENT AT THE NODE
 
-unless_hands : (n : Node) (failed : Option ℕ) (save : Save) (v : Validation) → handed_in (issues_unless n failed save v).answer ≡ []
+unless_hands : (n : Node) (failed : Option ℕ) (save : Save) (v : Validation) → handed_in (issued_unless_off n failed save v).answer ≡ []
 unless_hands n None Kept v = refl
 unless_hands n None (Failed count) v = refl
 unless_hands n (Some failed) save v = refl
@@ -33,10 +33,10 @@ unless_hands n (Some failed) save v = refl
 pub happens_hands : (n : Node) (e : Event) (save : Save) → handed_in (happens n e save).answer ≡ []
 happens_hands n (nodes.Issue now seq id full) save =
     let m : Node = at_moment now n in
-    cond_both (nat_lt m.kept seq) (issues_unless m m.failed_save save (own_validation m seq id full)) (refusing m (NotAfter m.kept)) (λ r. handed_in r.answer ≡ [])
+    cond_both (nat_lt m.kept seq) (issued_unless_off m m.failed_save save (own_validation m seq id full)) (refusing m (NotAfter m.kept)) (λ r. handed_in r.answer ≡ [])
     (λ _. unless_hands m m.failed_save save (own_validation m seq id full)) (λ _. refl)
 happens_hands n (nodes.Frame now bytes) save = (heard_keeps n now bytes).handed
-happens_hands n (nodes.Timer now) save = timing_by (λ t. handed_in (completed t save).answer ≡ []) (at_moment now n) (λ r beat said. refl) (λ ledgers r said h place moved_on _. refl)
+happens_hands n (nodes.Timer now) save = timing_by (λ t. handed_in (timer_reply t save).answer ≡ []) (at_moment now n) (λ r told said. refl) (λ ledgers r said h place moved_on _. refl)
 happens_hands n (nodes.Submit now tx) save = submit_either (λ r. handed_in r.answer ≡ []) (at_moment now n) tx (λ _. refl) refl
 happens_hands n (nodes.Relist now list) save = relist_either (λ r. handed_in r.answer ≡ []) (at_moment now n) list (λ _. refl) (λ _. refl)
 

@@ -13,13 +13,13 @@ use Rattle.xl_core.specs.declared.report.Report.{Report}
 use Rattle.xl_core.specs.Lasts.{later}
 use Rattle.xl_core.specs.declared.refusal.Refusal.{Refusal}
 use Rattle.xl_core.specs.Answers.{Took, Done}
-use Rattle.xl_core.specs.declared.taken.Taken.TheVariants.{Vote}
-use Rattle.xl_core.specs.Node.{Node, Reply, hears, taking, refusing_or, reporting, with_taken, take, arisen, arisen_in, arises_in, report_of, refusal_at, second_of}
+use Rattle.xl_core.specs.declared.taken.Taken.TheVariants.{Validation as TakenValidation}
+use Rattle.xl_core.specs.Node.{Node, Reply, speech_reply, taken_reply, reply_unless, reporting, with_taken, take, arisen, arisen_in, arises_in, report_of, refusal_at, second_of}
 use Rattle.xl_core.specs.Node.{report_if}
 use Rattle.xl_core.specs.declared.hearing.Speech.TheVariants as speech
 use Rattle.xl_core.specs.Refusals.{refusal_from}
 use Rattle.xl_core.specs.Rest.{IsAtRest, NothingArises}
-use Rattle.xl_core.specs.Replies.{vote_reply}
+use Rattle.xl_core.specs.Replies.{validation_reply}
 use Rattle.xl_core.proofs.Members.{row_if_on, members_stay, nobody_changes, refused_stays, taken_changes}
 use Rattle.xl_core.proofs.Arising.{arisen_by, rest_reported, nothing_arisen}
 
@@ -60,15 +60,15 @@ rest_when_taken n from v rows report last rest has is_rows is_report is_last =
 
 pub answer_when_taken : (n : Node) (from : ℕ) (v : Validation) (rows : List Row) (report : Option Report) (last : LastReport) → IsAtRest n → is_on n.list.members from ≡ true →
     None ≡ refusal_of n.rows from (second_of n) v → rows ≡ at_member from (with_validation v) n.rows → report ≡ report_if (arises_in n.list.quorum rows n.last v) v → last ≡ later n.last report →
-    vote_reply (Ok report) (record n { rows = rows; last = last }) ≡ hears n from (speech.Validation v)
+    validation_reply (Ok report) (record n { rows = rows; last = last }) ≡ speech_reply n from (speech.Validation v)
 answer_when_taken n from v rows report last rest on unrefused is_rows is_report is_last =
     let arises_so : arisen (record n { rows = rows }) ≡ report = arisen_then n from v rows rest (has_row n from rest on) is_rows ∙ sym is_report in
-    let with_last = λ (l : LastReport). let r : Reply = vote_reply (Ok report) (record n { rows = rows; last = l }) in r in
-    let with_report = λ (rp : Option Report). let r : Reply = vote_reply (Ok rp) (record n { rows = rows; last = later n.last rp }) in r in
+    let with_last = λ (l : LastReport). let r : Reply = validation_reply (Ok report) (record n { rows = rows; last = l }) in r in
+    let with_report = λ (rp : Option Report). let r : Reply = validation_reply (Ok rp) (record n { rows = rows; last = later n.last rp }) in r in
     ap with_last is_last
     ∙ ap with_report (sym arises_so)
-    ∙ ap (λ rs. reporting (record n { rows = rs }) (Took Vote) None) (is_rows ∙ sym (taken_changes from (second_of n) v n.rows (sym unrefused)))
-    ∙ ap (λ (o : Option ValRefusal). refusing_or n (option_map refusal_from o) (taking n from (speech.Validation v))) unrefused
+    ∙ ap (λ rs. reporting (record n { rows = rs }) (Took TakenValidation) None) (is_rows ∙ sym (taken_changes from (second_of n) v n.rows (sym unrefused)))
+    ∙ ap (λ (o : Option ValRefusal). reply_unless n (option_map refusal_from o) (taken_reply n from (speech.Validation v))) unrefused
 
 -- WHERE NO ROW CHANGES
 
@@ -78,22 +78,22 @@ stays n rows issued rest same =
     λ rs e. subst (λ x. None ≡ arisen (record n { rows = x })) (sym e) (sym (nothing_arisen n.list.quorum n.rows n.last rest.reported (filter_map (λ row. row.current) n.rows))) in
     (ap (λ rs. let m : Node = record n { rows = rs } in m) (sym same) ∙ ap (λ o. let m : Node = record n { rows = rows; last = later n.last o } in m) (none rows same), none rows same)
 
-vote_node : (r : Result (Option Report) Refusal) (m : Node) → (vote_reply r m).node ≡ m
+vote_node : (r : Result (Option Report) Refusal) (m : Node) → (validation_reply r m).node ≡ m
 vote_node (Ok report) m = refl
 vote_node (Err why) m = refl
 
-vote_report : (r : Result (Option Report) Refusal) (m : Node) → (vote_reply r m).report ≡ result_unwrap_or r None
+vote_report : (r : Result (Option Report) Refusal) (m : Node) → (validation_reply r m).report ≡ result_unwrap_or r None
 vote_report (Ok report) m = refl
 vote_report (Err why) m = refl
 
 -- the node is the same if the row refuses
 heard_own : (n : Node) (from : ℕ) (v : Validation) (o : Option ValRefusal) → IsAtRest n → refusal_at n (second_of n) from v ≡ o →
-    let reply = refusing_or n (option_map refusal_from o) (taking n from (speech.Validation v)) in
+    let reply = reply_unless n (option_map refusal_from o) (taken_reply n from (speech.Validation v)) in
     (reply.node ≡ (reporting (with_taken n (second_of n) from v) Done (Some v)).node) × (reply.report ≡ arisen (with_taken n (second_of n) from v))
 heard_own n from v None rest is = (refl, refl)
 heard_own n from v (Some why) rest is = stays n (at_member from (take (second_of n) v) n.rows) (Some v) rest (refused_stays from (second_of n) v why n.rows is)
 
-pub own_taken : (n : Node) (from : ℕ) (v : Validation) (r : Result (Option Report) Refusal) (m : Node) → IsAtRest n → vote_reply r m ≡ hears n from (speech.Validation v) →
+pub own_taken : (n : Node) (from : ℕ) (v : Validation) (r : Result (Option Report) Refusal) (m : Node) → IsAtRest n → validation_reply r m ≡ speech_reply n from (speech.Validation v) →
     (m ≡ (reporting (with_taken n (second_of n) from v) Done (Some v)).node) × (result_unwrap_or r None ≡ arisen (with_taken n (second_of n) from v))
 own_taken n from v r m rest is =
     let heard = heard_own n from v (refusal_at n (second_of n) from v) rest refl in

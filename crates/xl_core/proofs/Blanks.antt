@@ -23,7 +23,7 @@ use Rattle.xl_core.specs.Replies.{Drains, DrainsBlank, core_for}
 use Rattle.xl_core.specs.Sending.{blank_frame, blanked, has_spelling, keys_for, sealed_bytes}
 use Rattle.xl_core.specs.declared.greeting.Greeting.{Greeting}
 use Rattle.xl_core.specs.declared.item.Item.{Item}
-use Rattle.xl_core.specs.declared.item.Item.TheVariants.{Vote, Tx, TxSet, Proposal, Header}
+use Rattle.xl_core.specs.declared.item.Item.TheVariants.{Validation as ValidationItem, Tx, TxSet, Proposal, Header}
 use Rattle.xl_core.specs.declared.sending.TagPlace.TheVariants.{Blank}
 use Rattle.xl_core.proofs.Spelling.{sealed_raw}
 
@@ -78,7 +78,7 @@ blank_said n to None = tt
 blank_said n to (Some body) = blank_framed n to body
 
 blank_item : (n : Node) (to : ℕ) (item : Item) → IsBlanked (frame_of n to item) (frame_of (node_for Blank n) to item)
-blank_item n to (Vote v) = blank_said n to (body_in n (Vote v))
+blank_item n to (ValidationItem v) = blank_said n to (body_in n (ValidationItem v))
 blank_item n to (Tx tx) = blank_said n to (body_in n (Tx tx))
 blank_item n to (TxSet id) = blank_said n to (body_in n (TxSet id))
 blank_item n to (Proposal p) = blank_said n to (body_in n (Proposal p))

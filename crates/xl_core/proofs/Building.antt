@@ -14,7 +14,7 @@ use Rattle.xl_validations.proofs.Naming.{found}
 use Rattle.xl_validations.proofs.Knowing.{place_added}
 use Rattle.xl_core.specs.Building.{Knowing, knowing, knowing_at}
 use Rattle.xl_core.specs.Node.{Node, built}
-use Rattle.xl_core.specs.Ticks.{IsKnown}
+use Rattle.xl_core.specs.TimerParts.{IsKnown}
 
 -- a header follows a known ledger
 pub record Follows (r : Ledgers) (previous : ℕ) (h : Header) : Type 0 where

@@ -8,35 +8,35 @@ use Rattle.xl_io.specs.Keepers.{Held, after_save}
 use Rattle.xl_ledger.specs.Headers.{header_id}
 use Rattle.xl_queues.specs.Broadcasts.{pushed_to_all}
 use Rattle.xl_queues.specs.Queues.{Backlog}
-use Rattle.xl_rounds.specs.declared.pulse.Said.{Said}
-use Rattle.xl_core.specs.declared.beat.Beat.{Beat}
-use Rattle.xl_core.specs.declared.beat.Beat.TheVariants.{Nothing, Closed, Updated, Switched, NoRoom, Built as BuiltBeat}
-use Rattle.xl_core.specs.declared.beat.Issued.{Issued}
-use Rattle.xl_core.specs.declared.beat.Issued.TheVariants as issued
+use Rattle.xl_rounds.specs.declared.heartbeat.Said.{Said}
+use Rattle.xl_core.specs.declared.timer_answer.TimerAnswer.{TimerAnswer}
+use Rattle.xl_core.specs.declared.timer_answer.TimerAnswer.TheVariants.{Nothing, Closed, Updated, Switched, NoRoom, Built as BuiltBeat}
+use Rattle.xl_core.specs.declared.timer_answer.Issued.{Issued}
+use Rattle.xl_core.specs.declared.timer_answer.Issued.TheVariants as issued
 use Rattle.xl_core.specs.declared.item.Item.{Item}
 use Rattle.xl_core.specs.declared.item.Item.TheVariants.{Header as HeaderItem, Tx as TxItem}
 use Rattle.xl_core.specs.declared.refusal.Refusal.{Refusal}
 use Rattle.xl_core.specs.declared.report.OwnValidation.{OwnValidation}
-use Rattle.xl_core.specs.declared.tick.Built.{Built}
-use Rattle.xl_core.specs.declared.tick.Tick.TheVariants as tick
+use Rattle.xl_core.specs.declared.timer_part.Built.{Built}
+use Rattle.xl_core.specs.declared.timer_part.TimerPart.TheVariants as timer_part
 use Rattle.xl_core.specs.Answers.{Beats, Done}
 use Rattle.xl_core.specs.Building.{said_items}
 use Rattle.xl_core.specs.Core.{Core, stepped}
 use Rattle.xl_core.specs.Keeping.{IsAsked}
-use Rattle.xl_core.specs.Node.{Node, Reply, Save, Timed, Submit, Quiet, completed, timed, ending, asks_of, happens, replying, refusing}
+use Rattle.xl_core.specs.Node.{Node, Reply, Save, TimerOutcome, Submit, Quiet, timer_reply, timer_outcome, built_reply, asks_of, happens, replying, refusing}
 use Rattle.xl_core.specs.Node.Save.{Kept}
 use Rattle.xl_core.specs.Queues.{with_items, with_report}
 use Rattle.xl_core.specs.Replies.{Answers, save_in}
 use Rattle.xl_core.specs.Stops.{IsCovered}
 use Rattle.xl_core.proofs.Stopping.{submit_covered}
-use Rattle.xl_core.specs.Ticks.{timed_by, concluded, validated_reply, save_as, Concludes, IsQuiet, CountsBeatFault}
+use Rattle.xl_core.specs.TimerParts.{outcome_by, concluding_reply, validated_reply, save_as, Concludes, IsQuiet, CountsBeatFault}
 
 -- NOTHING WAS BUILT
 
-pub quiet_step : (core : Core) (m n : Node) (beat : Beat) (said : Option Said) (waiting : List (Backlog Item)) (save : Save) → Quiet n beat said ≡ timed m → waiting ≡ with_items core.waiting (said_items said) →
-    Answers (stepped core (completed (timed m) save)) (record core { node = n; waiting = waiting }) (Beats beat)
-quiet_step core m n beat said waiting save is pushed =
-    subst (λ (t : Timed). Answers (stepped core (completed t save)) (record core { node = n; waiting = waiting }) (Beats beat)) is
+pub quiet_step : (core : Core) (m n : Node) (told : TimerAnswer) (said : Option Said) (waiting : List (Backlog Item)) (save : Save) → Quiet n told said ≡ timer_outcome m → waiting ≡ with_items core.waiting (said_items said) →
+    Answers (stepped core (timer_reply (timer_outcome m) save)) (record core { node = n; waiting = waiting }) (Beats told)
+quiet_step core m n told said waiting save is pushed =
+    subst (λ (t : TimerOutcome). Answers (stepped core (timer_reply t save)) (record core { node = n; waiting = waiting }) (Beats told)) is
     (record { core = ap (λ (ws : List (Backlog Item)). let c : Core = record core { node = n; waiting = ws } in c) pushed; answer = refl })
 
 same_held : (kept : Bool) (o : Option Held) → o ≡ option_map (λ held. after_save held None kept) o
@@ -48,12 +48,12 @@ pub unasked : {K : Type 0} (held_by : K → Option Held) (saves_of : K → Optio
     IsAsked held_by saves_of faults_of gives None kept keeper keeper
 unasked held_by saves_of faults_of gives kept keeper = record { held = same_held kept (held_by keeper); saves = refl; keeper = refl; later = omega arith }
 
-pub quiet_asks : {K : Type 0} (held_by : K → Option Held) (saves_of : K → Option (List ℕ)) (faults_of : K → ℕ) (gives : K → ℕ → Bool → K → Type 0) (kept : Bool) (keeper : K) (m n : Node) (beat : Beat) (said : Option Said) →
-    Quiet n beat said ≡ timed m → IsAsked held_by saves_of faults_of gives (asks_of (timed m)) kept keeper keeper
-quiet_asks held_by saves_of faults_of gives kept keeper m n beat said is =
-    subst (λ (t : Timed). IsAsked held_by saves_of faults_of gives (asks_of t) kept keeper keeper) is (unasked held_by saves_of faults_of gives kept keeper)
+pub quiet_asks : {K : Type 0} (held_by : K → Option Held) (saves_of : K → Option (List ℕ)) (faults_of : K → ℕ) (gives : K → ℕ → Bool → K → Type 0) (kept : Bool) (keeper : K) (m n : Node) (told : TimerAnswer) (said : Option Said) →
+    Quiet n told said ≡ timer_outcome m → IsAsked held_by saves_of faults_of gives (asks_of (timer_outcome m)) kept keeper keeper
+quiet_asks held_by saves_of faults_of gives kept keeper m n told said is =
+    subst (λ (t : TimerOutcome). IsAsked held_by saves_of faults_of gives (asks_of t) kept keeper keeper) is (unasked held_by saves_of faults_of gives kept keeper)
 
-pub quiet_fault : (told : Beat) (n : ℕ) → IsQuiet told → CountsBeatFault told n n
+pub quiet_fault : (told : TimerAnswer) (n : ℕ) → IsQuiet told → CountsBeatFault told n n
 quiet_fault Nothing n quiet = λ seq id moved_on count e. cc
 quiet_fault Closed n quiet = λ seq id moved_on count e. cc
 quiet_fault Updated n quiet = λ seq id moved_on count e. cc
@@ -80,23 +80,23 @@ abbrev pub core_then : Core → Built → Reply → Core
 core_then core b r = record { node = r.node; waiting = with_items core.waiting (said_items b.said ++ HeaderItem b.id ∷ r.items); greetings = core.greetings; untaken = with_report core.untaken r.report; stopped = core.stopped }
 
 told_ending : (core : Core) (b : Built) (n : Node) (o : Result (Option OwnValidation) Refusal) →
-    Answers (stepped core (ending (said_items b.said) b.header b.moved_on (validated_reply o n))) (core_then core (record b { id = header_id b.header }) (validated_reply o n)) (Beats (BuiltBeat b.header.seq (header_id b.header) b.moved_on (how_validated o)))
+    Answers (stepped core (built_reply (said_items b.said) b.header b.moved_on (validated_reply o n))) (core_then core (record b { id = header_id b.header }) (validated_reply o n)) (Beats (BuiltBeat b.header.seq (header_id b.header) b.moved_on (how_validated o)))
 told_ending core b n (Ok None) = record { core = refl; answer = refl }
 told_ending core b n (Ok (Some own)) = record { core = refl; answer = refl }
 told_ending core b n (Err why) = record { core = refl; answer = refl }
 
-pub conclude_step : (core : Core) (b : Built) (n : Node) (o : Result (Option OwnValidation) Refusal) → b.id ≡ header_id b.header → validated_reply o n ≡ concluded core.node b (save_in o) →
+pub conclude_step : (core : Core) (b : Built) (n : Node) (o : Result (Option OwnValidation) Refusal) → b.id ≡ header_id b.header → validated_reply o n ≡ concluding_reply core.node b (save_in o) →
     Concludes core b (BuiltBeat b.header.seq b.id b.moved_on (how_validated o)) (core_then core b (validated_reply o n))
 conclude_step core b n o id is =
-    subst (λ (s : Save). Answers (stepped core (completed (timed_by (tick.Built b) core.node) s)) (core_then core b (validated_reply o n)) (Beats (BuiltBeat b.header.seq b.id b.moved_on (how_validated o)))) (same_save o)
-    (subst (λ (r : Reply). Answers (stepped core (ending (said_items b.said) b.header b.moved_on r)) (core_then core b (validated_reply o n)) (Beats (BuiltBeat b.header.seq b.id b.moved_on (how_validated o)))) is
-    (subst (λ (i : LedgerId). Answers (stepped core (ending (said_items b.said) b.header b.moved_on (validated_reply o n))) (core_then core (record b { id = i }) (validated_reply o n)) (Beats (BuiltBeat b.header.seq i b.moved_on (how_validated o)))) (sym id)
+    subst (λ (s : Save). Answers (stepped core (timer_reply (outcome_by (timer_part.Built b) core.node) s)) (core_then core b (validated_reply o n)) (Beats (BuiltBeat b.header.seq b.id b.moved_on (how_validated o)))) (same_save o)
+    (subst (λ (r : Reply). Answers (stepped core (built_reply (said_items b.said) b.header b.moved_on r)) (core_then core b (validated_reply o n)) (Beats (BuiltBeat b.header.seq b.id b.moved_on (how_validated o)))) is
+    (subst (λ (i : LedgerId). Answers (stepped core (built_reply (said_items b.said) b.header b.moved_on (validated_reply o n))) (core_then core (record b { id = i }) (validated_reply o n)) (Beats (BuiltBeat b.header.seq i b.moved_on (how_validated o)))) (sym id)
     (told_ending core b n o)))
 
 -- so the timer's step
-pub built_step : (core : Core) (m n : Node) (b : Built) (told : Beat) (after : Core) (save : Save) → timed_by (tick.Built b) n ≡ timed m →
-    Answers (stepped (record core { node = n }) (completed (timed_by (tick.Built b) n) save)) after (Beats told) → Answers (stepped core (completed (timed m) save)) after (Beats told)
-built_step core m n b told after save is done = subst (λ (t : Timed). Answers (stepped core (completed t save)) after (Beats told)) is done
+pub built_step : (core : Core) (m n : Node) (b : Built) (told : TimerAnswer) (after : Core) (save : Save) → outcome_by (timer_part.Built b) n ≡ timer_outcome m →
+    Answers (stepped (record core { node = n }) (timer_reply (outcome_by (timer_part.Built b) n) save)) after (Beats told) → Answers (stepped core (timer_reply (timer_outcome m) save)) after (Beats told)
+built_step core m n b told after save is done = subst (λ (t : TimerOutcome). Answers (stepped core (timer_reply t save)) after (Beats told)) is done
 
 -- A TRANSACTION WAS HANDED IN
 
@@ -110,5 +110,5 @@ pub refused_covered : (held : Held) (core : Core) (now : ℕ) (tx : TxId) (n : N
 refused_covered held core now tx n why is was = subst (λ (r : Reply). IsCovered held (stepped core r).core) (sym is) (submit_covered held core now tx Kept was)
 
 pub built_asks : {K : Type 0} (held_by : K → Option Held) (saves_of : K → Option (List ℕ)) (faults_of : K → ℕ) (gives : K → ℕ → Bool → K → Type 0) (kept : Bool) (old new : K) (m n : Node) (b : Built) →
-    timed_by (tick.Built b) n ≡ timed m → IsAsked held_by saves_of faults_of gives (asks_of (timed_by (tick.Built b) n)) kept old new → IsAsked held_by saves_of faults_of gives (asks_of (timed m)) kept old new
-built_asks held_by saves_of faults_of gives kept old new m n b is asked = subst (λ (t : Timed). IsAsked held_by saves_of faults_of gives (asks_of t) kept old new) is asked
+    outcome_by (timer_part.Built b) n ≡ timer_outcome m → IsAsked held_by saves_of faults_of gives (asks_of (outcome_by (timer_part.Built b) n)) kept old new → IsAsked held_by saves_of faults_of gives (asks_of (timer_outcome m)) kept old new
+built_asks held_by saves_of faults_of gives kept old new m n b is asked = subst (λ (t : TimerOutcome). IsAsked held_by saves_of faults_of gives (asks_of t) kept old new) is asked

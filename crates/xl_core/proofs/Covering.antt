@@ -32,15 +32,15 @@ use Rattle.xl_core.specs.declared.event.CoreEvent.{CoreEvent}
 use Rattle.xl_core.specs.declared.event.CoreEvent.TheVariants.{Issue, Frame, Timer, Submit, Greet, Drain, Reports, Stop, Stopped, Relist}
 use Rattle.xl_core.specs.declared.hearing.Spoken.{Spoken}
 use Rattle.xl_core.specs.declared.item.Item.{Item}
-use Rattle.xl_core.specs.declared.item.Item.TheVariants.{Vote, Tx, TxSet, Proposal, Header as HeaderItem}
+use Rattle.xl_core.specs.declared.item.Item.TheVariants.{Validation as ValidationItem, Tx, TxSet, Proposal, Header as HeaderItem}
 use Rattle.xl_core.specs.declared.refusal.Refusal.TheVariants.{NotAfter}
 use Rattle.xl_core.specs.Answers.{given_in}
 use Rattle.xl_core.specs.Core.{Core, core_happens, core_asks, with_queues}
 use Rattle.xl_core.specs.CoreLives.{CoreHappening, core_after, held_after, given_over, validation_of, validation_split, validation_in, IsFrameCovered, SaidIsSaved}
-use Rattle.xl_core.specs.Hearing.{heard}
+use Rattle.xl_core.specs.Hearing.{spoken_in}
 use Rattle.xl_core.specs.Items.{is_own, body_in, framed, frame_of, header_body_at}
 use Rattle.xl_core.specs.Node as nodes
-use Rattle.xl_core.specs.Node.{Node, Save, is_kept, issues, issues_unless, issuing, replying, completed, timed, validates, refusing, at_moment, second_of, own_validation, happens, opened}
+use Rattle.xl_core.specs.Node.{Node, Save, is_kept, issued_reply, issued_unless_off, issuing_reply, replying, timer_reply, timer_outcome, validates, refusing, at_moment, second_of, own_validation, happens, opened}
 use Rattle.xl_core.specs.Node.Save.{Kept, Failed}
 use Rattle.xl_core.specs.Queues.{waiting_at, frames_in}
 use Rattle.xl_core.specs.Sending.{blank_frame, sealed_bytes, has_spelling}
@@ -86,7 +86,7 @@ body_covered kept from to ring (bodies.TxSet ids) h covered =
 body_covered kept from to ring (bodies.Tx id) h covered = subst (λ s. IfSome (validation_split s) (λ u. u.seq ≤ kept)) (sym (sealed_split ring from to (bodies.Tx id) h)) tt
 
 item_body : (kept : ℕ) (n : Node) (item : Item) → IsItemCovered kept item → IfSome (body_in n item) (IsBodyCovered kept)
-item_body kept n (Vote v) covered = covered
+item_body kept n (ValidationItem v) covered = covered
 item_body kept n (Tx tx) covered = tt
 item_body kept n (TxSet id) covered = cond_both (is_own n id) (Some (bodies.TxSet n.round.positions.own)) None (λ o. IfSome o (IsBodyCovered kept)) (λ _. tt) (λ _. tt)
 item_body kept n (Proposal p) covered = tt
@@ -123,28 +123,28 @@ drain_gives kept core member room save covered =
 
 -- THE KEPT NUMBER NEVER FALLS
 
-issued_rises : (n : Node) (off : Option ℕ) (save : Save) (v : Validation) → n.kept ≤ v.seq → n.kept ≤ (issues_unless n off save v).node.kept
+issued_rises : (n : Node) (off : Option ℕ) (save : Save) (v : Validation) → n.kept ≤ v.seq → n.kept ≤ (issued_unless_off n off save v).node.kept
 issued_rises n None Kept v le = le
 issued_rises n None (Failed count) v le = omega arith
 issued_rises n (Some failed) save v le = omega arith
 
-issuing_rises : (n : Node) (seq : ℕ) (id : LedgerId) (full : Bool) (save : Save) → n.kept ≤ (issuing n seq id full save).node.kept
+issuing_rises : (n : Node) (seq : ℕ) (id : LedgerId) (full : Bool) (save : Save) → n.kept ≤ (issuing_reply n seq id full save).node.kept
 issuing_rises n seq id full save =
-    cond_both (nat_lt n.kept seq) (issues_unless n n.failed_save save (own_validation n seq id full)) (refusing n (NotAfter n.kept)) (λ r. n.kept ≤ r.node.kept)
+    cond_both (nat_lt n.kept seq) (issued_unless_off n n.failed_save save (own_validation n seq id full)) (refusing n (NotAfter n.kept)) (λ r. n.kept ≤ r.node.kept)
     (λ above. issued_rises n n.failed_save save (own_validation n seq id full) (omega (arith, ltb-true n.kept seq above)))
     (λ _. omega arith)
 
-timer_rises : (n : Node) (save : Save) → n.kept ≤ (completed (timed n) save).node.kept
+timer_rises : (n : Node) (save : Save) → n.kept ≤ (timer_reply (timer_outcome n) save).node.kept
 timer_rises n save =
-    timing_by (λ t. n.kept ≤ (completed t save).node.kept) n (λ r beat said. omega arith)
+    timing_by (λ t. n.kept ≤ (timer_reply t save).node.kept) n (λ r told said. omega arith)
     (λ ledgers r said h place moved_on _.
     let m : Node = record n { ledgers = ledgers; round = r } in
-    cond_both (validates m moved_on) (issuing m h.seq (header_id h) (is_proposing r.setting.mode) save) (replying m Done []) (λ v. n.kept ≤ v.node.kept)
+    cond_both (validates m moved_on) (issuing_reply m h.seq (header_id h) (is_proposing r.setting.mode) save) (replying m Done []) (λ v. n.kept ≤ v.node.kept)
     (λ _. issuing_rises m h.seq (header_id h) (is_proposing r.setting.mode) save) (λ _. omega arith))
 
-timer_gives : (kept : ℕ) (n : Node) (save : Save) → All (IsFrameCovered kept) (given_in (completed (timed n) save).answer)
+timer_gives : (kept : ℕ) (n : Node) (save : Save) → All (IsFrameCovered kept) (given_in (timer_reply (timer_outcome n) save).answer)
 timer_gives kept n save =
-    timing_by (λ t. All (IsFrameCovered kept) (given_in (completed t save).answer)) n (λ r beat said. All-nil (IsFrameCovered kept)) (λ ledgers r said h place moved_on _. All-nil (IsFrameCovered kept))
+    timing_by (λ t. All (IsFrameCovered kept) (given_in (timer_reply t save).answer)) n (λ r told said. All-nil (IsFrameCovered kept)) (λ ledgers r said h place moved_on _. All-nil (IsFrameCovered kept))
 
 -- A LIFE
 
@@ -179,7 +179,7 @@ step_on held core given (Issue now seq id full) save life =
       all = more_given core.node.kept (happens core.node e save).node.kept given (given_in (core_happens core (Issue now seq id full) save).answer) (issuing_rises (at_moment now core.node) seq id full save) life.all (issue_gives (happens core.node e save).node.kept core.node now seq id full save);
     }
   where
-    unless_gives : (kept : ℕ) (n : Node) (off : Option ℕ) (save : Save) (v : Validation) → All (IsFrameCovered kept) (given_in (issues_unless n off save v).answer)
+    unless_gives : (kept : ℕ) (n : Node) (off : Option ℕ) (save : Save) (v : Validation) → All (IsFrameCovered kept) (given_in (issued_unless_off n off save v).answer)
     unless_gives kept n None Kept v = All-nil (IsFrameCovered kept)
     unless_gives kept n None (Failed count) v = All-nil (IsFrameCovered kept)
     unless_gives kept n (Some failed) save v = All-nil (IsFrameCovered kept)
@@ -187,12 +187,12 @@ step_on held core given (Issue now seq id full) save life =
     issue_gives : (kept : ℕ) (n : Node) (now seq : ℕ) (id : _) (full : Bool) (save : Save) → All (IsFrameCovered kept) (given_in (happens n (nodes.Issue now seq id full) save).answer)
     issue_gives kept n now seq id full save =
         let m : Node = at_moment now n in
-        cond_both (nat_lt m.kept seq) (issues_unless m m.failed_save save (own_validation m seq id full)) (refusing m (NotAfter m.kept)) (λ r. All (IsFrameCovered kept) (given_in r.answer))
+        cond_both (nat_lt m.kept seq) (issued_unless_off m m.failed_save save (own_validation m seq id full)) (refusing m (NotAfter m.kept)) (λ r. All (IsFrameCovered kept) (given_in r.answer))
         (λ _. unless_gives kept m m.failed_save save (own_validation m seq id full)) (λ _. All-nil (IsFrameCovered kept))
 step_on held core given (Frame now bytes) save life =
     let e = nodes.Frame now bytes in
     let same = stays_itself core.node e save in
-    let others : (said : Spoken) → heard core.node.keys core.node.list.members bytes ≡ Ok said → said.from ≢ core.node.me =
+    let others : (said : Spoken) → spoken_in core.node.keys core.node.list.members bytes ≡ Ok said → said.from ≢ core.node.me =
     λ said is. subst (λ (k : ℕ). said.from ≢ k) life.own (not_itself core.node.keys core.node.list.members bytes said is) in
     let keeps = heard_keeps core.node now bytes in
     record {
@@ -256,8 +256,8 @@ lives_on held core given (h ∷ hs) is =
     subst (IsLife (held_after after next hs) (core_after next hs)) (append_assoc given more (given_over next hs))
     (lives_on after next (given ++ more) hs (step_on held core given h.event h.save is))
 
-pub said_is_saved : SaidIsSaved
-said_is_saved settings now kept held life n keyed below may =
+pub law_of_saves : SaidIsSaved
+law_of_saves settings now kept held life n keyed below may =
     let core : Core = with_queues (opened settings now kept) in
     let is = lives_on held core [] life (record { own = keyed.own; covered = opened_covered held settings now kept below; all = All-nil (IsFrameCovered kept) }) in
     let after = core_after core life in

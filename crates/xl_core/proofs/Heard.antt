@@ -31,7 +31,7 @@ use Rattle.xl_core.specs.declared.refusal.Refusal.{Refusal}
 use Rattle.xl_core.specs.declared.refusal.Refusal.TheVariants.{Frame, Tag, Short, Extra}
 use Rattle.xl_core.specs.declared.hearing.Tags.{Tags}
 use Rattle.xl_core.specs.declared.hearing.Tags.TheVariants.{Tested, Assumed}
-use Rattle.xl_core.specs.Hearing.{bytes_as_sealed, bytes_with, causes, frame_with, heard, said_in, sealed_in, speech_of, unheard, Carries}
+use Rattle.xl_core.specs.Hearing.{bytes_as_sealed, bytes_with, causes, frame_with, spoken_in, said_in, sealed_in, speech_of, hearing_refusal, Carries}
 
 -- THE CAUSES
 
@@ -117,21 +117,21 @@ same_said : (a b : Spoken) → told a ≡ told b → a ≡ b
 same_said a b e = cc
 
 -- bytes in which something is heard are refused for no cause
-pub heard_by : (ring : Ring) (members bytes : List ℕ) (said : Spoken) → heard ring members bytes ≡ Ok said → (unheard ring members bytes ≡ None) × (said_in (raw_in bytes) ≡ said)
-heard_by ring members bytes said is = by (unheard ring members bytes) is
+pub heard_by : (ring : Ring) (members bytes : List ℕ) (said : Spoken) → spoken_in ring members bytes ≡ Ok said → (hearing_refusal ring members bytes ≡ None) × (said_in (raw_in bytes) ≡ said)
+heard_by ring members bytes said is = by (hearing_refusal ring members bytes) is
   where
     by : (o : Option Refusal) → unless_refused o (said_in (raw_in bytes)) ≡ Ok said → (o ≡ None) × (said_in (raw_in bytes) ≡ said)
     by None e = (refl, same_said (said_in (raw_in bytes)) said e)
     by (Some why) e = cc
 
 -- and something is heard if none holds
-pub heard_where : (ring : Ring) (members bytes : List ℕ) → unheard ring members bytes ≡ None → heard ring members bytes ≡ Ok (said_in (raw_in bytes))
+pub heard_where : (ring : Ring) (members bytes : List ℕ) → hearing_refusal ring members bytes ≡ None → spoken_in ring members bytes ≡ Ok (said_in (raw_in bytes))
 heard_where ring members bytes none = ap (λ (o : Option Refusal). unless_refused o (said_in (raw_in bytes))) none
 
 split_whole : (o : Option WireRefusal) (lack : ℕ) (f : RawFrame) → o ≡ None → lack ≡ 0 → split_unless o lack f ≡ Whole f
 split_whole o lack f e d = rw (e, d) refl
 
-pub heard_parts : (ring : Ring) (members bytes : List ℕ) (said : Spoken) → heard ring members bytes ≡ Ok said → IsHeard ring members bytes said
+pub heard_parts : (ring : Ring) (members bytes : List ℕ) (said : Spoken) → spoken_in ring members bytes ≡ Ok said → IsHeard ring members bytes said
 heard_parts ring members bytes said is =
     let by = heard_by ring members bytes said is in
     let f : RawFrame = raw_in bytes in
@@ -154,14 +154,14 @@ pub sender : (ring : Ring) (members bytes : List ℕ) (said : Spoken) (h : IsHea
 sender ring members bytes said h = sym (ap (λ (s : Spoken). s.from) h.says)
 
 -- who is heard is listed
-pub heard_listed : (ring : Ring) (members bytes : List ℕ) (r : Result Spoken Refusal) → r ≡ heard ring members bytes → IfOk r (λ said. is_on members said.from ≡ true)
+pub heard_listed : (ring : Ring) (members bytes : List ℕ) (r : Result Spoken Refusal) → r ≡ spoken_in ring members bytes → IfOk r (λ said. is_on members said.from ≡ true)
 heard_listed ring members bytes (Ok said) is =
     let parts = heard_parts ring members bytes said (sym is) in
     ap (is_on members) (sender ring members bytes said parts) ∙ parts.listed
 heard_listed ring members bytes (Err why) is = tt
 
 -- nor is it the ring's own member
-pub not_itself : (ring : Ring) (members bytes : List ℕ) (said : Spoken) → heard ring members bytes ≡ Ok said → said.from ≢ ring.me
+pub not_itself : (ring : Ring) (members bytes : List ℕ) (said : Spoken) → spoken_in ring members bytes ≡ Ok said → said.from ≢ ring.me
 not_itself ring members bytes said is =
     let parts = heard_parts ring members bytes said is in
     subst (λ (from : ℕ). from ≢ ring.me) (sym (sender ring members bytes said parts)) parts.other
@@ -228,12 +228,12 @@ module _ (ring : Ring) (members bytes : List ℕ) where
       ∷ option_map Frame (body_refusal f.kind f.body)
       ∷ [])) (said_in f)
 
-  pub no_frame : (why : WireRefusal) → split_of bytes ≡ Refused why → heard ring members bytes ≡ Err (Frame why)
+  pub no_frame : (why : WireRefusal) → split_of bytes ≡ Refused why → spoken_in ring members bytes ≡ Err (Frame why)
   no_frame why is =
       let f : RawFrame = raw_in bytes in
       ap (λ (o : Option WireRefusal). heard_with o (lacking bytes) f (nat_lt (span f.body) (length bytes)) (refusal_of ring members f)) (split_refused (head_refusal bytes) (lacking bytes) f why is)
 
-  pub short : (lack : ℕ) → split_of bytes ≡ Need lack → heard ring members bytes ≡ Err (Short lack)
+  pub short : (lack : ℕ) → split_of bytes ≡ Need lack → spoken_in ring members bytes ≡ Err (Short lack)
   short lack is =
       let f : RawFrame = raw_in bytes in
       let found = split_need (head_refusal bytes) (lacking bytes) lack f is in
@@ -245,7 +245,7 @@ module _ (ring : Ring) (members bytes : List ℕ) where
       (λ none. absurd (omega (arith, found.2, ltb-false 0 (lacking bytes) none)))
 
   -- a whole frame
-  of_frame : (f : RawFrame) → split_of bytes ≡ Whole f → heard ring members bytes ≡ heard_with None 0 f (nat_lt (span f.body) (length bytes)) (refusal_of ring members f)
+  of_frame : (f : RawFrame) → split_of bytes ≡ Whole f → spoken_in ring members bytes ≡ heard_with None 0 f (nat_lt (span f.body) (length bytes)) (refusal_of ring members f)
   of_frame f is =
       let found = split_found (head_refusal bytes) (lacking bytes) (raw_in bytes) f is in
       let raw : RawFrame = raw_in bytes in
@@ -253,19 +253,19 @@ module _ (ring : Ring) (members bytes : List ℕ) where
       ∙ ap (λ (n : ℕ). heard_with None n raw (nat_lt (span raw.body) (length bytes)) (refusal_of ring members raw)) found.1
       ∙ ap (λ (g : RawFrame). heard_with None 0 g (nat_lt (span g.body) (length bytes)) (refusal_of ring members g)) found.2
 
-  pub long : (f : RawFrame) → split_of bytes ≡ Whole f → span f.body < length bytes → heard ring members bytes ≡ Err (Extra (length bytes - span f.body))
+  pub long : (f : RawFrame) → split_of bytes ≡ Whole f → span f.body < length bytes → spoken_in ring members bytes ≡ Err (Extra (length bytes - span f.body))
   long f is more =
       of_frame f is ∙ ap (λ (b : Bool). heard_with None 0 f b (refusal_of ring members f)) (lt-ltb (span f.body) (length bytes) more)
 
-  pub opened : (f : RawFrame) → split_of bytes ≡ Whole f → length bytes ≤ span f.body → heard ring members bytes ≡ heard_with None 0 f false (refusal_of ring members f)
+  pub opened : (f : RawFrame) → split_of bytes ≡ Whole f → length bytes ≤ span f.body → spoken_in ring members bytes ≡ heard_with None 0 f false (refusal_of ring members f)
   opened f is fits = of_frame f is ∙ ap (λ (b : Bool). heard_with None 0 f b (refusal_of ring members f)) (le-ltb (span f.body) (length bytes) fits)
 
-  pub unopened : (f : RawFrame) (why : TagRefusal) → split_of bytes ≡ Whole f → length bytes ≤ span f.body → refusal_of ring members f ≡ Some why → heard ring members bytes ≡ Err (Tag why)
+  pub unopened : (f : RawFrame) (why : TagRefusal) → split_of bytes ≡ Whole f → length bytes ≤ span f.body → refusal_of ring members f ≡ Some why → spoken_in ring members bytes ≡ Err (Tag why)
   unopened f why is fits refused = opened f is fits ∙ ap (heard_with None 0 f false) refused
 
   -- its body was read
   pub read : (f : RawFrame) (r : Result Body WireRefusal) → split_of bytes ≡ Whole f → length bytes ≤ span f.body → refusal_of ring members f ≡ None → r ≡ body_of f.kind f.body →
-      heard ring members bytes ≡ read_so f.from r
+      spoken_in ring members bytes ≡ read_so f.from r
   read f r is fits opens body =
       opened f is fits ∙ ap (heard_with None 0 f false) opens ∙ sym (of_body f (body_refusal f.kind f.body)) ∙ ap (read_so f.from) (sym body)
 
@@ -285,7 +285,7 @@ differs m n other = grind (arith, nat_tests)
 
 -- a frame that another listed member sealed
 pub carried : (ring : Ring) (members bytes : List ℕ) (f : RawFrame) (body : Body) → Carries ring members bytes f body →
-    heard ring members bytes ≡ Ok (record { from = f.from; what = speech_of body })
+    spoken_in ring members bytes ≡ Ok (record { from = f.from; what = speech_of body })
 carried ring members bytes f body c =
     let long : length bytes ≡ span f.body = ap length c.frame.spelling ∙ length-raw_bytes f c.frame.frame.tag in
     let all : length bytes ≤ span f.body = omega (arith, long) in

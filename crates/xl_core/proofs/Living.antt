@@ -23,7 +23,7 @@ use Rattle.xl_core.specs.declared.refusal.Refusal.TheVariants.{NotAfter}
 use Rattle.xl_core.specs.declared.report.Report.{Report}
 use Rattle.xl_core.specs.Lasts.{later, over_another_list}
 use Rattle.xl_core.specs.Lives.{Happening, IsFitEvent, IsFit, node_after}
-use Rattle.xl_core.specs.Node.{Node, Event, Issue, Frame, Timer, Submit, Relist, Reply, Save, issues_unless, happens, issues, issuing, refusing, replying, completed, timed, validates, validating_built, with_tx, with_list, reporting, with_taken, take, arisen, arises_in, placing, taking, hearing, at_moment, second_of, own_validation, report_if}
+use Rattle.xl_core.specs.Node.{Node, Event, Issue, Frame, Timer, Submit, Relist, Reply, Save, issued_unless_off, happens, issued_reply, issuing_reply, refusing, replying, timer_reply, timer_outcome, validates, validating_built, with_tx, with_list, reporting, with_taken, take, arisen, arises_in, placing, taken_reply, bytes_reply, at_moment, second_of, own_validation, report_if}
 use Rattle.xl_core.specs.Node.Save.{Kept, Failed}
 use Rattle.xl_core.specs.Rest.{IsAtRest}
 use Rattle.xl_core.proofs.Answered.{arisen_then, few_rows, rest_when_taken, stays}
@@ -68,35 +68,35 @@ set_rest n list valid =
 
 -- EVERY EVENT
 
-issued_rest : (n : Node) (now : ℕ) (save : Save) (v : Validation) → IsAtRest n → IsAtRest (issues n now save v).node
+issued_rest : (n : Node) (now : ℕ) (save : Save) (v : Validation) → IsAtRest n → IsAtRest (issued_reply n now save v).node
 issued_rest n now Kept v rest = taken_rest (record n { kept = v.seq }) now n.me v Done (Some v) (elsewhere n n.ledgers n.round v.seq n.failed_save rest)
 issued_rest n now (Failed count) v rest = elsewhere n n.ledgers n.round n.kept (Some v.seq) rest
 
-unless_rest : (n : Node) (off : Option ℕ) (save : Save) (v : Validation) → IsAtRest n → IsAtRest (issues_unless n off save v).node
+unless_rest : (n : Node) (off : Option ℕ) (save : Save) (v : Validation) → IsAtRest n → IsAtRest (issued_unless_off n off save v).node
 unless_rest n None save v rest = issued_rest n (second_of n) save v rest
 unless_rest n (Some failed) save v rest = rest
 
-taking_rest : (n : Node) (from : ℕ) (what : Speech) → IsAtRest n → IsAtRest (taking n from what).node
-taking_rest n from (speech.Validation v) rest = taken_rest n (second_of n) from v (taking n from (speech.Validation v)).answer None rest
+taking_rest : (n : Node) (from : ℕ) (what : Speech) → IsAtRest n → IsAtRest (taken_reply n from what).node
+taking_rest n from (speech.Validation v) rest = taken_rest n (second_of n) from v (taken_reply n from (speech.Validation v)).answer None rest
 taking_rest n from (speech.Header h) rest = elsewhere n (with_header n.ledgers h) n.round n.kept n.failed_save rest
 taking_rest n from (speech.Proposal p) rest = elsewhere n n.ledgers (with_answer (placing n from p) from p n.round) n.kept n.failed_save rest
 taking_rest n from (speech.TxSet ids) rest = elsewhere n n.ledgers (hold from ids n.round) n.kept n.failed_save rest
 taking_rest n from (speech.Tx tx) rest = elsewhere n n.ledgers (with_pending tx n.round) n.kept n.failed_save rest
 
-issuing_rest : (n : Node) (seq : ℕ) (id : LedgerId) (full : Bool) (save : Save) → IsAtRest n → IsAtRest (issuing n seq id full save).node
+issuing_rest : (n : Node) (seq : ℕ) (id : LedgerId) (full : Bool) (save : Save) → IsAtRest n → IsAtRest (issuing_reply n seq id full save).node
 issuing_rest n seq id full save rest =
-    cond_both (nat_lt n.kept seq) (issues_unless n n.failed_save save (own_validation n seq id full)) (refusing n (NotAfter n.kept)) (λ reply. IsAtRest reply.node)
+    cond_both (nat_lt n.kept seq) (issued_unless_off n n.failed_save save (own_validation n seq id full)) (refusing n (NotAfter n.kept)) (λ reply. IsAtRest reply.node)
     (λ _. unless_rest n n.failed_save save (own_validation n seq id full) rest) (λ _. rest)
 
 validating_rest : (n : Node) (h : LedgerHeader) (moved_on : Bool) (save : Save) → IsAtRest n → IsAtRest (validating_built n h moved_on save).node
 validating_rest n h moved_on save rest =
-    cond_both (validates n moved_on) (issuing n h.seq (header_id h) (is_proposing n.round.setting.mode) save) (replying n Done []) (λ reply. IsAtRest reply.node)
+    cond_both (validates n moved_on) (issuing_reply n h.seq (header_id h) (is_proposing n.round.setting.mode) save) (replying n Done []) (λ reply. IsAtRest reply.node)
     (λ _. issuing_rest n h.seq (header_id h) (is_proposing n.round.setting.mode) save rest) (λ _. rest)
 
-timer_rest : (n : Node) (save : Save) → IsAtRest n → IsAtRest (completed (timed n) save).node
+timer_rest : (n : Node) (save : Save) → IsAtRest n → IsAtRest (timer_reply (timer_outcome n) save).node
 timer_rest n save rest =
-    timing_by (λ t. IsAtRest (completed t save).node) n
-    (λ r beat said. elsewhere n n.ledgers r n.kept n.failed_save rest)
+    timing_by (λ t. IsAtRest (timer_reply t save).node) n
+    (λ r told said. elsewhere n n.ledgers r n.kept n.failed_save rest)
     (λ ledgers r said h place moved_on _.
     let m : Node = record n { ledgers = ledgers; round = r } in
     let v : Reply = validating_built m h moved_on save in

@@ -24,10 +24,10 @@ use Rattle.xl_core.specs.declared.last.LastReport.{LastReport}
 use Rattle.xl_core.specs.declared.refusal.Refusal.{Refusal}
 use Rattle.xl_core.specs.declared.refusal.Refusal.TheVariants.{NotAfter}
 use Rattle.xl_core.specs.declared.report.Report.{Report}
-use Rattle.xl_core.specs.declared.taken.Taken.TheVariants.{Vote as TakenVote}
+use Rattle.xl_core.specs.declared.taken.Taken.TheVariants.{Validation as TakenValidation}
 use Rattle.xl_core.specs.Lasts.{is_last, is_news, later, none_reported}
 use Rattle.xl_core.specs.Lives.{Happening, IsFit, is_relist, sets_list, node_after, reports_in, last_of, set_then, set_after, IsNew, ReportsArise, ReportsRise}
-use Rattle.xl_core.specs.Node.{Node, Event, Issue, Frame, Timer, Submit, Relist, Quiet, Reply, Save, issues_unless, opened, happens, issues, issuing, replying, refusing_or, completed, timed, validates, validating_built, with_tx, with_list, saving, refusing, reporting, with_taken, arises, arisen, report_of, taking, hearing, at_moment, second_of, own_validation, key_refusal}
+use Rattle.xl_core.specs.Node.{Node, Event, Issue, Frame, Timer, Submit, Relist, Quiet, Reply, Save, issued_unless_off, opened, happens, issued_reply, issuing_reply, replying, reply_unless, timer_reply, timer_outcome, validates, validating_built, with_tx, with_list, with_saved, refusing, reporting, with_taken, arises, arisen, report_of, taken_reply, bytes_reply, at_moment, second_of, own_validation, key_refusal}
 use Rattle.xl_core.specs.Node.Save.{Kept, Failed}
 use Rattle.xl_core.specs.Rest.{IsAtRest}
 use Rattle.xl_core.proofs.Answered.{few_rows}
@@ -91,42 +91,42 @@ rows_report last sets m a issued same =
           (if_some (λ v. arises m v ≡ true) _ (λ v e. ap (λ l. is_news l v.seq v.id) (sym same) ∙ (parts_of m.list.quorum m.rows m.last v e).1) o passes);
     }
 
-issued_reports : (n : Node) (now : ℕ) (save : Save) (v : Validation) → Reports n.last false (issues n now save v)
-issued_reports n now Kept v = rows_report n.last false (saving n now v) Done (Some v) (unbarred n.last)
-issued_reports n now (Failed count) v = quiet n.last (issues n now (Failed count) v) refl refl
+issued_reports : (n : Node) (now : ℕ) (save : Save) (v : Validation) → Reports n.last false (issued_reply n now save v)
+issued_reports n now Kept v = rows_report n.last false (with_saved n now v) Done (Some v) (unbarred n.last)
+issued_reports n now (Failed count) v = quiet n.last (issued_reply n now (Failed count) v) refl refl
 
-unless_reports : (n : Node) (off : Option ℕ) (save : Save) (v : Validation) → Reports n.last false (issues_unless n off save v)
+unless_reports : (n : Node) (off : Option ℕ) (save : Save) (v : Validation) → Reports n.last false (issued_unless_off n off save v)
 unless_reports n None save v = issued_reports n (second_of n) save v
-unless_reports n (Some failed) save v = quiet n.last (issues_unless n (Some failed) save v) refl refl
+unless_reports n (Some failed) save v = quiet n.last (issued_unless_off n (Some failed) save v) refl refl
 
-taking_reports : (n : Node) (from : ℕ) (what : Speech) → Reports n.last false (taking n from what)
-taking_reports n from (speech.Validation v) = rows_report n.last false (with_taken n (second_of n) from v) (Took TakenVote) None (unbarred n.last)
-taking_reports n from (speech.Header h) = quiet n.last (taking n from (speech.Header h)) refl refl
-taking_reports n from (speech.Proposal p) = quiet n.last (taking n from (speech.Proposal p)) refl refl
-taking_reports n from (speech.TxSet ids) = quiet n.last (taking n from (speech.TxSet ids)) refl refl
-taking_reports n from (speech.Tx tx) = quiet n.last (taking n from (speech.Tx tx)) refl refl
+taking_reports : (n : Node) (from : ℕ) (what : Speech) → Reports n.last false (taken_reply n from what)
+taking_reports n from (speech.Validation v) = rows_report n.last false (with_taken n (second_of n) from v) (Took TakenValidation) None (unbarred n.last)
+taking_reports n from (speech.Header h) = quiet n.last (taken_reply n from (speech.Header h)) refl refl
+taking_reports n from (speech.Proposal p) = quiet n.last (taken_reply n from (speech.Proposal p)) refl refl
+taking_reports n from (speech.TxSet ids) = quiet n.last (taken_reply n from (speech.TxSet ids)) refl refl
+taking_reports n from (speech.Tx tx) = quiet n.last (taken_reply n from (speech.Tx tx)) refl refl
 
-hearing_reports : (n : Node) (bytes : List ℕ) → Reports n.last false (hearing n bytes)
+hearing_reports : (n : Node) (bytes : List ℕ) → Reports n.last false (bytes_reply n bytes)
 hearing_reports n bytes = hearing_either (Reports n.last false) n bytes (λ why. quiet n.last (refusing n why) refl refl) (λ said _. taking_reports n said.from said.what)
 
-issuing_reports : (n : Node) (seq : ℕ) (id : LedgerId) (full : Bool) (save : Save) → Reports n.last false (issuing n seq id full save)
+issuing_reports : (n : Node) (seq : ℕ) (id : LedgerId) (full : Bool) (save : Save) → Reports n.last false (issuing_reply n seq id full save)
 issuing_reports n seq id full save =
-    cond_both (nat_lt n.kept seq) (issues_unless n n.failed_save save (own_validation n seq id full)) (refusing n (NotAfter n.kept)) (Reports n.last false)
+    cond_both (nat_lt n.kept seq) (issued_unless_off n n.failed_save save (own_validation n seq id full)) (refusing n (NotAfter n.kept)) (Reports n.last false)
     (λ _. unless_reports n n.failed_save save (own_validation n seq id full)) (λ _. quiet n.last (refusing n (NotAfter n.kept)) refl refl)
 
 validating_reports : (n : Node) (h : Header) (moved_on : Bool) (save : Save) → Reports n.last false (validating_built n h moved_on save)
 validating_reports n h moved_on save =
-    cond_both (validates n moved_on) (issuing n h.seq (header_id h) (is_proposing n.round.setting.mode) save) (replying n Done []) (Reports n.last false)
+    cond_both (validates n moved_on) (issuing_reply n h.seq (header_id h) (is_proposing n.round.setting.mode) save) (replying n Done []) (Reports n.last false)
     (λ _. issuing_reports n h.seq (header_id h) (is_proposing n.round.setting.mode) save) (λ _. quiet n.last (replying n Done []) refl refl)
 
-timer_reports : (n : Node) (save : Save) → Reports n.last false (completed (timed n) save)
+timer_reports : (n : Node) (save : Save) → Reports n.last false (timer_reply (timer_outcome n) save)
 timer_reports n save =
-    timing_by (λ t. Reports n.last false (completed t save)) n
-    (λ round beat said. quiet n.last (completed (Quiet (record n { round = round }) beat said) save) refl refl)
+    timing_by (λ t. Reports n.last false (timer_reply t save)) n
+    (λ round told said. quiet n.last (timer_reply (Quiet (record n { round = round }) told said) save) refl refl)
     (λ ledgers round said h place moved_on _.
     let news = validating_reports (record n { ledgers = ledgers; round = round }) h moved_on save in record { last_is = news.last_is; quorum = news.quorum; news = news.news })
 
-list_reports : (n : Node) (list : TrustedList) (o : Option Refusal) → Reports n.last (is_none o) (refusing_or n o (reporting (with_list n list) Done None))
+list_reports : (n : Node) (list : TrustedList) (o : Option Refusal) → Reports n.last (is_none o) (reply_unless n o (reporting (with_list n list) Done None))
 list_reports n list None = rows_report n.last true (with_list n list) Done None (ap (λ (b : Bool). let l : LastReport = record { report = n.last.report; relisted = b } in l) (sym (or-true n.last.relisted)))
 list_reports n list (Some why) = quiet n.last (refusing n why) refl refl
 

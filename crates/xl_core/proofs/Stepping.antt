@@ -14,14 +14,14 @@ use Rattle.xl_core.specs.declared.hearing.Speech.TheVariants as speech
 use Rattle.xl_core.specs.declared.refusal.Refusal.{Refusal}
 use Rattle.xl_core.specs.declared.refusal.Refusal.TheVariants.{NotAfter}
 use Rattle.xl_core.specs.declared.report.Report.{Report}
-use Rattle.xl_core.specs.Node.{Node, Event, Issue, Frame, Timer, Submit, Relist, Reply, Save, happens, issuing, replying, completed, timed, validates, validating_built, taking, hearing, issues, issues_unless, refusing, at_moment, second_of, own_validation}
+use Rattle.xl_core.specs.Node.{Node, Event, Issue, Frame, Timer, Submit, Relist, Reply, Save, happens, issuing_reply, replying, timer_reply, timer_outcome, validates, validating_built, taken_reply, bytes_reply, issued_reply, issued_unless_off, refusing, at_moment, second_of, own_validation}
 use Rattle.xl_core.specs.Node.Save.{Kept, Failed}
 use Rattle.xl_core.specs.Answers.{Refused, Took, Done}
 use Rattle.xl_core.specs.Queues.{with_report}
 use Rattle.xl_core.specs.Core.{Core, stepped}
 use Rattle.xl_core.specs.Replies.{Answers, hear_reply, issue_reply, list_reply}
 use Rattle.xl_core.specs.declared.item.Item.{Item}
-use Rattle.xl_core.specs.declared.item.Item.TheVariants.{Vote as VoteItem}
+use Rattle.xl_core.specs.declared.item.Item.TheVariants.{Validation as ValidationItem}
 use Rattle.xl_core.specs.declared.report.OwnValidation.{OwnValidation}
 use Rattle.xl_core.specs.declared.taken.Heard.{Heard}
 use Rattle.xl_queues.specs.Broadcasts.{pushed_to_all}
@@ -34,40 +34,40 @@ pub record IsSame (n m : Node) : Type 0 where
   pub me : m.me ≡ n.me
   pub keys : m.keys ≡ n.keys
 
-taking_same : (n : Node) (from : ℕ) (what : Speech) → IsSame n (taking n from what).node
+taking_same : (n : Node) (from : ℕ) (what : Speech) → IsSame n (taken_reply n from what).node
 taking_same n from (speech.Validation v) = record { me = refl; keys = refl }
 taking_same n from (speech.Header h) = record { me = refl; keys = refl }
 taking_same n from (speech.Proposal p) = record { me = refl; keys = refl }
 taking_same n from (speech.TxSet ids) = record { me = refl; keys = refl }
 taking_same n from (speech.Tx tx) = record { me = refl; keys = refl }
 
-hearing_same : (n : Node) (bytes : List ℕ) → IsSame n (hearing n bytes).node
+hearing_same : (n : Node) (bytes : List ℕ) → IsSame n (bytes_reply n bytes).node
 hearing_same n bytes = hearing_either (λ r. IsSame n r.node) n bytes (λ _. record { me = refl; keys = refl }) (λ said _. taking_same n said.from said.what)
 
-issues_same : (n : Node) (now : ℕ) (save : Save) (v : Validation) → IsSame n (issues n now save v).node
+issues_same : (n : Node) (now : ℕ) (save : Save) (v : Validation) → IsSame n (issued_reply n now save v).node
 issues_same n now Kept v = record { me = refl; keys = refl }
 issues_same n now (Failed count) v = record { me = refl; keys = refl }
 
-unless_same : (n : Node) (off : Option ℕ) (save : Save) (v : Validation) → IsSame n (issues_unless n off save v).node
+unless_same : (n : Node) (off : Option ℕ) (save : Save) (v : Validation) → IsSame n (issued_unless_off n off save v).node
 unless_same n None save v = issues_same n (second_of n) save v
 unless_same n (Some failed) save v = record { me = refl; keys = refl }
 
 same_later : (n m : Node) (now : ℕ) → IsSame (at_moment now n) m → IsSame n m
 same_later n m now same = record { me = same.me; keys = same.keys }
 
-issuing_same : (n : Node) (seq : ℕ) (id : LedgerId) (full : Bool) (save : Save) → IsSame n (issuing n seq id full save).node
+issuing_same : (n : Node) (seq : ℕ) (id : LedgerId) (full : Bool) (save : Save) → IsSame n (issuing_reply n seq id full save).node
 issuing_same n seq id full save =
-    cond_both (nat_lt n.kept seq) (issues_unless n n.failed_save save (own_validation n seq id full)) (refusing n (NotAfter n.kept)) (λ r. IsSame n r.node)
+    cond_both (nat_lt n.kept seq) (issued_unless_off n n.failed_save save (own_validation n seq id full)) (refusing n (NotAfter n.kept)) (λ r. IsSame n r.node)
     (λ _. unless_same n n.failed_save save (own_validation n seq id full)) (λ _. record { me = refl; keys = refl })
 
 validating_same : (n : Node) (h : Header) (moved_on : Bool) (save : Save) → IsSame n (validating_built n h moved_on save).node
 validating_same n h moved_on save =
-    cond_both (validates n moved_on) (issuing n h.seq (header_id h) (is_proposing n.round.setting.mode) save) (replying n Done []) (λ r. IsSame n r.node)
+    cond_both (validates n moved_on) (issuing_reply n h.seq (header_id h) (is_proposing n.round.setting.mode) save) (replying n Done []) (λ r. IsSame n r.node)
     (λ _. issuing_same n h.seq (header_id h) (is_proposing n.round.setting.mode) save) (λ _. record { me = refl; keys = refl })
 
-timer_same : (n : Node) (save : Save) → IsSame n (completed (timed n) save).node
+timer_same : (n : Node) (save : Save) → IsSame n (timer_reply (timer_outcome n) save).node
 timer_same n save =
-    timing_by (λ t. IsSame n (completed t save).node) n (λ r beat said. record { me = refl; keys = refl })
+    timing_by (λ t. IsSame n (timer_reply t save).node) n (λ r told said. record { me = refl; keys = refl })
     (λ ledgers r said h place moved_on _. let same = validating_same (record n { ledgers = ledgers; round = r }) h moved_on save in record { me = same.me; keys = same.keys })
 
 pub stays_itself : (n : Node) (e : Event) (save : Save) → IsSame n (happens n e save).node
@@ -102,11 +102,11 @@ list_step core n report untaken reply is pushed =
 
 -- what was issued
 pub issued_step : (core : Core) (n : Node) (done : OwnValidation) (waiting : List (Backlog Item)) (untaken : Backlog Report) (reply : Reply) → issue_reply (Ok done) n ≡ reply →
-    waiting ≡ pushed_to_all 64 core.waiting (VoteItem done.validation) → untaken ≡ with_report core.untaken done.report → Answers (stepped core reply) (record core { node = n; waiting = waiting; untaken = untaken }) Done
+    waiting ≡ pushed_to_all 64 core.waiting (ValidationItem done.validation) → untaken ≡ with_report core.untaken done.report → Answers (stepped core reply) (record core { node = n; waiting = waiting; untaken = untaken }) Done
 issued_step core n done waiting untaken reply is waits pushed =
     subst (λ (r : Reply). Answers (stepped core r) (record core { node = n; waiting = waiting; untaken = untaken }) Done) is
     (record {
       core = ap (λ (ws : List (Backlog Item)). let c : Core = record core { node = n; waiting = ws; untaken = untaken } in c) waits
-          ∙ ap (λ (u : Backlog Report). let c : Core = record core { node = n; waiting = pushed_to_all 64 core.waiting (VoteItem done.validation); untaken = u } in c) pushed;
+          ∙ ap (λ (u : Backlog Report). let c : Core = record core { node = n; waiting = pushed_to_all 64 core.waiting (ValidationItem done.validation); untaken = u } in c) pushed;
       answer = refl;
     })

@@ -9,7 +9,7 @@ use Rattle.std.proofs.lemmas.Option.{same_Some}
 use Rattle.xl_base.specs.declared.ids.TxId.{TxId}
 use Rattle.xl_ledger.specs.declared.header.Header.{Header}
 use Rattle.xl_ledger.specs.Headers.{header_id}
-use Rattle.xl_rounds.specs.declared.pulse.Said.{Said}
+use Rattle.xl_rounds.specs.declared.heartbeat.Said.{Said}
 use Rattle.xl_rounds.specs.Rounds.{is_proposing}
 use Rattle.xl_rounds.specs.declared.placed.Placed.{Placed}
 use Rattle.xl_rounds.specs.declared.refusal.RoundRefusal.{RoundRefusal}
@@ -29,15 +29,15 @@ use Rattle.xl_core.specs.declared.hearing.Speech.{Speech}
 use Rattle.xl_core.specs.declared.hearing.Speech.TheVariants as speech
 use Rattle.xl_core.specs.declared.refusal.Refusal.{Refusal}
 use Rattle.xl_core.specs.declared.refusal.Refusal.TheVariants.{NotAfter}
-use Rattle.xl_core.specs.Hearing.{heard}
+use Rattle.xl_core.specs.Hearing.{spoken_in}
 use Rattle.xl_core.specs.Answers.{given_in, handed_in}
-use Rattle.xl_core.specs.Node.{Node, Reply, Save, placing, placed_as, taking, hearing, issues, issues_unless, issuing, asks_for, asks_of, replying, completed, validates, validating_built, refusing, at_moment, second_of, own_validation, take, unless_failed, is_kept, opened}
+use Rattle.xl_core.specs.Node.{Node, Reply, Save, placing, placed_as, taken_reply, bytes_reply, issued_reply, issued_unless_off, issuing_reply, asks_for, asks_of, replying, timer_reply, validates, validating_built, refusing, at_moment, second_of, own_validation, take, unless_failed, is_kept, opened}
 use Rattle.xl_core.specs.Node.Save.{Kept, Failed}
 use Rattle.xl_core.specs.Queues.{with_items, at_number, after_taking, waiting_at}
 use Rattle.xl_core.specs.Core.{Core, stepped, with_queues, greeted_frames, given_for, core_happens, core_asks}
 use Rattle.xl_core.specs.declared.event.CoreEvent.TheVariants.{Issue, Frame, Timer, Submit, Drain, Relist}
 use Rattle.xl_core.specs.declared.item.Item.{Item}
-use Rattle.xl_core.specs.declared.item.Item.TheVariants.{Vote, Tx, TxSet, Proposal, Header as HeaderItem}
+use Rattle.xl_core.specs.declared.item.Item.TheVariants.{Validation as ValidationItem, Tx, TxSet, Proposal, Header as HeaderItem}
 use Rattle.xl_core.specs.Stops.{IsCovered, IsItemCovered, own_current}
 use Rattle.xl_queues.specs.Broadcasts.{queue_of, pushed_to_all}
 use Rattle.xl_core.proofs.Frames.{hearing_either}
@@ -119,7 +119,7 @@ pub record IsAside (n : Node) (reply : Reply) : Type 0 where
 aside : (n : Node) (why : Refusal) → IsAside n (refusing n why)
 aside n why = record { kept = refl; own = refl; items = refl }
 
-taking_aside : (n : Node) (from : ℕ) (what : Speech) → from ≢ n.me → IsAside n (taking n from what)
+taking_aside : (n : Node) (from : ℕ) (what : Speech) → from ≢ n.me → IsAside n (taken_reply n from what)
 taking_aside n from (speech.Validation v) other = record {
   kept = refl;
   own = ap (λ (o : Option Row). option_and_then (λ row. row.current) o) (other_row from n.me (take (second_of n) v) (taking_member (second_of n) v) other n.rows);
@@ -130,7 +130,7 @@ taking_aside n from (speech.Proposal p) other = record { kept = refl; own = refl
 taking_aside n from (speech.TxSet ids) other = record { kept = refl; own = refl; items = refl }
 taking_aside n from (speech.Tx tx) other = record { kept = refl; own = refl; items = refl }
 
-hearing_aside : (n : Node) (bytes : List ℕ) → ((said : Spoken) → heard n.keys n.list.members bytes ≡ Ok said → said.from ≢ n.me) → IsAside n (hearing n bytes)
+hearing_aside : (n : Node) (bytes : List ℕ) → ((said : Spoken) → spoken_in n.keys n.list.members bytes ≡ Ok said → said.from ≢ n.me) → IsAside n (bytes_reply n bytes)
 hearing_aside n bytes others = hearing_either (IsAside n) n bytes (aside n) (λ said is. taking_aside n said.from said.what (others said is))
 
 -- hearing leaves the kept number, and hands out and gives nothing
@@ -147,7 +147,7 @@ place_handed : (r : Result Placed RoundRefusal) → handed_in (placed_as r) ≡ 
 place_handed (Ok became) = refl
 place_handed (Err why) = refl
 
-taking_keeps : (n : Node) (from : ℕ) (what : Speech) → IsHearing n (taking n from what)
+taking_keeps : (n : Node) (from : ℕ) (what : Speech) → IsHearing n (taken_reply n from what)
 taking_keeps n from (speech.Validation v) = record { kept = refl; given = refl; handed = refl }
 taking_keeps n from (speech.Header h) = record { kept = refl; given = refl; handed = refl }
 taking_keeps n from (speech.Proposal p) = record {
@@ -158,7 +158,7 @@ taking_keeps n from (speech.Proposal p) = record {
 taking_keeps n from (speech.TxSet ids) = record { kept = refl; given = refl; handed = refl }
 taking_keeps n from (speech.Tx tx) = record { kept = refl; given = refl; handed = refl }
 
-pub heard_keeps : (n : Node) (now : ℕ) (bytes : List ℕ) → IsHearing (at_moment now n) (hearing (at_moment now n) bytes)
+pub heard_keeps : (n : Node) (now : ℕ) (bytes : List ℕ) → IsHearing (at_moment now n) (bytes_reply (at_moment now n) bytes)
 heard_keeps n now bytes =
     let m : Node = at_moment now n in
     hearing_either (IsHearing m) m bytes (λ _. record { kept = refl; given = refl; handed = refl }) (λ said _. taking_keeps m said.from said.what)
@@ -172,11 +172,11 @@ step_covered held core reply same own none was = record {
       (subst (λ (xs : List Item). AllCovered core.node.kept (with_items core.waiting xs)) (sym none) was.waiting);
 }
 
-pub frame_covered : (held : Held) (core : Core) (now : ℕ) (bytes : List ℕ) → ((said : Spoken) → heard core.node.keys core.node.list.members bytes ≡ Ok said → said.from ≢ core.node.me) → IsCovered held core →
+pub frame_covered : (held : Held) (core : Core) (now : ℕ) (bytes : List ℕ) → ((said : Spoken) → spoken_in core.node.keys core.node.list.members bytes ≡ Ok said → said.from ≢ core.node.me) → IsCovered held core →
     IsCovered held (core_happens core (Frame now bytes) Kept).core
 frame_covered held core now bytes others was =
     let m : Node = at_moment now core.node in
-    let reply : Reply = hearing m bytes in
+    let reply : Reply = bytes_reply m bytes in
     let beside = hearing_aside m bytes others in
     step_covered held core reply beside.kept
     (subst (AtMost core.node.kept) (sym beside.own) (current_then core.node.kept (max core.node.time now / 1000) core.node.me core.node.rows was.own))
@@ -186,7 +186,7 @@ frame_covered held core now bytes others was =
 
 -- an item that is covered stays so as the kept number rises
 still_covered : (old kept : ℕ) → old ≤ kept → (item : Item) → IsItemCovered old item → IsItemCovered kept item
-still_covered old kept le (Vote v) covered = omega (arith, covered, le)
+still_covered old kept le (ValidationItem v) covered = omega (arith, covered, le)
 still_covered old kept le (Tx tx) covered = tt
 still_covered old kept le (TxSet id) covered = tt
 still_covered old kept le (Proposal p) covered = tt
@@ -232,14 +232,14 @@ later_covered held core now was = record {
 
 -- a save of a greater number
 saves_covered : (held : Held) (core : Core) (save : Save) (v : Validation) → core.node.kept < v.seq → IsCovered held core →
-    IsCovered (after_save held (Some v.seq) (is_kept save)) (stepped core (issues core.node (second_of core.node) save v)).core
+    IsCovered (after_save held (Some v.seq) (is_kept save)) (stepped core (issued_reply core.node (second_of core.node) save v)).core
 saves_covered held core Kept v above was = record {
   saved = λ n may. elim may [
     | inl is ↦ omega (arith, is)
     | inr asked ↦ absurd (none_asked n asked)
   ];
   own = own_taken v.seq core.node.me (second_of core.node) v core.node.rows (omega arith) (most_later core.node.kept v.seq (own_current core.node) (omega (arith, above)) was.own);
-  waiting = queues_most core.node.kept v.seq (Vote v) core.waiting (omega (arith, above)) (omega arith) was.waiting;
+  waiting = queues_most core.node.kept v.seq (ValidationItem v) core.waiting (omega (arith, above)) (omega arith) was.waiting;
 }
   where
     none_asked : (n : ℕ) → None ≡ Some n → ⊥
@@ -257,14 +257,14 @@ saves_covered held core (Failed count) v above was = record {
     same n e = cc
 
 unless_covered : (held : Held) (core : Core) (off : Option ℕ) (save : Save) (v : Validation) → core.node.kept < v.seq → IsCovered held core →
-    IsCovered (after_save held (unless_failed off v.seq) (is_kept save)) (stepped core (issues_unless core.node off save v)).core
+    IsCovered (after_save held (unless_failed off v.seq) (is_kept save)) (stepped core (issued_unless_off core.node off save v)).core
 unless_covered held core None save v above was = saves_covered held core save v above was
 unless_covered held core (Some failed) save v above was = record { saved = was.saved; own = was.own; waiting = was.waiting }
 
 issuing_covered : (held : Held) (core : Core) (seq : ℕ) (save : Save) (v : Validation) (b : Bool) → nat_lt core.node.kept seq ≡ b → v.seq ≡ seq → IsCovered held core →
-    IsCovered (after_save held (cond b (unless_failed core.node.failed_save seq) None) (is_kept save)) (stepped core (cond b (issues_unless core.node core.node.failed_save save v) (refusing core.node (NotAfter core.node.kept)))).core
+    IsCovered (after_save held (cond b (unless_failed core.node.failed_save seq) None) (is_kept save)) (stepped core (cond b (issued_unless_off core.node core.node.failed_save save v) (refusing core.node (NotAfter core.node.kept)))).core
 issuing_covered held core seq save v true above same was =
-    subst (λ (s : ℕ). IsCovered (after_save held (unless_failed core.node.failed_save s) (is_kept save)) (stepped core (issues_unless core.node core.node.failed_save save v)).core) same
+    subst (λ (s : ℕ). IsCovered (after_save held (unless_failed core.node.failed_save s) (is_kept save)) (stepped core (issued_unless_off core.node core.node.failed_save save v)).core) same
     (unless_covered held core core.node.failed_save save v (omega (arith, ltb-true core.node.kept seq above, same)) was)
 issuing_covered held core seq save v false above same was = record { saved = was.saved; own = was.own; waiting = was.waiting }
 
@@ -306,7 +306,7 @@ relist_covered held core now list save was =
 
 -- what was built is validated, or not
 validating_covered : (held : Held) (core : Core) (h : Header) (full : Bool) (save : Save) (b : Bool) → IsCovered held core →
-    IsCovered (after_save held (cond b (asks_for core.node h.seq) None) (is_kept save)) (stepped core (cond b (issuing core.node h.seq (header_id h) full save) (replying core.node Done []))).core
+    IsCovered (after_save held (cond b (asks_for core.node h.seq) None) (is_kept save)) (stepped core (cond b (issuing_reply core.node h.seq (header_id h) full save) (replying core.node Done []))).core
 validating_covered held core h full save true was = issuing_covered held core h.seq save (own_validation core.node h.seq (header_id h) full) (nat_lt core.node.kept h.seq) refl refl was
 validating_covered held core h full save false was = record { saved = was.saved; own = was.own; waiting = was.waiting }
 
@@ -315,8 +315,8 @@ pub timer_covered : (held : Held) (core : Core) (now : ℕ) (save : Save) → Is
 timer_covered held core now save was =
     let m : Node = at_moment now core.node in
     let moved : IsCovered held (record core { node = m }) = later_covered held core now was in
-    timing_by (λ t. IsCovered (after_save held (asks_of t) (is_kept save)) (stepped core (completed t save)).core) m
-    (λ r beat said. record { saved = moved.saved; own = moved.own; waiting = many_most m.kept (said_items said) core.waiting (said_covered m.kept said) moved.waiting })
+    timing_by (λ t. IsCovered (after_save held (asks_of t) (is_kept save)) (stepped core (timer_reply t save)).core) m
+    (λ r told said. record { saved = moved.saved; own = moved.own; waiting = many_most m.kept (said_items said) core.waiting (said_covered m.kept said) moved.waiting })
     (λ ledgers r said h place moved_on _.
     let built : Node = record m { ledgers = ledgers; round = r } in
     let front : List Item = said_items said ++ HeaderItem (header_id h) ∷ [] in

@@ -2,18 +2,18 @@
 use Rattle.std.proofs.Common.{◌≡◌, ◌∙◌, ℕ, ◌<◌, Bool, [], length, subst, Option, Some, None, Result, Ok, Err, refl, ap, sym}
 use Rattle.xl_base.specs.declared.ids.LedgerId.{LedgerId}
 use Rattle.xl_ledger.specs.Chains.{id_at}
-use Rattle.xl_rounds.specs.declared.pulse.Kind.{Kind}
-use Rattle.xl_rounds.specs.declared.pulse.Kind.TheVariants.{Ready}
-use Rattle.xl_rounds.specs.declared.pulse.Pulse.{Pulse}
-use Rattle.xl_rounds.specs.declared.pulse.Said.{Said}
-use Rattle.xl_rounds.specs.declared.pulse.Seen.{Seen}
+use Rattle.xl_rounds.specs.declared.heartbeat.HeartbeatKind.{HeartbeatKind}
+use Rattle.xl_rounds.specs.declared.heartbeat.HeartbeatKind.TheVariants.{Ready}
+use Rattle.xl_rounds.specs.declared.heartbeat.Heartbeat.{Heartbeat}
+use Rattle.xl_rounds.specs.declared.heartbeat.Said.{Said}
+use Rattle.xl_rounds.specs.declared.heartbeat.Seen.{Seen}
 use Rattle.xl_rounds.specs.Heartbeats.{heartbeat}
 use Rattle.xl_validations.specs.Rows.{named}
 use Rattle.xl_validations.specs.Votes.{finished}
-use Rattle.xl_core.specs.declared.tick.Tick.{Tick}
+use Rattle.xl_core.specs.declared.timer_part.TimerPart.{TimerPart}
 use Rattle.xl_core.specs.Building.{knowing}
-use Rattle.xl_core.specs.Node.{Node, Reply, Save, chosen, timed, switching, seen, built, building, following, after_beat, issuing, issues_unless, own_validation, refusing, replying, validates}
-use Rattle.xl_core.specs.Ticks.{timed_by, validated, validated_reply}
+use Rattle.xl_core.specs.Node.{Node, Reply, Save, chosen, timer_outcome, switch_outcome, seen, built, built_outcome, kind_outcome, heartbeat_outcome, issuing_reply, issued_unless_off, own_validation, refusing, replying, validates}
+use Rattle.xl_core.specs.TimerParts.{outcome_by, validating_reply, validated_reply}
 use Rattle.std.specs.Prelude.{◌==◌, nat_lt, true}
 use Rattle.std.proofs.lemmas.Bool.{cond_both, cond-true}
 use Rattle.xl_ledger.specs.Headers.{header_id}
@@ -25,7 +25,7 @@ use Rattle.xl_rounds.specs.Settings.{setting_on}
 use Rattle.xl_core.specs.declared.refusal.Refusal.{Refusal}
 use Rattle.xl_core.specs.declared.refusal.Refusal.TheVariants.{NotAfter}
 use Rattle.xl_core.specs.declared.report.OwnValidation.{OwnValidation}
-use Rattle.xl_core.specs.declared.tick.Built.{Built}
+use Rattle.xl_core.specs.declared.timer_part.Built.{Built}
 use Rattle.xl_core.specs.Answers.{Done}
 use Rattle.xl_core.specs.Node.Save.{Kept, Failed}
 use Rattle.xl_core.specs.Replies.{save_in}
@@ -42,30 +42,30 @@ seen_is n me previous id validated over is_me is_previous is_id is_validated is_
     (is_over ∙ ap (finished n.ledgers.headers n.rows) is_previous)
 
 -- the round is ready, and its ledger is built
-pub built_then : (n m : Node) (kind : Kind) (said : Option Said) (moved_on : Bool) (t : Tick) (after : Node) → kind ≡ Ready moved_on →
-    m ≡ record n { round = (heartbeat n.time (seen n) n.round).round } → (let p : Pulse = record { kind = kind; said = said } in p) ≡ (heartbeat n.time (seen n) n.round).pulse →
-    timed_by t after ≡ building m said moved_on (knowing m.ledgers (built m)) → timed_by t after ≡ after_beat n (heartbeat n.time (seen n) n.round)
+pub built_then : (n m : Node) (kind : HeartbeatKind) (said : Option Said) (moved_on : Bool) (t : TimerPart) (after : Node) → kind ≡ Ready moved_on →
+    m ≡ record n { round = (heartbeat n.time (seen n) n.round).round } → (let p : Heartbeat = record { kind = kind; said = said } in p) ≡ (heartbeat n.time (seen n) n.round).answer →
+    outcome_by t after ≡ built_outcome m said moved_on (knowing m.ledgers (built m)) → outcome_by t after ≡ heartbeat_outcome n (heartbeat n.time (seen n) n.round)
 built_then n m kind said moved_on t after is_kind is_node is_pulse is =
-    is ∙ ap (λ (k : Kind). following m said k) (sym is_kind)
-    ∙ ap (λ (p : Pulse). following m p.said p.kind) is_pulse
-    ∙ ap (λ (x : Node). following x (heartbeat n.time (seen n) n.round).pulse.said (heartbeat n.time (seen n) n.round).pulse.kind) is_node
+    is ∙ ap (λ (k : HeartbeatKind). kind_outcome m said k) (sym is_kind)
+    ∙ ap (λ (p : Heartbeat). kind_outcome m p.said p.kind) is_pulse
+    ∙ ap (λ (x : Node). kind_outcome x (heartbeat n.time (seen n) n.round).answer.said (heartbeat n.time (seen n) n.round).answer.kind) is_node
 
 -- the votes choose the round's ledger
-pub goes_on_then : (m : Node) (ledger previous : ℕ) (eq : Bool) (t : Tick) (after : Node) → ledger ≡ chosen m → previous ≡ m.round.setting.previous → (ledger == previous) ≡ true →
-    timed_by t after ≡ after_beat m (heartbeat m.time (seen m) m.round) → timed_by t after ≡ timed m
+pub goes_on_then : (m : Node) (ledger previous : ℕ) (eq : Bool) (t : TimerPart) (after : Node) → ledger ≡ chosen m → previous ≡ m.round.setting.previous → (ledger == previous) ≡ true →
+    outcome_by t after ≡ heartbeat_outcome m (heartbeat m.time (seen m) m.round) → outcome_by t after ≡ timer_outcome m
 goes_on_then m ledger previous eq t after is_ledger is_previous same is =
-    is ∙ sym (cond-true (chosen m == m.round.setting.previous) (after_beat m (heartbeat m.time (seen m) m.round)) (switching m (chosen m))
+    is ∙ sym (cond-true (chosen m == m.round.setting.previous) (heartbeat_outcome m (heartbeat m.time (seen m) m.round)) (switch_outcome m (chosen m))
     (ap (λ (n : ℕ). n == m.round.setting.previous) (sym is_ledger) ∙ ap (λ (n : ℕ). ledger == n) (sym is_previous) ∙ same))
 
 -- VALIDATING
 
 -- validating leaves the ledgers, and the number of its code
-issuing_ledgers : (n : Node) (seq : ℕ) (id : LedgerId) (full : Bool) (save : Save) → (issuing n seq id full save).node.ledgers ≡ n.ledgers
+issuing_ledgers : (n : Node) (seq : ℕ) (id : LedgerId) (full : Bool) (save : Save) → (issuing_reply n seq id full save).node.ledgers ≡ n.ledgers
 issuing_ledgers n seq id full save =
-    cond_both (nat_lt n.kept seq) (issues_unless n n.failed_save save (own_validation n seq id full)) (refusing n (NotAfter n.kept)) (λ r. r.node.ledgers ≡ n.ledgers)
+    cond_both (nat_lt n.kept seq) (issued_unless_off n n.failed_save save (own_validation n seq id full)) (refusing n (NotAfter n.kept)) (λ r. r.node.ledgers ≡ n.ledgers)
     (λ _. by n.failed_save save) (λ _. refl)
   where
-    by : (failed : Option ℕ) (s : Save) → (issues_unless n failed s (own_validation n seq id full)).node.ledgers ≡ n.ledgers
+    by : (failed : Option ℕ) (s : Save) → (issued_unless_off n failed s (own_validation n seq id full)).node.ledgers ≡ n.ledgers
     by None Kept = refl
     by None (Failed count) = refl
     by (Some f) s = refl
@@ -75,14 +75,14 @@ reply_node (Ok None) n = refl
 reply_node (Ok (Some own)) n = refl
 reply_node (Err why) n = refl
 
-pub same_ledgers : (n m : Node) (b : Built) (o : Result (Option OwnValidation) Refusal) → validated_reply o m ≡ validated n b (save_in o) → m.ledgers ≡ n.ledgers
+pub same_ledgers : (n m : Node) (b : Built) (o : Result (Option OwnValidation) Refusal) → validated_reply o m ≡ validating_reply n b (save_in o) → m.ledgers ≡ n.ledgers
 same_ledgers n m b o is =
     ap (λ (x : Node). x.ledgers) (sym (reply_node o m)) ∙ ap (λ (r : Reply). r.node.ledgers) is
-    ∙ cond_both (validates n b.moved_on) (issuing n b.header.seq (header_id b.header) (is_proposing n.round.setting.mode) (save_in o)) (replying n Done []) (λ r. r.node.ledgers ≡ n.ledgers)
+    ∙ cond_both (validates n b.moved_on) (issuing_reply n b.header.seq (header_id b.header) (is_proposing n.round.setting.mode) (save_in o)) (replying n Done []) (λ r. r.node.ledgers ≡ n.ledgers)
     (λ _. issuing_ledgers n b.header.seq (header_id b.header) (is_proposing n.round.setting.mode) (save_in o)) (λ _. refl)
 
 -- so the built ledger is known still
-pub still_known : (n m x : Node) (b : Built) (o : Result (Option OwnValidation) Refusal) → x ≡ m → validated_reply o m ≡ validated n b (save_in o) → b.ledger < length n.ledgers.headers → b.ledger < length x.ledgers.headers
+pub still_known : (n m x : Node) (b : Built) (o : Result (Option OwnValidation) Refusal) → x ≡ m → validated_reply o m ≡ validating_reply n b (save_in o) → b.ledger < length n.ledgers.headers → b.ledger < length x.ledgers.headers
 still_known n m x b o same is within = subst (λ (l : Ledgers). b.ledger < length l.headers) (sym (ap (λ (y : Node). y.ledgers) same ∙ same_ledgers n m b o is)) within
 
 -- and the node is ready in the round on it

@@ -2,7 +2,7 @@
 use Rattle.std.specs.Prelude.{ℕ, Bool, List, []}
 use Rattle.std.specs.Prelude.{Some, None}
 use Rattle.std.specs.declared.option.Option.{Option}
-use Rattle.xl_core.specs.declared.beat.Beat.{Beat}
+use Rattle.xl_core.specs.declared.timer_answer.TimerAnswer.{TimerAnswer}
 use Rattle.xl_core.specs.declared.refusal.Refusal.{Refusal}
 use Rattle.xl_core.specs.declared.report.Report.{Report}
 use Rattle.xl_core.specs.declared.taken.Taken.{Taken}
@@ -12,7 +12,7 @@ pub data Answer : Type 0 where
   -- this was taken of a frame
   Took : (taken : Taken) → Answer
   -- this came of a timer
-  Beats : (beat : Beat) → Answer
+  Beats : (told : TimerAnswer) → Answer
   -- it was done, and there is nothing to say
   Done : Answer
   -- these frames go to a member

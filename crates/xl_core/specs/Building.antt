@@ -10,12 +10,12 @@ use Rattle.xl_ledger.specs.Headers.{header_id, next_header}
 use Rattle.xl_ledger.specs.Registries.{Ledgers, with_header}
 use Rattle.xl_rounds.specs.declared.phase.Mode.{Mode}
 use Rattle.xl_rounds.specs.declared.phase.Mode.TheVariants.{Proposing, Observing}
-use Rattle.xl_rounds.specs.declared.pulse.Agreed.{Agreed}
-use Rattle.xl_rounds.specs.declared.pulse.Said.{Said}
+use Rattle.xl_rounds.specs.declared.heartbeat.Agreed.{Agreed}
+use Rattle.xl_rounds.specs.declared.heartbeat.Said.{Said}
 use Rattle.xl_wire.specs.declared.proposal.Proposal.{Proposal}
 use Rattle.xl_wire.specs.declared.validation.Validation.{Validation}
-use Rattle.xl_core.specs.declared.beat.Issued.{Issued}
-use Rattle.xl_core.specs.declared.beat.Issued.TheVariants.{Full, Partial, Silent, Refused}
+use Rattle.xl_core.specs.declared.timer_answer.Issued.{Issued}
+use Rattle.xl_core.specs.declared.timer_answer.Issued.TheVariants.{Full, Partial, Silent, Refused}
 use Rattle.xl_core.specs.declared.item.Item.{Item}
 use Rattle.xl_core.specs.declared.item.Item.TheVariants.{TxSet, Proposal as Position}
 use Rattle.xl_core.specs.declared.refusal.Refusal.{Refusal}

@@ -33,8 +33,8 @@ causes ring members bytes f =
     ∷ []
 
 -- the first of these causes decides
-abbrev pub unheard : Ring → List ℕ → List ℕ → Option Refusal
-unheard ring members bytes = first_of (causes ring members bytes (raw_in bytes))
+abbrev pub hearing_refusal : Ring → List ℕ → List ℕ → Option Refusal
+hearing_refusal ring members bytes = first_of (causes ring members bytes (raw_in bytes))
 
 -- what a body says
 abbrev pub speech_of : Body → Speech
@@ -49,8 +49,8 @@ abbrev pub said_in : RawFrame → Spoken
 said_in f = record { from = f.from; what = speech_of (body_in f.kind f.body) }
 
 -- what a node with these keys and these listed members hears in bytes
-abbrev pub heard : Ring → List ℕ → List ℕ → Result Spoken Refusal
-heard ring members bytes = unless_refused (unheard ring members bytes) (said_in (raw_in bytes))
+abbrev pub spoken_in : Ring → List ℕ → List ℕ → Result Spoken Refusal
+spoken_in ring members bytes = unless_refused (hearing_refusal ring members bytes) (said_in (raw_in bytes))
 
 -- bytes are a frame to the keys' member from another listed one, with the tag of their key, and the frame has this body
 pub record Carries (ring : Ring) (members bytes : List ℕ) (f : RawFrame) (body : Body) : Type 0 where

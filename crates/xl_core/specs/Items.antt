@@ -11,7 +11,7 @@ use Rattle.xl_ledger.specs.Chains.{header_at, place_of}
 use Rattle.xl_ledger.specs.Headers.{spelling}
 use Rattle.xl_wire.specs.declared.body.Body.{Body}
 use Rattle.xl_core.specs.declared.item.Item.{Item}
-use Rattle.xl_core.specs.declared.item.Item.TheVariants.{Vote, Tx, TxSet, Proposal, Header}
+use Rattle.xl_core.specs.declared.item.Item.TheVariants.{Validation as ValidationItem, Tx, TxSet, Proposal, Header}
 use Rattle.xl_core.specs.Node.{Node}
 use Rattle.xl_core.specs.Queues.{waiting_at, that_fit, joined, frames_in, at_number, after_taking}
 use Rattle.xl_queues.specs.Queues.{Backlog}
@@ -32,7 +32,7 @@ header_body n id = option_map (header_body_at n) (place_of n.ledgers.headers id)
 
 -- the body in which it says an item, or None for a set that is no longer its own
 abbrev pub body_in : Node → Item → Option Body
-body_in n (Vote v) = Some (bodies.Validation v)
+body_in n (ValidationItem v) = Some (bodies.Validation v)
 body_in n (Tx tx) = Some (bodies.Tx tx)
 body_in n (TxSet id) = if is_own n id then Some (bodies.TxSet n.round.positions.own) else None
 body_in n (Proposal p) = Some (bodies.Proposal p)

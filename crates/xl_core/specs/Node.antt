@@ -28,18 +28,18 @@ use Rattle.xl_rounds.specs.declared.phase.Mode.{Mode}
 use Rattle.xl_rounds.specs.declared.phase.Mode.TheVariants.{SwitchedLedger}
 use Rattle.xl_rounds.specs.declared.placed.Placed.{Placed}
 use Rattle.xl_rounds.specs.declared.placed.Placed.TheVariants as placed
-use Rattle.xl_rounds.specs.declared.pulse.Kind.{Kind}
-use Rattle.xl_rounds.specs.declared.pulse.Kind.TheVariants as kind
-use Rattle.xl_rounds.specs.declared.pulse.Said.{Said}
-use Rattle.xl_rounds.specs.declared.pulse.Seen.{Seen}
+use Rattle.xl_rounds.specs.declared.heartbeat.HeartbeatKind.{HeartbeatKind}
+use Rattle.xl_rounds.specs.declared.heartbeat.HeartbeatKind.TheVariants as kind
+use Rattle.xl_rounds.specs.declared.heartbeat.Said.{Said}
+use Rattle.xl_rounds.specs.declared.heartbeat.Seen.{Seen}
 use Rattle.xl_rounds.specs.declared.refusal.RoundRefusal.{RoundRefusal}
 use Rattle.xl_rounds.specs.Rounds.{Round, opened as opened_round, is_proposing, leave, with_pending, hold, agreed, accepted}
 use Rattle.xl_rounds.specs.Pending.{submit_refusal}
 use Rattle.xl_rounds.specs.Proposals.{answer, with_answer, started}
 use Rattle.xl_rounds.specs.Relisting.{relisted as relisted_round}
-use Rattle.xl_rounds.specs.Heartbeats.{Beat as RoundBeat, heartbeat}
-use Rattle.xl_core.specs.declared.beat.Beat.{Beat}
-use Rattle.xl_core.specs.declared.beat.Beat.TheVariants.{Nothing, Closed, Updated, Switched, NoRoom, Built}
+use Rattle.xl_rounds.specs.Heartbeats.{HeartbeatReply, heartbeat}
+use Rattle.xl_core.specs.declared.timer_answer.TimerAnswer.{TimerAnswer}
+use Rattle.xl_core.specs.declared.timer_answer.TimerAnswer.TheVariants.{Nothing, Closed, Updated, Switched, NoRoom, Built}
 use Rattle.xl_core.specs.declared.last.LastReport.{LastReport}
 use Rattle.xl_core.specs.declared.report.Report.{Report}
 use Rattle.xl_core.specs.declared.settings.Settings.{Settings}
@@ -49,14 +49,14 @@ use Rattle.xl_core.specs.declared.hearing.Spoken.{Spoken}
 use Rattle.xl_core.specs.declared.hearing.Speech.{Speech}
 use Rattle.xl_core.specs.declared.hearing.Speech.TheVariants as speech
 use Rattle.xl_core.specs.declared.item.Item.{Item}
-use Rattle.xl_core.specs.declared.item.Item.TheVariants.{Vote as VoteItem, Tx as TxItem, Header as HeaderItem}
+use Rattle.xl_core.specs.declared.item.Item.TheVariants.{Validation as ValidationItem, Tx as TxItem, Header as HeaderItem}
 use Rattle.xl_core.specs.declared.taken.Taken.{Taken}
 use Rattle.xl_core.specs.declared.taken.Taken.TheVariants as taken
-use Rattle.xl_core.specs.declared.taken.Taken.TheVariants.{Vote as TakenVote, Header as TakenHeader}
+use Rattle.xl_core.specs.declared.taken.Taken.TheVariants.{Validation as TakenValidation, Header as TakenHeader}
 use Rattle.xl_ledger.specs.Headers.{header_id}
 use Rattle.xl_core.specs.Answers.{Answer, Refused, Took, Beats, Done, refusal_in}
 use Rattle.xl_core.specs.Building.{usual_mode, said_items, alone, next_by, Knowing, knowing, how_issued}
-use Rattle.xl_core.specs.Hearing.{heard, unheard, said_in}
+use Rattle.xl_core.specs.Hearing.{spoken_in, hearing_refusal, said_in}
 use Rattle.xl_core.specs.Lasts.{none_reported, is_news, later, over_another_list}
 use Rattle.xl_core.specs.Refusals.{refusal_from, round_from}
 
@@ -171,14 +171,14 @@ abbrev pub refusing : Node → Refusal → Reply
 refusing n why = replying n (Refused why) []
 
 -- the refusal, if there is a cause; else this reply
-abbrev pub refusing_or : Node → Option Refusal → Reply → Reply
-refusing_or n None reply = reply
-refusing_or n (Some why) reply = refusing n why
+abbrev pub reply_unless : Node → Option Refusal → Reply → Reply
+reply_unless n None reply = reply
+reply_unless n (Some why) reply = refusing n why
 
 -- what is issued waits for every peer
 abbrev pub items_of : Option Validation → List Item
 items_of None = []
-items_of (Some v) = VoteItem v ∷ []
+items_of (Some v) = ValidationItem v ∷ []
 
 -- the rows report what arises in them
 abbrev pub reporting : Node → Answer → Option Validation → Reply
@@ -202,8 +202,8 @@ abbrev pub with_own : Node → Validation → Node
 with_own n v = with_taken n (second_of n) n.me v
 
 -- the node that has saved the validation's sequence: only then its own row takes it
-abbrev pub saving : Node → ℕ → Validation → Node
-saving n now v = with_taken (record n { kept = v.seq }) now n.me v
+abbrev pub with_saved : Node → ℕ → Validation → Node
+with_saved n now v = with_taken (record n { kept = v.seq }) now n.me v
 
 -- how the save that an event asks is answered: with Ok, or with Failed, the keeper's count of faults being this then
 pub data Save : Type 0 where
@@ -224,13 +224,13 @@ abbrev pub asks_for : Node → ℕ → Option ℕ
 asks_for n seq = if nat_lt n.kept seq then unless_failed n.failed_save seq else None
 
 -- after a save that failed the node issues nothing more
-abbrev pub issues : Node → ℕ → Save → Validation → Reply
-issues n now Kept v = reporting (saving n now v) Done (Some v)
-issues n now (Failed count) v = refusing (record n { failed_save = Some v.seq }) (KeepFault count)
+abbrev pub issued_reply : Node → ℕ → Save → Validation → Reply
+issued_reply n now Kept v = reporting (with_saved n now v) Done (Some v)
+issued_reply n now (Failed count) v = refusing (record n { failed_save = Some v.seq }) (KeepFault count)
 
-abbrev pub issues_unless : Node → Option ℕ → Save → Validation → Reply
-issues_unless n None save v = issues n (second_of n) save v
-issues_unless n (Some failed) save v = refusing n (IssuingOff failed)
+abbrev pub issued_unless_off : Node → Option ℕ → Save → Validation → Reply
+issued_unless_off n None save v = issued_reply n (second_of n) save v
+issued_unless_off n (Some failed) save v = refusing n (IssuingOff failed)
 
 -- why the row of a number doesn't take the validation
 abbrev pub refusal_at : Node → ℕ → ℕ → Validation → Option ValRefusal
@@ -268,36 +268,36 @@ speech_refusal n from (speech.Tx tx) = tx_refusal n tx
 -- a member's row takes a validation, the ledgers a header, and the round a proposal, a set or a transaction.
 -- Validations that waited for a header are votes from then on; a set is the one that the member holds; nothing is sent
 -- on
-abbrev pub taking : Node → ℕ → Speech → Reply
-taking n from (speech.Validation v) = reporting (with_taken n (second_of n) from v) (Took TakenVote) None
-taking n from (speech.Header h) = record {
+abbrev pub taken_reply : Node → ℕ → Speech → Reply
+taken_reply n from (speech.Validation v) = reporting (with_taken n (second_of n) from v) (Took TakenValidation) None
+taken_reply n from (speech.Header h) = record {
   node = record n { ledgers = with_header n.ledgers h };
   answer = Took (TakenHeader (header_id h));
   items = [];
   issued = None;
   report = None;
 }
-taking n from (speech.Proposal p) =
+taken_reply n from (speech.Proposal p) =
     let place = placing n from p in
     replying (record n { round = with_answer place from p n.round }) (placed_as place) []
-taking n from (speech.TxSet ids) =
+taken_reply n from (speech.TxSet ids) =
     replying (record n { round = hold from ids n.round }) (Took (taken.Set (set_id_of ids))) []
-taking n from (speech.Tx tx) = replying (with_tx n tx) (Took taken.Pending) []
+taken_reply n from (speech.Tx tx) = replying (with_tx n tx) (Took taken.Pending) []
 
 -- what a member says is refused or taken
-abbrev pub hears : Node → ℕ → Speech → Reply
-hears n from what = refusing_or n (speech_refusal n from what) (taking n from what)
+abbrev pub speech_reply : Node → ℕ → Speech → Reply
+speech_reply n from what = reply_unless n (speech_refusal n from what) (taken_reply n from what)
 
 -- why it refuses bytes, if it does: it hears nothing in them, or refuses what they say
 abbrev pub frame_refusal : Node → List ℕ → Option Refusal
 frame_refusal n bytes =
     let said = said_in (raw_in bytes) in
-    option_or (unheard n.keys n.list.members bytes) (speech_refusal n said.from said.what)
+    option_or (hearing_refusal n.keys n.list.members bytes) (speech_refusal n said.from said.what)
 
 -- bytes are refused for the first cause, or what they say is taken
-abbrev pub hearing : Node → List ℕ → Reply
-hearing n bytes =
-    let said = said_in (raw_in bytes) in refusing_or n (frame_refusal n bytes) (taking n said.from said.what)
+abbrev pub bytes_reply : Node → List ℕ → Reply
+bytes_reply n bytes =
+    let said = said_in (raw_in bytes) in reply_unless n (frame_refusal n bytes) (taken_reply n said.from said.what)
 
 -- the ledger that was last reported, or no ledger's id
 abbrev pub last_id : Option Report → LedgerId
@@ -317,17 +317,17 @@ abbrev pub IsOff : Node → ℕ → ℕ → Type 0
 IsOff n seq failed = (n.kept < seq) × (n.failed_save ≡ Some failed)
 
 -- it issues its own validation of a sequence that was saved
-abbrev pub issues_own : Node → ℕ → LedgerId → Bool → Reply
-issues_own n seq id full = issues n (second_of n) Kept (own_validation n seq id full)
+abbrev pub own_issued_reply : Node → ℕ → LedgerId → Bool → Reply
+own_issued_reply n seq id full = issued_reply n (second_of n) Kept (own_validation n seq id full)
 
-abbrev pub issuing : Node → ℕ → LedgerId → Bool → Save → Reply
-issuing n seq id full save =
-    if nat_lt n.kept seq then issues_unless n n.failed_save save (own_validation n seq id full)
+abbrev pub issuing_reply : Node → ℕ → LedgerId → Bool → Save → Reply
+issuing_reply n seq id full save =
+    if nat_lt n.kept seq then issued_unless_off n n.failed_save save (own_validation n seq id full)
     else refusing n (NotAfter n.kept)
 
 -- a transaction that is handed in is sent
-abbrev pub submitting : Node → TxId → Reply
-submitting n tx = refusing_or n (tx_refusal n tx) (replying (with_tx n tx) Done (TxItem tx ∷ []))
+abbrev pub submitted_reply : Node → TxId → Reply
+submitted_reply n tx = reply_unless n (tx_refusal n tx) (replying (with_tx n tx) Done (TxItem tx ∷ []))
 
 -- ANOTHER LIST
 
@@ -345,17 +345,17 @@ with_list n list = record n {
 }
 
 -- the list is set, and the rows report what arises in them under it, unless a key is missing
-abbrev pub relisting : Node → TrustedList → Reply
-relisting n list = refusing_or n (key_refusal n list) (reporting (with_list n list) Done None)
+abbrev pub relisted_reply : Node → TrustedList → Reply
+relisted_reply n list = reply_unless n (key_refusal n list) (reporting (with_list n list) Done None)
 
 -- THE TIMER
 
 -- what it comes to, except for the save and the validation of a built ledger
-pub data Timed : Type 0 where
+pub data TimerOutcome : Type 0 where
   -- nothing was built; a position is said, or none
-  Quiet : (n : Node) (beat : Beat) (said : Option Said) → Timed
+  Quiet : (n : Node) (told : TimerAnswer) (said : Option Said) → TimerOutcome
   -- the ledger of this header was built and accepted, at this place among the known ones; the members may have moved on
-  Ending : (n : Node) (said : Option Said) (h : Header) (place : ℕ) (moved_on : Bool) → Timed
+  Ending : (n : Node) (said : Option Said) (h : Header) (place : ℕ) (moved_on : Bool) → TimerOutcome
 
 -- the ledger that the votes choose to go on with. The largest sequence issued is the kept number
 abbrev pub chosen : Node → ℕ
@@ -366,8 +366,8 @@ abbrev pub starting : Node → ℕ → Mode → Node
 starting n ledger mode = record n { round = started n.ledgers.headers ledger mode n.time n.round }
 
 -- where another ledger is chosen the node leaves its round for one on that; a position by which it leaves is said
-abbrev pub switching : Node → ℕ → Timed
-switching n ledger =
+abbrev pub switch_outcome : Node → ℕ → TimerOutcome
+switch_outcome n ledger =
     let ledgers = n.ledgers.headers in
     Quiet (starting n ledger SwitchedLedger) (Switched (seq_at ledgers ledger) (id_at ledgers ledger))
     (alone (leave n.time n.round))
@@ -388,25 +388,25 @@ abbrev pub accepting : Node → Ledgers → Node
 accepting n ledgers = record n { ledgers = ledgers; round = accepted (unwrap_or n.round.ready 0) n.round }
 
 -- the ledger is accepted for which the round is ready, if there is room for it; it is known then
-abbrev pub building : Node → Option Said → Bool → Option Knowing → Timed
-building n said moved_on None = Quiet n (NoRoom n.ledgers.limit) said
-building n said moved_on (Some known) = Ending (accepting n known.ledgers) said (built n) known.place moved_on
+abbrev pub built_outcome : Node → Option Said → Bool → Option Knowing → TimerOutcome
+built_outcome n said moved_on None = Quiet n (NoRoom n.ledgers.limit) said
+built_outcome n said moved_on (Some known) = Ending (accepting n known.ledgers) said (built n) known.place moved_on
 
 -- what follows a heartbeat of the round, by which a position is said, or none
-abbrev pub following : Node → Option Said → Kind → Timed
-following n said kind.Nothing = Quiet n Nothing said
-following n said kind.Closed = Quiet n Closed said
-following n said kind.Updated = Quiet n Updated said
-following n said (kind.Ready moved_on) = building n said moved_on (knowing n.ledgers (built n))
+abbrev pub kind_outcome : Node → Option Said → HeartbeatKind → TimerOutcome
+kind_outcome n said kind.Nothing = Quiet n Nothing said
+kind_outcome n said kind.Closed = Quiet n Closed said
+kind_outcome n said kind.Updated = Quiet n Updated said
+kind_outcome n said (kind.Ready moved_on) = built_outcome n said moved_on (knowing n.ledgers (built n))
 
-abbrev pub after_beat : Node → RoundBeat → Timed
-after_beat n beat = following (record n { round = beat.round }) beat.pulse.said beat.pulse.kind
+abbrev pub heartbeat_outcome : Node → HeartbeatReply → TimerOutcome
+heartbeat_outcome n reply = kind_outcome (record n { round = reply.round }) reply.answer.said reply.answer.kind
 
 -- the round goes on, or the node switches
-abbrev pub timed : Node → Timed
-timed n =
-    if chosen n == n.round.setting.previous then after_beat n (heartbeat n.time (seen n) n.round)
-    else switching n (chosen n)
+abbrev pub timer_outcome : Node → TimerOutcome
+timer_outcome n =
+    if chosen n == n.round.setting.previous then heartbeat_outcome n (heartbeat n.time (seen n) n.round)
+    else switch_outcome n (chosen n)
 
 -- a validating node validates what it built, unless the members moved on without it
 abbrev pub validates : Node → Bool → Bool
@@ -415,30 +415,30 @@ validates n moved_on = n.validating && not moved_on
 -- the validation is full exactly if it proposes
 abbrev pub validating_built : Node → Header → Bool → Save → Reply
 validating_built n h moved_on save =
-    if validates n moved_on then issuing n h.seq (header_id h) (is_proposing n.round.setting.mode) save
+    if validates n moved_on then issuing_reply n h.seq (header_id h) (is_proposing n.round.setting.mode) save
     else replying n Done []
 
 -- and then a round starts on the built ledger
-abbrev pub concluding : Node → Header → ℕ → Bool → Save → Reply
-concluding n h place moved_on save =
+abbrev pub after_built : Node → Header → ℕ → Bool → Save → Reply
+after_built n h place moved_on save =
     let validated = validating_built n h moved_on save in
     record validated { node = starting validated.node place (usual_mode n.validating) }
 
 -- the header is sent, and then the validation
-abbrev pub ending : List Item → Header → Bool → Reply → Reply
-ending said h moved_on done = record done {
+abbrev pub built_reply : List Item → Header → Bool → Reply → Reply
+built_reply said h moved_on done = record done {
   answer = Beats (Built h.seq (header_id h) moved_on (how_issued (refusal_in done.answer) done.issued));
   items = said ++ HeaderItem (header_id h) ∷ done.items;
 }
 
-abbrev pub completed : Timed → Save → Reply
-completed (Quiet n beat said) save = replying n (Beats beat) (said_items said)
-completed (Ending n said h place moved_on) save =
-    ending (said_items said) h moved_on (concluding n h place moved_on save)
+abbrev pub timer_reply : TimerOutcome → Save → Reply
+timer_reply (Quiet n told said) save = replying n (Beats told) (said_items said)
+timer_reply (Ending n said h place moved_on) save =
+    built_reply (said_items said) h moved_on (after_built n h place moved_on save)
 
 -- the save that it asks: that of the built ledger's sequence
-abbrev pub asks_of : Timed → Option ℕ
-asks_of (Quiet n beat said) = None
+abbrev pub asks_of : TimerOutcome → Option ℕ
+asks_of (Quiet n told said) = None
 asks_of (Ending n said h place moved_on) = if validates n moved_on then asks_for n h.seq else None
 
 -- EVERY EVENT
@@ -446,20 +446,20 @@ asks_of (Ending n said h place moved_on) = if validates n moved_on then asks_for
 -- the save that an event asks
 abbrev pub asks : Node → Event → Option ℕ
 asks n (Issue now seq id full) = asks_for n seq
-asks n (Timer now) = asks_of (timed (at_moment now n))
+asks n (Timer now) = asks_of (timer_outcome (at_moment now n))
 asks n other = None
 
 -- what came of an event, whose save was answered so: first the time is set, and rows expire
 abbrev pub happens : Node → Event → Save → Reply
-happens n (Issue now seq id full) save = issuing (at_moment now n) seq id full save
-happens n (Frame now bytes) save = hearing (at_moment now n) bytes
-happens n (Timer now) save = completed (timed (at_moment now n)) save
-happens n (Submit now tx) save = submitting (at_moment now n) tx
-happens n (Relist now list) save = relisting (at_moment now n) list
+happens n (Issue now seq id full) save = issuing_reply (at_moment now n) seq id full save
+happens n (Frame now bytes) save = bytes_reply (at_moment now n) bytes
+happens n (Timer now) save = timer_reply (timer_outcome (at_moment now n)) save
+happens n (Submit now tx) save = submitted_reply (at_moment now n) tx
+happens n (Relist now list) save = relisted_reply (at_moment now n) list
 
 -- whom it hears in bytes is another
 abbrev pub HearsOthers : Node → List ℕ → Type 0
-HearsOthers n bytes = (said : Spoken) → heard n.keys n.list.members bytes ≡ Ok said → said.from ≢ n.me
+HearsOthers n bytes = (said : Spoken) → spoken_in n.keys n.list.members bytes ≡ Ok said → said.from ≢ n.me
 
 abbrev pub report_at : List Header → ℕ → Report
 report_at ledgers ledger = record { seq = seq_at ledgers ledger; id = id_at ledgers ledger }

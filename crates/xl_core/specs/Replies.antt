@@ -10,7 +10,7 @@ use Rattle.xl_core.specs.declared.refusal.Refusal.TheVariants as node
 use Rattle.xl_core.specs.declared.item.Item.TheVariants.{Tx}
 use Rattle.xl_core.specs.declared.taken.Taken.{Taken}
 use Rattle.xl_core.specs.declared.taken.Heard.{Heard}
-use Rattle.xl_core.specs.declared.taken.Taken.TheVariants.{Vote}
+use Rattle.xl_core.specs.declared.taken.Taken.TheVariants.{Validation as TakenValidation}
 use Rattle.xl_core.specs.Answers.{Answer, Refused, Took, Done, given_in, handed_in}
 use Rattle.xl_core.specs.declared.event.CoreEvent.{CoreEvent}
 use Rattle.xl_core.specs.declared.event.CoreEvent.TheVariants.{Drain, Reports}
@@ -55,9 +55,9 @@ hear_reply (Ok heard) n = record {
 hear_reply (Err why) n = refusing n why
 
 -- what a row's call answers, with what it reports
-abbrev pub vote_reply : Result (Option Report) Refusal → Node → Reply
-vote_reply (Ok report) n = record { node = n; answer = Took Vote; items = []; issued = None; report = report }
-vote_reply (Err why) n = refusing n why
+abbrev pub validation_reply : Result (Option Report) Refusal → Node → Reply
+validation_reply (Ok report) n = record { node = n; answer = Took TakenValidation; items = []; issued = None; report = report }
+validation_reply (Err why) n = refusing n why
 
 -- what a core's calls answer
 abbrev pub taken_answer : Result Taken Refusal → Answer

@@ -8,7 +8,7 @@ use Rattle.xl_io.specs.Keepers.{Held, MayHold}
 use Rattle.xl_wire.specs.declared.validation.Validation.{Validation}
 use Rattle.xl_validations.specs.Rows.{row_of}
 use Rattle.xl_core.specs.declared.item.Item.{Item}
-use Rattle.xl_core.specs.declared.item.Item.TheVariants.{Vote}
+use Rattle.xl_core.specs.declared.item.Item.TheVariants.{Validation as ValidationItem}
 use Rattle.xl_core.specs.Node.{Node}
 use Rattle.xl_core.specs.Core.{Core}
 
@@ -22,7 +22,7 @@ own_current n = option_and_then (λ row. row.current) (row_of n.rows n.me)
 
 -- a validation that waits is of a sequence that is at most this
 abbrev pub IsItemCovered : ℕ → Item → Type 0
-IsItemCovered kept (Vote v) = v.seq ≤ kept
+IsItemCovered kept (ValidationItem v) = v.seq ≤ kept
 IsItemCovered kept other = ⊤
 
 -- a stop may leave no number below the kept one, and what the node has said is at most that

@@ -4,7 +4,7 @@ ghost use Rattle.std.specs.Result.{result_err};
 ghost use Rattle.xl_lists.specs.Lists.{is_on};
 ghost use Rattle.xl_tags.specs.Opening.{HasKeys, refusal_of};
 ghost use Rattle.xl_wire.specs.Raws.{SpellsRaw, raw_frame};
-ghost use Rattle.xl_core.specs.Hearing.{bytes_with, frame_with, heard, speech_of};
+ghost use Rattle.xl_core.specs.Hearing.{bytes_with, frame_with, spoken_in, speech_of};
 
 use crate::Refusal;
 use xl_base::{NodeNo, TxId};
@@ -50,7 +50,7 @@ pub fn hear<'a>(
     bytes: &'a [u8],
 ) -> Result<Spoken<'a>, Refusal>
     requires { HasKeys keys.now list.now.members }
-    ensures exact { result ≡ heard keys.now list.now.members (bytes_with tags keys.now bytes.now) }
+    ensures exact { result ≡ spoken_in keys.now list.now.members (bytes_with tags keys.now bytes.now) }
     ensures listed { IfOk result (λ said. IsTrue (is_on list.now.members said.from)) }
 {
     let raw = match split(bytes) {

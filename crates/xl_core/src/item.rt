@@ -4,7 +4,7 @@ use xl_wire::{Proposal, Validation};
 /// What waits for a peer until it is sent in a frame.
 #[derive(Clone, Copy, Debug, PartialEq, Eq)]
 pub enum Item {
-    Vote(Validation),
+    Validation(Validation),
     /// A transaction that was handed in.
     Tx(TxId),
     /// Our set, by its id: it isn't sent once ours has another.

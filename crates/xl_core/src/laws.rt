@@ -12,12 +12,12 @@ pub fn law_of_reports()
 
 /// The law of what a core ever said, which has no code: over every life of a core and its keeper, whatever was drained
 /// in it and when.
-pub fn said_is_saved()
+pub fn law_of_saves()
     ensures { SaidIsSaved }
 {}
 
 /// The law of what a core hands out, which has no code: over every life of a core, into whatever rooms and when.
-pub fn reports_are_handed_out()
+pub fn law_of_handed_reports()
     // What arose was handed out in order, or waits, or was lost and counted.
     ensures handed { ReportsAreHandedOut }
     // A report is lost only if more than 1,024 waited.

@@ -17,7 +17,6 @@
 //! except `reopen` takes memory.
 #![tactic(auto)]
 
-mod beat;
 mod event;
 mod greeting;
 mod hearing;
@@ -28,27 +27,28 @@ mod marks;
 mod node;
 mod outgoing;
 mod putting;
-mod queued;
 mod refusal;
 mod report;
 mod sending;
 mod settings;
 mod taken;
-mod tick;
+mod the_core;
+mod timer_answer;
+mod timer_part;
 mod untaken;
 
-pub use beat::{Beat, Issued};
 pub use event::CoreEvent;
 pub use greeting::Greeting;
 pub use hearing::{Speech, Spoken};
 pub use item::Item;
 pub use last::LastReport;
-pub use laws::{law_of_reports, reports_are_handed_out, said_is_saved};
+pub use laws::{law_of_handed_reports, law_of_reports, law_of_saves};
 pub use node::Node;
 pub use outgoing::OUTGOING;
-pub use queued::Core;
 pub use refusal::Refusal;
 pub use report::{OwnValidation, Report};
 pub use settings::Settings;
 pub use taken::Taken;
+pub use the_core::Core;
+pub use timer_answer::{Issued, TimerAnswer};
 pub use untaken::UNTAKEN;

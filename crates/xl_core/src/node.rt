@@ -12,7 +12,7 @@ ghost use Rattle.xl_core.specs.Node.{
   opened,
   at_moment,
   happens,
-  hears,
+  speech_reply,
   speech_refusal,
   reporting,
   with_own,
@@ -23,9 +23,9 @@ ghost use Rattle.xl_core.specs.Node.{
   settings_of,
   frame_refusal,
   tx_refusal,
-  issuing,
+  issuing_reply,
   asks_for,
-  issues_own,
+  own_issued_reply,
   IsOff,
   HearsOthers,
   told_by,
@@ -39,7 +39,7 @@ ghost use Rattle.xl_core.specs.Items.{frame_of, body_in as body_in_of, header_bo
 ghost use Rattle.xl_core.specs.declared.item.Item.TheVariants as items;
 ghost use Rattle.xl_core.specs.Rest.{IsKeyed};
 ghost use Rattle.xl_core.specs.Answers.{Done};
-ghost use Rattle.xl_core.specs.Replies.{issue_reply, submit_reply, hear_reply, vote_reply, save_in, was_kept};
+ghost use Rattle.xl_core.specs.Replies.{issue_reply, submit_reply, hear_reply, validation_reply, save_in, was_kept};
 ghost use Rattle.xl_core.specs.Node.Save.{Kept};
 ghost use Rattle.xl_core.specs.Building.{usual_mode as usual_mode_of};
 ghost use Rattle.xl_core.specs.Keeping.{AsksSave, CountsFault, Holds, IsAsked, Saves};
@@ -258,7 +258,7 @@ impl<B: Branch + Drop> Node<B> {
         full: bool,
         keeper: &mut K,
     ) -> Result<OwnValidation, Refusal>
-        ensures exact { issue_reply result self.new ≡ issuing self.old seq id full (save_in result) }
+        ensures exact { issue_reply result self.new ≡ issuing_reply self.old seq id full (save_in result) }
         ensures not_after { (result ≡ Err (NotAfter self.old.kept)) ↔ (seq ≤ self.old.kept) }
         ensures off { (failed : ℕ) → (result ≡ Err (IssuingOff failed)) ↔ IsOff self.old seq failed }
         ensures fault { CountsFault result (K.faults keeper.old) (K.faults keeper.new) }
@@ -280,7 +280,7 @@ impl<B: Branch + Drop> Node<B> {
 
     /// Issues the validation of a sequence that was saved.
     fn issue_saved(&mut self, seq: Seq, id: LedgerId, full: bool) -> OwnValidation
-        ensures { issue_reply (Ok result) self.new ≡ issues_own self.old seq id full }
+        ensures { issue_reply (Ok result) self.new ≡ own_issued_reply self.old seq id full }
     {
         let validation = Validation {
             id,
@@ -347,7 +347,7 @@ impl<B: Branch + Drop> Node<B> {
     /// Takes what a member says.
     fn take_said(&mut self, from: NodeNo, what: Speech<'_>) -> Result<Heard, Refusal>
         requires listed { IsTrue (is_on self.old.list.members from) }
-        ensures exact { hear_reply result self.new ≡ hears self.old from what.entry }
+        ensures exact { hear_reply result self.new ≡ speech_reply self.old from what.entry }
         ensures refused { result_err result ≡ speech_refusal self.old from what.entry }
         ensures unchanged { OnErr result (self.new ≡ self.old) }
     {
@@ -363,13 +363,13 @@ impl<B: Branch + Drop> Node<B> {
     /// A member's row takes a validation.
     fn take_validation(&mut self, from: NodeNo, v: &Validation) -> Result<Heard, Refusal>
         requires listed { IsTrue (is_on self.old.list.members from) }
-        ensures exact { hear_reply result self.new ≡ hears self.old from (speech.Validation v.now) }
+        ensures exact { hear_reply result self.new ≡ speech_reply self.old from (speech.Validation v.now) }
         ensures refused { result_err result ≡ speech_refusal self.old from (speech.Validation v.now) }
         ensures unchanged { OnErr result (self.new ≡ self.old) }
     {
         match self.take(from, v) {
             Ok(report) => Ok(Heard {
-                taken: Taken::Vote,
+                taken: Taken::Validation,
                 report,
             }),
             Err(why) => Err(why),
@@ -379,7 +379,7 @@ impl<B: Branch + Drop> Node<B> {
     /// Adds a header to the known ledgers. Validations that waited for it are votes from then on, and nothing is
     /// reported.
     fn learn(&mut self, h: &Header) -> Result<Heard, Refusal>
-        ensures exact { (from : ℕ) → hear_reply result self.new ≡ hears self.old from (speech.Header h.now) }
+        ensures exact { (from : ℕ) → hear_reply result self.new ≡ speech_reply self.old from (speech.Header h.now) }
         ensures refused { (from : ℕ) → result_err result ≡ speech_refusal self.old from (speech.Header h.now) }
         ensures unchanged { OnErr result (self.new ≡ self.old) }
     {
@@ -430,7 +430,7 @@ impl<B: Branch + Drop> Node<B> {
         ensures { result ≡ body_in_of self.now item.now }
     {
         match *item {
-            Item::Vote(validation) => Some(Body::Validation(validation)),
+            Item::Validation(validation) => Some(Body::Validation(validation)),
             Item::Tx(tx) => Some(Body::Tx(tx)),
             Item::TxSet(id) => self.own_set_body(id),
             Item::Proposal(proposal) => Some(Body::Proposal(proposal)),
@@ -481,7 +481,7 @@ impl<B: Branch + Drop> Node<B> {
     /// A member's row takes a validation, and what that gives is reported.
     fn take(&mut self, from: NodeNo, v: &Validation) -> Result<Option<Report>, Refusal>
         requires listed { IsTrue (is_on self.old.list.members from) }
-        ensures exact { vote_reply result self.new ≡ hears self.old from (speech.Validation v.now) }
+        ensures exact { validation_reply result self.new ≡ speech_reply self.old from (speech.Validation v.now) }
         ensures refused { result_err result ≡ speech_refusal self.old from (speech.Validation v.now) }
         ensures unchanged { OnErr result (self.new ≡ self.old) }
     {

@@ -5,7 +5,7 @@ use xl_base::{LedgerId, SetId};
 #[derive(Clone, Copy, Debug, PartialEq, Eq)]
 pub enum Taken {
     /// A validation, into its sender's row.
-    Vote,
+    Validation,
     /// A header of this id, to the known ledgers.
     Header(LedgerId),
     /// A proposal, as the sender's position.

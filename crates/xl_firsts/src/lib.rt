@@ -4,6 +4,6 @@
 //! is the one that comes before each other.
 #![tactic(auto)]
 
-mod law;
+mod laws;
 
-pub use law::first_is_the_only_one;
+pub use laws::law_of_firsts;

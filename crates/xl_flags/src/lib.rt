@@ -11,13 +11,13 @@
 mod amendment;
 mod fee;
 mod flag_votes;
-mod law;
+mod laws;
 mod news;
 mod refusal;
 mod standing;
 
 pub use flag_votes::{FlagVotes, MOST_AMENDMENTS};
-pub use law::one_moment_is_enough;
+pub use laws::law_of_moments;
 pub use news::{FlagLine, FlagNews};
 pub use refusal::FlagRefusal;
 

@@ -1,6 +1,7 @@
 // A whole run of `xl gen`.
 ghost use Rattle.std.specs.Prelude.{◌≡◌, ◌≤◌, [], IfOk, IsErrOf};
 ghost use Rattle.std.specs.String.{string_bytes};
+ghost use Rattle.xl_gen.specs.Sizes.{most_rounds};
 ghost use Rattle.xl_base.specs.Faults.{Rose};
 ghost use Rattle.xl_io.specs.Sinks.{GrewByFront, GrewByLess};
 ghost use Rattle.xl_lines.specs.Running.{TellsAll};
@@ -20,7 +21,7 @@ pub const MOST_ROUNDS: u32 = 1_000;
 
 /// The summary of this many rounds, and what it says.
 fn told(alloc: Global, rounds: u32, text: &mut String) -> Result<Verdict, OutOfMemory>
-    requires rounds { rounds ≤ MOST_ROUNDS }
+    requires rounds { rounds ≤ most_rounds }
     requires empty { string_bytes text.old ≡ [] }
     ensures { IfOk result (λ verdict. closes (string_bytes text.new) verdict ≡ summary rounds) }
 {
@@ -47,7 +48,7 @@ fn told(alloc: Global, rounds: u32, text: &mut String) -> Result<Verdict, OutOfM
 /// A failed write ends it with `Write`, and lack of memory with `Memory`.
 #[tactic(auto, using(crate::proofs::Summing::summarized))]
 pub fn generate<O: Sink>(alloc: Global, rounds: u32, output: &mut O) -> Result<Verdict, Fault>
-    requires { rounds ≤ MOST_ROUNDS }
+    requires { rounds ≤ most_rounds }
     // The whole summary is written, and the verdict is its own.
     ensures whole { IfOk result (λ verdict. TellsAll (O.held output.old) (O.held output.new) verdict (summary rounds)) }
     // The last line of the summary says whether the reports agree, and if no frame was forged they do.

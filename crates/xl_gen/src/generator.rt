@@ -1,5 +1,7 @@
 // The schedule, made and replayed event by event.
 ghost use Rattle.std.specs.Prelude.{◌≡◌, ◌≤◌, [], ◌∷◌, IfOk, OnOk};
+ghost use Rattle.xl_running.specs.Defaults.{default_limit, default_speak};
+ghost use Rattle.xl_gen.specs.Sizes.{most_rounds};
 ghost use Rattle.xl_base.specs.Moments.{greatest_millis};
 ghost use Rattle.xl_base.specs.Members.{greatest_node_no};
 ghost use Rattle.xl_gen.specs.Schedule.{
@@ -79,8 +81,8 @@ fn node(number: u32) -> PlanNode
 fn plan(alloc: Global) -> Result<Plan, OutOfMemory>
     ensures nodes { IfOk result (λ plan. plan.nodes.items ≡ plan_of) }
     ensures liars { IfOk result (λ plan. plan.liars.items ≡ []) }
-    ensures limit { IfOk result (λ plan. plan.limit ≡ DEFAULT_LIMIT) }
-    ensures speak { IfOk result (λ plan. plan.speak ≡ DEFAULT_SPEAK) }
+    ensures limit { IfOk result (λ plan. plan.limit ≡ default_limit) }
+    ensures speak { IfOk result (λ plan. plan.speak ≡ default_speak) }
 {
     let mut nodes = Vec::new(alloc);
     for number in 1..=NODES {
@@ -189,7 +191,7 @@ impl Generator {
 
     /// All that happens in this many rounds.
     pub fn run(&mut self, rounds: u32) -> Result<(), OutOfMemory>
-        requires { rounds ≤ MOST_ROUNDS }
+        requires { rounds ≤ most_rounds }
         ensures { OnOk result (Comes self.old self.new (events rounds)) }
     {
         for second in 1..4 * rounds + 8 {

@@ -1,13 +1,13 @@
 // The text of a summary.
 ghost use Rattle.std.specs.Prelude.{◌≡◌, ◌≤◌, ◌++◌, ◌+◌, length, option_map, OnOk};
 ghost use Rattle.std.specs.String.{string_bytes};
+ghost use Rattle.xl_gen.specs.Sizes.{most_rounds};
 ghost use Rattle.xl_gen.specs.Schedule.{lines as lines_of_schedule, second_lines};
 ghost use Rattle.xl_gen.specs.Summaries.{counts_text, summary_of};
 ghost use Rattle.xl_sched.specs.Reading.{opened};
 ghost use Rattle.xl_world.specs.Forks.{first_fork};
 ghost use Rattle.xl_world.specs.Seen.{fork_seen};
 
-use crate::command::MOST_ROUNDS;
 use crate::counts::Counts;
 use std::alloc::Global;
 use std::fmt::Write;
@@ -32,7 +32,7 @@ fn second_lines(second: u32) -> u32
 
 /// How many lines the schedule has, the header among them.
 fn lines(rounds: u32) -> u32
-    requires { rounds ≤ MOST_ROUNDS }
+    requires { rounds ≤ most_rounds }
     ensures { result ≡ 1 + length (lines_of_schedule rounds) }
 {
     let mut count = 9;
@@ -49,7 +49,7 @@ fn push_counts(
     world: &World,
     counts: &Counts,
 ) -> Result<(), OutOfMemory>
-    requires { rounds ≤ MOST_ROUNDS }
+    requires { rounds ≤ most_rounds }
     ensures { OnOk result (string_bytes text.new ≡ string_bytes text.old ++ counts_text rounds world.now counts.now) }
 {
     let lines = lines(rounds);
@@ -73,7 +73,7 @@ pub fn push_summary(
     counts: &Counts,
     fork: &Option<Fork<'_>>,
 ) -> Result<(), OutOfMemory>
-    requires rounds { rounds ≤ MOST_ROUNDS }
+    requires rounds { rounds ≤ most_rounds }
     requires fork { option_map fork_seen fork.now ≡ first_fork world.now.reports }
     ensures { OnOk result (string_bytes text.new ≡ string_bytes text.old ++ summary_of rounds world.now counts.now) }
 {

@@ -8,7 +8,7 @@ use Rattle.xl_lists.specs.Lists.{TrustedList}
 use Rattle.xl_turns.specs.declared.view.Knowledge.{Knowledge}
 use Rattle.xl_turns.specs.declared.pass.Pass.{Pass}
 use Rattle.xl_turns.specs.Passes.{known}
-use Rattle.xl_core.specs.declared.beat.Beat.{Beat}
+use Rattle.xl_core.specs.declared.timer_answer.TimerAnswer.{TimerAnswer}
 use Rattle.xl_core.specs.declared.report.Report.{Report}
 use Rattle.xl_core.specs.declared.event.CoreEvent.TheVariants.{Reports, Stop, Relist}
 use Rattle.xl_core.specs.declared.refusal.Refusal.{Refusal}
@@ -90,7 +90,7 @@ module _ (start : Core) (turns : ℕ) (may : ℕ → Bool) (pulse : Pulse) (k0 :
         (sym (lines_same b.calls r.calls (silent (made_at pulse.publishing now) now set next r.calls r.asked))) b.adds;
   }
 
-  pub timed : (k new : Knowledge Entry) (o : Output) (now : ℕ) (set : TrustedList) (beat : Beat)
+  pub timed : (k new : Knowledge Entry) (o : Output) (now : ℕ) (set : TrustedList) (beat : TimerAnswer)
       → Made start k new (timer now beat ∷ []) → k.drawn < new.drawn
       → Beating start may pulse k0 o0 (Phase.Times now set) k o
       → Beating start may pulse k0 o0 (Phase.Takes now set) new o

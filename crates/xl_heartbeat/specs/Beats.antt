@@ -3,7 +3,7 @@ use Rattle.std.specs.Prelude.{◌≡◌, ℕ, ◌+◌, ◌==◌, ◌&&◌, ◌�
 use Rattle.std.specs.List.{flat_map}
 use Rattle.xl_lists.specs.Lists.{TrustedList}
 use Rattle.xl_turns.specs.declared.view.Knowledge.{Knowledge}
-use Rattle.xl_core.specs.declared.beat.Beat.{Beat}
+use Rattle.xl_core.specs.declared.timer_answer.TimerAnswer.{TimerAnswer}
 use Rattle.xl_core.specs.declared.report.Report.{Report}
 use Rattle.xl_core.specs.declared.event.CoreEvent.TheVariants.{Timer, Reports, Stop}
 use Rattle.xl_core.specs.Answers as answer
@@ -22,7 +22,7 @@ use Rattle.xl_heartbeat.specs.Outputs.{Output, IsWritten}
 use Rattle.xl_heartbeat.specs.Relisting.{made_at, Relists}
 use Rattle.xl_heartbeat.specs.Rooms.{room}
 
-abbrev pub timer : ℕ → Beat → Call
+abbrev pub timer : ℕ → TimerAnswer → Call
 timer now beat = record { event = Timer now; answer = answer.Beats beat }
 
 -- reports are taken
@@ -67,7 +67,7 @@ pub data IsBeating (may_give : ℕ → Bool) (pulse : Pulse) : List Call → Pha
       → may_give now ≡ true
       → Relists (made_at pulse.publishing now) now set asked next
       → IsBeating may_give pulse (calls ++ asked) (Times now next)
-  beats : (calls : List Call) (now : ℕ) (set : TrustedList) (beat : Beat)
+  beats : (calls : List Call) (now : ℕ) (set : TrustedList) (beat : TimerAnswer)
       → IsBeating may_give pulse calls (Times now set)
       → IsBeating may_give pulse (calls ++ timer now beat ∷ []) (Takes now set)
   takes : (calls : List Call) (now : ℕ) (set : TrustedList) (handed : List Report)

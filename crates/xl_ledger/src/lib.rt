@@ -12,7 +12,7 @@
 mod branch;
 mod header;
 mod jumps;
-mod law;
+mod laws;
 mod ledger;
 mod ledger_no;
 mod link;
@@ -24,7 +24,7 @@ mod walk;
 
 pub use branch::Branch;
 pub use header::{Header, build_next, header_bytes, id_of, read_header, root_header};
-pub use law::{limits, order_of_votes};
+pub use laws::{law_of_votes, limits};
 pub use ledger_no::LedgerNo;
 pub use refusal::AddRefusal;
 pub use registry::{GREATEST_LIMIT, LEAST_LIMIT, Registry};

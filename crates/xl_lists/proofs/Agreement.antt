@@ -37,9 +37,9 @@ two_reports liars said once r q backed_r backed_q enough same_seq =
     once m q.seq r.id q.id (subst (λ (s : ℕ). has_said said m s r.id ≡ true) same_seq first) second
 
 -- Reports agree where their quorums are enough.
-pub agreement_from_kept : {liars : List ℕ} {said : List SaidLedger} {reports : List Report} {Holds : ℕ → ℕ → Type 0} {Each : (SaidLedger → Type 0) → Type 0} →
+pub law_of_agreement : {liars : List ℕ} {said : List SaidLedger} {reports : List Report} {Holds : ℕ → ℕ → Type 0} {Each : (SaidLedger → Type 0) → Type 0} →
     KeptFacts liars said reports Holds Each → Agree liars reports
-agreement_from_kept {liars} {said} kept i d i_in j e j_in enough same_seq =
+law_of_agreement {liars} {said} kept i d i_in j e j_in enough same_seq =
     two_reports liars said kept.once _ _ (kept.backed i d i_in) (kept.backed j e j_in) enough same_seq
 
 -- what was said stays said

@@ -8,7 +8,7 @@
 //! network keeps at each step lets no two reports of one sequence name different ledgers.
 #![tactic(auto)]
 
-mod law;
+mod laws;
 mod list;
 mod marks;
 mod quorum;
@@ -16,7 +16,7 @@ mod refusal;
 mod report;
 mod said;
 
-pub use law::agreement_from_kept;
+pub use laws::law_of_agreement;
 pub use list::List;
 pub use quorum::{bound, default_quorum, enough, overlap, slack};
 pub use refusal::ListRefusal;

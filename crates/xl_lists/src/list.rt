@@ -1,5 +1,6 @@
 ghost use Rattle.std.specs.Prelude.{◌≡◌, ◌≤◌, [], length, take, find, option_map, IfOk};
 ghost use Rattle.std.specs.Result.{result_err};
+ghost use Rattle.xl_base.specs.Members.{most_members};
 ghost use Rattle.xl_lists.specs.Lists.{list_of, is_on, is_outside, repeated_after, IsValid};
 ghost use Rattle.xl_lists.specs.Marks.{AreMarked};
 
@@ -109,7 +110,7 @@ impl List {
 
 /// The members of these numbers, at the front of the places.
 fn places_of(numbers: &[u32]) -> Result<[NodeNo; MOST_MEMBERS], ListRefusal>
-    requires { length numbers.now ≤ MOST_MEMBERS }
+    requires { length numbers.now ≤ most_members }
     ensures refused { result_err result ≡ option_map ListRefusal.OutOfRange (find is_outside numbers.now) }
     ensures placed { IfOk result (λ places. take (length numbers.now) places ≡ numbers.now) }
 {

@@ -7,14 +7,14 @@
 #![tactic(auto)]
 
 mod command;
-mod law;
+mod laws;
 mod line;
 mod machine;
 mod reading;
 mod texts;
 
 pub use command::merge;
-pub use law::any_order;
+pub use laws::law_of_orders;
 
 #[cfg(test)]
 mod tests;

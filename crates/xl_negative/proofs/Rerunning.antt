@@ -137,5 +137,5 @@ told_reaches left s (l ∷ ls) good =
     by_step (stops text) still reached well = absurd cc
     by_step (finds text) still reached well = absurd cc
 
-pub written_runs : WrittenRuns
-written_runs bytes good = told_reaches limits.lines at_first (lines_of bytes) good
+pub law_of_written_runs : WrittenRuns
+law_of_written_runs bytes good = told_reaches limits.lines at_first (lines_of bytes) good

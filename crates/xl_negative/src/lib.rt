@@ -12,11 +12,11 @@
 mod command;
 mod deciding;
 mod hearing;
-mod law;
+mod laws;
 mod scores;
 mod seat;
 mod seats;
 mod writer;
 
 pub use command::negative;
-pub use law::{added_are_lists, changes_are_lawful, lists_are_enough, written_runs};
+pub use laws::{law_of_added_lists, law_of_changes, law_of_lists, law_of_written_runs};

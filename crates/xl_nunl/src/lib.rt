@@ -9,11 +9,11 @@
 #![tactic(auto)]
 
 mod deciding;
-mod law;
+mod laws;
 mod score;
 
 pub use deciding::{Decided, decide};
-pub use law::{negative_lists_are_enough, rings_are_enough};
+pub use laws::{law_of_negative_lists, law_of_rings};
 pub use score::Scores;
 
 #[cfg(test)]

@@ -9,7 +9,7 @@
 #![tactic(auto)]
 
 mod kept;
-mod law;
+mod laws;
 mod members;
 mod publishers;
 mod publishing;
@@ -18,7 +18,7 @@ mod refusal;
 mod roll;
 mod writing;
 
-pub use law::any_order;
+pub use laws::law_of_orders;
 pub use members::RollMembers;
 pub use publishers::{Publishers, Took};
 pub use publishing::Publishing;

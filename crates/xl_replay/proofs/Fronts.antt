@@ -11,8 +11,8 @@ use Rattle.xl_lines.specs.declared.machine.Verdict.TheVariants as verdict
 use Rattle.xl_lines.specs.Rules.{Told}
 use Rattle.xl_lines.proofs.Newlines.{IsOneLine}
 use Rattle.xl_lines.proofs.Parts.{one_line-append}
-use Rattle.xl_core.specs.declared.beat.Issued.{Issued}
-use Rattle.xl_core.specs.declared.beat.Issued.TheVariants as issued
+use Rattle.xl_core.specs.declared.timer_answer.Issued.{Issued}
+use Rattle.xl_core.specs.declared.timer_answer.Issued.TheVariants as issued
 use Rattle.xl_core.specs.Refusals.{code_of as refusal_code}
 use Rattle.xl_sched.specs.declared.named.Named.{Named}
 use Rattle.xl_sched.specs.declared.refusal.SchedRefusal.{SchedRefusal}

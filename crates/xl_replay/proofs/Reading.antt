@@ -32,7 +32,8 @@ use Rattle.xl_running.specs.Running.{Running, answer_in, at_first, declares, kno
 use Rattle.xl_running.specs.Texts.{id_text, named_text, newline, space}
 use Rattle.xl_running.proofs.Naming.{AnswerNames, AreNames, StandsForOne, reading_names, root_names}
 use Rattle.xl_replay.specs.Headlines.{Announced, Extends, HasLine, IsReport, Short, announced_line, names_of, outcomes_in, short_text, state_after, state_from}
-use Rattle.xl_replay.specs.Readings.{IsFullLine, IsId, Says, SaysOneOf}
+use Rattle.xl_base.specs.Ids.{IsId}
+use Rattle.xl_replay.specs.Readings.{IsFullLine, Says, SaysOneOf}
 use Rattle.xl_replay.specs.Replays.{after_answer, after_line, report_of, rules}
 use Rattle.xl_replay.specs.Texts.{agreement_line, forged_line, outcome_line}
 use Rattle.xl_replay.proofs.Fronts.{agreement_other, short_other, spoken_other, unforged_line}
@@ -108,7 +109,7 @@ name_unwritten name h =
     let unsized : length name / 2 ≢ 32 = λ e. omega (arith, short, e) in
     grind (arith, nat_tests)
 
-id_digits : (id : LedgerId) → IsId id → id_written (encode_lower id.0) ≡ Some id.0
+id_digits : (id : LedgerId) → IsId id.0 → id_written (encode_lower id.0) ≡ Some id.0
 id_digits id h =
     let two = length-encode_with lower_digits id.0 in
     let pairs : decode_sized (encode_lower id.0) 32 ≡ decode_pairs 0 (encode_lower id.0) = grind (arith, nat_tests) in
@@ -131,7 +132,7 @@ found_name (n ∷ names) id name e = by_first (λ later. found_name names id nam
         (later.0, Contains-append_right (n ∷ []) names later.0 later.1, later.2, later.3)
 
 -- the token of an id stands for that id, by all names of the schedule
-token_says : (names before : List Named) (id : LedgerId) → AreNames names → Extends before names → IsId id → ledger_id_of names (id_text before id) ≡ Ok id
+token_says : (names before : List Named) (id : LedgerId) → AreNames names → Extends before names → IsId id.0 → ledger_id_of names (id_text before id) ≡ Ok id
 token_says names before id are extends is_id = by_name (name_of before id.0) refl
   where
     by_name : (o : Option (List ℕ)) → name_of before id.0 ≡ o → ledger_id_of names (named_text o id) ≡ Ok id

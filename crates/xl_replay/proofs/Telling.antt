@@ -16,10 +16,10 @@ use Rattle.xl_lines.specs.Told.{after as after_text, told_by, step_within, step_
 use Rattle.xl_core.specs.declared.report.Report.{Report}
 use Rattle.xl_core.specs.Answers.{Answer}
 use Rattle.xl_core.specs.Answers as answer
-use Rattle.xl_core.specs.declared.beat.Beat.{Beat}
-use Rattle.xl_core.specs.declared.beat.Beat.TheVariants as beat
-use Rattle.xl_core.specs.declared.beat.Issued.{Issued}
-use Rattle.xl_core.specs.declared.beat.Issued.TheVariants as issued
+use Rattle.xl_core.specs.declared.timer_answer.TimerAnswer.{TimerAnswer}
+use Rattle.xl_core.specs.declared.timer_answer.TimerAnswer.TheVariants as timer_answer
+use Rattle.xl_core.specs.declared.timer_answer.Issued.{Issued}
+use Rattle.xl_core.specs.declared.timer_answer.Issued.TheVariants as issued
 use Rattle.xl_core.specs.Core.{Core, CoreReply}
 use Rattle.xl_core.specs.Node.{Node}
 use Rattle.xl_core.specs.declared.event.CoreEvent.{CoreEvent}
@@ -82,13 +82,13 @@ issued_told i issued.Partial = refl
 issued_told i issued.Silent = refl
 issued_told i (issued.Refused why) = refl
 
-beat_told : (i : ℕ) (b : Beat) → filter is_full (told_of_beat i b) ≡ []
-beat_told i beat.Nothing = refl
-beat_told i beat.Closed = refl
-beat_told i beat.Updated = refl
-beat_told i (beat.Switched seq id) = refl
-beat_told i (beat.NoRoom limit) = refl
-beat_told i (beat.Built seq id moved_on how) = issued_told i how
+beat_told : (i : ℕ) (b : TimerAnswer) → filter is_full (told_of_beat i b) ≡ []
+beat_told i timer_answer.Nothing = refl
+beat_told i timer_answer.Closed = refl
+beat_told i timer_answer.Updated = refl
+beat_told i (timer_answer.Switched seq id) = refl
+beat_told i (timer_answer.NoRoom limit) = refl
+beat_told i (timer_answer.Built seq id moved_on how) = issued_told i how
 
 answer_told : (i : ℕ) (a : Answer) → filter is_full (told_of_answer i a) ≡ []
 answer_told i (answer.Refused why) = refl

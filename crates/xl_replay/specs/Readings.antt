@@ -1,16 +1,12 @@
 -- How the `full` lines of a report are read. Source: this project's own formats.
-use Rattle.std.specs.Prelude.{◌≡◌, ℕ, List, ◌++◌, length, decimal, codes, Ok, Contains}
-use Rattle.hex.specs.Hex.{IsBytes}
+use Rattle.std.specs.Prelude.{◌≡◌, ℕ, List, ◌++◌, decimal, codes, Ok, Contains}
+use Rattle.xl_base.specs.Ids.{IsId}
 use Rattle.xl_base.specs.declared.ids.LedgerId.{LedgerId}
 use Rattle.xl_sched.specs.declared.named.Named.{Named}
 use Rattle.xl_sched.specs.Names.{ledger_id_of}
 use Rattle.xl_world.specs.declared.outcome.Outcome.{Outcome}
 use Rattle.xl_world.specs.declared.outcome.Outcome.TheVariants.{Full}
 use Rattle.xl_running.specs.Texts.{space}
-
--- an id is 32 bytes
-abbrev pub IsId : LedgerId → Type 0
-IsId id = (length id.0 ≡ 32) × IsBytes id.0
 
 -- a line that begins with `full` and a space
 abbrev pub IsFullLine : List ℕ → Type 0
@@ -29,4 +25,4 @@ pub record SaysOneOf (names : List Named) (outcomes : List Outcome) (line : List
   pub seq : ℕ
   pub id : LedgerId
   pub told : Contains outcomes (Full node seq id)
-  pub says : IsId id → Says names line node seq id
+  pub says : IsId id.0 → Says names line node seq id

@@ -9,12 +9,12 @@ use Rattle.xl_rounds.specs.declared.agreement.Consensus.TheVariants.{No, Yes, Mo
 use Rattle.xl_rounds.specs.declared.decision.Decision.{Decision}
 use Rattle.xl_rounds.specs.declared.phase.Phase.{Phase}
 use Rattle.xl_rounds.specs.declared.phase.Phase.TheVariants.{Open, Establish, Accepted}
-use Rattle.xl_rounds.specs.declared.pulse.Seen.{Seen}
-use Rattle.xl_rounds.specs.declared.pulse.Kind.TheVariants.{Ready}
+use Rattle.xl_rounds.specs.declared.heartbeat.Seen.{Seen}
+use Rattle.xl_rounds.specs.declared.heartbeat.HeartbeatKind.TheVariants.{Ready}
 use Rattle.xl_rounds.specs.Agreement.{is_short, consensus}
 use Rattle.xl_rounds.specs.Closing.{should_close}
 use Rattle.xl_rounds.specs.Rounds.{Round}
-use Rattle.xl_rounds.specs.Heartbeats.{Beat, quiet, waiting, closed_at, closed_beat, open_beat, voted, decision, is_renewed, after_third, tally, outcome, kind_of, established_by, established, establish_beat, beat_in}
+use Rattle.xl_rounds.specs.Heartbeats.{HeartbeatReply, quiet, waiting, closed_at, closed_beat, open_beat, voted, decision, is_renewed, after_third, tally, outcome, kind_of, established_by, established, establish_beat, beat_in}
 use Rattle.xl_rounds.specs.Laws.{IsAgreed, ReadyIsAgreed}
 
 -- of the lines only two say yes
@@ -48,8 +48,8 @@ ready_by Yes true is_new e = refl
 ready_by MovedOn true is_new e = absurd (cc e)
 
 -- what the law says of a heartbeat
-abbrev Holds : Beat → Type 0
-Holds b = b.pulse.kind ≡ Ready false → IsAgreed b.round
+abbrev Holds : HeartbeatReply → Type 0
+Holds b = b.answer.kind ≡ Ready false → IsAgreed b.round
 
 quiet_holds : (r : Round) → Holds (quiet r)
 quiet_holds r e = absurd (cc e)

@@ -6,21 +6,21 @@ use Rattle.xl_rounds.specs.declared.agreement.Tally.{Tally}
 use Rattle.xl_rounds.specs.declared.agreement.Consensus.{Consensus}
 use Rattle.xl_rounds.specs.declared.agreement.Consensus.TheVariants.{No, Yes, MovedOn}
 use Rattle.xl_rounds.specs.declared.decision.Decision.{Decision}
-use Rattle.xl_rounds.specs.declared.pulse.Said.{Said}
-use Rattle.xl_rounds.specs.declared.pulse.Kind.{Kind}
-use Rattle.xl_rounds.specs.declared.pulse.Pulse.{Pulse}
+use Rattle.xl_rounds.specs.declared.heartbeat.Said.{Said}
+use Rattle.xl_rounds.specs.declared.heartbeat.HeartbeatKind.{HeartbeatKind}
+use Rattle.xl_rounds.specs.declared.heartbeat.Heartbeat.{Heartbeat}
 use Rattle.xl_rounds.specs.Agreement.{consensus}
 use Rattle.xl_rounds.specs.Rounds.{Round}
-use Rattle.xl_rounds.specs.Heartbeats.{Beat, quiet, is_ready, with_new_position, voted, decision, is_renewed, after_third, said_in_third, tally, outcome, kind_of, ready_after, established_by, established, establish_beat}
+use Rattle.xl_rounds.specs.Heartbeats.{HeartbeatReply, quiet, is_ready, with_new_position, voted, decision, is_renewed, after_third, said_in_third, tally, outcome, kind_of, ready_after, established_by, established, establish_beat}
 
 abbrev pub with_ready : Option ℕ → Round → Round
 with_ready ready r = record r { ready = ready }
 
-abbrev pub pulse_of : Kind → Option Said → Pulse
-pulse_of kind said = record { kind = kind; said = said }
+abbrev pub heartbeat_of : HeartbeatKind → Option Said → Heartbeat
+heartbeat_of kind said = record { kind = kind; said = said }
 
 -- what lines 3 to 5 found, in the order in which the code found it
-pub record AreLines (d : Decision) (before after : Round) (is_new : Bool) (said : Option Said) (t : Tally) (found : Consensus) (reached : Option Kind) (round_ms second finished : ℕ) : Type 0 where
+pub record AreLines (d : Decision) (before after : Round) (is_new : Bool) (said : Option Said) (t : Tally) (found : Consensus) (reached : Option HeartbeatKind) (round_ms second finished : ℕ) : Type 0 where
   pub new : is_new ≡ is_renewed before second d
   pub said_is : said ≡ said_in_third before second d
   pub after_is : after ≡ after_third before second d
@@ -28,18 +28,18 @@ pub record AreLines (d : Decision) (before after : Round) (is_new : Bool) (said 
   pub found_is : found ≡ consensus t
   pub reached_is : reached ≡ outcome found d.choice.agreed
 
-module _ (d : Decision) (before after : Round) (is_new : Bool) (said : Option Said) (t : Tally) (found : Consensus) (reached : Option Kind) (round_ms second finished : ℕ)
+module _ (d : Decision) (before after : Round) (is_new : Bool) (said : Option Said) (t : Tally) (found : Consensus) (reached : Option HeartbeatKind) (round_ms second finished : ℕ)
     (lines : AreLines d before after is_new said t found reached round_ms second finished) where
   all_reached : reached ≡ outcome (consensus (tally (after_third before second d) round_ms finished)) d.choice.agreed
   all_reached =
       lines.reached_is ∙ ap (λ f. outcome f d.choice.agreed) (lines.found_is ∙ ap consensus lines.tally_is)
       ∙ ap (λ (r : Round). outcome (consensus (tally r round_ms finished)) d.choice.agreed) lines.after_is
 
-  pub told_by : pulse_of (kind_of reached is_new) said ≡ (established_by d round_ms second finished before).pulse
+  pub told_by : heartbeat_of (kind_of reached is_new) said ≡ (established_by d round_ms second finished before).answer
   told_by =
-      ap (λ o. pulse_of (kind_of o is_new) said) all_reached
-      ∙ ap (λ b. pulse_of (kind_of (outcome (consensus (tally (after_third before second d) round_ms finished)) d.choice.agreed) b) said) lines.new
-      ∙ ap (pulse_of (kind_of (outcome (consensus (tally (after_third before second d) round_ms finished)) d.choice.agreed) (is_renewed before second d))) lines.said_is
+      ap (λ o. heartbeat_of (kind_of o is_new) said) all_reached
+      ∙ ap (λ b. heartbeat_of (kind_of (outcome (consensus (tally (after_third before second d) round_ms finished)) d.choice.agreed) b) said) lines.new
+      ∙ ap (heartbeat_of (kind_of (outcome (consensus (tally (after_third before second d) round_ms finished)) d.choice.agreed) (is_renewed before second d))) lines.said_is
 
   pub left_by : with_ready (ready_after reached round_ms) after ≡ (established_by d round_ms second finished before).round
   left_by =
@@ -64,8 +64,8 @@ no_longer_young now finished round_ms second r is late is_second =
 -- ---- what holds after a heartbeat
 
 -- the round is ready exactly if the heartbeat tells so, and stays on its ledger
-pub record IsTold (r : Round) (b : Beat) : Type 0 where
-  pub ready : is_some b.round.ready ≡ is_ready b.pulse.kind
+pub record IsTold (r : Round) (b : HeartbeatReply) : Type 0 where
+  pub ready : is_some b.round.ready ≡ is_ready b.answer.kind
   pub setting : b.round.setting ≡ r.setting
 
 quiet_told : (r : Round) → IsTold r (quiet r)

@@ -9,14 +9,9 @@ use Rattle.xl_base.specs.Sets.{is_below, IsSet}
 use Rattle.xl_base.specs.declared.ids.TxId.{TxId}
 use Rattle.xl_disputes.specs.Disputes.{has}
 use Rattle.xl_disputes.specs.Rising.{with_tx}
-use Rattle.xl_disputes.proofs.IdOrder.{neither_below, same_itself}
+use Rattle.xl_disputes.proofs.Passing.{is_above}
 use Rattle.xl_disputes.proofs.RisingIds.{IsRising-with_tx}
 use Rattle.xl_disputes.proofs.Extending.{filter-IsRising}
-
--- of two different ids one is below the other
-pub is_above : (id tx : TxId) (low : Bool) → low ≡ is_below tx id → is_below id tx ≡ false → bytes_eq id.0 tx.0 ≡ false → low ≡ true
-is_above id tx true is high other = refl
-is_above id tx false is high other = absurd (cc (sym other ∙ ap (λ (t : TxId). bytes_eq t.0 tx.0) (neither_below id tx high (sym is)) ∙ same_itself tx))
 
 -- an id that isn't there comes to its place
 pub with_tx-inserted : (tx : TxId) (ids : List TxId) → has ids tx ≡ false → with_tx tx ids ≡ insert ids (prefix_len (λ id. is_below id tx) ids) tx

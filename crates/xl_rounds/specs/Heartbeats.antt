@@ -17,31 +17,31 @@ use Rattle.xl_rounds.specs.declared.agreement.Tally.{Tally}
 use Rattle.xl_rounds.specs.declared.agreement.Consensus.{Consensus}
 use Rattle.xl_rounds.specs.declared.agreement.Consensus.TheVariants.{No, Yes, MovedOn}
 use Rattle.xl_rounds.specs.declared.decision.Decision.{Decision}
-use Rattle.xl_rounds.specs.declared.pulse.Seen.{Seen}
-use Rattle.xl_rounds.specs.declared.pulse.Said.{Said}
-use Rattle.xl_rounds.specs.declared.pulse.Kind.{Kind}
-use Rattle.xl_rounds.specs.declared.pulse.Kind.TheVariants.{Nothing, Closed, Updated, Ready}
-use Rattle.xl_rounds.specs.declared.pulse.Pulse.{Pulse}
+use Rattle.xl_rounds.specs.declared.heartbeat.Seen.{Seen}
+use Rattle.xl_rounds.specs.declared.heartbeat.Said.{Said}
+use Rattle.xl_rounds.specs.declared.heartbeat.HeartbeatKind.{HeartbeatKind}
+use Rattle.xl_rounds.specs.declared.heartbeat.HeartbeatKind.TheVariants.{Nothing, Closed, Updated, Ready}
+use Rattle.xl_rounds.specs.declared.heartbeat.Heartbeat.{Heartbeat}
 use Rattle.xl_rounds.specs.Numbers.{least_ms, least_former_ms, renewed_secs, last_sequence}
 use Rattle.xl_rounds.specs.Closing.{should_close}
 use Rattle.xl_rounds.specs.Agreement.{consensus}
 use Rattle.xl_rounds.specs.Positions.{Positions, with_own, without_old, count, next_set, close_times, agreeing}
 use Rattle.xl_rounds.specs.Rounds.{Round, is_proposing, our_position}
 
-abbrev pub is_ready : Kind → Bool
+abbrev pub is_ready : HeartbeatKind → Bool
 is_ready Nothing = false
 is_ready Closed = false
 is_ready Updated = false
 is_ready (Ready moved_on) = true
 
 -- the round after a heartbeat, and what the heartbeat tells
-pub record Beat : Type 0 where
+pub record HeartbeatReply : Type 0 where
   pub round : Round
-  pub pulse : Pulse
+  pub answer : Heartbeat
 
 -- nothing happens
-abbrev pub quiet : Round → Beat
-quiet r = record { round = record r { ready = None }; pulse = record { kind = Nothing; said = None } }
+abbrev pub quiet : Round → HeartbeatReply
+quiet r = record { round = record r { ready = None }; answer = record { kind = Nothing; said = None } }
 
 -- if we propose, our position is sent, with our set before it or without
 abbrev pub said_of : Round → Bool → Option Said
@@ -69,10 +69,10 @@ closed_at now r = record r {
   positions = with_own r.pending r.positions;
 }
 
-abbrev pub closed_beat : Round → Beat
-closed_beat r = record { round = r; pulse = record { kind = Closed; said = said_of r true } }
+abbrev pub closed_beat : Round → HeartbeatReply
+closed_beat r = record { round = r; answer = record { kind = Closed; said = said_of r true } }
 
-abbrev pub open_beat : ℕ → ℕ → Round → Beat
+abbrev pub open_beat : ℕ → ℕ → Round → HeartbeatReply
 open_beat now validated r = if should_close (waiting r now validated) then closed_beat (closed_at now r) else quiet r
 
 -- ---- establish
@@ -148,49 +148,49 @@ tally r round_ms finished = record {
 }
 
 -- the fifth line: the ledger is accepted if there is consensus, and agreement on the close time
-abbrev pub ready_kind : Consensus → Option Kind
+abbrev pub ready_kind : Consensus → Option HeartbeatKind
 ready_kind No = None
 ready_kind Yes = Some (Ready false)
 ready_kind MovedOn = Some (Ready true)
 
-abbrev pub outcome : Consensus → Bool → Option Kind
+abbrev pub outcome : Consensus → Bool → Option HeartbeatKind
 outcome c agreed = if agreed then ready_kind c else None
 
 -- what a heartbeat tells and what the round remembers of it
-abbrev pub kind_of : Option Kind → Bool → Kind
+abbrev pub kind_of : Option HeartbeatKind → Bool → HeartbeatKind
 kind_of None is_new = if is_new then Updated else Nothing
 kind_of (Some ready) is_new = ready
 
-abbrev pub ready_after : Option Kind → ℕ → Option ℕ
+abbrev pub ready_after : Option HeartbeatKind → ℕ → Option ℕ
 ready_after None round_ms = None
 ready_after (Some ready) round_ms = Some round_ms
 
-abbrev pub concluded : Round → ℕ → Option Kind → Bool → Option Said → Beat
+abbrev pub concluded : Round → ℕ → Option HeartbeatKind → Bool → Option Said → HeartbeatReply
 concluded r round_ms reached is_new said = record {
   round = record r { ready = ready_after reached round_ms };
-  pulse = record { kind = kind_of reached is_new; said = said };
+  answer = record { kind = kind_of reached is_new; said = said };
 }
 
 -- lines 3 to 5, once lines 1 and 2 have decided
-abbrev pub established_by : Decision → ℕ → ℕ → ℕ → Round → Beat
+abbrev pub established_by : Decision → ℕ → ℕ → ℕ → Round → HeartbeatReply
 established_by d round_ms second finished r = concluded (after_third r second d) round_ms
     (outcome (consensus (tally (after_third r second d) round_ms finished)) d.choice.agreed)
     (is_renewed r second d) (said_in_third r second d)
 
-abbrev pub established : ℕ → ℕ → ℕ → Round → Beat
+abbrev pub established : ℕ → ℕ → ℕ → Round → HeartbeatReply
 established round_ms second finished r =
     established_by (decision r round_ms second) round_ms second finished (voted r round_ms second)
 
-abbrev pub establish_beat : ℕ → ℕ → Round → Beat
+abbrev pub establish_beat : ℕ → ℕ → Round → HeartbeatReply
 establish_beat now finished r =
     if nat_lt (now - r.stance.closed) least_ms then quiet r else established (now - r.stance.closed) (now / 1000) finished r
 
 -- ---- any
 
-abbrev pub beat_in : Phase → ℕ → Seen → Round → Beat
+abbrev pub beat_in : Phase → ℕ → Seen → Round → HeartbeatReply
 beat_in Open now seen r = open_beat now seen.validated r
 beat_in Establish now seen r = establish_beat now seen.finished r
 beat_in Accepted now seen r = quiet r
 
-abbrev pub heartbeat : ℕ → Seen → Round → Beat
+abbrev pub heartbeat : ℕ → Seen → Round → HeartbeatReply
 heartbeat now seen r = beat_in r.phase now seen r

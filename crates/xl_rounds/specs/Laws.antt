@@ -4,8 +4,8 @@ use Rattle.std.specs.Prelude.{◌≡◌, ◌⊎◌, ℕ, ◌+◌, ◌*◌, ◌<�
 use Rattle.xl_wire.specs.declared.proposal.Proposal.{Proposal}
 use Rattle.xl_ledger.specs.declared.header.Header.{Header}
 use Rattle.xl_rounds.specs.declared.phase.Mode.{Mode}
-use Rattle.xl_rounds.specs.declared.pulse.Seen.{Seen}
-use Rattle.xl_rounds.specs.declared.pulse.Kind.TheVariants.{Ready}
+use Rattle.xl_rounds.specs.declared.heartbeat.Seen.{Seen}
+use Rattle.xl_rounds.specs.declared.heartbeat.HeartbeatKind.TheVariants.{Ready}
 use Rattle.xl_rounds.specs.Positions.{position_of, count, agreeing}
 use Rattle.xl_rounds.specs.Rounds.{Round, is_proposing}
 use Rattle.xl_rounds.specs.Proposals.{is_ours, is_past, with_proposal, later_of, started}
@@ -26,7 +26,7 @@ IsAgreed r = (count r.positions ≡ 0) ⊎ (voices r * 80 ≤ agreeing_voices r 
 -- A heartbeat that is ready, the members not having moved on, leaves a round that is agreed.
 abbrev pub ReadyIsAgreed : Type 0
 ReadyIsAgreed = (now : ℕ) (seen : Seen) (r : Round) →
-    (heartbeat now seen r).pulse.kind ≡ Ready false → IsAgreed (heartbeat now seen r).round
+    (heartbeat now seen r).answer.kind ≡ Ready false → IsAgreed (heartbeat now seen r).round
 
 -- A proposal leaves a member's position, or takes it away, or puts a newer one in its place.
 abbrev pub PositionsAreNewer : Type 0

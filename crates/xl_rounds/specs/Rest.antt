@@ -1,9 +1,7 @@
 -- What the code of this crate keeps besides. No public clause cites this file.
-use Rattle.std.specs.Prelude.{◌≡◌, ℕ, ◌<◌, ◌≤◌, Bool, false, List, [], ◌∷◌, length, drop, map, count_by, slice_set, slice_index_or, Option, Some, None, is_some, if◌then◌else◌}
-use Rattle.std.specs.List.{prefix_len}
+use Rattle.std.specs.Prelude.{◌≡◌, ℕ, ◌<◌, ◌≤◌, Bool, false, List, [], ◌∷◌, length, map, count_by, slice_set, slice_index_or, Option, Some, None, is_some, if◌then◌else◌}
 use Rattle.std.specs.Int.{bit_at}
-use Rattle.std.specs.Str.{bytes_eq}
-use Rattle.xl_base.specs.Sets.{is_below, IsSet}
+use Rattle.xl_base.specs.Sets.{IsSet}
 use Rattle.xl_base.specs.declared.ids.TxId.{TxId}
 use Rattle.xl_base.specs.declared.ids.SetId.{SetId}
 use Rattle.xl_wire.specs.declared.proposal.Proposal.{Proposal}
@@ -16,15 +14,6 @@ use Rattle.xl_rounds.specs.Positions.{Positions, set_named, is_old, unless_old}
 pub record HasRoom (pending : List TxId) (capacity : ℕ) : Type 0 where
   pub set : IsSet pending
   pub room : most_pending ≤ capacity
-
--- of rising ids those that aren't below one
-abbrev pub not_below : TxId → List TxId → List TxId
-not_below tx ids = drop (prefix_len (λ id. is_below id tx) ids) ids
-
--- whether an id is the first of some
-abbrev pub is_first : TxId → List TxId → Bool
-is_first tx [] = false
-is_first tx (id ∷ ids) = bytes_eq id.0 tx.0
 
 -- how many positions it is: one or none
 abbrev pub one_if : Option Proposal → ℕ

@@ -14,7 +14,7 @@ use Rattle.xl_rounds.specs.declared.phase.Phase.TheVariants.{Open, Establish, Ac
 use Rattle.xl_rounds.specs.declared.setting.Setting.{Setting}
 use Rattle.xl_rounds.specs.declared.setting.Former.{Former}
 use Rattle.xl_rounds.specs.declared.setting.Stance.{Stance}
-use Rattle.xl_rounds.specs.declared.pulse.Agreed.{Agreed}
+use Rattle.xl_rounds.specs.declared.heartbeat.Agreed.{Agreed}
 use Rattle.xl_rounds.specs.Numbers.{first_former_ms, leaving}
 use Rattle.xl_rounds.specs.Settings.{setting_on}
 use Rattle.xl_rounds.specs.Positions.{Positions, nowhere, no_positions, without_positions, with_held, count}

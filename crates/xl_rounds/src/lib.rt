@@ -15,21 +15,21 @@
 mod agreement;
 mod closing;
 mod decision;
+mod heartbeat;
 mod kept;
-mod law;
+mod laws;
 mod members;
 mod pending;
 mod phase;
 mod placed;
 mod positions;
-mod pulse;
 mod refusal;
 mod round;
 mod setting;
 
-pub use law::rounds;
+pub use heartbeat::{Agreed, Heartbeat, HeartbeatKind, Said, Seen};
+pub use laws::rounds;
 pub use phase::{Mode, Phase};
 pub use placed::Placed;
-pub use pulse::{Agreed, Kind, Pulse, Said, Seen};
 pub use refusal::RoundRefusal;
 pub use round::Round;

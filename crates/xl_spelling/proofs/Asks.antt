@@ -17,7 +17,8 @@ use Rattle.xl_sched.specs.Events.{asked_issue, asked_timer}
 use Rattle.xl_sched.specs.Saves.{may_ask, ask_of, held_of, disturbed_of}
 use Rattle.xl_sched.specs.Reading.{Reading}
 use Rattle.xl_spelling.specs.Spellings.{held_word, ask_words}
-use Rattle.xl_spelling.specs.Stored.{IsId, IsStoredAsk}
+use Rattle.xl_base.specs.Ids.{IsId}
+use Rattle.xl_spelling.specs.Stored.{IsStoredAsk}
 use Rattle.xl_spelling.proofs.Parts.{Gives, steps, same-ok, passed_by, declared-same, number-same, kind-same, held-same, same_bytes, id-read}
 use Rattle.xl_spelling.proofs.Small.{IsSmall, small-inked, declared-small, number-small, id-small, kind-small, held-small, inked, AreLike, like-more, like-widen}
 

@@ -23,7 +23,8 @@ use Rattle.xl_sched.specs.Lies.{lie_word, may_say, lied_of, pair_of, lie_of, lie
 use Rattle.xl_sched.specs.Words.{what_of}
 use Rattle.xl_sched.specs.Reading.{Reading}
 use Rattle.xl_spelling.specs.Spellings.{with_commas, lied_words, what_words}
-use Rattle.xl_spelling.specs.Stored.{IsId, IsStoredAsk, IsStoredLied, IsStoredWhat}
+use Rattle.xl_base.specs.Ids.{IsId}
+use Rattle.xl_spelling.specs.Stored.{IsStoredAsk, IsStoredLied, IsStoredWhat}
 use Rattle.xl_spelling.proofs.Parts.{steps, same-ok, passed, passed_by, number-same, member-same, declared-same, place-same}
 use Rattle.xl_spelling.proofs.Small.{small-inked, number-small, declared-small, id-small, bytes-small, like-more, like-widen}
 use Rattle.xl_spelling.proofs.Asks.{IsAgain, issue-again, timer-again, save-again}

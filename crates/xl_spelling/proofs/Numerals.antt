@@ -11,7 +11,7 @@ use Rattle.std.proofs.lemmas.Str.Parse.{IsNumeralModel, numerals_by_value}
 use Rattle.hex.specs.Hex.{IsBytes, encode_lower, encode_with, lower_digits, decode_sized, decode_pairs, hex_digit_value}
 use Rattle.hex.proofs.HexLemmas.{length-encode_with, decode_pairs-encode_with, IsDigits-lower_digits}
 use Rattle.xl_sched.specs.Numbers.{is_number, value_of}
-use Rattle.xl_spelling.specs.Stored.{IsId}
+use Rattle.xl_base.specs.Ids.{IsId}
 
 abbrev pub AreDigits : List ℕ → Type 0
 AreDigits ds = list_all is_ascii_digit ds ≡ true

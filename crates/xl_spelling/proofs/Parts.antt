@@ -18,7 +18,7 @@ use Rattle.xl_sched.specs.Choices.{validating_of, full_of, new_of}
 use Rattle.xl_sched.specs.Names.{id_of, id_named}
 use Rattle.xl_sched.specs.Members.{member_of, declared_of, new_member_of, numbers_of, members_of}
 use Rattle.xl_spelling.specs.Spellings.{kind_word, held_word, with_commas}
-use Rattle.xl_spelling.specs.Stored.{IsId}
+use Rattle.xl_base.specs.Ids.{IsId}
 use Rattle.xl_spelling.proofs.Numerals.{id-written, decimal-value}
 
 -- what two steps gave, one after the other

@@ -27,7 +27,8 @@ use Rattle.xl_sched.specs.Ledgers.{ledger_of}
 use Rattle.xl_sched.specs.TxSets.{rises, risen_id_of, risen_ids_of, joined_ids_of, tx_set_of}
 use Rattle.xl_sched.specs.Lies.{lie_word, said_proposal, validation_of, told_if, said_validation, said_header, said_tx_set, said_tx, lied_of}
 use Rattle.xl_spelling.specs.Spellings.{with_commas, set_word, validated_words, lied_words}
-use Rattle.xl_spelling.specs.Stored.{IsId, IsStoredLied}
+use Rattle.xl_base.specs.Ids.{IsId}
+use Rattle.xl_spelling.specs.Stored.{IsStoredLied}
 use Rattle.xl_spelling.proofs.Joins.{Clear, cut-joined, joined-spread, joined-all, spread}
 use Rattle.xl_spelling.proofs.Numerals.{IsSolid, digits-solid}
 use Rattle.xl_spelling.proofs.Parts.{Gives, steps, same-ok, passed, number-same, kind-same, id-read}

@@ -12,7 +12,7 @@ use Rattle.xl_sched.specs.declared.refusal.SchedRefusal.TheVariants as refusal
 use Rattle.xl_sched.specs.Numbers.{is_number, number_within, number_of}
 use Rattle.xl_sched.specs.Members.{member_of, declared_of}
 use Rattle.xl_spelling.specs.Spellings.{kind_word, held_word}
-use Rattle.xl_spelling.specs.Stored.{IsId}
+use Rattle.xl_base.specs.Ids.{IsId}
 use Rattle.xl_spelling.proofs.Joins.{spread}
 use Rattle.xl_spelling.proofs.Numerals.{IsSolid, digits-solid}
 use Rattle.xl_spelling.proofs.Parts.{steps, number_within-same}

@@ -26,7 +26,8 @@ use Rattle.xl_sched.specs.Naming.{has_most_names, named_line, name_line, named_l
 use Rattle.xl_sched.specs.Words.{set_line}
 use Rattle.xl_sched.specs.Reading.{Reading}
 use Rattle.xl_spelling.specs.Spellings.{mode_words, line_words, with_commas}
-use Rattle.xl_spelling.specs.Stored.{IsId, IsStored}
+use Rattle.xl_base.specs.Ids.{IsId}
+use Rattle.xl_spelling.specs.Stored.{IsStored}
 use Rattle.xl_spelling.proofs.Parts.{steps, same-ok, unstopped, number_within-same, number-same, new_member-same, mode-same, id-read}
 use Rattle.xl_spelling.proofs.Members.{texts, list-again, trusted-made, trusted-again}
 use Rattle.xl_spelling.proofs.Small.{IsInk, IsSmall, inked, small-inked, number_within-small, number-small, id-small}

@@ -1,6 +1,7 @@
 -- What the types of a line keep.
 use Rattle.std.specs.Prelude.{◌≡◌, ◌<◌, ◌^◌, ℕ, List, length, All, IfSome}
 use Rattle.hex.specs.Hex.{IsBytes}
+use Rattle.xl_base.specs.Ids.{IsId}
 use Rattle.xl_sched.specs.declared.event.Ask.{Ask}
 use Rattle.xl_sched.specs.declared.event.Ask.TheVariants as ask
 use Rattle.xl_sched.specs.declared.event.Lied.{Lied}
@@ -9,10 +10,6 @@ use Rattle.xl_sched.specs.declared.event.What.{What}
 use Rattle.xl_sched.specs.declared.event.What.TheVariants as what
 use Rattle.xl_sched.specs.declared.line.Line.{Line}
 use Rattle.xl_sched.specs.declared.line.Line.TheVariants as line
-
--- an id is 32 bytes
-abbrev pub IsId : List ℕ → Type 0
-IsId id = (length id ≡ 32) × IsBytes id
 
 abbrev pub IsStoredAsk : Ask → Type 0
 IsStoredAsk (ask.Issue node seq id full) = IsId id.0

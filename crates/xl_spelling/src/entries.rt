@@ -1,7 +1,7 @@
 // Lists, each of whose entries but the first stands after a comma.
 ghost use Rattle.std.specs.Prelude.{◌≡◌, ◌++◌, ◌∷◌, map, decimal, All, OnOk};
 ghost use Rattle.xl_spelling.specs.Spellings.{with_commas, set_word};
-ghost use Rattle.xl_spelling.specs.Stored.{IsId};
+ghost use Rattle.xl_base.specs.Ids.{IsId};
 
 use crate::tokens::{push, push_id, push_number};
 use xl_base::{NodeNo, OutOfMemory, TxId};

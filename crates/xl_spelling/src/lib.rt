@@ -9,9 +9,9 @@
 
 mod entries;
 mod event;
-mod law;
+mod laws;
 mod line;
 mod tokens;
 
-pub use law::lists_are_read;
+pub use laws::law_of_read_lists;
 pub use line::print_line;

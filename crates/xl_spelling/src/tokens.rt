@@ -2,7 +2,7 @@
 ghost use Rattle.std.specs.Prelude.{◌≡◌, ◌++◌, ◌∷◌, decimal, OnOk};
 ghost use Rattle.hex.specs.Hex.{IsBytes, encode_lower};
 ghost use Rattle.xl_spelling.specs.Spellings.{kind_word, held_word};
-ghost use Rattle.xl_spelling.specs.Stored.{IsId};
+ghost use Rattle.xl_base.specs.Ids.{IsId};
 
 use xl_base::OutOfMemory;
 

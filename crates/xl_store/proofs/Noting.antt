@@ -6,26 +6,26 @@ use Rattle.xl_base.specs.Faults.{Rose}
 use Rattle.xl_base.specs.declared.ids.LedgerId.{LedgerId}
 use Rattle.xl_ledger.specs.declared.header.Header.{Header}
 use Rattle.xl_ledger.specs.Headers.{header_id}
-use Rattle.xl_rounds.specs.declared.pulse.Kind.{Kind}
-use Rattle.xl_rounds.specs.declared.pulse.Kind.TheVariants as kind
-use Rattle.xl_rounds.specs.declared.pulse.Said.{Said}
+use Rattle.xl_rounds.specs.declared.heartbeat.HeartbeatKind.{HeartbeatKind}
+use Rattle.xl_rounds.specs.declared.heartbeat.HeartbeatKind.TheVariants as kind
+use Rattle.xl_rounds.specs.declared.heartbeat.Said.{Said}
 use Rattle.xl_rounds.specs.Rounds.{is_proposing}
-use Rattle.xl_rounds.specs.Heartbeats.{Beat as RoundBeat, heartbeat}
+use Rattle.xl_rounds.specs.Heartbeats.{HeartbeatReply, heartbeat}
 use Rattle.xl_wire.specs.declared.validation.Validation.{Validation}
-use Rattle.xl_core.specs.declared.beat.Beat.{Beat}
-use Rattle.xl_core.specs.declared.beat.Beat.TheVariants as beat
-use Rattle.xl_core.specs.declared.beat.Issued.{Issued}
-use Rattle.xl_core.specs.declared.beat.Issued.TheVariants as issued
+use Rattle.xl_core.specs.declared.timer_answer.TimerAnswer.{TimerAnswer}
+use Rattle.xl_core.specs.declared.timer_answer.TimerAnswer.TheVariants as timer_answer
+use Rattle.xl_core.specs.declared.timer_answer.Issued.{Issued}
+use Rattle.xl_core.specs.declared.timer_answer.Issued.TheVariants as issued
 use Rattle.xl_core.specs.declared.refusal.Refusal.{Refusal}
 use Rattle.xl_core.specs.declared.refusal.Refusal.TheVariants as why
 use Rattle.xl_core.specs.Answers.{Refused, Beats, Done, refusal_in}
 use Rattle.xl_core.specs.Building.{Knowing, knowing, how_issued}
-use Rattle.xl_core.specs.Node.{Node, Reply, Save, Timed, Quiet, Ending, replying, refusing, issuing, issues_unless, own_validation, unless_failed, issues, second_of, asks_for, asks_of, validates, validating_built, completed, timed, chosen, seen, built, switching, building, following, after_beat}
+use Rattle.xl_core.specs.Node.{Node, Reply, Save, TimerOutcome, Quiet, Ending, replying, refusing, issuing_reply, issued_unless_off, own_validation, unless_failed, issued_reply, second_of, asks_for, asks_of, validates, validating_built, timer_reply, timer_outcome, chosen, seen, built, switch_outcome, built_outcome, kind_outcome, heartbeat_outcome}
 use Rattle.xl_core.specs.Node.Save.{Kept, Failed}
 use Rattle.xl_core.specs.Keeping.{CountsFault}
 use Rattle.xl_core.specs.Replies as replies
 use Rattle.xl_core.specs.Replies.{done_answer, save_in}
-use Rattle.xl_core.specs.Ticks.{IsQuiet, CountsBeatFault, save_as, save_at}
+use Rattle.xl_core.specs.TimerParts.{IsQuiet, CountsBeatFault, save_as, save_at}
 use Rattle.xl_store.specs.declared.entry.Saved.{Saved}
 use Rattle.xl_store.specs.declared.entry.Saved.TheVariants as saved
 use Rattle.xl_store.specs.Entries.{save_of, IsOutcome}
@@ -48,13 +48,13 @@ same_as issued.Partial = refl
 same_as issued.Silent = refl
 same_as (issued.Refused why) = same_failure (replies.save_of why)
 
-pub same_at : (told : Beat) → save_of (outcome_at told) ≡ save_at told
-same_at beat.Nothing = refl
-same_at beat.Closed = refl
-same_at beat.Updated = refl
-same_at (beat.Switched seq id) = refl
-same_at (beat.NoRoom limit) = refl
-same_at (beat.Built seq id moved_on how) = same_as how
+pub same_at : (told : TimerAnswer) → save_of (outcome_at told) ≡ save_at told
+same_at timer_answer.Nothing = refl
+same_at timer_answer.Closed = refl
+same_at timer_answer.Updated = refl
+same_at (timer_answer.Switched seq id) = refl
+same_at (timer_answer.NoRoom limit) = refl
+same_at (timer_answer.Built seq id moved_on how) = same_as how
 
 -- A FAILURE WAS COUNTED
 
@@ -89,18 +89,18 @@ pub issue_counted : {X : Type 0} (r : Result X Refusal) (old new : ℕ) → Coun
 issue_counted (Ok done) old new h = tt
 issue_counted (Err w) old new h = told_counted w old new (λ count e. h count (ap Err e))
 
-pub beat_counted : (told : Beat) (old new : ℕ) → CountsBeatFault told old new → IsCounted (outcome_at told) old new
-beat_counted beat.Nothing old new h = tt
-beat_counted beat.Closed old new h = tt
-beat_counted beat.Updated old new h = tt
-beat_counted (beat.Switched seq id) old new h = tt
-beat_counted (beat.NoRoom limit) old new h = tt
-beat_counted (beat.Built seq id moved_on issued.Full) old new h = tt
-beat_counted (beat.Built seq id moved_on issued.Partial) old new h = tt
-beat_counted (beat.Built seq id moved_on issued.Silent) old new h = tt
-beat_counted (beat.Built seq id moved_on (issued.Refused w)) old new h =
+pub beat_counted : (told : TimerAnswer) (old new : ℕ) → CountsBeatFault told old new → IsCounted (outcome_at told) old new
+beat_counted timer_answer.Nothing old new h = tt
+beat_counted timer_answer.Closed old new h = tt
+beat_counted timer_answer.Updated old new h = tt
+beat_counted (timer_answer.Switched seq id) old new h = tt
+beat_counted (timer_answer.NoRoom limit) old new h = tt
+beat_counted (timer_answer.Built seq id moved_on issued.Full) old new h = tt
+beat_counted (timer_answer.Built seq id moved_on issued.Partial) old new h = tt
+beat_counted (timer_answer.Built seq id moved_on issued.Silent) old new h = tt
+beat_counted (timer_answer.Built seq id moved_on (issued.Refused w)) old new h =
     told_counted w old new
-    (λ count e. h seq id moved_on count (ap (λ (x : Refusal). beat.Built seq id moved_on (issued.Refused x)) e))
+    (λ count e. h seq id moved_on count (ap (λ (x : Refusal). timer_answer.Built seq id moved_on (issued.Refused x)) e))
 
 -- THE OUTCOME IS ONE OF THE EVENT'S
 
@@ -125,21 +125,21 @@ abbrev how_told : Reply → Issued
 how_told r = how_issued (refusal_in r.answer) r.issued
 
 unless_with : (n : Node) (off : Option ℕ) (save : Save) (v : Validation)
-    → outcome_as (how_told (issues_unless n off save v)) ≡ outcome_with (unless_failed off v.seq) save
+    → outcome_as (how_told (issued_unless_off n off save v)) ≡ outcome_with (unless_failed off v.seq) save
 unless_with n None Kept v =
     cond_both v.full issued.Full issued.Partial (λ how. outcome_as how ≡ Some saved.Ok) (λ _. refl) (λ _. refl)
 unless_with n None (Failed count) v = refl
 unless_with n (Some failed) save v = refl
 
 issuing_with : (n : Node) (seq : ℕ) (id : LedgerId) (full : Bool) (save : Save)
-    → outcome_as (how_told (issuing n seq id full save)) ≡ outcome_with (asks_for n seq) save
+    → outcome_as (how_told (issuing_reply n seq id full save)) ≡ outcome_with (asks_for n seq) save
 issuing_with n seq id full save = by (nat_lt n.kept seq)
   where
     v : Validation
     v = own_validation n seq id full
 
     by : (above : Bool)
-        → outcome_as (how_told (if above then issues_unless n n.failed_save save v else refusing n (why.NotAfter n.kept)))
+        → outcome_as (how_told (if above then issued_unless_off n n.failed_save save v else refusing n (why.NotAfter n.kept)))
         ≡ outcome_with (if above then unless_failed n.failed_save seq else None) save
     by true = unless_with n n.failed_save save v
     by false = refl
@@ -150,7 +150,7 @@ built_with : (n : Node) (h : Header) (moved_on : Bool) (save : Save)
 built_with n h moved_on save = by (validates n moved_on)
   where
     issued_so : Reply
-    issued_so = issuing n h.seq (header_id h) (is_proposing n.round.setting.mode) save
+    issued_so = issuing_reply n h.seq (header_id h) (is_proposing n.round.setting.mode) save
 
     by : (does : Bool) → outcome_as (how_told (if does then issued_so else replying n Done []))
         ≡ outcome_with (if does then asks_for n h.seq else None) save
@@ -158,51 +158,51 @@ built_with n h moved_on save = by (validates n moved_on)
     by false = refl
 
 -- what a timer comes to that builds nothing tells that nothing was built
-abbrev IsTimedQuiet : Timed → Type 0
+abbrev IsTimedQuiet : TimerOutcome → Type 0
 IsTimedQuiet (Quiet n told said) = IsQuiet told
 IsTimedQuiet (Ending n said h place moved_on) = Unit {0}
 
 building_quiet : (n : Node) (said : Option Said) (moved_on : Bool) (o : Option Knowing)
-    → IsTimedQuiet (building n said moved_on o)
+    → IsTimedQuiet (built_outcome n said moved_on o)
 building_quiet n said moved_on None = tt
 building_quiet n said moved_on (Some known) = tt
 
-following_quiet : (n : Node) (said : Option Said) (k : Kind) → IsTimedQuiet (following n said k)
+following_quiet : (n : Node) (said : Option Said) (k : HeartbeatKind) → IsTimedQuiet (kind_outcome n said k)
 following_quiet n said kind.Nothing = tt
 following_quiet n said kind.Closed = tt
 following_quiet n said kind.Updated = tt
 following_quiet n said (kind.Ready moved_on) = building_quiet n said moved_on (knowing n.ledgers (built n))
 
-timed_quiet : (n : Node) → IsTimedQuiet (timed n)
+timed_quiet : (n : Node) → IsTimedQuiet (timer_outcome n)
 timed_quiet n =
-    let told : RoundBeat = heartbeat n.time (seen n) n.round in
-    cond_both (chosen n == n.round.setting.previous) (after_beat n told) (switching n (chosen n)) IsTimedQuiet
-    (λ _. following_quiet (record n { round = told.round }) told.pulse.said told.pulse.kind) (λ _. tt)
+    let told : HeartbeatReply = heartbeat n.time (seen n) n.round in
+    cond_both (chosen n == n.round.setting.previous) (heartbeat_outcome n told) (switch_outcome n (chosen n)) IsTimedQuiet
+    (λ _. following_quiet (record n { round = told.round }) told.answer.said told.answer.kind) (λ _. tt)
 
-quiet_at : (told : Beat) → IsQuiet told → outcome_at told ≡ None
-quiet_at beat.Nothing q = refl
-quiet_at beat.Closed q = refl
-quiet_at beat.Updated q = refl
-quiet_at (beat.Switched seq id) q = refl
-quiet_at (beat.NoRoom limit) q = refl
-quiet_at (beat.Built seq id moved_on how) q = absurd q
+quiet_at : (told : TimerAnswer) → IsQuiet told → outcome_at told ≡ None
+quiet_at timer_answer.Nothing q = refl
+quiet_at timer_answer.Closed q = refl
+quiet_at timer_answer.Updated q = refl
+quiet_at (timer_answer.Switched seq id) q = refl
+quiet_at (timer_answer.NoRoom limit) q = refl
+quiet_at (timer_answer.Built seq id moved_on how) q = absurd q
 
-same_beat : (x y : Beat) → Beats x ≡ Beats y → x ≡ y
+same_beat : (x y : TimerAnswer) → Beats x ≡ Beats y → x ≡ y
 same_beat x y e = cc
 
-completed_with : (t : Timed) (save : Save) (told : Beat) → IsTimedQuiet t → Beats told ≡ (completed t save).answer
+completed_with : (t : TimerOutcome) (save : Save) (told : TimerAnswer) → IsTimedQuiet t → Beats told ≡ (timer_reply t save).answer
     → outcome_at told ≡ outcome_with (asks_of t) save
 completed_with (Quiet n quiet said) save told q e =
     ap outcome_at (same_beat told quiet e) ∙ quiet_at quiet q
 completed_with (Ending n said h place moved_on) save told q e =
     ap outcome_at
-    (same_beat told (beat.Built h.seq (header_id h) moved_on (how_told (validating_built n h moved_on save))) e)
+    (same_beat told (timer_answer.Built h.seq (header_id h) moved_on (how_told (validating_built n h moved_on save))) e)
     ∙ built_with n h moved_on save
 
 -- of a timer
-pub beat_with : (n : Node) (save : Save) (told : Beat) → Beats told ≡ (completed (timed n) save).answer
-    → outcome_at told ≡ outcome_with (asks_of (timed n)) save
-beat_with n save told e = completed_with (timed n) save told (timed_quiet n) e
+pub beat_with : (n : Node) (save : Save) (told : TimerAnswer) → Beats told ≡ (timer_reply (timer_outcome n) save).answer
+    → outcome_at told ≡ outcome_with (asks_of (timer_outcome n)) save
+beat_with n save told e = completed_with (timer_outcome n) save told (timed_quiet n) e
 
 refused_same : (v w : Refusal) → Refused v ≡ Refused w → v ≡ w
 refused_same v w e = cc
@@ -214,7 +214,7 @@ off_with (Ok done) save w same e kept = absurd (cc e)
 off_with (Err v) save w same e kept = ap failure_in (ap replies.save_of (refused_same v w e) ∙ kept)
 
 saved_with : {X : Type 0} (r : Result X Refusal) (n : Node) (seq now : ℕ) (save : Save) (v : Validation)
-    → save ≡ save_in r → done_answer r ≡ (issues n now save v).answer → outcome_in r ≡ outcome_with (Some seq) save
+    → save ≡ save_in r → done_answer r ≡ (issued_reply n now save v).answer → outcome_in r ≡ outcome_with (Some seq) save
 saved_with (Ok done) n seq now Kept v same e = refl
 saved_with (Ok done) n seq now (Failed count) v same e = absurd (cc e)
 saved_with (Err w) n seq now Kept v same e = absurd (cc e)
@@ -222,19 +222,19 @@ saved_with (Err w) n seq now (Failed count) v same e = ap failure_in (sym same)
 
 -- of a call that issues
 pub issue_with : {X : Type 0} (r : Result X Refusal) (n : Node) (seq : ℕ) (id : LedgerId) (full : Bool) (save : Save)
-    → save ≡ save_in r → done_answer r ≡ (issuing n seq id full save).answer → outcome_in r ≡ outcome_with (asks_for n seq) save
+    → save ≡ save_in r → done_answer r ≡ (issuing_reply n seq id full save).answer → outcome_in r ≡ outcome_with (asks_for n seq) save
 issue_with r n seq id full save same = by (nat_lt n.kept seq)
   where
     v : Validation
     v = own_validation n seq id full
 
-    unless : (off : Option ℕ) → done_answer r ≡ (issues_unless n off save v).answer
+    unless : (off : Option ℕ) → done_answer r ≡ (issued_unless_off n off save v).answer
         → outcome_in r ≡ outcome_with (unless_failed off seq) save
     unless None e = saved_with r n seq (second_of n) save v same e
     unless (Some failed) e = off_with r save (why.IssuingOff failed) same e refl
 
     by : (above : Bool)
-        → done_answer r ≡ (if above then issues_unless n n.failed_save save v else refusing n (why.NotAfter n.kept)).answer
+        → done_answer r ≡ (if above then issued_unless_off n n.failed_save save v else refusing n (why.NotAfter n.kept)).answer
         → outcome_in r ≡ outcome_with (if above then unless_failed n.failed_save seq else None) save
     by true e = unless n.failed_save e
     by false e = off_with r save (why.NotAfter n.kept) same e refl

@@ -2,10 +2,10 @@
 -- Source: what the code of this crate relies on. No public clause cites this file.
 use Rattle.std.specs.Prelude.{Result, Ok, Err, Some, None}
 use Rattle.std.specs.declared.option.Option.{Option}
-use Rattle.xl_core.specs.declared.beat.Beat.{Beat}
-use Rattle.xl_core.specs.declared.beat.Beat.TheVariants as beat
-use Rattle.xl_core.specs.declared.beat.Issued.{Issued}
-use Rattle.xl_core.specs.declared.beat.Issued.TheVariants as issued
+use Rattle.xl_core.specs.declared.timer_answer.TimerAnswer.{TimerAnswer}
+use Rattle.xl_core.specs.declared.timer_answer.TimerAnswer.TheVariants as timer_answer
+use Rattle.xl_core.specs.declared.timer_answer.Issued.{Issued}
+use Rattle.xl_core.specs.declared.timer_answer.Issued.TheVariants as issued
 use Rattle.xl_core.specs.declared.refusal.Refusal.{Refusal}
 use Rattle.xl_core.specs.Node.{Save}
 use Rattle.xl_core.specs.Node.Save.{Kept, Failed}
@@ -35,10 +35,10 @@ outcome_as issued.Silent = None
 outcome_as (issued.Refused why) = outcome_told why
 
 -- of a timer
-abbrev pub outcome_at : Beat → Option Saved
-outcome_at beat.Nothing = None
-outcome_at beat.Closed = None
-outcome_at beat.Updated = None
-outcome_at (beat.Switched seq id) = None
-outcome_at (beat.NoRoom limit) = None
-outcome_at (beat.Built seq id moved_on how) = outcome_as how
+abbrev pub outcome_at : TimerAnswer → Option Saved
+outcome_at timer_answer.Nothing = None
+outcome_at timer_answer.Closed = None
+outcome_at timer_answer.Updated = None
+outcome_at (timer_answer.Switched seq id) = None
+outcome_at (timer_answer.NoRoom limit) = None
+outcome_at (timer_answer.Built seq id moved_on how) = outcome_as how

@@ -8,7 +8,7 @@ ghost use Rattle.xl_store.specs.Outcomes.{outcome_in, outcome_at};
 ghost use Rattle.xl_store.specs.Homes.{AnswersHome};
 
 use xl_base::{LedgerId, Millis, Seq};
-use xl_core::{Beat, Core, Refusal};
+use xl_core::{Core, Refusal, TimerAnswer};
 use xl_io::Keeper;
 use xl_ledger::Branch;
 
@@ -21,7 +21,7 @@ pub struct Home<B: Branch, K> {
 
 impl<B: Branch + Drop, K: Keeper> Home<B, K> {
     /// Lets the core's round go on; what is validated then is first saved with the keeper.
-    pub(crate) fn timer(&mut self, now: Millis) -> Beat
+    pub(crate) fn timer(&mut self, now: Millis) -> TimerAnswer
         requires moment { now ≤ greatest_millis }
         ensures { AnswersHome K.held K.saves K.faults K.save_gives
             self.old (entry_of (Timer now) (outcome_at result)) (Beats result) self.new }

@@ -3,7 +3,7 @@ ghost use Rattle.std.specs.Prelude.{◌≡◌};
 ghost use Rattle.xl_store.specs.Outcomes.{outcome_as, outcome_at, outcome_in, outcome_told};
 
 use crate::entry::Saved;
-use xl_core::{Beat, Issued, Refusal};
+use xl_core::{Issued, Refusal, TimerAnswer};
 
 /// Of a call that issues.
 pub(crate) fn of_issue(answer: &Result<(), Refusal>) -> Option<Saved>
@@ -16,11 +16,11 @@ pub(crate) fn of_issue(answer: &Result<(), Refusal>) -> Option<Saved>
 }
 
 /// Of a timer.
-pub(crate) fn of_beat(beat: &Beat) -> Option<Saved>
+pub(crate) fn of_beat(beat: &TimerAnswer) -> Option<Saved>
     ensures { result ≡ outcome_at beat.now }
 {
     match beat {
-        Beat::Built { issued, .. } => of_built(issued),
+        TimerAnswer::Built { issued, .. } => of_built(issued),
         _ => None,
     }
 }

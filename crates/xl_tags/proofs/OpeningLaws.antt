@@ -128,8 +128,8 @@ opens_alone ring members f e =
     let p = passed (f.to == ring.me) (f.from == ring.me) (is_on members f.from) (is_sealed ring f) _ _ _ e in
     (eqb-true f.to ring.me p.0, λ same. true≢false (sym (eq-eqb f.from ring.me same) ∙ p.1), p.2, (sealed_exactly ring f true (sym p.3)).0 refl)
 
-pub sealed_opens : SealedOpens
-sealed_opens ring other members key f ok from to apart on there here =
+pub law_of_seals : SealedOpens
+law_of_seals ring other members key f ok from to apart on there here =
     let computed = mac key (before_tag (raw_bytes f)) in
     let own : tag_by ring f.to f ≡ Some computed = ap (λ (o : Option (List ℕ)). option_map (λ k. mac k (before_tag (raw_bytes f))) o) (ap (key_of ring) to ∙ there) in
     let tag : (sealed ring f).tag ≡ computed = ap (λ (o : Option (List ℕ)). unwrap_or o f.tag) own in

@@ -8,7 +8,7 @@
 
 mod comparing;
 mod keys;
-mod law;
+mod laws;
 mod macs;
 mod opening;
 mod pair_keys;
@@ -18,7 +18,7 @@ mod sealing;
 
 pub use comparing::is_same_tag;
 pub use keys::Keys;
-pub use law::sealed_opens;
+pub use laws::law_of_seals;
 pub use macs::hmac;
 pub use opening::{is_sealed, open, open_as_sealed, open_raw};
 pub use pair_keys::pair_key;

@@ -1,5 +1,6 @@
 // A text that a command writes, from its input to its status.
 ghost use Rattle.std.specs.Prelude.{◌≡◌, min, IfOk, IsErrOf};
+ghost use Rattle.xl_gen.specs.Sizes.{most_rounds};
 ghost use Rattle.xl_base.specs.Faults.{Rose};
 ghost use Rattle.xl_gen.specs.Summaries.{summary};
 ghost use Rattle.xl_io.specs.Sinks.{GrewByFront, GrewByLess};
@@ -57,10 +58,10 @@ pub fn run<I: Source, O: Sink>(
 /// Makes the schedule of this many rounds, or of the most.
 fn make<O: Sink>(alloc: Global, rounds: u32, output: &mut O) -> Result<Verdict, Fault>
     ensures whole { IfOk result (λ verdict. TellsAll (O.held output.old) (O.held output.new) verdict
-        (summary (min rounds MOST_ROUNDS))) }
-    ensures front { GrewByFront (O.held output.old) (O.held output.new) (summary (min rounds MOST_ROUNDS)).text }
+        (summary (min rounds most_rounds))) }
+    ensures front { GrewByFront (O.held output.old) (O.held output.new) (summary (min rounds most_rounds)).text }
     ensures less { IsErrOf result Fault.Write → GrewByLess (O.held output.old) (O.held output.new)
-        (summary (min rounds MOST_ROUNDS)).text }
+        (summary (min rounds most_rounds)).text }
     ensures read { IsErrOf result Fault.Read → ⊥ }
     ensures write { IsErrOf result Fault.Write → Rose (O.faults output.old) (O.faults output.new) }
 {

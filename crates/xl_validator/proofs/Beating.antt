@@ -8,8 +8,8 @@ use Rattle.std.proofs.lemmas.Bool.Decides.{nat_tests}
 use Rattle.xl_base.specs.declared.ids.TxId.{TxId}
 use Rattle.xl_lists.specs.Lists.{TrustedList}
 use Rattle.xl_turns.specs.Places.{all_below}
-use Rattle.xl_core.specs.declared.beat.Beat.{Beat}
-use Rattle.xl_core.specs.declared.beat.Beat.TheVariants as answered
+use Rattle.xl_core.specs.declared.timer_answer.TimerAnswer.{TimerAnswer}
+use Rattle.xl_core.specs.declared.timer_answer.TimerAnswer.TheVariants as answered
 use Rattle.xl_core.specs.declared.event.CoreEvent.{CoreEvent}
 use Rattle.xl_core.specs.declared.report.Report.{Report}
 use Rattle.xl_core.specs.Core.{Core}
@@ -142,7 +142,7 @@ module _ (may_give : ℕ → Bool) (pulse : Pulse) where
   -- a timer was the last
   timed : (cs : List Call) (phase : beats.Phase) (now : ℕ) (set : TrustedList) → IsBeating may_give pulse cs phase
       → phase ≡ beats.Takes now set
-      → (earlier : List Call) × (beat : Beat) × (cs ≡ earlier ++ timer now beat ∷ [])
+      → (earlier : List Call) × (beat : TimerAnswer) × (cs ≡ earlier ++ timer now beat ∷ [])
   timed cs phase now set IsBeating.begins e = absurd cc
   timed cs phase now set (IsBeating.relists earlier asked n before next run may relists) e = absurd cc
   timed cs phase now set (IsBeating.beats earlier n before beat run) e =
@@ -154,7 +154,7 @@ module _ (may_give : ℕ → Bool) (pulse : Pulse) where
   pub record IsOverAt (cs : List Call) : Type 0 where
     pub earlier : List Call
     pub now : ℕ
-    pub beat : Beat
+    pub beat : TimerAnswer
     pub handed : List Report
     pub parts : cs ≡ earlier ++ timer now beat ∷ reports handed ∷ []
     pub over : is_over pulse.timing now ≡ true
@@ -192,7 +192,7 @@ module _ (may_give : ℕ → Bool) (pulse : Pulse) where
   FarAt (beats.Takes now next) cut =
       (set : TrustedList)
       × (asked : List Call)
-      × (beat : Beat)
+      × (beat : TimerAnswer)
       × Relists (made_at pulse.publishing now) now set asked next
       × (cut ≡ asked ++ timer now beat ∷ [])
   FarAt beats.Over cut = cut ≡ []
@@ -291,7 +291,7 @@ module _ (may_give : ℕ → Bool) (pulse : Pulse) where
   )
   cut_short beats.Over cut at = inl at
 
-no_timer : (calls : List Call) (place now : ℕ) (b : Beat) → slice_get calls place ≡ Some (timer now b)
+no_timer : (calls : List Call) (place now : ℕ) (b : TimerAnswer) → slice_get calls place ≡ Some (timer now b)
     → HoldsAt IsOther calls place → ⊥
 no_timer calls place now b is other =
     let same : other.0 ≡ timer now b = some_same other.0 (timer now b) (sym other.1 ∙ is) in

@@ -10,7 +10,7 @@ use Rattle.xl_base.specs.declared.status.Status.TheVariants as status
 use Rattle.xl_io.specs.Keepers.{Held}
 use Rattle.xl_links.specs.Links.{Wire}
 use Rattle.xl_turns.specs.Places.{all_below}
-use Rattle.xl_core.specs.declared.beat.Beat.{Beat}
+use Rattle.xl_core.specs.declared.timer_answer.TimerAnswer.{TimerAnswer}
 use Rattle.xl_store.specs.declared.entry.Entry.{Entry}
 use Rattle.xl_store.specs.Calls.{Call, calls_of}
 use Rattle.xl_store.proofs.Journals.{length_calls}
@@ -150,7 +150,7 @@ module _ (s : Setting) (d : Doing) (history : List Entry) where
   -- the run was over at the last timer
   pub record IsTimed : Type 0 where
     pub now : ℕ
-    pub beat : Beat
+    pub beat : TimerAnswer
     pub over : is_over d.pulse.timing now ≡ true
     pub last : IsLastAt IsOther H (timer now beat)
 

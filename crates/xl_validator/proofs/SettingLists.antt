@@ -19,7 +19,7 @@ use Rattle.xl_core.specs.declared.refusal.Refusal.{Refusal}
 use Rattle.xl_core.specs.declared.refusal.Refusal.TheVariants.{NoKey}
 use Rattle.xl_core.specs.Answers.{Done}
 use Rattle.xl_core.specs.Core.{Core, core_happens}
-use Rattle.xl_core.specs.Node.{Node, Save, key_refusal, relisting, at_moment}
+use Rattle.xl_core.specs.Node.{Node, Save, key_refusal, relisted_reply, at_moment}
 use Rattle.xl_store.specs.declared.entry.Entry.{Entry}
 use Rattle.xl_store.specs.Calls.{Call, calls_of}
 use Rattle.xl_store.specs.Entries.{Leads, reply_of, save_of}
@@ -82,7 +82,7 @@ module _ (keys : Ring) (me : ℕ) (peers : List Peer) (own : keys.me ≡ me) (ea
 
 -- SO A LIST IS SET
 
-set_done : (n : Node) (list : TrustedList) → key_refusal n list ≡ None → (relisting n list).answer ≡ Done
+set_done : (n : Node) (list : TrustedList) → key_refusal n list ≡ None → (relisted_reply n list).answer ≡ Done
 set_done n list none = rw none refl
 
 step_done : (core : Core) (now : ℕ) (list : TrustedList) (save : Save) → key_refusal core.node list ≡ None

@@ -7,7 +7,7 @@ use Rattle.xl_base.specs.declared.status.Status.{Status}
 use Rattle.xl_base.specs.declared.status.Status.TheVariants as status
 use Rattle.xl_lists.specs.Lists.{TrustedList}
 use Rattle.xl_publish.specs.declared.publishing.Publishing.{Publishing}
-use Rattle.xl_core.specs.declared.beat.Beat.{Beat}
+use Rattle.xl_core.specs.declared.timer_answer.TimerAnswer.{TimerAnswer}
 use Rattle.xl_core.specs.declared.event.CoreEvent.{CoreEvent}
 use Rattle.xl_core.specs.declared.event.CoreEvent.TheVariants.{Timer}
 use Rattle.xl_core.specs.declared.report.Report.{Report}
@@ -44,7 +44,7 @@ IsNoTimer other = Unit {0}
 pub record EndsByTime (s : Settings) (moment : ℕ) (calls : List Call) : Type 0 where
   pub earlier : List Call
   pub now : ℕ
-  pub beat : Beat
+  pub beat : TimerAnswer
   pub later : List Call
   pub parts : calls ≡ earlier ++ timer now beat ∷ later
   pub last : AllByRecursion (λ call. IsNoTimer call.event) later
@@ -66,7 +66,7 @@ pub record IsBeat (publishing : Option Publishing) (calls : List Call) : Type 0 
   pub set : TrustedList
   pub next : TrustedList
   pub asked : List Call
-  pub beat : Beat
+  pub beat : TimerAnswer
   pub handed : List Report
   pub relists : Relists (made_at publishing now) now set asked next
   pub is : calls ≡ asked ++ timer now beat ∷ reports handed ∷ []
@@ -86,7 +86,7 @@ pub record AreBeats (publishing : Option Publishing) (calls : List Call) : Type 
   pub last : (cut ≡ []) ⊎ ((missing : List Call) × IsBeat publishing (cut ++ missing))
   pub stand : map (slice_get calls) places ≡ map Some (flat_map (λ (beat : List Call). beat) whole ++ cut ++ stop_calls stop)
   pub rise : Rise 0 places (length calls)
-  pub timers : (place now : ℕ) (beat : Beat) → slice_get calls place ≡ Some (timer now beat) → StandsIn place places
+  pub timers : (place now : ℕ) (beat : TimerAnswer) → slice_get calls place ≡ Some (timer now beat) → StandsIn place places
 
 abbrev pub HasBeats : Settings → ℕ → List Call → Type 0
 HasBeats s moment calls = AreBeats s.publishing calls

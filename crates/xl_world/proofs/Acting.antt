@@ -17,8 +17,8 @@ use Rattle.xl_lists.specs.declared.report.Report.{Report as Reported}
 use Rattle.xl_lists.specs.declared.said.SaidLedger.{SaidLedger}
 use Rattle.xl_core.specs.Core.{Core, CoreReply, core_happens}
 use Rattle.xl_core.specs.Hearing.{bytes_as_sealed}
-use Rattle.xl_core.specs.Node.{Node, Save, Timed, completed, timed, at_moment}
-use Rattle.xl_core.specs.Node.Timed.{Quiet, Ending}
+use Rattle.xl_core.specs.Node.{Node, Save, TimerOutcome, timer_reply, timer_outcome, at_moment}
+use Rattle.xl_core.specs.Node.TimerOutcome.{Quiet, Ending}
 use Rattle.xl_core.specs.declared.event.CoreEvent.{CoreEvent}
 use Rattle.xl_core.specs.declared.event.CoreEvent.TheVariants.{Frame}
 use Rattle.xl_core.proofs.Timing.{submit_either, relist_either}
@@ -49,7 +49,7 @@ use Rattle.xl_world.proofs.Settling.{at_its_number}
 
 -- WHAT HAPPENS GIVES NO FRAMES
 
-completed_unsent : (t : Timed) (save : Save) (from : ℕ) → sent_in from (completed t save).answer ≡ []
+completed_unsent : (t : TimerOutcome) (save : Save) (from : ℕ) → sent_in from (timer_reply t save).answer ≡ []
 completed_unsent (Quiet n beat said) save from = refl
 completed_unsent (Ending n said h place moved_on) save from = refl
 
@@ -57,7 +57,7 @@ pub deed_unsent : (core : Core) (now : ℕ) (d : Deed) (save : Save) (from : ℕ
 deed_unsent core now (deed.Issue seq id full) save from = (issue_plain core.node now seq id full save).sent from
 deed_unsent core now (deed.Frame bytes) save from = (frame_plain core.node now bytes.now save).sent from
 deed_unsent core now (deed.Sent to kept) save from = (frame_plain core.node now (bytes_as_sealed (schedule_ring to) kept.now) save).sent from
-deed_unsent core now deed.Timer save from = completed_unsent (timed (at_moment now core.node)) save from
+deed_unsent core now deed.Timer save from = completed_unsent (timer_outcome (at_moment now core.node)) save from
 deed_unsent core now (deed.Submit tx) save from =
     submit_either (λ r. sent_in from r.answer ≡ []) (at_moment now core.node) tx (λ _. refl) refl
 deed_unsent core now (deed.Greet peer) save from = refl

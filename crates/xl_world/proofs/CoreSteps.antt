@@ -16,7 +16,7 @@ use Rattle.xl_ledger.specs.declared.header.Header.{Header}
 use Rattle.xl_ledger.specs.Chains.{header_at, place_of}
 use Rattle.xl_ledger.specs.Headers.{header_id, spelling}
 use Rattle.xl_queues.specs.Broadcasts.{pushed_to_all}
-use Rattle.xl_rounds.specs.declared.pulse.Said.{Said as RoundSaid}
+use Rattle.xl_rounds.specs.declared.heartbeat.Said.{Said as RoundSaid}
 use Rattle.xl_rounds.specs.Rounds.{is_proposing}
 use Rattle.xl_rounds.specs.declared.placed.Placed.{Placed}
 use Rattle.xl_rounds.specs.declared.refusal.RoundRefusal.{RoundRefusal}
@@ -27,7 +27,7 @@ use Rattle.xl_core.specs.declared.event.CoreEvent.TheVariants.{Issue, Frame, Tim
 use Rattle.xl_core.specs.declared.hearing.Speech.{Speech}
 use Rattle.xl_core.specs.declared.hearing.Speech.TheVariants as speech
 use Rattle.xl_core.specs.declared.item.Item.{Item}
-use Rattle.xl_core.specs.declared.item.Item.TheVariants.{Vote, Tx, TxSet, Proposal, Header as HeaderItem}
+use Rattle.xl_core.specs.declared.item.Item.TheVariants.{Validation as ValidationItem, Tx, TxSet, Proposal, Header as HeaderItem}
 use Rattle.xl_core.specs.declared.settings.Settings.{Settings}
 use Rattle.xl_core.specs.declared.refusal.Refusal.TheVariants.{NotAfter}
 use Rattle.xl_core.specs.Answers.{Done, Gave}
@@ -36,7 +36,7 @@ use Rattle.xl_core.specs.Core.{Core, CoreReply, greeted_frames, given_for, answe
 use Rattle.xl_core.proofs.Frames.{hearing_either}
 use Rattle.xl_core.specs.Items.{is_own, body_in, framed, frame_of, header_body_at}
 use Rattle.xl_core.specs.Node as nodes
-use Rattle.xl_core.specs.Node.{Node, Event, Reply, Save, at_moment, own_validation, issues_unless, refusing, issuing, replying, completed, timed, validates, validating_built, placing, placed_as, taking, hearing, happens, items_of, opened}
+use Rattle.xl_core.specs.Node.{Node, Event, Reply, Save, at_moment, own_validation, issued_unless_off, refusing, issuing_reply, replying, timer_reply, timer_outcome, validates, validating_built, placing, placed_as, taken_reply, bytes_reply, happens, items_of, opened}
 use Rattle.xl_core.specs.Node.Save.{Kept as AnsweredOk, Failed as AnsweredFailed}
 use Rattle.xl_core.specs.Queues.{after_taking, at_number, frames_in, waiting_at, with_items}
 use Rattle.xl_wire.specs.declared.body.Body.TheVariants as bodies
@@ -103,7 +103,7 @@ pub record IsFair (P : SaidLedger → Type 0) (me : ℕ) (r : Reply) : Type 0 wh
   pub items : IfSome r.issued (λ v. P (said_by me v)) → All (ItemSays P me) r.items
   pub sent : (from : ℕ) → sent_in from r.answer ≡ []
 
-issues_plain : (n : Node) (off : Option ℕ) (save : Save) (v : Validation) → IsPlain (issues_unless n off save v)
+issues_plain : (n : Node) (off : Option ℕ) (save : Save) (v : Validation) → IsPlain (issued_unless_off n off save v)
 issues_plain n None AnsweredOk v = record { items = refl; sent = λ _. refl }
 issues_plain n None (AnsweredFailed count) v = record { items = refl; sent = λ _. refl }
 issues_plain n (Some failed) save v = record { items = refl; sent = λ _. refl }
@@ -112,21 +112,21 @@ place_sends : (from : ℕ) (r : Result Placed RoundRefusal) → sent_in from (pl
 place_sends from (Ok became) = refl
 place_sends from (Err why) = refl
 
-taking_plain : (n : Node) (from : ℕ) (what : Speech) → IsPlain (taking n from what)
+taking_plain : (n : Node) (from : ℕ) (what : Speech) → IsPlain (taken_reply n from what)
 taking_plain n from (speech.Validation v) = record { items = refl; sent = λ _. refl }
 taking_plain n from (speech.Header h) = record { items = refl; sent = λ _. refl }
 taking_plain n from (speech.Proposal p) = record { items = refl; sent = λ me. place_sends me (placing n from p) }
 taking_plain n from (speech.TxSet ids) = record { items = refl; sent = λ _. refl }
 taking_plain n from (speech.Tx tx) = record { items = refl; sent = λ _. refl }
 
-issuing_plain : (n : Node) (seq : ℕ) (id : LedgerId) (full : Bool) (save : Save) → IsPlain (issuing n seq id full save)
+issuing_plain : (n : Node) (seq : ℕ) (id : LedgerId) (full : Bool) (save : Save) → IsPlain (issuing_reply n seq id full save)
 issuing_plain n seq id full save =
-    cond_both (nat_lt n.kept seq) (issues_unless n n.failed_save save (own_validation n seq id full)) (refusing n (NotAfter n.kept)) IsPlain
+    cond_both (nat_lt n.kept seq) (issued_unless_off n n.failed_save save (own_validation n seq id full)) (refusing n (NotAfter n.kept)) IsPlain
     (λ _. issues_plain n n.failed_save save (own_validation n seq id full)) (λ _. record { items = refl; sent = λ _. refl })
 
 validating_plain : (n : Node) (h : Header) (moved_on : Bool) (save : Save) → IsPlain (validating_built n h moved_on save)
 validating_plain n h moved_on save =
-    cond_both (validates n moved_on) (issuing n h.seq (header_id h) (is_proposing n.round.setting.mode) save) (replying n Done []) IsPlain
+    cond_both (validates n moved_on) (issuing_reply n h.seq (header_id h) (is_proposing n.round.setting.mode) save) (replying n Done []) IsPlain
     (λ _. issuing_plain n h.seq (header_id h) (is_proposing n.round.setting.mode) save) (λ _. record { items = refl; sent = λ _. refl })
 
 pub issue_plain : (n : Node) (now seq : ℕ) (id : LedgerId) (full : Bool) (save : Save) → IsPlain (happens n (nodes.Issue now seq id full) save)
@@ -142,7 +142,7 @@ plain_fair P me r plain = record { items = λ fair. subst (All (ItemSays P me)) 
   where
     of : (o : Option Validation) → IfSome o (λ v. P (said_by me v)) → All (ItemSays P me) (items_of o)
     of None fair = All-nil (ItemSays P me)
-    of (Some v) fair = All-cons (ItemSays P me) (Vote v) [] fair (All-nil (ItemSays P me))
+    of (Some v) fair = All-cons (ItemSays P me) (ValidationItem v) [] fair (All-nil (ItemSays P me))
 
 -- a position says no validation
 position_fair : (P : SaidLedger → Type 0) (me : ℕ) (said : Option RoundSaid) → All (ItemSays P me) (said_items said)
@@ -152,9 +152,9 @@ position_fair P me (Some said) =
     cond_both said.with_set (TxSet said.proposal.set ∷ Proposal said.proposal ∷ []) (Proposal said.proposal ∷ []) (All (ItemSays P me))
     (λ _. All-cons (ItemSays P me) (TxSet said.proposal.set) (Proposal said.proposal ∷ []) tt position) (λ _. position)
 
-timer_fair : (P : SaidLedger → Type 0) (me : ℕ) (n : Node) (save : Save) → IsFair P me (completed (timed n) save)
+timer_fair : (P : SaidLedger → Type 0) (me : ℕ) (n : Node) (save : Save) → IsFair P me (timer_reply (timer_outcome n) save)
 timer_fair P me n save =
-    timing_by (λ t. IsFair P me (completed t save)) n (λ r beat said. record { items = λ _. position_fair P me said; sent = λ _. refl })
+    timing_by (λ t. IsFair P me (timer_reply t save)) n (λ r beat said. record { items = λ _. position_fair P me said; sent = λ _. refl })
     (λ ledgers r said h place moved_on _.
     let v = validating_built (record n { ledgers = ledgers; round = r }) h moved_on save in
     let fair = plain_fair P me v (validating_plain (record n { ledgers = ledgers; round = r }) h moved_on save) in
@@ -237,7 +237,7 @@ BodySays P me (bodies.TxSet ids) = Unit {0}
 BodySays P me (bodies.Tx id) = Unit {0}
 
 item_body : (P : SaidLedger → Type 0) (n : Node) (item : Item) → ItemSays P n.me item → IfSome (body_in n item) (BodySays P n.me)
-item_body P n (Vote v) says = says
+item_body P n (ValidationItem v) says = says
 item_body P n (Tx tx) says = tt
 item_body P n (TxSet id) says = cond_both (is_own n id) (Some (bodies.TxSet n.round.positions.own)) None (λ o. IfSome o (BodySays P n.me)) (λ _. tt) (λ _. tt)
 item_body P n (Proposal p) says = tt

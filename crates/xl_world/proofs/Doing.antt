@@ -8,13 +8,13 @@ use Rattle.xl_ledger.specs.Headers.{header_id}
 use Rattle.xl_ledger.specs.Registries.{Ledgers}
 use Rattle.xl_ledger.specs.declared.header.Header.{Header}
 use Rattle.xl_lists.specs.declared.report.Report.{Report as Reported}
-use Rattle.xl_rounds.specs.Heartbeats.{Beat as RoundBeat, heartbeat}
+use Rattle.xl_rounds.specs.Heartbeats.{HeartbeatReply, heartbeat}
 use Rattle.xl_rounds.specs.Proposals.{started}
 use Rattle.xl_rounds.specs.Rounds.{Round, accepted, is_proposing, leave}
 use Rattle.xl_rounds.specs.declared.phase.Mode.TheVariants.{SwitchedLedger}
-use Rattle.xl_rounds.specs.declared.pulse.Kind.{Kind}
-use Rattle.xl_rounds.specs.declared.pulse.Kind.TheVariants as kind
-use Rattle.xl_rounds.specs.declared.pulse.Said.{Said}
+use Rattle.xl_rounds.specs.declared.heartbeat.HeartbeatKind.{HeartbeatKind}
+use Rattle.xl_rounds.specs.declared.heartbeat.HeartbeatKind.TheVariants as kind
+use Rattle.xl_rounds.specs.declared.heartbeat.Said.{Said}
 use Rattle.xl_tags.specs.Rings.{key_of, schedule_ring}
 use Rattle.xl_core.specs.Answers.{Answer, Beats, Done as AnsweredDone, refusal_in}
 use Rattle.xl_core.specs.Building.{Knowing, alone, how_issued, knowing}
@@ -22,14 +22,14 @@ use Rattle.xl_core.specs.Core.{Core, CoreReply, core_asks, core_happens}
 use Rattle.xl_core.specs.Hearing.{bytes_as_sealed}
 use Rattle.xl_core.specs.Keeping.{Saves}
 use Rattle.xl_core.specs.Node as nodes
-use Rattle.xl_core.specs.Node.{Node, Reply, Save, Timed, after_beat, at_moment, built, building, chosen, completed, ending, following, happens, hearing, is_kept, issues_unless, issuing, own_validation, refusing, replying, seen, switching, taking, timed, validates, validating_built}
+use Rattle.xl_core.specs.Node.{Node, Reply, Save, TimerOutcome, heartbeat_outcome, at_moment, built, built_outcome, chosen, timer_reply, built_reply, kind_outcome, happens, bytes_reply, is_kept, issued_unless_off, issuing_reply, own_validation, refusing, replying, seen, switch_outcome, taken_reply, timer_outcome, validates, validating_built}
 use Rattle.xl_core.specs.Node.Save.{Kept as AnsweredOk, Failed as AnsweredFailed}
-use Rattle.xl_core.specs.Node.Timed.{Quiet, Ending}
+use Rattle.xl_core.specs.Node.TimerOutcome.{Quiet, Ending}
 use Rattle.xl_core.specs.Replies.{Answers, save_of, taken_answer}
-use Rattle.xl_core.specs.Ticks.{Beaten, CountsBeatFault, beat_was_kept, save_at}
-use Rattle.xl_core.specs.declared.beat.Beat.{Beat}
-use Rattle.xl_core.specs.declared.beat.Beat.TheVariants as beat
-use Rattle.xl_core.specs.declared.beat.Issued.TheVariants as issued
+use Rattle.xl_core.specs.TimerParts.{Beaten, CountsBeatFault, beat_was_kept, save_at}
+use Rattle.xl_core.specs.declared.timer_answer.TimerAnswer.{TimerAnswer}
+use Rattle.xl_core.specs.declared.timer_answer.TimerAnswer.TheVariants as timer_answer
+use Rattle.xl_core.specs.declared.timer_answer.Issued.TheVariants as issued
 use Rattle.xl_core.specs.declared.event.CoreEvent.{CoreEvent}
 use Rattle.xl_core.specs.declared.event.CoreEvent.TheVariants.{Timer}
 use Rattle.xl_core.specs.declared.hearing.Speech.{Speech}
@@ -104,17 +104,17 @@ failed_why : (w : Refusal) (count : ℕ) → save_of w ≡ AnsweredFailed count 
 failed_why (why.KeepFault n) count is = cc
 failed_why _ count is = cc
 
-pub beat_counts : (told : Beat) (old new : ℕ) → CountsBeatFault told old new → (count : ℕ) → save_at told ≡ AnsweredFailed count → count ≡ new
-beat_counts (beat.Built seq id moved_on (issued.Refused w)) old new counts count is =
-    (counts seq id moved_on count (ap (λ (v : Refusal). beat.Built seq id moved_on (issued.Refused v)) (failed_why w count is))).1
-beat_counts (beat.Built seq id moved_on issued.Full) old new counts count is = cc
-beat_counts (beat.Built seq id moved_on issued.Partial) old new counts count is = cc
-beat_counts (beat.Built seq id moved_on issued.Silent) old new counts count is = cc
-beat_counts beat.Nothing old new counts count is = cc
-beat_counts beat.Closed old new counts count is = cc
-beat_counts beat.Updated old new counts count is = cc
-beat_counts (beat.Switched seq id) old new counts count is = cc
-beat_counts (beat.NoRoom limit) old new counts count is = cc
+pub beat_counts : (told : TimerAnswer) (old new : ℕ) → CountsBeatFault told old new → (count : ℕ) → save_at told ≡ AnsweredFailed count → count ≡ new
+beat_counts (timer_answer.Built seq id moved_on (issued.Refused w)) old new counts count is =
+    (counts seq id moved_on count (ap (λ (v : Refusal). timer_answer.Built seq id moved_on (issued.Refused v)) (failed_why w count is))).1
+beat_counts (timer_answer.Built seq id moved_on issued.Full) old new counts count is = cc
+beat_counts (timer_answer.Built seq id moved_on issued.Partial) old new counts count is = cc
+beat_counts (timer_answer.Built seq id moved_on issued.Silent) old new counts count is = cc
+beat_counts timer_answer.Nothing old new counts count is = cc
+beat_counts timer_answer.Closed old new counts count is = cc
+beat_counts timer_answer.Updated old new counts count is = cc
+beat_counts (timer_answer.Switched seq id) old new counts count is = cc
+beat_counts (timer_answer.NoRoom limit) old new counts count is = cc
 
 -- WHAT ASKS NO SAVE
 
@@ -131,7 +131,7 @@ quiet_does core after e old done told asks unissued answers reacts says =
     }
 
 -- no frame makes a node issue
-taking_quiet : (n : Node) (from : ℕ) (what : Speech) → (taking n from what).issued ≡ None
+taking_quiet : (n : Node) (from : ℕ) (what : Speech) → (taken_reply n from what).issued ≡ None
 taking_quiet n from (speech.Validation v) = refl
 taking_quiet n from (speech.Header h) = refl
 taking_quiet n from (speech.Proposal p) = refl
@@ -149,65 +149,65 @@ reacts_as (Err w) = refl
 -- A TIMER
 
 -- a timer that builds nothing says nothing of a validation
-abbrev SaysNone : Beat → Type 0
+abbrev SaysNone : TimerAnswer → Type 0
 SaysNone told = (member : ℕ) → said_by_beat member told ≡ None
 
-module _ (P : Timed → Type 0) (n : Node)
-    (quiet : (r : Round) (told : Beat) (said : Option Said) → SaysNone told → P (Quiet (record n { round = r }) told said))
+module _ (P : TimerOutcome → Type 0) (n : Node)
+    (quiet : (r : Round) (told : TimerAnswer) (said : Option Said) → SaysNone told → P (Quiet (record n { round = r }) told said))
     (ends : (ledgers : Ledgers) (r : Round) (said : Option Said) (h : Header) (place : ℕ) (moved_on : Bool) → P (Ending (record n { ledgers = ledgers; round = r }) said h place moved_on)) where
-  after_building : (r : Round) (said : Option Said) (moved_on : Bool) (o : Option Knowing) → P (building (record n { round = r }) said moved_on o)
-  after_building r said moved_on None = quiet r (beat.NoRoom n.ledgers.limit) said (λ _. refl)
+  after_building : (r : Round) (said : Option Said) (moved_on : Bool) (o : Option Knowing) → P (built_outcome (record n { round = r }) said moved_on o)
+  after_building r said moved_on None = quiet r (timer_answer.NoRoom n.ledgers.limit) said (λ _. refl)
   after_building r said moved_on (Some k) = ends k.ledgers (accepted (unwrap_or r.ready 0) r) said (built (record n { round = r })) k.place moved_on
 
-  after_kind : (r : Round) (said : Option Said) (k : Kind) → P (following (record n { round = r }) said k)
-  after_kind r said kind.Nothing = quiet r beat.Nothing said (λ _. refl)
-  after_kind r said kind.Closed = quiet r beat.Closed said (λ _. refl)
-  after_kind r said kind.Updated = quiet r beat.Updated said (λ _. refl)
+  after_kind : (r : Round) (said : Option Said) (k : HeartbeatKind) → P (kind_outcome (record n { round = r }) said k)
+  after_kind r said kind.Nothing = quiet r timer_answer.Nothing said (λ _. refl)
+  after_kind r said kind.Closed = quiet r timer_answer.Closed said (λ _. refl)
+  after_kind r said kind.Updated = quiet r timer_answer.Updated said (λ _. refl)
   after_kind r said (kind.Ready moved_on) = after_building r said moved_on (knowing n.ledgers (built (record n { round = r })))
 
-  timed_by : P (timed n)
+  timed_by : P (timer_outcome n)
   timed_by =
-      let turn : RoundBeat = heartbeat n.time (seen n) n.round in
+      let turn : HeartbeatReply = heartbeat n.time (seen n) n.round in
       let ledgers = n.ledgers.headers in
-      cond_both (chosen n == n.round.setting.previous) (after_beat n turn) (switching n (chosen n)) P
-      (λ _. after_kind turn.round turn.pulse.said turn.pulse.kind)
-      (λ _. quiet (started ledgers (chosen n) SwitchedLedger n.time n.round) (beat.Switched (seq_at ledgers (chosen n)) (id_at ledgers (chosen n))) (alone (leave n.time n.round)) (λ _. refl))
+      cond_both (chosen n == n.round.setting.previous) (heartbeat_outcome n turn) (switch_outcome n (chosen n)) P
+      (λ _. after_kind turn.round turn.answer.said turn.answer.kind)
+      (λ _. quiet (started ledgers (chosen n) SwitchedLedger n.time n.round) (timer_answer.Switched (seq_at ledgers (chosen n)) (id_at ledgers (chosen n))) (alone (leave n.time n.round)) (λ _. refl))
 
 -- what is told of a built ledger is what was issued
 abbrev TellsIssued : ℕ → LedgerId → Reply → Type 0
 TellsIssued seq id r = (member : ℕ) → said_by_issued member seq id (how_issued (refusal_in r.answer) r.issued) ≡ option_map (said_by member) r.issued
 
-unless_told : (n : Node) (off : Option ℕ) (save : Save) (seq : ℕ) (id : LedgerId) (full : Bool) → TellsIssued seq id (issues_unless n off save (own_validation n seq id full))
+unless_told : (n : Node) (off : Option ℕ) (save : Save) (seq : ℕ) (id : LedgerId) (full : Bool) → TellsIssued seq id (issued_unless_off n off save (own_validation n seq id full))
 unless_told n None AnsweredOk seq id true member = refl
 unless_told n None AnsweredOk seq id false member = refl
 unless_told n None (AnsweredFailed count) seq id full member = refl
 unless_told n (Some failed) save seq id full member = refl
 
-issuing_told : (n : Node) (seq : ℕ) (id : LedgerId) (full : Bool) (save : Save) → TellsIssued seq id (issuing n seq id full save)
+issuing_told : (n : Node) (seq : ℕ) (id : LedgerId) (full : Bool) (save : Save) → TellsIssued seq id (issuing_reply n seq id full save)
 issuing_told n seq id full save =
-    cond_both (nat_lt n.kept seq) (issues_unless n n.failed_save save (own_validation n seq id full)) (refusing n (why.NotAfter n.kept)) (TellsIssued seq id) (λ _. unless_told n n.failed_save save seq id full) (λ _ member. refl)
+    cond_both (nat_lt n.kept seq) (issued_unless_off n n.failed_save save (own_validation n seq id full)) (refusing n (why.NotAfter n.kept)) (TellsIssued seq id) (λ _. unless_told n n.failed_save save seq id full) (λ _ member. refl)
 
 validating_told : (n : Node) (h : Header) (moved_on : Bool) (save : Save) → TellsIssued h.seq (header_id h) (validating_built n h moved_on save)
 validating_told n h moved_on save =
-    cond_both (validates n moved_on) (issuing n h.seq (header_id h) (is_proposing n.round.setting.mode) save) (replying n AnsweredDone []) (TellsIssued h.seq (header_id h))
+    cond_both (validates n moved_on) (issuing_reply n h.seq (header_id h) (is_proposing n.round.setting.mode) save) (replying n AnsweredDone []) (TellsIssued h.seq (header_id h))
     (λ _. issuing_told n h.seq (header_id h) (is_proposing n.round.setting.mode) save) (λ _ member. refl)
 
 abbrev Tells : Reply → Type 0
-Tells r = (member : ℕ) (told : Beat) → Beats told ≡ r.answer → said_by_beat member told ≡ option_map (said_by member) r.issued
+Tells r = (member : ℕ) (told : TimerAnswer) → Beats told ≡ r.answer → said_by_beat member told ≡ option_map (said_by member) r.issued
 
-same_beat : (a b : Beat) → Beats a ≡ Beats b → a ≡ b
+same_beat : (a b : TimerAnswer) → Beats a ≡ Beats b → a ≡ b
 same_beat a b is = cc
 
-timer_tells : (n : Node) (save : Save) → Tells (completed (timed n) save)
+timer_tells : (n : Node) (save : Save) → Tells (timer_reply (timer_outcome n) save)
 timer_tells n save =
-    timed_by (λ t. Tells (completed t save)) n
+    timed_by (λ t. Tells (timer_reply t save)) n
     (λ r beaten said none member told is. ap (said_by_beat member) (same_beat told beaten is) ∙ none member)
     (λ ledgers r said h place moved_on member told is.
     let m : Node = record n { ledgers = ledgers; round = r } in
     let v : Reply = validating_built m h moved_on save in
-    ap (said_by_beat member) (same_beat told (beat.Built h.seq (header_id h) moved_on (how_issued (refusal_in v.answer) v.issued)) is) ∙ validating_told m h moved_on save member)
+    ap (said_by_beat member) (same_beat told (timer_answer.Built h.seq (header_id h) moved_on (how_issued (refusal_in v.answer) v.issued)) is) ∙ validating_told m h moved_on save member)
 
-pub timer_does : (told : Beat) (core after : Core) (now : ℕ) (old new : Fated) (done : Done) → Beaten core now told after → CountsBeatFault told old.keeper.faults new.keeper.faults →
+pub timer_does : (told : TimerAnswer) (core after : Core) (now : ℕ) (old new : Fated) (done : Done) → Beaten core now told after → CountsBeatFault told old.keeper.faults new.keeper.faults →
     Saves Gives (core_asks core (Timer now)) (beat_was_kept told) old new → IsBeaten core.node.me told done → Does core (Timer now) old after done new
 timer_does told core after now old new done answers counts saves says =
     let is : IsFated (core_asks core (Timer now)) (save_at told) old new = fated (core_asks core (Timer now)) (save_at told) old new saves (beat_counts told old.keeper.faults new.keeper.faults counts) in

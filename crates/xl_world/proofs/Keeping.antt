@@ -15,7 +15,7 @@ use Rattle.xl_core.specs.declared.refusal.Refusal.TheVariants.{NotAfter}
 use Rattle.xl_core.specs.declared.hearing.Speech.{Speech}
 use Rattle.xl_core.specs.declared.hearing.Speech.TheVariants as speech
 use Rattle.xl_core.proofs.Frames.{hearing_either}
-use Rattle.xl_core.specs.Node.{Node, Event, Issue, Frame, Timer, Submit, Relist, Reply, asks, Save, at_moment, second_of, own_validation, issues_unless, issues, issuing, replying, completed, timed, validates, validating_built, taking, hearing, refusing, happens}
+use Rattle.xl_core.specs.Node.{Node, Event, Issue, Frame, Timer, Submit, Relist, Reply, asks, Save, at_moment, second_of, own_validation, issued_unless_off, issued_reply, issuing_reply, replying, timer_reply, timer_outcome, validates, validating_built, taken_reply, bytes_reply, refusing, happens}
 use Rattle.xl_wire.specs.declared.validation.Validation.{Validation}
 use Rattle.xl_core.specs.Node.Save.{Kept, Failed}
 
@@ -23,36 +23,36 @@ use Rattle.xl_core.specs.Node.Save.{Kept, Failed}
 abbrev pub KeepsList : Node → Reply → Type 0
 KeepsList n r = (r.node.me ≡ n.me) × (r.node.keys ≡ n.keys) × (r.node.ledgers.limit ≡ n.ledgers.limit) × (r.node.validating ≡ n.validating) × (r.node.speak ≡ n.speak) × (r.node.list ≡ n.list)
 
-issues_keep : (n : Node) (now : ℕ) (save : Save) (v : Validation) → KeepsList n (issues n now save v)
+issues_keep : (n : Node) (now : ℕ) (save : Save) (v : Validation) → KeepsList n (issued_reply n now save v)
 issues_keep n now Kept v = (refl, refl, refl, refl, refl, refl)
 issues_keep n now (Failed count) v = (refl, refl, refl, refl, refl, refl)
 
-unless_keep : (n : Node) (off : Option ℕ) (save : Save) (v : Validation) → KeepsList n (issues_unless n off save v)
+unless_keep : (n : Node) (off : Option ℕ) (save : Save) (v : Validation) → KeepsList n (issued_unless_off n off save v)
 unless_keep n None save v = issues_keep n (second_of n) save v
 unless_keep n (Some failed) save v = (refl, refl, refl, refl, refl, refl)
 
-taking_keeps : (n : Node) (from : ℕ) (what : Speech) → KeepsList n (taking n from what)
+taking_keeps : (n : Node) (from : ℕ) (what : Speech) → KeepsList n (taken_reply n from what)
 taking_keeps n from (speech.Validation v) = (refl, refl, refl, refl, refl, refl)
 taking_keeps n from (speech.Header h) = (refl, refl, refl, refl, refl, refl)
 taking_keeps n from (speech.Proposal p) = (refl, refl, refl, refl, refl, refl)
 taking_keeps n from (speech.TxSet ids) = (refl, refl, refl, refl, refl, refl)
 taking_keeps n from (speech.Tx tx) = (refl, refl, refl, refl, refl, refl)
 
-hearing_keeps : (n : Node) (bytes : List ℕ) → KeepsList n (hearing n bytes)
+hearing_keeps : (n : Node) (bytes : List ℕ) → KeepsList n (bytes_reply n bytes)
 hearing_keeps n bytes = hearing_either (KeepsList n) n bytes (λ _. (refl, refl, refl, refl, refl, refl)) (λ said _. taking_keeps n said.from said.what)
 
-pub issuing_keeps : (n : Node) (seq : ℕ) (id : LedgerId) (full : Bool) (save : Save) → KeepsList n (issuing n seq id full save)
+pub issuing_keeps : (n : Node) (seq : ℕ) (id : LedgerId) (full : Bool) (save : Save) → KeepsList n (issuing_reply n seq id full save)
 issuing_keeps n seq id full save =
-    cond_both (nat_lt n.kept seq) (issues_unless n n.failed_save save (own_validation n seq id full)) (refusing n (NotAfter n.kept)) (KeepsList n) (λ _. unless_keep n n.failed_save save (own_validation n seq id full)) (λ _. (refl, refl, refl, refl, refl, refl))
+    cond_both (nat_lt n.kept seq) (issued_unless_off n n.failed_save save (own_validation n seq id full)) (refusing n (NotAfter n.kept)) (KeepsList n) (λ _. unless_keep n n.failed_save save (own_validation n seq id full)) (λ _. (refl, refl, refl, refl, refl, refl))
 
 validating_keeps : (n : Node) (h : Header) (moved_on : Bool) (save : Save) → KeepsList n (validating_built n h moved_on save)
 validating_keeps n h moved_on save =
-    cond_both (validates n moved_on) (issuing n h.seq (header_id h) (is_proposing n.round.setting.mode) save) (replying n Done []) (KeepsList n)
+    cond_both (validates n moved_on) (issuing_reply n h.seq (header_id h) (is_proposing n.round.setting.mode) save) (replying n Done []) (KeepsList n)
     (λ _. issuing_keeps n h.seq (header_id h) (is_proposing n.round.setting.mode) save) (λ _. (refl, refl, refl, refl, refl, refl))
 
-pub timer_keeps : (n : Node) (save : Save) → KeepsList n (completed (timed n) save)
+pub timer_keeps : (n : Node) (save : Save) → KeepsList n (timer_reply (timer_outcome n) save)
 timer_keeps n save =
-    timing_by (λ t. KeepsList n (completed t save)) n (λ r beat said. (refl, refl, refl, refl, refl, refl))
+    timing_by (λ t. KeepsList n (timer_reply t save)) n (λ r beat said. (refl, refl, refl, refl, refl, refl))
     (λ ledgers r said h place moved_on grows.
     let keeps = validating_keeps (record n { ledgers = ledgers; round = r }) h moved_on save in (keeps.0, keeps.1, keeps.2 ∙ grows.limit, keeps.3, keeps.4, keeps.5))
 

@@ -25,10 +25,10 @@ use Rattle.xl_core.specs.declared.settings.Settings.{Settings}
 use Rattle.xl_core.specs.declared.hearing.Spoken.{Spoken}
 use Rattle.xl_core.specs.declared.hearing.Speech.{Speech}
 use Rattle.xl_core.specs.declared.hearing.Speech.TheVariants as speech
-use Rattle.xl_core.specs.Hearing.{heard}
+use Rattle.xl_core.specs.Hearing.{spoken_in}
 use Rattle.xl_core.proofs.Frames.{hearing_either}
 use Rattle.xl_core.specs.Answers.{Answer, Done, Beats}
-use Rattle.xl_core.specs.Node.{settings_of, Node, Event, Issue, Frame, Timer, Submit, Relist, Reply, relisting, with_list, Save, issuing, replying, submitting, completed, timed, validates, asks_for, asks_of, at_moment, second_of, own_validation, issues_unless, unless_failed, take, with_taken, saving, arises, arisen, report_of, refusing, placing, taking, hearing, asks, happens, opened}
+use Rattle.xl_core.specs.Node.{settings_of, Node, Event, Issue, Frame, Timer, Submit, Relist, Reply, relisted_reply, with_list, Save, issuing_reply, replying, submitted_reply, timer_reply, timer_outcome, validates, asks_for, asks_of, at_moment, second_of, own_validation, issued_unless_off, unless_failed, take, with_taken, with_saved, arises, arisen, report_of, refusing, placing, taken_reply, bytes_reply, asks, happens, opened}
 use Rattle.xl_world.specs.declared.place.Keeper.{Keeper}
 use Rattle.xl_world.specs.declared.place.Fate.{Fate}
 use Rattle.xl_world.specs.declared.place.Fate.TheVariants.{Saved, Unwritten, Written}
@@ -133,14 +133,14 @@ failed_steps p v count written above well = record {
 
 -- an issue, by whether its sequence is above the kept one, whether a save failed before, and the fate of its own
 issue_steps : (p : Seat) (v : Validation) (b : Bool) (off : Option ℕ) (fate : Fate) → (b ≡ true → p.node.kept < v.seq) → IsWell p →
-    IsStep p (cond b (issues_unless p.node off (answer_of p.keeper fate) v) (refusing p.node (NotAfter p.node.kept))) (after_save p.keeper (cond b (unless_failed off v.seq) None) fate)
+    IsStep p (cond b (issued_unless_off p.node off (answer_of p.keeper fate) v) (refusing p.node (NotAfter p.node.kept))) (after_save p.keeper (cond b (unless_failed off v.seq) None) fate)
 issue_steps p v true None Saved above well = record {
   me = refl;
   well = record { members = members_taken (second_of p.node) p.node.me v p.node.rows ∙ well.members; valid = well.valid; in_force = refl };
   rises = λ j h. (p.keeper.in_force, omega (arith, held p.keeper v.seq j h, above refl, well.in_force), inl refl);
   above = (p.keeper.in_force, omega (arith, above refl, well.in_force), inl refl);
   saved = λ j h. omega (arith, held p.keeper v.seq j h);
-  quorum = arisen_quorum (saving p.node (second_of p.node) v);
+  quorum = arisen_quorum (with_saved p.node (second_of p.node) v);
 }
 issue_steps p v true None Unwritten above well = failed_steps p v (one_more p.keeper.faults) false (above refl) well
 issue_steps p v true None Written above well = failed_steps p v (one_more p.keeper.faults) true (above refl) well
@@ -157,7 +157,7 @@ in_round p a r well =
     record { me = s.me; well = s.well; rises = s.rises; above = s.above; saved = s.saved; quorum = s.quorum }
 
 -- a row takes a validation; a header changes no row and no number
-taking_steps : (p : Seat) (from : ℕ) (what : Speech) → IsWell p → IsStep p (taking p.node from what) p.keeper
+taking_steps : (p : Seat) (from : ℕ) (what : Speech) → IsWell p → IsStep p (taken_reply p.node from what) p.keeper
 taking_steps p from (speech.Validation v) well = record {
   me = refl;
   well = record { members = members_taken (second_of p.node) from v p.node.rows ∙ well.members; valid = well.valid; in_force = well.in_force };
@@ -167,14 +167,14 @@ taking_steps p from (speech.Validation v) well = record {
   quorum = arisen_quorum (with_taken p.node (second_of p.node) from v);
 }
 taking_steps p from (speech.Header h) well =
-    let r : Reply = taking p.node from (speech.Header h) in
+    let r : Reply = taken_reply p.node from (speech.Header h) in
     let s = elsewhere p (replying p.node r.answer []) p.keeper (with_header p.node.ledgers h) p.node.round (still p (replying p.node r.answer []) refl refl refl well) in
     record { me = s.me; well = s.well; rises = s.rises; above = s.above; saved = s.saved; quorum = s.quorum }
-taking_steps p from (speech.Proposal q) well = in_round p (taking p.node from (speech.Proposal q)).answer (with_answer (placing p.node from q) from q p.node.round) well
-taking_steps p from (speech.TxSet ids) well = in_round p (taking p.node from (speech.TxSet ids)).answer (hold from ids p.node.round) well
-taking_steps p from (speech.Tx tx) well = in_round p (taking p.node from (speech.Tx tx)).answer (with_pending tx p.node.round) well
+taking_steps p from (speech.Proposal q) well = in_round p (taken_reply p.node from (speech.Proposal q)).answer (with_answer (placing p.node from q) from q p.node.round) well
+taking_steps p from (speech.TxSet ids) well = in_round p (taken_reply p.node from (speech.TxSet ids)).answer (hold from ids p.node.round) well
+taking_steps p from (speech.Tx tx) well = in_round p (taken_reply p.node from (speech.Tx tx)).answer (with_pending tx p.node.round) well
 
-hearing_steps : (p : Seat) (bytes : List ℕ) → IsWell p → IsStep p (hearing p.node bytes) p.keeper
+hearing_steps : (p : Seat) (bytes : List ℕ) → IsWell p → IsStep p (bytes_reply p.node bytes) p.keeper
 hearing_steps p bytes well =
     hearing_either (λ r. IsStep p r p.keeper) p.node bytes (λ why. still p (refusing p.node why) refl refl refl well) (λ said _. taking_steps p said.from said.what well)
 
@@ -189,14 +189,14 @@ from_moved : (now : ℕ) (p : Seat) (r : Reply) (k : Keeper) → IsStep (moved n
 from_moved now p r k s = record { me = s.me; well = s.well; rises = s.rises; above = s.above; saved = s.saved; quorum = s.quorum }
 
 validating_steps : (p : Seat) (h : Header) (full : Bool) (b : Bool) (fate : Fate) → IsWell p →
-    IsStep p (cond b (issuing p.node h.seq (header_id h) full (answer_of p.keeper fate)) (replying p.node Done [])) (after_save p.keeper (cond b (asks_for p.node h.seq) None) fate)
+    IsStep p (cond b (issuing_reply p.node h.seq (header_id h) full (answer_of p.keeper fate)) (replying p.node Done [])) (after_save p.keeper (cond b (asks_for p.node h.seq) None) fate)
 validating_steps p h full true fate well =
     issue_steps p (own_validation p.node h.seq (header_id h) full) (nat_lt p.node.kept h.seq) p.node.failed_save fate (λ e. ltb-true _ _ e) well
 validating_steps p h full false fate well = still p (replying p.node Done []) refl refl refl well
 
-timer_steps : (p : Seat) (fate : Fate) → IsWell p → IsStep p (completed (timed p.node) (answer_of p.keeper fate)) (after_save p.keeper (asks_of (timed p.node)) fate)
+timer_steps : (p : Seat) (fate : Fate) → IsWell p → IsStep p (timer_reply (timer_outcome p.node) (answer_of p.keeper fate)) (after_save p.keeper (asks_of (timer_outcome p.node)) fate)
 timer_steps p fate well =
-    timing_by (λ t. IsStep p (completed t (answer_of p.keeper fate)) (after_save p.keeper (asks_of t) fate)) p.node
+    timing_by (λ t. IsStep p (timer_reply t (answer_of p.keeper fate)) (after_save p.keeper (asks_of t) fate)) p.node
     (λ r beat said. let s = elsewhere p (replying p.node (Beats beat) (said_items said)) p.keeper p.node.ledgers r (still p (replying p.node (Beats beat) (said_items said)) refl refl refl well) in
     record { me = s.me; well = s.well; rises = s.rises; above = s.above; saved = s.saved; quorum = s.quorum })
     (λ ledgers r said h place moved_on _.
@@ -204,13 +204,13 @@ timer_steps p fate well =
     let s = validating_steps q h (is_proposing r.setting.mode) (validates q.node moved_on) fate (record { members = well.members; valid = well.valid; in_force = well.in_force }) in
     record { me = s.me; well = record { members = s.well.members; valid = s.well.valid; in_force = s.well.in_force }; rises = s.rises; above = s.above; saved = s.saved; quorum = s.quorum })
 
-submit_steps : (p : Seat) (tx : TxId) → IsWell p → IsStep p (submitting p.node tx) p.keeper
+submit_steps : (p : Seat) (tx : TxId) → IsWell p → IsStep p (submitted_reply p.node tx) p.keeper
 submit_steps p tx well =
     submit_either (λ r. IsStep p r p.keeper) p.node tx (λ why. still p (refusing p.node why) refl refl refl well)
     (let s = elsewhere p (replying p.node Done (Tx tx ∷ [])) p.keeper p.node.ledgers (with_pending tx p.node.round) (still p (replying p.node Done (Tx tx ∷ [])) refl refl refl well) in
     record { me = s.me; well = s.well; rises = s.rises; above = s.above; saved = s.saved; quorum = s.quorum })
 
-relisting_steps : (p : Seat) (list : TrustedList) → IsValid list → IsWell p → IsStep p (relisting p.node list) p.keeper
+relisting_steps : (p : Seat) (list : TrustedList) → IsValid list → IsWell p → IsStep p (relisted_reply p.node list) p.keeper
 relisting_steps p list valid well =
     relist_either (λ r. IsStep p r p.keeper) p.node list (λ why. still p (refusing p.node why) refl refl refl well)
     (λ _. record {
@@ -240,7 +240,7 @@ HeardSays P n (Issue now seq id full) = Unit {0}
 HeardSays P n (Timer now) = Unit {0}
 HeardSays P n (Submit now tx) = Unit {0}
 HeardSays P n (Relist now list) = Unit {0}
-HeardSays P n (Frame now bytes) = (from : ℕ) (v : Validation) → heard n.keys n.list.members bytes ≡ Ok (record { from = from; what = speech.Validation v }) → P (said_by from v)
+HeardSays P n (Frame now bytes) = (from : ℕ) (v : Validation) → spoken_in n.keys n.list.members bytes ≡ Ok (record { from = from; what = speech.Validation v }) → P (said_by from v)
 
 pub heard_weaker : (P Q : SaidLedger → Type 0) → ((x : SaidLedger) → P x → Q x) → (n : Node) (e : Event) → HeardSays P n e → HeardSays Q n e
 heard_weaker P Q h n (Issue now seq id full) says = tt
@@ -250,14 +250,14 @@ heard_weaker P Q h n (Relist now list) says = tt
 heard_weaker P Q h n (Frame now bytes) says = λ from v is. h (said_by from v) (says from v is)
 
 issue_says : (P : SaidLedger → Type 0) (n : Node) (v : Validation) (b : Bool) (off : Option ℕ) (save : Save) → NodeSays P n →
-    IfSome (cond b (issues_unless n off save v) (refusing n (NotAfter n.kept))).issued (λ u. P (said_by n.me u)) →
-    ReplySays P n.me (cond b (issues_unless n off save v) (refusing n (NotAfter n.kept)))
+    IfSome (cond b (issued_unless_off n off save v) (refusing n (NotAfter n.kept))).issued (λ u. P (said_by n.me u)) →
+    ReplySays P n.me (cond b (issued_unless_off n off save v) (refusing n (NotAfter n.kept)))
 issue_says P n v true None AnsweredOk says fair = record { node = rows_say P (second_of n) n.me v fair n.rows says; issued = fair }
 issue_says P n v true None (AnsweredFailed count) says fair = record { node = says; issued = tt }
 issue_says P n v true (Some failed) save says fair = record { node = says; issued = tt }
 issue_says P n v false off save says fair = record { node = says; issued = tt }
 
-taking_says : (P : SaidLedger → Type 0) (n : Node) (from : ℕ) (what : Speech) → NodeSays P n → ((v : Validation) → what ≡ speech.Validation v → P (said_by from v)) → ReplySays P n.me (taking n from what)
+taking_says : (P : SaidLedger → Type 0) (n : Node) (from : ℕ) (what : Speech) → NodeSays P n → ((v : Validation) → what ≡ speech.Validation v → P (said_by from v)) → ReplySays P n.me (taken_reply n from what)
 taking_says P n from (speech.Validation v) says fair = record { node = rows_say P (second_of n) from v (fair v refl) n.rows says; issued = tt }
 taking_says P n from (speech.Header h) says fair = record { node = says; issued = tt }
 taking_says P n from (speech.Proposal p) says fair = record { node = says; issued = tt }
@@ -265,7 +265,7 @@ taking_says P n from (speech.TxSet ids) says fair = record { node = says; issued
 taking_says P n from (speech.Tx tx) says fair = record { node = says; issued = tt }
 
 hearing_says : (P : SaidLedger → Type 0) (n : Node) (bytes : List ℕ) → NodeSays P n →
-    ((from : ℕ) (v : Validation) → heard n.keys n.list.members bytes ≡ Ok (record { from = from; what = speech.Validation v }) → P (said_by from v)) → ReplySays P n.me (hearing n bytes)
+    ((from : ℕ) (v : Validation) → spoken_in n.keys n.list.members bytes ≡ Ok (record { from = from; what = speech.Validation v }) → P (said_by from v)) → ReplySays P n.me (bytes_reply n bytes)
 hearing_says P n bytes says fair =
     hearing_either (ReplySays P n.me) n bytes (λ _. record { node = says; issued = tt })
     (λ said is. taking_says P n said.from said.what says
@@ -296,14 +296,14 @@ relisted_says P ms rows says = All-map (RowSays P) (row_for rows) ms (λ k e _. 
 
 -- what holds of what stands at the node, of what came and of what is issued holds of what stands there then
 validating_says : (P : SaidLedger → Type 0) (n : Node) (h : Header) (full : Bool) (b : Bool) (save : Save) → NodeSays P n →
-    IfSome (cond b (issuing n h.seq (header_id h) full save) (replying n Done [])).issued (λ u. P (said_by n.me u)) →
-    ReplySays P n.me (cond b (issuing n h.seq (header_id h) full save) (replying n Done []))
+    IfSome (cond b (issuing_reply n h.seq (header_id h) full save) (replying n Done [])).issued (λ u. P (said_by n.me u)) →
+    ReplySays P n.me (cond b (issuing_reply n h.seq (header_id h) full save) (replying n Done []))
 validating_says P n h full true save says fair = issue_says P n (own_validation n h.seq (header_id h) full) (nat_lt n.kept h.seq) n.failed_save save says fair
 validating_says P n h full false save says fair = record { node = says; issued = tt }
 
-timer_says : (P : SaidLedger → Type 0) (n : Node) (save : Save) → NodeSays P n → IfSome (completed (timed n) save).issued (λ v. P (said_by n.me v)) → ReplySays P n.me (completed (timed n) save)
+timer_says : (P : SaidLedger → Type 0) (n : Node) (save : Save) → NodeSays P n → IfSome (timer_reply (timer_outcome n) save).issued (λ v. P (said_by n.me v)) → ReplySays P n.me (timer_reply (timer_outcome n) save)
 timer_says P n save says fair =
-    timing_by (λ t. IfSome (completed t save).issued (λ v. P (said_by n.me v)) → ReplySays P n.me (completed t save)) n
+    timing_by (λ t. IfSome (timer_reply t save).issued (λ v. P (said_by n.me v)) → ReplySays P n.me (timer_reply t save)) n
     (λ r beat said _. record { node = says; issued = tt })
     (λ ledgers r said h place moved_on _ issued.
     let m : Node = record n { ledgers = ledgers; round = r } in
@@ -312,14 +312,14 @@ timer_says P n save says fair =
 
 pub happens_says : (P : SaidLedger → Type 0) (n : Node) (e : Event) (save : Save) → NodeSays P n → HeardSays P n e →
     IfSome (happens n e save).issued (λ v. P (said_by n.me v)) → ReplySays P n.me (happens n e save)
-happens_says P n (Issue now seq id full) save says heard fair =
+happens_says P n (Issue now seq id full) save says spoken_in fair =
     let m : Node = at_moment now n in issue_says P m (own_validation m seq id full) (nat_lt m.kept seq) m.failed_save save (says_then P now n says) fair
-happens_says P n (Timer now) save says heard fair = timer_says P (at_moment now n) save (says_then P now n says) fair
-happens_says P n (Submit now tx) save says heard fair =
+happens_says P n (Timer now) save says spoken_in fair = timer_says P (at_moment now n) save (says_then P now n says) fair
+happens_says P n (Submit now tx) save says spoken_in fair =
     submit_either (ReplySays P n.me) (at_moment now n) tx (λ _. record { node = says_then P now n says; issued = tt }) (record { node = says_then P now n says; issued = tt })
 happens_says P n (Frame now bytes) save says fair issued =
     hearing_says P (at_moment now n) bytes (says_then P now n says) fair
-happens_says P n (Relist now list) save says heard fair =
+happens_says P n (Relist now list) save says spoken_in fair =
     let m : Node = at_moment now n in
     relist_either (ReplySays P n.me) m list (λ _. record { node = says_then P now n says; issued = tt })
     (λ _. record { node = relisted_says P list.members m.rows (says_then P now n says); issued = tt })

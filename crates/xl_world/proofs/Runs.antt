@@ -6,7 +6,7 @@ use Rattle.std.proofs.lemmas.List.Elements.{All-append, All-cons, All-map, All-h
 use Rattle.xl_lists.specs.declared.said.SaidLedger.{SaidLedger}
 use Rattle.xl_lists.specs.declared.report.Report.{Report as Reported}
 use Rattle.xl_lists.specs.Agreement.{IsGenuine, IsBacked, Agree}
-use Rattle.xl_lists.proofs.Agreement.{agreement_from_kept, vouches_still}
+use Rattle.xl_lists.proofs.Agreement.{law_of_agreement, vouches_still}
 use Rattle.xl_core.specs.declared.event.CoreEvent.{CoreEvent}
 use Rattle.xl_core.specs.declared.event.CoreEvent.TheVariants.{Issue, Frame, Timer, Submit, Greet, Drain, Reports, Stop, Stopped, Relist}
 use Rattle.xl_core.specs.declared.hearing.Speech.TheVariants as speech
@@ -208,7 +208,7 @@ start_sound shared liars plan lists = record {
 pub agreement : (shared : Shared) (liars : List ℕ) (plan : List PlanNode) (steps : List Step) → AreDeclared plan → AreFit steps → (run (start shared liars plan) steps).forged ≡ 0 → Agree liars (run (start shared liars plan) steps).reports
 agreement shared liars plan steps lists fit none =
     subst (λ ls. Agree ls (run (start shared liars plan) steps).reports) (run_stays (start shared liars plan) steps).liars
-    (agreement_from_kept (run_sound (start shared liars plan) steps fit none (start_sound shared liars plan lists)).kept)
+    (law_of_agreement (run_sound (start shared liars plan) steps fit none (start_sound shared liars plan lists)).kept)
 
 -- RUNS GO ON
 

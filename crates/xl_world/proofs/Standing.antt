@@ -13,7 +13,7 @@ use Rattle.xl_wire.specs.Heads.{Split, split_of}
 use Rattle.xl_wire.specs.Heads.Split.{Whole, Need, Refused}
 use Rattle.xl_validations.specs.declared.row.Row.{Row}
 use Rattle.xl_core.specs.declared.item.Item.{Item}
-use Rattle.xl_core.specs.declared.item.Item.TheVariants.{Vote, Tx, TxSet, Proposal, Header}
+use Rattle.xl_core.specs.declared.item.Item.TheVariants.{Validation as ValidationItem, Tx, TxSet, Proposal, Header}
 use Rattle.xl_core.specs.Core.{Core}
 use Rattle.xl_core.specs.Node.{Node}
 use Rattle.xl_world.specs.declared.place.Place.{Place}
@@ -57,7 +57,7 @@ NodeSays P n = All (RowSays P) n.rows
 
 -- P holds of what waits at a number to be sent
 abbrev pub ItemSays : (SaidLedger → Type 0) → ℕ → Item → Type 0
-ItemSays P me (Vote v) = P (said_by me v)
+ItemSays P me (ValidationItem v) = P (said_by me v)
 ItemSays P me (Tx tx) = Unit {0}
 ItemSays P me (TxSet id) = Unit {0}
 ItemSays P me (Proposal p) = Unit {0}

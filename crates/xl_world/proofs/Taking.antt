@@ -12,7 +12,7 @@ use Rattle.xl_core.specs.declared.report.Report.{Report}
 use Rattle.xl_core.specs.Answers.{Answer, Refused, Done}
 use Rattle.xl_core.specs.Core.{Core, stepped}
 use Rattle.xl_core.specs.Node as nodes
-use Rattle.xl_core.specs.Node.{Node, Reply, Save, at_moment, happens, issues_unless, own_validation, refusing}
+use Rattle.xl_core.specs.Node.{Node, Reply, Save, at_moment, happens, issued_unless_off, own_validation, refusing}
 use Rattle.xl_core.specs.Node.Save.{Kept, Failed}
 use Rattle.xl_core.specs.Queues.{with_report}
 use Rattle.xl_world.specs.Emptying.{handed_out}
@@ -56,7 +56,7 @@ quiet_report core a r none is same =
 abbrev pub IssueTells : Validation → Reply → Type 0
 IssueTells v r = ((r.issued ≡ Some v) × (r.answer ≡ Done)) ⊎ ((r.issued ≡ None) × (r.report ≡ None) × (r.answer ≡ Done → ⊥))
 
-unless_tells : (m : Node) (off : Option ℕ) (save : Save) (v : Validation) → IssueTells v (issues_unless m off save v)
+unless_tells : (m : Node) (off : Option ℕ) (save : Save) (v : Validation) → IssueTells v (issued_unless_off m off save v)
 unless_tells m None Kept v = inl (refl, refl)
 unless_tells m None (Failed count) v = inr (refl, refl, λ e. cc)
 unless_tells m (Some failed) save v = inr (refl, refl, λ e. cc)
@@ -65,7 +65,7 @@ pub issue_tells : (n : Node) (now seq : ℕ) (id : LedgerId) (full : Bool) (save
 issue_tells n now seq id full save =
     let m : Node = at_moment now n in
     let v : Validation = own_validation m seq id full in
-    cond_both (nat_lt m.kept seq) (issues_unless m m.failed_save save v) (refusing m (NotAfter m.kept)) (IssueTells v) (λ _. unless_tells m m.failed_save save v) (λ _. inr (refl, refl, λ e. cc))
+    cond_both (nat_lt m.kept seq) (issued_unless_off m m.failed_save save v) (refusing m (NotAfter m.kept)) (IssueTells v) (λ _. unless_tells m m.failed_save save v) (λ _. inr (refl, refl, λ e. cc))
 
 pub done_issued : (v : Validation) (r : Reply) → IssueTells v r → Done ≡ r.answer → Some v ≡ r.issued
 done_issued v r tells done = elim tells [ inl (is, _) ↦ sym is | inr (_, _, never) ↦ absurd (never (sym done)) ]

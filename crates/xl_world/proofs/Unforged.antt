@@ -11,7 +11,7 @@ use Rattle.xl_wire.specs.Kinds.{span}
 use Rattle.xl_wire.specs.Raws.{RawFrame}
 use Rattle.xl_tags.specs.Opening.{is_sealed}
 use Rattle.xl_core.specs.declared.hearing.Speech.TheVariants as speech
-use Rattle.xl_core.specs.Hearing.{heard}
+use Rattle.xl_core.specs.Hearing.{spoken_in}
 use Rattle.xl_core.proofs.Heard.{IsHeard, sender}
 use Rattle.xl_world.proofs.Speaking.{heard_said}
 use Rattle.xl_world.specs.Sending.{Sent}
@@ -47,12 +47,12 @@ sent_says P frames bytes x says sent is =
 
 pub heard_unforged : (w : World) (n : Node) → All (FrameSays (IsGenuine w.liars w.said)) w.sent → (bytes : List ℕ) → forges w.liars w.sent n.keys bytes (split_of bytes) ≡ false →
     (from : ℕ) (v : Validation) → IsHeard n.keys n.list.members bytes (record { from = from; what = speech.Validation v }) → IsGenuine w.liars w.said (said_by from v)
-heard_unforged w n genuine bytes fair from v heard =
-    let f : RawFrame = heard.frame in
+heard_unforged w n genuine bytes fair from v spoken_in =
+    let f : RawFrame = spoken_in.frame in
     elim (unforged (nat_le (length bytes) (span f.body)) (f.to == n.keys.me) (is_on w.liars f.from) (was_sent w.sent bytes) (is_sealed n.keys f)
-    (ap (forges w.liars w.sent n.keys bytes) (sym heard.split) ∙ fair) heard.last heard.for_me heard.is_sealed) [
-      | inl liar ↦ or_left _ _ (ap (is_on w.liars) (sender n.keys n.list.members bytes (record { from = from; what = speech.Validation v }) heard) ∙ liar)
-      | inr sent ↦ sent_says (IsGenuine w.liars w.said) w.sent bytes (said_by from v) genuine sent (heard_said n.keys n.list.members bytes from v heard)
+    (ap (forges w.liars w.sent n.keys bytes) (sym spoken_in.split) ∙ fair) spoken_in.last spoken_in.for_me spoken_in.is_sealed) [
+      | inl liar ↦ or_left _ _ (ap (is_on w.liars) (sender n.keys n.list.members bytes (record { from = from; what = speech.Validation v }) spoken_in) ∙ liar)
+      | inr sent ↦ sent_says (IsGenuine w.liars w.said) w.sent bytes (said_by from v) genuine sent (heard_said n.keys n.list.members bytes from v spoken_in)
     ]
 
 -- one more is not none

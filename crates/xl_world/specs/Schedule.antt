@@ -16,10 +16,10 @@ use Rattle.xl_validations.specs.Rows.{heard_of}
 use Rattle.xl_ledger.specs.declared.refusal.AddRefusal.TheVariants.{Full as RegistryFull}
 use Rattle.xl_core.specs.Answers.{Answer}
 use Rattle.xl_core.specs.Answers as answer
-use Rattle.xl_core.specs.declared.beat.Beat.{Beat}
-use Rattle.xl_core.specs.declared.beat.Beat.TheVariants as beat
-use Rattle.xl_core.specs.declared.beat.Issued.{Issued}
-use Rattle.xl_core.specs.declared.beat.Issued.TheVariants as issued
+use Rattle.xl_core.specs.declared.timer_answer.TimerAnswer.{TimerAnswer}
+use Rattle.xl_core.specs.declared.timer_answer.TimerAnswer.TheVariants as timer_answer
+use Rattle.xl_core.specs.declared.timer_answer.Issued.{Issued}
+use Rattle.xl_core.specs.declared.timer_answer.Issued.TheVariants as issued
 use Rattle.xl_core.specs.declared.refusal.Refusal.TheVariants.{Header as HeaderRefused}
 use Rattle.xl_core.specs.Core.{Core, CoreReply, core_asks}
 use Rattle.xl_core.specs.Node.{preferred}
@@ -168,13 +168,13 @@ told_of_issued i (issued.Refused why) = Refused i why ∷ []
 
 -- what is told of a timer: the ledger that the node switched to, or the one that it built, or that it has no room for
 -- one more
-abbrev pub told_of_beat : ℕ → Beat → List Outcome
-told_of_beat i beat.Nothing = []
-told_of_beat i beat.Closed = []
-told_of_beat i beat.Updated = []
-told_of_beat i (beat.Switched seq id) = Switched i seq id ∷ []
-told_of_beat i (beat.NoRoom limit) = Refused i (HeaderRefused (RegistryFull limit)) ∷ []
-told_of_beat i (beat.Built seq id moved_on how) = Built i seq id how ∷ told_of_issued i how
+abbrev pub told_of_beat : ℕ → TimerAnswer → List Outcome
+told_of_beat i timer_answer.Nothing = []
+told_of_beat i timer_answer.Closed = []
+told_of_beat i timer_answer.Updated = []
+told_of_beat i (timer_answer.Switched seq id) = Switched i seq id ∷ []
+told_of_beat i (timer_answer.NoRoom limit) = Refused i (HeaderRefused (RegistryFull limit)) ∷ []
+told_of_beat i (timer_answer.Built seq id moved_on how) = Built i seq id how ∷ told_of_issued i how
 
 -- what is told of an answer: that it refuses, or what came of a timer
 abbrev pub told_of_answer : ℕ → Answer → List Outcome

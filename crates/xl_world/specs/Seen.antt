@@ -13,10 +13,10 @@ use Rattle.xl_core.specs.Answers as answer
 use Rattle.xl_core.specs.Core.{Core, CoreReply, core_asks, core_happens}
 use Rattle.xl_core.specs.Hearing.{bytes_as_sealed}
 use Rattle.xl_tags.specs.Rings.{schedule_ring}
-use Rattle.xl_core.specs.declared.beat.Beat.{Beat}
-use Rattle.xl_core.specs.declared.beat.Beat.TheVariants as beat
-use Rattle.xl_core.specs.declared.beat.Issued.{Issued}
-use Rattle.xl_core.specs.declared.beat.Issued.TheVariants as issued
+use Rattle.xl_core.specs.declared.timer_answer.TimerAnswer.{TimerAnswer}
+use Rattle.xl_core.specs.declared.timer_answer.TimerAnswer.TheVariants as timer_answer
+use Rattle.xl_core.specs.declared.timer_answer.Issued.{Issued}
+use Rattle.xl_core.specs.declared.timer_answer.Issued.TheVariants as issued
 use Rattle.xl_core.specs.declared.event.CoreEvent.{CoreEvent}
 use Rattle.xl_core.specs.declared.event.CoreEvent.TheVariants.{Issue, Frame, Timer, Submit, Greet, Relist}
 use Rattle.xl_core.specs.declared.refusal.Refusal.{Refusal}
@@ -80,7 +80,7 @@ MayDo me (deed.Relist list) = Unit {0}
 abbrev pub reaction_of : Answer → Reaction
 reaction_of (answer.Refused why) = reaction.Refused why
 reaction_of (answer.Took taken) = reaction.Done
-reaction_of (answer.Beats beat) = reaction.Beat beat
+reaction_of (answer.Beats beat) = reaction.TimerAnswer beat
 reaction_of answer.Done = reaction.Done
 reaction_of (answer.Gave to frames) = reaction.Done
 reaction_of (answer.Handed reports) = reaction.Done
@@ -97,16 +97,16 @@ said_by_issued member seq id issued.Partial = Some (record { member = member; se
 said_by_issued member seq id issued.Silent = None
 said_by_issued member seq id (issued.Refused why) = None
 
-abbrev pub said_by_beat : ℕ → Beat → Option SaidLedger
-said_by_beat member beat.Nothing = None
-said_by_beat member beat.Closed = None
-said_by_beat member beat.Updated = None
-said_by_beat member (beat.Switched seq id) = None
-said_by_beat member (beat.NoRoom limit) = None
-said_by_beat member (beat.Built seq id moved_on how) = said_by_issued member seq id how
+abbrev pub said_by_beat : ℕ → TimerAnswer → Option SaidLedger
+said_by_beat member timer_answer.Nothing = None
+said_by_beat member timer_answer.Closed = None
+said_by_beat member timer_answer.Updated = None
+said_by_beat member (timer_answer.Switched seq id) = None
+said_by_beat member (timer_answer.NoRoom limit) = None
+said_by_beat member (timer_answer.Built seq id moved_on how) = said_by_issued member seq id how
 
-pub record IsBeaten (member : ℕ) (beat : Beat) (done : Done) : Type 0 where
-  pub reaction : done.reaction ≡ reaction.Beat beat
+pub record IsBeaten (member : ℕ) (beat : TimerAnswer) (done : Done) : Type 0 where
+  pub reaction : done.reaction ≡ reaction.TimerAnswer beat
   pub said : done.said ≡ said_by_beat member beat
 
 -- what an event does to a core, under a keeper whose save meets a fate
@@ -166,7 +166,7 @@ given_at numbers (Some p) = given_by p.core (draining numbers p.core)
 abbrev pub told_of_reaction : ℕ → Reaction → List Outcome
 told_of_reaction i reaction.Done = []
 told_of_reaction i (reaction.Refused why) = Refused i why ∷ []
-told_of_reaction i (reaction.Beat beat) = told_of_beat i beat
+told_of_reaction i (reaction.TimerAnswer beat) = told_of_beat i beat
 
 -- and of what it reports
 abbrev pub outcomes_told : ℕ → NodeAnswer → List Outcome

@@ -15,7 +15,7 @@ use crate::place::{Fate, NodeCore, Place};
 use crate::saving::Fated;
 use crate::{InForce, Outcome, WorldReport};
 use xl_base::{LedgerId, Millis, NodeNo, Seq, TxId};
-use xl_core::{Beat, Issued, Node, Refusal, Report};
+use xl_core::{Issued, Node, Refusal, Report, TimerAnswer};
 use xl_lists::{List, SaidLedger};
 use xl_trie::Trie;
 
@@ -40,7 +40,7 @@ pub enum Deed<'a> {
 pub enum Reaction {
     Done,
     Refused(Refusal),
-    Beat(Beat),
+    TimerAnswer(TimerAnswer),
 }
 
 /// What a node says of what happened at it, and the validation that it issued.
@@ -86,11 +86,11 @@ fn done_or_refused<T: Drop>(outcome: Result<T, Refusal>) -> Reaction
 }
 
 /// What came of a timer; the validation of a built ledger is the node's, if it issued one.
-fn beaten(member: NodeNo, beat: Beat) -> Done
+fn beaten(member: NodeNo, beat: TimerAnswer) -> Done
     ensures { IsBeaten member beat result }
 {
     let said = match beat {
-        Beat::Built {
+        TimerAnswer::Built {
             seq,
             id,
             issued: Issued::Full | Issued::Partial,
@@ -99,7 +99,7 @@ fn beaten(member: NodeNo, beat: Beat) -> Done
         _ => None,
     };
     Done {
-        reaction: Reaction::Beat(beat),
+        reaction: Reaction::TimerAnswer(beat),
         said,
     }
 }
@@ -200,7 +200,7 @@ fn set_by(node: NodeNo, deed: &Deed<'_>, reaction: &Reaction) -> Option<InForce>
     };
     match reaction {
         Reaction::Refused(_) => None,
-        Reaction::Done | Reaction::Beat(_) => Some(InForce {
+        Reaction::Done | Reaction::TimerAnswer(_) => Some(InForce {
             node,
             list: list.copy(),
         }),

@@ -9,7 +9,7 @@ use crate::act::{NodeAnswer, Reaction, core_at};
 use crate::place::{NodeCore, Place};
 use crate::{Outcome, WorldReport};
 use xl_base::{NodeNo, OutOfMemory};
-use xl_core::{Beat, Issued, Refusal};
+use xl_core::{Issued, Refusal, TimerAnswer};
 use xl_ledger::AddRefusal;
 
 /// Adds an element if there is one.
@@ -40,21 +40,21 @@ fn tell_built(
 }
 
 /// What came of a node's timer.
-fn tell_beat(told: &mut Vec<Outcome>, node: NodeNo, beat: &Beat) -> Result<(), OutOfMemory>
+fn tell_beat(told: &mut Vec<Outcome>, node: NodeNo, beat: &TimerAnswer) -> Result<(), OutOfMemory>
     ensures { OnOk result (told.new.items ≡ told.old.items ++ told_of_beat node beat.now) }
 {
     match *beat {
-        Beat::Nothing | Beat::Closed | Beat::Updated => Ok(()),
-        Beat::Switched(seq, id) => {
+        TimerAnswer::Nothing | TimerAnswer::Closed | TimerAnswer::Updated => Ok(()),
+        TimerAnswer::Switched(seq, id) => {
             told.push(Outcome::Switched { node, seq, id })?;
             Ok(())
         }
-        Beat::NoRoom(limit) => {
+        TimerAnswer::NoRoom(limit) => {
             let refusal = Refusal::Header(AddRefusal::Full(limit));
             told.push(Outcome::Refused { node, refusal })?;
             Ok(())
         }
-        Beat::Built {
+        TimerAnswer::Built {
             seq,
             id,
             issued,
@@ -88,7 +88,7 @@ fn tell_reaction(
             })?;
             Ok(())
         }
-        Reaction::Beat(beat) => tell_beat(told, node, beat),
+        Reaction::TimerAnswer(beat) => tell_beat(told, node, beat),
     }
 }
 

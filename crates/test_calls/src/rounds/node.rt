@@ -6,7 +6,7 @@ use std::marker::Model;
 use std::test::Fail;
 use xl_base::{LedgerId, Millis, NodeNo, Secs, SetId, TxId, set_id};
 use xl_ledger::{LedgerNo, Registry};
-use xl_rounds::{Agreed, Kind, Mode, Phase, Placed, Pulse, Round, RoundRefusal, Seen};
+use xl_rounds::{Agreed, Heartbeat, HeartbeatKind, Mode, Phase, Placed, Round, RoundRefusal, Seen};
 use xl_wire::Proposal;
 
 pub const ROOT: LedgerId = LedgerId([0; 32]);
@@ -111,7 +111,7 @@ impl Node {
 
     /// What a heartbeat does and says: the propose sequence, the close time and the second of the position, and whether
     /// it goes with the set.
-    pub fn brief(&mut self, now: Millis) -> (Kind, Option<(u32, Secs, Secs, bool)>)
+    pub fn brief(&mut self, now: Millis) -> (HeartbeatKind, Option<(u32, Secs, Secs, bool)>)
         requires { now ≤ greatest_millis }
     {
         let pulse = self.round.heartbeat(now, NOTHING);
@@ -160,25 +160,25 @@ impl Node {
         (set.len(), set.first().copied(), set.last().copied())
     }
 
-    pub fn beat(&mut self, now: Millis, seen: Seen) -> Pulse
+    pub fn beat(&mut self, now: Millis, seen: Seen) -> Heartbeat
         requires { now ≤ greatest_millis }
     {
         self.round.heartbeat(now, seen)
     }
 
     /// What kind of heartbeat it is.
-    pub fn kind(&mut self, now: Millis, seen: Seen) -> Kind
+    pub fn kind(&mut self, now: Millis, seen: Seen) -> HeartbeatKind
         requires { now ≤ greatest_millis }
     {
         self.beat(now, seen).kind
     }
 
     /// A heartbeat that is ready, and accepted.
-    pub fn accept(&mut self, now: Millis, seen: Seen) -> Result<(Pulse, Agreed), Fail>
+    pub fn accept(&mut self, now: Millis, seen: Seen) -> Result<(Heartbeat, Agreed), Fail>
         requires { now ≤ greatest_millis }
     {
         let pulse = self.round.heartbeat(now, seen);
-        if let Kind::Ready { .. } = pulse.kind {
+        if let HeartbeatKind::Ready { .. } = pulse.kind {
             let agreed = self.round.agreed();
             self.round.accept();
             return Ok((pulse, agreed));

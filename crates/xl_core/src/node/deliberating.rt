@@ -1,7 +1,7 @@
 ghost use Rattle.std.specs.Prelude.{◌≡◌, ◌≤◌, ℕ, Ok, OnErr, length, take};
 ghost use Rattle.xl_base.specs.Sets.{IsSet};
 ghost use Rattle.std.specs.Result.{result_err};
-ghost use Rattle.xl_core.specs.Node.{hears, speech_refusal, taken_as};
+ghost use Rattle.xl_core.specs.Node.{speech_reply, speech_refusal, taken_as};
 ghost use Rattle.xl_core.specs.Replies.{hear_reply};
 ghost use Rattle.xl_core.specs.declared.hearing.Speech.TheVariants as speech;
 
@@ -44,7 +44,7 @@ fn taken_as(placed: Placed) -> Taken
 impl<B: Branch + Drop> Node<B> {
     /// The round places a member's proposal.
     pub(super) fn place(&mut self, from: NodeNo, p: &Proposal) -> Result<Heard, Refusal>
-        ensures exact { hear_reply result self.new ≡ hears self.old from (speech.Proposal p.now) }
+        ensures exact { hear_reply result self.new ≡ speech_reply self.old from (speech.Proposal p.now) }
         ensures refused { result_err result ≡ speech_refusal self.old from (speech.Proposal p.now) }
         ensures unchanged { OnErr result (self.new ≡ self.old) }
     {
@@ -58,7 +58,7 @@ impl<B: Branch + Drop> Node<B> {
 
     /// A set is the one that the member holds from then on.
     pub(super) fn hold(&mut self, from: NodeNo, ids: &Ids<'_>) -> Heard
-        ensures { hear_reply (Ok result) self.new ≡ hears self.old from (speech.TxSet ids.now) }
+        ensures { hear_reply (Ok result) self.new ≡ speech_reply self.old from (speech.TxSet ids.now) }
     {
         // Few sets are long, so few clear the long room.
         if ids.len() <= SHORT_SET {
@@ -71,7 +71,7 @@ impl<B: Branch + Drop> Node<B> {
     /// Holds a set that is too long for the short room. Inlined, it would clear its room for each set.
     #[inline(never)]
     fn hold_long(&mut self, from: NodeNo, ids: &Ids<'_>) -> Heard
-        ensures { hear_reply (Ok result) self.new ≡ hears self.old from (speech.TxSet ids.now) }
+        ensures { hear_reply (Ok result) self.new ≡ speech_reply self.old from (speech.TxSet ids.now) }
     {
         // A set has this many ids at most.
         let _count = ids.len();
@@ -81,7 +81,7 @@ impl<B: Branch + Drop> Node<B> {
     /// Copies a set into a room, and holds it.
     fn hold_through(&mut self, room: &mut [TxId], from: NodeNo, ids: &Ids<'_>) -> Heard
         requires { length ids.now ≤ length room.old }
-        ensures { hear_reply (Ok result) self.new ≡ hears self.old from (speech.TxSet ids.now) }
+        ensures { hear_reply (Ok result) self.new ≡ speech_reply self.old from (speech.TxSet ids.now) }
     {
         let count = copy_ids(ids, room);
         let id = self.round.hold(from, &room[..count]);
@@ -93,7 +93,7 @@ impl<B: Branch + Drop> Node<B> {
 
     /// A transaction that a member sent is pending from then on, and isn't sent on.
     pub(super) fn take_tx(&mut self, tx: TxId) -> Result<Heard, Refusal>
-        ensures exact { (from : ℕ) → hear_reply result self.new ≡ hears self.old from (speech.Tx tx) }
+        ensures exact { (from : ℕ) → hear_reply result self.new ≡ speech_reply self.old from (speech.Tx tx) }
         ensures refused { (from : ℕ) → result_err result ≡ speech_refusal self.old from (speech.Tx tx) }
         ensures unchanged { OnErr result (self.new ≡ self.old) }
     {

@@ -8,25 +8,25 @@ ghost use Rattle.xl_core.specs.Building.{knowing, alone as alone_of};
 ghost use Rattle.xl_core.specs.Keeping.{CountsFault, IsAsked};
 ghost use Rattle.xl_core.specs.Node.{
   at_moment,
-  timed,
+  timer_outcome,
   chosen,
-  switching,
+  switch_outcome,
   seen as seen_of,
-  after_beat,
+  heartbeat_outcome,
   built as built_of,
-  building,
+  built_outcome,
 };
 ghost use Rattle.xl_core.specs.Replies.{save_in, was_kept};
-ghost use Rattle.xl_core.specs.Ticks.{timed_by, asks_in, validated, concluded, validated_reply, IsBuilt, IsKnown, IsTicked};
+ghost use Rattle.xl_core.specs.TimerParts.{outcome_by, asks_in, validating_reply, concluding_reply, validated_reply, IsBuilt, IsKnown, IsTimerPart};
 
 use super::{Node, usual_mode};
-use crate::tick::{Built, Tick};
-use crate::{Beat, OwnValidation, Refusal};
+use crate::timer_part::{Built, TimerPart};
+use crate::{OwnValidation, Refusal, TimerAnswer};
 use xl_base::{LedgerId, Millis};
 use xl_closetime::effective;
 use xl_io::Keeper;
 use xl_ledger::{AddRefusal, Branch, Header, LedgerNo, build_next, id_of};
-use xl_rounds::{Kind, Mode, Pulse, Said, Seen};
+use xl_rounds::{Heartbeat, HeartbeatKind, Mode, Said, Seen};
 use xl_wire::Proposal;
 
 /// A position that is said without the set.
@@ -42,10 +42,10 @@ fn alone(position: Option<Proposal>) -> Option<Said>
 impl<B: Branch + Drop> Node<B> {
     /// Looks at the votes, and lets the round go on or switches to another ledger. A ledger on which the round agreed
     /// is built and accepted, if there is room for it; `conclude` goes on from there.
-    pub(crate) fn tick(&mut self, now: Millis) -> Tick
+    pub(crate) fn timer(&mut self, now: Millis) -> TimerPart
         requires moment { now ≤ greatest_millis }
-        ensures exact { timed_by result self.new ≡ timed (at_moment now self.old) }
-        ensures ticked { IsTicked self.new result }
+        ensures exact { outcome_by result self.new ≡ timer_outcome (at_moment now self.old) }
+        ensures part { IsTimerPart self.new result }
     {
         self.advance(now);
         let ledger = self.chosen();
@@ -67,16 +67,19 @@ impl<B: Branch + Drop> Node<B> {
     }
 
     /// Leaves the round for one on another ledger.
-    fn switch(&mut self, ledger: LedgerNo) -> Tick
+    fn switch(&mut self, ledger: LedgerNo) -> TimerPart
         requires known { ledger < length self.old.ledgers.headers }
-        ensures exact { timed_by result self.new ≡ switching self.old ledger }
-        ensures ticked { IsTicked self.new result }
+        ensures exact { outcome_by result self.new ≡ switch_outcome self.old ledger }
+        ensures part { IsTimerPart self.new result }
     {
         let said = alone(self.round.leave(self.time));
         self.round
             .start(&self.registry, ledger, Mode::SwitchedLedger, self.time);
-        Tick::Quiet {
-            beat: Beat::Switched(self.registry.seq_of(ledger), self.registry.id_at(ledger)),
+        TimerPart::Quiet {
+            answer: TimerAnswer::Switched(
+                self.registry.seq_of(ledger),
+                self.registry.id_at(ledger),
+            ),
             said,
         }
     }
@@ -93,8 +96,8 @@ impl<B: Branch + Drop> Node<B> {
     }
 
     /// The round's heartbeat.
-    fn beat(&mut self) -> Pulse
-        ensures told { result ≡ (heartbeat self.old.time (seen_of self.old) self.old.round).pulse }
+    fn heartbeat(&mut self) -> Heartbeat
+        ensures told { result ≡ (heartbeat self.old.time (seen_of self.old) self.old.round).answer }
         ensures after { self.new ≡ record self.old {
           round = (heartbeat self.old.time (seen_of self.old) self.old.round).round;
         } }
@@ -105,42 +108,42 @@ impl<B: Branch + Drop> Node<B> {
     }
 
     /// The round's phase goes on.
-    fn go_on(&mut self) -> Tick
-        ensures exact { timed_by result self.new ≡
-            after_beat self.old (heartbeat self.old.time (seen_of self.old) self.old.round) }
-        ensures ticked { IsTicked self.new result }
+    fn go_on(&mut self) -> TimerPart
+        ensures exact { outcome_by result self.new ≡
+            heartbeat_outcome self.old (heartbeat self.old.time (seen_of self.old) self.old.round) }
+        ensures part { IsTimerPart self.new result }
     {
-        let Pulse { kind, said } = self.beat();
+        let Heartbeat { kind, said } = self.heartbeat();
         match kind {
-            Kind::Nothing => Tick::Quiet {
-                beat: Beat::Nothing,
+            HeartbeatKind::Nothing => TimerPart::Quiet {
+                answer: TimerAnswer::Nothing,
                 said,
             },
-            Kind::Closed => Tick::Quiet {
-                beat: Beat::Closed,
+            HeartbeatKind::Closed => TimerPart::Quiet {
+                answer: TimerAnswer::Closed,
                 said,
             },
-            Kind::Updated => Tick::Quiet {
-                beat: Beat::Updated,
+            HeartbeatKind::Updated => TimerPart::Quiet {
+                answer: TimerAnswer::Updated,
                 said,
             },
-            Kind::Ready { moved_on } => self.build(said, moved_on),
+            HeartbeatKind::Ready { moved_on } => self.build(said, moved_on),
         }
     }
 
     /// Builds and accepts the ledger for which the round is ready, if there is room for it.
-    fn build(&mut self, said: Option<Said>, moved_on: bool) -> Tick
+    fn build(&mut self, said: Option<Said>, moved_on: bool) -> TimerPart
         requires ready { IsSome self.old.round.ready }
-        ensures exact { timed_by result self.new ≡
-            building self.old said moved_on (knowing self.old.ledgers (built_of self.old)) }
-        ensures ticked { IsTicked self.new result }
+        ensures exact { outcome_by result self.new ≡
+            built_outcome self.old said moved_on (knowing self.old.ledgers (built_of self.old)) }
+        ensures part { IsTimerPart self.new result }
     {
         let header = self.next_header();
         let id = id_of(&header);
         match self.know(&header, &id) {
             Some(ledger) => {
                 self.round.accept();
-                Tick::Built(Built {
+                TimerPart::Built(Built {
                     said,
                     header,
                     id,
@@ -148,8 +151,8 @@ impl<B: Branch + Drop> Node<B> {
                     moved_on,
                 })
             }
-            None => Tick::Quiet {
-                beat: Beat::NoRoom(self.registry.limit()),
+            None => TimerPart::Quiet {
+                answer: TimerAnswer::NoRoom(self.registry.limit()),
                 said,
             },
         }
@@ -206,7 +209,7 @@ impl<B: Branch + Drop> Node<B> {
         keeper: &mut K,
     ) -> Result<Option<OwnValidation>, Refusal>
         requires built { IsBuilt self.old built.now }
-        ensures exact { validated_reply result self.new ≡ concluded self.old built.now (save_in result) }
+        ensures exact { validated_reply result self.new ≡ concluding_reply self.old built.now (save_in result) }
         ensures fault { CountsFault result (K.faults keeper.old) (K.faults keeper.new) }
         ensures asks { IsAsked K.held K.saves K.faults K.save_gives
             (asks_in self.old built.now) (was_kept result) keeper.old keeper.new }
@@ -225,7 +228,7 @@ impl<B: Branch + Drop> Node<B> {
         keeper: &mut K,
     ) -> Result<Option<OwnValidation>, Refusal>
         requires built { IsBuilt self.old built.now }
-        ensures exact { validated_reply result self.new ≡ validated self.old built.now (save_in result) }
+        ensures exact { validated_reply result self.new ≡ validating_reply self.old built.now (save_in result) }
         ensures fault { CountsFault result (K.faults keeper.old) (K.faults keeper.new) }
         ensures asks { IsAsked K.held K.saves K.faults K.save_gives
             (asks_in self.old built.now) (was_kept result) keeper.old keeper.new }

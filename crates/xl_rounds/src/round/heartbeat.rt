@@ -29,7 +29,7 @@ use crate::agreement::{Consensus, LEAST_MS, Tally, consensus_of};
 use crate::closing::{Waiting, should_close};
 use crate::decision::Decision;
 use crate::setting::{Former, Stance};
-use crate::{Kind, Phase, Pulse, Said, Seen};
+use crate::{Heartbeat, HeartbeatKind, Phase, Said, Seen};
 use xl_base::{Millis, Secs, secs_of};
 use xl_closetime::round_close;
 use xl_disputes::threshold;
@@ -52,7 +52,7 @@ fn percent_of(former: Former, round_ms: Millis) -> u64
 }
 
 /// What the round is ready for, if there is consensus and agreement on the close time.
-fn outcome(found: Consensus, agreed: bool) -> Option<Kind>
+fn outcome(found: Consensus, agreed: bool) -> Option<HeartbeatKind>
     ensures { result ≡ outcome_of found agreed }
 {
     if !agreed {
@@ -60,22 +60,22 @@ fn outcome(found: Consensus, agreed: bool) -> Option<Kind>
     }
     match found {
         Consensus::No => None,
-        Consensus::Yes => Some(Kind::Ready { moved_on: false }),
-        Consensus::MovedOn => Some(Kind::Ready { moved_on: true }),
+        Consensus::Yes => Some(HeartbeatKind::Ready { moved_on: false }),
+        Consensus::MovedOn => Some(HeartbeatKind::Ready { moved_on: true }),
     }
 }
 
-fn kind_of(reached: Option<Kind>, is_new: bool) -> Kind
+fn kind_of(reached: Option<HeartbeatKind>, is_new: bool) -> HeartbeatKind
     ensures { result ≡ kind_of_outcome reached is_new }
 {
     match reached {
         Some(ready) => ready,
-        None if is_new => Kind::Updated,
-        None => Kind::Nothing,
+        None if is_new => HeartbeatKind::Updated,
+        None => HeartbeatKind::Nothing,
     }
 }
 
-fn ready_after(reached: Option<Kind>, round_ms: Millis) -> Option<Millis>
+fn ready_after(reached: Option<HeartbeatKind>, round_ms: Millis) -> Option<Millis>
     ensures { result ≡ ready_after_outcome reached round_ms }
 {
     match reached {
@@ -89,9 +89,9 @@ impl Round {
     ///
     /// An open round closes, or nothing happens. An established one may renew our position, and may come to be ready,
     /// which is when the ledger that it agreed on is to be accepted. An accepted one waits for the next start.
-    pub fn heartbeat(&mut self, now: Millis, seen: Seen) -> Pulse
+    pub fn heartbeat(&mut self, now: Millis, seen: Seen) -> Heartbeat
         requires { now ≤ greatest_millis }
-        ensures told { result ≡ (heartbeat_of now seen self.old).pulse }
+        ensures told { result ≡ (heartbeat_of now seen self.old).answer }
         ensures after { self.new ≡ (heartbeat_of now seen self.old).round }
         // So a round is ready after this heartbeat exactly if it tells so, and stays on its ledger.
         ensures ready { is_some self.new.ready ≡ is_ready result.kind }
@@ -104,13 +104,13 @@ impl Round {
         }
     }
 
-    fn rest(&mut self) -> Pulse
-        ensures told { result ≡ (quiet self.old).pulse }
+    fn rest(&mut self) -> Heartbeat
+        ensures told { result ≡ (quiet self.old).answer }
         ensures after { self.new ≡ (quiet self.old).round }
     {
         self.ready = None;
-        Pulse {
-            kind: Kind::Nothing,
+        Heartbeat {
+            kind: HeartbeatKind::Nothing,
             said: None,
         }
     }
@@ -129,17 +129,17 @@ impl Round {
         }
     }
 
-    fn open_beat(&mut self, now: Millis, validated: u32) -> Pulse
+    fn open_beat(&mut self, now: Millis, validated: u32) -> Heartbeat
         requires { now ≤ greatest_millis }
-        ensures told { result ≡ (open_beat_of now validated self.old).pulse }
+        ensures told { result ≡ (open_beat_of now validated self.old).answer }
         ensures after { self.new ≡ (open_beat_of now validated self.old).round }
     {
         if !should_close(self.waiting(now, validated)) {
             return self.rest();
         }
         self.close(now);
-        Pulse {
-            kind: Kind::Closed,
+        Heartbeat {
+            kind: HeartbeatKind::Closed,
             said: self.said(true),
         }
     }
@@ -174,9 +174,9 @@ impl Round {
         self.positions.own(self.pending.as_slice());
     }
 
-    fn establish_beat(&mut self, now: Millis, finished: u32) -> Pulse
+    fn establish_beat(&mut self, now: Millis, finished: u32) -> Heartbeat
         requires { now ≤ greatest_millis }
-        ensures told { result ≡ (establish_beat_of now finished self.old).pulse }
+        ensures told { result ≡ (establish_beat_of now finished self.old).answer }
         ensures after { self.new ≡ (establish_beat_of now finished self.old).round }
     {
         let round_ms = now.saturating_sub(self.stance.closed);
@@ -187,9 +187,9 @@ impl Round {
     }
 
     /// The lines of the phase establish, in their order.
-    fn establish(&mut self, round_ms: Millis, second: Secs, finished: u32) -> Pulse
+    fn establish(&mut self, round_ms: Millis, second: Secs, finished: u32) -> Heartbeat
         requires { round_ms ≤ greatest_millis }
-        ensures told { result ≡ (established round_ms second finished self.old).pulse }
+        ensures told { result ≡ (established round_ms second finished self.old).answer }
         ensures after { self.new ≡ (established round_ms second finished self.old).round }
     {
         let decision = self.decide(round_ms, second);
@@ -198,7 +198,7 @@ impl Round {
         let found = consensus_of(self.tally(round_ms, finished));
         let reached = outcome(found, decision.choice.agreed);
         self.ready = ready_after(reached, round_ms);
-        Pulse {
+        Heartbeat {
             kind: kind_of(reached, is_new),
             said,
         }

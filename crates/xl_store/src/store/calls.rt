@@ -12,7 +12,7 @@ use crate::entry::{copy_of, note};
 use crate::outcome;
 use std::sync::Wait;
 use xl_base::{LedgerId, Millis, NodeNo, Seq, TxId};
-use xl_core::{Beat, CoreEvent, Refusal, Report, Taken};
+use xl_core::{CoreEvent, Refusal, Report, Taken, TimerAnswer};
 use xl_io::Keeper;
 use xl_ledger::Branch;
 use xl_lists::List;
@@ -43,7 +43,12 @@ impl<B: Branch + Drop, K: Keeper + Drop> Store<B, K> {
     }
 
     /// Looks at the votes and lets the round go on. What is validated then is first saved with the keeper.
-    pub fn timer<W: Wait>(&self, rt: &W, pass: &mut Pass, now: Millis) -> Result<Beat, StoreEnd>
+    pub fn timer<W: Wait>(
+        &self,
+        rt: &W,
+        pass: &mut Pass,
+        now: Millis,
+    ) -> Result<TimerAnswer, StoreEnd>
         requires pass { IsOf self.now pass.old }
         requires moment { now ≤ greatest_millis }
         ensures pass { IsOf self.now pass.new }

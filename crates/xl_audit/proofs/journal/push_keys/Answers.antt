@@ -3,7 +3,7 @@ use Rattle.std.specs.Prelude.{IfSome}
 use Rattle.std.specs.String.{string_bytes}
 use Rattle.xl_tags.specs.Rings.{key_of}
 use Rattle.xl_audit.specs.Journals.{key_text}
-use Rattle.xl_audit.specs.Stored.{IsId}
+use Rattle.xl_base.specs.Ids.{IsId}
 use Rattle.xl_audit.proofs.Ranging.{text_goes_on, all_so_far}
 use Rattle.xl_audit.proofs.journal.push_keys.Goals as goal
 

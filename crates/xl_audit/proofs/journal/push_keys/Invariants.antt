@@ -4,7 +4,7 @@ use Rattle.std.specs.List.{flat_map, range_with_len}
 use Rattle.std.specs.String.{string_bytes}
 use Rattle.xl_tags.specs.Rings.{key_of}
 use Rattle.xl_audit.specs.Journals.{key_text}
-use Rattle.xl_audit.specs.Stored.{IsId}
+use Rattle.xl_base.specs.Ids.{IsId}
 use Rattle.xl_audit.proofs.journal.push_keys.Given as goal
 
 -- the keys so far, and those that are to come

@@ -3,7 +3,7 @@ use Rattle.std.proofs.lemmas.List.{take_all}
 use Rattle.xl_wire.specs.Kinds.{span}
 use Rattle.xl_wire.specs.Raws.{RawFrame, SpellsRaw, raw_frame}
 use Rattle.xl_tags.specs.Rings.{Ring}
-use Rattle.xl_core.specs.Hearing.{bytes_with, frame_with, heard}
+use Rattle.xl_core.specs.Hearing.{bytes_with, frame_with, spoken_in}
 use Rattle.xl_core.specs.declared.hearing.Spoken.{Spoken}
 use Rattle.xl_core.specs.declared.hearing.Speech.{Speech}
 use Rattle.xl_core.specs.declared.refusal.Refusal.{Refusal}
@@ -17,14 +17,14 @@ returns-in-Need-clause-exact c =
     let ring : Ring = c.args.keys.now in
     let members : List ℕ = c.args.list.now.members in
     let is = sym c.in-Need.ensures.exact in
-    sym (ap (heard ring members) (stays_short c.args.tags ring c.args.bytes.now c.in-Need.lack is) ∙ short ring members c.args.bytes.now c.in-Need.lack is)
+    sym (ap (spoken_in ring members) (stays_short c.args.tags ring c.args.bytes.now c.in-Need.lack is) ∙ short ring members c.args.bytes.now c.in-Need.lack is)
 
 pub returns-in-Refused-clause-exact : goal.returns-in-Refused-clause-exact
 returns-in-Refused-clause-exact c =
     let ring : Ring = c.args.keys.now in
     let members : List ℕ = c.args.list.now.members in
     let is = sym c.in-Refused.ensures.exact in
-    sym (ap (heard ring members) (stays_refused c.args.tags ring c.args.bytes.now c.in-Refused.why is) ∙ no_frame ring members c.args.bytes.now c.in-Refused.why is)
+    sym (ap (spoken_in ring members) (stays_refused c.args.tags ring c.args.bytes.now c.in-Refused.why is) ∙ no_frame ring members c.args.bytes.now c.in-Refused.why is)
 
 -- more than the frame
 pub returns-then-raw-bytes-clause-exact : goal.returns-then-raw-bytes-clause-exact
@@ -35,7 +35,7 @@ returns-then-raw-bytes-clause-exact c =
     let is = sym c.in-Whole.ensures.exact in
     let more : span f.body < length c.args.bytes.now = omega (arith, c.if-raw-bytes.true, c.in-Whole.raw.whole) in
     ap (λ (n : ℕ). (let r : Result Spoken Refusal = Err (Extra (length c.args.bytes.now - n)) in r)) c.in-Whole.raw.whole
-    ∙ sym (ap (heard ring members) (stays_long c.args.tags ring c.args.bytes.now f is more) ∙ long ring members c.args.bytes.now f is more)
+    ∙ sym (ap (spoken_in ring members) (stays_long c.args.tags ring c.args.bytes.now f is more) ∙ long ring members c.args.bytes.now f is more)
 
 -- the bytes spell the frame
 spells : (c : Else-raw-bytes) → SpellsRaw (raw_frame c.in-Whole.raw) c.args.bytes.now

@@ -1,7 +1,7 @@
 use Rattle.std.proofs.Common.{◌≡◌, ◌+◌, ◌<◌, length, set, vec_capacity, Vec, ap, sym, ◌∙◌, arith}
 use Rattle.std.specs.Global.{Global}
 use Rattle.xl_base.specs.declared.ids.TxId.{TxId}
-use Rattle.xl_rounds.specs.Rest.{not_below, is_first}
+use Rattle.xl_disputes.specs.Rows.{not_below, is_first}
 use Rattle.xl_rounds.proofs.Walking.{walked_as, kept, dropped}
 use Rattle.xl_rounds.proofs.pending.drop_accepted.Goals as goal
 use Rattle.xl_rounds.proofs.pending.drop_accepted.Goals.{then-not-is_first, else-not-is_first}

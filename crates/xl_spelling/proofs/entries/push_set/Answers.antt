@@ -5,7 +5,7 @@ use Rattle.std.proofs.lemmas.List.Elements.{All-more, All-cons}
 use Rattle.hex.specs.Hex.{encode_lower}
 use Rattle.xl_base.specs.declared.ids.TxId.{TxId}
 use Rattle.xl_spelling.specs.Spellings.{set_word}
-use Rattle.xl_spelling.specs.Stored.{IsId}
+use Rattle.xl_base.specs.Ids.{IsId}
 use Rattle.xl_spelling.proofs.Commas.{entries-more, entries-done}
 use Rattle.xl_spelling.proofs.entries.push_set.Goals as goal
 

@@ -1,7 +1,7 @@
 use Rattle.std.proofs.Common.{◌≡◌, ◌++◌, ◌∷◌, take}
 use Rattle.std.specs.List.{flat_map, All}
 use Rattle.hex.specs.Hex.{encode_lower}
-use Rattle.xl_spelling.specs.Stored.{IsId}
+use Rattle.xl_base.specs.Ids.{IsId}
 use Rattle.xl_spelling.proofs.entries.push_set.Given as goal
 
 -- the ids so far

@@ -6,7 +6,7 @@ use Rattle.xl_core.specs.Hearing.{bytes_as_sealed}
 use Rattle.xl_core.specs.Node.{Node}
 use Rattle.xl_core.specs.Node.Save.{Kept}
 use Rattle.xl_core.specs.Replies.{Answers, taken_answer}
-use Rattle.xl_core.specs.Ticks.{save_at}
+use Rattle.xl_core.specs.TimerParts.{save_at}
 use Rattle.xl_core.specs.declared.event.CoreEvent.TheVariants.{Frame, Timer}
 use Rattle.xl_world.specs.declared.act.Deed.{Deed}
 use Rattle.xl_world.specs.Seen.{Does, IsBeaten, MayDo, deed_event}

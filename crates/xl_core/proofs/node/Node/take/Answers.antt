@@ -4,7 +4,7 @@ use Rattle.xl_lists.specs.Lists.{is_on}
 use Rattle.xl_validations.specs.declared.row.Row.{Row}
 use Rattle.xl_validations.specs.Rows.{refusal_of}
 use Rattle.xl_core.specs.declared.hearing.Speech.TheVariants as speech
-use Rattle.xl_core.specs.Node.{Node, report_if, hears, arises_in, second_of}
+use Rattle.xl_core.specs.Node.{Node, report_if, speech_reply, arises_in, second_of}
 use Rattle.xl_core.specs.Rest.{IsCurrent, node_seen}
 use Rattle.xl_core.proofs.Answered.{has_row, rest_when_taken, answer_when_taken}
 use Rattle.xl_core.proofs.Current.{taken_current}
@@ -47,4 +47,4 @@ returns-clause-exact g c =
     c.in_ok-take.ensures.taken
     (c.report_by-report.ensures ∙ ap (λ q. report_if (arises_in q c.take.new.self.rows c.self.inside.last c.args.v.now) c.args.v.now) c.quorum.ensures.value)
     c.later-self-inside.ensures
-    ∙ ap (λ m. hears m c.args.from (speech.Validation c.args.v.now)) c.self.view_is
+    ∙ ap (λ m. speech_reply m c.args.from (speech.Validation c.args.v.now)) c.self.view_is

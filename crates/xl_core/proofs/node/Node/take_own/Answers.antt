@@ -2,7 +2,7 @@ use Rattle.std.proofs.Common.{◌≡◌, ◌∙◌, ap, sym, subst}
 use Rattle.std.specs.Prelude.{false}
 use Rattle.xl_lists.specs.Lists.{is_on}
 use Rattle.xl_core.specs.declared.hearing.Speech.TheVariants as speech
-use Rattle.xl_core.specs.Node.{Node, hears, second_of}
+use Rattle.xl_core.specs.Node.{Node, speech_reply, second_of}
 use Rattle.xl_core.specs.Rest.{IsReady}
 use Rattle.xl_core.proofs.Answered.{own_taken, own_not_listed}
 use Rattle.xl_core.proofs.node.Node.take_own.Goals as goal
@@ -11,14 +11,14 @@ pub returns-then-has-clause-node : goal.returns-then-has-clause-node
 returns-then-has-clause-node g c =
     let me_is = ap (λ (n : Node). n.me) c.self.view_is in
     (own_taken c.args.self.now c.args.self.now.me c.args.v.now c.take.result c.take.new.self (subst IsReady c.self.view_is c.self.invariant.0).rest
-    (c.take.ensures.exact ∙ ap (λ m. hears c.args.self.now m (speech.Validation c.args.v.now)) me_is)).0
+    (c.take.ensures.exact ∙ ap (λ m. speech_reply c.args.self.now m (speech.Validation c.args.v.now)) me_is)).0
 
 pub returns-then-has-clause-report : goal.returns-then-has-clause-report
 returns-then-has-clause-report g c =
     let me_is = ap (λ (n : Node). n.me) c.self.view_is in
     c.unwrap_or.ensures
     ∙ (own_taken c.args.self.now c.args.self.now.me c.args.v.now c.take.result c.take.new.self (subst IsReady c.self.view_is c.self.invariant.0).rest
-    (c.take.ensures.exact ∙ ap (λ m. hears c.args.self.now m (speech.Validation c.args.v.now)) me_is)).1
+    (c.take.ensures.exact ∙ ap (λ m. speech_reply c.args.self.now m (speech.Validation c.args.v.now)) me_is)).1
 
 pub returns-else-has-clause-node : goal.returns-else-has-clause-node
 returns-else-has-clause-node g c =

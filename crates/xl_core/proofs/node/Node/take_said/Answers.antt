@@ -1,15 +1,15 @@
 use Rattle.std.proofs.Common.{◌∙◌, ap, sym}
-use Rattle.xl_core.specs.Node.{hears, speech_refusal}
+use Rattle.xl_core.specs.Node.{speech_reply, speech_refusal}
 use Rattle.xl_core.proofs.node.Node.take_said.Goals as goal
 
 pub returns-in-Header-clause-exact : goal.returns-in-Header-clause-exact
-returns-in-Header-clause-exact g c = c.learn.ensures.exact c.args.from ∙ ap (hears c.args.self.now c.args.from) (sym c.in-Header.is)
+returns-in-Header-clause-exact g c = c.learn.ensures.exact c.args.from ∙ ap (speech_reply c.args.self.now c.args.from) (sym c.in-Header.is)
 
 pub returns-in-Header-clause-refused : goal.returns-in-Header-clause-refused
 returns-in-Header-clause-refused g c = c.learn.ensures.refused c.args.from ∙ ap (speech_refusal c.args.self.now c.args.from) (sym c.in-Header.is)
 
 pub returns-in-Tx-clause-exact : goal.returns-in-Tx-clause-exact
-returns-in-Tx-clause-exact g c = c.take_tx.ensures.exact c.args.from ∙ ap (hears c.args.self.now c.args.from) (sym c.in-Tx.is)
+returns-in-Tx-clause-exact g c = c.take_tx.ensures.exact c.args.from ∙ ap (speech_reply c.args.self.now c.args.from) (sym c.in-Tx.is)
 
 pub returns-in-Tx-clause-refused : goal.returns-in-Tx-clause-refused
 returns-in-Tx-clause-refused g c = c.take_tx.ensures.refused c.args.from ∙ ap (speech_refusal c.args.self.now c.args.from) (sym c.in-Tx.is)

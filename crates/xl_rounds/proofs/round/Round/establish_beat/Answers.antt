@@ -1,6 +1,6 @@
 use Rattle.std.proofs.Common.{◌≡◌, ◌-◌, ap, ◌∙◌}
 use Rattle.xl_rounds.specs.Rounds.{Round}
-use Rattle.xl_rounds.specs.Heartbeats.{Beat, established, establish_beat}
+use Rattle.xl_rounds.specs.Heartbeats.{HeartbeatReply, established, establish_beat}
 use Rattle.xl_rounds.proofs.HeartbeatLaws.{no_longer_young}
 use Rattle.xl_rounds.proofs.round.Round.establish_beat.Goals as goal
 use Rattle.xl_rounds.proofs.round.Round.establish_beat.Goals.{After-establish}
@@ -11,7 +11,7 @@ same_beat c =
     (c.saturating_sub-round_ms.ensures ∙ ap (λ (s : Round). c.args.now - s.stance.closed) c.self.view_is) c.if-round_ms-lt-LEAST_MS.false c.secs_of.ensures
 
 pub returns-clause-told : goal.returns-clause-told
-returns-clause-told c = c.establish.ensures.told ∙ ap (λ (b : Beat). b.pulse) (same_beat (goal.at.returns-clause-told c).After-establish)
+returns-clause-told c = c.establish.ensures.told ∙ ap (λ (b : HeartbeatReply). b.answer) (same_beat (goal.at.returns-clause-told c).After-establish)
 
 pub returns-clause-after : goal.returns-clause-after
-returns-clause-after c = c.establish.ensures.after ∙ ap (λ (b : Beat). b.round) (same_beat (goal.at.returns-clause-after c).After-establish)
+returns-clause-after c = c.establish.ensures.after ∙ ap (λ (b : HeartbeatReply). b.round) (same_beat (goal.at.returns-clause-after c).After-establish)

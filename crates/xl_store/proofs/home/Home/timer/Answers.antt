@@ -1,7 +1,7 @@
 use Rattle.xl_core.specs.Answers.{Beats}
 use Rattle.xl_core.specs.declared.event.CoreEvent.TheVariants.{Timer}
 use Rattle.xl_core.specs.Node.{at_moment}
-use Rattle.xl_core.specs.Ticks.{save_at}
+use Rattle.xl_core.specs.TimerParts.{save_at}
 use Rattle.xl_store.specs.Outcomes.{outcome_at}
 use Rattle.xl_store.proofs.Noting.{same_at, beat_counted, beat_with}
 use Rattle.xl_store.proofs.Turning.{answers_home}

@@ -1,0 +1,495 @@
+ghost use Rattle.std.specs.Prelude.{◌≡◌, ◌↔◌, ◌<◌, ◌≤◌, [], ℕ, IfOk, IsSome, IsTrue, OnOk, OnErr, Some, Err, length, option_map, None};
+ghost use Rattle.std.specs.Result.{result_err};
+ghost use Rattle.xl_base.specs.Moments.{greatest_millis};
+ghost use Rattle.xl_validations.specs.Rows.{current_of, heard_of, is_full_of};
+ghost use Rattle.xl_validations.specs.Votes.{votes_of};
+ghost use Rattle.xl_ledger.specs.Limits.{greatest_limit, least_limit};
+ghost use Rattle.xl_io.specs.Keepers.{Held};
+ghost use Rattle.xl_tags.specs.Rings.{key_of};
+ghost use Rattle.xl_core.specs.Answers.{Done, Gave, Told};
+ghost use Rattle.xl_core.specs.Building.{said_items};
+ghost use Rattle.xl_core.specs.Core.{all_frames, answering, is_idle, with_queues, core_happens, core_asks, Marks};
+ghost use Rattle.xl_core.specs.Items.{lost_for};
+ghost use Rattle.xl_core.specs.Marks.{StayMarks};
+ghost use Rattle.xl_core.specs.Queues.{with_items, frames_in};
+ghost use Rattle.xl_core.specs.declared.event.CoreEvent.TheVariants.{Issue, Frame, Timer, Submit, Greet, Drain, Stop, Stopped, Relist};
+ghost use Rattle.xl_core.specs.Stops.{HoldsAtLeast, IsCovered, StaysCovered};
+ghost use Rattle.xl_core.specs.Keeping.{AsksSave, CountsFault, Holds, IsAsked, Saves};
+ghost use Rattle.xl_core.specs.Replies.{Answers, Drains, DrainsBlank, HandsOut, Issues, core_for, taken_answer, done_answer, was_kept};
+ghost use Rattle.xl_core.specs.Rest.{IsKeyed};
+ghost use Rattle.xl_core.specs.Hearing.{Carries, bytes_as_sealed, bytes_with, speech_of};
+ghost use Rattle.xl_core.specs.Node.{opened, settings_of, at_moment, asks_for, frame_refusal, key_refusal, speech_refusal, tx_refusal, preferred, IsOff};
+ghost use Rattle.xl_core.specs.TimerParts.{Beaten, Concludes, CountsBeatFault, IsBuilt, asks_in, beat_was_kept};
+ghost use Rattle.xl_core.specs.Node.Save.{Kept};
+ghost use Rattle.xl_wire.specs.Lengths.{longest_frame};
+ghost use Rattle.xl_wire.specs.declared.body.Body.{Body};
+ghost use Rattle.xl_wire.specs.Raws.{RawFrame};
+ghost use Rattle.xl_core.specs.declared.refusal.Refusal.TheVariants.{NotAfter, IssuingOff};
+
+use crate::greeting::{Greetings, greet, hand_chain, is_greeted};
+use crate::hearing::Tags;
+use crate::marks::{is_idle, is_marked, noted, push};
+use crate::outgoing::{Waiting, drain, lost_for};
+use crate::sending::TagPlace;
+use crate::timer_answer::full_or_partial;
+use crate::timer_part::{Built, TimerPart};
+use crate::untaken::{UNTAKEN, push_report, take_reports};
+use crate::{Issued, Item, Node, Refusal, Report, Settings, Taken, TimerAnswer};
+use std::alloc::Global;
+use std::marker::Model;
+use xl_base::{LedgerId, MOST_MEMBERS, Millis, NodeNo, OutOfMemory, Seq, TxId};
+use xl_io::Keeper;
+use xl_ledger::{Branch, Registry};
+use xl_lists::List;
+use xl_queues::{Broadcast, Queue};
+use xl_rounds::Said;
+
+/// A node with its queues, over whichever branch of votes: what it issues waits for each peer until it is drained, and
+/// what it reports until it is taken. A peer is a number that the node has a key for. No call after `open` and `reopen`
+/// takes memory.
+#[derive(Drop)]
+pub struct Core<B: Branch> {
+    node: Node<B>,
+    waiting: Waiting,
+    greetings: Greetings,
+    /// For whom anything of these is left.
+    marks: u64,
+    untaken: Queue<Report, UNTAKEN>,
+    stopped: bool,
+}
+
+impl<B: Branch> Model for Core<B> {
+    ghost use Rattle.xl_core.specs.Core.{Core};
+    ghost use Rattle.xl_core.specs.Marks.{AreMarks};
+
+    ghost Value = { Core };
+
+    ghost view = { λ a. record {
+      node = a.node;
+      waiting = a.waiting;
+      greetings = a.greetings;
+      untaken = a.untaken;
+      stopped = a.stopped;
+    } };
+
+    ghost invariant = { λ a. AreMarks a.marks a.greetings a.waiting };
+}
+
+/// What is said waits for every peer: our set, if it goes with our position, and then the position.
+fn push_said(waiting: &mut Waiting, marks: &mut u64, said: &Option<Said>)
+    ensures pushed { waiting.new ≡ with_items waiting.old (said_items said.now) }
+    ensures marks { StayMarks marks.old marks.new waiting.old waiting.new }
+{
+    if let Some(said) = said {
+        if said.with_set {
+            push(waiting, marks, Item::TxSet(said.proposal.set));
+        }
+        push(waiting, marks, Item::Proposal(said.proposal));
+    }
+}
+
+impl<B: Branch + Drop> Core<B> {
+    /// A node that knows the root alone, with the number that its keeper holds and with nothing waiting.
+    pub fn open(
+        alloc: Global,
+        settings: Settings,
+        now: Millis,
+        kept: Seq,
+    ) -> Result<Core<B>, OutOfMemory>
+        requires keyed { IsKeyed settings.me settings.list.members settings.keys }
+        requires least { least_limit ≤ settings.limit }
+        requires most { settings.limit ≤ greatest_limit }
+        requires moment { now ≤ greatest_millis }
+        ensures opened { IfOk result (λ core. core ≡ with_queues (opened settings now kept)) }
+        // The keeper holds nothing below the number.
+        ensures stop { (held : Held) → HoldsAtLeast kept held → IfOk result (λ core. IsCovered held core) }
+    {
+        let waiting = Broadcast::open(alloc)?;
+        let untaken = Queue::open(alloc)?;
+        let node = Node::open(alloc, settings, now, kept)?;
+        Ok(Core {
+            node,
+            waiting,
+            greetings: [None; MOST_MEMBERS],
+            marks: 0,
+            untaken,
+            stopped: false,
+        })
+    }
+
+    /// Opens the node anew in its place, with the number that its keeper holds and with nothing waiting. An `Err`
+    /// changes nothing.
+    pub fn reopen(&mut self, alloc: Global, now: Millis, kept: Seq) -> Result<(), OutOfMemory>
+        requires moment { now ≤ greatest_millis }
+        ensures opened { OnOk result (self.new ≡ with_queues (opened (settings_of self.old.node) now kept)) }
+        ensures err { OnErr result (self.new ≡ self.old) }
+        // The keeper holds nothing below the number.
+        ensures stop { (held : Held) → HoldsAtLeast kept held → OnOk result (IsCovered held self.new) }
+    {
+        let waiting = Broadcast::open(alloc)?;
+        let untaken = Queue::open(alloc)?;
+        self.node.reopen(alloc, now, kept)?;
+        self.waiting = waiting;
+        self.greetings = [None; MOST_MEMBERS];
+        self.marks = 0;
+        self.untaken = untaken;
+        self.stopped = false;
+        Ok(())
+    }
+
+    /// Hears bytes that come, and says what was taken. What the node reports waits to be taken, and nothing is sent.
+    ///
+    /// Refused as the node refuses them. First the time is set, and rows expire; nothing else changes then.
+    pub fn frame(&mut self, now: Millis, bytes: &[u8]) -> Result<Taken, Refusal>
+        requires moment { now ≤ greatest_millis }
+        ensures step { Answers (core_happens self.old (Frame now bytes.now) Kept) self.new (taken_answer result) }
+        ensures refused { result_err result ≡ frame_refusal (at_moment now self.old.node) bytes.now }
+        // What another listed member seals is refused for what the node knows of it alone, and else it is taken.
+        ensures complete { (f : RawFrame) (body : Body) →
+            Carries self.old.node.keys self.old.node.list.members bytes.now f body →
+            result_err result ≡ speech_refusal (at_moment now self.old.node) f.from (speech_of body) }
+        ensures unchanged { OnErr result (self.new ≡ record self.old { node = at_moment now self.old.node }) }
+        ensures unsent { self.new.waiting ≡ self.old.waiting }
+        ensures stop { (held : Held) → IsCovered held self.old → IsCovered held self.new }
+    {
+        self.hear(now, Tags::Tested, bytes)
+    }
+
+    /// Hears bytes that come as if their sender had sealed them: the tag, the last 32 bytes of a frame, isn't looked at
+    /// and taken as the one under our key. If it is that one, this is `frame`, for less.
+    ///
+    /// It is for frames whose sender is known anyway, as those of a world: what comes over a link goes to `frame`.
+    ///
+    /// Refused as the node refuses them, and so never for the tag. First the time is set, and rows expire; nothing else
+    /// changes then.
+    pub fn frame_as_sealed(&mut self, now: Millis, bytes: &[u8]) -> Result<Taken, Refusal>
+        requires moment { now ≤ greatest_millis }
+        ensures step { Answers (core_happens self.old (Frame now (bytes_as_sealed self.old.node.keys bytes.now)) Kept)
+            self.new (taken_answer result) }
+        ensures refused { result_err result
+            ≡ frame_refusal (at_moment now self.old.node) (bytes_as_sealed self.old.node.keys bytes.now) }
+        ensures unchanged { OnErr result (self.new ≡ record self.old { node = at_moment now self.old.node }) }
+        ensures unsent { self.new.waiting ≡ self.old.waiting }
+        ensures stop { (held : Held) → IsCovered held self.old → IsCovered held self.new }
+    {
+        self.hear(now, Tags::Assumed, bytes)
+    }
+
+    /// Hears bytes, with the tag tested or assumed.
+    fn hear(&mut self, now: Millis, tags: Tags, bytes: &[u8]) -> Result<Taken, Refusal>
+        requires moment { now ≤ greatest_millis }
+        ensures step { Answers (core_happens self.old (Frame now (bytes_with tags self.old.node.keys bytes.now)) Kept)
+            self.new (taken_answer result) }
+        ensures refused { result_err result
+            ≡ frame_refusal (at_moment now self.old.node) (bytes_with tags self.old.node.keys bytes.now) }
+        ensures unchanged { OnErr result (self.new ≡ record self.old { node = at_moment now self.old.node }) }
+        ensures unsent { self.new.waiting ≡ self.old.waiting }
+        ensures stop { (held : Held) → IsCovered held self.old → IsCovered held self.new }
+    {
+        match self.node.hear(now, tags, bytes) {
+            Ok(heard) => {
+                push_report(&mut self.untaken, heard.report);
+                Ok(heard.taken)
+            }
+            Err(why) => Err(why),
+        }
+    }
+
+    /// Saves a sequence and issues its validation, which waits for every peer only after the save.
+    ///
+    /// Refused as the node refuses to issue; nothing waits then that didn't wait before.
+    pub fn issue<K: Keeper>(
+        &mut self,
+        now: Millis,
+        seq: Seq,
+        id: LedgerId,
+        full: bool,
+        keeper: &mut K,
+    ) -> Result<(), Refusal>
+        requires moment { now ≤ greatest_millis }
+        ensures step { Issues self.old (Issue now seq id full) result self.new }
+        ensures unsent { OnErr result (self.new.waiting ≡ self.old.waiting) }
+        ensures not_after { (result ≡ Err (NotAfter self.old.node.kept)) ↔ (seq ≤ self.old.node.kept) }
+        ensures off { (failed : ℕ) → (result ≡ Err (IssuingOff failed)) ↔ IsOff self.old.node seq failed }
+        ensures fault { CountsFault result (K.faults keeper.old) (K.faults keeper.new) }
+        // At most one save is asked, of a number above the kept one.
+        ensures held { Holds (asks_for self.old.node seq) (was_kept result) (K.held keeper.old) (K.held keeper.new) }
+        ensures saves { AsksSave (asks_for self.old.node seq) (K.saves keeper.old) (K.saves keeper.new) }
+        ensures keeper { Saves K.save_gives (asks_for self.old.node seq) (was_kept result) keeper.old keeper.new }
+        ensures later { K.faults keeper.old ≤ K.faults keeper.new }
+        ensures stop { StaysCovered (K.held keeper.old) (K.held keeper.new) self.old self.new }
+    {
+        match self.node.issue(now, seq, id, full, keeper) {
+            Ok(issued) => {
+                push(
+                    &mut self.waiting,
+                    &mut self.marks,
+                    Item::Validation(issued.validation),
+                );
+                push_report(&mut self.untaken, issued.report);
+                Ok(())
+            }
+            Err(why) => Err(why),
+        }
+    }
+
+    /// Looks at the votes and lets the round go on; what the node says by that waits for every peer, and what it
+    /// reports to be taken.
+    ///
+    /// If the votes choose another ledger than the round's, the node leaves its round for one on that ledger. Else
+    /// the round's phase goes on; once it is ready the next ledger is built, its header is sent, the node validates it,
+    /// and a round starts on it. A validation waits only after its save. If the save fails, the ledger and the new
+    /// round stand all the same; if there is no room for the ledger, the round stays as it is.
+    pub fn timer<K: Keeper>(&mut self, now: Millis, keeper: &mut K) -> TimerAnswer
+        requires moment { now ≤ greatest_millis }
+        ensures step { Beaten self.old now result self.new }
+        ensures fault { CountsBeatFault result (K.faults keeper.old) (K.faults keeper.new) }
+        // At most one save is asked, of a number above the kept one.
+        ensures held { Holds (core_asks self.old (Timer now)) (beat_was_kept result)
+            (K.held keeper.old) (K.held keeper.new) }
+        ensures saves { AsksSave (core_asks self.old (Timer now)) (K.saves keeper.old) (K.saves keeper.new) }
+        ensures keeper { Saves K.save_gives (core_asks self.old (Timer now)) (beat_was_kept result)
+            keeper.old keeper.new }
+        ensures later { K.faults keeper.old ≤ K.faults keeper.new }
+        ensures stop { StaysCovered (K.held keeper.old) (K.held keeper.new) self.old self.new }
+    {
+        match self.node.timer(now) {
+            TimerPart::Quiet { answer, said } => {
+                push_said(&mut self.waiting, &mut self.marks, &said);
+                answer
+            }
+            TimerPart::Built(built) => self.conclude(&built, keeper),
+        }
+    }
+
+    /// Sends the header of a built ledger and validates it.
+    fn conclude<K: Keeper>(&mut self, built: &Built, keeper: &mut K) -> TimerAnswer
+        requires built { IsBuilt self.old.node built.now }
+        ensures step { Concludes self.old built.now result self.new }
+        ensures fault { CountsBeatFault result (K.faults keeper.old) (K.faults keeper.new) }
+        ensures asks { IsAsked K.held K.saves K.faults K.save_gives
+            (asks_in self.old.node built.now) (beat_was_kept result) keeper.old keeper.new }
+    {
+        push_said(&mut self.waiting, &mut self.marks, &built.said);
+        push(&mut self.waiting, &mut self.marks, Item::Header(built.id));
+        let issued = match self.node.conclude(built, keeper) {
+            Ok(Some(own)) => {
+                push(
+                    &mut self.waiting,
+                    &mut self.marks,
+                    Item::Validation(own.validation),
+                );
+                push_report(&mut self.untaken, own.report);
+                full_or_partial(own.validation.full)
+            }
+            Ok(None) => Issued::Silent,
+            Err(why) => Issued::Refused(why),
+        };
+        TimerAnswer::Built {
+            seq: built.header.seq,
+            id: built.id,
+            moved_on: built.moved_on,
+            issued,
+        }
+    }
+
+    /// A transaction is pending from then on, and waits for every peer.
+    ///
+    /// Refused if it is pending, or if as many are as may be, in this order. First the time is set, and rows
+    /// expire; nothing else changes then.
+    pub fn submit(&mut self, now: Millis, tx: TxId) -> Result<(), Refusal>
+        requires moment { now ≤ greatest_millis }
+        ensures step { Answers (core_happens self.old (Submit now tx) Kept) self.new (done_answer result) }
+        ensures refused { result_err result ≡ tx_refusal self.old.node tx }
+        ensures unchanged { OnErr result (self.new ≡ record self.old { node = at_moment now self.old.node }) }
+        ensures stop { (held : Held) → IsCovered held self.old → IsCovered held self.new }
+    {
+        self.node.submit(now, tx)?;
+        push(&mut self.waiting, &mut self.marks, Item::Tx(tx));
+        Ok(())
+    }
+
+    /// Goes over to another list: what is known of members that stay is kept, and of new ones nothing is. What the rows
+    /// then give to report is reported under the new list, and waits to be taken. Nothing is sent.
+    ///
+    /// Refused if a listed member other than the node has no key; the refusal names the lowest of these. First the time
+    /// is set, and rows expire; nothing else changes then.
+    pub fn relist(&mut self, now: Millis, list: List) -> Result<(), Refusal>
+        requires moment { now ≤ greatest_millis }
+        ensures step { Answers (core_happens self.old (Relist now list) Kept) self.new (done_answer result) }
+        ensures refused { result_err result ≡ key_refusal self.old.node list }
+        ensures unchanged { OnErr result (self.new ≡ record self.old { node = at_moment now self.old.node }) }
+        ensures unsent { self.new.waiting ≡ self.old.waiting }
+        ensures stop { (held : Held) → IsCovered held self.old → IsCovered held self.new }
+    {
+        match self.node.relist(now, list) {
+            Ok(report) => {
+                push_report(&mut self.untaken, report);
+                Ok(())
+            }
+            Err(why) => Err(why),
+        }
+    }
+
+    /// A link to a peer has opened: the next drains for it begin with the headers of the chain of the ledger on which
+    /// the round is now, from sequence 1 on. What it was greeted with before is forgotten.
+    pub fn greet(&mut self, member: NodeNo)
+        requires peer { IsSome (key_of self.old.node.keys member) }
+        ensures step { Answers (core_happens self.old (Greet member) Kept) self.new Done }
+        ensures stop { (held : Held) → IsCovered held self.old → IsCovered held self.new }
+    {
+        greet(&mut self.greetings, member, self.node.greeting());
+        self.marks = noted(self.marks, member, false);
+    }
+
+    /// Writes frames for a peer into the room, as many as fit: first of the headers with which it is greeted, then of
+    /// what waits for it, the oldest first. What was written is taken out. Answers how many bytes were written; the
+    /// rest of the room is as it was. A frame is sealed here and nowhere else.
+    pub fn drain(&mut self, member: NodeNo, room: &mut [u8]) -> usize
+        requires peer { IsSome (key_of self.old.node.keys member) }
+        requires room { longest_frame ≤ length room.old }
+        ensures step { Drains self.old member self.new result room.old room.new }
+        // It answers 0 exactly if nothing is left but items that are passed over.
+        ensures nothing { (result ≡ 0) ↔ (frames_in (all_frames self.old member) ≡ []) }
+        ensures stop { (held : Held) → IsCovered held self.old → IsCovered held self.new }
+    {
+        self.write(member, TagPlace::Sealed, room)
+    }
+
+    /// Writes frames as `drain` does, except that it seals none: the last 32 bytes of each, where its tag goes, are zero.
+    /// `frame_as_sealed` hears such a frame as the sealed one.
+    pub fn drain_blank(&mut self, member: NodeNo, room: &mut [u8]) -> usize
+        requires peer { IsSome (key_of self.old.node.keys member) }
+        requires room { longest_frame ≤ length room.old }
+        ensures step { DrainsBlank self.old member self.new result room.old room.new }
+        // It answers 0 exactly if nothing is left but items that are passed over.
+        ensures nothing { (result ≡ 0) ↔ (frames_in (all_frames self.old member) ≡ []) }
+        ensures stop { (held : Held) → IsCovered held self.old → IsCovered held self.new }
+    {
+        self.write(member, TagPlace::Blank, room)
+    }
+
+    /// Writes frames for a peer into the room, with their tags or without.
+    fn write(&mut self, member: NodeNo, tags: TagPlace, room: &mut [u8]) -> usize
+        requires peer { IsSome (key_of self.old.node.keys member) }
+        ensures step { Drains (core_for tags self.old) member (core_for tags self.new) result room.old room.new }
+        ensures node { self.new.node ≡ self.old.node }
+    {
+        let at = hand_chain(&mut self.greetings, &self.node, member, tags, room);
+        if !is_greeted(&self.greetings, &self.node, member) {
+            return at;
+        }
+        let count = drain(&mut self.waiting, &self.node, member, tags, &mut room[at..]);
+        let idle = is_idle(&self.greetings, &self.waiting, member);
+        self.marks = noted(self.marks, member, idle);
+        at + count
+    }
+
+    /// For whom something is left, as bits: the one at place n - 1, from the lowest on, is that of the member of number
+    /// n. A drain for a member whose bit is clear gives nothing, and changes nothing.
+    pub fn waiting(&self) -> u64
+        ensures { Marks result self.now }
+    {
+        self.marks
+    }
+
+    /// Whether a member wasn't greeted since the core opened, and nothing waits for it: a drain for it gives nothing
+    /// then, and changes nothing.
+    pub fn is_idle(&self, member: NodeNo) -> bool
+        ensures value { result ≡ is_idle self.now member }
+        ensures idle { IsTrue result → (room : ℕ)
+            → core_happens self.now (Drain member room) Kept ≡ answering self.now (Gave member []) }
+    {
+        !is_marked(self.marks, member)
+    }
+
+    /// How many items for a member were lost, since its queue was full or they were passed over: none for one that is
+    /// no peer.
+    pub fn lost(&self, member: NodeNo) -> u64
+        ensures { result ≡ lost_for self.now.node self.now.waiting member }
+    {
+        lost_for(&self.waiting, &self.node, member)
+    }
+
+    /// Takes out the oldest reports that no one has taken, as many as the room holds, and answers how many. The rest of
+    /// the room is as it was.
+    pub fn reports(&mut self, room: &mut [Report]) -> usize
+        ensures step { HandsOut self.old self.new result room.old room.new }
+        ensures stop { (held : Held) → IsCovered held self.old → IsCovered held self.new }
+    {
+        take_reports(&mut self.untaken, room)
+    }
+
+    /// How many reports were dropped, since too many waited to be taken.
+    pub fn lost_reports(&self) -> u64
+        ensures { result ≡ self.now.untaken.lost }
+    {
+        self.untaken.lost()
+    }
+
+    /// Notes that the node is to stop: whoever runs it asks `stopped`.
+    pub fn stop(&mut self)
+        ensures step { Answers (core_happens self.old Stop Kept) self.new Done }
+        ensures stop { (held : Held) → IsCovered held self.old → IsCovered held self.new }
+    {
+        self.stopped = true;
+    }
+
+    /// Whether the node is to stop.
+    pub fn stopped(&self) -> bool
+        ensures step { Answers (core_happens self.now Stopped Kept) self.now (Told result) }
+    {
+        self.stopped
+    }
+
+    /// The ledger that the members' votes prefer, or None exactly if there is no vote.
+    pub fn preferred(&self) -> Option<Report>
+        ensures value { result ≡ preferred self.now.node }
+        ensures none { (result ≡ None) ↔ (votes_of self.now.node.ledgers.headers self.now.node.rows ≡ []) }
+    {
+        self.node.preferred()
+    }
+
+    /// The ledgers that the node knows.
+    pub fn registry(&self) -> &Registry
+        ensures { result.now ≡ self.now.node.ledgers }
+    {
+        self.node.registry()
+    }
+
+    /// The list in force.
+    pub fn list(&self) -> &List
+        ensures { result.now ≡ self.now.node.list }
+    {
+        self.node.list()
+    }
+
+    /// Whether a member's row holds a current full validation of this sequence and id.
+    pub fn holds(&self, member: NodeNo, seq: Seq, id: &LedgerId) -> bool
+        ensures { result ≡ is_full_of seq id.now (current_of self.now.node.rows member) }
+    {
+        self.node.holds(member, seq, id)
+    }
+
+    /// The ledger that a member last reported, as its current validation tells. None exactly if it has no row, or
+    /// its row has no current validation, or that doesn't tell.
+    pub fn heard(&self, member: NodeNo) -> Option<LedgerId>
+        ensures { result ≡ heard_of self.now.node.rows member }
+    {
+        self.node.heard(member)
+    }
+
+    /// The last sequence that was saved.
+    pub fn kept(&self) -> Seq
+        ensures { result ≡ self.now.node.kept }
+    {
+        self.node.kept()
+    }
+
+    /// The node.
+    pub fn node(&self) -> &Node<B>
+        ensures value { result.now ≡ self.now.node }
+    {
+        &self.node
+    }
+}

@@ -1,5 +1,0 @@
-use Rattle.xl_flags.proofs.Moments.{standing_more, news_is}
-use Rattle.xl_flags.proofs.law.one_moment_is_enough.Goals as goal
-
-pub returns : goal.returns
-returns c = record { stands = standing_more; said = news_is }

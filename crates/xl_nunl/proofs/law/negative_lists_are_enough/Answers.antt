@@ -1,5 +1,0 @@
-use Rattle.xl_nunl.proofs.Enough.{enough}
-use Rattle.xl_nunl.proofs.law.negative_lists_are_enough.Goals as goal
-
-pub returns : goal.returns
-returns c = enough
