@@ -16,7 +16,7 @@ use Rattle.xl_core.specs.Greetings.{greeting_at, greeting_frames, further, furth
 use Rattle.xl_core.specs.Items.{frame_of, frames_for}
 use Rattle.xl_core.specs.Node.{Node}
 use Rattle.xl_core.specs.Queues.{waiting_at, at_number, after_taking, fitting, that_fit, frames_in, joined, lost_more}
-use Rattle.xl_core.specs.declared.greeting.Greeting.{Greeting}
+use Rattle.xl_core.specs.declared.the_core.greeting.Greeting.{Greeting}
 use Rattle.xl_core.specs.declared.item.Item.{Item}
 use Rattle.xl_core.specs.declared.report.Report.{Report}
 use Rattle.xl_core.proofs.Greeted.{frames_further, greeting_then}

@@ -7,7 +7,7 @@ use Rattle.xl_core.specs.Answers.{Answer}
 use Rattle.xl_core.specs.Core.{Core, core_happens, core_asks}
 use Rattle.xl_core.specs.Keeping.{Saves}
 use Rattle.xl_core.specs.Node.{Save, is_kept}
-use Rattle.xl_core.specs.Node.Save.{Kept, Failed}
+use Rattle.xl_core.specs.Issuing.Save.{Kept, Failed}
 use Rattle.xl_core.specs.Replies.{Answers, save_of as save_of_refusal}
 use Rattle.xl_core.specs.TimerParts.{CountsBeatFault, save_at}
 use Rattle.xl_core.specs.declared.timer_answer.TimerAnswer.{TimerAnswer}

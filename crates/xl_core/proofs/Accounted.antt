@@ -18,7 +18,7 @@ use Rattle.xl_core.specs.Core.{Core, core_happens, with_queues}
 use Rattle.xl_core.specs.CoreLives.{CoreHappening, core_after, arisen_over, handed_over, ReportsAreHandedOut, NoneIsLost}
 use Rattle.xl_core.specs.Node as nodes
 use Rattle.xl_core.specs.Node.{Node, Event, Reply, Save, happens, timer_reply, issued_unless_off, refusing, at_moment, own_validation, opened}
-use Rattle.xl_core.specs.Node.Save.{Kept, Failed}
+use Rattle.xl_core.specs.Issuing.Save.{Kept, Failed}
 use Rattle.xl_core.specs.Queues.{with_report, without}
 use Rattle.xl_core.proofs.Stopping.{heard_keeps}
 

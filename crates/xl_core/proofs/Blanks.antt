@@ -21,7 +21,7 @@ use Rattle.xl_core.specs.Node.{Node}
 use Rattle.xl_core.specs.Queues.{after_taking, at_number, fitting, frames_in, joined, lost_more, waiting_at}
 use Rattle.xl_core.specs.Replies.{Drains, DrainsBlank, core_for}
 use Rattle.xl_core.specs.Sending.{blank_frame, blanked, has_spelling, keys_for, sealed_bytes}
-use Rattle.xl_core.specs.declared.greeting.Greeting.{Greeting}
+use Rattle.xl_core.specs.declared.the_core.greeting.Greeting.{Greeting}
 use Rattle.xl_core.specs.declared.item.Item.{Item}
 use Rattle.xl_core.specs.declared.item.Item.TheVariants.{Validation as ValidationItem, Tx, TxSet, Proposal, Header}
 use Rattle.xl_core.specs.declared.sending.TagPlace.TheVariants.{Blank}

@@ -24,7 +24,7 @@ use Rattle.xl_core.specs.Building.{said_items}
 use Rattle.xl_core.specs.Core.{Core, stepped}
 use Rattle.xl_core.specs.Keeping.{IsAsked}
 use Rattle.xl_core.specs.Node.{Node, Reply, Save, TimerOutcome, Submit, Quiet, timer_reply, timer_outcome, built_reply, asks_of, happens, replying, refusing}
-use Rattle.xl_core.specs.Node.Save.{Kept}
+use Rattle.xl_core.specs.Issuing.Save.{Kept}
 use Rattle.xl_core.specs.Queues.{with_items, with_report}
 use Rattle.xl_core.specs.Replies.{Answers, save_in}
 use Rattle.xl_core.specs.Stops.{IsCovered}

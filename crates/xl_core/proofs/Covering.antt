@@ -41,7 +41,7 @@ use Rattle.xl_core.specs.Hearing.{spoken_in}
 use Rattle.xl_core.specs.Items.{is_own, body_in, framed, frame_of, header_body_at}
 use Rattle.xl_core.specs.Node as nodes
 use Rattle.xl_core.specs.Node.{Node, Save, is_kept, issued_reply, issued_unless_off, issuing_reply, replying, timer_reply, timer_outcome, validates, refusing, at_moment, second_of, own_validation, happens, opened}
-use Rattle.xl_core.specs.Node.Save.{Kept, Failed}
+use Rattle.xl_core.specs.Issuing.Save.{Kept, Failed}
 use Rattle.xl_core.specs.Queues.{waiting_at, frames_in}
 use Rattle.xl_core.specs.Sending.{blank_frame, sealed_bytes, has_spelling}
 use Rattle.xl_core.specs.Stops.{IsCovered, IsItemCovered}

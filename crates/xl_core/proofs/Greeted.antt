@@ -17,7 +17,7 @@ use Rattle.xl_ledger.specs.Chains.{chain, place_of, seq_at}
 use Rattle.xl_ledger.proofs.ChainLaws.{length-chain}
 use Rattle.xl_tags.specs.Rings.{Ring}
 use Rattle.xl_wire.specs.declared.body.Body.{Body}
-use Rattle.xl_core.specs.declared.greeting.Greeting.{Greeting}
+use Rattle.xl_core.specs.declared.the_core.greeting.Greeting.{Greeting}
 use Rattle.xl_core.specs.declared.item.Item.{Item}
 use Rattle.xl_core.specs.declared.putting.Put.{Put}
 use Rattle.xl_core.specs.declared.putting.Put.TheVariants.{Written, PassedOver, NoRoom}

@@ -24,7 +24,7 @@ use Rattle.xl_core.specs.declared.report.Report.{Report}
 use Rattle.xl_core.specs.Lasts.{later, over_another_list}
 use Rattle.xl_core.specs.Lives.{Happening, IsFitEvent, IsFit, node_after}
 use Rattle.xl_core.specs.Node.{Node, Event, Issue, Frame, Timer, Submit, Relist, Reply, Save, issued_unless_off, happens, issued_reply, issuing_reply, refusing, replying, timer_reply, timer_outcome, validates, validating_built, with_tx, with_list, reporting, with_taken, take, arisen, arises_in, placing, taken_reply, bytes_reply, at_moment, second_of, own_validation, report_if}
-use Rattle.xl_core.specs.Node.Save.{Kept, Failed}
+use Rattle.xl_core.specs.Issuing.Save.{Kept, Failed}
 use Rattle.xl_core.specs.Rest.{IsAtRest}
 use Rattle.xl_core.proofs.Answered.{arisen_then, few_rows, rest_when_taken, stays}
 use Rattle.xl_core.proofs.Arising.{rest_reported}

@@ -7,7 +7,7 @@ use Rattle.std.specs.Int.{bit_at}
 use Rattle.std.specs.Prelude.{is_some, nat_lt, option_map}
 use Rattle.xl_queues.specs.Broadcasts.{pushed_to_all}
 use Rattle.xl_queues.specs.Queues.{Backlog, no_items, pushed, with_item}
-use Rattle.xl_core.specs.declared.greeting.Greeting.{Greeting}
+use Rattle.xl_core.specs.declared.the_core.greeting.Greeting.{Greeting}
 use Rattle.xl_core.specs.declared.item.Item.{Item}
 use Rattle.xl_core.specs.Core.{is_idle_among}
 use Rattle.xl_core.specs.Greetings.{further, further_at, greeting_at, none_greeted, with_greeting}

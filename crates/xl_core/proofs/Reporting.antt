@@ -28,7 +28,7 @@ use Rattle.xl_core.specs.declared.taken.Taken.TheVariants.{Validation as TakenVa
 use Rattle.xl_core.specs.Lasts.{is_last, is_news, later, none_reported}
 use Rattle.xl_core.specs.Lives.{Happening, IsFit, is_relist, sets_list, node_after, reports_in, last_of, set_then, set_after, IsNew, ReportsArise, ReportsRise}
 use Rattle.xl_core.specs.Node.{Node, Event, Issue, Frame, Timer, Submit, Relist, Quiet, Reply, Save, issued_unless_off, opened, happens, issued_reply, issuing_reply, replying, reply_unless, timer_reply, timer_outcome, validates, validating_built, with_tx, with_list, with_saved, refusing, reporting, with_taken, arises, arisen, report_of, taken_reply, bytes_reply, at_moment, second_of, own_validation, key_refusal}
-use Rattle.xl_core.specs.Node.Save.{Kept, Failed}
+use Rattle.xl_core.specs.Issuing.Save.{Kept, Failed}
 use Rattle.xl_core.specs.Rest.{IsAtRest}
 use Rattle.xl_core.proofs.Answered.{few_rows}
 use Rattle.xl_core.proofs.Arising.{held_once, parts_of, same_report}

@@ -15,7 +15,7 @@ use Rattle.xl_core.specs.declared.refusal.Refusal.{Refusal}
 use Rattle.xl_core.specs.declared.refusal.Refusal.TheVariants.{NotAfter}
 use Rattle.xl_core.specs.declared.report.Report.{Report}
 use Rattle.xl_core.specs.Node.{Node, Event, Issue, Frame, Timer, Submit, Relist, Reply, Save, happens, issuing_reply, replying, timer_reply, timer_outcome, validates, validating_built, taken_reply, bytes_reply, issued_reply, issued_unless_off, refusing, at_moment, second_of, own_validation}
-use Rattle.xl_core.specs.Node.Save.{Kept, Failed}
+use Rattle.xl_core.specs.Issuing.Save.{Kept, Failed}
 use Rattle.xl_core.specs.Answers.{Refused, Took, Done}
 use Rattle.xl_core.specs.Queues.{with_report}
 use Rattle.xl_core.specs.Core.{Core, stepped}

@@ -32,7 +32,7 @@ use Rattle.xl_core.specs.declared.refusal.Refusal.TheVariants.{NotAfter}
 use Rattle.xl_core.specs.Hearing.{spoken_in}
 use Rattle.xl_core.specs.Answers.{given_in, handed_in}
 use Rattle.xl_core.specs.Node.{Node, Reply, Save, placing, placed_as, taken_reply, bytes_reply, issued_reply, issued_unless_off, issuing_reply, asks_for, asks_of, replying, timer_reply, validates, validating_built, refusing, at_moment, second_of, own_validation, take, unless_failed, is_kept, opened}
-use Rattle.xl_core.specs.Node.Save.{Kept, Failed}
+use Rattle.xl_core.specs.Issuing.Save.{Kept, Failed}
 use Rattle.xl_core.specs.Queues.{with_items, at_number, after_taking, waiting_at}
 use Rattle.xl_core.specs.Core.{Core, stepped, with_queues, greeted_frames, given_for, core_happens, core_asks}
 use Rattle.xl_core.specs.declared.event.CoreEvent.TheVariants.{Issue, Frame, Timer, Submit, Drain, Relist}

@@ -27,7 +27,7 @@ use Rattle.xl_core.specs.declared.refusal.Refusal.TheVariants.{NotAfter}
 use Rattle.xl_core.specs.declared.report.OwnValidation.{OwnValidation}
 use Rattle.xl_core.specs.declared.timer_part.Built.{Built}
 use Rattle.xl_core.specs.Answers.{Done}
-use Rattle.xl_core.specs.Node.Save.{Kept, Failed}
+use Rattle.xl_core.specs.Issuing.Save.{Kept, Failed}
 use Rattle.xl_core.specs.Replies.{save_in}
 use Rattle.xl_core.specs.Rest.{IsReady}
 use Rattle.xl_core.proofs.Learning.{round_ready}

@@ -10,7 +10,7 @@ use Rattle.xl_ledger.specs.Limits.{greatest_limit}
 use Rattle.xl_core.specs.declared.item.Item.{Item}
 use Rattle.xl_core.specs.declared.putting.Put.{Put}
 use Rattle.xl_core.specs.declared.putting.Put.TheVariants.{Written, PassedOver, NoRoom}
-use Rattle.xl_core.specs.declared.greeting.Greeting.{Greeting}
+use Rattle.xl_core.specs.declared.the_core.greeting.Greeting.{Greeting}
 use Rattle.xl_core.specs.Greetings.{chain_to, greeting_frames, further}
 use Rattle.xl_core.specs.Items.{frames_for}
 use Rattle.xl_core.specs.Node.{Node}

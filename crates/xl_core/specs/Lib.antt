@@ -4,6 +4,10 @@ pub mod Sending
 pub mod Answers
 pub mod Building
 pub mod Lasts
+pub mod State
+pub mod Issuing
+pub mod Taking
+pub mod Timer
 pub mod Node
 pub mod Queues
 pub mod Items

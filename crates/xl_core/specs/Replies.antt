@@ -20,7 +20,7 @@ use Rattle.xl_core.specs.Draining.{node_for}
 use Rattle.xl_core.specs.Queues.{joined}
 use Rattle.xl_core.specs.Sending.{blanked}
 use Rattle.xl_core.specs.Node.{Node, Reply, Save, replying, refusing, items_of, is_kept}
-use Rattle.xl_core.specs.Node.Save.{Kept, Failed}
+use Rattle.xl_core.specs.Issuing.Save.{Kept, Failed}
 
 -- what a call that issues answers, with the node that it leaves
 abbrev pub issue_reply : Result OwnValidation Refusal → Node → Reply

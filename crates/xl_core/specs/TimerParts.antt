@@ -20,7 +20,7 @@ use Rattle.xl_core.specs.declared.timer_part.Built.{Built}
 use Rattle.xl_core.specs.Answers.{Beats, Done}
 use Rattle.xl_core.specs.Building.{knowing}
 use Rattle.xl_core.specs.Node.{Node, Reply, Save, TimerOutcome, Quiet, Ending, replying, refusing, validating_built, after_built, timer_reply, asks_of, is_kept}
-use Rattle.xl_core.specs.Node.Save.{Kept}
+use Rattle.xl_core.specs.Issuing.Save.{Kept}
 use Rattle.xl_core.specs.Core.{Core, core_happens, stepped}
 use Rattle.xl_core.specs.Replies.{Answers, issue_reply, save_of}
 

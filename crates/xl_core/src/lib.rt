@@ -18,14 +18,11 @@
 #![tactic(auto)]
 
 mod event;
-mod greeting;
 mod hearing;
 mod item;
 mod last;
 mod laws;
-mod marks;
 mod node;
-mod outgoing;
 mod putting;
 mod refusal;
 mod report;
@@ -35,20 +32,16 @@ mod taken;
 mod the_core;
 mod timer_answer;
 mod timer_part;
-mod untaken;
 
 pub use event::CoreEvent;
-pub use greeting::Greeting;
 pub use hearing::{Speech, Spoken};
 pub use item::Item;
 pub use last::LastReport;
 pub use laws::{law_of_handed_reports, law_of_reports, law_of_saves};
 pub use node::Node;
-pub use outgoing::OUTGOING;
 pub use refusal::Refusal;
 pub use report::{OwnValidation, Report};
 pub use settings::Settings;
 pub use taken::Taken;
-pub use the_core::Core;
+pub use the_core::{Core, Greeting, OUTGOING, UNTAKEN};
 pub use timer_answer::{Issued, TimerAnswer};
-pub use untaken::UNTAKEN;

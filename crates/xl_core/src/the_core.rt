@@ -20,20 +20,16 @@ ghost use Rattle.xl_core.specs.Rest.{IsKeyed};
 ghost use Rattle.xl_core.specs.Hearing.{Carries, bytes_as_sealed, bytes_with, speech_of};
 ghost use Rattle.xl_core.specs.Node.{opened, settings_of, at_moment, asks_for, frame_refusal, key_refusal, speech_refusal, tx_refusal, preferred, IsOff};
 ghost use Rattle.xl_core.specs.TimerParts.{Beaten, Concludes, CountsBeatFault, IsBuilt, asks_in, beat_was_kept};
-ghost use Rattle.xl_core.specs.Node.Save.{Kept};
+ghost use Rattle.xl_core.specs.Issuing.Save.{Kept};
 ghost use Rattle.xl_wire.specs.Lengths.{longest_frame};
 ghost use Rattle.xl_wire.specs.declared.body.Body.{Body};
 ghost use Rattle.xl_wire.specs.Raws.{RawFrame};
 ghost use Rattle.xl_core.specs.declared.refusal.Refusal.TheVariants.{NotAfter, IssuingOff};
 
-use crate::greeting::{Greetings, greet, hand_chain, is_greeted};
 use crate::hearing::Tags;
-use crate::marks::{is_idle, is_marked, noted, push};
-use crate::outgoing::{Waiting, drain, lost_for};
 use crate::sending::TagPlace;
 use crate::timer_answer::full_or_partial;
 use crate::timer_part::{Built, TimerPart};
-use crate::untaken::{UNTAKEN, push_report, take_reports};
 use crate::{Issued, Item, Node, Refusal, Report, Settings, Taken, TimerAnswer};
 use std::alloc::Global;
 use std::marker::Model;
@@ -43,6 +39,19 @@ use xl_ledger::{Branch, Registry};
 use xl_lists::List;
 use xl_queues::{Broadcast, Queue};
 use xl_rounds::Said;
+
+mod greeting;
+mod marks;
+mod outgoing;
+mod untaken;
+
+pub use greeting::Greeting;
+use greeting::{Greetings, greet, hand_chain, is_greeted};
+use marks::{is_idle, is_marked, noted, push};
+pub use outgoing::OUTGOING;
+use outgoing::{Waiting, drain, lost_for};
+pub use untaken::UNTAKEN;
+use untaken::{push_report, take_reports};
 
 /// A node with its queues, over whichever branch of votes: what it issues waits for each peer until it is drained, and
 /// what it reports until it is taken. A peer is a number that the node has a key for. No call after `open` and `reopen`

@@ -21,7 +21,7 @@ use Rattle.xl_core.specs.declared.refusal.Refusal.TheVariants as why
 use Rattle.xl_core.specs.Answers.{Refused, Beats, Done, refusal_in}
 use Rattle.xl_core.specs.Building.{Knowing, knowing, how_issued}
 use Rattle.xl_core.specs.Node.{Node, Reply, Save, TimerOutcome, Quiet, Ending, replying, refusing, issuing_reply, issued_unless_off, own_validation, unless_failed, issued_reply, second_of, asks_for, asks_of, validates, validating_built, timer_reply, timer_outcome, chosen, seen, built, switch_outcome, built_outcome, kind_outcome, heartbeat_outcome}
-use Rattle.xl_core.specs.Node.Save.{Kept, Failed}
+use Rattle.xl_core.specs.Issuing.Save.{Kept, Failed}
 use Rattle.xl_core.specs.Keeping.{CountsFault}
 use Rattle.xl_core.specs.Replies as replies
 use Rattle.xl_core.specs.Replies.{done_answer, save_in}

@@ -14,7 +14,7 @@ use Rattle.xl_core.specs.declared.event.CoreEvent.{CoreEvent}
 use Rattle.xl_core.specs.Answers.{Answer}
 use Rattle.xl_core.specs.Core.{core_happens, core_asks}
 use Rattle.xl_core.specs.Node.{Save, is_kept}
-use Rattle.xl_core.specs.Node.Save.{Kept}
+use Rattle.xl_core.specs.Issuing.Save.{Kept}
 use Rattle.xl_core.specs.Keeping.{IsAsked}
 use Rattle.xl_core.specs.Replies.{Answers}
 use Rattle.xl_core.proofs.Concluding.{unasked}

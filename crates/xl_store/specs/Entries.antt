@@ -12,7 +12,7 @@ use Rattle.xl_core.specs.declared.event.CoreEvent.TheVariants.{Issue, Frame, Tim
 use Rattle.xl_core.specs.Core.{Core, CoreReply, core_happens, core_asks}
 use Rattle.xl_core.specs.CoreLives.{CoreHappening}
 use Rattle.xl_core.specs.Node.{Save}
-use Rattle.xl_core.specs.Node.Save.{Kept, Failed}
+use Rattle.xl_core.specs.Issuing.Save.{Kept, Failed}
 use Rattle.xl_store.specs.declared.entry.Entry.{Entry}
 use Rattle.xl_store.specs.declared.entry.Saved.{Saved}
 use Rattle.xl_store.specs.declared.entry.Saved.TheVariants as saved

@@ -8,7 +8,7 @@ use Rattle.xl_core.specs.declared.timer_answer.Issued.{Issued}
 use Rattle.xl_core.specs.declared.timer_answer.Issued.TheVariants as issued
 use Rattle.xl_core.specs.declared.refusal.Refusal.{Refusal}
 use Rattle.xl_core.specs.Node.{Save}
-use Rattle.xl_core.specs.Node.Save.{Kept, Failed}
+use Rattle.xl_core.specs.Issuing.Save.{Kept, Failed}
 use Rattle.xl_core.specs.Replies as replies
 use Rattle.xl_store.specs.declared.entry.Saved.{Saved}
 use Rattle.xl_store.specs.declared.entry.Saved.TheVariants as saved

@@ -18,7 +18,7 @@ use Rattle.xl_lists.specs.declared.said.SaidLedger.{SaidLedger}
 use Rattle.xl_core.specs.Core.{Core, CoreReply, core_happens}
 use Rattle.xl_core.specs.Hearing.{bytes_as_sealed}
 use Rattle.xl_core.specs.Node.{Node, Save, TimerOutcome, timer_reply, timer_outcome, at_moment}
-use Rattle.xl_core.specs.Node.TimerOutcome.{Quiet, Ending}
+use Rattle.xl_core.specs.Timer.TimerOutcome.{Quiet, Ending}
 use Rattle.xl_core.specs.declared.event.CoreEvent.{CoreEvent}
 use Rattle.xl_core.specs.declared.event.CoreEvent.TheVariants.{Frame}
 use Rattle.xl_core.proofs.Timing.{submit_either, relist_either}

@@ -5,7 +5,7 @@ use Rattle.xl_io.specs.Keepers.{may_hold}
 use Rattle.xl_core.specs.Core.{Core, CoreReply, core_asks, core_happens, with_queues}
 use Rattle.xl_core.specs.Node as nodes
 use Rattle.xl_core.specs.Node.{Node, Event, Reply, Save, happens, opened, settings_of}
-use Rattle.xl_core.specs.Node.Save.{Kept as AnsweredOk}
+use Rattle.xl_core.specs.Issuing.Save.{Kept as AnsweredOk}
 use Rattle.xl_core.specs.declared.event.CoreEvent.{CoreEvent}
 use Rattle.xl_core.specs.declared.event.CoreEvent.TheVariants.{Issue, Frame, Timer, Submit, Greet, Drain, Reports, Stop, Stopped, Relist}
 use Rattle.xl_core.specs.declared.settings.Settings.{Settings}

@@ -21,13 +21,13 @@ use Rattle.xl_core.specs.Core.{Core, CoreReply, all_frames, core_happens, greete
 use Rattle.xl_core.specs.Greetings.{greeting_at, greeting_frames, yet_to_hand}
 use Rattle.xl_core.specs.Items.{body_in, frame_of, framed, frames_for, header_body_at}
 use Rattle.xl_core.specs.Node.{Node}
-use Rattle.xl_core.specs.Node.Save.{Kept as AnsweredOk}
+use Rattle.xl_core.specs.Issuing.Save.{Kept as AnsweredOk}
 use Rattle.xl_core.specs.Queues.{fitting, frames_in, joined, waiting_at}
 use Rattle.xl_core.specs.Sending.{blank_frame, blanked, has_spelling, sealed_bytes}
 use Rattle.xl_core.proofs.Blanks.{blanked_tag}
 use Rattle.xl_core.specs.declared.event.CoreEvent.{CoreEvent}
 use Rattle.xl_core.specs.declared.event.CoreEvent.TheVariants.{Drain}
-use Rattle.xl_core.specs.declared.greeting.Greeting.{Greeting}
+use Rattle.xl_core.specs.declared.the_core.greeting.Greeting.{Greeting}
 use Rattle.xl_core.specs.declared.item.Item.{Item}
 use Rattle.xl_core.proofs.Spelling.{sealed_raw}
 use Rattle.xl_world.specs.Sending.{Sent, sent_as}

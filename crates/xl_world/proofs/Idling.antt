@@ -13,7 +13,7 @@ use Rattle.xl_core.specs.Greetings.{further, further_at, greeting_at, greeting_f
 use Rattle.xl_core.specs.Items.{frame_of}
 use Rattle.xl_core.specs.Queues.{after_taking, at_number, fitting, frames_in, that_fit, waiting_at}
 use Rattle.xl_core.specs.declared.event.CoreEvent.{CoreEvent}
-use Rattle.xl_core.specs.declared.greeting.Greeting.{Greeting}
+use Rattle.xl_core.specs.declared.the_core.greeting.Greeting.{Greeting}
 use Rattle.xl_core.specs.declared.item.Item.{Item}
 use Rattle.xl_core.proofs.Draining.{taking_none}
 use Rattle.xl_wire.specs.Lengths.{longest_frame}

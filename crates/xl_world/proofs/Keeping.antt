@@ -17,7 +17,7 @@ use Rattle.xl_core.specs.declared.hearing.Speech.TheVariants as speech
 use Rattle.xl_core.proofs.Frames.{hearing_either}
 use Rattle.xl_core.specs.Node.{Node, Event, Issue, Frame, Timer, Submit, Relist, Reply, asks, Save, at_moment, second_of, own_validation, issued_unless_off, issued_reply, issuing_reply, replying, timer_reply, timer_outcome, validates, validating_built, taken_reply, bytes_reply, refusing, happens}
 use Rattle.xl_wire.specs.declared.validation.Validation.{Validation}
-use Rattle.xl_core.specs.Node.Save.{Kept, Failed}
+use Rattle.xl_core.specs.Issuing.Save.{Kept, Failed}
 
 -- a node keeps its number, its keys, its room, whether it validates, the version of its validations, and its list
 abbrev pub KeepsList : Node → Reply → Type 0

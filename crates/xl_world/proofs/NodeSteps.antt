@@ -38,7 +38,7 @@ use Rattle.xl_world.specs.Keeper.{held_by, restored, answer_of, after_failed, af
 use Rattle.xl_validations.proofs.Turning.{members_then}
 use Rattle.xl_validations.proofs.Relisting.{members_relisted}
 use Rattle.xl_core.specs.Lives.{IsFitEvent}
-use Rattle.xl_core.specs.Node.Save.{Kept as AnsweredOk, Failed as AnsweredFailed}
+use Rattle.xl_core.specs.Issuing.Save.{Kept as AnsweredOk, Failed as AnsweredFailed}
 use Rattle.xl_world.proofs.Seats.{Seat}
 use Rattle.xl_world.specs.World.{said_by}
 use Rattle.xl_world.proofs.Standing.{RowSays, NodeSays}

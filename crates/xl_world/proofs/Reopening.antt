@@ -13,7 +13,7 @@ use Rattle.xl_ledger.specs.Headers.{header_id}
 use Rattle.xl_rounds.specs.Rounds.{is_proposing}
 use Rattle.xl_core.specs.Answers.{Done}
 use Rattle.xl_core.specs.Node.{Node, Reply, Save, TimerOutcome, asks_for, asks_of, at_moment, timer_reply, built_reply, issued_unless_off, issuing_reply, own_validation, refusing, replying, starting, timer_outcome, unless_failed, validates, validating_built}
-use Rattle.xl_core.specs.Node.TimerOutcome.{Quiet, Ending}
+use Rattle.xl_core.specs.Timer.TimerOutcome.{Quiet, Ending}
 use Rattle.xl_core.specs.declared.event.CoreEvent.{CoreEvent}
 use Rattle.xl_core.specs.declared.event.CoreEvent.TheVariants.{Issue, Frame, Timer, Submit, Greet, Drain, Reports, Stop, Stopped, Relist}
 use Rattle.xl_world.specs.declared.place.Keeper.{Keeper}

@@ -6,7 +6,7 @@ use Rattle.std.proofs.lemmas.List.{get_or-set_same, get_or_past, length-append, 
 use Rattle.xl_queues.specs.Broadcasts.{queue_of}
 use Rattle.xl_queues.specs.Queues.{Backlog, no_items}
 use Rattle.xl_wire.specs.Lengths.{longest_frame}
-use Rattle.xl_core.specs.declared.greeting.Greeting.{Greeting}
+use Rattle.xl_core.specs.declared.the_core.greeting.Greeting.{Greeting}
 use Rattle.xl_core.specs.declared.item.Item.{Item}
 use Rattle.xl_core.specs.Answers.{given_in}
 use Rattle.xl_core.specs.Core.{Core, all_frames, drained, given_for, greeted_frames}

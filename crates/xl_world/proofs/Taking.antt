@@ -13,7 +13,7 @@ use Rattle.xl_core.specs.Answers.{Answer, Refused, Done}
 use Rattle.xl_core.specs.Core.{Core, stepped}
 use Rattle.xl_core.specs.Node as nodes
 use Rattle.xl_core.specs.Node.{Node, Reply, Save, at_moment, happens, issued_unless_off, own_validation, refusing}
-use Rattle.xl_core.specs.Node.Save.{Kept, Failed}
+use Rattle.xl_core.specs.Issuing.Save.{Kept, Failed}
 use Rattle.xl_core.specs.Queues.{with_report}
 use Rattle.xl_world.specs.Emptying.{handed_out}
 use Rattle.xl_world.specs.World.{reported_by}

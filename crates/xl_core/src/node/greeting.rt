@@ -4,7 +4,7 @@ ghost use Rattle.xl_core.specs.Draining.{next_on, node_for, IsNext, PutsNone, Pu
 ghost use Rattle.xl_core.specs.Greetings.{greeting_of, greeting_frames};
 
 use super::Node;
-use crate::greeting::Greeting;
+use crate::Greeting;
 use crate::putting::Put;
 use crate::sending::{TagPlace, put_body};
 use xl_base::NodeNo;

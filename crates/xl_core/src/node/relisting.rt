@@ -4,7 +4,7 @@ ghost use Rattle.xl_base.specs.Moments.{greatest_millis};
 ghost use Rattle.xl_tags.specs.Opening.{HasKeys};
 ghost use Rattle.xl_core.specs.Answers.{Done};
 ghost use Rattle.xl_core.specs.Node.{Relist, arisen_in, at_moment, happens, key_refusal, reporting, with_list};
-ghost use Rattle.xl_core.specs.Node.Save.{Kept};
+ghost use Rattle.xl_core.specs.Issuing.Save.{Kept};
 ghost use Rattle.xl_core.specs.Replies.{list_reply};
 
 use super::{Node, report_by};

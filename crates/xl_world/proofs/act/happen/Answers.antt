@@ -4,7 +4,7 @@ use Rattle.xl_tags.specs.Rings.{Ring, key_of, schedule_ring}
 use Rattle.xl_core.specs.Core.{Core, core_happens}
 use Rattle.xl_core.specs.Hearing.{bytes_as_sealed}
 use Rattle.xl_core.specs.Node.{Node}
-use Rattle.xl_core.specs.Node.Save.{Kept}
+use Rattle.xl_core.specs.Issuing.Save.{Kept}
 use Rattle.xl_core.specs.Replies.{Answers, taken_answer}
 use Rattle.xl_core.specs.TimerParts.{save_at}
 use Rattle.xl_core.specs.declared.event.CoreEvent.TheVariants.{Frame, Timer}

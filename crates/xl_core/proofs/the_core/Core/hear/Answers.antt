@@ -4,7 +4,7 @@ use Rattle.xl_core.specs.declared.hearing.Spoken.{Spoken}
 use Rattle.xl_core.specs.Answers.{Refused, Took}
 use Rattle.xl_core.specs.Hearing.{bytes_with, spoken_in}
 use Rattle.xl_core.specs.Node.{Frame, at_moment, frame_refusal, happens}
-use Rattle.xl_core.specs.Node.Save.{Kept}
+use Rattle.xl_core.specs.Issuing.Save.{Kept}
 use Rattle.xl_core.specs.Core.{Core, core_happens}
 use Rattle.xl_core.specs.Replies.{Answers}
 use Rattle.xl_core.specs.Stops.{IsCovered}

@@ -6,7 +6,7 @@ use Rattle.xl_core.specs.Answers.{Refused, Done}
 use Rattle.xl_core.specs.Node.{Save, Issue, happens, is_kept}
 use Rattle.xl_core.specs.Core.{Core, core_happens, core_asks}
 use Rattle.xl_core.specs.Replies.{Answers, save_of}
-use Rattle.xl_core.specs.Node.Save.{Kept}
+use Rattle.xl_core.specs.Issuing.Save.{Kept}
 use Rattle.xl_core.specs.Stops.{IsCovered}
 use Rattle.xl_core.proofs.Stepping.{issued_step, refused_step}
 use Rattle.xl_core.proofs.Stopping.{issue_covers}

@@ -2,7 +2,7 @@ use Rattle.std.proofs.Common.{◌≡◌, sym, subst}
 use Rattle.xl_core.specs.declared.event.CoreEvent.TheVariants as event
 use Rattle.xl_core.specs.Answers.{Refused, Done}
 use Rattle.xl_core.specs.Node.{Relist, happens}
-use Rattle.xl_core.specs.Node.Save.{Kept}
+use Rattle.xl_core.specs.Issuing.Save.{Kept}
 use Rattle.xl_core.specs.Core.{Core, core_happens}
 use Rattle.xl_core.specs.Replies.{Answers}
 use Rattle.xl_core.specs.Stops.{IsCovered}

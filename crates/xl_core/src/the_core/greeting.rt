@@ -5,8 +5,8 @@ ghost use Rattle.xl_core.specs.Draining.{is_handed, node_for, Writes};
 ghost use Rattle.xl_core.specs.Greetings.{further, further_at, greeting_at, greeting_frames, with_greeting};
 ghost use Rattle.xl_core.specs.Queues.{fitting};
 
+use super::outgoing::reader_of;
 use crate::Node;
-use crate::outgoing::reader_of;
 use crate::sending::TagPlace;
 use xl_base::{LedgerId, MOST_MEMBERS, NodeNo, Seq};
 use xl_ledger::Branch;

@@ -2,7 +2,7 @@ use Rattle.std.proofs.Common.{◌∙◌, ap, arith, ◌<◌, length, get_or, rep
 use Rattle.std.proofs.lemmas.List.{get_or_default, length-drop}
 use Rattle.xl_core.specs.declared.report.Report.{Report}
 use Rattle.xl_core.proofs.Handing.{given_more}
-use Rattle.xl_core.proofs.untaken.take_reports.Goals as goal
+use Rattle.xl_core.proofs.the_core.untaken.take_reports.Goals as goal
 
 any : Report
 any = record { seq = 0; id = record { 0 = replicate 32 0 } }

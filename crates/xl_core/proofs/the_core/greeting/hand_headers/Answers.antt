@@ -2,7 +2,7 @@ use Rattle.std.proofs.Common.{◌∙◌, ap, arith}
 use Rattle.xl_core.specs.Draining.{node_for}
 use Rattle.xl_core.specs.Greetings.{further}
 use Rattle.xl_core.proofs.Greeted.{handed_none, handed_more, handed_all, handed_writes, fewer_headers}
-use Rattle.xl_core.proofs.greeting.hand_headers.Goals as goal
+use Rattle.xl_core.proofs.the_core.greeting.hand_headers.Goals as goal
 
 pub loop-next-init : goal.loop-next-init
 loop-next-init g c = handed_none (node_for c.args.tags c.args.node.now) c.args.member c.args.greeting.now c.args.room.now

@@ -2,7 +2,7 @@ use Rattle.std.proofs.Common.{◌≡◌, ℕ, suc, ◌<◌, ◌*◌, ◌%◌, �
 use Rattle.std.specs.Int.{bit_at, bit_not}
 use Rattle.std.proofs.lemmas.Nat.Bits.{bit_at_set_same, bit_at_set_other, bit_at_clear_same, bit_at_clear_other}
 use Rattle.xl_core.specs.Marks.{mark}
-use Rattle.xl_core.proofs.marks.noted.Goals as goal
+use Rattle.xl_core.proofs.the_core.marks.noted.Goals as goal
 
 pub returns-then-idle-clause-own : goal.returns-then-idle-clause-own
 returns-then-idle-clause-own c = λ place is.

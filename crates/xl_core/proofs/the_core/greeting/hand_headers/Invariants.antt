@@ -2,7 +2,7 @@ use Rattle.std.proofs.Common.{length, Some}
 use Rattle.xl_core.specs.Draining.{node_for}
 use Rattle.xl_core.specs.Greetings.{greeting_frames}
 use Rattle.xl_core.proofs.Greeted.{IsHanded}
-use Rattle.xl_core.proofs.greeting.hand_headers.Given as goal
+use Rattle.xl_core.proofs.the_core.greeting.hand_headers.Given as goal
 
 abbrev pub decreases-loop-next : goal.decreases-loop-next
 decreases-loop-next g l = length (greeting_frames (node_for l.tags l.node) (Some l.greeting) l.member)

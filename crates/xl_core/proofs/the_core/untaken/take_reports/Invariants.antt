@@ -1,6 +1,6 @@
 use Rattle.std.proofs.Common.{◌≡◌}
 use Rattle.xl_core.proofs.Handing.{IsGiven}
-use Rattle.xl_core.proofs.untaken.take_reports.Given as goal
+use Rattle.xl_core.proofs.the_core.untaken.take_reports.Given as goal
 
 -- the reports so far are taken out, and stand in the room
 abbrev pub invariant-loop-place : goal.invariant-loop-place

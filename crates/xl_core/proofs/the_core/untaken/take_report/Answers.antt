@@ -1,6 +1,6 @@
 use Rattle.std.proofs.Common.{ap, sym, set}
 use Rattle.std.proofs.lemmas.Option.{get_or_from_slice_get}
-use Rattle.xl_core.proofs.untaken.take_report.Goals as goal
+use Rattle.xl_core.proofs.the_core.untaken.take_report.Goals as goal
 
 pub returns-in-Some-clause-given : goal.returns-in-Some-clause-given
 returns-in-Some-clause-given c = λ d.

@@ -6,9 +6,9 @@ ghost use Rattle.xl_core.specs.Core.{is_idle_among};
 ghost use Rattle.xl_core.specs.Marks.{mark, StayMarks};
 ghost use Rattle.xl_core.specs.Queues.{most_waiting};
 
+use super::greeting::{Greetings, has_greeting};
+use super::outgoing::{Waiting, count_for, reader_of};
 use crate::Item;
-use crate::greeting::{Greetings, has_greeting};
-use crate::outgoing::{Waiting, count_for, reader_of};
 use xl_base::NodeNo;
 
 /// Whether nothing is left for a member.
