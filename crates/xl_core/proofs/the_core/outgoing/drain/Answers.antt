@@ -3,7 +3,7 @@ use Rattle.xl_core.specs.Draining.{node_for}
 use Rattle.xl_core.specs.Items.{frame_of, frames_for}
 use Rattle.xl_core.specs.Queues.{at_number, after_taking, fitting, frames_in, joined}
 use Rattle.xl_core.proofs.Draining.{drained_more, drained_end, drained_none, fewer_left, length_changed}
-use Rattle.xl_core.proofs.outgoing.drain.Goals as goal
+use Rattle.xl_core.proofs.the_core.outgoing.drain.Goals as goal
 
 pub loop-next-init : goal.loop-next-init
 loop-next-init g c = drained_none (frames_for (node_for c.args.tags c.args.node.now) c.args.waiting.now c.args.member) c.args.waiting.now c.args.member c.args.room.now

@@ -3,7 +3,7 @@ use Rattle.xl_core.specs.Draining.{node_for}
 use Rattle.xl_core.specs.Items.{frames_for}
 use Rattle.xl_core.specs.Queues.{waiting_at}
 use Rattle.xl_core.proofs.Draining.{IsDrained}
-use Rattle.xl_core.proofs.outgoing.drain.Given as goal
+use Rattle.xl_core.proofs.the_core.outgoing.drain.Given as goal
 
 abbrev pub decreases-loop-next : goal.decreases-loop-next
 decreases-loop-next g l = length (waiting_at l.waiting l.member).items

@@ -6,7 +6,7 @@ use Rattle.xl_core.specs.declared.item.Item.{Item}
 use Rattle.xl_core.specs.Items.{frame_of, frames_for}
 use Rattle.xl_core.specs.Queues.{waiting_at}
 use Rattle.xl_core.proofs.Draining.{waiting_there, found_no_room, found_passed, passes_first, none_there, too_long}
-use Rattle.xl_core.proofs.outgoing.drain_first.Goals as goal
+use Rattle.xl_core.proofs.the_core.outgoing.drain_first.Goals as goal
 
 same_place : (a b : ℕ) → Some a ≡ Some b → a ≡ b
 same_place a b e = cc
