@@ -11,7 +11,7 @@ pub mod Greetings
 pub mod Core
 pub mod Marks
 pub mod Replies
-pub mod Ticks
+pub mod TimerParts
 pub mod Draining
 pub mod Keeping
 pub mod Stops

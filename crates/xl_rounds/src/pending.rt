@@ -5,7 +5,7 @@ ghost use Rattle.xl_base.specs.Sets.{is_below as is_below_of, IsRising, IsSet};
 ghost use Rattle.xl_disputes.specs.Disputes.{has};
 ghost use Rattle.xl_disputes.specs.Rising.{with_tx};
 ghost use Rattle.xl_rounds.specs.Pending.{submit_refusal, without_accepted};
-ghost use Rattle.xl_rounds.specs.Rest.{not_below as not_below_of, is_first as is_first_of};
+ghost use Rattle.xl_disputes.specs.Rows.{not_below as not_below_of, is_first as is_first_of};
 
 use crate::RoundRefusal;
 use std::alloc::Global;
