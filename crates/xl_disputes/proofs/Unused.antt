@@ -1,5 +1,5 @@
 -- Places above the last member's change nothing.
-use Rattle.std.proofs.Common.{◌≡◌, ℕ, zero, suc, ◌+◌, ◌-◌, ◌<◌, ◌≤◌, Bool, true, false, not, cond, List, [], ◌∷◌, length, map, take, drop, set, get_or, replicate, refl, sym, ap, subst, ◌∙◌, arith, inl, inr, ◌⊎◌}
+use Rattle.std.proofs.Common.{◌≡◌, ℕ, zero, suc, ◌+◌, ◌-◌, ◌<◌, ◌≤◌, Bool, true, false, not, cond, List, [], ◌∷◌, ◌++◌, length, map, take, drop, set, get_or, replicate, refl, sym, ap, subst, ◌∙◌, arith, inl, inr, ◌⊎◌}
 use Rattle.std.specs.Prelude.{fold, All, Option, Some, None}
 use Rattle.std.specs.List.{prefix_len}
 use Rattle.std.proofs.lemmas.List.{length-set, set_past, drop-set-lt, drop-drop}
@@ -38,6 +38,14 @@ first_count hs weights zero positions same none = sym (none_count hs weights pos
 first_count hs weights (suc n) [] same none = refl
 first_count hs weights (suc n) (position ∷ positions) same none =
     first_count hs (with_one (stand hs position) weights) n positions (length-set weights (stand hs position) (get_or weights (stand hs position) 0 + 1) ∙ same) none
+
+-- once the first are gone none is left
+pub none_left : (n : ℕ) (positions : List (Option SetId)) → All IsNone (drop n positions) → map (λ _. None) (take n positions) ++ drop n positions ≡ replicate (length positions) None
+none_left zero [] none = refl
+none_left zero (position ∷ positions) none =
+    ap (λ p. p ∷ positions) (All-head IsNone position positions none) ∙ ap (λ ps. None ∷ ps) (none_left zero positions (All-tail IsNone position positions none))
+none_left (suc n) [] none = refl
+none_left (suc n) (position ∷ positions) none = ap (λ ps. None ∷ ps) (none_left n positions none)
 
 -- ---- places
 

@@ -1,4 +1,4 @@
-ghost use Rattle.std.specs.Prelude.{◌≡◌, ◌≢◌, ◌↔◌, ◌-◌, ◌<◌, ◌≤◌, length, IsTrue, IsFalse, IfOk};
+ghost use Rattle.std.specs.Prelude.{◌≡◌, ◌≢◌, ◌↔◌, ◌-◌, ◌<◌, ◌≤◌, length, drop, replicate, All, None, IsTrue, IsFalse, IfOk};
 ghost use Rattle.xl_base.specs.Sets.{set_id_of, IsSet};
 ghost use Rattle.xl_disputes.specs.Disputes.{
   nothing_known,
@@ -64,6 +64,17 @@ fn holding_of(member: NodeNo) -> usize
     member.get() as usize
 }
 
+/// No position is left, if none stands behind the first ones. Only these are written.
+fn clear_first(positions: &mut [Option<SetId>; MOST_MEMBERS], last: usize)
+    requires within { last ≤ 64 }
+    requires unnamed { All (λ position. position ≡ None) (drop last positions.old) }
+    ensures { positions.new ≡ replicate 64 None }
+{
+    for place in 0..last {
+        positions[place] = None;
+    }
+}
+
 /// Lets each set stand for the positions that name it, if no member above the last one has a position or a set.
 fn settle(shares: &mut Shares, positions: &[Option<SetId>; MOST_MEMBERS], last: usize)
     requires places { length shares.old ≡ PLACES }
@@ -92,7 +103,7 @@ impl Disputes {
         ensures { self.new ≡ nothing_known }
     {
         self.shares.reset();
-        self.positions = [None; MOST_MEMBERS];
+        clear_first(&mut self.positions, self.last);
         self.last = 0;
     }
 
@@ -154,7 +165,7 @@ impl Disputes {
     pub fn clear(&mut self)
         ensures { self.new ≡ without_positions self.old }
     {
-        self.positions = [None; MOST_MEMBERS];
+        clear_first(&mut self.positions, self.last);
         settle(&mut self.shares, &self.positions, self.last);
     }
 

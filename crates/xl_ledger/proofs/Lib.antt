@@ -13,3 +13,4 @@ pub mod Orders
 pub mod Finding
 pub mod OnChains
 pub mod Ranks
+pub mod Clearing

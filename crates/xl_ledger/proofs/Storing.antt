@@ -136,17 +136,15 @@ read_below ledgers table place i limit capacity l sound lt same read =
     let own : seq_at hs place ≡ l.header.seq = ap (λ (x : Header). x.seq) (get_or-map (λ (l : Ledger). l.header) ledgers place l root_header (omega (arith, count)) ∙ ap (λ (x : Ledger). x.header) (sym (read ∙ ap (λ (j : ℕ). get_or ledgers j l) same))) in
     omega (arith, seq_le hs sound.indexed.known place lt, sound.room.within, sound.room.most)
 
-pub opened : (l : Ledger) (front items : List Ledger) (table : List (Option ℕ)) (limit size bucket first capacity : ℕ) → 2 ≤ limit → limit ≤ 262144 → limit ≤ capacity
-    → items ≡ front ++ l ∷ [] → front ≡ [] → table ≡ replicate limit None → size ≡ limit → l.header ≡ root_header → l.id ≡ root_id → l.jumps ≡ replicate levels 0 → l.before ≡ None → bucket ≡ bucket_of size l.id → bucket < size → first ≡ 0
-    → IsSound items (set table bucket (Some first)) limit capacity
-opened l front items table limit size bucket first capacity least most reserved items_are front_is table_is size_is header id jumps before at lt first_is =
+-- the root is put into an empty registry
+pub rooted : (l : Ledger) (front items : List Ledger) (table : List (Option ℕ)) (size bucket first : ℕ) → 0 < length table → table ≡ replicate (length table) None → items ≡ front ++ l ∷ [] → front ≡ [] → size ≡ length table
+    → l.header ≡ root_header → l.id ≡ root_id → l.jumps ≡ replicate levels 0 → l.before ≡ None → bucket ≡ bucket_of size l.id → bucket < size → first ≡ 0 → IsIndexed items (set table bucket (Some first))
+rooted l front items table size bucket first some unused items_are front_is size_is header id jumps before at lt first_is =
+    let n = length table in
     let alone : items ≡ l ∷ [] = items_are ∙ ap (λ (x : List Ledger). x ++ l ∷ []) front_is in
-    let indexed : IsIndexed (l ∷ []) (set (replicate limit None) bucket (Some 0)) = root_indexed l limit bucket (omega arith) header id jumps before (at ∙ ap (λ (n : ℕ). bucket_of n l.id) size_is) (omega arith) in
-    let tabled : set table bucket (Some first) ≡ set (replicate limit None) bucket (Some 0) = ap (λ (x : List (Option ℕ)). set x bucket (Some first)) table_is ∙ ap (λ (n : ℕ). set (replicate limit None) bucket (Some n)) first_is in
-    record {
-      indexed = subst (λ (x : List Ledger). IsIndexed x (set table bucket (Some first))) (sym alone) (subst (λ (x : List (Option ℕ)). IsIndexed (l ∷ []) x) (sym tabled) indexed);
-      room = record { least = least; most = most; within = omega (arith, ap length alone); reserved = reserved };
-    }
+    let indexed : IsIndexed (l ∷ []) (set (replicate n None) bucket (Some 0)) = root_indexed l n bucket some header id jumps before (at ∙ ap (λ (k : ℕ). bucket_of k l.id) size_is) (omega arith) in
+    let tabled : set table bucket (Some first) ≡ set (replicate n None) bucket (Some 0) = ap (λ (x : List (Option ℕ)). set x bucket (Some first)) unused ∙ ap (λ (k : ℕ). set (replicate n None) bucket (Some k)) first_is in
+    subst (λ (x : List Ledger). IsIndexed x (set table bucket (Some first))) (sym alone) (subst (λ (x : List (Option ℕ)). IsIndexed (l ∷ []) x) (sym tabled) indexed)
 
 -- the ledgers as they are stored after a push
 module _ (ledgers items : List Ledger) (table : List (Option ℕ)) (limit old capacity : ℕ) (sound : IsSound ledgers table limit old) where

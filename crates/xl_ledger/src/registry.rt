@@ -1,4 +1,4 @@
-ghost use Rattle.std.specs.Prelude.{◌≡◌, ◌↔◌, ◌+◌, ◌<◌, ◌≤◌, ◌++◌, [], ◌∷◌, length, replicate, None, Some, IsOk, IsSome, IsTrue, IfOk, IfSome, OnOk, OnErr};
+ghost use Rattle.std.specs.Prelude.{◌≡◌, ◌↔◌, ◌+◌, ◌<◌, ◌≤◌, ◌++◌, [], ◌∷◌, length, replicate, vec_capacity, None, Some, IsOk, IsSome, IsTrue, IfOk, IfSome, OnOk, OnErr};
 ghost use Rattle.xl_ledger.specs.Headers.{header_id};
 ghost use Rattle.xl_ledger.specs.Chains.{root_id, root_header, header_at, id_at, seq_at, place_of, Joins, AreLedgers};
 ghost use Rattle.xl_ledger.specs.Jumps.{jump_of};
@@ -6,11 +6,12 @@ ghost use Rattle.xl_base.specs.Refusals.{unless_refused};
 ghost use Rattle.xl_ledger.specs.Registries.{only_root, with_header, parent_place, add_refusal};
 ghost use Rattle.xl_ledger.specs.Walks.{start_of};
 ghost use Rattle.xl_ledger.specs.Limits.{least_limit, greatest_limit, levels};
+ghost use Rattle.xl_ledger.specs.Tables.{headers_of, IsIndexed};
 
 use crate::jumps::jumps_below;
 use crate::ledger::{LEVELS, Ledger};
 use crate::link::Link;
-use crate::table::{bucket_of, empty_table, find};
+use crate::table::{bucket_of, clear, empty_table, find};
 use crate::{AddRefusal, Header, LedgerNo, Walk, id_of, root_header};
 use std::alloc::Global;
 use std::marker::Model;
@@ -54,15 +55,22 @@ impl Registry {
     {
         let mut ledgers = Vec::with_capacity(alloc, limit as usize)?;
         let mut table = empty_table(alloc, limit)?;
-        let root = root();
-        let bucket = bucket_of(&root.id, table.len());
-        ledgers.push_reserved(root);
-        table[bucket] = Link::to(LedgerNo::root());
+        put_root(&mut ledgers, &mut table);
         Ok(Registry {
             limit,
             ledgers,
             table,
         })
+    }
+
+    /// Becomes a registry that knows the root alone, with the same room. It takes no memory, and clears what leads to
+    /// a ledger, so that it costs little if few are known.
+    pub fn reopen(&mut self)
+        ensures { self.new ≡ only_root self.old.limit }
+    {
+        clear(&self.ledgers, &mut self.table);
+        self.ledgers.clear();
+        put_root(&mut self.ledgers, &mut self.table);
     }
 
     /// How many ledgers are known, the root among them.
@@ -226,6 +234,22 @@ fn is_same(one: &Header, other: &Header) -> bool
     ensures { IsTrue result → one.now ≡ other.now }
 {
     one == other
+}
+
+/// Puts the root into an empty registry.
+fn put_root(ledgers: &mut Vec<Ledger>, table: &mut Vec<Link>)
+    requires empty { ledgers.old.items ≡ [] }
+    requires room { 0 < vec_capacity ledgers.old }
+    requires some { 0 < length table.old.items }
+    requires unused { table.old.items ≡ replicate (length table.old.items) None }
+    ensures indexed { IsIndexed ledgers.new.items table.new.items }
+    ensures root { headers_of ledgers.new.items ≡ root_header ∷ [] }
+    ensures room { vec_capacity ledgers.new ≡ vec_capacity ledgers.old }
+{
+    let root = root();
+    let bucket = bucket_of(&root.id, table.len());
+    ledgers.push_reserved(root);
+    table[bucket] = Link::to(LedgerNo::root());
 }
 
 /// The root as it is stored, alone.

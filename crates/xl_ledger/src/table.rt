@@ -32,6 +32,17 @@ pub(crate) fn bucket_of(id: &LedgerId, buckets: usize) -> usize
     BigEndian::read_u32(&id.0) as usize % buckets
 }
 
+/// No bucket leads to a ledger any more. Only those that lead to one are written.
+pub(crate) fn clear(ledgers: &[Ledger], table: &mut Vec<Link>)
+    requires { IsIndexed ledgers.now table.old.items }
+    ensures { table.new.items ≡ replicate (length table.old.items) None }
+{
+    for place in 0..ledgers.len() {
+        let bucket = bucket_of(&ledgers[place].id, table.len());
+        table[bucket] = Link::none();
+    }
+}
+
 /// The ledger of an id: its bucket leads from the last ledger that it has to the first.
 pub(crate) fn find(ledgers: &[Ledger], table: &[Link], id: &LedgerId) -> Option<LedgerNo>
     requires { IsIndexed ledgers.now table.now }

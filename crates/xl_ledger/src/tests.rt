@@ -64,6 +64,9 @@ fn adds_what_joins(rt: HostRuntime) -> Result<(), Fail> {
     assert_eq!(rt; (registry.id_at(added), registry.seq_of(added)), (id, 1));
     assert_eq!(rt; registry.add(&first), Err(AddRefusal::Known(id)));
     assert_eq!(rt; AddRefusal::Known(id).code(), 16);
+    registry.reopen();
+    assert_eq!(rt; (registry.len(), registry.find(&id)), (1, None));
+    assert_eq!(rt; registry.add(&first), Ok(added));
     Ok(())
 }
 

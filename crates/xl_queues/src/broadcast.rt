@@ -57,6 +57,17 @@ impl<T: Copy + Drop, const N: usize, const R: usize> Broadcast<T, N, R> {
         })
     }
 
+    /// Forgets what was pushed and what was lost, as when it was opened. It takes no memory.
+    pub fn reset(&mut self)
+        ensures empty { self.new ≡ replicate R no_items }
+        ensures accounted { AreAccounted self.new }
+    {
+        let readers = [Reader { read: 0, lost: 0 }; R];
+        self.items.clear();
+        self.pushed = 0;
+        self.readers = readers;
+    }
+
     /// Puts the item last for every reader. One for which `N` items wait already loses its oldest.
     pub fn push(&mut self, item: T)
         ensures pushed { self.new ≡ pushed_to_all N self.old item }

@@ -39,6 +39,15 @@ impl<T: Drop, const N: usize> Queue<T, N> {
         })
     }
 
+    /// Forgets what was pushed and what was lost, as when it was opened. It takes no memory.
+    pub fn reset(&mut self)
+        ensures empty { self.new ≡ no_items }
+        ensures accounted { IsAccounted [] [] self.new }
+    {
+        self.items.clear();
+        self.lost = 0;
+    }
+
     /// Puts the item last. A full queue drops its oldest item and counts it.
     pub fn push(&mut self, item: T)
         ensures pushed { self.new ≡ with_item N self.old item }

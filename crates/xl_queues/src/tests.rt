@@ -24,6 +24,9 @@ fn a_full_queue_drops_its_oldest(rt: HostRuntime) -> Result<(), Fail> {
     }
     queue.pass_over();
     assert_eq!(rt; queue.lost(), 3);
+    queue.push(6);
+    queue.reset();
+    assert!(rt; queue.is_empty() && queue.lost() == 0);
     Ok(())
 }
 
@@ -73,5 +76,7 @@ fn each_reader_has_its_own_place(rt: HostRuntime) -> Result<(), Fail> {
     assert_eq!(rt; (items.pop(1), items.lost(1)), (Some(4), 3));
     items.pass_over(0);
     assert_eq!(rt; items.lost(0), 1);
+    items.reset();
+    assert_eq!(rt; (items.len(1), items.lost(1)), (0, 0));
     Ok(())
 }

@@ -5,3 +5,4 @@ pub mod SealingLaws
 pub mod MacLaws
 pub mod ComparingLaws
 pub mod MissingLaws
+pub mod SourceLaws

@@ -1,17 +1,14 @@
 -- Which keys a ring has.
-use Rattle.std.proofs.Common.{◌≡◌, ◌≢◌, ℕ, ◌+◌, ◌-◌, ◌<◌, ◌≤◌, ◌==◌, true, List, length, map, replicate, get_or, Option, Some, None, IsSome, refl, sym, ap, ◌∙◌, inl, inr, arith}
+use Rattle.std.proofs.Common.{◌≡◌, ◌≢◌, ℕ, ◌-◌, ◌<◌, ◌≤◌, ◌==◌, true, List, replicate, get_or, Option, Some, None, IsSome, refl, sym, ap, ◌∙◌, inl, inr, arith}
 use Rattle.std.specs.Prelude.{◌||◌}
-use Rattle.std.specs.List.{range_with_len}
-use Rattle.std.specs.Array.{AllOfLen}
 use Rattle.std.proofs.lemmas.Bool.{cases_eq, cases_lt, cond_both, cond-true, cond-false, or_right}
 use Rattle.std.proofs.lemmas.Bool.Decides.{nat_tests}
-use Rattle.std.proofs.lemmas.List.{ext_get_or, get_or-replicate, length-replicate, get_or_past}
-use Rattle.std.proofs.lemmas.List.FromFn.{length-map-range_with_len, get_or-map-range_with_len}
+use Rattle.std.proofs.lemmas.List.{get_or-replicate, length-replicate, get_or_past}
 use Rattle.std.specs.Prelude.{is_some}
 use Rattle.std.proofs.lemmas.List.Elements.{All-weaker}
 use Rattle.xl_lists.specs.Lists.{TrustedList, IsValid, is_outside}
 use Rattle.xl_tags.specs.Opening.{HasKeys}
-use Rattle.xl_tags.specs.Rings.{Ring, IsRing, key_of, no_keys, schedule_key, schedule_ring}
+use Rattle.xl_tags.specs.Rings.{Ring, IsRing, key_of, no_keys, schedule_key}
 use Rattle.xl_tags.specs.PairKeys.{pair_key_of}
 
 -- a place has no key, if none has
@@ -22,18 +19,9 @@ at_none i = elim (cases_lt i 64) [
 ]
 
 -- what isn't a key is none
-none_of : (P : Option (List ℕ) → Type 0) → ((key : List ℕ) → P (Some key) → ⊥) → (o : Option (List ℕ)) → P o → o ≡ None
+pub none_of : (P : Option (List ℕ) → Type 0) → ((key : List ℕ) → P (Some key) → ⊥) → (o : Option (List ℕ)) → P o → o ≡ None
 none_of P never None h = refl
 none_of P never (Some key) h = absurd (never key h)
-
--- where no place has a key there are none
-pub all_none : (P : Option (List ℕ) → Type 0) → ((key : List ℕ) → P (Some key) → ⊥) → (me : ℕ) (keys : List (Option (List ℕ)))
-    → AllOfLen P keys 64 → record { me = me; keys = keys } ≡ no_keys me
-unfolding no_keys
-all_none P never me keys each =
-    ap (λ (ks : List (Option (List ℕ))). record { me = me; keys = ks })
-    (ext_get_or None keys (replicate 64 None) (each.long ∙ sym (length-replicate {A = Option (List ℕ)} 64 None))
-    (λ i h. none_of P never _ (each.at i None (omega (arith, each.long))) ∙ sym (get_or-replicate {A = Option (List ℕ)} 64 i None None (omega (arith, each.long)))))
 
 pub key_of-no_keys : (me member : ℕ) → key_of (no_keys me) member ≡ None
 unfolding no_keys
@@ -55,43 +43,12 @@ key_of-outside ring member ok out = elim (cases_eq member 0) [
   | inr some ↦ key_at ring member (omega arith) ∙ get_or_past ring.keys (member - 1) None (let far : 64 < member = grind (arith, nat_tests) in omega (arith, ok.places))
 ]
 
--- a ring of a schedule's member that is filled up to a number
-pub record IsFilled (me next : ℕ) (ring : Ring) : Type 0 where
-  pub mine : ring.me ≡ me
-  pub long : length ring.keys ≡ 64
-  pub given : (m : ℕ) → m < next → key_of ring m ≡ schedule_key me m
-  pub empty : (m : ℕ) → next ≤ m → key_of ring m ≡ None
-
 -- the key of a schedule's pair, by cases
-no_key : (me m : ℕ) → (m == me || is_outside m) ≡ true → schedule_key me m ≡ None
+pub no_key : (me m : ℕ) → (m == me || is_outside m) ≡ true → schedule_key me m ≡ None
 no_key me m e = cond-true (m == me || is_outside m) None (Some (pair_key_of me m)) e
 
 pub schedule_key-outside : (me m : ℕ) → is_outside m ≡ true → schedule_key me m ≡ None
 schedule_key-outside me m out = no_key me m (or_right (m == me) (is_outside m) out)
-
-pub filled_none : (me : ℕ) → IsFilled me 1 (no_keys me)
-unfolding no_keys
-filled_none me = record {
-  mine = refl;
-  long = length-replicate {A = Option (List ℕ)} 64 None;
-  given = λ m low. key_of-no_keys me m ∙ sym (schedule_key-outside me m (grind (arith, nat_tests)));
-  empty = λ m past. key_of-no_keys me m;
-}
-
-pub filled_keys : (me : ℕ) (ring : Ring) → IsFilled me 65 ring → (m : ℕ) → key_of ring m ≡ schedule_key me m
-filled_keys me ring filled m = elim (cases_lt m 65) [
-  | inl within ↦ filled.given m within
-  | inr past ↦ filled.empty m past ∙ sym (schedule_key-outside me m (grind (arith, nat_tests)))
-]
-
-pub filled_ring : (me : ℕ) (ring : Ring) → IsFilled me 65 ring → ring ≡ schedule_ring me
-unfolding schedule_ring
-filled_ring me ring filled =
-    let count = length-map-range_with_len (schedule_key me) 1 64 in
-    let keys : ring.keys ≡ map (schedule_key me) (range_with_len 1 64) = ext_get_or None ring.keys (map (schedule_key me) (range_with_len 1 64)) (filled.long ∙ sym count) (λ i h.
-    let within : i < 64 = omega (arith, filled.long) in
-    ap (λ (k : ℕ). get_or ring.keys k None) (omega arith) ∙ sym (key_at ring (i + 1) (omega arith)) ∙ filled_keys me ring filled (i + 1) ∙ sym (get_or-map-range_with_len (schedule_key me) 1 64 i (i + 1) None within (omega arith))) in
-    ap (λ (m : ℕ). record { me = m; keys = ring.keys }) filled.mine ∙ ap (λ (ks : List (Option (List ℕ))). record { me = me; keys = ks }) keys
 
 schedule_key-another : (me m : ℕ) → m ≢ me → 1 ≤ m → m ≤ 64 → schedule_key me m ≡ Some (pair_key_of me m)
 schedule_key-another me m other low high = cond-false (m == me || is_outside m) None (Some (pair_key_of me m)) (grind (arith, nat_tests))

@@ -6,3 +6,4 @@ pub mod Opening
 pub mod Codes
 pub mod Prepared
 pub mod Missing
+pub mod Sources

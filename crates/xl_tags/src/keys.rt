@@ -1,33 +1,40 @@
 ghost use Rattle.std.specs.Prelude.{◌≡◌, ◌≢◌, ◌≤◌, ℕ, None, Some, IsTrue, IsSome, is_some, ◌↔◌, option_copied, option_map};
 ghost use Rattle.xl_tags.specs.Macs.{mac};
+ghost use Rattle.xl_tags.specs.Sources.{put_at as put_at_of};
 ghost use Rattle.xl_lists.specs.Lists.{TrustedList, IsValid};
 ghost use Rattle.xl_tags.specs.Missing.{is_missing, lowest_missing};
 ghost use Rattle.xl_tags.specs.Opening.{HasKeys};
 ghost use Rattle.xl_tags.specs.Rings.{key_of, with_key, no_keys, schedule_key, schedule_ring, IsRing};
 
-use crate::pair_key;
 use crate::prepared::Prepared;
+use crate::{hmac, pair_key};
 use std::marker::Model;
 use std::{array, fmt};
 use xl_base::{GREATEST_NODE_NO, MOST_MEMBERS, NodeNo};
 use xl_lists::List;
 
 /// The keys that a member shares with others, one with each. No call takes memory.
+///
+/// A key that is put is prepared then, so that each of its tags costs less. A schedule's keys are made as they are
+/// asked for, since most are never.
 #[derive(Drop)]
 pub struct Keys {
     me: NodeNo,
-    /// In the order of the members, from 1 on.
+    /// Those that were put, in the order of the members, from 1 on.
     prepared: [Option<Prepared>; MOST_MEMBERS],
+    /// Whether all others are those of a schedule.
+    of_schedule: bool,
 }
 
 impl Model for Keys {
-    ghost use Rattle.xl_tags.specs.Rings.{Ring, IsRing};
+    ghost use Rattle.xl_tags.specs.Rings.{Ring};
+    ghost use Rattle.xl_tags.specs.Sources.{ring_from, IsSource};
 
     ghost Value = { Ring };
 
-    ghost view = { λ k. record { me = k.me; keys = k.prepared } };
+    ghost view = { λ k. ring_from k.me k.of_schedule k.prepared };
 
-    ghost invariant = { λ k. IsRing (record { me = k.me; keys = k.prepared }) };
+    ghost invariant = { λ k. IsSource k.me k.prepared };
 }
 
 /// The member of a number.
@@ -39,6 +46,41 @@ fn member_of(number: u32) -> NodeNo
     NodeNo::new(number).unwrap()
 }
 
+/// The key of a number among those that were put.
+fn put_at(prepared: &[Option<Prepared>; MOST_MEMBERS], number: u32) -> Option<&Prepared>
+    ensures { option_copied result ≡ put_at_of prepared.now number }
+{
+    let place = number.checked_sub(1)?;
+    prepared.get(place as usize)?.as_ref()
+}
+
+/// Whether a key was put for a number.
+fn has_put(prepared: &[Option<Prepared>; MOST_MEMBERS], number: u32) -> bool
+    ensures { result ≡ is_some (put_at_of prepared.now number) }
+{
+    put_at(prepared, number).is_some()
+}
+
+/// Whether a schedule gives me a key for a number.
+fn has_pair(me: NodeNo, number: u32) -> bool
+    ensures { result ≡ is_some (schedule_key me number) }
+{
+    match NodeNo::new(number) {
+        Some(member) => member != me,
+        None => false,
+    }
+}
+
+/// The key that a schedule gives me for a number.
+fn key_with(me: NodeNo, number: u32) -> Option<[u8; 32]>
+    ensures { result ≡ schedule_key me number }
+{
+    match NodeNo::new(number) {
+        Some(member) if member != me => Some(pair_key(me, member)),
+        _ => None,
+    }
+}
+
 impl Keys {
     /// No keys yet.
     pub fn new(me: NodeNo) -> Keys
@@ -48,6 +90,7 @@ impl Keys {
         Keys {
             me,
             prepared: array::repeat(None),
+            of_schedule: false,
         }
     }
 
@@ -58,14 +101,11 @@ impl Keys {
         // Every list's members have theirs.
         ensures listed { (list : TrustedList) → IsValid list → HasKeys result list.members }
     {
-        let mut keys = Keys::new(me);
-        for number in 1..GREATEST_NODE_NO + 1 {
-            let member = NodeNo::new(number).unwrap();
-            if member != me {
-                keys.put(member, pair_key(me, member));
-            }
+        Keys {
+            me,
+            prepared: array::repeat(None),
+            of_schedule: true,
         }
-        keys
     }
 
     /// Whose keys they are.
@@ -119,7 +159,7 @@ impl Keys {
     fn is_missing(&self, list: &List, member: NodeNo) -> bool
         ensures { result ≡ is_missing self.now list.now.members member }
     {
-        list.has(member) && member != self.me && self.find(member.get()).is_none()
+        list.has(member) && member != self.me && !self.knows(member.get())
     }
 
     /// Whether the member is me or has a key.
@@ -133,7 +173,11 @@ impl Keys {
     pub fn get(&self, member: NodeNo) -> Option<[u8; 32]>
         ensures { result ≡ key_of self.now member }
     {
-        Some(self.find(member.get())?.key())
+        match put_at(&self.prepared, member.get()) {
+            Some(key) => Some(key.key()),
+            None if self.of_schedule => key_with(self.me, member.get()),
+            None => None,
+        }
     }
 
     /// Equal keys.
@@ -144,6 +188,7 @@ impl Keys {
             Ok(prepared) => Keys {
                 me: self.me,
                 prepared,
+                of_schedule: self.of_schedule,
             },
             Err(_) => unreachable!(),
         }
@@ -153,7 +198,7 @@ impl Keys {
     pub(crate) fn knows(&self, number: u32) -> bool
         ensures { result ≡ is_some (key_of self.now number) }
     {
-        self.find(number).is_some()
+        has_put(&self.prepared, number) || (self.of_schedule && has_pair(self.me, number))
     }
 
     /// The tag of the bytes under the key of a number.
@@ -161,17 +206,13 @@ impl Keys {
         requires { IsSome (key_of self.now number) }
         ensures { option_map (λ key. mac key bytes.now) (key_of self.now number) ≡ Some result }
     {
-        match self.find(number) {
+        match put_at(&self.prepared, number) {
             Some(key) => key.tag(bytes),
-            None => unreachable!(),
+            None => match key_with(self.me, number) {
+                Some(key) => hmac(&key, bytes),
+                None => unreachable!(),
+            },
         }
-    }
-
-    fn find(&self, number: u32) -> Option<&Prepared>
-        ensures { option_copied result ≡ key_of self.now number }
-    {
-        let place = number.checked_sub(1)?;
-        self.prepared.get(place as usize)?.as_ref()
     }
 }
 

@@ -1,12 +1,26 @@
-use Rattle.std.proofs.Common.{ℕ, Option, None, length, set, sym, ap, subst, vec_capacity, arith}
-use Rattle.std.proofs.lemmas.List.{length-replicate}
-use Rattle.xl_ledger.specs.Tables.{IsSound}
-use Rattle.xl_ledger.proofs.Storing.{opened}
+use Rattle.std.proofs.Common.{ℕ, Option, None, length, replicate, sym, ap, ◌∙◌, arith}
+use Rattle.std.proofs.lemmas.List.{length-map, length-replicate}
+use Rattle.xl_ledger.specs.Registries.{Ledgers}
 use Rattle.xl_ledger.proofs.registry.Registry.open.Goals as goal
+
+pub put_root-requires-clause-some : goal.put_root-requires-clause-some
+put_root-requires-clause-some c = omega (arith, ap length c.in_ok-table.ensures, length-replicate {A = Option ℕ} c.args.limit None, c.requires.least)
+
+pub put_root-requires-clause-unused : goal.put_root-requires-clause-unused
+put_root-requires-clause-unused c = c.in_ok-table.ensures ∙ ap (λ (n : ℕ). replicate n None) (sym (ap length c.in_ok-table.ensures ∙ length-replicate {A = Option ℕ} c.args.limit None))
 
 pub invariant_of-result : goal.invariant_of-result
 invariant_of-result c =
-    subst (λ (o : Option ℕ). IsSound c.push_reserved.new.self.items (set c.in_ok-table.table.items c.bucket_of-bucket.result o) c.args.limit (vec_capacity c.push_reserved.new.self)) (sym c.to.ensures)
-    (opened c.root-root.result c.in_ok-ledgers.ledgers.items c.push_reserved.new.self.items c.in_ok-table.table.items c.args.limit c.len.result c.bucket_of-bucket.result c.root.result _
-    c.requires.least c.requires.most (omega (arith, c.in_ok-ledgers.ensures.exact, c.push_reserved.ensures.capacity)) c.push_reserved.ensures.items c.in_ok-ledgers.ensures.items c.in_ok-table.ensures (omega (arith, c.len.ensures, c.in_ok-table.table.ok.0, ap length c.in_ok-table.ensures, length-replicate {A = Option ℕ} c.args.limit None))
-    c.root-root.ensures.header c.root-root.ensures.id c.root-root.ensures.jumps c.root-root.ensures.before c.bucket_of-bucket.ensures.value c.bucket_of-bucket.ensures.within c.root.ensures)
+    let count = sym (length-map c.put_root.new.ledgers.items (λ l. l.header)) ∙ ap length c.put_root.ensures.root in
+    record {
+      indexed = c.put_root.ensures.indexed;
+      room = record {
+        least = c.requires.least;
+        most = c.requires.most;
+        within = omega (arith, count, c.requires.least);
+        reserved = omega (arith, c.put_root.ensures.room, c.in_ok-ledgers.ensures.exact);
+      };
+    }
+
+pub returns : goal.returns
+returns c = ap (λ hs. let r : Ledgers = record { headers = hs; limit = c.args.limit } in r) c.put_root.ensures.root
