@@ -157,12 +157,12 @@ impl<B: Branch + Drop> Node<B> {
         ensures opened { OnOk result (self.new ≡ opened (settings_of self.old) now kept) }
         ensures err { OnErr result (self.new ≡ self.old) }
     {
-        let registry = Registry::open(alloc, self.registry.limit())?;
         let table = Table::open(alloc, &self.list, self.me)?;
         let time = now.max(LEAST_TIME);
         let mode = usual_mode(self.validating);
-        self.round.reopen(&registry, LedgerNo::root(), mode, time);
-        self.registry = registry;
+        self.registry.reopen();
+        self.round
+            .reopen(&self.registry, LedgerNo::root(), mode, time);
         self.table = table;
         self.time = time;
         self.kept = kept;

@@ -135,13 +135,11 @@ impl<B: Branch + Drop> Core<B> {
         // The keeper holds nothing below the number.
         ensures stop { (held : Held) → HoldsAtLeast kept held → OnOk result (IsCovered held self.new) }
     {
-        let waiting = Broadcast::open(alloc)?;
-        let untaken = Queue::open(alloc)?;
         self.node.reopen(alloc, now, kept)?;
-        self.waiting = waiting;
+        self.waiting.reset();
         self.greetings = [None; MOST_MEMBERS];
         self.marks = 0;
-        self.untaken = untaken;
+        self.untaken.reset();
         self.stopped = false;
         Ok(())
     }

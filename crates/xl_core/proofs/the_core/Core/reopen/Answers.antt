@@ -9,8 +9,8 @@ use Rattle.xl_core.proofs.the_core.Core.reopen.Goals as goal
 pub returns-clause-stop : goal.returns-clause-stop
 returns-clause-stop g c = λ held holds.
     let settings = settings_of c.self.inside.node in
-    subst (IsCovered held) (sym (emptied c.reopen.new.self (opened settings c.args.now c.args.kept) c.in_ok-waiting.waiting c.in_ok-untaken.untaken c.in_ok-reopen.ensures.opened c.in_ok-waiting.ensures.empty c.in_ok-untaken.ensures.empty))
+    subst (IsCovered held) (sym (emptied c.reopen.new.self (opened settings c.args.now c.args.kept) c.reset.new.self c.reset-2.new.self c.in_ok-reopen.ensures.opened c.reset.ensures.empty c.reset-2.ensures.empty))
     (opened_covered held settings c.args.now c.args.kept holds)
 
 pub invariant_of-self-2 : goal.invariant_of-self-2
-invariant_of-self-2 g c = none_marked c.in_ok-waiting.waiting c.in_ok-waiting.ensures.empty
+invariant_of-self-2 g c = none_marked c.reset.new.self c.reset.ensures.empty
