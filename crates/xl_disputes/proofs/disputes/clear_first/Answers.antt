@@ -1,3 +1,4 @@
+-- the first positions are cleared one by one, and behind them there were none
 use Rattle.std.proofs.Common.{◌≡◌, ◌<◌, ◌++◌, List, length, map, take, drop, get_or, replicate, None, Option, ap, ◌∙◌, arith}
 use Rattle.std.proofs.lemmas.List.{get_or_default, length-drop, length-take, length-append, length-map}
 use Rattle.std.proofs.lemmas.List.Edits.{map_over_more}

@@ -1,3 +1,4 @@
+-- rows rise, so a look at the middle one tells on which side the place lies, and it stays between low and high
 use Rattle.std.proofs.Common.{◌+◌, ◌-◌, ◌/◌, arith}
 use Rattle.xl_disputes.proofs.Finding.{is_before, not_before, place_within}
 use Rattle.xl_disputes.proofs.index.place_in.Goals as goal

@@ -1,3 +1,4 @@
+-- rows and both lists rise, so an id passed over is of no later row, and the first that is left decides
 use Rattle.std.proofs.Common.{arith}
 use Rattle.xl_disputes.proofs.Walking.{moves_none, now_rises, now_long, all_moved, out_within, both_fit, moves_more}
 use Rattle.xl_disputes.proofs.moving.move_part.Goals as goal

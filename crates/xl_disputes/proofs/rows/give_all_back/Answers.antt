@@ -1,3 +1,4 @@
+-- rows rise, so each has a name of its own, and a name still to come finds what it found at first
 use Rattle.std.proofs.Common.{◌≡◌, length, get_or, Some, sym, ap, subst, ◌∙◌, arith}
 use Rattle.std.specs.Prelude.{unwrap_or}
 use Rattle.std.proofs.lemmas.List.{get_or_default}

@@ -1,3 +1,4 @@
+-- after our own place each turn adds the next member's, with the next power of 2 for its bit
 use Rattle.std.proofs.Common.{◌≡◌, ℕ, zero, suc, ◌+◌, ◌-◌, ◌^◌, [], ◌∷◌, ◌++◌, map, refl, ap, ◌∙◌, arith}
 use Rattle.std.specs.List.{range_with_len}
 use Rattle.xl_disputes.specs.Holdings.{empty_own, no_holding}

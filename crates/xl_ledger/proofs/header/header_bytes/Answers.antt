@@ -1,3 +1,4 @@
+-- each field is put right behind those before it, and the last one ends at byte 118
 use Rattle.byteorder.specs.Endian.{big_bytes}
 use Rattle.std.proofs.Common.{[], ◌∷◌, refl, arith}
 use Rattle.xl_ledger.proofs.HeaderLaws.{fronts, puts_behind}

@@ -1,3 +1,4 @@
+-- only buckets of known ledgers lead to one, so once each ledger's bucket is empty, all are
 use Rattle.std.proofs.Common.{◌≡◌, ◌+◌, ℕ, length, set, get_or, Option, refl, sym, ap, subst, ◌∙◌, arith}
 use Rattle.std.proofs.lemmas.List.{length-map}
 use Rattle.xl_ledger.specs.declared.ledger.Ledger.{Ledger}

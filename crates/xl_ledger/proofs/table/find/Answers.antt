@@ -1,3 +1,4 @@
+-- a bucket leads from its last ledger back to its first, and no ledger passed has the id
 use Rattle.std.proofs.Common.{◌≡◌, ◌<◌, ℕ, Option, get_or, length, sym, ap, subst, ◌∙◌, arith}
 use Rattle.xl_ledger.specs.Tables.{headers_of}
 use Rattle.xl_ledger.proofs.TableLaws.{Searches, left, starts, next_known, comes, goes_on, falls, is_found, is_nowhere}

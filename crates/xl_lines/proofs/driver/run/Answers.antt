@@ -1,3 +1,4 @@
+-- what new lines tell is what is told of the whole input, and they read on or tell something if the rules do
 use Rattle.std.proofs.Common.{[], refl, sym, ◌∙◌}
 use Rattle.xl_lines.proofs.Aloud.{told_at-aloud}
 use Rattle.xl_lines.proofs.ReadingOn.{told_at-reads_on}

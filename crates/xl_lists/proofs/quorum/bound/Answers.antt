@@ -1,3 +1,4 @@
+-- the overlap is no longer than a list, and the liars in it are some of it
 use Rattle.std.proofs.Common.{arith}
 use Rattle.xl_lists.proofs.Counting.{liars_within}
 use Rattle.xl_lists.proofs.quorum.bound.Goals as goal

@@ -1,3 +1,4 @@
+-- nothing is looked for, so the lines are read to their end, and a new merger begins as the definition does
 use Rattle.std.proofs.Common.{◌≡◌, subst}
 use Rattle.std.specs.Io.KnownBytes.{append_known}
 use Rattle.std.specs.Prelude.{IfSome}

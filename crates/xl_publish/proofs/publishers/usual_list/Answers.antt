@@ -1,3 +1,4 @@
+-- members that rise are each there once and at most 64, so with the usual quorum they are a list
 use Rattle.std.proofs.Common.{◌≡◌, ℕ, ◌≤◌, ◌==◌, Bool, false, Some, None, sym, ap, ◌∙◌, arith, length}
 use Rattle.std.specs.Result.{result_ok}
 use Rattle.std.proofs.lemmas.Bool.{cond-false}

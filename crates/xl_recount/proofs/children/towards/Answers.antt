@@ -1,3 +1,4 @@
+-- a ledger on a chain stands there at its own sequence, and what follows it there is its child
 use Rattle.std.proofs.Common.{◌≡◌, List, suc, ◌+◌, slice_get, Some, sym, ap, ◌∙◌, arith}
 use Rattle.xl_ledger.specs.declared.header.Header.{Header}
 use Rattle.xl_ledger.specs.Chains.{chain, seq_at}

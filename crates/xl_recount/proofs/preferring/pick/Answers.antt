@@ -1,3 +1,4 @@
+-- the child that leads is the best candidate, the one that leads the rest the second, and votes tell the margin
 use Rattle.xl_recount.proofs.BestLaws.{children_known, picks_none, picks, chosen, not_chosen}
 use Rattle.xl_recount.proofs.preferring.pick.Goals as goal
 

@@ -1,3 +1,4 @@
+-- each step goes on as the definition does, with one step fewer to come, and stays if there is no next
 use Rattle.std.proofs.Common.{◌≡◌, ◌-◌, ◌+◌, ◌<◌, List, Some, None, length, sym, ap, subst, ◌∙◌, arith}
 use Rattle.std.specs.Prelude.{IfSome}
 use Rattle.xl_ledger.specs.declared.header.Header.{Header}

@@ -1,3 +1,4 @@
+-- at unmarked places nothing is kept, so once the marked ones are emptied, nothing is
 use Rattle.std.proofs.Common.{◌+◌, arith, ap, refl, ◌∙◌, None, set, get_or, replicate}
 use Rattle.xl_rounds.proofs.PositionLaws.{map_next, map_done}
 use Rattle.xl_rounds.proofs.Skipping.{changes_skipped}

@@ -1,3 +1,4 @@
+-- both lists rise, so no id passed over is still to come, and the first accepted one that is left decides
 use Rattle.std.proofs.Common.{◌≡◌, ◌+◌, ◌<◌, length, set, vec_capacity, Vec, ap, sym, ◌∙◌, arith}
 use Rattle.std.specs.Global.{Global}
 use Rattle.xl_base.specs.declared.ids.TxId.{TxId}

@@ -1,3 +1,4 @@
+-- places passed over have no close time, so the front of the room has the times of all places so far
 use Rattle.std.proofs.Common.{◌+◌, ◌<◌, ◌∙◌, arith, length, refl, sym, subst, List, ℕ}
 use Rattle.xl_rounds.proofs.PositionLaws.{AreWritten, one_written, none_written}
 use Rattle.xl_rounds.proofs.Skipping.{times_skipped}

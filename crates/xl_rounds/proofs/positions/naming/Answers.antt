@@ -1,3 +1,4 @@
+-- places passed over have no position to name a set, so the count is that of all places so far, 64 at most
 use Rattle.std.proofs.Common.{◌≡◌, ◌+◌, ◌<◌, ◌∙◌, arith, ap, length, take, refl, sym, None}
 use Rattle.std.specs.Prelude.{count_by}
 use Rattle.std.proofs.lemmas.List.{take_all}

@@ -1,3 +1,4 @@
+-- what is refused as if sealed is refused anyhow; else the sender has a key, and the tag alone decides
 use Rattle.std.proofs.Common.{sym, ◌∙◌, true, false}
 use Rattle.xl_wire.specs.Raws.{raw_frame}
 use Rattle.xl_tags.proofs.OpeningLaws.{exits_with, refused_anyhow, refused_by_tag, sender_has_key, tag_is}

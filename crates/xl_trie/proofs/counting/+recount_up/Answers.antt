@@ -1,3 +1,4 @@
+-- the span above ends less deep, and once one span is counted anew, only those above it are left
 use Rattle.std.proofs.Common.{◌≢◌, ◌<◌, length, Some, sym, ap, subst, ◌∙◌, arith}
 use Rattle.xl_trie.proofs.Common.{Span, AreRecounted, with_counts, spans, IsKid, Becomes, way, OnWay}
 use Rattle.xl_trie.proofs.Listing.{some_is, is_some_if}

@@ -1,3 +1,4 @@
+-- the vote is at one span and below those above it, so their counts change, and none exceeds the votes
 use Rattle.std.proofs.Common.{◌≡◌, ◌==◌, Some, sym, subst, ◌∙◌, arith}
 use Rattle.xl_trie.proofs.Common.{Name, Vote, is_on_chain, Span, changed, with_counts, spans, Becomes, count_by-le-length}
 use Rattle.xl_trie.proofs.Listing.{some_is}

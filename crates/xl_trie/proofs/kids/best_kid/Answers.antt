@@ -1,3 +1,4 @@
+-- no child passed leads the best so far, and a node has no more children than there are nodes
 use Rattle.std.proofs.Common.{◌+◌, ◌-◌, List, None, inl, arith}
 use Rattle.xl_trie.proofs.Common.{Name, IsBestSoFar, spans}
 use Rattle.xl_trie.proofs.Siblings.{kid_in, looks_from, looks_on, looked, stands_next}

@@ -1,3 +1,4 @@
+-- no child passed begins with the ledger, and a node has no more children than there are nodes
 use Rattle.std.proofs.Common.{◌+◌, ◌-◌, inl, inr, sym, ap, ◌∙◌, arith}
 use Rattle.xl_trie.proofs.Common.{eqb-true, eqb-false, Node, spans, NoneBegins}
 use Rattle.xl_trie.proofs.Listing.{some_is}

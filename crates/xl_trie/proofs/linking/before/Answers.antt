@@ -1,3 +1,4 @@
+-- no child passed leads to the name, and a node has no more children than there are nodes
 use Rattle.std.proofs.Common.{◌≢◌, Some, ◌+◌, ◌-◌, inl, inr, sym, ap, ◌∙◌, arith}
 use Rattle.xl_trie.proofs.Common.{Node}
 use Rattle.xl_trie.proofs.Listing.{some_is, true_false}

@@ -1,3 +1,4 @@
+-- all of a span's votes go on along it while more are for it than are uncommitted, and each child ends deeper
 use Rattle.std.proofs.Common.{◌≡◌, ◌+◌, ◌-◌, ◌^◌, ◌<◌, ℕ, List, Some, sym, ap, subst, ◌∙◌, arith, inl, inr}
 use Rattle.xl_trie.proofs.Common.{cases_eq, Header, Vote, seq_at, AreLedgers, uncommitted, next_of, Slot, Name, Node, Span, GoesTo, spans, IsKid, IsTrie}
 use Rattle.xl_trie.proofs.Listing.{some_is}

@@ -1,3 +1,4 @@
+-- children begin with the candidates, so the best one's lead is the margin weighed against the uncommitted
 use Rattle.std.proofs.Common.{◌∙◌}
 use Rattle.xl_trie.proofs.Common.{spans}
 use Rattle.xl_trie.proofs.Choosing.{Choice, goes_nowhere, choice_one, choice_two, chosen, not_chosen}

@@ -1,3 +1,4 @@
+-- a node stays as the root, or for its votes or children; one with neither can go, and no vote misses it
 use Rattle.std.proofs.Common.{◌≡◌, None, sym, ap, ◌∙◌, arith, inl, inr}
 use Rattle.xl_trie.proofs.Common.{Span, Name, span_of, spans, IsKid, Becomes}
 use Rattle.xl_trie.proofs.Leaving.{dropped, dropped_half, dropped_root}

@@ -1,3 +1,4 @@
+-- parent, node and child end at different depths, so they differ, and a lone child can take the node's place
 use Rattle.std.proofs.Common.{◌≡◌, ◌≢◌, not, List, length, Option, Some, None, IsSome, sym, ap, subst, ◌∙◌, arith, inl, inr}
 use Rattle.xl_trie.proofs.Common.{Header, Vote, AreLedgers, Slot, get, Name, Node, Span, span_of, spans, IsKid, IsNeeded, IsTrieBut, way}
 use Rattle.xl_trie.proofs.Leaving.{merged, merged_root, all_needed}

@@ -1,3 +1,4 @@
+-- a child that ends on the way is deeper, and if none does, the span reached is the deepest that does
 use Rattle.std.proofs.Common.{◌-◌, ◌^◌, ◌<◌, sym, subst, ◌∙◌, arith}
 use Rattle.xl_trie.proofs.Common.{seq_at, spans, IsKid}
 use Rattle.xl_trie.proofs.Listing.{some_is}

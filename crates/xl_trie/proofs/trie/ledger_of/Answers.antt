@@ -1,3 +1,4 @@
+-- no vote passed is the member's, and the member has voted, so its vote comes before the end
 use Rattle.std.proofs.Common.{◌==◌, ◌||◌, List, get_or, refl, sym, ap, subst, ◌∙◌}
 use Rattle.xl_trie.proofs.Common.{eqb-true, list_any_more, Vote, has_voted, In, take_all}
 use Rattle.xl_trie.proofs.Listing.{in_at, true_false}

@@ -1,3 +1,4 @@
+-- no span ends at the ledger, and its way enters none below, so a leaf for it hangs at the nearest span above
 use Rattle.std.proofs.Common.{◌≢◌, Some, None, sym, ap, subst, ◌∙◌, arith}
 use Rattle.xl_trie.proofs.Common.{eqb-false, seq_at, Span, leaf_of, spans, Becomes, IsBegin}
 use Rattle.xl_trie.proofs.Coming.{leaf_spans}

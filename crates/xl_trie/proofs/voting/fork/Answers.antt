@@ -1,3 +1,4 @@
+-- the way leaves the span at their last common ledger, at which no span ended, so the front can end there
 use Rattle.std.proofs.Common.{◌≡◌, ◌<◌, List, length, subst}
 use Rattle.xl_trie.proofs.Common.{Vote, IsTrie, EntersAt, Walked, common_of, spans}
 use Rattle.xl_trie.proofs.Splitting.{Forked, deeper_under, forked}

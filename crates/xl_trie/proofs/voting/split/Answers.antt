@@ -1,3 +1,4 @@
+-- the new name was free, so it isn't the child's, and each step changes the span of one name only
 use Rattle.std.proofs.Common.{◌≢◌, Some, None, refl, sym, ap, ◌∙◌}
 use Rattle.xl_trie.proofs.Common.{Span, spans, hung_at}
 use Rattle.xl_trie.proofs.Listing.{some_is, none_some}

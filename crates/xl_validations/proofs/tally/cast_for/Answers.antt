@@ -1,3 +1,4 @@
+-- row by row votes turn from those without the newest ledger to those with it, each beside the other rows' votes
 use Rattle.std.proofs.Common.{◌+◌, ◌++◌, sym, subst, ℕ, List, take, drop, arith, Option}
 use Rattle.xl_ledger.specs.declared.header.Header.{Header}
 use Rattle.xl_validations.specs.declared.row.Row.{Row}

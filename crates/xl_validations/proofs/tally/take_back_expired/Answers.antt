@@ -1,3 +1,4 @@
+-- row by row the expired votes go, each beside the other rows', and the votes at that second are left
 use Rattle.std.proofs.Common.{◌+◌, ◌++◌, sym, ℕ, List, take, drop, arith, Option}
 use Rattle.xl_ledger.specs.declared.header.Header.{Header}
 use Rattle.xl_validations.specs.declared.row.Row.{Row}

@@ -1,3 +1,4 @@
+-- row by row the votes of members off the list go, each beside the others', and the new rows' votes are left
 use Rattle.std.proofs.Common.{◌+◌, ◌++◌, sym, ℕ, List, take, drop, arith, Option}
 use Rattle.xl_ledger.specs.declared.header.Header.{Header}
 use Rattle.xl_validations.specs.declared.row.Row.{Row}

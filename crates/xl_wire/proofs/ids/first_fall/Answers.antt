@@ -1,3 +1,4 @@
+-- no id passed falls, and what is compared are the ids at two neighbouring places, as they lie in the bytes
 use Rattle.std.proofs.Common.{◌≡◌, ℕ, List, ◌≤◌, ◌+◌, ◌-◌, ◌*◌, ◌/◌, length, take, drop, refl, sym, ap, ◌∙◌, arith}
 use Rattle.std.proofs.lemmas.List.{drop-drop}
 use Rattle.xl_wire.proofs.SetLaws.{before_is, fall_here, fall_later}

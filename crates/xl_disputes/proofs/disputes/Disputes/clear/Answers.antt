@@ -1,3 +1,4 @@
+-- without positions what lies above the last place is as unused as before, and weights change no set
 use Rattle.std.proofs.Common.{List, length, Option, vec_capacity, sym, ap, subst, ◌∙◌}
 use Rattle.xl_base.specs.declared.ids.SetId.{SetId}
 use Rattle.xl_disputes.specs.Disputes.{without_positions}

@@ -1,3 +1,4 @@
+-- a set and a position that go leave what lies above the last place unused, and weights change no set
 use Rattle.std.proofs.Common.{◌-◌, None, vec_capacity, set, ap, sym, subst, ◌∙◌}
 use Rattle.std.proofs.lemmas.List.{length-set}
 use Rattle.xl_disputes.specs.Disputes.{Known, without_member}

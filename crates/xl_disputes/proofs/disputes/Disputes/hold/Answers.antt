@@ -1,3 +1,4 @@
+-- the last place is no lower than the member's, so none above it has a set, and weights change no set
 use Rattle.std.proofs.Common.{Some, vec_capacity, ap, sym, subst, ◌∙◌, arith}
 use Rattle.xl_disputes.specs.Disputes.{with_held}
 use Rattle.xl_disputes.specs.Holdings.{with_set}

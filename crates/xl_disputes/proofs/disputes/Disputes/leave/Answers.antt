@@ -1,3 +1,4 @@
+-- a position that goes leaves what lies above the last place unused, and weights change no set
 use Rattle.std.proofs.Common.{None, vec_capacity, set, ap, ◌∙◌}
 use Rattle.std.proofs.lemmas.List.{length-set}
 use Rattle.xl_disputes.specs.Disputes.{without_position}

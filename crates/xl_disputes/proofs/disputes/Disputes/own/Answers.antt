@@ -1,3 +1,4 @@
+-- our own set is at place 0, so what lies above the last place stays unused, and weights change no set
 use Rattle.std.proofs.Common.{Some, vec_capacity, ap, sym, subst, ◌∙◌, arith}
 use Rattle.xl_disputes.specs.Disputes.{with_own}
 use Rattle.xl_disputes.specs.Holdings.{with_set}

@@ -1,3 +1,4 @@
+-- the last place is no lower than the member's, so what lies above it is unused, and weights change no set
 use Rattle.std.proofs.Common.{Some, vec_capacity, set, ap, ◌∙◌, arith}
 use Rattle.std.proofs.lemmas.List.{length-set}
 use Rattle.xl_disputes.specs.Disputes.{with_position}

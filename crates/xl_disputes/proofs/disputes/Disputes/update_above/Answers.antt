@@ -1,3 +1,4 @@
+-- what is picked are the winners, each of them in a counted set, and they are put if they aren't our set
 use Rattle.std.proofs.Common.{◌≡◌, Some, vec_capacity, ap, sym, subst, ◌∙◌, arith}
 use Rattle.std.specs.Prelude.{◌↔◌, ◌≢◌, IsTrue, IsFalse}
 use Rattle.xl_disputes.specs.Disputes.{Known, with_own}

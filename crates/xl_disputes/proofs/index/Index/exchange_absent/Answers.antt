@@ -1,3 +1,4 @@
+-- an id without a row has nothing, so what it gets is all it has, and its row comes if it is in a set then
 use Rattle.std.proofs.Common.{◌≡◌, ◌<◌, ◌∙◌, length, sym, subst, ap, arith}
 use Rattle.xl_disputes.specs.Tallies.{held_by, exchanged, IsWithin, IsFitting}
 use Rattle.xl_disputes.specs.Rows.{tally_of, with_exchange, IsAbsent}

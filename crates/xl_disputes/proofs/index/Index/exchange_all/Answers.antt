@@ -1,3 +1,4 @@
+-- ids that rise come once each, so the one whose turn it is still has what it had at first
 use Rattle.std.proofs.Common.{[], get_or, refl}
 use Rattle.xl_disputes.proofs.ExchangingAll.{can_within, can_fit, can_have_room, exchanges_more}
 use Rattle.xl_disputes.proofs.index.Index.exchange_all.Goals as goal

@@ -1,3 +1,4 @@
+-- the row at the place is all that the id has: it is written anew, or goes once the id is in no set
 use Rattle.std.proofs.Common.{◌≡◌, ◌∙◌, sym, subst, ap}
 use Rattle.xl_disputes.specs.Tallies.{exchanged, IsWithin, IsFitting}
 use Rattle.xl_disputes.specs.Rows.{tally_of, with_exchange, IsThere}

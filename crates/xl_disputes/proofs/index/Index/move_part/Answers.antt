@@ -1,3 +1,4 @@
+-- ids that rise have one row each, so the part moves row by row as it does id by id, and empty rows are swept
 use Rattle.std.proofs.Common.{sym, subst}
 use Rattle.xl_disputes.specs.Rows.{IsMovable, Moves}
 use Rattle.xl_disputes.proofs.Walking.{each_within, each_fits, between_rises, has_moved}

@@ -1,3 +1,4 @@
+-- what is left is a front of the old rows, so it rises too, and its last row goes until there is none
 use Rattle.std.proofs.Common.{◌≡◌, ◌-◌, suc, take, length, sym, ap, subst, ◌∙◌, arith}
 use Rattle.std.proofs.lemmas.List.{take_all, length-take-le}
 use Rattle.std.specs.List.{remove}

@@ -1,3 +1,4 @@
+-- rows rise, so each place has a name of its own, and only the row whose name is given back goes
 use Rattle.std.proofs.Common.{vec_capacity, length, sym, ap, subst, ◌∙◌, arith}
 use Rattle.std.proofs.lemmas.List.{length-map}
 use Rattle.std.specs.List.{remove}

@@ -1,3 +1,4 @@
+-- a name still finds its row exactly if that row is held, and the names that stay keep their order
 use Rattle.std.proofs.Common.{rules, ◌≡◌, vec_capacity, length, ap, ◌∙◌, subst, arith}
 use Rattle.std.specs.Prelude.{filter, is_some}
 use Rattle.std.proofs.lemmas.Fn.{filter_same}

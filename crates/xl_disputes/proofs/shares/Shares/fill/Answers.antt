@@ -1,3 +1,4 @@
+-- the place had no ids, so what it gives can be added at each id of its set, and the index is the sum again
 use Rattle.std.proofs.Common.{◌≡◌, [], get_or, ◌∙◌, ap}
 use Rattle.std.specs.Prelude.{Some}
 use Rattle.xl_disputes.specs.Holdings.{with_set, ids_in}

@@ -1,3 +1,4 @@
+-- the index has for each id what all places give it, so its rows that win are the ids of our next set
 use Rattle.std.proofs.Common.{◌≡◌, take, ap, sym, subst, ◌∙◌}
 use Rattle.std.specs.Prelude.{filter}
 use Rattle.xl_base.specs.Sets.{IsSet}

@@ -1,3 +1,4 @@
+-- each id that comes is in some set and so has a row, and the place's part moves there from the ids that go
 use Rattle.std.proofs.Common.{◌≡◌, true, ap, ◌∙◌}
 use Rattle.std.specs.Prelude.{Some, flat_map}
 use Rattle.xl_base.specs.declared.ids.TxId.{TxId}

@@ -1,3 +1,4 @@
+-- emptied places are told by their bits, which stay, and our own gets the empty set again
 use Rattle.std.proofs.Common.{◌≡◌, List, [], ◌++◌, length, map, take, drop, set, ap, refl, ◌∙◌, arith}
 use Rattle.std.proofs.lemmas.List.{length-map}
 use Rattle.xl_disputes.specs.Holdings.{Holding, no_holding, no_holdings}

@@ -1,3 +1,4 @@
+-- each position adds one at the place at which it stands, so no weight exceeds the positions passed
 use Rattle.std.proofs.Common.{◌+◌, ◌≤◌, List, ℕ, None, get_or, replicate, refl, ap, sym, subst, ◌∙◌, arith}
 use Rattle.std.specs.Prelude.{All, Option}
 use Rattle.std.proofs.lemmas.List.Sums.{fold_more}

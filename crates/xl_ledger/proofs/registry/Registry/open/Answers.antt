@@ -1,3 +1,4 @@
+-- no ledger and no bucket is in use before the root is put, and the least limit has room for it
 use Rattle.std.proofs.Common.{ℕ, Option, None, length, replicate, sym, ap, ◌∙◌, arith}
 use Rattle.std.proofs.lemmas.List.{length-map, length-replicate}
 use Rattle.xl_ledger.specs.Registries.{Ledgers}

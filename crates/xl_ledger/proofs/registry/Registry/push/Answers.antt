@@ -1,3 +1,4 @@
+-- the jumps follow from the parent's, and the bucket leads to the new ledger and on to the one before it
 use Rattle.std.proofs.Common.{◌≡◌, ℕ, List, Option, length, set, sym, ap, subst, vec_capacity, ◌∙◌, arith}
 use Rattle.std.proofs.lemmas.List.{length-map}
 use Rattle.xl_ledger.specs.declared.header.Header.{Header}

@@ -1,3 +1,4 @@
+-- once cleared, ledgers and buckets are as at the opening, and the room and the limit stay
 use Rattle.std.proofs.Common.{length, sym, ap, ◌∙◌, arith}
 use Rattle.std.proofs.lemmas.List.{length-map}
 use Rattle.xl_ledger.specs.Registries.{Ledgers, only_root}

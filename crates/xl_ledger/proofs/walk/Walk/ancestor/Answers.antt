@@ -1,3 +1,4 @@
+-- each jump takes the highest bit off what is left to climb, and two jumps of one level are one of the next
 use Rattle.std.proofs.Common.{arith}
 use Rattle.xl_ledger.proofs.Climbing.{climbs_from, bit_within, falls, climbs_on, has_climbed, climbed_to, stood}
 use Rattle.xl_ledger.proofs.walk.Walk.ancestor.Goals as goal

@@ -1,3 +1,4 @@
+-- what two ledgers share has at most the lesser of their sequences, so bringing both to it loses nothing
 use Rattle.std.proofs.Common.{ℕ, ap, arith}
 use Rattle.xl_ledger.specs.Chains.{seq_at}
 use Rattle.xl_ledger.proofs.Climbing.{leveled_left, leveled_right, steps_right, stands_right}

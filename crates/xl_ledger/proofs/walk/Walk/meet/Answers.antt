@@ -1,3 +1,4 @@
+-- the two stay apart, and a jump of the level would bring them together, so at the end their parent is shared
 use Rattle.std.proofs.Common.{◌≡◌, ◌≢◌, ◌+◌, ◌-◌, ◌≤◌, sym, ap, ◌∙◌, arith, inr}
 use Rattle.xl_ledger.specs.Registries.{Ledgers}
 use Rattle.xl_ledger.specs.Chains.{common_of}

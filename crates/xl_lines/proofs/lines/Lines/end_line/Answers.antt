@@ -1,3 +1,4 @@
+-- the line keeps the limit and has no newline in it, so with its newline it is the next whole line that is told
 use Rattle.std.proofs.Common.{ap, ◌∙◌, arith}
 use Rattle.xl_lines.specs.declared.machine.Next.TheVariants as next
 use Rattle.xl_lines.specs.Lines.{before_newline}

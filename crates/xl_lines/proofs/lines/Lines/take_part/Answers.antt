@@ -1,3 +1,4 @@
+-- the bytes up to the first newline belong to the line: it is too long with them, or ends there, or goes on
 use Rattle.std.proofs.Common.{◌≡◌, ◌+◌, ◌<◌, ◌∷◌, ◌++◌, ℕ, List, true, false, is_some, not, length, drop, ap, ◌∙◌, arith}
 use Rattle.xl_lines.specs.declared.limits.Overrun.TheVariants.{LongLine}
 use Rattle.xl_lines.specs.Rules.{refused}

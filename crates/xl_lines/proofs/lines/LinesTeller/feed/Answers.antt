@@ -1,3 +1,4 @@
+-- each part leaves to tell what is told of the bytes behind it, and a line that has only begun tells nothing
 use Rattle.xl_lines.specs.Running.{soon_at}
 use Rattle.std.proofs.Common.{◌∙◌, sym, ◌+◌, ◌-◌, ◌≤◌, ℕ, arith, length-drop}
 use Rattle.std.proofs.lemmas.Bool.{eqb-true}

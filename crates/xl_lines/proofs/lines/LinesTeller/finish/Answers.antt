@@ -1,3 +1,4 @@
+-- at the end a line that has begun is the last one, handed on whole, and behind the last line the closing is told
 use Rattle.std.proofs.Common.{◌≡◌, ◌<◌, length, arith}
 use Rattle.std.proofs.lemmas.Result.{IfOk-weaker}
 use Rattle.std.proofs.lemmas.Bool.Decides.{nat_tests}

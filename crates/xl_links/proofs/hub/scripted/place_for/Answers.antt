@@ -1,3 +1,4 @@
+-- none of the links passed is to the member, so the first one that is decides
 use Rattle.std.proofs.Common.{◌≡◌, length, arith, subst}
 use Rattle.std.proofs.lemmas.Bool.Decides.{nat_tests}
 use native.Mathlib.Numerals.{unary_clauses}

@@ -1,3 +1,4 @@
+-- the places so far are the marked numbers that were passed, and these are no more than the numbers passed
 use Rattle.std.proofs.Common.{◌≡◌, ◌++◌, ◌≤◌, ◌-◌, ◌+◌, ℕ, List, [], ◌∷◌, Bool, length, take, ap, sym, subst, ◌∙◌, arith}
 use Rattle.std.proofs.lemmas.List.{take_more_set, length-set, length_push}
 use Rattle.xl_lists.specs.Marks.{is_marked, marked}

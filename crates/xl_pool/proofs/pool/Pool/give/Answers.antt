@@ -1,3 +1,4 @@
+-- a name that finds a value has its slot in memory, which, once empty, leads to the slots that were free before
 use Rattle.std.proofs.Common.{IsSome, is_some, map, sym, ap, ◌∙◌, ◌≤◌, ◌≡◌, Some, length, subst, arith}
 use Rattle.xl_pool.specs.Pools.{get}
 use Rattle.xl_pool.specs.Entries.{all_of, freed, link_of, seen}

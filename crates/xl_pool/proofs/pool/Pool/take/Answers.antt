@@ -1,3 +1,4 @@
+-- the first free slot is in memory once touched, exactly if one is free, and the one after it is first from then on
 use Rattle.std.proofs.Common.{inl, inr, refl, ap, map, length, sym, subst, ◌∙◌, ◌+◌, ◌-◌, ◌<◌, ◌≤◌, ◌≡◌, Some, arith}
 use Rattle.std.proofs.lemmas.Bool.{cases_lt}
 use Rattle.std.proofs.lemmas.List.{length-append}

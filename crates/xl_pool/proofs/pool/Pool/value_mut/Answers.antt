@@ -1,3 +1,4 @@
+-- a name that finds a value has its slot in memory, and a value written anew changes no count and no free slot
 use Rattle.std.proofs.Common.{refl, ap, map, sym, ◌∙◌, arith}
 use Rattle.xl_pool.specs.Entries.{all_of, holding, seen}
 use Rattle.xl_pool.proofs.Soundness.{found_entry, seen_held, IsSound-rewritten}

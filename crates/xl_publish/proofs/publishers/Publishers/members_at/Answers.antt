@@ -1,3 +1,4 @@
+-- the members so far are the supported numbers that were passed, so they rise and are no more than these
 use Rattle.std.proofs.Common.{◌≡◌, ◌++◌, ℕ, List, [], ◌∷◌, Bool, ap, sym, subst, ◌∙◌, arith, length}
 use Rattle.xl_publish.specs.Forces.{is_supported}
 use Rattle.xl_publish.specs.Rolls.{RisesFrom}

@@ -1,3 +1,4 @@
+-- what waits for a reader is the end of the items, so its oldest stands as far from the end as these are many
 use Rattle.std.proofs.Common.{◌≡◌, ◌-◌, ◌∙◌, List, ap, subst, sym, length, arith}
 use Rattle.std.specs.Prelude.{slice_get}
 use Rattle.xl_queues.specs.declared.broadcast.Reader.{Reader}

@@ -1,3 +1,4 @@
+-- what waits for a reader is what was pushed since its count, so a later count leaves it the last items
 use Rattle.std.proofs.Common.{◌≤◌, List, ap, subst, sym, length, ◌∙◌, arith}
 use Rattle.xl_queues.specs.declared.broadcast.Reader.{Reader}
 use Rattle.xl_queues.specs.Queues.{Backlog}

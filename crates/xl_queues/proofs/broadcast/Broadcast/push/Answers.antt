@@ -1,3 +1,4 @@
+-- counting anew changes no reader's queue, and the last N of the last N items and one more are the last N of all
 use Rattle.std.proofs.Common.{◌≡◌, ◌≤◌, ℕ, List, length, map, ap, sym, subst, ◌∙◌, arith, refl, ◌++◌, ◌∷◌, []}
 use Rattle.std.specs.Prelude.{All}
 use Rattle.circular_buffer.specs.Buffer.{Buffer, keep_last}

@@ -1,3 +1,4 @@
+-- an id that isn't among them goes behind all that are below it, so they still rise, and there is room
 use Rattle.std.proofs.Common.{◌≡◌, arith, ap, ◌∙◌, subst, sym, length}
 use Rattle.std.specs.Prelude.{is_ok, insert}
 use Rattle.std.proofs.lemmas.Bool.{cond-true}

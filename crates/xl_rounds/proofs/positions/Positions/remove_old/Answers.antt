@@ -1,3 +1,4 @@
+-- places passed over have no position, which removing leaves as it is, so each place is changed as if in turn
 use Rattle.std.proofs.Common.{◌≡◌, ◌+◌, ◌++◌, arith, ap, refl, sym, subst, ◌∙◌, length, map, take, drop, List, Option, None}
 use Rattle.xl_wire.specs.declared.proposal.Proposal.{Proposal}
 use Rattle.xl_rounds.specs.Positions.{Positions, unless_old}

@@ -1,3 +1,4 @@
+-- the disputes know which sets the positions name, so their winners are our next set
 use Rattle.std.proofs.Common.{◌≡◌, ap, ◌∙◌}
 use Rattle.std.specs.Prelude.{not}
 use Rattle.xl_disputes.specs.Disputes.{Known}

@@ -1,3 +1,4 @@
+-- the lines of a heartbeat come in the order of the definition, each on the round that the one before left
 use Rattle.std.proofs.Common.{ap, ◌∙◌}
 use Rattle.xl_rounds.specs.Heartbeats.{HeartbeatReply}
 use Rattle.xl_rounds.proofs.HeartbeatLaws.{with_ready, heartbeat_of, AreLines, told_by, left_by, decided_first}

@@ -1,3 +1,4 @@
+-- places passed over keep nothing for later, so all members are handed in turn, and the round stays on its ledger
 use Rattle.std.proofs.Common.{◌≡◌, ◌+◌, arith, ap, subst, ◌∙◌}
 use Rattle.xl_rounds.specs.declared.setting.Setting.{Setting}
 use Rattle.xl_rounds.specs.Rounds.{Round, on_ledger}

@@ -1,3 +1,4 @@
+-- a member's key is the one that was put at its place, or else the schedule's, if there is a schedule
 use Rattle.std.proofs.Common.{◌≡◌, Some, None, ap, sym, ◌∙◌}
 use Rattle.std.specs.Prelude.{option_copied}
 use Rattle.xl_tags.specs.Rings.{Ring, key_of, schedule_key}

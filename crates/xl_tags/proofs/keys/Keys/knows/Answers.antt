@@ -1,3 +1,4 @@
+-- a number's key is the one that was put, or else the schedule's, if there is a schedule
 use Rattle.std.proofs.Common.{◌≡◌, ap, ◌∙◌, sym}
 use Rattle.std.specs.Prelude.{is_some}
 use Rattle.xl_tags.specs.Rings.{Ring, key_of, schedule_key}

@@ -1,3 +1,4 @@
+-- no number passed is a missing member's, and of the numbers from here on the first that is decides
 use Rattle.std.proofs.Common.{◌≡◌, ◌-◌, ◌+◌, ℕ, ap, sym, ◌∙◌, arith, None, Some}
 use Rattle.std.specs.Prelude.{find}
 use Rattle.std.specs.List.{range_with_len}

@@ -1,3 +1,4 @@
+-- a put key stands at its member's place and comes before a schedule's, and other places stay
 use Rattle.std.proofs.Common.{◌≡◌, ◌≤◌, ◌-◌, ℕ, List, Some, set, ap, ◌∙◌, arith}
 use Rattle.xl_tags.specs.Rings.{Ring, key_of, with_key}
 use Rattle.xl_tags.specs.Sources.{ring_from}

@@ -1,3 +1,4 @@
+-- the number has a key, so if none was put, the schedule gives one
 use Rattle.std.proofs.Common.{◌≡◌, ℕ, List, Some, None, true, false, ap, sym, ◌∙◌}
 use Rattle.std.specs.Prelude.{option_copied, option_map, is_some}
 use Rattle.xl_tags.specs.Macs.{mac}

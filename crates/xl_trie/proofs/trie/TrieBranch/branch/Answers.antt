@@ -1,3 +1,4 @@
+-- all ledgers inside a span have the span's votes, and a ledger in no span has none
 use Rattle.std.proofs.Common.{◌≢◌, ◌≡◌, ◌==◌, ℕ, List, Option, Some, None, false, sym, ap, subst, ◌∙◌}
 use Rattle.xl_trie.proofs.Common.{eqb-false, Header, Name, Place, Span, IsPlace, EntersAt, spans, IsKid}
 use Rattle.xl_trie.proofs.Listing.{some_is}

@@ -1,3 +1,4 @@
+-- a vote has a span that ends at its ledger, and once it is counted off, no other node can have become needless
 use Rattle.std.proofs.Common.{◌≡◌, ◌<◌, List, length, Some, None, sym, subst, arith}
 use Rattle.xl_trie.proofs.Common.{AreLedgers, Header, IsChange, Node, OneFewer, Place, Slot, Span, Vote, without, In, Apart, IsPlace, GoesWith, IsTrie, IsTrieBut, spans}
 use Rattle.xl_trie.proofs.Leaving.{less_known}

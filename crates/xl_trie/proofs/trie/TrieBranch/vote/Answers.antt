@@ -1,3 +1,4 @@
+-- nodes are at most twice the votes and one, so there is room, and the node of the ledger is needed by its vote
 use Rattle.std.proofs.Common.{◌≡◌, ◌==◌, ◌∷◌, ◌++◌, List, [], Some, refl, sym, ap, subst, ◌∙◌, arith, inl, inr}
 use Rattle.xl_trie.proofs.Common.{eq-eqb, Vote, Span, spans, GoesWith}
 use Rattle.xl_trie.proofs.Leaving.{all_needed}

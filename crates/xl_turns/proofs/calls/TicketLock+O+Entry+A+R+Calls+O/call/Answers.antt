@@ -1,3 +1,4 @@
+-- the page is the one entry asked, answered by the object's step, so it leads from the object found to the one left
 use Rattle.std.proofs.Common.{◌≡◌, ◌∷◌, ◌++◌, [], List, Some, None, ap, ◌∙◌}
 use Rattle.xl_turns.specs.declared.calls.Entry.{Entry}
 use Rattle.xl_turns.proofs.Calling.{leads_on, called}

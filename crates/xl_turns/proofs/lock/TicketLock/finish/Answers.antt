@@ -1,3 +1,4 @@
+-- the journal in hand is the whole one, and one legal entry more leads on to the object as it is left
 use Rattle.std.proofs.Common.{◌≡◌, ◌∷◌, ◌++◌, [], List, length, ap, ◌∙◌, sym, subst, arith}
 use Rattle.xl_turns.specs.declared.view.Held.{Held}
 use Rattle.xl_turns.specs.Histories.{Runs, IsLegal}

@@ -1,3 +1,4 @@
+-- a member's row is the first of its number, so what the row at that place answers and becomes is the member's
 use Rattle.std.proofs.Common.{◌≡◌, ◌∙◌, ap, sym, Some, set}
 use Rattle.std.specs.Result.{result_err, OnOk}
 use Rattle.std.specs.Prelude.{position, ◌==◌}

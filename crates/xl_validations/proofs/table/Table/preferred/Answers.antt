@@ -1,3 +1,4 @@
+-- the branch has the votes of the rows in some order, and what is preferred depends on their counts alone
 use Rattle.std.proofs.Common.{◌∙◌, ◌<◌, ℕ, Option, length, sym, ap, subst}
 use Rattle.std.specs.Prelude.{IfSome}
 use Rattle.xl_ledger.proofs.Orders.{preferred_alike}

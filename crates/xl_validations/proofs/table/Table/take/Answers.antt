@@ -1,3 +1,4 @@
+-- the member's vote stands beside those of the others before and after, and no other row changes
 use Rattle.std.proofs.Common.{sym, subst, ℕ, List, Option}
 use Rattle.std.specs.Prelude.{IsSome}
 use Rattle.xl_validations.specs.declared.row.Row.{Row}

@@ -1,3 +1,4 @@
+-- what is copied is the front of the bytes not yet given, and those behind it are left
 use Rattle.std.proofs.Common.{◌≡◌, Some, ap, arith, refl, inl, length, take, drop}
 use Rattle.std.proofs.lemmas.Grind.{common_steps}
 use Rattle.xl_io.proofs.Pieces.{front_and_rest}
