@@ -167,7 +167,7 @@ cuts_torn w at new a_ask i e fate k a s its is held answers asked = by_place (pl
     by_place None here none is_answer = absurd (no_keeper k none)
     by_place (Some p) here kept is_answer =
         let same : k ≡ p.keeper = same_keeper k p.keeper kept in
-        let asks : core_asks p.core e ≡ Some s = sym is_answer.1 ∙ asked in
+        let asks : core_asks p.core e ≡ Some s = sym is_answer.asked ∙ asked in
         let cut : cut_steps w at new i e ≡ steps_at w at (what.Cut new a_ask) = ap (λ (j : ℕ). cut_steps w at new j e) its ∙ ap (λ (x : CoreEvent). cut_steps w at new (node_asked a_ask) x) is in
         record {
           world = ap (λ (x : Keeper). with_places w (put_again at (restored x (left_by x new (Some s))) (place_at i (acted_at i e fate w.places)) (acted_at i e fate w.places))) same
@@ -190,7 +190,7 @@ cuts_none w v at new a_ask i e fate k a its is held answers asked unsent noted_s
     by_place None here none is_answer = absurd (no_keeper k none)
     by_place (Some p) here kept is_answer =
         let same : k ≡ p.keeper = same_keeper k p.keeper kept in
-        let asks : core_asks p.core e ≡ None = sym is_answer.1 ∙ asked in
+        let asks : core_asks p.core e ≡ None = sym is_answer.asked ∙ asked in
         let fair : is_forged w p.core.node e ≡ false = ap (is_forged w p.core.node) is ∙ asked_fair at a_ask w p.core.node in
         let cut : cut_steps w at new i e ≡ steps_at w at (what.Cut new a_ask) = ap (λ (j : ℕ). cut_steps w at new j e) its ∙ ap (λ (x : CoreEvent). cut_steps w at new (node_asked a_ask) x) is in
         record {

@@ -11,8 +11,7 @@ use Rattle.xl_world.specs.declared.act.NodeAnswer.{NodeAnswer}
 use Rattle.xl_world.specs.declared.place.Place.{Place}
 use Rattle.xl_world.specs.declared.place.Fate.{Fate}
 use Rattle.xl_world.specs.Keeper.{answer_of}
-use Rattle.xl_world.specs.World.{place_at, put, reply_at, set_by}
-use Rattle.xl_core.specs.Core.{core_asks}
+use Rattle.xl_world.specs.World.{place_at, put}
 use Rattle.xl_world.specs.declared.place.Keeper.{Keeper}
 use Rattle.xl_world.specs.Seen.{IsAnswer, place_again, put_again, place_after, place_drained, put_acted, put_drained, given_at, acted_at, Answers, AnswersAt}
 use Rattle.xl_world.proofs.Keeping.{core_keeps}
@@ -99,7 +98,7 @@ pub acted_nowhere : (xs : List Place) (i : ℕ) (e : CoreEvent) (fate : Fate) �
 acted_nowhere xs i e fate none = ap (λ o. put_acted e fate o xs) (sym (none_there xs i none))
 
 pub answered_there : (xs : List Place) (i k : ℕ) (e : CoreEvent) (fate : Fate) (d : Place) (a : NodeAnswer) → position (λ p. p.core.node.me == i) xs ≡ Some k →
-    IsAnswer (get_or xs k d).core.node.me a (reply_at (get_or xs k d) e fate) × (a.asked ≡ core_asks (get_or xs k d).core e) × (a.set ≡ set_by (get_or xs k d).core.node.me e (reply_at (get_or xs k d) e fate).answer) → AnswersAt i e fate xs (Some a)
+    IsAnswer (get_or xs k d) e fate a → AnswersAt i e fate xs (Some a)
 answered_there xs i k e fate d a found is = subst (λ o. Answers e fate o (Some a)) (sym (found_there xs i k d found)) is
 
 pub answered_nowhere : (xs : List Place) (i : ℕ) (e : CoreEvent) (fate : Fate) → position (λ p. p.core.node.me == i) xs ≡ None → AnswersAt i e fate xs None

@@ -13,7 +13,7 @@ use crate::forged::is_forged;
 use crate::lie::put_lie;
 use crate::members::Members;
 use crate::place::{Fate, Keeper, NodeCore, Place};
-use crate::settle::{push_some, tell, tell_heard_at};
+use crate::settle::{note_list, note_report, push_some, tell, tell_heard_at};
 use crate::traffic::Traffic;
 use crate::{Happened, InForce, Outcome, Plan, WorldReport, open};
 use std::alloc::Global;
@@ -107,18 +107,18 @@ impl Network {
     fn settle(
         &mut self,
         i: NodeNo,
-        answer: NodeAnswer,
+        answer: &NodeAnswer,
         told: &mut Vec<Outcome>,
     ) -> Result<(), OutOfMemory>
         requires rested { (p : _) → place_at i self.old.places ≡ Some p → IsRested p.core }
-        ensures world { OnOk result (self.new ≡ noted self.old i answer) }
-        ensures told { OnOk result (told.new.items ≡ told.old.items ++ outcomes_told i answer) }
+        ensures world { OnOk result (self.new ≡ noted self.old i answer.now) }
+        ensures told { OnOk result (told.new.items ≡ told.old.items ++ outcomes_told i answer.now) }
         ensures grows { Grows self.old self.new }
     {
-        tell(told, i, &answer)?;
+        tell(told, i, answer)?;
         push_some(&mut self.said, answer.said)?;
-        push_some(&mut self.reports, answer.report)?;
-        push_some(&mut self.lists, answer.set)?;
+        note_report(&mut self.reports, &self.places, i, &answer.report)?;
+        note_list(&mut self.lists, &self.places, i, answer.relisted)?;
         drain_at(
             self.alloc,
             &mut self.places,
@@ -148,7 +148,7 @@ impl Network {
         ensures grows { Grows self.old self.new }
     {
         match act_at(&mut self.places, i, at, deed, fate) {
-            Some(answer) => self.settle(i, answer, told),
+            Some(answer) => self.settle(i, &answer, told),
             None => Ok(()),
         }
     }
@@ -234,7 +234,7 @@ impl Network {
         let kept = frame.kept();
         let deed = Deed::Sent { to, kept };
         match act_at(&mut self.places, to, at, &deed, Fate::Saved) {
-            Some(answer) => self.settle(to, answer, told),
+            Some(answer) => self.settle(to, &answer, told),
             None => Ok(()),
         }
     }
@@ -347,7 +347,7 @@ impl Network {
         match answer.asked {
             Some(seq) => self.reopen(at, node, keeper.restored(keeper.left_by(new, seq))),
             None => {
-                self.settle(node, answer, told)?;
+                self.settle(node, &answer, told)?;
                 self.reopen(at, node, keeper.restored(keeper.found()))
             }
         }
