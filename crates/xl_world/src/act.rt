@@ -64,8 +64,8 @@ fn done_or_refused<T: Drop>(outcome: Result<T, Refusal>) -> Reaction
     }
 }
 
-/// Something happens at a core.
-fn happen(core: &mut NodeCore, now: Millis, deed: &Deed<'_>, keeper: &mut Fated) -> Reaction
+/// What a core says of what happens at it.
+fn react(core: &mut NodeCore, now: Millis, deed: &Deed<'_>, keeper: &mut Fated) -> Reaction
     requires moment { now ≤ greatest_millis }
     requires keys { core.old.node.keys ≡ schedule_ring core.old.node.me }
     requires may { MayDo core.old.node.me deed.now }
@@ -147,29 +147,31 @@ fn taken_report(core: &mut NodeCore) -> Option<Report>
     }
 }
 
-/// Something happens at a place, and the save that it asks, if any, meets a fate. The report that arises is taken.
-pub fn act(place: &mut Place, now: Millis, deed: &Deed<'_>, fate: Fate) -> NodeAnswer
-    requires moment { now ≤ greatest_millis }
-    requires rested { IsRested place.old.core }
-    requires may { MayDo place.old.core.node.me deed.now }
-    ensures place { place.new ≡ place_after place.old (deed_event now deed.now) fate }
-    ensures answer { IsAnswer place.old (deed_event now deed.now) fate result }
-{
-    let me = place.core.node().me();
-    let mut fated = Fated {
-        keeper: place.keeper,
-        fate,
-        asked: None,
-    };
-    let reaction = happen(&mut place.core, now, deed, &mut fated);
-    place.keeper = fated.keeper;
-    let report = taken_report(&mut place.core);
-    NodeAnswer {
-        reaction,
-        asked: fated.asked,
-        said: said_in(me, deed, &reaction),
-        report,
-        relisted: is_relisted(deed, &reaction),
+impl Place {
+    /// Something happens at the core, and the save that it asks, if any, meets a fate. The report that arises is taken.
+    pub fn happens(&mut self, now: Millis, deed: &Deed<'_>, fate: Fate) -> NodeAnswer
+        requires moment { now ≤ greatest_millis }
+        requires rested { IsRested self.old.core }
+        requires may { MayDo self.old.core.node.me deed.now }
+        ensures place { self.new ≡ place_after self.old (deed_event now deed.now) fate }
+        ensures answer { IsAnswer self.old (deed_event now deed.now) fate result }
+    {
+        let me = self.core.node().me();
+        let mut fated = Fated {
+            keeper: self.keeper,
+            fate,
+            asked: None,
+        };
+        let reaction = react(&mut self.core, now, deed, &mut fated);
+        self.keeper = fated.keeper;
+        let report = taken_report(&mut self.core);
+        NodeAnswer {
+            reaction,
+            asked: fated.asked,
+            said: said_in(me, deed, &reaction),
+            report,
+            relisted: is_relisted(deed, &reaction),
+        }
     }
 }
 
@@ -239,7 +241,7 @@ pub fn act_at(
     match position_of(places, i) {
         Some(k) => {
             let place = &mut places[k];
-            Some(act(place, now, deed, fate))
+            Some(place.happens(now, deed, fate))
         }
         None => None,
     }

@@ -22,14 +22,16 @@ pub fn keeper_at(places: &[Place], i: NodeNo) -> Option<Keeper>
     }
 }
 
-/// The node is opened anew with the number that this keeper holds, which is its own from then on.
-fn reopen(alloc: Global, place: &mut Place, now: Millis, keeper: Keeper) -> Result<(), OutOfMemory>
-    requires { now ≤ greatest_millis }
-    ensures { OnOk result (place.new ≡ place_again place.old now keeper) }
-{
-    place.core.reopen(alloc, now, keeper.in_force)?;
-    place.keeper = keeper;
-    Ok(())
+impl Place {
+    /// The node is opened anew with the number that this keeper holds, which is its own from then on.
+    fn reopen(&mut self, alloc: Global, now: Millis, keeper: Keeper) -> Result<(), OutOfMemory>
+        requires { now ≤ greatest_millis }
+        ensures { OnOk result (self.new ≡ place_again self.old now keeper) }
+    {
+        self.core.reopen(alloc, now, keeper.in_force)?;
+        self.keeper = keeper;
+        Ok(())
+    }
 }
 
 /// The node of a number, if there is one, is opened anew in its place.
@@ -46,7 +48,7 @@ pub fn reopen_at(
     match position_of(places, i) {
         Some(k) => {
             let place = &mut places[k];
-            reopen(alloc, place, now, keeper)
+            place.reopen(alloc, now, keeper)
         }
         None => Ok(()),
     }

@@ -10,7 +10,7 @@ use Rattle.xl_world.specs.declared.act.Deed.{Deed}
 use Rattle.xl_world.specs.declared.act.Reaction.TheVariants as reaction
 use Rattle.xl_world.specs.Seen.{Does, MayDo, deed_event}
 use Rattle.xl_world.proofs.Doing.{issue_does, peer_of, quiet_does, reacts_as, timer_does}
-use Rattle.xl_world.proofs.act.happen.Goals as goal
+use Rattle.xl_world.proofs.act.react.Goals as goal
 
 pub greet-requires : goal.greet-requires
 greet-requires c =
