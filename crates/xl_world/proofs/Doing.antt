@@ -1,4 +1,4 @@
--- What happens at a core whose keeper's save meets a fate: the core, what is said of it, and the keeper.
+-- What happens at a core whose disk's save meets a fate: the core, what is said of it, and the disk.
 use Rattle.std.proofs.Common.{◌≡◌, ◌≢◌, ℕ, ◌≤◌, Bool, true, false, List, [], refl, ap, sym, ◌∙◌, Option, Some, None, Result, Ok, Err}
 use Rattle.std.specs.Prelude.{◌==◌, IfSome, IsSome, if◌then◌else◌, is_some, nat_lt, option_map, option_to_list, unwrap_or}
 use Rattle.std.proofs.lemmas.Bool.{cond_both}
@@ -45,9 +45,9 @@ use Rattle.xl_world.specs.declared.act.Reaction.{Reaction}
 use Rattle.xl_world.specs.declared.act.Reaction.TheVariants as reaction
 use Rattle.xl_world.specs.declared.place.Fate.{Fate}
 use Rattle.xl_world.specs.declared.place.Fate.TheVariants.{Saved, Unwritten, Written}
-use Rattle.xl_world.specs.declared.place.Keeper.{Keeper}
+use Rattle.xl_world.specs.declared.place.Disk.{Disk}
 use Rattle.xl_world.specs.declared.saving.Fated.{Fated}
-use Rattle.xl_world.specs.Keeper.{after_save, answer_of, answers_ok}
+use Rattle.xl_world.specs.Disk.{after_save, answer_of, answers_ok}
 use Rattle.xl_world.specs.Seen.{Does, deed_event, is_relisted, list_now, reaction_of, reaction_to, said_by_beat, said_by_issued, said_in}
 use Rattle.xl_world.specs.World.{said_by, set_by}
 use Rattle.xl_world.proofs.Lying.{key_of_another}
@@ -60,8 +60,8 @@ peer_of me m low high other = ap is_some (key_of_another me m low high other)
 
 -- HOW A SAVE IS ANSWERED
 
--- as one is that meets the fate, where it is answered so and the count of faults is the keeper's
-met : (save : Save) (k : Keeper) (s : ℕ) (fate : Fate) → is_kept save ≡ answers_ok fate → ((count : ℕ) → save ≡ AnsweredFailed count → count ≡ (after_save k (Some s) fate).faults) → save ≡ answer_of k fate
+-- as one is that meets the fate, where it is answered so and the count of faults is the disk's
+met : (save : Save) (k : Disk) (s : ℕ) (fate : Fate) → is_kept save ≡ answers_ok fate → ((count : ℕ) → save ≡ AnsweredFailed count → count ≡ (after_save k (Some s) fate).faults) → save ≡ answer_of k fate
 met AnsweredOk k s Saved is counts = refl
 met AnsweredOk k s Unwritten is counts = cc
 met AnsweredOk k s Written is counts = cc
@@ -69,30 +69,30 @@ met (AnsweredFailed n) k s Saved is counts = cc
 met (AnsweredFailed n) k s Unwritten is counts = ap (λ (m : ℕ). AnsweredFailed m) (counts n refl)
 met (AnsweredFailed n) k s Written is counts = ap (λ (m : ℕ). AnsweredFailed m) (counts n refl)
 
--- what a save that is asked of a keeper under a fate leaves of it
+-- what a save that is asked of a disk under a fate leaves of it
 abbrev pub Gives : Fated → ℕ → Bool → Fated → Type 0
-Gives old seq ok new = (ok ≡ answers_ok old.fate) × (new.keeper ≡ after_save old.keeper (Some seq) old.fate) × (new.asked ≡ Some seq)
+Gives old seq ok new = (ok ≡ answers_ok old.fate) × (new.disk ≡ after_save old.disk (Some seq) old.fate) × (new.asked ≡ Some seq)
 
--- the keeper after an event that asks this save, or none
+-- the disk after an event that asks this save, or none
 pub record IsFated (asks : Option ℕ) (save : Save) (old new : Fated) : Type 0 where
-  pub keeper : new.keeper ≡ after_save old.keeper asks old.fate
+  pub disk : new.disk ≡ after_save old.disk asks old.fate
   pub asked : old.asked ≡ None → new.asked ≡ asks
-  pub answered : IfSome asks (λ s. save ≡ answer_of old.keeper old.fate)
+  pub answered : IfSome asks (λ s. save ≡ answer_of old.disk old.fate)
 
-pub fated : (asked : Option ℕ) (save : Save) (old new : Fated) → Saves Gives asked (is_kept save) old new → ((count : ℕ) → save ≡ AnsweredFailed count → count ≡ new.keeper.faults) → IsFated asked save old new
+pub fated : (asked : Option ℕ) (save : Save) (old new : Fated) → Saves Gives asked (is_kept save) old new → ((count : ℕ) → save ≡ AnsweredFailed count → count ≡ new.disk.faults) → IsFated asked save old new
 fated None save old new same counts = record {
-  keeper = ap (λ (f : Fated). f.keeper) same;
+  disk = ap (λ (f : Fated). f.disk) same;
   asked = λ none. ap (λ (f : Fated). f.asked) same ∙ none;
   answered = tt;
 }
 fated (Some s) save old new gives counts = record {
-  keeper = gives.1;
+  disk = gives.1;
   asked = λ _. gives.2;
-  answered = met save old.keeper s old.fate gives.0 (λ count is. counts count is ∙ ap (λ (k : Keeper). k.faults) gives.1);
+  answered = met save old.disk s old.fate gives.0 (λ count is. counts count is ∙ ap (λ (k : Disk). k.faults) gives.1);
 }
 
 -- what happens under that answer happens under the fate
-alike : (core : Core) (e : CoreEvent) (save : Save) (k : Keeper) (fate : Fate) → IfSome (core_asks core e) (λ s. save ≡ answer_of k fate) → core_happens core e save ≡ core_happens core e (answer_of k fate)
+alike : (core : Core) (e : CoreEvent) (save : Save) (k : Disk) (fate : Fate) → IfSome (core_asks core e) (λ s. save ≡ answer_of k fate) → core_happens core e save ≡ core_happens core e (answer_of k fate)
 alike core e save k fate answered = by (core_asks core e) refl answered
   where
     by : (asked : Option ℕ) → core_asks core e ≡ asked → IfSome asked (λ s. save ≡ answer_of k fate) → core_happens core e save ≡ core_happens core e (answer_of k fate)
@@ -120,11 +120,11 @@ beat_counts (timer_answer.NoRoom limit) old new counts count is = cc
 
 pub quiet_does : (core after : Core) (e : CoreEvent) (old : Fated) (told : Reaction) (a : Answer) → core_asks core e ≡ None → Answers (core_happens core e AnsweredOk) after a → told ≡ reaction_of a → Does core e old after told old
 quiet_does core after e old told a asks answers reacts =
-    let same : core_happens core e AnsweredOk ≡ core_happens core e (answer_of old.keeper old.fate) = unasked_alike core e AnsweredOk (answer_of old.keeper old.fate) asks in
+    let same : core_happens core e AnsweredOk ≡ core_happens core e (answer_of old.disk old.fate) = unasked_alike core e AnsweredOk (answer_of old.disk old.fate) asks in
     record {
       core = answers.core ∙ ap (λ (r : CoreReply). r.core) same;
       reaction = reacts ∙ ap reaction_of (answers.answer ∙ ap (λ (r : CoreReply). r.answer) same);
-      keeper = ap (λ (o : Option ℕ). after_save old.keeper o old.fate) (sym asks);
+      disk = ap (λ (o : Option ℕ). after_save old.disk o old.fate) (sym asks);
       asked = λ none. none ∙ sym asks;
     }
 
@@ -154,16 +154,16 @@ issue_counts : {X : Type 0} (r : Result X Refusal) (old new : ℕ) → CountsFau
 issue_counts (Ok done) old new counts count is = cc
 issue_counts (Err w) old new counts count is = (counts count (ap (λ (v : Refusal). Err v) (failed_why w count is))).1
 
-pub issue_does : {X : Type 0} (r : Result X Refusal) (core after : Core) (now seq : ℕ) (id : LedgerId) (full : Bool) (old new : Fated) (told : Reaction) → Issues core (Issue now seq id full) r after → CountsFault r old.keeper.faults new.keeper.faults →
+pub issue_does : {X : Type 0} (r : Result X Refusal) (core after : Core) (now seq : ℕ) (id : LedgerId) (full : Bool) (old new : Fated) (told : Reaction) → Issues core (Issue now seq id full) r after → CountsFault r old.disk.faults new.disk.faults →
     Saves Gives (asks_for core.node seq) (was_kept r) old new → told ≡ reaction_to r → Does core (Issue now seq id full) old after told new
 issue_does r core after now seq id full old new told answers counts saves reacts =
     let e : CoreEvent = Issue now seq id full in
-    let is : IsFated (asks_for core.node seq) (save_in r) old new = fated (asks_for core.node seq) (save_in r) old new saves (issue_counts r old.keeper.faults new.keeper.faults counts) in
-    let same : core_happens core e (save_in r) ≡ core_happens core e (answer_of old.keeper old.fate) = alike core e (save_in r) old.keeper old.fate is.answered in
+    let is : IsFated (asks_for core.node seq) (save_in r) old new = fated (asks_for core.node seq) (save_in r) old new saves (issue_counts r old.disk.faults new.disk.faults counts) in
+    let same : core_happens core e (save_in r) ≡ core_happens core e (answer_of old.disk old.fate) = alike core e (save_in r) old.disk old.fate is.answered in
     record {
       core = answers.core ∙ ap (λ (x : CoreReply). x.core) same;
       reaction = reacts ∙ (done_reacts r ∙ ap reaction_of (answers.answer ∙ ap (λ (x : CoreReply). x.answer) same));
-      keeper = is.keeper;
+      disk = is.disk;
       asked = is.asked;
     }
 
@@ -213,15 +213,15 @@ validating_told n h moved_on save =
     cond_both (validates n moved_on) (issuing_reply n h.seq (header_id h) (is_proposing n.round.setting.mode) save) (replying n AnsweredDone []) (TellsIssued h.seq (header_id h))
     (λ _. issuing_told n h.seq (header_id h) (is_proposing n.round.setting.mode) save) (λ _ member. refl)
 
-pub timer_does : (beat : TimerAnswer) (core after : Core) (now : ℕ) (old new : Fated) → Beaten core now beat after → CountsBeatFault beat old.keeper.faults new.keeper.faults →
+pub timer_does : (beat : TimerAnswer) (core after : Core) (now : ℕ) (old new : Fated) → Beaten core now beat after → CountsBeatFault beat old.disk.faults new.disk.faults →
     Saves Gives (core_asks core (Timer now)) (beat_was_kept beat) old new → Does core (Timer now) old after (reaction.TimerAnswer beat) new
 timer_does beat core after now old new answers counts saves =
-    let is : IsFated (core_asks core (Timer now)) (save_at beat) old new = fated (core_asks core (Timer now)) (save_at beat) old new saves (beat_counts beat old.keeper.faults new.keeper.faults counts) in
-    let same : core_happens core (Timer now) (save_at beat) ≡ core_happens core (Timer now) (answer_of old.keeper old.fate) = alike core (Timer now) (save_at beat) old.keeper old.fate is.answered in
+    let is : IsFated (core_asks core (Timer now)) (save_at beat) old new = fated (core_asks core (Timer now)) (save_at beat) old new saves (beat_counts beat old.disk.faults new.disk.faults counts) in
+    let same : core_happens core (Timer now) (save_at beat) ≡ core_happens core (Timer now) (answer_of old.disk old.fate) = alike core (Timer now) (save_at beat) old.disk old.fate is.answered in
     record {
       core = answers.core ∙ ap (λ (x : CoreReply). x.core) same;
       reaction = ap reaction_of (answers.answer ∙ ap (λ (x : CoreReply). x.answer) same);
-      keeper = is.keeper;
+      disk = is.disk;
       asked = is.asked;
     }
 

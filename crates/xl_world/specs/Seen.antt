@@ -35,7 +35,7 @@ use Rattle.xl_world.specs.declared.fork.Fork.{Fork}
 use Rattle.xl_world.specs.declared.outcome.Outcome.{Outcome}
 use Rattle.xl_world.specs.declared.outcome.Outcome.TheVariants.{Refused, Full}
 use Rattle.xl_world.specs.declared.place.Fate.{Fate}
-use Rattle.xl_world.specs.declared.place.Keeper.{Keeper}
+use Rattle.xl_world.specs.declared.place.Disk.{Disk}
 use Rattle.xl_world.specs.declared.place.Place.{Place}
 use Rattle.xl_world.specs.declared.plan.InForce.{InForce}
 use Rattle.xl_world.specs.declared.saving.Fated.{Fated}
@@ -43,9 +43,9 @@ use Rattle.xl_world.specs.Sending.{Sent}
 use Rattle.xl_world.specs.Emptying.{after_events, draining, given_by, handed_out}
 use Rattle.xl_world.specs.Forgeries.{forges}
 use Rattle.xl_world.specs.Forks as Forks
-use Rattle.xl_world.specs.Keeper.{after_save, answer_of}
+use Rattle.xl_world.specs.Disk.{after_save, answer_of}
 use Rattle.xl_world.specs.Schedule.{told_of_beat}
-use Rattle.xl_world.specs.World.{World, core_again, keeper_after, place_at, put, reply_at, reported_by, said_by, set_by}
+use Rattle.xl_world.specs.World.{World, core_again, disk_after, place_at, put, reply_at, reported_by, said_by, set_by}
 
 abbrev pub fork_seen : Fork → Forks.Fork
 fork_seen f = record { earlier = f.earlier.now; later = f.later.now }
@@ -119,12 +119,12 @@ is_relisted (deed.Relist list) (reaction.Refused why) = false
 is_relisted (deed.Relist list) other = true
 is_relisted other other_reaction = false
 
--- what an event does to a core, under a keeper whose save meets a fate
+-- what an event does to a core, under a disk whose save meets a fate
 pub record Does (before : Core) (event : CoreEvent) (old : Fated) (after : Core) (told : Reaction) (new : Fated)
     : Type 0 where
-  pub core : after ≡ (core_happens before event (answer_of old.keeper old.fate)).core
-  pub reaction : told ≡ reaction_of (core_happens before event (answer_of old.keeper old.fate)).answer
-  pub keeper : new.keeper ≡ after_save old.keeper (core_asks before event) old.fate
+  pub core : after ≡ (core_happens before event (answer_of old.disk old.fate)).core
+  pub reaction : told ≡ reaction_of (core_happens before event (answer_of old.disk old.fate)).answer
+  pub disk : new.disk ≡ after_save old.disk (core_asks before event) old.fate
   pub asked : old.asked ≡ None → new.asked ≡ core_asks before event
 
 -- the list in force at a node
@@ -142,7 +142,7 @@ pub record IsAnswer (p : Place) (e : CoreEvent) (fate : Fate) (a : NodeAnswer) :
 
 -- a place after an event, of which the report was handed out
 abbrev pub place_after : Place → CoreEvent → Fate → Place
-place_after p e fate = record { core = handed_out (reply_at p e fate).core; keeper = keeper_after p e fate }
+place_after p e fate = record { core = handed_out (reply_at p e fate).core; disk = disk_after p e fate }
 
 abbrev pub put_acted : CoreEvent → Fate → Option Place → List Place → List Place
 put_acted e fate None places = places
@@ -164,7 +164,7 @@ AnswersAt i e fate places answer = Answers e fate (place_at i places) answer
 
 -- a place that was drained for the other numbers
 abbrev pub place_drained : List ℕ → Place → Place
-place_drained numbers p = record { core = after_events p.core (draining numbers p.core); keeper = p.keeper }
+place_drained numbers p = record { core = after_events p.core (draining numbers p.core); disk = p.disk }
 
 abbrev pub put_drained : List ℕ → Option Place → List Place → List Place
 put_drained numbers None places = places
@@ -219,18 +219,18 @@ abbrev pub forged_at : List ℕ → List Sent → List ℕ → Option Place → 
 forged_at liars sent bytes None = false
 forged_at liars sent bytes (Some p) = forges liars sent p.core.node.keys bytes (split_of bytes)
 
--- a place opened again with what its keeper then holds
-abbrev pub place_again : Place → ℕ → Keeper → Place
-place_again p now keeper = record { core = core_again p now keeper.in_force; keeper = keeper }
+-- a place opened again with what its disk then holds
+abbrev pub place_again : Place → ℕ → Disk → Place
+place_again p now disk = record { core = core_again p now disk.in_force; disk = disk }
 
 -- the places with the node of a number opened again
-abbrev pub put_again : ℕ → Keeper → Option Place → List Place → List Place
-put_again now keeper None places = places
-put_again now keeper (Some p) places = put (place_again p now keeper) places
+abbrev pub put_again : ℕ → Disk → Option Place → List Place → List Place
+put_again now disk None places = places
+put_again now disk (Some p) places = put (place_again p now disk) places
 
--- the keeper of the node of a number
-abbrev pub keeper_in : ℕ → List Place → Option Keeper
-keeper_in i places = option_map (λ p. p.keeper) (place_at i places)
+-- the disk of the node of a number
+abbrev pub disk_in : ℕ → List Place → Option Disk
+disk_in i places = option_map (λ p. p.disk) (place_at i places)
 
 -- bytes begin with a whole frame of this length
 pub record IsFirstFrame (n : ℕ) (bytes : List ℕ) : Type 0 where

@@ -158,12 +158,12 @@ impl Place {
     {
         let me = self.core.node().me();
         let mut fated = Fated {
-            keeper: self.keeper,
+            disk: self.disk,
             fate,
             asked: None,
         };
         let reaction = react(&mut self.core, now, deed, &mut fated);
-        self.keeper = fated.keeper;
+        self.disk = fated.disk;
         let report = taken_report(&mut self.core);
         NodeAnswer {
             reaction,

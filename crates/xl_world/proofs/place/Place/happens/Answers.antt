@@ -3,7 +3,7 @@ use Rattle.std.specs.Prelude.{if◌then◌else◌}
 use Rattle.xl_core.specs.Core.{Core, CoreReply}
 use Rattle.xl_core.specs.Node.{Node}
 use Rattle.xl_world.specs.declared.act.Deed.{Deed}
-use Rattle.xl_world.specs.Keeper.{answer_of}
+use Rattle.xl_world.specs.Disk.{answer_of}
 use Rattle.xl_world.specs.Seen.{deed_event, is_relisted, list_now, reaction_of, said_in}
 use Rattle.xl_world.specs.World.{reply_at}
 use Rattle.xl_world.proofs.Doing.{report_left, said_so, set_so, untaken_then}
@@ -16,7 +16,7 @@ taken_report-report-requires c =
     let e = deed_event c.args.now c.args.deed.now in
     omega (
       arith,
-      ap length (ap (λ (k : Core). k.untaken.items) c.react-reaction.ensures.core ∙ untaken_then place.core c.args.now c.args.deed.now (answer_of place.keeper c.args.fate) c.requires.rested.untaken),
+      ap length (ap (λ (k : Core). k.untaken.items) c.react-reaction.ensures.core ∙ untaken_then place.core c.args.now c.args.deed.now (answer_of place.disk c.args.fate) c.requires.rested.untaken),
       few_reports (reply_at place e c.args.fate).report,
     )
 
@@ -24,7 +24,7 @@ pub returns-clause-answer : goal.returns-clause-answer
 returns-clause-answer c =
     let place = c.args.self.now in
     let d : Deed = c.args.deed.now in
-    let save = answer_of place.keeper c.args.fate in
+    let save = answer_of place.disk c.args.fate in
     let r : CoreReply = reply_at place (deed_event c.args.now d) c.args.fate in
     let reacts : c.react-reaction.result ≡ reaction_of r.answer = c.react-reaction.ensures.reaction in
     let me : c.me-me.result ≡ place.core.node.me = c.me-me.ensures ∙ ap (λ (n : Node). n.me) c.node.ensures.value in
