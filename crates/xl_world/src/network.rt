@@ -148,7 +148,7 @@ impl Network {
         ensures grows { Grows self.old self.new }
     {
         match act_at(&mut self.places, i, at, deed, fate) {
-            Some(answer) => self.settle(i, &answer, told),
+            Some(ref answer) => self.settle(i, answer, told),
             None => Ok(()),
         }
     }
@@ -234,7 +234,7 @@ impl Network {
         let kept = frame.kept();
         let deed = Deed::Sent { to, kept };
         match act_at(&mut self.places, to, at, &deed, Fate::Saved) {
-            Some(answer) => self.settle(to, &answer, told),
+            Some(ref answer) => self.settle(to, answer, told),
             None => Ok(()),
         }
     }
