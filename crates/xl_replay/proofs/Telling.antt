@@ -39,7 +39,7 @@ use Rattle.xl_world.specs.declared.outcome.Outcome.TheVariants.{Full}
 use Rattle.xl_world.specs.declared.place.Place.{Place}
 use Rattle.xl_world.specs.declared.place.Fate.{Fate}
 use Rattle.xl_io.specs.Keepers.{may_hold}
-use Rattle.xl_world.specs.Keeper.{held_by, answer_of}
+use Rattle.xl_world.specs.Disk.{held_by, answer_of}
 use Rattle.xl_world.specs.Forks.{Fork, first_fork}
 use Rattle.xl_world.specs.World.{reported_by}
 use Rattle.xl_world.specs.World.{World, Step as WorldStep, Act, Again, Torn, Mark, IsFit, place_at, reply_at, acts, reopened, again, torn, asked_at, moment_in, step, run}
@@ -123,19 +123,19 @@ act_adds w i e fate (Some p) at =
     record {
       more = option_to_list (option_map (reported_by r.core.node) r.report);
       reports = refl;
-      told = reply_told i r.core.node ((core_keeps p.core e (answer_of p.keeper fate)).0 ∙ at_its_number i w.places p at) r.answer r.report;
+      told = reply_told i r.core.node ((core_keeps p.core e (answer_of p.disk fate)).0 ∙ at_its_number i w.places p at) r.answer r.report;
     }
 
 again_adds : (w : World) (i now number : ℕ) (o : Option Place) → Adds w (again w i now number o) []
 again_adds w i now number None = adds_none w w refl
 again_adds w i now number (Some p) =
-    cond_both (may_hold (held_by p.keeper) number) (reopened w i p now number) w (λ v. Adds w v [])
+    cond_both (may_hold (held_by p.disk) number) (reopened w i p now number) w (λ v. Adds w v [])
     (λ _. adds_none w (reopened w i p now number) (append-nil w.reports)) (λ _. adds_none w w refl)
 
 torn_adds : (w : World) (i now number : ℕ) (o : Option Place) (asked : Option ℕ) → Adds w (torn w i now number o asked) []
 torn_adds w i now number None asked = adds_none w w refl
 torn_adds w i now number (Some p) None = adds_none w w refl
-torn_adds w i now number (Some p) (Some s) = again_adds w i now number (Some (record { core = p.core; keeper = record p.keeper { asked = Some s } }))
+torn_adds w i now number (Some p) (Some s) = again_adds w i now number (Some (record { core = p.core; disk = record p.disk { asked = Some s } }))
 
 step_adds : (w : World) (s : WorldStep) → Adds w (step w s) (told_by_step w s)
 step_adds w (Act i e fate) = act_adds w i e fate (place_at i w.places) refl

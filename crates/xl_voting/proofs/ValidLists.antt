@@ -12,7 +12,7 @@ use Rattle.xl_world.specs.declared.place.Fate.{Fate}
 use Rattle.xl_world.specs.declared.place.Place.{Place}
 use Rattle.xl_world.specs.declared.plan.InForce.{InForce}
 use Rattle.xl_world.specs.declared.plan.PlanNode.{PlanNode}
-use Rattle.xl_world.specs.Keeper.{held_by}
+use Rattle.xl_world.specs.Disk.{held_by}
 use Rattle.xl_world.specs.Plans.{AreDeclared, IsDeclared, Shared}
 use Rattle.xl_world.specs.Starts.{IsRun, list_of, start}
 use Rattle.xl_world.specs.World.{World, Step, Act, Again, Torn, Mark, AreFit, IsFit, IsFitEvent, acts, again, asked_at, list_set, moment_in, place_at, reopened, reply_at, run, set_by, step, torn}
@@ -59,12 +59,12 @@ acts_valid w i e fate (Some p) fit valid =
 again_valid : (w : World) (i now number : ℕ) (o : Option Place) → AreValid w → AreValid (again w i now number o)
 again_valid w i now number None valid = valid
 again_valid w i now number (Some p) valid =
-    cond_both (may_hold (held_by p.keeper) number) (reopened w i p now number) w AreValid (λ _. All-append Valid w.lists [] valid (All-nil Valid)) (λ _. valid)
+    cond_both (may_hold (held_by p.disk) number) (reopened w i p now number) w AreValid (λ _. All-append Valid w.lists [] valid (All-nil Valid)) (λ _. valid)
 
 torn_valid : (w : World) (i now number : ℕ) (o : Option Place) (asked : Option ℕ) → AreValid w → AreValid (torn w i now number o asked)
 torn_valid w i now number None asked valid = valid
 torn_valid w i now number (Some p) None valid = valid
-torn_valid w i now number (Some p) (Some s) valid = again_valid w i now number (Some (record { core = p.core; keeper = record p.keeper { asked = Some s } })) valid
+torn_valid w i now number (Some p) (Some s) valid = again_valid w i now number (Some (record { core = p.core; disk = record p.disk { asked = Some s } })) valid
 
 step_valid : (w : World) (s : Step) → IsFit s → AreValid w → AreValid (step w s)
 step_valid w (Act i e fate) fit valid = acts_valid w i e fate (place_at i w.places) fit valid

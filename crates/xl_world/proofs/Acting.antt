@@ -21,6 +21,7 @@ use Rattle.xl_core.specs.Node.{Node, Save, TimerOutcome, timer_reply, timer_outc
 use Rattle.xl_core.specs.Timer.TimerOutcome.{Quiet, Ending}
 use Rattle.xl_core.specs.declared.event.CoreEvent.{CoreEvent}
 use Rattle.xl_core.specs.declared.event.CoreEvent.TheVariants.{Frame}
+use Rattle.xl_core.specs.declared.report.Report.{Report}
 use Rattle.xl_core.proofs.Timing.{submit_either, relist_either}
 use Rattle.xl_sched.specs.declared.event.Ask.{Ask}
 use Rattle.xl_sched.specs.declared.event.Ask.TheVariants as ask
@@ -34,11 +35,11 @@ use Rattle.xl_world.specs.declared.plan.InForce.{InForce}
 use Rattle.xl_world.specs.Sending.{Sent}
 use Rattle.xl_world.specs.Emptying.{event_steps}
 use Rattle.xl_world.specs.Forgeries.{forges, was_sent}
-use Rattle.xl_world.specs.Keeper.{answer_of}
+use Rattle.xl_world.specs.Disk.{answer_of}
 use Rattle.xl_world.specs.Rested.{IsAtRest, IsRested}
 use Rattle.xl_world.specs.Schedule.{delivery, event_asked}
-use Rattle.xl_world.specs.Seen.{Answers, AnswersAt, acted_at, deed_event, forged_at, given_at, noted, place_after, place_drained, put_acted, put_drained, with_forged, with_places}
-use Rattle.xl_world.specs.World.{World, is_forged, keeper_after, place_at, put, reply_at, run, said_by, sent_in, set_by}
+use Rattle.xl_world.specs.Seen.{Answers, AnswersAt, acted_at, deed_event, forged_at, given_at, list_noted, noted, place_after, place_drained, put_acted, put_drained, report_noted, with_forged, with_places}
+use Rattle.xl_world.specs.World.{World, is_forged, disk_after, place_at, put, reply_at, reported_by, run, said_by, sent_in, set_by}
 use Rattle.xl_world.proofs.CoreSteps.{frame_plain, issue_plain}
 use Rattle.xl_world.proofs.Emptying.{emptied_acts, emptied_node, emptied_then, event_ran, given_then}
 use Rattle.xl_world.proofs.Keeping.{core_keeps}
@@ -87,7 +88,7 @@ noted_ran w i e fate a answers unsent = by_place (place_at i w.places) refl answ
         let r : CoreReply = reply_at p e fate in
         let q : Place = place_after p e fate in
         let ps : List Place = put q w.places in
-        let its : q.core.node.me ≡ i = (core_keeps p.core e (answer_of p.keeper fate)).0 ∙ at_its_number i w.places p at in
+        let its : q.core.node.me ≡ i = (core_keeps p.core e (answer_of p.disk fate)).0 ∙ at_its_number i w.places p at in
         let found : place_at i ps ≡ Some q = put_at i q w.places p its at in
         let last : Place = place_drained w.numbers q in
         let same_me : p.core.node.me ≡ i = at_its_number i w.places p at in
@@ -95,9 +96,11 @@ noted_ran w i e fate a answers unsent = by_place (place_at i w.places) refl answ
         (ap (λ o. put_drained w.numbers o ps) found ∙ put_put q last w.places (ap (λ (n : Node). n.me) (emptied_node w.numbers r.core)))
         (ap (λ o. w.sent ++ given_at w.numbers o) found
         ∙ ap (λ (fs : List Sent). fs ++ given_then w.numbers r.core) (sym (append-nil w.sent) ∙ ap (λ (fs : List Sent). w.sent ++ fs) (sym (unsent p r.core.node.me))))
-        (ap (with_said w.said) (is.0.said ∙ ap (λ (m : ℕ). option_map (said_by m) r.issued) same_me))
-        (ap (λ (o : Option Reported). w.reports ++ option_to_list o) is.0.report)
-        (ap (λ (o : Option InForce). w.lists ++ option_to_list o) is.2)
+        (ap (with_said w.said) (is.said ∙ ap (λ (m : ℕ). option_map (said_by m) r.issued) same_me))
+        (ap (λ (o : Option Place). w.reports ++ option_to_list (report_noted a.report o)) found
+        ∙ ap (λ (o : Option Report). w.reports ++ option_to_list (option_map (reported_by r.core.node) o)) is.report)
+        (ap (λ (o : Option Place). w.lists ++ option_to_list (list_noted a.relisted o)) found
+        ∙ ap (λ (o : Option InForce). w.lists ++ option_to_list o) is.set)
 
 -- where there is no node of the number nothing changes
 pub nothing_ran : (w : World) (i : ℕ) (e : CoreEvent) (fate : Fate) → AnswersAt i e fate w.places None → with_places w (acted_at i e fate w.places) ≡ with_forged w.forged (run w (event_steps w i e fate))
@@ -115,9 +118,9 @@ acted_rests w i e fate rest q h = by_place (place_at i w.places) refl h
     by_place None at is = rest.cores i q is
     by_place (Some p) at is =
         let x : Place = place_after p e fate in
-        let its : x.core.node.me ≡ i = (core_keeps p.core e (answer_of p.keeper fate)).0 ∙ at_its_number i w.places p at in
+        let its : x.core.node.me ≡ i = (core_keeps p.core e (answer_of p.disk fate)).0 ∙ at_its_number i w.places p at in
         let same : q ≡ x = some_same x q (sym (put_at i x w.places p its at) ∙ is) in
-        subst (λ (y : Place). IsRested y.core) (sym same) (rested_after p.core e (answer_of p.keeper fate) (rest.cores i p at))
+        subst (λ (y : Place). IsRested y.core) (sym same) (rested_after p.core e (answer_of p.disk fate) (rest.cores i p at))
 
 -- WHAT COMES FORGED
 
@@ -129,7 +132,7 @@ fair_ran w i e fate fair = ap (with_forged w.forged) (event_ran w i e fate) ∙ 
     by_place None = refl
     by_place (Some p) =
         let r : CoreReply = reply_at p e fate in
-        ap (λ (b : Bool). emptied_then w i b (set_by p.core.node.me e r.answer) r (keeper_after p e fate)) (sym (fair p.core.node))
+        ap (λ (b : Bool). emptied_then w i b (set_by p.core.node.me e r.answer) r (disk_after p e fate)) (sym (fair p.core.node))
 
 -- bytes that come are counted where they are forged
 pub counted_ran : (w : World) (to at : ℕ) (bytes : List ℕ) (count : ℕ) → count ≡ (if forged_at w.liars w.sent bytes (place_at to w.places) then one_more w.forged else w.forged) →

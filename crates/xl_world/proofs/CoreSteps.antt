@@ -41,15 +41,15 @@ use Rattle.xl_core.specs.Issuing.Save.{Kept as AnsweredOk, Failed as AnsweredFai
 use Rattle.xl_core.specs.Queues.{after_taking, at_number, frames_in, waiting_at, with_items}
 use Rattle.xl_wire.specs.declared.body.Body.TheVariants as bodies
 use Rattle.xl_core.specs.Sending.{sealed_bytes, has_spelling}
-use Rattle.xl_world.specs.declared.place.Keeper.{Keeper}
+use Rattle.xl_world.specs.declared.place.Disk.{Disk}
 use Rattle.xl_world.specs.declared.place.Fate.{Fate}
 use Rattle.xl_world.specs.Sending.{Sent}
 use Rattle.xl_io.specs.Keepers.{MayHold}
-use Rattle.xl_world.specs.Keeper.{held_by, answer_of, restored}
+use Rattle.xl_world.specs.Disk.{held_by, answer_of, restored}
 use Rattle.xl_world.proofs.Standing.{FrameSays, said_in}
 use Rattle.xl_world.specs.World.{said_by}
 use Rattle.xl_world.specs.declared.place.Place.{Place}
-use Rattle.xl_world.specs.World.{IsFitEvent, sent_in, reply_at, keeper_after, core_again}
+use Rattle.xl_world.specs.World.{IsFitEvent, sent_in, reply_at, disk_after, core_again}
 use Rattle.xl_world.proofs.Standing.{ItemSays, CoreSays}
 use Rattle.xl_world.proofs.Keeping.{happens_keeps}
 use Rattle.xl_world.proofs.NodeSteps.{HeardSays, happens_says, happens_steps, opened_says, opened_steps, still}
@@ -60,35 +60,35 @@ use Rattle.xl_world.proofs.Settling.{ReplySays, node_reply, seat}
 -- THE NODE OF THE CORE
 
 -- what an event at the node shows is shown at its core
-lifted : (core : Core) (k k' : Keeper) (r : Reply) → IsStep (seat core k) r k' → IsStep (seat core k) (node_reply (stepped core r)) k'
+lifted : (core : Core) (k k' : Disk) (r : Reply) → IsStep (seat core k) r k' → IsStep (seat core k) (node_reply (stepped core r)) k'
 lifted core k k' r s = record { me = s.me; well = s.well; rises = s.rises; above = s.above; saved = s.saved; quorum = s.quorum }
 
 -- the node is as it was
-beside : (p : Place) (r : CoreReply) → r.core.node ≡ p.core.node → r.issued ≡ None → r.report ≡ None → IsWell (seat p.core p.keeper) → IsStep (seat p.core p.keeper) (node_reply r) p.keeper
-beside p r node issued report well = still (seat p.core p.keeper) (node_reply r) node issued report well
+beside : (p : Place) (r : CoreReply) → r.core.node ≡ p.core.node → r.issued ≡ None → r.report ≡ None → IsWell (seat p.core p.disk) → IsStep (seat p.core p.disk) (node_reply r) p.disk
+beside p r node issued report well = still (seat p.core p.disk) (node_reply r) node issued report well
 
-pub core_steps : (p : Place) (e : CoreEvent) (fate : Fate) → IsFitEvent e → IsWell (seat p.core p.keeper) → IsStep (seat p.core p.keeper) (node_reply (reply_at p e fate)) (keeper_after p e fate)
+pub core_steps : (p : Place) (e : CoreEvent) (fate : Fate) → IsFitEvent e → IsWell (seat p.core p.disk) → IsStep (seat p.core p.disk) (node_reply (reply_at p e fate)) (disk_after p e fate)
 core_steps p (Issue now seq id full) fate fit well =
-    lifted p.core p.keeper (keeper_after p (Issue now seq id full) fate) (happens p.core.node (nodes.Issue now seq id full) (answer_of p.keeper fate)) (happens_steps (seat p.core p.keeper) (nodes.Issue now seq id full) fate tt well)
+    lifted p.core p.disk (disk_after p (Issue now seq id full) fate) (happens p.core.node (nodes.Issue now seq id full) (answer_of p.disk fate)) (happens_steps (seat p.core p.disk) (nodes.Issue now seq id full) fate tt well)
 core_steps p (Frame now bytes) fate fit well =
-    lifted p.core p.keeper (keeper_after p (Frame now bytes) fate) (happens p.core.node (nodes.Frame now bytes) (answer_of p.keeper fate)) (happens_steps (seat p.core p.keeper) (nodes.Frame now bytes) fate tt well)
+    lifted p.core p.disk (disk_after p (Frame now bytes) fate) (happens p.core.node (nodes.Frame now bytes) (answer_of p.disk fate)) (happens_steps (seat p.core p.disk) (nodes.Frame now bytes) fate tt well)
 core_steps p (Timer now) fate fit well =
-    lifted p.core p.keeper (keeper_after p (Timer now) fate) (happens p.core.node (nodes.Timer now) (answer_of p.keeper fate)) (happens_steps (seat p.core p.keeper) (nodes.Timer now) fate tt well)
+    lifted p.core p.disk (disk_after p (Timer now) fate) (happens p.core.node (nodes.Timer now) (answer_of p.disk fate)) (happens_steps (seat p.core p.disk) (nodes.Timer now) fate tt well)
 core_steps p (Submit now tx) fate fit well =
-    lifted p.core p.keeper (keeper_after p (Submit now tx) fate) (happens p.core.node (nodes.Submit now tx) (answer_of p.keeper fate)) (happens_steps (seat p.core p.keeper) (nodes.Submit now tx) fate tt well)
+    lifted p.core p.disk (disk_after p (Submit now tx) fate) (happens p.core.node (nodes.Submit now tx) (answer_of p.disk fate)) (happens_steps (seat p.core p.disk) (nodes.Submit now tx) fate tt well)
 core_steps p (Greet member) fate fit well = beside p (reply_at p (Greet member) fate) refl refl refl well
 core_steps p (Drain member room) fate fit well = beside p (reply_at p (Drain member room) fate) refl refl refl well
 core_steps p (Reports room) fate fit well = beside p (reply_at p (Reports room) fate) refl refl refl well
 core_steps p Stop fate fit well = beside p (reply_at p Stop fate) refl refl refl well
 core_steps p Stopped fate fit well = beside p (reply_at p Stopped fate) refl refl refl well
 core_steps p (Relist now list) fate fit well =
-    lifted p.core p.keeper (keeper_after p (Relist now list) fate) (happens p.core.node (nodes.Relist now list) (answer_of p.keeper fate)) (happens_steps (seat p.core p.keeper) (nodes.Relist now list) fate fit well)
+    lifted p.core p.disk (disk_after p (Relist now list) fate) (happens p.core.node (nodes.Relist now list) (answer_of p.disk fate)) (happens_steps (seat p.core p.disk) (nodes.Relist now list) fate fit well)
 
--- a core that is opened again with a number that is not below its keeper's
-pub opened_core_steps : (p : Place) (now number : ℕ) (asked : Option ℕ) → IsWell (seat p.core p.keeper) → (i : ℕ) × (i ≤ number) × MayHold (held_by p.keeper) i →
-    IsStep (seat p.core p.keeper) (node_reply (answering (core_again p now number) Done)) (restored (record p.keeper { asked = asked }) number)
+-- a core that is opened again with a number that is not below its disk's
+pub opened_core_steps : (p : Place) (now number : ℕ) (asked : Option ℕ) → IsWell (seat p.core p.disk) → (i : ℕ) × (i ≤ number) × MayHold (held_by p.disk) i →
+    IsStep (seat p.core p.disk) (node_reply (answering (core_again p now number) Done)) (restored (record p.disk { asked = asked }) number)
 opened_core_steps p now number asked well low =
-    let s = opened_steps (seat p.core p.keeper) now number well low in
+    let s = opened_steps (seat p.core p.disk) now number well low in
     record { me = s.me; well = record { members = s.well.members; valid = s.well.valid; in_force = s.well.in_force }; rises = s.rises; above = s.above; saved = s.saved; quorum = s.quorum }
 
 -- WHAT IS SAID

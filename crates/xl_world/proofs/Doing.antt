@@ -1,13 +1,12 @@
--- What happens at a core whose keeper's save meets a fate: the core, what is said of it, and the keeper.
+-- What happens at a core whose disk's save meets a fate: the core, what is said of it, and the disk.
 use Rattle.std.proofs.Common.{◌≡◌, ◌≢◌, ℕ, ◌≤◌, Bool, true, false, List, [], refl, ap, sym, ◌∙◌, Option, Some, None, Result, Ok, Err}
-use Rattle.std.specs.Prelude.{◌==◌, IfSome, IsSome, is_some, nat_lt, option_map, option_to_list, unwrap_or}
+use Rattle.std.specs.Prelude.{◌==◌, IfSome, IsSome, if◌then◌else◌, is_some, nat_lt, option_map, option_to_list, unwrap_or}
 use Rattle.std.proofs.lemmas.Bool.{cond_both}
 use Rattle.xl_base.specs.declared.ids.LedgerId.{LedgerId}
 use Rattle.xl_ledger.specs.Chains.{seq_at, id_at}
 use Rattle.xl_ledger.specs.Headers.{header_id}
 use Rattle.xl_ledger.specs.Registries.{Ledgers}
 use Rattle.xl_ledger.specs.declared.header.Header.{Header}
-use Rattle.xl_lists.specs.declared.report.Report.{Report as Reported}
 use Rattle.xl_rounds.specs.Heartbeats.{HeartbeatReply, heartbeat}
 use Rattle.xl_rounds.specs.Proposals.{started}
 use Rattle.xl_rounds.specs.Rounds.{Round, accepted, is_proposing, leave}
@@ -16,22 +15,22 @@ use Rattle.xl_rounds.specs.declared.heartbeat.HeartbeatKind.{HeartbeatKind}
 use Rattle.xl_rounds.specs.declared.heartbeat.HeartbeatKind.TheVariants as kind
 use Rattle.xl_rounds.specs.declared.heartbeat.Said.{Said}
 use Rattle.xl_tags.specs.Rings.{key_of, schedule_ring}
-use Rattle.xl_core.specs.Answers.{Answer, Beats, Done as AnsweredDone, refusal_in}
+use Rattle.xl_core.specs.Answers.{Answer, Done as AnsweredDone, refusal_in}
 use Rattle.xl_core.specs.Building.{Knowing, alone, how_issued, knowing}
 use Rattle.xl_core.specs.Core.{Core, CoreReply, core_asks, core_happens}
 use Rattle.xl_core.specs.Hearing.{bytes_as_sealed}
-use Rattle.xl_core.specs.Keeping.{Saves}
+use Rattle.xl_core.specs.Keeping.{CountsFault, Saves}
 use Rattle.xl_core.specs.Node as nodes
-use Rattle.xl_core.specs.Node.{Node, Reply, Save, TimerOutcome, heartbeat_outcome, at_moment, built, built_outcome, chosen, timer_reply, built_reply, kind_outcome, happens, bytes_reply, is_kept, issued_unless_off, issuing_reply, own_validation, refusing, replying, seen, switch_outcome, taken_reply, timer_outcome, validates, validating_built}
+use Rattle.xl_core.specs.Node.{Node, Reply, Save, TimerOutcome, heartbeat_outcome, asks_for, at_moment, built, built_outcome, chosen, timer_reply, built_reply, kind_outcome, happens, bytes_reply, is_kept, issued_unless_off, issuing_reply, own_validation, refusing, replying, seen, switch_outcome, taken_reply, timer_outcome, validates, validating_built}
 use Rattle.xl_core.specs.Issuing.Save.{Kept as AnsweredOk, Failed as AnsweredFailed}
 use Rattle.xl_core.specs.Timer.TimerOutcome.{Quiet, Ending}
-use Rattle.xl_core.specs.Replies.{Answers, save_of, taken_answer}
+use Rattle.xl_core.specs.Replies.{Answers, Issues, done_answer, save_in, save_of, taken_answer, was_kept}
 use Rattle.xl_core.specs.TimerParts.{Beaten, CountsBeatFault, beat_was_kept, save_at}
 use Rattle.xl_core.specs.declared.timer_answer.TimerAnswer.{TimerAnswer}
 use Rattle.xl_core.specs.declared.timer_answer.TimerAnswer.TheVariants as timer_answer
 use Rattle.xl_core.specs.declared.timer_answer.Issued.TheVariants as issued
 use Rattle.xl_core.specs.declared.event.CoreEvent.{CoreEvent}
-use Rattle.xl_core.specs.declared.event.CoreEvent.TheVariants.{Timer}
+use Rattle.xl_core.specs.declared.event.CoreEvent.TheVariants.{Issue, Relist, Timer}
 use Rattle.xl_core.specs.declared.hearing.Speech.{Speech}
 use Rattle.xl_core.specs.declared.hearing.Speech.TheVariants as speech
 use Rattle.xl_core.specs.declared.refusal.Refusal.{Refusal}
@@ -39,17 +38,18 @@ use Rattle.xl_core.specs.declared.refusal.Refusal.TheVariants as why
 use Rattle.xl_core.specs.declared.report.Report.{Report}
 use Rattle.xl_core.specs.declared.taken.Taken.{Taken}
 use Rattle.xl_core.proofs.Frames.{hearing_either}
+use Rattle.xl_core.proofs.Timing.{submit_either, relist_either}
 use Rattle.xl_world.specs.declared.act.Deed.{Deed}
 use Rattle.xl_world.specs.declared.act.Deed.TheVariants as deed
-use Rattle.xl_world.specs.declared.act.Done.{Done}
+use Rattle.xl_world.specs.declared.act.Reaction.{Reaction}
+use Rattle.xl_world.specs.declared.act.Reaction.TheVariants as reaction
 use Rattle.xl_world.specs.declared.place.Fate.{Fate}
 use Rattle.xl_world.specs.declared.place.Fate.TheVariants.{Saved, Unwritten, Written}
-use Rattle.xl_world.specs.declared.place.Keeper.{Keeper}
+use Rattle.xl_world.specs.declared.place.Disk.{Disk}
 use Rattle.xl_world.specs.declared.saving.Fated.{Fated}
-use Rattle.xl_world.specs.Emptying.{handed_out}
-use Rattle.xl_world.specs.Keeper.{after_save, answer_of, answers_ok}
-use Rattle.xl_world.specs.Seen.{Does, IsBeaten, deed_event, reaction_of, reaction_to, said_by_beat, said_by_issued}
-use Rattle.xl_world.specs.World.{reported_by, said_by}
+use Rattle.xl_world.specs.Disk.{after_save, answer_of, answers_ok}
+use Rattle.xl_world.specs.Seen.{Does, deed_event, is_relisted, list_now, reaction_of, reaction_to, said_by_beat, said_by_issued, said_in}
+use Rattle.xl_world.specs.World.{said_by, set_by}
 use Rattle.xl_world.proofs.Lying.{key_of_another}
 use Rattle.xl_world.proofs.Reopening.{unasked_alike}
 use Rattle.xl_world.proofs.Taking.{same_option, untaken_is}
@@ -60,8 +60,8 @@ peer_of me m low high other = ap is_some (key_of_another me m low high other)
 
 -- HOW A SAVE IS ANSWERED
 
--- as one is that meets the fate, where it is answered so and the count of faults is the keeper's
-met : (save : Save) (k : Keeper) (s : ℕ) (fate : Fate) → is_kept save ≡ answers_ok fate → ((count : ℕ) → save ≡ AnsweredFailed count → count ≡ (after_save k (Some s) fate).faults) → save ≡ answer_of k fate
+-- as one is that meets the fate, where it is answered so and the count of faults is the disk's
+met : (save : Save) (k : Disk) (s : ℕ) (fate : Fate) → is_kept save ≡ answers_ok fate → ((count : ℕ) → save ≡ AnsweredFailed count → count ≡ (after_save k (Some s) fate).faults) → save ≡ answer_of k fate
 met AnsweredOk k s Saved is counts = refl
 met AnsweredOk k s Unwritten is counts = cc
 met AnsweredOk k s Written is counts = cc
@@ -69,30 +69,30 @@ met (AnsweredFailed n) k s Saved is counts = cc
 met (AnsweredFailed n) k s Unwritten is counts = ap (λ (m : ℕ). AnsweredFailed m) (counts n refl)
 met (AnsweredFailed n) k s Written is counts = ap (λ (m : ℕ). AnsweredFailed m) (counts n refl)
 
--- what a save that is asked of a keeper under a fate leaves of it
+-- what a save that is asked of a disk under a fate leaves of it
 abbrev pub Gives : Fated → ℕ → Bool → Fated → Type 0
-Gives old seq ok new = (ok ≡ answers_ok old.fate) × (new.keeper ≡ after_save old.keeper (Some seq) old.fate) × (new.asked ≡ Some seq)
+Gives old seq ok new = (ok ≡ answers_ok old.fate) × (new.disk ≡ after_save old.disk (Some seq) old.fate) × (new.asked ≡ Some seq)
 
--- the keeper after an event that asks this save, or none
+-- the disk after an event that asks this save, or none
 pub record IsFated (asks : Option ℕ) (save : Save) (old new : Fated) : Type 0 where
-  pub keeper : new.keeper ≡ after_save old.keeper asks old.fate
+  pub disk : new.disk ≡ after_save old.disk asks old.fate
   pub asked : old.asked ≡ None → new.asked ≡ asks
-  pub answered : IfSome asks (λ s. save ≡ answer_of old.keeper old.fate)
+  pub answered : IfSome asks (λ s. save ≡ answer_of old.disk old.fate)
 
-pub fated : (asked : Option ℕ) (save : Save) (old new : Fated) → Saves Gives asked (is_kept save) old new → ((count : ℕ) → save ≡ AnsweredFailed count → count ≡ new.keeper.faults) → IsFated asked save old new
+pub fated : (asked : Option ℕ) (save : Save) (old new : Fated) → Saves Gives asked (is_kept save) old new → ((count : ℕ) → save ≡ AnsweredFailed count → count ≡ new.disk.faults) → IsFated asked save old new
 fated None save old new same counts = record {
-  keeper = ap (λ (f : Fated). f.keeper) same;
+  disk = ap (λ (f : Fated). f.disk) same;
   asked = λ none. ap (λ (f : Fated). f.asked) same ∙ none;
   answered = tt;
 }
 fated (Some s) save old new gives counts = record {
-  keeper = gives.1;
+  disk = gives.1;
   asked = λ _. gives.2;
-  answered = met save old.keeper s old.fate gives.0 (λ count is. counts count is ∙ ap (λ (k : Keeper). k.faults) gives.1);
+  answered = met save old.disk s old.fate gives.0 (λ count is. counts count is ∙ ap (λ (k : Disk). k.faults) gives.1);
 }
 
 -- what happens under that answer happens under the fate
-alike : (core : Core) (e : CoreEvent) (save : Save) (k : Keeper) (fate : Fate) → IfSome (core_asks core e) (λ s. save ≡ answer_of k fate) → core_happens core e save ≡ core_happens core e (answer_of k fate)
+alike : (core : Core) (e : CoreEvent) (save : Save) (k : Disk) (fate : Fate) → IfSome (core_asks core e) (λ s. save ≡ answer_of k fate) → core_happens core e save ≡ core_happens core e (answer_of k fate)
 alike core e save k fate answered = by (core_asks core e) refl answered
   where
     by : (asked : Option ℕ) → core_asks core e ≡ asked → IfSome asked (λ s. save ≡ answer_of k fate) → core_happens core e save ≡ core_happens core e (answer_of k fate)
@@ -118,15 +118,13 @@ beat_counts (timer_answer.NoRoom limit) old new counts count is = cc
 
 -- WHAT ASKS NO SAVE
 
-pub quiet_does : (core after : Core) (e : CoreEvent) (old : Fated) (done : Done) (told : Answer) → core_asks core e ≡ None → (core_happens core e AnsweredOk).issued ≡ None → Answers (core_happens core e AnsweredOk) after told →
-    done.reaction ≡ reaction_of told → done.said ≡ None → Does core e old after done old
-quiet_does core after e old done told asks unissued answers reacts says =
-    let same : core_happens core e AnsweredOk ≡ core_happens core e (answer_of old.keeper old.fate) = unasked_alike core e AnsweredOk (answer_of old.keeper old.fate) asks in
+pub quiet_does : (core after : Core) (e : CoreEvent) (old : Fated) (told : Reaction) (a : Answer) → core_asks core e ≡ None → Answers (core_happens core e AnsweredOk) after a → told ≡ reaction_of a → Does core e old after told old
+quiet_does core after e old told a asks answers reacts =
+    let same : core_happens core e AnsweredOk ≡ core_happens core e (answer_of old.disk old.fate) = unasked_alike core e AnsweredOk (answer_of old.disk old.fate) asks in
     record {
       core = answers.core ∙ ap (λ (r : CoreReply). r.core) same;
       reaction = reacts ∙ ap reaction_of (answers.answer ∙ ap (λ (r : CoreReply). r.answer) same);
-      said = says ∙ ap (option_map (said_by core.node.me)) (sym unissued ∙ ap (λ (r : CoreReply). r.issued) same);
-      keeper = ap (λ (o : Option ℕ). after_save old.keeper o old.fate) (sym asks);
+      disk = ap (λ (o : Option ℕ). after_save old.disk o old.fate) (sym asks);
       asked = λ none. none ∙ sym asks;
     }
 
@@ -145,6 +143,29 @@ frame_quiet n now bytes =
 pub reacts_as : (r : Result Taken Refusal) → reaction_to r ≡ reaction_of (taken_answer r)
 reacts_as (Ok taken) = refl
 reacts_as (Err w) = refl
+
+pub done_reacts : {X : Type 0} (r : Result X Refusal) → reaction_to r ≡ reaction_of (done_answer r)
+done_reacts (Ok done) = refl
+done_reacts (Err w) = refl
+
+-- WHAT IS ISSUED
+
+issue_counts : {X : Type 0} (r : Result X Refusal) (old new : ℕ) → CountsFault r old new → (count : ℕ) → save_in r ≡ AnsweredFailed count → count ≡ new
+issue_counts (Ok done) old new counts count is = cc
+issue_counts (Err w) old new counts count is = (counts count (ap (λ (v : Refusal). Err v) (failed_why w count is))).1
+
+pub issue_does : {X : Type 0} (r : Result X Refusal) (core after : Core) (now seq : ℕ) (id : LedgerId) (full : Bool) (old new : Fated) (told : Reaction) → Issues core (Issue now seq id full) r after → CountsFault r old.disk.faults new.disk.faults →
+    Saves Gives (asks_for core.node seq) (was_kept r) old new → told ≡ reaction_to r → Does core (Issue now seq id full) old after told new
+issue_does r core after now seq id full old new told answers counts saves reacts =
+    let e : CoreEvent = Issue now seq id full in
+    let is : IsFated (asks_for core.node seq) (save_in r) old new = fated (asks_for core.node seq) (save_in r) old new saves (issue_counts r old.disk.faults new.disk.faults counts) in
+    let same : core_happens core e (save_in r) ≡ core_happens core e (answer_of old.disk old.fate) = alike core e (save_in r) old.disk old.fate is.answered in
+    record {
+      core = answers.core ∙ ap (λ (x : CoreReply). x.core) same;
+      reaction = reacts ∙ (done_reacts r ∙ ap reaction_of (answers.answer ∙ ap (λ (x : CoreReply). x.answer) same));
+      disk = is.disk;
+      asked = is.asked;
+    }
 
 -- A TIMER
 
@@ -192,33 +213,59 @@ validating_told n h moved_on save =
     cond_both (validates n moved_on) (issuing_reply n h.seq (header_id h) (is_proposing n.round.setting.mode) save) (replying n AnsweredDone []) (TellsIssued h.seq (header_id h))
     (λ _. issuing_told n h.seq (header_id h) (is_proposing n.round.setting.mode) save) (λ _ member. refl)
 
-abbrev Tells : Reply → Type 0
-Tells r = (member : ℕ) (told : TimerAnswer) → Beats told ≡ r.answer → said_by_beat member told ≡ option_map (said_by member) r.issued
-
-same_beat : (a b : TimerAnswer) → Beats a ≡ Beats b → a ≡ b
-same_beat a b is = cc
-
-timer_tells : (n : Node) (save : Save) → Tells (timer_reply (timer_outcome n) save)
-timer_tells n save =
-    timed_by (λ t. Tells (timer_reply t save)) n
-    (λ r beaten said none member told is. ap (said_by_beat member) (same_beat told beaten is) ∙ none member)
-    (λ ledgers r said h place moved_on member told is.
-    let m : Node = record n { ledgers = ledgers; round = r } in
-    let v : Reply = validating_built m h moved_on save in
-    ap (said_by_beat member) (same_beat told (timer_answer.Built h.seq (header_id h) moved_on (how_issued (refusal_in v.answer) v.issued)) is) ∙ validating_told m h moved_on save member)
-
-pub timer_does : (told : TimerAnswer) (core after : Core) (now : ℕ) (old new : Fated) (done : Done) → Beaten core now told after → CountsBeatFault told old.keeper.faults new.keeper.faults →
-    Saves Gives (core_asks core (Timer now)) (beat_was_kept told) old new → IsBeaten core.node.me told done → Does core (Timer now) old after done new
-timer_does told core after now old new done answers counts saves says =
-    let is : IsFated (core_asks core (Timer now)) (save_at told) old new = fated (core_asks core (Timer now)) (save_at told) old new saves (beat_counts told old.keeper.faults new.keeper.faults counts) in
-    let same : core_happens core (Timer now) (save_at told) ≡ core_happens core (Timer now) (answer_of old.keeper old.fate) = alike core (Timer now) (save_at told) old.keeper old.fate is.answered in
+pub timer_does : (beat : TimerAnswer) (core after : Core) (now : ℕ) (old new : Fated) → Beaten core now beat after → CountsBeatFault beat old.disk.faults new.disk.faults →
+    Saves Gives (core_asks core (Timer now)) (beat_was_kept beat) old new → Does core (Timer now) old after (reaction.TimerAnswer beat) new
+timer_does beat core after now old new answers counts saves =
+    let is : IsFated (core_asks core (Timer now)) (save_at beat) old new = fated (core_asks core (Timer now)) (save_at beat) old new saves (beat_counts beat old.disk.faults new.disk.faults counts) in
+    let same : core_happens core (Timer now) (save_at beat) ≡ core_happens core (Timer now) (answer_of old.disk old.fate) = alike core (Timer now) (save_at beat) old.disk old.fate is.answered in
     record {
       core = answers.core ∙ ap (λ (x : CoreReply). x.core) same;
-      reaction = says.reaction ∙ ap reaction_of (answers.answer ∙ ap (λ (x : CoreReply). x.answer) same);
-      said = says.said ∙ (timer_tells (at_moment now core.node) (save_at told) core.node.me told answers.answer ∙ ap (λ (x : CoreReply). option_map (said_by core.node.me) x.issued) same);
-      keeper = is.keeper;
+      reaction = ap reaction_of (answers.answer ∙ ap (λ (x : CoreReply). x.answer) same);
+      disk = is.disk;
       asked = is.asked;
     }
+
+-- WHAT A REACTION TELLS
+
+-- the validation that was issued
+abbrev TellsSaid : Deed → Reply → Type 0
+TellsSaid d r = (member : ℕ) → said_in member d (reaction_of r.answer) ≡ option_map (said_by member) r.issued
+
+unless_said : (n : Node) (off : Option ℕ) (save : Save) (seq : ℕ) (id : LedgerId) (full : Bool) → TellsSaid (deed.Issue seq id full) (issued_unless_off n off save (own_validation n seq id full))
+unless_said n None AnsweredOk seq id full member = refl
+unless_said n None (AnsweredFailed count) seq id full member = refl
+unless_said n (Some failed) save seq id full member = refl
+
+issuing_said : (n : Node) (seq : ℕ) (id : LedgerId) (full : Bool) (save : Save) → TellsSaid (deed.Issue seq id full) (issuing_reply n seq id full save)
+issuing_said n seq id full save =
+    cond_both (nat_lt n.kept seq) (issued_unless_off n n.failed_save save (own_validation n seq id full)) (refusing n (why.NotAfter n.kept)) (TellsSaid (deed.Issue seq id full)) (λ _. unless_said n n.failed_save save seq id full) (λ _ member. refl)
+
+timer_said : (n : Node) (save : Save) → TellsSaid deed.Timer (timer_reply (timer_outcome n) save)
+timer_said n save =
+    timed_by (λ t. TellsSaid deed.Timer (timer_reply t save)) n
+    (λ r beat said none member. none member)
+    (λ ledgers r said h place moved_on member. validating_told (record n { ledgers = ledgers; round = r }) h moved_on save member)
+
+pub said_so : (core : Core) (now : ℕ) (d : Deed) (save : Save) → let r : CoreReply = core_happens core (deed_event now d) save in said_in core.node.me d (reaction_of r.answer) ≡ option_map (said_by core.node.me) r.issued
+said_so core now (deed.Issue seq id full) save = issuing_said (at_moment now core.node) seq id full save core.node.me
+said_so core now (deed.Frame bytes) save = ap (option_map (said_by core.node.me)) (sym (frame_quiet core.node now bytes.now))
+said_so core now (deed.Sent to kept) save = ap (option_map (said_by core.node.me)) (sym (frame_quiet core.node now (bytes_as_sealed (schedule_ring to) kept.now)))
+said_so core now deed.Timer save = timer_said (at_moment now core.node) save core.node.me
+said_so core now (deed.Submit tx) save = submit_either (TellsSaid (deed.Submit tx)) (at_moment now core.node) tx (λ _ member. refl) (λ member. refl) core.node.me
+said_so core now (deed.Greet peer) save = refl
+said_so core now (deed.Relist list) save = relist_either (TellsSaid (deed.Relist list)) (at_moment now core.node) list.now (λ _ member. refl) (λ _ member. refl) core.node.me
+
+-- the list that was set
+pub set_so : (core : Core) (now : ℕ) (d : Deed) (save : Save) → let r : CoreReply = core_happens core (deed_event now d) save in
+    (if is_relisted d (reaction_of r.answer) then Some (list_now r.core.node) else None) ≡ set_by core.node.me (deed_event now d) r.answer
+set_so core now (deed.Issue seq id full) save = refl
+set_so core now (deed.Frame bytes) save = refl
+set_so core now (deed.Sent to kept) save = refl
+set_so core now deed.Timer save = refl
+set_so core now (deed.Submit tx) save = refl
+set_so core now (deed.Greet peer) save = refl
+set_so core now (deed.Relist list) save =
+    relist_either (λ r. (if is_relisted (deed.Relist list) (reaction_of r.answer) then Some (list_now r.node) else None) ≡ set_by core.node.me (Relist now list.now) r.answer) (at_moment now core.node) list.now (λ _. refl) (λ _. refl)
 
 -- THE REPORT THAT IS LEFT
 
@@ -233,9 +280,5 @@ untaken_then core now (deed.Greet peer) save none = none
 untaken_then core now (deed.Relist list) save none = untaken_is core.untaken (happens core.node (nodes.Relist now list.now) save).report none
 
 -- the report that is taken is the one that arose
-pub report_left : (a b : Core) (r : CoreReply) (n : Node) (given : Option Report) (told : Option Reported) → r.core.untaken.items ≡ option_to_list r.report → a ≡ r.core → option_to_list given ≡ a.untaken.items → b ≡ handed_out a → n ≡ b.node →
-    told ≡ option_map (reported_by n) given → told ≡ option_map (reported_by r.core.node) r.report
-report_left a b r n given told left is gives out node tells =
-    let same : given ≡ r.report = same_option given r.report (gives ∙ (ap (λ (k : Core). k.untaken.items) is ∙ left)) in
-    let its : n ≡ r.core.node = node ∙ (ap (λ (k : Core). k.node) out ∙ ap (λ (k : Core). k.node) is) in
-    tells ∙ (ap (λ (m : Node). option_map (reported_by m) given) its ∙ ap (option_map (reported_by r.core.node)) same)
+pub report_left : (a : Core) (r : CoreReply) (given : Option Report) → r.core.untaken.items ≡ option_to_list r.report → a ≡ r.core → option_to_list given ≡ a.untaken.items → given ≡ r.report
+report_left a r given left is gives = same_option given r.report (gives ∙ (ap (λ (k : Core). k.untaken.items) is ∙ left))

@@ -14,13 +14,13 @@ use Rattle.xl_core.specs.declared.event.CoreEvent.TheVariants.{Issue, Frame, Tim
 use Rattle.xl_wire.specs.Lengths.{longest_frame}
 use Rattle.xl_world.specs.declared.place.Fate.{Fate}
 use Rattle.xl_world.specs.declared.place.Fate.TheVariants.{Saved}
-use Rattle.xl_world.specs.declared.place.Keeper.{Keeper}
+use Rattle.xl_world.specs.declared.place.Disk.{Disk}
 use Rattle.xl_world.specs.declared.place.Place.{Place}
 use Rattle.xl_world.specs.Sending.{Sent}
 use Rattle.xl_world.specs.Emptying.{after_events, draining, drains, drains_for, drains_in_turn, emptying, emptying_at, event_steps, given_by, handed_out}
-use Rattle.xl_world.specs.Keeper.{answer_of}
+use Rattle.xl_world.specs.Disk.{answer_of}
 use Rattle.xl_world.specs.declared.plan.InForce.{InForce}
-use Rattle.xl_world.specs.World.{World, Act, acts, is_forged, keeper_after, place_at, put, reply_at, reported_by, run, said_by, sent_in, settled, step, set_by}
+use Rattle.xl_world.specs.World.{World, Act, acts, is_forged, disk_after, place_at, put, reply_at, reported_by, run, said_by, sent_in, settled, step, set_by}
 use Rattle.xl_world.proofs.Keeping.{core_keeps}
 use Rattle.xl_world.proofs.Putting.{put_at, put_put, put_same}
 use Rattle.xl_world.proofs.Settling.{at_its_number}
@@ -94,7 +94,7 @@ with_lists w places sent reports lists =
     record { liars = w.liars; numbers = w.numbers; places = places; sent = sent; mark = w.mark; said = w.said; reports = reports; lists = lists; forged = w.forged; spent = w.spent }
 
 abbrev once : Place → CoreEvent → Place
-once p e = record { core = (core_happens p.core e AnsweredOk).core; keeper = p.keeper }
+once p e = record { core = (core_happens p.core e AnsweredOk).core; disk = p.disk }
 
 abbrev frames_once : Place → CoreEvent → List Sent
 frames_once p e = sent_in p.core.node.me (core_happens p.core e AnsweredOk).answer
@@ -108,13 +108,13 @@ drain_step w i p e at is =
     ∙ ap (λ (ls : List InForce). with_lists w (put (once p (Drain m room)) w.places) (w.sent ++ frames_once p (Drain m room)) w.reports ls) (append-nil w.lists)) e is
 
 pub drains_run : (w : World) (i : ℕ) (p : Place) (es : List CoreEvent) → place_at i w.places ≡ Some p → AreDrains es →
-    run w (map (λ e. Act i e Saved) es) ≡ moved w (record { core = after_events p.core es; keeper = p.keeper }) (given_by p.core es)
+    run w (map (λ e. Act i e Saved) es) ≡ moved w (record { core = after_events p.core es; disk = p.disk }) (given_by p.core es)
 drains_run w i p [] at are =
     ap (λ (ps : List Place). with_lists w ps w.sent w.reports w.lists) (sym (put_same i w.places p at)) ∙ ap (λ (fs : List Sent). with_lists w (put p w.places) fs w.reports w.lists) (sym (append-nil w.sent))
 drains_run w i p (e ∷ es) at are =
     let q : Place = once p e in
     let frames : List Sent = frames_once p e in
-    let last : Place = record { core = after_events q.core es; keeper = p.keeper } in
+    let last : Place = record { core = after_events q.core es; disk = p.disk } in
     let same : q.core.node ≡ p.core.node = drain_by (λ d. (core_happens p.core d AnsweredOk).core.node ≡ p.core.node) (λ m room. refl) e are.0 in
     let number : q.core.node.me ≡ i = ap (λ (n : Node). n.me) same ∙ at_its_number i w.places p at in
     ap (λ (v : World). run v (map (λ d. Act i d Saved) es)) (drain_step w i p e at are.0)
@@ -123,9 +123,9 @@ drains_run w i p (e ∷ es) at are =
     ∙ ap (λ (fs : List Sent). with_lists w (put last w.places) fs w.reports w.lists) (append_assoc w.sent frames (given_by q.core es))
 
 -- after the report that arose is handed out
-reports_step : (w : World) (i : ℕ) (p : Place) → place_at i w.places ≡ Some p → step w (Act i (Reports 1) Saved) ≡ moved w (record { core = handed_out p.core; keeper = p.keeper }) []
+reports_step : (w : World) (i : ℕ) (p : Place) → place_at i w.places ≡ Some p → step w (Act i (Reports 1) Saved) ≡ moved w (record { core = handed_out p.core; disk = p.disk }) []
 reports_step w i p at =
-    let q : Place = record { core = handed_out p.core; keeper = p.keeper } in
+    let q : Place = record { core = handed_out p.core; disk = p.disk } in
     ap (λ o. acts w i (Reports 1) Saved o) at ∙ ap (λ (rs : List Reported). with_lists w (put q w.places) (w.sent ++ []) rs (w.lists ++ [])) (append-nil w.reports)
     ∙ ap (λ (ls : List InForce). with_lists w (put q w.places) (w.sent ++ []) w.reports ls) (append-nil w.lists)
 
@@ -140,11 +140,11 @@ pub emptied_node : (numbers : List ℕ) (core : Core) → (emptied numbers core)
 emptied_node numbers core = node_still (handed_out core) (draining numbers (handed_out core)) (turns_are (handed_out core) _)
 
 emptying_run : (numbers : List ℕ) (w : World) (i : ℕ) (p : Place) → place_at i w.places ≡ Some p →
-    run w (map (λ e. Act i e Saved) (emptying numbers p.core)) ≡ moved w (record { core = emptied numbers p.core; keeper = p.keeper }) (given_then numbers p.core)
+    run w (map (λ e. Act i e Saved) (emptying numbers p.core)) ≡ moved w (record { core = emptied numbers p.core; disk = p.disk }) (given_then numbers p.core)
 emptying_run numbers w i p at =
-    let q : Place = record { core = handed_out p.core; keeper = p.keeper } in
+    let q : Place = record { core = handed_out p.core; disk = p.disk } in
     let es : List CoreEvent = draining numbers q.core in
-    let last : Place = record { core = emptied numbers p.core; keeper = p.keeper } in
+    let last : Place = record { core = emptied numbers p.core; disk = p.disk } in
     ap (λ (v : World). run v (map (λ e. Act i e Saved) es)) (reports_step w i p at)
     ∙ drains_run (moved w q []) i q es (put_at i q w.places p (at_its_number i w.places p at) at) (turns_are q.core _)
     ∙ ap (λ (ps : List Place). with_lists w ps ((w.sent ++ []) ++ given_by q.core es) w.reports w.lists) (put_put q last w.places (ap (λ (n : Node). n.me) (node_still q.core es (turns_are q.core _))))
@@ -153,11 +153,11 @@ emptying_run numbers w i p at =
 -- AN EVENT AND WHAT FOLLOWS IT
 
 -- the world after what came of an event at a place, once its core is emptied
-abbrev pub emptied_then : World → ℕ → Bool → Option InForce → CoreReply → Keeper → World
-emptied_then w i forged set r keeper = record {
+abbrev pub emptied_then : World → ℕ → Bool → Option InForce → CoreReply → Disk → World
+emptied_then w i forged set r disk = record {
   liars = w.liars;
   numbers = w.numbers;
-  places = put (let x : Place = record { core = emptied w.numbers r.core; keeper = keeper } in x) w.places;
+  places = put (let x : Place = record { core = emptied w.numbers r.core; disk = disk } in x) w.places;
   sent = (w.sent ++ sent_in r.core.node.me r.answer) ++ given_then w.numbers r.core;
   mark = w.mark;
   said = with_said w.said (option_map (said_by i) r.issued);
@@ -171,7 +171,7 @@ abbrev pub emptied_acts : World → ℕ → CoreEvent → Fate → Option Place 
 emptied_acts w i e fate None = w
 emptied_acts w i e fate (Some p) =
     let r : CoreReply = reply_at p e fate in
-    emptied_then w i (is_forged w p.core.node e) (set_by p.core.node.me e r.answer) r (keeper_after p e fate)
+    emptied_then w i (is_forged w p.core.node e) (set_by p.core.node.me e r.answer) r (disk_after p e fate)
 
 -- the steps of an event leave that
 pub event_ran : (w : World) (i : ℕ) (e : CoreEvent) (fate : Fate) → run w (event_steps w i e fate) ≡ emptied_acts w i e fate (place_at i w.places)
@@ -181,10 +181,10 @@ event_ran w i e fate = by_place (place_at i w.places) refl
     by_place None at = refl
     by_place (Some p) at =
         let r : CoreReply = reply_at p e fate in
-        let k : Keeper = keeper_after p e fate in
-        let q : Place = record { core = r.core; keeper = k } in
-        let last : Place = record { core = emptied w.numbers r.core; keeper = k } in
+        let k : Disk = disk_after p e fate in
+        let q : Place = record { core = r.core; disk = k } in
+        let last : Place = record { core = emptied w.numbers r.core; disk = k } in
         let v : World = settled w i (is_forged w p.core.node e) (set_by p.core.node.me e r.answer) r k in
-        let its : r.core.node.me ≡ i = (core_keeps p.core e (answer_of p.keeper fate)).0 ∙ at_its_number i w.places p at in
+        let its : r.core.node.me ≡ i = (core_keeps p.core e (answer_of p.disk fate)).0 ∙ at_its_number i w.places p at in
         emptying_run w.numbers v i q (put_at i q w.places p its at)
         ∙ ap (λ (ps : List Place). with_lists v ps (v.sent ++ given_then w.numbers r.core) v.reports v.lists) (put_put q last w.places (ap (λ (n : Node). n.me) (emptied_node w.numbers r.core)))

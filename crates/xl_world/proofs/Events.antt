@@ -12,7 +12,7 @@ use Rattle.xl_world.specs.declared.place.Fate.TheVariants.{Saved}
 use Rattle.xl_world.specs.declared.place.Place.{Place}
 use Rattle.xl_world.specs.Sending.{Sent}
 use Rattle.xl_world.specs.Emptying.{event_steps}
-use Rattle.xl_world.specs.Keeper.{found, held_by, left_by, restored}
+use Rattle.xl_world.specs.Disk.{found, held_by, left_by, restored}
 use Rattle.xl_world.specs.Rested.{IsAtRest, IsRested}
 use Rattle.xl_world.specs.Schedule.{cut_at, cut_short, deliveries, delivery, delivery_of, event_asked, failing, frame_at, greet_steps, lied_bytes, node_asked, restart, steps_at, timers}
 use Rattle.xl_world.specs.World.{Again, Mark, Step, World, again, asked_at, core_again, moment_in, place_at, reopened, run, step, torn}
@@ -28,19 +28,19 @@ mark_rests w rest = record { numbers = rest.numbers; cores = rest.cores }
 -- a node that is opened again has no report, and its keys
 reopened_rests : (w : World) (i : ℕ) (p : Place) (now number : ℕ) → IsRested p.core → IsAtRest w → IsAtRest (reopened w i p now number)
 reopened_rests w i p now number rested rest =
-    put_rests w (reopened w i p now number) (record { core = core_again p now number; keeper = restored p.keeper number }) refl refl
+    put_rests w (reopened w i p now number) (record { core = core_again p now number; disk = restored p.disk number }) refl refl
     (record { untaken = refl; keys = rested.keys }) rest
 
 again_rests : (w : World) (i now number : ℕ) (o : Option Place) → ((p : Place) → o ≡ Some p → IsRested p.core) → IsAtRest w → IsAtRest (again w i now number o)
 again_rests w i now number None rested rest = rest
 again_rests w i now number (Some p) rested rest =
-    cond_both (may_hold (held_by p.keeper) number) (reopened w i p now number) w IsAtRest (λ _. reopened_rests w i p now number (rested p refl) rest) (λ _. rest)
+    cond_both (may_hold (held_by p.disk) number) (reopened w i p now number) w IsAtRest (λ _. reopened_rests w i p now number (rested p refl) rest) (λ _. rest)
 
 torn_rests : (w : World) (i now number : ℕ) (o : Option Place) (asked : Option ℕ) → ((p : Place) → o ≡ Some p → IsRested p.core) → IsAtRest w → IsAtRest (torn w i now number o asked)
 torn_rests w i now number None asked rested rest = rest
 torn_rests w i now number (Some p) None rested rest = rest
 torn_rests w i now number (Some p) (Some s) rested rest =
-    let q : Place = record { core = p.core; keeper = record p.keeper { asked = Some s } } in
+    let q : Place = record { core = p.core; disk = record p.disk { asked = Some s } } in
     again_rests w i now number (Some q) (λ x same. subst (λ (y : Place). IsRested y.core) (sym (some_same q x same)) (rested p refl)) rest
 
 step_rests : (w : World) (i now number : ℕ) → IsAtRest w → IsAtRest (step w (Again i now number))
@@ -74,7 +74,7 @@ greeting_rests w node peer rest =
 
 restart_rests : (w : World) (at i : ℕ) → IsAtRest w → (o : Option Place) → IsAtRest (run w (option_to_list (option_map (restart at) o)))
 restart_rests w at i rest None = rest
-restart_rests w at i rest (Some p) = step_rests w p.core.node.me at (found p.keeper) rest
+restart_rests w at i rest (Some p) = step_rests w p.core.node.me at (found p.disk) rest
 
 cut_rests : (w : World) (at : ℕ) (new : Bool) (i : ℕ) (e : CoreEvent) → IsAtRest w → (o : Option Place) → IsAtRest (run w (cut_at w at new i e o))
 cut_rests w at new i e rest None = rest
@@ -82,9 +82,9 @@ cut_rests w at new i e rest (Some p) = by_save (core_asks p.core e)
   where
     by_save : (asked : Option ℕ) → IsAtRest (run w (cut_short w at new i e p asked))
     by_save None =
-        more_rests w (event_steps w i e Saved) (Again i at (left_by p.keeper new None) ∷ [])
-        (step_rests (run w (event_steps w i e Saved)) i at (left_by p.keeper new None) (event_rests w i e Saved rest))
-    by_save (Some s) = torn_rests w i (moment_in e) (left_by p.keeper new (Some s)) (place_at i w.places) (asked_at (place_at i w.places) e) (λ q at_i. rest.cores i q at_i) rest
+        more_rests w (event_steps w i e Saved) (Again i at (left_by p.disk new None) ∷ [])
+        (step_rests (run w (event_steps w i e Saved)) i at (left_by p.disk new None) (event_rests w i e Saved rest))
+    by_save (Some s) = torn_rests w i (moment_in e) (left_by p.disk new (Some s)) (place_at i w.places) (asked_at (place_at i w.places) e) (λ q at_i. rest.cores i q at_i) rest
 
 -- each event's steps leave it at rest
 pub event_leaves : (w : World) (at : ℕ) (happening : What) → IsAtRest w → IsAtRest (run w (steps_at w at happening))

@@ -16,7 +16,7 @@ use Rattle.xl_world.specs.declared.place.Fate.{Fate}
 use Rattle.xl_world.specs.declared.place.Fate.TheVariants.{Saved}
 use Rattle.xl_world.specs.declared.place.Place.{Place}
 use Rattle.xl_world.specs.Emptying.{draining, emptying_at, event_steps, handed_out}
-use Rattle.xl_world.specs.Keeper.{left_by}
+use Rattle.xl_world.specs.Disk.{left_by}
 use Rattle.xl_world.specs.Schedule.{IsPlausible, cut_at, cut_short, deliveries, delivery, delivery_of, event_asked, failing, frame_at, greet_steps, lied_bytes, node_asked, restart, steps_at, timers}
 use Rattle.xl_world.specs.Sending.{Sent}
 use Rattle.xl_world.specs.World.{World, Step, Act, Again, Torn, Mark, AreFit, IsFit, IsFitEvent, place_at, reply_at, run}
@@ -92,9 +92,9 @@ module _ (P : CoreEvent → Type 0) (of_all : OfAll P) where
 
   by_save : (w : World) (at : ℕ) (new : Bool) (i : ℕ) (e : CoreEvent) (p : Place) (asked : Option ℕ) → P e → All (Does P) (cut_short w at new i e p asked)
   by_save w at new i e p None does =
-      let last : Step = Again i at (left_by p.keeper new None) in
+      let last : Step = Again i at (left_by p.disk new None) in
       All-append (Does P) (event_steps w i e Saved) (last ∷ []) (event_does w i e Saved does) (alone last tt)
-  by_save w at new i e p (Some s) does = alone (Torn i e (left_by p.keeper new (Some s))) tt
+  by_save w at new i e p (Some s) does = alone (Torn i e (left_by p.disk new (Some s))) tt
 
   cut_does : (w : World) (at : ℕ) (new : Bool) (i : ℕ) (e : CoreEvent) → P e → (o : Option Place) → All (Does P) (cut_at w at new i e o)
   cut_does w at new i e does None = All-nil (Does P)

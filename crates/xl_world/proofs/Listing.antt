@@ -14,14 +14,14 @@ use Rattle.xl_core.specs.declared.event.CoreEvent.TheVariants.{Issue, Frame, Tim
 use Rattle.xl_core.specs.declared.report.Report.{Report}
 use Rattle.xl_core.proofs.Timing.{submit_either, relist_either}
 use Rattle.xl_world.specs.declared.place.Fate.{Fate}
-use Rattle.xl_world.specs.declared.place.Keeper.{Keeper}
+use Rattle.xl_world.specs.declared.place.Disk.{Disk}
 use Rattle.xl_world.specs.declared.place.Place.{Place}
 use Rattle.xl_world.specs.declared.plan.InForce.{InForce}
 use Rattle.xl_world.specs.declared.plan.PlanNode.{PlanNode}
-use Rattle.xl_world.specs.Keeper.{answer_of, held_by, restored}
+use Rattle.xl_world.specs.Disk.{answer_of, held_by, restored}
 use Rattle.xl_world.specs.Plans.{Shared}
 use Rattle.xl_world.specs.Starts.{list_of, start, start_of}
-use Rattle.xl_world.specs.World.{World, Step, Act, Again, Torn, Mark, place_at, is_forged, set_by, settled, acts, reply_at, keeper_after, reported_by, core_again, moment_in, reopened, again, torn, asked_at, step, run}
+use Rattle.xl_world.specs.World.{World, Step, Act, Again, Torn, Mark, place_at, is_forged, set_by, settled, acts, reply_at, disk_after, reported_by, core_again, moment_in, reopened, again, torn, asked_at, step, run}
 use Rattle.xl_world.proofs.Keeping.{core_keeps, frame_keeps, issuing_keeps, timer_keeps}
 use Rattle.xl_world.proofs.Seats.{some_same}
 use Rattle.xl_world.proofs.Settling.{at_its_number, put_cases}
@@ -65,7 +65,7 @@ reported_under : (ls : List InForce) (n : Node) (o : Option Report) → Contains
 reported_under ls n None has = All-nil (λ r. Contains ls (at_node r.node r.list))
 reported_under ls n (Some q) has = All-cons (λ r. Contains ls (at_node r.node r.list)) (reported_by n q) [] has (All-nil (λ r. Contains ls (at_node r.node r.list)))
 
-settled_lists : (w : World) (i : ℕ) (forged : Bool) (set : Option InForce) (p : Place) (r : CoreReply) (k : Keeper) → place_at i w.places ≡ Some p → r.core.node.me ≡ p.core.node.me →
+settled_lists : (w : World) (i : ℕ) (forged : Bool) (set : Option InForce) (p : Place) (r : CoreReply) (k : Disk) → place_at i w.places ≡ Some p → r.core.node.me ≡ p.core.node.me →
     Follows p.core.node.me p.core.node.list set r.core.node.list → HasLists w → HasLists (settled w i forged set r k)
 settled_lists w i forged set p r k at same follows has =
     let ls : List InForce = w.lists ++ option_to_list set in
@@ -73,7 +73,7 @@ settled_lists w i forged set p r k at same follows has =
     subst (λ (m : ℕ). Contains w.lists (at_node m p.core.node.list)) (sym (at_its_number i w.places p at)) (has.nodes i p at) in
     let now : Contains ls (at_node r.core.node.me r.core.node.list) = subst (λ (m : ℕ). Contains ls (at_node m r.core.node.list)) (sym same) (follows w.lists before) in
     record {
-      nodes = λ j x h. elim (put_cases j (record { core = r.core; keeper = k }) w.places x h) [
+      nodes = λ j x h. elim (put_cases j (record { core = r.core; disk = k }) w.places x h) [
         | inl (same_j, same_x) ↦
             subst (λ (y : Place). Contains ls (at_node j y.core.node.list)) (sym same_x) (subst (λ (m : ℕ). Contains ls (at_node m r.core.node.list)) (sym same_j) now)
         | inr (_, there) ↦ Contains-append_left w.lists (option_to_list set) (at_node j x.core.node.list) (has.nodes j x there)
@@ -87,13 +87,13 @@ settled_lists w i forged set p r k at same follows has =
 acts_lists : (w : World) (i : ℕ) (e : CoreEvent) (fate : Fate) → HasLists w → (o : Option Place) → place_at i w.places ≡ o → HasLists (acts w i e fate o)
 acts_lists w i e fate has None at = has
 acts_lists w i e fate has (Some p) at =
-    let save : Save = answer_of p.keeper fate in
+    let save : Save = answer_of p.disk fate in
     let r : CoreReply = reply_at p e fate in
-    settled_lists w i (is_forged w p.core.node e) (set_by p.core.node.me e r.answer) p r (keeper_after p e fate) at (core_keeps p.core e save).0 (core_follows p.core e save) has
+    settled_lists w i (is_forged w p.core.node e) (set_by p.core.node.me e r.answer) p r (disk_after p e fate) at (core_keeps p.core e save).0 (core_follows p.core e save) has
 
-again_lists : (w : World) (i now number : ℕ) → HasLists w → (p : Place) → place_at i w.places ≡ Some p → (k : Keeper) → HasLists (again w i now number (Some (record { core = p.core; keeper = k })))
+again_lists : (w : World) (i now number : ℕ) → HasLists w → (p : Place) → place_at i w.places ≡ Some p → (k : Disk) → HasLists (again w i now number (Some (record { core = p.core; disk = k })))
 again_lists w i now number has p at k =
-    let q : Place = record { core = p.core; keeper = k } in
+    let q : Place = record { core = p.core; disk = k } in
     cond_both (may_hold (held_by k) number) (reopened w i q now number) w HasLists
     (λ _. settled_lists w i false None p (answering (core_again q now number) Done) (restored k number) at refl (λ ls. stays ls p.core.node.me p.core.node.list p.core.node.list refl) has) (λ _. has)
 
@@ -103,13 +103,13 @@ step_lists w (Again i now number) has = by (place_at i w.places) refl
   where
     by : (o : Option Place) → place_at i w.places ≡ o → HasLists (again w i now number o)
     by None at = has
-    by (Some p) at = again_lists w i now number has p at p.keeper
+    by (Some p) at = again_lists w i now number has p at p.disk
 step_lists w (Torn i e number) has = by (place_at i w.places) refl (asked_at (place_at i w.places) e)
   where
     by : (o : Option Place) → place_at i w.places ≡ o → (asked : Option ℕ) → HasLists (torn w i (moment_in e) number o asked)
     by None at asked = has
     by (Some p) at None = has
-    by (Some p) at (Some s) = again_lists w i (moment_in e) number has p at (record p.keeper { asked = Some s })
+    by (Some p) at (Some s) = again_lists w i (moment_in e) number has p at (record p.disk { asked = Some s })
 step_lists w Mark has = record { nodes = has.nodes; reports = has.reports }
 
 run_lists : (w : World) (ss : List Step) → HasLists w → HasLists (run w ss)

@@ -29,12 +29,12 @@ use Rattle.xl_core.specs.Hearing.{spoken_in}
 use Rattle.xl_core.proofs.Frames.{hearing_either}
 use Rattle.xl_core.specs.Answers.{Answer, Done, Beats}
 use Rattle.xl_core.specs.Node.{settings_of, Node, Event, Issue, Frame, Timer, Submit, Relist, Reply, relisted_reply, with_list, Save, issuing_reply, replying, submitted_reply, timer_reply, timer_outcome, validates, asks_for, asks_of, at_moment, second_of, own_validation, issued_unless_off, unless_failed, take, with_taken, with_saved, arises, arisen, report_of, refusing, placing, taken_reply, bytes_reply, asks, happens, opened}
-use Rattle.xl_world.specs.declared.place.Keeper.{Keeper}
+use Rattle.xl_world.specs.declared.place.Disk.{Disk}
 use Rattle.xl_world.specs.declared.place.Fate.{Fate}
 use Rattle.xl_world.specs.declared.place.Fate.TheVariants.{Saved, Unwritten, Written}
 use Rattle.xl_io.specs.Keepers.{MayHold}
 use Rattle.xl_base.specs.Counts.{one_more}
-use Rattle.xl_world.specs.Keeper.{held_by, restored, answer_of, after_failed, after_save}
+use Rattle.xl_world.specs.Disk.{held_by, restored, answer_of, after_failed, after_save}
 use Rattle.xl_validations.proofs.Turning.{members_then}
 use Rattle.xl_validations.proofs.Relisting.{members_relisted}
 use Rattle.xl_core.specs.Lives.{IsFitEvent}
@@ -78,12 +78,12 @@ members_opened (m ∷ ms) = cons_same refl (members_opened ms)
 
 -- THE KEEPER
 
-held : (k : Keeper) (n j : ℕ) → MayHold (held_by (restored k n)) j → j ≡ n
+held : (k : Disk) (n j : ℕ) → MayHold (held_by (restored k n)) j → j ≡ n
 held k n j (inl e) = e
 held k n j (inr e) = cc
 
--- after a save that failed the keeper holds the number in force, or the asked one
-pub failed_rises : (k : Keeper) (s j : ℕ) → k.in_force < s → MayHold (held_by (record k { asked = Some s })) j → (i : ℕ) × (i ≤ j) × MayHold (held_by k) i
+-- after a save that failed the disk holds the number in force, or the asked one
+pub failed_rises : (k : Disk) (s j : ℕ) → k.in_force < s → MayHold (held_by (record k { asked = Some s })) j → (i : ℕ) × (i ≤ j) × MayHold (held_by k) i
 failed_rises k s j above (inl e) = (j, omega arith, inl e)
 failed_rises k s j above (inr e) = (k.in_force, omega (arith, some_number s j e), inl refl)
   where
@@ -93,13 +93,13 @@ failed_rises k s j above (inr e) = (k.in_force, omega (arith, some_number s j e)
 -- THE EVENTS
 
 -- nothing is issued or reported
-pub still : (p : Seat) (r : Reply) → r.node ≡ p.node → r.issued ≡ None → r.report ≡ None → IsWell p → IsStep p r p.keeper
+pub still : (p : Seat) (r : Reply) → r.node ≡ p.node → r.issued ≡ None → r.report ≡ None → IsWell p → IsStep p r p.disk
 still p r node issued report well = record {
   me = ap (λ (n : Node). n.me) node;
-  well = subst (λ n. IsWell (record { node = n; keeper = p.keeper })) (sym node) (record { members = well.members; valid = well.valid; in_force = well.in_force });
+  well = subst (λ n. IsWell (record { node = n; disk = p.disk })) (sym node) (record { members = well.members; valid = well.valid; in_force = well.in_force });
   rises = λ j h. (j, omega arith, h);
-  above = subst (λ o. IfSome o (λ v. (i : ℕ) × (i < v.seq) × MayHold (held_by p.keeper) i)) (sym issued) tt;
-  saved = subst (λ o. IfSome o (λ v. (j : ℕ) → MayHold (held_by p.keeper) j → v.seq ≤ j)) (sym issued) tt;
+  above = subst (λ o. IfSome o (λ v. (i : ℕ) × (i < v.seq) × MayHold (held_by p.disk) i)) (sym issued) tt;
+  saved = subst (λ o. IfSome o (λ v. (j : ℕ) → MayHold (held_by p.disk) j → v.seq ≤ j)) (sym issued) tt;
   quorum = subst (λ o. IfSome o (λ q. r.node.list.quorum ≤ count_full q.seq q.id r.node.rows)) (sym report) tt;
 }
 
@@ -121,11 +121,11 @@ arisen_quorum n =
 
 -- after a save that failed
 failed_steps : (p : Seat) (v : Validation) (count : ℕ) (written : Bool) → p.node.kept < v.seq → IsWell p →
-    IsStep p (refusing (record p.node { failed_save = Some v.seq }) (KeepFault count)) (after_failed p.keeper v.seq written)
+    IsStep p (refusing (record p.node { failed_save = Some v.seq }) (KeepFault count)) (after_failed p.disk v.seq written)
 failed_steps p v count written above well = record {
   me = refl;
   well = record { members = well.members; valid = well.valid; in_force = well.in_force };
-  rises = λ j h. failed_rises p.keeper v.seq j (omega (arith, above, well.in_force)) h;
+  rises = λ j h. failed_rises p.disk v.seq j (omega (arith, above, well.in_force)) h;
   above = tt;
   saved = tt;
   quorum = tt;
@@ -133,31 +133,31 @@ failed_steps p v count written above well = record {
 
 -- an issue, by whether its sequence is above the kept one, whether a save failed before, and the fate of its own
 issue_steps : (p : Seat) (v : Validation) (b : Bool) (off : Option ℕ) (fate : Fate) → (b ≡ true → p.node.kept < v.seq) → IsWell p →
-    IsStep p (cond b (issued_unless_off p.node off (answer_of p.keeper fate) v) (refusing p.node (NotAfter p.node.kept))) (after_save p.keeper (cond b (unless_failed off v.seq) None) fate)
+    IsStep p (cond b (issued_unless_off p.node off (answer_of p.disk fate) v) (refusing p.node (NotAfter p.node.kept))) (after_save p.disk (cond b (unless_failed off v.seq) None) fate)
 issue_steps p v true None Saved above well = record {
   me = refl;
   well = record { members = members_taken (second_of p.node) p.node.me v p.node.rows ∙ well.members; valid = well.valid; in_force = refl };
-  rises = λ j h. (p.keeper.in_force, omega (arith, held p.keeper v.seq j h, above refl, well.in_force), inl refl);
-  above = (p.keeper.in_force, omega (arith, above refl, well.in_force), inl refl);
-  saved = λ j h. omega (arith, held p.keeper v.seq j h);
+  rises = λ j h. (p.disk.in_force, omega (arith, held p.disk v.seq j h, above refl, well.in_force), inl refl);
+  above = (p.disk.in_force, omega (arith, above refl, well.in_force), inl refl);
+  saved = λ j h. omega (arith, held p.disk v.seq j h);
   quorum = arisen_quorum (with_saved p.node (second_of p.node) v);
 }
-issue_steps p v true None Unwritten above well = failed_steps p v (one_more p.keeper.faults) false (above refl) well
-issue_steps p v true None Written above well = failed_steps p v (one_more p.keeper.faults) true (above refl) well
+issue_steps p v true None Unwritten above well = failed_steps p v (one_more p.disk.faults) false (above refl) well
+issue_steps p v true None Written above well = failed_steps p v (one_more p.disk.faults) true (above refl) well
 issue_steps p v true (Some failed) fate above well = still p (refusing p.node (IssuingOff failed)) refl refl refl well
 issue_steps p v false off fate above well = still p (refusing p.node (NotAfter p.node.kept)) refl refl refl well
 
 -- another round, on other ledgers
-elsewhere : (p : Seat) (r : Reply) (k : Keeper) (ledgers : Ledgers) (round : Round) → IsStep p r k → IsStep p (record r { node = record r.node { ledgers = ledgers; round = round } }) k
+elsewhere : (p : Seat) (r : Reply) (k : Disk) (ledgers : Ledgers) (round : Round) → IsStep p r k → IsStep p (record r { node = record r.node { ledgers = ledgers; round = round } }) k
 elsewhere p r k ledgers round s = record { me = s.me; well = record { members = s.well.members; valid = s.well.valid; in_force = s.well.in_force }; rises = s.rises; above = s.above; saved = s.saved; quorum = s.quorum }
 
-in_round : (p : Seat) (a : Answer) (r : Round) → IsWell p → IsStep p (replying (record p.node { round = r }) a []) p.keeper
+in_round : (p : Seat) (a : Answer) (r : Round) → IsWell p → IsStep p (replying (record p.node { round = r }) a []) p.disk
 in_round p a r well =
-    let s = elsewhere p (replying p.node a []) p.keeper p.node.ledgers r (still p (replying p.node a []) refl refl refl well) in
+    let s = elsewhere p (replying p.node a []) p.disk p.node.ledgers r (still p (replying p.node a []) refl refl refl well) in
     record { me = s.me; well = s.well; rises = s.rises; above = s.above; saved = s.saved; quorum = s.quorum }
 
 -- a row takes a validation; a header changes no row and no number
-taking_steps : (p : Seat) (from : ℕ) (what : Speech) → IsWell p → IsStep p (taken_reply p.node from what) p.keeper
+taking_steps : (p : Seat) (from : ℕ) (what : Speech) → IsWell p → IsStep p (taken_reply p.node from what) p.disk
 taking_steps p from (speech.Validation v) well = record {
   me = refl;
   well = record { members = members_taken (second_of p.node) from v p.node.rows ∙ well.members; valid = well.valid; in_force = well.in_force };
@@ -168,51 +168,51 @@ taking_steps p from (speech.Validation v) well = record {
 }
 taking_steps p from (speech.Header h) well =
     let r : Reply = taken_reply p.node from (speech.Header h) in
-    let s = elsewhere p (replying p.node r.answer []) p.keeper (with_header p.node.ledgers h) p.node.round (still p (replying p.node r.answer []) refl refl refl well) in
+    let s = elsewhere p (replying p.node r.answer []) p.disk (with_header p.node.ledgers h) p.node.round (still p (replying p.node r.answer []) refl refl refl well) in
     record { me = s.me; well = s.well; rises = s.rises; above = s.above; saved = s.saved; quorum = s.quorum }
 taking_steps p from (speech.Proposal q) well = in_round p (taken_reply p.node from (speech.Proposal q)).answer (with_answer (placing p.node from q) from q p.node.round) well
 taking_steps p from (speech.TxSet ids) well = in_round p (taken_reply p.node from (speech.TxSet ids)).answer (hold from ids p.node.round) well
 taking_steps p from (speech.Tx tx) well = in_round p (taken_reply p.node from (speech.Tx tx)).answer (with_pending tx p.node.round) well
 
-hearing_steps : (p : Seat) (bytes : List ℕ) → IsWell p → IsStep p (bytes_reply p.node bytes) p.keeper
+hearing_steps : (p : Seat) (bytes : List ℕ) → IsWell p → IsStep p (bytes_reply p.node bytes) p.disk
 hearing_steps p bytes well =
-    hearing_either (λ r. IsStep p r p.keeper) p.node bytes (λ why. still p (refusing p.node why) refl refl refl well) (λ said _. taking_steps p said.from said.what well)
+    hearing_either (λ r. IsStep p r p.disk) p.node bytes (λ why. still p (refusing p.node why) refl refl refl well) (λ said _. taking_steps p said.from said.what well)
 
 -- the place at a moment: its time is set, and rows expire
 abbrev moved : ℕ → Seat → Seat
-moved now p = record { node = at_moment now p.node; keeper = p.keeper }
+moved now p = record { node = at_moment now p.node; disk = p.disk }
 
 well_then : (now : ℕ) (p : Seat) → IsWell p → IsWell (moved now p)
 well_then now p well = record { members = members_then (max p.node.time now / 1000) p.node.rows ∙ well.members; valid = well.valid; in_force = well.in_force }
 
-from_moved : (now : ℕ) (p : Seat) (r : Reply) (k : Keeper) → IsStep (moved now p) r k → IsStep p r k
+from_moved : (now : ℕ) (p : Seat) (r : Reply) (k : Disk) → IsStep (moved now p) r k → IsStep p r k
 from_moved now p r k s = record { me = s.me; well = s.well; rises = s.rises; above = s.above; saved = s.saved; quorum = s.quorum }
 
 validating_steps : (p : Seat) (h : Header) (full : Bool) (b : Bool) (fate : Fate) → IsWell p →
-    IsStep p (cond b (issuing_reply p.node h.seq (header_id h) full (answer_of p.keeper fate)) (replying p.node Done [])) (after_save p.keeper (cond b (asks_for p.node h.seq) None) fate)
+    IsStep p (cond b (issuing_reply p.node h.seq (header_id h) full (answer_of p.disk fate)) (replying p.node Done [])) (after_save p.disk (cond b (asks_for p.node h.seq) None) fate)
 validating_steps p h full true fate well =
     issue_steps p (own_validation p.node h.seq (header_id h) full) (nat_lt p.node.kept h.seq) p.node.failed_save fate (λ e. ltb-true _ _ e) well
 validating_steps p h full false fate well = still p (replying p.node Done []) refl refl refl well
 
-timer_steps : (p : Seat) (fate : Fate) → IsWell p → IsStep p (timer_reply (timer_outcome p.node) (answer_of p.keeper fate)) (after_save p.keeper (asks_of (timer_outcome p.node)) fate)
+timer_steps : (p : Seat) (fate : Fate) → IsWell p → IsStep p (timer_reply (timer_outcome p.node) (answer_of p.disk fate)) (after_save p.disk (asks_of (timer_outcome p.node)) fate)
 timer_steps p fate well =
-    timing_by (λ t. IsStep p (timer_reply t (answer_of p.keeper fate)) (after_save p.keeper (asks_of t) fate)) p.node
-    (λ r beat said. let s = elsewhere p (replying p.node (Beats beat) (said_items said)) p.keeper p.node.ledgers r (still p (replying p.node (Beats beat) (said_items said)) refl refl refl well) in
+    timing_by (λ t. IsStep p (timer_reply t (answer_of p.disk fate)) (after_save p.disk (asks_of t) fate)) p.node
+    (λ r beat said. let s = elsewhere p (replying p.node (Beats beat) (said_items said)) p.disk p.node.ledgers r (still p (replying p.node (Beats beat) (said_items said)) refl refl refl well) in
     record { me = s.me; well = s.well; rises = s.rises; above = s.above; saved = s.saved; quorum = s.quorum })
     (λ ledgers r said h place moved_on _.
-    let q : Seat = record { node = record p.node { ledgers = ledgers; round = r }; keeper = p.keeper } in
+    let q : Seat = record { node = record p.node { ledgers = ledgers; round = r }; disk = p.disk } in
     let s = validating_steps q h (is_proposing r.setting.mode) (validates q.node moved_on) fate (record { members = well.members; valid = well.valid; in_force = well.in_force }) in
     record { me = s.me; well = record { members = s.well.members; valid = s.well.valid; in_force = s.well.in_force }; rises = s.rises; above = s.above; saved = s.saved; quorum = s.quorum })
 
-submit_steps : (p : Seat) (tx : TxId) → IsWell p → IsStep p (submitted_reply p.node tx) p.keeper
+submit_steps : (p : Seat) (tx : TxId) → IsWell p → IsStep p (submitted_reply p.node tx) p.disk
 submit_steps p tx well =
-    submit_either (λ r. IsStep p r p.keeper) p.node tx (λ why. still p (refusing p.node why) refl refl refl well)
-    (let s = elsewhere p (replying p.node Done (Tx tx ∷ [])) p.keeper p.node.ledgers (with_pending tx p.node.round) (still p (replying p.node Done (Tx tx ∷ [])) refl refl refl well) in
+    submit_either (λ r. IsStep p r p.disk) p.node tx (λ why. still p (refusing p.node why) refl refl refl well)
+    (let s = elsewhere p (replying p.node Done (Tx tx ∷ [])) p.disk p.node.ledgers (with_pending tx p.node.round) (still p (replying p.node Done (Tx tx ∷ [])) refl refl refl well) in
     record { me = s.me; well = s.well; rises = s.rises; above = s.above; saved = s.saved; quorum = s.quorum })
 
-relisting_steps : (p : Seat) (list : TrustedList) → IsValid list → IsWell p → IsStep p (relisted_reply p.node list) p.keeper
+relisting_steps : (p : Seat) (list : TrustedList) → IsValid list → IsWell p → IsStep p (relisted_reply p.node list) p.disk
 relisting_steps p list valid well =
-    relist_either (λ r. IsStep p r p.keeper) p.node list (λ why. still p (refusing p.node why) refl refl refl well)
+    relist_either (λ r. IsStep p r p.disk) p.node list (λ why. still p (refusing p.node why) refl refl refl well)
     (λ _. record {
       me = refl;
       well = record { members = members_relisted list.members p.node.rows; valid = valid; in_force = well.in_force };
@@ -222,7 +222,7 @@ relisting_steps p list valid well =
       quorum = arisen_quorum (with_list p.node list);
     })
 
-pub happens_steps : (p : Seat) (e : Event) (fate : Fate) → IsFitEvent e → IsWell p → IsStep p (happens p.node e (answer_of p.keeper fate)) (after_save p.keeper (asks p.node e) fate)
+pub happens_steps : (p : Seat) (e : Event) (fate : Fate) → IsFitEvent e → IsWell p → IsStep p (happens p.node e (answer_of p.disk fate)) (after_save p.disk (asks p.node e) fate)
 happens_steps p (Issue now seq id full) fate fit well =
     let m : Node = at_moment now p.node in
     from_moved now p _ _ (issue_steps (moved now p) (own_validation m seq id full) (nat_lt m.kept seq) m.failed_save fate (λ e. ltb-true _ _ e) (well_then now p well))
@@ -328,7 +328,7 @@ happens_says P n (Relist now list) save says spoken_in fair =
 pub opened_says : (P : SaidLedger → Type 0) (settings : Settings) (now kept : ℕ) → NodeSays P (opened settings now kept)
 opened_says P settings now kept = All-map (RowSays P) empty_row settings.list.members (λ _ _ _. tt)
 
-pub opened_well : (settings : Settings) (now number : ℕ) (k : Keeper) → IsValid settings.list → k.in_force ≡ number → IsWell (record { node = opened settings now number; keeper = k })
+pub opened_well : (settings : Settings) (now number : ℕ) (k : Disk) → IsValid settings.list → k.in_force ≡ number → IsWell (record { node = opened settings now number; disk = k })
 opened_well settings now number k valid same = record { members = members_opened settings.list.members; valid = valid; in_force = sym same }
 
 asks_for_above : (n : Node) (seq : ℕ) → IfSome (asks_for n seq) (λ s. n.kept < s)
@@ -355,13 +355,13 @@ asks_above n (Frame now bytes) = tt
 abbrev pub quiet : Node → Reply
 quiet n = record { node = n; answer = Done; items = []; issued = None; report = None }
 
--- a node opened again with a number that is not below its keeper's
-pub opened_steps : (p : Seat) (now number : ℕ) → IsWell p → (i : ℕ) × (i ≤ number) × MayHold (held_by p.keeper) i →
-    IsStep p (quiet (opened (settings_of p.node) now number)) (restored p.keeper number)
+-- a node opened again with a number that is not below its disk's
+pub opened_steps : (p : Seat) (now number : ℕ) → IsWell p → (i : ℕ) × (i ≤ number) × MayHold (held_by p.disk) i →
+    IsStep p (quiet (opened (settings_of p.node) now number)) (restored p.disk number)
 opened_steps p now number well low = record {
   me = refl;
-  well = opened_well (settings_of p.node) now number (restored p.keeper number) well.valid refl;
-  rises = λ j h. (low.0, omega (arith, held p.keeper number j h, low.1), low.2);
+  well = opened_well (settings_of p.node) now number (restored p.disk number) well.valid refl;
+  rises = λ j h. (low.0, omega (arith, held p.disk number j h, low.1), low.2);
   above = tt;
   saved = tt;
   quorum = tt;

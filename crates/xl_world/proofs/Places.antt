@@ -10,10 +10,9 @@ use Rattle.xl_core.specs.declared.event.CoreEvent.{CoreEvent}
 use Rattle.xl_world.specs.declared.act.NodeAnswer.{NodeAnswer}
 use Rattle.xl_world.specs.declared.place.Place.{Place}
 use Rattle.xl_world.specs.declared.place.Fate.{Fate}
-use Rattle.xl_world.specs.Keeper.{answer_of}
-use Rattle.xl_world.specs.World.{place_at, put, reply_at, set_by}
-use Rattle.xl_core.specs.Core.{core_asks}
-use Rattle.xl_world.specs.declared.place.Keeper.{Keeper}
+use Rattle.xl_world.specs.Disk.{answer_of}
+use Rattle.xl_world.specs.World.{place_at, put}
+use Rattle.xl_world.specs.declared.place.Disk.{Disk}
 use Rattle.xl_world.specs.Seen.{IsAnswer, place_again, put_again, place_after, place_drained, put_acted, put_drained, given_at, acted_at, Answers, AnswersAt}
 use Rattle.xl_world.proofs.Keeping.{core_keeps}
 use Rattle.xl_world.proofs.Emptying.{node_still, turns_are}
@@ -67,7 +66,7 @@ none_there xs i none = nowhere xs i (none_found xs i none)
 -- an event at the place that is found
 pub acted_there : (xs : List Place) (i k : ℕ) (e : CoreEvent) (fate : Fate) (d y : Place) → position (λ p. p.core.node.me == i) xs ≡ Some k → y ≡ place_after (get_or xs k d) e fate → set xs k y ≡ acted_at i e fate xs
 acted_there xs i k e fate d y found is =
-    put_found xs i k d y found (ap (λ (p : Place). p.core.node.me) is ∙ (core_keeps (get_or xs k d).core e (answer_of (get_or xs k d).keeper fate)).0)
+    put_found xs i k d y found (ap (λ (p : Place). p.core.node.me) is ∙ (core_keeps (get_or xs k d).core e (answer_of (get_or xs k d).disk fate)).0)
     ∙ (ap (λ (p : Place). put p xs) is ∙ ap (λ o. put_acted e fate o xs) (sym (found_there xs i k d found)))
 
 -- a drain of the place that is found
@@ -87,19 +86,19 @@ pub given_nowhere : (numbers : List ℕ) (xs : List Place) (i : ℕ) → positio
 given_nowhere numbers xs i none = ap (given_at numbers) (sym (none_there xs i none))
 
 -- a node that is opened again at the place that is found
-pub again_there : (xs : List Place) (i k now : ℕ) (keeper : Keeper) (d y : Place) → position (λ p. p.core.node.me == i) xs ≡ Some k → y ≡ place_again (get_or xs k d) now keeper → set xs k y ≡ put_again now keeper (place_at i xs) xs
-again_there xs i k now keeper d y found is =
+pub again_there : (xs : List Place) (i k now : ℕ) (disk : Disk) (d y : Place) → position (λ p. p.core.node.me == i) xs ≡ Some k → y ≡ place_again (get_or xs k d) now disk → set xs k y ≡ put_again now disk (place_at i xs) xs
+again_there xs i k now disk d y found is =
     put_found xs i k d y found (ap (λ (p : Place). p.core.node.me) is)
-    ∙ (ap (λ (p : Place). put p xs) is ∙ ap (λ o. put_again now keeper o xs) (sym (found_there xs i k d found)))
+    ∙ (ap (λ (p : Place). put p xs) is ∙ ap (λ o. put_again now disk o xs) (sym (found_there xs i k d found)))
 
-pub again_nowhere : (xs : List Place) (i now : ℕ) (keeper : Keeper) → position (λ p. p.core.node.me == i) xs ≡ None → xs ≡ put_again now keeper (place_at i xs) xs
-again_nowhere xs i now keeper none = ap (λ o. put_again now keeper o xs) (sym (none_there xs i none))
+pub again_nowhere : (xs : List Place) (i now : ℕ) (disk : Disk) → position (λ p. p.core.node.me == i) xs ≡ None → xs ≡ put_again now disk (place_at i xs) xs
+again_nowhere xs i now disk none = ap (λ o. put_again now disk o xs) (sym (none_there xs i none))
 
 pub acted_nowhere : (xs : List Place) (i : ℕ) (e : CoreEvent) (fate : Fate) → position (λ p. p.core.node.me == i) xs ≡ None → xs ≡ acted_at i e fate xs
 acted_nowhere xs i e fate none = ap (λ o. put_acted e fate o xs) (sym (none_there xs i none))
 
 pub answered_there : (xs : List Place) (i k : ℕ) (e : CoreEvent) (fate : Fate) (d : Place) (a : NodeAnswer) → position (λ p. p.core.node.me == i) xs ≡ Some k →
-    IsAnswer (get_or xs k d).core.node.me a (reply_at (get_or xs k d) e fate) × (a.asked ≡ core_asks (get_or xs k d).core e) × (a.set ≡ set_by (get_or xs k d).core.node.me e (reply_at (get_or xs k d) e fate).answer) → AnswersAt i e fate xs (Some a)
+    IsAnswer (get_or xs k d) e fate a → AnswersAt i e fate xs (Some a)
 answered_there xs i k e fate d a found is = subst (λ o. Answers e fate o (Some a)) (sym (found_there xs i k d found)) is
 
 pub answered_nowhere : (xs : List Place) (i : ℕ) (e : CoreEvent) (fate : Fate) → position (λ p. p.core.node.me == i) xs ≡ None → AnswersAt i e fate xs None

@@ -9,16 +9,16 @@ use Rattle.xl_core.specs.Answers.{Done}
 use Rattle.xl_core.specs.Core.{CoreReply, answering}
 use Rattle.xl_core.specs.Node.{Node}
 use Rattle.xl_core.specs.declared.report.Report.{Report}
-use Rattle.xl_world.specs.declared.place.Keeper.{Keeper}
+use Rattle.xl_world.specs.declared.place.Disk.{Disk}
 use Rattle.xl_core.specs.declared.event.CoreEvent.{CoreEvent}
 use Rattle.xl_world.specs.declared.place.Place.{Place}
 use Rattle.xl_world.specs.declared.plan.InForce.{InForce}
 use Rattle.xl_world.specs.declared.plan.PlanNode.{PlanNode}
 use Rattle.xl_world.specs.declared.place.Fate.{Fate}
 use Rattle.xl_io.specs.Keepers.{may_hold}
-use Rattle.xl_world.specs.Keeper.{answer_of, held_by, restored}
+use Rattle.xl_world.specs.Disk.{answer_of, held_by, restored}
 use Rattle.xl_world.specs.Plans.{IsDeclared, AreDeclared, Shared, list_at}
-use Rattle.xl_world.specs.World.{World, Step, Act, Again, Torn, Mark, place_at, put, is_forged, settled, acts, reply_at, keeper_after, reported_by, set_by, core_again, moment_in, reopened, again, torn, asked_at, step, run, core_in}
+use Rattle.xl_world.specs.World.{World, Step, Act, Again, Torn, Mark, place_at, put, is_forged, settled, acts, reply_at, disk_after, reported_by, set_by, core_again, moment_in, reopened, again, torn, asked_at, step, run, core_in}
 use Rattle.xl_world.specs.Starts.{start_of, start, IsRun}
 use Rattle.xl_world.proofs.Keeping.{core_keeps}
 use Rattle.xl_world.proofs.Listing.{at_node, run_has_lists}
@@ -46,12 +46,12 @@ acts_present w i e fate (Some p) j = put_present j _ w.places
 
 again_present : (w : World) (i now number : ℕ) (o : Option Place) → StandsSame w (again w i now number o)
 again_present w i now number None j = refl
-again_present w i now number (Some p) j = cond_both (may_hold (held_by p.keeper) number) (reopened w i p now number) w (λ v. is_some (place_at j v.places) ≡ is_some (place_at j w.places)) (λ _. put_present j _ w.places) (λ _. refl)
+again_present w i now number (Some p) j = cond_both (may_hold (held_by p.disk) number) (reopened w i p now number) w (λ v. is_some (place_at j v.places) ≡ is_some (place_at j w.places)) (λ _. put_present j _ w.places) (λ _. refl)
 
 torn_present : (w : World) (i now number : ℕ) (o : Option Place) (asked : Option ℕ) → StandsSame w (torn w i now number o asked)
 torn_present w i now number None asked j = refl
 torn_present w i now number (Some p) None j = refl
-torn_present w i now number (Some p) (Some s) j = again_present w i now number (Some (record { core = p.core; keeper = record p.keeper { asked = Some s } })) j
+torn_present w i now number (Some p) (Some s) j = again_present w i now number (Some (record { core = p.core; disk = record p.disk { asked = Some s } })) j
 
 step_present : (w : World) (s : Step) → StandsSame w (step w s)
 step_present w (Act i e fate) j = acts_present w i e fate (place_at i w.places) j
@@ -92,9 +92,9 @@ of_report : (places : List Place) (n : Node) (o : Option Report) → is_some (pl
 of_report places n None stands = All-nil (λ r. is_some (place_at r.node places) ≡ true)
 of_report places n (Some q) stands = All-cons (λ r. is_some (place_at r.node places) ≡ true) (reported_by n q) [] stands (All-nil (λ r. is_some (place_at r.node places) ≡ true))
 
-settled_reporters : (w : World) (i : ℕ) (forged : Bool) (set : Option InForce) (p : Place) (r : CoreReply) (k : Keeper) → place_at i w.places ≡ Some p → r.core.node.me ≡ p.core.node.me → HasReporters w → HasReporters (settled w i forged set r k)
+settled_reporters : (w : World) (i : ℕ) (forged : Bool) (set : Option InForce) (p : Place) (r : CoreReply) (k : Disk) → place_at i w.places ≡ Some p → r.core.node.me ≡ p.core.node.me → HasReporters w → HasReporters (settled w i forged set r k)
 settled_reporters w i forged set p r k at same has =
-    let q : Place = record { core = r.core; keeper = k } in
+    let q : Place = record { core = r.core; disk = k } in
     let stands : is_some (place_at r.core.node.me (put q w.places)) ≡ true =
     put_present r.core.node.me q w.places ∙ (ap (λ (m : ℕ). is_some (place_at m w.places)) (same ∙ at_its_number i w.places p at) ∙ ap is_some at) in
     All-append (λ x. is_some (place_at x.node (put q w.places)) ≡ true) w.reports (option_to_list (option_map (reported_by r.core.node) r.report))
@@ -104,22 +104,22 @@ settled_reporters w i forged set p r k at same has =
 acts_reporters : (w : World) (i : ℕ) (e : CoreEvent) (fate : Fate) → HasReporters w → (o : Option Place) → place_at i w.places ≡ o → HasReporters (acts w i e fate o)
 acts_reporters w i e fate has None at = has
 acts_reporters w i e fate has (Some p) at =
-    settled_reporters w i (is_forged w p.core.node e) (set_by p.core.node.me e (reply_at p e fate).answer) p (reply_at p e fate) (keeper_after p e fate) at (core_keeps p.core e (answer_of p.keeper fate)).0 has
+    settled_reporters w i (is_forged w p.core.node e) (set_by p.core.node.me e (reply_at p e fate).answer) p (reply_at p e fate) (disk_after p e fate) at (core_keeps p.core e (answer_of p.disk fate)).0 has
 
-again_reporters : (w : World) (i now number : ℕ) → HasReporters w → (p : Place) → place_at i w.places ≡ Some p → (k : Keeper) → HasReporters (again w i now number (Some (record { core = p.core; keeper = k })))
+again_reporters : (w : World) (i now number : ℕ) → HasReporters w → (p : Place) → place_at i w.places ≡ Some p → (k : Disk) → HasReporters (again w i now number (Some (record { core = p.core; disk = k })))
 again_reporters w i now number has p at k =
-    let q : Place = record { core = p.core; keeper = k } in
+    let q : Place = record { core = p.core; disk = k } in
     cond_both (may_hold (held_by k) number) (reopened w i q now number) w HasReporters
     (λ _. settled_reporters w i false None p (answering (core_again q now number) Done) (restored k number) at refl has) (λ _. has)
 
 reopened_reporters : (w : World) (i now number : ℕ) → HasReporters w → (o : Option Place) → place_at i w.places ≡ o → HasReporters (again w i now number o)
 reopened_reporters w i now number has None at = has
-reopened_reporters w i now number has (Some p) at = again_reporters w i now number has p at p.keeper
+reopened_reporters w i now number has (Some p) at = again_reporters w i now number has p at p.disk
 
 torn_reporters : (w : World) (i now number : ℕ) → HasReporters w → (o : Option Place) → place_at i w.places ≡ o → (asked : Option ℕ) → HasReporters (torn w i now number o asked)
 torn_reporters w i now number has None at asked = has
 torn_reporters w i now number has (Some p) at None = has
-torn_reporters w i now number has (Some p) at (Some s) = again_reporters w i now number has p at (record p.keeper { asked = Some s })
+torn_reporters w i now number has (Some p) at (Some s) = again_reporters w i now number has p at (record p.disk { asked = Some s })
 
 step_reporters : (w : World) (s : Step) → HasReporters w → HasReporters (step w s)
 step_reporters w (Act i e fate) has = acts_reporters w i e fate has (place_at i w.places) refl

@@ -15,11 +15,11 @@ use Rattle.xl_world.specs.declared.place.Fate.{Fate}
 use Rattle.xl_world.specs.declared.place.Place.{Place}
 use Rattle.xl_world.specs.declared.plan.PlanNode.{PlanNode}
 use Rattle.xl_world.specs.Emptying.{draining, event_steps, handed_out}
-use Rattle.xl_world.specs.Keeper.{answer_of}
+use Rattle.xl_world.specs.Disk.{answer_of}
 use Rattle.xl_world.specs.Plans.{Shared, all_numbers, is_declared, up_from}
 use Rattle.xl_world.specs.Rested.{Between, IsAtRest, IsRested}
 use Rattle.xl_world.specs.Starts.{start, start_of}
-use Rattle.xl_world.specs.World.{World, keeper_after, place_at, put, reply_at, run}
+use Rattle.xl_world.specs.World.{World, disk_after, place_at, put, reply_at, run}
 use Rattle.xl_world.proofs.Emptying.{emptied, emptied_acts, emptied_node, event_ran, turns_are, untaken_still}
 use Rattle.xl_world.proofs.Keeping.{core_keeps}
 use Rattle.xl_world.proofs.Seats.{some_same}
@@ -81,8 +81,8 @@ event_rests w i e fate rest = subst IsAtRest (sym (event_ran w i e fate)) (by_pl
     by_place None at = rest
     by_place (Some p) at =
         let r : CoreReply = reply_at p e fate in
-        let q : Place = record { core = emptied w.numbers r.core; keeper = keeper_after p e fate } in
-        put_rests w (emptied_acts w i e fate (Some p)) q refl refl (emptied_rests w.numbers r.core (rested_after p.core e (answer_of p.keeper fate) (rest.cores i p at))) rest
+        let q : Place = record { core = emptied w.numbers r.core; disk = disk_after p e fate } in
+        put_rests w (emptied_acts w i e fate (Some p)) q refl refl (emptied_rests w.numbers r.core (rested_after p.core e (answer_of p.disk fate) (rest.cores i p at))) rest
 
 -- AT THE START
 

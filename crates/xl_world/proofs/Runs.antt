@@ -15,18 +15,18 @@ use Rattle.xl_core.specs.Core.{Core, CoreReply, answering, core_asks}
 use Rattle.xl_core.specs.Node as nodes
 use Rattle.xl_core.specs.Node.{Node, Save, settings_of}
 use Rattle.xl_core.proofs.Heard.{heard_parts}
-use Rattle.xl_world.specs.declared.place.Keeper.{Keeper}
+use Rattle.xl_world.specs.declared.place.Disk.{Disk}
 use Rattle.xl_world.specs.declared.place.Fate.{Fate}
 use Rattle.xl_world.specs.declared.plan.PlanNode.{PlanNode}
 use Rattle.xl_world.specs.Sending.{Sent}
 use Rattle.xl_io.specs.Keepers.{MayHold, may_hold}
 use Rattle.xl_base.specs.Counts.{one_more}
-use Rattle.xl_world.specs.Keeper.{held_by, resting, restored, answer_of}
+use Rattle.xl_world.specs.Disk.{held_by, resting, restored, answer_of}
 use Rattle.xl_world.specs.Plans.{Shared, planned, AreDeclared}
 use Rattle.xl_world.proofs.Standing.{FrameSays}
 use Rattle.xl_world.specs.World.{said_by}
 use Rattle.xl_world.specs.declared.place.Place.{Place}
-use Rattle.xl_world.specs.World.{World, Step, Act, Again, Torn, Mark, AreFit, IsFit, IsFitEvent, place_at, is_forged, set_by, acts, reply_at, keeper_after, core_again, reopened, again, torn, moment_in, asked_at, marked, step, run}
+use Rattle.xl_world.specs.World.{World, Step, Act, Again, Torn, Mark, AreFit, IsFit, IsFitEvent, place_at, is_forged, set_by, acts, reply_at, disk_after, core_again, reopened, again, torn, moment_in, asked_at, marked, step, run}
 use Rattle.xl_world.specs.Starts.{start_of, start, IsRun}
 use Rattle.xl_world.proofs.Standing.{CoreSays, Stands}
 use Rattle.xl_world.proofs.NodeSteps.{asks_above, failed_rises, opened_well}
@@ -70,8 +70,8 @@ act_sound w i e fate fit sound (Some p) at same =
     let its : p.core.node.me ≡ i = at_its_number i w.places p at in
     let r : CoreReply = reply_at p e fate in
     let still = λ (x : SaidLedger). vouches_still w.liars w.said (spoken i r.issued) x.member x.seq x.id in
-    settled_sound w i (is_forged w p.core.node e) (set_by p.core.node.me e r.answer) p r (keeper_after p e fate) at (core_steps p e fate fit (sound.well i p at))
-    (core_says (GenuineThen w i r) p.core e (answer_of p.keeper fate)
+    settled_sound w i (is_forged w p.core.node e) (set_by p.core.node.me e r.answer) p r (disk_after p e fate) at (core_steps p e fate fit (sound.well i p at))
+    (core_says (GenuineThen w i r) p.core e (answer_of p.disk fate)
     (core_weaker (IsGenuine w.liars w.said) (GenuineThen w i r) still p.core (sound.kept.genuine.places i p at))
     (heard_weaker (IsGenuine w.liars w.said) (GenuineThen w i r) still p.core.node e (heard_genuine w p.core.node sound.kept.genuine e (not_forged (is_forged w p.core.node e) w.forged same)))
     (subst (λ m. IfSome r.issued (λ v. GenuineThen w i r (said_by m v))) (sym its) (issued_genuine w.liars w.said i r.issued)))
@@ -81,26 +81,26 @@ act_sound w i e fate fit sound (Some p) at same =
     not_forged true k h = absurd (never_none k h)
     not_forged false k h = refl
 
--- a core opened again with a number that is not below its keeper's
-reopened_sound : (w : World) (i now number : ℕ) → IsSound w → (p : Place) → place_at i w.places ≡ Some p → (k : ℕ) × (k ≤ number) × MayHold (held_by p.keeper) k → (asked : Option ℕ) →
-    IsSound (reopened w i (record { core = p.core; keeper = record p.keeper { asked = asked } }) now number)
+-- a core opened again with a number that is not below its disk's
+reopened_sound : (w : World) (i now number : ℕ) → IsSound w → (p : Place) → place_at i w.places ≡ Some p → (k : ℕ) × (k ≤ number) × MayHold (held_by p.disk) k → (asked : Option ℕ) →
+    IsSound (reopened w i (record { core = p.core; disk = record p.disk { asked = asked } }) now number)
 reopened_sound w i now number sound p at low asked =
-    settled_sound w i false None p (answering (core_again p now number) Done) (restored (record p.keeper { asked = asked }) number) at
+    settled_sound w i false None p (answering (core_again p now number) Done) (restored (record p.disk { asked = asked }) number) at
     (opened_core_steps p now number asked (sound.well i p at) low)
     (record { core = opened_core_says (IsGenuine w.liars w.said) (settings_of p.core.node) now number; sent = All-nil (FrameSays (IsGenuine w.liars w.said)) }) sound
 
 again_sound : (w : World) (i now number : ℕ) → IsSound w → (o : Option Place) → place_at i w.places ≡ o → IsSound (again w i now number o)
 again_sound w i now number sound None at = sound
 again_sound w i now number sound (Some p) at =
-    cond_both (may_hold (held_by p.keeper) number) (reopened w i p now number) w IsSound
-    (λ e. reopened_sound w i now number sound p at (number, omega arith, may_hold-true (held_by p.keeper) number e) p.keeper.asked) (λ _. sound)
+    cond_both (may_hold (held_by p.disk) number) (reopened w i p now number) w IsSound
+    (λ e. reopened_sound w i now number sound p at (number, omega arith, may_hold-true (held_by p.disk) number e) p.disk.asked) (λ _. sound)
 
 torn_sound : (w : World) (i now number : ℕ) → IsSound w → (p : Place) → place_at i w.places ≡ Some p → (asked : Option ℕ) → IfSome asked (λ s. p.core.node.kept < s) → IsSound (torn w i now number (Some p) asked)
 torn_sound w i now number sound p at None above = sound
 torn_sound w i now number sound p at (Some s) above =
-    let k : Keeper = record p.keeper { asked = Some s } in
-    cond_both (may_hold (held_by k) number) (reopened w i (record { core = p.core; keeper = k }) now number) w IsSound
-    (λ e. reopened_sound w i now number sound p at (failed_rises p.keeper s number (omega (arith, above, (sound.well i p at).in_force)) (may_hold-true (held_by k) number e)) (Some s))
+    let k : Disk = record p.disk { asked = Some s } in
+    cond_both (may_hold (held_by k) number) (reopened w i (record { core = p.core; disk = k }) now number) w IsSound
+    (λ e. reopened_sound w i now number sound p at (failed_rises p.disk s number (omega (arith, above, (sound.well i p at).in_force)) (may_hold-true (held_by k) number e)) (Some s))
     (λ _. sound)
 
 -- a save is asked above the number that was kept
@@ -153,12 +153,12 @@ acts_stays w i e fate (Some p) = record { liars = refl; forged = cond_both (is_f
 again_stays : (w : World) (i now number : ℕ) (o : Option Place) → Stays w (again w i now number o)
 again_stays w i now number None = record { liars = refl; forged = λ h. h; spent = refl }
 again_stays w i now number (Some p) =
-    cond_both (may_hold (held_by p.keeper) number) (reopened w i p now number) w (Stays w) (λ _. record { liars = refl; forged = λ h. h; spent = refl }) (λ _. record { liars = refl; forged = λ h. h; spent = refl })
+    cond_both (may_hold (held_by p.disk) number) (reopened w i p now number) w (Stays w) (λ _. record { liars = refl; forged = λ h. h; spent = refl }) (λ _. record { liars = refl; forged = λ h. h; spent = refl })
 
 torn_stays : (w : World) (i now number : ℕ) (o : Option Place) (asked : Option ℕ) → Stays w (torn w i now number o asked)
 torn_stays w i now number None asked = record { liars = refl; forged = λ h. h; spent = refl }
 torn_stays w i now number (Some p) None = record { liars = refl; forged = λ h. h; spent = refl }
-torn_stays w i now number (Some p) (Some s) = again_stays w i now number (Some (record { core = p.core; keeper = record p.keeper { asked = Some s } }))
+torn_stays w i now number (Some p) (Some s) = again_stays w i now number (Some (record { core = p.core; disk = record p.disk { asked = Some s } }))
 
 step_stays : (w : World) (s : Step) → Stays w (step w s)
 step_stays w (Act i e fate) = acts_stays w i e fate (place_at i w.places)
@@ -199,8 +199,8 @@ start_sound shared liars plan lists = record {
     };
     backed = All-nil (IsBacked liars []);
   };
-  well = λ i p h. each_at (λ x. IsWell (seat x.core x.keeper)) i _ p
-      (All-map (λ x. IsWell (seat x.core x.keeper)) (start_of shared) plan
+  well = λ i p h. each_at (λ x. IsWell (seat x.core x.disk)) i _ p
+      (All-map (λ x. IsWell (seat x.core x.disk)) (start_of shared) plan
       (λ k e in_plan. let d : PlanNode = slice_index_or plan k e in opened_well (planned shared d) d.moment 0 (resting 0) (lists k e in_plan).list refl)) h;
 }
 

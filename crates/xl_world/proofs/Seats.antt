@@ -1,4 +1,4 @@
--- A node beside its keeper: what each event at it must show.
+-- A node beside its disk: what each event at it must show.
 use Rattle.std.proofs.Common.{◌≡◌, ℕ, ◌<◌, ◌≤◌, List, [], arith, Option, Some, None, subst}
 use Rattle.std.specs.Prelude.{◌==◌, ◌&&◌, All, IsTrue, IfSome, map, count_by, option_map, option_to_list}
 use Rattle.std.proofs.lemmas.Bool.{and_parts, or_right, eqb-true}
@@ -14,29 +14,29 @@ use Rattle.xl_validations.specs.declared.row.Row.{Row}
 use Rattle.xl_validations.specs.Rows.{is_full_of, count_full}
 use Rattle.xl_core.specs.declared.report.Report.{Report}
 use Rattle.xl_core.specs.Node.{Node, Reply}
-use Rattle.xl_world.specs.declared.place.Keeper.{Keeper}
-use Rattle.xl_world.specs.Keeper.{held_by}
+use Rattle.xl_world.specs.declared.place.Disk.{Disk}
+use Rattle.xl_world.specs.Disk.{held_by}
 use Rattle.xl_io.specs.Keepers.{MayHold}
 use Rattle.xl_world.specs.World.{said_by, reported_by}
 use Rattle.xl_world.proofs.Standing.{RowSays, NodeSays}
 
--- a node and its keeper
+-- a node and its disk
 pub record Seat : Type 0 where
   pub node : Node
-  pub keeper : Keeper
+  pub disk : Disk
 
--- a node's rows are its list's, on which each member stands once, and the number that it kept is its keeper's
+-- a node's rows are its list's, on which each member stands once, and the number that it kept is its disk's
 pub record IsWell (p : Seat) : Type 0 where
   pub members : map (λ row. row.member) p.node.rows ≡ p.node.list.members
   pub valid : IsValid p.node.list
-  pub in_force : p.node.kept ≡ p.keeper.in_force
+  pub in_force : p.node.kept ≡ p.disk.in_force
 
--- what each event at a node must show, of its keeper and its report
-pub record IsStep (p : Seat) (r : Reply) (k : Keeper) : Type 0 where
+-- what each event at a node must show, of its disk and its report
+pub record IsStep (p : Seat) (r : Reply) (k : Disk) : Type 0 where
   pub me : r.node.me ≡ p.node.me
-  pub well : IsWell (record { node = r.node; keeper = k })
-  pub rises : (j : ℕ) → MayHold (held_by k) j → (i : ℕ) × (i ≤ j) × MayHold (held_by p.keeper) i
-  pub above : IfSome r.issued (λ v. (i : ℕ) × (i < v.seq) × MayHold (held_by p.keeper) i)
+  pub well : IsWell (record { node = r.node; disk = k })
+  pub rises : (j : ℕ) → MayHold (held_by k) j → (i : ℕ) × (i ≤ j) × MayHold (held_by p.disk) i
+  pub above : IfSome r.issued (λ v. (i : ℕ) × (i < v.seq) × MayHold (held_by p.disk) i)
   pub saved : IfSome r.issued (λ v. (j : ℕ) → MayHold (held_by k) j → v.seq ≤ j)
   pub quorum : IfSome r.report (λ q. r.node.list.quorum ≤ count_full q.seq q.id r.node.rows)
 

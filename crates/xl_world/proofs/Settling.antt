@@ -12,21 +12,21 @@ use Rattle.xl_core.specs.declared.item.Item.{Item}
 use Rattle.xl_core.specs.declared.item.Item.TheVariants.{Validation as ValidationItem, Tx, TxSet, Proposal, Header}
 use Rattle.xl_core.specs.Core.{Core, CoreReply}
 use Rattle.xl_core.specs.Node.{Reply}
-use Rattle.xl_world.specs.declared.place.Keeper.{Keeper}
+use Rattle.xl_world.specs.declared.place.Disk.{Disk}
 use Rattle.xl_world.proofs.Seats.{Seat}
 use Rattle.xl_io.specs.Keepers.{MayHold}
 use Rattle.xl_world.proofs.Standing.{FrameSays, RowSays, said_in}
 use Rattle.xl_world.specs.World.{said_by}
 use Rattle.xl_world.specs.declared.place.Place.{Place}
 use Rattle.xl_world.specs.declared.plan.InForce.{InForce}
-use Rattle.xl_world.specs.Keeper.{held_by}
+use Rattle.xl_world.specs.Disk.{held_by}
 use Rattle.xl_world.specs.World.{World, place_at, put, sent_in, settled}
 use Rattle.xl_world.proofs.Standing.{Holds, ItemSays, CoreSays, IsKept}
 use Rattle.xl_world.proofs.Seats.{IsWell, IsStep, if_some, some_same, spoken, spoken_fact, report_backed}
 
--- a core's node with its keeper
-abbrev pub seat : Core → Keeper → Seat
-seat core keeper = record { node = core.node; keeper = keeper }
+-- a core's node with its disk
+abbrev pub seat : Core → Disk → Seat
+seat core disk = record { node = core.node; disk = disk }
 
 -- what came of an event at the node of a core
 abbrev pub node_reply : CoreReply → Reply
@@ -79,16 +79,16 @@ core_weaker P Q h core says = record {
 -- what is kept of a world, and of each place
 pub record IsSound (w : World) : Type 0 where
   pub kept : IsKept w
-  pub well : (i : ℕ) (p : Place) → place_at i w.places ≡ Some p → IsWell (seat p.core p.keeper)
+  pub well : (i : ℕ) (p : Place) → place_at i w.places ≡ Some p → IsWell (seat p.core p.disk)
 
 -- what each thing that stands at the core then says is genuine, in the world then
 abbrev pub GenuineThen : World → ℕ → CoreReply → SaidLedger → Type 0
 GenuineThen w i r = IsGenuine w.liars (with_said w.said (spoken i r.issued))
 
-pub settled_sound : (w : World) (i : ℕ) (forged : Bool) (set : Option InForce) (p : Place) (r : CoreReply) (k : Keeper) → place_at i w.places ≡ Some p → IsStep (seat p.core p.keeper) (node_reply r) k →
+pub settled_sound : (w : World) (i : ℕ) (forged : Bool) (set : Option InForce) (p : Place) (r : CoreReply) (k : Disk) → place_at i w.places ≡ Some p → IsStep (seat p.core p.disk) (node_reply r) k →
     ReplySays (GenuineThen w i r) r → IsSound w → IsSound (settled w i forged set r k)
 settled_sound w i forged set p r k at steps says sound =
-    let q : Place = record { core = r.core; keeper = k } in
+    let q : Place = record { core = r.core; disk = k } in
     let its : i ≡ r.core.node.me = sym (steps.me ∙ at_its_number i w.places p at) in
     let before = λ (x : SaidLedger). vouches_still w.liars w.said (spoken i r.issued) x.member x.seq x.id in
     record {
@@ -96,7 +96,7 @@ settled_sound w i forged set p r k at steps says sound =
           (record {
             rises = λ m n (x, h, may). elim (put_cases m q w.places x h) [
               | inl (same_m, same_x) ↦
-                  let low = steps.rises n (subst (λ (y : Place). MayHold (held_by y.keeper) n) same_x may) in
+                  let low = steps.rises n (subst (λ (y : Place). MayHold (held_by y.disk) n) same_x may) in
                   (low.0, low.1, (p, subst (λ j. place_at j w.places ≡ Some p) (its ∙ sym same_m) at, low.2))
               | inr (_, there) ↦ (n, omega arith, (x, there, may))
             ];
@@ -104,7 +104,7 @@ settled_sound w i forged set p r k at steps says sound =
                 (if_some _ _ (λ v low. (low.0, low.1, (p, at, low.2))) r.issued steps.above);
             saved = spoken_fact (λ x. (n : ℕ) → Holds (settled w i forged set r k) x.member n → x.seq ≤ n) i r.issued
                 (if_some _ _ (λ v high n (x, h, may). elim (put_cases i q w.places x h) [
-                  | inl (_, same_x) ↦ high n (subst (λ (y : Place). MayHold (held_by y.keeper) n) same_x may)
+                  | inl (_, same_x) ↦ high n (subst (λ (y : Place). MayHold (held_by y.disk) n) same_x may)
                   | inr (not_its, _) ↦ absurd (not_its its)
                 ]) r.issued steps.saved);
             backed = report_backed w.liars (with_said w.said (spoken i r.issued)) (seat r.core k) steps.well says.core.rows r.report steps.quorum;
@@ -119,7 +119,7 @@ settled_sound w i forged set p r k at steps says sound =
                 says.sent;
           });
       well = λ j x h. elim (put_cases j q w.places x h) [
-        | inl (_, same) ↦ subst (λ (y : Place). IsWell (seat y.core y.keeper)) (sym same) steps.well
+        | inl (_, same) ↦ subst (λ (y : Place). IsWell (seat y.core y.disk)) (sym same) steps.well
         | inr (_, there) ↦ sound.well j x there
       ];
     }

@@ -18,12 +18,12 @@ use Rattle.xl_core.specs.Core.{Core}
 use Rattle.xl_core.specs.Node.{Node}
 use Rattle.xl_world.specs.declared.place.Place.{Place}
 use Rattle.xl_world.specs.Sending.{Sent}
-use Rattle.xl_world.specs.Keeper.{held_by}
+use Rattle.xl_world.specs.Disk.{held_by}
 use Rattle.xl_world.specs.World.{World, place_at, said_by}
 
--- the keeper of this member may hold this number
+-- the disk of this member may hold this number
 abbrev pub Holds : World → ℕ → ℕ → Type 0
-Holds w m k = (p : Place) × (place_at m w.places ≡ Some p) × MayHold (held_by p.keeper) k
+Holds w m k = (p : Place) × (place_at m w.places ≡ Some p) × MayHold (held_by p.disk) k
 
 -- P holds of what the row says
 abbrev pub RowSays : (SaidLedger → Type 0) → Row → Type 0

@@ -59,7 +59,7 @@ heard_unforged w n genuine bytes fair from v spoken_in =
 pub never_none : (k : ℕ) → one_more k ≡ 0 → ⊥
 never_none k h = omega (arith, h)
 
--- a test that passes says that the keeper may hold it
+-- a test that passes says that the disk may hold it
 asked_holds : (n : ℕ) (o : Option ℕ) → is_asked o n ≡ true → o ≡ Some n
 asked_holds n None h = cc
 asked_holds n (Some s) h = ap (λ (k : ℕ). Some k) (eqb-true s n h)

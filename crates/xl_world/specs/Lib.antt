@@ -1,4 +1,4 @@
-pub mod Keeper
+pub mod Disk
 pub mod Marked
 pub mod Plans
 pub mod Forgeries

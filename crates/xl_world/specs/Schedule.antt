@@ -34,7 +34,7 @@ use Rattle.xl_world.specs.declared.outcome.Outcome.TheVariants.{Switched, Built,
 use Rattle.xl_world.specs.declared.place.Fate.{Fate}
 use Rattle.xl_world.specs.declared.place.Fate.TheVariants.{Saved, Unwritten, Written}
 use Rattle.xl_world.specs.declared.place.Place.{Place}
-use Rattle.xl_world.specs.Keeper.{found, left_by}
+use Rattle.xl_world.specs.Disk.{found, left_by}
 use Rattle.xl_world.specs.Sending.{Sent}
 use Rattle.xl_world.specs.World.{World, Step, Act, Again, Torn, Mark, place_at, reply_at, step, run}
 use Rattle.xl_world.specs.Emptying.{event_steps}
@@ -58,9 +58,9 @@ abbrev pub frame_at : List Sent → ℕ → Option Sent
 frame_at sent zero = None
 frame_at sent (suc k) = slice_get sent k
 
--- a node is opened anew with the number that its keeper holds
+-- a node is opened anew with the number that its disk holds
 abbrev pub restart : ℕ → Place → Step
-restart at p = Again p.core.node.me at (found p.keeper)
+restart at p = Again p.core.node.me at (found p.disk)
 
 -- the body in which a liar says it
 abbrev pub lied_body : Lied → Body
@@ -97,8 +97,8 @@ failing new = if new then Written else Unwritten
 -- an event whose save is cut off stops there, and leaves the new number or the old one. One that asks no save comes to
 -- its end, and then the node is opened anew
 abbrev pub cut_short : World → ℕ → Bool → ℕ → CoreEvent → Place → Option ℕ → List Step
-cut_short w at new i e p None = event_steps w i e Saved ++ Again i at (left_by p.keeper new None) ∷ []
-cut_short w at new i e p (Some s) = Torn i e (left_by p.keeper new (Some s)) ∷ []
+cut_short w at new i e p None = event_steps w i e Saved ++ Again i at (left_by p.disk new None) ∷ []
+cut_short w at new i e p (Some s) = Torn i e (left_by p.disk new (Some s)) ∷ []
 
 abbrev pub cut_at : World → ℕ → Bool → ℕ → CoreEvent → Option Place → List Step
 cut_at w at new i e None = []

@@ -1,17 +1,18 @@
 -- How the definitions see the types of the code. Source: what the code of this crate keeps.
-use Rattle.std.specs.Prelude.{◌≡◌, ◌<◌, ◌≤◌, ℕ, Bool, false, [], ◌∷◌, List, ◌++◌, length, All, option_map, option_to_list, not, ◌==◌, ◌&&◌, ◌||◌}
+use Rattle.std.specs.Prelude.{◌≡◌, ◌<◌, ◌≤◌, ℕ, Bool, true, false, [], ◌∷◌, List, ◌++◌, length, All, option_map, option_to_list, not, ◌==◌, ◌&&◌, ◌||◌, if◌then◌else◌}
 use Rattle.std.specs.Prelude.{Some, None, Result, Ok, Err}
 use Rattle.std.specs.declared.option.Option.{Option}
 use Rattle.std.specs.List.{list_all}
 use Rattle.xl_base.specs.Ids.{same_id}
 use Rattle.xl_base.specs.declared.ids.LedgerId.{LedgerId}
 use Rattle.xl_lists.specs.Agreement.{with_said}
-use Rattle.xl_lists.specs.declared.report.Report.{Report}
+use Rattle.xl_lists.specs.declared.report.Report.{Report as Reported}
 use Rattle.xl_lists.specs.declared.said.SaidLedger.{SaidLedger}
 use Rattle.xl_core.specs.Answers.{Answer}
 use Rattle.xl_core.specs.Answers as answer
-use Rattle.xl_core.specs.Core.{Core, CoreReply, core_asks, core_happens}
+use Rattle.xl_core.specs.Core.{Core, core_asks, core_happens}
 use Rattle.xl_core.specs.Hearing.{bytes_as_sealed}
+use Rattle.xl_core.specs.Node.{Node}
 use Rattle.xl_tags.specs.Rings.{schedule_ring}
 use Rattle.xl_core.specs.declared.timer_answer.TimerAnswer.{TimerAnswer}
 use Rattle.xl_core.specs.declared.timer_answer.TimerAnswer.TheVariants as timer_answer
@@ -20,13 +21,13 @@ use Rattle.xl_core.specs.declared.timer_answer.Issued.TheVariants as issued
 use Rattle.xl_core.specs.declared.event.CoreEvent.{CoreEvent}
 use Rattle.xl_core.specs.declared.event.CoreEvent.TheVariants.{Issue, Frame, Timer, Submit, Greet, Relist}
 use Rattle.xl_core.specs.declared.refusal.Refusal.{Refusal}
+use Rattle.xl_core.specs.declared.report.Report.{Report}
 use Rattle.xl_wire.specs.Heads.{split_of}
 use Rattle.xl_wire.specs.Heads.Split.{Whole}
 use Rattle.xl_wire.specs.Kinds.{span}
 use Rattle.xl_wire.specs.Raws.{RawFrame, SpellsRaw}
 use Rattle.xl_world.specs.declared.act.Deed.{Deed}
 use Rattle.xl_world.specs.declared.act.Deed.TheVariants as deed
-use Rattle.xl_world.specs.declared.act.Done.{Done}
 use Rattle.xl_world.specs.declared.act.NodeAnswer.{NodeAnswer}
 use Rattle.xl_world.specs.declared.act.Reaction.{Reaction}
 use Rattle.xl_world.specs.declared.act.Reaction.TheVariants as reaction
@@ -34,26 +35,27 @@ use Rattle.xl_world.specs.declared.fork.Fork.{Fork}
 use Rattle.xl_world.specs.declared.outcome.Outcome.{Outcome}
 use Rattle.xl_world.specs.declared.outcome.Outcome.TheVariants.{Refused, Full}
 use Rattle.xl_world.specs.declared.place.Fate.{Fate}
-use Rattle.xl_world.specs.declared.place.Keeper.{Keeper}
+use Rattle.xl_world.specs.declared.place.Disk.{Disk}
 use Rattle.xl_world.specs.declared.place.Place.{Place}
+use Rattle.xl_world.specs.declared.plan.InForce.{InForce}
 use Rattle.xl_world.specs.declared.saving.Fated.{Fated}
 use Rattle.xl_world.specs.Sending.{Sent}
 use Rattle.xl_world.specs.Emptying.{after_events, draining, given_by, handed_out}
 use Rattle.xl_world.specs.Forgeries.{forges}
 use Rattle.xl_world.specs.Forks as Forks
-use Rattle.xl_world.specs.Keeper.{after_save, answer_of}
+use Rattle.xl_world.specs.Disk.{after_save, answer_of}
 use Rattle.xl_world.specs.Schedule.{told_of_beat}
-use Rattle.xl_world.specs.World.{World, core_again, keeper_after, place_at, put, reply_at, reported_by, said_by, set_by}
+use Rattle.xl_world.specs.World.{World, core_again, disk_after, place_at, put, reply_at, reported_by, said_by, set_by}
 
 abbrev pub fork_seen : Fork → Forks.Fork
 fork_seen f = record { earlier = f.earlier.now; later = f.later.now }
 
 -- whether the second report, if it is of j and of the first one's sequence, has its id
-abbrev pub agrees_at : ℕ → Report → Report → Bool
+abbrev pub agrees_at : ℕ → Reported → Reported → Bool
 agrees_at j r q = not (q.node == j && (r.seq == q.seq && not (same_id r.id q.id)))
 
 -- whether all reports of j agree with this one, if it is of i
-abbrev pub accords : ℕ → ℕ → List Report → Report → Bool
+abbrev pub accords : ℕ → ℕ → List Reported → Reported → Bool
 accords i j reports r = not (r.node == i) || list_all (λ q. agrees_at j r q) reports
 
 -- what happens at a node, as its core's event
@@ -105,29 +107,42 @@ said_by_beat member (timer_answer.Switched seq id) = None
 said_by_beat member (timer_answer.NoRoom limit) = None
 said_by_beat member (timer_answer.Built seq id moved_on how) = said_by_issued member seq id how
 
-pub record IsBeaten (member : ℕ) (beat : TimerAnswer) (done : Done) : Type 0 where
-  pub reaction : done.reaction ≡ reaction.TimerAnswer beat
-  pub said : done.said ≡ said_by_beat member beat
+-- the validation that a node issued by what happened at it, as its reaction tells
+abbrev pub said_in : ℕ → Deed → Reaction → Option SaidLedger
+said_in member (deed.Issue seq id full) reaction.Done = Some (record { member = member; seq = seq; id = id })
+said_in member deed.Timer (reaction.TimerAnswer beat) = said_by_beat member beat
+said_in member other other_reaction = None
 
--- what an event does to a core, under a keeper whose save meets a fate
-pub record Does (before : Core) (event : CoreEvent) (old : Fated) (after : Core) (done : Done) (new : Fated)
+-- whether it went over to another list, as its reaction tells
+abbrev pub is_relisted : Deed → Reaction → Bool
+is_relisted (deed.Relist list) (reaction.Refused why) = false
+is_relisted (deed.Relist list) other = true
+is_relisted other other_reaction = false
+
+-- what an event does to a core, under a disk whose save meets a fate
+pub record Does (before : Core) (event : CoreEvent) (old : Fated) (after : Core) (told : Reaction) (new : Fated)
     : Type 0 where
-  pub core : after ≡ (core_happens before event (answer_of old.keeper old.fate)).core
-  pub reaction : done.reaction ≡ reaction_of (core_happens before event (answer_of old.keeper old.fate)).answer
-  pub said : done.said
-      ≡ option_map (said_by before.node.me) (core_happens before event (answer_of old.keeper old.fate)).issued
-  pub keeper : new.keeper ≡ after_save old.keeper (core_asks before event) old.fate
+  pub core : after ≡ (core_happens before event (answer_of old.disk old.fate)).core
+  pub reaction : told ≡ reaction_of (core_happens before event (answer_of old.disk old.fate)).answer
+  pub disk : new.disk ≡ after_save old.disk (core_asks before event) old.fate
   pub asked : old.asked ≡ None → new.asked ≡ core_asks before event
 
--- what came of it at the node of this number is this reply
-pub record IsAnswer (member : ℕ) (a : NodeAnswer) (r : CoreReply) : Type 0 where
-  pub reaction : a.reaction ≡ reaction_of r.answer
-  pub said : a.said ≡ option_map (said_by member) r.issued
-  pub report : a.report ≡ option_map (reported_by r.core.node) r.report
+-- the list in force at a node
+abbrev pub list_now : Node → InForce
+list_now n = record { node = n.me; list = n.list }
+
+-- what came of an event at a place is this answer: the node's own report, and whether its list is one that was set
+pub record IsAnswer (p : Place) (e : CoreEvent) (fate : Fate) (a : NodeAnswer) : Type 0 where
+  pub reaction : a.reaction ≡ reaction_of (reply_at p e fate).answer
+  pub asked : a.asked ≡ core_asks p.core e
+  pub said : a.said ≡ option_map (said_by p.core.node.me) (reply_at p e fate).issued
+  pub report : a.report ≡ (reply_at p e fate).report
+  pub set : (if a.relisted then Some (list_now (reply_at p e fate).core.node) else None)
+      ≡ set_by p.core.node.me e (reply_at p e fate).answer
 
 -- a place after an event, of which the report was handed out
 abbrev pub place_after : Place → CoreEvent → Fate → Place
-place_after p e fate = record { core = handed_out (reply_at p e fate).core; keeper = keeper_after p e fate }
+place_after p e fate = record { core = handed_out (reply_at p e fate).core; disk = disk_after p e fate }
 
 abbrev pub put_acted : CoreEvent → Fate → Option Place → List Place → List Place
 put_acted e fate None places = places
@@ -142,16 +157,14 @@ abbrev pub Answers : CoreEvent → Fate → Option Place → Option NodeAnswer �
 Answers e fate None None = Unit {0}
 Answers e fate None (Some a) = ⊥
 Answers e fate (Some p) None = ⊥
-Answers e fate (Some p) (Some a) =
-    IsAnswer p.core.node.me a (reply_at p e fate) × (a.asked ≡ core_asks p.core e)
-    × (a.set ≡ set_by p.core.node.me e (reply_at p e fate).answer)
+Answers e fate (Some p) (Some a) = IsAnswer p e fate a
 
 abbrev pub AnswersAt : ℕ → CoreEvent → Fate → List Place → Option NodeAnswer → Type 0
 AnswersAt i e fate places answer = Answers e fate (place_at i places) answer
 
 -- a place that was drained for the other numbers
 abbrev pub place_drained : List ℕ → Place → Place
-place_drained numbers p = record { core = after_events p.core (draining numbers p.core); keeper = p.keeper }
+place_drained numbers p = record { core = after_events p.core (draining numbers p.core); disk = p.disk }
 
 abbrev pub put_drained : List ℕ → Option Place → List Place → List Place
 put_drained numbers None places = places
@@ -173,14 +186,24 @@ abbrev pub outcomes_told : ℕ → NodeAnswer → List Outcome
 outcomes_told i a =
     told_of_reaction i a.reaction ++ option_to_list (option_map (λ r. Full i r.seq r.id) a.report)
 
+-- a report of the node at a place, if there is one, under its list
+abbrev pub report_noted : Option Report → Option Place → Option Reported
+report_noted report None = None
+report_noted report (Some p) = option_map (reported_by p.core.node) report
+
+-- the list in force there, if it was set
+abbrev pub list_noted : Bool → Option Place → Option InForce
+list_noted relisted None = None
+list_noted relisted (Some p) = if relisted then Some (list_now p.core.node) else None
+
 -- a world in which an answer was noted, and the core that answered was drained
 abbrev pub noted : World → ℕ → NodeAnswer → World
 noted w i a = record w {
   places = put_drained w.numbers (place_at i w.places) w.places;
   sent = w.sent ++ given_at w.numbers (place_at i w.places);
   said = with_said w.said a.said;
-  reports = w.reports ++ option_to_list a.report;
-  lists = w.lists ++ option_to_list a.set;
+  reports = w.reports ++ option_to_list (report_noted a.report (place_at i w.places));
+  lists = w.lists ++ option_to_list (list_noted a.relisted (place_at i w.places));
 }
 
 -- a world with these places
@@ -196,18 +219,18 @@ abbrev pub forged_at : List ℕ → List Sent → List ℕ → Option Place → 
 forged_at liars sent bytes None = false
 forged_at liars sent bytes (Some p) = forges liars sent p.core.node.keys bytes (split_of bytes)
 
--- a place opened again with what its keeper then holds
-abbrev pub place_again : Place → ℕ → Keeper → Place
-place_again p now keeper = record { core = core_again p now keeper.in_force; keeper = keeper }
+-- a place opened again with what its disk then holds
+abbrev pub place_again : Place → ℕ → Disk → Place
+place_again p now disk = record { core = core_again p now disk.in_force; disk = disk }
 
 -- the places with the node of a number opened again
-abbrev pub put_again : ℕ → Keeper → Option Place → List Place → List Place
-put_again now keeper None places = places
-put_again now keeper (Some p) places = put (place_again p now keeper) places
+abbrev pub put_again : ℕ → Disk → Option Place → List Place → List Place
+put_again now disk None places = places
+put_again now disk (Some p) places = put (place_again p now disk) places
 
--- the keeper of the node of a number
-abbrev pub keeper_in : ℕ → List Place → Option Keeper
-keeper_in i places = option_map (λ p. p.keeper) (place_at i places)
+-- the disk of the node of a number
+abbrev pub disk_in : ℕ → List Place → Option Disk
+disk_in i places = option_map (λ p. p.disk) (place_at i places)
 
 -- bytes begin with a whole frame of this length
 pub record IsFirstFrame (n : ℕ) (bytes : List ℕ) : Type 0 where

@@ -1,7 +1,7 @@
 -- A network of honest nodes and liars, and its runs. A drain of a core and the handing out of its reports are steps
 -- like any other, and what a drain gives is what was sent. Whatever was ever sent may come never, once or often, at
 -- any later place. Source: Chase and MacBrough, "Analysis of the XRP Ledger Consensus Protocol" (2018); restarts,
--- keepers and queues by this profile.
+-- disks and queues by this profile.
 use Rattle.std.specs.Prelude.{ℕ, All, ◌==◌, Bool, false, List, [], ◌∷◌, ◌++◌, length, map, option_map, option_to_list, find, if◌then◌else◌}
 use Rattle.std.specs.Prelude.{Some, None}
 use Rattle.std.specs.declared.option.Option.{Option}
@@ -21,10 +21,10 @@ use Rattle.xl_core.specs.Core.{Core, CoreReply, answering, core_happens, core_as
 use Rattle.xl_core.specs.Node.{Node, opened, settings_of}
 use Rattle.xl_world.specs.Sending.{Sent}
 use Rattle.xl_world.specs.declared.plan.InForce.{InForce}
-use Rattle.xl_world.specs.declared.place.Keeper.{Keeper}
+use Rattle.xl_world.specs.declared.place.Disk.{Disk}
 use Rattle.xl_world.specs.declared.place.Place.{Place}
 use Rattle.xl_world.specs.declared.place.Fate.{Fate}
-use Rattle.xl_world.specs.Keeper.{held_by, restored, answer_of, after_save}
+use Rattle.xl_world.specs.Disk.{held_by, restored, answer_of, after_save}
 use Rattle.xl_world.specs.Forgeries.{forges}
 
 pub record World : Type 0 where
@@ -138,10 +138,10 @@ set_by i Stop a = None
 set_by i Stopped a = None
 set_by i (Relist now list) a = list_set i list a
 
--- the world after what came of an event at a node, and the list that it set, with its keeper then
-abbrev pub settled : World → ℕ → Bool → Option InForce → CoreReply → Keeper → World
-settled w i forged set r keeper = record w {
-  places = put (record { core = r.core; keeper = keeper }) w.places;
+-- the world after what came of an event at a node, and the list that it set, with its disk then
+abbrev pub settled : World → ℕ → Bool → Option InForce → CoreReply → Disk → World
+settled w i forged set r disk = record w {
+  places = put (record { core = r.core; disk = disk }) w.places;
   sent = w.sent ++ sent_in r.core.node.me r.answer;
   said = with_said w.said (option_map (said_by i) r.issued);
   reports = w.reports ++ option_to_list (option_map (reported_by r.core.node) r.report);
@@ -151,36 +151,36 @@ settled w i forged set r keeper = record w {
 
 -- what came of an event at a place, whose save meets this fate
 abbrev pub reply_at : Place → CoreEvent → Fate → CoreReply
-reply_at p event fate = core_happens p.core event (answer_of p.keeper fate)
+reply_at p event fate = core_happens p.core event (answer_of p.disk fate)
 
--- its keeper then
-abbrev pub keeper_after : Place → CoreEvent → Fate → Keeper
-keeper_after p event fate = after_save p.keeper (core_asks p.core event) fate
+-- its disk then
+abbrev pub disk_after : Place → CoreEvent → Fate → Disk
+disk_after p event fate = after_save p.disk (core_asks p.core event) fate
 
 abbrev pub acts : World → ℕ → CoreEvent → Fate → Option Place → World
 acts w i event fate None = w
 acts w i event fate (Some p) =
     let r = reply_at p event fate in
-    settled w i (is_forged w p.core.node event) (set_by p.core.node.me event r.answer) r (keeper_after p event fate)
+    settled w i (is_forged w p.core.node event) (set_by p.core.node.me event r.answer) r (disk_after p event fate)
 
 -- the core of a place opened again with this number
 abbrev pub core_again : Place → ℕ → ℕ → Core
 core_again p now number = with_queues (opened (settings_of p.core.node) now number)
 
--- its keeper then holds that number alone; a core that is opened says and reports nothing
+-- its disk then holds that number alone; a core that is opened says and reports nothing
 abbrev pub reopened : World → ℕ → Place → ℕ → ℕ → World
-reopened w i p now number = settled w i false None (answering (core_again p now number) Done) (restored p.keeper number)
+reopened w i p now number = settled w i false None (answering (core_again p now number) Done) (restored p.disk number)
 
 abbrev pub again : World → ℕ → ℕ → ℕ → Option Place → World
 again w i now number None = w
-again w i now number (Some p) = if may_hold (held_by p.keeper) number then reopened w i p now number else w
+again w i now number (Some p) = if may_hold (held_by p.disk) number then reopened w i p now number else w
 
 -- only an event that asks a save can be torn
 abbrev pub torn : World → ℕ → ℕ → ℕ → Option Place → Option ℕ → World
 torn w i now number None asked = w
 torn w i now number (Some p) None = w
 torn w i now number (Some p) (Some s) =
-    again w i now number (Some (record { core = p.core; keeper = record p.keeper { asked = Some s } }))
+    again w i now number (Some (record { core = p.core; disk = record p.disk { asked = Some s } }))
 
 -- the moment of an event that has one
 abbrev pub moment_in : CoreEvent → ℕ

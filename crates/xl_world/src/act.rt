@@ -1,23 +1,20 @@
 // What happens at one place, and what comes of it.
-ghost use Rattle.std.specs.Prelude.{◌≡◌, ◌≢◌, ◌≤◌, ◌==◌, [], Some, None, length, option_copied, option_map, option_to_list, position};
+ghost use Rattle.std.specs.Prelude.{◌≡◌, ◌≤◌, ◌==◌, Some, length, option_copied, option_map, option_to_list, position};
 ghost use Rattle.xl_core.specs.Node.{preferred};
-ghost use Rattle.xl_core.specs.Core.{core_asks, core_happens};
 ghost use Rattle.xl_tags.specs.Rings.{schedule_ring};
 ghost use Rattle.xl_base.specs.Moments.{greatest_millis};
 ghost use Rattle.xl_world.specs.declared.outcome.Outcome.TheVariants.{Preferred};
-ghost use Rattle.xl_world.specs.World.{reported_by};
-ghost use Rattle.xl_world.specs.World.{place_at, reply_at, set_by};
+ghost use Rattle.xl_world.specs.World.{place_at};
 ghost use Rattle.xl_world.specs.Emptying.{handed_out};
 ghost use Rattle.xl_world.specs.Rested.{IsRested};
-ghost use Rattle.xl_world.specs.Seen.{AnswersAt, Does, IsAnswer, IsBeaten, MayDo, acted_at, deed_event, place_after, reaction_of, reaction_to};
+ghost use Rattle.xl_world.specs.Seen.{AnswersAt, Does, IsAnswer, MayDo, acted_at, deed_event, is_relisted, place_after, reaction_to, said_by_beat, said_in};
 
+use crate::Outcome;
 use crate::place::{Fate, NodeCore, Place};
 use crate::saving::Fated;
-use crate::{InForce, Outcome, WorldReport};
 use xl_base::{LedgerId, Millis, NodeNo, Seq, TxId};
-use xl_core::{Issued, Node, Refusal, Report, TimerAnswer};
+use xl_core::{Issued, Refusal, Report, TimerAnswer};
 use xl_lists::{List, SaidLedger};
-use xl_trie::Trie;
 
 /// What happens at a node.
 #[derive(Clone, Copy, Debug)]
@@ -43,36 +40,18 @@ pub enum Reaction {
     TimerAnswer(TimerAnswer),
 }
 
-/// What a node says of what happened at it, and the validation that it issued.
-#[derive(Clone, Copy, Debug)]
-pub struct Done {
-    pub reaction: Reaction,
-    pub said: Option<SaidLedger>,
-}
-
-impl Done {
-    /// Nothing was issued.
-    fn silent(reaction: Reaction) -> Done
-        ensures reaction { result.reaction ≡ reaction }
-        ensures said { result.said ≡ None }
-    {
-        Done {
-            reaction,
-            said: None,
-        }
-    }
-}
-
 /// What came of what happened at a node.
-#[derive(Debug, Drop)]
+#[derive(Clone, Copy, Debug)]
 pub struct NodeAnswer {
     pub reaction: Reaction,
     /// The number that it asked to be saved.
     pub asked: Option<Seq>,
+    /// The validation that it issued.
     pub said: Option<SaidLedger>,
-    pub report: Option<WorldReport>,
-    /// The list that it set.
-    pub set: Option<InForce>,
+    /// The ledger that it reports, under the list that is now in force.
+    pub report: Option<Report>,
+    /// Whether that list is one that was set by this.
+    pub relisted: bool,
 }
 
 /// Whether there is nothing to say but why it was refused.
@@ -85,11 +64,35 @@ fn done_or_refused<T: Drop>(outcome: Result<T, Refusal>) -> Reaction
     }
 }
 
-/// What came of a timer; the validation of a built ledger is the node's, if it issued one.
-fn beaten(member: NodeNo, beat: TimerAnswer) -> Done
-    ensures { IsBeaten member beat result }
+/// What a core says of what happens at it.
+fn react(core: &mut NodeCore, now: Millis, deed: &Deed<'_>, keeper: &mut Fated) -> Reaction
+    requires moment { now ≤ greatest_millis }
+    requires keys { core.old.node.keys ≡ schedule_ring core.old.node.me }
+    requires may { MayDo core.old.node.me deed.now }
+    ensures { Does core.old (deed_event now deed.now) keeper.old core.new result keeper.new }
 {
-    let said = match beat {
+    match *deed {
+        Deed::Issue { seq, id, full } => { done_or_refused(core.issue(now, seq, id, full, keeper)) }
+        Deed::Frame(bytes) => done_or_refused(core.frame(now, bytes)),
+        // It carries the right tag, so nobody looks.
+        Deed::Sent { kept, .. } => done_or_refused(core.frame_as_sealed(now, kept)),
+        Deed::Timer => Reaction::TimerAnswer(core.timer(now, keeper)),
+        Deed::Submit(tx) => done_or_refused(core.submit(now, tx)),
+        Deed::Greet(peer) => {
+            // A member's number, for which there is a key.
+            let _number = peer.get();
+            core.greet(peer);
+            Reaction::Done
+        }
+        Deed::Relist(list) => done_or_refused(core.relist(now, list.copy())),
+    }
+}
+
+/// The validation of a ledger that a timer built, if the node issued one.
+fn said_by_beat(member: NodeNo, beat: &TimerAnswer) -> Option<SaidLedger>
+    ensures { result ≡ said_by_beat member beat.now }
+{
+    match *beat {
         TimerAnswer::Built {
             seq,
             id,
@@ -97,74 +100,33 @@ fn beaten(member: NodeNo, beat: TimerAnswer) -> Done
             ..
         } => Some(SaidLedger { member, seq, id }),
         _ => None,
-    };
-    Done {
-        reaction: Reaction::TimerAnswer(beat),
-        said,
     }
 }
 
-/// A core is asked to issue: its keeper holds the sequence before anything is said.
-fn issue(
-    core: &mut NodeCore,
-    now: Millis,
-    seq: Seq,
-    id: LedgerId,
-    full: bool,
-    keeper: &mut Fated,
-) -> Done
-    requires { now ≤ greatest_millis }
-    ensures { Does core.old (deed_event now (Deed.Issue seq id full)) keeper.old core.new result keeper.new }
-{
-    let member = core.node().me();
-    match core.issue(now, seq, id, full, keeper) {
-        Ok(()) => Done {
-            reaction: Reaction::Done,
-            said: Some(SaidLedger { member, seq, id }),
-        },
-        Err(refusal) => Done::silent(Reaction::Refused(refusal)),
-    }
-}
-
-/// Something happens at a core.
-fn happen(core: &mut NodeCore, now: Millis, deed: &Deed<'_>, keeper: &mut Fated) -> Done
-    requires moment { now ≤ greatest_millis }
-    requires keys { core.old.node.keys ≡ schedule_ring core.old.node.me }
-    requires may { MayDo core.old.node.me deed.now }
-    ensures { Does core.old (deed_event now deed.now) keeper.old core.new result keeper.new }
+/// The validation that a node issued by what happened at it.
+fn said_in(member: NodeNo, deed: &Deed<'_>, reaction: &Reaction) -> Option<SaidLedger>
+    ensures { result ≡ said_in member deed.now reaction.now }
 {
     match *deed {
-        Deed::Issue { seq, id, full } => issue(core, now, seq, id, full, keeper),
-        Deed::Frame(bytes) => Done::silent(done_or_refused(core.frame(now, bytes))),
-        // It carries the right tag, so nobody looks.
-        Deed::Sent { kept, .. } => Done::silent(done_or_refused(core.frame_as_sealed(now, kept))),
-        Deed::Timer => {
-            let beat = core.timer(now, keeper);
-            beaten(core.node().me(), beat)
-        }
-        Deed::Submit(tx) => Done::silent(done_or_refused(core.submit(now, tx))),
-        Deed::Greet(peer) => {
-            // A member's number, for which there is a key.
-            let _number = peer.get();
-            core.greet(peer);
-            Done::silent(Reaction::Done)
-        }
-        Deed::Relist(list) => Done::silent(done_or_refused(core.relist(now, list.copy()))),
+        Deed::Issue { seq, id, .. } => match reaction {
+            Reaction::Done => Some(SaidLedger { member, seq, id }),
+            _ => None,
+        },
+        Deed::Timer => match reaction {
+            Reaction::TimerAnswer(beat) => said_by_beat(member, beat),
+            _ => None,
+        },
+        _ => None,
     }
 }
 
-/// A report of a node, under its list.
-fn report_under(node: &Node<Trie>, report: Option<Report>) -> Option<WorldReport>
-    ensures { result ≡ option_map (reported_by node.now) report }
+/// Whether a node went over to another list.
+fn is_relisted(deed: &Deed<'_>, reaction: &Reaction) -> bool
+    ensures { result ≡ is_relisted deed.now reaction.now }
 {
-    match report {
-        Some(Report { seq, id }) => Some(WorldReport {
-            node: node.me(),
-            list: node.list().copy(),
-            seq,
-            id,
-        }),
-        None => None,
+    match *deed {
+        Deed::Relist(_) => !matches!(reaction, Reaction::Refused(_)),
+        _ => false,
     }
 }
 
@@ -185,55 +147,31 @@ fn taken_report(core: &mut NodeCore) -> Option<Report>
     }
 }
 
-fn number_of(core: &NodeCore) -> NodeNo
-    ensures { result ≡ core.now.node.me }
-{
-    core.node().me()
-}
-
-/// The list that a deed with this reaction sets at the node of a number.
-fn set_by(node: NodeNo, deed: &Deed<'_>, reaction: &Reaction) -> Option<InForce>
-    ensures { (now : _) (a : _) → reaction.now ≡ reaction_of a → result ≡ set_by node (deed_event now deed.now) a }
-{
-    let Deed::Relist(list) = *deed else {
-        return None;
-    };
-    match reaction {
-        Reaction::Refused(_) => None,
-        Reaction::Done | Reaction::TimerAnswer(_) => Some(InForce {
-            node,
-            list: list.copy(),
-        }),
-    }
-}
-
-/// Something happens at a place, and the save that it asks, if any, meets a fate. The report that arises is taken.
-pub fn act(place: &mut Place, now: Millis, deed: &Deed<'_>, fate: Fate) -> NodeAnswer
-    requires moment { now ≤ greatest_millis }
-    requires rested { IsRested place.old.core }
-    requires may { MayDo place.old.core.node.me deed.now }
-    ensures place { place.new ≡ place_after place.old (deed_event now deed.now) fate }
-    ensures answer { IsAnswer place.old.core.node.me result (reply_at place.old (deed_event now deed.now) fate) }
-    ensures asked { result.asked ≡ core_asks place.old.core (deed_event now deed.now) }
-    ensures set { result.set ≡ set_by place.old.core.node.me (deed_event now deed.now)
-        (reply_at place.old (deed_event now deed.now) fate).answer }
-{
-    let me = number_of(&place.core);
-    let mut fated = Fated {
-        keeper: place.keeper,
-        fate,
-        asked: None,
-    };
-    let done = happen(&mut place.core, now, deed, &mut fated);
-    place.keeper = fated.keeper;
-    let report = taken_report(&mut place.core);
-    let set = set_by(me, deed, &done.reaction);
-    NodeAnswer {
-        reaction: done.reaction,
-        asked: fated.asked,
-        said: done.said,
-        report: report_under(place.core.node(), report),
-        set,
+impl Place {
+    /// Something happens at the core, and the save that it asks, if any, meets a fate. The report that arises is taken.
+    pub fn happens(&mut self, now: Millis, deed: &Deed<'_>, fate: Fate) -> NodeAnswer
+        requires moment { now ≤ greatest_millis }
+        requires rested { IsRested self.old.core }
+        requires may { MayDo self.old.core.node.me deed.now }
+        ensures place { self.new ≡ place_after self.old (deed_event now deed.now) fate }
+        ensures answer { IsAnswer self.old (deed_event now deed.now) fate result }
+    {
+        let me = self.core.node().me();
+        let mut fated = Fated {
+            disk: self.disk,
+            fate,
+            asked: None,
+        };
+        let reaction = react(&mut self.core, now, deed, &mut fated);
+        self.disk = fated.disk;
+        let report = taken_report(&mut self.core);
+        NodeAnswer {
+            reaction,
+            asked: fated.asked,
+            said: said_in(me, deed, &reaction),
+            report,
+            relisted: is_relisted(deed, &reaction),
+        }
     }
 }
 
@@ -303,7 +241,7 @@ pub fn act_at(
     match position_of(places, i) {
         Some(k) => {
             let place = &mut places[k];
-            Some(act(place, now, deed, fate))
+            Some(place.happens(now, deed, fate))
         }
         None => None,
     }

@@ -6,14 +6,14 @@ ghost use Rattle.xl_world.specs.Seen.{MayDo, deed_event};
 ghost use Rattle.std.specs.Prelude.{◌≡◌};
 
 use crate::act::{Deed, NodeAnswer, act_at, core_at, preferred_at};
-use crate::anew::{keeper_at, reopen_at};
+use crate::anew::{disk_at, reopen_at};
 use crate::draining::drain_at;
 use crate::extent::Extent;
 use crate::forged::is_forged;
 use crate::lie::put_lie;
 use crate::members::Members;
-use crate::place::{Fate, Keeper, NodeCore, Place};
-use crate::settle::{push_some, tell, tell_heard_at};
+use crate::place::{Disk, Fate, NodeCore, Place};
+use crate::settle::{note_list, note_report, push_some, tell, tell_heard_at};
 use crate::traffic::Traffic;
 use crate::{Happened, InForce, Outcome, Plan, WorldReport, open};
 use std::alloc::Global;
@@ -107,18 +107,18 @@ impl Network {
     fn settle(
         &mut self,
         i: NodeNo,
-        answer: NodeAnswer,
+        answer: &NodeAnswer,
         told: &mut Vec<Outcome>,
     ) -> Result<(), OutOfMemory>
         requires rested { (p : _) → place_at i self.old.places ≡ Some p → IsRested p.core }
-        ensures world { OnOk result (self.new ≡ noted self.old i answer) }
-        ensures told { OnOk result (told.new.items ≡ told.old.items ++ outcomes_told i answer) }
+        ensures world { OnOk result (self.new ≡ noted self.old i answer.now) }
+        ensures told { OnOk result (told.new.items ≡ told.old.items ++ outcomes_told i answer.now) }
         ensures grows { Grows self.old self.new }
     {
-        tell(told, i, &answer)?;
+        tell(told, i, answer)?;
         push_some(&mut self.said, answer.said)?;
-        push_some(&mut self.reports, answer.report)?;
-        push_some(&mut self.lists, answer.set)?;
+        note_report(&mut self.reports, &self.places, i, &answer.report)?;
+        note_list(&mut self.lists, &self.places, i, answer.relisted)?;
         drain_at(
             self.alloc,
             &mut self.places,
@@ -148,7 +148,7 @@ impl Network {
         ensures grows { Grows self.old self.new }
     {
         match act_at(&mut self.places, i, at, deed, fate) {
-            Some(answer) => self.settle(i, answer, told),
+            Some(ref answer) => self.settle(i, answer, told),
             None => Ok(()),
         }
     }
@@ -234,7 +234,7 @@ impl Network {
         let kept = frame.kept();
         let deed = Deed::Sent { to, kept };
         match act_at(&mut self.places, to, at, &deed, Fate::Saved) {
-            Some(answer) => self.settle(to, answer, told),
+            Some(ref answer) => self.settle(to, answer, told),
             None => Ok(()),
         }
     }
@@ -297,25 +297,25 @@ impl Network {
         self.hand_in(at, to, &room[..length], told)
     }
 
-    /// The node of a number, if there is one, is opened anew in its place, with what its keeper then holds.
-    fn reopen(&mut self, at: Millis, node: NodeNo, keeper: Keeper) -> Result<(), OutOfMemory>
+    /// The node of a number, if there is one, is opened anew in its place, with what its disk then holds.
+    fn reopen(&mut self, at: Millis, node: NodeNo, disk: Disk) -> Result<(), OutOfMemory>
         requires { at ≤ greatest_millis }
         ensures places { OnOk result (self.new
-            ≡ with_places self.old (put_again at keeper (place_at node self.old.places) self.old.places)) }
+            ≡ with_places self.old (put_again at disk (place_at node self.old.places) self.old.places)) }
         ensures grows { Grows self.old self.new }
     {
-        reopen_at(self.alloc, &mut self.places, node, at, keeper)
+        reopen_at(self.alloc, &mut self.places, node, at, disk)
     }
 
-    /// Opens a node anew with the number that its keeper holds.
+    /// Opens a node anew with the number that its disk holds.
     fn restart(&mut self, at: Millis, node: NodeNo) -> Result<(), OutOfMemory>
         requires moment { at ≤ greatest_millis }
         requires rest { IsAtRest self.old }
         ensures world { OnOk result (self.new ≡ run self.old (steps_at self.old at (What.Restart node))) }
         ensures grows { Grows self.old self.new }
     {
-        match keeper_at(&self.places, node) {
-            Some(keeper) => self.reopen(at, node, keeper.restored(keeper.found())),
+        match disk_at(&self.places, node) {
+            Some(disk) => self.reopen(at, node, disk.restored(disk.found())),
             None => Ok(()),
         }
     }
@@ -336,19 +336,19 @@ impl Network {
         ensures grows { Grows self.old self.new }
     {
         let (node, deed) = asked_by(ask);
-        let Some(keeper) = keeper_at(&self.places, node) else {
+        let Some(disk) = disk_at(&self.places, node) else {
             return Ok(());
         };
-        // A save that is cut off is tried as one that fails: what comes of it ends with the node, and its keeper is as
+        // A save that is cut off is tried as one that fails: what comes of it ends with the node, and its disk is as
         // it was before.
         let Some(answer) = act_at(&mut self.places, node, at, &deed, Fate::Unwritten) else {
             return Ok(());
         };
         match answer.asked {
-            Some(seq) => self.reopen(at, node, keeper.restored(keeper.left_by(new, seq))),
+            Some(seq) => self.reopen(at, node, disk.restored(disk.left_by(new, seq))),
             None => {
-                self.settle(node, answer, told)?;
-                self.reopen(at, node, keeper.restored(keeper.found()))
+                self.settle(node, &answer, told)?;
+                self.reopen(at, node, disk.restored(disk.found()))
             }
         }
     }

@@ -7,14 +7,14 @@ ghost use Rattle.xl_base.specs.Moments.{greatest_millis};
 ghost use Rattle.xl_world.specs.Plans.{is_declared, all_numbers, AreDeclared, AreTimely, Shared};
 ghost use Rattle.xl_world.specs.Starts.{list_of, start_of};
 
-use crate::place::{Keeper, Place};
+use crate::place::{Disk, Place};
 use crate::{InForce, Plan, PlanNode};
 use std::alloc::Global;
 use xl_base::{GREATEST_NODE_NO, NodeNo, OutOfMemory};
 use xl_core::{Core, Settings};
 use xl_tags::Keys;
 
-/// A core at its start, with room for so many ledgers and validations of a version, and its keeper.
+/// A core at its start, with room for so many ledgers and validations of a version, and its disk.
 fn place(alloc: Global, limit: u32, speak: u8, node: &PlanNode) -> Result<Place, OutOfMemory>
     requires least { least_limit ≤ limit }
     requires most { limit ≤ greatest_limit }
@@ -31,7 +31,7 @@ fn place(alloc: Global, limit: u32, speak: u8, node: &PlanNode) -> Result<Place,
     };
     Ok(Place {
         core: Core::open(alloc, settings, node.moment, 0)?,
-        keeper: Keeper::resting(0),
+        disk: Disk::resting(0),
     })
 }
 

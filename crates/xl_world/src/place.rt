@@ -16,22 +16,22 @@ pub enum Fate {
 /// What outlives a stop of a node: the number in force; after a save that failed the one that was asked, and whether
 /// it was written all the same. Also how often a save has failed, up to the greatest `u64`.
 #[derive(Clone, Copy, Debug, PartialEq, Eq)]
-pub struct Keeper {
+pub struct Disk {
     pub in_force: Seq,
     pub asked: Option<Seq>,
     pub written: bool,
     pub faults: u64,
 }
 
-impl Keeper {
+impl Disk {
     ghost use Rattle.std.specs.Prelude.{◌≡◌, ◌≤◌, Some};
-    ghost use Rattle.xl_world.specs.Keeper.{resting, restored, after_failed, found, left_by};
+    ghost use Rattle.xl_world.specs.Disk.{resting, restored, after_failed, found, left_by};
 
-    /// A keeper that never failed, and holds this number.
-    pub fn resting(seq: Seq) -> Keeper
+    /// A disk that never failed, and holds this number.
+    pub fn resting(seq: Seq) -> Disk
         ensures { result ≡ resting seq }
     {
-        Keeper {
+        Disk {
             in_force: seq,
             asked: None,
             written: false,
@@ -39,11 +39,11 @@ impl Keeper {
         }
     }
 
-    /// The keeper when its node is opened again with this number.
-    pub fn restored(&self, seq: Seq) -> Keeper
+    /// The disk when its node is opened again with this number.
+    pub fn restored(&self, seq: Seq) -> Disk
         ensures { result ≡ restored self.now seq }
     {
-        Keeper {
+        Disk {
             in_force: seq,
             asked: None,
             written: false,
@@ -51,12 +51,12 @@ impl Keeper {
         }
     }
 
-    /// The keeper after a save that failed.
-    pub fn after_failed(&self, seq: Seq, written: bool) -> Keeper
+    /// The disk after a save that failed.
+    pub fn after_failed(&self, seq: Seq, written: bool) -> Disk
         ensures value { result ≡ after_failed self.now seq written }
         ensures later { self.now.faults ≤ result.faults }
     {
-        Keeper {
+        Disk {
             asked: Some(seq),
             written,
             faults: self.faults.saturating_add(1),
@@ -86,9 +86,9 @@ impl Keeper {
 /// The core of a node, whose votes stand in a compressed trie.
 pub type NodeCore = Core<Trie>;
 
-/// A core and its keeper.
+/// A core and its disk.
 #[derive(Drop)]
 pub struct Place {
     pub core: NodeCore,
-    pub keeper: Keeper,
+    pub disk: Disk,
 }

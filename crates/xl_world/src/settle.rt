@@ -3,13 +3,13 @@ ghost use Rattle.std.specs.Prelude.{◌≡◌, ◌++◌, [], ◌∷◌, map, opt
 ghost use Rattle.xl_world.specs.Schedule.{hearsay, hearsay_of, told_of_beat, told_of_issued};
 ghost use Rattle.xl_world.specs.World.{place_at};
 ghost use Rattle.xl_world.specs.Ends.{IsLonger};
-ghost use Rattle.xl_world.specs.Seen.{outcomes_told, told_of_reaction};
+ghost use Rattle.xl_world.specs.Seen.{list_noted, outcomes_told, report_noted, told_of_reaction};
 
 use crate::act::{NodeAnswer, Reaction, core_at};
 use crate::place::{NodeCore, Place};
-use crate::{Outcome, WorldReport};
+use crate::{InForce, Outcome, WorldReport};
 use xl_base::{NodeNo, OutOfMemory};
-use xl_core::{Issued, Refusal, TimerAnswer};
+use xl_core::{Issued, Refusal, Report, TimerAnswer};
 use xl_ledger::AddRefusal;
 
 /// Adds an element if there is one.
@@ -92,15 +92,19 @@ fn tell_reaction(
     }
 }
 
-/// The line that a report is told by.
-fn full(node: NodeNo, report: &Option<WorldReport>) -> Option<Outcome>
-    ensures { result ≡ option_map (λ r. Outcome.Full node r.seq r.id) report.now }
+/// The report of a node, if there is one.
+fn tell_report(
+    told: &mut Vec<Outcome>,
+    node: NodeNo,
+    report: &Option<Report>,
+) -> Result<(), OutOfMemory>
+    ensures { OnOk result (told.new.items
+        ≡ told.old.items ++ option_to_list (option_map (λ r. Outcome.Full node r.seq r.id) report.now)) }
 {
-    report.as_ref().map(|report| Outcome::Full {
-        node,
-        seq: report.seq,
-        id: report.id,
-    })
+    if let Some(Report { seq, id }) = *report {
+        told.push(Outcome::Full { node, seq, id })?;
+    }
+    Ok(())
 }
 
 /// What is told of an answer.
@@ -108,7 +112,55 @@ pub fn tell(told: &mut Vec<Outcome>, node: NodeNo, answer: &NodeAnswer) -> Resul
     ensures { OnOk result (told.new.items ≡ told.old.items ++ outcomes_told node answer.now) }
 {
     tell_reaction(told, node, &answer.reaction)?;
-    push_some(told, full(node, &answer.report))
+    tell_report(told, node, &answer.report)
+}
+
+/// Notes a report of the node of a number, if there is one, under the list that is in force there.
+pub fn note_report(
+    reports: &mut Vec<WorldReport>,
+    places: &[Place],
+    i: NodeNo,
+    report: &Option<Report>,
+) -> Result<(), OutOfMemory>
+    ensures noted { OnOk result
+        (reports.new.items ≡ reports.old.items ++ option_to_list (report_noted report.now (place_at i places.now))) }
+    ensures longer { IsLonger reports.old.items reports.new.items }
+{
+    let Some(Report { seq, id }) = *report else {
+        return Ok(());
+    };
+    if let Some(core) = core_at(places, i) {
+        reports.push(WorldReport {
+            node: core.node().me(),
+            list: core.list().copy(),
+            seq,
+            id,
+        })?;
+    }
+    Ok(())
+}
+
+/// Notes the list in force at the node of a number, if it was set by what happened.
+pub fn note_list(
+    lists: &mut Vec<InForce>,
+    places: &[Place],
+    i: NodeNo,
+    relisted: bool,
+) -> Result<(), OutOfMemory>
+    ensures noted { OnOk result
+        (lists.new.items ≡ lists.old.items ++ option_to_list (list_noted relisted (place_at i places.now))) }
+    ensures longer { IsLonger lists.old.items lists.new.items }
+{
+    if !relisted {
+        return Ok(());
+    }
+    if let Some(core) = core_at(places, i) {
+        lists.push(InForce {
+            node: core.node().me(),
+            list: core.list().copy(),
+        })?;
+    }
+    Ok(())
 }
 
 /// What a node heard of the ledger that each member of its list last reported.

@@ -9,9 +9,9 @@ use Rattle.xl_world.proofs.anew.reopen_at.Goals as goal
 pub returns-in-Some : goal.returns-in-Some
 returns-in-Some c =
     let old : Place = get_or c.args.places.now c.in-Some.k c.index-places-k.result in
-    on_ok (c.reopen.new.place ≡ place_again old c.args.now c.args.keeper) (slice_set c.args.places.now c.in-Some.k c.reopen.new.place ≡ put_again c.args.now c.args.keeper (place_at c.args.i c.args.places.now) c.args.places.now)
+    on_ok (c.reopen.new.self ≡ place_again old c.args.now c.args.disk) (slice_set c.args.places.now c.in-Some.k c.reopen.new.self ≡ put_again c.args.now c.args.disk (place_at c.args.i c.args.places.now) c.args.places.now)
     c.reopen.result c.reopen.ensures
-    (λ is. again_there c.args.places.now c.args.i c.in-Some.k c.args.now c.args.keeper c.index-places-k.result c.reopen.new.place (sym c.in-Some.ensures) is)
+    (λ is. again_there c.args.places.now c.args.i c.in-Some.k c.args.now c.args.disk c.index-places-k.result c.reopen.new.self (sym c.in-Some.ensures) is)
 
 pub returns-in-None : goal.returns-in-None
-returns-in-None c = again_nowhere c.args.places.now c.args.i c.args.now c.args.keeper (sym c.in-None.ensures)
+returns-in-None c = again_nowhere c.args.places.now c.args.i c.args.now c.args.disk (sym c.in-None.ensures)

@@ -17,11 +17,11 @@ drain-requires c = record { keys = (c.requires.rested _ (found_there c.args.plac
 pub returns-in-Some-clause-places : goal.returns-in-Some-clause-places
 returns-in-Some-clause-places c =
     let old : Place = slice_index_or c.args.places.now c.in-Some.k c.index-places-k.result in
-    let new : Place = record { core = c.drain.new.core; keeper = old.keeper } in
+    let new : Place = record { core = c.drain.new.core; disk = old.disk } in
     on_ok (c.drain.new.core ≡ after_events old.core (draining c.args.numbers.now old.core)) (slice_set c.args.places.now c.in-Some.k new ≡ put_drained c.args.numbers.now (place_at c.args.i c.args.places.now) c.args.places.now)
     c.drain.result c.drain.ensures.core
     (λ is. drained_there c.args.numbers.now c.args.places.now c.args.i c.in-Some.k c.index-places-k.result new (sym c.in-Some.ensures)
-    (ap (λ (core : Core). let p : Place = record { core = core; keeper = old.keeper } in p) is))
+    (ap (λ (core : Core). let p : Place = record { core = core; disk = old.disk } in p) is))
 
 pub returns-in-Some-clause-sent : goal.returns-in-Some-clause-sent
 returns-in-Some-clause-sent c =

@@ -5,7 +5,7 @@ use Rattle.std.proofs.lemmas.List.{with_items_is}
 use Rattle.xl_core.specs.declared.event.CoreEvent.{CoreEvent}
 use Rattle.xl_world.specs.declared.outcome.Outcome.{Outcome}
 use Rattle.xl_world.specs.declared.place.Place.{Place}
-use Rattle.xl_world.specs.Keeper.{answer_of}
+use Rattle.xl_world.specs.Disk.{answer_of}
 use Rattle.xl_world.specs.Seen.{AnswersAt, acted_at, deed_event, noted, with_places}
 use Rattle.xl_world.specs.World.{World, place_at}
 use Rattle.xl_world.proofs.Acting.{acted_rests, deed_unsent, noted_ran}
@@ -47,7 +47,7 @@ returns-in-Some-clause-world c =
     subst (λ (v : World). OnOk c.settle.result (c.settle.new.self ≡ v))
     (ap (λ (w : World). noted (with_places w ps) c.args.i c.in-Some.answer) c.self.view_is
     ∙ (ap (λ (xs : List Place). noted (with_places c.args.self.now xs) c.args.i c.in-Some.answer) (placed d)
-    ∙ noted_ran c.args.self.now c.args.i (event d) c.args.fate c.in-Some.answer (answers s) (λ p from. deed_unsent p.core c.args.at c.args.deed.now (answer_of p.keeper c.args.fate) from)))
+    ∙ noted_ran c.args.self.now c.args.i (event d) c.args.fate c.in-Some.answer (answers s) (λ p from. deed_unsent p.core c.args.at c.args.deed.now (answer_of p.disk c.args.fate) from)))
     c.settle.ensures.world
 
 pub returns-in-Some-clause-told : goal.returns-in-Some-clause-told

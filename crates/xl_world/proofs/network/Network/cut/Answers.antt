@@ -5,10 +5,10 @@ use Rattle.std.proofs.lemmas.List.{with_items_is}
 use Rattle.xl_core.specs.declared.event.CoreEvent.{CoreEvent}
 use Rattle.xl_world.specs.declared.outcome.Outcome.{Outcome}
 use Rattle.xl_world.specs.declared.place.Fate.TheVariants.{Unwritten}
-use Rattle.xl_world.specs.declared.place.Keeper.{Keeper}
+use Rattle.xl_world.specs.declared.place.Disk.{Disk}
 use Rattle.xl_world.specs.declared.place.Place.{Place}
-use Rattle.xl_world.specs.Keeper.{answer_of, found, left_by, restored}
-use Rattle.xl_world.specs.Seen.{AnswersAt, acted_at, deed_event, keeper_in, noted, put_again, with_places}
+use Rattle.xl_world.specs.Disk.{answer_of, found, left_by, restored}
+use Rattle.xl_world.specs.Seen.{AnswersAt, acted_at, deed_event, disk_in, noted, put_again, with_places}
 use Rattle.xl_world.specs.World.{World, place_at}
 use Rattle.xl_world.proofs.Acting.{acted_rests, deed_unsent}
 use Rattle.xl_world.proofs.Cutting.{any_ok, cuts_none, cuts_torn}
@@ -29,9 +29,9 @@ placed c =
     with_items_is c.self.inside.places c.act_at.new.places (c.act_at.auto.places ∙ c.deref_mut.ensures.len)
     ∙ (c.act_at.ensures.places ∙ ap (acted_at (number c) (event c) Unwritten) (c.deref_mut.ensures.value ∙ ap (λ (w : World). w.places) c.self.view_is))
 
--- its keeper before it
-held : (c : After-act_at) → Some c.in-Some.keeper ≡ keeper_in (number c) c.args.self.now.places
-held c = c.in-Some.ensures ∙ ap (keeper_in (number c)) (c.deref.ensures.value ∙ ap (λ (w : World). w.places) c.self.view_is)
+-- its disk before it
+held : (c : After-act_at) → Some c.in-Some.disk ≡ disk_in (number c) c.args.self.now.places
+held c = c.in-Some.ensures ∙ ap (disk_in (number c)) (c.deref.ensures.value ∙ ap (λ (w : World). w.places) c.self.view_is)
 
 -- what the node answered
 answers : (c : In-Some-act_at) → AnswersAt c.asked_by-node.result.0 (deed_event c.args.at c.asked_by-node.result.1) Unwritten c.args.self.now.places (Some c.in-Some-act_at.answer)
@@ -60,14 +60,14 @@ returns-in-Some-asked-clause-world c =
     let w : World = c.args.self.now in
     let at = c.args.at in
     let i = c.asked_by-node.result.0 in
-    let kept : Keeper = c.in-Some.keeper in
+    let kept : Disk = c.in-Some.disk in
     let ps : List Place = (with_items c.self.inside.places c.act_at.new.places).items in
     let acted : List Place = acted_at i (event d) Unwritten w.places in
     let its : c.restored.result ≡ restored kept (left_by kept c.args.new (Some c.in-Some-asked.seq)) = c.restored.ensures ∙ ap (restored kept) c.left_by.ensures in
     subst (λ (v : World). OnOk c.reopen.result (c.reopen.new.self ≡ v))
     (ap (λ (u : World). with_places u (put_again at c.restored.result (place_at i ps) ps)) c.self.view_is
     ∙ (ap (λ (xs : List Place). with_places w (put_again at c.restored.result (place_at i xs) xs)) (placed d)
-    ∙ (ap (λ (k : Keeper). with_places w (put_again at k (place_at i acted) acted)) its
+    ∙ (ap (λ (k : Disk). with_places w (put_again at k (place_at i acted) acted)) its
     ∙ (cuts_torn w at c.args.new c.args.ask.now i (event d) Unwritten kept c.in-Some-act_at.answer c.in-Some-asked.seq c.asked_by-node.ensures.node (c.asked_by-node.ensures.deed at) (held d) (answers s) c.in-Some-asked.is).world)))
     c.reopen.ensures.places
 
@@ -79,16 +79,16 @@ returns-in_ok-settle-in-None-clause-world c =
     let v : World = c.settle.new.self in
     let at = c.args.at in
     let i = c.asked_by-node.result.0 in
-    let kept : Keeper = c.in-Some.keeper in
+    let kept : Disk = c.in-Some.disk in
     let ps : List Place = (with_items c.self.inside.places c.act_at.new.places).items in
     let its : c.restored-in-None.result ≡ restored kept (found kept) = c.restored-in-None.ensures ∙ ap (restored kept) c.found.ensures in
     let settled : v ≡ noted (with_places w (acted_at i (event d) Unwritten w.places)) i c.in-Some-act_at.answer =
     c.in_ok-settle-in-None.ensures.world
     ∙ (ap (λ (u : World). noted (with_places u ps) i c.in-Some-act_at.answer) c.self.view_is ∙ ap (λ (xs : List Place). noted (with_places w xs) i c.in-Some-act_at.answer) (placed d)) in
     subst (λ (u : World). OnOk c.reopen-in-None.result (c.reopen-in-None.new.self ≡ u))
-    (ap (λ (k : Keeper). with_places v (put_again at k (place_at i v.places) v.places)) its
+    (ap (λ (k : Disk). with_places v (put_again at k (place_at i v.places) v.places)) its
     ∙ (cuts_none w v at c.args.new c.args.ask.now i (event d) Unwritten kept c.in-Some-act_at.answer c.asked_by-node.ensures.node (c.asked_by-node.ensures.deed at) (held d) (answers s) c.in-None.is
-    (λ p from. deed_unsent p.core at c.asked_by-node.result.1 (answer_of p.keeper Unwritten) from) settled).world)
+    (λ p from. deed_unsent p.core at c.asked_by-node.result.1 (answer_of p.disk Unwritten) from) settled).world)
     c.reopen-in-None.ensures.places
 
 pub returns-in_ok-settle-in-None-clause-told : goal.returns-in_ok-settle-in-None-clause-told
@@ -106,8 +106,8 @@ returns-in_ok-settle-in-None-clause-told c =
     any_ok _ c.reopen-in-None.result
     (c.in_ok-settle-in-None.ensures.told
     ∙ ap (λ (os : List Outcome). c.args.told.now.items ++ os)
-    (cuts_none w v at c.args.new c.args.ask.now i (event d) Unwritten c.in-Some.keeper c.in-Some-act_at.answer c.asked_by-node.ensures.node (c.asked_by-node.ensures.deed at) (held d) (answers s) c.in-None.is
-    (λ p from. deed_unsent p.core at c.asked_by-node.result.1 (answer_of p.keeper Unwritten) from) settled).tells)
+    (cuts_none w v at c.args.new c.args.ask.now i (event d) Unwritten c.in-Some.disk c.in-Some-act_at.answer c.asked_by-node.ensures.node (c.asked_by-node.ensures.deed at) (held d) (answers s) c.in-None.is
+    (λ p from. deed_unsent p.core at c.asked_by-node.result.1 (answer_of p.disk Unwritten) from) settled).tells)
 
 -- WHAT WAS TOLD STAYS
 

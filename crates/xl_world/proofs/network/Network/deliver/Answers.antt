@@ -9,7 +9,7 @@ use Rattle.xl_world.specs.declared.place.Fate.TheVariants.{Saved}
 use Rattle.xl_world.specs.declared.place.Place.{Place}
 use Rattle.xl_world.specs.Sending.{Sent}
 use Rattle.xl_world.specs.Emptying.{event_steps}
-use Rattle.xl_world.specs.Keeper.{answer_of}
+use Rattle.xl_world.specs.Disk.{answer_of}
 use Rattle.xl_world.specs.Schedule.{delivery_of, told_in}
 use Rattle.xl_world.specs.Seen.{AnswersAt, acted_at, noted, with_forged, with_places}
 use Rattle.xl_world.specs.World.{World, place_at, run}
@@ -74,7 +74,7 @@ returns-in-Some-act_at-clause-world c =
     subst (λ (v : World). OnOk c.settle.result (c.settle.new.self ≡ v))
     (ap (λ (u : World). noted (with_places u ps) i c.in-Some-act_at.answer) c.self.view_is
     ∙ (ap (λ (xs : List Place). noted (with_places w xs) i c.in-Some-act_at.answer) (placed d)
-    ∙ (noted_ran w i (event d) Saved c.in-Some-act_at.answer (answers s) (λ p from. (frame_plain p.core.node c.args.at (bytes_as_sealed (schedule_ring i) c.kept-kept.result.now) (answer_of p.keeper Saved)).sent from)
+    ∙ (noted_ran w i (event d) Saved c.in-Some-act_at.answer (answers s) (λ p from. (frame_plain p.core.node c.args.at (bytes_as_sealed (schedule_ring i) c.kept-kept.result.now) (answer_of p.disk Saved)).sent from)
     ∙ (ap (λ steps. with_forged w.forged (run w steps)) (delivered d ∙ ap (delivery_of w c.args.at) (found d))
     ∙ (sent_ran w c.args.at f c.args.place (found d) ∙ ap (λ (o : Option Sent). run w (delivery_of w c.args.at o)) (sym (found d)))))))
     c.settle.ensures.world

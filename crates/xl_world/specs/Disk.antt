@@ -7,33 +7,33 @@ use Rattle.xl_io.specs.Keepers.{Held}
 use Rattle.xl_base.specs.Counts.{one_more}
 use Rattle.xl_core.specs.Node.{Save}
 use Rattle.xl_core.specs.Issuing.Save.{Kept as AnsweredOk, Failed as AnsweredFailed}
-use Rattle.xl_world.specs.declared.place.Keeper.{Keeper}
+use Rattle.xl_world.specs.declared.place.Disk.{Disk}
 use Rattle.xl_world.specs.declared.place.Fate.{Fate}
 use Rattle.xl_world.specs.declared.place.Fate.TheVariants.{Saved, Unwritten, Written}
 
 -- what it may hold over a stop
-abbrev pub held_by : Keeper → Held
+abbrev pub held_by : Disk → Held
 held_by k = record { in_force = k.in_force; asked = k.asked }
 
--- a keeper that never failed, and holds this number alone
-abbrev pub resting : ℕ → Keeper
+-- a disk that never failed, and holds this number alone
+abbrev pub resting : ℕ → Disk
 resting n = record { in_force = n; asked = None; written = false; faults = 0 }
 
--- the keeper when its node is opened again with this number
-abbrev pub restored : Keeper → ℕ → Keeper
+-- the disk when its node is opened again with this number
+abbrev pub restored : Disk → ℕ → Disk
 restored k n = record k { in_force = n; asked = None; written = false }
 
 -- how a save is answered that meets this fate
-abbrev pub answer_of : Keeper → Fate → Save
+abbrev pub answer_of : Disk → Fate → Save
 answer_of k Saved = AnsweredOk
 answer_of k Unwritten = AnsweredFailed (one_more k.faults)
 answer_of k Written = AnsweredFailed (one_more k.faults)
 
-abbrev pub after_failed : Keeper → ℕ → Bool → Keeper
+abbrev pub after_failed : Disk → ℕ → Bool → Disk
 after_failed k s written = record k { asked = Some s; written = written; faults = one_more k.faults }
 
--- the keeper after an event that asks this save, or none
-abbrev pub after_save : Keeper → Option ℕ → Fate → Keeper
+-- the disk after an event that asks this save, or none
+abbrev pub after_save : Disk → Option ℕ → Fate → Disk
 after_save k None fate = k
 after_save k (Some s) Saved = restored k s
 after_save k (Some s) Unwritten = after_failed k s false
@@ -46,10 +46,10 @@ answers_ok Unwritten = false
 answers_ok Written = false
 
 -- the number that a restart finds
-abbrev pub found : Keeper → ℕ
+abbrev pub found : Disk → ℕ
 found k = if k.written then unwrap_or k.asked k.in_force else k.in_force
 
 -- the number that is left by a cut in a save of this number, new or not; in no save it is the one that a restart finds
-abbrev pub left_by : Keeper → Bool → Option ℕ → ℕ
+abbrev pub left_by : Disk → Bool → Option ℕ → ℕ
 left_by k new None = found k
 left_by k new (Some s) = if new then s else k.in_force
