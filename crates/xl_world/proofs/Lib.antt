@@ -40,4 +40,5 @@ pub mod Worldly
 pub mod Doing
 pub mod Going
 pub mod Sealing
+pub mod Liars
 pub mod Partwise
