@@ -41,4 +41,5 @@ pub mod Doing
 pub mod Going
 pub mod Sealing
 pub mod Liars
+pub mod Emptied
 pub mod Partwise

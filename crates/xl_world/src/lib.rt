@@ -18,6 +18,7 @@ mod extent;
 mod forged;
 mod fork;
 mod index;
+mod laws;
 mod lie;
 mod members;
 mod network;
@@ -33,6 +34,7 @@ mod traffic;
 mod world;
 
 pub use fork::{Fork, first_fork, law_of_forks};
+pub use laws::law_of_drains;
 pub use lie::put_lie;
 pub use outcome::{Happened, Outcome};
 pub use parts::parts_are_the_whole;
