@@ -42,4 +42,5 @@ pub mod Going
 pub mod Sealing
 pub mod Liars
 pub mod Emptied
+pub mod Framing
 pub mod Partwise

@@ -17,6 +17,7 @@ mod draining;
 mod extent;
 mod forged;
 mod fork;
+mod frames;
 mod index;
 mod laws;
 mod lie;
@@ -34,6 +35,7 @@ mod traffic;
 mod world;
 
 pub use fork::{Fork, first_fork, law_of_forks};
+pub use frames::SentFrames;
 pub use laws::law_of_drains;
 pub use lie::put_lie;
 pub use outcome::{Happened, Outcome};

@@ -120,7 +120,6 @@ impl Network {
         push_some(&mut self.reports, answer.report)?;
         push_some(&mut self.lists, answer.set)?;
         drain_at(
-            self.alloc,
             &mut self.places,
             i,
             &self.numbers,
@@ -247,7 +246,7 @@ impl Network {
         ensures told { OnOk result (told.new.items ≡ told.old.items ++ outcomes_at self.old at What.All) }
         ensures grows { Grows self.old self.new }
     {
-        for place in self.traffic.mark()..self.traffic.as_slice().len() {
+        for place in self.traffic.mark()..self.traffic.sent().len() {
             self.deliver(at, place, told)?;
         }
         self.traffic.move_mark();
@@ -452,7 +451,7 @@ impl Network {
         ensures mark { result.mark ≤ result.sent }
     {
         Extent {
-            sent: self.traffic.as_slice().len(),
+            sent: self.traffic.sent().len(),
             mark: self.traffic.mark(),
             said: self.said.len(),
             reports: self.reports.len(),
