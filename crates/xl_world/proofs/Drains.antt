@@ -59,7 +59,7 @@ framed_whole n to body =
 
 -- what holds of the frame of each body holds of each frame that a drain gives
 module _ (P : List ℕ → Type 0) where
-  abbrev IfIs : Option (List ℕ) → Type 0
+  abbrev pub IfIs : Option (List ℕ) → Type 0
   IfIs o = IfSome o P
 
   item_is : (n : Node) (to : ℕ) → ((body : Body) → IfIs (framed n to body)) → (item : Item) → IfIs (frame_of n to item)
@@ -83,11 +83,13 @@ module _ (P : List ℕ → Type 0) where
   front_is (suc n) (None ∷ fs) all = front_is n fs (All-tail IfIs None fs all)
   front_is (suc n) (Some f ∷ fs) all = All-cons P f (frames_in (take n fs)) (All-head IfIs (Some f) fs all) (front_is n fs (All-tail IfIs (Some f) fs all))
 
+  pub all_are : (core : Core) (m : ℕ) → ((body : Body) → IfIs (framed core.node m body)) → All IfIs (all_frames core m)
+  all_are core m each =
+      All-append IfIs (greeted_frames core m) (frames_for core.node core.waiting m) (greeting_is core.node m each (greeting_at core.greetings m))
+      (map_is (frame_of core.node m) (item_is core.node m each) (waiting_at core.waiting m).items)
+
   pub given_is : (core : Core) (m : ℕ) → ((body : Body) → IfIs (framed core.node m body)) → All P (given_in (drained_once core m).answer)
-  given_is core m each =
-      front_is (fitting (all_frames core m) longest_frame) (all_frames core m)
-      (All-append IfIs (greeted_frames core m) (frames_for core.node core.waiting m) (greeting_is core.node m each (greeting_at core.greetings m))
-      (map_is (frame_of core.node m) (item_is core.node m each) (waiting_at core.waiting m).items))
+  given_is core m each = front_is (fitting (all_frames core m) longest_frame) (all_frames core m) (all_are core m each)
 
 each_blank : (fs : List (List ℕ)) → All IsBlank fs → AreFrames (map blanked fs)
 each_blank [] all = All-nil IsOneFrame
@@ -170,7 +172,7 @@ drains_end core m (suc more) none =
     ap (λ (es : List CoreEvent). Drain m longest_frame ∷ es) (cond-true (length (given_in (drained_once core m).answer) == 0) [] (drains (drained_once core m).core m more) (eq-eqb _ 0 (ap length none)))
 
 -- one that gives something is followed by another
-drains_more : (core : Core) (m more : ℕ) → (length (given_in (drained_once core m).answer) ≡ 0 → ⊥) → drains core m (suc more) ≡ Drain m longest_frame ∷ drains (drained_once core m).core m more
+pub drains_more : (core : Core) (m more : ℕ) → (length (given_in (drained_once core m).answer) ≡ 0 → ⊥) → drains core m (suc more) ≡ Drain m longest_frame ∷ drains (drained_once core m).core m more
 drains_more core m more some =
     ap (λ (es : List CoreEvent). Drain m longest_frame ∷ es) (cond-false (length (given_in (drained_once core m).answer) == 0) [] (drains (drained_once core m).core m more) (not_none _ some))
   where

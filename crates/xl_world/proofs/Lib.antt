@@ -40,4 +40,7 @@ pub mod Worldly
 pub mod Doing
 pub mod Going
 pub mod Sealing
+pub mod Liars
+pub mod Emptied
+pub mod Framing
 pub mod Partwise

@@ -80,14 +80,23 @@ greeting_short n greetings (suc place) to count =
           omega (arith, before, after)
     ]
 
+-- how many frames a drain leaves for its number
+pub left_after : (core : Core) (m room : ℕ) → length (all_frames (drained core m room) m)
+    ≡ (length (greeted_frames core m) - fitting (greeted_frames core m) room)
+    + (length (frames_for core.node core.waiting m) - length (drop (length (greeted_frames core m)) (given_for core m room)))
+left_after core m room =
+    let gs : Frames = greeted_frames core m in
+    let ws : Frames = frames_for core.node core.waiting m in
+    let after : Core = drained core m room in
+    let taken : Frames = drop (length gs) (given_for core m room) in
+    let greeted : length (greeted_frames after m) ≡ length gs - fitting gs room = greeting_short core.node core.greetings m m (fitting gs room) in
+    let waits : length (frames_for core.node after.waiting m) ≡ length ws - length taken =
+    length-map (waiting_at after.waiting m).items (frame_of core.node m)
+    ∙ (queue_short core.waiting m taken ∙ ap (λ (k : ℕ). k - length taken) (sym (length-map (waiting_at core.waiting m).items (frame_of core.node m)))) in
+    omega (arith, greeted, waits, length-append (greeted_frames after m) (frames_for core.node after.waiting m))
+
 pub fewer_left : (core : Core) (m : ℕ) → (length (given_in (drained_once core m).answer) ≡ 0 → ⊥) → length (all_frames (drained_once core m).core m) < length (all_frames core m)
 fewer_left core m some =
     let gs : Frames = greeted_frames core m in
     let ws : Frames = frames_for core.node core.waiting m in
-    let after : Core = drained core m longest_frame in
-    let taken : Frames = drop (length gs) (given_for core m longest_frame) in
-    let greeted : length (greeted_frames after m) ≡ length gs - fitting gs longest_frame = greeting_short core.node core.greetings m m (fitting gs longest_frame) in
-    let waits : length (frames_for core.node after.waiting m) ≡ length ws - length taken =
-    length-map (waiting_at after.waiting m).items (frame_of core.node m)
-    ∙ (queue_short core.waiting m taken ∙ ap (λ (k : ℕ). k - length taken) (sym (length-map (waiting_at core.waiting m).items (frame_of core.node m)))) in
-    omega (arith, greeted, waits, shorter gs ws longest_frame some, length-append gs ws, length-append (greeted_frames after m) (frames_for core.node after.waiting m))
+    omega (arith, left_after core m longest_frame, shorter gs ws longest_frame some, length-append gs ws)

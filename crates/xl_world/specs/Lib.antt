@@ -15,3 +15,4 @@ pub mod Indexes
 pub mod Worlds
 pub mod Sending
 pub mod Parts
+pub mod Laws

@@ -1,5 +1,7 @@
 -- A world of the code, as the definitions see it. Source: what the code of this crate keeps.
-use Rattle.std.specs.Prelude.{◌≤◌, Bool, true, false, length}
+use Rattle.std.specs.Prelude.{◌≤◌, ℕ, ◌+◌, All, Bool, true, false, List, drop, length, map, take}
+use Rattle.xl_world.specs.declared.frames.SentFrames.TheInside.{Inside as FramesInside}
+use Rattle.xl_world.specs.declared.frames.SentPlace.{SentPlace}
 use Rattle.xl_world.specs.declared.network.Network.TheInside.{Inside as NetworkInside}
 use Rattle.xl_world.specs.declared.sent.Sent.TheInside.{Inside as SentInside}
 use Rattle.xl_world.specs.declared.traffic.Traffic.TheInside.{Inside as TrafficInside}
@@ -12,15 +14,29 @@ use Rattle.xl_world.specs.Starts.{IsRun}
 use Rattle.xl_world.specs.World.{World}
 
 abbrev pub sent_seen : SentInside → Sent
-sent_seen f = sent_as f.from f.to f.kept
+sent_seen f = sent_as f.from f.to f.kept.now
+
+-- the frame of a place among the bytes of all
+abbrev pub frame_in : List ℕ → SentPlace → Sent
+frame_in bytes p = sent_as p.from p.to (take p.length (drop p.begins bytes))
+
+abbrev pub frames_seen : FramesInside → List Sent
+frames_seen f = map (frame_in f.bytes.items) f.places.items
+
+-- each place is one among so many bytes
+abbrev pub IsWithin : ℕ → SentPlace → Type 0
+IsWithin count p = p.begins + p.length ≤ count
+
+abbrev pub AreWithin : FramesInside → Type 0
+AreWithin f = All (IsWithin (length f.bytes.items)) f.places.items
 
 abbrev pub traffic_seen : TrafficInside → Traffic
-traffic_seen t = record { frames = t.frames.items; mark = t.mark }
+traffic_seen t = record { frames = t.frames; mark = t.mark }
 
 -- the index is one of what was sent, and the mark stands in that
 pub record IsTraffic (t : TrafficInside) : Type 0 where
-  pub index : IsIndex t.index t.frames.items
-  pub mark : t.mark ≤ length t.frames.items
+  pub index : IsIndex t.index t.frames
+  pub mark : t.mark ≤ length t.frames
 
 abbrev pub network_seen : NetworkInside → World
 network_seen n = record {

@@ -1,5 +1,5 @@
 // What waits at a core is drained and sent.
-ghost use Rattle.std.specs.Prelude.{◌≡◌, ◌≢◌, ◌<◌, ◌≤◌, ℕ, List, [], None, take, map, OnOk, IfOk, IfSome};
+ghost use Rattle.std.specs.Prelude.{◌≡◌, ◌≢◌, ◌<◌, ◌≤◌, ℕ, List, [], None, length, take, map, OnOk, IfSome};
 ghost use Rattle.xl_core.specs.Answers.{given_in};
 ghost use Rattle.xl_wire.specs.Heads.{split_of};
 ghost use Rattle.xl_wire.specs.Heads.Split.{Whole};
@@ -17,21 +17,12 @@ ghost use Rattle.xl_world.specs.Rested.{Between, IsRested};
 ghost use Rattle.xl_world.specs.Seen.{AreFrames, IsFirstFrame, given_at, put_drained};
 ghost use Rattle.xl_world.specs.Sending.{sent_as};
 
-use crate::Sent;
 use crate::act::position_of;
 use crate::members::Members;
 use crate::place::{NodeCore, Place};
 use crate::traffic::Traffic;
-use std::alloc::Global;
-use xl_base::{Bytes, NodeNo, OutOfMemory};
+use xl_base::{NodeNo, OutOfMemory};
 use xl_wire::{LONGEST_FRAME, Parted, split};
-
-/// These bytes, in memory of their own.
-fn copied(alloc: Global, bytes: &[u8]) -> Result<Bytes, OutOfMemory>
-    ensures { IfOk result (λ copy. copy ≡ bytes.now) }
-{
-    Ok(Bytes::from_vec(Vec::from_slice(alloc, bytes)?))
-}
 
 /// How many bytes the frame has with which these begin, or None if they begin with no whole frame.
 fn first_length(bytes: &[u8]) -> Option<usize>
@@ -46,20 +37,19 @@ fn first_length(bytes: &[u8]) -> Option<usize>
 
 /// Frames that stand one behind the other are sent, each as one.
 fn send_each(
-    alloc: Global,
     from: NodeNo,
     to: NodeNo,
     frames: &[u8],
     traffic: &mut Traffic,
 ) -> Result<(), OutOfMemory>
+    requires short { length frames.now ≤ longest_frame }
     ensures sent { (each : List (List ℕ)) → AreFrames each → frames.now ≡ joined each →
         OnOk result (traffic.new ≡ with_frames traffic.old (map (sent_as from to) each)) }
     ensures longer { IsLonger traffic.old.frames traffic.new.frames }
 {
     let mut at = 0;
     while let Some(length) = first_length(&frames[at..]) {
-        let kept = copied(alloc, &frames[at..at + length])?;
-        traffic.push(Sent::new(from, to, kept))?;
+        traffic.push(from, to, &frames[at..at + length])?;
         at += length;
     }
     Ok(())
@@ -84,7 +74,6 @@ fn drain_once(core: &mut NodeCore, to: NodeNo, room: &mut [u8; LONGEST_FRAME]) -
 
 /// What waits for another number is drained and sent, until a drain gives nothing.
 fn drain_for(
-    alloc: Global,
     core: &mut NodeCore,
     to: NodeNo,
     room: &mut [u8; LONGEST_FRAME],
@@ -100,14 +89,13 @@ fn drain_for(
     // A member's number, for which the receiver has a key.
     let _number = from.get();
     while let Some(count) = drain_once(core, to, room) {
-        send_each(alloc, from, to, &room[..count], traffic)?;
+        send_each(from, to, &room[..count], traffic)?;
     }
     Ok(())
 }
 
 /// What waits for each other number is drained and sent, for each in its turn.
 fn drain_each(
-    alloc: Global,
     core: &mut NodeCore,
     numbers: &[NodeNo],
     room: &mut [u8; LONGEST_FRAME],
@@ -121,7 +109,7 @@ fn drain_each(
 {
     for &to in numbers {
         if to != core.node().me() {
-            drain_for(alloc, core, to, room, traffic)?;
+            drain_for(core, to, room, traffic)?;
         }
     }
     Ok(())
@@ -129,7 +117,6 @@ fn drain_each(
 
 /// What waits for each other number is drained and sent. Mostly nothing waits for any.
 fn drain(
-    alloc: Global,
     core: &mut NodeCore,
     numbers: &Members,
     room: &mut [u8; LONGEST_FRAME],
@@ -144,12 +131,11 @@ fn drain(
     if numbers.are_idle(core) {
         return Ok(());
     }
-    drain_each(alloc, core, numbers.as_slice(), room, traffic)
+    drain_each(core, numbers.as_slice(), room, traffic)
 }
 
 /// What waits at the node of a number, if there is one, is drained for each other number and sent.
 pub fn drain_at(
-    alloc: Global,
     places: &mut [Place],
     i: NodeNo,
     numbers: &Members,
@@ -166,7 +152,7 @@ pub fn drain_at(
     match position_of(places, i) {
         Some(k) => {
             let place = &mut places[k];
-            drain(alloc, &mut place.core, numbers, room, traffic)
+            drain(&mut place.core, numbers, room, traffic)
         }
         None => Ok(()),
     }

@@ -14,7 +14,8 @@ use xl_base::NodeNo;
 use xl_tags::{Keys, is_sealed};
 use xl_wire::{Parted, Raw, split};
 
-fn is_liar(liars: &[NodeNo], number: u32) -> bool
+/// Whether a number is a declared liar's.
+pub fn is_liar(liars: &[NodeNo], number: u32) -> bool
     ensures { result ≡ is_on liars.now number }
 {
     liars.iter().any(|liar| number == liar.get())

@@ -1,10 +1,11 @@
 // Whether bytes were sent, without a walk over all that was sent.
-ghost use Rattle.std.specs.Prelude.{◌≡◌, ◌+◌, ◌≤◌, ◌<◌, None, length, slice_get, true, false, IfSome, option_copied};
+ghost use Rattle.std.specs.Prelude.{◌≡◌, ◌+◌, ◌≤◌, ◌<◌, None, length, true, false, IfSome};
 ghost use Rattle.xl_world.specs.Indexes.{tag_in, is_at, IsIndex};
 ghost use Rattle.xl_world.specs.Forgeries.{was_sent};
 
 use crate::Sent;
-use crate::sent::{tag_for, was_sent};
+use crate::frames::{SentFrames, is_at, was_sent};
+use crate::sent::tag_for;
 use std::alloc::Global;
 use std::collections::BTreeMap;
 
@@ -42,7 +43,7 @@ impl TagIndex {
     }
 
     /// Whether these bytes were sent.
-    pub fn has(&mut self, sent: &[Sent], bytes: &[u8]) -> bool
+    pub fn has(&mut self, sent: &SentFrames, bytes: &[u8]) -> bool
         requires { IsIndex self.old sent.now }
         ensures value { result ≡ was_sent sent.now bytes.now }
         ensures index { IsIndex self.new sent.now }
@@ -57,7 +58,7 @@ impl TagIndex {
     }
 
     /// Whether the first frame of this tag is these bytes.
-    fn finds(&self, sent: &[Sent], bytes: &[u8], tag: &[u8; 32]) -> bool
+    fn finds(&self, sent: &SentFrames, bytes: &[u8], tag: &[u8; 32]) -> bool
         requires index { IsIndex self.now sent.now }
         requires kept { self.now.given_up ≡ false }
         requires all { self.now.indexed ≡ length sent.now }
@@ -71,7 +72,7 @@ impl TagIndex {
     }
 
     /// Adds the frames that it hasn't, unless it is given up.
-    fn extend(&mut self, sent: &[Sent])
+    fn extend(&mut self, sent: &SentFrames)
         requires { IsIndex self.old sent.now }
         ensures index { IsIndex self.new sent.now }
         ensures all { self.new.given_up ≡ false → self.new.indexed ≡ length sent.now }
@@ -83,7 +84,7 @@ impl TagIndex {
     }
 
     /// Adds the next frame, or gives the index up.
-    fn add(&mut self, sent: &[Sent])
+    fn add(&mut self, sent: &SentFrames)
         requires index { IsIndex self.old sent.now }
         requires more { self.old.indexed < length sent.now }
         requires kept { self.old.given_up ≡ false }
@@ -92,14 +93,19 @@ impl TagIndex {
         ensures same { self.new.given_up ≡ true → self.new.indexed ≡ self.old.indexed }
         ensures later { self.old.indexed ≤ self.new.indexed }
     {
+        // A place below a count of frames, so the next one is a place too.
+        let _count = sent.len();
         let place = self.indexed;
-        let frame = &sent[place];
+        let Some(frame) = sent.get(place) else {
+            self.given_up = true;
+            return;
+        };
         let Some(tag) = tag_for(frame.to(), frame.kept()) else {
             self.given_up = true;
             return;
         };
         if let Some(&first) = self.places.get(&tag) {
-            if is_again(sent, first, frame) {
+            if is_again(sent, first, &frame) {
                 self.indexed = place + 1;
             } else {
                 self.given_up = true;
@@ -113,31 +119,14 @@ impl TagIndex {
     }
 }
 
-/// Whether the frame of a place, from 0 on, is these bytes.
-fn is_at(sent: &[Sent], place: usize, bytes: &[u8]) -> bool
-    ensures { result ≡ is_at sent.now place bytes.now }
-{
-    match sent_at(sent, place) {
-        Some(frame) => frame.is(bytes),
-        None => false,
-    }
-}
-
 /// Whether the frame of a place, from 0 on, is this one again.
-fn is_again(sent: &[Sent], place: usize, frame: &Sent) -> bool
+fn is_again(sent: &SentFrames, place: usize, frame: &Sent<'_>) -> bool
     ensures { result ≡ true → is_at sent.now place frame.now.bytes ≡ true }
 {
-    match sent_at(sent, place) {
+    match sent.get(place) {
         Some(first) => first.to() == frame.to() && first.kept() == frame.kept(),
         None => false,
     }
-}
-
-/// The frame of a place, from 0 on.
-fn sent_at(sent: &[Sent], place: usize) -> Option<&Sent>
-    ensures { option_copied result ≡ slice_get sent.now place }
-{
-    sent.get(place)
 }
 
 /// The last 32 bytes, if there are that many.

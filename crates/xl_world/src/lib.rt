@@ -17,7 +17,9 @@ mod draining;
 mod extent;
 mod forged;
 mod fork;
+mod frames;
 mod index;
+mod laws;
 mod lie;
 mod members;
 mod network;
@@ -33,6 +35,8 @@ mod traffic;
 mod world;
 
 pub use fork::{Fork, first_fork, law_of_forks};
+pub use frames::SentFrames;
+pub use laws::law_of_drains;
 pub use lie::put_lie;
 pub use outcome::{Happened, Outcome};
 pub use parts::parts_are_the_whole;

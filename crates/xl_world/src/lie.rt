@@ -1,5 +1,8 @@
 // What liars say. A liar has no node: its frames are made up here, each sealed by the one key that it takes.
 ghost use Rattle.std.specs.Prelude.{◌≡◌, ◌≤◌, ◌++◌, length, take};
+ghost use Rattle.xl_core.specs.Hearing.{bytes_as_sealed};
+ghost use Rattle.xl_core.specs.Sending.{blank_frame};
+ghost use Rattle.xl_wire.specs.Frames.{raw_of};
 ghost use Rattle.xl_wire.specs.Raws.{RawFrame, SpellsRaw};
 ghost use Rattle.xl_tags.specs.Rings.{schedule_ring};
 ghost use Rattle.xl_tags.specs.Sealing.{before_tag, sealed};
@@ -21,15 +24,28 @@ pub fn put_lie(from: NodeNo, to: NodeNo, lie: &Lied, room: &mut [u8]) -> usize
     ensures within { result ≤ length room.new }
     ensures written { take result room.new ≡ lied_bytes from to lie.now }
 {
+    let length = put_blank_lie(from, to, lie, room);
+    seal(from, to, &mut room[..length]);
+    length
+}
+
+/// Writes the frame of a lie with zeros in place of its tag to the front of a room, and answers how many bytes it has.
+pub(crate) fn put_blank_lie(from: NodeNo, to: NodeNo, lie: &Lied, room: &mut [u8]) -> usize
+    requires sayable { IsFitLied lie.now }
+    requires room { longest_frame ≤ length room.old }
+    ensures long { 46 ≤ result }
+    ensures within { result ≤ length room.new }
+    ensures spelled { SpellsRaw (raw_of (blank_frame from to (lied_body lie.now))) (take result room.new) }
+    // Its receiver takes it for the sealed one.
+    ensures heard { bytes_as_sealed (schedule_ring to) (take result room.new) ≡ lied_bytes from to lie.now }
+{
     let frame = Frame {
         from: from.get(),
         to: to.get(),
         body: body(lie),
         tag: [0; 32],
     };
-    let length = encode(&frame, room);
-    seal(from, to, &mut room[..length]);
-    length
+    encode(&frame, room)
 }
 
 /// The body in which a liar says it.

@@ -9,8 +9,8 @@ use crate::act::{Deed, NodeAnswer, act_at, core_at, preferred_at};
 use crate::anew::{disk_at, reopen_at};
 use crate::draining::drain_at;
 use crate::extent::Extent;
-use crate::forged::is_forged;
-use crate::lie::put_lie;
+use crate::forged::{is_forged, is_liar};
+use crate::lie::{put_blank_lie, put_lie};
 use crate::members::Members;
 use crate::place::{Disk, Fate, NodeCore, Place};
 use crate::settle::{note_list, note_report, push_some, tell, tell_heard_at};
@@ -120,7 +120,6 @@ impl Network {
         note_report(&mut self.reports, &self.places, i, &answer.report)?;
         note_list(&mut self.lists, &self.places, i, answer.relisted)?;
         drain_at(
-            self.alloc,
             &mut self.places,
             i,
             &self.numbers,
@@ -247,7 +246,7 @@ impl Network {
         ensures told { OnOk result (told.new.items ≡ told.old.items ++ outcomes_at self.old at What.All) }
         ensures grows { Grows self.old self.new }
     {
-        for place in self.traffic.mark()..self.traffic.as_slice().len() {
+        for place in self.traffic.mark()..self.traffic.sent().len() {
             self.deliver(at, place, told)?;
         }
         self.traffic.move_mark();
@@ -275,8 +274,40 @@ impl Network {
         Ok(())
     }
 
-    /// What a liar says comes to a node.
+    /// What a liar says comes to a node. It isn't forged, since a declared liar signed it, and its tag is the right one,
+    /// so neither is looked at.
     fn lie(
+        &mut self,
+        at: Millis,
+        from: NodeNo,
+        to: NodeNo,
+        lie: &Lied,
+        told: &mut Vec<Outcome>,
+    ) -> Result<(), OutOfMemory>
+        requires moment { at ≤ greatest_millis }
+        requires rest { IsAtRest self.old }
+        requires fit { IsFitLied lie.now }
+        ensures world { OnOk result (self.new ≡ run self.old (hand_steps self.old at to (lied_bytes from to lie.now))) }
+        ensures told { OnOk result (told.new.items
+            ≡ told.old.items ++ told_in self.old (hand_steps self.old at to (lied_bytes from to lie.now))) }
+        ensures grows { Grows self.old self.new }
+    {
+        if !is_liar(&self.liars, from.get()) {
+            return self.hand_in_lie(at, from, to, lie, told);
+        }
+        let length = put_blank_lie(from, to, lie, &mut *self.room);
+        let kept = &self.room[..length];
+        let deed = Deed::Sent { to, kept };
+        match act_at(&mut self.places, to, at, &deed, Fate::Saved) {
+            Some(answer) => self.settle(to, answer, told),
+            None => Ok(()),
+        }
+    }
+
+    /// The frame of a lie is handed to a node, and may be forged: nobody declared its sender as a liar.
+    // Its frame is large, and in the caller's each lie would pay for it.
+    #[inline(never)]
+    fn hand_in_lie(
         &mut self,
         at: Millis,
         from: NodeNo,
@@ -420,7 +451,7 @@ impl Network {
         ensures mark { result.mark ≤ result.sent }
     {
         Extent {
-            sent: self.traffic.as_slice().len(),
+            sent: self.traffic.sent().len(),
             mark: self.traffic.mark(),
             said: self.said.len(),
             reports: self.reports.len(),

@@ -2,7 +2,6 @@
 ghost use Rattle.std.specs.Prelude.{◌≡◌, ◌++◌, IfOk};
 ghost use Rattle.std.specs.Str.{bytes_eq};
 ghost use Rattle.xl_tags.specs.Sealing.{before_tag};
-ghost use Rattle.xl_world.specs.Forgeries.{was_sent};
 ghost use Rattle.xl_world.specs.Sending.{IsTag, sent_as};
 
 use std::alloc::Global;
@@ -15,13 +14,13 @@ use xl_wire::{Parted, split};
 ///
 /// Its tag is computed when it is looked at: what is kept of the frame may have any.
 #[derive(Debug, Drop)]
-pub struct Sent {
+pub struct Sent<'a> {
     from: NodeNo,
     to: NodeNo,
-    kept: Bytes,
+    kept: &'a [u8],
 }
 
-impl Model for Sent {
+impl<'a> Model for Sent<'a> {
     ghost use Rattle.xl_world.specs.Sending.{Sent as TheSent};
 
     ghost Value = { TheSent };
@@ -31,10 +30,10 @@ impl Model for Sent {
     ghost view = { sent_seen };
 }
 
-impl Sent {
+impl<'a> Sent<'a> {
     /// A sent frame, of which these bytes are kept.
-    pub(crate) fn new(from: NodeNo, to: NodeNo, kept: Bytes) -> Sent
-        ensures { result ≡ sent_as from to kept }
+    pub(crate) fn new(from: NodeNo, to: NodeNo, kept: &'a [u8]) -> Sent<'a>
+        ensures { result ≡ sent_as from to kept.now }
     {
         Sent { from, to, kept }
     }
@@ -54,20 +53,19 @@ impl Sent {
     }
 
     /// The frame with any tag.
-    pub(crate) fn kept(&self) -> &[u8]
+    pub(crate) fn kept(&self) -> &'a [u8]
         ensures { self.now ≡ sent_as self.now.from self.now.to result.now }
     {
-        self.kept.as_slice()
+        self.kept
     }
 
     /// Whether these are its bytes.
     pub fn is(&self, bytes: &[u8]) -> bool
         ensures { result ≡ bytes_eq self.now.bytes bytes.now }
     {
-        let kept = self.kept.as_slice();
-        match tag_for(self.to, kept) {
-            Some(tag) => is_joined(before_tag(kept), &tag, bytes),
-            None => kept == bytes,
+        match tag_for(self.to, self.kept) {
+            Some(tag) => is_joined(before_tag(self.kept), &tag, bytes),
+            None => self.kept == bytes,
         }
     }
 
@@ -75,10 +73,9 @@ impl Sent {
     pub fn bytes(&self, alloc: Global) -> Result<Bytes, OutOfMemory>
         ensures { IfOk result (λ bytes. bytes ≡ self.now.bytes) }
     {
-        let kept = self.kept.as_slice();
-        match tag_for(self.to, kept) {
-            Some(tag) => joined(alloc, before_tag(kept), &tag),
-            None => joined(alloc, kept, &[]),
+        match tag_for(self.to, self.kept) {
+            Some(tag) => joined(alloc, before_tag(self.kept), &tag),
+            None => joined(alloc, self.kept, &[]),
         }
     }
 }
@@ -125,11 +122,4 @@ pub(crate) fn tag_for(to: NodeNo, kept: &[u8]) -> Option<[u8; 32]>
         Some(from) if from != to => Some(hmac(&pair_key(to, from), before_tag(kept))),
         _ => Some(raw.tag),
     }
-}
-
-/// Whether these bytes were sent.
-pub fn was_sent(sent: &[Sent], bytes: &[u8]) -> bool
-    ensures { result ≡ was_sent sent.now bytes.now }
-{
-    sent.iter().any(|frame| frame.is(bytes))
 }

@@ -1,18 +1,21 @@
 // All that was sent, and how much of it stands before the mark.
-ghost use Rattle.std.specs.Prelude.{◌≡◌, ◌≤◌, [], length, drop, slice_get, take, option_copied, OnOk, OnErr};
+ghost use Rattle.std.specs.Prelude.{◌≡◌, ◌≤◌, [], length, slice_get, take, OnOk, OnErr};
+ghost use Rattle.xl_wire.specs.Lengths.{longest_frame};
 ghost use Rattle.xl_world.specs.Indexes.{Traffic as TheTraffic, with_frame};
 ghost use Rattle.xl_world.specs.Forgeries.{was_sent};
+ghost use Rattle.xl_world.specs.Sending.{sent_as};
 
 use crate::Sent;
+use crate::frames::SentFrames;
 use crate::index::TagIndex;
 use std::alloc::Global;
 use std::marker::Model;
-use xl_base::OutOfMemory;
+use xl_base::{NodeNo, OutOfMemory};
 
 /// The sent frames in order, the mark, and the index of the frames by their tags.
 #[derive(Drop)]
 pub struct Traffic {
-    frames: Vec<Sent>,
+    frames: SentFrames,
     /// How many frames stand before the mark.
     mark: usize,
     index: TagIndex,
@@ -37,14 +40,14 @@ impl Traffic {
         ensures mark { result.mark ≡ 0 }
     {
         Traffic {
-            frames: Vec::new(alloc),
+            frames: SentFrames::new(alloc),
             mark: 0,
             index: TagIndex::new(alloc),
         }
     }
 
     /// Every sent frame, in order.
-    pub fn as_slice(&self) -> &[Sent]
+    pub fn sent(&self) -> &SentFrames
         ensures { result.now ≡ self.now.frames }
     {
         &self.frames
@@ -58,18 +61,19 @@ impl Traffic {
     }
 
     /// The frame of a place, from 0 on.
-    pub fn frame(&self, place: usize) -> Option<&Sent>
-        ensures { option_copied result ≡ slice_get self.now.frames place }
+    pub fn frame(&self, place: usize) -> Option<Sent<'_>>
+        ensures { result ≡ slice_get self.now.frames place }
     {
         self.frames.get(place)
     }
 
-    /// A frame is sent.
-    pub fn push(&mut self, frame: Sent) -> Result<(), OutOfMemory>
-        ensures sent { OnOk result (self.new ≡ with_frame self.old frame) }
+    /// A frame is sent, of which these bytes are kept.
+    pub fn push(&mut self, from: NodeNo, to: NodeNo, kept: &[u8]) -> Result<(), OutOfMemory>
+        requires short { length kept.now ≤ longest_frame }
+        ensures sent { OnOk result (self.new ≡ with_frame self.old (sent_as from to kept.now)) }
         ensures err { OnErr result (self.new ≡ self.old) }
     {
-        self.frames.push(frame)?;
+        self.frames.push(from, to, kept)?;
         Ok(())
     }
 

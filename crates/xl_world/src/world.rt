@@ -4,7 +4,7 @@ use crate::act::list_at;
 use crate::agreement::all_agree;
 use crate::network::Network;
 use crate::place::NodeCore;
-use crate::{Happened, InForce, Plan, Sent, WorldReport};
+use crate::{Happened, InForce, Plan, SentFrames, WorldReport};
 use std::alloc::Global;
 use std::marker::Model;
 use xl_base::{NodeNo, OutOfMemory};
@@ -87,10 +87,10 @@ impl World {
     }
 
     /// Every frame that a node ever sent, in order.
-    pub fn sent(&self) -> &[Sent]
+    pub fn sent(&self) -> &SentFrames
         ensures { result.now ≡ self.now.sent }
     {
-        self.network.traffic.as_slice()
+        self.network.traffic.sent()
     }
 
     /// The declared liars.

@@ -27,11 +27,11 @@ abbrev event : After-act_at → CoreEvent
 event c = Frame c.args.at (bytes_as_sealed (schedule_ring c.to-to.result) c.kept-kept.result.now)
 
 -- the frame is the sent one
-found : (c : After-act_at) → slice_get c.args.self.now.sent c.args.place ≡ Some c.in-Some.frame.now
+found : (c : After-act_at) → slice_get c.args.self.now.sent c.args.place ≡ Some c.in-Some.frame
 found c = ap (λ (w : World). slice_get w.sent c.args.place) (sym c.self.view_is) ∙ sym c.in-Some.ensures
 
 -- and these are its bytes
-bytes : (c : After-act_at) → bytes_as_sealed (schedule_ring c.to-to.result) c.kept-kept.result.now ≡ c.in-Some.frame.now.bytes
+bytes : (c : After-act_at) → bytes_as_sealed (schedule_ring c.to-to.result) c.kept-kept.result.now ≡ c.in-Some.frame.bytes
 bytes c = ap (λ (m : ℕ). bytes_as_sealed (schedule_ring m) c.kept-kept.result.now) c.to-to.ensures ∙ sym (ap (λ (f : Sent). f.bytes) c.kept-kept.ensures)
 
 -- the places after it
@@ -61,14 +61,14 @@ delivered : (c : After-act_at) → event_steps c.args.self.now c.to-to.result (e
 delivered c =
     let w : World = c.args.self.now in
     ap (λ (m : ℕ). event_steps w m (event c) Saved) c.to-to.ensures
-    ∙ (ap (λ (bs : List ℕ). event_steps w c.in-Some.frame.now.to (Frame c.args.at bs) Saved) (bytes c) ∙ ap (delivery_of w c.args.at) (sym (found c)))
+    ∙ (ap (λ (bs : List ℕ). event_steps w c.in-Some.frame.to (Frame c.args.at bs) Saved) (bytes c) ∙ ap (delivery_of w c.args.at) (sym (found c)))
 
 pub returns-in-Some-act_at-clause-world : goal.returns-in-Some-act_at-clause-world
 returns-in-Some-act_at-clause-world c =
     let d = (goal.at.returns-in-Some-act_at-clause-world c).After-act_at in
     let s = (goal.at.returns-in-Some-act_at-clause-world c).In-Some-act_at in
     let w : World = c.args.self.now in
-    let f : Sent = c.in-Some.frame.now in
+    let f : Sent = c.in-Some.frame in
     let i : ℕ = c.to-to.result in
     let ps : List Place = (with_items c.self.inside.places c.act_at.new.places).items in
     subst (λ (v : World). OnOk c.settle.result (c.settle.new.self ≡ v))
@@ -100,7 +100,7 @@ returns-in-None-clause-world c =
     ∙ (ap (with_places w) (placed d)
     ∙ (nothing_ran w i (event d) Saved nobody
     ∙ (ap (λ steps. with_forged w.forged (run w steps)) (delivered d ∙ ap (delivery_of w c.args.at) (found d))
-    ∙ (sent_ran w c.args.at c.in-Some.frame.now c.args.place (found d) ∙ ap (λ (o : Option Sent). run w (delivery_of w c.args.at o)) (sym (found d))))))
+    ∙ (sent_ran w c.args.at c.in-Some.frame c.args.place (found d) ∙ ap (λ (o : Option Sent). run w (delivery_of w c.args.at o)) (sym (found d))))))
 
 -- WHAT WAS TOLD STAYS
 

@@ -17,7 +17,7 @@ loop-place-init c =
 pub loop-place-preserved : goal.loop-place-preserved
 loop-place-preserved c = (
   delivered_more c.args.self.now c.args.at c.args.told.now.items c.loop-place.place c.loop-place.self c.loop-place.told.items c.deliver.new.self c.deliver.new.told.items
-      (omega (arith, c.loop-place-test.true, ap length c.as_slice-place-end.ensures, ap (λ (w : World). length w.sent) c.self.view_is))
+      (omega (arith, c.loop-place-test.true, c.len-place-end.ensures, ap length c.sent.ensures, ap (λ (w : World). length w.sent) c.self.view_is))
       c.loop-place.invariant.0 c.in_ok-deliver.ensures.world c.in_ok-deliver.ensures.told,
   grows_on c.args.self.now c.loop-place.self c.deliver.new.self c.loop-place.invariant.1 c.deliver.ensures.grows,
 )
@@ -29,12 +29,12 @@ returns-clause-world c =
     ∙ (ap (with_traffic c.self-2.inside.traffic.frames) c.move_mark.ensures.mark
     ∙ (ap marked c.self-2.view_is
     ∙ (delivered_all c.args.self.now c.args.at c.args.told.now.items c.loop-place.place c.loop-place.self c.loop-place.told.items
-    (omega (arith, c.loop-place-test.false, ap length c.as_slice-place-end.ensures, ap (λ (w : World). length w.sent) c.self.view_is)) c.loop-place.invariant.0).0))
+    (omega (arith, c.loop-place-test.false, c.len-place-end.ensures, ap length c.sent.ensures, ap (λ (w : World). length w.sent) c.self.view_is)) c.loop-place.invariant.0).0))
 
 pub returns-clause-told : goal.returns-clause-told
 returns-clause-told c =
     (delivered_all c.args.self.now c.args.at c.args.told.now.items c.loop-place.place c.loop-place.self c.loop-place.told.items
-    (omega (arith, c.loop-place-test.false, ap length c.as_slice-place-end.ensures, ap (λ (w : World). length w.sent) c.self.view_is)) c.loop-place.invariant.0).1
+    (omega (arith, c.loop-place-test.false, c.len-place-end.ensures, ap length c.sent.ensures, ap (λ (w : World). length w.sent) c.self.view_is)) c.loop-place.invariant.0).1
 
 -- WHAT WAS TOLD STAYS
 
