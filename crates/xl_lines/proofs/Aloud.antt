@@ -1,5 +1,5 @@
 -- What a machine whose last text is never empty tells is never empty.
-use Rattle.std.proofs.Common.{◌≡◌, ◌<◌, ◌-◌, ◌++◌, length, length-append, arith, ℕ, List, [], ◌∷◌}
+use Rattle.std.proofs.Common.{◌<◌, ◌-◌, ◌++◌, length, length-append, arith, ℕ, List, [], ◌∷◌}
 use Rattle.std.specs.Prelude.{nat_lt}
 use Rattle.std.proofs.lemmas.Bool.{cond_both}
 use Rattle.xl_lines.specs.declared.limits.Limits.{Limits}

@@ -1,18 +1,18 @@
 -- What is told of the lines that have ended, part by part.
-use Rattle.std.proofs.Common.{◌≡◌, ◌+◌, ◌≤◌, ◌-◌, ℕ, true, false, List, [], ◌∷◌, ◌++◌, length, take, drop, is_some, unwrap_or, Option, Some, None, refl, sym, ap, ◌∙◌, append_assoc, append-nil, arith}
+use Rattle.std.proofs.Common.{◌≡◌, ◌≤◌, ◌-◌, ℕ, false, List, [], ◌∷◌, ◌++◌, length, drop, is_some, unwrap_or, Option, Some, None, refl, sym, ap, ◌∙◌, append_assoc, append-nil, arith}
 use Rattle.std.proofs.lemmas.Bool.{le-ltb}
 use Rattle.std.proofs.lemmas.List.{append_cancel_left, append_cancel_right}
 use Rattle.std.specs.Io.KnownBytes.{append_known, prepend_known}
 use Rattle.xl_io.proofs.Growing.{append_known-none, append_known-twice}
 use Rattle.xl_lines.specs.declared.limits.Limits.{Limits}
 use Rattle.xl_lines.specs.Lines.{lines_of, before_newline}
-use Rattle.xl_lines.specs.Rules.{Rules, Step, goes_on}
+use Rattle.xl_lines.specs.Rules.{Rules, goes_on}
 use Rattle.xl_lines.specs.Told.{told_from, told_by, step_within}
 use Rattle.xl_lines.specs.Soon.{told_soon, unclosed, ended, WasRead}
 use Rattle.xl_lines.specs.Running.{Puts, soon_at}
-use Rattle.xl_lines.proofs.Newlines.{IsOneLine, FindsNewline}
+use Rattle.xl_lines.proofs.Newlines.{IsOneLine}
 use Rattle.xl_lines.proofs.Cutting.{lines_of-ended, lines_of-last}
-use Rattle.xl_lines.proofs.Parts.{first_end, moved_newline, moved_none}
+use Rattle.xl_lines.proofs.Parts.{first_end, moved_none}
 use Rattle.xl_lines.proofs.Telling.{LineEnds}
 use Rattle.xl_lines.proofs.Runs.{prepend_known-none, prepend_known-twice}
 
@@ -55,14 +55,14 @@ module _ {S : Type 0} (limits : Limits) (rules : Rules S) (left : ℕ) (state : 
     parts = λ rest. soon_at-ended line handed rest e.one_line e.short e.handed_on ∙ rw (sym step, none) refl;
   }
 
-  -- a newline is among the next bytes
-  pub soon_newline : (line bytes : List ℕ) (newline : Option ℕ) (count : ℕ) → FindsNewline bytes newline → is_some newline ≡ true → count ≡ first_end bytes newline → (limits' : Limits) (left' : ℕ) (line' : List ℕ) → limits' ≡ limits → left' ≡ left → line' ≡ line ++ take count bytes → (state' : S) → state' ≡ state → (rest : List ℕ) → soon_at limits rules left state line (bytes ++ rest) ≡ soon_at limits' rules left' state' line' (10 ∷ (drop (count + 1) bytes ++ rest))
+  -- the next bytes are no longer to come, and stand in the line
+  pub soon_joined : (line bytes : List ℕ) (limits' : Limits) (left' : ℕ) (line' : List ℕ) → limits' ≡ limits → left' ≡ left → line' ≡ line ++ bytes → (state' : S) → state' ≡ state → (rest : List ℕ) → soon_at limits rules left state line (bytes ++ rest) ≡ soon_at limits' rules left' state' line' rest
   unfolding soon_at
-  soon_newline line bytes newline count finds found k limits' left' line' e f l state' m rest =
-      rw (e, f, m) (ap (λ xs. (told_from limits (unclosed rules) left state (ended (lines_of xs))).text) (moved_newline line bytes newline count finds found k line' l rest))
+  soon_joined line bytes limits' left' line' e f l state' m rest =
+      rw (e, f, l, m) (ap (λ xs. (told_from limits (unclosed rules) left state (ended (lines_of xs))).text) (sym (append_assoc line bytes rest)))
 
   -- none is among them
-  pub soon_none : (line bytes : List ℕ) (newline : Option ℕ) (count : ℕ) → is_some newline ≡ false → count ≡ first_end bytes newline → (limits' : Limits) (left' : ℕ) (line' : List ℕ) → limits' ≡ limits → left' ≡ left → line' ≡ line ++ take count bytes → (state' : S) → state' ≡ state → (rest : List ℕ) → soon_at limits rules left state line (bytes ++ rest) ≡ soon_at limits' rules left' state' line' (drop count bytes ++ rest)
+  pub soon_none : (line bytes : List ℕ) (newline : Option ℕ) (count : ℕ) → is_some newline ≡ false → count ≡ first_end bytes newline → (limits' : Limits) (left' : ℕ) (line' : List ℕ) → limits' ≡ limits → left' ≡ left → line' ≡ line ++ bytes → (state' : S) → state' ≡ state → (rest : List ℕ) → soon_at limits rules left state line (bytes ++ rest) ≡ soon_at limits' rules left' state' line' (drop count bytes ++ rest)
   unfolding soon_at
   soon_none line bytes newline count none k limits' left' line' e f l state' m rest =
       rw (e, f, m) (ap (λ xs. (told_from limits (unclosed rules) left state (ended (lines_of xs))).text) (moved_none line bytes newline count none k line' l rest))

@@ -105,6 +105,64 @@ impl<M: Machine> Lines<M> {
         }
     }
 
+    /// Hands a line to the machine that stands whole in the piece, before its newline.
+    fn end_whole<O: Sink>(&mut self, output: &mut O, line: &[u8]) -> Result<Next, Fault>
+        requires begun { self.old.line.items ≡ [] }
+        requires one_line { list_any (λ byte. byte == 10) line.now ≡ false }
+        requires short { length line.now ≤ self.old.limits.bytes }
+        ensures limits { self.new.limits ≡ self.old.limits }
+        ensures next { IfOk result (λ next. next ≡ Next.Line →
+            (self.new.left + 1 ≡ self.old.left) × (self.new.line.items ≡ [])) }
+        ensures ok { IfOk result (λ next. (rest : List ℕ) → Tells (O.held output.old) (O.held output.new)
+            (⟦<Lines<M> as Teller>⟧.tells self.old (line.now ++ (10 ∷ rest)))
+            (left_unless_ended next (⟦<Lines<M> as Teller>⟧.tells self.new rest))) }
+        ensures soon { IfOk result (λ next. next ≡ Next.Line → Puts (O.held output.old) (O.held output.new)
+            (λ rest. ⟦<Lines<M> as Teller>⟧.soon self.old (line.now ++ (10 ∷ rest)))
+            (⟦<Lines<M> as Teller>⟧.soon self.new)) }
+        ensures front { (rest : List ℕ) → GrewByFront (O.held output.old) (O.held output.new)
+            (⟦<Lines<M> as Teller>⟧.tells self.old (line.now ++ (10 ∷ rest))).text }
+        ensures less { IsErrOf result Fault.Write → (rest : List ℕ) → GrewByLess (O.held output.old) (O.held output.new)
+            (⟦<Lines<M> as Teller>⟧.tells self.old (line.now ++ (10 ∷ rest))).text }
+        ensures cause { HasCause (O.faults output.old) (O.faults output.new) result }
+    {
+        let handed = before_newline(self.limits.returns, line);
+        match answer(&mut self.machine, output, self.left, handed, &mut self.text)? {
+            Next::Line => {
+                self.left -= 1;
+                Ok(Next::Line)
+            }
+            Next::Refused => Ok(Next::Refused),
+            Next::Found => Ok(Next::Found),
+        }
+    }
+
+    /// Ends the line with these bytes, before its newline, and hands it to the machine. If none had begun it isn't
+    /// copied.
+    fn end_with<O: Sink>(&mut self, output: &mut O, bytes: &[u8]) -> Result<Next, Fault>
+        requires one_line { list_any (λ byte. byte == 10) bytes.now ≡ false }
+        requires short { vec_len self.old.line + length bytes.now ≤ self.old.limits.bytes }
+        ensures limits { self.new.limits ≡ self.old.limits }
+        ensures next { IfOk result (λ next. next ≡ Next.Line →
+            (self.new.left + 1 ≡ self.old.left) × (self.new.line.items ≡ [])) }
+        ensures ok { IfOk result (λ next. (rest : List ℕ) → Tells (O.held output.old) (O.held output.new)
+            (⟦<Lines<M> as Teller>⟧.tells self.old (bytes.now ++ (10 ∷ rest)))
+            (left_unless_ended next (⟦<Lines<M> as Teller>⟧.tells self.new rest))) }
+        ensures soon { IfOk result (λ next. next ≡ Next.Line → Puts (O.held output.old) (O.held output.new)
+            (λ rest. ⟦<Lines<M> as Teller>⟧.soon self.old (bytes.now ++ (10 ∷ rest)))
+            (⟦<Lines<M> as Teller>⟧.soon self.new)) }
+        ensures front { (rest : List ℕ) → GrewByFront (O.held output.old) (O.held output.new)
+            (⟦<Lines<M> as Teller>⟧.tells self.old (bytes.now ++ (10 ∷ rest))).text }
+        ensures less { IsErrOf result Fault.Write → (rest : List ℕ) → GrewByLess (O.held output.old) (O.held output.new)
+            (⟦<Lines<M> as Teller>⟧.tells self.old (bytes.now ++ (10 ∷ rest))).text }
+        ensures cause { HasCause (O.faults output.old) (O.faults output.new) result }
+    {
+        if self.line.is_empty() {
+            return self.end_whole(output, bytes);
+        }
+        self.put(bytes)?;
+        self.end_line(output)
+    }
+
     /// Takes the next bytes up to the first newline, and with it.
     fn take_part<O: Sink>(&mut self, output: &mut O, bytes: &[u8]) -> Result<Part, Fault>
         requires { 0 < length bytes.now }
@@ -130,11 +188,11 @@ impl<M: Machine> Lines<M> {
             refuse_long(&mut self.machine, output, &mut self.text)?;
             return Ok(Part::Refused);
         }
-        self.put(&bytes[..count])?;
         if newline.is_none() {
+            self.put(bytes)?;
             return Ok(Part::Taken(count));
         }
-        match self.end_line(output)? {
+        match self.end_with(output, &bytes[..count])? {
             Next::Line => Ok(Part::Taken(count + 1)),
             Next::Refused => Ok(Part::Refused),
             Next::Found => Ok(Part::Found),

@@ -8,14 +8,14 @@ use Rattle.xl_queues.specs.Broadcasts.{queue_of}
 use Rattle.xl_queues.specs.Queues.{Backlog, no_items}
 use Rattle.xl_wire.specs.Lengths.{longest_frame}
 use Rattle.xl_core.specs.declared.event.CoreEvent.{CoreEvent}
-use Rattle.xl_core.specs.declared.greeting.Greeting.{Greeting}
+use Rattle.xl_core.specs.declared.the_core.greeting.Greeting.{Greeting}
 use Rattle.xl_core.specs.declared.item.Item.{Item}
 use Rattle.xl_core.specs.Answers.{given_in}
 use Rattle.xl_core.specs.Core.{Core, all_frames, core_happens, drained, given_for, greeted_frames}
 use Rattle.xl_core.specs.Greetings.{further, further_at, greeting_at, greeting_frames}
 use Rattle.xl_core.specs.Items.{frame_of, frames_for}
 use Rattle.xl_core.specs.Node.{Node}
-use Rattle.xl_core.specs.Node.Save.{Kept as AnsweredOk}
+use Rattle.xl_core.specs.Issuing.Save.{Kept as AnsweredOk}
 use Rattle.xl_core.specs.Queues.{after_taking, at_number, fitting, frames_in, joined, that_fit, waiting_at}
 use Rattle.xl_core.proofs.Draining.{none_left}
 use Rattle.xl_core.proofs.Spelling.{framed_fits}
