@@ -5,3 +5,6 @@ mod AtEnd
 mod Lawful
 mod Rerunning
 mod InForce
+mod StandingFor
+mod Joining
+mod Whole

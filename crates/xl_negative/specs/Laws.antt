@@ -8,6 +8,7 @@ use Rattle.xl_lines.specs.declared.machine.Verdict.TheVariants.{Good}
 use Rattle.xl_lines.specs.Lines.{Line as InputLine, lines_of}
 use Rattle.xl_lines.specs.Rules.{Step, goes_on, refuses as stops, finds}
 use Rattle.xl_lines.specs.Told.{step_at}
+use Rattle.xl_lists.specs.declared.said.SaidLedger.{SaidLedger}
 use Rattle.xl_lists.specs.Lists.{TrustedList, IsValid, is_on}
 use Rattle.xl_lists.specs.Quorums.{Enough}
 use Rattle.xl_nunl.specs.Lists.{IsNegative, MayBeInForce, least_quorum, list_without}
@@ -15,7 +16,12 @@ use Rattle.xl_sched.specs.Answers.{LineAnswer, passes, gives, refuses}
 use Rattle.xl_sched.specs.Reading.{after}
 use Rattle.xl_running.specs.Running.{Running, answer_in, at_first, knows, limits}
 use Rattle.xl_spelling.specs.Spellings.{MayBeSet, list_line, spelling}
+use Rattle.xl_negative.specs.Listing.{listed}
 use Rattle.xl_negative.specs.Writing.{Change, Writing, adds, at_first as nothing_read, change_of, negative_of, rules, takes, with_running, written}
+
+-- a schedule that is written again, by the list of all that was heard
+abbrev pub ByList : Type 0
+ByList = Writing (List SaidLedger)
 
 -- a change leaves out different members of the full list, a quarter at most; the list without them is valid, and may be
 -- in force
@@ -42,14 +48,14 @@ ListsAreEnough = (full a b : TrustedList) (liars : List ℕ) → IsValid full �
     → IsInForce full a → IsInForce full b → Enough liars a b
 
 -- a line that sets a list is added, and the list comes into force
-abbrev pub sets : Writing → List ℕ → ℕ → TrustedList → Step Writing
+abbrev pub sets : ByList → List ℕ → ℕ → TrustedList → Step ByList
 sets s text i list =
     let l = list_line s.running.reading i list in
     goes_on (text ++ written (spelling l)) (with_running s (takes (knows s.running (after s.running.reading l)) l))
 
 -- The law of added lines: each is read as the line that it is, if one line more and one list more may come.
 abbrev pub AddedAreLists : Type 0
-AddedAreLists = (s : Writing) (text : List ℕ) (i : ℕ) (list : TrustedList) → MayBeSet s.running.reading i list
+AddedAreLists = (s : ByList) (text : List ℕ) (i : ℕ) (list : TrustedList) → MayBeSet s.running.reading i list
     → adds s text (list_line s.running.reading i list) ≡ sets s text i list
 
 -- the schedule behind a line, unless the line is refused
@@ -74,21 +80,21 @@ pub record Runs (before : Running) (bytes : List ℕ) (after : Running) : Type 0
   pub leads : runs before lines ≡ Some after
 
 -- what a step leads to, and what further lines then lead to, unless the text ends there
-unfoldable pub led_by : (Writing → Option Writing) → Step Writing → Option Writing
+unfoldable pub led_by : (ByList → Option ByList) → Step ByList → Option ByList
 led_by further (goes_on text s) = further s
 led_by further (stops text) = None
 led_by further (finds text) = None
 
 -- what the lines of an input lead to
-abbrev pub ran_from : ℕ → Writing → List InputLine → Option Writing
+abbrev pub ran_from : ℕ → ByList → List InputLine → Option ByList
 ran_from left s [] = Some s
-ran_from left s (l ∷ ls) = led_by (λ next. ran_from (left - 1) next ls) (step_at limits rules left s l)
+ran_from left s (l ∷ ls) = led_by (λ next. ran_from (left - 1) next ls) (step_at limits (rules listed) left s l)
 
 -- what ran here once the whole input was read
-abbrev pub ran_by : List ℕ → Option Writing
-ran_by bytes = ran_from limits.lines nothing_read (lines_of bytes)
+abbrev pub ran_by : List ℕ → Option ByList
+ran_by bytes = ran_from limits.lines (nothing_read listed) (lines_of bytes)
 
 -- The law of what is written: it leads to the schedule that ran here.
 abbrev pub WrittenRuns : Type 0
 WrittenRuns = (bytes : List ℕ) → (negative_of bytes).verdict ≡ Good
-    → (after : Writing) × (ran_by bytes ≡ Some after) × Runs at_first (negative_of bytes).text after.running
+    → (after : ByList) × (ran_by bytes ≡ Some after) × Runs at_first (negative_of bytes).text after.running
