@@ -21,25 +21,25 @@ use Rattle.xl_sched.specs.declared.named.Named.{Named}
 use Rattle.xl_sched.specs.Answers.{LineAnswer, passes, gives, refuses}
 use Rattle.xl_sched.specs.Reading.{Reading, after}
 use Rattle.xl_spelling.specs.Spellings.{list_line, spelling}
-use Rattle.xl_spelling.proofs.Respelling.{IsListLine, list_line-read}
+use Rattle.xl_spelling.proofs.Respelling.{list_line-read}
 use Rattle.xl_world.specs.declared.outcome.Outcome.{Outcome}
 use Rattle.xl_world.specs.declared.outcome.Outcome.TheVariants as outcome
 use Rattle.xl_world.specs.declared.place.Place.{Place}
 use Rattle.xl_world.specs.declared.plan.InForce.{InForce}
 use Rattle.xl_world.specs.Schedule.{IsPlausible, outcomes}
 use Rattle.xl_world.specs.Starts.{IsRun, start}
-use Rattle.xl_world.specs.World.{World, core_in, place_at}
+use Rattle.xl_world.specs.World.{World, place_at}
 use Rattle.xl_world.proofs.Reporters.{IsMember, placed_member}
-use Rattle.xl_running.specs.Running.{Running, answer_in, declares, happens, knows, world_of}
+use Rattle.xl_running.specs.Running.{Running, answer_in, declares, knows, world_of}
 use Rattle.xl_running.proofs.Declaring.{AnswerDeclares, Declares}
 use Rattle.xl_running.proofs.Sounding.{IsSound, declares_sound, happens_sound, knows_sound}
 use Rattle.xl_negative.specs.Hearing.{heard_at}
 use Rattle.xl_negative.specs.Laws.{ByList, IsInForce, IsLawful, full_at, read_on, runs, texts}
 use Rattle.xl_negative.specs.Listing.{listed}
-use Rattle.xl_negative.specs.Seats.{Seat, after_what, hears, members_of, seat_at, with_leaving_out, with_listing}
+use Rattle.xl_negative.specs.Seats.{after_what, hears, members_of, seat_at, with_leaving_out, with_listing}
 use Rattle.xl_negative.specs.Writing.{Change, added, after_answer, after_line, after_outcome, after_outcomes, and_then, change_at, change_by, change_of, change_to, counted, flag_in, goes_over, happened, is_flag, ledgers_at, ledgers_in, takes, with_running, written}
 use Rattle.xl_negative.proofs.Lawful.{after_both, change_lawful}
-use Rattle.xl_negative.proofs.LawfulSeats.{AreLawful, IsLawfulSeat, ListSeat, hears_lawful, hears_full, leaving_full, leaving_lawful, listed_lawful, listing_full, seat_lawful, what_lawful}
+use Rattle.xl_negative.proofs.LawfulSeats.{AreLawful, ListSeat, hears_lawful, leaving_full, leaving_lawful, listed_lawful, listing_full, seat_lawful, what_lawful}
 use Rattle.xl_negative.proofs.OneLine.{one_plain}
 use Rattle.xl_negative.proofs.Setting.{IfDeclared, IfListed, OfInForce, declared_lists, event_lists}
 

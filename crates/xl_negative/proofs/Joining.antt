@@ -1,5 +1,5 @@
 -- What is kept tells of a schedule what the list of all that was heard tells.
-use Rattle.std.proofs.Common.{◌≡◌, ℕ, List, [], ◌∷◌, ◌++◌, refl, ap, subst, ◌∙◌, Option, Some, None}
+use Rattle.std.proofs.Common.{◌≡◌, ℕ, List, [], ◌∷◌, refl, ap, subst, Option, Some, None}
 use Rattle.xl_base.specs.Counts.{one_more}
 use Rattle.xl_base.specs.declared.ids.LedgerId.{LedgerId}
 use Rattle.xl_lines.specs.Lines.{lines_of}
@@ -10,7 +10,6 @@ use Rattle.xl_lists.specs.declared.said.SaidLedger.{SaidLedger}
 use Rattle.xl_running.specs.Running.{Running, answer_in, beyond, knows, limits, world_of}
 use Rattle.xl_running.specs.Texts.{bad_line}
 use Rattle.xl_running.proofs.Alike.{AreAlike, DoAlike, told_alike}
-use Rattle.xl_sched.specs.declared.event.Event.{Event}
 use Rattle.xl_sched.specs.declared.line.Line.{Line}
 use Rattle.xl_sched.specs.declared.line.Line.TheVariants as line
 use Rattle.xl_sched.specs.Answers.{LineAnswer, passes, gives, refuses}
@@ -22,7 +21,7 @@ use Rattle.xl_negative.specs.Hearing.{heard_at}
 use Rattle.xl_negative.specs.Listing.{listed}
 use Rattle.xl_negative.specs.Ringing.{Places, ringed}
 use Rattle.xl_negative.specs.Seats.{Seat, hears, seat_at, with_leaving_out}
-use Rattle.xl_negative.specs.Writing.{Change, Writing, added, adds, after_answer, after_line, after_outcome, after_outcomes, after_report, and_then, at_first, change_at, counted, ending, goes_over, happened, ledgers_at, negative_of, negative_soon, rules, written}
+use Rattle.xl_negative.specs.Writing.{Change, Writing, added, after_answer, after_line, after_outcome, after_outcomes, after_report, and_then, at_first, change_at, ending, goes_over, happened, ledgers_at, negative_of, negative_soon, rules, written}
 use Rattle.xl_negative.proofs.StandingFor.{AllStandFor, change_same, first_stand, hears_stand, leaving_stand, listing_stand, seat_stands, what_stand}
 
 -- the same schedule runs, and what is kept stands for the list

@@ -1,6 +1,6 @@
 -- What is written, read again; and the lists and the reports of what ran.
-use Rattle.std.proofs.Common.{◌≡◌, ℕ, zero, suc, ◌-◌, ◌≤◌, List, [], ◌∷◌, length, take, Option, Some, None, refl, sym, ap, subst, ◌∙◌, arith}
-use Rattle.std.specs.Prelude.{◌==◌, nat_lt, All, IfSome, map, slice_index_or}
+use Rattle.std.proofs.Common.{◌≡◌, ℕ, suc, ◌-◌, ◌≤◌, List, [], ◌∷◌, length, take, Some, refl, ap, subst, ◌∙◌, arith}
+use Rattle.std.specs.Prelude.{◌==◌, nat_lt, All, IfSome, slice_index_or}
 use Rattle.std.proofs.lemmas.Bool.{cond_both}
 use Rattle.std.proofs.lemmas.List.Elements.{All-contains, All-head, All-nil, All-tail, All-weaker}
 use Rattle.xl_lines.specs.declared.limits.Overrun.TheVariants.{LongLine, ManyLines}
@@ -11,21 +11,19 @@ use Rattle.xl_lines.specs.Told.{step_at, step_within, told_by, told_from}
 use Rattle.xl_lines.proofs.Newlines.{IsOneLine}
 use Rattle.xl_lists.specs.declared.report.Report.{Report as Reported}
 use Rattle.xl_lists.specs.Lists.{TrustedList, IsValid}
-use Rattle.xl_lists.specs.Quorums.{Enough}
 use Rattle.xl_sched.specs.declared.refusal.SchedRefusal.TheVariants.{Header}
-use Rattle.xl_world.specs.declared.plan.InForce.{InForce}
-use Rattle.xl_world.specs.Headline.{AgreeAt, EnoughAt}
+use Rattle.xl_world.specs.Headline.{EnoughAt}
 use Rattle.xl_world.specs.World.{World}
 use Rattle.xl_world.proofs.Listing.{at_node}
 use Rattle.xl_world.proofs.Lists.{world_agrees}
 use Rattle.xl_world.proofs.Reporters.{IsMember, IsReporter, world_reporters}
-use Rattle.xl_running.specs.Running.{Running, answer_in, limits, world_of}
+use Rattle.xl_running.specs.Running.{answer_in, limits, world_of}
 use Rattle.xl_running.specs.Texts.{bad_line}
 use Rattle.xl_running.proofs.Declaring.{reading_declares}
 use Rattle.xl_running.proofs.Sounding.{first_sound}
-use Rattle.xl_negative.specs.Laws.{ByList, HasOneList, IsInForce, ListsAreInForce, ReportsAgree, Runs, WrittenRuns, full_at, led_by, ran_by, ran_from}
+use Rattle.xl_negative.specs.Laws.{ByList, HasOneList, IsInForce, ListsAreInForce, ReportsAgree, WrittenRuns, full_at, led_by, ran_by, ran_from}
 use Rattle.xl_negative.specs.Listing.{listed}
-use Rattle.xl_negative.specs.Writing.{at_first, negative_of, rules}
+use Rattle.xl_negative.specs.Writing.{at_first, rules}
 use Rattle.xl_negative.proofs.Holding.{AfterStep, HasOnly, Held, IsGood, IsOf, Ran, answer_holds, ran_nothing, ran_then}
 use Rattle.xl_negative.proofs.InForce.{lists_enough}
 use Rattle.xl_negative.proofs.LawfulSeats.{first_lawful}

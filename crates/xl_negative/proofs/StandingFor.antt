@@ -15,7 +15,7 @@ use Rattle.xl_world.specs.Schedule.{node_asked}
 use Rattle.xl_negative.specs.declared.hearing.Heard.{Heard}
 use Rattle.xl_negative.specs.Listing.{listed, scores_of}
 use Rattle.xl_negative.specs.Ringing.{Places, kept_scores, ringed}
-use Rattle.xl_negative.specs.Seats.{Seat, after_what, empty_seat, forgetting, hearing, hears, leaving_out, listing, no_seats, seat_at, with_forgetting, with_hearing, with_leaving_out, with_listing, with_seat}
+use Rattle.xl_negative.specs.Seats.{Seat, after_what, empty_seat, forgetting, hearing, hears, leaving_out, listing, no_seats, seat_at, with_forgetting, with_hearing, with_leaving_out, with_listing}
 use Rattle.xl_negative.specs.Writing.{Change, change_at, change_by, change_of, flag_in, is_flag}
 
 -- ONE SEAT
