@@ -14,58 +14,63 @@ use Rattle.xl_world.specs.declared.outcome.Outcome.TheVariants as outcome
 use Rattle.xl_world.specs.Schedule.{outcomes}
 use Rattle.xl_running.specs.Running.{answer_in, world_of}
 use Rattle.xl_running.specs.Texts.{bad_line}
+use Rattle.xl_negative.specs.Keeping.{Keeping}
 use Rattle.xl_negative.specs.Seats.{seat_at, with_leaving_out}
 use Rattle.xl_negative.specs.Writing.{Writing, Change, added, and_then, after_answer, after_line, after_outcome, after_outcomes, change_at, counted, ending, goes_over, happened, ledgers_at, rules, written}
 
-added_finds : (s : Writing) (text bytes : List ℕ) (a : LineAnswer) → FindsNothing (added s text bytes a)
+added_finds : {H : Type 0} (s : Writing H) (text bytes : List ℕ) (a : LineAnswer) → FindsNothing (added s text bytes a)
 added_finds s text bytes (passes reading) = tt
 added_finds s text bytes (gives l reading) = tt
 added_finds s text bytes (refuses why) = tt
 
-over_finds : (s : Writing) (text : List ℕ) (i : ℕ) (change : Option Change) → FindsNothing (goes_over s text i change)
-over_finds s text i None = tt
-over_finds s text i (Some change) =
-    let next : Writing = record s { seats = with_leaving_out s.seats i change.negative } in
-    let bytes : List ℕ = spelling (list_line s.running.reading i change.list) in
-    added_finds next text bytes (answer_in next.running bytes)
-
-outcome_finds : (s : Writing) (text : List ℕ) (o : Outcome) → FindsNothing (after_outcome s text o)
-outcome_finds s text (outcome.Switched i seq id) = tt
-outcome_finds s text (outcome.Built i seq id issued) = tt
-outcome_finds s text (outcome.Refused i why) = tt
-outcome_finds s text (outcome.Full i seq id) = over_finds s text i (change_at (seat_at s.seats i) i (ledgers_at s.running.world i) seq id)
-outcome_finds s text (outcome.Preferred i ledger) = tt
-outcome_finds s text (outcome.Heard i member id) = tt
-
-then_finds : (further : Writing → List ℕ → Step Writing) → ((s : Writing) (text : List ℕ) → FindsNothing (further s text)) → (step : Step Writing) → FindsNothing step → FindsNothing (and_then further step)
+then_finds : {H : Type 0} (further : Writing H → List ℕ → Step (Writing H)) → ((s : Writing H) (text : List ℕ) → FindsNothing (further s text)) → (step : Step (Writing H)) → FindsNothing step →
+    FindsNothing (and_then further step)
 unfolding and_then
 then_finds further nothing (goes_on text s) before = nothing s text
 then_finds further nothing (stops text) before = tt
 then_finds further nothing (finds text) before = before
 
-outcomes_find : (os : List Outcome) (s : Writing) (text : List ℕ) → FindsNothing (after_outcomes s text os)
-outcomes_find [] s text = tt
-outcomes_find (o ∷ os) s text =
-    then_finds (λ next further. after_outcomes next further os) (λ next further. outcomes_find os next further) (after_outcome s text o) (outcome_finds s text o)
-
-line_finds : (s : Writing) (text : List ℕ) (l : Line) → FindsNothing (after_line s text l)
-line_finds s text (line.Limit limit) = tt
-line_finds s text (line.Speak version) = tt
-line_finds s text (line.Node me list validating) = tt
-line_finds s text (line.Liar me) = tt
-line_finds s text (line.Name name id) = tt
-line_finds s text (line.Ledger name parent header) = tt
-line_finds s text (line.At at) = tt
-line_finds s text (line.Event e) = outcomes_find (outcomes (world_of s.running) e) (happened s e) text
-
-answer_finds : (s : Writing) (bytes : List ℕ) (a : LineAnswer) → FindsNothing (after_answer s bytes a)
-answer_finds s bytes (passes reading) = tt
-answer_finds s bytes (gives l reading) = line_finds (counted s reading) (written bytes) l
-answer_finds s bytes (refuses why) = tt
-
-closes_at_end : (s : Writing) → (ending s).closed ≡ true
+closes_at_end : {H : Type 0} (s : Writing H) → (ending s).closed ≡ true
 closes_at_end s =
     cond_both (s.lines == 0) (closes (bad_line 1 (Header [])) Refused) (closes [] Good) (λ told. told.closed ≡ true) (λ _. refl) (λ _. refl)
 
-pub finds_at_end : FindsAtEnd rules
-finds_at_end = record { step = λ s bytes. answer_finds s bytes (answer_in s.running bytes); closing = closes_at_end }
+module _ {H : Type 0} (keeping : Keeping H) where
+  over_finds : (s : Writing H) (text : List ℕ) (i : ℕ) (change : Option Change) → FindsNothing (goes_over keeping s text i change)
+  over_finds s text i None = tt
+  over_finds s text i (Some change) =
+      let next : Writing H = record s { seats = with_leaving_out keeping s.seats i change.negative } in
+      let bytes : List ℕ = spelling (list_line s.running.reading i change.list) in
+      added_finds next text bytes (answer_in next.running bytes)
+
+  outcome_finds : (s : Writing H) (text : List ℕ) (o : Outcome) → FindsNothing (after_outcome keeping s text o)
+  outcome_finds s text (outcome.Switched i seq id) = tt
+  outcome_finds s text (outcome.Built i seq id issued) = tt
+  outcome_finds s text (outcome.Refused i why) = tt
+  outcome_finds s text (outcome.Full i seq id) =
+      over_finds s text i (change_at keeping (seat_at keeping s.seats i) i (ledgers_at s.running.world i) seq id)
+  outcome_finds s text (outcome.Preferred i ledger) = tt
+  outcome_finds s text (outcome.Heard i member id) = tt
+
+  outcomes_find : (os : List Outcome) (s : Writing H) (text : List ℕ) → FindsNothing (after_outcomes keeping s text os)
+  outcomes_find [] s text = tt
+  outcomes_find (o ∷ os) s text =
+      then_finds (λ next further. after_outcomes keeping next further os) (λ next further. outcomes_find os next further) (after_outcome keeping s text o)
+      (outcome_finds s text o)
+
+  line_finds : (s : Writing H) (text : List ℕ) (l : Line) → FindsNothing (after_line keeping s text l)
+  line_finds s text (line.Limit limit) = tt
+  line_finds s text (line.Speak version) = tt
+  line_finds s text (line.Node me list validating) = tt
+  line_finds s text (line.Liar me) = tt
+  line_finds s text (line.Name name id) = tt
+  line_finds s text (line.Ledger name parent header) = tt
+  line_finds s text (line.At at) = tt
+  line_finds s text (line.Event e) = outcomes_find (outcomes (world_of s.running) e) (happened keeping s e) text
+
+  answer_finds : (s : Writing H) (bytes : List ℕ) (a : LineAnswer) → FindsNothing (after_answer keeping s bytes a)
+  answer_finds s bytes (passes reading) = tt
+  answer_finds s bytes (gives l reading) = line_finds (counted s reading) (written bytes) l
+  answer_finds s bytes (refuses why) = tt
+
+  pub finds_at_end : FindsAtEnd (rules keeping)
+  finds_at_end = record { step = λ s bytes. answer_finds s bytes (answer_in s.running bytes); closing = closes_at_end }

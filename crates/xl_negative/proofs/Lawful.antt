@@ -22,12 +22,12 @@ list_valid : (members : List ℕ) (quorum : ℕ) (x : TrustedList) → list_of m
 list_valid members quorum x made = made_valid (refusal_of members quorum) _ x made (unrefused members quorum)
 
 -- a node that hears too little of itself changes nothing
-after_both : (full negative scores : List ℕ) (i : ℕ) → IsNegative full negative → (little : Bool) →
+pub after_both : (full negative scores : List ℕ) (i : ℕ) → IsNegative full negative → (little : Bool) →
     IsNegative full (negative_after negative (cond little None (leaving negative scores)) (cond little None (joining full (without negative (leaving negative scores)) scores i)))
 after_both full negative scores i is true = is
 after_both full negative scores i is false = negative_stays full negative scores i (leaving negative scores) is
 
-change_lawful : (full : TrustedList) (negative : List ℕ) → IsValid full → IsNegative full.members negative → IsLawful full.members (change_to full.members negative)
+pub change_lawful : (full : TrustedList) (negative : List ℕ) → IsValid full → IsNegative full.members negative → IsLawful full.members (change_to full.members negative)
 change_lawful full negative valid is = record {
   negative = is;
   valid = list_valid (staying full.members negative) _ (list_without full.members negative) (stays_list full negative valid is (staying full.members negative) _ refl refl);

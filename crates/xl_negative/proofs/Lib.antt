@@ -3,5 +3,12 @@ mod Taking
 mod Decisions
 mod AtEnd
 mod Lawful
-mod Rerunning
+mod LawfulSeats
+mod Setting
+mod OneLine
+mod Holding
 mod InForce
+mod Rerunning
+mod StandingFor
+mod Joining
+mod Whole

@@ -1,141 +1,146 @@
--- What is written, read again.
-use Rattle.std.proofs.Common.{◌≡◌, ℕ, ◌-◌, List, [], ◌∷◌, ◌++◌, length, Option, Some, None, refl, sym, ap, ◌∙◌, append-nil}
-use Rattle.std.specs.Prelude.{◌==◌, nat_lt}
-use Rattle.std.specs.Option.{option_and_then}
+-- What is written, read again; and the lists and the reports of what ran.
+use Rattle.std.proofs.Common.{◌≡◌, ℕ, suc, ◌-◌, ◌≤◌, List, [], ◌∷◌, length, take, Some, refl, ap, subst, ◌∙◌, arith}
+use Rattle.std.specs.Prelude.{◌==◌, nat_lt, All, IfSome, slice_index_or}
 use Rattle.std.proofs.lemmas.Bool.{cond_both}
-use Rattle.std.proofs.lemmas.Grind.{flat_map-append}
+use Rattle.std.proofs.lemmas.List.Elements.{All-contains, All-head, All-nil, All-tail, All-weaker}
 use Rattle.xl_lines.specs.declared.limits.Overrun.TheVariants.{LongLine, ManyLines}
 use Rattle.xl_lines.specs.declared.machine.Verdict.TheVariants.{Good, Refused}
 use Rattle.xl_lines.specs.Lines.{Line as InputLine, lines_of, content}
 use Rattle.xl_lines.specs.Rules.{Step, goes_on, refuses as stops, finds, closes}
 use Rattle.xl_lines.specs.Told.{step_at, step_within, told_by, told_from}
-use Rattle.xl_sched.specs.declared.line.Line.{Line}
-use Rattle.xl_sched.specs.declared.line.Line.TheVariants as line
+use Rattle.xl_lines.proofs.Newlines.{IsOneLine}
+use Rattle.xl_lists.specs.declared.report.Report.{Report as Reported}
+use Rattle.xl_lists.specs.Lists.{TrustedList, IsValid}
 use Rattle.xl_sched.specs.declared.refusal.SchedRefusal.TheVariants.{Header}
-use Rattle.xl_sched.specs.Answers.{LineAnswer, passes, gives, refuses}
-use Rattle.xl_spelling.specs.Spellings.{list_line, spelling}
-use Rattle.xl_world.specs.declared.outcome.Outcome.{Outcome}
-use Rattle.xl_world.specs.declared.outcome.Outcome.TheVariants as outcome
-use Rattle.xl_world.specs.Schedule.{outcomes}
-use Rattle.xl_running.specs.Running.{Running, answer_in, limits, world_of}
+use Rattle.xl_world.specs.Headline.{EnoughAt}
+use Rattle.xl_world.specs.World.{World}
+use Rattle.xl_world.proofs.Listing.{at_node}
+use Rattle.xl_world.proofs.Lists.{world_agrees}
+use Rattle.xl_world.proofs.Reporters.{IsMember, IsReporter, world_reporters}
+use Rattle.xl_running.specs.Running.{answer_in, limits, world_of}
 use Rattle.xl_running.specs.Texts.{bad_line}
-use Rattle.xl_negative.specs.Laws.{Runs, WrittenRuns, led_by, ran_from, read_on, runs, texts}
-use Rattle.xl_negative.specs.Seats.{seat_at, with_leaving_out}
-use Rattle.xl_negative.specs.Writing.{Change, Writing, added, after_answer, after_line, after_outcome, after_outcomes, and_then, at_first, change_at, counted, goes_over, happened, ledgers_at, rules, takes, written}
+use Rattle.xl_running.proofs.Declaring.{reading_declares}
+use Rattle.xl_running.proofs.Sounding.{first_sound}
+use Rattle.xl_negative.specs.Laws.{ByList, HasOneList, IsInForce, ListsAreInForce, ReportsAgree, WrittenRuns, full_at, led_by, ran_by, ran_from}
+use Rattle.xl_negative.specs.Listing.{listed}
+use Rattle.xl_negative.specs.Writing.{at_first, rules}
+use Rattle.xl_negative.proofs.Holding.{AfterStep, HasOnly, Held, IsGood, IsOf, Ran, answer_holds, ran_nothing, ran_then}
+use Rattle.xl_negative.proofs.InForce.{lists_enough}
+use Rattle.xl_negative.proofs.LawfulSeats.{first_lawful}
+use Rattle.xl_negative.proofs.OneLine.{all_one, cut_again, one_content}
+use Rattle.xl_negative.proofs.Setting.{OfInForce}
 
--- ---- lines behind lines
+abbrev IsOne : InputLine → Type 0
+IsOne l = IsOneLine l.bytes
 
-runs_both : (r : Running) (a b : List (List ℕ)) → runs r (a ++ b) ≡ option_and_then (λ next. runs next b) (runs r a)
-runs_both r [] b = refl
-runs_both r (bytes ∷ a) b = by_answer (read_on r (answer_in r bytes)) (λ next. runs_both next a b)
-  where
-    by_answer : (o : Option Running) → ((next : Running) → runs next (a ++ b) ≡ option_and_then (λ further. runs further b) (runs next a)) →
-        option_and_then (λ next. runs next (a ++ b)) o ≡ option_and_then (λ further. runs further b) (option_and_then (λ next. runs next a) o)
-    by_answer None still = refl
-    by_answer (Some next) still = still next
+first_good : IsGood (at_first listed)
+first_good = record { sound = first_sound; seats = first_lawful }
 
-runs_then : {r mid after : Running} (text more : List ℕ) → Runs r text mid → Runs mid more after → Runs r (text ++ more) after
-runs_then {r = r} text more x y = record {
-  lines = x.lines ++ y.lines;
-  text = ap (λ xs. xs ++ more) x.text ∙ ap (λ xs. texts x.lines ++ xs) y.text ∙ sym (flat_map-append written x.lines y.lines);
-  leads = runs_both r x.lines y.lines ∙ ap (option_and_then (λ next. runs next y.lines)) x.leads ∙ y.leads;
-}
-
-runs_nothing : (r : Running) → Runs r [] r
-runs_nothing r = record { lines = []; text = refl; leads = refl }
-
-runs_line : (r after : Running) (bytes : List ℕ) → read_on r (answer_in r bytes) ≡ Some after → Runs r (written bytes) after
-runs_line r after bytes reads = record {
-  lines = bytes ∷ [];
-  text = sym (append-nil (written bytes));
-  leads = ap (option_and_then (λ next. runs next [])) reads;
-}
-
--- ---- a step
-
--- what is written by a step leads from a schedule to the one that runs then
-abbrev pub Reaches : Running → Step Writing → Type 0
-Reaches r (goes_on text s) = Runs r text s.running
-Reaches r (stops text) = Unit {0}
-Reaches r (finds text) = Unit {0}
-
-added_reaches : (r : Running) (s : Writing) (text bytes : List ℕ) (a : LineAnswer) → Runs r text s.running → answer_in s.running bytes ≡ a → Reaches r (added s text bytes a)
-added_reaches r s text bytes (passes reading) before is = runs_then text (written bytes) before (runs_line s.running _ bytes (ap (read_on s.running) is))
-added_reaches r s text bytes (gives l reading) before is = runs_then text (written bytes) before (runs_line s.running _ bytes (ap (read_on s.running) is))
-added_reaches r s text bytes (refuses why) before is = tt
-
-over_reaches : (r : Running) (s : Writing) (text : List ℕ) (i : ℕ) (change : Option Change) → Runs r text s.running → Reaches r (goes_over s text i change)
-over_reaches r s text i None before = before
-over_reaches r s text i (Some change) before =
-    let next : Writing = record s { seats = with_leaving_out s.seats i change.negative } in
-    let bytes : List ℕ = spelling (list_line s.running.reading i change.list) in
-    added_reaches r next text bytes (answer_in next.running bytes) before refl
-
-outcome_reaches : (r : Running) (s : Writing) (text : List ℕ) (o : Outcome) → Runs r text s.running → Reaches r (after_outcome s text o)
-outcome_reaches r s text (outcome.Switched i seq id) before = before
-outcome_reaches r s text (outcome.Built i seq id issued) before = before
-outcome_reaches r s text (outcome.Refused i why) before = before
-outcome_reaches r s text (outcome.Full i seq id) before =
-    over_reaches r s text i (change_at (seat_at s.seats i) i (ledgers_at s.running.world i) seq id) before
-outcome_reaches r s text (outcome.Preferred i ledger) before = before
-outcome_reaches r s text (outcome.Heard i member id) before = before
-
-then_reaches : (r : Running) (further : Writing → List ℕ → Step Writing) → ((s : Writing) (text : List ℕ) → Runs r text s.running → Reaches r (further s text)) →
-    (step : Step Writing) → Reaches r step → Reaches r (and_then further step)
-unfolding and_then
-then_reaches r further still (goes_on text s) before = still s text before
-then_reaches r further still (stops text) before = tt
-then_reaches r further still (finds text) before = tt
-
-outcomes_reach : (r : Running) (os : List Outcome) (s : Writing) (text : List ℕ) → Runs r text s.running → Reaches r (after_outcomes s text os)
-outcomes_reach r [] s text before = before
-outcomes_reach r (o ∷ os) s text before =
-    then_reaches r (λ next more. after_outcomes next more os) (λ next more reached. outcomes_reach r os next more reached)
-    (after_outcome s text o) (outcome_reaches r s text o before)
-
-line_reaches : (r : Running) (s : Writing) (text : List ℕ) (l : Line) → Runs r text (takes s.running l) → Reaches r (after_line s text l)
-line_reaches r s text (line.Limit limit) before = before
-line_reaches r s text (line.Speak version) before = before
-line_reaches r s text (line.Node me list validating) before = before
-line_reaches r s text (line.Liar me) before = before
-line_reaches r s text (line.Name name id) before = before
-line_reaches r s text (line.Ledger name parent header) before = before
-line_reaches r s text (line.At at) before = before
-line_reaches r s text (line.Event e) before = outcomes_reach r (outcomes (world_of s.running) e) (happened s e) text before
-
-answer_reaches : (s : Writing) (bytes : List ℕ) (a : LineAnswer) → answer_in s.running bytes ≡ a → Reaches s.running (after_answer s bytes a)
-answer_reaches s bytes (passes reading) is = runs_line s.running _ bytes (ap (read_on s.running) is)
-answer_reaches s bytes (gives l reading) is =
-    line_reaches s.running (counted s reading) (written bytes) l (runs_line s.running _ bytes (ap (read_on s.running) is))
-answer_reaches s bytes (refuses why) is = tt
-
-step_reaches : (left : ℕ) (s : Writing) (l : InputLine) → Reaches s.running (step_at limits rules left s l)
-step_reaches left s l =
+step_holds : (i : ℕ) → i ≤ 64 → (full : TrustedList) (left : ℕ) (s : ByList) (l : InputLine) → IsOne l → IsGood s →
+    AfterStep (Held i full (world_of s.running).lists s.running) (step_at limits (rules listed) left s l)
+step_holds i most full left s l one good =
     let bytes : List ℕ = content limits.returns l in
-    cond_both (nat_lt limits.bytes (length l.bytes)) (stops (rules.overrun s LongLine)) (step_within rules left s bytes) (Reaches s.running)
+    let After : Step ByList → Type 0 = AfterStep (Held i full (world_of s.running).lists s.running) in
+    cond_both (nat_lt limits.bytes (length l.bytes)) (stops ((rules listed).overrun s LongLine)) (step_within (rules listed) left s bytes) After
     (λ _. tt)
-    (λ _. cond_both (nat_lt 0 left) (rules.step s bytes) (stops (rules.overrun s ManyLines)) (Reaches s.running)
-    (λ _. answer_reaches s bytes (answer_in s.running bytes) refl) (λ _. tt))
+    (λ _. cond_both (nat_lt 0 left) ((rules listed).step s bytes) (stops ((rules listed).overrun s ManyLines)) After
+    (λ _. answer_holds i most full s bytes (answer_in s.running bytes) (one_content l one) good (reading_declares s.running.reading (length (world_of s.running).sent) bytes) refl) (λ _. tt))
 
--- ---- all lines
+-- ---- what is written
 
-told_reaches : (left : ℕ) (s : Writing) (ls : List InputLine) → (told_from limits rules left s ls).verdict ≡ Good → (after : Writing) × (ran_from left s ls ≡ Some after) × Runs s.running (told_from limits rules left s ls).text after.running
+-- of no member
+abbrev none : TrustedList
+none = record { members = []; quorum = 0 }
+
+abbrev Leads : ℕ → ByList → List InputLine → Type 0
+Leads left s ls = (after : ByList) × (ran_from left s ls ≡ Some after) × Ran s.running (told_from limits (rules listed) left s ls).text after.running
+
+told_leads : (left : ℕ) (s : ByList) (ls : List InputLine) → All IsOne ls → IsGood s → (told_from limits (rules listed) left s ls).verdict ≡ Good → Leads left s ls
 unfolding told_by led_by
-told_reaches left s [] good =
-    cond_both (s.lines == 0) (closes (bad_line 1 (Header [])) Refused) (closes [] Good) (λ told. told.verdict ≡ Good → (after : Writing) × (Some s ≡ Some after) × Runs s.running told.text after.running)
-    (λ _ never. absurd cc) (λ _ _. (s, refl, runs_nothing s.running)) good
-told_reaches left s (l ∷ ls) good =
-    by_step (step_at limits rules left s l) (λ next well. told_reaches (left - 1) next ls well) (step_reaches left s l) good
+told_leads left s [] one is good =
+    cond_both (s.lines == 0) (closes (bad_line 1 (Header [])) Refused) (closes [] Good) (λ told. told.verdict ≡ Good → (after : ByList) × (Some s ≡ Some after) × Ran s.running told.text after.running)
+    (λ _ never. absurd cc) (λ _ _. (s, refl, ran_nothing s.running)) good
+told_leads left s (l ∷ ls) one is good =
+    by_step (step_at limits (rules listed) left s l) (λ next its well. told_leads (left - 1) next ls (All-tail IsOne l ls one) its well)
+    (step_holds 0 (omega arith) none left s l (All-head IsOne l ls one) is) good
   where
-    by_step : (step : Step Writing)
-        → ((next : Writing) → (told_from limits rules (left - 1) next ls).verdict ≡ Good → (after : Writing) × (ran_from (left - 1) next ls ≡ Some after) × Runs next.running (told_from limits rules (left - 1) next ls).text after.running)
-        → Reaches s.running step → (told_by (λ next. told_from limits rules (left - 1) next ls) step).verdict ≡ Good
-        → (after : Writing) × (led_by (λ next. ran_from (left - 1) next ls) step ≡ Some after) × Runs s.running (told_by (λ next. told_from limits rules (left - 1) next ls) step).text after.running
-    by_step (goes_on text next) still reached well =
-        let rest = still next well in
-        (rest.0, rest.1, runs_then text (told_from limits rules (left - 1) next ls).text reached rest.2)
-    by_step (stops text) still reached well = absurd cc
-    by_step (finds text) still reached well = absurd cc
+    by_step : (step : Step ByList) → ((next : ByList) → IsGood next → (told_from limits (rules listed) (left - 1) next ls).verdict ≡ Good → Leads (left - 1) next ls) → AfterStep (Held 0 none (world_of s.running).lists s.running) step → (told_by (λ next. told_from limits (rules listed) (left - 1) next ls) step).verdict ≡ Good
+        → (after : ByList) × (led_by (λ next. ran_from (left - 1) next ls) step ≡ Some after) × Ran s.running (told_by (λ next. told_from limits (rules listed) (left - 1) next ls) step).text after.running
+    by_step (goes_on text next) still holds well =
+        let rest = still next holds.good well in
+        (rest.0, rest.1, ran_then text (told_from limits (rules listed) (left - 1) next ls).text holds.ran rest.2)
+    by_step (stops text) still holds well = absurd cc
+    by_step (finds text) still holds well = absurd cc
 
 pub law_of_written_runs : WrittenRuns
-law_of_written_runs bytes good = told_reaches limits.lines at_first (lines_of bytes) good
+law_of_written_runs bytes good =
+    let leads = told_leads limits.lines (at_first listed) (lines_of bytes) (all_one bytes) first_good good in
+    let ran = leads.2 in
+    (leads.0, leads.1, record { lines = ran.lines; text = ran.text; cut = ap lines_of ran.text ∙ cut_again ran.lines ran.one; leads = ran.leads })
+
+-- ---- what ran
+
+abbrev Forced : ℕ → TrustedList → ByList → Type 0
+Forced i full s = All (OfInForce (IsOf i full)) (world_of s.running).lists
+
+-- the full list of a number, wherever lines are read up to
+abbrev HasOneFrom : ℕ → TrustedList → ℕ → ByList → List InputLine → Type 0
+HasOneFrom i full left s ls = (n : ℕ) → IfSome (ran_from left s (take n ls)) (λ t. HasOnly full (full_at t i))
+
+module _ (i : ℕ) (most : i ≤ 64) (full : TrustedList) where
+  lists_hold : (left : ℕ) (s : ByList) (ls : List InputLine) → All IsOne ls → IsGood s → Forced i full s → HasOneFrom i full left s ls → (after : ByList) → ran_from left s ls ≡ Some after → Forced i full after
+  unfolding led_by
+  lists_hold left s [] one is forced only after ends =
+      let same : s ≡ after = cc in
+      subst (Forced i full) same forced
+  lists_hold left s (l ∷ ls) one is forced only after ends =
+      by_step (step_at limits (rules listed) left s l)
+      (λ next its forced_then still ends_so. lists_hold (left - 1) next ls (All-tail IsOne l ls one) its forced_then still after ends_so)
+      (step_holds i most full left s l (All-head IsOne l ls one) is) (λ n. only (suc n)) ends
+    where
+      by_step : (step : Step ByList) → ((next : ByList) → IsGood next → Forced i full next → HasOneFrom i full (left - 1) next ls → ran_from (left - 1) next ls ≡ Some after → Forced i full after) → AfterStep (Held i full (world_of s.running).lists s.running) step → ((n : ℕ) → IfSome (led_by (λ next. ran_from (left - 1) next (take n ls)) step) (λ t. HasOnly full (full_at t i)))
+          → led_by (λ next. ran_from (left - 1) next ls) step ≡ Some after → Forced i full after
+      by_step (goes_on text next) further holds still ends_so = further next holds.good (holds.lists (still 0) forced) still ends_so
+      by_step (stops text) further holds still ends_so = absurd cc
+      by_step (finds text) further holds still ends_so = absurd cc
+
+good_after : (left : ℕ) (s : ByList) (ls : List InputLine) → All IsOne ls → IsGood s → (after : ByList) → ran_from left s ls ≡ Some after → IsGood after
+unfolding led_by
+good_after left s [] one is after ends =
+    let same : s ≡ after = cc in
+    subst IsGood same is
+good_after left s (l ∷ ls) one is after ends =
+    by_step (step_at limits (rules listed) left s l) (λ next its ends_so. good_after (left - 1) next ls (All-tail IsOne l ls one) its after ends_so)
+    (step_holds 0 (omega arith) none left s l (All-head IsOne l ls one) is) ends
+  where
+    by_step : (step : Step ByList) → ((next : ByList) → IsGood next → ran_from (left - 1) next ls ≡ Some after → IsGood after) → AfterStep (Held 0 none (world_of s.running).lists s.running) step → led_by (λ next. ran_from (left - 1) next ls) step ≡ Some after → IsGood after
+    by_step (goes_on text next) further holds ends_so = further next holds.good ends_so
+    by_step (stops text) further holds ends_so = absurd cc
+    by_step (finds text) further holds ends_so = absurd cc
+
+forced_after : (bytes : List ℕ) (full : TrustedList) (i : ℕ) (after : ByList) → ran_by bytes ≡ Some after → i ≤ 64 → HasOneList bytes i full → Forced i full after
+forced_after bytes full i after ends most only =
+    lists_hold i most full limits.lines (at_first listed) (lines_of bytes) (all_one bytes) first_good (All-nil (OfInForce (IsOf i full))) only after ends
+
+pub lists_in_force : ListsAreInForce
+lists_in_force bytes full i after ends least most only =
+    All-weaker (OfInForce (IsOf i full)) (λ f. f.node ≡ i → IsInForce full f.list) (λ f of same. (of same).1) (world_of after.running).lists (forced_after bytes full i after ends most only)
+
+-- the list of a report
+module _ (bytes : List ℕ) (full : TrustedList) (i : ℕ) (after : ByList) (ends : ran_by bytes ≡ Some after) (only : HasOneList bytes i full) where
+  report_list : (r : Reported) → IsReporter (world_of after.running) r → r.node ≡ i → IsValid full × IsInForce full r.list
+  report_list r reporter same =
+      let member : IsMember i = subst IsMember same reporter.member in
+      All-contains (OfInForce (IsOf i full)) (world_of after.running).lists (at_node r.node r.list) (forced_after bytes full i after ends member.greatest only) reporter.listed same
+
+pub reports_agree : ReportsAgree
+reports_agree bytes full i j after ends only_i only_j least few none_forged =
+    let w : World = world_of after.running in
+    let good : IsGood after = good_after limits.lines (at_first listed) (lines_of bytes) (all_one bytes) first_good after ends in
+    let enough : EnoughAt w.liars w.reports i j = λ k d k_in l e l_in of_i of_j _.
+    let r : Reported = slice_index_or w.reports k d in
+    let q : Reported = slice_index_or w.reports l e in
+    let a = report_list bytes full i after ends only_i r (world_reporters w good.sound.is_run k d k_in) of_i in
+    let b = report_list bytes full j after ends only_j q (world_reporters w good.sound.is_run l e l_in) of_j in
+    lists_enough full r.list q.list w.liars a.0 least few a.1 b.1 in
+    world_agrees w good.sound.is_run i j enough none_forged

@@ -4,6 +4,7 @@ use Rattle.std.specs.Prelude.{filter}
 use Rattle.std.proofs.lemmas.List.{take_more, drop_more}
 use Rattle.std.proofs.lemmas.List.Elements.{filter_more}
 use Rattle.xl_negative.specs.declared.hearing.Heard.{Heard}
+use Rattle.xl_negative.specs.Ringing.{Places, ringed}
 use Rattle.xl_negative.specs.Seats.{Seat, hears, with_hearing}
 
 -- the elements so far and the next one
@@ -14,12 +15,13 @@ next_taken xs i x within here = take_more xs i x within ∙ ap (λ y. take i xs 
 pub next_left : {A : Type 0} (xs : List A) (i : ℕ) (x : A) → i < length xs → x ≡ get_or xs i x → drop i xs ≡ x ∷ drop (i + 1) xs
 next_left xs i x within here = drop_more xs i x within ∙ ap (λ y. y ∷ drop (i + 1) xs) (sym here)
 
-hears_more : (seats : List Seat) (hs : List Heard) (h : Heard) → hears seats (hs ++ h ∷ []) ≡ with_hearing (hears seats hs) h
+hears_more : (seats : List (Seat Places)) (hs : List Heard) (h : Heard) → hears ringed seats (hs ++ h ∷ []) ≡ with_hearing ringed (hears ringed seats hs) h
 hears_more seats [] h = refl
-hears_more seats (x ∷ hs) h = hears_more (with_hearing seats x) hs h
+hears_more seats (x ∷ hs) h = hears_more (with_hearing ringed seats x) hs h
 
-pub hears_next : (seats : List Seat) (hs : List Heard) (i : ℕ) (h : Heard) → i < length hs → h ≡ get_or hs i h → hears seats (take (i + 1) hs) ≡ with_hearing (hears seats (take i hs)) h
-hears_next seats hs i h within here = ap (hears seats) (next_taken hs i h within here) ∙ hears_more seats (take i hs) h
+pub hears_next : (seats : List (Seat Places)) (hs : List Heard) (i : ℕ) (h : Heard) → i < length hs → h ≡ get_or hs i h →
+    hears ringed seats (take (i + 1) hs) ≡ with_hearing ringed (hears ringed seats (take i hs)) h
+hears_next seats hs i h within here = ap (hears ringed seats) (next_taken hs i h within here) ∙ hears_more seats (take i hs) h
 
 -- those that pass so far, and the next one if it does
 pub filter_next : (p : ℕ → Bool) (xs : List ℕ) (i x : ℕ) → i < length xs → x ≡ get_or xs i x → filter p (take (i + 1) xs) ≡ filter p (take i xs) ++ cond (p x) (x ∷ []) []

@@ -1,20 +1,17 @@
 -- What `xl negative` writes of a schedule: its lines, and behind each the lists that its nodes then go over to. Source:
 -- this project's negative lists.
-use Rattle.std.specs.Prelude.{ℕ, ◌%◌, ◌==◌, ◌&&◌, ◌||◌, Bool, nat_lt, List, [], ◌∷◌, ◌++◌, is_some, map, if◌then◌else◌}
+use Rattle.std.specs.Prelude.{ℕ, ◌%◌, ◌==◌, ◌&&◌, ◌||◌, Bool, nat_lt, List, [], ◌∷◌, ◌++◌, is_some, if◌then◌else◌}
 use Rattle.std.specs.Prelude.{Some, None}
 use Rattle.std.specs.declared.option.Option.{Option}
-use Rattle.std.specs.List.{range_with_len}
 use Rattle.xl_base.specs.declared.ids.LedgerId.{LedgerId}
 use Rattle.xl_base.specs.Counts.{one_more}
 use Rattle.xl_ledger.specs.declared.header.Header.{Header}
 use Rattle.xl_ledger.specs.Chains.{place_of, seq_at}
 use Rattle.xl_lists.specs.Lists.{TrustedList}
-use Rattle.xl_lists.specs.declared.said.SaidLedger.{SaidLedger}
 use Rattle.xl_lines.specs.declared.machine.Verdict.TheVariants.{Good, Refused}
 use Rattle.xl_lines.specs.Rules.{Rules, Step, goes_on, refuses as stops, finds, Told, closes}
 use Rattle.xl_lines.specs.Told.{told_of}
 use Rattle.xl_lines.specs.Soon.{told_soon}
-use Rattle.xl_nunl.specs.Heard.{score_of}
 use Rattle.xl_nunl.specs.Deciding.{left_of, joined_of, negative_after}
 use Rattle.xl_nunl.specs.Lists.{list_without}
 use Rattle.xl_sched.specs.declared.event.Event.{Event}
@@ -32,18 +29,20 @@ use Rattle.xl_core.specs.Core.{Core}
 use Rattle.xl_running.specs.Running.{Running, answer_in, at_first as running_at_first, beyond, declares, happens, knows, limits, world_of}
 use Rattle.xl_running.specs.Texts.{bad_line, newline}
 use Rattle.xl_negative.specs.Hearing.{heard_at}
+use Rattle.xl_negative.specs.Keeping.{Keeping}
+use Rattle.xl_negative.specs.Listing.{listed}
 use Rattle.xl_negative.specs.Seats.{Seat, no_seats, seat_at, hears, after_what, with_listing, with_leaving_out}
 
-pub record Writing : Type 0 where
+pub record Writing (H : Type 0) : Type 0 where
   -- the schedule that is written, as it runs: its reader reads the lines that are added too
   pub running : Running
   -- how many lines of the input were read; the count ends at the greatest `u64`
   pub lines : ℕ
-  pub seats : List Seat
+  pub seats : List (Seat H)
 
 -- before the first line
-abbrev pub at_first : Writing
-at_first = record { running = running_at_first; lines = 0; seats = no_seats }
+abbrev pub at_first : {H : Type 0} → Keeping H → Writing H
+at_first keeping = record { running = running_at_first; lines = 0; seats = no_seats keeping }
 
 -- a line of what is written
 abbrev pub written : List ℕ → List ℕ
@@ -60,22 +59,18 @@ takes r (line.Ledger name parent header) = declares r (line.Ledger name parent h
 takes r (line.At at) = declares r (line.At at)
 takes r (line.Event e) = happens r e
 
-abbrev pub with_running : Writing → Running → Writing
+abbrev pub with_running : {H : Type 0} → Writing H → Running → Writing H
 with_running s r = record s { running = r }
 
 -- a line is added behind what is written so far, and read and run like any other. If it is refused, the number is
 -- that of the input's line
-abbrev pub added : Writing → List ℕ → List ℕ → LineAnswer → Step Writing
+abbrev pub added : {H : Type 0} → Writing H → List ℕ → List ℕ → LineAnswer → Step (Writing H)
 added s text bytes (passes reading) = goes_on (text ++ written bytes) (with_running s (knows s.running reading))
 added s text bytes (gives l reading) = goes_on (text ++ written bytes) (with_running s (takes (knows s.running reading) l))
 added s text bytes (refuses why) = stops (text ++ bad_line s.lines why)
 
-abbrev pub adds : Writing → List ℕ → Line → Step Writing
+abbrev pub adds : {H : Type 0} → Writing H → List ℕ → Line → Step (Writing H)
 adds s text l = added s text (spelling l) (answer_in s.running (spelling l))
-
--- the scores of all numbers, from 1 on
-unfoldable pub scores_of : List Header → List SaidLedger → ℕ → List ℕ
-scores_of ledgers heard flag = map (λ m. score_of ledgers heard m flag) (range_with_len 1 64)
 
 -- what a node goes over to: the members of its full list that it leaves out from now on, and the list without them
 pub record Change : Type 0 where
@@ -93,10 +88,10 @@ change_of full negative scores i =
     else None
 
 -- the change of a node is written: the line by which it goes over to its list
-abbrev pub goes_over : Writing → List ℕ → ℕ → Option Change → Step Writing
-goes_over s text i None = goes_on text s
-goes_over s text i (Some change) =
-    adds (record s { seats = with_leaving_out s.seats i change.negative }) text
+abbrev pub goes_over : {H : Type 0} → Keeping H → Writing H → List ℕ → ℕ → Option Change → Step (Writing H)
+goes_over keeping s text i None = goes_on text s
+goes_over keeping s text i (Some change) =
+    adds (record s { seats = with_leaving_out keeping s.seats i change.negative }) text
     (list_line s.running.reading i change.list)
 
 -- the ledgers that the node of a number knows
@@ -121,94 +116,100 @@ abbrev pub is_flag : ℕ → Bool
 is_flag seq = seq % 256 == 0 && nat_lt 0 seq
 
 -- what the node of a number changes at a flag ledger that it knows, by what it heard
-abbrev pub change_by : Seat → ℕ → List Header → Option ℕ → Option TrustedList → Option Change
-change_by seat i ledgers None full = None
-change_by seat i ledgers (Some flag) None = None
-change_by seat i ledgers (Some flag) (Some full) =
-    change_of full.members seat.negative (scores_of ledgers seat.heard flag) i
+abbrev pub change_by : {H : Type 0} → Keeping H → Seat H → ℕ → List Header → Option ℕ → Option TrustedList →
+    Option Change
+change_by keeping seat i ledgers None full = None
+change_by keeping seat i ledgers (Some flag) None = None
+change_by keeping seat i ledgers (Some flag) (Some full) =
+    change_of full.members seat.negative (keeping.scores ledgers seat.heard flag) i
 
 -- and at a report of its own
-abbrev pub change_at : Seat → ℕ → List Header → ℕ → LedgerId → Option Change
-change_at seat i ledgers seq id = if is_flag seq then change_by seat i ledgers (flag_in ledgers seq id) seat.full else None
+abbrev pub change_at : {H : Type 0} → Keeping H → Seat H → ℕ → List Header → ℕ → LedgerId → Option Change
+change_at keeping seat i ledgers seq id =
+    if is_flag seq then change_by keeping seat i ledgers (flag_in ledgers seq id) seat.full else None
 
 -- a node reported a ledger
-abbrev pub after_report : Writing → List ℕ → ℕ → ℕ → LedgerId → Step Writing
-after_report s text i seq id =
-    goes_over s text i (change_at (seat_at s.seats i) i (ledgers_at s.running.world i) seq id)
+abbrev pub after_report : {H : Type 0} → Keeping H → Writing H → List ℕ → ℕ → ℕ → LedgerId → Step (Writing H)
+after_report keeping s text i seq id =
+    goes_over keeping s text i
+    (change_at keeping (seat_at keeping s.seats i) i (ledgers_at s.running.world i) seq id)
 
-abbrev pub after_outcome : Writing → List ℕ → Outcome → Step Writing
-after_outcome s text (outcome.Switched i seq id) = goes_on text s
-after_outcome s text (outcome.Built i seq id issued) = goes_on text s
-after_outcome s text (outcome.Refused i why) = goes_on text s
-after_outcome s text (outcome.Full i seq id) = after_report s text i seq id
-after_outcome s text (outcome.Preferred i ledger) = goes_on text s
-after_outcome s text (outcome.Heard i member id) = goes_on text s
+abbrev pub after_outcome : {H : Type 0} → Keeping H → Writing H → List ℕ → Outcome → Step (Writing H)
+after_outcome keeping s text (outcome.Switched i seq id) = goes_on text s
+after_outcome keeping s text (outcome.Built i seq id issued) = goes_on text s
+after_outcome keeping s text (outcome.Refused i why) = goes_on text s
+after_outcome keeping s text (outcome.Full i seq id) = after_report keeping s text i seq id
+after_outcome keeping s text (outcome.Preferred i ledger) = goes_on text s
+after_outcome keeping s text (outcome.Heard i member id) = goes_on text s
 
 -- further on, unless the text ends there
-unfoldable pub and_then : (Writing → List ℕ → Step Writing) → Step Writing → Step Writing
+unfoldable pub and_then : {H : Type 0} → (Writing H → List ℕ → Step (Writing H)) → Step (Writing H) → Step (Writing H)
 and_then further (goes_on text s) = further s text
 and_then further (stops text) = stops text
 and_then further (finds text) = finds text
 
 -- the decisions on what came of an event, in order, behind the text so far
-abbrev pub after_outcomes : Writing → List ℕ → List Outcome → Step Writing
-after_outcomes s text [] = goes_on text s
-after_outcomes s text (o ∷ os) = and_then (λ next further. after_outcomes next further os) (after_outcome s text o)
+abbrev pub after_outcomes : {H : Type 0} → Keeping H → Writing H → List ℕ → List Outcome → Step (Writing H)
+after_outcomes keeping s text [] = goes_on text s
+after_outcomes keeping s text (o ∷ os) =
+    and_then (λ next further. after_outcomes keeping next further os) (after_outcome keeping s text o)
 
 -- an event of the input is run, and what nodes hear in it is kept
-abbrev pub happened : Writing → Event → Writing
-happened s e = record s {
+abbrev pub happened : {H : Type 0} → Keeping H → Writing H → Event → Writing H
+happened keeping s e = record s {
   running = happens s.running e;
-  seats = after_what (hears s.seats (heard_at (world_of s.running) e)) e.what;
+  seats = after_what keeping (hears keeping s.seats (heard_at (world_of s.running) e)) e.what;
 }
 
 -- what a line of the input declares; a node has the list that it declares
-abbrev pub declared : Writing → Line → Writing
-declared s (line.Limit limit) = with_running s (declares s.running (line.Limit limit))
-declared s (line.Speak version) = with_running s (declares s.running (line.Speak version))
-declared s (line.Node me list validating) =
-    record (with_running s (declares s.running (line.Node me list validating))) { seats = with_listing s.seats me list }
-declared s (line.Liar me) = with_running s (declares s.running (line.Liar me))
-declared s (line.Name name id) = with_running s (declares s.running (line.Name name id))
-declared s (line.Ledger name parent header) = with_running s (declares s.running (line.Ledger name parent header))
-declared s (line.At at) = with_running s (declares s.running (line.At at))
-declared s (line.Event e) = with_running s (declares s.running (line.Event e))
+abbrev pub declared : {H : Type 0} → Keeping H → Writing H → Line → Writing H
+declared keeping s (line.Limit limit) = with_running s (declares s.running (line.Limit limit))
+declared keeping s (line.Speak version) = with_running s (declares s.running (line.Speak version))
+declared keeping s (line.Node me list validating) =
+    record (with_running s (declares s.running (line.Node me list validating))) {
+      seats = with_listing keeping s.seats me list;
+    }
+declared keeping s (line.Liar me) = with_running s (declares s.running (line.Liar me))
+declared keeping s (line.Name name id) = with_running s (declares s.running (line.Name name id))
+declared keeping s (line.Ledger name parent header) = with_running s (declares s.running (line.Ledger name parent header))
+declared keeping s (line.At at) = with_running s (declares s.running (line.At at))
+declared keeping s (line.Event e) = with_running s (declares s.running (line.Event e))
 
 -- what a line of the input says is taken in, behind the text so far
-abbrev pub after_line : Writing → List ℕ → Line → Step Writing
-after_line s text (line.Limit limit) = goes_on text (declared s (line.Limit limit))
-after_line s text (line.Speak version) = goes_on text (declared s (line.Speak version))
-after_line s text (line.Node me list validating) = goes_on text (declared s (line.Node me list validating))
-after_line s text (line.Liar me) = goes_on text (declared s (line.Liar me))
-after_line s text (line.Name name id) = goes_on text (declared s (line.Name name id))
-after_line s text (line.Ledger name parent header) = goes_on text (declared s (line.Ledger name parent header))
-after_line s text (line.At at) = goes_on text (declared s (line.At at))
-after_line s text (line.Event e) = after_outcomes (happened s e) text (outcomes (world_of s.running) e)
+abbrev pub after_line : {H : Type 0} → Keeping H → Writing H → List ℕ → Line → Step (Writing H)
+after_line keeping s text (line.Limit limit) = goes_on text (declared keeping s (line.Limit limit))
+after_line keeping s text (line.Speak version) = goes_on text (declared keeping s (line.Speak version))
+after_line keeping s text (line.Node me list validating) = goes_on text (declared keeping s (line.Node me list validating))
+after_line keeping s text (line.Liar me) = goes_on text (declared keeping s (line.Liar me))
+after_line keeping s text (line.Name name id) = goes_on text (declared keeping s (line.Name name id))
+after_line keeping s text (line.Ledger name parent header) = goes_on text (declared keeping s (line.Ledger name parent header))
+after_line keeping s text (line.At at) = goes_on text (declared keeping s (line.At at))
+after_line keeping s text (line.Event e) = after_outcomes keeping (happened keeping s e) text (outcomes (world_of s.running) e)
 
 -- one more line of the input was read
-abbrev pub counted : Writing → Reading → Writing
+abbrev pub counted : {H : Type 0} → Writing H → Reading → Writing H
 counted s reading = record s { running = knows s.running reading; lines = one_more s.lines }
 
-abbrev pub after_answer : Writing → List ℕ → LineAnswer → Step Writing
-after_answer s bytes (passes reading) = goes_on (written bytes) (counted s reading)
-after_answer s bytes (gives l reading) = after_line (counted s reading) (written bytes) l
-after_answer s bytes (refuses why) = stops (bad_line (one_more s.lines) why)
+abbrev pub after_answer : {H : Type 0} → Keeping H → Writing H → List ℕ → LineAnswer → Step (Writing H)
+after_answer keeping s bytes (passes reading) = goes_on (written bytes) (counted s reading)
+after_answer keeping s bytes (gives l reading) = after_line keeping (counted s reading) (written bytes) l
+after_answer keeping s bytes (refuses why) = stops (bad_line (one_more s.lines) why)
 
 -- the end of a schedule: one with no line lacks its header
-abbrev pub ending : Writing → Told
+abbrev pub ending : {H : Type 0} → Writing H → Told
 ending s = if s.lines == 0 then closes (bad_line 1 (NoHeader [])) Refused else closes [] Good
 
-abbrev pub rules : Rules Writing
-rules = record {
-  step = λ s bytes. after_answer s bytes (answer_in s.running bytes);
+abbrev pub rules : {H : Type 0} → Keeping H → Rules (Writing H)
+rules keeping = record {
+  step = λ s bytes. after_answer keeping s bytes (answer_in s.running bytes);
   overrun = λ s overrun. bad_line (one_more s.lines) (beyond overrun);
   closing = ending;
 }
 
--- what is written of a schedule, and what it says
+-- what is written of a schedule, and what it says: the list of all that was heard says it
 abbrev pub negative_of : List ℕ → Told
-negative_of bytes = told_of limits rules at_first bytes
+negative_of bytes = told_of limits (rules listed) (at_first listed) bytes
 
 -- what is written of the lines that have ended in these bytes
 abbrev pub negative_soon : List ℕ → List ℕ
-negative_soon bytes = told_soon limits rules at_first bytes
+negative_soon bytes = told_soon limits (rules listed) (at_first listed) bytes

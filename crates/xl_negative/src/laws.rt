@@ -1,4 +1,4 @@
-ghost use Rattle.xl_negative.specs.Laws.{AddedAreLists, ChangesAreLawful, ListsAreEnough, WrittenRuns};
+ghost use Rattle.xl_negative.specs.Laws.{AddedAreLists, ChangesAreLawful, ListsAreEnough, ListsAreInForce, ReportsAgree, WrittenRuns};
 
 use xl_spelling::law_of_read_lists;
 
@@ -21,8 +21,20 @@ pub fn law_of_added_lists()
     law_of_read_lists();
 }
 
-/// The law of what is written, which has no code. Unless a line is refused, a reader refuses none of the written
-/// lines, and who runs them comes to the schedule that ran here.
+/// The law of what is written, which has no code. Unless a line is refused, the text is cut into lines of which a
+/// reader refuses none, and who runs them comes to the schedule that ran here.
 pub fn law_of_written_runs()
     ensures { WrittenRuns }
+{}
+
+/// The law of the lists of a run, which has no code: each list that was ever in force at a member with one full list
+/// is that list, or leaves out some of it as the rules do.
+pub fn law_of_lists_in_force()
+    ensures { ListsAreInForce }
+{}
+
+/// The headline, which has no code: in each schedule that is written again, two nodes with one full list never report
+/// different ledgers of one sequence, if twice its least quorum exceeds its members and the liars among them.
+pub fn law_of_agreeing_reports()
+    ensures { ReportsAgree }
 {}

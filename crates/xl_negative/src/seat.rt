@@ -1,11 +1,13 @@
 ghost use Rattle.std.specs.Prelude.{◌≡◌, option_copied, IfOk, OnOk};
 ghost use Rattle.xl_nunl.specs.Lists.{IsNegative};
+ghost use Rattle.xl_negative.specs.Ringing.{kept_in, ringed};
 ghost use Rattle.xl_negative.specs.Seats.{empty_seat, forgetting, hearing, leaving_out, listing, members_of};
 
 use std::alloc::Global;
 use std::marker::Model;
 use xl_base::{NodeNo, OutOfMemory};
 use xl_lists::{List, SaidLedger};
+use xl_nunl::Scores;
 
 /// What is known of a node beside the world.
 #[derive(Drop)]
@@ -14,17 +16,18 @@ pub struct Seat {
     full: Option<List>,
     /// The members of that list that it leaves out.
     negative: Vec<NodeNo>,
-    /// What it heard since it opened.
-    heard: Vec<SaidLedger>,
+    /// What is kept of what it heard since it opened; None if it heard nothing.
+    heard: Option<Scores>,
 }
 
 impl Model for Seat {
     ghost use Rattle.xl_nunl.specs.Lists.{IsNegative};
+    ghost use Rattle.xl_negative.specs.Ringing.{Places, kept_in};
     ghost use Rattle.xl_negative.specs.Seats.{Seat as TheSeat, members_of};
 
-    ghost Value = { TheSeat };
+    ghost Value = { TheSeat Places };
 
-    ghost view = { λ s. record { full = s.full; negative = s.negative.items; heard = s.heard.items } };
+    ghost view = { λ s. record { full = s.full; negative = s.negative.items; heard = kept_in s.heard } };
 
     ghost invariant = { λ s. IsNegative (members_of s.full) s.negative.items };
 }
@@ -32,12 +35,12 @@ impl Model for Seat {
 impl Seat {
     /// The seat of a number that no node has.
     pub fn empty(alloc: Global) -> Seat
-        ensures { result ≡ empty_seat }
+        ensures { result ≡ empty_seat ringed }
     {
         Seat {
             full: None,
             negative: Vec::new(alloc),
-            heard: Vec::new(alloc),
+            heard: None,
         }
     }
 
@@ -54,25 +57,33 @@ impl Seat {
         &self.negative
     }
 
-    pub fn heard(&self) -> &[SaidLedger]
-        ensures { result.now ≡ self.now.heard }
+    /// What is kept of what the node heard, or None if it heard nothing.
+    pub fn heard(&self) -> Option<&Scores>
+        ensures { kept_in (option_copied result) ≡ self.now.heard }
     {
-        &self.heard
+        self.heard.as_ref()
     }
 
-    /// The node hears something more.
-    pub fn hear(&mut self, said: SaidLedger) -> Result<(), OutOfMemory>
-        ensures { OnOk result (self.new ≡ hearing self.old said) }
+    /// The node hears something more. The first after its opening takes memory, and no other.
+    pub fn hear(&mut self, alloc: Global, said: SaidLedger) -> Result<(), OutOfMemory>
+        ensures { OnOk result (self.new ≡ hearing ringed self.old said) }
     {
-        self.heard.push(said)?;
+        match &mut self.heard {
+            Some(heard) => heard.heard(said.member, said.seq, said.id),
+            None => {
+                let mut heard = Scores::open(alloc)?;
+                heard.heard(said.member, said.seq, said.id);
+                self.heard = Some(heard);
+            }
+        }
         Ok(())
     }
 
     /// The node is opened anew.
     pub fn forget(&mut self)
-        ensures { self.new ≡ forgetting self.old }
+        ensures { self.new ≡ forgetting ringed self.old }
     {
-        self.heard.clear();
+        self.heard = None;
     }
 
     /// The node has this full list from now on, and leaves nobody out.

@@ -8,5 +8,5 @@ mod WordLemmas
 mod Saying
 mod Happening
 mod Telling
-mod Respelling
+pub mod Respelling
 mod Commas

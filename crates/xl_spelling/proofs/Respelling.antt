@@ -1,11 +1,12 @@
 -- A line that was read, read again from its spelling.
 use Rattle.std.proofs.Common.{◌≡◌, ◌≤◌, ap₂, ◌==◌, ◌&&◌, ◌⊎◌, inl, inr, ℕ, Bool, true, false, cond, nat_le, nat_lt, List, [], ◌∷◌, length, Option, Some, None, Result, Ok, Err, refl, ap, sym, ◌∙◌, subst, arith, codes, decimal}
 use Rattle.std.specs.List.{Contains, AllByRecursion, join_with_byte}
-use Rattle.std.proofs.lemmas.Bool.{and_parts, lt-ltb}
+use Rattle.std.proofs.lemmas.Bool.{and_parts, cases_Bool, cond_both, eq-eqb, lt-ltb, ltb-true, or_left}
 use Rattle.std.proofs.lemmas.Bool.Decides.{nat_tests}
 use Rattle.std.proofs.lemmas.List.Elements.{All-contains_itself, All-from_recursion, recursion_from_All}
 use Rattle.xl_sched.specs.Limits.{most_bytes, most_lines, most_lists}
 use Rattle.xl_lists.specs.Lists.{TrustedList, IsValid, is_on}
+use Rattle.xl_sched.specs.declared.event.What.{What}
 use Rattle.xl_sched.specs.declared.event.What.TheVariants as what
 use Rattle.xl_sched.specs.Events.{list_event, set_list}
 use Rattle.xl_sched.specs.Members.{declared_of, member_of, members_of, trusted_of}
@@ -21,8 +22,8 @@ use Rattle.xl_sched.specs.declared.word.SettingWord.{SettingWord}
 use Rattle.xl_sched.specs.declared.word.SettingWord.TheVariants as setting
 use Rattle.xl_sched.specs.Tokens.{is_blank, tokens}
 use Rattle.xl_sched.specs.Words.{setting_word, event_word, is_declaration, set_line, setting_line, what_of, event_line, event_line_of, line_of, worded_line}
-use Rattle.xl_sched.specs.Reading.{Reading, after}
-use Rattle.xl_sched.specs.Answers.{is_header, first_token, header_line, is_comment, some_line, later_line, line_of_tokens, bounded_line, gives, answer_to, reading_of}
+use Rattle.xl_sched.specs.Reading.{Reading, after, opened}
+use Rattle.xl_sched.specs.Answers.{LineAnswer, is_header, first_token, header_line, is_comment, some_line, later_line, line_of_tokens, bounded_line, gives, refuses, answer_to, reading_of}
 use Rattle.xl_spelling.specs.Spellings.{line_words, list_line, spelling, with_commas, Says, AddsNoControl, ListsAreRead, MayBeSet}
 use Rattle.xl_spelling.specs.Stored.{IsStoredWhat, IsStored}
 use Rattle.xl_spelling.proofs.Joins.{Clear, IsToken, tokens-joined, tokens-are, tokens-all, spread, tokens-spread, joined-spread, joined-all}
@@ -324,3 +325,68 @@ lists_read reading sent node list may =
     ∙ ap (λ ts. answer_to reading (line_of_tokens reading sent ts)) (tokens-joined ts re.are)
     ∙ ap (λ b. answer_to reading (cond b (header_line ts) (later_line reading sent ts))) later
     ∙ ap (answer_to reading) tokened
+
+-- A LIST THAT MAY BE SET, OR NOT
+
+-- what happens, or why it is refused
+abbrev ListOr : What → Result What SchedRefusal → Type 0
+ListOr w r = (r ≡ Ok w) ⊎ ((why : SchedRefusal) × (r ≡ Err why))
+
+-- whoever else is declared, however much was read
+module _ (reading : Reading) (node : ℕ) (list : TrustedList) (least : 1 ≤ node) (greatest : node ≤ 64) (valid : IsValid list) where
+  undeclared-said : nat_lt reading.lists most_lists ≡ true → is_on reading.nodes node ≡ false → ListOr (what.List node list) (list_event reading (list-arguments node list))
+  unfolding list-arguments
+  undeclared-said few off =
+      let text = with_commas (texts list.members) in
+      let quorum = decimal list.quorum in
+      let absent : declared_of reading.nodes (decimal node) ≡ Err (refusal.Absent (decimal node)) =
+      ap (λ read. read >>= (λ member. cond (is_on reading.nodes member) (Ok member) (Err (refusal.Absent (decimal node))))) (member-read node least greatest)
+      ∙ ap (λ b. cond b (Ok node) (Err (refusal.Absent (decimal node)))) off in
+      inr (
+        refusal.Absent (decimal node),
+        ap (λ b. cond b (set_list reading (decimal node ∷ quorum ∷ text ∷ [])) (Err (refusal.Limit (decimal most_lists)))) few
+            ∙ ap (λ read. read >>= (λ node. number_of quorum >>= (λ least. members_of text >>= (λ numbers. trusted_of numbers least >>= (λ list. Ok (what.List node list)))))) absent,
+      )
+
+  list-or : ListOr (what.List node list) (list_event reading (list-arguments node list))
+  list-or =
+      elim (cases_Bool (nat_lt reading.lists most_lists)) [
+        | inl few ↦ elim (cases_Bool (is_on reading.nodes node)) [
+          | inl on ↦ inl (list-said (record reading { lines = 1 }) node list (record { least = least; greatest = greatest; declared = on; valid = valid; later = omega arith; lines = omega arith; lists = ltb-true _ _ few }))
+          | inr off ↦ undeclared-said few off
+        ]
+        | inr many ↦ inr (refusal.Limit (decimal most_lists), ap (λ b. cond b (set_list reading (list-arguments node list)) (Err (refusal.Limit (decimal most_lists)))) many)
+      ]
+
+-- the line of such a list says it or is refused, and has no byte below 32
+pub record IsListLine (reading : Reading) (sent node : ℕ) (list : TrustedList) : Type 0 where
+  pub answer : Says reading sent (spelling (list_line reading node list)) (list_line reading node list)
+      ⊎ ((why : SchedRefusal) × (reading_of reading sent (spelling (list_line reading node list)) ≡ refuses why))
+  pub plain : AddsNoControl [] (spelling (list_line reading node list))
+
+pub list_line-read : (reading : Reading) (sent node : ℕ) (list : TrustedList) → 1 ≤ node → node ≤ 64 → IsValid list → IsListLine reading sent node list
+unfolding list-arguments
+list_line-read reading sent node list least greatest valid =
+    let ts = codes "list" ∷ list-arguments node list in
+    let alone : Reading = record opened { lines = 1; nodes = node ∷ [] } in
+    let own : is_on alone.nodes node ≡ true = or_left (node == node) false (eq-eqb node node refl) in
+    let may : MayBeSet alone node list = record { least = least; greatest = greatest; declared = own; valid = valid; later = omega arith; lines = omega arith; lists = omega arith } in
+    let re = list-respelled alone node list may in
+    let short = re.few in
+    let fits : nat_lt most_bytes (length (join_with_byte 32 ts)) ≡ false = grind (arith, nat_tests) in
+    let Fine : LineAnswer → Type 0 = λ a. (a ≡ gives (list_line reading node list) (after reading (list_line reading node list))) ⊎ ((why : SchedRefusal) × (a ≡ refuses why)) in
+    let said : Fine (answer_to reading (later_line reading sent ts)) =
+    elim (list-or reading node list least greatest valid) [
+      | inl same ↦ inl (ap (λ read. answer_to reading (some_line (event_line reading read))) same)
+      | inr (why, same) ↦ inr (why, ap (λ read. answer_to reading (some_line (event_line reading read))) same)
+    ] in
+    let whole : reading_of reading sent (spelling (list_line reading node list)) ≡ answer_to reading (cond (reading.lines == most_lines) (Err (refusal.Limit (decimal most_lines))) (line_of_tokens reading sent ts)) =
+    ap (λ b. answer_to reading (cond b (Err (refusal.LongLine (decimal most_bytes))) (cond (reading.lines == most_lines) (Err (refusal.Limit (decimal most_lines))) (line_of_tokens reading sent (tokens (join_with_byte 32 ts)))))) fits
+    ∙ ap (λ ts. answer_to reading (cond (reading.lines == most_lines) (Err (refusal.Limit (decimal most_lines))) (line_of_tokens reading sent ts))) (tokens-joined ts re.are) in
+    record {
+      answer =
+          subst Fine (sym whole)
+          (cond_both (reading.lines == most_lines) (Err (refusal.Limit (decimal most_lines))) (line_of_tokens reading sent ts) (λ read. Fine (answer_to reading read)) (λ _. inr (_, refl))
+          (λ _. cond_both (reading.lines == 0) (header_line ts) (later_line reading sent ts) (λ read. Fine (answer_to reading read)) (λ _. inr (_, refl)) (λ _. said)));
+      plain = All-from_recursion (λ b. (32 ≤ b) ⊎ Contains [] b) (join_with_byte 32 ts) re.bytes_of;
+    }

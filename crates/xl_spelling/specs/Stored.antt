@@ -1,5 +1,5 @@
 -- What the types of a line keep.
-use Rattle.std.specs.Prelude.{◌≡◌, ◌<◌, ◌^◌, ℕ, List, length, All, IfSome}
+use Rattle.std.specs.Prelude.{◌<◌, ◌^◌, All, IfSome}
 use Rattle.hex.specs.Hex.{IsBytes}
 use Rattle.xl_base.specs.Ids.{IsId}
 use Rattle.xl_sched.specs.declared.event.Ask.{Ask}

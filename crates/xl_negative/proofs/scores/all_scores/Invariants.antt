@@ -1,9 +1,7 @@
-use Rattle.std.proofs.Common.{◌≡◌, List, length, take}
+use Rattle.std.proofs.Common.{◌≡◌, length, take}
 use Rattle.std.specs.Prelude.{map}
 use Rattle.std.specs.List.{range_with_len}
-use Rattle.xl_lists.specs.declared.said.SaidLedger.{SaidLedger}
-use Rattle.xl_nunl.specs.Heard.{score_of}
-use Rattle.xl_nunl.specs.Rings.{Remembers}
+use Rattle.xl_nunl.specs.Rings.{score_in}
 use Rattle.xl_negative.proofs.scores.all_scores.Given as goal
 
 -- the walk stays on its ledgers, and the scores of the numbers so far stand at the front
@@ -11,6 +9,5 @@ abbrev pub invariant-loop-below : goal.invariant-loop-below
 invariant-loop-below l = record {
   size : length l.scores ≡ 64;
   stays : l.walk.ledgers ≡ l.registry;
-  put : (heard : List SaidLedger) → Remembers l.remembered heard
-      → take l.below l.scores ≡ map (λ m. score_of l.registry.headers heard m l.flag) (range_with_len 1 l.below);
+  put : take l.below l.scores ≡ map (λ m. score_in l.registry.headers l.heard m l.flag) (range_with_len 1 l.below);
 }

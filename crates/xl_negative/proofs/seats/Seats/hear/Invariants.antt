@@ -1,6 +1,7 @@
 use Rattle.std.proofs.Common.{◌≡◌, take}
+use Rattle.xl_negative.specs.Ringing.{ringed}
 use Rattle.xl_negative.specs.Seats.{hears}
 use Rattle.xl_negative.proofs.seats.Seats.hear.Given as goal
 
 abbrev pub invariant-loop-one : goal.invariant-loop-one
-invariant-loop-one l = l.self ≡ hears l.initial.self (take l.one-index l.heard)
+invariant-loop-one l = l.self ≡ hears ringed l.initial.self (take l.one-index l.heard)

@@ -1,0 +1,137 @@
+-- What is kept of what a node heard stands for the list of all that it heard.
+use Rattle.std.proofs.Common.{◌≡◌, ℕ, zero, suc, ◌+◌, ◌-◌, ◌≤◌, List, [], ◌∷◌, get_or, set, replicate, refl, ap, ap₂, ◌∙◌, arith, cond, Option, Some, None}
+use Rattle.std.specs.Prelude.{map}
+use Rattle.std.specs.List.{range_with_len}
+use Rattle.xl_base.specs.declared.ids.LedgerId.{LedgerId}
+use Rattle.xl_ledger.specs.declared.header.Header.{Header}
+use Rattle.xl_lists.specs.declared.said.SaidLedger.{SaidLedger}
+use Rattle.xl_lists.specs.Lists.{TrustedList}
+use Rattle.xl_nunl.specs.Heard.{score_of}
+use Rattle.xl_nunl.specs.Rings.{IsKept, score_in}
+use Rattle.xl_nunl.proofs.Kept.{rings}
+use Rattle.xl_sched.specs.declared.event.What.{What}
+use Rattle.xl_sched.specs.declared.event.What.TheVariants as what
+use Rattle.xl_world.specs.Schedule.{node_asked}
+use Rattle.xl_negative.specs.declared.hearing.Heard.{Heard}
+use Rattle.xl_negative.specs.Listing.{listed, scores_of}
+use Rattle.xl_negative.specs.Ringing.{Places, kept_scores, ringed}
+use Rattle.xl_negative.specs.Seats.{Seat, after_what, empty_seat, forgetting, hearing, hears, leaving_out, listing, no_seats, seat_at, with_forgetting, with_hearing, with_leaving_out, with_listing}
+use Rattle.xl_negative.specs.Writing.{Change, change_at, change_by, change_of, flag_in, is_flag}
+
+-- ONE SEAT
+
+pub record StandsFor (p : Seat Places) (q : Seat (List SaidLedger)) : Type 0 where
+  pub full : p.full ≡ q.full
+  pub negative : p.negative ≡ q.negative
+  pub heard : IsKept p.heard q.heard
+
+empty_stands : StandsFor (empty_seat ringed) (empty_seat listed)
+empty_stands = record { full = refl; negative = refl; heard = rings.begun }
+
+module _ (p : Seat Places) (q : Seat (List SaidLedger)) (is : StandsFor p q) where
+  hearing_stands : (said : SaidLedger) → StandsFor (hearing ringed p said) (hearing listed q said)
+  hearing_stands said = record { full = is.full; negative = is.negative; heard = rings.goes_on p.heard q.heard said is.heard }
+
+  forgetting_stands : StandsFor (forgetting ringed p) (forgetting listed q)
+  forgetting_stands = record { full = is.full; negative = is.negative; heard = rings.begun }
+
+  listing_stands : (list : TrustedList) → StandsFor (listing p list) (listing q list)
+  listing_stands list = record { full = refl; negative = refl; heard = is.heard }
+
+  leaving_stands : (negative : List ℕ) → StandsFor (leaving_out p negative) (leaving_out q negative)
+  leaving_stands negative = record { full = is.full; negative = refl; heard = is.heard }
+
+-- SCORES
+
+-- from a member's number on, of members alone
+scored_same : (ledgers : List Header) (places : Places) (heard : List SaidLedger) (flag : ℕ) → IsKept places heard → (n m : ℕ) → 1 ≤ m → m + n ≤ 65 →
+    map (λ k. score_in ledgers places k flag) (range_with_len m n) ≡ map (λ k. score_of ledgers heard k flag) (range_with_len m n)
+scored_same ledgers places heard flag is zero m low high = refl
+scored_same ledgers places heard flag is (suc n) m low high =
+    ap₂ (λ (x : ℕ) (xs : List ℕ). x ∷ xs) (rings.scores ledgers places heard m flag low (omega (arith, high)) is)
+    (scored_same ledgers places heard flag is n (m + 1) (omega arith) (omega (arith, high)))
+
+scores_same : (ledgers : List Header) (places : Places) (heard : List SaidLedger) (flag : ℕ) → IsKept places heard → kept_scores ledgers places flag ≡ scores_of ledgers heard flag
+unfolding kept_scores scores_of
+scores_same ledgers places heard flag is = scored_same ledgers places heard flag is 64 1 (omega arith) (omega arith)
+
+-- what a node changes
+module _ (p : Seat Places) (q : Seat (List SaidLedger)) (is : StandsFor p q) (i : ℕ) (ledgers : List Header) where
+  by_same : (flag : Option ℕ) (full : Option TrustedList) → change_by ringed p i ledgers flag full ≡ change_by listed q i ledgers flag full
+  by_same None full = refl
+  by_same (Some flag) None = refl
+  by_same (Some flag) (Some full) =
+      ap (λ (negative : List ℕ). change_of full.members negative (kept_scores ledgers p.heard flag) i) is.negative
+      ∙ ap (λ (scores : List ℕ). change_of full.members q.negative scores i) (scores_same ledgers p.heard q.heard flag is.heard)
+
+  pub change_same : (seq : ℕ) (id : LedgerId) → change_at ringed p i ledgers seq id ≡ change_at listed q i ledgers seq id
+  change_same seq id =
+      ap (λ (c : Option Change). cond (is_flag seq) c None)
+      (by_same (flag_in ledgers seq id) p.full ∙ ap (change_by listed q i ledgers (flag_in ledgers seq id)) is.full)
+
+-- ALL SEATS
+
+abbrev pub AllStandFor : List (Seat Places) → List (Seat (List SaidLedger)) → Type 0
+AllStandFor [] [] = Unit {0}
+AllStandFor [] (q ∷ qs) = ⊥
+AllStandFor (p ∷ ps) [] = ⊥
+AllStandFor (p ∷ ps) (q ∷ qs) = StandsFor p q × AllStandFor ps qs
+
+none_stand : (n : ℕ) → AllStandFor (replicate n (empty_seat ringed)) (replicate n (empty_seat listed))
+none_stand zero = tt
+none_stand (suc n) = (empty_stands, none_stand n)
+
+pub first_stand : AllStandFor (no_seats ringed) (no_seats listed)
+unfolding no_seats
+first_stand = none_stand 64
+
+there_stands : (ps : List (Seat Places)) (qs : List (Seat (List SaidLedger))) → AllStandFor ps qs → (k : ℕ) → StandsFor (get_or ps k (empty_seat ringed)) (get_or qs k (empty_seat listed))
+there_stands [] [] stand k = empty_stands
+there_stands [] (q ∷ qs) stand k = absurd stand
+there_stands (p ∷ ps) [] stand k = absurd stand
+there_stands (p ∷ ps) (q ∷ qs) stand zero = stand.0
+there_stands (p ∷ ps) (q ∷ qs) stand (suc k) = there_stands ps qs stand.1 k
+
+set_stand : (ps : List (Seat Places)) (qs : List (Seat (List SaidLedger))) → AllStandFor ps qs → (k : ℕ) (p : Seat Places) (q : Seat (List SaidLedger)) → StandsFor p q → AllStandFor (set ps k p) (set qs k q)
+set_stand [] [] stand k p q is = tt
+set_stand [] (y ∷ qs) stand k p q is = absurd stand
+set_stand (x ∷ ps) [] stand k p q is = absurd stand
+set_stand (x ∷ ps) (y ∷ qs) stand zero p q is = (is, stand.1)
+set_stand (x ∷ ps) (y ∷ qs) stand (suc k) p q is = (stand.0, set_stand ps qs stand.1 k p q is)
+
+module _ (ps : List (Seat Places)) (qs : List (Seat (List SaidLedger))) (stand : AllStandFor ps qs) where
+  pub seat_stands : (i : ℕ) → StandsFor (seat_at ringed ps i) (seat_at listed qs i)
+  seat_stands i = there_stands ps qs stand (i - 1)
+
+  hearing_stand : (h : Heard) → AllStandFor (with_hearing ringed ps h) (with_hearing listed qs h)
+  hearing_stand h = set_stand ps qs stand (h.node - 1) _ _ (hearing_stands (seat_at ringed ps h.node) (seat_at listed qs h.node) (seat_stands h.node) h.said)
+
+  forgetting_stand : (i : ℕ) → AllStandFor (with_forgetting ringed ps i) (with_forgetting listed qs i)
+  forgetting_stand i = set_stand ps qs stand (i - 1) _ _ (forgetting_stands (seat_at ringed ps i) (seat_at listed qs i) (seat_stands i))
+
+  pub listing_stand : (i : ℕ) (list : TrustedList) → AllStandFor (with_listing ringed ps i list) (with_listing listed qs i list)
+  listing_stand i list = set_stand ps qs stand (i - 1) _ _ (listing_stands (seat_at ringed ps i) (seat_at listed qs i) (seat_stands i) list)
+
+  pub leaving_stand : (i : ℕ) (negative : List ℕ) → AllStandFor (with_leaving_out ringed ps i negative) (with_leaving_out listed qs i negative)
+  leaving_stand i negative = set_stand ps qs stand (i - 1) _ _ (leaving_stands (seat_at ringed ps i) (seat_at listed qs i) (seat_stands i) negative)
+
+  pub what_stand : (w : What) → AllStandFor (after_what ringed ps w) (after_what listed qs w)
+  what_stand (what.Ask ask) = stand
+  what_stand what.Timers = stand
+  what_stand (what.Submit node tx) = stand
+  what_stand (what.Deliver place) = stand
+  what_stand what.All = stand
+  what_stand what.Drop = stand
+  what_stand (what.Greet node peer) = stand
+  what_stand (what.Restart node) = forgetting_stand node
+  what_stand (what.Cut new ask) = forgetting_stand (node_asked ask)
+  what_stand (what.Fail new ask) = stand
+  what_stand (what.List node list) = listing_stand node list
+  what_stand (what.Lie from to lie) = stand
+  what_stand (what.Raw to bytes) = stand
+  what_stand (what.Prefer node) = stand
+  what_stand (what.Heard node) = stand
+
+pub hears_stand : (hs : List Heard) (ps : List (Seat Places)) (qs : List (Seat (List SaidLedger))) → AllStandFor ps qs → AllStandFor (hears ringed ps hs) (hears listed qs hs)
+hears_stand [] ps qs stand = stand
+hears_stand (h ∷ hs) ps qs stand = hears_stand hs (with_hearing ringed ps h) (with_hearing listed qs h) (hearing_stand ps qs stand h)
