@@ -1,3 +1,4 @@
+-- the members so far have voted in rising order, so the next one hasn't yet, and votes are no more than members
 use Rattle.std.proofs.Common.{◌≡◌, ◌<◌, ◌==◌, ◌||◌, ◌∷◌, ◌++◌, [], ℕ, false, List, length, sym, ap, ◌∙◌, arith}
 use Rattle.std.proofs.lemmas.Bool.{ne_eqb}
 use Rattle.std.proofs.lemmas.List.{length-append}

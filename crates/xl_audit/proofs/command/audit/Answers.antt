@@ -1,3 +1,4 @@
+-- an audit says something at each of its ends, so that with a fault some of its text isn't written
 use Rattle.std.proofs.Common.{◌≡◌, ◌≢◌, subst}
 use Rattle.std.specs.Io.KnownBytes.{append_known}
 use Rattle.std.specs.Prelude.{IfErr, IfSome}

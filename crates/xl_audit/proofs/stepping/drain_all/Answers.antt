@@ -1,3 +1,4 @@
+-- a piece and then what is left give what one room gives, and a piece that gives nothing shows that none is left
 use Rattle.std.proofs.Common.{arith}
 use Rattle.xl_core.specs.Core.{Core}
 use Rattle.xl_audit.proofs.Pieces.{drain_more, drain_over, part_within}

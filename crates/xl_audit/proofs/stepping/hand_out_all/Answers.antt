@@ -1,3 +1,4 @@
+-- a piece and then what is left give what one room gives, and a piece that isn't filled shows that no more are there
 use Rattle.std.proofs.Common.{ap, ◌∙◌, arith, length}
 use Rattle.xl_audit.proofs.Pieces.{handing_more, handing_over, still_long}
 use Rattle.xl_audit.proofs.stepping.hand_out_all.Goals as goal

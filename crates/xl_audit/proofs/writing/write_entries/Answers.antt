@@ -1,3 +1,4 @@
+-- what was written, before the lines of the entries left, is the whole text, and the next of legal entries is allowed
 use Rattle.std.proofs.Common.{◌≡◌, List, [], sym, subst, arith, refl}
 use Rattle.std.specs.Prelude.{All}
 use Rattle.std.proofs.lemmas.List.Elements.{All-cons, All-nil}

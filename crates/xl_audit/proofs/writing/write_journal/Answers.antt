@@ -1,3 +1,4 @@
+-- the head is whole before the entries follow, and to a legal history that was written so an auditor says yes
 use Rattle.std.proofs.Common.{◌≡◌, ◌++◌, sym, subst, arith}
 use Rattle.std.specs.Prelude.{OnOk}
 use Rattle.std.specs.Io.KnownBytes.{append_known}

@@ -1,3 +1,4 @@
+-- which frame bytes begin with doesn't depend on their tag, and each way to split, open and read has one answer
 use Rattle.std.proofs.Common.{◌<◌, ◌≤◌, ◌∙◌, ℕ, ◌-◌, List, length, sym, ap, subst, refl, arith, Ok, Err, Result}
 use Rattle.std.proofs.lemmas.List.{take_all}
 use Rattle.xl_wire.specs.Kinds.{span}

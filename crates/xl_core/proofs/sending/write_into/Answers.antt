@@ -1,3 +1,4 @@
+-- what is encoded spells the frame with a blank tag: sealing sets the tag alone, and without keys it stays blank
 use Rattle.std.proofs.Common.{refl, ◌∙◌, ap, arith, sym}
 use Rattle.xl_wire.specs.Frames.{raw_of}
 use Rattle.xl_wire.specs.Raws.{RawFrame, SpellsRaw, raw_bytes}

@@ -1,3 +1,4 @@
+-- winning is an order of the fees, and the best so far is the first in it of the votes of the members passed
 use Rattle.std.proofs.Common.{ℕ, ◌+◌, List, Option, Some, take, sym, ap, subst, ◌∙◌}
 use Rattle.std.specs.Prelude.{unwrap_or}
 use Rattle.std.proofs.lemmas.List.{take_all}

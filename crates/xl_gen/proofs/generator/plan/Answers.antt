@@ -1,3 +1,4 @@
+-- the nodes so far are those of the numbers passed, and each turn adds one, up to the seventh
 use Rattle.std.proofs.Common.{◌≡◌, ℕ, ◌-◌, arith, ap, ◌∙◌}
 use Rattle.std.specs.Prelude.{map}
 use Rattle.xl_world.specs.Plans.{up_from}

@@ -1,3 +1,4 @@
+-- the count is of the seconds passed, each has few lines, and the rounds are few enough that it can't overflow
 use Rattle.std.proofs.Common.{◌≡◌, ◌≤◌, ℕ, ◌+◌, ◌-◌, ◌*◌, arith, refl, length, ap, ◌∙◌}
 use Rattle.std.specs.List.{flat_map}
 use Rattle.xl_world.specs.Plans.{up_from}

@@ -1,3 +1,4 @@
+-- a heartbeat starts with its own list and nothing done, and each beat that isn't the last goes on from there
 use Rattle.std.proofs.Common.{sym, subst}
 use Rattle.xl_turns.specs.Passes.{known}
 use Rattle.xl_store.specs.Stores.{start_of, turns_of}

@@ -1,3 +1,4 @@
+-- the store is asked only about another list than the one set, and the core's answer decides which is then set
 use Rattle.std.proofs.Common.{subst}
 use Rattle.xl_turns.specs.Passes.{known}
 use Rattle.xl_lists.specs.Lists.{TrustedList}

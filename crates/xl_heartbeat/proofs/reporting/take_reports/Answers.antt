@@ -1,3 +1,4 @@
+-- the lines are of the reports that the store handed out, all or a front, and without a turn nothing was taken
 use Rattle.std.proofs.Common.{refl, sym, subst}
 use Rattle.xl_turns.specs.Passes.{known}
 use Rattle.xl_store.specs.Stores.{start_of, turns_of}

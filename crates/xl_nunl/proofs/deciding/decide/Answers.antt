@@ -1,3 +1,4 @@
+-- one member fewer left out, and then one more, keeps what is left out lawful, and so does changing nothing
 use Rattle.std.proofs.Common.{ℕ, Option, sym, subst}
 use Rattle.xl_nunl.specs.Lists.{IsNegative}
 use Rattle.xl_nunl.specs.Deciding.{negative_after}

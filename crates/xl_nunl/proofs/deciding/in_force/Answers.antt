@@ -1,3 +1,4 @@
+-- the members that stay rise and are no more than 64, and the greater of two quorums is fit for them: they are a list
 use Rattle.std.proofs.Common.{◌≡◌, ℕ, ◌+◌, ◌*◌, ◌/◌, ◌≤◌, List, Ok, length, take, refl, sym, subst, ap, ◌∙◌, arith}
 use Rattle.std.specs.Prelude.{max, Result}
 use Rattle.std.specs.Result.{IsOk}

@@ -1,3 +1,4 @@
+-- the front of the room is the members that stay among the numbers passed, never more than these, and 64 are all
 use Rattle.std.proofs.Common.{◌≡◌, ℕ, ◌+◌, ◌<◌, List, [], ◌∷◌, ◌++◌, Option, Some, None, length, take, set, length-set, sym, ap, ◌∙◌, arith}
 use Rattle.std.specs.Prelude.{SomeIff, ◌&&◌, not}
 use Rattle.std.proofs.lemmas.Grind.{take-set_at}

@@ -1,3 +1,4 @@
+-- scores order the members, the worst so far is the first of those passed that may go, and others change nothing
 use Rattle.std.proofs.Common.{ℕ, ◌+◌, Bool, List, Option, Some, take, sym, ap, subst, ◌∙◌}
 use Rattle.std.specs.Prelude.{◌==◌, ◌&&◌, not}
 use Rattle.std.proofs.lemmas.List.{take_all}

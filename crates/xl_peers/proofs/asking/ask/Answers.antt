@@ -1,3 +1,4 @@
+-- the answer decides: false goes on to the drains, true ends the session, and without a turn it ends there
 use Rattle.std.proofs.Common.{◌≤◌, sym, refl, subst, arith}
 use Rattle.xl_turns.specs.Passes.{known}
 use Rattle.xl_core.specs.declared.event.CoreEvent.TheVariants.{Stopped}

@@ -1,3 +1,4 @@
+-- the call is the session's first step, and without a turn the session ends before it
 use Rattle.std.proofs.Common.{sym, refl, subst, arith}
 use Rattle.xl_turns.specs.Passes.{known}
 use Rattle.xl_store.specs.Stores.{start_of, turns_of}

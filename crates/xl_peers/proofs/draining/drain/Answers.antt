@@ -1,3 +1,4 @@
+-- what goes on after one drain goes on after the next, and a drain that ends the session ends it after all of these
 use Rattle.std.proofs.Common.{arith}
 use Rattle.xl_peers.proofs.draining.drain.Goals as goal
 

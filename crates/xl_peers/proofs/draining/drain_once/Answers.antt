@@ -1,3 +1,4 @@
+-- what was sent is what the drain gave, a failed write sent a front of it, and without a turn nothing was drained
 use Rattle.std.proofs.Common.{sym, subst}
 use Rattle.xl_turns.specs.Passes.{known}
 use Rattle.xl_store.specs.Stores.{start_of, turns_of}

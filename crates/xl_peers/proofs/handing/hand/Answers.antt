@@ -1,3 +1,4 @@
+-- the bytes held and those left are the bytes that came, and a feed that needs more takes some of each piece
 use Rattle.std.proofs.Common.{◌≡◌, ◌<◌, ◌++◌, ℕ, List, [], drop, length, sym, ap, ◌∙◌, subst, append-nil, arith, rules}
 use Rattle.std.proofs.lemmas.Bool.Decides.{nat_tests}
 use Rattle.std.proofs.lemmas.List.{take_rest, nil_from_length}

@@ -1,3 +1,4 @@
+-- handing some frames over and then one more hands them all over in order, and the last look finds less than one
 use Rattle.std.proofs.Common.{refl}
 use Rattle.xl_peers.proofs.Handed.{hands_none, hands_both}
 use Rattle.xl_peers.proofs.handing.hand_held.Goals as goal

@@ -1,3 +1,4 @@
+-- what the feed holds decides: a frame is handed over, less than one stays, and what is none ends the session
 use Rattle.std.proofs.Common.{◌≡◌, sym, ◌∙◌, subst}
 use Rattle.xl_turns.specs.Passes.{known}
 use Rattle.xl_wire.specs.Feeding.{Fed}

@@ -1,3 +1,4 @@
+-- each answer of the link is one step of the session, and a read into a room with places gives some bytes, if any
 use Rattle.std.proofs.Common.{◌≢◌, [], take, refl, subst, append-nil, arith, inl}
 use Rattle.xl_wire.proofs.Numbers.{IsBytes-take}
 use Rattle.xl_links.specs.declared.link.LinkRead.TheVariants as read

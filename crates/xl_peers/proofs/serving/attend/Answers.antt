@@ -1,3 +1,4 @@
+-- a serving starts with nothing done, and a round that ends it follows on all the rounds before
 use Rattle.std.proofs.Common.{subst}
 use Rattle.xl_turns.specs.Passes.{known}
 use Rattle.xl_store.specs.Stores.{start_of, turns_of}

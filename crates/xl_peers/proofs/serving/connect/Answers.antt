@@ -1,3 +1,4 @@
+-- each opening is one step of the serving, and only one that is open goes on with a session, whose end decides
 use Rattle.std.proofs.Common.{◌∷◌, [], sym, subst}
 use Rattle.xl_turns.specs.Passes.{known}
 use Rattle.xl_links.specs.declared.link.Opening.TheVariants as opening

@@ -1,3 +1,4 @@
+-- the store's answer decides: to stop ends the serving, not to goes on to the opening, and a full store ends it
 use Rattle.std.proofs.Common.{sym, subst, false, arith}
 use Rattle.xl_turns.specs.Passes.{known}
 use Rattle.xl_core.specs.declared.event.CoreEvent.TheVariants.{Stopped}

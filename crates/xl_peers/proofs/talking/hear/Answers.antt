@@ -1,3 +1,4 @@
+-- the bytes read stand behind those held before they are handed over, and if none came nothing changes
 use Rattle.std.proofs.Common.{arith}
 use Rattle.xl_turns.specs.Passes.{known}
 use Rattle.xl_store.specs.Stores.{start_of, turns_of}

@@ -1,3 +1,4 @@
+-- without memory for the feed or the room nothing was done yet, and a session may end so before its greeting
 use Rattle.std.proofs.Common.{[]}
 use Rattle.xl_turns.specs.Passes.{known}
 use Rattle.xl_store.specs.Stores.{start_of, turns_of}

@@ -1,3 +1,4 @@
+-- a session goes on from the question to the drains and from these to the read, or ends in one of them
 use Rattle.std.proofs.Common.{arith}
 use Rattle.xl_peers.proofs.Handed.{turns_on}
 use Rattle.xl_peers.proofs.talking.turn.Goals as goal

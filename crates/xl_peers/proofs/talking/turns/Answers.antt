@@ -1,3 +1,4 @@
+-- a session begins with nothing done and nothing held, and each turn goes on from the greeting and the turns before
 use Rattle.std.proofs.Common.{[], refl, sym, ap, subst}
 use Rattle.xl_wire.specs.Feeding.{Fed}
 use Rattle.xl_turns.specs.Passes.{known}

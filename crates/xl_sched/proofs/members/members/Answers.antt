@@ -1,3 +1,4 @@
+-- the numbers so far, before those of the entries left, are the whole answer, and the first that is none ends it
 use Rattle.std.proofs.Common.{◌≡◌, ◌==◌, length, Ok, Err, sym, ap, ◌∙◌, append-nil, rules, tests, arith}
 use Rattle.std.proofs.lemmas.List.{length_push}
 use Rattle.std.proofs.lemmas.Iterator.Splits.{YieldsList-from_slice_split}

@@ -1,3 +1,4 @@
+-- a number is at least what its first digits write, so once these are beyond 64 bits the whole number is too
 use Rattle.std.proofs.Common.{◌<◌, ◌^◌, sym, ◌∙◌, arith}
 use Rattle.std.specs.Str.Parse.{digits_value_after}
 use Rattle.std.proofs.lemmas.List.{at_drop_all}

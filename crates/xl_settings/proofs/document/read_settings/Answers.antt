@@ -1,3 +1,4 @@
+-- bytes within the limit are a document exactly if they are UTF-8 and parse, and its table decides the rest
 use Rattle.std.proofs.Common.{rules, ◌≤◌, Some, None, length}
 use Rattle.toml.specs.View.{table_view}
 use Rattle.xl_settings.specs.Limits.{most_bytes}

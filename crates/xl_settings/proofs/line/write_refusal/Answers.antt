@@ -1,3 +1,4 @@
+-- each piece goes behind those written whole, so a front of the line is there, and less than all if a write fails
 use Rattle.std.proofs.Common.{[], ◌∷◌, ◌++◌, codes}
 use Rattle.std.proofs.lemmas.Result.{on_err_weaker}
 use Rattle.xl_settings.specs.Lines.{refused_text}

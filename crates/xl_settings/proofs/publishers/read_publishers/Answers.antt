@@ -1,3 +1,4 @@
+-- the publishers so far, before what the values left give, are all of them, and one value that is none makes all none
 use Rattle.std.proofs.Common.{rules, ◌≡◌, ◌∙◌, sym, map, [], ◌∷◌, ◌++◌}
 use Rattle.toml.specs.View.{view}
 use Rattle.xl_settings.specs.Publishers.{publisher_in}

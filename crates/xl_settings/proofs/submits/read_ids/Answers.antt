@@ -1,3 +1,4 @@
+-- the ids so far, before what the values left give, are those of all, and one value that is none makes all none
 use Rattle.std.proofs.Common.{rules, ◌≡◌, ◌∙◌, sym, ap, Some, map, [], ◌∷◌, ◌++◌}
 use Rattle.toml.specs.View.{view}
 use Rattle.xl_settings.specs.Submits.{id_in}

@@ -1,3 +1,4 @@
+-- the members so far are the named ones of the numbers passed, and the numbers below 65 are all
 use Rattle.std.proofs.Common.{rules, ◌≡◌, ◌∙◌, ◌++◌, ℕ, Bool, List, [], ◌∷◌, ap, sym, arith}
 use Rattle.xl_publish.specs.Forces.{is_named}
 use Rattle.xl_lists.proofs.Rising.{passed_on, passed_over, passed_all}

@@ -1,3 +1,4 @@
+-- a frame or a refusal that bytes begin with stays the same if more follow, and a frame has some bytes
 use Rattle.std.proofs.Common.{◌++◌, List, ℕ, ap, sym, ◌∙◌, arith}
 use Rattle.xl_show.specs.Texts.{frame_line, refusal_line}
 use Rattle.xl_show.proofs.Extending.{frame_stays, refusal_stays, frame_there_and_some, lack_some}

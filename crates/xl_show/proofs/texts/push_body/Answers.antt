@@ -1,3 +1,4 @@
+-- the word of each kind of body, and then its own text, are put behind what was there
 use Rattle.std.proofs.Common.{◌≡◌, ◌++◌, ℕ, List, Result, Ok, Err, ap, subst, ◌∙◌, codes, append_assoc}
 use Rattle.std.specs.Prelude.{OnOk}
 use Rattle.std.specs.String.{string_bytes}

@@ -1,3 +1,4 @@
+-- the first id and those passed, each of these behind a comma, are in the room, and every one of them is an id
 use Rattle.std.proofs.Common.{◌++◌, ◌∷◌, ◌∙◌, [], List, ap, sym, subst}
 use Rattle.std.specs.List.{All}
 use Rattle.std.proofs.lemmas.List.{take_all}

@@ -1,3 +1,4 @@
+-- the word, the number and the digits are each put behind what was there, however these are grouped
 use Rattle.std.proofs.Common.{◌≡◌, ◌++◌, ◌∷◌, codes, decimal, ap, sym, ◌∙◌, append_assoc}
 use Rattle.std.specs.List.{join_with_byte}
 use Rattle.std.proofs.lemmas.Result.{on_ok_weaker}

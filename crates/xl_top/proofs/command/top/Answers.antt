@@ -1,3 +1,4 @@
+-- the words ask one command, whose own promises are those of the program, and what reports say holds of any text
 use Rattle.std.proofs.Common.{◌≡◌, Option, Some, None, Err, List, ℕ, inl, inr, refl, sym, ap, subst, ◌∙◌, ◌⊎◌, ⊎_elim, IfSome}
 use Rattle.std.specs.Prelude.{option_and_then}
 use Rattle.xl_base.specs.Faults.{Rose}

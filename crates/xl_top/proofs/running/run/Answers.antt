@@ -1,3 +1,4 @@
+-- each command promises for its own text the same of whole, front and fault, and its answer decides the status
 use Rattle.std.specs.Prelude.{min}
 use Rattle.std.proofs.Common.{◌≡◌, ℕ, List, refl, sym, subst, ⊎_elim}
 use Rattle.xl_base.specs.Faults.{Rose}

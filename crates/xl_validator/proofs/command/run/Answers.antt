@@ -1,3 +1,4 @@
+-- a node that ran leaves its own keeper, journal and end, and one that didn't open wrote nothing and asked nothing
 use Rattle.std.proofs.Common.{◌∙◌}
 use Rattle.xl_workers.specs.Linking.{hub_seen}
 use Rattle.xl_validator.specs.Preparing.{task_in}

@@ -1,3 +1,4 @@
+-- the core opens at the number that the keeper gave, and its run's history is legal, so it can be written as it was
 use Rattle.std.proofs.Common.{ap}
 use Rattle.std.specs.Prelude.{is_some}
 use Rattle.xl_heartbeat.specs.Outputs.{Output, output}

@@ -1,3 +1,4 @@
+-- settings are judged at one moment: refused ones open nothing, and with others each status is that of the node's run
 use Rattle.std.proofs.Common.{rules, sym, ◌∙◌, refl, subst}
 use Rattle.xl_workers.specs.Linking.{hub_seen}
 use Rattle.xl_settings.specs.Lines.{refusal_line}

@@ -1,3 +1,4 @@
+-- the contacts so far and the peers left are all in order, and each turn takes the first peer out
 use Rattle.std.proofs.Common.{◌≡◌, ◌<◌, length, List, [], sym, subst, arith}
 use Rattle.std.proofs.lemmas.List.{nil_from_length}
 use Rattle.std.proofs.lemmas.Bool.{eqb-true}

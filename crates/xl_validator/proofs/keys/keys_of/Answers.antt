@@ -1,3 +1,4 @@
+-- the keys so far are those of the peers passed, and no peer has the member's own number
 use Rattle.std.proofs.Common.{◌∙◌}
 use Rattle.xl_validator.proofs.Sharing.{no_keys_yet, a_key_more, no_peer, ring_of_all, keys_of_all}
 use Rattle.xl_validator.proofs.keys.keys_of.Goals as goal

@@ -1,3 +1,4 @@
+-- in runnable settings each listed member is the node or a peer, and each peer gets a key, so none lacks one
 use Rattle.std.proofs.Common.{List, IfSome, ◌∙◌, ap, sym, subst}
 use Rattle.xl_core.specs.Core.{Core}
 use Rattle.xl_settings.specs.Peers.{PeerSetting, are_peers}

@@ -1,3 +1,4 @@
+-- the program is simple, so that the words match by its rules, and of an error only the kind counts for the answer
 use Rattle.std.proofs.Common.{◌≡◌, ◌∙◌, [], ap, sym, subst, Some}
 use Rattle.clap.specs.Words.{App, HasKind, fault_of, is_simple, is_simple_and_free, subcommand_of, subcommand_rows_of}
 use Rattle.xl_words.specs.Programs.{program}

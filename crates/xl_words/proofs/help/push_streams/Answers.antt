@@ -1,3 +1,4 @@
+-- the text is five pieces, each put behind what was there, however these are grouped
 use Rattle.std.proofs.Common.{ℕ, List, ◌++◌, ap, ◌∙◌, codes, append_assoc}
 use Rattle.std.specs.String.{string_bytes}
 use Rattle.xl_words.specs.Help.{streams_text}

@@ -1,3 +1,4 @@
+-- the first value decides: there is none, it is plainly written and read as a number, or it isn't and gives none
 use Rattle.std.proofs.Common.{◌≡◌, ◌∙◌, refl, sym, codes, Some, None}
 use Rattle.clap.specs.Words.{found_of, first_of, rows_of}
 use Rattle.clap.proofs.WalkLemmas.{first_value-rows}

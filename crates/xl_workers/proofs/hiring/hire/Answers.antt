@@ -1,3 +1,4 @@
+-- the pass is split once for each peer left, and its share is at least two to the power of how many are left
 use Rattle.std.proofs.Common.{◌≡◌, ◌<◌, length, List, [], sym, subst, arith}
 use Rattle.std.proofs.lemmas.List.{nil_from_length}
 use Rattle.std.proofs.lemmas.Bool.{eqb-true}

@@ -1,3 +1,4 @@
+-- the pass knows what the first and the workers so far knew, and what each had seen is a front of what it has seen
 use Rattle.std.proofs.Common.{◌≡◌, ◌<◌, length, List, [], sym, subst, arith}
 use Rattle.std.proofs.lemmas.List.{nil_from_length}
 use Rattle.std.proofs.lemmas.Bool.{eqb-true}

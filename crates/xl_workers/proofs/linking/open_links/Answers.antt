@@ -1,3 +1,4 @@
+-- the hub was asked for the contacts passed in order, and as none stands twice, what it gives the rest is unchanged
 use Rattle.std.proofs.Common.{◌≡◌, ◌<◌, length, List, [], map, refl, sym, subst, arith}
 use Rattle.std.proofs.lemmas.List.{nil_from_length}
 use Rattle.std.proofs.lemmas.Bool.{eqb-true}

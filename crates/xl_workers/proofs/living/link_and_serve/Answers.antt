@@ -1,3 +1,4 @@
+-- links that are opened have the members of their contacts in order, and without them nothing ran or was written
 use Rattle.std.proofs.Common.{ℕ, List, length, map, refl, sym, ap, ◌∙◌, subst, arith}
 use Rattle.std.proofs.lemmas.List.{length-map}
 use Rattle.std.specs.Prelude.{IsSome}

@@ -1,3 +1,4 @@
+-- the pass begins with nothing known, and either all ids are submitted before the links, or one has no turn
 use Rattle.std.proofs.Common.{map, refl, sym, subst}
 use Rattle.xl_turns.specs.Passes.{known}
 use Rattle.xl_store.specs.Stores.{start_of, turns_of}

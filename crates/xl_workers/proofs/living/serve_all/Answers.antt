@@ -1,3 +1,4 @@
+-- the workers' run and the last reports are the whole life, and if memory lacks the pass and output are as before
 use Rattle.std.proofs.Common.{ℕ, List, sym, ap, subst}
 use Rattle.xl_turns.specs.declared.pass.Pass.{Pass}
 use Rattle.xl_turns.specs.Passes.{known}

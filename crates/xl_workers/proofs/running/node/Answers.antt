@@ -1,3 +1,4 @@
+-- the closed store's journal begins with what the run's pass had seen, and that pass has all of its places
 use Rattle.std.proofs.Common.{ℕ, List, map, subst}
 use Rattle.xl_base.specs.declared.ids.TxId.{TxId}
 use Rattle.xl_turns.specs.Passes.{known}

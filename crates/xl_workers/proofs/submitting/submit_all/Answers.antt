@@ -1,3 +1,4 @@
+-- the ids so far were submitted in order, and one that has no turn leaves these as a front of them all
 use Rattle.std.proofs.Common.{List, ◌++◌, ◌∙◌, take, drop, sym, ap, subst, get_or, suc, [], drop-cons}
 use Rattle.std.proofs.lemmas.List.{take_more, take-append-drop}
 use Rattle.xl_base.specs.declared.ids.TxId.{TxId}

@@ -1,3 +1,4 @@
+-- each worker comes back with its own pass of the store, and the joined pass has seen all that each of them had
 use Rattle.std.proofs.Common.{◌≡◌, length, List, map, sym, ap, ◌∙◌, subst, arith}
 use Rattle.std.specs.List.{AllByRecursion}
 use Rattle.xl_turns.specs.Passes.{known}

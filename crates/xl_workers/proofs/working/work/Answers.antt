@@ -1,3 +1,4 @@
+-- half of the whole pass is enough for 64 workers, and the parts together know what the pass knew before
 use Rattle.std.proofs.Common.{length, List, map, subst, sym, arith}
 use Rattle.std.specs.List.{AllByRecursion}
 use Rattle.xl_turns.specs.Passes.{known}

@@ -1,3 +1,4 @@
+-- what the bytes say at the new time decides the answer, and no frame that opens comes from the node's own number
 use Rattle.std.proofs.Common.{◌≡◌, ◌≢◌, ℕ, List, ◌∙◌, subst, ap, refl, Ok, Err}
 use Rattle.std.specs.Result.{result_err}
 use Rattle.xl_tags.specs.Rings.{Ring}

@@ -1,3 +1,4 @@
+-- a built header follows the round's ledger and isn't known yet, so that only room can lack when it is added
 use Rattle.std.proofs.Common.{◌∙◌, sym}
 use Rattle.xl_core.specs.Node.{Node}
 use Rattle.xl_core.specs.Rest.{node_seen}

@@ -1,3 +1,4 @@
+-- a header on the chain has a spelling, so one that isn't put is past the chain's end or too long for the room
 use Rattle.std.proofs.Common.{◌≡◌, ◌∙◌, ◌-◌, length, ap, sym, subst, refl}
 use Rattle.xl_core.specs.Draining.{node_for}
 use Rattle.xl_core.specs.Sending.{keys_for}

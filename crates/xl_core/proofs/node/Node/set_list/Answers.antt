@@ -1,3 +1,4 @@
+-- each member of the new list has one row and a key, and what its rows give to report is noted as reported last
 use Rattle.std.proofs.Common.{◌≡◌, ◌∙◌, List, map, ap, sym, subst}
 use Rattle.xl_lists.specs.Lists.{TrustedList}
 use Rattle.xl_tags.specs.Opening.{HasKeys}

@@ -1,3 +1,4 @@
+-- a listed member has a row, what it takes is current, and whatever arises then arises by what was taken
 use Rattle.std.proofs.Common.{◌≡◌, ◌∙◌, ℕ, List, ap, sym, subst, None}
 use Rattle.std.specs.Prelude.{true, All}
 use Rattle.xl_lists.specs.Lists.{is_on}

@@ -1,3 +1,4 @@
+-- a node on its list takes its own as it takes any member's, and off its list it has no row that could change
 use Rattle.std.proofs.Common.{◌≡◌, ◌∙◌, ap, sym, subst}
 use Rattle.std.specs.Prelude.{false}
 use Rattle.xl_lists.specs.Lists.{is_on}

@@ -1,3 +1,4 @@
+-- before each turn the front of the room is the ids so far, and the room stays as long as it was
 use Rattle.std.proofs.Common.{ℕ, ◌∙◌, ◌<◌, ◌++◌, ◌∷◌, [], List, length, take, ap, sym, arith}
 use Rattle.std.proofs.lemmas.List.{length-set, take_more, take_more_set, take_all}
 use Rattle.std.proofs.lemmas.Option.{get_or_from_slice_get}

@@ -1,3 +1,4 @@
+-- frames without their tags are as many as with them, so the core is left as by the drain of the sealed ones
 use Rattle.std.proofs.Common.{length, sym, subst}
 use Rattle.xl_core.specs.Replies.{core_for}
 use Rattle.xl_core.specs.Stops.{IsCovered}

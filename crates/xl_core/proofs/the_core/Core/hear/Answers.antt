@@ -1,3 +1,4 @@
+-- the core's step is its node's, and no frame of the node's own number is heard, so what is covered stays covered
 use Rattle.std.proofs.Common.{◌≡◌, ◌≢◌, ◌∙◌, ap, sym, subst, Ok}
 use Rattle.xl_core.specs.declared.event.CoreEvent.TheVariants as event
 use Rattle.xl_core.specs.declared.hearing.Spoken.{Spoken}

@@ -1,3 +1,4 @@
+-- what is issued waits only once its number was saved, so the keeper's number covers it, and a refusal adds none
 use Rattle.std.proofs.Common.{◌≡◌, sym, subst, true}
 use Rattle.std.specs.Prelude.{option_map}
 use Rattle.xl_io.specs.Keepers.{after_save}

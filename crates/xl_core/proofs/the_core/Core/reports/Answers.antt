@@ -1,3 +1,4 @@
+-- the lesser of what is there and what fits takes as many as what fits, and no report bears on what is covered
 use Rattle.std.proofs.Common.{◌∙◌, ◌++◌, length, drop, List, ap, sym, subst, arith}
 use Rattle.std.proofs.lemmas.List.{length-take}
 use Rattle.xl_core.specs.declared.report.Report.{Report}

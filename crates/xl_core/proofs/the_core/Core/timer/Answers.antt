@@ -1,3 +1,4 @@
+-- a timer that builds nothing asks for no save, and one that builds asks for at most one, when it concludes
 use Rattle.std.proofs.Common.{sym, subst}
 use Rattle.xl_core.specs.declared.event.CoreEvent.TheVariants.{Timer}
 use Rattle.xl_core.specs.Core.{Core, core_asks}

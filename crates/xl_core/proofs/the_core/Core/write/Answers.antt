@@ -1,3 +1,4 @@
+-- if not all headers fit nothing that waits is taken, and else it goes behind them, into the room that is left
 use Rattle.std.proofs.Common.{◌+◌, ◌-◌, ◌∙◌, ◌++◌, length, take, drop, sym, subst}
 use Rattle.std.proofs.lemmas.List.{take_rest}
 use Rattle.xl_core.specs.Core.{Core}

@@ -1,3 +1,4 @@
+-- each header that is put leaves one fewer on the chain, and the first that isn't shows that no more fit
 use Rattle.std.proofs.Common.{◌∙◌, ap, arith}
 use Rattle.xl_core.specs.Draining.{node_for}
 use Rattle.xl_core.specs.Greetings.{further}

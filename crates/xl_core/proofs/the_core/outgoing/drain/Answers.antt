@@ -1,3 +1,4 @@
+-- each step takes the oldest item out, so what is left grows fewer, and what was written is what was taken
 use Rattle.std.proofs.Common.{◌≡◌, ◌∙◌, ◌++◌, ℕ, length, drop, take, ap, arith}
 use Rattle.xl_core.specs.Draining.{node_for}
 use Rattle.xl_core.specs.Items.{frame_of, frames_for}

@@ -1,3 +1,4 @@
+-- the oldest item decides: there is none, its frame is too long for the room, or it has no frame and is dropped
 use Rattle.std.proofs.Common.{◌≡◌, ℕ, ◌-◌, ◌∙◌, length, refl, ap, sym, subst, Some, None}
 use Rattle.xl_core.specs.Draining.{node_for, TakesOne}
 use Rattle.std.specs.Prelude.{slice_get, option_copied}

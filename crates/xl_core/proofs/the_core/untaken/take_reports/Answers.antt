@@ -1,3 +1,4 @@
+-- what was taken stands at the front of the room and the rest still waits, so each place has a report left for it
 use Rattle.std.proofs.Common.{◌∙◌, ap, arith, ◌<◌, length, get_or, replicate}
 use Rattle.std.proofs.lemmas.List.{get_or_default, length-drop}
 use Rattle.xl_core.specs.declared.report.Report.{Report}

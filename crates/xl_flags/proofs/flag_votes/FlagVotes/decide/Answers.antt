@@ -1,3 +1,4 @@
+-- what is kept stands for past votes and reports, and a report more on each side gives the same lines
 use Rattle.std.proofs.Common.{◌≡◌, List, Ok, Err, ◌∙◌, sym, subst}
 use Rattle.std.specs.Prelude.{Result, IfOk, OnOk, MatchResult}
 use Rattle.xl_base.specs.declared.memory.OutOfMemory.{OutOfMemory}

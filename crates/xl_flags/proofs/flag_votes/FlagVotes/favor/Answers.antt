@@ -1,3 +1,4 @@
+-- what is kept stands for past votes, a vote more on each side keeps it so, and rows are as many as named amendments
 use Rattle.std.proofs.Common.{◌≡◌, ◌<◌, ◌≤◌, Ok, Err, length, subst, sym}
 use Rattle.std.specs.Prelude.{Result, IfOk, IfErr, MatchResult}
 use Rattle.xl_flags.specs.declared.refusal.FlagRefusal.TheVariants.{TooMany}

@@ -1,3 +1,4 @@
+-- if each id has a row already, then naming them all adds none, and the rows are as many as before
 use Rattle.std.proofs.Common.{◌≡◌, ◌≤◌, ◌∙◌, true, List, ap, arith, length, subst, sym}
 use Rattle.std.specs.List.{list_all}
 use Rattle.xl_flags.specs.declared.amendment.Amendment.{Amendment}

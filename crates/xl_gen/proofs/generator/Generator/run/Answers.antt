@@ -1,3 +1,4 @@
+-- what has come is what the seconds before this one bring, and each turn adds what this one brings
 use Rattle.std.proofs.Common.{◌≡◌, ℕ, ◌+◌, ◌-◌, ◌*◌, arith, subst, sym}
 use Rattle.std.specs.List.{flat_map}
 use Rattle.xl_world.specs.Plans.{up_from}

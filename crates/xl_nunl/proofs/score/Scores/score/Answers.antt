@@ -1,3 +1,4 @@
+-- the ledger above the last one found is also above the flag ledger, and each turn counts one sequence further down
 use Rattle.std.proofs.Common.{◌≡◌, ℕ, ◌+◌, ◌-◌, ◌<◌, ◌≤◌, Bool, true, false, cond, List, Some, length, slice_get, refl, sym, ap, subst, ◌∙◌, arith}
 use Rattle.xl_ledger.specs.declared.header.Header.{Header}
 use Rattle.xl_ledger.specs.Chains.{seq_at, id_at, chain}

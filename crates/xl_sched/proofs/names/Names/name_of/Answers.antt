@@ -1,3 +1,4 @@
+-- the place found for an id is the first that bears it, so the name there is the one that a search gives
 use Rattle.std.proofs.Common.{ap, sym, ◌∙◌, Some}
 use Rattle.std.specs.Option.{option_copied}
 use Rattle.std.specs.Str.{bytes_eq}

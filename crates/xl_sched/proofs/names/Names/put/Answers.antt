@@ -1,3 +1,4 @@
+-- a new name has no place yet, the next place becomes its own, and if there is no memory the list is cut back
 use Rattle.std.proofs.Common.{◌≡◌, ap, ◌∙◌, length, refl, arith}
 use Rattle.std.proofs.Math.Seq.{take-append_seam}
 use Rattle.std.specs.Str.{bytes_eq}

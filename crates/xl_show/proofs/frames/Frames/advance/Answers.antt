@@ -1,3 +1,4 @@
+-- what a look sees stays the same if more bytes follow, so the text that it writes is the front of what all tell
 use Rattle.std.proofs.Common.{◌≤◌, ◌+◌, List, ℕ, length, sym, subst, refl, arith}
 use Rattle.std.specs.String.{string_bytes}
 use Rattle.xl_show.specs.Reading.{IsSeen}

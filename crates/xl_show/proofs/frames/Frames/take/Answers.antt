@@ -1,3 +1,4 @@
+-- bytes put behind those that have come tell the same as before, and a byte beyond the most is refused as the limit
 use Rattle.std.proofs.Common.{◌≡◌, ◌+◌, List, ℕ, ◌++◌, length, take, drop, sym, ap, ◌∙◌, arith, append_assoc, length-append}
 use Rattle.std.proofs.lemmas.List.{take-append-drop, length-take}
 use Rattle.xl_lines.specs.Rules.{refused}

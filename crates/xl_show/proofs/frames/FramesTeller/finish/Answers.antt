@@ -1,3 +1,4 @@
+-- each frame told leaves the rest to tell, and once bytes lack and no more come, only the end is left
 use Rattle.std.proofs.Common.{◌≡◌, ◌++◌, [], false, ap, arith, ◌∙◌}
 use Rattle.std.proofs.lemmas.Result.{IfOk-weaker}
 use Rattle.xl_lines.proofs.Runs.{write_from}

@@ -1,3 +1,4 @@
+-- the journal leads from the first core and keeper to the last, so it leads from core to core and keeper to keeper
 use Rattle.std.proofs.Common.{sym, subst}
 use Rattle.xl_turns.specs.Histories.{Runs}
 use Rattle.xl_turns.specs.Passes.{opening}

@@ -1,3 +1,4 @@
+-- the copy on the page is of the bytes that the core hears, so the entry tells the step that the core makes
 use Rattle.std.proofs.Common.{ℕ, List, refl, sym, ap, None}
 use Rattle.xl_core.specs.declared.event.CoreEvent.{CoreEvent}
 use Rattle.xl_core.specs.declared.event.CoreEvent.TheVariants.{Frame}

@@ -1,3 +1,4 @@
+-- a peer of the first core is one of each later core, so the core may greet it, and the entry tells that step
 use Rattle.std.proofs.Common.{refl, None}
 use Rattle.xl_core.specs.declared.event.CoreEvent.{CoreEvent}
 use Rattle.xl_core.specs.declared.event.CoreEvent.TheVariants.{Greet}

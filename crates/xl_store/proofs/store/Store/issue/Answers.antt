@@ -1,3 +1,4 @@
+-- the outcome put on the page is that of the answer, so the entry tells of the save and leads to the core after it
 use Rattle.std.proofs.Common.{◌≡◌, subst}
 use Rattle.xl_core.specs.declared.event.CoreEvent.{CoreEvent}
 use Rattle.xl_core.specs.declared.event.CoreEvent.TheVariants.{Issue}

@@ -1,3 +1,4 @@
+-- every list is valid and its copy is the same list, so the entry tells the step that the core makes with it
 use Rattle.std.proofs.Common.{refl, sym, ap, None}
 use Rattle.xl_lists.specs.Lists.{TrustedList}
 use Rattle.xl_core.specs.declared.event.CoreEvent.{CoreEvent}

@@ -1,3 +1,4 @@
+-- the event asks no save, so the core's step leads on by its entry, and what is handed out is that step's answer
 use Rattle.std.proofs.Common.{length, refl, None}
 use Rattle.xl_core.specs.declared.event.CoreEvent.{CoreEvent}
 use Rattle.xl_core.specs.declared.event.CoreEvent.TheVariants.{Reports}

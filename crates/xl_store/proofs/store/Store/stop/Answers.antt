@@ -1,3 +1,4 @@
+-- the event asks no save and is allowed to any core, so the core's step leads on by the entry on the page
 use Rattle.std.proofs.Common.{refl, None}
 use Rattle.xl_core.specs.declared.event.CoreEvent.{CoreEvent}
 use Rattle.xl_core.specs.declared.event.CoreEvent.TheVariants.{Stop}

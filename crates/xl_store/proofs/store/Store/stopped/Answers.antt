@@ -1,3 +1,4 @@
+-- the question leaves the core as it is, and the core's answer is the one that the entry on the page gives
 use Rattle.std.proofs.Common.{refl, sym, None}
 use Rattle.xl_core.specs.declared.event.CoreEvent.{CoreEvent}
 use Rattle.xl_core.specs.declared.event.CoreEvent.TheVariants.{Stopped}

@@ -1,3 +1,4 @@
+-- the event asks no save and its moment is allowed, so the core's step leads on by the entry on the page
 use Rattle.std.proofs.Common.{refl, sym, None}
 use Rattle.xl_core.specs.declared.event.CoreEvent.{CoreEvent}
 use Rattle.xl_core.specs.declared.event.CoreEvent.TheVariants.{Submit}

@@ -1,3 +1,4 @@
+-- the parts so far, and then the deliveries left and the drop, are all that the line stands for
 use Rattle.std.proofs.Common.{◌+◌, ◌∷◌, []}
 use Rattle.std.specs.String.{string_bytes}
 use Rattle.xl_running.specs.Running.{world_of}

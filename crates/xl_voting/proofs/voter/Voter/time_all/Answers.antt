@@ -1,3 +1,4 @@
+-- the parts so far, and then a timer for each number left, are all that the line stands for
 use Rattle.std.proofs.Common.{ℕ, List, ◌+◌, ◌∷◌, [], drop, map, sym, ap, ◌∙◌}
 use Rattle.std.specs.String.{string_bytes}
 use Rattle.xl_running.specs.Running.{world_of}

@@ -1,3 +1,4 @@
+-- a line that is no vote changes nothing when it is read as one, so that it is stepped as any other line
 use Rattle.std.specs.String.{string_bytes}
 use Rattle.xl_lines.specs.declared.machine.Next.{Next}
 use Rattle.xl_lines.specs.Rules.{step_given}
