@@ -1,14 +1,16 @@
 // Where a line ends.
-ghost use Rattle.std.specs.Prelude.{◌≡◌, ◌==◌, position};
+ghost use Rattle.std.specs.Prelude.{◌≡◌};
+ghost use Rattle.memchr.specs.Find.{IsFirstByte, is_byte};
 ghost use Rattle.xl_lines.specs.Lines.{without_return, before_newline};
 
 use crate::Returns;
+use memchr::memchr;
 
 /// Where the first newline stands.
 pub fn newline_in(bytes: &[u8]) -> Option<usize>
-    ensures { result ≡ position (λ byte. byte == 10) bytes.now }
+    ensures { IsFirstByte (is_byte 10) bytes.now result }
 {
-    bytes.iter().position(|byte| *byte == b'\n')
+    memchr(b'\n', bytes)
 }
 
 /// The line without a return at its end.
