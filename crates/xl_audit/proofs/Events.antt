@@ -1,6 +1,5 @@
 -- The line of an entry is read back as the entry.
-use Rattle.std.proofs.Common.{◌≡◌, ◌+◌, ◌≤◌, ℕ, suc, Bool, true, false, List, [], ◌∷◌, ◌++◌, length, drop, nat_lt, Result, Ok, Option, Some, None, refl, ap, sym, subst, ◌∙◌, arith, append_assoc, decimal, codes}
-use Rattle.std.specs.Prelude.{if◌then◌else◌}
+use Rattle.std.proofs.Common.{◌≡◌, ◌≤◌, ℕ, Bool, true, false, List, [], ◌∷◌, ◌++◌, length, drop, nat_lt, Result, Ok, Option, Some, None, refl, ap, sym, subst, ◌∙◌, arith, append_assoc, decimal, codes}
 use Rattle.std.specs.Str.{bytes_eq}
 use Rattle.std.proofs.lemmas.Bool.{cond-false, cond_both, le-ltb}
 use Rattle.std.proofs.lemmas.List.{length-drop}

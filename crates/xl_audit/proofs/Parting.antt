@@ -1,9 +1,10 @@
 -- How the tokens of a line part.
-use Rattle.std.proofs.Common.{◌≡◌, ◌+◌, ◌-◌, ◌<◌, ◌≤◌, ℕ, Bool, true, false, cond, not, List, [], ◌∷◌, length, take, drop, nat_lt, Some, None, refl, ap, sym, ◌∙◌, arith, zero, suc}
+use Rattle.std.proofs.Common.{◌≡◌, ◌+◌, ◌-◌, ◌<◌, ◌≤◌, ℕ, Bool, true, false, cond, not, List, [], ◌∷◌, length, take, drop, nat_lt, nat_le, Some, None, refl, ap, sym, ◌∙◌, arith, zero, suc}
 use Rattle.std.specs.List.{slice_split, onto_first, position_or_len, position, join_with_byte}
 use Rattle.std.proofs.lemmas.List.{take_all, drop_all, length-drop}
 use Rattle.std.proofs.lemmas.List.Sums.{count_by-le-length}
 use Rattle.std.proofs.lemmas.List.Splits.{length-slice_split, join_with_byte-slice_split}
+use Rattle.std.proofs.lemmas.Bool.{leb-true, leb-false, lt-ltb, le-ltb}
 use Rattle.std.proofs.lemmas.Bool.Decides.{nat_tests}
 use Rattle.xl_audit.specs.Words.{is_space, tokens, tokens_if, first, others}
 
@@ -111,3 +112,29 @@ shown_none more bs ws is left = ap (λ (b : Bool). tokens_if b bs) (sym left) �
 -- the rest of a slice, as a slice has it
 pub rest_of : (bs : List ℕ) (n : ℕ) → take (length bs - n) (drop n bs) ≡ drop n bs
 rest_of bs n = take_all (length bs - n) (drop n bs) (omega (arith, length-drop n bs))
+
+-- HOW MANY THERE ARE
+
+-- whether one is left
+pub any_left : (more : Bool) (bs : List ℕ) (ws : List (List ℕ)) → tokens_if more bs ≡ ws → more ≡ nat_lt 0 (length ws)
+any_left true bs ws is =
+    sym (lt-ltb 0 (length (tokens bs)) (length-tokens-some bs)) ∙ ap (λ (xs : List (List ℕ)). nat_lt 0 (length xs)) is
+any_left false bs ws is = ap (λ (xs : List (List ℕ)). nat_lt 0 (length xs)) is
+
+-- one is left behind fewer than so many exactly if they are so many
+pub has_so_many : (count : ℕ) (xs : List (List ℕ)) → 0 < count
+    → nat_lt 0 (length (drop (count - 1) xs)) ≡ nat_le count (length xs)
+has_so_many count xs some =
+    let left = length-drop (count - 1) xs in
+    elim (nat_le count (length xs)) as (λ v. nat_le count (length xs) ≡ v → nat_lt 0 (length (drop (count - 1) xs)) ≡ v) [
+      | true ↦ λ is. let le = leb-true count (length xs) is in lt-ltb 0 (length (drop (count - 1) xs)) (omega (arith, left, le, some))
+      | false ↦ λ is. let lt = leb-false count (length xs) is in le-ltb 0 (length (drop (count - 1) xs)) (omega (arith, left, lt, some))
+    ] refl
+
+-- they aren't so many exactly if they are fewer
+pub not_so_many : (least n : ℕ) → not (nat_le least n) ≡ nat_lt n least
+not_so_many least n =
+    elim (nat_le least n) as (λ v. nat_le least n ≡ v → not v ≡ nat_lt n least) [
+      | true ↦ λ is. let le = leb-true least n is in let no = le-ltb n least le in cc
+      | false ↦ λ is. let lt = leb-false least n is in let yes = lt-ltb n least lt in cc
+    ] refl

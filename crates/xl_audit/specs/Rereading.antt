@@ -20,11 +20,13 @@ pub record KeepsLimits (text : List ℕ) : Type 0 where
   pub lines : length (lines_of text) ≤ most_lines
   pub bytes : All (λ line. length line.bytes ≤ most_bytes) (lines_of text)
 
+-- `audit` says yes to a text, and that it has so many entries
+abbrev pub SaysYes : List ℕ → ℕ → Type 0
+SaysYes text entries = KeepsLimits text → audit_of text ≡ closes (yes_line entries) Good
+
 -- the text of a history gets a yes that counts its entries
 abbrev pub GetsYes : Settings → ℕ → ℕ → List Entry → Type 0
-GetsYes settings now kept es =
-    KeepsLimits (journal_text settings now kept es) →
-    audit_of (journal_text settings now kept es) ≡ closes (yes_line (length es)) Good
+GetsYes settings now kept es = SaysYes (journal_text settings now kept es) (length es)
 
 -- a core may be opened so, and its settings can be written
 pub record MayBeWritten (settings : Settings) (opened loaded : ℕ) : Type 0 where

@@ -1,5 +1,5 @@
 -- What the types of a journal keep. Source: what the code of this crate relies on.
-use Rattle.std.specs.Prelude.{◌≡◌, ◌<◌, ◌≤◌, ◌^◌, ℕ, List, length, IfSome, Some, None}
+use Rattle.std.specs.Prelude.{◌<◌, ◌≤◌, ◌^◌, ℕ, IfSome, Some, None}
 use Rattle.std.specs.declared.option.Option.{Option}
 use Rattle.hex.specs.Hex.{IsBytes}
 use Rattle.xl_base.specs.Ids.{IsId}

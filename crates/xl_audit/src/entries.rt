@@ -1,6 +1,7 @@
 // An entry by the tokens of its line.
-ghost use Rattle.std.specs.Prelude.{◌≡◌, ◌+◌, ◌≤◌, IfOk};
+ghost use Rattle.std.specs.Prelude.{◌≡◌, ◌+◌, ◌<◌, ◌≤◌, IfOk, decimal, length, nat_lt};
 ghost use Rattle.xl_sched.specs.Refusals.{GivenMemory};
+ghost use Rattle.xl_sched.specs.declared.refusal.SchedRefusal.TheVariants.{Count};
 ghost use Rattle.xl_store.specs.declared.entry.Saved.{Saved};
 ghost use Rattle.xl_audit.specs.Reading.{counted_entry, counted_relist, drain_event, entry_in, event_of, frame_event, greet_event, issue_event, least_behind, outcome_len, relist_behind, reply_in, reports_event, submit_event, timer_event, told_behind, IsFit};
 
@@ -152,13 +153,27 @@ fn told_entry<'a>(
 /// How many tokens stand at least behind the event: the outcome, `=`, and a reply.
 fn least_behind(behind: &Words<'_>) -> usize
     ensures value { result ≡ least_behind behind.now }
-    ensures most { result ≤ 4 }
+    ensures some { 0 < result }
 {
     if behind.first() == b"failed".as_slice() {
         4
     } else {
         3
     }
+}
+
+/// Whether too few stand behind the event. Only the first of them are looked for, since a reply may be long.
+fn are_too_few(behind: &Words<'_>) -> bool
+    ensures { result ≡ nat_lt (length behind.now) (least_behind behind.now) }
+{
+    !behind.has(least_behind(behind))
+}
+
+/// How many tokens a line has is refused.
+fn miscounted<'a>(args: &Words<'a>) -> LineFault<'a>
+    ensures { result ≡ Count (decimal (length args.now + 1)) }
+{
+    LineFault::with_number(Cause::Count, args.count() as u64 + 1)
 }
 
 /// The entry of a word, and of the tokens after it, if they are enough.
@@ -170,10 +185,9 @@ fn counted_entry<'a>(
 ) -> Result<Written, LineFault<'a>>
     ensures { GivenMemory result (counted_entry keys.now word args.now) }
 {
-    let count = args.count();
     let behind = args.after(word.arity());
-    if count < word.arity() + least_behind(&behind) {
-        return Err(LineFault::with_number(Cause::Count, count as u64 + 1));
+    if are_too_few(&behind) {
+        return Err(miscounted(args));
     }
     told_entry(alloc, keys, word, args, &behind)
 }
@@ -205,10 +219,9 @@ fn relist_entry<'a>(
 fn counted_relist<'a>(alloc: Global, args: &Words<'a>) -> Result<Written, LineFault<'a>>
     ensures { GivenMemory result (counted_relist args.now) }
 {
-    let count = args.count();
     let behind = args.after(3);
-    if count < 3 + least_behind(&behind) {
-        return Err(LineFault::with_number(Cause::Count, count as u64 + 1));
+    if are_too_few(&behind) {
+        return Err(miscounted(args));
     }
     relist_entry(alloc, args, &behind)
 }

@@ -1,5 +1,5 @@
 // The words of entries.
-ghost use Rattle.std.specs.Prelude.{◌≡◌, ◌≤◌};
+ghost use Rattle.std.specs.Prelude.{◌≡◌};
 ghost use Rattle.xl_audit.specs.Reading.{arity, entry_word};
 
 /// The word of an event, except a list that changes.
@@ -45,8 +45,7 @@ impl EntryWord {
 
     /// How many tokens tell the event, behind its word.
     pub fn arity(self) -> usize
-        ensures value { result ≡ arity self }
-        ensures most { result ≤ 4 }
+        ensures { result ≡ arity self }
     {
         match self {
             EntryWord::Frame | EntryWord::Submit | EntryWord::Drain => 2,

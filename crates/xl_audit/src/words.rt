@@ -1,5 +1,5 @@
 // A line as tokens.
-ghost use Rattle.std.specs.Prelude.{◌≡◌, ◌+◌, ◌≤◌, [], count_by, drop, length, position};
+ghost use Rattle.std.specs.Prelude.{◌≡◌, ◌+◌, ◌<◌, ◌≤◌, [], count_by, drop, length, nat_le, nat_lt, position};
 ghost use Rattle.std.specs.List.{join_with_byte};
 ghost use Rattle.xl_audit.specs.Words.{first, is_space, others, tokens, word_at};
 ghost use Rattle.xl_audit.specs.Limits.{most_bytes};
@@ -87,6 +87,21 @@ impl<'a> Words<'a> {
         ensures { result.now ≡ word_at self.now count }
     {
         self.after(count).first()
+    }
+
+    /// Whether one is left.
+    fn is_any(&self) -> bool
+        ensures { result ≡ nat_lt 0 (length self.now) }
+    {
+        self.more
+    }
+
+    /// Whether they are at least so many, which isn't 0.
+    pub fn has(&self, count: usize) -> bool
+        requires { 0 < count }
+        ensures { result ≡ nat_le count (length self.now) }
+    {
+        self.after(count - 1).is_any()
     }
 
     /// How many they are.

@@ -1,3 +1,4 @@
 pub mod Writing
 pub mod Pulses
 pub mod SameLists
+pub mod Firsts

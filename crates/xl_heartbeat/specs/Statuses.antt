@@ -1,4 +1,5 @@
--- The exit status of a run whose workers have run. Source: this project's own.
+-- The exit status of a run whose workers have run: the first cause that its parts met. Source: this project's own.
+use Rattle.std.specs.Prelude.{List, [], ◌∷◌, ◌++◌}
 use Rattle.xl_base.specs.declared.status.Status.{Status}
 use Rattle.xl_base.specs.declared.status.Status.TheVariants as status
 use Rattle.xl_heartbeat.specs.declared.ends.Ending.{Ending}
@@ -7,28 +8,31 @@ use Rattle.xl_heartbeat.specs.declared.ends.Stopping.{Stopping}
 use Rattle.xl_heartbeat.specs.declared.ends.Stopping.TheVariants as stopping
 use Rattle.xl_heartbeat.specs.declared.ends.BeatEnd.{BeatEnd}
 
--- of a part alone
-abbrev pub status_of : Ending → Status
-status_of ending.Done = status.Done
-status_of ending.WriteFault = status.WriteFault
-status_of ending.OutOfMemory = status.OutOfMemory
-status_of (ending.StoreFull n) = status.StoreFull
+-- what the beats met, or the last reports
+abbrev pub met_by : Ending → List Status
+met_by ending.Done = []
+met_by ending.WriteFault = status.WriteFault ∷ []
+met_by ending.OutOfMemory = status.OutOfMemory ∷ []
+met_by (ending.StoreFull n) = status.StoreFull ∷ []
 
-abbrev pub stop_status : Stopping → Status
-stop_status stopping.Done = status.Done
-stop_status (stopping.StoreFull n) = status.StoreFull
+-- what the stop met
+abbrev pub met_at_stop : Stopping → List Status
+met_at_stop stopping.Done = []
+met_at_stop (stopping.StoreFull n) = status.StoreFull ∷ []
 
--- what a later part tells counts only if all was well before
-abbrev pub first_of : Status → Status → Status
-first_of status.Done later = later
-first_of earlier later = earlier
+-- a write's fault in the last reports comes before all
+abbrev pub met_first : Ending → List Status
+met_first ending.WriteFault = status.WriteFault ∷ []
+met_first other = []
 
--- but a write's fault in the last reports counts whatever came before
-abbrev pub with_last : Status → Ending → Status
-with_last before ending.Done = before
-with_last before ending.WriteFault = status.WriteFault
-with_last before ending.OutOfMemory = first_of before status.OutOfMemory
-with_last before (ending.StoreFull n) = first_of before status.StoreFull
+-- and then come the beats, the stop and the last reports
+abbrev pub causes_of : Ending → Stopping → Ending → List Status
+causes_of run stop last = met_first last ++ met_by run ++ met_at_stop stop ++ met_by last
+
+-- the first cause, or none
+abbrev pub first_of : List Status → Status
+first_of [] = status.Done
+first_of (cause ∷ causes) = cause
 
 abbrev pub status_of_run : BeatEnd → Ending → Status
-status_of_run beats last = with_last (first_of (status_of beats.run) (stop_status beats.stop)) last
+status_of_run beats last = first_of (causes_of beats.run beats.stop last)

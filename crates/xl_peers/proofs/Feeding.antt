@@ -1,5 +1,5 @@
 -- What a feed hands out next.
-use Rattle.std.proofs.Common.{◌≡◌, ◌++◌, ℕ, zero, suc, List, [], ◌∷◌, take, drop, refl, sym, ap, ◌∙◌, arith}
+use Rattle.std.proofs.Common.{◌≡◌, ◌++◌, ℕ, zero, suc, List, [], ◌∷◌, take, drop, append_assoc, refl, sym, ap, ◌∙◌, arith}
 use Rattle.std.proofs.lemmas.List.{take-append-drop}
 use Rattle.xl_wire.specs.Raws.{RawFrame, raw_bytes, IsRaw}
 use Rattle.xl_wire.specs.Kinds.{span}
@@ -7,7 +7,7 @@ use Rattle.xl_wire.specs.Heads.{Split, split_of}
 use Rattle.xl_wire.specs.Feeding.{Fed, Offer, offer_from, offer_of, after_split, after_next}
 use Rattle.xl_wire.specs.declared.refusal.WireRefusal.{WireRefusal}
 use Rattle.xl_wire.proofs.RawLaws.{split_spelled}
-use Rattle.xl_peers.specs.Sessions.{NeedsMore}
+use Rattle.xl_peers.specs.Sessions.{HasFrame, NeedsMore}
 use Rattle.xl_peers.specs.Going.{AreBytes}
 
 -- the next frame: it stands in front of what is held then
@@ -77,6 +77,17 @@ pub both_bytes : (xs ys : List ℕ) → AreBytes xs → AreBytes ys → AreBytes
 both_bytes [] ys h k i = k i
 both_bytes (x ∷ xs) ys h k zero = h 0
 both_bytes (x ∷ xs) ys h k (suc i) = both_bytes xs ys (λ j. h (suc j)) k i
+
+-- a frame that a feed hands out stands next, whatever stands behind it
+pub has_frame : (fed : Fed) (bytes later : List ℕ) → Offer.Frame bytes ≡ offer_of fed → AreBytes (fed.held ++ later)
+    → HasFrame (fed.held ++ later)
+has_frame fed bytes later offer fit =
+    let f = next_frame fed bytes offer (front_bytes fed.held later fit) in (
+      f.frame,
+      (after_next fed).held ++ later,
+      f.raw,
+      ap (λ (l : List ℕ). l ++ later) f.front ∙ append_assoc (raw_bytes f.frame) (after_next fed).held later,
+    )
 
 open_there : (fed : Fed) (bytes : List ℕ) (s : Split) → Offer.Frame bytes ≡ offer_from s fed.held
     → (after_split s fed).refused ≡ fed.refused

@@ -24,7 +24,7 @@ use Rattle.xl_peers.specs.declared.ends.End.{End}
 use Rattle.xl_peers.specs.declared.ends.End.TheVariants as end
 use Rattle.xl_peers.specs.Steps.{Step, drain, call_in, read_in, readings_in, drained_in, calls, bytes_read, bytes_drained}
 use Rattle.xl_peers.specs.Steps.{read_answers}
-use Rattle.xl_peers.specs.Sessions.{Phase, IsSession, EndsBy, IsCutOff, IsCause, Session}
+use Rattle.xl_peers.specs.Sessions.{Phase, IsSession, HandsFirst, IsDue, EndsBy, IsCutOff, IsCause, Session}
 use Rattle.xl_peers.specs.Going.{SoFar, SentFront, end_of}
 use Rattle.xl_peers.proofs.Stepping.{more, so_none}
 use Rattle.xl_peers.proofs.Growing.{append_known-none, append_known-twice, prepend_known-none, tells_nothing, tells_same}
@@ -125,19 +125,20 @@ module _ {B K : Type 0} (store : Store B K) (may_give : ℕ → Bool) (member : 
   refused_cause old new refused.OutOfMemory before after why = tt
   refused_cause old new (refused.StoreFull n) before after why = (why.0, ap (λ (k : Knowledge Entry). k.drawn) why.2)
 
-  refused_ends : (steps : List Step) (p : Phase) (written : List ℕ) (e : StoreEnd)
+  refused_ends : (steps : List Step) (p : Phase) (written : List ℕ) (e : StoreEnd) → IsDue steps p
       → EndsBy member steps p written (end_of e)
-  refused_ends steps p written refused.OutOfMemory = tt
-  refused_ends steps p written (refused.StoreFull n) = tt
+  refused_ends steps p written refused.OutOfMemory due = due
+  refused_ends steps p written (refused.StoreFull n) due = due
 
-  -- the store gave no turn
+  -- the store gave no turn to the call that was due
   pub ends_refused : (p : Phase) (old new : Pass Entry) (w : Wire) (held : List ℕ) (e : StoreEnd)
       → SoFar (start_of store) may_give member k0 w0 p (known old) w held
+      → ((steps : List Step) → HandsFirst steps held → IsDue steps p)
       → Refused store old e new
       → Session (start_of store) (turns_of store) may_give member k0 w0 (end_of e) (known new) w
-  ends_refused p old new w held e s r =
+  ends_refused p old new w held e s due r =
       let t = so_none (start_of store) may_give member k0 w0 p (known old) (known new) w held s r.made
       (refused_later (known old) (known new) e r.why) in
       ends (start_of store) (turns_of store) may_give member k0 w0 p (known new) w held (end_of e) t
-      (refused_ends t.steps p (bytes_drained t.steps) e)
+      (refused_ends t.steps p (bytes_drained t.steps) e (due t.steps t.first))
       (refused_cause (known old) (known new) e w0.faults w.faults r.why)

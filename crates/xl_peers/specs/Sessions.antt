@@ -86,16 +86,29 @@ pub record IsCutOff (member : ℕ) (steps : List Step) (written : List ℕ) : Ty
   pub part : IsPrefix front (joined frames)
   pub is : written ≡ bytes_drained earlier ++ front
 
--- what each end says of the steps: the link or the store said so last; what stands next begins no frame; or a read or a
--- write failed. Lack of memory and a full store may come at any call
+-- a whole frame stands next
+abbrev pub HasFrame : List ℕ → Type 0
+HasFrame bytes = (frame : RawFrame) × (more : List ℕ) × IsRaw frame × (bytes ≡ raw_bytes frame ++ more)
+
+-- a call of the store is due: the greeting, the question whether to stop, a drain, or the handing over of a frame
+abbrev pub IsDue : List Step → Phase → Type 0
+IsDue steps Greets = Unit {0}
+IsDue steps Asks = Unit {0}
+IsDue steps Drains = Unit {0}
+IsDue steps Reads = ⊥
+IsDue steps Hands = (rest : List ℕ) × HandsFirst steps rest × HasFrame rest
+IsDue steps Ended = ⊥
+
+-- what each end says of the steps: the link or the store said so last; what stands next begins no frame; a read or a
+-- write failed; or a call of the store is due, for which memory ran out, or no turn is left
 abbrev pub EndsBy : ℕ → List Step → Phase → List ℕ → End → Type 0
 EndsBy member steps phase written end.End = IsLast steps (Read Reading.End)
 EndsBy member steps phase written end.Stopped = IsLast steps (stopped true)
 EndsBy member steps phase written (end.Framing refusal) =
     (phase ≡ Hands) × (rest : List ℕ) × HandsFirst steps rest × (split_of rest ≡ Split.Refused refusal)
 EndsBy member steps phase written end.LinkFault = IsLast steps (Read Reading.Failed) ⊎ IsCutOff member steps written
-EndsBy member steps phase written end.OutOfMemory = Unit {0}
-EndsBy member steps phase written (end.StoreFull n) = Unit {0}
+EndsBy member steps phase written end.OutOfMemory = IsDue steps phase
+EndsBy member steps phase written (end.StoreFull n) = IsDue steps phase
 
 -- A whole session by its steps, with the bytes that were written and its end. All that the drains gave was written,
 -- unless a write failed

@@ -9,7 +9,7 @@ use Rattle.xl_publish.specs.Forces.{list_at}
 use Rattle.xl_settings.specs.declared.fault.SettingsFault.{SettingsFault}
 use Rattle.xl_settings.specs.declared.key_name.KeyName.{KeyName}
 use Rattle.xl_settings.specs.declared.key_name.KeyName.TheVariants as key
-use Rattle.xl_settings.specs.Limits.{most_bytes, usual_limit, usual_turns, greatest_turns, usual_heartbeat_ms, least_heartbeat_ms, greatest_heartbeat_ms, greatest_run_ms}
+use Rattle.xl_settings.specs.Limits.{most_bytes, usual_limit, usual_turns, greatest_turns, usual_heartbeat_ms, least_heartbeat_ms, greatest_heartbeat_ms, greatest_run_ms, usual_speak, greatest_speak}
 use Rattle.xl_settings.specs.declared.refusal.SettingsRefusal.{SettingsRefusal}
 use Rattle.xl_settings.specs.declared.refusal.SettingsRefusal.TheVariants.{Length}
 use Rattle.xl_settings.specs.declared.settings.Settings.{Settings}
@@ -127,6 +127,8 @@ table_runs table now s e =
       run = (usual_bounded 0 0 greatest_run_ms run_ms (at key.RunMs table) (omega arith) (omega arith) run_is).1;
       peers = met.now_met;
       ever = met.ever;
+      speak = usual_bounded usual_speak usual_speak greatest_speak speak (at key.Speak table) (omega arith)
+          (omega arith) speak_is;
       threshold = met.threshold;
     }))
     e15) e14) e13) e12) e11) e10) e9) e8) e7) e6) e5) e4) e3) e2) e1) e

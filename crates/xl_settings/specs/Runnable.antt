@@ -3,7 +3,7 @@ use Rattle.std.specs.Prelude.{◌≡◌, ◌≤◌, ℕ, true, List, IfSome}
 use Rattle.xl_ledger.specs.Limits.{greatest_limit, least_limit}
 use Rattle.xl_publish.specs.declared.publishing.Publishing.{Publishing}
 use Rattle.xl_publish.specs.Forces.{list_at}
-use Rattle.xl_settings.specs.Limits.{greatest_turns, least_heartbeat_ms, greatest_heartbeat_ms, greatest_run_ms}
+use Rattle.xl_settings.specs.Limits.{greatest_turns, least_heartbeat_ms, greatest_heartbeat_ms, greatest_run_ms, usual_speak, greatest_speak}
 use Rattle.xl_settings.specs.declared.settings.Settings.{Settings}
 use Rattle.xl_settings.specs.Peers.{PeerSetting, are_peers}
 
@@ -20,4 +20,6 @@ pub record AreRunnable (s : Settings) : Type 0 where
   pub run : s.run_ms ≤ greatest_run_ms
   pub peers : are_peers s.me s.list.members s.peers ≡ true
   pub ever : IfSome s.publishing (AreEverPeers s.me s.peers)
+  -- the version of its validations is 1 or 2
+  pub speak : (usual_speak ≤ s.speak) × (s.speak ≤ greatest_speak)
   pub threshold : IfSome s.publishing (λ p. (1 ≤ p.threshold) × (p.threshold ≤ 16))

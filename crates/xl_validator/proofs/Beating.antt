@@ -1,18 +1,15 @@
 -- Which calls of a history are timers: those of its heartbeat.
-use Rattle.std.proofs.Common.{◌≡◌, ◌≢◌, ◌<◌, ◌≤◌, ◌+◌, ◌⊎◌, ◌++◌, ◌∷◌, Bool, true, false, ℕ, zero, suc, List, [], length, map, Option, Some, None, inl, inr, refl, sym, ap, ◌∙◌, subst, arith, ⊎_elim, append_assoc, append-nil}
+use Rattle.std.proofs.Common.{◌≡◌, ◌<◌, ◌⊎◌, ◌++◌, ◌∷◌, Bool, true, false, ℕ, List, [], length, map, Some, inl, inr, refl, sym, ap, ◌∙◌, subst, arith, ⊎_elim, append_assoc, append-nil}
 use Rattle.std.specs.Prelude.{slice_get, if◌then◌else◌}
 use Rattle.std.specs.List.{AllByRecursion, flat_map}
 use Rattle.std.proofs.lemmas.Grind.{flat_map-append}
 use Rattle.std.proofs.lemmas.Option.{slice_get_within}
-use Rattle.std.proofs.lemmas.Bool.Decides.{nat_tests}
 use Rattle.xl_base.specs.declared.ids.TxId.{TxId}
 use Rattle.xl_lists.specs.Lists.{TrustedList}
 use Rattle.xl_turns.specs.Places.{all_below}
 use Rattle.xl_core.specs.declared.timer_answer.TimerAnswer.{TimerAnswer}
 use Rattle.xl_core.specs.declared.timer_answer.TimerAnswer.TheVariants as answered
-use Rattle.xl_core.specs.declared.event.CoreEvent.{CoreEvent}
 use Rattle.xl_core.specs.declared.report.Report.{Report}
-use Rattle.xl_core.specs.Core.{Core}
 use Rattle.xl_store.specs.declared.entry.Entry.{Entry}
 use Rattle.xl_store.specs.Calls.{Call, calls_of, Rise}
 use Rattle.xl_store.proofs.Journals.{length_calls}

@@ -1,5 +1,5 @@
 -- What a command leaves whose journal is written behind its run, and one whose journal isn't.
-use Rattle.std.proofs.Common.{◌≡◌, ◌≢◌, ℕ, ◌≤◌, Bool, true, false, List, Option, Some, None, IfSome, refl, sym, ap, ◌∙◌, subst, arith, inl, inr}
+use Rattle.std.proofs.Common.{◌≡◌, ◌≢◌, ℕ, ◌≤◌, Bool, true, false, List, length, Option, Some, None, IfSome, refl, sym, ap, ◌∙◌, subst, arith, inl, inr}
 use Rattle.std.specs.Prelude.{◌⊎◌, IsSome, is_some}
 use Rattle.xl_base.specs.Faults.{Rose}
 use Rattle.xl_base.specs.declared.status.Status.{Status}
@@ -12,6 +12,7 @@ use Rattle.xl_store.specs.declared.entry.Entry.{Entry}
 use Rattle.xl_store.specs.Entries.{Leads}
 use Rattle.xl_heartbeat.specs.Outputs.{Output}
 use Rattle.xl_audit.specs.Journals.{journal_text, start_of}
+use Rattle.xl_audit.specs.Rereading.{SaysYes}
 use Rattle.xl_core.specs.declared.settings.Settings.{Settings as CoreSettings}
 use Rattle.xl_settings.specs.declared.settings.Settings.{Settings}
 use Rattle.xl_workers.specs.Linking.{HubSeen}
@@ -141,8 +142,9 @@ module _ {K O : Type 0}
 
     -- the journal is written
     goes_behind : (history : List Entry) → ran ≡ Some history → is_written s.journal ended ≡ true → journal ≡ None
-        → IsWritten (text_of s moment kept history) ended end reported after → Ends
-    goes_behind history handed asked none text =
+        → IsWritten (text_of s moment kept history) ended end reported after
+        → (is_over end ≡ true → SaysYes (text_of s moment kept history) (length history)) → Ends
+    goes_behind history handed asked none text audited =
         let over : is_over ended ≡ true = over_of s.journal ended asked in
         let goes = at_some GoesSo ran history handed leaves.goes in
         record {
@@ -154,6 +156,7 @@ module _ {K O : Type 0}
             asked = asked;
             run = has_run history goes;
             text = text;
+            yes = audited;
           });
           known = written_known (text_of s moment kept history) ended over end reported after text;
           write = λ w. rose_later before.faults reported.faults after.faults (leaves.later over) (written_fault (text_of s moment kept history) ended over end reported after text w);
@@ -169,12 +172,15 @@ module _ {K O : Type 0}
         → (is_written asked ended ≡ true → IsSome ran)
         → (is_written asked ended ≡ true → (history : List Entry) → ran ≡ Some history
         → IsWritten (text_of s moment kept history) ended end reported after)
+        → (is_written asked ended ≡ true → is_over end ≡ true → (history : List Entry) → ran ≡ Some history
+        → SaysYes (text_of s moment kept history) (length history))
         → Ends
-    ends asked is left silent none some written =
+    ends asked is left silent none some written audited =
         elim (is_written asked ended) as (λ v. is_written asked ended ≡ v → Ends) [
           | true ↦ λ yes.
               let handed = some_of ran (some yes) in
               goes_behind handed.0 handed.1 (ap (λ (b : Bool). is_written b ended) (sym is) ∙ yes) (none yes) (written yes handed.0 handed.1)
+              (λ over. audited yes over handed.0 handed.1)
           | false ↦ λ not_so.
               let same = left not_so in
               stays (ap (λ (b : Bool). is_written b ended) (sym is) ∙ not_so) same.0 same.1 same.2 (silent same.2)
@@ -195,19 +201,19 @@ module _ {R : Type 0} (settings_in : R → CoreSettings) (now_in kept_in : R →
       ∙ ap (λ (n : ℕ). start_of (settings_in r) (now_in r) n) (sym number) in
       subst (λ (c : Core). IfSome ran (λ history. IsLegal Leads c history)) same legal
 
-  -- and its text is the one that was written
-  pub text_there : (recording : Option R) (ran : Option (List Entry)) (ended end : Status) (reported after : Output)
+  -- and what holds of its text there holds of the text of the run
+  pub text_there : (P : List ℕ → List Entry → Type 0) (recording : Option R) (ran : Option (List Entry)) (ended : Status)
       → is_written (is_some recording) ended ≡ true
       → IfSome recording (λ r. settings_in r ≡ core_settings s) → IfSome recording (λ r. now_in r ≡ moment) → IfSome recording (λ r. kept_in r ≡ kept)
-      → IfSome recording (λ r. IfSome ran (λ history. IsWritten (journal_text (settings_in r) (now_in r) (kept_in r) history) ended end reported after))
-      → (history : List Entry) → ran ≡ Some history → IsWritten (text_of s moment kept history) ended end reported after
-  text_there None ran ended end reported after asked settings now number all history handed = absurd cc
-  text_there (Some r) ran ended end reported after asked settings now number all history handed =
+      → IfSome recording (λ r. IfSome ran (λ history. P (journal_text (settings_in r) (now_in r) (kept_in r) history) history))
+      → (history : List Entry) → ran ≡ Some history → P (text_of s moment kept history) history
+  text_there P None ran ended asked settings now number all history handed = absurd cc
+  text_there P (Some r) ran ended asked settings now number all history handed =
       let same : journal_text (settings_in r) (now_in r) (kept_in r) history ≡ text_of s moment kept history =
       ap (λ (c : CoreSettings). journal_text c (now_in r) (kept_in r) history) settings ∙ ap (λ (n : ℕ). journal_text (core_settings s) n (kept_in r) history) now
       ∙ ap (λ (n : ℕ). journal_text (core_settings s) moment n history) number in
-      subst (λ (text : List ℕ). IsWritten text ended end reported after) same
-      (at_some (λ h. IsWritten (journal_text (settings_in r) (now_in r) (kept_in r) h) ended end reported after) ran history handed all)
+      subst (λ (text : List ℕ). P text history) same
+      (at_some (λ h. P (journal_text (settings_in r) (now_in r) (kept_in r) h) h) ran history handed all)
 
 -- the histories of runs are legal
 pub legal_of : {K : Type 0} (held_by : K → Option Held) (saves_of : K → Option (List ℕ)) (faults_of : K → ℕ) (save_gives : K → ℕ → Bool → K → Type 0)

@@ -10,7 +10,7 @@ use Rattle.xl_heartbeat.specs.declared.ends.Ending.TheVariants as ending
 use Rattle.xl_heartbeat.specs.declared.ends.Stopping.{Stopping}
 use Rattle.xl_heartbeat.specs.declared.ends.Stopping.TheVariants as stopping
 use Rattle.xl_heartbeat.specs.Outputs.{Output}
-use Rattle.xl_heartbeat.specs.Statuses.{status_of, stop_status, first_of, with_last, status_of_run}
+use Rattle.xl_heartbeat.specs.Statuses.{causes_of, first_of, status_of_run}
 use Rattle.xl_workers.specs.declared.ends.RunEnd.{RunEnd}
 use Rattle.xl_workers.specs.declared.ends.RunEnd.TheVariants as end
 use Rattle.xl_workers.specs.Runs.{Doing, NodeRun, EndsBy, status_of_end}
@@ -27,38 +27,27 @@ IsOfRun status.OutOfMemory = Unit {0}
 IsOfRun status.StoreFull = Unit {0}
 IsOfRun other = ⊥
 
-of_part : (e : Ending) → IsOfRun (status_of e)
-of_part ending.Done = tt
-of_part ending.WriteFault = tt
-of_part ending.OutOfMemory = tt
-of_part (ending.StoreFull n) = tt
-
-of_stop : (s : Stopping) → IsOfRun (stop_status s)
-of_stop stopping.Done = tt
-of_stop (stopping.StoreFull n) = tt
-
-of_first : (a b : Status) → IsOfRun a → IsOfRun b → IsOfRun (first_of a b)
-of_first status.Done b is next = next
-of_first status.Fork b is next = is
-of_first status.WordsRefused b is next = is
-of_first status.InputRefused b is next = is
-of_first status.ReadFault b is next = is
-of_first status.WriteFault b is next = is
-of_first status.OutOfMemory b is next = is
-of_first status.KeepFault b is next = is
-of_first status.NetFault b is next = is
-of_first status.StoreFull b is next = is
-
-of_last : (a : Status) (e : Ending) → IsOfRun a → IsOfRun (with_last a e)
-of_last a ending.Done is = is
-of_last a ending.WriteFault is = tt
-of_last a ending.OutOfMemory is = of_first a status.OutOfMemory is tt
-of_last a (ending.StoreFull n) is = of_first a status.StoreFull is tt
+-- whatever its parts met
+of_parts : (run : Ending) (stop : Stopping) (last : Ending) → IsOfRun (first_of (causes_of run stop last))
+of_parts run stop ending.WriteFault = tt
+of_parts ending.WriteFault stop ending.Done = tt
+of_parts ending.WriteFault stop ending.OutOfMemory = tt
+of_parts ending.WriteFault stop (ending.StoreFull k) = tt
+of_parts ending.OutOfMemory stop ending.Done = tt
+of_parts ending.OutOfMemory stop ending.OutOfMemory = tt
+of_parts ending.OutOfMemory stop (ending.StoreFull k) = tt
+of_parts (ending.StoreFull n) stop ending.Done = tt
+of_parts (ending.StoreFull n) stop ending.OutOfMemory = tt
+of_parts (ending.StoreFull n) stop (ending.StoreFull k) = tt
+of_parts ending.Done (stopping.StoreFull n) ending.Done = tt
+of_parts ending.Done (stopping.StoreFull n) ending.OutOfMemory = tt
+of_parts ending.Done (stopping.StoreFull n) (ending.StoreFull k) = tt
+of_parts ending.Done stopping.Done ending.Done = tt
+of_parts ending.Done stopping.Done ending.OutOfMemory = tt
+of_parts ending.Done stopping.Done (ending.StoreFull k) = tt
 
 of_run : (beats : BeatEnd) (last : Ending) → IsOfRun (status_of_run beats last)
-of_run beats last =
-    of_last (first_of (status_of beats.run) (stop_status beats.stop)) last
-    (of_first (status_of beats.run) (stop_status beats.stop) (of_part beats.run) (of_stop beats.stop))
+of_run beats last = of_parts beats.run beats.stop last
 
 of_node : (s : Status) → IsOfRun s → IsOfNode s
 of_node status.Done is = tt

@@ -1,9 +1,7 @@
 -- What the status of a node says of its history.
-use Rattle.std.proofs.Common.{◌≡◌, ◌≢◌, ◌<◌, ◌≤◌, ◌+◌, ◌⊎◌, ◌++◌, ◌∷◌, Bool, true, false, ℕ, List, [], length, map, Option, Some, None, Result, Ok, IfSome, inl, inr, refl, sym, ap, ◌∙◌, subst, arith, ⊎_elim}
-use Rattle.std.specs.Prelude.{◌==◌, ◌&&◌, not, nat_le, slice_get, IsOk}
-use Rattle.std.specs.List.{AllByRecursion}
+use Rattle.std.proofs.Common.{◌≡◌, ◌≢◌, ◌<◌, ◌≤◌, ◌+◌, ◌⊎◌, Bool, true, ℕ, List, length, map, Option, Some, None, Result, Ok, IfSome, inl, inr, refl, sym, ap, ◌∙◌, subst, arith, ⊎_elim}
+use Rattle.std.specs.Prelude.{slice_get, IsOk}
 use Rattle.std.proofs.lemmas.Bool.Decides.{nat_tests}
-use Rattle.xl_base.specs.Faults.{Rose}
 use Rattle.xl_base.specs.declared.ids.TxId.{TxId}
 use Rattle.xl_base.specs.declared.status.Status.{Status}
 use Rattle.xl_base.specs.declared.status.Status.TheVariants as status
@@ -16,14 +14,13 @@ use Rattle.xl_store.specs.Calls.{Call, calls_of}
 use Rattle.xl_store.proofs.Journals.{length_calls}
 use Rattle.xl_heartbeat.specs.declared.ends.Ending.{Ending}
 use Rattle.xl_heartbeat.specs.declared.ends.Ending.TheVariants as ending
-use Rattle.xl_heartbeat.specs.declared.ends.BeatEnd.{BeatEnd}
 use Rattle.xl_heartbeat.specs.declared.ends.Stopping.{Stopping}
 use Rattle.xl_heartbeat.specs.declared.ends.Stopping.TheVariants as stopping
 use Rattle.xl_heartbeat.specs.declared.timing.Timing.{Timing}
 use Rattle.xl_heartbeat.specs.Outputs.{Output}
 use Rattle.xl_heartbeat.specs.Beats.{timer, is_over, IsFull, IsStop}
 use Rattle.xl_heartbeat.specs.Beats as beats
-use Rattle.xl_heartbeat.specs.Statuses.{status_of, stop_status, first_of, with_last, status_of_run}
+use Rattle.xl_heartbeat.specs.Statuses.{causes_of, first_of}
 use Rattle.xl_settings.specs.declared.refusal.SettingsRefusal.{SettingsRefusal}
 use Rattle.xl_settings.specs.declared.settings.Settings.{Settings}
 use Rattle.xl_settings.specs.Settings.{settings_of}
@@ -33,11 +30,11 @@ use Rattle.xl_workers.specs.Linking.{member_in}
 use Rattle.xl_workers.specs.Pairing.{Paired}
 use Rattle.xl_workers.specs.Submits.{IsSubmit}
 use Rattle.xl_workers.specs.Runs.{Doing, NodeRun, EndsBy, status_of_end}
-use Rattle.xl_workers.specs.Sharing.{Setting, SubmitPart, SharedOut}
-use Rattle.xl_validator.specs.Ends.{AreBeats, HasBeats, CompletesAt, EndsByTime, EndsFull, AreSubmits, HasRunSo, IsComplete}
+use Rattle.xl_workers.specs.Sharing.{Setting, SubmitPart}
+use Rattle.xl_validator.specs.Ends.{AreBeats, HasBeats, CompletesAt, EndsByTime, EndsFull, AreSubmits, HasRunSo}
 use Rattle.xl_validator.specs.Openings.{opening_core}
-use Rattle.xl_validator.specs.Recordings.{IsWritten, is_written}
-use Rattle.xl_validator.specs.Validators.{Between, HasRecorded, HasRun, IsKnown, IsOfNode, IsUnopened, Judges}
+use Rattle.xl_validator.specs.Recordings.{IsWritten}
+use Rattle.xl_validator.specs.Validators.{Between, HasRun, IsKnown, IsOfNode, IsUnopened, Judges}
 use Rattle.xl_validator.proofs.Timers.{IsLastAt, all_at}
 use Rattle.xl_validator.proofs.Beating.{IsOther, over_at, last_timer, beats_of, no_beats}
 
@@ -82,7 +79,7 @@ refusal_known status.WordsRefused is = is
 
 -- it is done only if its heartbeat is
 beats_done : (run last : Ending) (stop : Stopping)
-    → with_last (first_of (status_of run) (stop_status stop)) last ≡ status.Done → run ≡ ending.Done
+    → first_of (causes_of run stop last) ≡ status.Done → run ≡ ending.Done
 beats_done ending.Done last stop is = refl
 beats_done ending.WriteFault ending.Done stop is = absurd cc
 beats_done ending.WriteFault ending.WriteFault stop is = absurd cc
@@ -100,7 +97,7 @@ beats_done (ending.StoreFull m) (ending.StoreFull n) stop is = absurd cc
 -- it is full only if one of its parts is
 full_by : (turns n : ℕ) (calls : List Call) (phase : beats.Phase) (run last : Ending) (stop : Stopping)
     → beats.IsReason turns calls phase n run → IsStop turns n stop → IsFull turns n last
-    → with_last (first_of (status_of run) (stop_status stop)) last ≡ status.StoreFull → n ≡ turns
+    → first_of (causes_of run stop last) ≡ status.StoreFull → n ≡ turns
 full_by turns n calls phase (ending.StoreFull k) last stop reason stops full is = reason.2
 full_by turns n calls phase ending.Done last (stopping.StoreFull k) reason stops full is = stops.1
 full_by turns n calls phase ending.Done (ending.StoreFull k) stopping.Done reason stops full is = full.1
@@ -122,7 +119,7 @@ bounded timing now is = (grind (arith, nat_tests, is), grind (arith, nat_tests, 
 
 -- no run of workers has the status of a failed network
 not_net : (run last : Ending) (stop : Stopping)
-    → with_last (first_of (status_of run) (stop_status stop)) last ≢ status.NetFault
+    → first_of (causes_of run stop last) ≢ status.NetFault
 not_net ending.Done ending.Done stopping.Done = λ is. cc
 not_net ending.Done ending.Done (stopping.StoreFull n) = λ is. cc
 not_net ending.Done ending.WriteFault stop = λ is. cc

@@ -1,13 +1,12 @@
 -- Where the timers of a history stand.
-use Rattle.std.proofs.Common.{◌≡◌, ◌≢◌, ◌<◌, ◌≤◌, ◌+◌, ◌⊎◌, ◌++◌, ◌∷◌, Bool, true, false, ℕ, zero, suc, List, [], length, map, take, Option, Some, None, inl, inr, refl, sym, ap, ◌∙◌, subst, arith, ⊎_elim, append_assoc, append-nil}
+use Rattle.std.proofs.Common.{◌≡◌, ◌<◌, ◌≤◌, ◌+◌, ◌⊎◌, ◌++◌, ◌∷◌, Bool, true, false, ℕ, zero, suc, List, [], length, map, take, Option, Some, inl, inr, refl, sym, ap, ◌∙◌, subst, arith, ⊎_elim}
 use Rattle.std.specs.Prelude.{ltb, get_or, slice_get, if◌then◌else◌}
-use Rattle.std.specs.List.{AllByRecursion, flat_map}
+use Rattle.std.specs.List.{AllByRecursion}
 use Rattle.std.proofs.lemmas.Bool.{cases_eq}
-use Rattle.std.proofs.lemmas.Grind.{flat_map-append}
 use Rattle.std.proofs.lemmas.List.{take_more}
 use Rattle.std.proofs.lemmas.Option.{slice_get-get_or}
 use Rattle.xl_turns.specs.Places.{all_below, insert_place, merge}
-use Rattle.xl_store.specs.Calls.{Call, Rise}
+use Rattle.xl_store.specs.Calls.{Rise}
 use Rattle.xl_workers.specs.Sharing.{merge_all}
 use Rattle.xl_validator.specs.Ends.{StandsIn}
 

@@ -12,6 +12,7 @@ use Rattle.xl_store.specs.declared.entry.Entry.{Entry}
 use Rattle.xl_store.specs.Closing.{KeepsAll}
 use Rattle.xl_store.specs.Entries.{Leads}
 use Rattle.xl_heartbeat.specs.Outputs.{Output, output}
+use Rattle.xl_audit.specs.Rereading.{SaysYes}
 use Rattle.xl_settings.specs.declared.settings.Settings.{Settings}
 use Rattle.xl_settings.specs.Lines.{refusal_line}
 use Rattle.xl_settings.specs.Settings.{settings_of}
@@ -22,7 +23,7 @@ use Rattle.xl_workers.specs.Sharing.{setting}
 use Rattle.xl_core.specs.Core.{Core}
 use Rattle.xl_validator.specs.ListsSet.{AreSet}
 use Rattle.xl_validator.specs.Openings.{Task, opening_core, task_of}
-use Rattle.xl_validator.specs.Recordings.{IsWritten, is_written, text_of}
+use Rattle.xl_validator.specs.Recordings.{IsWritten, is_over, is_written, text_of}
 
 -- of the line that tells a refusal a front is written, and with the status of a refusal all of it
 pub record IsRefused (line : List ℕ) (end : Status) (old new : Option (List ℕ)) : Type 0 where
@@ -121,6 +122,8 @@ module _ {K : Type 0}
     pub asked : is_written s.journal ended ≡ true
     pub run : HasRun s moment may_give links (record outside { new_output = reported }) old new ended history
     pub text : IsWritten (text_of s moment run.kept history) ended end reported outside.new_output
+    -- and if all of that text was written, `audit` says yes to it, with the number of its entries
+    pub yes : is_over end ≡ true → SaysYes (text_of s moment run.kept history) (length history)
 
   -- by the settings that the input held
   abbrev pub IsRecordedRun : Option (List ℕ) → ℕ → (ℕ → Bool) → (ℕ → Option Wire) → Between → K → K → Status → Type 0

@@ -8,6 +8,8 @@ ghost use Rattle.xl_core.specs.Rest.{IsKeyed};
 ghost use Rattle.xl_store.specs.Entries.{Leads};
 ghost use Rattle.xl_heartbeat.specs.Outputs.{output};
 ghost use Rattle.xl_audit.specs.Journals.{journal_text, start_of};
+ghost use Rattle.xl_audit.specs.Rereading.{GetsYes};
+ghost use Rattle.xl_settings.specs.Limits.{greatest_speak, usual_speak};
 ghost use Rattle.xl_settings.specs.Runnable.{AreRunnable};
 ghost use Rattle.xl_validator.specs.Openings.{core_settings};
 ghost use Rattle.xl_validator.specs.Recordings.{IsWritten, is_over, is_written};
@@ -32,6 +34,7 @@ pub(crate) struct Recording {
     pub kept: Seq,
     ghost keyed: { IsKeyed settings.me settings.list.members settings.keys },
     ghost limited: { (least_limit ≤ settings.limit) × (settings.limit ≤ greatest_limit) },
+    ghost spoken: { (usual_speak ≤ settings.speak) × (settings.speak ≤ greatest_speak) },
     ghost timely: { now ≤ greatest_millis },
 }
 
@@ -80,6 +83,8 @@ pub(crate) fn write_behind<O: Sink>(
     requires legal { IsLegal Leads (start_of recording.settings recording.now recording.kept) journal }
     ensures written { IsWritten (journal_text recording.settings recording.now recording.kept journal) ended result
         (output (O.held sink.old) (O.faults sink.old)) (output (O.held sink.new) (O.faults sink.new)) }
+    ensures yes { is_over result ≡ true
+        → GetsYes recording.settings recording.now recording.kept journal }
 {
     let Recording {
         settings,
@@ -112,6 +117,8 @@ pub(crate) fn recorded<O: Sink, K: Drop>(
         → IfSome recording (λ r. IfSome ended.journal (λ history.
         IsWritten (journal_text r.settings r.now r.kept history) ended.status result.status
         (output (O.held sink.old) (O.faults sink.old)) (output (O.held sink.new) (O.faults sink.new)))) }
+    ensures yes { is_written (is_some recording) ended.status ≡ true → is_over result.status ≡ true
+        → IfSome recording (λ r. IfSome ended.journal (λ history. GetsYes r.settings r.now r.kept history)) }
 {
     let Some(recording) = recording else {
         return ended;

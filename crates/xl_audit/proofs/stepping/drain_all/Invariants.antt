@@ -1,4 +1,4 @@
-use Rattle.std.proofs.Common.{◌≡◌, ◌≤◌}
+use Rattle.std.proofs.Common.{◌≤◌}
 use Rattle.xl_wire.specs.Lengths.{longest_frame}
 use Rattle.xl_audit.specs.Pieces.{HasDrained}
 use Rattle.xl_audit.proofs.stepping.drain_all.Given as goal

@@ -36,7 +36,8 @@ pub returns-in-Err-clause-ends : goal.returns-in-Err-clause-ends
 returns-in-Err-clause-ends g c may member w held k0 w0 s =
     subst (λ e. Session (start_of c.args.store.now) (turns_of c.args.store.now) may member k0 w0 e
     (known c.stopped.new.pass) w) (sym c.end_of.ensures)
-    (ends_refused c.args.store.now may member k0 w0 Asks _ _ w held c.in-Err.end s c.in-Err.ensures.refused)
+    (ends_refused c.args.store.now may member k0 w0 Asks _ _ w held c.in-Err.end s
+    (λ steps first. tt) c.in-Err.ensures.refused)
 
 pub returns-else-answer-clause-turn : goal.returns-else-answer-clause-turn
 returns-else-answer-clause-turn g c = c.in-Ok.ensures.called.later

@@ -20,4 +20,5 @@ pub returns-in-Err-clause-ends : goal.returns-in-Err-clause-ends
 returns-in-Err-clause-ends g c may w held k0 w0 s =
     subst (λ e. Session (start_of c.args.store.now) (turns_of c.args.store.now) may c.args.member k0 w0 e
     (known c.greet.new.pass) w) (sym c.end_of.ensures)
-    (ends_refused c.args.store.now may c.args.member k0 w0 Greets _ _ w held c.in-Err.end s c.in-Err.ensures.refused)
+    (ends_refused c.args.store.now may c.args.member k0 w0 Greets _ _ w held c.in-Err.end s
+    (λ steps first. tt) c.in-Err.ensures.refused)

@@ -25,4 +25,5 @@ pub returns-in-Err-clause-drained : goal.returns-in-Err-clause-drained
 returns-in-Err-clause-drained g c may held k0 w0 s =
     subst (λ e. Session (start_of c.args.store.now) (turns_of c.args.store.now) may c.args.member k0 w0 e
     (known c.drain.new.pass) (g.L.Link.shows c.args.link.now)) (sym c.end_of.ensures)
-    (ends_refused c.args.store.now may c.args.member k0 w0 Drains _ _ _ held c.in-Err.end s c.in-Err.ensures.refused)
+    (ends_refused c.args.store.now may c.args.member k0 w0 Drains _ _ _ held c.in-Err.end s
+    (λ steps first. tt) c.in-Err.ensures.refused)

@@ -1,11 +1,11 @@
 -- what the feed holds decides: a frame is handed over, less than one stays, and what is none ends the session
-use Rattle.std.proofs.Common.{◌≡◌, sym, ◌∙◌, subst}
+use Rattle.std.proofs.Common.{◌≡◌, ◌++◌, sym, ◌∙◌, subst}
 use Rattle.xl_turns.specs.Passes.{known}
 use Rattle.xl_wire.specs.Feeding.{Fed}
 use Rattle.xl_store.specs.Stores.{start_of, turns_of}
 use Rattle.xl_peers.specs.Sessions.{Session, NeedsMore}
 use Rattle.xl_peers.specs.Sessions.Phase.{Hands}
-use Rattle.xl_peers.proofs.Feeding.{next_need}
+use Rattle.xl_peers.proofs.Feeding.{has_frame, next_need}
 use Rattle.xl_peers.proofs.Handed.{hands_none, hands_next, refuses}
 use Rattle.xl_peers.proofs.Finishing.{ends_refused}
 use Rattle.xl_peers.proofs.handing.hand_next.Goals as goal
@@ -23,6 +23,11 @@ returns-in-Err-clause-handed g c member w later k0 w0 s =
     subst (λ e. Session (start_of c.args.store.now) (turns_of c.args.store.now) (g.C.Clock.may_give c.args.clock.now)
     member k0 w0 e (known c.hand_frame.new.pass) w) (sym c.end_of.ensures)
     (ends_refused c.args.store.now (g.C.Clock.may_give c.args.clock.now) member k0 w0 Hands _ _ w _ c.in-Err.end s
+    (λ steps first. (
+      c.args.feed.now.held ++ later,
+      first,
+      has_frame c.args.feed.now c.in-Frame.frame.now later c.in-Frame.ensures.answer s.bytes,
+    ))
     c.in-Err.ensures.refused)
 
 pub returns-in-Need-clause-handed : goal.returns-in-Need-clause-handed

@@ -1,9 +1,11 @@
 -- the core opens at the number that the keeper gave, and its run's history is legal, so it can be written as it was
-use Rattle.std.proofs.Common.{ap}
+use Rattle.std.proofs.Common.{ap, length}
 use Rattle.std.specs.Prelude.{is_some}
 use Rattle.xl_heartbeat.specs.Outputs.{Output, output}
+use Rattle.xl_audit.specs.Rereading.{SaysYes}
 use Rattle.xl_workers.specs.Linking.{hub_seen}
 use Rattle.xl_validator.specs.Preparing.{task_in}
+use Rattle.xl_validator.specs.Recordings.{IsWritten}
 use Rattle.xl_validator.specs.Validators.{between}
 use Rattle.xl_validator.specs.declared.recording.Recording.{Recording}
 use Rattle.xl_validator.proofs.Behind.{ends, legal_there, text_there, legal_of}
@@ -36,6 +38,8 @@ returns-in-Ok-prepare g c =
     let made = c.recording_of-recording in
     let ran = c.run-ended in
     let done = c.recorded in
+    let there = text_there (λ (r : Recording). r.settings) (λ (r : Recording). r.now) (λ (r : Recording). r.kept)
+    c.args.judged.settings c.args.judged.now c.in-Ok.kept in
     let all =
     ends g.K.Keeper.held g.K.Keeper.saves g.K.Keeper.faults g.K.Keeper.load_gives g.K.Keeper.save_gives
     c.args.judged.settings c.args.judged.now c.in-Ok.kept
@@ -58,10 +62,12 @@ returns-in-Ok-prepare g c =
     ran.ensures.leaves done.ensures.keeper
     (is_some made.result) made.ensures.asked
     done.ensures.left (λ same. ap shown same) done.ensures.none done.ensures.some
-    (λ yes. text_there (λ (r : Recording). r.settings) (λ (r : Recording). r.now) (λ (r : Recording). r.kept)
-    c.args.judged.settings c.args.judged.now c.in-Ok.kept made.result ran.result.journal ran.result.status
-    done.result.status (shown ran.new.output) (shown done.new.sink) yes made.ensures.settings made.ensures.now
-    made.ensures.kept (done.ensures.written yes)) in
+    (λ yes. there (λ text _. IsWritten text ran.result.status done.result.status (shown ran.new.output) (shown done.new.sink))
+    made.result ran.result.journal ran.result.status yes made.ensures.settings made.ensures.now made.ensures.kept
+    (done.ensures.written yes))
+    (λ yes over. there (λ text history. SaysYes text (length history))
+    made.result ran.result.journal ran.result.status yes made.ensures.settings made.ensures.now made.ensures.kept
+    (done.ensures.yes yes over)) in
     record {
       ran = all.runs;
       unopened = all.unopened;
