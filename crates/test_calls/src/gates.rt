@@ -12,7 +12,7 @@ use std::thread;
 use std::thread::Threads;
 use xl_base::NodeNo;
 use xl_links::{Gate, LinkScript, MemClock, MemLink};
-use xl_peers::{End, session};
+use xl_peers::{End, Host, session};
 use xl_store::Pass;
 
 /// One gate of two sessions. It holds the first call of whichever comes first until the first call of the other was
@@ -66,7 +66,13 @@ fn hold<W: Wait>(
     ensures { IsOf store.now result.0 }
 {
     let clock = MemClock::new(1_000);
-    session(rt, alloc, store, pass, member, &mut link, gate, &clock)
+    let host = Host {
+        rt,
+        alloc,
+        gate,
+        clock: &clock,
+    };
+    session(&host, store, pass, member, &mut link)
 }
 
 /// Two sessions, each in a thread of its own.
@@ -76,8 +82,7 @@ fn hold_two<W: Threads + Wait + Sync>(
     store: &Stored,
     pass: Pass,
     member: NodeNo,
-    left: MemLink,
-    right: MemLink,
+    links: (MemLink, MemLink),
     gate: &Turnstile,
 ) -> Option<(Pass, End, End)>
     requires pass { IsOf store.now pass }
@@ -87,6 +92,7 @@ fn hold_two<W: Threads + Wait + Sync>(
     if pass.share() < 2 {
         return None;
     }
+    let (left, right) = links;
     let (one, other) = store.split(pass);
     let (first, second) = thread::join(
         rt,
@@ -116,14 +122,13 @@ fn made_by_two<W: Threads + Wait + Sync>(
     store: Stored,
     pass: Pass,
     member: NodeNo,
-    left: MemLink,
-    right: MemLink,
+    links: (MemLink, MemLink),
     gate: &Turnstile,
 ) -> Option<(u64, u64)>
     requires pass { IsOf store pass }
     requires peer { IsSome (key_of (start_of store).node.keys member) }
 {
-    let (pass, first, second) = hold_two(rt, alloc, &store, pass, member, left, right, gate)?;
+    let (pass, first, second) = hold_two(rt, alloc, &store, pass, member, links, gate)?;
     if first == End::End && second == End::End {
         counted(store, pass)
     } else {
@@ -136,11 +141,10 @@ fn made_by_two<W: Threads + Wait + Sync>(
 fn a_session_that_waits_keeps_no_turn(rt: HostRuntime) -> Result<(), Fail> {
     let alloc = rt.alloc();
     let gate = Turnstile::new();
-    let left = link(alloc)?;
-    let right = link(alloc)?;
+    let links = (link(alloc)?, link(alloc)?);
     let member = NodeNo::new(2).ok_or("no member")?;
     let (store, pass) = stored(alloc, 2, 100, member)?;
-    let made = made_by_two(&rt, alloc, store, pass, member, left, right, &gate);
+    let made = made_by_two(&rt, alloc, store, pass, member, links, &gate);
     assert!(rt; made == Some((2, 2)) && gate.missed.load(Ordering::SeqCst) == 0);
     Ok(())
 }

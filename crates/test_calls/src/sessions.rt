@@ -8,7 +8,7 @@ use std::sync::Wait;
 use std::test::Fail;
 use xl_base::NodeNo;
 use xl_links::{Clock, LinkScript, MemClock, MemLink, OpenGate, Opening};
-use xl_peers::{End, Served, serve, session};
+use xl_peers::{End, Host, Served, serve, session};
 use xl_store::Pass;
 use xl_wire::WireRefusal;
 
@@ -36,7 +36,13 @@ pub fn hold<W: Wait>(
     requires peer { IsSome (key_of (start_of store).node.keys member) }
 {
     let clock = MemClock::new(1_000);
-    let (pass, end) = session(rt, alloc, &store, pass, member, link, &OpenGate, &clock);
+    let host = Host {
+        rt,
+        alloc,
+        gate: &OpenGate,
+        clock: &clock,
+    };
+    let (pass, end) = session(&host, &store, pass, member, link);
     Some((end, counted(store, pass)?.0))
 }
 
@@ -70,7 +76,13 @@ fn attend<W: Wait>(
     requires peer { IsSome (key_of (start_of store).node.keys member) }
 {
     let clock = MemClock::new(1_000);
-    let (pass, served) = serve(rt, alloc, &store, pass, member, link, &OpenGate, &clock);
+    let host = Host {
+        rt,
+        alloc,
+        gate: &OpenGate,
+        clock: &clock,
+    };
+    let (pass, served) = serve(&host, &store, pass, member, link);
     Some((served, clock.now(), counted(store, pass)?))
 }
 

@@ -1,6 +1,6 @@
 -- Serving goes on by one deed.
-use Rattle.std.proofs.Common.{◌≡◌, Bool, ◌≤◌, ◌++◌, ◌∷◌, ◌⊎◌, ℕ, Option, Some, None, List, [], true, refl, sym, ap, ap₂}
-use Rattle.std.proofs.Common.{◌∙◌, append_assoc, append-nil, arith, subst, inl, inr}
+use Rattle.std.proofs.Common.{◌≡◌, Bool, ◌≤◌, ◌++◌, ◌∷◌, ◌⊎◌, ℕ, Option, Some, List, [], true, refl, sym, ap, ap₂}
+use Rattle.std.proofs.Common.{◌∙◌, append-nil, arith, subst, inl, inr}
 use Rattle.std.specs.List.{flat_map}
 use Rattle.std.proofs.lemmas.Grind.{flat_map-append}
 use Rattle.std.specs.Io.KnownBytes.{prepend_known, append_known}

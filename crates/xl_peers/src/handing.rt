@@ -4,6 +4,7 @@ ghost use Rattle.xl_peers.specs.Sessions.{NeedsMore};
 ghost use Rattle.xl_peers.specs.Going.{HandsOver, HandsNext, HandsAll, HandsPiece};
 
 use crate::ends::{End, end_of};
+use crate::host::Host;
 use std::sync::Wait;
 use xl_io::Keeper;
 use xl_ledger::Branch;
@@ -13,23 +14,21 @@ use xl_wire::{Feed, Next};
 
 /// Hands a frame to the core, between two passes of the gate.
 fn hand_frame<W: Wait, B: Branch + Drop, K: Keeper + Drop, G: Gate, C: Clock>(
-    rt: &W,
+    host: &Host<'_, W, G, C>,
     store: &Store<B, K>,
     pass: &mut Pass,
-    gate: &G,
-    clock: &C,
     passes: &mut u64,
     frame: &[u8],
 ) -> Result<(), StoreEnd>
     requires pass { IsOf store.now pass.old }
     ensures pass { IsOf store.now pass.new }
-    ensures handed { OnOk result (HandsOver store.now (C.may_give clock.now) pass.old frame.now pass.new) }
+    ensures handed { OnOk result (HandsOver store.now (C.may_give host.now.clock.now) pass.old frame.now pass.new) }
     ensures refused { IfErr result (λ end. Refused store.now pass.old end pass.new) }
 {
-    gate.pass(passes.wrapping_add(1));
-    let answer = store.frame(rt, pass, clock.now(), frame);
+    host.gate.pass(passes.wrapping_add(1));
+    let answer = store.frame(host.rt, pass, host.clock.now(), frame);
     *passes = passes.wrapping_add(2);
-    gate.pass(*passes);
+    host.gate.pass(*passes);
     match answer {
         Ok(_) => Ok(()),
         Err(end) => Err(end),
@@ -38,21 +37,19 @@ fn hand_frame<W: Wait, B: Branch + Drop, K: Keeper + Drop, G: Gate, C: Clock>(
 
 /// Hands the next frame that the feed holds to the core, and answers whether there was one.
 fn hand_next<W: Wait, B: Branch + Drop, K: Keeper + Drop, G: Gate, C: Clock>(
-    rt: &W,
+    host: &Host<'_, W, G, C>,
     store: &Store<B, K>,
     pass: &mut Pass,
-    gate: &G,
-    clock: &C,
     passes: &mut u64,
     feed: &mut Feed,
 ) -> Result<bool, End>
     requires pass { IsOf store.now pass.old }
     requires takes { feed.old.refused ≡ false }
     ensures pass { IsOf store.now pass.new }
-    ensures handed { HandsNext store.now (C.may_give clock.now) pass.old feed.old result pass.new feed.new }
+    ensures handed { HandsNext store.now (C.may_give host.now.clock.now) pass.old feed.old result pass.new feed.new }
 {
     match feed.next() {
-        Next::Frame(frame) => match hand_frame(rt, store, pass, gate, clock, passes, frame) {
+        Next::Frame(frame) => match hand_frame(host, store, pass, passes, frame) {
             Ok(()) => Ok(true),
             Err(end) => Err(end_of(end)),
         },
@@ -63,21 +60,19 @@ fn hand_next<W: Wait, B: Branch + Drop, K: Keeper + Drop, G: Gate, C: Clock>(
 
 /// Hands the frames that the feed holds to the core, the kth between the gate's passes 2k - 1 and 2k.
 fn hand_held<W: Wait, B: Branch + Drop, K: Keeper + Drop, G: Gate, C: Clock>(
-    rt: &W,
+    host: &Host<'_, W, G, C>,
     store: &Store<B, K>,
     pass: &mut Pass,
-    gate: &G,
-    clock: &C,
     passes: &mut u64,
     feed: &mut Feed,
 ) -> Result<(), End>
     requires pass { IsOf store.now pass.old }
     requires takes { feed.old.refused ≡ false }
     ensures pass { IsOf store.now pass.new }
-    ensures handed { HandsAll store.now (C.may_give clock.now) pass.old feed.old result pass.new feed.new }
+    ensures handed { HandsAll store.now (C.may_give host.now.clock.now) pass.old feed.old result pass.new feed.new }
 {
-    for _ in rt.forever() {
-        match hand_next(rt, store, pass, gate, clock, passes, feed) {
+    for _ in host.rt.forever() {
+        match hand_next(host, store, pass, passes, feed) {
             Ok(true) => {}
             Ok(false) => return Ok(()),
             Err(end) => return Err(end),
@@ -88,11 +83,9 @@ fn hand_held<W: Wait, B: Branch + Drop, K: Keeper + Drop, G: Gate, C: Clock>(
 
 /// Hands each frame that the piece makes whole to the core.
 pub(crate) fn hand<W: Wait, B: Branch + Drop, K: Keeper + Drop, G: Gate, C: Clock>(
-    rt: &W,
+    host: &Host<'_, W, G, C>,
     store: &Store<B, K>,
     pass: &mut Pass,
-    gate: &G,
-    clock: &C,
     passes: &mut u64,
     feed: &mut Feed,
     piece: &[u8],
@@ -101,13 +94,13 @@ pub(crate) fn hand<W: Wait, B: Branch + Drop, K: Keeper + Drop, G: Gate, C: Cloc
     requires takes { feed.old.refused ≡ false }
     requires needs { NeedsMore feed.old.held }
     ensures pass { IsOf store.now pass.new }
-    ensures handed { HandsPiece store.now (C.may_give clock.now) pass.old feed.old piece.now result pass.new feed.new }
+    ensures handed { HandsPiece store.now (C.may_give host.now.clock.now) pass.old feed.old piece.now result pass.new feed.new }
 {
     let mut rest = piece;
     while !rest.is_empty() {
         let count = feed.push(rest);
         rest = &rest[count..];
-        match hand_held(rt, store, pass, gate, clock, passes, feed) {
+        match hand_held(host, store, pass, passes, feed) {
             Ok(()) => {}
             Err(end) => return Err(end),
         }

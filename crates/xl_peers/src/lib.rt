@@ -14,11 +14,13 @@ mod asking;
 mod draining;
 mod ends;
 mod handing;
+mod host;
 mod reading;
 mod sending;
 mod serving;
 mod talking;
 
 pub use ends::{End, Served};
+pub use host::Host;
 pub use serving::{attend, serve};
 pub use talking::{session, talk};

@@ -9,8 +9,8 @@ ghost use Rattle.xl_peers.specs.Serving.{Serving, Serves, Follows, IsOpened};
 ghost use Rattle.xl_peers.specs.Serving.Round.{Asks, Opens};
 
 use crate::ends::{Served, served_of};
+use crate::host::Host;
 use crate::talking::talk;
-use std::alloc::Global;
 use std::sync::Wait;
 use xl_base::{NodeNo, OutOfMemory};
 use xl_io::Keeper;
@@ -27,47 +27,41 @@ const PAUSE: u32 = 1000;
 /// peer or failed, after a session's end that isn't one of these two, and if memory runs out. The member is a peer
 /// of the core that the store was opened with.
 pub fn serve<W: Wait, B: Branch + Drop, K: Keeper + Drop, L: Link, G: Gate, C: Clock>(
-    rt: &W,
-    alloc: Global,
+    host: &Host<'_, W, G, C>,
     store: &Store<B, K>,
     mut pass: Pass,
     member: NodeNo,
     link: &mut L,
-    gate: &G,
-    clock: &C,
 ) -> (Pass, Served)
     requires pass { IsOf store.now pass }
     requires peer { IsSome (key_of (start_of store.now).node.keys member) }
     ensures pass { IsOf store.now result.0 }
-    ensures serves { Serves (start_of store.now) (turns_of store.now) (C.may_give clock.now) member
+    ensures serves { Serves (start_of store.now) (turns_of store.now) (C.may_give host.now.clock.now) member
         (known pass) (L.shows link.old) result.1 (known result.0) (L.shows link.new) }
 {
-    let served = attend(rt, alloc, store, &mut pass, member, link, gate, clock);
+    let served = attend(host, store, &mut pass, member, link);
     (pass, served)
 }
 
 /// A serving, whose pass is lent.
 pub fn attend<W: Wait, B: Branch + Drop, K: Keeper + Drop, L: Link, G: Gate, C: Clock>(
-    rt: &W,
-    alloc: Global,
+    host: &Host<'_, W, G, C>,
     store: &Store<B, K>,
     pass: &mut Pass,
     member: NodeNo,
     link: &mut L,
-    gate: &G,
-    clock: &C,
 ) -> Served
     requires pass { IsOf store.now pass.old }
     requires peer { IsSome (key_of (start_of store.now).node.keys member) }
     ensures pass { IsOf store.now pass.new }
-    ensures serves { Serves (start_of store.now) (turns_of store.now) (C.may_give clock.now) member
+    ensures serves { Serves (start_of store.now) (turns_of store.now) (C.may_give host.now.clock.now) member
         (known pass.old) (L.shows link.old) result (known pass.new) (L.shows link.new) }
 {
-    for _ in rt.forever() {
-        match round(rt, alloc, store, pass, member, link, gate, clock) {
-            Ok(None) => clock.wait(PAUSE),
+    for _ in host.rt.forever() {
+        match round(host, store, pass, member, link) {
+            Ok(None) => host.clock.wait(PAUSE),
             Ok(Some(served)) => return served,
-            Err(_) => clock.wait(PAUSE),
+            Err(_) => host.clock.wait(PAUSE),
         }
     }
     unreachable!()
@@ -76,33 +70,30 @@ pub fn attend<W: Wait, B: Branch + Drop, K: Keeper + Drop, L: Link, G: Gate, C: 
 /// Asks whether to stop, connects if the node isn't to, and answers why the serving is over, if it is. It fails only
 /// if memory ran out for the question, and then nothing happened.
 fn round<W: Wait, B: Branch + Drop, K: Keeper + Drop, L: Link, G: Gate, C: Clock>(
-    rt: &W,
-    alloc: Global,
+    host: &Host<'_, W, G, C>,
     store: &Store<B, K>,
     pass: &mut Pass,
     member: NodeNo,
     link: &mut L,
-    gate: &G,
-    clock: &C,
 ) -> Result<Option<Served>, OutOfMemory>
     requires pass { IsOf store.now pass.old }
     requires peer { IsSome (key_of (start_of store.now).node.keys member) }
     ensures pass { IsOf store.now pass.new }
     ensures follows { IfOk result (λ served. (k : Knowledge Entry) (w : Wire)
-        → Serving (start_of store.now) (C.may_give clock.now) member k w Asks (known pass.old) (L.shows link.old)
-        → Follows (start_of store.now) (turns_of store.now) (C.may_give clock.now) member k w served
+        → Serving (start_of store.now) (C.may_give host.now.clock.now) member k w Asks (known pass.old) (L.shows link.old)
+        → Follows (start_of store.now) (turns_of store.now) (C.may_give host.now.clock.now) member k w served
         (known pass.new) (L.shows link.new)) }
     // If the serving goes on, the store was asked and the link was opened.
     ensures turn { result ≡ Ok None → (known pass.old).drawn < (known pass.new).drawn }
     ensures opened { result ≡ Ok None → IsOpened (L.shows link.old) (L.shows link.new) }
     ensures nothing { OnErr result ((known pass.new ≡ known pass.old) × (link.new ≡ link.old)) }
 {
-    match store.stopped(rt, pass) {
+    match store.stopped(host.rt, pass) {
         Ok(answer) => {
             if answer {
                 return Ok(Some(Served::Stopped));
             }
-            Ok(connect(rt, alloc, store, pass, member, link, gate, clock))
+            Ok(connect(host, store, pass, member, link))
         }
         Err(StoreEnd::OutOfMemory) => Err(OutOfMemory),
         Err(StoreEnd::StoreFull(limit)) => Ok(Some(Served::StoreFull(limit))),
@@ -111,28 +102,25 @@ fn round<W: Wait, B: Branch + Drop, K: Keeper + Drop, L: Link, G: Gate, C: Clock
 
 /// Opens the link, holds a session if that answers Open, and answers why the serving is over, if it is.
 fn connect<W: Wait, B: Branch + Drop, K: Keeper + Drop, L: Link, G: Gate, C: Clock>(
-    rt: &W,
-    alloc: Global,
+    host: &Host<'_, W, G, C>,
     store: &Store<B, K>,
     pass: &mut Pass,
     member: NodeNo,
     link: &mut L,
-    gate: &G,
-    clock: &C,
 ) -> Option<Served>
     requires pass { IsOf store.now pass.old }
     requires peer { IsSome (key_of (start_of store.now).node.keys member) }
     ensures pass { IsOf store.now pass.new }
     ensures follows { (k : Knowledge Entry) (w : Wire)
-        → Serving (start_of store.now) (C.may_give clock.now) member k w Opens (known pass.old) (L.shows link.old)
-        → Follows (start_of store.now) (turns_of store.now) (C.may_give clock.now) member k w result
+        → Serving (start_of store.now) (C.may_give host.now.clock.now) member k w Opens (known pass.old) (L.shows link.old)
+        → Follows (start_of store.now) (turns_of store.now) (C.may_give host.now.clock.now) member k w result
         (known pass.new) (L.shows link.new) }
     ensures drawn { (known pass.old).drawn ≤ (known pass.new).drawn }
     ensures opened { IsOpened (L.shows link.old) (L.shows link.new) }
 {
     match link.open() {
         Opening::Open => {
-            let end = talk(rt, alloc, store, pass, member, link, gate, clock);
+            let end = talk(host, store, pass, member, link);
             served_of(end)
         }
         Opening::NotYet => None,

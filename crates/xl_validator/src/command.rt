@@ -20,6 +20,7 @@ use std::thread::Threads;
 use xl_base::Status;
 use xl_io::{Keeper, Sink, Source};
 use xl_links::{Clock, Hub, OpenGate};
+use xl_peers::Host;
 use xl_settings::{SettingsFault, SettingsRefusal, settings_from, write_refusal};
 use xl_store::{Closed, Spared};
 use xl_trie::Trie;
@@ -56,7 +57,13 @@ fn run<W: Threads + Wait + Sync, O: Sink + Send, K: Keeper + Drop + Send, H: Hub
         output.old output.new keeper result.keeper result.status result.journal }
 {
     let Prepared { core, plan } = prepared;
-    match node(rt, alloc, core, keeper, plan, hub, &OpenGate, clock, output) {
+    let host = Host {
+        rt,
+        alloc,
+        gate: &OpenGate,
+        clock,
+    };
+    match node(&host, core, keeper, plan, hub, output) {
         Ok(ran) => ended(ran),
         Err(spared) => Ended::unopened(Status::OutOfMemory, keeper_of(spared)),
     }

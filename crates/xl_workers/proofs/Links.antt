@@ -3,7 +3,6 @@ use Rattle.std.proofs.Common.{◌≡◌, ◌≢◌, ◌+◌, ℕ, false, Option,
 use Rattle.std.specs.Prelude.{nat_eq, IfSome}
 use Rattle.std.proofs.lemmas.List.{map-append}
 use Rattle.std.specs.List.{AllByRecursion, IsDistinct}
-use mathlib.Core.List.{IsPrefix}
 use Rattle.xl_links.specs.Links.{Wire}
 use Rattle.xl_links.specs.Tellings.{AddsTold}
 use Rattle.xl_links.specs.Ways.{Target}

@@ -18,17 +18,16 @@ ghost use Rattle.xl_workers.specs.Working.{TookLast, Lives, Lived, end_of};
 
 use crate::ends::RunEnd;
 use crate::linking::{NoLinks, Peer, open_links};
-use crate::plan::Contact;
+use crate::plan::{Contact, Plan};
 use crate::submitting::submit_all;
 use crate::working::work;
-use std::alloc::Global;
 use std::sync::Wait;
 use std::thread::Threads;
-use xl_base::TxId;
 use xl_heartbeat::{Ending, Pulse, take_reports};
 use xl_io::{Discard, Keeper, Sink};
 use xl_ledger::Branch;
 use xl_links::{Clock, Gate, Hub, Link};
+use xl_peers::Host;
 use xl_store::{Pass, Store, StoreEnd};
 
 /// Takes the last reports, and writes their lines. If a write's fault ended the heartbeat they aren't written: what
@@ -64,14 +63,11 @@ fn serve_all<
     C: Clock + Sync,
     O: Sink + Send,
 >(
-    rt: &W,
-    alloc: Global,
+    host: &Host<'_, W, G, C>,
     store: &Store<B, K>,
     pass: Pass,
     peers: Vec<Peer<L>>,
     pulse: &Pulse,
-    gate: &G,
-    clock: &C,
     sink: &mut O,
 ) -> (RunEnd, Pass)
     requires pass { IsOf store.now pass }
@@ -84,14 +80,14 @@ fn serve_all<
         → map member_of peers.items ≡ map member_in targets
         → AddsTold old_hub.asked new_hub.asked targets
         → AllByRecursion (IsAsTold gives L.shows) peers.items
-        → Lives (setting (start_of store.now) (turns_of store.now) (C.may_give clock.now) gives)
+        → Lives (setting (start_of store.now) (turns_of store.now) (C.may_give host.now.clock.now) gives)
         (doing ids targets pulse.now old_hub new_hub
         (output (O.held sink.old) (O.faults sink.old)) (output (O.held sink.new) (O.faults sink.new)))
         ids result.0 (known pass) (known result.1) }
 {
-    match work(rt, alloc, store, pass, peers, pulse, gate, clock, sink) {
+    match work(host, store, pass, peers, pulse, sink) {
         Ok((mut pass, beats)) => {
-            let last = take_last(rt, store, sink, &mut pass, beats.run);
+            let last = take_last(host.rt, store, sink, &mut pass, beats.run);
             (RunEnd::Ran { beats, last }, pass)
         }
         Err(pass) => (RunEnd::OutOfMemory, pass),
@@ -108,15 +104,12 @@ fn link_and_serve<
     C: Clock + Sync,
     O: Sink + Send,
 >(
-    rt: &W,
-    alloc: Global,
+    host: &Host<'_, W, G, C>,
     store: &Store<B, K>,
     pass: Pass,
     contacts: Vec<Contact>,
     pulse: &Pulse,
     hub: &mut H,
-    gate: &G,
-    clock: &C,
     sink: &mut O,
 ) -> (RunEnd, Pass)
     requires pass { IsOf store.now pass }
@@ -129,14 +122,14 @@ fn link_and_serve<
     ensures later { H.faults hub.old ≤ H.faults hub.new }
     ensures not_full { (n : ℕ) → result.0 ≢ RunEnd.StoreFull n }
     ensures lives { (ids : List TxId)
-        → Lives (setting (start_of store.now) (turns_of store.now) (C.may_give clock.now) (H.gives hub.old))
+        → Lives (setting (start_of store.now) (turns_of store.now) (C.may_give host.now.clock.now) (H.gives hub.old))
         (doing ids (map target_of contacts.items) pulse.now
         (hub_seen (H.faults hub.old) (H.asked hub.old)) (hub_seen (H.faults hub.new) (H.asked hub.new))
         (output (O.held sink.old) (O.faults sink.old)) (output (O.held sink.new) (O.faults sink.new)))
         ids result.0 (known pass) (known result.1) }
 {
-    match open_links(alloc, hub, contacts) {
-        Ok(peers) => serve_all(rt, alloc, store, pass, peers, pulse, gate, clock, sink),
+    match open_links(host.alloc, hub, contacts) {
+        Ok(peers) => serve_all(host, store, pass, peers, pulse, sink),
         Err(NoLinks::NetFault) => (RunEnd::NetFault, pass),
         Err(NoLinks::OutOfMemory) => (RunEnd::OutOfMemory, pass),
     }
@@ -162,37 +155,36 @@ pub(crate) fn live<
     C: Clock + Sync,
     O: Sink + Send,
 >(
-    rt: &W,
-    alloc: Global,
+    host: &Host<'_, W, G, C>,
     store: &Store<B, K>,
     mut pass: Pass,
-    ids: &[TxId],
-    contacts: Vec<Contact>,
-    pulse: &Pulse,
+    plan: Plan,
     hub: &mut H,
-    gate: &G,
-    clock: &C,
     sink: &mut O,
 ) -> (RunEnd, Pass)
     requires pass { IsOf store.now pass }
     requires new { known pass ≡ newcomer }
     requires peers { AllByRecursion (λ m. IsSome (key_of (start_of store.now).node.keys m))
-        (map contact_of contacts.items) }
-    requires once { IsDistinct nat_eq (map contact_of contacts.items) }
-    requires few { length contacts.items ≤ 64 }
+        (map contact_of plan.contacts.items) }
+    requires once { IsDistinct nat_eq (map contact_of plan.contacts.items) }
+    requires few { length plan.contacts.items ≤ 64 }
     ensures pass { IsOf store.now result.1 }
     ensures later { H.faults hub.old ≤ H.faults hub.new }
     ensures unopened { (n : ℕ) → result.0 ≡ RunEnd.StoreFull n → hub.new ≡ hub.old }
-    ensures lived { Lived (setting (start_of store.now) (turns_of store.now) (C.may_give clock.now) (H.gives hub.old))
-        (doing ids.now (map target_of contacts.items) pulse.now
+    ensures lived { Lived (setting (start_of store.now) (turns_of store.now) (C.may_give host.now.clock.now) (H.gives hub.old))
+        (doing plan.submits.items (map target_of plan.contacts.items) plan.pulse
         (hub_seen (H.faults hub.old) (H.asked hub.old)) (hub_seen (H.faults hub.new) (H.asked hub.new))
         (output (O.held sink.old) (O.faults sink.old)) (output (O.held sink.new) (O.faults sink.new)))
         result.0 (known result.1) }
 {
-    match submit_all(rt, store, &mut pass, ids, clock) {
-        Ok(()) => link_and_serve(
-            rt, alloc, store, pass, contacts, pulse, hub, gate, clock, sink,
-        ),
+    let Plan {
+        turns: _,
+        submits,
+        contacts,
+        pulse,
+    } = plan;
+    match submit_all(host.rt, store, &mut pass, &submits, host.clock) {
+        Ok(()) => link_and_serve(host, store, pass, contacts, &pulse, hub, sink),
         Err(end) => (end_of(end), pass),
     }
 }

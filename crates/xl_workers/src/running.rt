@@ -13,13 +13,13 @@ ghost use Rattle.xl_workers.specs.Runs.{doing, NodeRun};
 use crate::ends::RunEnd;
 use crate::living::live;
 use crate::plan::Plan;
-use std::alloc::Global;
 use std::sync::Wait;
 use std::thread::Threads;
 use xl_core::Core;
 use xl_io::{Keeper, Sink};
 use xl_ledger::Branch;
 use xl_links::{Clock, Gate, Hub};
+use xl_peers::Host;
 use xl_store::{Closed, Spared, Store};
 
 /// What a run leaves.
@@ -44,14 +44,11 @@ pub fn node<
     C: Clock + Sync,
     O: Sink + Send,
 >(
-    rt: &W,
-    alloc: Global,
+    host: &Host<'_, W, G, C>,
     core: Core<B>,
     keeper: K,
     plan: Plan,
     hub: &mut H,
-    gate: &G,
-    clock: &C,
     sink: &mut O,
 ) -> Result<Ran<B, K>, Spared<B, K>>
     requires turns { (0 < plan.turns) × (plan.turns ≤ 2 ^ 62) }
@@ -66,7 +63,7 @@ pub fn node<
     ensures limit { IfOk result (λ ran. length ran.closed.journal ≤ plan.turns) }
     // its places are shared out, its lines are the output, and the hub was asked for links as the plan names them
     ensures run { IfOk result (λ ran. NodeRun
-        (setting core plan.turns (C.may_give clock.now) (H.gives hub.old))
+        (setting core plan.turns (C.may_give host.now.clock.now) (H.gives hub.old))
         (doing plan.submits.items (map target_of plan.contacts.items) plan.pulse
         (hub_seen (H.faults hub.old) (H.asked hub.old)) (hub_seen (H.faults hub.new) (H.asked hub.new))
         (output (O.held sink.old) (O.faults sink.old)) (output (O.held sink.new) (O.faults sink.new)))
@@ -76,19 +73,11 @@ pub fn node<
     ensures spared { IfErr result (λ spared. (spared.core ≡ core) × (spared.keeper ≡ keeper)) }
     ensures nothing { OnErr result ((hub.new ≡ hub.old) × (sink.new ≡ sink.old)) }
 {
-    let Plan {
-        turns,
-        submits,
-        contacts,
-        pulse,
-    } = plan;
-    let (store, pass) = match Store::open(alloc, core, keeper, turns) {
+    let (store, pass) = match Store::open(host.alloc, core, keeper, plan.turns) {
         Ok(opened) => opened,
         Err(spared) => return Err(spared),
     };
-    let (end, pass) = live(
-        rt, alloc, &store, pass, &submits, contacts, &pulse, hub, gate, clock, sink,
-    );
+    let (end, pass) = live(host, &store, pass, plan, hub, sink);
     let closed = store.close(pass);
     Ok(Ran { end, closed })
 }

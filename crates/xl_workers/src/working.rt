@@ -15,7 +15,6 @@ use crate::hiring::hire;
 use crate::joining::join_all;
 use crate::linking::Peer;
 use crate::worker::{Worker, work_all};
-use std::alloc::Global;
 use std::sync::Wait;
 use std::thread;
 use std::thread::Threads;
@@ -23,6 +22,7 @@ use xl_heartbeat::{BeatEnd, Pulse, beat};
 use xl_io::{Keeper, Sink};
 use xl_ledger::Branch;
 use xl_links::{Clock, Gate, Link};
+use xl_peers::Host;
 use xl_store::{Pass, Store};
 
 /// All workers beside the heartbeat, until all have ended.
@@ -35,40 +35,37 @@ fn run<
     C: Clock + Sync,
     O: Sink + Send,
 >(
-    rt: &W,
-    alloc: Global,
+    host: &Host<'_, W, G, C>,
     store: &Store<B, K>,
     pass: &mut Pass,
     workers: &mut [Worker<L>],
     pulse: &Pulse,
-    gate: &G,
-    clock: &C,
     sink: &mut O,
 ) -> BeatEnd
     requires pass { IsOf store.now pass.old }
     requires ready { AreReady store.now workers.old }
     ensures pass { IsOf store.now pass.new }
-    ensures heartbeat { Heartbeat (start_of store.now) (turns_of store.now) (C.may_give clock.now) pulse.now
+    ensures heartbeat { Heartbeat (start_of store.now) (turns_of store.now) (C.may_give host.now.clock.now) pulse.now
         (known pass.old) (output (O.held sink.old) (O.faults sink.old)) result
         (known pass.new) (output (O.held sink.new) (O.faults sink.new)) }
-    ensures served { HaveServed store.now (C.may_give clock.now) L.shows workers.old workers.new }
+    ensures served { HaveServed store.now (C.may_give host.now.clock.now) L.shows workers.old workers.new }
     ensures long { length workers.new ≡ length workers.old }
 {
     // If no thread can be started the second closure runs first, in this one: the workers then find the stop asked.
     let ((), beats) = thread::join_mut(
-        rt,
+        host.rt,
         &mut ||
             requires { AreReady store.now workers.now }
-            ensures { HaveServed store.entry.now (C.may_give clock.entry.now) L.shows workers.entry.now workers.exit.now
+            ensures { HaveServed store.entry.now (C.may_give host.entry.now.clock.now) L.shows workers.entry.now workers.exit.now
                 × (length workers.exit.now ≡ length workers.entry.now) }
-        { work_all(rt, alloc, store, workers, gate, clock) },
+        { work_all(host, store, workers) },
         &mut || -> BeatEnd
             requires { IsOf store.now pass.now }
             ensures { IsOf store.entry.now pass.exit.now
-                × Heartbeat (start_of store.entry.now) (turns_of store.entry.now) (C.may_give clock.entry.now) pulse.entry.now
+                × Heartbeat (start_of store.entry.now) (turns_of store.entry.now) (C.may_give host.entry.now.clock.now) pulse.entry.now
                 (known pass.entry.now) (output (O.held sink.entry.now) (O.faults sink.entry.now)) result
                 (known pass.exit.now) (output (O.held sink.exit.now) (O.faults sink.exit.now)) }
-        { beat(rt, store, clock, sink, pulse, pass) },
+        { beat(host.rt, store, host.clock, sink, pulse, pass) },
     );
     beats
 }
@@ -83,15 +80,12 @@ fn run_and_join<
     C: Clock + Sync,
     O: Sink + Send,
 >(
-    rt: &W,
-    alloc: Global,
+    host: &Host<'_, W, G, C>,
     store: &Store<B, K>,
     first: Pass,
     heart: Pass,
     workers: Vec<Worker<L>>,
     pulse: &Pulse,
-    gate: &G,
-    clock: &C,
     sink: &mut O,
 ) -> (Pass, BeatEnd)
     requires first { IsOf store.now first }
@@ -101,23 +95,13 @@ fn run_and_join<
     ensures pass { IsOf store.now result.0 }
     ensures worked { (gives : ℕ → Option Wire)
         → AllByRecursion (IsAsTold gives L.shows) (map peer_of workers.items)
-        → Worked (setting (start_of store.now) (turns_of store.now) (C.may_give clock.now) gives) pulse.now
+        → Worked (setting (start_of store.now) (turns_of store.now) (C.may_give host.now.clock.now) gives) pulse.now
         (map member_of (map peer_of workers.items)) (known first) (output (O.held sink.old) (O.faults sink.old))
         result.1 (known result.0) (output (O.held sink.new) (O.faults sink.new)) }
 {
     let mut heart = heart;
     let mut workers = workers;
-    let beats = run(
-        rt,
-        alloc,
-        store,
-        &mut heart,
-        workers.as_mut_slice(),
-        pulse,
-        gate,
-        clock,
-        sink,
-    );
+    let beats = run(host, store, &mut heart, workers.as_mut_slice(), pulse, sink);
     let one = store.join(first, heart);
     (join_all(store, one, workers), beats)
 }
@@ -133,14 +117,11 @@ pub(crate) fn work<
     C: Clock + Sync,
     O: Sink + Send,
 >(
-    rt: &W,
-    alloc: Global,
+    host: &Host<'_, W, G, C>,
     store: &Store<B, K>,
     pass: Pass,
     peers: Vec<Peer<L>>,
     pulse: &Pulse,
-    gate: &G,
-    clock: &C,
     sink: &mut O,
 ) -> Result<(Pass, BeatEnd), Pass>
     requires pass { IsOf store.now pass }
@@ -150,17 +131,15 @@ pub(crate) fn work<
     ensures pass { IfOk result (λ done. IsOf store.now done.0) }
     ensures worked { IfOk result (λ done. (gives : ℕ → Option Wire)
         → AllByRecursion (IsAsTold gives L.shows) peers.items
-        → Worked (setting (start_of store.now) (turns_of store.now) (C.may_give clock.now) gives) pulse.now
+        → Worked (setting (start_of store.now) (turns_of store.now) (C.may_give host.now.clock.now) gives) pulse.now
         (map member_of peers.items) (known pass) (output (O.held sink.old) (O.faults sink.old))
         done.1 (known done.0) (output (O.held sink.new) (O.faults sink.new))) }
     ensures spared { IfErr result (λ back. (back ≡ pass) × (sink.new ≡ sink.old)) }
 {
-    let Ok(room) = Vec::with_capacity(alloc, peers.len()) else {
+    let Ok(room) = Vec::with_capacity(host.alloc, peers.len()) else {
         return Err(pass);
     };
     let (first, heart) = store.split(pass);
     let (first, workers) = hire(store, first, peers, room);
-    Ok(run_and_join(
-        rt, alloc, store, first, heart, workers, pulse, gate, clock, sink,
-    ))
+    Ok(run_and_join(host, store, first, heart, workers, pulse, sink))
 }

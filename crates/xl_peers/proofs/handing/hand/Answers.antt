@@ -17,7 +17,7 @@ loop-rest-preserved g c = record {
   needs = c.in-Ok.ensures.handed.1;
   on = λ member w k0 w0 s.
       let start = start_of c.args.store.now in
-      let may = g.C.Clock.may_give c.args.clock.now in
+      let may = g.C.Clock.may_give c.args.host.now.clock.now in
       let before = c.loop-rest.invariant.on member w k0 w0 s in
       let is = pushed c.loop-rest.feed c.push-count.new.self c.loop-rest.rest.now c.push-count.result
       c.push-count.ensures.taken c.push-count.ensures.held in
@@ -44,7 +44,7 @@ returns-in-Err-clause-handed g c member w k0 w0 s =
     let is = pushed c.loop-rest.feed c.push-count.new.self c.loop-rest.rest.now c.push-count.result
     c.push-count.ensures.taken c.push-count.ensures.held in
     c.in-Err.ensures.handed member w (drop c.push-count.result c.loop-rest.rest.now) k0 w0
-    (subst (λ (l : List ℕ). SoFar (start_of c.args.store.now) (g.C.Clock.may_give c.args.clock.now) member k0 w0 Hands
+    (subst (λ (l : List ℕ). SoFar (start_of c.args.store.now) (g.C.Clock.may_give c.args.host.now.clock.now) member k0 w0 Hands
     (known c.loop-rest.pass) w l) (sym is) before)
 
 pub returns-clause-handed : goal.returns-clause-handed
@@ -53,7 +53,7 @@ returns-clause-handed g c = record {
   needs = c.loop-rest.invariant.needs;
   on = λ member w k0 w0 s.
       let start = start_of c.args.store.now in
-      let may = g.C.Clock.may_give c.args.clock.now in
+      let may = g.C.Clock.may_give c.args.host.now.clock.now in
       let before = c.loop-rest.invariant.on member w k0 w0 s in
       let none : c.loop-rest.rest.now ≡ [] =
       nil_from_length _ (grind (arith, nat_tests, c.is_empty.ensures, c.loop-rest-test.false)) in

@@ -13,7 +13,7 @@ invariant-loop-rest g l = record {
   takes : l.feed.refused ≡ false;
   needs : NeedsMore l.feed.held;
   on : (member : ℕ) (w : Wire)
-      → Goes (start_of l.store) (g.C.Clock.may_give l.clock) member Hands Hands (known l.initial.pass) w
+      → Goes (start_of l.store) (g.C.Clock.may_give l.host.clock.now) member Hands Hands (known l.initial.pass) w
       (l.initial.feed.held ++ l.piece) (known l.pass) w (l.feed.held ++ l.rest);
   turns : (known l.initial.pass).drawn ≤ (known l.pass).drawn;
 }

@@ -6,7 +6,7 @@ use Rattle.xl_peers.proofs.handing.hand_held.Goals as goal
 pub loop-init : goal.loop-init
 loop-init g c = record {
   pass = c.requires.pass;
-  on = hands_none c.args.store.now (g.C.Clock.may_give c.args.clock.now) c.args.pass.now c.args.feed.now
+  on = hands_none c.args.store.now (g.C.Clock.may_give c.args.host.now.clock.now) c.args.pass.now c.args.feed.now
       c.args.feed.now refl c.requires.takes;
 }
 
@@ -19,13 +19,13 @@ hand_next-requires-clause-takes g c = c.loop.invariant.on.takes
 pub loop-preserved : goal.loop-preserved
 loop-preserved g c = record {
   pass = c.in-Ok-true.ensures.pass;
-  on = hands_both c.args.store.now (g.C.Clock.may_give c.args.clock.now) _ c.loop.pass _ _ c.loop.feed _
+  on = hands_both c.args.store.now (g.C.Clock.may_give c.args.host.now.clock.now) _ c.loop.pass _ _ c.loop.feed _
       c.loop.invariant.on c.in-Ok-true.ensures.handed.0;
 }
 
 pub returns-in-Ok-false-clause-handed : goal.returns-in-Ok-false-clause-handed
 returns-in-Ok-false-clause-handed g c = (
-  hands_both c.args.store.now (g.C.Clock.may_give c.args.clock.now) _ c.loop.pass _ _ c.loop.feed _
+  hands_both c.args.store.now (g.C.Clock.may_give c.args.host.now.clock.now) _ c.loop.pass _ _ c.loop.feed _
       c.loop.invariant.on c.in-Ok-false.ensures.handed.0,
   c.in-Ok-false.ensures.handed.1 c.in-Ok-false.field-0-test,
 )

@@ -5,5 +5,5 @@ use Rattle.xl_peers.proofs.handing.hand_held.Given as goal
 abbrev pub invariant-loop : goal.invariant-loop
 invariant-loop g l = record {
   pass : IsOf l.store l.pass;
-  on : HandsOn l.store (g.C.Clock.may_give l.clock) l.initial.pass l.initial.feed l.pass l.feed;
+  on : HandsOn l.store (g.C.Clock.may_give l.host.clock.now) l.initial.pass l.initial.feed l.pass l.feed;
 }

@@ -7,6 +7,6 @@ use Rattle.xl_peers.proofs.serving.attend.Given as goal
 abbrev pub invariant-loop : goal.invariant-loop
 invariant-loop g l = record {
   pass : IsOf l.store l.pass;
-  far : Serving (start_of l.store) (g.C.Clock.may_give l.clock) l.member (known l.initial.pass)
+  far : Serving (start_of l.store) (g.C.Clock.may_give l.host.clock.now) l.member (known l.initial.pass)
       (g.L.Link.shows l.initial.link) Asks (known l.pass) (g.L.Link.shows l.link);
 }

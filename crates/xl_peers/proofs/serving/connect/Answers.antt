@@ -10,7 +10,7 @@ use Rattle.xl_peers.proofs.serving.connect.Goals as goal
 
 pub returns-in-Open-clause-follows : goal.returns-in-Open-clause-follows
 returns-in-Open-clause-follows g c k0 w0 s =
-    let may = g.C.Clock.may_give c.args.clock.now in
+    let may = g.C.Clock.may_give c.args.host.now.clock.now in
     let start = start_of c.args.store.now in
     let turns = turns_of c.args.store.now in
     let is_open = opened start may c.args.member k0 w0 (known c.args.pass.now) (g.L.Link.shows c.args.link.now)
@@ -21,12 +21,12 @@ returns-in-Open-clause-follows g c k0 w0 s =
 
 pub returns-in-NotYet-clause-follows : goal.returns-in-NotYet-clause-follows
 returns-in-NotYet-clause-follows g c k0 w0 s =
-    opened (start_of c.args.store.now) (g.C.Clock.may_give c.args.clock.now) c.args.member k0 w0 (known c.args.pass.now)
+    opened (start_of c.args.store.now) (g.C.Clock.may_give c.args.host.now.clock.now) c.args.member k0 w0 (known c.args.pass.now)
     (g.L.Link.shows c.args.link.now) (g.L.Link.shows c.open.new.self) opening.NotYet s c.in-NotYet.ensures
 
 pub returns-in-Failed-clause-follows : goal.returns-in-Failed-clause-follows
 returns-in-Failed-clause-follows g c k0 w0 s =
-    opened (start_of c.args.store.now) (g.C.Clock.may_give c.args.clock.now) c.args.member k0 w0 (known c.args.pass.now)
+    opened (start_of c.args.store.now) (g.C.Clock.may_give c.args.host.now.clock.now) c.args.member k0 w0 (known c.args.pass.now)
     (g.L.Link.shows c.args.link.now) (g.L.Link.shows c.open.new.self) opening.Failed s c.in-Failed.ensures
 
 pub returns-in-Open-clause-opened : goal.returns-in-Open-clause-opened

@@ -11,7 +11,7 @@ use Rattle.xl_peers.proofs.serving.round.Goals as goal
 
 pub returns-then-answer-clause-follows : goal.returns-then-answer-clause-follows
 returns-then-answer-clause-follows g c k0 w0 s =
-    let may = g.C.Clock.may_give c.args.clock.now in
+    let may = g.C.Clock.may_give c.args.host.now.clock.now in
     let called = subst (λ b. Called c.args.store.now c.args.pass.now Stopped (Told b) c.stopped.new.pass)
     c.if-answer.true c.in-Ok.ensures.called in
     asked_last (start_of c.args.store.now) may c.args.member k0 w0 (turns_of c.args.store.now) (known c.args.pass.now)
@@ -20,7 +20,7 @@ returns-then-answer-clause-follows g c k0 w0 s =
 
 pub returns-else-answer-clause-follows : goal.returns-else-answer-clause-follows
 returns-else-answer-clause-follows g c k0 w0 s =
-    let may = g.C.Clock.may_give c.args.clock.now in
+    let may = g.C.Clock.may_give c.args.host.now.clock.now in
     let called = subst (λ b. Called c.args.store.now c.args.pass.now Stopped (Told b) c.stopped.new.pass)
     c.if-answer.false c.in-Ok.ensures.called in
     c.connect.ensures.follows k0 w0 (asked (start_of c.args.store.now) may c.args.member k0 w0 (known c.args.pass.now)
@@ -30,7 +30,7 @@ returns-else-answer-clause-follows g c k0 w0 s =
 pub returns-in-Err-StoreFull-clause-follows : goal.returns-in-Err-StoreFull-clause-follows
 returns-in-Err-StoreFull-clause-follows g c k0 w0 s =
     let store = c.args.store.now in
-    let may = g.C.Clock.may_give c.args.clock.now in
+    let may = g.C.Clock.may_give c.args.host.now.clock.now in
     let refused = subst (λ e. Refused store c.args.pass.now e c.stopped.new.pass) c.in-Err-StoreFull.field-0-is
     c.in-Err-StoreFull.ensures.refused in
     subst (λ n. Serves (start_of store) (turns_of store) may c.args.member k0 w0 (served.StoreFull n)

@@ -8,7 +8,7 @@ use Rattle.xl_peers.proofs.talking.hear.Goals as goal
 pub returns-in-Ok-Some-clause-heard : goal.returns-in-Ok-Some-clause-heard
 returns-in-Ok-Some-clause-heard g c member =
     let clause = rw c.in-Ok-Some.field-0-is at c.in-Ok-Some.ensures.got in
-    let may = g.C.Clock.may_give c.args.clock.now in
+    let may = g.C.Clock.may_give c.args.host.now.clock.now in
     let got = clause (start_of c.args.store.now) may member (known c.args.pass.now) c.args.feed.now.held in
     hears c.args.store.now may member c.hand.result c.args.pass.now c.hand.new.pass (g.L.Link.shows c.args.link.now)
     (g.L.Link.shows c.read.new.link) c.args.feed.now c.hand.new.feed _ got c.hand.ensures.handed
@@ -19,12 +19,12 @@ returns-in-Ok-None-clause-heard g c member =
     record {
       takes = c.requires.takes;
       needs = c.requires.needs;
-      on = clause (start_of c.args.store.now) (g.C.Clock.may_give c.args.clock.now) member (known c.args.pass.now)
+      on = clause (start_of c.args.store.now) (g.C.Clock.may_give c.args.host.now.clock.now) member (known c.args.pass.now)
           c.args.feed.now.held;
       turns = omega arith;
     }
 
 pub returns-in-Err-clause-heard : goal.returns-in-Err-clause-heard
 returns-in-Err-clause-heard g c member =
-    c.in-Err.ensures.ends (start_of c.args.store.now) (turns_of c.args.store.now) (g.C.Clock.may_give c.args.clock.now)
+    c.in-Err.ensures.ends (start_of c.args.store.now) (turns_of c.args.store.now) (g.C.Clock.may_give c.args.host.now.clock.now)
     member (known c.args.pass.now) c.args.feed.now.held

@@ -9,14 +9,14 @@ use Rattle.xl_peers.proofs.talking.talk.Goals as goal
 
 pub returns-in_default-clause-session : goal.returns-in_default-clause-session
 returns-in_default-clause-session g c =
-    let may = g.C.Clock.may_give c.args.clock.now in
+    let may = g.C.Clock.may_give c.args.host.now.clock.now in
     let start = start_of c.args.store.now in
     ends start (turns_of c.args.store.now) may c.args.member _ _ Greets _ _ [] end.OutOfMemory
     (starts start may c.args.member (known c.args.pass.now) (g.L.Link.shows c.args.link.now)) tt tt
 
 pub returns-in_default-vec-clause-session : goal.returns-in_default-vec-clause-session
 returns-in_default-vec-clause-session g c =
-    let may = g.C.Clock.may_give c.args.clock.now in
+    let may = g.C.Clock.may_give c.args.host.now.clock.now in
     let start = start_of c.args.store.now in
     ends start (turns_of c.args.store.now) may c.args.member _ _ Greets _ _ [] end.OutOfMemory
     (starts start may c.args.member (known c.args.pass.now) (g.L.Link.shows c.args.link.now)) tt tt

@@ -5,24 +5,24 @@ use Rattle.xl_peers.proofs.talking.turn.Goals as goal
 
 pub returns-in-Err-clause-turned : goal.returns-in-Err-clause-turned
 returns-in-Err-clause-turned g c k0 w0 s =
-    c.in-Err.ensures.ends (g.C.Clock.may_give c.args.clock.now) c.args.member (g.L.Link.shows c.args.link.now)
-    c.args.feed.now.held k0 w0 s
+    c.in-Err.ensures.ends (g.C.Clock.may_give c.args.host.now.clock.now) c.args.member (g.L.Link.shows c.args.link.now)
+    c.args.inbox.now.feed.held k0 w0 s
 
 pub returns-in-Err-drain-clause-turned : goal.returns-in-Err-drain-clause-turned
 returns-in-Err-drain-clause-turned g c k0 w0 s =
-    let may = g.C.Clock.may_give c.args.clock.now in
-    let held = c.args.feed.now.held in
+    let may = g.C.Clock.may_give c.args.host.now.clock.now in
+    let held = c.args.inbox.now.feed.held in
     let asked = c.in-Ok.ensures.on may c.args.member (g.L.Link.shows c.args.link.now) held k0 w0 s in
     c.in-Err-drain.ensures.drained may held k0 w0 asked
 
 pub returns-clause-turned : goal.returns-clause-turned
 returns-clause-turned g c =
-    let may = g.C.Clock.may_give c.args.clock.now in
-    let held = c.args.feed.now.held in
+    let may = g.C.Clock.may_give c.args.host.now.clock.now in
+    let held = c.args.inbox.now.feed.held in
     let asked = c.in-Ok.ensures.on may c.args.member (g.L.Link.shows c.args.link.now) held in
     turns_on c.args.store.now may c.args.member c.hear.result c.args.pass.now c.drain.new.pass c.hear.new.pass
     (g.L.Link.shows c.args.link.now) (g.L.Link.shows c.drain.new.link) (g.L.Link.shows c.hear.new.link)
-    c.args.feed.now c.hear.new.feed
+    c.args.inbox.now.feed c.hear.new.feed
     (λ k0 w0 s. c.in-Ok-drain.ensures.drained.on may held k0 w0 (asked k0 w0 s))
     (let one = c.in-Ok.ensures.turn in let two = c.in-Ok-drain.ensures.drained.turn in omega (arith, one, two))
     (c.hear.ensures.heard c.args.member)

@@ -11,7 +11,7 @@ use Rattle.xl_peers.proofs.talking.turns.Goals as goal
 
 pub loop-init : goal.loop-init
 loop-init g c =
-    let may = g.C.Clock.may_give c.args.clock.now in
+    let may = g.C.Clock.may_give c.args.host.now.clock.now in
     let w = g.L.Link.shows c.args.link.now in
     let k = known c.args.pass.now in
     let start = start_of c.args.store.now in
@@ -22,24 +22,24 @@ loop-init g c =
       takes = ap (λ (f : Fed). f.refused) c.requires.feed;
       needs = subst (λ (f : Fed). NeedsMore f.held) (sym c.requires.feed) (6, refl);
       room = c.requires.room;
-      far = c.in-Ok.ensures.on may w c.args.feed.now.held k w before;
+      far = c.in-Ok.ensures.on may w c.args.inbox.now.feed.held k w before;
     }
 
 pub loop-preserved : goal.loop-preserved
 loop-preserved g c = record {
-  pass = c.in-Ok-turned.ensures.pass;
-  takes = c.in-Ok-turned.ensures.turned.0.takes;
-  needs = c.in-Ok-turned.ensures.turned.0.needs;
-  room = c.in-Ok-turned.ensures.room;
-  far = c.in-Ok-turned.ensures.turned.0.on _ _ c.loop.invariant.far;
+  pass = c.in-Ok-turn.ensures.pass;
+  takes = c.in-Ok-turn.ensures.turned.0.takes;
+  needs = c.in-Ok-turn.ensures.turned.0.needs;
+  room = c.in-Ok-turn.ensures.room;
+  far = c.in-Ok-turn.ensures.turned.0.on _ _ c.loop.invariant.far;
 }
 
 pub returns-in-Err-clause-session : goal.returns-in-Err-clause-session
 returns-in-Err-clause-session g c =
-    let may = g.C.Clock.may_give c.args.clock.now in
+    let may = g.C.Clock.may_give c.args.host.now.clock.now in
     let w = g.L.Link.shows c.args.link.now in
     let k = known c.args.pass.now in
     c.in-Err.ensures.ends may w [] k w (starts (start_of c.args.store.now) may c.args.member k w)
 
-pub returns-in-Err-turned-clause-session : goal.returns-in-Err-turned-clause-session
-returns-in-Err-turned-clause-session g c = c.in-Err-turned.ensures.turned _ _ c.loop.invariant.far
+pub returns-in-Err-turn-clause-session : goal.returns-in-Err-turn-clause-session
+returns-in-Err-turn-clause-session g c = c.in-Err-turn.ensures.turned _ _ c.loop.invariant.far

@@ -10,9 +10,9 @@ use Rattle.xl_peers.proofs.talking.turns.Given as goal
 abbrev pub invariant-loop : goal.invariant-loop
 invariant-loop g l = record {
   pass : IsOf l.store l.pass;
-  takes : l.feed.refused ≡ false;
-  needs : NeedsMore l.feed.held;
+  takes : l.inbox.feed.refused ≡ false;
+  needs : NeedsMore l.inbox.feed.held;
   room : length l.room ≡ longest_frame;
-  far : SoFar (start_of l.store) (g.C.Clock.may_give l.clock) l.member (known l.fn.pass) (g.L.Link.shows l.fn.link) Asks
-      (known l.pass) (g.L.Link.shows l.link) l.feed.held;
+  far : SoFar (start_of l.store) (g.C.Clock.may_give l.host.clock.now) l.member (known l.fn.pass) (g.L.Link.shows l.fn.link) Asks
+      (known l.pass) (g.L.Link.shows l.link) l.inbox.feed.held;
 }

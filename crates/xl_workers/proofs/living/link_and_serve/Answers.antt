@@ -42,7 +42,7 @@ returns-in-Ok-clause-lives g c ids =
 
 pub returns-in-Err-OutOfMemory-clause-lives : goal.returns-in-Err-OutOfMemory-clause-lives
 returns-in-Err-OutOfMemory-clause-lives g c ids =
-    let s = setting (start_of c.args.store.now) (turns_of c.args.store.now) (g.C.Clock.may_give c.args.clock.now)
+    let s = setting (start_of c.args.store.now) (turns_of c.args.store.now) (g.C.Clock.may_give c.args.host.now.clock.now)
     (g.H.Hub.gives c.args.hub.now) in
     let o = output (g.O.Sink.held c.args.sink.now) (g.O.Sink.faults c.args.sink.now) in
     lives_none s
@@ -53,7 +53,7 @@ returns-in-Err-OutOfMemory-clause-lives g c ids =
 
 pub returns-in-Err-NetFault-clause-lives : goal.returns-in-Err-NetFault-clause-lives
 returns-in-Err-NetFault-clause-lives g c ids =
-    let s = setting (start_of c.args.store.now) (turns_of c.args.store.now) (g.C.Clock.may_give c.args.clock.now)
+    let s = setting (start_of c.args.store.now) (turns_of c.args.store.now) (g.C.Clock.may_give c.args.host.now.clock.now)
     (g.H.Hub.gives c.args.hub.now) in
     let o = output (g.O.Sink.held c.args.sink.now) (g.O.Sink.faults c.args.sink.now) in
     lives_unlinked s

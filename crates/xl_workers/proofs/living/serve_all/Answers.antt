@@ -15,7 +15,7 @@ use Rattle.xl_workers.proofs.living.serve_all.Goals as goal
 
 pub returns-in-Ok-clause-lives : goal.returns-in-Ok-clause-lives
 returns-in-Ok-clause-lives g c gives ids targets old_hub new_hub same asked told =
-    let s = setting (start_of c.args.store.now) (turns_of c.args.store.now) (g.C.Clock.may_give c.args.clock.now)
+    let s = setting (start_of c.args.store.now) (turns_of c.args.store.now) (g.C.Clock.may_give c.args.host.now.clock.now)
     gives in
     let o1 = output (g.O.Sink.held c.args.sink.now) (g.O.Sink.faults c.args.sink.now) in
     let o2 = output (g.O.Sink.held c.work.new.sink) (g.O.Sink.faults c.work.new.sink) in
@@ -27,7 +27,7 @@ returns-in-Ok-clause-lives g c gives ids targets old_hub new_hub same asked told
 
 pub returns-in-Err-clause-lives : goal.returns-in-Err-clause-lives
 returns-in-Err-clause-lives g c gives ids targets old_hub new_hub same asked told =
-    let s = setting (start_of c.args.store.now) (turns_of c.args.store.now) (g.C.Clock.may_give c.args.clock.now)
+    let s = setting (start_of c.args.store.now) (turns_of c.args.store.now) (g.C.Clock.may_give c.args.host.now.clock.now)
     gives in
     let o1 = output (g.O.Sink.held c.args.sink.now) (g.O.Sink.faults c.args.sink.now) in
     let o2 = output (g.O.Sink.held c.work.new.sink) (g.O.Sink.faults c.work.new.sink) in

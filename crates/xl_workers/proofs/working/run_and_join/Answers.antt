@@ -12,7 +12,7 @@ use Rattle.xl_workers.proofs.working.run_and_join.Goals as goal
 
 pub join_all-requires-clause-workers : goal.join_all-requires-clause-workers
 join_all-requires-clause-workers g c =
-    let may = g.C.Clock.may_give c.args.clock.now in
+    let may = g.C.Clock.may_give c.args.host.now.clock.now in
     let shows = g.L.Link.shows in
     let store = c.args.store.now in
     let new : List (Worker g.row.L.Denot) = c.run-beats.new.workers in
@@ -28,7 +28,7 @@ join_all-requires-clause-workers g c =
 
 pub returns-clause-worked : goal.returns-clause-worked
 returns-clause-worked g c gives told =
-    let may = g.C.Clock.may_give c.args.clock.now in
+    let may = g.C.Clock.may_give c.args.host.now.clock.now in
     let shows = g.L.Link.shows in
     let store = c.args.store.now in
     let new : List (Worker g.row.L.Denot) = c.run-beats.new.workers in
