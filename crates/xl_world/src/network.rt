@@ -299,7 +299,7 @@ impl Network {
         let kept = &self.room[..length];
         let deed = Deed::Sent { to, kept };
         match act_at(&mut self.places, to, at, &deed, Fate::Saved) {
-            Some(answer) => self.settle(to, &answer, told),
+            Some(ref answer) => self.settle(to, answer, told),
             None => Ok(()),
         }
     }
