@@ -12,6 +12,7 @@ ghost use Rattle.xl_core.specs.Node.{
   opened,
   at_moment,
   happens,
+  bytes_reply,
   speech_reply,
   speech_refusal,
   reporting,
@@ -30,7 +31,8 @@ ghost use Rattle.xl_core.specs.Node.{
   HearsOthers,
   told_by,
 };
-ghost use Rattle.xl_core.specs.Hearing.{bytes_with};
+ghost use Rattle.xl_wire.specs.Raws.{raw_frame};
+ghost use Rattle.xl_core.specs.Hearing.{bytes_with, speech_of, BeginsWith};
 ghost use Rattle.xl_core.specs.declared.refusal.Refusal.TheVariants.{NotAfter, IssuingOff};
 ghost use Rattle.xl_core.specs.declared.hearing.Speech.TheVariants as speech;
 ghost use Rattle.xl_ledger.specs.Limits.{greatest_limit, least_limit};
@@ -44,22 +46,22 @@ ghost use Rattle.xl_core.specs.Node.Save.{Kept};
 ghost use Rattle.xl_core.specs.Building.{usual_mode as usual_mode_of};
 ghost use Rattle.xl_core.specs.Keeping.{AsksSave, CountsFault, Holds, IsAsked, Saves};
 
-use crate::hearing::{Tags, hear};
+use crate::hearing::{Tags, opened};
 use crate::last::{LastReport, NONE_REPORTED};
 use crate::putting::Put;
 use crate::sending::{TagPlace, put_body};
 use crate::taken::Heard;
-use crate::{Item, OwnValidation, Refusal, Report, Settings, Speech, Spoken, Taken};
+use crate::{Item, OwnValidation, Refusal, Report, Settings, Taken};
 use std::alloc::Global;
 use std::marker::Model;
 use xl_base::{LedgerId, Millis, NodeNo, OutOfMemory, Seq, SetId, TxId, secs_of};
 use xl_io::Keeper;
-use xl_ledger::{Branch, Header, LedgerNo, Registry, header_bytes};
+use xl_ledger::{Branch, Header, LedgerNo, Registry, header_bytes, read_header};
 use xl_lists::List;
 use xl_rounds::{Mode, Round};
 use xl_tags::Keys;
 use xl_validations::Table;
-use xl_wire::{Body, Ids, Validation};
+use xl_wire::{Body, Ids, Parted, Raw, Validation, read_body, split};
 
 mod deliberating;
 mod greeting;
@@ -340,23 +342,44 @@ impl<B: Branch + Drop> Node<B> {
         ensures others { HearsOthers self.old (bytes_with tags self.old.keys bytes.now) }
     {
         self.advance(now);
-        let Spoken { from, what } = hear(&self.keys, &self.list, tags, bytes)?;
-        self.take_said(from, what)
+        // Its keys are its own.
+        let _ = &self.keys;
+        match split(bytes) {
+            Parted::Whole(raw) => self.hear_frame(tags, &raw, bytes),
+            Parted::Need(lack) => Err(Refusal::Short(lack)),
+            Parted::Refused(why) => Err(Refusal::Frame(why)),
+        }
     }
 
-    /// Takes what a member says.
-    fn take_said(&mut self, from: NodeNo, what: Speech<'_>) -> Result<Heard, Refusal>
-        requires listed { IsTrue (is_on self.old.list.members from) }
-        ensures exact { hear_reply result self.new ≡ speech_reply self.old from what.entry }
-        ensures refused { result_err result ≡ speech_refusal self.old from what.entry }
+    /// Hears the frame with which the bytes begin.
+    fn hear_frame(&mut self, tags: Tags, raw: &Raw<'_>, bytes: &[u8]) -> Result<Heard, Refusal>
+        requires { BeginsWith (raw_frame raw.now) bytes.now }
+        ensures exact { hear_reply result self.new
+            ≡ bytes_reply self.old (bytes_with tags self.old.keys bytes.now) }
+        ensures refused { result_err result ≡ frame_refusal self.old (bytes_with tags self.old.keys bytes.now) }
         ensures unchanged { OnErr result (self.new ≡ self.old) }
     {
-        match what {
-            Speech::Validation(validation) => self.take_validation(from, &validation),
-            Speech::Header(header) => self.learn(&header),
-            Speech::Proposal(proposal) => self.place(from, &proposal),
-            Speech::TxSet(ids) => Ok(self.hold(from, &ids)),
-            Speech::Tx(tx) => self.take_tx(tx),
+        let from = opened(&self.keys, &self.list, tags, raw, bytes)?;
+        // What is read is large, and taken where it stands.
+        match &read_body(raw) {
+            Ok(body) => self.take_body(from, body),
+            Err(why) => Err(Refusal::Frame(*why)),
+        }
+    }
+
+    /// Takes what a member says in a body.
+    fn take_body(&mut self, from: NodeNo, body: &Body<'_>) -> Result<Heard, Refusal>
+        requires listed { IsTrue (is_on self.old.list.members from) }
+        ensures exact { hear_reply result self.new ≡ speech_reply self.old from (speech_of body.now) }
+        ensures refused { result_err result ≡ speech_refusal self.old from (speech_of body.now) }
+        ensures unchanged { OnErr result (self.new ≡ self.old) }
+    {
+        match body {
+            Body::Validation(validation) => self.take_validation(from, validation),
+            Body::Header(bytes) => self.learn(&read_header(bytes)),
+            Body::Proposal(proposal) => self.place(from, proposal),
+            Body::TxSet(ids) => Ok(self.hold(from, ids)),
+            Body::Tx(tx) => self.take_tx(*tx),
         }
     }
 
