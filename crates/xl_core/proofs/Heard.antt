@@ -31,7 +31,7 @@ use Rattle.xl_core.specs.declared.refusal.Refusal.{Refusal}
 use Rattle.xl_core.specs.declared.refusal.Refusal.TheVariants.{Frame, Tag, Short, Extra}
 use Rattle.xl_core.specs.declared.hearing.Tags.{Tags}
 use Rattle.xl_core.specs.declared.hearing.Tags.TheVariants.{Tested, Assumed}
-use Rattle.xl_core.specs.Hearing.{bytes_as_sealed, bytes_with, causes, frame_with, spoken_in, said_in, sealed_in, speech_of, hearing_refusal, Carries}
+use Rattle.xl_core.specs.Hearing.{bytes_as_sealed, bytes_with, causes, frame_with, heard_so, spoken_in, said_in, sealed_in, speech_of, hearing_refusal, Carries}
 
 -- THE CAUSES
 
@@ -191,6 +191,10 @@ validation_body ring members bytes from v h =
 abbrev pub read_so : ℕ → Result Body WireRefusal → Result Spoken Refusal
 read_so from (Ok body) = Ok (record { from = from; what = speech_of body })
 read_so from (Err why) = Err (Frame why)
+
+pub so_read : (from : ℕ) (r : Result Body WireRefusal) → read_so from r ≡ heard_so (Ok from) r
+so_read from (Ok body) = refl
+so_read from (Err why) = refl
 
 of_body : (f : RawFrame) (o : Option WireRefusal) → read_so f.from (unless_refused o (body_in f.kind f.body)) ≡ unless_refused (first_of (option_map Frame o ∷ [])) (said_in f)
 of_body f None = refl

@@ -1,10 +1,11 @@
 -- What a node hears in bytes: the first of a list of causes for which it hears nothing, or what is said and by whom.
 -- Source: the order of the causes is this profile's.
-use Rattle.std.specs.Prelude.{◌≡◌, ◌≢◌, ℕ, ◌-◌, nat_lt, List, [], ◌∷◌, length, Option, Some, option_map, Result, IsTrue, if◌then◌else◌}
+use Rattle.std.specs.Prelude.{◌≡◌, ◌≢◌, ℕ, ◌-◌, nat_lt, List, [], ◌∷◌, length, take, Option, Some, option_map, Result, Ok, Err, IsTrue, if◌then◌else◌}
 use Rattle.xl_base.specs.Refusals.{refused_if, first_of, unless_refused}
 use Rattle.xl_lists.specs.Lists.{is_on}
 use Rattle.xl_wire.specs.declared.body.Body.{Body}
 use Rattle.xl_wire.specs.declared.body.Body.TheVariants as bodies
+use Rattle.xl_wire.specs.declared.refusal.WireRefusal.{WireRefusal}
 use Rattle.xl_wire.specs.Bodies.{body_refusal, body_in, SpellsBody}
 use Rattle.xl_wire.specs.Heads.{head_refusal, lacking, raw_in, split_of, Split}
 use Rattle.xl_wire.specs.Heads.Split.{Whole, Need, Refused}
@@ -51,6 +52,17 @@ said_in f = record { from = f.from; what = speech_of (body_in f.kind f.body) }
 -- what a node with these keys and these listed members hears in bytes
 abbrev pub spoken_in : Ring → List ℕ → List ℕ → Result Spoken Refusal
 spoken_in ring members bytes = unless_refused (hearing_refusal ring members bytes) (said_in (raw_in bytes))
+
+-- the bytes begin with this frame
+pub record BeginsWith (f : RawFrame) (bytes : List ℕ) : Type 0 where
+  pub split : split_of bytes ≡ Whole f
+  pub spelled : SpellsRaw f (take (span f.body) bytes)
+
+-- what is heard in it, by who sent it and by what its body reads as
+abbrev pub heard_so : Result ℕ Refusal → Result Body WireRefusal → Result Spoken Refusal
+heard_so (Err why) body = Err why
+heard_so (Ok from) (Err why) = Err (Frame why)
+heard_so (Ok from) (Ok body) = Ok (record { from = from; what = speech_of body })
 
 -- bytes are a frame to the keys' member from another listed one, with the tag of their key, and the frame has this body
 pub record Carries (ring : Ring) (members bytes : List ℕ) (f : RawFrame) (body : Body) : Type 0 where

@@ -89,8 +89,26 @@ fn keeps_keys(rt: HostRuntime) -> Result<(), Fail> {
     }
     let copy = keys.copy();
     assert_eq!(rt; (copy.get(other), copy.get(me)), (Some([2; 32]), None));
+    let mut given = Keys::of_schedule(me);
+    if other != given.me() {
+        given.put(other, [3; 32]);
+    }
+    assert_eq!(rt; given.get(other), Some([3; 32]));
+    assert!(rt; given.has(member(64)?) && !given.has(me));
     assert!(rt; keys.has(other) && keys.has_all(&List::new(&[5, 64], 2)?));
     Ok(())
+}
+
+/// Keys that were put, each the one that a schedule gives.
+fn put_keys(me: NodeNo, others: &[u32]) -> Result<Keys, u32> {
+    let mut keys = Keys::new(me);
+    for number in others {
+        let other = member(*number)?;
+        if other != keys.me() {
+            keys.put(other, pair_key(me, other));
+        }
+    }
+    Ok(keys)
 }
 
 /// A validation, in 87 bytes, whose tag isn't written yet.
@@ -167,7 +185,7 @@ const TAG: &str = "9a3f280e8352296a1478627f784bafec7ba617b306ec5ae0e1b5db64a2b68
 #[test]
 fn a_frame_is_sealed_and_opened(rt: HostRuntime) -> Result<(), Fail> {
     let list = List::new(&[1, 2, 3], 2)?;
-    let keys = Keys::of_schedule(member(2)?);
+    let keys = put_keys(member(2)?, &[1, 3])?;
     let mut frame = validation(1, 2);
     assert!(rt; try_seal(&Keys::of_schedule(member(1)?), &mut frame));
     assert_eq!(rt; tag_in(&frame), hex::decode(rt.alloc(), TAG)?.as_slice());
@@ -205,16 +223,16 @@ fn carries_its_tag(keys: &Keys, bytes: &[u8]) -> bool {
 }
 
 /// A validation to 2, sealed by its sender.
-fn sealed_to_2(from: NodeNo) -> [u8; 87] {
+fn sealed_to_2(from: NodeNo) -> Result<[u8; 87], u32> {
     let mut frame = validation(from.get(), 2);
-    try_seal(&Keys::of_schedule(from), &mut frame);
-    frame
+    try_seal(&put_keys(from, &[2])?, &mut frame);
+    Ok(frame)
 }
 
 #[test]
 fn tells_a_right_tag_of_anyone(rt: HostRuntime) -> Result<(), Fail> {
     let keys = Keys::of_schedule(member(2)?);
-    let frame = sealed_to_2(member(60)?);
+    let frame = sealed_to_2(member(60)?)?;
     assert!(rt; carries_its_tag(&keys, &frame));
     assert!(rt; !carries_its_tag(&keys, &flipped(frame, 86, 1)));
     Ok(())

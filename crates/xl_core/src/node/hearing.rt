@@ -1,20 +1,21 @@
-ghost use Rattle.std.specs.Prelude.{◌≡◌, ◌<◌, ◌≤◌, OnErr, IsTrue, Ok, Err, ℕ, None};
+ghost use Rattle.std.specs.Prelude.{◌≡◌, ◌≤◌, OnErr, IsTrue, ℕ};
 ghost use Rattle.std.specs.Result.{result_err};
 ghost use Rattle.xl_base.specs.Moments.{greatest_millis};
 ghost use Rattle.xl_lists.specs.Lists.{is_on};
-ghost use Rattle.xl_core.specs.Node.{Frame, at_moment, happens, speech_reply, speech_refusal, frame_refusal, HearsOthers};
-ghost use Rattle.xl_core.specs.Hearing.{bytes_with};
+ghost use Rattle.xl_wire.specs.Raws.{raw_frame};
+ghost use Rattle.xl_core.specs.Node.{Frame, at_moment, bytes_reply, happens, speech_reply, speech_refusal, frame_refusal, HearsOthers};
+ghost use Rattle.xl_core.specs.Hearing.{bytes_with, speech_of, BeginsWith};
 ghost use Rattle.xl_core.specs.declared.hearing.Speech.TheVariants as speech;
 ghost use Rattle.xl_core.specs.Replies.{hear_reply, validation_reply};
 ghost use Rattle.xl_core.specs.Issuing.Save.{Kept};
 
 use super::{Node, report_by};
-use crate::hearing::{Tags, hear};
+use crate::hearing::{Tags, opened};
 use crate::taken::Heard;
-use crate::{Refusal, Report, Speech, Spoken, Taken};
+use crate::{Refusal, Report, Taken};
 use xl_base::{Millis, NodeNo, secs_of};
-use xl_ledger::{Branch, Header};
-use xl_wire::Validation;
+use xl_ledger::{Branch, Header, read_header};
+use xl_wire::{Body, Parted, Raw, Validation, read_body, split};
 
 impl<B: Branch + Drop> Node<B> {
     /// Hears bytes that come, and says what they give to report.
@@ -48,23 +49,44 @@ impl<B: Branch + Drop> Node<B> {
         ensures others { HearsOthers self.old (bytes_with tags self.old.keys bytes.now) }
     {
         self.advance(now);
-        let Spoken { from, what } = hear(&self.keys, &self.list, tags, bytes)?;
-        self.take_said(from, what)
+        // Its keys are its own.
+        let _ = &self.keys;
+        match split(bytes) {
+            Parted::Whole(raw) => self.hear_frame(tags, &raw, bytes),
+            Parted::Need(lack) => Err(Refusal::Short(lack)),
+            Parted::Refused(why) => Err(Refusal::Frame(why)),
+        }
     }
 
-    /// Takes what a member says.
-    fn take_said(&mut self, from: NodeNo, what: Speech<'_>) -> Result<Heard, Refusal>
-        requires listed { IsTrue (is_on self.old.list.members from) }
-        ensures exact { hear_reply result self.new ≡ speech_reply self.old from what.entry }
-        ensures refused { result_err result ≡ speech_refusal self.old from what.entry }
+    /// Hears the frame with which the bytes begin.
+    fn hear_frame(&mut self, tags: Tags, raw: &Raw<'_>, bytes: &[u8]) -> Result<Heard, Refusal>
+        requires { BeginsWith (raw_frame raw.now) bytes.now }
+        ensures exact { hear_reply result self.new
+            ≡ bytes_reply self.old (bytes_with tags self.old.keys bytes.now) }
+        ensures refused { result_err result ≡ frame_refusal self.old (bytes_with tags self.old.keys bytes.now) }
         ensures unchanged { OnErr result (self.new ≡ self.old) }
     {
-        match what {
-            Speech::Validation(validation) => self.take_validation(from, &validation),
-            Speech::Header(header) => self.learn(&header),
-            Speech::Proposal(proposal) => self.place(from, &proposal),
-            Speech::TxSet(ids) => Ok(self.hold(from, &ids)),
-            Speech::Tx(tx) => self.take_tx(tx),
+        let from = opened(&self.keys, &self.list, tags, raw, bytes)?;
+        // What is read is large, and taken where it stands.
+        match &read_body(raw) {
+            Ok(body) => self.take_body(from, body),
+            Err(why) => Err(Refusal::Frame(*why)),
+        }
+    }
+
+    /// Takes what a member says in a body.
+    fn take_body(&mut self, from: NodeNo, body: &Body<'_>) -> Result<Heard, Refusal>
+        requires listed { IsTrue (is_on self.old.list.members from) }
+        ensures exact { hear_reply result self.new ≡ speech_reply self.old from (speech_of body.now) }
+        ensures refused { result_err result ≡ speech_refusal self.old from (speech_of body.now) }
+        ensures unchanged { OnErr result (self.new ≡ self.old) }
+    {
+        match body {
+            Body::Validation(validation) => self.take_validation(from, validation),
+            Body::Header(bytes) => self.learn(&read_header(bytes)),
+            Body::Proposal(proposal) => self.place(from, proposal),
+            Body::TxSet(ids) => Ok(self.hold(from, ids)),
+            Body::Tx(tx) => self.take_tx(*tx),
         }
     }
 

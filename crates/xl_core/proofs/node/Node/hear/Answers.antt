@@ -1,65 +1,72 @@
 -- what the bytes say at the new time decides the answer, and no frame that opens comes from the node's own number
-use Rattle.std.proofs.Common.{◌≡◌, ◌≢◌, ℕ, List, ◌∙◌, subst, ap, refl, Ok, Err}
-use Rattle.std.specs.Result.{result_err}
-use Rattle.xl_tags.specs.Rings.{Ring}
-use Rattle.xl_core.specs.declared.hearing.Spoken.{Spoken}
+use Rattle.std.proofs.Common.{◌≡◌, ◌≢◌, ℕ, List, ◌∙◌, subst, ap, sym, refl, Err}
+use Rattle.xl_wire.specs.Raws.{raw_frame}
+use Rattle.xl_core.specs.declared.refusal.Refusal.TheVariants.{Frame, Short}
 use Rattle.xl_core.specs.Hearing.{bytes_with, spoken_in}
-use Rattle.xl_core.specs.Node.{Node, at_moment, speech_reply, refusing, speech_refusal}
-use Rattle.xl_core.specs.Replies.{hear_reply}
-use Rattle.xl_core.proofs.Frames.{nothing_heard, something_heard}
-use Rattle.xl_core.proofs.Heard.{not_itself, err_so}
+use Rattle.xl_core.specs.Node.{Node, at_moment, bytes_reply, frame_refusal, refusing}
+use Rattle.xl_core.proofs.Frames.{nothing_heard}
+use Rattle.xl_core.proofs.Heard.{no_frame, not_itself, short, stays_refused, stays_short}
 use Rattle.xl_core.proofs.node.Node.hear.Goals as goal
 
-pub returns-in_err-from-clause-exact : goal.returns-in_err-from-clause-exact
-returns-in_err-from-clause-exact g c =
-    let m : Node = at_moment c.args.now c.args.self.now in
-    let b : List ℕ = bytes_with c.args.tags m.keys c.args.bytes.now in
-    let why = c.in_err-from.field-0.0 in
-    let is : Err why ≡ spoken_in m.keys m.list.members b =
-    c.in_err-from.ensures.exact ∙ ap (λ (k : Ring). spoken_in k c.self.inside.list.members (bytes_with c.args.tags k c.args.bytes.now)) c.deref.ensures
-    ∙ ap (λ (x : Node). spoken_in x.keys x.list.members (bytes_with c.args.tags x.keys c.args.bytes.now)) (c.self.view_is ∙ c.advance.ensures) in
-    ap (λ r. hear_reply r c.advance.new.self) (err_so c.from_residual.result why c.from_residual.ensures.1)
-    ∙ ap (λ (x : Node). refusing x why) c.advance.ensures
-    ∙ (nothing_heard m b why is).1
+pub hear_frame-requires : goal.hear_frame-requires
+hear_frame-requires g c = record { split = sym c.in-Whole.ensures.exact; spelled = (c.in-Whole.ensures.whole (raw_frame c.in-Whole.raw)).0 refl }
 
-pub returns-in_err-from-clause-refused : goal.returns-in_err-from-clause-refused
-returns-in_err-from-clause-refused g c =
-    let m : Node = at_moment c.args.now c.args.self.now in
-    let b : List ℕ = bytes_with c.args.tags m.keys c.args.bytes.now in
-    let why = c.in_err-from.field-0.0 in
-    let is : Err why ≡ spoken_in m.keys m.list.members b =
-    c.in_err-from.ensures.exact ∙ ap (λ (k : Ring). spoken_in k c.self.inside.list.members (bytes_with c.args.tags k c.args.bytes.now)) c.deref.ensures
-    ∙ ap (λ (x : Node). spoken_in x.keys x.list.members (bytes_with c.args.tags x.keys c.args.bytes.now)) (c.self.view_is ∙ c.advance.ensures) in
-    ap result_err (err_so c.from_residual.result why c.from_residual.ensures.1) ∙ (nothing_heard m b why is).0
+pub returns-in-Whole-clause-exact : goal.returns-in-Whole-clause-exact
+returns-in-Whole-clause-exact g c = c.hear_frame.ensures.exact ∙ ap (λ (x : Node). bytes_reply x (bytes_with c.args.tags x.keys c.args.bytes.now)) c.advance.ensures
 
-pub returns-clause-exact : goal.returns-clause-exact
-returns-clause-exact g c =
-    let m : Node = at_moment c.args.now c.args.self.now in
-    let b : List ℕ = bytes_with c.args.tags m.keys c.args.bytes.now in
-    let said : Spoken = c.in_ok-from.field-0 in
-    let is : Ok said ≡ spoken_in m.keys m.list.members b =
-    c.in_ok-from.ensures.exact ∙ ap (λ (k : Ring). spoken_in k c.self.inside.list.members (bytes_with c.args.tags k c.args.bytes.now)) c.deref.ensures
-    ∙ ap (λ (x : Node). spoken_in x.keys x.list.members (bytes_with c.args.tags x.keys c.args.bytes.now)) (c.self.view_is ∙ c.advance.ensures) in
-    c.take_said.ensures.exact ∙ ap (λ (x : Node). speech_reply x said.from said.what) c.advance.ensures ∙ (something_heard m b said said.what is refl).1
+pub returns-in-Whole-clause-refused : goal.returns-in-Whole-clause-refused
+returns-in-Whole-clause-refused g c = c.hear_frame.ensures.refused ∙ ap (λ (x : Node). frame_refusal x (bytes_with c.args.tags x.keys c.args.bytes.now)) c.advance.ensures
 
-pub returns-clause-refused : goal.returns-clause-refused
-returns-clause-refused g c =
+pub returns-in-Need-clause-exact : goal.returns-in-Need-clause-exact
+returns-in-Need-clause-exact g c =
     let m : Node = at_moment c.args.now c.args.self.now in
-    let b : List ℕ = bytes_with c.args.tags m.keys c.args.bytes.now in
-    let said : Spoken = c.in_ok-from.field-0 in
-    let is : Ok said ≡ spoken_in m.keys m.list.members b =
-    c.in_ok-from.ensures.exact ∙ ap (λ (k : Ring). spoken_in k c.self.inside.list.members (bytes_with c.args.tags k c.args.bytes.now)) c.deref.ensures
-    ∙ ap (λ (x : Node). spoken_in x.keys x.list.members (bytes_with c.args.tags x.keys c.args.bytes.now)) (c.self.view_is ∙ c.advance.ensures) in
-    c.take_said.ensures.refused ∙ ap (λ (x : Node). speech_refusal x said.from said.what) c.advance.ensures ∙ (something_heard m b said said.what is refl).0
+    let bytes : List ℕ = c.args.bytes.now in
+    let at = sym c.in-Need.ensures.exact in
+    let is : Err (Short c.in-Need.lack) ≡ spoken_in m.keys m.list.members (bytes_with c.args.tags m.keys bytes) =
+    sym (ap (spoken_in m.keys m.list.members) (stays_short c.args.tags m.keys bytes c.in-Need.lack at) ∙ short m.keys m.list.members bytes c.in-Need.lack at) in
+    ap (λ (x : Node). refusing x (Short c.in-Need.lack)) c.advance.ensures ∙ (nothing_heard m (bytes_with c.args.tags m.keys bytes) (Short c.in-Need.lack) is).1
 
-pub returns-clause-others : goal.returns-clause-others
-returns-clause-others g c = λ said is.
+pub returns-in-Need-clause-refused : goal.returns-in-Need-clause-refused
+returns-in-Need-clause-refused g c =
+    let m : Node = at_moment c.args.now c.args.self.now in
+    let bytes : List ℕ = c.args.bytes.now in
+    let at = sym c.in-Need.ensures.exact in
+    let is : Err (Short c.in-Need.lack) ≡ spoken_in m.keys m.list.members (bytes_with c.args.tags m.keys bytes) =
+    sym (ap (spoken_in m.keys m.list.members) (stays_short c.args.tags m.keys bytes c.in-Need.lack at) ∙ short m.keys m.list.members bytes c.in-Need.lack at) in
+    (nothing_heard m (bytes_with c.args.tags m.keys bytes) (Short c.in-Need.lack) is).0
+
+pub returns-in-Refused-clause-exact : goal.returns-in-Refused-clause-exact
+returns-in-Refused-clause-exact g c =
+    let m : Node = at_moment c.args.now c.args.self.now in
+    let bytes : List ℕ = c.args.bytes.now in
+    let at = sym c.in-Refused.ensures.exact in
+    let is : Err (Frame c.in-Refused.why) ≡ spoken_in m.keys m.list.members (bytes_with c.args.tags m.keys bytes) =
+    sym (ap (spoken_in m.keys m.list.members) (stays_refused c.args.tags m.keys bytes c.in-Refused.why at) ∙ no_frame m.keys m.list.members bytes c.in-Refused.why at) in
+    ap (λ (x : Node). refusing x (Frame c.in-Refused.why)) c.advance.ensures ∙ (nothing_heard m (bytes_with c.args.tags m.keys bytes) (Frame c.in-Refused.why) is).1
+
+pub returns-in-Refused-clause-refused : goal.returns-in-Refused-clause-refused
+returns-in-Refused-clause-refused g c =
+    let m : Node = at_moment c.args.now c.args.self.now in
+    let bytes : List ℕ = c.args.bytes.now in
+    let at = sym c.in-Refused.ensures.exact in
+    let is : Err (Frame c.in-Refused.why) ≡ spoken_in m.keys m.list.members (bytes_with c.args.tags m.keys bytes) =
+    sym (ap (spoken_in m.keys m.list.members) (stays_refused c.args.tags m.keys bytes c.in-Refused.why at) ∙ no_frame m.keys m.list.members bytes c.in-Refused.why at) in
+    (nothing_heard m (bytes_with c.args.tags m.keys bytes) (Frame c.in-Refused.why) is).0
+
+pub returns-in-Whole-clause-others : goal.returns-in-Whole-clause-others
+returns-in-Whole-clause-others g c = λ said is.
     let n : Node = c.args.self.now in
     let own : n.keys.me ≡ n.me = subst (λ (m : Node). m.keys.me ≡ m.me) (c.self.view_is ∙ c.advance.ensures) c.self.invariant.0.keyed.own in
     subst (λ (k : ℕ). said.from ≢ k) own (not_itself n.keys n.list.members (bytes_with c.args.tags n.keys c.args.bytes.now) said is)
 
-pub returns-in_err-from-clause-others : goal.returns-in_err-from-clause-others
-returns-in_err-from-clause-others g c = λ said is.
+pub returns-in-Need-clause-others : goal.returns-in-Need-clause-others
+returns-in-Need-clause-others g c = λ said is.
+    let n : Node = c.args.self.now in
+    let own : n.keys.me ≡ n.me = subst (λ (m : Node). m.keys.me ≡ m.me) (c.self.view_is ∙ c.advance.ensures) c.self.invariant.0.keyed.own in
+    subst (λ (k : ℕ). said.from ≢ k) own (not_itself n.keys n.list.members (bytes_with c.args.tags n.keys c.args.bytes.now) said is)
+
+pub returns-in-Refused-clause-others : goal.returns-in-Refused-clause-others
+returns-in-Refused-clause-others g c = λ said is.
     let n : Node = c.args.self.now in
     let own : n.keys.me ≡ n.me = subst (λ (m : Node). m.keys.me ≡ m.me) (c.self.view_is ∙ c.advance.ensures) c.self.invariant.0.keyed.own in
     subst (λ (k : ℕ). said.from ≢ k) own (not_itself n.keys n.list.members (bytes_with c.args.tags n.keys c.args.bytes.now) said is)
