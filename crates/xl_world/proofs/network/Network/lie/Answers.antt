@@ -11,7 +11,7 @@ use Rattle.xl_world.specs.declared.outcome.Outcome.{Outcome}
 use Rattle.xl_world.specs.declared.place.Fate.TheVariants.{Saved}
 use Rattle.xl_world.specs.declared.place.Place.{Place}
 use Rattle.xl_world.specs.Emptying.{event_steps}
-use Rattle.xl_world.specs.Keeper.{answer_of}
+use Rattle.xl_world.specs.Disk.{answer_of}
 use Rattle.xl_world.specs.Schedule.{hand_steps, lied_body, lied_bytes, told_in}
 use Rattle.xl_world.specs.Seen.{AnswersAt, acted_at, noted, with_forged, with_places}
 use Rattle.xl_world.specs.World.{World, place_at, run}
