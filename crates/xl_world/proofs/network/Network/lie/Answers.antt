@@ -83,7 +83,7 @@ returns-in-Some-clause-world c =
     subst (λ (v : World). OnOk c.settle.result (c.settle.new.self ≡ v))
     (ap (λ (u : World). noted (with_places u ps) c.args.to c.in-Some.answer) c.self.view_is
     ∙ (ap (λ (xs : List Place). noted (with_places w xs) c.args.to c.in-Some.answer) (placed d)
-    ∙ (noted_ran w c.args.to (event d) Saved c.in-Some.answer (answers s) (λ p from. (frame_plain p.core.node c.args.at (bytes_as_sealed (schedule_ring c.args.to) (kept d)) (answer_of p.keeper Saved)).sent from)
+    ∙ (noted_ran w c.args.to (event d) Saved c.in-Some.answer (answers s) (λ p from. (frame_plain p.core.node c.args.at (bytes_as_sealed (schedule_ring c.args.to) (kept d)) (answer_of p.disk Saved)).sent from)
     ∙ heard_ran d)))
     c.settle.ensures.world
 
