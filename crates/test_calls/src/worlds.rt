@@ -58,15 +58,29 @@ fn issue(world: &mut World, node: NodeNo, id: LedgerId) -> Result<usize, Fail> {
 
 /// Whether these are the bytes of the first frame that was sent, and how many they are.
 fn first_bytes(alloc: Global, world: &World) -> Result<(bool, usize), Fail> {
-    let frame = world.sent().first().ok_or("nothing was sent")?;
+    let frame = world.sent().get(0).ok_or("nothing was sent")?;
     let bytes = frame.bytes(alloc)?;
     Ok((frame.is(bytes.as_slice()), bytes.as_slice().len()))
+}
+
+/// Whether each frame goes to another number than its sender's.
+fn all_leave(world: &World) -> bool {
+    let sent = world.sent();
+    for place in 0..sent.len() {
+        let Some(frame) = sent.get(place) else {
+            return false;
+        };
+        if frame.from() == frame.to() {
+            return false;
+        }
+    }
+    true
 }
 
 /// What the calls of a world answer whose two nodes share no member and reported what they like.
 fn is_forked(world: &World, one: NodeNo, two: NodeNo) -> bool {
     world.sent().len() == 4
-        && world.sent().iter().all(|frame| frame.from() != frame.to())
+        && all_leave(world)
         && world.reports().len() == 2
         && world.forged() == 0
         && world.agreement(one, one)

@@ -2,6 +2,7 @@ mod Seating
 mod Taking
 mod Decisions
 mod AtEnd
+mod Handing
 mod Lawful
 mod LawfulSeats
 mod Setting

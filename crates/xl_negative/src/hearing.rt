@@ -1,5 +1,5 @@
 // What nodes hear of validations.
-ghost use Rattle.std.specs.Prelude.{◌≡◌, ◌++◌, ◌==◌, ◌&&◌, drop, map, slice_get, option_copied, IfOk, OnOk};
+ghost use Rattle.std.specs.Prelude.{◌≡◌, ◌++◌, ◌==◌, ◌&&◌, drop, map, slice_get, IfOk, OnOk};
 ghost use Rattle.xl_sched.specs.Fits.{IsFitLied};
 ghost use Rattle.xl_tags.specs.Opening.{is_sealed as is_sealed_by};
 ghost use Rattle.xl_wire.specs.Raws.{SpellsRaw, raw_frame};
@@ -55,7 +55,7 @@ fn hear(
             Some(before) => hear_place(alloc, world, before as usize, heard),
             None => Ok(()),
         },
-        What::All => hear_sent(alloc, world, after_mark(world), heard),
+        What::All => hear_sent(alloc, world, heard),
         What::Lie { from, to, what } => hear_lie(world, *from, *to, what, heard),
         What::Raw { to, bytes } => hear_bytes(world, *to, bytes.as_slice(), heard),
         _ => Ok(()),
@@ -85,41 +85,19 @@ fn hear_place(
     ensures { OnOk result (heard.new.items
         ≡ heard.old.items ++ heard_if_sent world.now (slice_get world.now.sent place)) }
 {
-    match frame_at(world.sent(), place) {
-        Some(frame) => hear_frame(alloc, world, frame, heard),
+    match world.sent().get(place) {
+        Some(frame) => hear_frame(alloc, world, &frame, heard),
         None => Ok(()),
     }
 }
 
-fn frame_at(sent: &[Sent], place: usize) -> Option<&Sent>
-    ensures { option_copied result ≡ slice_get sent.now place }
+/// The sent frames after the mark are handed to their receivers.
+fn hear_sent(alloc: Global, world: &World, heard: &mut Vec<Heard>) -> Result<(), OutOfMemory>
+    ensures { OnOk result (heard.new.items
+        ≡ heard.old.items ++ heard_in_sent world.now (drop world.now.mark world.now.sent)) }
 {
-    sent.get(place)
-}
-
-/// The sent frames after the mark.
-fn after_mark(world: &World) -> &[Sent]
-    ensures { result.now ≡ drop world.now.mark world.now.sent }
-{
-    let (mark, sent) = (world.mark(), world.sent());
-    if mark < sent.len() {
-        &sent[mark..]
-    } else {
-        &[]
-    }
-}
-
-/// Each sent frame is handed to its receiver.
-fn hear_sent(
-    alloc: Global,
-    world: &World,
-    frames: &[Sent],
-    heard: &mut Vec<Heard>,
-) -> Result<(), OutOfMemory>
-    ensures { OnOk result (heard.new.items ≡ heard.old.items ++ heard_in_sent world.now frames.now) }
-{
-    for frame in frames {
-        hear_frame(alloc, world, frame, heard)?;
+    for place in world.mark()..world.sent().len() {
+        hear_place(alloc, world, place, heard)?;
     }
     Ok(())
 }
@@ -128,7 +106,7 @@ fn hear_sent(
 fn hear_frame(
     alloc: Global,
     world: &World,
-    frame: &Sent,
+    frame: &Sent<'_>,
     heard: &mut Vec<Heard>,
 ) -> Result<(), OutOfMemory>
     ensures { OnOk result (heard.new.items ≡ heard.old.items ++ heard_in_frame world.now frame.now) }
