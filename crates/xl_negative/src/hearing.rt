@@ -2,6 +2,7 @@
 ghost use Rattle.std.specs.Prelude.{◌≡◌, ◌++◌, ◌==◌, ◌&&◌, drop, map, slice_get, IfOk, OnOk};
 ghost use Rattle.xl_sched.specs.Fits.{IsFitLied};
 ghost use Rattle.xl_tags.specs.Opening.{is_sealed as is_sealed_by};
+ghost use Rattle.xl_wire.specs.Bodies.{body_of};
 ghost use Rattle.xl_wire.specs.Raws.{SpellsRaw, raw_frame};
 ghost use Rattle.xl_world.specs.Schedule.{IsPlausible, lied_bytes};
 ghost use Rattle.xl_negative.specs.Hearing.{
@@ -14,6 +15,7 @@ ghost use Rattle.xl_negative.specs.Hearing.{
   said_in as said_in_bytes,
   said_in_body as said_in_the_body,
   said_in_frame as said_in_the_frame,
+  said_if_read as said_if_it_reads,
 };
 
 use std::alloc::Global;
@@ -170,9 +172,19 @@ fn said_in_frame(keys: &Keys, raw: &Raw<'_>, bytes: &[u8]) -> Option<SaidLedger>
     ensures { result ≡ said_in_the_frame keys.now (raw_frame raw.now) }
 {
     let from = NodeNo::new(raw.from)?;
-    if !opens(keys, raw, bytes) {
-        return None;
+    // So a tag is computed only of a validation.
+    let said = said_if_read(from, raw)?;
+    if opens(keys, raw, bytes) {
+        Some(said)
+    } else {
+        None
     }
+}
+
+/// What a frame's body says of a ledger, if it is a validation.
+fn said_if_read(from: NodeNo, raw: &Raw<'_>) -> Option<SaidLedger>
+    ensures { result ≡ said_if_it_reads from (body_of raw.now.kind raw.now.body.now) }
+{
     match read_body(raw) {
         Ok(body) => said_in_body(from, &body),
         Err(_) => None,
