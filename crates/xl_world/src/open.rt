@@ -21,6 +21,8 @@ fn place(alloc: Global, limit: u32, speak: u8, node: &PlanNode) -> Result<Place,
     requires moment { node.now.moment ≤ greatest_millis }
     ensures { IfOk result (λ place. place ≡ start_of (record { limit = limit; speak = speak }) node.now) }
 {
+    // What every list is, for whose members there are keys.
+    let _ = node.list.quorum();
     let settings = Settings {
         me: node.me,
         list: node.list.copy(),
