@@ -1,5 +1,5 @@
 -- Why a line is refused. Source: this project's schedule language.
-use Rattle.std.specs.Prelude.{◌≡◌, ◌⊎◌, ◌+◌, ℕ, List, [], length, decimal, Result, Ok, Err}
+use Rattle.std.specs.Prelude.{◌≡◌, ◌⊎◌, ◌+◌, ℕ, List, [], length, decimal, Option, Result, Ok, Err}
 use Rattle.xl_sched.specs.declared.refusal.SchedRefusal.{SchedRefusal}
 use Rattle.xl_sched.specs.declared.refusal.SchedRefusal.TheVariants.{Header, LongLine, Limit, Word, Count, Number, Id, Choice, Twice, Late, List as IsNoList, Absent, OutOfMemory}
 
@@ -13,6 +13,11 @@ Err e >>= f = Err e
 abbrev pub GivenMemory : {A : Type 0} → Result A SchedRefusal → Result A SchedRefusal → Type 0
 GivenMemory (Ok x) exact = exact ≡ Ok x
 GivenMemory (Err e) exact = (e ≡ OutOfMemory) ⊎ (exact ≡ Err e)
+
+-- what a call puts into a place is this, unless memory ran out
+abbrev pub PutsGivenMemory : {A : Type 0} → Result (Unit {0}) SchedRefusal → Option A → Result (Option A) SchedRefusal → Type 0
+PutsGivenMemory (Ok done) put exact = exact ≡ Ok put
+PutsGivenMemory (Err e) put exact = (e ≡ OutOfMemory) ⊎ (exact ≡ Err e)
 
 -- the number of each cause, and the token that it names; lack of memory has none
 abbrev pub parts_of : SchedRefusal → ℕ × List ℕ

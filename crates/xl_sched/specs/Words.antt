@@ -96,10 +96,13 @@ what_of reading sent event.List arguments = list_event reading arguments
 what_of reading sent event.Heard arguments = heard_event reading arguments
 
 -- it happens at the moment in force
+abbrev pub event_at : Reading → What → Line
+event_at reading what = line.Event (record { at = reading.now; what = what })
+
 abbrev pub event_line : Reading → Result What SchedRefusal → Result Line SchedRefusal
 event_line reading result = do
   what ← result
-  Ok (line.Event (record { at = reading.now; what = what }))
+  Ok (event_at reading what)
 
 abbrev pub event_line_of : Reading → ℕ → Option EventWord → List ℕ → List (List ℕ) → Result Line SchedRefusal
 event_line_of reading sent None token arguments = Err (IsNoWord token)

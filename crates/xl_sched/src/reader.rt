@@ -6,7 +6,7 @@ mod saves;
 mod settings;
 mod words;
 
-ghost use Rattle.std.specs.Prelude.{◌≡◌, ◌⊎◌, ℕ, ◌≤◌, ◌<◌, OnOk, OnErr, IfOk, IfErr, IfSome, option_copied};
+ghost use Rattle.std.specs.Prelude.{◌≡◌, ◌⊎◌, ℕ, ◌≤◌, ◌<◌, None, Ok, Err, OnOk, OnErr, IfOk, IfErr, IfSome, MatchResult, option_copied};
 ghost use Rattle.xl_sched.specs.Answers.{header_line, is_comment};
 ghost use Rattle.xl_sched.specs.Reading.{lists_in};
 ghost use Rattle.xl_sched.specs.Limits.{most_lines};
@@ -68,7 +68,7 @@ impl Reader {
     ghost use Rattle.xl_base.specs.Moments.{greatest_millis};
     ghost use Rattle.xl_sched.specs.Fits.{IsFit};
     ghost use Rattle.xl_sched.specs.Names.{name_of};
-    ghost use Rattle.xl_sched.specs.Refusals.{GivenMemory};
+    ghost use Rattle.xl_sched.specs.Refusals.{PutsGivenMemory};
     ghost use Rattle.xl_sched.specs.Reading.{opened, after};
     ghost use Rattle.xl_sched.specs.Answers.{reading_of, refuses, answered, line_of_tokens, later_line};
 
@@ -113,17 +113,25 @@ impl Reader {
         ensures kept { OnErr result (self.new ≡ self.old) }
     {
         let alloc = self.alloc;
-        match self.read(line, sent) {
-            Ok(read) => Ok(read),
+        let mut said = None;
+        match self.read(line, sent, &mut said) {
+            Ok(()) => Ok(said),
             Err(fault) => Err(fault.refusal(alloc)),
         }
     }
 
-    fn read<'a>(&mut self, line: &'a [u8], sent: u64) -> Result<Option<Line>, LineFault<'a>>
-        ensures read { IfOk result (λ read. reading_of self.old sent line.now ≡ answered read self.new) }
+    /// What the line says is put into its last place at once: a `Line` is large, and each answer would copy it.
+    fn read<'a>(
+        &mut self,
+        line: &'a [u8],
+        sent: u64,
+        said: &mut Option<Line>,
+    ) -> Result<(), LineFault<'a>>
+        requires { said.old ≡ None }
+        ensures read { OnOk result (reading_of self.old sent line.now ≡ answered said.new self.new) }
         ensures refused { IfErr result (λ refusal.
             (refusal ≡ SchedRefusal.OutOfMemory) ⊎ (reading_of self.old sent line.now ≡ refuses refusal)) }
-        ensures fit { IfOk result (λ read. IfSome read (IsFit self.old sent)) }
+        ensures fit { OnOk result (IfSome said.new (IsFit self.old sent)) }
         ensures kept { OnErr result (self.new ≡ self.old) }
     {
         if line.len() > MOST_BYTES {
@@ -132,23 +140,29 @@ impl Reader {
         if self.lines == MOST_LINES {
             return Err(LineFault::with_number(Cause::Limit, u64::from(MOST_LINES)));
         }
-        let read = self.line(Tokens::of(line), sent)?;
-        match &read {
+        self.line(Tokens::of(line), sent, said)?;
+        match &*said {
             Some(line) => self.learn(line)?,
             None => self.lines += 1,
         }
-        Ok(read)
+        Ok(())
     }
 
     /// What the line of these tokens says.
-    fn line<'a>(&self, tokens: Tokens<'a>, sent: u64) -> Result<Option<Line>, LineFault<'a>>
-        ensures value { GivenMemory result (line_of_tokens self.now sent tokens.entry) }
-        ensures fit { IfOk result (λ read. IfSome read (IsFit self.now sent)) }
+    fn line<'a>(
+        &self,
+        tokens: Tokens<'a>,
+        sent: u64,
+        said: &mut Option<Line>,
+    ) -> Result<(), LineFault<'a>>
+        requires { said.old ≡ None }
+        ensures value { PutsGivenMemory result said.new (line_of_tokens self.now sent tokens.entry) }
+        ensures fit { OnOk result (IfSome said.new (IsFit self.now sent)) }
     {
         if self.lines == 0 {
             header(tokens)
         } else {
-            self.later_line(tokens, sent)
+            self.later_line(tokens, sent, said)
         }
     }
 
@@ -156,14 +170,16 @@ impl Reader {
         &self,
         mut tokens: Tokens<'a>,
         sent: u64,
-    ) -> Result<Option<Line>, LineFault<'a>>
-        ensures value { GivenMemory result (later_line self.now sent tokens.entry) }
-        ensures fit { IfOk result (λ read. IfSome read (IsFit self.now sent)) }
+        said: &mut Option<Line>,
+    ) -> Result<(), LineFault<'a>>
+        requires { said.old ≡ None }
+        ensures value { PutsGivenMemory result said.new (later_line self.now sent tokens.entry) }
+        ensures fit { OnOk result (IfSome said.new (IsFit self.now sent)) }
     {
         match tokens.next() {
-            None => Ok(None),
-            Some(token) if is_comment(token) => Ok(None),
-            Some(token) => Ok(Some(self.worded_line(token, tokens, sent)?)),
+            None => Ok(()),
+            Some(token) if is_comment(token) => Ok(()),
+            Some(token) => self.worded_line(token, tokens, sent, said),
         }
     }
 
@@ -222,13 +238,15 @@ fn lists_in(what: &What) -> u32
 }
 
 /// Line 1 must be the header.
-fn header<'a>(mut tokens: Tokens<'a>) -> Result<Option<Line>, LineFault<'a>>
-    ensures { result ≡ header_line tokens.entry }
+fn header<'a>(mut tokens: Tokens<'a>) -> Result<(), LineFault<'a>>
+    ensures { MatchResult result
+        (λ _. header_line tokens.entry ≡ Ok None)
+        (λ fault. header_line tokens.entry ≡ Err fault) }
 {
     let name = tokens.next().unwrap_or(b"".as_slice());
     let version = tokens.next().unwrap_or(b"".as_slice());
     if name == b"xl-schedule".as_slice() && version == b"1".as_slice() && tokens.next().is_none() {
-        Ok(None)
+        Ok(())
     } else {
         Err(LineFault::with_text(Cause::Header, name))
     }

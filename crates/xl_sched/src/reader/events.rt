@@ -18,15 +18,7 @@ use xl_base::{Bytes, NodeNo};
 
 impl Reader {
     ghost use Rattle.xl_sched.specs.Fits.{IsFitAsk, IsFitWhat};
-    ghost use Rattle.xl_sched.specs.Events.{issue_of, asked_issue, issue_event, submit_event, asked_timer, timer_event, timers_event, deliver_event, all_event, drop_event, is_peer, peer_of, greet_event, restart_event, raw_event, prefer_event, list_of, set_list, list_event, heard_event};
-
-    /// `issue i seq id full`, or `partial`.
-    pub(super) fn issue<'a>(&self, arguments: Tokens<'a>) -> Result<What, LineFault<'a>>
-        ensures value { result ≡ issue_event self.now arguments.entry }
-        ensures fit { IfOk result (λ what. (sent : ℕ) → IsFitWhat self.now sent what) }
-    {
-        Ok(What::Ask(self.asked_issue(arguments)?))
-    }
+    ghost use Rattle.xl_sched.specs.Events.{issue_of, asked_issue, submit_event, asked_timer, timers_event, deliver_event, all_event, drop_event, is_peer, peer_of, greet_event, restart_event, raw_event, prefer_event, list_of, set_list, list_event, heard_event};
 
     /// `i seq id full`, or `partial`.
     pub(super) fn asked_issue<'a>(&self, arguments: Tokens<'a>) -> Result<Ask, LineFault<'a>>
@@ -66,14 +58,6 @@ impl Reader {
             node: self.nodes.declared(node)?,
             tx: self.names.tx_id(id)?,
         })
-    }
-
-    /// `timer i`.
-    pub(super) fn timer<'a>(&self, arguments: Tokens<'a>) -> Result<What, LineFault<'a>>
-        ensures value { result ≡ timer_event self.now arguments.entry }
-        ensures fit { IfOk result (λ what. (sent : ℕ) → IsFitWhat self.now sent what) }
-    {
-        Ok(What::Ask(self.asked_timer(arguments)?))
     }
 
     /// `i`.

@@ -1,5 +1,7 @@
 // A line by its word.
-ghost use Rattle.std.specs.Prelude.{◌≡◌, ℕ, IfOk};
+ghost use Rattle.std.specs.Prelude.{◌≡◌, ◌≤◌, ℕ, Some, IfOk, IfSome, OnOk};
+ghost use Rattle.xl_base.specs.Moments.{greatest_millis};
+ghost use Rattle.xl_sched.specs.Answers.{some_line};
 
 use crate::event::{Event, What};
 use crate::fault::{Cause, LineFault};
@@ -9,9 +11,9 @@ use crate::tokens::Tokens;
 use crate::word::{EventWord, SettingWord};
 
 impl Reader {
-    ghost use Rattle.xl_sched.specs.Refusals.{GivenMemory};
-    ghost use Rattle.xl_sched.specs.Fits.{IsFit, IsFitWhat};
-    ghost use Rattle.xl_sched.specs.Words.{setting_line, what_of, worded_line};
+    ghost use Rattle.xl_sched.specs.Refusals.{GivenMemory, PutsGivenMemory};
+    ghost use Rattle.xl_sched.specs.Fits.{IsFit};
+    ghost use Rattle.xl_sched.specs.Words.{setting_line, what_of, event_at, event_line, worded_line};
 
     /// The line of a first token, and of the tokens after it.
     pub(super) fn worded_line<'a>(
@@ -19,18 +21,18 @@ impl Reader {
         token: &'a [u8],
         arguments: Tokens<'a>,
         sent: u64,
-    ) -> Result<Line, LineFault<'a>>
-        ensures value { GivenMemory result (worded_line self.now sent token.now arguments.entry) }
-        ensures fit { IfOk result (IsFit self.now sent) }
+        said: &mut Option<Line>,
+    ) -> Result<(), LineFault<'a>>
+        ensures value { PutsGivenMemory result said.new
+            (some_line (worded_line self.now sent token.now arguments.entry)) }
+        ensures fit { OnOk result (IfSome said.new (IsFit self.now sent)) }
     {
         if let Some(word) = SettingWord::of(token) {
-            return self.setting(word, token, arguments);
+            *said = Some(self.setting(word, token, arguments)?);
+            return Ok(());
         }
         match EventWord::of(token) {
-            Some(word) => Ok(Line::Event(Event {
-                at: self.moment,
-                what: self.what(word, arguments, sent)?,
-            })),
+            Some(word) => self.event(word, arguments, sent, said),
             None => Err(LineFault::with_text(Cause::Word, token)),
         }
     }
@@ -59,33 +61,47 @@ impl Reader {
         }
     }
 
-    /// What happens at the line of a word.
-    fn what<'a>(
+    /// The line of an event.
+    fn event<'a>(
         &self,
         word: EventWord,
         arguments: Tokens<'a>,
         sent: u64,
-    ) -> Result<What, LineFault<'a>>
-        ensures value { GivenMemory result (what_of self.now sent word arguments.entry) }
-        ensures fit { IfOk result (IsFitWhat self.now sent) }
+        said: &mut Option<Line>,
+    ) -> Result<(), LineFault<'a>>
+        ensures value { PutsGivenMemory result said.new
+            (some_line (event_line self.now (what_of self.now sent word arguments.entry))) }
+        ensures fit { OnOk result (IfSome said.new (IsFit self.now sent)) }
     {
         match word {
-            EventWord::Issue => self.issue(arguments),
-            EventWord::Submit => self.submit(arguments),
-            EventWord::Timer => self.timer(arguments),
-            EventWord::Timers => self.timers(arguments),
-            EventWord::Deliver => self.deliver(arguments, sent),
-            EventWord::All => self.all(arguments),
-            EventWord::Drop => self.drop(arguments),
-            EventWord::Greet => self.greet(arguments),
-            EventWord::Restart => self.restart(arguments),
-            EventWord::Cut => self.cut(arguments),
-            EventWord::Fail => self.fail(arguments),
-            EventWord::Lie => self.lie(arguments),
-            EventWord::Raw => self.raw(arguments),
-            EventWord::Prefer => self.prefer(arguments),
-            EventWord::List => self.list(arguments),
-            EventWord::Heard => self.heard(arguments),
+            EventWord::Issue => self.happen(What::Ask(self.asked_issue(arguments)?), said),
+            EventWord::Submit => self.happen(self.submit(arguments)?, said),
+            EventWord::Timer => self.happen(What::Ask(self.asked_timer(arguments)?), said),
+            EventWord::Timers => self.happen(self.timers(arguments)?, said),
+            EventWord::Deliver => self.happen(self.deliver(arguments, sent)?, said),
+            EventWord::All => self.happen(self.all(arguments)?, said),
+            EventWord::Drop => self.happen(self.drop(arguments)?, said),
+            EventWord::Greet => self.happen(self.greet(arguments)?, said),
+            EventWord::Restart => self.happen(self.restart(arguments)?, said),
+            EventWord::Cut => self.happen(self.cut(arguments)?, said),
+            EventWord::Fail => self.happen(self.fail(arguments)?, said),
+            EventWord::Lie => self.happen(self.lie(arguments)?, said),
+            EventWord::Raw => self.happen(self.raw(arguments)?, said),
+            EventWord::Prefer => self.happen(self.prefer(arguments)?, said),
+            EventWord::List => self.happen(self.list(arguments)?, said),
+            EventWord::Heard => self.happen(self.heard(arguments)?, said),
         }
+        Ok(())
+    }
+
+    /// It happens at the moment in force.
+    fn happen(&self, what: What, said: &mut Option<Line>)
+        ensures value { said.new ≡ Some (event_at self.now what) }
+        ensures timely { self.now.now ≤ greatest_millis }
+    {
+        *said = Some(Line::Event(Event {
+            at: self.moment,
+            what,
+        }));
     }
 }
