@@ -123,6 +123,11 @@ module _ (s : Setting) where
     by = λ history close all. (refl, record { all = all; silent = silent }, rose);
   }
 
+  -- submits keep the share of the first pass
+  pub still_whole : (ids : List TxId) (old mid : Knowledge Entry) → old ≡ newcomer
+      → Submitted s.start s.may_give old ids mid → mid.share ≡ whole
+  still_whole ids old mid first sub = sub.made.share ∙ ap (λ (k : Knowledge Entry). k.share) first
+
   -- all ids were submitted by the first pass
   pub lived : (d : Doing) (old mid new : Knowledge Entry) (e : RunEnd) → old ≡ newcomer
       → Submitted s.start s.may_give old d.ids mid → Lives s d d.ids e mid new → Lived s d e new

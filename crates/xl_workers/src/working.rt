@@ -7,9 +7,9 @@ ghost use Rattle.xl_store.specs.Stores.{start_of, turns_of, IsOf};
 ghost use Rattle.xl_heartbeat.specs.Outputs.{output};
 ghost use Rattle.xl_heartbeat.specs.Beats.{Heartbeat};
 ghost use Rattle.xl_workers.specs.Linking.{member_of, IsAsTold};
-ghost use Rattle.xl_workers.specs.Serving.{IsPeer, AreReady, HaveServed, peer_of};
+ghost use Rattle.xl_workers.specs.Serving.{IsPeer, AreReady, HaveServed};
 ghost use Rattle.xl_workers.specs.Sharing.{setting};
-ghost use Rattle.xl_workers.specs.Working.{AreAll, Worked};
+ghost use Rattle.xl_workers.specs.Working.{Worked};
 
 use crate::hiring::hire;
 use crate::joining::join_all;
@@ -70,44 +70,8 @@ fn run<
     beats
 }
 
-/// Lets the heartbeat and the workers run, and joins all passes.
-fn run_and_join<
-    W: Threads + Wait + Sync,
-    B: Branch + Drop + Send,
-    K: Keeper + Drop + Send,
-    L: Link + Send + Drop,
-    G: Gate + Sync,
-    C: Clock + Sync,
-    O: Sink + Send,
->(
-    host: &Host<'_, W, G, C>,
-    store: &Store<B, K>,
-    first: Pass,
-    heart: Pass,
-    workers: Vec<Worker<L>>,
-    pulse: &Pulse,
-    sink: &mut O,
-) -> (Pass, BeatEnd)
-    requires first { IsOf store.now first }
-    requires heart { IsOf store.now heart }
-    requires ready { AreReady store.now workers.items }
-    requires all { AreAll first heart workers.items }
-    ensures pass { IsOf store.now result.0 }
-    ensures worked { (gives : ℕ → Option Wire)
-        → AllByRecursion (IsAsTold gives L.shows) (map peer_of workers.items)
-        → Worked (setting (start_of store.now) (turns_of store.now) (C.may_give host.now.clock.now) gives) pulse.now
-        (map member_of (map peer_of workers.items)) (known first) (output (O.held sink.old) (O.faults sink.old))
-        result.1 (known result.0) (output (O.held sink.new) (O.faults sink.new)) }
-{
-    let mut heart = heart;
-    let mut workers = workers;
-    let beats = run(host, store, &mut heart, workers.as_mut_slice(), pulse, sink);
-    let one = store.join(first, heart);
-    (join_all(store, one, workers), beats)
-}
-
-/// Serves the peers over their links, a worker for each, beside the heartbeat, until all have ended. If memory runs out
-/// nothing runs, and the pass comes back as it was.
+/// Serves the peers over their links, a worker for each, beside the heartbeat, until all have ended, and joins their
+/// passes. If memory runs out nothing runs, and the pass comes back as it was.
 pub(crate) fn work<
     W: Threads + Wait + Sync,
     B: Branch + Drop + Send,
@@ -139,7 +103,9 @@ pub(crate) fn work<
     let Ok(room) = Vec::with_capacity(host.alloc, peers.len()) else {
         return Err(pass);
     };
-    let (first, heart) = store.split(pass);
-    let (first, workers) = hire(store, first, peers, room);
-    Ok(run_and_join(host, store, first, heart, workers, pulse, sink))
+    let (first, mut heart) = store.split(pass);
+    let (first, mut workers) = hire(store, first, peers, room);
+    let beats = run(host, store, &mut heart, workers.as_mut_slice(), pulse, sink);
+    let one = store.join(first, heart);
+    Ok((join_all(store, one, workers), beats))
 }
