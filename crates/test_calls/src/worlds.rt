@@ -58,9 +58,13 @@ fn issue(world: &mut World, node: NodeNo, id: LedgerId) -> Result<usize, Fail> {
 
 /// Whether these are the bytes of the first frame that was sent, and how many they are.
 fn first_bytes(alloc: Global, world: &World) -> Result<(bool, usize), Fail> {
-    let frame = world.sent().get(0).ok_or("nothing was sent")?;
-    let bytes = frame.bytes(alloc)?;
-    Ok((frame.is(bytes.as_slice()), bytes.as_slice().len()))
+    match world.sent().get(0) {
+        Some(frame) => {
+            let bytes = frame.bytes(alloc)?;
+            Ok((frame.is(bytes.as_slice()), bytes.as_slice().len()))
+        }
+        None => Ok((false, 0)),
+    }
 }
 
 /// Whether each frame goes to another number than its sender's.
