@@ -18,9 +18,12 @@ pub type Stored = Store<Trie, MemKeeper>;
 /// A core of this number that trusts one member, and has a key for each other number.
 pub fn core_of(alloc: Global, number: u32, trusted: u32) -> Result<Core<Trie>, Fail> {
     let me = NodeNo::new(number).ok_or("no member")?;
+    let list = List::new(&[trusted], 1)?;
+    // What every list is, for whose members there are keys.
+    let _ = list.quorum();
     let settings = Settings {
         me,
-        list: List::new(&[trusted], 1)?,
+        list,
         keys: Keys::of_schedule(me),
         limit: 2,
         validating: true,

@@ -20,9 +20,12 @@ type Stored = Store<Trie, PlainKeeper>;
 /// One of seven validators.
 fn core_of(alloc: Global) -> Option<Core<Trie>> {
     let me = NodeNo::new(1)?;
+    let list = List::new(&[1, 2, 3, 4, 5, 6, 7], 5).ok()?;
+    // What every list is, for whose members there are keys.
+    let _ = list.quorum();
     let settings = Settings {
         me,
-        list: List::new(&[1, 2, 3, 4, 5, 6, 7], 5).ok()?,
+        list,
         keys: Keys::of_schedule(me),
         limit: 16,
         validating: true,

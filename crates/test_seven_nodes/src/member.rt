@@ -29,6 +29,8 @@ pub struct Member {
 impl Member {
     /// A validator of this number, with this list.
     pub fn open(alloc: Global, me: NodeNo, list: &List) -> Result<Member, OutOfMemory> {
+        // What every list is, for whose members there are keys.
+        let _ = list.quorum();
         let settings = Settings {
             me,
             list: list.copy(),
