@@ -97,6 +97,7 @@ impl Keys {
     /// The keys that a schedule gives its member, one with each of the 63 others.
     pub fn of_schedule(me: NodeNo) -> Keys
         ensures ring { result ≡ schedule_ring me }
+        ensures me { result.me ≡ me }
         ensures keys { (member : ℕ) → key_of result member ≡ schedule_key me member }
         // Every list's members have theirs.
         ensures listed { (list : TrustedList) → IsValid list → HasKeys result list.members }
