@@ -15,9 +15,8 @@ ghost use Rattle.xl_pool.specs.Entries.{all_of};
 
 use crate::entry::{Content, Entry};
 use crate::{Full, Name, Stale};
-use std::alloc::Global;
+use std::alloc::{AllocError, Global};
 use std::marker::Model;
-use xl_base::OutOfMemory;
 
 /// Values in a fixed number of slots, each under a name that the pool picks. No call after `with_slots` takes memory,
 /// and each takes a fixed number of steps. A slot's memory is written when the slot first holds a value.
@@ -70,8 +69,8 @@ fn touch<T>(entries: &mut Vec<Entry<T>>, slots: u32, free: u32)
 impl<T> Pool<T> {
     ghost use Rattle.xl_pool.specs.Lends.{lends_get, lends_value};
 
-    /// A pool of n empty slots of generation 0, or `OutOfMemory`.
-    pub fn with_slots(alloc: Global, n: u32) -> Result<Pool<T>, OutOfMemory>
+    /// A pool of n empty slots of generation 0, or `AllocError` if memory runs out.
+    pub fn with_slots(alloc: Global, n: u32) -> Result<Pool<T>, AllocError>
         ensures empty { IfOk result (λ pool. pool ≡ replicate n empty_slot) }
     {
         Ok(Pool {
