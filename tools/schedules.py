@@ -1,7 +1,10 @@
 """What the tools know of schedules: their lines, what came of each event, and which frames it sent."""
+import collections
+import gc
 import hashlib
 import os
 import re
+import select
 import shutil
 import struct
 import subprocess
@@ -19,6 +22,7 @@ DECLARATIONS = ('xl-schedule', 'node', 'liar', 'limit', 'speak', 'at', 'name', '
 ROUND_WORDS = ('timer', 'timers', 'submit', 'greet')
 MOMENTLESS = ('greet', 'prefer', 'heard')
 NODE_BYTES, LEDGER_BYTES, DEFAULT_LIMIT, LIMITS = 1717000, 244, 1024, range(2, 16385)
+FED_TOGETHER = 64
 PROBLEMS = {2: 'words refused', 4: 'input failed', 5: 'output failed', 6: 'out of memory'}
 
 
@@ -274,6 +278,12 @@ class Event:
     prefers: tuple = None
     kept: int = None
 
+    def take(self, told, preferred, kept):
+        """What came of it, by the program's words."""
+        self.outcomes, self.kept = told, kept
+        if preferred and self.node == int(preferred[1]) and preferred[2] != 'none':
+            self.prefers = int(preferred[2]), preferred[3]
+
     @property
     def word(self):
         return self.tokens[0]
@@ -288,59 +298,118 @@ class Event:
 class Feed:
     """A replay that is handed line after line, and gives back what came of each event.
 
-    Behind each event a question is put, which changes nothing: its answer says that all outcomes are there.
-    """
+    Behind an event a question is put, which changes nothing: its answer says that all outcomes are there. Events wait for
+    their outcomes together, since a way to the program and back takes longer than an event. An event that can only be
+    refused needs no question: a refusal names its line."""
 
     def __init__(self, program):
-        self.asked, self.preferred, self.kept = None, None, None
-        streams = dict(stdin=subprocess.PIPE, stdout=subprocess.PIPE, stderr=subprocess.DEVNULL)
+        self.asked, self.unsent, self.waiting, self.fed = None, [], [], 0
+        self.lines, self.begun = collections.deque(), b''
+        streams = dict(stdin=subprocess.PIPE, stdout=subprocess.PIPE, stderr=subprocess.DEVNULL, bufsize=0)
         self.process = subprocess.Popen([program, 'replay'], **streams)
+        self.into, self.out = self.process.stdin.fileno(), self.process.stdout.fileno()
+        os.set_blocking(self.into, False)
 
     def write(self, line):
-        try:
-            self.process.stdin.write(line.encode('latin-1') + b'\n')
-        except BrokenPipeError:
-            raise Unfollowed('the program ended before the schedule did, at: %s' % line) from None
+        self.unsent.append(line)
+        self.fed += 1
 
-    def happen(self, line, node=None, asks_kept=False):
-        """What comes of the line. The question is put to the node, where one is given.
+    def happen(self, line, take=None, node=None, asks_kept=False):
+        """Puts the line, and then a question to the node, if one is given.
 
-        Sequence 0 is never issued, and its refusal tells the kept number. The node's time stays, if it had this moment
-        just now."""
+        What came of the line is handed to `take` later: its outcomes, the ledger that the node prefers, and the number
+        that it kept, if that is asked for. Sequence 0 is never issued, and its refusal tells that number. The node's time
+        stays, if it had this moment just now."""
         if self.asked is None:
-            return []
+            return
         self.write(line)
         if asks_kept:
             self.write('issue %d 0 root partial' % node)
         self.write('prefer %d' % (node or self.asked))
+        self.waiting.append((None, 1 + line.startswith('prefer'), asks_kept, take))
+        self.send_some()
+
+    def happen_unasked(self, line, take):
+        """Puts a line that can only be refused."""
+        self.write(line)
+        self.waiting.append((b'refused %d ' % self.fed, 0, False, take))
+        self.send_some()
+
+    def send_some(self):
+        """So the program goes on with what is put, while more is."""
+        if len(self.unsent) >= FED_TOGETHER:
+            self.send()
+
+    def settle(self):
+        """Hands out what came of each event that was put."""
+        if self.waiting and self.waiting[-1][0]:
+            self.happen('prefer %d' % self.asked)
+        self.send()
+        waiting, self.waiting = self.waiting, []
+        for refused, answers, asks_kept, take in waiting:
+            if refused:
+                take(self.refusals(refused), None, None)
+                continue
+            told = self.outcomes(answers)
+            preferred, kept = told.pop(), int(told.pop()[4]) if asks_kept else None
+            if take:
+                take(told, preferred, kept)
+
+    def send(self):
+        """Sends all lines that wait. What the program says meanwhile is read, so that neither waits for the other."""
+        left = memoryview(''.join([line + '\n' for line in self.unsent]).encode('latin-1'))
+        self.unsent = []
         try:
-            self.process.stdin.flush()
+            while left:
+                readable, writable, _ = select.select([self.out], [self.into], [])
+                if readable and not self.read():
+                    return
+                if writable:
+                    left = left[os.write(self.into, left) :]
         except BrokenPipeError:
-            raise Unfollowed('the program ended before the schedule did, at: %s' % line) from None
-        told = self.outcomes(1 + (line.split()[0] == 'prefer'))
-        self.preferred, self.kept = told.pop(), int(told.pop()[4]) if asks_kept else None
+            pass  # why the program ended stands in what it said
+
+    def read(self):
+        """Whether the program said more, which is kept line by line."""
+        came = os.read(self.out, 1 << 16)
+        *whole, self.begun = (self.begun + came).split(b'\n')
+        self.lines.extend(whole)
+        return came
+
+    def next(self):
+        """The next line that the program says, which stays the next one; at its end an empty one."""
+        while not self.lines:
+            if not self.read():
+                return b''
+        return self.lines[0]
+
+    def refusals(self, begin):
+        """The outcomes that begin so."""
+        told = []
+        while self.next().startswith(begin):
+            told.append(self.lines.popleft().decode('latin-1').split())
         return told
 
     def outcomes(self, answers):
+        """The outcomes up to the last one of so many answers."""
         told = []
         while answers:
-            words = self.process.stdout.readline().decode('latin-1').split()
+            words = self.next().decode('latin-1').split()
             if words[:1] == ['bad'] and words[2:3] == ['35']:
                 raise Unfollowed('it has too many events to be taken one by one; tools/shrink makes it smaller')
             if not words or words[0] == 'bad':
                 raise Unfollowed(
                     'the schedule can\'t be followed; the program ended with: %s' % ' '.join(words or ['nothing'])
                 )
+            self.lines.popleft()
             answers -= words[0] == 'preferred'
             told.append(words)
         return told
 
     def close(self):
-        try:
-            self.process.stdin.close()
-        except BrokenPipeError:
+        self.process.stdin.close()
+        while self.read():
             pass
-        self.process.stdout.read()
         self.process.stdout.close()
         self.process.wait()
 
@@ -378,30 +447,38 @@ class Strangers:
         return self.caller(call), self.all_others(self.caller(call))[rest]
 
     def place(self, sender, counts):
-        """A place where a frame to a stranger stands, another one for each of the counts."""
+        """A place where a frame to a stranger stands, another one for each of the counts; None if there is none."""
         if (sender, counts) not in self.places:
+            self.places[sender, counts] = None
             for place in range(1, (counts[-1] + 2) * len(NUMBERS)):
                 ends = [self.at(sender, frames, place) for frames in counts]
                 if len(set(ends)) == len(ends) and all(end[1] in self.numbers for end in ends):
                     self.places[sender, counts] = place, dict(zip(ends, counts))
                     break
-            else:
-                raise Unfollowed('it declares too many numbers for its timers to be followed')
         return self.places[sender, counts]
 
     def count(self, sender, sent, counts):
         """How many frames the event sent to each other number, and how many numbers of frames are used up by then."""
-        place, meant = self.place(sender, counts)
+        found = self.place(sender, counts)
+        if found is None:
+            raise Unfollowed('it declares too many numbers for its timers to be followed')
+        (place, meant), answer = found, []
         each = len(self.all_others(sender))
         calls = max(0, -(-(place - counts[0] * each) // each))
         for call in range(calls):
             self.said += 1
-            self.feed.happen('issue %d %d root partial' % (self.caller(call), self.said))
-        told = self.feed.happen('deliver %d' % (sent + place))
-        end = (int(told[0][4]), int(told[0][2])) if told and told[0][0] == 'refused' and told[0][3] == '9' else None
+            self.feed.happen_unasked('issue %d %d root partial' % (self.caller(call), self.said), ignore)
+        self.feed.happen('deliver %d' % (sent + place), lambda told, *_: answer.extend(told))
+        self.feed.settle()
+        told = answer[0] if answer else []
+        end = (int(told[4]), int(told[2])) if told[:1] == ['refused'] and told[3] == '9' else None
         if end not in meant:
             raise Unfollowed('it can\'t be found how many frames node %d sent' % sender)
         return meant[end], calls * each
+
+
+def ignore(*told):
+    """What came of an event that nobody asks about."""
 
 
 class Follower:
@@ -472,16 +549,16 @@ class Follower:
             raise Unfollowed('frame %d isn\'t sent yet at line %d' % (number, line))
         frame = self.frames[number - 1]
         event = self.put(line, ['deliver', str(number)], frame.receiver, number)
-        self.ask(event, 'deliver %d' % frame.fed)
+        if self.asks_kept or frame.kind == 'validation':
+            self.ask(event, 'deliver %d' % frame.fed)
+        else:
+            self.feed.happen_unasked('deliver %d' % frame.fed, event.take)
 
     def ask(self, event, text):
-        """What comes of the event, and what its node then holds."""
-        is_asked = event.node in self.network.nodes
-        asks_kept = is_asked and self.asks_kept and event.word not in MOMENTLESS
-        event.outcomes = self.feed.happen(text, event.node if is_asked else None, asks_kept)
-        event.kept = self.feed.kept
-        if is_asked and self.feed.preferred[2] != 'none':
-            event.prefers = int(self.feed.preferred[2]), self.names.id_of(self.feed.preferred[3])
+        """Puts the event. What comes of it, and what its node then holds, is known once the feed is settled."""
+        node = event.node if event.node in self.network.nodes else None
+        asks_kept = node is not None and self.asks_kept and event.word not in MOMENTLESS
+        self.feed.happen(text, event.take, node, asks_kept)
 
     def happen(self, line, tokens, node):
         event = self.put(line, tokens, node)
@@ -505,23 +582,36 @@ class Follower:
     def send_to_all(self, event, word):
         extra = 0
         if word == 'issue':
+            self.feed.settle()
             kinds = ['validation'] * (event.word == 'issue' and not event.is_refused(*NEVER_SAVED))
+        elif word == 'submit':
+            frames, extra = self.strangers.count(event.node, self.used, (0, 1))
+            kinds = ['tx'] * frames
         else:
-            kinds, extra = self.ask_kinds(event, word)
+            kinds, extra = self.kinds_of_timer(event)
         receivers = self.strangers.all_others(event.node) if self.strangers else self.network.others(event.node)
         self.send(event, receivers, kinds)
         self.used += extra
 
-    def ask_kinds(self, event, word):
-        """The kinds of the frames to each, and how many numbers of frames the question took."""
-        if word == 'submit':
-            frames, extra = self.strangers.count(event.node, self.used, (0, 1))
-            return ['tx'] * frames, extra
-        built = event.told('built')
-        kinds = ['header'] * len(built) + ['validation'] * any(outcome[4] != 'none' for outcome in built)
-        counts = tuple(len(kinds) + said for said in (0, 1, 2))
+    def kinds_of_timer(self, event):
+        """The kinds of the frames to each, and how many numbers of frames the question took.
+
+        Up to two frames are said of a position, and up to two of what is built; which of these, the outcomes say."""
+        counts = (0, 1, 2, 3, 4)
+        if self.strangers.place(event.node, counts) is None:
+            self.feed.settle()
+            counts = tuple(len(self.built_kinds(event)) + said for said in (0, 1, 2))
         frames, extra = self.strangers.count(event.node, self.used, counts)
-        return {0: [], 1: ['proposal'], 2: ['set', 'proposal']}[frames - len(kinds)] + kinds, extra
+        kinds = self.built_kinds(event)
+        said = {0: [], 1: ['proposal'], 2: ['set', 'proposal']}.get(frames - len(kinds))
+        if said is None:
+            raise Unfollowed('node %d sent %d frames, which no timer does' % (event.node, frames))
+        return said + kinds, extra
+
+    @staticmethod
+    def built_kinds(event):
+        built = event.told('built')
+        return ['header'] * len(built) + ['validation'] * any(outcome[4] != 'none' for outcome in built)
 
     def send(self, event, receivers, kinds):
         """For each receiver in turn all frames, as the program drains them."""
@@ -558,14 +648,24 @@ class Story:
         taken = lines[: self.report.last_line]
         follower = Follower(program, has_rounds(lines), asks_kept, members_set_later(taken))
         try:
-            for line, words in enumerate(told_on_the_way(taken), 1):
-                if not is_passed_over(words.split()):
-                    follower.take(line, words, words.split())
+            self.follow(follower, taken)
         except Unfollowed as why:
             command.stop(why)
-        follower.close()
         self.network, self.names = follower.network, follower.names
         self.events, self.frames = follower.events, follower.frames
+
+    @staticmethod
+    def follow(follower, lines):
+        gc.disable()  # all that is made here stays, and to look for what doesn't takes half of the time
+        try:
+            for line, words in enumerate(told_on_the_way(lines), 1):
+                tokens = words.split()
+                if not is_passed_over(tokens):
+                    follower.take(line, words, tokens)
+            follower.feed.settle()
+        finally:
+            gc.enable()
+        follower.close()
 
     def sender_of(self, event):
         """Who sent what reached the node in this event: a number, or None."""

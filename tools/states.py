@@ -1,6 +1,6 @@
 """What each node holds behind each event of a story, worked out by docs/RULES.md.
 
-The kept number and the preferred ledger are the program's own answers (`schedules.Follower.ask`); rows, reports and
+The kept number and the preferred ledger are the program's own answers (`schedules.Feed`); rows, reports and
 known ledgers follow from the events, from what was refused, and from the clock."""
 import struct
 from dataclasses import dataclass, field, replace
@@ -118,7 +118,8 @@ class States:
             state = self.ended(event, self.went_on(event, state) if event.outcomes else state)
         if event.kept is not None:
             state = replace(state, kept=event.kept)
-        return replace(state, prefers=event.prefers)
+        prefers = event.prefers and (event.prefers[0], self.names.id_of(event.prefers[1]))
+        return replace(state, prefers=prefers)
 
     @staticmethod
     def ended(event, state):

@@ -1,6 +1,7 @@
 """The picture of a run: a lane for each node and liar, and time goes down.
 
 An arrow leads from where a frame was sent to where it arrives."""
+import bisect
 import math
 
 import schedules
@@ -9,6 +10,7 @@ from words import Wording, ranges, seconds
 
 ROW = 26
 MOST_SHOWN, FIRST_SHOWN, LAST_SHOWN = 100, 60, 40
+MOST_ASKED, FIRST_ASKED, LAST_ASKED = 1000, 600, 400
 FAR = 10**7
 GAP, THIN = 42, 10
 BRIEF = ('built', 'full', 'switched', 'preferred', 'lie', 'restart', 'cut', 'fail', 'list')
@@ -40,6 +42,7 @@ class Timeline:
         self.forked = {event.index: event for event, _ in self.fork or ()}
         self.arrived = {event.frame for event in story.events}
         self.shown = [event for event in story.events if self.is_shown(event)]
+        self.shorten()
         self.fold()
         self.labels = {event.index: self.beside(event) for event in self.shown}
         self.under, self.boxes, self.over, self.texts = [], [], [], []
@@ -54,6 +57,17 @@ class Timeline:
             return self.tells(event)
         count = len(self.story.events)
         return count <= MOST_SHOWN or not FIRST_SHOWN <= event.index < count - LAST_SHOWN
+
+    def shorten(self):
+        """Leaves out the middle of what is asked for, if it is too long for a picture; `hidden` are those events."""
+        middle = self.shown[FIRST_ASKED:-LAST_ASKED] if len(self.shown) > MOST_ASKED else []
+        self.hidden = [event.index for event in middle if event.index not in self.forked]
+        left_out = set(self.hidden)
+        self.shown = [event for event in self.shown if event.index not in left_out]
+
+    def hides(self, first, last):
+        """Whether events are hidden from the first index on and before the last one."""
+        return bisect.bisect_left(self.hidden, first) < bisect.bisect_left(self.hidden, last)
 
     def tells(self, event):
         """Whether the event stands in a brief picture; in another one each does."""
@@ -139,7 +153,7 @@ class Timeline:
         """Where the columns and lanes stand. Moment, line and event stand left of the lanes."""
         self.gap = self.longest(lambda event: svg.width_of(self.labels[event.index]) + 24, 104)
         self.time_x = 16 + self.longest(lambda event: len(self.when(event.moment)) * svg.NARROW)
-        self.line_x = self.time_x + 8 + self.longest(lambda event: len(str(event.line)) * svg.NARROW, 24)
+        self.line_x = self.time_x + 8 + self.longest(lambda event: len(str(event.line)) * svg.STRONG, 24)
         phrase = self.longest(lambda event: len(self.phrase(event)) * 6.6, 40)
         left = self.line_x + 14 + phrase + 12
         room = self.gap - 8 if any(self.needs_left_room(event) for event in self.shown) else 46
@@ -188,9 +202,10 @@ class Timeline:
         for event in [*self.shown, None]:
             index = event.index if event else len(self.story.events)
             if index > before + 1:
-                if not self.options.brief:
+                is_told = not self.options.brief or self.hides(before + 1, index)
+                if is_told:
                     self.draw_gap(y + 34, index - before - 1)
-                high = THIN if self.options.brief else GAP
+                high = GAP if is_told else THIN
                 self.y.update((left_out, y + high + 2) for left_out in range(before + 1, index))
                 y += high
             before, y = index, y + ROW * (self.folded.get(index) != 0)
@@ -341,7 +356,7 @@ class Timeline:
 
     def brevity(self):
         """What a brief picture says of what it leaves out."""
-        left_out = len(self.story.events) - len(self.shown)
+        left_out = len(self.story.events) - len(self.shown) - len(self.hidden)
         told = ['Left out: %s events without a build, a report or a switch.' % format(left_out, ',')]
         return told * bool(self.options.brief and left_out)
 
