@@ -1,5 +1,28 @@
-"""Schedules that are made and not written: random ones with every word, and those of `xl gen`."""
+"""Schedules that are made and not written: random ones with every word, those of `xl gen`, and small ones for tests."""
+import random
+
 X, Y = 'name x ' + '1' * 64, 'name y ' + '2' * 64
+
+PAIR_SHORT = [
+    'node 1 4 1,2,3,4,5',
+    'node 2 4 1,2,3,4,5',
+    'node 6 3 3,4,5,6',
+    'node 3 4 1,2,3,4,5',
+    'node 4 3 3,4,5,6',
+    'liar 5',
+]
+PAIR_ENOUGH = ['node 1 4 1,2,3,4,5', 'node 2 4 1,2,3,4,5', 'node 3 4 1,2,3,4,5', 'node 4 4 1,2,3,4,5', 'liar 5']
+ONE_TOO_SMALL = ['node %d 3 1,2,3,4' % node for node in (1, 2)] + ['node %d 3 3,4,5,6' % node for node in (3, 4, 5, 6)]
+FORK = [
+    'node 1 2 1,2,3',
+    'node 3 2 2,3,4',
+    'node 4 2 2,3,4',
+    'liar 2',
+    'issue 1 1 x full',
+    'issue 3 1 y full',
+    'issue 4 1 y full',
+]
+FORKED = FORK + ['lie 2 1 validation 1 x 1 full', 'all']
 
 
 def schedule(lines):
@@ -92,3 +115,8 @@ def generated(rounds, speak=None):
             lines += ['submit %d %064x' % (node, 1 + closing) for node in (1, 2, 3)]
         lines += ['timers', 'all']
     return schedule(lines)
+
+
+def made(count):
+    """So many random schedules."""
+    return [schedule(RandomSchedule(random.Random(seed)).lines) for seed in range(count)]

@@ -27,6 +27,11 @@ def run(tool, *words, text='', seconds=60):
     return subprocess.run(words, input=text, capture_output=True, text=True, timeout=seconds, env=environment)
 
 
+def at_line(outcome, line):
+    """An outcome of the feed as the report has it: a refusal by the line of the schedule."""
+    return ['refused', str(line), *outcome[2:]] if outcome[0] == 'refused' else outcome
+
+
 def stories():
     for name in sorted(os.listdir(STORIES)):
         if name.endswith('.xl'):
