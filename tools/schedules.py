@@ -422,7 +422,7 @@ class Strangers:
     a frame at the place that is looked at, and another one for each number of frames that the event may have sent."""
 
     def __init__(self, feed, network, taken):
-        self.feed, self.network, self.said, self.places = feed, network, 0, {}
+        self.feed, self.network, self.said, self.places, self.others = feed, network, 0, {}, {}
         free = [number for number in NUMBERS if number not in taken]
         trusted, *self.numbers = free[-(len(network.nodes) + len(network.liars) + 4) :] or [None]
         if len(self.numbers) < 3:
@@ -433,7 +433,9 @@ class Strangers:
             feed.write('node %d 1 %d' % (number, trusted))
 
     def all_others(self, number):
-        return sorted(set(self.network.others(number)) | set(self.numbers) - {number})
+        if number not in self.others:
+            self.others[number] = sorted({*self.network.others(number), *self.numbers} - {number})
+        return self.others[number]
 
     def caller(self, call):
         return self.numbers[call % len(self.numbers)]
@@ -656,7 +658,7 @@ class Story:
 
     @staticmethod
     def follow(follower, lines):
-        gc.disable()  # all that is made here stays, and to look for what doesn't takes half of the time
+        gc.disable()  # all that is made here stays, and to look for what doesn't would take half of the time
         try:
             for line, words in enumerate(told_on_the_way(lines), 1):
                 tokens = words.split()
@@ -664,6 +666,7 @@ class Story:
                     follower.take(line, words, tokens)
             follower.feed.settle()
         finally:
+            gc.freeze()
             gc.enable()
         follower.close()
 

@@ -90,7 +90,7 @@ def first_fork(events, names):
     """The two reports of the first fork, the earlier one first: pairs of an event and its outcome."""
     reports = {}
     for event in events:
-        for outcome in event.told('full'):
+        for outcome in event.outcomes and event.told('full'):
             earlier = reports.setdefault(outcome[2], [])
             for other in earlier:
                 if names.id_of(other[1][3]) != names.id_of(outcome[3]):
