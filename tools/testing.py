@@ -4,6 +4,7 @@ import importlib.util
 import os
 import subprocess
 import sys
+import unittest
 import xml.dom.minidom
 
 import schedules
@@ -30,6 +31,14 @@ def run(tool, *words, text='', seconds=60):
 def at_line(outcome, line):
     """An outcome of the feed as the report has it: a refusal by the line of the schedule."""
     return ['refused', str(line), *outcome[2:]] if outcome[0] == 'refused' else outcome
+
+
+def main_with_toml():
+    """Runs the tests, unless this Python is older than 3.11, and so has no reader of TOML."""
+    if importlib.util.find_spec('tomllib') is None:
+        print('not tried, since this Python has no tomllib')
+    else:
+        unittest.main()
 
 
 def stories():
