@@ -1,6 +1,6 @@
 """What each node holds behind each event of a story, worked out by docs/RULES.md.
 
-The kept number and the preferred ledger are the program's own answers (`schedules.Feed`); rows, reports and
+The kept number and the preferred ledger are the program's own answers (`feed.Feed`); rows, reports and
 known ledgers follow from the events, from what was refused, and from the clock."""
 import struct
 from dataclasses import dataclass, field, replace
