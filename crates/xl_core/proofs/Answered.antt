@@ -1,7 +1,6 @@
 -- What the code does is what the definitions say.
 use Rattle.std.proofs.Common.{◌≡◌, ℕ, ◌*◌, ◌<◌, true, false, List, length, refl, arith, ap, sym, ◌∙◌, Option, Some, None, subst, Result, Ok, Err}
-use Rattle.std.specs.Prelude.{IsSome, is_some, map, find, filter_map, option_map}
-use Rattle.std.specs.Result.{result_unwrap_or}
+use Rattle.std.specs.Prelude.{IsSome, is_some, map, filter_map, option_map}
 use Rattle.xl_lists.specs.Lists.{IsValid, is_on}
 use Rattle.xl_wire.specs.declared.validation.Validation.{Validation}
 use Rattle.xl_validations.specs.declared.row.Row.{Row}
@@ -14,12 +13,13 @@ use Rattle.xl_core.specs.Lasts.{later}
 use Rattle.xl_core.specs.declared.refusal.Refusal.{Refusal}
 use Rattle.xl_core.specs.Answers.{Took, Done}
 use Rattle.xl_core.specs.declared.taken.Taken.TheVariants.{Validation as TakenValidation}
-use Rattle.xl_core.specs.Node.{Node, Reply, speech_reply, taken_reply, reply_unless, reporting, with_taken, take, arisen, arisen_in, arises_in, report_of, refusal_at, second_of}
+use Rattle.xl_core.specs.Node.{Node, Reply, speech_reply, taken_reply, reply_unless, reporting, with_taken, take, arisen, arisen_in, arises_in, refusal_at, second_of}
 use Rattle.xl_core.specs.Node.{report_if}
 use Rattle.xl_core.specs.declared.hearing.Speech.TheVariants as speech
 use Rattle.xl_core.specs.Refusals.{refusal_from}
 use Rattle.xl_core.specs.Rest.{IsAtRest, NothingArises}
-use Rattle.xl_core.specs.Replies.{validation_reply}
+use Rattle.xl_core.specs.declared.taken.Heard.{Heard}
+use Rattle.xl_core.specs.Replies.{hear_reply}
 use Rattle.xl_core.proofs.Members.{row_if_on, members_stay, nobody_changes, refused_stays, taken_changes}
 use Rattle.xl_core.proofs.Arising.{arisen_by, rest_reported, nothing_arisen}
 
@@ -58,13 +58,16 @@ rest_when_taken n from v rows report last rest has is_rows is_report is_last =
           (rest_reported n.list.quorum rows n.last (few_rows n rows rest.valid members));
     }
 
+abbrev pub validated : Option Report → Heard
+validated report = record { taken = TakenValidation; report = report }
+
 pub answer_when_taken : (n : Node) (from : ℕ) (v : Validation) (rows : List Row) (report : Option Report) (last : LastReport) → IsAtRest n → is_on n.list.members from ≡ true →
     None ≡ refusal_of n.rows from (second_of n) v → rows ≡ at_member from (with_validation v) n.rows → report ≡ report_if (arises_in n.list.quorum rows n.last v) v → last ≡ later n.last report →
-    validation_reply (Ok report) (record n { rows = rows; last = last }) ≡ speech_reply n from (speech.Validation v)
+    hear_reply (Ok (validated report)) (record n { rows = rows; last = last }) ≡ speech_reply n from (speech.Validation v)
 answer_when_taken n from v rows report last rest on unrefused is_rows is_report is_last =
     let arises_so : arisen (record n { rows = rows }) ≡ report = arisen_then n from v rows rest (has_row n from rest on) is_rows ∙ sym is_report in
-    let with_last = λ (l : LastReport). let r : Reply = validation_reply (Ok report) (record n { rows = rows; last = l }) in r in
-    let with_report = λ (rp : Option Report). let r : Reply = validation_reply (Ok rp) (record n { rows = rows; last = later n.last rp }) in r in
+    let with_last = λ (l : LastReport). let r : Reply = hear_reply (Ok (validated report)) (record n { rows = rows; last = l }) in r in
+    let with_report = λ (rp : Option Report). let r : Reply = hear_reply (Ok (validated rp)) (record n { rows = rows; last = later n.last rp }) in r in
     ap with_last is_last
     ∙ ap with_report (sym arises_so)
     ∙ ap (λ rs. reporting (record n { rows = rs }) (Took TakenValidation) None) (is_rows ∙ sym (taken_changes from (second_of n) v n.rows (sym unrefused)))
@@ -78,13 +81,9 @@ stays n rows issued rest same =
     λ rs e. subst (λ x. None ≡ arisen (record n { rows = x })) (sym e) (sym (nothing_arisen n.list.quorum n.rows n.last rest.reported (filter_map (λ row. row.current) n.rows))) in
     (ap (λ rs. let m : Node = record n { rows = rs } in m) (sym same) ∙ ap (λ o. let m : Node = record n { rows = rows; last = later n.last o } in m) (none rows same), none rows same)
 
-vote_node : (r : Result (Option Report) Refusal) (m : Node) → (validation_reply r m).node ≡ m
-vote_node (Ok report) m = refl
+vote_node : (r : Result Heard Refusal) (m : Node) → (hear_reply r m).node ≡ m
+vote_node (Ok heard) m = refl
 vote_node (Err why) m = refl
-
-vote_report : (r : Result (Option Report) Refusal) (m : Node) → (validation_reply r m).report ≡ result_unwrap_or r None
-vote_report (Ok report) m = refl
-vote_report (Err why) m = refl
 
 -- the node is the same if the row refuses
 heard_own : (n : Node) (from : ℕ) (v : Validation) (o : Option ValRefusal) → IsAtRest n → refusal_at n (second_of n) from v ≡ o →
@@ -93,11 +92,11 @@ heard_own : (n : Node) (from : ℕ) (v : Validation) (o : Option ValRefusal) →
 heard_own n from v None rest is = (refl, refl)
 heard_own n from v (Some why) rest is = stays n (at_member from (take (second_of n) v) n.rows) (Some v) rest (refused_stays from (second_of n) v why n.rows is)
 
-pub own_taken : (n : Node) (from : ℕ) (v : Validation) (r : Result (Option Report) Refusal) (m : Node) → IsAtRest n → validation_reply r m ≡ speech_reply n from (speech.Validation v) →
-    (m ≡ (reporting (with_taken n (second_of n) from v) Done (Some v)).node) × (result_unwrap_or r None ≡ arisen (with_taken n (second_of n) from v))
+pub own_taken : (n : Node) (from : ℕ) (v : Validation) (r : Result Heard Refusal) (m : Node) → IsAtRest n → hear_reply r m ≡ speech_reply n from (speech.Validation v) →
+    (m ≡ (reporting (with_taken n (second_of n) from v) Done (Some v)).node) × ((hear_reply r m).report ≡ arisen (with_taken n (second_of n) from v))
 own_taken n from v r m rest is =
     let heard = heard_own n from v (refusal_at n (second_of n) from v) rest refl in
-    (sym (vote_node r m) ∙ ap (λ (x : Reply). x.node) is ∙ heard.0, sym (vote_report r m) ∙ ap (λ (x : Reply). x.report) is ∙ heard.1)
+    (sym (vote_node r m) ∙ ap (λ (x : Reply). x.node) is ∙ heard.0, ap (λ (x : Reply). x.report) is ∙ heard.1)
 
 -- nor if the node isn't on its list
 pub own_not_listed : (n : Node) (now : ℕ) (v : Validation) → IsAtRest n → is_on n.list.members n.me ≡ false →

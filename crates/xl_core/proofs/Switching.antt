@@ -7,9 +7,10 @@ use Rattle.xl_rounds.specs.declared.heartbeat.HeartbeatKind.TheVariants.{Ready}
 use Rattle.xl_rounds.specs.declared.heartbeat.Heartbeat.{Heartbeat}
 use Rattle.xl_rounds.specs.declared.heartbeat.Said.{Said}
 use Rattle.xl_rounds.specs.declared.heartbeat.Seen.{Seen}
-use Rattle.xl_rounds.specs.Heartbeats.{heartbeat}
+use Rattle.xl_rounds.specs.Heartbeats.{heartbeat, beat_in, open_beat, establish_beat}
+use Rattle.xl_rounds.specs.declared.phase.Phase.{Phase}
+use Rattle.xl_rounds.specs.declared.phase.Phase.TheVariants.{Open, Establish, Accepted}
 use Rattle.xl_validations.specs.Rows.{named}
-use Rattle.xl_validations.specs.Votes.{finished}
 use Rattle.xl_core.specs.declared.timer_part.TimerPart.{TimerPart}
 use Rattle.xl_core.specs.Building.{knowing}
 use Rattle.xl_core.specs.Node.{Node, Reply, Save, chosen, timer_outcome, switch_outcome, seen, built, built_outcome, kind_outcome, heartbeat_outcome, issuing_reply, issued_unless_off, own_validation, refusing, replying, validates}
@@ -32,14 +33,24 @@ use Rattle.xl_core.specs.Replies.{save_in}
 use Rattle.xl_core.specs.Rest.{IsReady}
 use Rattle.xl_core.proofs.Learning.{round_ready}
 
--- what the round is told
-pub seen_is : (n : Node) (me previous : ℕ) (id : LedgerId) (validated over : ℕ) → me ≡ n.me → previous ≡ n.round.setting.previous → id ≡ id_at n.ledgers.headers previous → validated ≡ named me id n.rows →
-    over ≡ finished n.ledgers.headers n.rows previous → (let told : Seen = record { validated = validated; finished = over } in told) ≡ seen n
-seen_is n me previous id validated over is_me is_previous is_id is_validated is_over =
-    ap (λ (v : ℕ). let told : Seen = record { validated = v; finished = over } in told)
-    (is_validated ∙ ap (λ (k : ℕ). named k id n.rows) is_me ∙ ap (λ (i : LedgerId). named n.me i n.rows) (is_id ∙ ap (id_at n.ledgers.headers) is_previous))
-    ∙ ap (λ (f : ℕ). let told : Seen = record { validated = named n.me (id_at n.ledgers.headers n.round.setting.previous) n.rows; finished = f } in told)
-    (is_over ∙ ap (finished n.ledgers.headers n.rows) is_previous)
+-- who has validated the round's previous ledger
+pub validated_is : (n : Node) (me previous : ℕ) (id : LedgerId) (validated : ℕ) → me ≡ n.me → previous ≡ n.round.setting.previous → id ≡ id_at n.ledgers.headers previous → validated ≡ named me id n.rows →
+    validated ≡ (seen n).validated
+validated_is n me previous id validated is_me is_previous is_id is_validated =
+    is_validated ∙ ap (λ (k : ℕ). named k id n.rows) is_me ∙ ap (λ (i : LedgerId). named n.me i n.rows) (is_id ∙ ap (id_at n.ledgers.headers) is_previous)
+
+-- a phase asks for one of what the validations tell, or for none
+pub asks_open : (now : ℕ) (one other : Seen) (r : Round) → r.phase ≡ Open → one.validated ≡ other.validated → heartbeat now one r ≡ heartbeat now other r
+asks_open now one other r opens same =
+    ap (λ (p : Phase). beat_in p now one r) opens ∙ ap (λ (k : ℕ). open_beat now k r) same ∙ ap (λ (p : Phase). beat_in p now other r) (sym opens)
+
+pub asks_establish : (now : ℕ) (one other : Seen) (r : Round) → r.phase ≡ Establish → one.finished ≡ other.finished → heartbeat now one r ≡ heartbeat now other r
+asks_establish now one other r establish same =
+    ap (λ (p : Phase). beat_in p now one r) establish ∙ ap (λ (k : ℕ). establish_beat now k r) same ∙ ap (λ (p : Phase). beat_in p now other r) (sym establish)
+
+pub asks_nothing : (now : ℕ) (one other : Seen) (r : Round) → r.phase ≡ Accepted → heartbeat now one r ≡ heartbeat now other r
+asks_nothing now one other r accepted =
+    ap (λ (p : Phase). beat_in p now one r) accepted ∙ ap (λ (p : Phase). beat_in p now other r) (sym accepted)
 
 -- the round is ready, and its ledger is built
 pub built_then : (n m : Node) (kind : HeartbeatKind) (said : Option Said) (moved_on : Bool) (t : TimerPart) (after : Node) → kind ≡ Ready moved_on →

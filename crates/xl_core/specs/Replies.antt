@@ -1,7 +1,12 @@
 -- The answers of a node's calls, as replies. Source: this project's own, by which a call answers what the node's step
 -- replies.
 use Rattle.std.specs.Prelude.{◌≡◌, ℕ, Bool, List, [], ◌∷◌, ◌++◌, length, drop, map, Result, Ok, Err, Some, None}
+use Rattle.xl_wire.specs.declared.body.Body.{Body}
+use Rattle.xl_wire.specs.declared.refusal.WireRefusal.{WireRefusal}
+use Rattle.xl_core.specs.declared.hearing.Spoken.{Spoken}
+use Rattle.xl_core.specs.Hearing.{heard_so}
 use Rattle.std.specs.declared.option.Option.{Option}
+use Rattle.xl_base.specs.declared.ids.SetId.{SetId}
 use Rattle.xl_base.specs.declared.ids.TxId.{TxId}
 use Rattle.xl_core.specs.declared.report.Report.{Report}
 use Rattle.xl_core.specs.declared.report.OwnValidation.{OwnValidation}
@@ -10,7 +15,7 @@ use Rattle.xl_core.specs.declared.refusal.Refusal.TheVariants as node
 use Rattle.xl_core.specs.declared.item.Item.TheVariants.{Tx}
 use Rattle.xl_core.specs.declared.taken.Taken.{Taken}
 use Rattle.xl_core.specs.declared.taken.Heard.{Heard}
-use Rattle.xl_core.specs.declared.taken.Taken.TheVariants.{Validation as TakenValidation}
+use Rattle.xl_core.specs.declared.taken.Taken.TheVariants.{Set}
 use Rattle.xl_core.specs.Answers.{Answer, Refused, Took, Done, given_in, handed_in}
 use Rattle.xl_core.specs.declared.event.CoreEvent.{CoreEvent}
 use Rattle.xl_core.specs.declared.event.CoreEvent.TheVariants.{Drain, Reports}
@@ -54,10 +59,16 @@ hear_reply (Ok heard) n = record {
 }
 hear_reply (Err why) n = refusing n why
 
--- what a row's call answers, with what it reports
-abbrev pub validation_reply : Result (Option Report) Refusal → Node → Reply
-validation_reply (Ok report) n = record { node = n; answer = Took TakenValidation; items = []; issued = None; report = report }
-validation_reply (Err why) n = refusing n why
+-- a set of this id was taken
+abbrev pub heard_set : SetId → Heard
+heard_set id = record { taken = Set id; report = None }
+
+-- what is heard in a frame with this body that was opened, and so is from this sender; or why it wasn't opened, which was
+-- written then
+abbrev pub IsOpened : Result Spoken Refusal → Result Body WireRefusal → Option ℕ → Result Heard Refusal → Type 0
+IsOpened said body (Some from) heard = said ≡ heard_so (Ok from) body
+IsOpened said body None (Err why) = said ≡ Err why
+IsOpened said body None (Ok heard) = ⊥
 
 -- what a core's calls answer
 abbrev pub taken_answer : Result Taken Refusal → Answer

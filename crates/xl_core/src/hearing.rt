@@ -4,9 +4,11 @@ ghost use Rattle.std.specs.Result.{result_err};
 ghost use Rattle.xl_tags.specs.Opening.{HasKeys, refusal_of};
 ghost use Rattle.xl_wire.specs.Raws.{SpellsRaw, raw_frame};
 ghost use Rattle.xl_wire.specs.Bodies.{body_of};
-ghost use Rattle.xl_core.specs.Hearing.{bytes_with, frame_with, heard_so, spoken_in, BeginsWith};
+ghost use Rattle.xl_core.specs.Hearing.{bytes_with, frame_with, spoken_in, BeginsWith};
+ghost use Rattle.xl_core.specs.Replies.{IsOpened};
 
 use crate::Refusal;
+use crate::taken::Heard;
 use xl_base::{NodeNo, TxId};
 use xl_ledger::Header;
 use xl_lists::List;
@@ -39,7 +41,7 @@ pub enum Tags {
     Assumed,
 }
 
-/// Opens the frame with which the bytes begin, and answers who sent it.
+/// Opens the frame with which the bytes begin, and answers who sent it. If it answers None, it writes why.
 ///
 /// Refused if more bytes follow it, or if it isn't opened, in this order.
 pub fn opened(
@@ -48,16 +50,24 @@ pub fn opened(
     tags: Tags,
     raw: &Raw<'_>,
     bytes: &[u8],
-) -> Result<NodeNo, Refusal>
+    heard: &mut Result<Heard, Refusal>,
+) -> Option<NodeNo>
     requires begins { BeginsWith (raw_frame raw.now) bytes.now }
     requires keyed { HasKeys keys.now list.now.members }
-    ensures { spoken_in keys.now list.now.members (bytes_with tags keys.now bytes.now)
-        ≡ heard_so result (body_of raw.now.kind raw.now.body.now) }
+    ensures { IsOpened (spoken_in keys.now list.now.members (bytes_with tags keys.now bytes.now))
+        (body_of raw.now.kind raw.now.body.now) result heard.new }
 {
     if raw.length < bytes.len() {
-        return Err(Refusal::Extra(bytes.len() - raw.length));
+        *heard = Err(Refusal::Extra(bytes.len() - raw.length));
+        return None;
     }
-    Ok(open(keys, list, tags, raw, bytes)?)
+    match open(keys, list, tags, raw, bytes) {
+        Ok(from) => Some(from),
+        Err(why) => {
+            *heard = Err(Refusal::Tag(why));
+            None
+        }
+    }
 }
 
 /// Opens a whole frame, and answers who sent it.

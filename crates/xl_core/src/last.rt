@@ -46,16 +46,13 @@ impl LastReport {
         self.is_above(seq) || (self.relisted && !self.is(seq, id))
     }
 
-    /// Once a report has arisen, or none.
-    pub fn later(self, report: Option<Report>) -> LastReport
-        ensures { result ≡ later_of self report }
+    /// Notes the report that has arisen, if one has.
+    pub fn note(&mut self, report: &Option<Report>)
+        ensures { self.new ≡ later_of self.old report.now }
     {
-        match report {
-            Some(report) => LastReport {
-                report: Some(report),
-                relisted: false,
-            },
-            None => self,
+        if report.is_some() {
+            self.report = *report;
+            self.relisted = false;
         }
     }
 

@@ -1,4 +1,4 @@
-use crate::Report;
+use crate::{Refusal, Report};
 use xl_base::{LedgerId, SetId};
 
 /// What a node took of a frame.
@@ -19,6 +19,9 @@ pub enum Taken {
     /// A transaction, to the pending ones.
     Pending,
 }
+
+/// What stands where a node writes what it hears, before it does.
+pub(crate) const UNHEARD: Result<Heard, Refusal> = Err(Refusal::Short(0));
 
 /// What a node took of a frame, and what it reports then.
 #[derive(Clone, Copy, Debug, PartialEq, Eq)]

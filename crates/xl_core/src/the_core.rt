@@ -28,8 +28,9 @@ ghost use Rattle.xl_core.specs.declared.refusal.Refusal.TheVariants.{NotAfter, I
 
 use crate::hearing::Tags;
 use crate::sending::TagPlace;
+use crate::taken::UNHEARD;
 use crate::timer_answer::full_or_partial;
-use crate::timer_part::{Built, TimerPart};
+use crate::timer_part::{Built, NOT_BEATEN, TimerPart};
 use crate::{Issued, Item, Node, Refusal, Report, Settings, Taken, TimerAnswer};
 use std::alloc::Global;
 use std::marker::Model;
@@ -193,12 +194,14 @@ impl<B: Branch + Drop> Core<B> {
         ensures unsent { self.new.waiting ≡ self.old.waiting }
         ensures stop { (held : Held) → IsCovered held self.old → IsCovered held self.new }
     {
-        match self.node.hear(now, tags, bytes) {
+        let mut heard = UNHEARD;
+        self.node.hear(now, tags, bytes, &mut heard);
+        match &heard {
             Ok(heard) => {
-                push_report(&mut self.untaken, heard.report);
-                Ok(heard.taken)
+                push_report(&mut self.untaken, &heard.report);
+                return Ok(heard.taken);
             }
-            Err(why) => Err(why),
+            Err(why) => return Err(*why),
         }
     }
 
@@ -233,7 +236,7 @@ impl<B: Branch + Drop> Core<B> {
                     &mut self.marks,
                     Item::Validation(issued.validation),
                 );
-                push_report(&mut self.untaken, issued.report);
+                push_report(&mut self.untaken, &issued.report);
                 Ok(())
             }
             Err(why) => Err(why),
@@ -260,12 +263,14 @@ impl<B: Branch + Drop> Core<B> {
         ensures later { K.faults keeper.old ≤ K.faults keeper.new }
         ensures stop { StaysCovered (K.held keeper.old) (K.held keeper.new) self.old self.new }
     {
-        match self.node.timer(now) {
+        let mut part = NOT_BEATEN;
+        self.node.timer(now, &mut part);
+        match &part {
             TimerPart::Quiet { answer, said } => {
-                push_said(&mut self.waiting, &mut self.marks, &said);
-                answer
+                push_said(&mut self.waiting, &mut self.marks, said);
+                return *answer;
             }
-            TimerPart::Built(built) => self.conclude(&built, keeper),
+            TimerPart::Built(built) => return self.conclude(built, keeper),
         }
     }
 
@@ -286,7 +291,7 @@ impl<B: Branch + Drop> Core<B> {
                     &mut self.marks,
                     Item::Validation(own.validation),
                 );
-                push_report(&mut self.untaken, own.report);
+                push_report(&mut self.untaken, &own.report);
                 full_or_partial(own.validation.full)
             }
             Ok(None) => Issued::Silent,
@@ -331,7 +336,7 @@ impl<B: Branch + Drop> Core<B> {
     {
         match self.node.relist(now, list) {
             Ok(report) => {
-                push_report(&mut self.untaken, report);
+                push_report(&mut self.untaken, &report);
                 Ok(())
             }
             Err(why) => Err(why),

@@ -14,6 +14,12 @@ pub(crate) enum TimerPart {
     Built(Built),
 }
 
+/// What stands where a node writes what its timer comes to, before it does.
+pub(crate) const NOT_BEATEN: TimerPart = TimerPart::Quiet {
+    answer: TimerAnswer::Nothing,
+    said: None,
+};
+
 /// A ledger that was built and accepted, and the position that is said before it, or none.
 #[derive(Clone, Copy, Debug)]
 pub(crate) struct Built {

@@ -3,16 +3,17 @@ ghost use Rattle.std.specs.Result.{result_err};
 ghost use Rattle.xl_base.specs.Moments.{greatest_millis};
 ghost use Rattle.xl_lists.specs.Lists.{is_on};
 ghost use Rattle.xl_wire.specs.Raws.{raw_frame};
+ghost use Rattle.xl_ledger.specs.Reading.{header_in};
 ghost use Rattle.xl_core.specs.Node.{Frame, at_moment, bytes_reply, happens, speech_reply, speech_refusal, frame_refusal, HearsOthers};
 ghost use Rattle.xl_core.specs.Hearing.{bytes_with, speech_of, BeginsWith};
 ghost use Rattle.xl_core.specs.declared.hearing.Speech.TheVariants as speech;
-ghost use Rattle.xl_core.specs.Replies.{hear_reply, validation_reply};
+ghost use Rattle.xl_core.specs.Replies.{hear_reply};
 ghost use Rattle.xl_core.specs.Issuing.Save.{Kept};
 
 use super::{Node, report_by};
 use crate::hearing::{Tags, opened};
-use crate::taken::Heard;
-use crate::{Refusal, Report, Taken};
+use crate::taken::{Heard, UNHEARD};
+use crate::{Refusal, Taken};
 use xl_base::{Millis, NodeNo, secs_of};
 use xl_ledger::{Branch, Header, read_header};
 use xl_wire::{Body, Parted, Raw, Validation, read_body, split};
@@ -35,94 +36,113 @@ impl<B: Branch + Drop> Node<B> {
         // A node never takes a frame of its own number.
         ensures others { HearsOthers self.old bytes.now }
     {
-        self.hear(now, Tags::Tested, bytes)
+        let mut heard = UNHEARD;
+        self.hear(now, Tags::Tested, bytes, &mut heard);
+        heard
     }
 
-    /// Hears as `frame` does, with the tag tested or assumed.
-    pub(crate) fn hear(&mut self, now: Millis, tags: Tags, bytes: &[u8]) -> Result<Heard, Refusal>
+    /// Hears as `frame` does, with the tag tested or assumed. What comes of it is large, so it is written where it is
+    /// to stand, here and in each call below.
+    #[inline(never)]
+    pub(crate) fn hear(
+        &mut self,
+        now: Millis,
+        tags: Tags,
+        bytes: &[u8],
+        heard: &mut Result<Heard, Refusal>,
+    )
         requires moment { now ≤ greatest_millis }
-        ensures exact { hear_reply result self.new
+        ensures exact { hear_reply heard.new self.new
             ≡ happens self.old (Frame now (bytes_with tags self.old.keys bytes.now)) Kept }
-        ensures refused { result_err result
+        ensures refused { result_err heard.new
             ≡ frame_refusal (at_moment now self.old) (bytes_with tags self.old.keys bytes.now) }
-        ensures unchanged { OnErr result (self.new ≡ at_moment now self.old) }
+        ensures unchanged { OnErr heard.new (self.new ≡ at_moment now self.old) }
         ensures others { HearsOthers self.old (bytes_with tags self.old.keys bytes.now) }
     {
         self.advance(now);
         // Its keys are its own.
         let _ = &self.keys;
-        match split(bytes) {
-            Parted::Whole(raw) => self.hear_frame(tags, &raw, bytes),
-            Parted::Need(lack) => Err(Refusal::Short(lack)),
-            Parted::Refused(why) => Err(Refusal::Frame(why)),
+        match &split(bytes) {
+            Parted::Whole(raw) => self.hear_frame(tags, raw, bytes, heard),
+            Parted::Need(lack) => *heard = Err(Refusal::Short(*lack)),
+            Parted::Refused(why) => *heard = Err(Refusal::Frame(*why)),
         }
     }
 
     /// Hears the frame with which the bytes begin.
-    fn hear_frame(&mut self, tags: Tags, raw: &Raw<'_>, bytes: &[u8]) -> Result<Heard, Refusal>
+    fn hear_frame(
+        &mut self,
+        tags: Tags,
+        raw: &Raw<'_>,
+        bytes: &[u8],
+        heard: &mut Result<Heard, Refusal>,
+    )
         requires { BeginsWith (raw_frame raw.now) bytes.now }
-        ensures exact { hear_reply result self.new
+        ensures exact { hear_reply heard.new self.new
             ≡ bytes_reply self.old (bytes_with tags self.old.keys bytes.now) }
-        ensures refused { result_err result ≡ frame_refusal self.old (bytes_with tags self.old.keys bytes.now) }
-        ensures unchanged { OnErr result (self.new ≡ self.old) }
+        ensures refused { result_err heard.new ≡ frame_refusal self.old (bytes_with tags self.old.keys bytes.now) }
+        ensures unchanged { OnErr heard.new (self.new ≡ self.old) }
     {
-        let from = opened(&self.keys, &self.list, tags, raw, bytes)?;
+        let Some(from) = opened(&self.keys, &self.list, tags, raw, bytes, heard) else {
+            return;
+        };
         // What is read is large, and taken where it stands.
         match &read_body(raw) {
-            Ok(body) => self.take_body(from, body),
-            Err(why) => Err(Refusal::Frame(*why)),
+            Ok(body) => self.take_body(from, body, heard),
+            Err(why) => *heard = Err(Refusal::Frame(*why)),
         }
     }
 
     /// Takes what a member says in a body.
-    fn take_body(&mut self, from: NodeNo, body: &Body<'_>) -> Result<Heard, Refusal>
+    fn take_body(&mut self, from: NodeNo, body: &Body<'_>, heard: &mut Result<Heard, Refusal>)
         requires listed { IsTrue (is_on self.old.list.members from) }
-        ensures exact { hear_reply result self.new ≡ speech_reply self.old from (speech_of body.now) }
-        ensures refused { result_err result ≡ speech_refusal self.old from (speech_of body.now) }
-        ensures unchanged { OnErr result (self.new ≡ self.old) }
+        ensures exact { hear_reply heard.new self.new ≡ speech_reply self.old from (speech_of body.now) }
+        ensures refused { result_err heard.new ≡ speech_refusal self.old from (speech_of body.now) }
+        ensures unchanged { OnErr heard.new (self.new ≡ self.old) }
     {
         match body {
-            Body::Validation(validation) => self.take_validation(from, validation),
-            Body::Header(bytes) => self.learn(&read_header(bytes)),
-            Body::Proposal(proposal) => self.place(from, proposal),
-            Body::TxSet(ids) => Ok(self.hold(from, ids)),
-            Body::Tx(tx) => self.take_tx(*tx),
-        }
-    }
-
-    /// A member's row takes a validation.
-    fn take_validation(&mut self, from: NodeNo, v: &Validation) -> Result<Heard, Refusal>
-        requires listed { IsTrue (is_on self.old.list.members from) }
-        ensures exact { hear_reply result self.new ≡ speech_reply self.old from (speech.Validation v.now) }
-        ensures refused { result_err result ≡ speech_refusal self.old from (speech.Validation v.now) }
-        ensures unchanged { OnErr result (self.new ≡ self.old) }
-    {
-        match self.take(from, v) {
-            Ok(report) => Ok(Heard {
-                taken: Taken::Validation,
-                report,
-            }),
-            Err(why) => Err(why),
+            Body::Validation(validation) => self.take(from, validation, heard),
+            Body::Header(bytes) => self.learn(bytes, heard),
+            Body::Proposal(proposal) => self.place(from, proposal, heard),
+            Body::TxSet(ids) => self.hold(from, ids, heard),
+            Body::Tx(tx) => self.take_tx(*tx, heard),
         }
     }
 
     /// A member's row takes a validation, and what that gives is reported.
-    pub(super) fn take(&mut self, from: NodeNo, v: &Validation) -> Result<Option<Report>, Refusal>
+    pub(super) fn take(&mut self, from: NodeNo, v: &Validation, heard: &mut Result<Heard, Refusal>)
         requires listed { IsTrue (is_on self.old.list.members from) }
-        ensures exact { validation_reply result self.new ≡ speech_reply self.old from (speech.Validation v.now) }
-        ensures refused { result_err result ≡ speech_refusal self.old from (speech.Validation v.now) }
-        ensures unchanged { OnErr result (self.new ≡ self.old) }
+        ensures exact { hear_reply heard.new self.new ≡ speech_reply self.old from (speech.Validation v.now) }
+        ensures refused { result_err heard.new ≡ speech_refusal self.old from (speech.Validation v.now) }
+        ensures unchanged { OnErr heard.new (self.new ≡ self.old) }
     {
-        self.table
-            .take(&self.registry, from, v, secs_of(self.time))?;
-        let report = report_by(&self.table, self.list.quorum(), &self.last, v);
-        self.last = self.last.later(report);
-        Ok(report)
+        let second = secs_of(self.time);
+        match self.table.take(&self.registry, from, v, second) {
+            Ok(()) => {
+                let report = report_by(&self.table, self.list.quorum(), &self.last, v);
+                self.last.note(&report);
+                *heard = Ok(Heard {
+                    taken: Taken::Validation,
+                    report,
+                });
+            }
+            Err(why) => *heard = Err(Refusal::from(why)),
+        }
     }
 
     /// Adds a header to the known ledgers. Validations that waited for it are votes from then on, and nothing is
     /// reported.
-    fn learn(&mut self, h: &Header) -> Result<Heard, Refusal>
+    fn learn(&mut self, bytes: &[u8; 118], heard: &mut Result<Heard, Refusal>)
+        ensures exact { (from : ℕ) →
+            hear_reply heard.new self.new ≡ speech_reply self.old from (speech.Header (header_in bytes.now)) }
+        ensures refused { (from : ℕ) →
+            result_err heard.new ≡ speech_refusal self.old from (speech.Header (header_in bytes.now)) }
+        ensures unchanged { OnErr heard.new (self.new ≡ self.old) }
+    {
+        *heard = self.add_header(&read_header(bytes));
+    }
+
+    fn add_header(&mut self, h: &Header) -> Result<Heard, Refusal>
         ensures exact { (from : ℕ) → hear_reply result self.new ≡ speech_reply self.old from (speech.Header h.now) }
         ensures refused { (from : ℕ) → result_err result ≡ speech_refusal self.old from (speech.Header h.now) }
         ensures unchanged { OnErr result (self.new ≡ self.old) }

@@ -7,6 +7,7 @@ ghost use Rattle.xl_core.specs.Replies.{issue_reply, save_in, was_kept};
 ghost use Rattle.xl_core.specs.Keeping.{AsksSave, CountsFault, Holds, IsAsked, Saves};
 
 use super::Node;
+use crate::taken::UNHEARD;
 use crate::{OwnValidation, Refusal, Report};
 use xl_base::{LedgerId, Millis, Seq, secs_of};
 use xl_io::Keeper;
@@ -107,10 +108,14 @@ impl<B: Branch + Drop> Node<B> {
         ensures report { result ≡ arisen (with_own self.old v.now) }
     {
         let me = self.me;
-        if self.list.has(me) {
-            self.take(me, v).unwrap_or(None)
-        } else {
-            None
+        if !self.list.has(me) {
+            return None;
+        }
+        let mut heard = UNHEARD;
+        self.take(me, v, &mut heard);
+        match &heard {
+            Ok(heard) => heard.report,
+            Err(_) => None,
         }
     }
 }

@@ -58,12 +58,12 @@ impl<B: Branch + Drop> Node<B> {
     {
         // Each list is valid.
         let _members = list.members();
-        let last = self.last.over_another_list();
+        self.last = self.last.over_another_list();
         self.round.relist(&list);
         self.table.relist(&self.registry, list.copy());
-        let report = arisen(&self.table, &list, &last);
+        let report = arisen(&self.table, &list, &self.last);
         self.list = list;
-        self.last = last.later(report);
+        self.last.note(&report);
         report
     }
 }

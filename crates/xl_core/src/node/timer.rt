@@ -1,4 +1,4 @@
-ghost use Rattle.std.specs.Prelude.{◌≡◌, ◌<◌, ◌≤◌, IsSome, IfSome, OnOk, OnErr, is_some, None, length};
+ghost use Rattle.std.specs.Prelude.{◌≡◌, ◌<◌, ◌≤◌, ℕ, IsSome, IfSome, OnOk, OnErr, is_some, None, length};
 ghost use Rattle.xl_base.specs.Moments.{greatest_millis};
 ghost use Rattle.xl_ledger.specs.Headers.{header_id};
 ghost use Rattle.xl_ledger.specs.Registries.{add_refusal, with_header};
@@ -17,6 +17,7 @@ ghost use Rattle.xl_core.specs.Node.{
   built_outcome,
 };
 ghost use Rattle.xl_core.specs.Replies.{save_in, was_kept};
+ghost use Rattle.xl_core.specs.declared.timer_part.TimerPart.TheVariants.{Quiet as quiet_of};
 ghost use Rattle.xl_core.specs.TimerParts.{outcome_by, asks_in, validating_reply, concluding_reply, validated_reply, IsBuilt, IsKnown, IsTimerPart};
 
 use super::{Node, usual_mode};
@@ -26,7 +27,7 @@ use xl_base::{LedgerId, Millis};
 use xl_closetime::effective;
 use xl_io::Keeper;
 use xl_ledger::{AddRefusal, Branch, Header, LedgerNo, build_next, id_of};
-use xl_rounds::{Heartbeat, HeartbeatKind, Mode, Said, Seen};
+use xl_rounds::{Heartbeat, HeartbeatKind, Mode, Phase, Said, Seen};
 use xl_wire::Proposal;
 
 /// A position that is said without the set.
@@ -39,20 +40,33 @@ fn alone(position: Option<Proposal>) -> Option<Said>
     })
 }
 
+/// A timer that built nothing comes to this.
+fn quiet(answer: TimerAnswer, said: &Option<Said>) -> TimerPart
+    ensures { result ≡ quiet_of answer said.now }
+{
+    TimerPart::Quiet {
+        answer,
+        said: *said,
+    }
+}
+
 impl<B: Branch + Drop> Node<B> {
     /// Looks at the votes, and lets the round go on or switches to another ledger. A ledger on which the round agreed
     /// is built and accepted, if there is room for it; `conclude` goes on from there.
-    pub(crate) fn timer(&mut self, now: Millis) -> TimerPart
+    ///
+    /// What it comes to is large, so it is written where it is to stand, here and in each call below.
+    #[inline(never)]
+    pub(crate) fn timer(&mut self, now: Millis, part: &mut TimerPart)
         requires moment { now ≤ greatest_millis }
-        ensures exact { outcome_by result self.new ≡ timer_outcome (at_moment now self.old) }
-        ensures part { IsTimerPart self.new result }
+        ensures exact { outcome_by part.new self.new ≡ timer_outcome (at_moment now self.old) }
+        ensures part { IsTimerPart self.new part.new }
     {
         self.advance(now);
         let ledger = self.chosen();
         if ledger == self.round.previous() {
-            self.go_on()
+            self.go_on(part)
         } else {
-            self.switch(ledger)
+            self.switch(ledger, part)
         }
     }
 
@@ -67,31 +81,56 @@ impl<B: Branch + Drop> Node<B> {
     }
 
     /// Leaves the round for one on another ledger.
-    fn switch(&mut self, ledger: LedgerNo) -> TimerPart
+    fn switch(&mut self, ledger: LedgerNo, part: &mut TimerPart)
         requires known { ledger < length self.old.ledgers.headers }
-        ensures exact { outcome_by result self.new ≡ switch_outcome self.old ledger }
-        ensures part { IsTimerPart self.new result }
+        ensures exact { outcome_by part.new self.new ≡ switch_outcome self.old ledger }
+        ensures part { IsTimerPart self.new part.new }
     {
         let said = alone(self.round.leave(self.time));
         self.round
             .start(&self.registry, ledger, Mode::SwitchedLedger, self.time);
-        TimerPart::Quiet {
+        *part = TimerPart::Quiet {
             answer: TimerAnswer::Switched(
                 self.registry.seq_of(ledger),
                 self.registry.id_at(ledger),
             ),
             said,
-        }
+        };
     }
 
-    /// What the round learns of the validations.
-    fn seen(&self) -> Seen
-        ensures { result ≡ seen_of self.now }
+    /// The members other than us that have validated the round's previous ledger.
+    fn validated(&self) -> u32
+        ensures { result ≡ (seen_of self.now).validated }
     {
         let previous = self.round.previous();
-        Seen {
-            validated: self.table.named(&self.registry.id_at(previous)),
-            finished: self.table.finished(&self.registry, previous),
+        self.table.named(&self.registry.id_at(previous))
+    }
+
+    /// The votes for ledgers that build on the round's previous one.
+    fn finished(&self) -> u32
+        ensures { result ≡ (seen_of self.now).finished }
+    {
+        self.table.finished(&self.registry, self.round.previous())
+    }
+
+    /// What the round learns of the validations, as far as its phase asks for it.
+    fn seen(&self) -> Seen
+        ensures { (now : ℕ) →
+            heartbeat now result self.now.round ≡ heartbeat now (seen_of self.now) self.now.round }
+    {
+        match self.round.phase() {
+            Phase::Open => Seen {
+                validated: self.validated(),
+                finished: 0,
+            },
+            Phase::Establish => Seen {
+                validated: 0,
+                finished: self.finished(),
+            },
+            Phase::Accepted => Seen {
+                validated: 0,
+                finished: 0,
+            },
         }
     }
 
@@ -108,53 +147,42 @@ impl<B: Branch + Drop> Node<B> {
     }
 
     /// The round's phase goes on.
-    fn go_on(&mut self) -> TimerPart
-        ensures exact { outcome_by result self.new ≡
+    fn go_on(&mut self, part: &mut TimerPart)
+        ensures exact { outcome_by part.new self.new ≡
             heartbeat_outcome self.old (heartbeat self.old.time (seen_of self.old) self.old.round) }
-        ensures part { IsTimerPart self.new result }
+        ensures part { IsTimerPart self.new part.new }
     {
-        let Heartbeat { kind, said } = self.heartbeat();
-        match kind {
-            HeartbeatKind::Nothing => TimerPart::Quiet {
-                answer: TimerAnswer::Nothing,
-                said,
-            },
-            HeartbeatKind::Closed => TimerPart::Quiet {
-                answer: TimerAnswer::Closed,
-                said,
-            },
-            HeartbeatKind::Updated => TimerPart::Quiet {
-                answer: TimerAnswer::Updated,
-                said,
-            },
-            HeartbeatKind::Ready { moved_on } => self.build(said, moved_on),
+        let beat = self.heartbeat();
+        let said = &beat.said;
+        match beat.kind {
+            HeartbeatKind::Nothing => *part = quiet(TimerAnswer::Nothing, said),
+            HeartbeatKind::Closed => *part = quiet(TimerAnswer::Closed, said),
+            HeartbeatKind::Updated => *part = quiet(TimerAnswer::Updated, said),
+            HeartbeatKind::Ready { moved_on } => self.build(said, moved_on, part),
         }
     }
 
     /// Builds and accepts the ledger for which the round is ready, if there is room for it.
-    fn build(&mut self, said: Option<Said>, moved_on: bool) -> TimerPart
+    fn build(&mut self, said: &Option<Said>, moved_on: bool, part: &mut TimerPart)
         requires ready { IsSome self.old.round.ready }
-        ensures exact { outcome_by result self.new ≡
-            built_outcome self.old said moved_on (knowing self.old.ledgers (built_of self.old)) }
-        ensures part { IsTimerPart self.new result }
+        ensures exact { outcome_by part.new self.new ≡
+            built_outcome self.old said.now moved_on (knowing self.old.ledgers (built_of self.old)) }
+        ensures part { IsTimerPart self.new part.new }
     {
         let header = self.next_header();
         let id = id_of(&header);
         match self.know(&header, &id) {
             Some(ledger) => {
                 self.round.accept();
-                TimerPart::Built(Built {
-                    said,
+                *part = TimerPart::Built(Built {
+                    said: *said,
                     header,
                     id,
                     ledger,
                     moved_on,
-                })
+                });
             }
-            None => TimerPart::Quiet {
-                answer: TimerAnswer::NoRoom(self.registry.limit()),
-                said,
-            },
+            None => *part = quiet(TimerAnswer::NoRoom(self.registry.limit()), said),
         }
     }
 

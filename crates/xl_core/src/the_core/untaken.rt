@@ -10,11 +10,11 @@ use xl_queues::Queue;
 pub const UNTAKEN: usize = 1_024;
 
 /// Puts a report last, if there is one.
-pub fn push_report(untaken: &mut Queue<Report, UNTAKEN>, report: Option<Report>)
-    ensures { untaken.new ≡ with_report untaken.old report }
+pub fn push_report(untaken: &mut Queue<Report, UNTAKEN>, report: &Option<Report>)
+    ensures { untaken.new ≡ with_report untaken.old report.now }
 {
     if let Some(report) = report {
-        untaken.push(report);
+        untaken.push(*report);
     }
 }
 

@@ -7,8 +7,8 @@ use Rattle.xl_tags.specs.Rings.{Ring}
 use Rattle.xl_core.specs.Hearing.{bytes_with, frame_with, heard_so, spoken_in}
 use Rattle.xl_core.specs.declared.hearing.Spoken.{Spoken}
 use Rattle.xl_core.specs.declared.refusal.Refusal.{Refusal}
-use Rattle.xl_core.specs.declared.refusal.Refusal.TheVariants.{Tag, Extra}
-use Rattle.xl_core.proofs.Heard.{long, unopened, read, so_read, err_so, framed_with, stays_long, IsFrame}
+use Rattle.xl_core.specs.declared.refusal.Refusal.TheVariants.{Extra}
+use Rattle.xl_core.proofs.Heard.{long, unopened, read, so_read, framed_with, stays_long, IsFrame}
 use Rattle.xl_core.proofs.hearing.opened.Goals as goal
 use Rattle.xl_core.proofs.hearing.opened.Goals.{Else-raw-bytes}
 
@@ -37,20 +37,17 @@ framed c = framed_with c.args.tags c.args.keys.now c.args.bytes.now (raw_frame c
 pub open-requires-clause-whole : goal.open-requires-clause-whole
 open-requires-clause-whole c = spells (goal.at.open-requires-clause-whole c).Else-raw-bytes
 
-pub returns-in_err-open : goal.returns-in_err-open
-returns-in_err-open c =
+pub returns-in-Err : goal.returns-in-Err
+returns-in-Err c =
     let ring : Ring = c.args.keys.now in
-    let raw = c.args.raw.now in
-    let is = framed (goal.at.returns-in_err-open c).Else-raw-bytes in
-    let why = c.in_err-open.field-0.0 in
-    unopened ring c.args.list.now.members (bytes_with c.args.tags ring c.args.bytes.now) (frame_with c.args.tags ring (raw_frame raw)) why is.split is.all (sym c.in_err-open.ensures.refusal)
-    ∙ ap (λ (r : Result ℕ Refusal). heard_so r (body_of raw.kind raw.body.now)) (sym (err_so c.from_residual.result (Tag why) c.from_residual.ensures.1))
+    let is = framed (goal.at.returns-in-Err c).Else-raw-bytes in
+    unopened ring c.args.list.now.members (bytes_with c.args.tags ring c.args.bytes.now) (frame_with c.args.tags ring (raw_frame c.args.raw.now)) c.in-Err.why is.split is.all (sym c.in-Err.ensures.refusal)
 
-pub returns : goal.returns
-returns c =
+pub returns-in-Ok : goal.returns-in-Ok
+returns-in-Ok c =
     let ring : Ring = c.args.keys.now in
     let raw = c.args.raw.now in
-    let is = framed (goal.at.returns c).Else-raw-bytes in
-    read ring c.args.list.now.members (bytes_with c.args.tags ring c.args.bytes.now) (frame_with c.args.tags ring (raw_frame raw)) (body_of raw.kind raw.body.now) is.split is.all (sym c.in_ok-open.ensures.refusal) refl
+    let is = framed (goal.at.returns-in-Ok c).Else-raw-bytes in
+    read ring c.args.list.now.members (bytes_with c.args.tags ring c.args.bytes.now) (frame_with c.args.tags ring (raw_frame raw)) (body_of raw.kind raw.body.now) is.split is.all (sym c.in-Ok.ensures.refusal) refl
     ∙ so_read raw.from (body_of raw.kind raw.body.now)
-    ∙ ap (λ (m : ℕ). heard_so (Ok m) (body_of raw.kind raw.body.now)) (sym c.in_ok-open.ensures.sender)
+    ∙ ap (λ (m : ℕ). heard_so (Ok m) (body_of raw.kind raw.body.now)) (sym c.in-Ok.ensures.sender)

@@ -1,5 +1,5 @@
 -- each member of the new list has one row and a key, and what its rows give to report is noted as reported last
-use Rattle.std.proofs.Common.{◌≡◌, ◌∙◌, List, map, ap, sym, subst}
+use Rattle.std.proofs.Common.{◌∙◌, List, map, ap, sym, subst}
 use Rattle.xl_lists.specs.Lists.{TrustedList}
 use Rattle.xl_tags.specs.Opening.{HasKeys}
 use Rattle.xl_validations.specs.declared.row.Row.{Row}
@@ -24,8 +24,8 @@ invariant_of-self g c =
     let list : TrustedList = c.args.list in
     let rows : List Row = c.relist-2.new.self.rows in
     let report = c.arisen-report.result in
-    let report_is = c.arisen-report.ensures ∙ ap (arisen_in list.quorum rows) c.over_another_list-last.ensures in
-    let last_is = c.later-self-inside.ensures ∙ ap (λ (l : LastReport). later l report) c.over_another_list-last.ensures in (
+    let report_is = c.arisen-report.ensures ∙ ap (arisen_in list.quorum rows) c.over_another_list-self-inside.ensures in
+    let last_is = c.note.ensures ∙ ap (λ (l : LastReport). later l report) c.over_another_list-self-inside.ensures in (
       subst (λ (l : LastReport). IsReady (record n { list = list; rows = rows; round = c.relist.new.self; last = l })) (sym last_is)
           (list_ready n list rows c.relist.new.self report c.self.invariant.0 c.members-members.ensures.valid
           (subst (λ (m : Node). HasKeys m.keys list.members) (sym c.self.view_is) c.requires.keyed)

@@ -18,34 +18,34 @@ take-requires g c = record {
   tally = c.self.invariant.1;
 }
 
-pub invariant_of-self-2 : goal.invariant_of-self-2
-invariant_of-self-2 g c =
+pub invariant_of-self : goal.invariant_of-self
+invariant_of-self g c =
     let n : Node = node_seen c.self.inside in
-    let unrefused : None ≡ refusal_of n.rows c.args.from (second_of n) c.args.v.now = subst (λ (s : ℕ). None ≡ refusal_of n.rows c.args.from s c.args.v.now) c.secs_of.ensures c.in_ok-take.ensures.answer in (
+    let unrefused : None ≡ refusal_of n.rows c.args.from (second_of n) c.args.v.now = subst (λ (s : ℕ). None ≡ refusal_of n.rows c.args.from s c.args.v.now) c.secs_of-second.ensures c.in-Ok.ensures.answer in (
       record {
         keyed = c.self.invariant.0.keyed;
         time = c.self.invariant.0.time;
         known = c.self.invariant.0.known;
-        current = subst (λ (rows : List Row). All (IsCurrent (second_of n)) rows) (sym c.in_ok-take.ensures.taken) (taken_current (second_of n) c.args.from c.args.v.now n.rows (sym unrefused) c.self.invariant.0.current);
+        current = subst (λ (rows : List Row). All (IsCurrent (second_of n)) rows) (sym c.in-Ok.ensures.taken) (taken_current (second_of n) c.args.from c.args.v.now n.rows (sym unrefused) c.self.invariant.0.current);
         rest = rest_when_taken n
-            c.args.from c.args.v.now c.take.new.self.rows c.report_by-report.result c.later-self-inside.result c.self.invariant.0.rest
+            c.args.from c.args.v.now c.take.new.self.rows c.report_by-report.result c.note.new.self c.self.invariant.0.rest
             (has_row n c.args.from c.self.invariant.0.rest (subst (λ (m : Node). is_on m.list.members c.args.from ≡ true) (sym c.self.view_is) c.requires.listed))
-            c.in_ok-take.ensures.taken
+            c.in-Ok.ensures.taken
             (c.report_by-report.ensures ∙ ap (λ q. report_if (arises_in q c.take.new.self.rows c.self.inside.last c.args.v.now) c.args.v.now) c.quorum.ensures.value)
-            c.later-self-inside.ensures;
+            c.note.ensures;
       },
       c.take.ensures.tally,
       c.take.ensures.me ∙ c.self.invariant.2,
     )
 
-pub returns-clause-exact : goal.returns-clause-exact
-returns-clause-exact g c =
+pub returns-in-Ok-clause-exact : goal.returns-in-Ok-clause-exact
+returns-in-Ok-clause-exact g c =
     let n : Node = node_seen c.self.inside in
-    let unrefused : None ≡ refusal_of n.rows c.args.from (second_of n) c.args.v.now = subst (λ (s : ℕ). None ≡ refusal_of n.rows c.args.from s c.args.v.now) c.secs_of.ensures c.in_ok-take.ensures.answer in
-    answer_when_taken n c.args.from c.args.v.now c.take.new.self.rows c.report_by-report.result c.later-self-inside.result c.self.invariant.0.rest
+    let unrefused : None ≡ refusal_of n.rows c.args.from (second_of n) c.args.v.now = subst (λ (s : ℕ). None ≡ refusal_of n.rows c.args.from s c.args.v.now) c.secs_of-second.ensures c.in-Ok.ensures.answer in
+    answer_when_taken n c.args.from c.args.v.now c.take.new.self.rows c.report_by-report.result c.note.new.self c.self.invariant.0.rest
     (subst (λ (m : Node). is_on m.list.members c.args.from ≡ true) (sym c.self.view_is) c.requires.listed)
     unrefused
-    c.in_ok-take.ensures.taken
+    c.in-Ok.ensures.taken
     (c.report_by-report.ensures ∙ ap (λ q. report_if (arises_in q c.take.new.self.rows c.self.inside.last c.args.v.now) c.args.v.now) c.quorum.ensures.value)
-    c.later-self-inside.ensures
+    c.note.ensures
     ∙ ap (λ m. speech_reply m c.args.from (speech.Validation c.args.v.now)) c.self.view_is
