@@ -81,7 +81,8 @@ fn settle(shares: &mut Shares, positions: &[Option<SetId>; MOST_MEMBERS], last: 
     requires ends { IsLast last shares.old positions.now }
     ensures { shares.new ≡ weighed (standings shares.old positions.now) shares.old }
 {
-    let weights = shares.standings(&positions[..last]);
+    let mut weights = [0; PLACES];
+    shares.count_standings(&positions[..last], &mut weights);
     shares.weigh_all(&weights[..last + 1]);
 }
 

@@ -9,6 +9,7 @@ ghost use Rattle.std.specs.Prelude.{
   map,
   not,
   length,
+  replicate,
   Some,
   None,
   slice_index_or,
@@ -203,17 +204,16 @@ impl Shares {
         }
     }
 
-    /// How many positions each place's set stands for.
-    pub(crate) fn standings(&self, positions: &[Option<SetId>]) -> [u32; PLACES]
-        requires { length positions.now ≤ 64 }
-        ensures value { result ≡ standings_of self.now positions.now }
-        ensures few { All (λ weight. weight ≤ 64) result }
+    /// Counts how many positions each place's set stands for, where nothing is counted yet.
+    pub(crate) fn count_standings(&self, positions: &[Option<SetId>], weights: &mut [u32; PLACES])
+        requires few { length positions.now ≤ 64 }
+        requires none { weights.old ≡ replicate 65 0 }
+        ensures value { weights.new ≡ standings_of self.now positions.now }
+        ensures few { All (λ weight. weight ≤ 64) weights.new }
     {
-        let mut weights = [0; PLACES];
         for position in positions {
-            add_one(&mut weights, self.stand(position));
+            add_one(weights, self.stand(position));
         }
-        weights
     }
 
     /// The sets of the first places stand for these numbers of positions.
@@ -263,9 +263,11 @@ impl Shares {
         requires counted { (tx : TxId) → has ids.now tx ≡ true → has (flat_map ids_in self.old) tx ≡ true }
         ensures { self.new ≡ changed (with_set (Some ids.now)) place self.old }
     {
+        let _ = &self.places;
+        let id = self.id_of(ids);
         let held = &mut self.places[place];
         self.index.move_part(held.ids(), ids, held.tally());
-        held.fill(ids, set_id(ids));
+        held.fill(ids, id);
     }
 
     /// The place holds no set any more.

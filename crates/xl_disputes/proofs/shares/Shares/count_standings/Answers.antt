@@ -1,15 +1,19 @@
 -- each position adds one at the place at which it stands, so no weight exceeds the positions passed
-use Rattle.std.proofs.Common.{◌+◌, ◌≤◌, List, ℕ, None, get_or, replicate, refl, ap, sym, subst, ◌∙◌, arith}
+use Rattle.std.proofs.Common.{◌+◌, ◌≤◌, List, ℕ, None, get_or, replicate, length, ap, sym, subst, ◌∙◌, arith}
 use Rattle.std.specs.Prelude.{All, Option}
 use Rattle.std.proofs.lemmas.List.Sums.{fold_more}
 use Rattle.std.proofs.lemmas.List.Elements.{All-replicate}
 use Rattle.xl_base.specs.declared.ids.SetId.{SetId}
 use Rattle.xl_disputes.specs.Standings.{stand, with_one}
 use Rattle.xl_disputes.proofs.Weighing.{one_more}
-use Rattle.xl_disputes.proofs.shares.Shares.standings.Goals as goal
+use Rattle.xl_disputes.proofs.shares.Shares.count_standings.Goals as goal
 
 pub loop-position-init : goal.loop-position-init
-loop-position-init c = record { counted = refl; places = refl; few = All-replicate (λ weight. weight ≤ 0) 65 0 (omega arith) }
+loop-position-init c = record {
+  counted = c.requires.none;
+  places = ap length c.requires.none;
+  few = subst (All (λ weight. weight ≤ 0)) (sym c.requires.none) (All-replicate (λ weight. weight ≤ 0) 65 0 (omega arith));
+}
 
 pub loop-position-preserved : goal.loop-position-preserved
 loop-position-preserved c = record {

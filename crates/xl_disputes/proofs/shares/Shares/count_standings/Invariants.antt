@@ -1,7 +1,7 @@
 use Rattle.std.proofs.Common.{◌≡◌, ◌≤◌, length, take, fold, replicate}
 use Rattle.std.specs.Prelude.{All}
 use Rattle.xl_disputes.specs.Standings.{stand, with_one}
-use Rattle.xl_disputes.proofs.shares.Shares.standings.Given as goal
+use Rattle.xl_disputes.proofs.shares.Shares.count_standings.Given as goal
 
 -- the positions so far are counted
 abbrev pub invariant-loop-position : goal.invariant-loop-position
