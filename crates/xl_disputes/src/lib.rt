@@ -14,6 +14,7 @@ mod disputes;
 mod index;
 mod moving;
 mod place;
+mod rising;
 mod rows;
 mod set;
 mod shares;
@@ -21,4 +22,5 @@ mod tally;
 mod votes;
 
 pub use disputes::Disputes;
+pub use rising::{count_below, is_first, not_below};
 pub use votes::{Votes, threshold};

@@ -1,43 +1,12 @@
-ghost use Rattle.std.specs.Prelude.{◌≡◌, ◌≤◌, length, map, All, if◌then◌else◌};
-ghost use Rattle.std.specs.List.{prefix_len};
-ghost use Rattle.xl_base.specs.Sets.{is_below as is_below_of, IsRising};
+ghost use Rattle.std.specs.Prelude.{◌≡◌, map, All, if◌then◌else◌};
+ghost use Rattle.xl_base.specs.Sets.{IsRising};
 ghost use Rattle.xl_disputes.specs.Tallies.{no_tally, IsWithin, IsFitting};
-ghost use Rattle.xl_disputes.specs.Rows.{
-  ids_of,
-  not_below as not_below_of,
-  is_first as is_first_of,
-  part_of,
-  moved,
-};
+ghost use Rattle.xl_disputes.specs.Rows.{ids_of, part_of, moved};
 
-use crate::index::is_below;
+use crate::rising::{is_first, not_below};
 use crate::rows::{Row, Rows};
 use crate::tally::Tally;
 use xl_base::TxId;
-
-/// How many ids at the front are below this one.
-fn below(ids: &[TxId], tx: &TxId) -> usize
-    ensures value { result ≡ prefix_len (λ id. is_below_of id tx.now) ids.now }
-    ensures within { result ≤ length ids.now }
-{
-    ids.iter().take_while(|id| is_below(id, tx)).count()
-}
-
-/// The ids that aren't below this one.
-fn not_below<'a>(ids: &'a [TxId], tx: &TxId) -> &'a [TxId]
-    ensures { result.now ≡ not_below_of tx.now ids.now }
-{
-    &ids[below(ids, tx)..]
-}
-
-fn is_first(ids: &[TxId], tx: &TxId) -> bool
-    ensures { result ≡ is_first_of tx.now ids.now }
-{
-    match ids.first() {
-        Some(id) => id == tx,
-        None => false,
-    }
-}
 
 fn part_if(among: bool, part: Tally) -> Tally
     ensures { result ≡ (if among then part else no_tally) }

@@ -1,16 +1,15 @@
-ghost use Rattle.std.specs.Prelude.{◌≡◌, ◌≤◌, [], length, vec_capacity, IfOk, OnOk, OnErr};
-ghost use Rattle.std.specs.List.{prefix_len};
+ghost use Rattle.std.specs.Prelude.{◌≡◌, [], length, vec_capacity, IfOk, OnOk, OnErr};
 ghost use Rattle.std.specs.Result.{result_err};
-ghost use Rattle.xl_base.specs.Sets.{is_below as is_below_of, IsRising, IsSet};
+ghost use Rattle.xl_base.specs.Sets.{IsRising, IsSet};
 ghost use Rattle.xl_disputes.specs.Disputes.{has};
 ghost use Rattle.xl_disputes.specs.Rising.{with_tx};
 ghost use Rattle.xl_rounds.specs.Pending.{submit_refusal, without_accepted};
-ghost use Rattle.xl_disputes.specs.Rows.{not_below as not_below_of, is_first as is_first_of};
 
 use crate::RoundRefusal;
 use std::alloc::Global;
 use std::marker::Model;
 use xl_base::{OutOfMemory, TxId};
+use xl_disputes::{count_below, is_first, not_below};
 
 /// As many transactions may be pending as a set may have.
 const POOL: u32 = 256;
@@ -33,40 +32,10 @@ impl Model for Pending {
     ghost invariant = { λ a. HasRoom a.ids.items (vec_capacity a.ids) };
 }
 
-/// How many ids at the front are below this one.
-fn place_of(ids: &[TxId], tx: &TxId) -> usize
-    ensures value { result ≡ prefix_len (λ id. is_below_of id tx.now) ids.now }
-    ensures within { result ≤ length ids.now }
-{
-    ids.iter().take_while(|id| is_below(id, tx)).count()
-}
-
-fn is_below(a: &TxId, b: &TxId) -> bool
-    ensures { result ≡ is_below_of a.now b.now }
-{
-    a < b
-}
-
 fn is_among(ids: &[TxId], tx: &TxId) -> bool
     ensures { result ≡ has ids.now tx.now }
 {
     ids.contains(tx)
-}
-
-/// The ids that aren't below this one.
-fn not_below<'a>(ids: &'a [TxId], tx: &TxId) -> &'a [TxId]
-    ensures { result.now ≡ not_below_of tx.now ids.now }
-{
-    &ids[place_of(ids, tx)..]
-}
-
-fn is_first(ids: &[TxId], tx: &TxId) -> bool
-    ensures { result ≡ is_first_of tx.now ids.now }
-{
-    match ids.first() {
-        Some(id) => id == tx,
-        None => false,
-    }
 }
 
 /// Takes the accepted ids out. Both lists rise, so each is walked once.
@@ -125,7 +94,7 @@ impl Pending {
         if self.ids.len() >= POOL as usize {
             return Err(RoundRefusal::PoolFull(POOL));
         }
-        let place = place_of(&self.ids, &tx);
+        let place = count_below(&self.ids, &tx);
         let _ = self.ids.insert(place, tx);
         Ok(())
     }
