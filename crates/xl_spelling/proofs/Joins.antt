@@ -27,7 +27,7 @@ cut-joined c p part (next ∷ parts) e h hs =
 abbrev pub IsToken : List ℕ → Type 0
 IsToken t = (1 ≤ length t) × Clear is_blank t
 
-filter-kept : (t : List ℕ) (ts : List (List ℕ)) → 1 ≤ length t → filter (λ run. not (length run == 0)) (t ∷ ts) ≡ t ∷ filter (λ run. not (length run == 0)) ts
+pub filter-kept : (t : List ℕ) (ts : List (List ℕ)) → 1 ≤ length t → filter (λ run. not (length run == 0)) (t ∷ ts) ≡ t ∷ filter (λ run. not (length run == 0)) ts
 filter-kept [] ts h = absurd (omega arith)
 filter-kept (b ∷ bs) ts h = grind (arith, nat_tests)
 

@@ -5,8 +5,12 @@ mod Small
 mod Asks
 mod Members
 mod WordLemmas
+pub mod Visible
+mod Endings
+mod LineEndings
 mod Saying
 mod Happening
 mod Telling
 pub mod Respelling
 mod Commas
+pub mod Returns

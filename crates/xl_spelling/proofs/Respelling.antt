@@ -129,14 +129,14 @@ worded-again reading sent token old l e stored =
     ] refl e
 
 -- the tokens of a line that says something
-record IsWorded (reading : Reading) (sent : ℕ) (ts : List (List ℕ)) (l : Line) : Type 0 where
-  token : List ℕ
-  rest : List (List ℕ)
-  whole : ts ≡ token ∷ rest
-  no_comment : is_comment token ≡ false
-  says : worded_line reading sent token rest ≡ Ok l
+pub record IsWorded (reading : Reading) (sent : ℕ) (ts : List (List ℕ)) (l : Line) : Type 0 where
+  pub token : List ℕ
+  pub rest : List (List ℕ)
+  pub whole : ts ≡ token ∷ rest
+  pub no_comment : is_comment token ≡ false
+  pub says : worded_line reading sent token rest ≡ Ok l
 
-abbrev GivesSome : Result (Option Line) SchedRefusal → Line → Type 0
+abbrev pub GivesSome : Result (Option Line) SchedRefusal → Line → Type 0
 GivesSome read l = read ≡ Ok (Some l)
 
 later-worded : (reading : Reading) (sent : ℕ) (ts : List (List ℕ)) (l : Line) → GivesSome (later_line reading sent ts) l → IsWorded reading sent ts l
@@ -155,18 +155,18 @@ header-says-nothing true q l e = cc
 header-says-nothing false q l e = cc
 
 -- a line that says something isn't the first
-record IsLater (reading : Reading) (sent : ℕ) (ts : List (List ℕ)) (l : Line) : Type 0 where
-  later : (reading.lines == 0) ≡ false
-  worded : IsWorded reading sent ts l
+pub record IsLater (reading : Reading) (sent : ℕ) (ts : List (List ℕ)) (l : Line) : Type 0 where
+  pub later : (reading.lines == 0) ≡ false
+  pub worded : IsWorded reading sent ts l
 
-tokens-later : (reading : Reading) (sent : ℕ) (ts : List (List ℕ)) (l : Line) → GivesSome (line_of_tokens reading sent ts) l → IsLater reading sent ts l
+pub tokens-later : (reading : Reading) (sent : ℕ) (ts : List (List ℕ)) (l : Line) → GivesSome (line_of_tokens reading sent ts) l → IsLater reading sent ts l
 tokens-later reading sent ts l e =
     elim (reading.lines == 0) as (λ b. (reading.lines == 0) ≡ b → GivesSome (cond b (header_line ts) (later_line reading sent ts)) l → IsLater reading sent ts l) [
       | true ↦ λ _ k. absurd (header-says-nothing (is_header ts) (refusal.Header (first_token ts)) l k)
       | false ↦ λ no k. record { later = no; worded = later-worded reading sent ts l k }
     ] refl e
 
-answer-gave : (reading known : Reading) (read : Result (Option Line) SchedRefusal) (l : Line) → answer_to reading read ≡ gives l known → GivesSome read l
+pub answer-gave : (reading known : Reading) (read : Result (Option Line) SchedRefusal) (l : Line) → answer_to reading read ≡ gives l known → GivesSome read l
 answer-gave reading known (Ok None) l e = absurd (cc)
 answer-gave reading known (Ok (Some m)) l e = cc
 answer-gave reading known (Err q) l e = absurd (cc)

@@ -49,7 +49,7 @@ digits-ink (b ∷ bs) h =
     let digit = parts.0 in
     ((grind (arith, nat_tests), grind (arith, nat_tests)), digits-ink bs parts.1)
 
-number-ink : (t : List ℕ) → is_number t ≡ true → (1 ≤ length t) × AllByRecursion IsInk t
+pub number-ink : (t : List ℕ) → is_number t ≡ true → (1 ≤ length t) × AllByRecursion IsInk t
 number-ink [] h = absurd (cc)
 number-ink (first ∷ rest) h =
     (omega arith, digits-ink (first ∷ rest) (and_parts (list_all is_ascii_digit (first ∷ rest)) (not (first == 48) || length rest == 0) h).0)
