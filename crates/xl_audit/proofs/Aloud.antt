@@ -31,7 +31,7 @@ closing_some n (Err why) = bad_some n why
 
 pub ends_aloud : EndsAloud rules
 ends_aloud = record {
-  step = λ a line. step_aloud a.lines (bounded_step a line);
+  step = λ a line _. step_aloud a.lines (bounded_step a line);
   overrun = λ a overrun. bad_some (a.lines + 1) (beyond overrun);
   closing = λ a. closing_some (a.lines + 1) (ended a.stage);
 }

@@ -92,8 +92,8 @@ pub taken : (left n : ℕ) (line : Line) → nat_lt limits.bytes (length line.by
 taken left n line short may within few stage =
     let a : Auditing = behind n stage in
     let bytes : List ℕ = content limits.returns line in
-    cond-false (nat_lt limits.bytes (length line.bytes)) (line_refuses (rules.overrun a overrun.LongLine)) (step_within rules left a bytes) short
-    ∙ cond-true (nat_lt 0 left) (rules.step a bytes) (line_refuses (rules.overrun a overrun.ManyLines)) may
+    cond-false (nat_lt limits.bytes (length line.bytes)) (line_refuses (rules.overrun a overrun.LongLine)) (step_within rules left a bytes line.ended) short
+    ∙ cond-true (nat_lt 0 left) (rules.step a bytes line.ended) (line_refuses (rules.overrun a overrun.ManyLines)) may
     ∙ ap (answered n)
     (cond-false (nat_lt most_bytes (length bytes)) (refuses (beyond overrun.LongLine)) (if n == most_lines then refuses (beyond overrun.ManyLines) else step stage bytes) within
     ∙ cond-false (n == most_lines) (refuses (beyond overrun.ManyLines)) (step stage bytes) few
@@ -106,8 +106,8 @@ pub at_step : (P : LineStep Auditing → Type 0) (left n : ℕ) (stage : Stage) 
 at_step P left n stage line refused told =
     let a : Auditing = behind n stage in
     let bytes : List ℕ = content limits.returns line in
-    cond_both (nat_lt limits.bytes (length line.bytes)) (line_refuses (rules.overrun a overrun.LongLine)) (step_within rules left a bytes) P (λ _. refused _)
-    (λ short. cond_both (nat_lt 0 left) (rules.step a bytes) (line_refuses (rules.overrun a overrun.ManyLines)) P
+    cond_both (nat_lt limits.bytes (length line.bytes)) (line_refuses (rules.overrun a overrun.LongLine)) (step_within rules left a bytes line.ended) P (λ _. refused _)
+    (λ short. cond_both (nat_lt 0 left) (rules.step a bytes line.ended) (line_refuses (rules.overrun a overrun.ManyLines)) P
     (λ may. cond_both (nat_lt most_bytes (length bytes)) (refuses (beyond overrun.LongLine)) (if n == most_lines then refuses (beyond overrun.ManyLines) else step stage bytes) (λ (s : Step). P (answered n s)) (λ _. refused _)
     (λ within. cond_both (n == most_lines) (refuses (beyond overrun.ManyLines)) (step stage bytes) (λ (s : Step). P (answered n s)) (λ _. refused _)
     (λ few. subst (λ (b : List ℕ). P (answered n (step stage b))) (sym (kept line)) (told (taken left n line short may within few)))))

@@ -140,7 +140,7 @@ closing n (Err why) = closes (bad_line n why) verdict.Refused
 
 abbrev pub rules : Rules Auditing
 rules = record {
-  step = λ a line. answered a.lines (bounded_step a line);
+  step = λ a line _. answered a.lines (bounded_step a line);
   overrun = λ a overrun. bad_line (a.lines + 1) (beyond overrun);
   closing = λ a. closing (a.lines + 1) (ended a.stage);
 }

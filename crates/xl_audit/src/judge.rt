@@ -80,7 +80,7 @@ impl Machine for Judge {
 
     ghost rules = { the_rules };
 
-    fn line(&mut self, line: &[u8], text: &mut String) -> Result<Next, OutOfMemory> {
+    fn line(&mut self, line: &[u8], _ended: bool, text: &mut String) -> Result<Next, OutOfMemory> {
         let number = u64::from(self.lines) + 1;
         match self.take(line)? {
             Step::GoesOn => Ok(Next::Line),

@@ -13,10 +13,10 @@ use Rattle.xl_lines.specs.Running.{told_at}
 module _ {S : Type 0} (limits : Limits) (rules : Rules S) (aloud : EndsAloud rules) where
   step_aloud : (left : ℕ) (state : S) (line : Line) → RefusesAloud (step_at limits rules left state line)
   step_aloud left state line =
-      cond_both (nat_lt limits.bytes (length line.bytes)) (refuses (rules.overrun state LongLine)) (step_within rules left state (content limits.returns line)) (RefusesAloud {S = S})
+      cond_both (nat_lt limits.bytes (length line.bytes)) (refuses (rules.overrun state LongLine)) (step_within rules left state (content limits.returns line) line.ended) (RefusesAloud {S = S})
       (λ _. aloud.overrun state LongLine)
-      (λ _. cond_both (nat_lt 0 left) (rules.step state (content limits.returns line)) (refuses (rules.overrun state ManyLines)) (RefusesAloud {S = S})
-      (λ _. aloud.step state (content limits.returns line)) (λ _. aloud.overrun state ManyLines))
+      (λ _. cond_both (nat_lt 0 left) (rules.step state (content limits.returns line) line.ended) (refuses (rules.overrun state ManyLines)) (RefusesAloud {S = S})
+      (λ _. aloud.step state (content limits.returns line) line.ended) (λ _. aloud.overrun state ManyLines))
 
   told_aloud : (left : ℕ) (state : S) (lines : List Line) → 0 < length (told_from limits rules left state lines).text
   unfolding told_by

@@ -64,12 +64,12 @@ module _ {S : Type 0} (limits : Limits) (rules : Rules S) (left : ℕ) (state : 
       ∙ told_long (lines_of ((line ++ part) ++ rest)) long
 
   -- a whole line has come, and this is handed on
-  pub told_at-ended : (line handed rest : List ℕ) → IsOneLine line → length line ≤ limits.bytes → handed ≡ before_newline limits.returns line → told_at limits rules left state line (10 ∷ rest) ≡ told_by (λ next. told_at limits rules (left - 1) next [] rest) (step_within rules left state handed)
+  pub told_at-ended : (line handed rest : List ℕ) → IsOneLine line → length line ≤ limits.bytes → handed ≡ before_newline limits.returns line → told_at limits rules left state line (10 ∷ rest) ≡ told_by (λ next. told_at limits rules (left - 1) next [] rest) (step_within rules left state handed true)
   unfolding told_at
   told_at-ended line handed rest one short is = rw (lines_of-ended line rest one, le-ltb _ _ short, is) refl
 
   -- the input ends in a line
-  pub told_at-last : (line handed : List ℕ) → 0 < length line → IsOneLine line → length line ≤ limits.bytes → handed ≡ line → told_at limits rules left state line [] ≡ told_by rules.closing (step_within rules left state handed)
+  pub told_at-last : (line handed : List ℕ) → 0 < length line → IsOneLine line → length line ≤ limits.bytes → handed ≡ line → told_at limits rules left state line [] ≡ told_by rules.closing (step_within rules left state handed false)
   unfolding told_at
   told_at-last [] handed some one short is = absurd (omega arith)
   told_at-last (byte ∷ line) handed some one short is =

@@ -14,10 +14,10 @@ use Rattle.xl_lines.specs.Running.{told_at}
 module _ {S : Type 0} (limits : Limits) (rules : Rules S) (at_end : FindsAtEnd rules) where
   step_finds_nothing : (left : ℕ) (state : S) (line : Line) → FindsNothing (step_at limits rules left state line)
   step_finds_nothing left state line =
-      cond_both (nat_lt limits.bytes (length line.bytes)) (refuses (rules.overrun state LongLine)) (step_within rules left state (content limits.returns line)) (FindsNothing {S = S})
+      cond_both (nat_lt limits.bytes (length line.bytes)) (refuses (rules.overrun state LongLine)) (step_within rules left state (content limits.returns line) line.ended) (FindsNothing {S = S})
       (λ _. tt)
-      (λ _. cond_both (nat_lt 0 left) (rules.step state (content limits.returns line)) (refuses (rules.overrun state ManyLines)) (FindsNothing {S = S})
-      (λ _. at_end.step state (content limits.returns line)) (λ _. tt))
+      (λ _. cond_both (nat_lt 0 left) (rules.step state (content limits.returns line) line.ended) (refuses (rules.overrun state ManyLines)) (FindsNothing {S = S})
+      (λ _. at_end.step state (content limits.returns line) line.ended) (λ _. tt))
 
   by_step : (then : S → Told) → ((next : S) → (then next).verdict ≡ Found → (then next).closed ≡ true) → (step : Step S) → FindsNothing step → (told_by then step).verdict ≡ Found → (told_by then step).closed ≡ true
   unfolding told_by

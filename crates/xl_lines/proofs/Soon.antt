@@ -1,5 +1,5 @@
 -- What is told of the lines that have ended, part by part.
-use Rattle.std.proofs.Common.{◌≡◌, ◌≤◌, ◌-◌, ℕ, false, List, [], ◌∷◌, ◌++◌, length, drop, is_some, unwrap_or, Option, Some, None, refl, sym, ap, ◌∙◌, append_assoc, append-nil, arith}
+use Rattle.std.proofs.Common.{◌≡◌, ◌≤◌, ◌-◌, ℕ, true, false, List, [], ◌∷◌, ◌++◌, length, drop, is_some, unwrap_or, Option, Some, None, refl, sym, ap, ◌∙◌, append_assoc, append-nil, arith}
 use Rattle.std.proofs.lemmas.Bool.{le-ltb}
 use Rattle.std.proofs.lemmas.List.{append_cancel_left, append_cancel_right}
 use Rattle.std.specs.Io.KnownBytes.{append_known, prepend_known}
@@ -40,14 +40,14 @@ module _ {S : Type 0} (limits : Limits) (rules : Rules S) (left : ℕ) (state : 
       ∙ rw (lines_of-last byte line one) refl
 
   -- a line has ended, and this is handed on
-  soon_at-ended : (line handed rest : List ℕ) → IsOneLine line → length line ≤ limits.bytes → handed ≡ before_newline limits.returns line → soon_at limits rules left state line (10 ∷ rest) ≡ (told_by (λ next. told_from limits (unclosed rules) (left - 1) next (ended (lines_of rest))) (step_within rules left state handed)).text
+  soon_at-ended : (line handed rest : List ℕ) → IsOneLine line → length line ≤ limits.bytes → handed ≡ before_newline limits.returns line → soon_at limits rules left state line (10 ∷ rest) ≡ (told_by (λ next. told_from limits (unclosed rules) (left - 1) next (ended (lines_of rest))) (step_within rules left state handed true)).text
   unfolding soon_at
   soon_at-ended line handed rest one short is =
       ap (λ lines. (told_from limits (unclosed rules) left state (ended lines)).text) (lines_of-ended line rest one)
       ∙ rw (le-ltb _ _ short, is) refl
 
   -- and its answer is written
-  pub puts_line : {line handed line' : List ℕ} {old new : Option (List ℕ)} (text : List ℕ) (state' : S) → LineEnds limits line handed → goes_on text state' ≡ step_within rules left state handed → new ≡ append_known old text → line' ≡ [] → Puts old new (λ rest. soon_at limits rules left state line (10 ∷ rest)) (soon_at limits rules (left - 1) state' line')
+  pub puts_line : {line handed line' : List ℕ} {old new : Option (List ℕ)} (text : List ℕ) (state' : S) → LineEnds limits line handed → goes_on text state' ≡ step_within rules left state handed true → new ≡ append_known old text → line' ≡ [] → Puts old new (λ rest. soon_at limits rules left state line (10 ∷ rest)) (soon_at limits rules (left - 1) state' line')
   unfolding soon_at told_by
   puts_line {line} {handed} text state' e step held none = record {
     written = text;

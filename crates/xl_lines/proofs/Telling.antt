@@ -1,5 +1,5 @@
 -- What is told, part by part.
-use Rattle.std.proofs.Common.{◌≡◌, ◌<◌, ◌≤◌, ◌-◌, ◌∷◌, ◌++◌, length, length-append, arith, ℕ, List, [], Option, refl, sym, ap, ◌∙◌, append_assoc, append-nil, subst}
+use Rattle.std.proofs.Common.{◌≡◌, ◌<◌, ◌≤◌, ◌-◌, ◌∷◌, ◌++◌, length, length-append, arith, ℕ, true, false, List, [], Option, refl, sym, ap, ◌∙◌, append_assoc, append-nil, subst}
 use Rattle.std.specs.Io.KnownBytes.{append_known}
 use Rattle.xl_io.specs.Sinks.{GrewByFront, GrewByLess}
 use Rattle.xl_io.proofs.Growing.{append_known-none, append_known-twice}
@@ -102,20 +102,20 @@ pub record LineEnds (limits : Limits) (line handed : List ℕ) : Type 0 where
   pub handed_on : handed ≡ before_newline limits.returns line
 
 module _ {S : Type 0} (rules : Rules S) (state : S) {limits : Limits} (left : ℕ) {line handed : List ℕ} {old new : Option (List ℕ)} where
-  pub tells_line : (next : Next) (text : List ℕ) (state' : S) → LineEnds limits line handed → step_given next text state' ≡ step_within rules left state handed → new ≡ append_known old text → (rest : List ℕ) → Tells old new (told_at limits rules left state line (10 ∷ rest)) (left_unless_ended next (told_at limits rules (left - 1) state' [] rest))
+  pub tells_line : (next : Next) (text : List ℕ) (state' : S) → LineEnds limits line handed → step_given next text state' ≡ step_within rules left state handed true → new ≡ append_known old text → (rest : List ℕ) → Tells old new (told_at limits rules left state line (10 ∷ rest)) (left_unless_ended next (told_at limits rules (left - 1) state' [] rest))
   tells_line next text state' e step held rest =
       tells_from (told_at-ended limits rules left state line handed rest e.one_line e.short e.handed_on)
-      (tells_step next text state' (λ s. told_at limits rules (left - 1) s [] rest) (step_within rules left state handed) step held)
+      (tells_step next text state' (λ s. told_at limits rules (left - 1) s [] rest) (step_within rules left state handed true) step held)
 
-  pub front_of_line : LineEnds limits line handed → GrewByFront old new (step_text (step_within rules left state handed)) → (rest : List ℕ) → GrewByFront old new (told_at limits rules left state line (10 ∷ rest)).text
+  pub front_of_line : LineEnds limits line handed → GrewByFront old new (step_text (step_within rules left state handed true)) → (rest : List ℕ) → GrewByFront old new (told_at limits rules left state line (10 ∷ rest)).text
   front_of_line e front rest =
       front_from (told_at-ended limits rules left state line handed rest e.one_line e.short e.handed_on)
-      (front_of_step (λ s. told_at limits rules (left - 1) s [] rest) (step_within rules left state handed) front)
+      (front_of_step (λ s. told_at limits rules (left - 1) s [] rest) (step_within rules left state handed true) front)
 
-  pub less_of_line : LineEnds limits line handed → GrewByLess old new (step_text (step_within rules left state handed)) → (rest : List ℕ) → GrewByLess old new (told_at limits rules left state line (10 ∷ rest)).text
+  pub less_of_line : LineEnds limits line handed → GrewByLess old new (step_text (step_within rules left state handed true)) → (rest : List ℕ) → GrewByLess old new (told_at limits rules left state line (10 ∷ rest)).text
   less_of_line e less rest =
       less_from (told_at-ended limits rules left state line handed rest e.one_line e.short e.handed_on)
-      (less_of_step (λ s. told_at limits rules (left - 1) s [] rest) (step_within rules left state handed) less)
+      (less_of_step (λ s. told_at limits rules (left - 1) s [] rest) (step_within rules left state handed true) less)
 
 -- The input ends in a line, within the limits, and it is handed to the machine.
 pub record LineIsLast (limits : Limits) (line handed : List ℕ) : Type 0 where
@@ -125,20 +125,20 @@ pub record LineIsLast (limits : Limits) (line handed : List ℕ) : Type 0 where
   pub handed_on : handed ≡ line
 
 module _ {S : Type 0} (rules : Rules S) (state : S) {limits : Limits} (left : ℕ) {line handed : List ℕ} {old new : Option (List ℕ)} where
-  pub tells_last : (next : Next) (text : List ℕ) (state' : S) → LineIsLast limits line handed → step_given next text state' ≡ step_within rules left state handed → new ≡ append_known old text → Tells old new (told_at limits rules left state line []) (left_unless_ended next (rules.closing state'))
+  pub tells_last : (next : Next) (text : List ℕ) (state' : S) → LineIsLast limits line handed → step_given next text state' ≡ step_within rules left state handed false → new ≡ append_known old text → Tells old new (told_at limits rules left state line []) (left_unless_ended next (rules.closing state'))
   tells_last next text state' e step held =
       tells_from (told_at-last limits rules left state line handed e.some e.one_line e.short e.handed_on)
-      (tells_step next text state' rules.closing (step_within rules left state handed) step held)
+      (tells_step next text state' rules.closing (step_within rules left state handed false) step held)
 
-  pub front_of_last : LineIsLast limits line handed → GrewByFront old new (step_text (step_within rules left state handed)) → GrewByFront old new (told_at limits rules left state line []).text
+  pub front_of_last : LineIsLast limits line handed → GrewByFront old new (step_text (step_within rules left state handed false)) → GrewByFront old new (told_at limits rules left state line []).text
   front_of_last e front =
       front_from (told_at-last limits rules left state line handed e.some e.one_line e.short e.handed_on)
-      (front_of_step rules.closing (step_within rules left state handed) front)
+      (front_of_step rules.closing (step_within rules left state handed false) front)
 
-  pub less_of_last : LineIsLast limits line handed → GrewByLess old new (step_text (step_within rules left state handed)) → GrewByLess old new (told_at limits rules left state line []).text
+  pub less_of_last : LineIsLast limits line handed → GrewByLess old new (step_text (step_within rules left state handed false)) → GrewByLess old new (told_at limits rules left state line []).text
   less_of_last e less =
       less_from (told_at-last limits rules left state line handed e.some e.one_line e.short e.handed_on)
-      (less_of_step rules.closing (step_within rules left state handed) less)
+      (less_of_step rules.closing (step_within rules left state handed false) less)
 
 pub tells_all_then : {old mid new : Option (List ℕ)} {a b : Told} {verdict : Verdict} → Tells old mid a b → TellsAll mid new verdict b → TellsAll old new verdict a
 tells_all_then {old} {b = b} x y = record {

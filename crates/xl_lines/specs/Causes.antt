@@ -1,5 +1,5 @@
 -- When a run answers which fault. Source: this layer's promise that no fault is invented.
-use Rattle.std.specs.Prelude.{ℕ, ◌<◌, ◌≤◌, List, length, Result, IsErrOf}
+use Rattle.std.specs.Prelude.{ℕ, ◌<◌, ◌≤◌, Bool, List, length, Result, IsErrOf}
 use Rattle.xl_base.specs.Faults.{Rose}
 use Rattle.xl_lines.specs.declared.fault.Fault.{Fault}
 use Rattle.xl_lines.specs.declared.fault.Fault.TheVariants.{Read, Write}
@@ -24,6 +24,6 @@ RefusesAloud (finds text) = 0 < length text
 
 -- a machine whose last text is never empty
 pub record EndsAloud {S : Type 0} (rules : Rules S) : Type 0 where
-  pub step : (state : S) (line : List ℕ) → RefusesAloud (rules.step state line)
+  pub step : (state : S) (line : List ℕ) (ended : Bool) → RefusesAloud (rules.step state line ended)
   pub overrun : (state : S) (overrun : Overrun) → 0 < length (rules.overrun state overrun)
   pub closing : (state : S) → 0 < length (rules.closing state).text

@@ -1,5 +1,5 @@
 -- What reads an input to its end, unless it refuses a line. Source: this layer's promise of when all was read.
-use Rattle.std.specs.Prelude.{◌≡◌, ℕ, true, List}
+use Rattle.std.specs.Prelude.{◌≡◌, ℕ, Bool, true, List}
 use Rattle.xl_lines.specs.declared.machine.Verdict.TheVariants.{Found}
 use Rattle.xl_lines.specs.Rules.{Rules, Step, goes_on, refuses, finds, Told}
 
@@ -16,5 +16,5 @@ FindsNothing (finds text) = ⊥
 
 -- a machine that finds only behind the last line
 pub record FindsAtEnd {S : Type 0} (rules : Rules S) : Type 0 where
-  pub step : (state : S) (line : List ℕ) → FindsNothing (rules.step state line)
+  pub step : (state : S) (line : List ℕ) (ended : Bool) → FindsNothing (rules.step state line ended)
   pub closing : (state : S) → (rules.closing state).closed ≡ true

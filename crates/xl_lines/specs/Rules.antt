@@ -32,7 +32,8 @@ pub data Step (S : Type 0) : Type 0 where
   finds : List ℕ → Step S
 
 pub record Rules (S : Type 0) : Type 0 where
-  pub step : S → List ℕ → Step S
+  -- the answer to a line, and to whether it has ended: a last line may lack its newline
+  pub step : S → List ℕ → Bool → Step S
   -- the last text if a line is too long, or one too many
   pub overrun : S → Overrun → List ℕ
   -- the last text after the last line, made by `closes`

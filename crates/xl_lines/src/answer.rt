@@ -16,18 +16,19 @@ fn step<M: Machine>(
     machine: &mut M,
     left: usize,
     line: &[u8],
+    ended: bool,
     text: &mut M::Answer,
 ) -> Result<Next, OutOfMemory>
     requires { M.Answer.bytes text.old ≡ [] }
     ensures step { IfOk result (λ next. step_given next (M.Answer.bytes text.new) (M.state machine.new)
-        ≡ step_within M.rules left (M.state machine.old) line.now) }
+        ≡ step_within M.rules left (M.state machine.old) line.now ended) }
     ensures within { IfOk result (λ next. next ≡ Next.Line → 0 < left) }
 {
     if left == 0 {
         machine.overrun(Overrun::ManyLines, text)?;
         return Ok(Next::Refused);
     }
-    machine.line(line, text)
+    machine.line(line, ended, text)
 }
 
 /// Hands a line to the machine if `left` lines may come, and writes the answer. `text` holds it then.
@@ -36,20 +37,21 @@ pub fn answer<M: Machine, O: Sink>(
     output: &mut O,
     left: usize,
     line: &[u8],
+    ended: bool,
     text: &mut M::Answer,
 ) -> Result<Next, Fault>
     ensures step { IfOk result (λ next. step_given next (M.Answer.bytes text.new) (M.state machine.new)
-        ≡ step_within M.rules left (M.state machine.old) line.now) }
+        ≡ step_within M.rules left (M.state machine.old) line.now ended) }
     ensures within { IfOk result (λ next. next ≡ Next.Line → 0 < left) }
     ensures held { OnOk result (O.held output.new ≡ append_known (O.held output.old) (M.Answer.bytes text.new)) }
     ensures front { GrewByFront (O.held output.old) (O.held output.new)
-        (step_text (step_within M.rules left (M.state machine.old) line.now)) }
+        (step_text (step_within M.rules left (M.state machine.old) line.now ended)) }
     ensures less { IsErrOf result Fault.Write → GrewByLess (O.held output.old) (O.held output.new)
-        (step_text (step_within M.rules left (M.state machine.old) line.now)) }
+        (step_text (step_within M.rules left (M.state machine.old) line.now ended)) }
     ensures cause { HasCause (O.faults output.old) (O.faults output.new) result }
 {
     text.clear();
-    let next = step(machine, left, line, text)?;
+    let next = step(machine, left, line, ended, text)?;
     write_all(output, text.as_bytes())?;
     Ok(next)
 }

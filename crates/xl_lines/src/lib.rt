@@ -1,5 +1,6 @@
 //! The driver of every command that reads lines. It cuts what a source gives into lines, hands each to a machine, and
-//! writes the machine's answer to a sink as soon as the line was read.
+//! writes the machine's answer to a sink as soon as the line was read. With a line it hands on whether its newline has
+//! come: a last line may lack it.
 //!
 //! `run` does this for any `Machine`, by `Lines`, which cuts lines, and `drive`, which runs any `Teller` over an input
 //! in pieces. It stands on xl_base, xl_io and the kit's `memchr`. Its one contract: the text is a function of the bytes
@@ -20,6 +21,7 @@ mod teller;
 mod text;
 
 pub use driver::{drive, run};
+pub use ends::without_return;
 pub use fault::Fault;
 pub use limits::{Limits, Overrun, Returns};
 pub use lines::Lines;

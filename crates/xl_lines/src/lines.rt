@@ -94,7 +94,14 @@ impl<M: Machine> Lines<M> {
         ensures cause { HasCause (O.faults output.old) (O.faults output.new) result }
     {
         let line = before_newline(self.limits.returns, &self.line);
-        match answer(&mut self.machine, output, self.left, line, &mut self.text)? {
+        match answer(
+            &mut self.machine,
+            output,
+            self.left,
+            line,
+            true,
+            &mut self.text,
+        )? {
             Next::Line => {
                 self.line.clear();
                 self.left -= 1;
@@ -126,7 +133,14 @@ impl<M: Machine> Lines<M> {
         ensures cause { HasCause (O.faults output.old) (O.faults output.new) result }
     {
         let handed = before_newline(self.limits.returns, line);
-        match answer(&mut self.machine, output, self.left, handed, &mut self.text)? {
+        match answer(
+            &mut self.machine,
+            output,
+            self.left,
+            handed,
+            true,
+            &mut self.text,
+        )? {
             Next::Line => {
                 self.left -= 1;
                 Ok(Next::Line)
@@ -230,6 +244,7 @@ impl<M: Machine> Teller for Lines<M> {
             output,
             self.left,
             &self.line,
+            false,
             &mut self.text,
         )? {
             Next::Line => close(&mut self.machine, output, &mut self.text),

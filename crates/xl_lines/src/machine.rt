@@ -40,11 +40,16 @@ pub trait Machine {
     ghost rules: { Rules State };
 
     /// Takes a line, without its newline and, unless the limits keep it, a return before it. It puts the answer into
-    /// `text`.
-    fn line(&mut self, line: &[u8], text: &mut Self::Answer) -> Result<Next, OutOfMemory>
+    /// `text`. The line has `ended` if its newline has come: the last line may lack it, and then keeps its return.
+    fn line(
+        &mut self,
+        line: &[u8],
+        ended: bool,
+        text: &mut Self::Answer,
+    ) -> Result<Next, OutOfMemory>
         requires { Self.Answer.bytes text.old ≡ [] }
-        ensures { IfOk result (λ next.
-            step_given next (Self.Answer.bytes text.new) (state self.new) ≡ rules.step (state self.old) line.now) };
+        ensures { IfOk result (λ next. step_given next (Self.Answer.bytes text.new) (state self.new)
+            ≡ rules.step (state self.old) line.now ended) };
 
     /// Puts the last text into `text`, if a line is too long or one too many.
     fn overrun(&mut self, overrun: Overrun, text: &mut Self::Answer) -> Result<(), OutOfMemory>

@@ -21,4 +21,4 @@ closes_at_end m =
     (λ _. refl) (λ _. refl)
 
 pub finds_at_end : FindsAtEnd rules
-finds_at_end = record { step = λ m bytes. answer_finds m (bounded_line m bytes); closing = closes_at_end }
+finds_at_end = record { step = λ m bytes _. answer_finds m (bounded_line m bytes); closing = closes_at_end }

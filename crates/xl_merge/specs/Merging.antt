@@ -81,7 +81,7 @@ ending m = if m.lines == 0 then closes (bad_line 1 (Header [])) Refused else clo
 
 abbrev pub rules : Rules Merging
 rules = record {
-  step = step_of;
+  step = λ m bytes _. step_of m bytes;
   overrun = λ m overrun. bad_line (m.lines + 1) (beyond overrun);
   closing = ending;
 }

@@ -121,7 +121,7 @@ impl Machine for Merger {
 
     ghost rules = { the_rules };
 
-    fn line(&mut self, line: &[u8], text: &mut String) -> Result<Next, OutOfMemory> {
+    fn line(&mut self, line: &[u8], _ended: bool, text: &mut String) -> Result<Next, OutOfMemory> {
         match self.read(line) {
             Ok(None) => {
                 self.lines += 1;

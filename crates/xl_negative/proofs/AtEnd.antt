@@ -1,5 +1,5 @@
 -- Nothing is looked for, so the lines are read to their end.
-use Rattle.std.proofs.Common.{◌≡◌, ◌==◌, ℕ, List, [], ◌∷◌, true, refl, Option, Some, None}
+use Rattle.std.proofs.Common.{◌≡◌, ◌==◌, ℕ, Bool, List, [], ◌∷◌, true, refl, Option, Some, None}
 use Rattle.std.proofs.lemmas.Bool.{cond_both}
 use Rattle.xl_lines.specs.declared.machine.Verdict.TheVariants.{Good, Refused}
 use Rattle.xl_lines.specs.Rules.{Step, goes_on, refuses as stops, finds, closes}
@@ -16,7 +16,7 @@ use Rattle.xl_running.specs.Running.{answer_in, world_of}
 use Rattle.xl_running.specs.Texts.{bad_line}
 use Rattle.xl_negative.specs.Keeping.{Keeping}
 use Rattle.xl_negative.specs.Seats.{seat_at, with_leaving_out}
-use Rattle.xl_negative.specs.Writing.{Writing, Change, added, and_then, after_answer, after_line, after_outcome, after_outcomes, change_at, counted, ending, goes_over, happened, ledgers_at, rules, written}
+use Rattle.xl_negative.specs.Writing.{Writing, Change, added, and_then, after_answer, after_line, after_outcome, after_outcomes, change_at, copied, counted, ending, goes_over, happened, ledgers_at, rules, written}
 
 added_finds : {H : Type 0} (s : Writing H) (text bytes : List ℕ) (a : LineAnswer) → FindsNothing (added s text bytes a)
 added_finds s text bytes (passes reading) = tt
@@ -67,10 +67,10 @@ module _ {H : Type 0} (keeping : Keeping H) where
   line_finds s text (line.At at) = tt
   line_finds s text (line.Event e) = outcomes_find (outcomes (world_of s.running) e) (happened keeping s e) text
 
-  answer_finds : (s : Writing H) (bytes : List ℕ) (a : LineAnswer) → FindsNothing (after_answer keeping s bytes a)
-  answer_finds s bytes (passes reading) = tt
-  answer_finds s bytes (gives l reading) = line_finds (counted s reading) (written bytes) l
-  answer_finds s bytes (refuses why) = tt
+  answer_finds : (s : Writing H) (bytes : List ℕ) (ended : Bool) (a : LineAnswer) → FindsNothing (after_answer keeping s bytes ended a)
+  answer_finds s bytes ended (passes reading) = tt
+  answer_finds s bytes ended (gives l reading) = line_finds (counted s reading) (written (copied bytes ended)) l
+  answer_finds s bytes ended (refuses why) = tt
 
   pub finds_at_end : FindsAtEnd (rules keeping)
-  finds_at_end = record { step = λ s bytes. answer_finds s bytes (answer_in s.running bytes); closing = closes_at_end }
+  finds_at_end = record { step = λ s bytes ended. answer_finds s bytes ended (answer_in s.running bytes); closing = closes_at_end }

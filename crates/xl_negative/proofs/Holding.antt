@@ -1,12 +1,13 @@
 -- What holds of a schedule that is written again, line by line.
-use Rattle.std.proofs.Common.{◌≡◌, ℕ, ◌≤◌, List, [], ◌∷◌, ◌++◌, length, Option, Some, None, refl, sym, ap, subst, ◌∙◌, append-nil, inl, inr}
+use Rattle.std.proofs.Common.{◌≡◌, ℕ, ◌≤◌, Bool, true, List, [], ◌∷◌, ◌++◌, length, Option, Some, None, refl, sym, ap, subst, ◌∙◌, append-nil, inl, inr}
 use Rattle.std.specs.Prelude.{◌||◌, All, IfSome, is_some, option_map, unwrap_or}
 use Rattle.std.specs.Option.{option_and_then}
 use Rattle.std.proofs.lemmas.Bool.{cond_both}
 use Rattle.std.proofs.lemmas.Grind.{flat_map-append}
-use Rattle.std.proofs.lemmas.List.Elements.{All-append, All-cons, All-nil}
+use Rattle.std.proofs.lemmas.List.Elements.{All-append, All-cons, All-nil, All-weaker}
 use Rattle.xl_base.specs.declared.ids.LedgerId.{LedgerId}
 use Rattle.xl_ledger.specs.declared.header.Header.{Header}
+use Rattle.xl_lines.specs.Lines.{without_return}
 use Rattle.xl_lines.specs.Rules.{Step, goes_on, refuses as stops, finds}
 use Rattle.xl_lines.proofs.Newlines.{IsOneLine}
 use Rattle.xl_lists.specs.Lists.{TrustedList, IsValid}
@@ -19,9 +20,12 @@ use Rattle.xl_sched.specs.declared.line.Line.{Line}
 use Rattle.xl_sched.specs.declared.line.Line.TheVariants as line
 use Rattle.xl_sched.specs.declared.named.Named.{Named}
 use Rattle.xl_sched.specs.Answers.{LineAnswer, passes, gives, refuses}
+use Rattle.xl_sched.specs.Names.{is_name}
 use Rattle.xl_sched.specs.Reading.{Reading, after}
 use Rattle.xl_spelling.specs.Spellings.{list_line, spelling}
 use Rattle.xl_spelling.proofs.Respelling.{list_line-read}
+use Rattle.xl_spelling.proofs.Returns.{IsTaken, taken_alike}
+use Rattle.xl_spelling.proofs.Visible.{AreSpelled}
 use Rattle.xl_world.specs.declared.outcome.Outcome.{Outcome}
 use Rattle.xl_world.specs.declared.outcome.Outcome.TheVariants as outcome
 use Rattle.xl_world.specs.declared.place.Place.{Place}
@@ -32,15 +36,16 @@ use Rattle.xl_world.specs.World.{World, place_at}
 use Rattle.xl_world.proofs.Reporters.{IsMember, placed_member}
 use Rattle.xl_running.specs.Running.{Running, answer_in, declares, knows, world_of}
 use Rattle.xl_running.proofs.Declaring.{AnswerDeclares, Declares}
+use Rattle.xl_running.proofs.Naming.{AnswerNames, AreNames, StandsForOne}
 use Rattle.xl_running.proofs.Sounding.{IsSound, declares_sound, happens_sound, knows_sound}
 use Rattle.xl_negative.specs.Hearing.{heard_at}
 use Rattle.xl_negative.specs.Laws.{ByList, IsInForce, IsLawful, full_at, read_on, runs, texts}
 use Rattle.xl_negative.specs.Listing.{listed}
 use Rattle.xl_negative.specs.Seats.{after_what, hears, members_of, seat_at, with_leaving_out, with_listing}
-use Rattle.xl_negative.specs.Writing.{Change, added, after_answer, after_line, after_outcome, after_outcomes, and_then, change_at, change_by, change_of, change_to, counted, flag_in, goes_over, happened, is_flag, ledgers_at, ledgers_in, takes, with_running, written}
+use Rattle.xl_negative.specs.Writing.{Change, added, after_answer, after_line, after_outcome, after_outcomes, and_then, change_at, change_by, change_of, change_to, copied, counted, flag_in, goes_over, happened, is_flag, ledgers_at, ledgers_in, takes, with_running, written}
 use Rattle.xl_negative.proofs.Lawful.{after_both, change_lawful}
 use Rattle.xl_negative.proofs.LawfulSeats.{AreLawful, ListSeat, hears_lawful, leaving_full, leaving_lawful, listed_lawful, listing_full, seat_lawful, what_lawful}
-use Rattle.xl_negative.proofs.OneLine.{one_plain}
+use Rattle.xl_negative.proofs.OneLine.{one_copied, one_plain}
 use Rattle.xl_negative.proofs.Setting.{IfDeclared, IfListed, OfInForce, declared_lists, event_lists}
 
 -- WHAT IS WRITTEN RUNS
@@ -80,12 +85,33 @@ ran_line r after bytes one reads = record {
   leads = ap (option_and_then (λ next. runs next [])) reads;
 }
 
+-- a line of the input is read as it was, also if a return at the end of the input is left out
+ran_copied : (r : Running) (bytes : List ℕ) (ended : Bool) (a : LineAnswer) → IsOneLine bytes → AreNames r.reading.names → answer_in r bytes ≡ a → IsTaken a → (after : Running) → read_on r a ≡ Some after →
+    Ran r (written (copied bytes ended)) after
+ran_copied r bytes ended a one names is taken after leads =
+    let spelled : AreSpelled r.reading.names = All-weaker (StandsForOne r.reading.names) (λ n. is_name n.name ≡ true) (λ n stands. stands.spelled) r.reading.names names in
+    let same : answer_in r (copied bytes ended) ≡ a =
+    cond_both ended bytes (without_return bytes) (λ (xs : List ℕ). answer_in r xs ≡ a) (λ _. is) (λ _. taken_alike r.reading (length (world_of r).sent) bytes spelled a is taken) in
+    ran_line r after (copied bytes ended) (one_copied bytes ended one) (ap (read_on r) same ∙ leads)
+
+-- what a line declares leaves what the reader knows
+declares_reading : (r : Running) (l : Line) → (declares r l).reading ≡ r.reading
+declares_reading r (line.Limit limit) = refl
+declares_reading r (line.Speak version) = refl
+declares_reading r (line.Node me list validating) = refl
+declares_reading r (line.Liar me) = refl
+declares_reading r (line.Name name id) = refl
+declares_reading r (line.Ledger name parent header) = refl
+declares_reading r (line.At at) = refl
+declares_reading r (line.Event e) = refl
+
 -- A CHANGE
 
--- the world is a run, and each seat lawful
+-- the world is a run, each seat lawful, and each name spelled as names are
 pub record IsGood (s : ByList) : Type 0 where
   pub sound : IsSound s.running
   pub seats : AreLawful s.seats
+  pub names : AreNames s.running.reading.names
 
 -- a change of a member with a full list
 record IsChange (s : ByList) (k : ℕ) (c : Change) : Type 0 where
@@ -199,6 +225,7 @@ module _ (i : ℕ) (full : TrustedList) (o : Option TrustedList) (lists : List I
               good = record {
                 sound = happens_sound (knows r known) e change.lawful.valid (knows_sound r known hold.good.sound);
                 seats = leaving_lawful s.seats hold.good.seats k c.negative (subst (λ (f : Option TrustedList). IsNegative (members_of f) c.negative) (sym change.has) change.lawful.negative);
+                names = hold.good.names;
               };
               full = leaving_full s.seats k i c.negative ∙ hold.full;
               lists = λ only has. event_lists (IsOf i full) (world_of r) e (forced s k c change hold.full only) (hold.lists only has);
@@ -271,7 +298,11 @@ module _ (i : ℕ) (most : i ≤ 64) (full : TrustedList) where
       Held i full (world_of s.running).lists before text (with_running s (declares s.running l))
   declares_holds before names s text l good declares_it of ran = record {
     ran = ran;
-    good = record { sound = declares_sound s.running names l declares_it good.sound; seats = good.seats };
+    good = record {
+      sound = declares_sound s.running names l declares_it good.sound;
+      seats = good.seats;
+      names = subst (λ (reading : Reading). AreNames reading.names) (sym (declares_reading s.running l)) good.names;
+    };
     lists = λ only has. declared_lists (IsOf i full) s.running l of has;
   }
 
@@ -281,7 +312,7 @@ module _ (i : ℕ) (most : i ≤ 64) (full : TrustedList) where
   line_holds before names s text (line.Speak version) good is ran = declares_holds before names s text (line.Speak version) good is tt ran
   line_holds before names s text (line.Node me list validating) good is ran = record {
     ran = ran;
-    good = record { sound = declares_sound s.running names (line.Node me list validating) is good.sound; seats = listed_lawful s.seats good.seats me list is.list };
+    good = record { sound = declares_sound s.running names (line.Node me list validating) is good.sound; seats = listed_lawful s.seats good.seats me list is.list; names = good.names };
     lists = λ only has. declared_lists (IsOf i full) s.running (line.Node me list validating) (given s.seats good.seats me list is.list only) has;
   }
   line_holds before names s text (line.Liar me) good is ran = declares_holds before names s text (line.Liar me) good is tt ran
@@ -297,19 +328,19 @@ module _ (i : ℕ) (most : i ≤ 64) (full : TrustedList) where
       (outcomes_hold i full (full_at next i) lists before (outcomes (world_of s.running) e) next text
       (record {
         ran = ran;
-        good = record { sound = happens_sound s.running e is good.sound; seats = what_lawful heard are e.what is };
+        good = record { sound = happens_sound s.running e is good.sound; seats = what_lawful heard are e.what is; names = good.names };
         full = refl;
         lists = λ only has. event_lists (IsOf i full) (world_of s.running) e (given_by heard are e.what is only) has;
       }))
 
-  pub answer_holds : (s : ByList) (bytes : List ℕ) (a : LineAnswer) → IsOneLine bytes → IsGood s → AnswerDeclares s.running.reading.names a → answer_in s.running bytes ≡ a →
-      AfterStep (Held i full (world_of s.running).lists s.running) (after_answer listed s bytes a)
-  answer_holds s bytes (passes reading) one good declares_it is = record {
-    ran = ran_line s.running _ bytes one (ap (read_on s.running) is);
-    good = record { sound = knows_sound s.running reading good.sound; seats = good.seats };
+  pub answer_holds : (s : ByList) (bytes : List ℕ) (ended : Bool) (a : LineAnswer) → IsOneLine bytes → IsGood s → AnswerDeclares s.running.reading.names a → AnswerNames a → answer_in s.running bytes ≡ a →
+      AfterStep (Held i full (world_of s.running).lists s.running) (after_answer listed s bytes ended a)
+  answer_holds s bytes ended (passes reading) one good declares_it names is = record {
+    ran = ran_copied s.running bytes ended (passes reading) one good.names is tt _ refl;
+    good = record { sound = knows_sound s.running reading good.sound; seats = good.seats; names = names };
     lists = λ only has. has;
   }
-  answer_holds s bytes (gives l reading) one good declares_it is =
-      line_holds s.running s.running.reading.names (counted s reading) (written bytes) l (record { sound = knows_sound s.running reading good.sound; seats = good.seats }) declares_it
-      (ran_line s.running _ bytes one (ap (read_on s.running) is))
-  answer_holds s bytes (refuses why) one good declares_it is = tt
+  answer_holds s bytes ended (gives l reading) one good declares_it names is =
+      line_holds s.running s.running.reading.names (counted s reading) (written (copied bytes ended)) l (record { sound = knows_sound s.running reading good.sound; seats = good.seats; names = names }) declares_it
+      (ran_copied s.running bytes ended (gives l reading) one good.names is tt _ refl)
+  answer_holds s bytes ended (refuses why) one good declares_it names is = tt

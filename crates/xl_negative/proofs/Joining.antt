@@ -1,5 +1,5 @@
 -- What is kept tells of a schedule what the list of all that was heard tells.
-use Rattle.std.proofs.Common.{◌≡◌, ℕ, List, [], ◌∷◌, refl, ap, subst, Option, Some, None}
+use Rattle.std.proofs.Common.{◌≡◌, ℕ, Bool, List, [], ◌∷◌, refl, ap, subst, Option, Some, None}
 use Rattle.xl_base.specs.Counts.{one_more}
 use Rattle.xl_base.specs.declared.ids.LedgerId.{LedgerId}
 use Rattle.xl_lines.specs.Lines.{lines_of}
@@ -21,7 +21,7 @@ use Rattle.xl_negative.specs.Hearing.{heard_at}
 use Rattle.xl_negative.specs.Listing.{listed}
 use Rattle.xl_negative.specs.Ringing.{Places, ringed}
 use Rattle.xl_negative.specs.Seats.{Seat, hears, seat_at, with_leaving_out}
-use Rattle.xl_negative.specs.Writing.{Change, Writing, added, after_answer, after_line, after_outcome, after_outcomes, after_report, and_then, at_first, change_at, ending, goes_over, happened, ledgers_at, negative_of, negative_soon, rules, written}
+use Rattle.xl_negative.specs.Writing.{Change, Writing, added, after_answer, after_line, after_outcome, after_outcomes, after_report, and_then, at_first, change_at, copied, ending, goes_over, happened, ledgers_at, negative_of, negative_soon, rules, written}
 use Rattle.xl_negative.proofs.StandingFor.{AllStandFor, change_same, first_stand, hears_stand, leaving_stand, listing_stand, seat_stands, what_stand}
 
 -- the same schedule runs, and what is kept stands for the list
@@ -108,18 +108,18 @@ line_alike r n ps qs stand text (line.Event e) =
     outcomes_alike (outcomes (world_of r) e) (happened ringed (state r n ps) e) (happened listed (state r n qs) e) text
     (record { running = refl; lines = refl; seats = what_stand (hears ringed ps hs) (hears listed qs hs) (hears_stand hs ps qs stand) e.what })
 
-answer_alike : (bytes : List ℕ) (a : LineAnswer) (r : Running) (n : ℕ) (ps : List (Seat Places)) (qs : List (Seat (List SaidLedger))) → AllStandFor ps qs →
-    AreAlike Like (after_answer ringed (state r n ps) bytes a) (after_answer listed (state r n qs) bytes a)
-answer_alike bytes (passes reading) r n ps qs stand = (refl, record { running = refl; lines = refl; seats = stand })
-answer_alike bytes (gives l reading) r n ps qs stand = line_alike (knows r reading) (one_more n) ps qs stand (written bytes) l
-answer_alike bytes (refuses why) r n ps qs stand = refl
+answer_alike : (bytes : List ℕ) (has_ended : Bool) (a : LineAnswer) (r : Running) (n : ℕ) (ps : List (Seat Places)) (qs : List (Seat (List SaidLedger))) → AllStandFor ps qs →
+    AreAlike Like (after_answer ringed (state r n ps) bytes has_ended a) (after_answer listed (state r n qs) bytes has_ended a)
+answer_alike bytes has_ended (passes reading) r n ps qs stand = (refl, record { running = refl; lines = refl; seats = stand })
+answer_alike bytes has_ended (gives l reading) r n ps qs stand = line_alike (knows r reading) (one_more n) ps qs stand (written (copied bytes has_ended)) l
+answer_alike bytes has_ended (refuses why) r n ps qs stand = refl
 
 -- THE WHOLE
 
-step_alike : (p : Writing Places) (q : Writing (List SaidLedger)) (bytes : List ℕ) → Like p q → AreAlike Like ((rules ringed).step p bytes) ((rules listed).step q bytes)
-step_alike p q bytes like =
-    alike_by (λ (x : Writing Places) (y : Writing (List SaidLedger)). AreAlike Like ((rules ringed).step x bytes) ((rules listed).step y bytes))
-    (λ r n ps qs stand. answer_alike bytes (answer_in r bytes) r n ps qs stand) p q like
+step_alike : (p : Writing Places) (q : Writing (List SaidLedger)) (bytes : List ℕ) (has_ended : Bool) → Like p q → AreAlike Like ((rules ringed).step p bytes has_ended) ((rules listed).step q bytes has_ended)
+step_alike p q bytes has_ended like =
+    alike_by (λ (x : Writing Places) (y : Writing (List SaidLedger)). AreAlike Like ((rules ringed).step x bytes has_ended) ((rules listed).step y bytes has_ended))
+    (λ r n ps qs stand. answer_alike bytes has_ended (answer_in r bytes) r n ps qs stand) p q like
 
 tells_alike : DoAlike Like (rules ringed) (rules listed)
 tells_alike = record {

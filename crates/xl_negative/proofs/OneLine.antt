@@ -1,5 +1,5 @@
 -- No line that is written has a newline in it, so the text is cut into these lines again.
-use Rattle.std.proofs.Common.{◌≡◌, ℕ, zero, suc, ◌≤◌, ◌⊎◌, inl, inr, true, false, List, [], ◌∷◌, length, take, refl, ap, ◌∙◌, arith, append_assoc}
+use Rattle.std.proofs.Common.{◌≡◌, ℕ, zero, suc, ◌≤◌, ◌⊎◌, inl, inr, Bool, true, false, List, [], ◌∷◌, length, take, refl, ap, ◌∙◌, arith, append_assoc}
 use Rattle.std.specs.Prelude.{◌==◌, ◌-◌, All, Contains, map, slice_index}
 use Rattle.std.specs.List.{list_any}
 use Rattle.std.proofs.lemmas.Bool.{cond_both, or_from, or_parts}
@@ -11,6 +11,7 @@ use Rattle.xl_lines.proofs.Cutting.{lines_of-ended}
 use Rattle.xl_lines.proofs.Newlines.{IsOneLine}
 use Rattle.xl_running.specs.Running.{limits}
 use Rattle.xl_negative.specs.Laws.{ended_line, texts}
+use Rattle.xl_negative.specs.Writing.{copied}
 
 -- ---- what an input is cut into
 
@@ -21,11 +22,17 @@ one_front (suc n) (b ∷ bs) one =
     let parts = or_parts (b == 10) (list_any (λ byte. byte == 10) bs) one in
     or_from (b == 10) (list_any (λ byte. byte == 10) (take n bs)) parts.0 (one_front n bs parts.1)
 
+one_unreturned : (bytes : List ℕ) → IsOneLine bytes → IsOneLine (without_return bytes)
+one_unreturned bytes one =
+    cond_both (slice_index bytes (length bytes - 1) == 13) (take (length bytes - 1) bytes) bytes IsOneLine (λ _. one_front (length bytes - 1) bytes one) (λ _. one)
+
 pub one_content : (l : InputLine) → IsOneLine l.bytes → IsOneLine (content limits.returns l)
-one_content l one =
-    cond_both l.ended (without_return l.bytes) l.bytes IsOneLine
-    (λ _. cond_both (slice_index l.bytes (length l.bytes - 1) == 13) (take (length l.bytes - 1) l.bytes) l.bytes IsOneLine (λ _. one_front (length l.bytes - 1) l.bytes one) (λ _. one))
-    (λ _. one)
+one_content l one = cond_both l.ended (without_return l.bytes) l.bytes IsOneLine (λ _. one_unreturned l.bytes one) (λ _. one)
+
+-- ---- as what it is written
+
+pub one_copied : (bytes : List ℕ) (ended : Bool) → IsOneLine bytes → IsOneLine (copied bytes ended)
+one_copied bytes ended one = cond_both ended bytes (without_return bytes) IsOneLine (λ _. one) (λ _. one_unreturned bytes one)
 
 abbrev IsOne : InputLine → Type 0
 IsOne l = IsOneLine l.bytes

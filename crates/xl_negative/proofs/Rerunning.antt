@@ -20,6 +20,7 @@ use Rattle.xl_world.proofs.Reporters.{IsMember, IsReporter, world_reporters}
 use Rattle.xl_running.specs.Running.{answer_in, limits, world_of}
 use Rattle.xl_running.specs.Texts.{bad_line}
 use Rattle.xl_running.proofs.Declaring.{reading_declares}
+use Rattle.xl_running.proofs.Naming.{reading_names, root_names}
 use Rattle.xl_running.proofs.Sounding.{first_sound}
 use Rattle.xl_negative.specs.Laws.{ByList, HasOneList, IsInForce, ListsAreInForce, ReportsAgree, WrittenRuns, full_at, led_by, ran_by, ran_from}
 use Rattle.xl_negative.specs.Listing.{listed}
@@ -34,17 +35,18 @@ abbrev IsOne : InputLine → Type 0
 IsOne l = IsOneLine l.bytes
 
 first_good : IsGood (at_first listed)
-first_good = record { sound = first_sound; seats = first_lawful }
+first_good = record { sound = first_sound; seats = first_lawful; names = root_names }
 
 step_holds : (i : ℕ) → i ≤ 64 → (full : TrustedList) (left : ℕ) (s : ByList) (l : InputLine) → IsOne l → IsGood s →
     AfterStep (Held i full (world_of s.running).lists s.running) (step_at limits (rules listed) left s l)
 step_holds i most full left s l one good =
     let bytes : List ℕ = content limits.returns l in
     let After : Step ByList → Type 0 = AfterStep (Held i full (world_of s.running).lists s.running) in
-    cond_both (nat_lt limits.bytes (length l.bytes)) (stops ((rules listed).overrun s LongLine)) (step_within (rules listed) left s bytes) After
+    cond_both (nat_lt limits.bytes (length l.bytes)) (stops ((rules listed).overrun s LongLine)) (step_within (rules listed) left s bytes l.ended) After
     (λ _. tt)
-    (λ _. cond_both (nat_lt 0 left) ((rules listed).step s bytes) (stops ((rules listed).overrun s ManyLines)) After
-    (λ _. answer_holds i most full s bytes (answer_in s.running bytes) (one_content l one) good (reading_declares s.running.reading (length (world_of s.running).sent) bytes) refl) (λ _. tt))
+    (λ _. cond_both (nat_lt 0 left) ((rules listed).step s bytes l.ended) (stops ((rules listed).overrun s ManyLines)) After
+    (λ _. answer_holds i most full s bytes l.ended (answer_in s.running bytes) (one_content l one) good (reading_declares s.running.reading (length (world_of s.running).sent) bytes)
+    (reading_names s.running.reading (length (world_of s.running).sent) bytes good.names) refl) (λ _. tt))
 
 -- ---- what is written
 

@@ -9,6 +9,7 @@ use Rattle.xl_ledger.specs.declared.header.Header.{Header}
 use Rattle.xl_ledger.specs.Chains.{place_of, seq_at}
 use Rattle.xl_lists.specs.Lists.{TrustedList}
 use Rattle.xl_lines.specs.declared.machine.Verdict.TheVariants.{Good, Refused}
+use Rattle.xl_lines.specs.Lines.{without_return}
 use Rattle.xl_lines.specs.Rules.{Rules, Step, goes_on, refuses as stops, finds, Told, closes}
 use Rattle.xl_lines.specs.Told.{told_of}
 use Rattle.xl_lines.specs.Soon.{told_soon}
@@ -190,10 +191,16 @@ after_line keeping s text (line.Event e) = after_outcomes keeping (happened keep
 abbrev pub counted : {H : Type 0} → Writing H → Reading → Writing H
 counted s reading = record s { running = knows s.running reading; lines = one_more s.lines }
 
-abbrev pub after_answer : {H : Type 0} → Keeping H → Writing H → List ℕ → LineAnswer → Step (Writing H)
-after_answer keeping s bytes (passes reading) = goes_on (written bytes) (counted s reading)
-after_answer keeping s bytes (gives l reading) = after_line keeping (counted s reading) (written bytes) l
-after_answer keeping s bytes (refuses why) = stops (bad_line (one_more s.lines) why)
+-- a line of the input as it is written: it is handed on without a return before its newline, and one at the end of the
+-- input is left out too
+abbrev pub copied : List ℕ → Bool → List ℕ
+copied bytes ended = if ended then bytes else without_return bytes
+
+abbrev pub after_answer : {H : Type 0} → Keeping H → Writing H → List ℕ → Bool → LineAnswer → Step (Writing H)
+after_answer keeping s bytes ended (passes reading) = goes_on (written (copied bytes ended)) (counted s reading)
+after_answer keeping s bytes ended (gives l reading) =
+    after_line keeping (counted s reading) (written (copied bytes ended)) l
+after_answer keeping s bytes ended (refuses why) = stops (bad_line (one_more s.lines) why)
 
 -- the end of a schedule: one with no line lacks its header
 abbrev pub ending : {H : Type 0} → Writing H → Told
@@ -201,7 +208,7 @@ ending s = if s.lines == 0 then closes (bad_line 1 (NoHeader [])) Refused else c
 
 abbrev pub rules : {H : Type 0} → Keeping H → Rules (Writing H)
 rules keeping = record {
-  step = λ s bytes. after_answer keeping s bytes (answer_in s.running bytes);
+  step = λ s bytes ended. after_answer keeping s bytes ended (answer_in s.running bytes);
   overrun = λ s overrun. bad_line (one_more s.lines) (beyond overrun);
   closing = ending;
 }

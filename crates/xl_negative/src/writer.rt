@@ -6,14 +6,14 @@ ghost use Rattle.xl_running.specs.Running.{IsInRange};
 ghost use Rattle.xl_spelling.specs.Spellings.{list_line};
 ghost use Rattle.xl_running.specs.Texts.{bad_line};
 ghost use Rattle.xl_world.specs.Schedule.{IsPlausible};
-ghost use Rattle.xl_negative.specs.Writing.{written};
+ghost use Rattle.xl_negative.specs.Writing.{copied, written};
 
 use crate::deciding::{Change, change_at};
 use crate::hearing::{Heard, hear_issued, heard_in};
 use crate::seats::Seats;
 use std::alloc::Global;
 use xl_base::{LedgerId, NodeNo, OutOfMemory, Seq};
-use xl_lines::{Machine, Next, Overrun, Verdict};
+use xl_lines::{Machine, Next, Overrun, Verdict, without_return};
 use xl_lists::{List, SaidLedger};
 use xl_running::{Running, beyond, push_bad};
 use xl_sched::{Event, Line, SchedRefusal, What};
@@ -259,11 +259,11 @@ impl Machine for Writer {
 
     ghost rules = { the_rules ringed };
 
-    fn line(&mut self, line: &[u8], text: &mut Vec<u8>) -> Result<Next, OutOfMemory> {
+    fn line(&mut self, line: &[u8], ended: bool, text: &mut Vec<u8>) -> Result<Next, OutOfMemory> {
         match self.running.read(line) {
             Ok(read) => {
                 self.lines = self.lines.saturating_add(1);
-                push_line(text, line)?;
+                push_line(text, copied(line, ended))?;
                 match read {
                     Some(line) => self.after_line(&line, text),
                     None => Ok(Next::Line),
@@ -305,6 +305,13 @@ fn since(said: &[SaidLedger], before: usize) -> &[SaidLedger]
     } else {
         &[]
     }
+}
+
+/// A line of the input as it is written: one return before its end is left out, also at the end of the input.
+fn copied(line: &[u8], ended: bool) -> &[u8]
+    ensures { result.now ≡ copied line.now ended }
+{
+    if ended { line } else { without_return(line) }
 }
 
 /// A line of what is written.

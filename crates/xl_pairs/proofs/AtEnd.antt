@@ -1,5 +1,5 @@
 -- Nothing is looked for, so the declarations are read to their end.
-use Rattle.std.proofs.Common.{◌≡◌, ◌==◌, ℕ, List, [], true, refl, Option, Some, None}
+use Rattle.std.proofs.Common.{◌≡◌, ◌==◌, ℕ, Bool, List, [], true, refl, Option, Some, None}
 use Rattle.std.proofs.lemmas.Bool.{cond_both}
 use Rattle.xl_lines.specs.declared.machine.Verdict.TheVariants.{Good, Refused}
 use Rattle.xl_lines.specs.Rules.{Step, closes}
@@ -21,8 +21,8 @@ word_finds : (c : Comparing) (word : Option (List ℕ)) (bytes : List ℕ) → F
 word_finds c (Some word) bytes = tt
 word_finds c None bytes = answer_finds c (reading_of c.reading 0 bytes)
 
-step_finds : (c : Comparing) (bytes : List ℕ) → FindsNothing (rules.step c bytes)
-step_finds c bytes =
+step_finds : (c : Comparing) (bytes : List ℕ) (ended : Bool) → FindsNothing (rules.step c bytes ended)
+step_finds c bytes ended =
     cond_both (c.reading.lines == 0) (after_answer c (reading_of c.reading 0 bytes)) (unless_foreign c (foreign_word bytes) bytes) (FindsNothing {S = Comparing})
     (λ _. answer_finds c (reading_of c.reading 0 bytes)) (λ _. word_finds c (foreign_word bytes) bytes)
 

@@ -62,7 +62,7 @@ ending c =
 
 abbrev pub rules : Rules Comparing
 rules = record {
-  step = step_of;
+  step = λ c bytes _. step_of c bytes;
   overrun = λ c overrun. bad_line (c.reading.lines + 1) (beyond overrun);
   closing = ending;
 }

@@ -115,7 +115,7 @@ impl Machine for Comparer {
 
     ghost rules = { the_rules };
 
-    fn line(&mut self, line: &[u8], text: &mut String) -> Result<Next, OutOfMemory> {
+    fn line(&mut self, line: &[u8], _ended: bool, text: &mut String) -> Result<Next, OutOfMemory> {
         if self.reader.lines() == 0 {
             return self.read(line, text);
         }

@@ -36,6 +36,6 @@ closes_at_end r =
 
 pub finds_at_end : FindsAtEnd rules
 finds_at_end = record {
-  step = λ r bytes. answer_finds r (answer_in r bytes);
+  step = λ r bytes _. answer_finds r (answer_in r bytes);
   closing = closes_at_end;
 }

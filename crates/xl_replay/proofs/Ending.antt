@@ -54,7 +54,7 @@ ending_some r =
 
 pub ends_aloud : EndsAloud rules
 ends_aloud = record {
-  step = λ r bytes. answer_aloud r (answer_in r bytes);
+  step = λ r bytes _. answer_aloud r (answer_in r bytes);
   overrun = λ r overrun. bad_some (r.reading.lines + 1) (beyond overrun);
   closing = ending_some;
 }

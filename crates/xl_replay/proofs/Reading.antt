@@ -67,8 +67,8 @@ state_names within left r (l ∷ ls) are = state_names within (left - 1) (state_
 
     step_names : (l : TextLine) → Keeps (step_at within rules left r l)
     step_names l =
-        cond_both (nat_lt within.bytes (length l.bytes)) _ (step_within rules left r (content within.returns l)) Keeps (λ _. are)
-        (λ _. cond_both (nat_lt 0 left) (rules.step r (content within.returns l)) _ Keeps
+        cond_both (nat_lt within.bytes (length l.bytes)) _ (step_within rules left r (content within.returns l) l.ended) Keeps (λ _. are)
+        (λ _. cond_both (nat_lt 0 left) (rules.step r (content within.returns l) l.ended) _ Keeps
         (λ _. read_names (answer_in r (content within.returns l)) (reading_names r.reading (length (world_of r).sent) (content within.returns l) are)) (λ _. are))
 
 schedule_names : (bytes : List ℕ) → AreNames (names_of bytes)

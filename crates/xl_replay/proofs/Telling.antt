@@ -276,8 +276,8 @@ answer_tells r (refuses why) sound extends declared = (r.reading.lines + 1, why,
 
 step_tells : (limits : Limits) (left : ℕ) (r : Running) (l : TextLine) → IsSound r → StepTells r (step_at limits rules left r l)
 step_tells limits left r l sound =
-    cond_both (nat_lt limits.bytes (length l.bytes)) _ (step_within rules left r (content limits.returns l)) (StepTells r) (λ _. (r.reading.lines + 1, beyond LongLine, refl))
-    (λ _. cond_both (nat_lt 0 left) (rules.step r (content limits.returns l)) _ (StepTells r)
+    cond_both (nat_lt limits.bytes (length l.bytes)) _ (step_within rules left r (content limits.returns l) l.ended) (StepTells r) (λ _. (r.reading.lines + 1, beyond LongLine, refl))
+    (λ _. cond_both (nat_lt 0 left) (rules.step r (content limits.returns l) l.ended) _ (StepTells r)
     (λ _. answer_tells r _ sound (reading_extends r.reading (length (world_of r).sent) (content limits.returns l)) (reading_declares r.reading (length (world_of r).sent) (content limits.returns l))) (λ _. (r.reading.lines + 1, beyond ManyLines, refl)))
 
 -- THE WHOLE

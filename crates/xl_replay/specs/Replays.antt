@@ -50,7 +50,7 @@ ending r =
 
 abbrev pub rules : Rules Running
 rules = record {
-  step = λ r bytes. after_answer r (answer_in r bytes);
+  step = λ r bytes _. after_answer r (answer_in r bytes);
   overrun = λ r overrun. bad_line (r.reading.lines + 1) (beyond overrun);
   closing = ending;
 }

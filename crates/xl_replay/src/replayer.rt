@@ -91,7 +91,7 @@ impl Machine for Replayer {
 
     ghost rules = { the_rules };
 
-    fn line(&mut self, line: &[u8], text: &mut String) -> Result<Next, OutOfMemory> {
+    fn line(&mut self, line: &[u8], _ended: bool, text: &mut String) -> Result<Next, OutOfMemory> {
         match self.running.read(line) {
             Ok(None) => Ok(Next::Line),
             Ok(Some(line)) => {

@@ -22,7 +22,7 @@ AreAlike Like (finds text) (finds other) = text ≡ other
 
 -- machines whose states that are alike do the same
 pub record DoAlike {S T : Type 0} (Like : S → T → Type 0) (a : Rules S) (b : Rules T) : Type 0 where
-  pub step : (s : S) (t : T) (line : List ℕ) → Like s t → AreAlike Like (a.step s line) (b.step t line)
+  pub step : (s : S) (t : T) (line : List ℕ) (ended : Bool) → Like s t → AreAlike Like (a.step s line ended) (b.step t line ended)
   pub overrun : (s : S) (t : T) (overrun : Overrun) → Like s t → a.overrun s overrun ≡ b.overrun t overrun
   pub closing : (s : S) (t : T) → Like s t → a.closing s ≡ b.closing t
 
@@ -30,12 +30,12 @@ module _ {S T : Type 0} (Like : S → T → Type 0) (a : Rules S) (b : Rules T) 
   step_alike : (limits : Limits) (left : ℕ) (s : S) (t : T) (line : Line) → Like s t → AreAlike Like (step_at limits a left s line) (step_at limits b left t line)
   step_alike limits left s t line like = by_length (nat_lt limits.bytes (length line.bytes))
     where
-      by_count : (some : Bool) → AreAlike Like (cond some (a.step s (content limits.returns line)) (refuses (a.overrun s ManyLines))) (cond some (b.step t (content limits.returns line)) (refuses (b.overrun t ManyLines)))
-      by_count true = do_alike.step s t (content limits.returns line) like
+      by_count : (some : Bool) → AreAlike Like (cond some (a.step s (content limits.returns line) line.ended) (refuses (a.overrun s ManyLines))) (cond some (b.step t (content limits.returns line) line.ended) (refuses (b.overrun t ManyLines)))
+      by_count true = do_alike.step s t (content limits.returns line) line.ended like
       by_count false = do_alike.overrun s t ManyLines like
 
       by_length : (long : Bool) →
-          AreAlike Like (cond long (refuses (a.overrun s LongLine)) (step_within a left s (content limits.returns line))) (cond long (refuses (b.overrun t LongLine)) (step_within b left t (content limits.returns line)))
+          AreAlike Like (cond long (refuses (a.overrun s LongLine)) (step_within a left s (content limits.returns line) line.ended)) (cond long (refuses (b.overrun t LongLine)) (step_within b left t (content limits.returns line) line.ended))
       by_length true = do_alike.overrun s t LongLine like
       by_length false = by_count (nat_lt 0 left)
 

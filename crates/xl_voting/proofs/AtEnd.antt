@@ -53,7 +53,7 @@ closes_at_end r t = cond_both (r.reading.lines == 0) (closes (bad_line 1 (Header
 
 pub finds_at_end : FindsAtEnd (rules tallied)
 finds_at_end = record {
-  step = λ p bytes. favored_finds p.running p.votes bytes (favor_line p.running.reading bytes);
+  step = λ p bytes _. favored_finds p.running p.votes bytes (favor_line p.running.reading bytes);
   closing = λ p. closes_at_end p.running p.votes;
 }
 
@@ -91,7 +91,7 @@ ending_some r t =
 
 pub ends_aloud : EndsAloud (rules tallied)
 ends_aloud = record {
-  step = λ p bytes. favored_aloud p.running p.votes bytes (favor_line p.running.reading bytes);
+  step = λ p bytes _. favored_aloud p.running p.votes bytes (favor_line p.running.reading bytes);
   overrun = λ p overrun. bad_some (p.running.reading.lines + 1) (beyond overrun);
   closing = λ p. ending_some p.running p.votes;
 }

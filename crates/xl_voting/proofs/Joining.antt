@@ -136,9 +136,9 @@ favored_alike r t l is sound bytes (Err why) votes = refl
 
 -- THE WHOLE
 
-step_alike : (p : Voting Tallying) (q : Voting Listing) (bytes : List ℕ) → Like p q → AreAlike Like ((rules tallied).step p bytes) ((rules listed).step q bytes)
-step_alike p q bytes like =
-    subst (λ (r : Running). AreAlike Like ((rules tallied).step p bytes) (after_favored listed r q.votes bytes (favor_line r.reading bytes))) like.running
+step_alike : (p : Voting Tallying) (q : Voting Listing) (bytes : List ℕ) (has_ended : Bool) → Like p q → AreAlike Like ((rules tallied).step p bytes has_ended) ((rules listed).step q bytes has_ended)
+step_alike p q bytes has_ended like =
+    subst (λ (r : Running). AreAlike Like ((rules tallied).step p bytes has_ended) (after_favored listed r q.votes bytes (favor_line r.reading bytes))) like.running
     (favored_alike p.running p.votes q.votes like.votes like.sound bytes (favor_line p.running.reading bytes) (line_votes p.running.reading bytes))
 
 closing_alike : (p : Voting Tallying) (q : Voting Listing) → Like p q → (rules tallied).closing p ≡ (rules listed).closing q

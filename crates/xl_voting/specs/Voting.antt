@@ -78,7 +78,7 @@ ending keeping r v =
 
 abbrev pub rules : {V : Type 0} → Keeping V → Rules (Voting V)
 rules keeping = record {
-  step = λ p bytes. after_favored keeping p.running p.votes bytes (favor_line p.running.reading bytes);
+  step = λ p bytes _. after_favored keeping p.running p.votes bytes (favor_line p.running.reading bytes);
   overrun = λ p overrun. bad_line (p.running.reading.lines + 1) (beyond overrun);
   closing = λ p. ending keeping p.running p.votes;
 }

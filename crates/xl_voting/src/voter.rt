@@ -193,7 +193,7 @@ impl Machine for Voter {
 
     ghost rules = { the_rules tallied };
 
-    fn line(&mut self, line: &[u8], text: &mut String) -> Result<Next, OutOfMemory> {
+    fn line(&mut self, line: &[u8], _ended: bool, text: &mut String) -> Result<Next, OutOfMemory> {
         match self.running.read_favor(line) {
             Ok(None) => self.other_line(line, text),
             Ok(Some(favor)) => self.vote(&favor, text),
