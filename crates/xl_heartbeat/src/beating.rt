@@ -6,7 +6,7 @@ ghost use Rattle.xl_store.specs.Stores.{start_of, turns_of, IsOf};
 ghost use Rattle.xl_heartbeat.specs.Outputs.{Output, output};
 ghost use Rattle.xl_heartbeat.specs.Beats.{Heartbeat};
 ghost use Rattle.xl_heartbeat.specs.Beats.Phase.{Beats};
-ghost use Rattle.xl_heartbeat.specs.Going.{Beating, Beaten, Follows, Stops};
+ghost use Rattle.xl_heartbeat.specs.Going.{Beating, Follows, Stops};
 
 use crate::ends::{BeatEnd, Ending, Stopping, after_reports, ending_of};
 use crate::pulse::Pulse;
@@ -42,31 +42,11 @@ pub fn beat<W: Wait, B: Branch + Drop, K: Keeper + Drop, O: Sink, C: Clock>(
         (known pass.old) (output (O.held sink.old) (O.faults sink.old)) result
         (known pass.new) (output (O.held sink.new) (O.faults sink.new)) }
 {
-    let run = beat_on(rt, store, clock, sink, pulse, pass);
-    let stop = tell_to_stop(rt, store, clock, pass);
-    BeatEnd { run, stop }
-}
-
-/// Beats until no further beat is to come, and answers why.
-fn beat_on<W: Wait, B: Branch + Drop, K: Keeper + Drop, O: Sink, C: Clock>(
-    rt: &W,
-    store: &Store<B, K>,
-    clock: &C,
-    sink: &mut O,
-    pulse: &Pulse,
-    pass: &mut Pass,
-) -> Ending
-    requires pass { IsOf store.now pass.old }
-    ensures pass { IsOf store.now pass.new }
-    ensures beaten { Beaten (start_of store.now) (turns_of store.now) (C.may_give clock.now) pulse.now
-        (known pass.old) (output (O.held sink.old) (O.faults sink.old)) result
-        (known pass.new) (output (O.held sink.new) (O.faults sink.new)) }
-{
     let mut set = pulse.list.copy();
     for _ in rt.forever() {
-        match beat_once(rt, store, clock, sink, pulse, &mut set, pass) {
-            None => {}
-            Some(end) => return end,
+        if let Some(run) = beat_once(rt, store, clock, sink, pulse, &mut set, pass) {
+            let stop = tell_to_stop(rt, store, clock, pass);
+            return BeatEnd { run, stop };
         }
     }
     unreachable!()

@@ -3,7 +3,7 @@ use Rattle.xl_store.specs.Stores.{start_of, IsOf}
 use Rattle.xl_heartbeat.specs.Outputs.{output}
 use Rattle.xl_heartbeat.specs.Beats.Phase.{Beats}
 use Rattle.xl_heartbeat.specs.Going.{Beating}
-use Rattle.xl_heartbeat.proofs.beating.beat_on.Given as goal
+use Rattle.xl_heartbeat.proofs.beating.beat.Given as goal
 
 abbrev pub invariant-loop : goal.invariant-loop
 invariant-loop g l = record {
