@@ -19,7 +19,6 @@ mod plan;
 mod running;
 mod submitting;
 mod worker;
-mod working;
 
 pub use ends::RunEnd;
 pub use plan::{Contact, Plan};

@@ -11,10 +11,12 @@ ghost use Rattle.xl_workers.specs.Runs.{doing};
 ghost use Rattle.xl_workers.specs.Working.{TookLast, Lived, end_of};
 
 use crate::ends::RunEnd;
+use crate::hiring::hire;
+use crate::joining::join_all;
 use crate::linking::{NoLinks, open_links};
 use crate::plan::Plan;
 use crate::submitting::submit_all;
-use crate::working::work;
+use crate::worker::run;
 use std::sync::Wait;
 use std::thread::Threads;
 use xl_heartbeat::{Ending, take_reports};
@@ -57,7 +59,8 @@ fn end_of(end: StoreEnd) -> RunEnd
     }
 }
 
-/// Submits the ids, opens the links, serves the peers over them until all have ended, and takes the last reports.
+/// Submits the ids, opens the links, and has a worker for each peer beside the heartbeat. When all have ended, their
+/// passes are joined and the last reports are taken.
 pub(crate) fn live<
     W: Threads + Wait + Sync,
     B: Branch + Drop + Send,
@@ -104,11 +107,21 @@ pub(crate) fn live<
         Err(NoLinks::NetFault) => return (RunEnd::NetFault, pass),
         Err(NoLinks::OutOfMemory) => return (RunEnd::OutOfMemory, pass),
     };
-    match work(host, store, pass, peers, &pulse, sink) {
-        Ok((mut pass, beats)) => {
-            let last = take_last(host.rt, store, sink, &mut pass, beats.run);
-            (RunEnd::Ran { beats, last }, pass)
-        }
-        Err(pass) => (RunEnd::OutOfMemory, pass),
-    }
+    let Ok(room) = Vec::with_capacity(host.alloc, peers.len()) else {
+        return (RunEnd::OutOfMemory, pass);
+    };
+    let (first, mut heart) = store.split(pass);
+    let (first, mut workers) = hire(store, first, peers, room);
+    let beats = run(
+        host,
+        store,
+        &mut heart,
+        workers.as_mut_slice(),
+        &pulse,
+        sink,
+    );
+    let one = store.join(first, heart);
+    let mut pass = join_all(store, one, workers);
+    let last = take_last(host.rt, store, sink, &mut pass, beats.run);
+    (RunEnd::Ran { beats, last }, pass)
 }

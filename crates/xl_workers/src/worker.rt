@@ -1,11 +1,16 @@
 ghost use Rattle.std.specs.Prelude.{◌≡◌, length};
+ghost use Rattle.xl_turns.specs.Passes.{known};
+ghost use Rattle.xl_store.specs.Stores.{start_of, turns_of, IsOf};
+ghost use Rattle.xl_heartbeat.specs.Outputs.{output};
+ghost use Rattle.xl_heartbeat.specs.Beats.{Heartbeat};
 ghost use Rattle.xl_workers.specs.Serving.{IsReady, HasServed, AreReady, HaveServed};
 
 use crate::linking::Peer;
 use std::sync::Wait;
 use std::thread;
 use std::thread::Threads;
-use xl_io::Keeper;
+use xl_heartbeat::{BeatEnd, Pulse, beat};
+use xl_io::{Keeper, Sink};
 use xl_ledger::Branch;
 use xl_links::{Clock, Gate, Link};
 use xl_peers::{Host, attend};
@@ -53,4 +58,49 @@ pub(crate) fn work_all<
             ensures { HasServed store.entry.now (C.may_give host.entry.now.clock.now) L.shows w.entry.now w.exit.now }
         { work(host, store, w) },
     );
+}
+
+/// All workers beside the heartbeat, until all have ended.
+pub(crate) fn run<
+    W: Threads + Wait + Sync,
+    B: Branch + Drop + Send,
+    K: Keeper + Drop + Send,
+    L: Link + Send,
+    G: Gate + Sync,
+    C: Clock + Sync,
+    O: Sink + Send,
+>(
+    host: &Host<'_, W, G, C>,
+    store: &Store<B, K>,
+    pass: &mut Pass,
+    workers: &mut [Worker<L>],
+    pulse: &Pulse,
+    sink: &mut O,
+) -> BeatEnd
+    requires pass { IsOf store.now pass.old }
+    requires ready { AreReady store.now workers.old }
+    ensures pass { IsOf store.now pass.new }
+    ensures heartbeat { Heartbeat (start_of store.now) (turns_of store.now) (C.may_give host.now.clock.now) pulse.now
+        (known pass.old) (output (O.held sink.old) (O.faults sink.old)) result
+        (known pass.new) (output (O.held sink.new) (O.faults sink.new)) }
+    ensures served { HaveServed store.now (C.may_give host.now.clock.now) L.shows workers.old workers.new }
+    ensures long { length workers.new ≡ length workers.old }
+{
+    // If no thread can be started the second closure runs first, in this one: the workers then find the stop asked.
+    let ((), beats) = thread::join_mut(
+        host.rt,
+        &mut ||
+            requires { AreReady store.now workers.now }
+            ensures { HaveServed store.entry.now (C.may_give host.entry.now.clock.now) L.shows workers.entry.now workers.exit.now
+                × (length workers.exit.now ≡ length workers.entry.now) }
+        { work_all(host, store, workers) },
+        &mut || -> BeatEnd
+            requires { IsOf store.now pass.now }
+            ensures { IsOf store.entry.now pass.exit.now
+                × Heartbeat (start_of store.entry.now) (turns_of store.entry.now) (C.may_give host.entry.now.clock.now) pulse.entry.now
+                (known pass.entry.now) (output (O.held sink.entry.now) (O.faults sink.entry.now)) result
+                (known pass.exit.now) (output (O.held sink.exit.now) (O.faults sink.exit.now)) }
+        { beat(host.rt, store, host.clock, sink, pulse, pass) },
+    );
+    beats
 }

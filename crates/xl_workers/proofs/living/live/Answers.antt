@@ -1,44 +1,75 @@
--- the pass begins with nothing known, and either all ids are submitted before the links, or one has no turn
-use Rattle.std.proofs.Common.{ℕ, List, length, map, refl, sym, ap, ◌∙◌, subst, arith}
+-- the pass begins with nothing known; all ids are submitted before the links, or one has no turn; and the joined pass has
+-- seen all that the heartbeat and each worker had
+use Rattle.std.proofs.Common.{◌≡◌, ◌≤◌, ◌^◌, ℕ, List, length, map, refl, sym, ap, ◌∙◌, subst, arith}
 use Rattle.std.proofs.lemmas.List.{length-map}
 use Rattle.std.specs.Prelude.{IsSome}
 use Rattle.std.specs.List.{AllByRecursion}
 use Rattle.xl_base.specs.declared.ids.TxId.{TxId}
 use Rattle.xl_tags.specs.Rings.{key_of}
-use Rattle.xl_turns.specs.declared.pass.Pass.{Pass}
 use Rattle.xl_turns.specs.Passes.{known}
-use Rattle.xl_store.specs.declared.entry.Entry.{Entry}
 use Rattle.xl_store.specs.Stores.{start_of, turns_of}
 use Rattle.xl_heartbeat.specs.Outputs.{output}
 use Rattle.xl_workers.specs.declared.ends.RunEnd.{RunEnd}
 use Rattle.xl_workers.specs.declared.ends.RunEnd.TheVariants as end
-use Rattle.xl_workers.specs.Linking.{member_of, contact_of, hub_seen, target_of}
+use Rattle.xl_workers.specs.declared.linking.Peer.{Peer}
+use Rattle.xl_workers.specs.declared.worker.Worker.{Worker}
+use Rattle.xl_workers.specs.Linking.{member_of, contact_of, hub_seen, target_of, IsAsTold}
+use Rattle.xl_workers.specs.Serving.{IsReady, AreReady, HaveServed}
+use Rattle.xl_workers.specs.Joining.{joined_all, knows, IsHis, HasSeen}
 use Rattle.xl_workers.specs.Submits.{Submitted, SubmittedFront}
 use Rattle.xl_workers.specs.Sharing.{setting}
 use Rattle.xl_workers.specs.Runs.{doing}
 use Rattle.xl_workers.specs.Working.{Worked, Lived}
-use Rattle.xl_workers.proofs.Pairs.{all_of_map}
+use Rattle.xl_workers.proofs.Pairs.{all_of_map, index_all, put_back}
 use Rattle.xl_workers.proofs.Links.{same_members, all_front}
+use Rattle.xl_workers.proofs.Starts.{enough_left, are_all, same_peers, same_mine, same_seen, worked_from}
+use Rattle.xl_workers.proofs.Shared.{Joined, all_his, worked}
 use Rattle.xl_workers.proofs.Lives.{lived, lived_front, lives_ran, lives_none, lives_unlinked, still_whole}
 use Rattle.xl_workers.proofs.living.live.Goals as goal
 
-pub work-requires-clause-peers : goal.work-requires-clause-peers
-work-requires-clause-peers g c κs within =
+pub split-first-requires-clause-share : goal.split-first-requires-clause-share
+split-first-requires-clause-share g c =
+    let start = start_of c.args.store.now in
+    let turns = turns_of c.args.store.now in
+    let may = g.C.Clock.may_give c.args.host.now.clock.now in
+    let gives = g.H.Hub.gives c.args.hub.now in
+    let s = setting start turns may gives in
+    let ids : List TxId = c.args.plan.submits.items in
+    let old = known c.args.pass in
+    let mid = known c.submit_all.new.pass in
+    let sub = subst (λ (l : List TxId). Submitted start may old l mid) c.deref.ensures.value c.in-Ok.ensures.all in
+    let share : mid.share ≡ 2 ^ 126 = still_whole s ids old mid c.requires.new sub in
+    omega (arith, share)
+
+pub hire-first-requires-clause-peers : goal.hire-first-requires-clause-peers
+hire-first-requires-clause-peers g c =
     all_of_map (λ (m : ℕ). IsSome (key_of (start_of c.args.store.now).node.keys m)) member_of
     c.in-Ok-open_links.peers.items
     (subst (λ (ms : List ℕ). AllByRecursion (λ (m : ℕ). IsSome (key_of (start_of c.args.store.now).node.keys m)) ms)
     (sym c.in-Ok-open_links.ensures.linked.members) c.requires.peers)
 
-pub work-requires-clause-few : goal.work-requires-clause-few
-work-requires-clause-few g c κs within =
+pub hire-first-requires-clause-share : goal.hire-first-requires-clause-share
+hire-first-requires-clause-share g c =
+    let start = start_of c.args.store.now in
+    let turns = turns_of c.args.store.now in
+    let may = g.C.Clock.may_give c.args.host.now.clock.now in
+    let gives = g.H.Hub.gives c.args.hub.now in
+    let s = setting start turns may gives in
+    let ids : List TxId = c.args.plan.submits.items in
+    let old = known c.args.pass in
+    let mid = known c.submit_all.new.pass in
+    let sub = subst (λ (l : List TxId). Submitted start may old l mid) c.deref.ensures.value c.in-Ok.ensures.all in
     let same = ap (length {A = ℕ}) c.in-Ok-open_links.ensures.linked.members in
-    omega (
+    let peers : List (Peer g.row.H-L.Denot) = c.in-Ok-open_links.peers.items in
+    let few : length peers ≤ 64 = omega (
       arith,
       same,
-      length-map c.in-Ok-open_links.peers.items member_of,
+      length-map peers member_of,
       length-map c.args.plan.contacts.items contact_of,
       c.requires.few,
-    )
+    ) in
+    enough_left (length peers) mid (known c.split-first.result.0) (still_whole s ids old mid c.requires.new sub)
+    c.split-first.ensures.first few
 
 pub returns-in-Err-clause-lived : goal.returns-in-Err-clause-lived
 returns-in-Err-clause-lived g c =
@@ -100,8 +131,8 @@ returns-in-Err-OutOfMemory-clause-lived g c =
     lived s d old mid mid end.OutOfMemory c.requires.new sub
     (lives_none s d mid share refl c.in-Err-OutOfMemory.ensures.front)
 
-pub returns-in-Ok-work-clause-lived : goal.returns-in-Ok-work-clause-lived
-returns-in-Ok-work-clause-lived g c =
+pub returns-in_default-clause-lived : goal.returns-in_default-clause-lived
+returns-in_default-clause-lived g c =
     let start = start_of c.args.store.now in
     let turns = turns_of c.args.store.now in
     let may = g.C.Clock.may_give c.args.host.now.clock.now in
@@ -115,42 +146,107 @@ returns-in-Ok-work-clause-lived g c =
     let mid = known c.submit_all.new.pass in
     let sub = subst (λ (l : List TxId). Submitted start may old l mid) c.deref.ensures.value c.in-Ok.ensures.all in
     let share = still_whole s ids old mid c.requires.new sub in
-    let o1 = output (g.O.Sink.held c.args.sink.now) (g.O.Sink.faults c.args.sink.now) in
-    let o2 = output (g.O.Sink.held c.work.new.sink) (g.O.Sink.faults c.work.new.sink) in
-    let o3 = output (g.O.Sink.held c.take_last-last.new.sink) (g.O.Sink.faults c.take_last-last.new.sink) in
-    let pulse = c.args.plan.pulse in
-    let linked = c.in-Ok-open_links.ensures.linked in
-    let beats = c.in-Ok-work.beats in
-    let last = c.take_last-last.result in
-    let joined = known c.in-Ok-work.pass in
-    let new = known c.take_last-last.new.pass in
-    let members = linked.members ∙ sym (same_members c.args.plan.contacts.items) in
-    let worked = subst (λ (ms : List ℕ). Worked s pulse ms mid o1 beats joined o2) members
-    (c.in-Ok-work.ensures.worked gives linked.told) in
-    lived s (doing ids targets pulse old_hub new_hub o1 o3) old mid new (end.Ran beats last) c.requires.new sub
-    (lives_ran s pulse targets ids old_hub new_hub mid joined new o1 o2 o3 beats last
-    c.in-Ok-open_links.ensures.asked worked c.take_last-last.ensures.last)
+    let o = output (g.O.Sink.held c.args.sink.now) (g.O.Sink.faults c.args.sink.now) in
+    let d = doing ids targets c.args.plan.pulse old_hub new_hub o o in
+    lived s d old mid mid end.OutOfMemory c.requires.new sub
+    (lives_none s d mid share refl (all_front old_hub new_hub targets c.in-Ok-open_links.ensures.asked))
+
+pub run-beats-requires-clause-ready : goal.run-beats-requires-clause-ready
+run-beats-requires-clause-ready g c κs within =
+    subst (λ (l : List (Worker g.row.H-L.Denot)). AreReady c.args.store.now l) (sym c.as_mut_slice.ensures.value)
+    (index_all (IsReady c.args.store.now) c.hire-first.result.1.items c.hire-first.ensures.ready)
+
+pub join_all-pass-requires-clause-workers : goal.join_all-pass-requires-clause-workers
+join_all-pass-requires-clause-workers g c =
+    let may = g.C.Clock.may_give c.args.host.now.clock.now in
+    let shows = g.H.L.Link.shows in
+    let store = c.args.store.now in
+    let new : List (Worker g.row.H-L.Denot) = c.run-beats.new.workers in
+    let old : List (Worker g.row.H-L.Denot) = c.hire-first.result.1.items in
+    let was = c.as_mut_slice.ensures.value in
+    let long : length new ≡ length old = c.run-beats.ensures.long
+    ∙ ap (λ (l : List (Worker g.row.H-L.Denot)). length l) was in
+    let served = subst (λ (l : List (Worker g.row.H-L.Denot)). HaveServed store may shows l new) was
+    c.run-beats.ensures.served in
+    let back = put_back new old c.hire-first.result.1.len long
+    (let e = c.hire-first.result.1.ok.0 in omega (arith, e)) in
+    subst (λ (l : List (Worker g.row.H-L.Denot)). AllByRecursion (IsHis store) l) (sym back)
+    (all_his store may shows old new served long)
 
 pub returns-clause-lived : goal.returns-clause-lived
 returns-clause-lived g c =
-    let start = start_of c.args.store.now in
-    let turns = turns_of c.args.store.now in
+    let store = c.args.store.now in
+    let start = start_of store in
+    let turns = turns_of store in
     let may = g.C.Clock.may_give c.args.host.now.clock.now in
+    let shows = g.H.L.Link.shows in
     let gives = g.H.Hub.gives c.args.hub.now in
     let s = setting start turns may gives in
     let ids : List TxId = c.args.plan.submits.items in
     let targets = map target_of c.args.plan.contacts.items in
+    let pulse = c.args.plan.pulse in
     let old_hub = hub_seen (g.H.Hub.faults c.args.hub.now) (g.H.Hub.asked c.args.hub.now) in
     let new_hub = hub_seen (g.H.Hub.faults c.open_links.new.hub) (g.H.Hub.asked c.open_links.new.hub) in
     let old = known c.args.pass in
-    let mid = known c.submit_all.new.pass in
+    let pass = c.submit_all.new.pass in
+    let mid = known pass in
     let sub = subst (λ (l : List TxId). Submitted start may old l mid) c.deref.ensures.value c.in-Ok.ensures.all in
     let share = still_whole s ids old mid c.requires.new sub in
+    let first = c.split-first.result.0 in
+    let heart = c.split-first.result.1 in
+    let now = c.hire-first.result.0 in
+    let linked = c.in-Ok-open_links.ensures.linked in
+    let peers : List (Peer g.row.H-L.Denot) = c.in-Ok-open_links.peers.items in
+    let hired : List (Worker g.row.H-L.Denot) = c.hire-first.result.1.items in
+    let ended : List (Worker g.row.H-L.Denot) = c.run-beats.new.workers in
+    let h = c.hire-first.ensures in
+    let a = c.split-first.ensures.first in
+    let b = c.split-first.ensures.second in
+    let was = c.as_mut_slice.ensures.value in
+    let long : length ended ≡ length hired = c.run-beats.ensures.long
+    ∙ ap (λ (l : List (Worker g.row.H-L.Denot)). length l) was in
+    let served = subst (λ (l : List (Worker g.row.H-L.Denot)). HaveServed store may shows l ended) was
+    c.run-beats.ensures.served in
+    let back = put_back ended hired c.hire-first.result.1.len long
+    (let e = c.hire-first.result.1.ok.0 in omega (arith, e)) in
+    let all = c.join_all-pass.result in
+    let joins = subst
+    (λ (l : List (Worker g.row.H-L.Denot)). known all ≡ joined_all (known c.join-one.result) (map knows l))
+    back c.join_all-pass.ensures.known in
+    let each = subst
+    (λ (l : List (Worker g.row.H-L.Denot)). AllByRecursion (HasSeen (known all).seen) l)
+    back c.join_all-pass.ensures.each in
     let o1 = output (g.O.Sink.held c.args.sink.now) (g.O.Sink.faults c.args.sink.now) in
-    let o2 = output (g.O.Sink.held c.work.new.sink) (g.O.Sink.faults c.work.new.sink) in
-    let d = doing ids targets c.args.plan.pulse old_hub new_hub o1 o2 in
-    let silent = ap (λ (o : g.row.O.Denot). output (g.O.Sink.held o) (g.O.Sink.faults o))
-    c.in-Err-work.ensures.spared.1 in
-    let none = lives_none s d mid share silent (all_front old_hub new_hub targets c.in-Ok-open_links.ensures.asked) in
-    subst (λ (p : Pass Entry). Lived s d end.OutOfMemory (known p)) (sym c.in-Err-work.ensures.spared.0)
-    (lived s d old mid mid end.OutOfMemory c.requires.new sub none)
+    let o2 = output (g.O.Sink.held c.run-beats.new.sink) (g.O.Sink.faults c.run-beats.new.sink) in
+    let o3 = output (g.O.Sink.held c.take_last-last.new.sink) (g.O.Sink.faults c.take_last-last.new.sink) in
+    let beats = c.run-beats.result in
+    let last = c.take_last-last.result in
+    let new = known c.take_last-last.new.pass in
+    let j : Joined store may shows pulse now heart c.run-beats.new.pass c.join-one.result all o1 o2 beats hired ended = record {
+      beating = c.run-beats.ensures.heartbeat;
+      served = served;
+      long = long;
+      join = c.join-one.ensures.known;
+      first_seen = c.join-one.ensures.one;
+      beat_seen = c.join-one.ensures.other;
+      joins = joins;
+      one_seen = c.join_all-pass.ensures.first;
+      each = each;
+      all = are_all store pass first heart now peers hired h a b share;
+    } in
+    let same = same_peers store pass first heart now peers hired h a b in
+    let told = subst (λ (ps : List (Peer g.row.H-L.Denot)). AllByRecursion (IsAsTold gives shows) ps)
+    (sym same) linked.told in
+    let members = linked.members ∙ sym (same_members c.args.plan.contacts.items) in
+    let by_peers = worked_from s pulse (map member_of peers) mid (known now) (known all) o1 o2 beats
+    (same_mine store pass first heart now peers hired h a b)
+    (same_seen store pass first heart now peers hired h a b)
+    (subst
+    (λ (ps : List (Peer g.row.H-L.Denot)).
+    Worked s pulse (map member_of ps) (known now) o1 beats (known all) o2) same
+    (worked store may shows pulse now heart c.run-beats.new.pass c.join-one.result
+    all o1 o2 beats hired ended j gives told)) in
+    let by_targets = subst (λ (ms : List ℕ). Worked s pulse ms mid o1 beats (known all) o2) members by_peers in
+    lived s (doing ids targets pulse old_hub new_hub o1 o3) old mid new (end.Ran beats last) c.requires.new sub
+    (lives_ran s pulse targets ids old_hub new_hub mid (known all) new o1 o2 o3 beats last
+    c.in-Ok-open_links.ensures.asked by_targets c.take_last-last.ensures.last)
