@@ -90,22 +90,37 @@ how_text issued.Partial = codes "partial"
 how_text issued.Silent = codes "none"
 how_text (issued.Refused why) = codes "none"
 
--- what is written of the event in line n of the schedule
-abbrev pub outcome_line : List Named → ℕ → Outcome → List ℕ
-outcome_line names n (Switched node seq id) =
+-- what is written of one event, whichever line it stands in
+abbrev pub switched_line : List Named → ℕ → ℕ → LedgerId → List ℕ
+switched_line names node seq id =
     codes "switched " ++ decimal node ++ space ++ decimal seq ++ space ++ id_text names id ++ newline
-outcome_line names n (Built node seq id issued) =
+
+abbrev pub built_line : List Named → ℕ → ℕ → LedgerId → Issued → List ℕ
+built_line names node seq id issued =
     codes "built " ++ decimal node ++ space ++ decimal seq ++ space ++ id_text names id ++ space ++ how_text issued
     ++ newline
+
+abbrev pub full_line : List Named → ℕ → ℕ → LedgerId → List ℕ
+full_line names node seq id =
+    codes "full " ++ decimal node ++ space ++ decimal seq ++ space ++ id_text names id ++ newline
+
+abbrev pub preferred_line : List Named → ℕ → Option Report → List ℕ
+preferred_line names node ledger = codes "preferred " ++ decimal node ++ space ++ preferred_text names ledger ++ newline
+
+abbrev pub heard_line : List Named → ℕ → ℕ → Option LedgerId → List ℕ
+heard_line names node member id =
+    codes "heard " ++ decimal node ++ space ++ decimal member ++ space ++ heard_text names id ++ newline
+
+-- what is written of the event in line n of the schedule
+abbrev pub outcome_line : List Named → ℕ → Outcome → List ℕ
+outcome_line names n (Switched node seq id) = switched_line names node seq id
+outcome_line names n (Built node seq id issued) = built_line names node seq id issued
 outcome_line names n (Refused node refusal) =
     codes "refused " ++ decimal n ++ space ++ decimal node ++ space ++ decimal (refusal_code refusal) ++ space
     ++ values_text names refusal ++ newline
-outcome_line names n (Full node seq id) =
-    codes "full " ++ decimal node ++ space ++ decimal seq ++ space ++ id_text names id ++ newline
-outcome_line names n (Preferred node ledger) =
-    codes "preferred " ++ decimal node ++ space ++ preferred_text names ledger ++ newline
-outcome_line names n (Heard node member id) =
-    codes "heard " ++ decimal node ++ space ++ decimal member ++ space ++ heard_text names id ++ newline
+outcome_line names n (Full node seq id) = full_line names node seq id
+outcome_line names n (Preferred node ledger) = preferred_line names node ledger
+outcome_line names n (Heard node member id) = heard_line names node member id
 
 abbrev pub outcome_lines : List Named → ℕ → List Outcome → List ℕ
 outcome_lines names n outcomes = flat_map (outcome_line names n) outcomes

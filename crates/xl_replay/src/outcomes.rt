@@ -1,8 +1,8 @@
 // What is written of one line of a schedule.
 ghost use Rattle.std.specs.Prelude.{◌≡◌, ◌++◌, OnOk};
 ghost use Rattle.std.specs.String.{string_bytes};
-ghost use Rattle.xl_running.specs.Texts.{bad_line};
 ghost use Rattle.xl_replay.specs.Texts.{how_text, outcome_line, outcome_lines};
+ghost use Rattle.xl_replay.specs.Texts.{switched_line, built_line, full_line, preferred_line, heard_line};
 
 use crate::words::push_values;
 use std::alloc::Global;
@@ -17,13 +17,12 @@ fn push_switched(
     alloc: Global,
     text: &mut String,
     reader: &Reader,
-    line: u64,
     node: NodeNo,
     seq: Seq,
     id: &LedgerId,
 ) -> Result<(), OutOfMemory>
     ensures { OnOk result (string_bytes text.new
-        ≡ string_bytes text.old ++ outcome_line reader.now.names line (Outcome.Switched node seq id.now)) }
+        ≡ string_bytes text.old ++ switched_line reader.now.names node seq id.now) }
 {
     let number = node.get();
     write!(text, "switched {number} {seq} ")?;
@@ -48,14 +47,13 @@ fn push_built(
     alloc: Global,
     text: &mut String,
     reader: &Reader,
-    line: u64,
     node: NodeNo,
     seq: Seq,
     id: &LedgerId,
     issued: &Issued,
 ) -> Result<(), OutOfMemory>
     ensures { OnOk result (string_bytes text.new
-        ≡ string_bytes text.old ++ outcome_line reader.now.names line (Outcome.Built node seq id.now issued.now)) }
+        ≡ string_bytes text.old ++ built_line reader.now.names node seq id.now issued.now) }
 {
     let number = node.get();
     write!(text, "built {number} {seq} ")?;
@@ -89,13 +87,12 @@ fn push_full(
     alloc: Global,
     text: &mut String,
     reader: &Reader,
-    line: u64,
     node: NodeNo,
     seq: Seq,
     id: &LedgerId,
 ) -> Result<(), OutOfMemory>
     ensures { OnOk result (string_bytes text.new
-        ≡ string_bytes text.old ++ outcome_line reader.now.names line (Outcome.Full node seq id.now)) }
+        ≡ string_bytes text.old ++ full_line reader.now.names node seq id.now) }
 {
     let number = node.get();
     write!(text, "full {number} {seq} ")?;
@@ -109,12 +106,11 @@ fn push_preferred(
     alloc: Global,
     text: &mut String,
     reader: &Reader,
-    line: u64,
     node: NodeNo,
     ledger: &Option<Report>,
 ) -> Result<(), OutOfMemory>
     ensures { OnOk result (string_bytes text.new
-        ≡ string_bytes text.old ++ outcome_line reader.now.names line (Outcome.Preferred node ledger.now)) }
+        ≡ string_bytes text.old ++ preferred_line reader.now.names node ledger.now) }
 {
     let number = node.get();
     let Some(Report { seq, id }) = ledger else {
@@ -132,13 +128,12 @@ fn push_heard(
     alloc: Global,
     text: &mut String,
     reader: &Reader,
-    line: u64,
     node: NodeNo,
     member: NodeNo,
     id: &Option<LedgerId>,
 ) -> Result<(), OutOfMemory>
     ensures { OnOk result (string_bytes text.new
-        ≡ string_bytes text.old ++ outcome_line reader.now.names line (Outcome.Heard node member id.now)) }
+        ≡ string_bytes text.old ++ heard_line reader.now.names node member id.now) }
 {
     let (number, whose) = (node.get(), member.get());
     let Some(id) = id else {
@@ -163,21 +158,21 @@ fn push_outcome(
 {
     match outcome {
         Outcome::Switched { node, seq, id } => {
-            push_switched(alloc, text, reader, line, *node, *seq, id)
+            push_switched(alloc, text, reader, *node, *seq, id)
         }
         Outcome::Built {
             node,
             seq,
             id,
             issued,
-        } => push_built(alloc, text, reader, line, *node, *seq, id, issued),
+        } => push_built(alloc, text, reader, *node, *seq, id, issued),
         Outcome::Refused { node, refusal } => push_refused(
             alloc, text, reader, line, *node, refusal,
         ),
-        Outcome::Full { node, seq, id } => push_full(alloc, text, reader, line, *node, *seq, id),
-        Outcome::Preferred { node, at } => push_preferred(alloc, text, reader, line, *node, at),
+        Outcome::Full { node, seq, id } => push_full(alloc, text, reader, *node, *seq, id),
+        Outcome::Preferred { node, at } => push_preferred(alloc, text, reader, *node, at),
         Outcome::Heard { node, member, id } => {
-            push_heard(alloc, text, reader, line, *node, *member, id)
+            push_heard(alloc, text, reader, *node, *member, id)
         }
     }
 }
