@@ -1,6 +1,6 @@
 -- What the auditor's yes and no say.
 use Rattle.std.proofs.Common.{◌≡◌, ◌==◌, ◌&&◌, ◌+◌, ◌-◌, ℕ, Bool, true, false, List, [], ◌∷◌, length, refl, sym, ap, ◌∙◌, subst, arith, Result, Ok, Err, Option, Some, None}
-use Rattle.std.specs.Prelude.{is_some, nat_lt, codes, if◌then◌else◌}
+use Rattle.std.specs.Prelude.{◌↔◌, IfOk, IsTrue, is_some, nat_lt, codes, if◌then◌else◌}
 use Rattle.std.specs.Str.{bytes_eq}
 use Rattle.std.proofs.lemmas.Bool.{cond_both, cond-false, cond-true}
 use Rattle.std.proofs.lemmas.Slice.Eq.{bytes_eq-Decides}
@@ -72,6 +72,13 @@ is_right_of core w right =
 
 not_right : (core : Core) (w : Written) → is_right core w ≡ false → ¬ (IsRight core w)
 not_right core w e right = let yes = is_right_of core w right in cc
+
+-- what an answer says of an entry
+pub says_right : {E : Type 0} (r : Result Bool E) (core : Core) (w : Written) → IsCounted w.entry.outcome
+    → IfOk r (λ right. right ≡ is_right core w) → IfOk r (λ right. IsTrue right ↔ IsRight core w)
+says_right (Ok right) core w counted is =
+    (λ told. right_is core w counted (sym is ∙ told), λ told. is ∙ is_right_of core w told)
+says_right (Err why) core w counted is = tt
 
 -- LINE BY LINE
 

@@ -12,6 +12,8 @@ pub mod Growing
 pub mod Pieces
 pub mod Spelling
 pub mod Numerals
+pub mod Pairing
+pub mod Comparing
 pub mod Listing
 pub mod Replying
 pub mod Events

@@ -8,6 +8,7 @@ pub mod Stepping
 pub mod Laws
 pub mod Words
 pub mod Tokens
+pub mod Digits
 pub mod Reading
 pub mod Opening
 pub mod Auditing

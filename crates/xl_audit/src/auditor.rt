@@ -7,9 +7,12 @@ ghost use Rattle.xl_core.specs.Rest.{IsKeyed};
 ghost use Rattle.std.specs.String.{string_bytes};
 ghost use Rattle.xl_core.specs.Core.{core_asks};
 ghost use Rattle.xl_store.specs.Entries.{IsAllowed, IsOutcome, reply_of};
+ghost use Rattle.xl_audit.specs.Laws.{written_with};
+ghost use Rattle.xl_audit.specs.Saves.{IsCounted};
 ghost use Rattle.xl_audit.specs.Rights.{IsAsked, IsRight, is_right, reply_to as reply_to_of, tells_of};
 
 use crate::Written;
+use crate::compared::Compared;
 use crate::saving::EntryKeeper;
 use crate::stepping::{AuditedCore, ROOM, reply_to};
 use std::alloc::Global;
@@ -92,18 +95,27 @@ impl Auditor {
         ensures right { IfOk result (λ right. IsTrue right ↔ IsRight self.old written.now) }
         ensures core { IfOk result (λ right. IsTrue right → self.new ≡ (reply_of self.old written.now.entry).core) }
     {
-        let outcome = written.entry.outcome;
-        let mut keeper = EntryKeeper::of(outcome);
-        let mut text = String::new(self.alloc);
+        self.judge(&written.entry, written.reply.as_slice())
+    }
+
+    /// Whether an entry with this reply is right.
+    pub(crate) fn judge(&mut self, entry: &Entry, reply: &[u8]) -> Result<bool, OutOfMemory>
+        requires allowed { IsAllowed self.old entry.now.event }
+        requires counted { IsCounted entry.now.outcome }
+        ensures value { IfOk result (λ right. right ≡ is_right self.old (written_with entry.now reply.now)) }
+        ensures core { IfOk result (λ right. IsTrue right → self.new ≡ (reply_of self.old entry.now).core) }
+    {
+        let mut keeper = EntryKeeper::of(entry.outcome);
+        let mut text = Compared::with(self.alloc, reply);
         reply_to(
             self.alloc,
             &mut *self.core,
-            &written.entry.event,
+            &entry.event,
             &mut keeper,
             &mut self.piece,
             &mut text,
         )?;
-        Ok(tells_of(keeper.was_asked(), &outcome) && text.as_bytes() == written.reply.as_slice())
+        Ok(tells_of(keeper.was_asked(), &entry.outcome) && text.is(reply))
     }
 }
 

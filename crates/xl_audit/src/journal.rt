@@ -15,7 +15,8 @@ ghost use Rattle.xl_audit.specs.Journals.{entry_line, event_text, head_text, key
 
 use crate::Auditor;
 use crate::opening::numbered;
-use crate::replies::{push_bytes, push_word};
+use crate::replies::push_bytes;
+use crate::reply_text::ReplyText;
 use crate::values::push_id;
 use std::alloc::Global;
 use std::fmt::Write;
@@ -77,7 +78,7 @@ fn push_issue(
     write!(text, "issue {now} {seq} ")?;
     push_id(alloc, text, &id.0)?;
     text.push(' ')?;
-    push_word(text, kind_word(full))
+    text.word(kind_word(full))
 }
 
 fn push_relist(text: &mut String, now: Millis, list: &List) -> Result<(), OutOfMemory>
@@ -118,8 +119,8 @@ fn push_event(alloc: Global, text: &mut String, event: &CoreEvent) -> Result<(),
             write!(text, "reports {room}")?;
             Ok(())
         }
-        CoreEvent::Stop => push_word(text, "stop"),
-        CoreEvent::Stopped => push_word(text, "stopped"),
+        CoreEvent::Stop => text.word("stop"),
+        CoreEvent::Stopped => text.word("stopped"),
     }
 }
 
@@ -129,8 +130,8 @@ fn push_outcome(text: &mut String, outcome: &Option<Saved>) -> Result<(), OutOfM
     ensures stored { OnOk result (IsStoredOutcome outcome.now) }
 {
     match outcome {
-        None => push_word(text, "-"),
-        Some(Saved::Ok) => push_word(text, "ok"),
+        None => text.word("-"),
+        Some(Saved::Ok) => text.word("ok"),
         Some(Saved::Failed(count)) => {
             let count = *count;
             write!(text, "failed {count}")?;
@@ -195,11 +196,11 @@ fn push_settings(
     ensures me { OnOk result (IsMember settings.now.me) }
     ensures list { OnOk result (IsValid settings.now.list) }
 {
-    push_word(text, "settings ")?;
+    text.word("settings ")?;
     push_list(text, settings)?;
     let limit = settings.limit;
     write!(text, " {limit} ")?;
-    push_word(text, validating_word(settings.validating))?;
+    text.word(validating_word(settings.validating))?;
     text.push(' ')?;
     push_opening(text, settings.speak, now, kept)?;
     text.push('\n')?;
@@ -254,7 +255,7 @@ pub fn push_head(
 {
     // A ring has a place for each member, and no key for its own.
     let _me = settings.keys.me();
-    push_word(text, "xl-journal 1\n")?;
+    text.word("xl-journal 1\n")?;
     push_settings(text, settings, now, kept)?;
     push_keys(alloc, text, &settings.keys)?;
     Ok(())

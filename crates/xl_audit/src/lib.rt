@@ -10,6 +10,8 @@
 
 mod auditor;
 mod command;
+mod compared;
+mod digits;
 mod entries;
 mod journal;
 mod judge;
@@ -19,6 +21,7 @@ mod laws;
 mod limits;
 mod opening;
 mod replies;
+mod reply_text;
 mod saving;
 mod stepping;
 mod tokens;

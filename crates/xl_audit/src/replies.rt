@@ -1,69 +1,63 @@
 // The reply of a core's call, added to a text.
 ghost use Rattle.std.specs.Prelude.{◌≡◌, ◌++◌, OnOk};
-ghost use Rattle.std.specs.String.{string_bytes};
 ghost use Rattle.xl_core.specs.Answers.{Beats, Handed, Told};
 ghost use Rattle.hex.specs.Hex.{IsBytes, encode_lower};
 ghost use Rattle.xl_core.specs.declared.timer_answer.TimerAnswer.TheVariants.{Built, Switched};
 ghost use Rattle.xl_core.specs.Replies.{taken_answer, done_answer};
 ghost use Rattle.xl_audit.specs.Replies.{beat_text, bytes_text, issued_text, moved_text, refusal_text, reply_text, report_text, taken_text, told_text};
 
-use crate::values::{push_digits, push_id, push_values};
+use crate::reply_text::ReplyText;
+use crate::values::{push_id, push_values};
 use std::alloc::Global;
-use std::fmt::Write;
 use xl_base::{LedgerId, OutOfMemory, Seq};
 use xl_core::{Issued, Refusal, Report, Taken, TimerAnswer};
 
-fn push_refusal(alloc: Global, text: &mut String, why: &Refusal) -> Result<(), OutOfMemory>
-    ensures { OnOk result (string_bytes text.new ≡ string_bytes text.old ++ refusal_text why.now) }
+fn push_refusal<T: ReplyText>(alloc: Global, text: &mut T, why: &Refusal) -> Result<(), OutOfMemory>
+    ensures { OnOk result (T.told text.new ≡ T.told text.old ++ refusal_text why.now) }
 {
     let code = why.code();
-    write!(text, "refused {code} ")?;
+    text.word("refused ")?;
+    text.number(u64::from(code))?;
+    text.word(" ")?;
     push_values(alloc, text, why)
 }
 
-pub fn push_word(text: &mut String, word: &str) -> Result<(), OutOfMemory>
-    ensures { OnOk result (string_bytes text.new ≡ string_bytes text.old ++ word.now) }
-{
-    text.push_str(word)?;
-    Ok(())
-}
-
 /// A word, and an id.
-fn push_of_id(
+fn push_of_id<T: ReplyText>(
     alloc: Global,
-    text: &mut String,
+    text: &mut T,
     word: &str,
     id: &[u8; 32],
 ) -> Result<(), OutOfMemory>
-    ensures { OnOk result (string_bytes text.new ≡ string_bytes text.old ++ word.now ++ encode_lower id.now) }
+    ensures { OnOk result (T.told text.new ≡ T.told text.old ++ (word.now ++ encode_lower id.now)) }
 {
-    text.push_str(word)?;
+    text.word(word)?;
     push_id(alloc, text, id)
 }
 
 /// What was taken of a frame.
-fn push_taken(alloc: Global, text: &mut String, taken: &Taken) -> Result<(), OutOfMemory>
-    ensures { OnOk result (string_bytes text.new ≡ string_bytes text.old ++ taken_text taken.now) }
+fn push_taken<T: ReplyText>(alloc: Global, text: &mut T, taken: &Taken) -> Result<(), OutOfMemory>
+    ensures { OnOk result (T.told text.new ≡ T.told text.old ++ taken_text taken.now) }
 {
     match taken {
-        Taken::Validation => push_word(text, "vote"),
+        Taken::Validation => text.word("vote"),
         Taken::Header(id) => push_of_id(alloc, text, "header ", &id.0),
-        Taken::Position => push_word(text, "position"),
-        Taken::Later => push_word(text, "later"),
-        Taken::Gone => push_word(text, "gone"),
+        Taken::Position => text.word("position"),
+        Taken::Later => text.word("later"),
+        Taken::Gone => text.word("gone"),
         Taken::Set(id) => push_of_id(alloc, text, "set ", &id.0),
-        Taken::Pending => push_word(text, "pending"),
+        Taken::Pending => text.word("pending"),
     }
 }
 
 /// The reply to a frame.
-pub fn push_heard(
+pub fn push_heard<T: ReplyText>(
     alloc: Global,
-    text: &mut String,
+    text: &mut T,
     answer: &Result<Taken, Refusal>,
 ) -> Result<(), OutOfMemory>
     ensures { OnOk result
-        (string_bytes text.new ≡ string_bytes text.old ++ reply_text (taken_answer answer.now)) }
+        (T.told text.new ≡ T.told text.old ++ reply_text (taken_answer answer.now)) }
 {
     match answer {
         Ok(taken) => push_taken(alloc, text, taken),
@@ -72,31 +66,34 @@ pub fn push_heard(
 }
 
 /// The reply to what has nothing to say but why it is refused.
-pub fn push_done(
+pub fn push_done<T: ReplyText>(
     alloc: Global,
-    text: &mut String,
+    text: &mut T,
     answer: &Result<(), Refusal>,
 ) -> Result<(), OutOfMemory>
     ensures { OnOk result
-        (string_bytes text.new ≡ string_bytes text.old ++ reply_text (done_answer answer.now)) }
+        (T.told text.new ≡ T.told text.old ++ reply_text (done_answer answer.now)) }
 {
     match answer {
-        Ok(()) => push_word(text, "ok"),
+        Ok(()) => text.word("ok"),
         Err(why) => push_refusal(alloc, text, why),
     }
 }
 
 /// How a built ledger was validated.
-fn push_issued(alloc: Global, text: &mut String, issued: &Issued) -> Result<(), OutOfMemory>
-    ensures { OnOk result (string_bytes text.new ≡ string_bytes text.old ++ issued_text issued.now) }
+fn push_issued<T: ReplyText>(
+    alloc: Global,
+    text: &mut T,
+    issued: &Issued,
+) -> Result<(), OutOfMemory>
+    ensures { OnOk result (T.told text.new ≡ T.told text.old ++ issued_text issued.now) }
 {
     match issued {
-        Issued::Full => text.push_str("full")?,
-        Issued::Partial => text.push_str("partial")?,
-        Issued::Silent => text.push_str("silent")?,
-        Issued::Refused(why) => push_refusal(alloc, text, why)?,
+        Issued::Full => text.word("full"),
+        Issued::Partial => text.word("partial"),
+        Issued::Silent => text.word("silent"),
+        Issued::Refused(why) => push_refusal(alloc, text, why),
     }
-    Ok(())
 }
 
 #[tactic(auto, unfolding(crate::specs::Replies::moved_text))]
@@ -107,49 +104,57 @@ fn moved_word(moved_on: bool) -> &'static str
 }
 
 /// A ledger that was built.
-fn push_built(
+fn push_built<T: ReplyText>(
     alloc: Global,
-    text: &mut String,
+    text: &mut T,
     seq: Seq,
     id: &LedgerId,
     moved_on: bool,
     issued: &Issued,
 ) -> Result<(), OutOfMemory>
     ensures { OnOk result
-        (string_bytes text.new ≡ string_bytes text.old ++ beat_text (Built seq id.now moved_on issued.now)) }
+        (T.told text.new ≡ T.told text.old ++ beat_text (Built seq id.now moved_on issued.now)) }
 {
-    write!(text, "built {seq} ")?;
+    text.word("built ")?;
+    text.number(u64::from(seq))?;
+    text.word(" ")?;
     push_id(alloc, text, &id.0)?;
-    text.push_str(moved_word(moved_on))?;
+    text.word(moved_word(moved_on))?;
     push_issued(alloc, text, issued)
 }
 
 /// The ledger on which the node starts a round.
-fn push_switched(
+fn push_switched<T: ReplyText>(
     alloc: Global,
-    text: &mut String,
+    text: &mut T,
     seq: Seq,
     id: &LedgerId,
 ) -> Result<(), OutOfMemory>
     ensures { OnOk result
-        (string_bytes text.new ≡ string_bytes text.old ++ beat_text (Switched seq id.now)) }
+        (T.told text.new ≡ T.told text.old ++ beat_text (Switched seq id.now)) }
 {
-    write!(text, "switched {seq} ")?;
+    text.word("switched ")?;
+    text.number(u64::from(seq))?;
+    text.word(" ")?;
     push_id(alloc, text, &id.0)
 }
 
 /// The reply to a timer.
-pub fn push_beat(alloc: Global, text: &mut String, beat: &TimerAnswer) -> Result<(), OutOfMemory>
-    ensures { OnOk result (string_bytes text.new ≡ string_bytes text.old ++ reply_text (Beats beat.now)) }
+pub fn push_beat<T: ReplyText>(
+    alloc: Global,
+    text: &mut T,
+    beat: &TimerAnswer,
+) -> Result<(), OutOfMemory>
+    ensures { OnOk result (T.told text.new ≡ T.told text.old ++ reply_text (Beats beat.now)) }
 {
     match beat {
-        TimerAnswer::Nothing => push_word(text, "nothing"),
-        TimerAnswer::Closed => push_word(text, "closed"),
-        TimerAnswer::Updated => push_word(text, "updated"),
+        TimerAnswer::Nothing => text.word("nothing"),
+        TimerAnswer::Closed => text.word("closed"),
+        TimerAnswer::Updated => text.word("updated"),
         TimerAnswer::Switched(seq, id) => push_switched(alloc, text, *seq, id),
         TimerAnswer::NoRoom(limit) => {
-            write!(text, "noroom {limit}")?;
-            Ok(())
+            text.word("noroom ")?;
+            text.number(u64::from(*limit))
         }
         TimerAnswer::Built {
             seq,
@@ -161,31 +166,42 @@ pub fn push_beat(alloc: Global, text: &mut String, beat: &TimerAnswer) -> Result
 }
 
 /// Bytes as digits, or `-` for none.
-pub fn push_bytes(alloc: Global, text: &mut String, bytes: &[u8]) -> Result<(), OutOfMemory>
-    ensures text { OnOk result (string_bytes text.new ≡ string_bytes text.old ++ bytes_text bytes.now) }
+pub fn push_bytes<T: ReplyText>(
+    alloc: Global,
+    text: &mut T,
+    bytes: &[u8],
+) -> Result<(), OutOfMemory>
+    ensures text { OnOk result (T.told text.new ≡ T.told text.old ++ bytes_text bytes.now) }
     ensures bytes { IsBytes bytes.now }
 {
     if bytes.is_empty() {
-        text.push('-')?;
-        return Ok(());
+        return text.word("-");
     }
-    push_digits(alloc, text, bytes)
+    text.digits(alloc, bytes)
 }
 
-fn push_report(alloc: Global, text: &mut String, report: &Report) -> Result<(), OutOfMemory>
-    ensures { OnOk result (string_bytes text.new ≡ string_bytes text.old ++ report_text report.now) }
+fn push_report<T: ReplyText>(
+    alloc: Global,
+    text: &mut T,
+    report: &Report,
+) -> Result<(), OutOfMemory>
+    ensures { OnOk result (T.told text.new ≡ T.told text.old ++ report_text report.now) }
 {
-    let seq = report.seq;
-    write!(text, " {seq} ")?;
+    text.word(" ")?;
+    text.number(u64::from(report.seq))?;
+    text.word(" ")?;
     push_id(alloc, text, &report.id.0)
 }
 
 /// The reply that hands out reports: how many they are, and then each.
-pub fn push_reports(alloc: Global, text: &mut String, reports: &[Report]) -> Result<(), OutOfMemory>
-    ensures { OnOk result (string_bytes text.new ≡ string_bytes text.old ++ reply_text (Handed reports.now)) }
+pub fn push_reports<T: ReplyText>(
+    alloc: Global,
+    text: &mut T,
+    reports: &[Report],
+) -> Result<(), OutOfMemory>
+    ensures { OnOk result (T.told text.new ≡ T.told text.old ++ reply_text (Handed reports.now)) }
 {
-    let count = reports.len();
-    write!(text, "{count}")?;
+    text.number(reports.len() as u64)?;
     for report in reports {
         push_report(alloc, text, report)?;
     }
@@ -200,8 +216,8 @@ fn told_word(stopped: bool) -> &'static str
 }
 
 /// The reply to whether it was told to stop.
-pub fn push_told(text: &mut String, stopped: bool) -> Result<(), OutOfMemory>
-    ensures { OnOk result (string_bytes text.new ≡ string_bytes text.old ++ reply_text (Told stopped)) }
+pub fn push_told<T: ReplyText>(text: &mut T, stopped: bool) -> Result<(), OutOfMemory>
+    ensures { OnOk result (T.told text.new ≡ T.told text.old ++ reply_text (Told stopped)) }
 {
-    push_word(text, told_word(stopped))
+    text.word(told_word(stopped))
 }

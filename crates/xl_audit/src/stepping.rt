@@ -1,7 +1,6 @@
 // A core that is stepped by an entry, and the text of its reply.
 ghost use Rattle.std.specs.Prelude.{◌≡◌, ◌≤◌, ◌++◌, [], length, take, false, IfOk, IsSome, OnOk};
 ghost use Rattle.std.specs.declared.option.Option.{Option};
-ghost use Rattle.std.specs.String.{string_bytes};
 ghost use Rattle.xl_base.specs.Moments.{greatest_millis};
 ghost use Rattle.xl_tags.specs.Rings.{key_of};
 ghost use Rattle.xl_wire.specs.Lengths.{longest_frame};
@@ -16,9 +15,8 @@ ghost use Rattle.xl_audit.specs.Pieces.{bytes_given, handed_out};
 ghost use Rattle.xl_audit.specs.Saves.{IsFresh};
 ghost use Rattle.xl_audit.specs.Stepping.{Retells, RetellsAs, Replies};
 
-use crate::replies::{
-    push_beat, push_bytes, push_done, push_heard, push_reports, push_told, push_word,
-};
+use crate::replies::{push_beat, push_bytes, push_done, push_heard, push_reports, push_told};
+use crate::reply_text::ReplyText;
 use crate::saving::EntryKeeper;
 use std::alloc::Global;
 use xl_base::{LedgerId, Millis, NodeNo, OutOfMemory, Seq, TxId};
@@ -42,20 +40,27 @@ const BLANK: Report = Report {
     id: LedgerId([0; 32]),
 };
 
+/// The validation that it is asked to issue.
+#[derive(Clone, Copy, Debug)]
+struct Asked {
+    seq: Seq,
+    id: LedgerId,
+    full: bool,
+}
+
 /// It is asked to issue a validation.
 fn issue(
     core: &mut AuditedCore,
     now: Millis,
-    seq: Seq,
-    id: LedgerId,
-    full: bool,
+    asked: &Asked,
     keeper: &mut EntryKeeper,
 ) -> Result<(), Refusal>
     requires moment { now ≤ greatest_millis }
     requires fresh { IsFresh keeper.old }
-    ensures { Retells core.old (Issue now seq id full) keeper.old.answer core.new (done_answer result) keeper.new.asked }
+    ensures { Retells core.old (Issue now asked.now.seq asked.now.id asked.now.full) keeper.old.answer
+        core.new (done_answer result) keeper.new.asked }
 {
-    core.issue(now, seq, id, full, keeper)
+    core.issue(now, asked.seq, asked.id, asked.full, keeper)
 }
 
 /// It has its timer.
@@ -67,99 +72,97 @@ fn timer(core: &mut AuditedCore, now: Millis, keeper: &mut EntryKeeper) -> Timer
     core.timer(now, keeper)
 }
 
-fn reply_to_issue(
+fn reply_to_issue<T: ReplyText>(
     alloc: Global,
     core: &mut AuditedCore,
     now: Millis,
-    seq: Seq,
-    id: LedgerId,
-    full: bool,
+    asked: &Asked,
     keeper: &mut EntryKeeper,
-    text: &mut String,
+    text: &mut T,
 ) -> Result<(), OutOfMemory>
     requires moment { now ≤ greatest_millis }
     requires fresh { IsFresh keeper.old }
-    requires text { string_bytes text.old ≡ [] }
-    ensures { OnOk result (RetellsAs core.old (Issue now seq id full) keeper.old.answer
-        core.new (string_bytes text.new) keeper.new.asked) }
+    requires text { T.told text.old ≡ [] }
+    ensures { OnOk result (RetellsAs core.old (Issue now asked.now.seq asked.now.id asked.now.full) keeper.old.answer
+        core.new (T.told text.new) keeper.new.asked) }
 {
-    let answer = issue(core, now, seq, id, full, keeper);
+    let answer = issue(core, now, asked, keeper);
     push_done(alloc, text, &answer)
 }
 
-fn reply_to_timer(
+fn reply_to_timer<T: ReplyText>(
     alloc: Global,
     core: &mut AuditedCore,
     now: Millis,
     keeper: &mut EntryKeeper,
-    text: &mut String,
+    text: &mut T,
 ) -> Result<(), OutOfMemory>
     requires moment { now ≤ greatest_millis }
     requires fresh { IsFresh keeper.old }
-    requires text { string_bytes text.old ≡ [] }
+    requires text { T.told text.old ≡ [] }
     ensures { OnOk result (RetellsAs core.old (Timer now) keeper.old.answer
-        core.new (string_bytes text.new) keeper.new.asked) }
+        core.new (T.told text.new) keeper.new.asked) }
 {
     let beat = timer(core, now, keeper);
     push_beat(alloc, text, &beat)
 }
 
-fn reply_to_frame(
+fn reply_to_frame<T: ReplyText>(
     alloc: Global,
     core: &mut AuditedCore,
     now: Millis,
     bytes: &[u8],
-    text: &mut String,
+    text: &mut T,
 ) -> Result<(), OutOfMemory>
     requires moment { now ≤ greatest_millis }
-    requires text { string_bytes text.old ≡ [] }
-    ensures { OnOk result (Replies core.old (Frame now bytes.now) core.new (string_bytes text.new)) }
+    requires text { T.told text.old ≡ [] }
+    ensures { OnOk result (Replies core.old (Frame now bytes.now) core.new (T.told text.new)) }
 {
     let answer = core.frame(now, bytes);
     push_heard(alloc, text, &answer)
 }
 
-fn reply_to_submit(
+fn reply_to_submit<T: ReplyText>(
     alloc: Global,
     core: &mut AuditedCore,
     now: Millis,
     tx: TxId,
-    text: &mut String,
+    text: &mut T,
 ) -> Result<(), OutOfMemory>
     requires moment { now ≤ greatest_millis }
-    requires text { string_bytes text.old ≡ [] }
-    ensures { OnOk result (Replies core.old (Submit now tx) core.new (string_bytes text.new)) }
+    requires text { T.told text.old ≡ [] }
+    ensures { OnOk result (Replies core.old (Submit now tx) core.new (T.told text.new)) }
 {
     let answer = core.submit(now, tx);
     push_done(alloc, text, &answer)
 }
 
-fn reply_to_relist(
+fn reply_to_relist<T: ReplyText>(
     alloc: Global,
     core: &mut AuditedCore,
     now: Millis,
     list: &List,
-    text: &mut String,
+    text: &mut T,
 ) -> Result<(), OutOfMemory>
     requires moment { now ≤ greatest_millis }
-    requires text { string_bytes text.old ≡ [] }
-    ensures { OnOk result (Replies core.old (Relist now list.now) core.new (string_bytes text.new)) }
+    requires text { T.told text.old ≡ [] }
+    ensures { OnOk result (Replies core.old (Relist now list.now) core.new (T.told text.new)) }
 {
     let answer = core.relist(now, list.copy());
     push_done(alloc, text, &answer)
 }
 
-fn reply_to_greet(
+fn reply_to_greet<T: ReplyText>(
     core: &mut AuditedCore,
     member: NodeNo,
-    text: &mut String,
+    text: &mut T,
 ) -> Result<(), OutOfMemory>
     requires peer { IsSome (key_of core.old.node.keys member) }
-    requires text { string_bytes text.old ≡ [] }
-    ensures { OnOk result (Replies core.old (Greet member) core.new (string_bytes text.new)) }
+    requires text { T.told text.old ≡ [] }
+    ensures { OnOk result (Replies core.old (Greet member) core.new (T.told text.new)) }
 {
     core.greet(member);
-    push_word(text, "ok")
+    text.word("ok")
 }
 
 /// The first so many bytes.
@@ -220,18 +223,18 @@ fn drain_all(
 }
 
 /// What waits for a peer is drained, and told as digits.
-fn reply_to_drain(
+fn reply_to_drain<T: ReplyText>(
     alloc: Global,
     core: &mut AuditedCore,
     member: NodeNo,
     room: usize,
     piece: &mut [u8; ROOM],
-    text: &mut String,
+    text: &mut T,
 ) -> Result<(), OutOfMemory>
     requires peer { IsSome (key_of core.old.node.keys member) }
     requires room { longest_frame ≤ room }
-    requires text { string_bytes text.old ≡ [] }
-    ensures { OnOk result (Replies core.old (Drain member room) core.new (string_bytes text.new)) }
+    requires text { T.told text.old ≡ [] }
+    ensures { OnOk result (Replies core.old (Drain member room) core.new (T.told text.new)) }
 {
     let given = drain_all(alloc, core, member, room, piece)?;
     push_bytes(alloc, text, given.as_slice())
@@ -288,54 +291,59 @@ fn hand_out_all(
 }
 
 /// Reports are handed out, and told.
-fn reply_to_reports(
+fn reply_to_reports<T: ReplyText>(
     alloc: Global,
     core: &mut AuditedCore,
     room: usize,
-    text: &mut String,
+    text: &mut T,
 ) -> Result<(), OutOfMemory>
-    requires text { string_bytes text.old ≡ [] }
-    ensures { OnOk result (Replies core.old (Reports room) core.new (string_bytes text.new)) }
+    requires text { T.told text.old ≡ [] }
+    ensures { OnOk result (Replies core.old (Reports room) core.new (T.told text.new)) }
 {
     let given = hand_out_all(alloc, core, room)?;
     push_reports(alloc, text, given.as_slice())
 }
 
-fn reply_to_stop(core: &mut AuditedCore, text: &mut String) -> Result<(), OutOfMemory>
-    requires text { string_bytes text.old ≡ [] }
-    ensures { OnOk result (Replies core.old Stop core.new (string_bytes text.new)) }
+fn reply_to_stop<T: ReplyText>(core: &mut AuditedCore, text: &mut T) -> Result<(), OutOfMemory>
+    requires text { T.told text.old ≡ [] }
+    ensures { OnOk result (Replies core.old Stop core.new (T.told text.new)) }
 {
     core.stop();
-    push_word(text, "ok")
+    text.word("ok")
 }
 
-fn reply_to_stopped(core: &AuditedCore, text: &mut String) -> Result<(), OutOfMemory>
-    requires text { string_bytes text.old ≡ [] }
-    ensures { OnOk result (Replies core.now Stopped core.now (string_bytes text.new)) }
+fn reply_to_stopped<T: ReplyText>(core: &AuditedCore, text: &mut T) -> Result<(), OutOfMemory>
+    requires text { T.told text.old ≡ [] }
+    ensures { OnOk result (Replies core.now Stopped core.now (T.told text.new)) }
 {
     push_told(text, core.stopped())
 }
 
 /// Something happens at the core, under a keeper that answers a save as an entry tells. The text of the reply is put
 /// into `text`, and what waits is drained by way of `piece`.
-pub fn reply_to(
+pub fn reply_to<T: ReplyText>(
     alloc: Global,
     core: &mut AuditedCore,
     event: &CoreEvent,
     keeper: &mut EntryKeeper,
     piece: &mut [u8; ROOM],
-    text: &mut String,
+    text: &mut T,
 ) -> Result<(), OutOfMemory>
     requires allowed { IsAllowed core.old event.now }
     requires fresh { IsFresh keeper.old }
-    requires text { string_bytes text.old ≡ [] }
+    requires text { T.told text.old ≡ [] }
     ensures { OnOk result (RetellsAs core.old event.now keeper.old.answer
-        core.new (string_bytes text.new) keeper.new.asked) }
+        core.new (T.told text.new) keeper.new.asked) }
 {
     match event {
-        CoreEvent::Issue { now, seq, id, full } => reply_to_issue(
-            alloc, core, *now, *seq, *id, *full, keeper, text,
-        ),
+        CoreEvent::Issue { now, seq, id, full } => {
+            let asked = Asked {
+                seq: *seq,
+                id: *id,
+                full: *full,
+            };
+            reply_to_issue(alloc, core, *now, &asked, keeper, text)
+        }
         CoreEvent::Timer { now } => reply_to_timer(alloc, core, *now, keeper, text),
         CoreEvent::Frame { now, bytes } => {
             reply_to_frame(alloc, core, *now, bytes.as_slice(), text)

@@ -1,12 +1,11 @@
 // Tokens of a line: numbers, digits and words.
 ghost use Rattle.std.specs.Prelude.{◌≡◌, ◌<◌, ◌≤◌, IfOk};
-ghost use Rattle.std.specs.List.{list_all};
 ghost use Rattle.xl_base.specs.Moments.{greatest_millis};
 ghost use Rattle.xl_sched.specs.Refusals.{GivenMemory};
 ghost use Rattle.xl_audit.specs.Saves.{IsCounted};
-ghost use Rattle.xl_audit.specs.Tokens.{bytes_of, id_of, is_lower_digit, moment_of, number_from as number_of_64, outcome_of, peer_of, yes_of};
+ghost use Rattle.xl_audit.specs.Tokens.{bytes_of, id_of, moment_of, number_from as number_of_64, outcome_of, peer_of, yes_of};
 
-use hex::FromHexError;
+use crate::digits::decode;
 use std::alloc::Global;
 use xl_base::{Bytes, GREATEST_MILLIS, Millis, NodeNo};
 use xl_sched::{Cause, LineFault, member, number_within};
@@ -34,7 +33,7 @@ pub fn id<'a>(token: &'a [u8]) -> Result<[u8; 32], LineFault<'a>>
     ensures { result ≡ id_of token.now }
 {
     let mut id = [0; 32];
-    if are_lower_digits(token) && hex::decode_to_slice(token, &mut id).is_ok() {
+    if token.len() == 64 && decode(token, &mut id) {
         Ok(id)
     } else {
         Err(LineFault::with_text(Cause::Id, token))
@@ -48,13 +47,14 @@ pub fn bytes<'a>(alloc: Global, token: &'a [u8]) -> Result<Bytes, LineFault<'a>>
     if token == b"-".as_slice() {
         return Ok(Bytes::from_vec(Vec::new(alloc)));
     }
-    if token.is_empty() || !are_lower_digits(token) {
+    if token.is_empty() || token.len() % 2 != 0 {
         return Err(LineFault::with_text(Cause::Id, token));
     }
-    match hex::decode(alloc, token) {
-        Ok(bytes) => Ok(Bytes::from_vec(bytes)),
-        Err(FromHexError::OutOfMemory) => Err(LineFault::out_of_memory()),
-        Err(_) => Err(LineFault::with_text(Cause::Id, token)),
+    let mut bytes = vec![in alloc; 0u8; token.len() / 2]?;
+    if decode(token, &mut bytes) {
+        Ok(Bytes::from_vec(bytes))
+    } else {
+        Err(LineFault::with_text(Cause::Id, token))
     }
 }
 
@@ -97,16 +97,4 @@ pub fn outcome<'a>(how: &'a [u8], count: &'a [u8]) -> Result<Option<Saved>, Line
     } else {
         Err(LineFault::with_text(Cause::Choice, how))
     }
-}
-
-fn are_lower_digits(token: &[u8]) -> bool
-    ensures { result ≡ list_all is_lower_digit token.now }
-{
-    token.iter().all(|b| is_lower_digit(*b))
-}
-
-fn is_lower_digit(b: u8) -> bool
-    ensures { result ≡ is_lower_digit b }
-{
-    b.is_ascii_digit() || (b'a'..=b'f').contains(&b)
 }

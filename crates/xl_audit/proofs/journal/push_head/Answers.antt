@@ -4,8 +4,8 @@ use Rattle.xl_audit.proofs.journal.push_head.Goals as goal
 
 pub returns-clause-text : goal.returns-clause-text
 returns-clause-text c =
-    three_parts (string_bytes c.args.text.now) (string_bytes c.push_word.new.text) (string_bytes c.push_settings.new.text)
-    (string_bytes c.push_keys.new.text) _ _ _ c.in_ok-push_word.ensures c.in_ok-push_settings.ensures.text
+    three_parts (string_bytes c.args.text.now) (string_bytes c.word.new.self) (string_bytes c.push_settings.new.text)
+    (string_bytes c.push_keys.new.text) _ _ _ c.in_ok-word.ensures c.in_ok-push_settings.ensures.text
     c.in_ok-push_keys.ensures.text
 
 pub returns-clause-stored : goal.returns-clause-stored

@@ -1,6 +1,5 @@
 use Rattle.std.proofs.Common.{◌≡◌, ◌++◌, ◌∙◌, refl, subst, List, ℕ}
 use Rattle.std.specs.Prelude.{OnOk}
-use Rattle.std.specs.String.{string_bytes}
 use Rattle.xl_core.specs.declared.event.CoreEvent.TheVariants.{Drain}
 use Rattle.xl_core.specs.Answers.{Gave}
 use Rattle.xl_core.specs.Core.{given_for}
@@ -11,10 +10,10 @@ use Rattle.xl_audit.proofs.Telling.{quiet_ok}
 use Rattle.xl_audit.proofs.stepping.reply_to_drain.Goals as goal
 
 pub returns : goal.returns
-returns c =
+returns g c =
     let is : c.as_slice.result.now ≡ bytes_given c.args.core.now c.args.member c.args.room = c.as_slice.ensures.value ∙ c.in_ok-given.ensures.given in
     quiet_ok c.push_bytes.result c.args.core.now c.drain_all.new.core (Drain c.args.member c.args.room)
-    (Gave c.args.member (frames_in (given_for c.args.core.now c.args.member c.args.room))) (string_bytes c.args.text.now)
-    (string_bytes c.push_bytes.new.text) refl (record { core = c.in_ok-given.ensures.core; answer = refl }) c.requires.text
+    (Gave c.args.member (frames_in (given_for c.args.core.now c.args.member c.args.room))) (g.T.ReplyText.told c.args.text.now)
+    (g.T.ReplyText.told c.push_bytes.new.text) refl (record { core = c.in_ok-given.ensures.core; answer = refl }) c.requires.text
     (subst (λ (xs : List ℕ). OnOk c.push_bytes.result
-    (string_bytes c.push_bytes.new.text ≡ string_bytes c.args.text.now ++ bytes_text xs)) is c.push_bytes.ensures.text)
+    (g.T.ReplyText.told c.push_bytes.new.text ≡ g.T.ReplyText.told c.args.text.now ++ bytes_text xs)) is c.push_bytes.ensures.text)

@@ -1,6 +1,5 @@
 use Rattle.std.proofs.Common.{◌≡◌, ◌++◌, ◌∙◌, refl, subst, take, List}
 use Rattle.std.specs.Prelude.{OnOk}
-use Rattle.std.specs.String.{string_bytes}
 use Rattle.xl_core.specs.declared.event.CoreEvent.TheVariants.{Reports}
 use Rattle.xl_core.specs.declared.report.Report.{Report}
 use Rattle.xl_core.specs.Answers.{Handed}
@@ -9,12 +8,12 @@ use Rattle.xl_audit.proofs.Telling.{quiet_ok}
 use Rattle.xl_audit.proofs.stepping.reply_to_reports.Goals as goal
 
 pub returns : goal.returns
-returns c =
+returns g c =
     let given : List Report = take c.args.room c.args.core.now.untaken.items in
     let is : c.as_slice.result.now ≡ given = c.as_slice.ensures.value ∙ c.in_ok-given.ensures.given in
     quiet_ok c.push_reports.result c.args.core.now c.hand_out_all.new.core (Reports c.args.room)
-    (Handed given) (string_bytes c.args.text.now) (string_bytes c.push_reports.new.text) refl
+    (Handed given) (g.T.ReplyText.told c.args.text.now) (g.T.ReplyText.told c.push_reports.new.text) refl
     (record { core = c.in_ok-given.ensures.core; answer = refl }) c.requires.text
     (subst (λ (xs : List Report). OnOk c.push_reports.result
-    (string_bytes c.push_reports.new.text ≡ string_bytes c.args.text.now ++ reply_text (Handed xs))) is
+    (g.T.ReplyText.told c.push_reports.new.text ≡ g.T.ReplyText.told c.args.text.now ++ reply_text (Handed xs))) is
     c.push_reports.ensures)
