@@ -2,13 +2,14 @@
 use Rattle.std.specs.Prelude.{ℕ, ◌==◌, ◌&&◌, Bool, false, nat_lt, List, [], ◌∷◌, length, decimal, codes, Option, Some, None, Result, Ok, Err, if◌then◌else◌}
 use Rattle.std.specs.Str.{bytes_eq}
 use Rattle.xl_sched.specs.Limits.{most_bytes, most_lines}
+use Rattle.xl_sched.specs.declared.event.What.{What}
 use Rattle.xl_sched.specs.declared.line.Line.{Line}
 use Rattle.xl_sched.specs.declared.refusal.SchedRefusal.{SchedRefusal}
 use Rattle.xl_sched.specs.declared.refusal.SchedRefusal.TheVariants.{Header, LongLine, Limit}
-use Rattle.xl_sched.specs.Refusals.{◌>>=◌}
+use Rattle.xl_sched.specs.Refusals.{◌>>=◌, PutsGivenMemory}
 use Rattle.xl_sched.specs.Tokens.{tokens}
 use Rattle.xl_sched.specs.Reading.{Reading, counted, after}
-use Rattle.xl_sched.specs.Words.{worded_line}
+use Rattle.xl_sched.specs.Words.{event_line, worded_line}
 
 -- `xl-schedule 1`
 abbrev pub is_header : List (List ℕ) → Bool
@@ -33,6 +34,10 @@ abbrev pub some_line : Result Line SchedRefusal → Result (Option Line) SchedRe
 some_line result = do
   line ← result
   Ok (Some line)
+
+-- what a call puts of the line of an event, of which this is what happens, unless memory ran out
+abbrev pub PutsEvent : Reading → Result (Unit {0}) SchedRefusal → Option Line → Result What SchedRefusal → Type 0
+PutsEvent reading result put exact = PutsGivenMemory result put (some_line (event_line reading exact))
 
 -- a later line; an empty one and a comment are passed over
 abbrev pub later_line : Reading → ℕ → List (List ℕ) → Result (Option Line) SchedRefusal

@@ -1,5 +1,6 @@
 // Events, except for disturbed saves and lies.
-ghost use Rattle.std.specs.Prelude.{◌≡◌, ◌≤◌, ◌<◌, ℕ, true, length, IfOk};
+ghost use Rattle.std.specs.Prelude.{◌≡◌, ◌≤◌, ◌<◌, ℕ, true, length, IfOk, IfSome, OnOk};
+ghost use Rattle.xl_sched.specs.Answers.{PutsEvent};
 ghost use Rattle.xl_sched.specs.Events.{raw_bytes_of};
 ghost use Rattle.xl_sched.specs.Refusals.{GivenMemory};
 ghost use Rattle.xl_sched.specs.Limits.{most_lists, most_raw_bytes};
@@ -8,6 +9,7 @@ use crate::choices::full;
 use crate::event::{Ask, What};
 use crate::fault::{Cause, LineFault};
 use crate::limits::{MOST_LISTS, MOST_RAW_BYTES};
+use crate::line::Line;
 use crate::members::{member, members, trusted};
 use crate::numbers::{number, place};
 use crate::reader::Reader;
@@ -17,8 +19,22 @@ use std::alloc::Global;
 use xl_base::{Bytes, NodeNo};
 
 impl Reader {
-    ghost use Rattle.xl_sched.specs.Fits.{IsFitAsk, IsFitWhat};
-    ghost use Rattle.xl_sched.specs.Events.{issue_of, asked_issue, submit_event, asked_timer, timers_event, deliver_event, all_event, drop_event, is_peer, peer_of, greet_event, restart_event, raw_event, prefer_event, list_of, set_list, list_event, heard_event};
+    ghost use Rattle.xl_sched.specs.Fits.{IsFit, IsFitAsk, IsFitWhat};
+    ghost use Rattle.xl_sched.specs.Events.{issue_of, issue_event, asked_issue, submit_event, timer_event, asked_timer, timers_event, deliver_event, all_event, drop_event, is_peer, peer_of, greet_event, restart_event, raw_event, prefer_event, list_of, set_list, list_event, heard_event};
+
+    /// `issue i seq id full`, or `partial`.
+    pub(super) fn issue<'a>(
+        &self,
+        arguments: Tokens<'a>,
+        said: &mut Option<Line>,
+    ) -> Result<(), LineFault<'a>>
+        ensures value { PutsEvent self.now result said.new (issue_event self.now arguments.entry) }
+        ensures fit { (sent : ℕ) → OnOk result (IfSome said.new (IsFit self.now sent)) }
+    {
+        let ask = self.asked_issue(arguments)?;
+        self.happen(What::Ask(ask), said);
+        Ok(())
+    }
 
     /// `i seq id full`, or `partial`.
     pub(super) fn asked_issue<'a>(&self, arguments: Tokens<'a>) -> Result<Ask, LineFault<'a>>
@@ -49,15 +65,33 @@ impl Reader {
     }
 
     /// `submit i id`.
-    pub(super) fn submit<'a>(&self, arguments: Tokens<'a>) -> Result<What, LineFault<'a>>
-        ensures value { result ≡ submit_event self.now arguments.entry }
-        ensures fit { IfOk result (λ what. (sent : ℕ) → IsFitWhat self.now sent what) }
+    pub(super) fn submit<'a>(
+        &self,
+        arguments: Tokens<'a>,
+        said: &mut Option<Line>,
+    ) -> Result<(), LineFault<'a>>
+        ensures value { PutsEvent self.now result said.new (submit_event self.now arguments.entry) }
+        ensures fit { (sent : ℕ) → OnOk result (IfSome said.new (IsFit self.now sent)) }
     {
-        let (node, id) = arguments.two()?;
-        Ok(What::Submit {
-            node: self.nodes.declared(node)?,
-            tx: self.names.tx_id(id)?,
-        })
+        let (token, id) = arguments.two()?;
+        let node = self.nodes.declared(token)?;
+        let tx = self.names.tx_id(id)?;
+        self.happen(What::Submit { node, tx }, said);
+        Ok(())
+    }
+
+    /// `timer i`.
+    pub(super) fn timer<'a>(
+        &self,
+        arguments: Tokens<'a>,
+        said: &mut Option<Line>,
+    ) -> Result<(), LineFault<'a>>
+        ensures value { PutsEvent self.now result said.new (timer_event self.now arguments.entry) }
+        ensures fit { (sent : ℕ) → OnOk result (IfSome said.new (IsFit self.now sent)) }
+    {
+        let ask = self.asked_timer(arguments)?;
+        self.happen(What::Ask(ask), said);
+        Ok(())
     }
 
     /// `i`.
@@ -72,12 +106,17 @@ impl Reader {
     }
 
     /// `timers`.
-    pub(super) fn timers<'a>(&self, arguments: Tokens<'a>) -> Result<What, LineFault<'a>>
-        ensures value { result ≡ timers_event arguments.entry }
-        ensures fit { IfOk result (λ what. (sent : ℕ) → IsFitWhat self.now sent what) }
+    pub(super) fn timers<'a>(
+        &self,
+        arguments: Tokens<'a>,
+        said: &mut Option<Line>,
+    ) -> Result<(), LineFault<'a>>
+        ensures value { PutsEvent self.now result said.new (timers_event arguments.entry) }
+        ensures fit { (sent : ℕ) → OnOk result (IfSome said.new (IsFit self.now sent)) }
     {
         arguments.none()?;
-        Ok(What::Timers)
+        self.happen(What::Timers, said);
+        Ok(())
     }
 
     /// `deliver k`.
@@ -85,43 +124,59 @@ impl Reader {
         &self,
         arguments: Tokens<'a>,
         sent: u64,
-    ) -> Result<What, LineFault<'a>>
-        ensures value { result ≡ deliver_event sent arguments.entry }
-        ensures fit { IfOk result (IsFitWhat self.now sent) }
+        said: &mut Option<Line>,
+    ) -> Result<(), LineFault<'a>>
+        ensures value { PutsEvent self.now result said.new (deliver_event sent arguments.entry) }
+        ensures fit { OnOk result (IfSome said.new (IsFit self.now sent)) }
     {
         let number = arguments.one()?;
-        Ok(What::Deliver {
-            place: place(number, sent)?,
-        })
+        let place = place(number, sent)?;
+        self.happen(What::Deliver { place }, said);
+        Ok(())
     }
 
     /// `all`.
-    pub(super) fn all<'a>(&self, arguments: Tokens<'a>) -> Result<What, LineFault<'a>>
-        ensures value { result ≡ all_event arguments.entry }
-        ensures fit { IfOk result (λ what. (sent : ℕ) → IsFitWhat self.now sent what) }
+    pub(super) fn all<'a>(
+        &self,
+        arguments: Tokens<'a>,
+        said: &mut Option<Line>,
+    ) -> Result<(), LineFault<'a>>
+        ensures value { PutsEvent self.now result said.new (all_event arguments.entry) }
+        ensures fit { (sent : ℕ) → OnOk result (IfSome said.new (IsFit self.now sent)) }
     {
         arguments.none()?;
-        Ok(What::All)
+        self.happen(What::All, said);
+        Ok(())
     }
 
     /// `drop`.
-    pub(super) fn drop<'a>(&self, arguments: Tokens<'a>) -> Result<What, LineFault<'a>>
-        ensures value { result ≡ drop_event arguments.entry }
-        ensures fit { IfOk result (λ what. (sent : ℕ) → IsFitWhat self.now sent what) }
+    pub(super) fn drop<'a>(
+        &self,
+        arguments: Tokens<'a>,
+        said: &mut Option<Line>,
+    ) -> Result<(), LineFault<'a>>
+        ensures value { PutsEvent self.now result said.new (drop_event arguments.entry) }
+        ensures fit { (sent : ℕ) → OnOk result (IfSome said.new (IsFit self.now sent)) }
     {
         arguments.none()?;
-        Ok(What::Drop)
+        self.happen(What::Drop, said);
+        Ok(())
     }
 
     /// `greet i j`.
-    pub(super) fn greet<'a>(&self, arguments: Tokens<'a>) -> Result<What, LineFault<'a>>
-        ensures value { result ≡ greet_event self.now arguments.entry }
-        ensures fit { IfOk result (λ what. (sent : ℕ) → IsFitWhat self.now sent what) }
+    pub(super) fn greet<'a>(
+        &self,
+        arguments: Tokens<'a>,
+        said: &mut Option<Line>,
+    ) -> Result<(), LineFault<'a>>
+        ensures value { PutsEvent self.now result said.new (greet_event self.now arguments.entry) }
+        ensures fit { (sent : ℕ) → OnOk result (IfSome said.new (IsFit self.now sent)) }
     {
-        let (node, peer) = arguments.two()?;
-        let node = self.nodes.declared(node)?;
-        let peer = self.peer(node, peer)?;
-        Ok(What::Greet { node, peer })
+        let (token, other) = arguments.two()?;
+        let node = self.nodes.declared(token)?;
+        let peer = self.peer(node, other)?;
+        self.happen(What::Greet { node, peer }, said);
+        Ok(())
     }
 
     /// The number of a peer.
@@ -145,37 +200,51 @@ impl Reader {
     }
 
     /// `restart i`.
-    pub(super) fn restart<'a>(&self, arguments: Tokens<'a>) -> Result<What, LineFault<'a>>
-        ensures value { result ≡ restart_event self.now arguments.entry }
-        ensures fit { IfOk result (λ what. (sent : ℕ) → IsFitWhat self.now sent what) }
+    pub(super) fn restart<'a>(
+        &self,
+        arguments: Tokens<'a>,
+        said: &mut Option<Line>,
+    ) -> Result<(), LineFault<'a>>
+        ensures value { PutsEvent self.now result said.new (restart_event self.now arguments.entry) }
+        ensures fit { (sent : ℕ) → OnOk result (IfSome said.new (IsFit self.now sent)) }
     {
-        let node = arguments.one()?;
-        Ok(What::Restart {
-            node: self.nodes.declared(node)?,
-        })
+        let token = arguments.one()?;
+        let node = self.nodes.declared(token)?;
+        self.happen(What::Restart { node }, said);
+        Ok(())
     }
 
     /// `raw t digits`.
-    pub(super) fn raw<'a>(&self, arguments: Tokens<'a>) -> Result<What, LineFault<'a>>
-        ensures value { GivenMemory result (raw_event self.now arguments.entry) }
-        ensures fit { IfOk result (λ what. (sent : ℕ) → IsFitWhat self.now sent what) }
+    pub(super) fn raw<'a>(
+        &self,
+        arguments: Tokens<'a>,
+        said: &mut Option<Line>,
+    ) -> Result<(), LineFault<'a>>
+        ensures value { PutsEvent self.now result said.new (raw_event self.now arguments.entry) }
+        ensures fit { (sent : ℕ) → OnOk result (IfSome said.new (IsFit self.now sent)) }
     {
         let (honest, digits) = arguments.two()?;
-        Ok(What::Raw {
-            to: self.nodes.declared(honest)?,
-            bytes: raw_bytes(self.alloc, digits)?,
-        })
+        let to = self.nodes.declared(honest)?;
+        let bytes = raw_bytes(self.alloc, digits)?;
+        self.happen(What::Raw { to, bytes }, said);
+        Ok(())
     }
 
     /// `list i q list`. One too many is refused, whatever it says.
-    pub(super) fn list<'a>(&self, arguments: Tokens<'a>) -> Result<What, LineFault<'a>>
-        ensures value { GivenMemory result (list_event self.now arguments.entry) }
-        ensures fit { IfOk result (λ what. (sent : ℕ) → IsFitWhat self.now sent what) }
+    pub(super) fn list<'a>(
+        &self,
+        arguments: Tokens<'a>,
+        said: &mut Option<Line>,
+    ) -> Result<(), LineFault<'a>>
+        ensures value { PutsEvent self.now result said.new (list_event self.now arguments.entry) }
+        ensures fit { (sent : ℕ) → OnOk result (IfSome said.new (IsFit self.now sent)) }
     {
         if self.lists >= MOST_LISTS {
             return Err(LineFault::with_number(Cause::Limit, u64::from(MOST_LISTS)));
         }
-        self.set_list(arguments)
+        let what = self.set_list(arguments)?;
+        self.happen(what, said);
+        Ok(())
     }
 
     fn set_list<'a>(&self, arguments: Tokens<'a>) -> Result<What, LineFault<'a>>
@@ -208,25 +277,33 @@ impl Reader {
     }
 
     /// `heard i`.
-    pub(super) fn heard<'a>(&self, arguments: Tokens<'a>) -> Result<What, LineFault<'a>>
-        ensures value { result ≡ heard_event self.now arguments.entry }
-        ensures fit { IfOk result (λ what. (sent : ℕ) → IsFitWhat self.now sent what) }
+    pub(super) fn heard<'a>(
+        &self,
+        arguments: Tokens<'a>,
+        said: &mut Option<Line>,
+    ) -> Result<(), LineFault<'a>>
+        ensures value { PutsEvent self.now result said.new (heard_event self.now arguments.entry) }
+        ensures fit { (sent : ℕ) → OnOk result (IfSome said.new (IsFit self.now sent)) }
     {
-        let node = arguments.one()?;
-        Ok(What::Heard {
-            node: self.nodes.declared(node)?,
-        })
+        let token = arguments.one()?;
+        let node = self.nodes.declared(token)?;
+        self.happen(What::Heard { node }, said);
+        Ok(())
     }
 
     /// `prefer i`.
-    pub(super) fn prefer<'a>(&self, arguments: Tokens<'a>) -> Result<What, LineFault<'a>>
-        ensures value { result ≡ prefer_event self.now arguments.entry }
-        ensures fit { IfOk result (λ what. (sent : ℕ) → IsFitWhat self.now sent what) }
+    pub(super) fn prefer<'a>(
+        &self,
+        arguments: Tokens<'a>,
+        said: &mut Option<Line>,
+    ) -> Result<(), LineFault<'a>>
+        ensures value { PutsEvent self.now result said.new (prefer_event self.now arguments.entry) }
+        ensures fit { (sent : ℕ) → OnOk result (IfSome said.new (IsFit self.now sent)) }
     {
-        let node = arguments.one()?;
-        Ok(What::Prefer {
-            node: self.nodes.declared(node)?,
-        })
+        let token = arguments.one()?;
+        let node = self.nodes.declared(token)?;
+        self.happen(What::Prefer { node }, said);
+        Ok(())
     }
 }
 

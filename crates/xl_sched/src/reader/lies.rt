@@ -1,10 +1,12 @@
 // What liars say.
-ghost use Rattle.std.specs.Prelude.{◌≡◌, ℕ, IfOk, option_copied};
+ghost use Rattle.std.specs.Prelude.{◌≡◌, ℕ, IfOk, IfSome, OnOk, option_copied};
+ghost use Rattle.xl_sched.specs.Answers.{PutsEvent};
 ghost use Rattle.xl_sched.specs.Lies.{may_say};
 
 use crate::choices::full;
 use crate::event::{Lied, What};
 use crate::fault::{Cause, LineFault};
+use crate::line::Line;
 use crate::numbers::number;
 use crate::reader::Reader;
 use crate::tokens::Tokens;
@@ -15,22 +17,27 @@ use xl_wire::{Proposal, Validation};
 
 impl Reader {
     ghost use Rattle.xl_sched.specs.Refusals.{GivenMemory};
-    ghost use Rattle.xl_sched.specs.Fits.{IsFitWhat, IsFitPair, IsFitLied};
+    ghost use Rattle.xl_sched.specs.Fits.{IsFit, IsFitPair, IsFitLied};
     ghost use Rattle.xl_sched.specs.Lies.{pair_of, lied_of, proposal_of, said_proposal, told_if, validation_of, said_validation, said_header, said_tx_set, said_tx, lie_event};
 
     /// `lie f t` and what is said.
-    pub(super) fn lie<'a>(&self, arguments: Tokens<'a>) -> Result<What, LineFault<'a>>
-        ensures value { GivenMemory result (lie_event self.now arguments.entry) }
-        ensures fit { IfOk result (λ what. (sent : ℕ) → IsFitWhat self.now sent what) }
+    pub(super) fn lie<'a>(
+        &self,
+        arguments: Tokens<'a>,
+        said: &mut Option<Line>,
+    ) -> Result<(), LineFault<'a>>
+        ensures value { PutsEvent self.now result said.new (lie_event self.now arguments.entry) }
+        ensures fit { (sent : ℕ) → OnOk result (IfSome said.new (IsFit self.now sent)) }
     {
-        let (liar, honest, token, said) = arguments.three_and_others()?;
+        let (liar, honest, token, others) = arguments.three_and_others()?;
         let word = LieWord::of(token);
-        if !may_say(word, said.count()) {
+        if !may_say(word, others.count()) {
             return Err(arguments.miscounted());
         }
         let (from, to) = self.pair(liar, honest)?;
-        let what = self.lied(word, token, said)?;
-        Ok(What::Lie { from, to, what })
+        let what = self.lied(word, token, others)?;
+        self.happen(What::Lie { from, to, what }, said);
+        Ok(())
     }
 
     /// Who lies to whom.

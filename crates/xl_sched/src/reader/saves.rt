@@ -1,33 +1,45 @@
 // Saves that are cut off, and saves that fail.
-ghost use Rattle.std.specs.Prelude.{◌≡◌, ℕ, IfOk};
+ghost use Rattle.std.specs.Prelude.{◌≡◌, ℕ, IfOk, IfSome, OnOk};
+ghost use Rattle.xl_sched.specs.Answers.{PutsEvent};
 ghost use Rattle.xl_sched.specs.Saves.{may_ask};
 
 use crate::choices::new;
 use crate::event::{Ask, What};
 use crate::fault::{Cause, LineFault};
+use crate::line::Line;
 use crate::reader::Reader;
 use crate::tokens::Tokens;
 
 impl Reader {
-    ghost use Rattle.xl_sched.specs.Fits.{IsFitAsk, IsFitWhat};
+    ghost use Rattle.xl_sched.specs.Fits.{IsFit, IsFitAsk};
     ghost use Rattle.xl_sched.specs.Saves.{ask_of, disturbed_of, cut_event, fail_event};
 
     /// `cut old E`, and `cut new E`.
-    pub(super) fn cut<'a>(&self, arguments: Tokens<'a>) -> Result<What, LineFault<'a>>
-        ensures value { result ≡ cut_event self.now arguments.entry }
-        ensures fit { IfOk result (λ what. (sent : ℕ) → IsFitWhat self.now sent what) }
+    pub(super) fn cut<'a>(
+        &self,
+        arguments: Tokens<'a>,
+        said: &mut Option<Line>,
+    ) -> Result<(), LineFault<'a>>
+        ensures value { PutsEvent self.now result said.new (cut_event self.now arguments.entry) }
+        ensures fit { (sent : ℕ) → OnOk result (IfSome said.new (IsFit self.now sent)) }
     {
         let (new, ask) = self.disturbed(arguments)?;
-        Ok(What::Cut { new, ask })
+        self.happen(What::Cut { new, ask }, said);
+        Ok(())
     }
 
     /// `fail old E`, and `fail new E`.
-    pub(super) fn fail<'a>(&self, arguments: Tokens<'a>) -> Result<What, LineFault<'a>>
-        ensures value { result ≡ fail_event self.now arguments.entry }
-        ensures fit { IfOk result (λ what. (sent : ℕ) → IsFitWhat self.now sent what) }
+    pub(super) fn fail<'a>(
+        &self,
+        arguments: Tokens<'a>,
+        said: &mut Option<Line>,
+    ) -> Result<(), LineFault<'a>>
+        ensures value { PutsEvent self.now result said.new (fail_event self.now arguments.entry) }
+        ensures fit { (sent : ℕ) → OnOk result (IfSome said.new (IsFit self.now sent)) }
     {
         let (new, ask) = self.disturbed(arguments)?;
-        Ok(What::Fail { new, ask })
+        self.happen(What::Fail { new, ask }, said);
+        Ok(())
     }
 
     /// `old E` and `new E`, E being what is asked.

@@ -1,7 +1,6 @@
 // A line by its word.
-ghost use Rattle.std.specs.Prelude.{◌≡◌, ◌≤◌, ℕ, Some, IfOk, IfSome, OnOk};
-ghost use Rattle.xl_base.specs.Moments.{greatest_millis};
-ghost use Rattle.xl_sched.specs.Answers.{some_line};
+ghost use Rattle.std.specs.Prelude.{◌≡◌, ℕ, Some, IfOk, IfSome, OnOk};
+ghost use Rattle.xl_sched.specs.Answers.{PutsEvent, some_line};
 
 use crate::event::{Event, What};
 use crate::fault::{Cause, LineFault};
@@ -12,8 +11,8 @@ use crate::word::{EventWord, SettingWord};
 
 impl Reader {
     ghost use Rattle.xl_sched.specs.Refusals.{GivenMemory, PutsGivenMemory};
-    ghost use Rattle.xl_sched.specs.Fits.{IsFit};
-    ghost use Rattle.xl_sched.specs.Words.{setting_line, what_of, event_at, event_line, worded_line};
+    ghost use Rattle.xl_sched.specs.Fits.{IsFit, IsFitWhat};
+    ghost use Rattle.xl_sched.specs.Words.{setting_line, what_of, event_at, worded_line};
 
     /// The line of a first token, and of the tokens after it.
     pub(super) fn worded_line<'a>(
@@ -69,35 +68,33 @@ impl Reader {
         sent: u64,
         said: &mut Option<Line>,
     ) -> Result<(), LineFault<'a>>
-        ensures value { PutsGivenMemory result said.new
-            (some_line (event_line self.now (what_of self.now sent word arguments.entry))) }
+        ensures value { PutsEvent self.now result said.new (what_of self.now sent word arguments.entry) }
         ensures fit { OnOk result (IfSome said.new (IsFit self.now sent)) }
     {
         match word {
-            EventWord::Issue => self.happen(What::Ask(self.asked_issue(arguments)?), said),
-            EventWord::Submit => self.happen(self.submit(arguments)?, said),
-            EventWord::Timer => self.happen(What::Ask(self.asked_timer(arguments)?), said),
-            EventWord::Timers => self.happen(self.timers(arguments)?, said),
-            EventWord::Deliver => self.happen(self.deliver(arguments, sent)?, said),
-            EventWord::All => self.happen(self.all(arguments)?, said),
-            EventWord::Drop => self.happen(self.drop(arguments)?, said),
-            EventWord::Greet => self.happen(self.greet(arguments)?, said),
-            EventWord::Restart => self.happen(self.restart(arguments)?, said),
-            EventWord::Cut => self.happen(self.cut(arguments)?, said),
-            EventWord::Fail => self.happen(self.fail(arguments)?, said),
-            EventWord::Lie => self.happen(self.lie(arguments)?, said),
-            EventWord::Raw => self.happen(self.raw(arguments)?, said),
-            EventWord::Prefer => self.happen(self.prefer(arguments)?, said),
-            EventWord::List => self.happen(self.list(arguments)?, said),
-            EventWord::Heard => self.happen(self.heard(arguments)?, said),
+            EventWord::Issue => self.issue(arguments, said),
+            EventWord::Submit => self.submit(arguments, said),
+            EventWord::Timer => self.timer(arguments, said),
+            EventWord::Timers => self.timers(arguments, said),
+            EventWord::Deliver => self.deliver(arguments, sent, said),
+            EventWord::All => self.all(arguments, said),
+            EventWord::Drop => self.drop(arguments, said),
+            EventWord::Greet => self.greet(arguments, said),
+            EventWord::Restart => self.restart(arguments, said),
+            EventWord::Cut => self.cut(arguments, said),
+            EventWord::Fail => self.fail(arguments, said),
+            EventWord::Lie => self.lie(arguments, said),
+            EventWord::Raw => self.raw(arguments, said),
+            EventWord::Prefer => self.prefer(arguments, said),
+            EventWord::List => self.list(arguments, said),
+            EventWord::Heard => self.heard(arguments, said),
         }
-        Ok(())
     }
 
     /// It happens at the moment in force.
-    fn happen(&self, what: What, said: &mut Option<Line>)
+    pub(super) fn happen(&self, what: What, said: &mut Option<Line>)
         ensures value { said.new ≡ Some (event_at self.now what) }
-        ensures timely { self.now.now ≤ greatest_millis }
+        ensures fit { (sent : ℕ) → IsFitWhat self.now sent what → IfSome said.new (IsFit self.now sent) }
     {
         *said = Some(Line::Event(Event {
             at: self.moment,
