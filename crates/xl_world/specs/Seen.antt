@@ -127,6 +127,10 @@ pub record Does (before : Core) (event : CoreEvent) (old : Fated) (after : Core)
   pub disk : new.disk ≡ after_save old.disk (core_asks before event) old.fate
   pub asked : old.asked ≡ None → new.asked ≡ core_asks before event
 
+-- what an event does to a core that asks no save by it, whatever its disk
+abbrev pub DoesUnsaved : Core → CoreEvent → Core → Reaction → Type 0
+DoesUnsaved before event after told = (disk : Fated) → Does before event disk after told disk
+
 -- the list in force at a node
 abbrev pub list_now : Node → InForce
 list_now n = record { node = n.me; list = n.list }
@@ -139,6 +143,10 @@ pub record IsAnswer (p : Place) (e : CoreEvent) (fate : Fate) (a : NodeAnswer) :
   pub report : a.report ≡ (reply_at p e fate).report
   pub set : (if a.relisted then Some (list_now (reply_at p e fate).core.node) else None)
       ≡ set_by p.core.node.me e (reply_at p e fate).answer
+
+-- what comes of nothing
+abbrev pub no_answer : NodeAnswer
+no_answer = record { reaction = reaction.Done; asked = None; said = None; report = None; relisted = false }
 
 -- a place after an event, of which the report was handed out
 abbrev pub place_after : Place → CoreEvent → Fate → Place

@@ -8,7 +8,7 @@ ghost use Rattle.xl_world.specs.Seen.{list_noted, outcomes_told, report_noted, t
 use crate::act::{NodeAnswer, Reaction, core_at};
 use crate::place::{NodeCore, Place};
 use crate::{InForce, Outcome, WorldReport};
-use xl_base::{NodeNo, OutOfMemory};
+use xl_base::{LedgerId, NodeNo, OutOfMemory, Seq};
 use xl_core::{Issued, Refusal, Report, TimerAnswer};
 use xl_ledger::AddRefusal;
 
@@ -23,51 +23,77 @@ pub fn push_some<T: Drop>(list: &mut Vec<T>, element: Option<T>) -> Result<(), O
     Ok(())
 }
 
+// Each of these is large, so that whoever only chooses among them has none of its own.
+
+/// Why a node refused what happened.
+fn tell_refused(told: &mut Vec<Outcome>, node: NodeNo, refusal: &Refusal) -> Result<(), OutOfMemory>
+    ensures { OnOk result (told.new.items ≡ told.old.items ++ Outcome.Refused node refusal.now ∷ []) }
+{
+    told.push(Outcome::Refused {
+        node,
+        refusal: *refusal,
+    })?;
+    Ok(())
+}
+
+/// The ledger to which a node switched.
+fn tell_switched(
+    told: &mut Vec<Outcome>,
+    node: NodeNo,
+    seq: Seq,
+    id: &LedgerId,
+) -> Result<(), OutOfMemory>
+    ensures { OnOk result (told.new.items ≡ told.old.items ++ Outcome.Switched node seq id.now ∷ []) }
+{
+    told.push(Outcome::Switched { node, seq, id: *id })?;
+    Ok(())
+}
+
+/// A node knows as many ledgers as it may.
+fn tell_no_room(told: &mut Vec<Outcome>, node: NodeNo, limit: u32) -> Result<(), OutOfMemory>
+    ensures { OnOk result (told.new.items
+        ≡ told.old.items ++ Outcome.Refused node (Refusal.Header (AddRefusal.Full limit)) ∷ []) }
+{
+    tell_refused(told, node, &Refusal::Header(AddRefusal::Full(limit)))
+}
+
 /// The ledger that a node built, and that its validation of it was refused, if it was.
 fn tell_built(
     told: &mut Vec<Outcome>,
     node: NodeNo,
-    built: Outcome,
+    seq: Seq,
+    id: &LedgerId,
     issued: &Issued,
 ) -> Result<(), OutOfMemory>
-    ensures { OnOk result (told.new.items ≡ told.old.items ++ built ∷ told_of_issued node issued.now) }
+    ensures { OnOk result (told.new.items
+        ≡ told.old.items ++ Outcome.Built node seq id.now issued.now ∷ told_of_issued node issued.now) }
 {
-    told.push(built)?;
-    if let Issued::Refused(refusal) = *issued {
-        told.push(Outcome::Refused { node, refusal })?;
+    told.push(Outcome::Built {
+        node,
+        seq,
+        id: *id,
+        issued: *issued,
+    })?;
+    match issued {
+        Issued::Refused(refusal) => tell_refused(told, node, refusal),
+        _ => Ok(()),
     }
-    Ok(())
 }
 
 /// What came of a node's timer.
 fn tell_beat(told: &mut Vec<Outcome>, node: NodeNo, beat: &TimerAnswer) -> Result<(), OutOfMemory>
     ensures { OnOk result (told.new.items ≡ told.old.items ++ told_of_beat node beat.now) }
 {
-    match *beat {
+    match beat {
         TimerAnswer::Nothing | TimerAnswer::Closed | TimerAnswer::Updated => Ok(()),
-        TimerAnswer::Switched(seq, id) => {
-            told.push(Outcome::Switched { node, seq, id })?;
-            Ok(())
-        }
-        TimerAnswer::NoRoom(limit) => {
-            let refusal = Refusal::Header(AddRefusal::Full(limit));
-            told.push(Outcome::Refused { node, refusal })?;
-            Ok(())
-        }
+        TimerAnswer::Switched(seq, id) => tell_switched(told, node, *seq, id),
+        TimerAnswer::NoRoom(limit) => tell_no_room(told, node, *limit),
         TimerAnswer::Built {
             seq,
             id,
             issued,
             ..
-        } => {
-            let built = Outcome::Built {
-                node,
-                seq,
-                id,
-                issued,
-            };
-            tell_built(told, node, built, &issued)
-        }
+        } => tell_built(told, node, *seq, id, issued),
     }
 }
 
@@ -81,15 +107,22 @@ fn tell_reaction(
 {
     match reaction {
         Reaction::Done => Ok(()),
-        Reaction::Refused(refusal) => {
-            told.push(Outcome::Refused {
-                node,
-                refusal: *refusal,
-            })?;
-            Ok(())
-        }
+        Reaction::Refused(refusal) => tell_refused(told, node, refusal),
         Reaction::TimerAnswer(beat) => tell_beat(told, node, beat),
     }
+}
+
+/// The ledger that a node reports.
+fn tell_full(told: &mut Vec<Outcome>, node: NodeNo, report: &Report) -> Result<(), OutOfMemory>
+    ensures { OnOk result (told.new.items
+        ≡ told.old.items ++ Outcome.Full node report.now.seq report.now.id ∷ []) }
+{
+    told.push(Outcome::Full {
+        node,
+        seq: report.seq,
+        id: report.id,
+    })?;
+    Ok(())
 }
 
 /// The report of a node, if there is one.
@@ -101,10 +134,10 @@ fn tell_report(
     ensures { OnOk result (told.new.items
         ≡ told.old.items ++ option_to_list (option_map (λ r. Outcome.Full node r.seq r.id) report.now)) }
 {
-    if let Some(Report { seq, id }) = *report {
-        told.push(Outcome::Full { node, seq, id })?;
+    match report {
+        Some(report) => tell_full(told, node, report),
+        None => Ok(()),
     }
-    Ok(())
 }
 
 /// What is told of an answer.

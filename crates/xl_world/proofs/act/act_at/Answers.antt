@@ -17,7 +17,7 @@ returns-in-Some-clause-places c =
 
 pub returns-in-Some-clause-answer : goal.returns-in-Some-clause-answer
 returns-in-Some-clause-answer c =
-    answered_there c.args.places.now c.args.i c.in-Some.k (deed_event c.args.now c.args.deed.now) c.args.fate c.index-places-k.result c.happens.result (sym c.in-Some.ensures) c.happens.ensures.answer
+    answered_there c.args.places.now c.args.i c.in-Some.k (deed_event c.args.now c.args.deed.now) c.args.fate c.index-places-k.result c.happens.new.answer (sym c.in-Some.ensures) c.happens.ensures.answer
 
 pub returns-in-None-clause-places : goal.returns-in-None-clause-places
 returns-in-None-clause-places c = acted_nowhere c.args.places.now c.args.i (deed_event c.args.now c.args.deed.now) c.args.fate (sym c.in-None.ensures)
