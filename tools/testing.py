@@ -22,7 +22,7 @@ def load(name):
     return module
 
 
-def run(tool, *words, text='', seconds=60):
+def run(tool, *words, text='', seconds=120):
     words = [sys.executable, os.path.join(TOOLS, tool), *words]
     environment = {**os.environ, 'XL': PROGRAM}
     return subprocess.run(words, input=text, capture_output=True, text=True, timeout=seconds, env=environment)
