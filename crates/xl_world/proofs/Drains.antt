@@ -1,17 +1,18 @@
 -- How the code drains for one number: a drain at a time, until one gives nothing; and what it gives is whole frames.
-use Rattle.std.proofs.Common.{◌≡◌, ℕ, zero, suc, ◌+◌, ◌<◌, ◌≤◌, true, false, List, [], ◌∷◌, ◌++◌, length, get_or, take, drop, map, refl, arith, ap, sym, ◌∙◌, subst, Option, Some, None, append_assoc, append-nil}
-use Rattle.std.specs.Prelude.{◌==◌, All, IfSome, if◌then◌else◌, not}
+use Rattle.std.proofs.Common.{◌≡◌, ℕ, zero, suc, ◌+◌, ◌-◌, ◌*◌, ◌<◌, ◌≤◌, true, false, List, [], ◌∷◌, ◌++◌, length, get_or, take, drop, map, refl, arith, ap, sym, ◌∙◌, subst, Option, Some, None, append_assoc, append-nil}
+use Rattle.std.specs.Prelude.{◌==◌, All, IfSome, if◌then◌else◌, nat_lt, not}
 use Rattle.std.specs.Option.{option_and_then}
 use Rattle.std.proofs.lemmas.Bool.{cond_both, cond-true, cond-false, eq-eqb}
 use Rattle.std.proofs.lemmas.Bool.Decides.{nat_tests}
-use Rattle.std.proofs.lemmas.List.{drop-drop, drop_at, length-take, nil_from_length, take_at, take_more}
+use Rattle.std.proofs.lemmas.List.{drop-drop, drop_at, length-drop, length-take, nil_from_length, take_at, take_more}
 use Rattle.std.proofs.lemmas.List.Elements.{All-append, All-cons, All-head, All-nil, All-tail}
 use Rattle.xl_wire.specs.Frames.{raw_of}
-use Rattle.xl_wire.specs.Heads.{split_of}
+use Rattle.xl_wire.specs.Heads.{head_refusal, lacking, length_in, raw_in, split_of, split_unless}
 use Rattle.xl_wire.specs.Heads.Split.{Whole}
 use Rattle.xl_wire.specs.Kinds.{span}
 use Rattle.xl_wire.specs.Raws.{RawFrame, SpellsRaw}
 use Rattle.xl_wire.specs.declared.body.Body.{Body}
+use Rattle.xl_wire.specs.declared.refusal.WireRefusal.{WireRefusal}
 use Rattle.xl_wire.specs.Lengths.{longest_frame}
 use Rattle.xl_wire.proofs.RawLaws.{length-raw_bytes, split_again}
 use Rattle.xl_tags.specs.Rings.{Ring}
@@ -117,24 +118,46 @@ with_none traffic = ap (λ (fs : List Sent). let t : Traffic = record { frames =
 with_then : (traffic : Traffic) (xs ys : List Sent) → with_frames (with_frames traffic xs) ys ≡ with_frames traffic (xs ++ ys)
 with_then traffic xs ys = ap (λ (fs : List Sent). let t : Traffic = record { frames = fs; mark = traffic.mark } in t) (append_assoc traffic.frames xs ys)
 
-none_splits : (f : RawFrame) → split_of [] ≡ Whole f → ⊥
-none_splits f e = cc
+-- what is whole has at least its length
+part_whole : (o : Option WireRefusal) (lack : ℕ) (raw f : RawFrame) → split_unless o lack raw ≡ Whole f → (lack ≡ 0) × (raw ≡ f)
+part_whole (Some why) lack raw f is = absurd cc
+part_whole None (suc lack) raw f is = absurd cc
+part_whole None zero raw f is = (refl, cc)
+
+pub whole_long : (bytes : List ℕ) (f : RawFrame) → split_of bytes ≡ Whole f → (46 + length_in bytes ≤ length bytes) × (span f.body ≡ 46 + length_in bytes)
+whole_long bytes f is =
+    let both = part_whole (head_refusal bytes) (lacking bytes) (raw_in bytes) f is in
+    let fits : 46 + length_in bytes ≤ length bytes = long_enough (length bytes) (length_in bytes) both.0 in (
+      fits,
+      ap (λ (g : RawFrame). span g.body) (sym both.1) ∙ omega (arith, fits, length-take (length_in bytes) (drop 14 bytes), length-drop 14 bytes),
+    )
+  where
+    long_enough : (n k : ℕ) → (if nat_lt n 6 then 6 - n else 46 + k - n) ≡ 0 → 46 + k ≤ n
+    long_enough n k none = grind (arith, nat_tests)
+
+-- the two bytes of that length
+pub length_there : (bytes : List ℕ) → 6 ≤ length bytes → length_in bytes ≡ get_or bytes 4 0 * 256 + get_or bytes 5 0
+length_there [] long = absurd (omega (arith, long))
+length_there (a ∷ []) long = absurd (omega (arith, long))
+length_there (a ∷ b ∷ []) long = absurd (omega (arith, long))
+length_there (a ∷ b ∷ c ∷ []) long = absurd (omega (arith, long))
+length_there (a ∷ b ∷ c ∷ d ∷ []) long = absurd (omega (arith, long))
+length_there (a ∷ b ∷ c ∷ d ∷ e ∷ []) long = absurd (omega (arith, long))
+length_there (a ∷ b ∷ c ∷ d ∷ e ∷ f ∷ bytes) long = omega arith
 
 -- the next one is sent
-pub unsent_more : (from to : ℕ) (each : List (List ℕ)) (before now after : Traffic) (rest bytes : List ℕ) (raw : RawFrame) (n : ℕ) → IsUnsent from to each before rest now →
-    split_of rest ≡ Whole raw → n ≡ span raw.body → bytes ≡ take n rest → after ≡ with_frame now (sent_as from to bytes) → IsUnsent from to each before (drop n rest) after
-unsent_more from to each before now after rest bytes raw n so splits long is sent_now = by_left so.left so.frames so.joins so.sent
+pub unsent_more : (from to : ℕ) (each : List (List ℕ)) (before now after : Traffic) (rest bytes : List ℕ) (n : ℕ) → IsUnsent from to each before rest now →
+    IsFirstFrame n rest → bytes ≡ take n rest → after ≡ with_frame now (sent_as from to bytes) → IsUnsent from to each before (drop n rest) after
+unsent_more from to each before now after rest bytes n so first_one is sent_now = by_left so.left so.frames so.joins so.sent
   where
     by_left : (left : List (List ℕ)) → AreFrames left → rest ≡ joined left → with_frames before (map (sent_as from to) each) ≡ with_frames now (map (sent_as from to) left) → IsUnsent from to each before (drop n rest) after
-    by_left [] frames joins sent = absurd (none_splits raw (ap split_of (sym joins) ∙ splits))
+    by_left [] frames joins sent = absurd (omega (arith, first_one.within, first_one.some, ap length joins))
     by_left (f ∷ fs) frames joins sent =
         let first : IsOneFrame f = All-head IsOneFrame f fs frames in
         let g : RawFrame = first.0 in
         let spelled : SpellsRaw g f = first.1 in
         let again : split_of rest ≡ Whole g = ap split_of (joins ∙ ap (λ (bs : List ℕ). bs ++ joined fs) spelled.spelling) ∙ split_again g (joined fs) spelled.frame in
-        let both : Whole g ≡ Whole raw = sym again ∙ splits in
-        let same : g ≡ raw = cc in
-        let its : length f ≡ n = ap length spelled.spelling ∙ (length-raw_bytes g spelled.frame.tag ∙ (ap (λ (r : RawFrame). span r.body) same ∙ sym long)) in
+        let its : length f ≡ n = ap length spelled.spelling ∙ (length-raw_bytes g spelled.frame.tag ∙ sym (first_one.long g again)) in
         let front : take n rest ≡ f = ap (take n) joins ∙ take_at f (joined fs) n its in
         record {
           left = fs;
@@ -150,7 +173,7 @@ pub sent_next : (from to : ℕ) (each : List (List ℕ)) (before now after : Tra
     IsFirstFrame n front → front ≡ drop at frames → bytes ≡ take n (drop at frames) → after ≡ with_frame now (sent_as from to bytes) → IsUnsent from to each before (drop (at + n) frames) after
 sent_next from to each before now after frames front bytes at n so first its is sent_now =
     subst (λ (rest : List ℕ). IsUnsent from to each before rest after) (drop-drop n at frames)
-    (unsent_more from to each before now after (drop at frames) bytes first.frame n so (ap split_of (sym its) ∙ first.splits) first.long is sent_now)
+    (unsent_more from to each before now after (drop at frames) bytes n so (subst (IsFirstFrame n) its first) is sent_now)
 
 -- none is left
 pub unsent_none : (from to : ℕ) (each : List (List ℕ)) (before now : Traffic) (rest : List ℕ) → IsUnsent from to each before rest now → ((raw : RawFrame) → split_of rest ≡ Whole raw → ⊥) →

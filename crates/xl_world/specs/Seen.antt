@@ -240,11 +240,9 @@ put_again now disk (Some p) places = put (place_again p now disk) places
 abbrev pub disk_in : ℕ → List Place → Option Disk
 disk_in i places = option_map (λ p. p.disk) (place_at i places)
 
--- bytes begin with a whole frame of this length
+-- there are so many bytes, and if they begin with a whole frame, it has this length
 pub record IsFirstFrame (n : ℕ) (bytes : List ℕ) : Type 0 where
-  pub frame : RawFrame
-  pub splits : split_of bytes ≡ Whole frame
-  pub long : n ≡ span frame.body
+  pub long : (f : RawFrame) → split_of bytes ≡ Whole f → n ≡ span f.body
   pub within : n ≤ length bytes
   pub some : 0 < n
 

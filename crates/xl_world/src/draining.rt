@@ -22,16 +22,25 @@ use crate::members::Members;
 use crate::place::{NodeCore, Place};
 use crate::traffic::Traffic;
 use xl_base::{NodeNo, OutOfMemory};
-use xl_wire::{LONGEST_FRAME, Parted, split};
+use xl_wire::LONGEST_FRAME;
 
-/// How many bytes the frame has with which these begin, or None if they begin with no whole frame.
+/// How many bytes a frame has besides its body.
+const AROUND: usize = 46;
+
+/// How many bytes the frame has with which these begin, or None if they begin with no whole frame. Its length alone is
+/// read: frames that were just written are well formed, and of other bytes the answer says nothing.
 fn first_length(bytes: &[u8]) -> Option<usize>
     ensures some { IfSome result (λ length. IsFirstFrame length bytes.now) }
     ensures none { result ≡ None → (f : RawFrame) → split_of bytes.now ≢ Whole f }
 {
-    match split(bytes) {
-        Parted::Whole(raw) => Some(raw.length),
-        _ => None,
+    if bytes.len() < AROUND {
+        return None;
+    }
+    let length = AROUND + u16::from_be_bytes([bytes[4], bytes[5]]) as usize;
+    if length <= bytes.len() {
+        Some(length)
+    } else {
+        None
     }
 }
 

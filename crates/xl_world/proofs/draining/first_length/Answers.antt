@@ -1,18 +1,19 @@
-use Rattle.std.proofs.Common.{arith, ap, length, refl, sym, take, length-take}
-use Rattle.xl_wire.specs.Kinds.{span}
-use Rattle.xl_wire.specs.Raws.{RawFrame, SpellsRaw, raw_frame}
-use Rattle.xl_wire.proofs.RawLaws.{length-raw_bytes}
+use Rattle.std.proofs.Common.{arith}
+use Rattle.xl_world.proofs.Drains.{length_there, whole_long}
 use Rattle.xl_world.proofs.draining.first_length.Goals as goal
 
-pub returns-in-Whole-clause-some : goal.returns-in-Whole-clause-some
-returns-in-Whole-clause-some c =
-    let f : RawFrame = raw_frame c.in-Whole.raw in
-    let spelled : SpellsRaw f (take (span f.body) c.args.bytes.now) = (c.in-Whole.ensures.whole f).0 refl in
-    let long = length-raw_bytes f spelled.frame.tag in
+pub returns-then-bytes-lt-AROUND-clause-none : goal.returns-then-bytes-lt-AROUND-clause-none
+returns-then-bytes-lt-AROUND-clause-none c = λ _ f is. omega (arith, (whole_long c.args.bytes.now f is).0, c.if-bytes-lt-AROUND.true)
+
+pub returns-then-length-bytes-clause-some : goal.returns-then-length-bytes-clause-some
+returns-then-length-bytes-clause-some c =
+    let there = length_there c.args.bytes.now (omega (arith, c.if-bytes-lt-AROUND.false)) in
     record {
-      frame = f;
-      splits = sym c.in-Whole.ensures.exact;
-      long = c.in-Whole.raw.whole;
-      within = omega (arith, ap length spelled.spelling, long, length-take (span f.body) c.args.bytes.now, c.in-Whole.raw.whole);
-      some = omega (arith, c.in-Whole.raw.whole);
+      long = λ f is. omega (arith, (whole_long c.args.bytes.now f is).1, there, c.from_be_bytes.ensures);
+      within = omega (arith, c.if-length-bytes.true);
+      some = omega arith;
     }
+
+pub returns-else-length-bytes-clause-none : goal.returns-else-length-bytes-clause-none
+returns-else-length-bytes-clause-none c = λ _ f is.
+    omega (arith, (whole_long c.args.bytes.now f is).0, length_there c.args.bytes.now (omega (arith, c.if-bytes-lt-AROUND.false)), c.from_be_bytes.ensures, c.if-length-bytes.false)
