@@ -137,13 +137,6 @@ pub tag_found : (to : ℕ) (kept : List ℕ) (o : Option (List ℕ)) → IsTag t
 tag_found to kept None is = tt
 tag_found to kept (Some tag) is = sym (ap tag_in is.1 ∙ tag_last (before_tag kept) tag is.0)
 
--- the tag of a sent frame of which these bytes are kept
-pub tag_of_sent : (f : Sent) (to : ℕ) (kept tag : List ℕ) → to ≡ f.to → f ≡ sent_as f.from f.to kept → IsTag to kept (Some tag) → tag ≡ tag_in f.bytes
-tag_of_sent f to kept tag is_to is read =
-    tag_found to kept (Some tag) read
-    ∙ ap (λ (m : ℕ). tag_in (bytes_as_sealed (schedule_ring m) kept)) is_to
-    ∙ ap (λ (g : Sent). tag_in g.bytes) (sym is)
-
 -- WHETHER BYTES ARE TWO PARTS
 
 never : true ≡ false → ⊥

@@ -1,6 +1,6 @@
 -- What was sent: every frame of every node, sealed under the key that the schedule gives the two.
 -- Source: this project's schedule language.
-use Rattle.std.specs.Prelude.{◌≡◌, ℕ, List, ◌++◌, length, Some, None}
+use Rattle.std.specs.Prelude.{◌≡◌, ℕ, List, ◌++◌, get_or, length, set, Some, None}
 use Rattle.std.specs.declared.option.Option.{Option}
 use Rattle.xl_core.specs.Hearing.{bytes_as_sealed}
 use Rattle.xl_tags.specs.Rings.{schedule_ring}
@@ -15,6 +15,13 @@ pub record Sent : Type 0 where
 -- the frame, of which these bytes are kept, whatever tag they have
 abbrev pub sent_as : ℕ → ℕ → List ℕ → Sent
 sent_as from to kept = record { from = from; to = to; bytes = bytes_as_sealed (schedule_ring to) kept }
+
+-- the last byte of its receiver's number in a frame, or 0 in what is too short for one
+abbrev pub address_in : List ℕ → ℕ
+address_in bytes = get_or bytes 13 0
+
+abbrev pub addressed : ℕ → List ℕ → List ℕ
+addressed address bytes = set bytes 13 address
 
 -- the tag of a frame to this receiver, of which these bytes are kept; what is no frame was sent as it is kept
 abbrev pub IsTag : ℕ → List ℕ → Option (List ℕ) → Type 0

@@ -1,11 +1,14 @@
 // Every frame that was sent, with the bytes of all of them in one vector.
-ghost use Rattle.std.specs.Prelude.{◌≡◌, ◌≤◌, ◌++◌, ◌∷◌, [], length, option_copied, slice_get, take, OnErr, OnOk};
+ghost use Rattle.std.specs.Prelude.{◌≡◌, ◌≤◌, ◌<◌, ◌++◌, ◌∷◌, [], All, IfOk, IfSome, length, option_copied, slice_get, take, OnErr, OnOk};
 ghost use Rattle.xl_wire.specs.Lengths.{longest_frame};
+ghost use Rattle.xl_world.specs.Ends.{IsLonger};
 ghost use Rattle.xl_world.specs.Forgeries.{was_sent};
 ghost use Rattle.xl_world.specs.Indexes.{is_at};
-ghost use Rattle.xl_world.specs.Sending.{sent_as};
+ghost use Rattle.xl_world.specs.Sending.{address_in, sent_as};
+ghost use Rattle.xl_world.specs.Worlds.{IsKeptAt, IsWithin};
 
 use crate::Sent;
+use crate::sent::{ADDRESS, is_same_to_others};
 use std::alloc::Global;
 use std::marker::Model;
 use xl_base::{NodeNo, OutOfMemory};
@@ -17,14 +20,40 @@ pub struct SentPlace {
     length: u32,
     from: NodeNo,
     to: NodeNo,
+    /// Its byte at `ADDRESS`. The one that is kept there may be another frame's.
+    address: u8,
 }
 
 /// The frames that were sent, in order, which contracts see as a list.
+///
+/// What a node says to several receivers is kept once. A drain goes receiver by receiver, so each frame is looked for
+/// among those to the receiver before, in their order.
 #[derive(Drop)]
 pub struct SentFrames {
     places: Vec<SentPlace>,
     /// What is kept of each, one behind the other.
     bytes: Vec<u8>,
+    cursor: Cursor,
+}
+
+/// Which frame the next one may be once more.
+#[derive(Clone, Copy, Debug)]
+struct Cursor {
+    /// From which place on all frames have the last one's sender and receiver.
+    turn: usize,
+    /// The place of that frame.
+    likely: usize,
+}
+
+impl Cursor {
+    /// The next frame goes from the one to the other. The first one to another receiver is looked for where the frames to
+    /// the last receiver begin.
+    fn turn_to(&mut self, places: &[SentPlace], from: NodeNo, to: NodeNo) {
+        if !ends_with(places, from, to) {
+            self.likely = self.turn;
+            self.turn = places.len();
+        }
+    }
 }
 
 impl Model for SentFrames {
@@ -48,6 +77,7 @@ impl SentFrames {
         SentFrames {
             places: Vec::new(alloc),
             bytes: Vec::new(alloc),
+            cursor: Cursor { turn: 0, likely: 0 },
         }
     }
 
@@ -65,7 +95,7 @@ impl SentFrames {
             Some(kept) => {
                 let ends = kept.begins + kept.length as usize;
                 let bytes = &self.bytes[kept.begins..ends];
-                Some(Sent::new(kept.from, kept.to, bytes))
+                Some(Sent::new(kept.from, kept.to, bytes, kept.address))
             }
             None => None,
         }
@@ -77,13 +107,15 @@ impl SentFrames {
         ensures sent { OnOk result (self.new ≡ self.old ++ sent_as from to kept.now ∷ []) }
         ensures err { OnErr result (self.new ≡ self.old) }
     {
+        self.cursor.turn_to(&self.places, from, to);
+        let begins = keep(&mut self.bytes, &self.places, &mut self.cursor.likely, kept)?;
         let place = SentPlace {
-            begins: self.bytes.len(),
+            begins,
             length: kept.len() as u32,
             from,
             to,
+            address: address_of(kept),
         };
-        self.bytes.extend_from_slice(kept)?;
         self.places.push(place)?;
         Ok(())
     }
@@ -100,6 +132,62 @@ fn place_at(places: &[SentPlace], place: usize) -> Option<&SentPlace>
     ensures { option_copied result ≡ slice_get places.now place }
 {
     places.get(place)
+}
+
+/// Whether the last frame has this sender and this receiver.
+fn ends_with(places: &[SentPlace], from: NodeNo, to: NodeNo) -> bool {
+    match places.last() {
+        Some(last) => last.from == from && last.to == to,
+        None => false,
+    }
+}
+
+/// The byte at the place of the address, if there are so many.
+fn address_of(kept: &[u8]) -> u8
+    ensures { result ≡ address_in kept.now }
+{
+    if ADDRESS < kept.len() {
+        kept[ADDRESS]
+    } else {
+        0
+    }
+}
+
+/// Where these bytes are kept: where the likely frame is, if it is the same but for its address, and else behind all.
+fn keep(
+    bytes: &mut Vec<u8>,
+    places: &[SentPlace],
+    likely: &mut usize,
+    kept: &[u8],
+) -> Result<usize, OutOfMemory>
+    requires within { All (IsWithin (length bytes.old.items)) places.now }
+    ensures longer { IsLonger bytes.old.items bytes.new.items }
+    ensures kept { IfOk result (λ begins. IsKeptAt bytes.new.items begins kept.now) }
+{
+    if let Some(begins) = find(bytes, places, *likely, kept) {
+        *likely += 1;
+        return Ok(begins);
+    }
+    let begins = bytes.len();
+    bytes.extend_from_slice(kept)?;
+    Ok(begins)
+}
+
+/// Where the frame of a place is kept, if it is this one but for its address.
+fn find(bytes: &[u8], places: &[SentPlace], place: usize, kept: &[u8]) -> Option<usize>
+    requires within { All (IsWithin (length bytes.now)) places.now }
+    ensures kept { IfSome result (λ begins. IsKeptAt bytes.now begins kept.now) }
+    ensures within { IfSome result (λ begins. place < length places.now) }
+{
+    let Some(found) = place_at(places, place) else {
+        return None;
+    };
+    let ends = found.begins + found.length as usize;
+    if is_same_to_others(&bytes[found.begins..ends], kept) {
+        Some(found.begins)
+    } else {
+        None
+    }
 }
 
 /// Whether the frame of a place, from 0 on, is these bytes.

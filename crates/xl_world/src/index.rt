@@ -5,7 +5,6 @@ ghost use Rattle.xl_world.specs.Forgeries.{was_sent};
 
 use crate::Sent;
 use crate::frames::{SentFrames, is_at, was_sent};
-use crate::sent::tag_for;
 use std::alloc::Global;
 use std::collections::BTreeMap;
 
@@ -100,7 +99,7 @@ impl TagIndex {
             self.given_up = true;
             return;
         };
-        let Some(tag) = tag_for(frame.to(), frame.kept()) else {
+        let Some(tag) = frame.tag() else {
             self.given_up = true;
             return;
         };
@@ -124,7 +123,7 @@ fn is_again(sent: &SentFrames, place: usize, frame: &Sent<'_>) -> bool
     ensures { result ≡ true → is_at sent.now place frame.now.bytes ≡ true }
 {
     match sent.get(place) {
-        Some(first) => first.to() == frame.to() && first.kept() == frame.kept(),
+        Some(first) => first.is_again(frame),
         None => false,
     }
 }

@@ -230,7 +230,8 @@ impl Network {
             return Ok(());
         };
         let to = frame.to();
-        let kept = frame.kept();
+        let length = frame.put(&mut self.room);
+        let kept = &self.room[..length];
         let deed = Deed::Sent { to, kept };
         match act_at(&mut self.places, to, at, &deed, Fate::Saved) {
             Some(ref answer) => self.settle(to, answer, told),

@@ -1,14 +1,22 @@
 // What was sent: every frame of every node, as its bytes.
-ghost use Rattle.std.specs.Prelude.{◌≡◌, ◌++◌, IfOk};
+ghost use Rattle.std.specs.Prelude.{◌≡◌, ◌≤◌, ◌++◌, IfOk, IfSome, IsTrue, ℕ, length, take};
 ghost use Rattle.std.specs.Str.{bytes_eq};
+ghost use Rattle.xl_core.specs.Hearing.{bytes_as_sealed};
+ghost use Rattle.xl_tags.specs.Rings.{schedule_ring};
 ghost use Rattle.xl_tags.specs.Sealing.{before_tag};
-ghost use Rattle.xl_world.specs.Sending.{IsTag, sent_as};
+ghost use Rattle.xl_wire.specs.Lengths.{longest_frame};
+ghost use Rattle.xl_world.specs.Indexes.{tag_in};
+ghost use Rattle.xl_world.specs.Sending.{IsTag, addressed, sent_as};
 
 use std::alloc::Global;
 use std::marker::Model;
-use xl_base::{Bytes, NodeNo, OutOfMemory};
+use xl_base::{Bytes, NodeNo, OutOfMemory, put};
 use xl_tags::{hmac, pair_key};
-use xl_wire::{Parted, split};
+use xl_wire::{LONGEST_FRAME, Parted, split};
+
+/// Where a frame has the last byte of its receiver's number. What is said to several differs there alone, until it is
+/// sealed.
+pub(crate) const ADDRESS: usize = 13;
 
 /// A frame that a node has sent to one receiver, sealed under the key that the schedule gives the two.
 ///
@@ -17,7 +25,10 @@ use xl_wire::{Parted, split};
 pub struct Sent<'a> {
     from: NodeNo,
     to: NodeNo,
+    /// The frame with any tag, and any byte at `ADDRESS`.
     kept: &'a [u8],
+    /// The byte there.
+    address: u8,
 }
 
 impl<'a> Model for Sent<'a> {
@@ -25,17 +36,25 @@ impl<'a> Model for Sent<'a> {
 
     ghost Value = { TheSent };
 
-    ghost use Rattle.xl_world.specs.Worlds.{sent_seen};
+    ghost use Rattle.xl_world.specs.Worlds.{IsShort, sent_seen};
 
     ghost view = { sent_seen };
+
+    ghost invariant = { λ f. IsShort f };
 }
 
 impl<'a> Sent<'a> {
-    /// A sent frame, of which these bytes are kept.
-    pub(crate) fn new(from: NodeNo, to: NodeNo, kept: &'a [u8]) -> Sent<'a>
-        ensures { result ≡ sent_as from to kept.now }
+    /// A sent frame, of which these bytes are kept but for this one.
+    pub(crate) fn new(from: NodeNo, to: NodeNo, kept: &'a [u8], address: u8) -> Sent<'a>
+        requires short { length kept.now ≤ longest_frame }
+        ensures { result ≡ sent_as from to (addressed address kept.now) }
     {
-        Sent { from, to, kept }
+        Sent {
+            from,
+            to,
+            kept,
+            address,
+        }
     }
 
     /// Who sent it.
@@ -52,31 +71,81 @@ impl<'a> Sent<'a> {
         self.to
     }
 
-    /// The frame with any tag.
-    pub(crate) fn kept(&self) -> &'a [u8]
-        ensures { self.now ≡ sent_as self.now.from self.now.to result.now }
+    /// Writes the frame with any tag to the front of a room, and answers how many bytes it has.
+    pub(crate) fn put(&self, room: &mut [u8; LONGEST_FRAME]) -> usize
+        ensures within { result ≤ longest_frame }
+        ensures kept { self.now ≡ sent_as self.now.from self.now.to (take result room.new) }
     {
-        self.kept
+        put(room, 0, self.kept);
+        room[ADDRESS] = self.address;
+        self.kept.len()
+    }
+
+    /// Its tag, if it is a frame.
+    pub(crate) fn tag(&self) -> Option<[u8; 32]>
+        ensures { IfSome result (λ tag. tag ≡ tag_in self.now.bytes) }
+    {
+        let mut room = [0; LONGEST_FRAME];
+        let length = self.put(&mut room);
+        tag_for(self.to, &room[..length])
+    }
+
+    /// Whether another one has the same bytes, by what is kept of them.
+    pub(crate) fn is_again(&self, other: &Sent<'_>) -> bool
+        ensures { IsTrue result → self.now.bytes ≡ other.now.bytes }
+    {
+        if self.to != other.to {
+            return false;
+        }
+        self.address == other.address && is_same_to_others(self.kept, other.kept)
     }
 
     /// Whether these are its bytes.
     pub fn is(&self, bytes: &[u8]) -> bool
         ensures { result ≡ bytes_eq self.now.bytes bytes.now }
     {
-        match tag_for(self.to, self.kept) {
-            Some(tag) => is_joined(before_tag(self.kept), &tag, bytes),
-            None => self.kept == bytes,
-        }
+        let mut room = [0; LONGEST_FRAME];
+        let length = self.put(&mut room);
+        is_sealed_as(self.to, &room[..length], bytes)
     }
 
     /// Its bytes, in memory of their own.
     pub fn bytes(&self, alloc: Global) -> Result<Bytes, OutOfMemory>
         ensures { IfOk result (λ bytes. bytes ≡ self.now.bytes) }
     {
-        match tag_for(self.to, self.kept) {
-            Some(tag) => joined(alloc, before_tag(self.kept), &tag),
-            None => joined(alloc, self.kept, &[]),
-        }
+        let mut room = [0; LONGEST_FRAME];
+        let length = self.put(&mut room);
+        sealed_bytes(alloc, self.to, &room[..length])
+    }
+}
+
+/// Whether two frames differ by their byte at `ADDRESS` at most. What is too short for one is no frame.
+pub(crate) fn is_same_to_others(one: &[u8], other: &[u8]) -> bool
+    ensures { IsTrue result → (address : ℕ) → addressed address one.now ≡ addressed address other.now }
+{
+    if one.len() != other.len() || one.len() <= ADDRESS {
+        return false;
+    }
+    one[..ADDRESS] == other[..ADDRESS] && one[ADDRESS + 1..] == other[ADDRESS + 1..]
+}
+
+/// Whether these are the bytes of a frame to this receiver, of which those are kept.
+fn is_sealed_as(to: NodeNo, kept: &[u8], bytes: &[u8]) -> bool
+    ensures { result ≡ bytes_eq (bytes_as_sealed (schedule_ring to) kept.now) bytes.now }
+{
+    match tag_for(to, kept) {
+        Some(tag) => is_joined(before_tag(kept), &tag, bytes),
+        None => kept == bytes,
+    }
+}
+
+/// The bytes of a frame to this receiver, of which these are kept.
+fn sealed_bytes(alloc: Global, to: NodeNo, kept: &[u8]) -> Result<Bytes, OutOfMemory>
+    ensures { IfOk result (λ bytes. bytes ≡ bytes_as_sealed (schedule_ring to) kept.now) }
+{
+    match tag_for(to, kept) {
+        Some(tag) => joined(alloc, before_tag(kept), &tag),
+        None => joined(alloc, kept, &[]),
     }
 }
 
@@ -109,7 +178,7 @@ fn is_joined(front: &[u8], last: &[u8], bytes: &[u8]) -> bool
 }
 
 /// The tag that a frame to this receiver has, of which these bytes are kept, unless they are no frame.
-pub(crate) fn tag_for(to: NodeNo, kept: &[u8]) -> Option<[u8; 32]>
+fn tag_for(to: NodeNo, kept: &[u8]) -> Option<[u8; 32]>
     ensures { IsTag to kept.now result }
 {
     let Parted::Whole(raw) = split(kept) else {

@@ -1,7 +1,7 @@
 use Rattle.std.proofs.Common.{◌≡◌, ◌+◌, ◌-◌, ◌∙◌, List, None, Some, ℕ, ap, arith, drop, sym, take}
 use Rattle.std.specs.Prelude.{slice_get}
 use Rattle.xl_world.specs.declared.frames.SentPlace.{SentPlace}
-use Rattle.xl_world.specs.Sending.{Sent, sent_as}
+use Rattle.xl_world.specs.Sending.{Sent, addressed, sent_as}
 use Rattle.xl_world.proofs.Framing.{frame_there}
 use Rattle.xl_world.proofs.frames.SentFrames.get.Goals as goal
 
@@ -13,8 +13,8 @@ returns-in-Some c =
     let long : p.begins + p.length - p.begins ≡ p.length = omega arith in
     ap (λ (f : Sent). Some f)
     (c.new.ensures
-    ∙ (ap (λ (n : ℕ). sent_as p.from p.to (take n (drop p.begins c.deref-in-Some.result.now))) long
-    ∙ ap (λ (bs : List ℕ). sent_as p.from p.to (take p.length (drop p.begins bs))) c.deref-in-Some.ensures.value))
+    ∙ (ap (λ (n : ℕ). sent_as p.from p.to (addressed p.address (take n (drop p.begins c.deref-in-Some.result.now)))) long
+    ∙ ap (λ (bs : List ℕ). sent_as p.from p.to (addressed p.address (take p.length (drop p.begins bs)))) c.deref-in-Some.ensures.value))
     ∙ (sym (frame_there bytes c.self.inside.places.items c.args.place (Some p) at) ∙ ap (λ (fs : List Sent). slice_get fs c.args.place) c.self.view_is)
 
 pub returns-in-None : goal.returns-in-None

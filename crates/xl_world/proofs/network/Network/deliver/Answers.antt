@@ -1,4 +1,4 @@
-use Rattle.std.proofs.Common.{◌≡◌, ◌++◌, ◌∙◌, ℕ, List, Option, Some, None, ap, refl, subst, sym}
+use Rattle.std.proofs.Common.{◌≡◌, ◌++◌, ◌∙◌, ℕ, List, Option, Some, None, ap, refl, subst, sym, take}
 use Rattle.std.specs.Prelude.{OnOk, slice_get}
 use Rattle.std.specs.Vec.{with_items}
 use Rattle.std.proofs.lemmas.List.{with_items_is}
@@ -23,32 +23,39 @@ use Rattle.xl_world.proofs.Growing.{grows_from, grows_placed, grows_same}
 use Rattle.xl_world.proofs.network.Network.deliver.Goals as goal
 use Rattle.xl_world.proofs.network.Network.deliver.Goals.{After-act_at, In-Some-act_at}
 
+-- what is kept of it
+abbrev kept : After-act_at → List ℕ
+kept c = take c.put-length.result c.deref.result.now
+
 abbrev event : After-act_at → CoreEvent
-event c = Frame c.args.at (bytes_as_sealed (schedule_ring c.to-to.result) c.kept-kept.result.now)
+event c = Frame c.args.at (bytes_as_sealed (schedule_ring c.to-to.result) (kept c))
 
 -- the frame is the sent one
 found : (c : After-act_at) → slice_get c.args.self.now.sent c.args.place ≡ Some c.in-Some.frame
 found c = ap (λ (w : World). slice_get w.sent c.args.place) (sym c.self.view_is) ∙ sym c.in-Some.ensures
 
 -- and these are its bytes
-bytes : (c : After-act_at) → bytes_as_sealed (schedule_ring c.to-to.result) c.kept-kept.result.now ≡ c.in-Some.frame.bytes
-bytes c = ap (λ (m : ℕ). bytes_as_sealed (schedule_ring m) c.kept-kept.result.now) c.to-to.ensures ∙ sym (ap (λ (f : Sent). f.bytes) c.kept-kept.ensures)
+bytes : (c : After-act_at) → bytes_as_sealed (schedule_ring c.to-to.result) (kept c) ≡ c.in-Some.frame.bytes
+bytes c =
+    ap (λ (m : ℕ). bytes_as_sealed (schedule_ring m) (kept c)) c.to-to.ensures
+    ∙ ap (λ (room : List ℕ). bytes_as_sealed (schedule_ring c.in-Some.frame.to) (take c.put-length.result room)) c.deref.ensures
+    ∙ sym (ap (λ (f : Sent). f.bytes) c.put-length.ensures.kept)
 
 -- the places after it
 placed : (c : After-act_at) → (with_items c.self.inside.places c.act_at.new.places).items ≡ acted_at c.to-to.result (event c) Saved c.args.self.now.places
 placed c =
-    with_items_is c.self.inside.places c.act_at.new.places (c.act_at.auto.places ∙ c.deref_mut.ensures.len)
-    ∙ (c.act_at.ensures.places ∙ ap (acted_at c.to-to.result (event c) Saved) (c.deref_mut.ensures.value ∙ ap (λ (w : World). w.places) c.self.view_is))
+    with_items_is c.self.inside.places c.act_at.new.places (c.act_at.auto.places ∙ c.deref_mut-2.ensures.len)
+    ∙ (c.act_at.ensures.places ∙ ap (acted_at c.to-to.result (event c) Saved) (c.deref_mut-2.ensures.value ∙ ap (λ (w : World). w.places) c.self.view_is))
 
 -- what the node answered
-answers : (c : In-Some-act_at) → AnswersAt c.to-to.result (Frame c.args.at (bytes_as_sealed (schedule_ring c.to-to.result) c.kept-kept.result.now)) Saved c.args.self.now.places (Some c.in-Some-act_at.answer)
+answers : (c : In-Some-act_at) → AnswersAt c.to-to.result (Frame c.args.at (bytes_as_sealed (schedule_ring c.to-to.result) (take c.put-length.result c.deref.result.now))) Saved c.args.self.now.places (Some c.in-Some-act_at.answer)
 answers c =
-    subst (λ (ps : List Place). AnswersAt c.to-to.result (Frame c.args.at (bytes_as_sealed (schedule_ring c.to-to.result) c.kept-kept.result.now)) Saved ps (Some c.in-Some-act_at.answer))
-    (c.deref_mut.ensures.value ∙ ap (λ (w : World). w.places) c.self.view_is) c.in-Some-act_at.ensures.answer
+    subst (λ (ps : List Place). AnswersAt c.to-to.result (Frame c.args.at (bytes_as_sealed (schedule_ring c.to-to.result) (take c.put-length.result c.deref.result.now))) Saved ps (Some c.in-Some-act_at.answer))
+    (c.deref_mut-2.ensures.value ∙ ap (λ (w : World). w.places) c.self.view_is) c.in-Some-act_at.ensures.answer
 
 pub act_at-requires-clause-rested : goal.act_at-requires-clause-rested
 act_at-requires-clause-rested c = λ p h.
-    c.requires.rest.cores c.to-to.result p (ap (λ (w : World). place_at c.to-to.result w.places) (sym c.self.view_is) ∙ (ap (place_at c.to-to.result) (sym c.deref_mut.ensures.value) ∙ h))
+    c.requires.rest.cores c.to-to.result p (ap (λ (w : World). place_at c.to-to.result w.places) (sym c.self.view_is) ∙ (ap (place_at c.to-to.result) (sym c.deref_mut-2.ensures.value) ∙ h))
 
 pub settle-requires : goal.settle-requires
 settle-requires c =
@@ -74,7 +81,7 @@ returns-in-Some-act_at-clause-world c =
     subst (λ (v : World). OnOk c.settle.result (c.settle.new.self ≡ v))
     (ap (λ (u : World). noted (with_places u ps) i c.in-Some-act_at.answer) c.self.view_is
     ∙ (ap (λ (xs : List Place). noted (with_places w xs) i c.in-Some-act_at.answer) (placed d)
-    ∙ (noted_ran w i (event d) Saved c.in-Some-act_at.answer (answers s) (λ p from. (frame_plain p.core.node c.args.at (bytes_as_sealed (schedule_ring i) c.kept-kept.result.now) (answer_of p.disk Saved)).sent from)
+    ∙ (noted_ran w i (event d) Saved c.in-Some-act_at.answer (answers s) (λ p from. (frame_plain p.core.node c.args.at (bytes_as_sealed (schedule_ring i) (kept d)) (answer_of p.disk Saved)).sent from)
     ∙ (ap (λ steps. with_forged w.forged (run w steps)) (delivered d ∙ ap (delivery_of w c.args.at) (found d))
     ∙ (sent_ran w c.args.at f c.args.place (found d) ∙ ap (λ (o : Option Sent). run w (delivery_of w c.args.at o)) (sym (found d)))))))
     c.settle.ensures.world
@@ -95,7 +102,7 @@ returns-in-None-clause-world c =
     let w : World = c.args.self.now in
     let i : ℕ = c.to-to.result in
     let ps : List Place = (with_items c.self.inside.places c.act_at.new.places).items in
-    let nobody = subst (λ (xs : List Place). AnswersAt i (Frame c.args.at (bytes_as_sealed (schedule_ring i) c.kept-kept.result.now)) Saved xs None) (c.deref_mut.ensures.value ∙ ap (λ (u : World). u.places) c.self.view_is) c.in-None.ensures.answer in
+    let nobody = subst (λ (xs : List Place). AnswersAt i (Frame c.args.at (bytes_as_sealed (schedule_ring i) (kept d))) Saved xs None) (c.deref_mut-2.ensures.value ∙ ap (λ (u : World). u.places) c.self.view_is) c.in-None.ensures.answer in
     ap (λ (u : World). with_places u ps) c.self.view_is
     ∙ (ap (with_places w) (placed d)
     ∙ (nothing_ran w i (event d) Saved nobody
