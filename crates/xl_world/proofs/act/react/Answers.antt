@@ -1,4 +1,4 @@
-use Rattle.std.proofs.Common.{◌≡◌, ◌∙◌, ℕ, List, ap, arith, refl, subst, sym}
+use Rattle.std.proofs.Common.{◌≡◌, ◌∙◌, ℕ, ap, arith, refl, subst, sym}
 use Rattle.std.specs.Prelude.{IsSome}
 use Rattle.xl_tags.specs.Rings.{Ring, key_of, schedule_ring}
 use Rattle.xl_core.specs.Answers.{Done as AnsweredDone}
