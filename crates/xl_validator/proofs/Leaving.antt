@@ -1,10 +1,10 @@
 -- What a run leaves.
-use Rattle.std.proofs.Common.{◌≡◌, Bool, ◌≤◌, ℕ, List, length, Option, Some, None, IfSome, ap, sym, ◌∙◌, subst}
+use Rattle.std.proofs.Common.{◌≡◌, Bool, ◌≤◌, ℕ, List, length, Option, Some, None, Result, Ok, Err, IfSome, IfOk, IfErr, OnErr, MatchResult, ap, sym, ◌∙◌, subst}
 use Rattle.xl_base.specs.declared.status.Status.{Status}
 use Rattle.xl_base.specs.declared.status.Status.TheVariants as status
 use Rattle.xl_io.specs.Keepers.{Held}
 use Rattle.xl_links.specs.Links.{Wire}
-use Rattle.xl_turns.specs.Histories.{IsLegal}
+use Rattle.xl_turns.specs.Histories.{IsLegal, Runs}
 use Rattle.xl_core.specs.Core.{Core}
 use Rattle.xl_store.specs.declared.entry.Entry.{Entry}
 use Rattle.xl_store.specs.Closing.{KeepsAll}
@@ -75,6 +75,26 @@ module _ {K O : Type 0}
         net = λ other. absurd cc;
         later = λ over. absurd cc;
       }))
+
+  -- what is left of either
+  pub leaves_by : {R S : Type 0} (N : Type 0) (ran : Result R S) (end_of : R → RunEnd) (core_of : R → Core) (kept_by : R → K)
+      (history_of : R → List Entry) (spared_core : S → Core) (spared_by : S → K)
+      → MatchResult ran (λ r. end ≡ status_of_end (end_of r)) (λ _. end ≡ status.OutOfMemory)
+      → MatchResult ran (λ r. new ≡ kept_by r) (λ s. new ≡ spared_by s)
+      → MatchResult ran (λ r. journal ≡ Some (history_of r)) (λ _. journal ≡ None)
+      → IfOk ran (λ r. Runs Leads start (history_of r) (core_of r))
+      → IfOk ran (λ r. NodeRun (setting start task.turns may_give links)
+      (doing task.submits task.targets task.pulse
+      outside.old_hub outside.new_hub outside.old_output outside.new_output) (end_of r) (history_of r))
+      → IfOk ran (λ r. KeepsAll held_by saves_of faults_of save_gives start (history_of r) old (kept_by r))
+      → IfOk ran (λ r. length (history_of r) ≤ task.turns)
+      → IfErr ran (λ s. (spared_core s ≡ start) × (spared_by s ≡ old))
+      → OnErr ran (N × (new_output ≡ old_output))
+      → Left end journal
+  leaves_by N (Ok r) end_of core_of kept_by history_of spared_core spared_by is same some runs run keeps limit spared silent =
+      leaves_run (end_of r) (kept_by r) (history_of r) is same some (core_of r, runs) run keeps limit
+  leaves_by N (Err s) end_of core_of kept_by history_of spared_core spared_by is same none runs run keeps limit spared silent =
+      leaves_none is none silent.1 (same ∙ spared.1)
 
 module _ {K : Type 0}
     (held_by : K → Option Held) (saves_of : K → Option (List ℕ)) (faults_of : K → ℕ)

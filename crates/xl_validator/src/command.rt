@@ -1,4 +1,4 @@
-ghost use Rattle.std.specs.Prelude.{◌≡◌, ◌≢◌, ◌≤◌, ◌⊎◌, Some, None, false, IfSome};
+ghost use Rattle.std.specs.Prelude.{◌≡◌, ◌≢◌, ◌≤◌, ◌⊎◌, Some, None, false, IfSome, MatchResult};
 ghost use Rattle.xl_base.specs.Faults.{Rose};
 ghost use Rattle.xl_base.specs.Moments.{greatest_millis};
 ghost use Rattle.xl_settings.specs.Lines.{refusal_line};
@@ -6,7 +6,6 @@ ghost use Rattle.xl_settings.specs.Runnable.{AreRunnable};
 ghost use Rattle.xl_workers.specs.Linking.{hub_seen};
 ghost use Rattle.xl_workers.specs.Runs.{status_of_end};
 ghost use Rattle.xl_validator.specs.Ends.{AreSubmits, CompletesAt, EndsByTime, EndsFull, HasBeats, HasRunSo, IsQuiet};
-ghost use Rattle.xl_validator.specs.Preparing.{IsReady, Leaves, task_in};
 ghost use Rattle.xl_validator.specs.Recordings.{is_written};
 ghost use Rattle.xl_validator.specs.Validators.{HasRecorded, HasRun, IsRefused, Judges, between};
 ghost use Rattle.xl_validator.specs.Validators.{IsKnown, IsOfNode, IsUnopened};
@@ -19,7 +18,7 @@ use std::sync::Wait;
 use std::thread::Threads;
 use xl_base::Status;
 use xl_io::{Keeper, Sink, Source};
-use xl_links::{Clock, Hub, OpenGate};
+use xl_links::{Clock, Gate, Hub, OpenGate};
 use xl_peers::Host;
 use xl_settings::{SettingsFault, SettingsRefusal, settings_from, write_refusal};
 use xl_store::{Closed, Spared};
@@ -39,61 +38,35 @@ fn refuse<O: Sink>(output: &mut O, refusal: &SettingsRefusal) -> Status
     }
 }
 
-/// Runs what is prepared, over a keeper.
-fn run<W: Threads + Wait + Sync, O: Sink + Send, K: Keeper + Drop + Send, H: Hub, C: Clock + Sync>(
-    rt: &W,
-    alloc: Global,
-    prepared: Prepared,
-    output: &mut O,
-    keeper: K,
-    hub: &mut H,
-    clock: &C,
-) -> Ended<K>
-    requires ready { IsReady prepared }
-    ensures leaves { Leaves K.held K.saves K.faults K.save_gives
-        prepared.core (task_in prepared.plan) (C.may_give clock.now) (H.gives hub.old)
-        (between (hub_seen (H.faults hub.old) (H.asked hub.old)) (hub_seen (H.faults hub.new) (H.asked hub.new))
-        (O.held output.old) (O.faults output.old) (O.held output.new) (O.faults output.new))
-        output.old output.new keeper result.keeper result.status result.journal }
+/// What a run leaves, without its core. If there was no memory for the run's store, that is the keeper alone.
+fn left_by<K: Drop>(ran: Result<Ran<Trie, K>, Spared<Trie, K>>) -> Ended<K>
+    ensures status { MatchResult ran (λ r. result.status ≡ status_of_end r.end) (λ _. result.status ≡ Status.OutOfMemory) }
+    ensures keeper { MatchResult ran (λ r. result.keeper ≡ r.closed.keeper) (λ s. result.keeper ≡ s.keeper) }
+    ensures journal { MatchResult ran (λ r. result.journal ≡ Some r.closed.journal) (λ _. result.journal ≡ None) }
 {
-    let Prepared { core, plan } = prepared;
-    let host = Host {
-        rt,
-        alloc,
-        gate: &OpenGate,
-        clock,
-    };
-    match node(&host, core, keeper, plan, hub, output) {
-        Ok(ran) => ended(ran),
-        Err(spared) => Ended::unopened(Status::OutOfMemory, keeper_of(spared)),
+    match ran {
+        Ok(ran) => {
+            let Ran { end, closed } = ran;
+            let Closed {
+                core: _,
+                keeper,
+                journal,
+            } = closed;
+            Ended {
+                status: end.status(),
+                keeper,
+                journal: Some(journal),
+            }
+        }
+        Err(spared) => {
+            let Spared { core: _, keeper } = spared;
+            Ended {
+                status: Status::OutOfMemory,
+                keeper,
+                journal: None,
+            }
+        }
     }
-}
-
-/// What a run leaves, without its core.
-fn ended<K: Drop>(ran: Ran<Trie, K>) -> Ended<K>
-    ensures status { result.status ≡ status_of_end ran.end }
-    ensures keeper { result.keeper ≡ ran.closed.keeper }
-    ensures journal { result.journal ≡ Some ran.closed.journal }
-{
-    let Ran { end, closed } = ran;
-    let Closed {
-        core: _,
-        keeper,
-        journal,
-    } = closed;
-    Ended {
-        status: end.status(),
-        keeper,
-        journal: Some(journal),
-    }
-}
-
-/// The keeper, without its core.
-fn keeper_of<K: Drop>(spared: Spared<Trie, K>) -> K
-    ensures { result ≡ spared.keeper }
-{
-    let Spared { core: _, keeper } = spared;
-    keeper
 }
 
 /// Opens a node by its settings, at the moment at which they were judged, and runs it.
@@ -102,28 +75,21 @@ fn start<
     O: Sink + Send,
     K: Keeper + Drop + Send,
     H: Hub,
+    G: Gate + Sync,
     C: Clock + Sync,
->(
-    rt: &W,
-    alloc: Global,
-    judged: Judged,
-    output: &mut O,
-    keeper: K,
-    hub: &mut H,
-    clock: &C,
-) -> Ended<K>
+>(host: &Host<'_, W, G, C>, judged: Judged, output: &mut O, keeper: K, hub: &mut H) -> Ended<K>
     requires runnable { AreRunnable judged.settings }
     requires moment { judged.now ≤ greatest_millis }
     ensures ran { IfSome result.journal (λ history. (is_written judged.settings.journal result.status ≡ false)
         × HasRun K.held K.saves K.faults K.load_gives K.save_gives
-        judged.settings judged.now (C.may_give clock.now) (H.gives hub.old)
+        judged.settings judged.now (C.may_give host.now.clock.now) (H.gives hub.old)
         (between (hub_seen (H.faults hub.old) (H.asked hub.old)) (hub_seen (H.faults hub.new) (H.asked hub.new))
         (O.held output.old) (O.faults output.old) (O.held output.new) (O.faults output.new))
         keeper result.keeper result.status history) }
     ensures unopened { result.journal ≡ None
         → (IsUnopened result.status × (K.saves result.keeper ≡ K.saves keeper) × (output.new ≡ output.old))
         ⊎ HasRecorded K.held K.saves K.faults K.load_gives K.save_gives
-        judged.settings judged.now (C.may_give clock.now) (H.gives hub.old)
+        judged.settings judged.now (C.may_give host.now.clock.now) (H.gives hub.old)
         (between (hub_seen (H.faults hub.old) (H.asked hub.old)) (hub_seen (H.faults hub.new) (H.asked hub.new))
         (O.held output.old) (O.faults output.old) (O.held output.new) (O.faults output.new))
         keeper result.keeper result.status }
@@ -137,10 +103,10 @@ fn start<
         return Ended::unopened(Status::KeepFault, keeper);
     };
     let recording = recording_of(&judged.settings, judged.now, kept);
-    match prepare(alloc, judged, kept) {
-        Ok(prepared) => {
-            let ended = run(rt, alloc, prepared, output, keeper, hub, clock);
-            recorded(alloc, recording, ended, output)
+    match prepare(host.alloc, judged, kept) {
+        Ok(Prepared { core, plan }) => {
+            let ended = left_by(node(host, core, keeper, plan, hub, output));
+            recorded(host.alloc, recording, ended, output)
         }
         Err(_) => Ended::unopened(Status::OutOfMemory, keeper),
     }
@@ -205,17 +171,15 @@ pub fn validator<
         → IsQuiet (H.faults hub.old) (H.faults hub.new) → result.status ≢ Status.StoreFull
         → CompletesAt (I.left input.old) (C.may_give clock.now) result.status }
 {
+    let host = Host {
+        rt,
+        alloc,
+        gate: &OpenGate,
+        clock,
+    };
     let now = clock.now();
     match settings_from(alloc, input, now) {
-        Ok(settings) => start(
-            rt,
-            alloc,
-            Judged { settings, now },
-            output,
-            keeper,
-            hub,
-            clock,
-        ),
+        Ok(settings) => start(&host, Judged { settings, now }, output, keeper, hub),
         Err(SettingsFault::Refused(refusal)) => {
             Ended::unopened(refuse(output, &refusal), keeper)
         }
