@@ -4,8 +4,8 @@ use std::test::Fail;
 use std::thread::Threads;
 use xl_base::Status;
 use xl_io::{MemKeeper, MemSink, MemSource};
-use xl_links::{MemClock, MemHub, PlainLink};
-use xl_top::top;
+use xl_links::{MemClock, MemHub, OpenGate, PlainLink};
+use xl_top::{Host, top};
 
 fn words(alloc: Global, all: &[&str]) -> Result<Vec<String>, Fail> {
     let mut words = Vec::new(alloc);
@@ -54,16 +54,13 @@ fn end<R: Threads + Wait + Sync>(
         1,
     )?;
     let clock = MemClock::new(1000);
-    let ended = top(
+    let host = Host {
         rt,
         alloc,
-        &words,
-        &mut input,
-        &mut output,
-        keeper,
-        &mut hub,
-        &clock,
-    );
+        gate: &OpenGate,
+        clock: &clock,
+    };
+    let ended = top(&host, &words, &mut input, &mut output, keeper, &mut hub);
     Ok(ended.status)
 }
 

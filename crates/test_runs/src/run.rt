@@ -5,8 +5,8 @@ use std::thread::Threads;
 use std::{fs, io};
 use xl_base::Status;
 use xl_io::{MemSink, MemSource, PlainKeeper};
-use xl_links::{MemClock, PlainHub};
-use xl_top::top;
+use xl_links::{MemClock, OpenGate, PlainHub};
+use xl_top::{Host, top};
 
 /// The moment at which the clock in memory begins, in milliseconds.
 const BEGINNING: u64 = 1000;
@@ -48,15 +48,19 @@ impl Run {
         };
         let mut hub = PlainHub::new(alloc);
         let clock = MemClock::new(BEGINNING);
-        let ended = top(
-            threads,
+        let host = Host {
+            rt: threads,
             alloc,
+            gate: &OpenGate,
+            clock: &clock,
+        };
+        let ended = top(
+            &host,
             &self.words,
             &mut input,
             &mut output,
             keeper,
             &mut hub,
-            &clock,
         );
         Ok(Ended {
             status: ended.status,

@@ -20,8 +20,8 @@ use std::sync::atomic::AtomicU64;
 use std::thread::Threads;
 use xl_base::{NodeNo, Status};
 use xl_io::{MemKeeper, MemSink, MemSource};
-use xl_links::{MemHub, PlainLink, Spare};
-use xl_top::top;
+use xl_links::{MemHub, OpenGate, PlainLink, Spare};
+use xl_top::{Host, top};
 
 /// The moment at which the clock begins, in milliseconds.
 const BEGINNING: u64 = 1000;
@@ -93,16 +93,13 @@ fn run<R: Threads + Wait + Sync>(
     let Ok(mut hub) = MemHub::new(alloc, links, Vec::new(alloc), 2) else {
         return Err(AllocError);
     };
-    let ended = top(
-        threads,
+    let host = Host {
+        rt: threads,
         alloc,
-        &words,
-        &mut input,
-        &mut output,
-        keeper,
-        &mut hub,
+        gate: &OpenGate,
         clock,
-    );
+    };
+    let ended = top(&host, &words, &mut input, &mut output, keeper, &mut hub);
     Ok(Ended {
         status: ended.status,
         output,

@@ -5,14 +5,13 @@
 #![tactic(auto)]
 
 use std::process::ExitCode;
-use std::sync::Wait;
-use std::thread::Threads;
 use std::{env, io};
 use xl_base::Status;
 use xl_io::{StdSink, StdSource};
 use xl_keep::{FileKeeper, SystemFile};
+use xl_links::OpenGate;
 use xl_tcp::{SystemClock, TcpHub};
-use xl_top::top;
+use xl_top::{Host, top};
 
 /// The line on standard error that goes with a status, if one does.
 fn complaint(status: Status) -> Option<&'static str> {
@@ -73,33 +72,25 @@ fn found_by(rt: &HostRuntime) -> Result<Outside, Status> {
     })
 }
 
-/// Runs the program over the streams of the system.
-fn run<R: Threads + Wait + Sync>(rt: &HostRuntime, threads: &R, outside: Outside) -> Status {
-    let Outside {
-        words,
-        keeper,
-        hub,
-        clock,
-    } = outside;
-    let mut hub = hub;
-    let mut input = StdSource::new(rt.reader());
-    let mut output = StdSink::new(io::writer(rt));
-    let ended = top(
-        threads,
-        rt.alloc(),
-        &words,
-        &mut input,
-        &mut output,
-        keeper,
-        &mut hub,
-        &clock,
-    );
-    ended.status
-}
-
 fn main(rt: HostRuntime) -> ExitCode {
     let status = match found_by(&rt) {
-        Ok(outside) => run(&rt, &rt, outside),
+        Ok(outside) => {
+            let Outside {
+                words,
+                keeper,
+                mut hub,
+                clock,
+            } = outside;
+            let host = Host {
+                rt: &rt,
+                alloc: rt.alloc(),
+                gate: &OpenGate,
+                clock: &clock,
+            };
+            let mut input = StdSource::new(rt.reader());
+            let mut output = StdSink::new(io::writer(&rt));
+            top(&host, &words, &mut input, &mut output, keeper, &mut hub).status
+        }
         Err(status) => status,
     };
     if let Some(line) = complaint(status) {

@@ -14,36 +14,34 @@ ghost use Rattle.xl_validator.specs.Validators.{Judges, between};
 ghost use Rattle.xl_words.specs.Commands.{words_of};
 
 use crate::running::run;
-use std::alloc::Global;
 use std::sync::Wait;
 use std::thread::Threads;
 use xl_base::Status;
 use xl_io::{Keeper, Sink, Source};
-use xl_links::{Clock, Hub};
-use xl_validator::{Ended, validator};
+use xl_links::{Clock, Gate, Hub};
+use xl_validator::{Ended, Host, validator};
 use xl_words::{Command, Telling, WordsFault};
 
 /// The program: what the words of the command line ask is read from the input and written to the output.
 ///
 /// The words begin with the program's name. They may ask for `replay`, `node`, `show`, `lists`, `merge`, `audit`,
-/// `flags`, `negative` or `gen`, for help, or for the version. Keeper, hub and clock are those of `node`. The keeper
-/// comes back, and so does the journal of the node's store, if one was opened and isn't written.
+/// `flags`, `negative` or `gen`, for help, or for the version. Keeper, hub, and the host's clock and gate are those of
+/// `node`. The keeper comes back, and so does the journal of the node's store, if one was opened and isn't written.
 pub fn top<
     W: Threads + Wait + Sync,
     I: Source,
     O: Sink + Send,
     K: Keeper + Drop + Send,
     H: Hub,
+    G: Gate + Sync,
     C: Clock + Sync,
 >(
-    rt: &W,
-    alloc: Global,
+    host: &Host<'_, W, G, C>,
     words: &[String],
     input: &mut I,
     output: &mut O,
     keeper: K,
     hub: &mut H,
-    clock: &C,
 ) -> Ended<K>
     // Words that ask nothing are refused, and only they, and then nothing is read or written.
     ensures words { result.status ≡ Status.WordsRefused
@@ -75,7 +73,7 @@ pub fn top<
     // done.
     ensures node { asked_of (words_of words.now) ≡ Some Command.Node
         → Judges K.held K.saves K.faults K.load_gives K.save_gives
-        (I.left input.old) (C.may_give clock.now) (H.gives hub.old)
+        (I.left input.old) (C.may_give host.now.clock.now) (H.gives hub.old)
         (between (hub_seen (H.faults hub.old) (H.asked hub.old)) (hub_seen (H.faults hub.new) (H.asked hub.new))
         (O.held output.old) (O.faults output.old) (O.held output.new) (O.faults output.new))
         output.old output.new keeper result.keeper result.status result.journal
@@ -83,7 +81,7 @@ pub fn top<
         (result.keeper ≡ keeper) (hub.new ≡ hub.old) }
     // Its status says how its run ended.
     ensures ends { asked_of (words_of words.now) ≡ Some Command.Node
-        → EndsSo (I.left input.old) (C.may_give clock.now)
+        → EndsSo (I.left input.old) (C.may_give host.now.clock.now)
         (IsQuiet (I.faults input.old) (I.faults input.new) × IsQuiet (O.faults output.old) (O.faults output.new)
         × IsQuiet (K.faults keeper) (K.faults result.keeper) × IsQuiet (H.faults hub.old) (H.faults hub.new))
         result.status result.journal }
@@ -98,9 +96,11 @@ pub fn top<
         (Rose (H.faults hub.old) (H.faults hub.new)) }
     ensures store { result.status ≡ Status.StoreFull → asked_of (words_of words.now) ≡ Some Command.Node }
 {
-    match Command::of(alloc, words) {
-        Ok(Command::Tell(telling)) => Ended::unopened(run(alloc, telling, input, output), keeper),
-        Ok(Command::Node) => validator(rt, alloc, input, output, keeper, hub, clock),
+    match Command::of(host.alloc, words) {
+        Ok(Command::Tell(telling)) => {
+            Ended::unopened(run(host.alloc, telling, input, output), keeper)
+        }
+        Ok(Command::Node) => validator(host, input, output, keeper, hub),
         Err(WordsFault::Refused) => Ended::unopened(Status::WordsRefused, keeper),
         Err(WordsFault::Memory) => Ended::unopened(Status::OutOfMemory, keeper),
     }

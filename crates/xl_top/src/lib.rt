@@ -12,4 +12,4 @@ mod running;
 mod telling;
 
 pub use command::top;
-pub use xl_validator::Ended;
+pub use xl_validator::{Ended, Host};

@@ -13,12 +13,11 @@ ghost use Rattle.xl_validator.specs.Validators.{IsKnown, IsOfNode, IsUnopened};
 use crate::ended::Ended;
 use crate::preparing::{Judged, Prepared, prepare};
 use crate::recording::{recorded, recording_of};
-use std::alloc::Global;
 use std::sync::Wait;
 use std::thread::Threads;
 use xl_base::Status;
 use xl_io::{Keeper, Sink, Source};
-use xl_links::{Clock, Gate, Hub, OpenGate};
+use xl_links::{Clock, Gate, Hub};
 use xl_peers::Host;
 use xl_settings::{SettingsFault, SettingsRefusal, settings_from, write_refusal};
 use xl_store::{Closed, Spared};
@@ -129,21 +128,14 @@ pub fn validator<
     O: Sink + Send,
     K: Keeper + Drop + Send,
     H: Hub,
+    G: Gate + Sync,
     C: Clock + Sync,
->(
-    rt: &W,
-    alloc: Global,
-    input: &mut I,
-    output: &mut O,
-    keeper: K,
-    hub: &mut H,
-    clock: &C,
-) -> Ended<K>
+>(host: &Host<'_, W, G, C>, input: &mut I, output: &mut O, keeper: K, hub: &mut H) -> Ended<K>
     // Settings are judged at one moment that the clock may give. If they are refused no store is opened, the keeper is
     // asked nothing, and of their line a front is written. Others run a node that is opened at that moment, or nothing is
     // written and no save is asked. The journal of the node is handed back, or written behind what the node wrote.
     ensures judged { Judges K.held K.saves K.faults K.load_gives K.save_gives
-        (I.left input.old) (C.may_give clock.now) (H.gives hub.old)
+        (I.left input.old) (C.may_give host.now.clock.now) (H.gives hub.old)
         (between (hub_seen (H.faults hub.old) (H.asked hub.old)) (hub_seen (H.faults hub.new) (H.asked hub.new))
         (O.held output.old) (O.faults output.old) (O.held output.new) (O.faults output.new))
         output.old output.new keeper result.keeper result.status result.journal }
@@ -155,31 +147,26 @@ pub fn validator<
     ensures net { result.status ≡ Status.NetFault → Rose (H.faults hub.old) (H.faults hub.new) }
     // A run ends by time only if it has an end, which its last timer reached.
     ensures done { result.status ≡ Status.Done
-        → HasRunSo EndsByTime (I.left input.old) (C.may_give clock.now) result.journal }
+        → HasRunSo EndsByTime (I.left input.old) (C.may_give host.now.clock.now) result.journal }
     // A store has no turn left only if the history has as many entries as the settings allow.
     ensures full { result.status ≡ Status.StoreFull
-        → HasRunSo EndsFull (I.left input.old) (C.may_give clock.now) result.journal }
+        → HasRunSo EndsFull (I.left input.old) (C.may_give host.now.clock.now) result.journal }
     // If the hub failed, all ids were submitted, and nothing else happened.
     ensures submits { result.status ≡ Status.NetFault
-        → HasRunSo (AreSubmits (C.may_give clock.now)) (I.left input.old) (C.may_give clock.now) result.journal }
+        → HasRunSo (AreSubmits (C.may_give host.now.clock.now)) (I.left input.old) (C.may_give host.now.clock.now)
+        result.journal }
     // Its timers are those of whole beats, of which only the last may be cut short.
     ensures beats { IfSome result.journal (λ _.
-        HasRunSo HasBeats (I.left input.old) (C.may_give clock.now) result.journal) }
+        HasRunSo HasBeats (I.left input.old) (C.may_give host.now.clock.now) result.journal) }
     // If nothing fails and turns are left, refused settings end it so, and others by time, unless memory runs out.
     ensures complete { IsQuiet (I.faults input.old) (I.faults input.new)
         → IsQuiet (O.faults output.old) (O.faults output.new) → IsQuiet (K.faults keeper) (K.faults result.keeper)
         → IsQuiet (H.faults hub.old) (H.faults hub.new) → result.status ≢ Status.StoreFull
-        → CompletesAt (I.left input.old) (C.may_give clock.now) result.status }
+        → CompletesAt (I.left input.old) (C.may_give host.now.clock.now) result.status }
 {
-    let host = Host {
-        rt,
-        alloc,
-        gate: &OpenGate,
-        clock,
-    };
-    let now = clock.now();
-    match settings_from(alloc, input, now) {
-        Ok(settings) => start(&host, Judged { settings, now }, output, keeper, hub),
+    let now = host.clock.now();
+    match settings_from(host.alloc, input, now) {
+        Ok(settings) => start(host, Judged { settings, now }, output, keeper, hub),
         Err(SettingsFault::Refused(refusal)) => {
             Ended::unopened(refuse(output, &refusal), keeper)
         }

@@ -16,3 +16,4 @@ mod recording;
 
 pub use command::validator;
 pub use ended::Ended;
+pub use xl_peers::Host;

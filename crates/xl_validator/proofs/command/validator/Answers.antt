@@ -13,7 +13,7 @@ use Rattle.xl_validator.proofs.command.validator.Goals as goal
 pub returns-in-Ok-clause-judged : goal.returns-in-Ok-clause-judged
 returns-in-Ok-clause-judged g c =
     judged_right g.K.Keeper.held g.K.Keeper.saves g.K.Keeper.faults g.K.Keeper.load_gives g.K.Keeper.save_gives
-    (g.I.Source.left c.args.input.now) (g.C.Clock.may_give c.args.clock.now) (g.H.Hub.gives c.args.hub.now)
+    (g.I.Source.left c.args.input.now) (g.C.Clock.may_give c.args.host.now.clock.now) (g.H.Hub.gives c.args.hub.now)
     (between (hub_seen (g.H.Hub.faults c.args.hub.now) (g.H.Hub.asked c.args.hub.now))
     (hub_seen (g.H.Hub.faults c.start.new.hub) (g.H.Hub.asked c.start.new.hub))
     (g.O.Sink.held c.args.output.now) (g.O.Sink.faults c.args.output.now)
@@ -29,7 +29,7 @@ returns-in-Err-Refused-clause-judged g c =
     let line : IsRefused (refusal_line c.in-Err-Refused.refusal) c.refuse.result (g.O.Sink.held old)
     (g.O.Sink.held new) = search rules in
     judged_refused g.K.Keeper.held g.K.Keeper.saves g.K.Keeper.faults g.K.Keeper.load_gives g.K.Keeper.save_gives
-    (g.I.Source.left c.args.input.now) (g.C.Clock.may_give c.args.clock.now) (g.H.Hub.gives c.args.hub.now)
+    (g.I.Source.left c.args.input.now) (g.C.Clock.may_give c.args.host.now.clock.now) (g.H.Hub.gives c.args.hub.now)
     (let hub = hub_seen (g.H.Hub.faults c.args.hub.now) (g.H.Hub.asked c.args.hub.now) in
     between hub hub (g.O.Sink.held old) (g.O.Sink.faults old) (g.O.Sink.held new) (g.O.Sink.faults new))
     old new c.args.keeper c.unopened.result.keeper c.unopened.result.status c.unopened.result.journal
@@ -43,7 +43,7 @@ returns-in-Err-Read-clause-judged g c =
     let faults = g.O.Sink.faults c.args.output.now in
     let ended = c.unopened-in-Err-Read in
     judged_unread g.K.Keeper.held g.K.Keeper.saves g.K.Keeper.faults g.K.Keeper.load_gives g.K.Keeper.save_gives
-    (g.I.Source.left c.args.input.now) (g.C.Clock.may_give c.args.clock.now) (g.H.Hub.gives c.args.hub.now)
+    (g.I.Source.left c.args.input.now) (g.C.Clock.may_give c.args.host.now.clock.now) (g.H.Hub.gives c.args.hub.now)
     (let hub = hub_seen (g.H.Hub.faults c.args.hub.now) (g.H.Hub.asked c.args.hub.now) in
     between hub hub held faults held faults)
     c.args.output.now c.args.output.now c.args.keeper ended.result.keeper ended.result.status ended.result.journal
@@ -56,7 +56,7 @@ returns-in-Err-OutOfMemory-clause-judged g c =
     let faults = g.O.Sink.faults c.args.output.now in
     let ended = c.unopened-in-Err-OutOfMemory in
     judged_unread g.K.Keeper.held g.K.Keeper.saves g.K.Keeper.faults g.K.Keeper.load_gives g.K.Keeper.save_gives
-    (g.I.Source.left c.args.input.now) (g.C.Clock.may_give c.args.clock.now) (g.H.Hub.gives c.args.hub.now)
+    (g.I.Source.left c.args.input.now) (g.C.Clock.may_give c.args.host.now.clock.now) (g.H.Hub.gives c.args.hub.now)
     (let hub = hub_seen (g.H.Hub.faults c.args.hub.now) (g.H.Hub.asked c.args.hub.now) in
     between hub hub held faults held faults)
     c.args.output.now c.args.output.now c.args.keeper ended.result.keeper ended.result.status ended.result.journal
@@ -107,5 +107,5 @@ returns-in-Err-Refused-clause-complete g c no_read no_write no_keep no_net full 
 
 pub returns-in-Err-OutOfMemory-clause-complete : goal.returns-in-Err-OutOfMemory-clause-complete
 returns-in-Err-OutOfMemory-clause-complete g c no_read no_write no_keep no_net full =
-    subst (λ (e : Status). CompletesAt (g.I.Source.left c.args.input.now) (g.C.Clock.may_give c.args.clock.now) e)
+    subst (λ (e : Status). CompletesAt (g.I.Source.left c.args.input.now) (g.C.Clock.may_give c.args.host.now.clock.now) e)
     (sym c.unopened-in-Err-OutOfMemory.ensures.status) (c.now-now.result, c.now-now.ensures.may, tt)
