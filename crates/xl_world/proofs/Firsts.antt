@@ -1,7 +1,7 @@
 -- The first reports of the code's map, and a step of its loop.
-use Rattle.std.proofs.Common.{◌≡◌, ℕ, ◌+◌, ◌<◌, ◌≤◌, suc, true, false, List, [], ◌∷◌, ◌++◌, refl, ap, sym, ◌∙◌, Option, Some, None, subst, take, drop, add-one, length, Bor, BTreeMap, get_or}
+use Rattle.std.proofs.Common.{◌≡◌, ℕ, ◌+◌, ◌<◌, ◌≤◌, suc, true, false, List, [], ◌∷◌, ◌++◌, refl, ap, sym, ◌∙◌, Some, None, subst, take, drop, add-one, length, Bor, BTreeMap, get_or}
 use Rattle.std.specs.Prelude.{◌==◌, option_map, nat_lt, if◌then◌else◌}
-use Rattle.std.specs.BTreeMap.{get, is_at, Updates, IsEmpty}
+use Rattle.std.specs.BTreeMap.{is_at, Updates, IsEmpty}
 use Rattle.std.specs.Map.{lookup}
 use Rattle.std.specs.Ordering.{nat_cmp, is_eq}
 use Rattle.std.specs.declared.cmp.Ordering.TheVariants.{Less, Equal, Greater}
@@ -11,11 +11,8 @@ use Rattle.std.proofs.lemmas.Bool.{cond_both}
 use Rattle.xl_base.specs.Ids.{same_id}
 use Rattle.xl_lists.specs.declared.report.Report.{Report}
 use Rattle.xl_world.specs.Forks.{first_fork, fork_after}
+use Rattle.xl_world.specs.Firsts.{first_at}
 use Rattle.xl_world.proofs.Opposing.{Ahead, fork_of, ahead_of_all, repeated, begun, found}
-
--- the first report that the map has of a sequence
-abbrev pub first_at : BTreeMap ℕ (Bor Report) → ℕ → Option Report
-first_at firsts s = option_map (λ r. r.now) (get nat_cmp firsts s)
 
 -- so many reports were looked at
 abbrev pub AheadAt : List Report → ℕ → BTreeMap ℕ (Bor Report) → Type 0

@@ -1,5 +1,5 @@
 -- Every list that is in force at a node, and each under which one reported, is among those of the world.
-use Rattle.std.proofs.Common.{◌≡◌, ℕ, Bool, false, List, [], ◌∷◌, ◌++◌, refl, ap, sym, ◌∙◌, inl, inr, Option, Some, None, subst}
+use Rattle.std.proofs.Common.{◌≡◌, ℕ, Bool, false, List, [], ◌∷◌, ◌++◌, refl, sym, inl, inr, Option, Some, None, subst}
 use Rattle.std.specs.Prelude.{◌==◌, All, Contains, map, option_map, option_to_list}
 use Rattle.std.proofs.lemmas.Bool.{cond_both, eqb-true}
 use Rattle.std.proofs.lemmas.List.Elements.{All-append, All-cons, All-nil, All-weaker, Contains-append_left, Contains-append_right, Contains-push}
@@ -7,7 +7,6 @@ use Rattle.xl_io.specs.Keepers.{may_hold}
 use Rattle.xl_lists.specs.Lists.{TrustedList}
 use Rattle.xl_core.specs.Answers.{Done}
 use Rattle.xl_core.specs.Core.{Core, CoreReply, answering, core_happens}
-use Rattle.xl_core.specs.Node as nodes
 use Rattle.xl_core.specs.Node.{Node, Save, at_moment}
 use Rattle.xl_core.specs.declared.event.CoreEvent.{CoreEvent}
 use Rattle.xl_core.specs.declared.event.CoreEvent.TheVariants.{Issue, Frame, Timer, Submit, Greet, Drain, Reports, Stop, Stopped, Relist}

@@ -4,7 +4,6 @@ use Rattle.std.specs.Prelude.{◌==◌}
 use Rattle.std.proofs.lemmas.Bool.{cond_both}
 use Rattle.xl_queues.specs.Queues.{Backlog, with_item}
 use Rattle.xl_core.specs.Core.{Core, CoreReply, core_happens}
-use Rattle.xl_core.specs.Node as nodes
 use Rattle.xl_core.specs.Node.{Node, Save}
 use Rattle.xl_core.specs.Queues.{with_report}
 use Rattle.xl_core.specs.declared.event.CoreEvent.{CoreEvent}

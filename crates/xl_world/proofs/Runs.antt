@@ -1,10 +1,9 @@
 -- Each step of an unforged run of cores keeps what is kept, so reports agree.
 use Rattle.std.proofs.Common.{◌≡◌, ℕ, ◌<◌, ◌≤◌, Bool, true, false, cond, List, [], ◌∷◌, ◌++◌, refl, arith, ap, sym, ◌∙◌, Option, Some, None, subst}
-use Rattle.std.specs.Prelude.{◌==◌, All, IfSome, map, filter, slice_index_or}
+use Rattle.std.specs.Prelude.{◌==◌, All, IfSome, slice_index_or}
 use Rattle.std.proofs.lemmas.Bool.{cond_both}
 use Rattle.std.proofs.lemmas.List.Elements.{All-append, All-cons, All-map, All-head, All-tail, All-nil}
 use Rattle.xl_lists.specs.declared.said.SaidLedger.{SaidLedger}
-use Rattle.xl_lists.specs.declared.report.Report.{Report as Reported}
 use Rattle.xl_lists.specs.Agreement.{IsGenuine, IsBacked, Agree}
 use Rattle.xl_lists.proofs.Agreement.{law_of_agreement, vouches_still}
 use Rattle.xl_core.specs.declared.event.CoreEvent.{CoreEvent}
@@ -18,7 +17,6 @@ use Rattle.xl_core.proofs.Heard.{heard_parts}
 use Rattle.xl_world.specs.declared.place.Disk.{Disk}
 use Rattle.xl_world.specs.declared.place.Fate.{Fate}
 use Rattle.xl_world.specs.declared.plan.PlanNode.{PlanNode}
-use Rattle.xl_world.specs.Sending.{Sent}
 use Rattle.xl_io.specs.Keepers.{MayHold, may_hold}
 use Rattle.xl_base.specs.Counts.{one_more}
 use Rattle.xl_world.specs.Disk.{held_by, resting, restored, answer_of}

@@ -1,6 +1,6 @@
 -- A world whose memory ran out: what it told before stands, and no node is left in it.
 -- Source: this profile, by which such a world answers every later event the same.
-use Rattle.std.specs.Prelude.{◌≡◌, ℕ, true, List, [], ◌++◌, length, take}
+use Rattle.std.specs.Prelude.{◌≡◌, true, List, [], ◌++◌, length, take}
 use Rattle.xl_world.specs.declared.extent.Extent.{Extent}
 use Rattle.xl_world.specs.Starts.{IsRun}
 use Rattle.xl_world.specs.World.{World}

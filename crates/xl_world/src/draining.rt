@@ -104,6 +104,8 @@ fn drain_for(
 }
 
 /// What waits for each other number is drained and sent, for each in its turn.
+// Mostly nothing waits, and in the caller's each event would clear places for this.
+#[inline(never)]
 fn drain_each(
     core: &mut NodeCore,
     numbers: &[NodeNo],

@@ -1,5 +1,6 @@
 // The first two reports of one sequence that name different ledgers.
-ghost use Rattle.std.specs.Prelude.{◌≡◌, IfOk, option_map};
+ghost use Rattle.std.specs.Prelude.{◌≡◌, IfOk, IfSome, Some, option_copied, option_map};
+ghost use Rattle.xl_world.specs.Firsts.{first_at};
 ghost use Rattle.xl_world.specs.Forks.{first_fork, NoForkAgrees, ForkDiffers};
 ghost use Rattle.xl_world.specs.Seen.{fork_seen};
 
@@ -18,7 +19,7 @@ pub struct Fork<'a> {
 /// The first fork of these reports, in their order, or none if all reports of one sequence name one ledger.
 ///
 /// It keeps the first report of each sequence and looks at each report once: until there is a fork, all reports of a
-/// sequence name the ledger of the first.
+/// sequence name the ledger of the first. Most reports have the sequence of the one before, whose first is at hand.
 pub fn first_fork<'a>(
     alloc: Global,
     reports: &'a [WorldReport],
@@ -26,18 +27,35 @@ pub fn first_fork<'a>(
     ensures { IfOk result (λ fork. option_map fork_seen fork ≡ first_fork reports.now) }
 {
     let mut firsts: BTreeMap<Seq, &WorldReport> = BTreeMap::new(alloc);
+    let mut last: Option<(Seq, &WorldReport)> = None;
     for later in reports {
-        match firsts.get(&later.seq) {
-            Some(&earlier) if earlier.id != later.id => {
+        match first_of(&firsts, last, later.seq) {
+            Some(earlier) if earlier.id != later.id => {
                 return Ok(Some(Fork { earlier, later }));
             }
-            Some(_) => {}
+            Some(earlier) => last = Some((later.seq, earlier)),
             None => {
                 firsts.insert(later.seq, later)?;
+                last = Some((later.seq, later));
             }
         }
     }
     Ok(None)
+}
+
+/// The first report of a sequence, which may be the one that was found last.
+fn first_of<'a>(
+    firsts: &BTreeMap<Seq, &'a WorldReport>,
+    last: Option<(Seq, &'a WorldReport)>,
+    seq: Seq,
+) -> Option<&'a WorldReport>
+    requires { IfSome last (λ l. first_at firsts.now l.0 ≡ Some l.1.now) }
+    ensures { option_copied result ≡ first_at firsts.now seq }
+{
+    match last {
+        Some((found, first)) if found == seq => Some(first),
+        _ => firsts.get(&seq).copied(),
+    }
 }
 
 /// What the first fork says of any reports. It has no code.

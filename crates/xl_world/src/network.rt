@@ -462,6 +462,8 @@ impl Network {
     }
 
     /// It has told no more than it had before, and no node is left in it.
+    // This comes once at most, and in the caller's each event would have room for all that is given back.
+    #[inline(never)]
     pub fn end(&mut self, before: &Extent)
         requires sent { before.now.sent ≤ length self.old.sent }
         requires mark { before.now.mark ≤ before.now.sent }

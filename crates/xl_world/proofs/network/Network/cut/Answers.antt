@@ -13,7 +13,7 @@ use Rattle.xl_world.specs.World.{World, place_at}
 use Rattle.xl_world.proofs.Acting.{acted_rests, deed_unsent}
 use Rattle.xl_world.proofs.Cutting.{any_ok, cuts_none, cuts_torn}
 use Rattle.xl_world.specs.Worlds.{network_seen}
-use Rattle.xl_world.proofs.Growing.{grows_from, grows_on, grows_placed, grows_same}
+use Rattle.xl_world.proofs.Growing.{grows_from, grows_on}
 use Rattle.xl_world.proofs.network.Network.cut.Goals as goal
 use Rattle.xl_world.proofs.network.Network.cut.Goals.{After-act_at, In-Some-act_at}
 

@@ -1,5 +1,3 @@
-use Rattle.std.proofs.Common.{ap}
-use Rattle.xl_world.proofs.Ending.{with_spent}
 use Rattle.xl_world.proofs.Worldly.{starts_well}
 use Rattle.xl_world.proofs.world.World.open.Goals as goal
 
