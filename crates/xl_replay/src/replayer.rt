@@ -92,15 +92,16 @@ impl Machine for Replayer {
     ghost rules = { the_rules };
 
     fn line(&mut self, line: &[u8], _ended: bool, text: &mut String) -> Result<Next, OutOfMemory> {
-        match self.running.read(line) {
+        // What is read is large, and taken where it stands.
+        match &self.running.read(line) {
             Ok(None) => Ok(Next::Line),
             Ok(Some(line)) => {
-                self.take(&line, text)?;
+                self.take(line, text)?;
                 Ok(Next::Line)
             }
             Err(SchedRefusal::OutOfMemory) => Err(OutOfMemory),
             Err(refusal) => {
-                self.refuse(&refusal, text)?;
+                self.refuse(refusal, text)?;
                 Ok(Next::Refused)
             }
         }

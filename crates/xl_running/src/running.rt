@@ -1,4 +1,4 @@
-ghost use Rattle.std.specs.Prelude.{◌≡◌, ◌≤◌, ◌⊎◌, length, option_copied, Err, Ok, IfOk, IfErr, IfSome, MatchResult, OnOk, OnErr};
+ghost use Rattle.std.specs.Prelude.{◌≡◌, ◌≤◌, ◌⊎◌, length, option_copied, None, Err, Ok, IfOk, IfErr, IfSome, MatchResult, OnOk, OnErr};
 ghost use Rattle.xl_base.specs.Moments.{greatest_millis};
 ghost use Rattle.xl_sched.specs.Answers.{answered, refuses};
 ghost use Rattle.xl_sched.specs.Favors.{after_favor, favor_line};
@@ -134,9 +134,20 @@ impl Running {
     pub fn open_world(&mut self) -> Result<(), OutOfMemory>
         ensures { OnOk result (self.new ≡ in_world self.old (world_of self.old)) }
     {
-        if self.world.is_none() {
-            self.world = Some(World::open(self.alloc, &self.plan)?);
+        if self.world.is_some() {
+            return Ok(());
         }
+        self.make_world()
+    }
+
+    /// The world is that of the plan.
+    // A world is large, and in the caller's each event would clear a place for it.
+    #[inline(never)]
+    fn make_world(&mut self) -> Result<(), OutOfMemory>
+        requires { self.old.world ≡ None }
+        ensures { OnOk result (self.new ≡ in_world self.old (world_of self.old)) }
+    {
+        self.world = Some(World::open(self.alloc, &self.plan)?);
         Ok(())
     }
 
