@@ -2,10 +2,12 @@
 use Rattle.std.proofs.Common.{◌≡◌, ◌+◌, ◌-◌, ◌<◌, ◌≤◌, ℕ, Bool, true, false, cond, not, List, [], ◌∷◌, length, take, drop, nat_lt, nat_le, Some, None, refl, ap, sym, ◌∙◌, arith, zero, suc}
 use Rattle.std.specs.List.{slice_split, onto_first, position_or_len, position, join_with_byte}
 use Rattle.std.proofs.lemmas.List.{take_all, drop_all, length-drop}
-use Rattle.std.proofs.lemmas.List.Sums.{count_by-le-length}
+use Rattle.std.proofs.lemmas.List.Sums.{count_by-le-length, position_or_len_is}
 use Rattle.std.proofs.lemmas.List.Splits.{length-slice_split, join_with_byte-slice_split}
-use Rattle.std.proofs.lemmas.Bool.{leb-true, leb-false, lt-ltb, le-ltb}
+use Rattle.std.proofs.lemmas.Bool.{leb-true, leb-false, lt-ltb, le-ltb, cond-true, cond-false, false_from_ne_true}
 use Rattle.std.proofs.lemmas.Bool.Decides.{nat_tests}
+use Rattle.std.specs.Prelude.{Option, slice_index}
+use Rattle.memchr.specs.Find.{IsFirstByte, is_byte}
 use Rattle.xl_audit.specs.Words.{is_space, tokens, tokens_if, first, others}
 
 abbrev first_len : List ℕ → ℕ
@@ -138,3 +140,16 @@ not_so_many least n =
       | true ↦ λ is. let le = leb-true least n is in let no = le-ltb n least le in cc
       | false ↦ λ is. let lt = leb-false least n is in let yes = lt-ltb n least lt in cc
     ] refl
+
+-- a first space is found
+pub found_space : (bs : List ℕ) (found : Option ℕ) → IsFirstByte (is_byte 32) bs found → found ≡ position is_space bs
+found_space bs (Some at) first =
+    let is : first_len bs ≡ at =
+    position_or_len_is is_space bs at 0 (omega (arith, first.0.high))
+    (λ k lt. false_from_ne_true (is_space (slice_index bs k)) (first.0.before k (omega arith) lt)) (λ lt. first.1) in
+    sym (cond-true (nat_lt (first_len bs) (length bs)) (Some (first_len bs)) None (lt-ltb (first_len bs) (length bs) (omega (arith, is, first.0.high))) ∙ ap Some is)
+found_space bs None first =
+    let is : first_len bs ≡ length bs =
+    position_or_len_is is_space bs (length bs) 0 (omega arith)
+    (λ k lt. false_from_ne_true (is_space (slice_index bs k)) (first k (omega arith) lt)) (λ lt. absurd (omega (arith, lt))) in
+    sym (cond-false (nat_lt (first_len bs) (length bs)) (Some (first_len bs)) None (le-ltb (first_len bs) (length bs) (omega (arith, is))))

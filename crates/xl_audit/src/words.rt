@@ -4,6 +4,7 @@ ghost use Rattle.std.specs.List.{join_with_byte};
 ghost use Rattle.xl_audit.specs.Words.{first, is_space, others, tokens, word_at};
 ghost use Rattle.xl_audit.specs.Limits.{most_bytes};
 
+use memchr::memchr;
 use std::marker::Model;
 
 /// The tokens of a line that are left, which part at each single space. It is seen as their list.
@@ -145,5 +146,5 @@ fn spaces_in(bytes: &[u8]) -> usize
 fn space_in(bytes: &[u8]) -> Option<usize>
     ensures { result ≡ position is_space bytes.now }
 {
-    bytes.iter().position(|b| *b == b' ')
+    memchr(b' ', bytes)
 }
