@@ -1,21 +1,37 @@
 // An entry by the tokens of its line.
-ghost use Rattle.std.specs.Prelude.{◌≡◌, ◌+◌, ◌<◌, ◌≤◌, IfOk, decimal, length, nat_lt};
+ghost use Rattle.std.specs.Prelude.{◌≡◌, ◌+◌, ◌<◌, ◌≤◌, IfOk, MatchResult, decimal, length, nat_lt};
 ghost use Rattle.xl_sched.specs.Refusals.{GivenMemory};
 ghost use Rattle.xl_sched.specs.declared.refusal.SchedRefusal.TheVariants.{Count};
 ghost use Rattle.xl_store.specs.declared.entry.Saved.{Saved};
 ghost use Rattle.xl_audit.specs.Reading.{counted_entry, counted_relist, drain_event, entry_in, event_of, frame_event, greet_event, issue_event, least_behind, outcome_len, relist_behind, reply_in, reports_event, submit_event, timer_event, told_behind, IsFit};
 
-use crate::Written;
 use crate::tokens::{bytes, id, moment, number_from, outcome, peer};
 use crate::word::EntryWord;
 use crate::words::Words;
 use std::alloc::Global;
-use xl_base::{Bytes, LedgerId, TxId};
+use std::marker::Model;
+use xl_base::{LedgerId, TxId};
 use xl_core::CoreEvent;
 use xl_sched::{Cause, LineFault, full, member_numbers, number, trusted};
 use xl_store::{Entry, Saved};
 use xl_tags::Keys;
 use xl_wire::LONGEST_FRAME;
+
+/// An entry with its reply, which stands in the line.
+#[derive(Drop)]
+pub struct ReadEntry<'a> {
+    pub entry: Entry,
+    pub reply: &'a [u8],
+}
+
+impl<'a> Model for ReadEntry<'a> {
+    ghost use Rattle.xl_audit.specs.declared.written.Written.{Written};
+    ghost use Rattle.xl_audit.specs.Laws.{written_with};
+
+    ghost Value = { Written };
+
+    ghost view = { λ read. written_with read.entry read.reply.now };
+}
 
 /// `now digits`, or `-` for no bytes.
 fn frame<'a>(alloc: Global, args: &Words<'a>) -> Result<CoreEvent, LineFault<'a>>
@@ -120,15 +136,16 @@ fn outcome_len(outcome: &Option<Saved>) -> usize
 }
 
 /// Behind `=` all is the reply.
-fn reply<'a>(alloc: Global, words: &Words<'a>) -> Result<Bytes, LineFault<'a>>
-    ensures { GivenMemory result (reply_in words.now) }
+fn reply<'a>(words: &Words<'a>) -> Result<&'a [u8], LineFault<'a>>
+    ensures { MatchResult result
+        (λ reply. reply_in words.now ≡ Ok reply.now)
+        (λ fault. reply_in words.now ≡ Err fault) }
 {
     let sign = words.first();
     if sign != b"=".as_slice() {
         return Err(LineFault::with_text(Cause::Choice, sign));
     }
-    let text = Vec::from_slice(alloc, words.others().text())?;
-    Ok(Bytes::from_vec(text))
+    Ok(words.others().text())
 }
 
 /// The entry of a word, of the tokens after it, and of those behind its event.
@@ -138,13 +155,13 @@ fn told_entry<'a>(
     word: EntryWord,
     args: &Words<'a>,
     behind: &Words<'a>,
-) -> Result<Written, LineFault<'a>>
+) -> Result<ReadEntry<'a>, LineFault<'a>>
     ensures { GivenMemory result (told_behind keys.now word args.now behind.now) }
 {
     let event = event(alloc, keys, word, args)?;
     let outcome = outcome(behind.first(), behind.at(1))?;
-    let reply = reply(alloc, &behind.after(outcome_len(&outcome)))?;
-    Ok(Written {
+    let reply = reply(&behind.after(outcome_len(&outcome)))?;
+    Ok(ReadEntry {
         entry: Entry { event, outcome },
         reply,
     })
@@ -182,7 +199,7 @@ fn counted_entry<'a>(
     keys: &Keys,
     word: EntryWord,
     args: &Words<'a>,
-) -> Result<Written, LineFault<'a>>
+) -> Result<ReadEntry<'a>, LineFault<'a>>
     ensures { GivenMemory result (counted_entry keys.now word args.now) }
 {
     let behind = args.after(word.arity());
@@ -197,26 +214,26 @@ fn relist_entry<'a>(
     alloc: Global,
     args: &Words<'a>,
     behind: &Words<'a>,
-) -> Result<Written, LineFault<'a>>
+) -> Result<ReadEntry<'a>, LineFault<'a>>
     ensures { GivenMemory result (relist_behind args.now behind.now) }
 {
     let now = moment(args.at(0))?;
     let quorum = number(args.at(1))?;
     let members = member_numbers(alloc, args.at(2))?;
     let outcome = outcome(behind.first(), behind.at(1))?;
-    let reply = reply(alloc, &behind.after(outcome_len(&outcome)))?;
+    let reply = reply(&behind.after(outcome_len(&outcome)))?;
     let event = CoreEvent::Relist {
         now,
         list: trusted(&members, quorum)?,
     };
-    Ok(Written {
+    Ok(ReadEntry {
         entry: Entry { event, outcome },
         reply,
     })
 }
 
 /// The entry by which a list changes, where its tokens are enough.
-fn counted_relist<'a>(alloc: Global, args: &Words<'a>) -> Result<Written, LineFault<'a>>
+fn counted_relist<'a>(alloc: Global, args: &Words<'a>) -> Result<ReadEntry<'a>, LineFault<'a>>
     ensures { GivenMemory result (counted_relist args.now) }
 {
     let behind = args.after(3);
@@ -227,7 +244,11 @@ fn counted_relist<'a>(alloc: Global, args: &Words<'a>) -> Result<Written, LineFa
 }
 
 /// The entry that a line of these tokens tells.
-pub fn entry<'a>(alloc: Global, keys: &Keys, words: &Words<'a>) -> Result<Written, LineFault<'a>>
+pub fn entry<'a>(
+    alloc: Global,
+    keys: &Keys,
+    words: &Words<'a>,
+) -> Result<ReadEntry<'a>, LineFault<'a>>
     ensures { GivenMemory result (entry_in keys.now words.now) }
 {
     let token = words.first();

@@ -1,10 +1,11 @@
 // The machine of `xl audit`.
-ghost use Rattle.std.specs.Prelude.{◌≡◌, ◌+◌, ◌<◌, ◌≤◌, ◌^◌, None, IfOk, OnOk};
+ghost use Rattle.std.specs.Prelude.{◌≡◌, ◌+◌, ◌<◌, ◌≤◌, ◌^◌, None, IfOk, OnErr, OnOk, length};
 ghost use Rattle.xl_audit.specs.Auditing.{entry_step, judging_step, keying_step, opening_step, step};
+ghost use Rattle.xl_audit.specs.declared.judging.Stage.TheVariants.{Judging};
 ghost use Rattle.xl_audit.specs.Judging.{IsReady, IsReady-prop, MayOpen, entries_of, step_given};
 ghost use Rattle.xl_audit.specs.Opening.{core_of, unmet};
 ghost use Rattle.xl_audit.specs.Words.{tokens};
-ghost use Rattle.xl_audit.specs.Limits.{most_lines};
+ghost use Rattle.xl_audit.specs.Limits.{most_bytes, most_lines};
 
 use crate::Auditor;
 use crate::judging::{
@@ -59,11 +60,8 @@ impl Judge {
         if self.lines == MOST_LINES {
             return Ok(Step::Refused(beyond(self.alloc, Overrun::ManyLines)?));
         }
-        let words = Words::of(line);
-        let stage = mem::replace(&mut self.stage, Stage::Heading);
-        let (stage, step) = next(self.alloc, stage, line, &words)?;
+        let step = next(self.alloc, &mut self.stage, line)?;
         self.lines += 1;
-        self.stage = stage;
         Ok(step)
     }
 }
@@ -127,8 +125,10 @@ fn first_entry(
     ensures ready { IfOk result (λ done. IsReady done.0) }
     ensures more { IfOk result (λ done. entries_of done.0 ≤ 1) }
 {
-    let auditor = opened(alloc, opening, keys)?;
-    judge_entry(alloc, auditor, 0, words)
+    let mut auditor = opened(alloc, opening, keys)?;
+    let mut entries = 0;
+    let step = judge_entry(alloc, &mut auditor, &mut entries, words)?;
+    Ok((Stage::Judging { auditor, entries }, step))
 }
 
 /// The line behind the keys.
@@ -181,25 +181,25 @@ fn keying(
 /// A line behind an entry.
 fn judging(
     alloc: Global,
-    auditor: Auditor,
-    entries: u64,
+    auditor: &mut Auditor,
+    entries: &mut u64,
     words: &Words<'_>,
-) -> Result<(Stage, Step), OutOfMemory>
-    requires few { entries + 1 < 2 ^ 64 }
-    ensures step { IfOk result (λ done. step_given done.1 done.0 ≡ judging_step auditor entries words.now) }
-    ensures ready { IfOk result (λ done. IsReady done.0) }
-    ensures more { IfOk result (λ done. entries_of done.0 ≤ entries + 1) }
+) -> Result<Step, OutOfMemory>
+    requires few { entries.old + 1 < 2 ^ 64 }
+    ensures step { IfOk result (λ done. step_given done (Judging auditor.new entries.new)
+        ≡ judging_step auditor.old entries.old words.now) }
+    ensures more { IfOk result (λ _. entries.new ≤ entries.old + 1) }
+    ensures none { OnErr result (entries.new ≡ entries.old) }
 {
     let word = words.first();
     if word == b"key".as_slice() {
-        let step = refused(alloc, LineFault::with_text(Cause::Late, word))?;
-        return Ok((Stage::Judging { auditor, entries }, step));
+        return refused(alloc, LineFault::with_text(Cause::Late, word));
     }
     judge_entry(alloc, auditor, entries, words)
 }
 
-/// What the next line leads to.
-fn next(
+/// What a line before the second entry leads to.
+fn opening(
     alloc: Global,
     stage: Stage,
     line: &[u8],
@@ -216,6 +216,31 @@ fn next(
         Stage::Heading => heading(alloc, line, words),
         Stage::Setting => setting(alloc, words),
         Stage::Keying { opening, keys } => keying(alloc, opening, keys, words),
-        Stage::Judging { auditor, entries } => judging(alloc, auditor, entries, words),
+        Stage::Judging { auditor, entries } => {
+            let mut auditor = auditor;
+            let mut entries = entries;
+            let step = judging(alloc, &mut auditor, &mut entries, words)?;
+            Ok((Stage::Judging { auditor, entries }, step))
+        }
     }
+}
+
+/// What the next line leads to. The core of the entries isn't moved.
+fn next(alloc: Global, stage: &mut Stage, line: &[u8]) -> Result<Step, OutOfMemory>
+    requires ready { IsReady stage.old }
+    requires few { entries_of stage.old + 1 < 2 ^ 64 }
+    requires short { length line.now ≤ most_bytes }
+    ensures step { IfOk result (λ done. step_given done stage.new ≡ step stage.old line.now) }
+    ensures ready { IsReady stage.new }
+    ensures more { IfOk result (λ _. entries_of stage.new ≤ entries_of stage.old + 1) }
+    ensures none { OnErr result (entries_of stage.new ≤ entries_of stage.old) }
+{
+    let words = Words::of(line);
+    if let Stage::Judging { auditor, entries } = stage {
+        return judging(alloc, auditor, entries, &words);
+    }
+    let taken = mem::replace(stage, Stage::Heading);
+    let (left, step) = opening(alloc, taken, line, &words)?;
+    *stage = left;
+    Ok(step)
 }

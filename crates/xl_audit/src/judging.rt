@@ -1,8 +1,9 @@
 // A journal, line by line.
-ghost use Rattle.std.specs.Prelude.{◌≡◌, ◌+◌, ◌++◌, ◌<◌, ◌≤◌, ◌^◌, None, IfOk, OnOk, decimal};
+ghost use Rattle.std.specs.Prelude.{◌≡◌, ◌+◌, ◌++◌, ◌<◌, ◌≤◌, ◌^◌, None, IfOk, OnErr, OnOk, decimal};
 ghost use Rattle.std.specs.String.{string_bytes};
 ghost use Rattle.xl_audit.specs.Auditing.{bad_line, bad_text, beyond, ended, heading_step, judged, no_line, set, yes_line};
 ghost use Rattle.xl_audit.specs.Judging.{IsReady, IsRefused, MayOpen, entries_of, step_given};
+ghost use Rattle.xl_audit.specs.declared.judging.Stage.TheVariants.{Judging};
 ghost use Rattle.xl_audit.specs.Opening.{core_of, opening_in, unmet};
 ghost use Rattle.xl_audit.specs.Reading.{entry_in};
 ghost use Rattle.xl_audit.specs.Words.{tokens};
@@ -89,36 +90,29 @@ pub fn setting(alloc: Global, words: &Words<'_>) -> Result<(Stage, Step), OutOfM
     }
 }
 
-/// The line of an entry.
+/// The line of an entry, which is counted if it is right.
 pub fn judge_entry(
     alloc: Global,
-    auditor: Auditor,
-    entries: u64,
+    auditor: &mut Auditor,
+    entries: &mut u64,
     words: &Words<'_>,
-) -> Result<(Stage, Step), OutOfMemory>
-    requires few { entries + 1 < 2 ^ 64 }
-    ensures step { IfOk result (λ done. step_given done.1 done.0
-        ≡ judged auditor entries (entry_in auditor.node.keys words.now)) }
-    ensures ready { IfOk result (λ done. IsReady done.0) }
-    ensures more { IfOk result (λ done. entries_of done.0 ≤ entries + 1) }
+) -> Result<Step, OutOfMemory>
+    requires few { entries.old + 1 < 2 ^ 64 }
+    ensures step { IfOk result (λ done. step_given done (Judging auditor.new entries.new)
+        ≡ judged auditor.old entries.old (entry_in auditor.old.node.keys words.now)) }
+    ensures more { IfOk result (λ _. entries.new ≤ entries.old + 1) }
+    ensures none { OnErr result (entries.new ≡ entries.old) }
 {
-    let mut auditor = auditor;
     match entry(alloc, auditor.keys(), words) {
-        Ok(written) => {
-            if auditor.entry(&written)? {
-                let entries = entries + 1;
-                Ok((Stage::Judging { auditor, entries }, Step::GoesOn))
+        Ok(read) => {
+            if auditor.judge(&read.entry, read.reply)? {
+                *entries += 1;
+                Ok(Step::GoesOn)
             } else {
-                Ok((
-                    Stage::Judging { auditor, entries },
-                    Step::Wrong(entries + 1),
-                ))
+                Ok(Step::Wrong(*entries + 1))
             }
         }
-        Err(fault) => {
-            let step = refused(alloc, fault)?;
-            Ok((Stage::Judging { auditor, entries }, step))
-        }
+        Err(fault) => refused(alloc, fault),
     }
 }
 
