@@ -1,14 +1,22 @@
 """Counts instructions by valgrind, and the memory of a run by the system's resource usage."""
-import os
 import re
 import shutil
 import subprocess
+import sys
 import tempfile
 
 import command
 
 TOTAL = re.compile(r'^(?:summary|totals): (\d+)', re.MULTILINE)
 QUIET = dict(stdout=subprocess.DEVNULL, stderr=subprocess.DEVNULL)
+# Starts a program that says nothing, and says what memory it held.
+STARTER = '''
+import os, sys
+nowhere = os.open(os.devnull, os.O_WRONLY)
+quiet = [(os.POSIX_SPAWN_DUP2, nowhere, 1), (os.POSIX_SPAWN_DUP2, nowhere, 2)]
+process = os.posix_spawnp(sys.argv[1], sys.argv[1:], os.environ, file_actions=quiet)
+print(os.wait4(process, 0)[2].ru_maxrss)
+'''
 
 
 class Uncounted(Exception):
@@ -58,10 +66,10 @@ def calls(words, function, count):
 
 
 def memory(words, text=''):
-    """The most memory that a run held, in kilobytes; what this process holds itself is the least that is seen."""
+    """The most memory that a run held, in kilobytes. A process begins with what its starter holds, so a small one starts
+    it, and some 9,000 are the least that is seen."""
     with tempfile.TemporaryFile() as given:
         given.write(text.encode('latin-1'))
         given.seek(0)
-        process = subprocess.Popen(words, stdin=given, **QUIET)
-        _, process.returncode, used = os.wait4(process.pid, 0)
-        return used.ru_maxrss
+        words = [sys.executable, '-S', '-c', STARTER, *words]
+        return int(subprocess.run(words, stdin=given, stdout=subprocess.PIPE, check=True).stdout)
