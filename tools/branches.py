@@ -2,6 +2,8 @@
 
 No message is forged and nobody lies in them: some of what is said is lost, and that is all. Two reports stand on two
 branches if the later ledger doesn't follow the earlier one. With one sequence that would be a fork; with two it isn't."""
+import math
+import time
 from dataclasses import dataclass
 
 FIRST_SECOND = 16  # before that no node's round has anything to close
@@ -81,19 +83,31 @@ class Rounds:
         return '\n'.join(self.head + sum(self.blocks if blocks is None else blocks, [])) + '\n'
 
 
-def smaller(rounds, replay):
-    """The schedule without what isn't needed for its two branches: blocks, then lines of them, from the end on."""
-    blocks = [list(block) for block in rounds.blocks]
-    holds = lambda some: two_branches(replay(rounds.text(some))) is not None
-    for place in reversed(range(len(blocks))):
-        without = blocks[:place] + blocks[place + 1 :]
-        if holds(without):
-            blocks = without
-    for place in reversed(range(len(blocks))):
-        if blocks[place][1:] != HEARD and blocks[place][0].startswith('at '):
-            plain = blocks[:place] + [[blocks[place][0], *HEARD]] + blocks[place + 1 :]
-            blocks = plain if holds(plain) else blocks
-        for line in reversed(range(len(blocks[place]))):
-            without = blocks[:place] + [blocks[place][:line] + blocks[place][line + 1 :]] + blocks[place + 1 :]
-            blocks = without if holds(without) else blocks
-    return rounds.text(blocks)
+class Smaller:
+    """The schedule without what isn't needed for its two branches: `blocks` are those that are left by now."""
+
+    def __init__(self, rounds, replay):
+        self.rounds, self.replay, self.blocks = rounds, replay, [list(block) for block in rounds.blocks]
+        self.until = math.inf
+
+    def text(self):
+        return self.rounds.text(self.blocks)
+
+    def put(self, place, *blocks):
+        """Puts these blocks in the place of one, if two branches stay and there is time."""
+        some = self.blocks[:place] + list(blocks) + self.blocks[place + 1 :]
+        if time.monotonic() < self.until and two_branches(self.replay(self.rounds.text(some))) is not None:
+            self.blocks = some
+
+    def shrink(self, until):
+        """Leaves out blocks, and then lines of them, from the end on, up to this moment of the monotonic clock."""
+        self.until = until
+        for place in reversed(range(len(self.blocks))):
+            self.put(place)
+        for place in reversed(range(len(self.blocks))):
+            first, *rest = self.blocks[place]
+            if rest != HEARD and first.startswith('at '):
+                self.put(place, [first, *HEARD])
+            for line in reversed(range(len(self.blocks[place]))):
+                block = self.blocks[place]
+                self.put(place, block[:line] + block[line + 1 :])

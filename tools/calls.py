@@ -9,14 +9,8 @@ CRATES = os.path.join(os.path.dirname(os.path.dirname(os.path.realpath(__file__)
 MORE = 100000  # by how many calls two runs differ
 THREADS = (0, 1, 2, 3)  # how often the calls are shared out to two threads
 HEARTBEATS = (
-    ('rounds::an_idle_round_closes_and_is_ready', (
-        'a heartbeat of an open round that stays open', 'one that closes, with nothing pending', 'one below 1,950 ms',
-        'one in establish, with no other member', 'one that is ready', 'one of an accepted round',
-    )),
-    ('rounds::members_come_to_agree', (
-        'a heartbeat that closes, with two pending and three members', 'one below 1,950 ms',
-        'one in establish by which our set changes', 'one that is ready', 'one that renews our position',
-    )),
+    'a heartbeat of an open round that stays open', 'one that closes, with nothing pending', 'one below 1,950 ms',
+    'one in establish, with no other member', 'one that is ready',
 )
 # A name, the test of xl_tags, and the function of which the test's first call is counted.
 TAGS = (
@@ -47,10 +41,10 @@ def of_tags():
 
 
 def of_heartbeats():
-    tests = made('test_calls', 'test')
-    for test, names in HEARTBEATS:
-        counts = counting.calls([tests, test], 'xl_rounds::round::Round::heartbeat', len(names))
-        yield from map(line, names, counts)
+    """Of an idle round, from its open phase to the ledger that is agreed on."""
+    words = [made('test_calls', 'test'), 'rounds::an_idle_round_closes_and_is_ready']
+    counts = counting.calls(words, 'xl_rounds::round::Round::heartbeat', len(HEARTBEATS))
+    yield from map(line, HEARTBEATS, counts)
 
 
 def of_sets():

@@ -2,10 +2,14 @@
 
 A tool imports this module before all others, so that an interrupt while those are loaded is one line too."""
 import io
+import math
 import os
+import signal
 import sys
+import time
 
 INTERRUPTED = 130
+FIRST_TOLD = 10  # the second from which on long work says how far it is
 
 
 def stop(why, status=2):
@@ -21,6 +25,33 @@ def leave(why, status):
     except OSError:
         pass
     os._exit(status)
+
+
+def take_ends_as_interrupts():
+    """A signal to end, as `timeout` and Slurm send it, is an interrupt: what was found is still written."""
+
+    def interrupt(number, frame):
+        raise KeyboardInterrupt
+
+    signal.signal(signal.SIGTERM, interrupt)
+
+
+class Told:
+    """When the next line of how far a long work is may be said: a second behind the last, in whatever part of the work.
+
+    Of what no tool runs, as in a test, nothing is said."""
+
+    next = math.inf
+
+
+def told_on_the_way(items, what):
+    """The items; from the tenth second on it is said once a second how many of them are through."""
+    for number, item in enumerate(items):
+        if number % 64 == 0 and time.monotonic() >= Told.next:
+            Told.next = time.monotonic() + 1
+            told = '%s: %s of %s %s' % (os.path.basename(sys.argv[0]), format(number, ','), format(len(items), ','), what)
+            print(told, file=sys.stderr, flush=True)
+        yield item
 
 
 def write(text):
@@ -47,6 +78,7 @@ def write_file(path, text):
 
 def run(main):
     """Ends the tool with the status that its main function gives."""
+    Told.next = time.monotonic() + FIRST_TOLD
     try:
         try:
             status = main()

@@ -6,6 +6,7 @@ import hashlib
 import struct
 from dataclasses import dataclass, field
 
+import command
 import schedules
 
 ROOT = '0' * 64
@@ -246,7 +247,8 @@ class Rounds:
         self.known, self.said = dict(states.before), {}
         self.now = {number: self.opened(number, state.time) for number, state in states.before.items()}
         self.before = {number: self.told(number) for number in self.now}
-        self.behind = [self.step(event) for event in story.events]
+        events = command.told_on_the_way(story.events, 'events: what each round is at')
+        self.behind = [self.step(event) for event in events]
 
     def opened(self, number, moment):
         return Round('observing' if self.story.network.nodes[number].observes else 'proposing', moment)

@@ -7,7 +7,6 @@ import shutil
 import struct
 import subprocess
 import sys
-import time
 from dataclasses import dataclass, field
 
 import command
@@ -25,9 +24,11 @@ PROBLEMS = {2: 'words refused', 4: 'input failed', 5: 'output failed', 6: 'out o
 
 
 def find_program(given):
-    """The program that is given, else the one that XL names, else the repository's own, proved or not as `xl` has it."""
+    """The program that is given, else the one that XL names, else the repository's own, proved or not as `xl` has it.
+
+    Tools that are installed have no repository: then it is the `xl` of the path."""
     script = os.path.join(TOP, 'xl')
-    path = given or os.environ.get('XL') or script
+    path = given or os.environ.get('XL') or (script if os.path.isfile(script) else 'xl')
     if os.path.realpath(path) == script:
         if subprocess.run([script, '--version'], stdin=subprocess.DEVNULL, stdout=subprocess.DEVNULL).returncode:
             command.stop('the program could not be built; run ./xl --version to see why')
@@ -44,6 +45,21 @@ def add_program_option(parser):
     parser.add_argument(
         '--xl', metavar='PROGRAM', help='the program to run (else what XL names, else the repository\'s own)'
     )
+
+
+def add_window_options(parser):
+    parser.add_argument('--from', dest='first', type=int, metavar='LINE', help='the first line of a window')
+    parser.add_argument('--to', dest='last', type=int, metavar='LINE', help='the last line of a window')
+
+
+def stop_on_no_line(text, first=None, last=None):
+    """Ends the tool if a window has no line of the text."""
+    count = len(read_lines(text))
+    if first is not None and last is not None and first > last:
+        command.stop('from line %d to line %d there is none' % (first, last))
+    for line, most in ((first, count), (last, last)):
+        if line is not None and not 1 <= line <= most:
+            command.stop('there is no line %d; the last one is %d' % (line, count))
 
 
 def read_text(path):
@@ -282,6 +298,10 @@ class Event:
     def word(self):
         return self.tokens[0]
 
+    def reported(self, outcome):
+        """An outcome as the report has it: a refusal by the line of the schedule, and not by that of the feed."""
+        return ['refused', str(self.line), *outcome[2:]] if outcome[0] == 'refused' else outcome
+
     def told(self, word):
         return [outcome for outcome in self.outcomes if outcome[0] == word]
 
@@ -501,18 +521,6 @@ class Follower:
                     self.frames.append(frame)
 
 
-def told_on_the_way(lines):
-    """The lines; on a terminal it is said once a second, from the second on, how many of them are through."""
-    last, was_told = time.monotonic() + 1, False
-    for number, line in enumerate(lines):
-        if number % 64 == 0 and time.monotonic() - last > 1 and sys.stderr.isatty():
-            last, was_told = time.monotonic(), True
-            print('\r%s of %s lines' % (format(number, ','), format(len(lines), ',')), end='', file=sys.stderr, flush=True)
-        yield line
-    if was_told:
-        print('\r\x1b[K', end='', file=sys.stderr, flush=True)
-
-
 class Story:
     """A schedule, its events, and its report."""
 
@@ -535,7 +543,7 @@ class Story:
     def follow(follower, lines):
         gc.disable()  # all that is made here stays, and to look for what doesn't would take half of the time
         try:
-            for line, words in enumerate(told_on_the_way(lines), 1):
+            for line, words in enumerate(command.told_on_the_way(lines, 'lines are replayed'), 1):
                 tokens = words.split()
                 if not is_passed_over(tokens):
                     follower.take(line, words, tokens)

@@ -5,6 +5,7 @@ known ledgers follow from the events, from what was refused, and from the clock.
 import struct
 from dataclasses import dataclass, field, replace
 
+import command
 import schedules
 
 ROOT = '0' * 64
@@ -99,7 +100,7 @@ class States:
             for number, node in story.network.nodes.items()
         }
         self.now, self.behind = dict(self.before), []
-        for event in story.events:
+        for event in command.told_on_the_way(story.events, 'events: what each node holds'):
             self.behind.append(self.step(event) if event.node in self.now else None)
             if self.behind[-1]:
                 self.now[event.node] = self.behind[-1]
@@ -241,6 +242,35 @@ class States:
         while chain[-1] in self.parents:
             chain.append(self.parents[chain[-1]])
         return chain[::-1] if chain[-1] == ROOT else None
+
+    def sequences_said(self):
+        """The sequences of each ledger by its id: what it has, and what is said of it."""
+        found = {ledger: {sequence} for ledger, sequence in self.sequences.items()}
+        for event, state in zip(self.story.events, self.behind):
+            inner = schedules.inner_event(event.tokens)
+            said = [outcome[2:4] for outcome in event.outcomes if outcome[0] in ('built', 'full', 'switched')]
+            said += [inner[2:4]] * (inner[0] == 'issue') + [inner[4:6]] * (inner[0] == 'lie' and inner[3] == 'validation')
+            for sequence, token in said:
+                found.setdefault(self.names.id_of(token), set()).add(int(sequence))
+            for row in state.rows.values() if state and event.word == 'raw' else ():
+                found.setdefault(row.ledger, set()).add(row.sequence)
+        return found
+
+    def two_branches(self):
+        """Pairs of reports of different sequences, of which the later ledger doesn't follow the earlier one.
+
+        One pair for each two ledgers, and of one node where a node reported both; these pairs come first."""
+        told, found = {}, []
+        for report in self.reports:
+            told.setdefault((report.sequence, report.ledger), {}).setdefault(report.node, report)
+        for high in sorted(told):
+            chain = self.chain(high[1])
+            for low in sorted(told) if chain else ():
+                if low[0] < high[0] and chain[low[0] : low[0] + 1] != [low[1]]:
+                    node = next((node for node in told[low] if node in told[high]), None)
+                    pick = lambda which: told[which].get(node) or next(iter(told[which].values()))
+                    found.append((pick(low), pick(high)))
+        return sorted(found, key=lambda pair: (pair[0].node != pair[1].node, pair[0].sequence, pair[1].sequence))
 
 
 def preferred(state, chains):

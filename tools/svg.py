@@ -9,6 +9,7 @@ LIGHT = dict(
     mute='#5d6773',
     lane='#c2cad3',
     red='#c81e2b',
+    amber='#8a5a00',
     soft='#eef1f4',
     ledgers=['#1f5fbf', '#b05a00', '#17805a', '#7447b8', '#0a7a8a', '#99407a', '#66700f'],
 )
@@ -18,6 +19,7 @@ DARK = dict(
     mute='#9da8b5',
     lane='#4a5461',
     red='#ff6b70',
+    amber='#e3b341',
     soft='#212831',
     ledgers=['#6ea8ff', '#f0a045', '#4fc998', '#b794f6', '#45c6d6', '#e58bc4', '#bccb52'],
 )
@@ -34,7 +36,7 @@ NARROW, STRONG, PLAIN, BOLD = 6.3, 7.6, 6.8, 10.2
 def rules(colours):
     """The style of one scheme: `ink` and the like fill, `ink-line` and the like are strokes."""
     plain = (
-        '.paper,.hole{fill:%(paper)s}.ink{fill:%(ink)s}.mute{fill:%(mute)s}.red{fill:%(red)s}.soft{fill:%(soft)s}'
+        '.paper,.hole{fill:%(paper)s}.ink{fill:%(ink)s}.mute{fill:%(mute)s}.red{fill:%(red)s}.amber{fill:%(amber)s}.soft{fill:%(soft)s}'
         '.halo{stroke:%(paper)s}.lane-line{stroke:%(lane)s}.mute-line{stroke:%(mute)s}.red-line{stroke:%(red)s}'
     )
     ledgers = ''.join(

@@ -41,10 +41,12 @@ def main_with_toml():
         unittest.main()
 
 
-def stories():
-    for name in sorted(os.listdir(STORIES)):
+def stories(folder=''):
+    """Each story of the folder in schedules/: its name and its text."""
+    folder = os.path.join(STORIES, folder)
+    for name in sorted(os.listdir(folder)):
         if name.endswith('.xl'):
-            yield name, schedules.read_text(os.path.join(STORIES, name))
+            yield name, schedules.read_text(os.path.join(folder, name))
 
 
 def text_boxes(drawn):

@@ -6,12 +6,15 @@ import math
 
 import schedules
 import svg
-from words import Wording, ranges, seconds
+from states import States
+from words import KINDS, Wording, ranges, seconds
 
-ROW = 26
+ROW, MOST_WARNINGS = 26, 2
 MOST_SHOWN, FIRST_SHOWN, LAST_SHOWN = 100, 60, 40
 MOST_ASKED, FIRST_ASKED, LAST_ASKED = 1000, 600, 400
 FAR = 10**7
+# a compact picture's words are 9 pixels high in a column of 830, and its lanes stand no nearer than this
+WIDEST, NEAREST, MOST_PHRASE = 1100, 40, 32
 GAP, THIN = 42, 10
 BRIEF = ('built', 'full', 'switched', 'preferred', 'lie', 'restart', 'cut', 'fail', 'list')
 LEGEND = {
@@ -20,6 +23,7 @@ LEGEND = {
     'full': '● it reports a ledger as final',
     'switched': '◇ it goes over to another ledger',
     'deliver': '→ a message arrives',
+    'shared': '–·→ a message on a ledger whose colour another of its sequence has too',
     'lie': '⇢ a lie, told to one node',
     'raw': '⇢ raw bytes from outside',
     'lost': '× a message that never arrives',
@@ -30,19 +34,42 @@ LEGEND = {
 }
 
 
+class Shades:
+    """A colour for each ledger: they go round, and no two of one sequence have the same, while there are other ones.
+
+    From the eighth ledger of a sequence on its name and the pattern of its arrows tell: these are `shared`."""
+
+    def __init__(self, sequences):
+        self.sequences, self.found, self.taken, self.shared = sequences, {}, {}, set()
+
+    def of(self, ledger):
+        if ledger not in self.found:
+            count, at = len(svg.LIGHT['ledgers']), self.sequences.get(ledger, ())
+            taken = {it for sequence in at for it in self.taken.get(sequence, ())}
+            round_about = [(len(self.found) + place) % count for place in range(count)]
+            free = [it for it in round_about if it not in taken]
+            self.shared.update([ledger] * (not free))
+            self.found[ledger] = (free or round_about)[0]
+            for sequence in at:
+                self.taken.setdefault(sequence, set()).add(self.found[ledger])
+        return self.found[ledger]
+
+
 class Timeline:
     """The picture of a story."""
 
-    def __init__(self, story, options, fallback):
-        self.story, self.options = story, options
+    def __init__(self, story, options, fallback, states=None):
+        self.story, self.options, self.is_compact = story, options, getattr(options, 'compact', False)
         self.title = story.title or fallback
-        self.words, self.colours, self.used = Wording(story), {}, set()
+        states = states or States(story)
+        self.words, self.shades, self.used = Wording(story, states), Shades(states.sequences_said()), set()
         self.lanes = sorted([*story.network.nodes, *story.network.liars])
         self.fork = self.words.fork
         self.forked = {event.index: event for event, _ in self.fork or ()}
         self.arrived = {event.frame for event in story.events}
         self.shown = [event for event in story.events if self.is_shown(event)]
         self.shorten()
+        self.without = self.leave_out_lanes() if self.is_compact and not options.bare else []
         self.fold()
         self.labels = {event.index: self.beside(event) for event in self.shown}
         self.under, self.boxes, self.over, self.texts = [], [], [], []
@@ -65,6 +92,16 @@ class Timeline:
         left_out = set(self.hidden)
         self.shown = [event for event in self.shown if event.index not in left_out]
 
+    def leave_out_lanes(self):
+        """Takes the lanes away at which nothing is shown, and to which no arrow leads: these numbers."""
+        used = {event.node for event in self.shown}
+        used.update(self.story.sender_of(event) for event in self.shown)
+        without = [number for number in self.lanes if number not in used]
+        if len(without) == len(self.lanes):
+            return []
+        self.lanes = [number for number in self.lanes if number in used]
+        return without
+
     def hides(self, first, last):
         """Whether events are hidden from the first index on and before the last one."""
         return bisect.bisect_left(self.hidden, first) < bisect.bisect_left(self.hidden, last)
@@ -79,8 +116,10 @@ class Timeline:
     def colour(self, token):
         if token is None:
             return 'mute'
-        found = self.colours.setdefault(self.story.names.id_of(token), len(self.colours))
-        return 'ledger%d' % (found % len(svg.LIGHT['ledgers']))
+        return 'ledger%d' % self.shades.of(self.story.names.id_of(token))
+
+    def is_shared(self, token):
+        return token is not None and self.story.names.id_of(token) in self.shades.shared
 
     def subject(self, event):
         """The ledger that an event, or what it sends, is about."""
@@ -98,7 +137,9 @@ class Timeline:
     def beside(self, event):
         """What stands beside the event's mark: pairs of words and kind."""
         parts = []
-        if event.word == 'issue' and not event.is_refused(*schedules.NEVER_SAVED):
+        if self.is_compact and event.word == 'issue':
+            pass  # the column of events has it
+        elif event.word == 'issue' and not event.is_refused(*schedules.NEVER_SAVED):
             said = self.words.ledger(*event.tokens[2:5])
             parts = [('says ' + said, self.colour(event.tokens[3]))]
         elif event.word == 'cut':
@@ -137,7 +178,28 @@ class Timeline:
 
     def phrase(self, event):
         count = self.folded.get(event.index, 1)
-        return '%d timers: all wait' % count if count > 1 else self.words.phrase(event)[:44]
+        if count > 1:
+            return '%d timers: all wait' % count
+        if not self.is_compact:
+            return self.words.phrase(event)[:44]
+        words = self.short_phrase(event) or self.words.phrase(event)
+        return words if len(words) <= MOST_PHRASE else words[: MOST_PHRASE - 1] + '…'
+
+    def short_phrase(self, event):
+        """What arrives in few words: from whom, to whom, and what it says."""
+        if event.word == 'lie':
+            return '%s ⇢ %s: %s' % (event.tokens[1], event.tokens[2], self.words.lie(event.tokens, ''))
+        if event.word != 'deliver':
+            return None
+        frame = self.story.frames[event.frame - 1]
+        sent = self.story.events[frame.event]
+        said, what = schedules.inner_event(sent.tokens), KINDS.get(frame.kind, frame.kind)
+        if frame.kind == 'validation' and said[0] == 'issue':
+            what = self.words.ledger(*said[2:5])
+        elif frame.kind in ('validation', 'header'):
+            built = [(it[2], it[3], it[4]) for it in sent.told('built')]
+            what = self.words.ledger(*built[0]) if built and frame.kind == 'validation' else what
+        return '%d → %d: %s' % (frame.sender, frame.receiver, what)
 
     def when(self, moment):
         """The moment, or the time since the first event where the numbers are long."""
@@ -149,6 +211,30 @@ class Timeline:
     def longest(self, measure, least=0):
         return max([measure(event) for event in self.shown] + [least])
 
+    def rooms(self):
+        """What the labels need left of the first lane and right of the last one."""
+        left, right, last = 46, 46, len(self.lanes) - 1
+        for event in self.shown:
+            if event.node not in self.lanes or not self.labels[event.index]:
+                continue
+            need, place = svg.width_of(self.labels[event.index]) + 22, self.lanes.index(event.node)
+            if self.side(event) < 0:
+                left = max(left, need - place * self.gap)
+            else:
+                right = max(right, need - (last - place) * self.gap)
+        return left, right
+
+    def narrow(self, left):
+        """Lays the lanes nearer to each other, and labels over lanes, until the picture is as wide as a column."""
+        while True:
+            room, right = self.rooms()
+            width = left + room + self.gap * (len(self.lanes) - 1) + right
+            if width <= WIDEST or self.gap <= NEAREST:
+                break
+            self.gap -= 2
+        self.x = {number: left + room + place * self.gap for place, number in enumerate(self.lanes)}
+        self.width = max(width, 640)
+
     def lay_out(self):
         """Where the columns and lanes stand. Moment, line and event stand left of the lanes."""
         self.gap = self.longest(lambda event: svg.width_of(self.labels[event.index]) + 24, 104)
@@ -156,6 +242,8 @@ class Timeline:
         self.line_x = self.time_x + 8 + self.longest(lambda event: len(str(event.line)) * svg.STRONG, 24)
         phrase = self.longest(lambda event: len(self.phrase(event)) * 6.6, 40)
         left = self.line_x + 14 + phrase + 12
+        if self.is_compact:
+            return self.narrow(left)
         room = self.gap - 8 if any(self.needs_left_room(event) for event in self.shown) else 46
         self.x = {number: left + room + place * self.gap for place, number in enumerate(self.lanes)}
         self.width = max(max([*self.x.values(), left]) + self.gap, 640)
@@ -184,12 +272,14 @@ class Timeline:
 
     def lane_head(self, number, y):
         node = self.story.network.nodes.get(number)
-        lines = ['says anything']
+        lines, letters = ['says anything'], int((self.gap - 12) / svg.NARROW)
+        if self.is_compact:
+            lines = svg.textwrap.wrap(lines[0], letters)
         if node:
-            members = svg.textwrap.wrap(ranges(node.members), int((self.gap - 12) / svg.NARROW))
+            members = svg.textwrap.wrap(ranges(node.members), letters)
             quorum = 'quorum %d of %d:' % (node.quorum, len(node.members))
             if len(quorum) * svg.NARROW > self.gap - 12:
-                quorum = 'quorum %d/%d:' % (node.quorum, len(node.members))
+                quorum = ('%d of %d:' if self.is_compact else 'quorum %d/%d:') % (node.quorum, len(node.members))
             lines = [quorum, *members, *['observing'] * node.observes]
         name = ('Node %d' if node else 'Liar %d') % number
         parts = [svg.text(self.x[number], y, name, 'bold ink', 'middle')]
@@ -244,8 +334,11 @@ class Timeline:
         room = 12 if event.index in self.forked else 7 if event.told('full') else 1
         if event.word == 'deliver':
             frame = self.story.frames[event.frame - 1]
-            colour = self.colour(self.subject_of_frame(frame))
-            self.under.append(svg.arrow(self.x[frame.sender], self.y[frame.event], x, y, colour, room=room))
+            colour, dash = self.colour(self.subject_of_frame(frame)), ''
+            if self.is_shared(self.subject_of_frame(frame)):
+                dash = '11 3 2 3'
+                self.used.add('shared')
+            self.under.append(svg.arrow(self.x[frame.sender], self.y[frame.event], x, y, colour, dash, room))
         elif event.word == 'lie':
             sender = self.x[int(event.tokens[1])]
             self.under.append(svg.arrow(sender, y - 12, x, y, self.colour(self.subject(event)), '5 4', room))
@@ -306,7 +399,7 @@ class Timeline:
         lost = {}
         for number, frame in enumerate(self.story.frames, 1):
             if number not in self.arrived and frame.event in self.labels:
-                side = 1 if self.x[frame.receiver] > self.x[frame.sender] else -1
+                side = 1 if frame.receiver > frame.sender else -1  # the lanes rise, and a compact picture lacks some
                 lost.setdefault((frame.event, side), []).append(frame)
         for (index, side), frames in lost.items():
             self.used.add('lost')
@@ -322,6 +415,9 @@ class Timeline:
         self.under += [svg.line(end_x - 3, end_y - down, end_x + 3, end_y + down, 'mute-line') for down in (3, -3)]
         if count > 1:
             anchor = 'end' if side < 0 else 'start'
+            if self.is_compact:
+                width = 6 * svg.NARROW + 4
+                self.boxes.append(svg.box(end_x + side * 4 - width * (side < 0), end_y - 6, width, 13, 'paper'))
             self.texts.append(svg.text(end_x + side * 6, end_y + 4, '%d lost' % count, 'halo mute', anchor))
 
     def draw_fork(self):
@@ -341,7 +437,7 @@ class Timeline:
         self.over += [svg.dot(ax, ay, 11, 'line red-line wide'), svg.dot(bx, by, 11, 'line red-line wide')]
 
     def draw_foot(self, y, verdict, notes):
-        kind, parts = 'bold large ' + ('ink' if verdict.startswith('Agreed') else 'red'), []
+        kind, parts = 'bold large ' + {'agree': 'ink', 'quiet': 'ink', 'branches': 'amber'}.get(self.words.kind(), 'red'), []
         if not self.options.bare:
             parts, y = svg.block(20, y, verdict, kind, self.width - 40, svg.BOLD, 21)
         legend = [LEGEND[word].replace(' ', '\u00a0') for word in LEGEND if word in self.used]
@@ -358,7 +454,8 @@ class Timeline:
         """What a brief picture says of what it leaves out."""
         left_out = len(self.story.events) - len(self.shown) - len(self.hidden)
         told = ['Left out: %s events without a build, a report or a switch.' % format(left_out, ',')]
-        return told * bool(self.options.brief and left_out)
+        empty = ['Without a lane, since nothing is shown at them: %s.' % ranges(self.without)] * bool(self.without)
+        return told * bool(self.options.brief and left_out) + empty
 
     def description(self, verdict, notes):
         """What a screen reader reads: the end, and each report."""
@@ -377,14 +474,14 @@ class Timeline:
 
     def draw(self):
         self.lay_out()
-        top = self.draw_head()
-        end = self.place_rows(top)
-        self.draw_lanes(top, end)
+        self.top = self.draw_head()
+        end = self.place_rows(self.top)
+        self.draw_lanes(self.top, end)
         self.draw_rows()
         self.draw_lost()
         if self.fork:
             self.draw_fork()
-        verdict, notes = self.words.verdict(), self.words.notes()
+        verdict, notes = self.words.verdict(), self.words.warnings(MOST_WARNINGS) + self.words.notes()
         height = self.draw_foot(end + 32, verdict, notes)
         return svg.page(
             self.width,

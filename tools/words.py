@@ -1,4 +1,5 @@
 """What the tools say of codes, events, outcomes and ends, in words. docs/FORMATS.md says what they mean exactly."""
+import refusals
 import schedules
 
 # why a node refuses: in two or three words for a picture, and as a sentence on the node; {0} is the first value
@@ -50,6 +51,11 @@ REFUSED_LINES = {
     '15 no member\'s number)',
     44: '“{0}” isn\'t declared, or no such frame is sent yet',
 }
+MOST_PAIRS = 9  # so many are named one by one
+NONE_SHORT = 'No pair of nodes is short: every two quorums share an honest member.'
+NONE_SHORT_OF_BRANCHES = (
+    'No pair of nodes is short, which keeps reports of one sequence alike; it keeps no two sequences on one branch.'
+)
 OF_ONE_SEQUENCE = 'This speaks of ledgers of one sequence, and of runs in which no message is forged.'
 KINDS = {
     'validation': 'validation',
@@ -78,6 +84,40 @@ def ranges(members):
     return ', '.join(str(a) if a == b else '%d%s%d' % (a, ', ' if b == a + 1 else '–', b) for a, b in runs)
 
 
+def alike_in(pairs):
+    """Groups of numbers, of which each two have the same pairs with all others, and with themselves."""
+    numbers, there, groups = sorted({it for pair in pairs for it in pair}), {frozenset(pair) for pair in pairs}, []
+    for one in numbers:
+        for group in groups:
+            other = group[0]
+            is_alike = all(
+                (frozenset((one, it)) in there) == (frozenset((other, it)) in there) for it in numbers if it not in (one, other)
+            )
+            if is_alike and (frozenset((one,)) in there) == (frozenset((other,)) in there):
+                group.append(one)
+                break
+        else:
+            groups.append([one])
+    return groups
+
+
+def pairs_in_words(pairs):
+    """Pairs of numbers, one by one; if they are many, those of one group with those of another are named together."""
+    if len(pairs) <= MOST_PAIRS:
+        return ['%d and %d' % pair if pair[0] != pair[1] else '%d with itself' % pair[0] for pair in pairs]
+    there, told, groups = set(pairs), [], alike_in(pairs)
+    for place, ours in enumerate(groups):
+        with_itself = (ours[0], ours[0]) in there
+        if len(ours) > 1 and (ours[0], ours[1]) in there:
+            told.append('each two of %s%s' % (ranges(ours), ', and each with itself' * with_itself))
+        elif with_itself:
+            told.append('%s %swith itself' % (ranges(ours), 'each ' * (len(ours) > 1)))
+        for theirs in groups[place + 1 :]:
+            if tuple(sorted((ours[0], theirs[0]))) in there:
+                told.append('%s with %s' % (ranges(ours), ranges(theirs)))
+    return told
+
+
 def capital(said):
     return said[:1].upper() + said[1:]
 
@@ -102,9 +142,19 @@ def first_fork(events, names):
 class Wording:
     """What is said of each event, in words."""
 
-    def __init__(self, story):
+    def __init__(self, story, states):
         self.story, self.names = story, story.names
         self.fork = first_fork(story.events, story.names)
+        self.branches = states.two_branches()
+
+    def kind(self):
+        """How the run ended: `bad`, `fork`, `branches`, `quiet` if nothing is reported, or `agree`."""
+        if self.story.report.bad:
+            return 'bad'
+        if self.fork:
+            return 'fork'
+        is_quiet = not any(event.told('full') for event in self.story.events)
+        return 'branches' if self.branches else 'quiet' if is_quiet else 'agree'
 
     def ledger(self, sequence, token, flag='full'):
         return '%s #%s%s' % (self.names.short(token), sequence, ', partial' * (flag == 'partial'))
@@ -282,8 +332,8 @@ class Wording:
     def verdict(self):
         if self.story.report.bad:
             line, code, token = self.story.report.bad
-            why = REFUSED_LINES.get(int(code), 'code %s' % code).format(token)
-            return 'Line %s is refused (code %s), and the run ends there: %s.' % (line, code, why)
+            why = refusals.why(self.story.lines, line, code, token)
+            return 'Line %s is refused (code %s), and the run ends there: %s%s' % (line, code, why, '.' * (why[-1] != '?'))
         if self.fork:
             (_, one), (_, other) = self.fork
             short = self.story.names.short
@@ -294,19 +344,41 @@ class Wording:
                 other[1],
                 short(other[3]),
             )
+        if self.branches:
+            return 'Two branches: no two reports of one sequence differ, but reports of two sequences contradict each other.'
+        if self.kind() == 'quiet':
+            return 'Nothing is reported, so no two reports differ.'
         return 'Agreed: no two reports of one sequence differ.'
+
+    def warnings(self, most):
+        """Of reports on two branches, one node's first; so many of them."""
+        found = [self.warning(*pair) for pair in self.branches[:most]]
+        more = len(self.branches) - len(found)
+        return found + ['And %d more such pair%s.' % (more, '' if more == 1 else 's')] * bool(more)
+
+    def warning(self, low, high):
+        return (
+            'Warning, two branches: %s reports %s (line %d) and %s %s (line %d), which doesn\'t follow it. '
+            'They are of different sequences, so this is no fork of the report, but both can\'t stand in one history.'
+        ) % (
+            self.who(low.node),
+            self.ledger(low.sequence, low.ledger),
+            low.event.line,
+            'itself' if low.node == high.node else self.who(high.node) + ' reports',
+            self.ledger(high.sequence, high.ledger),
+            high.event.line,
+        )
 
     def notes(self):
         report, groups = self.story.report, {}
         if report.bad:
             return []
         for one, other, total, bound in report.short:
-            pair = '%d and %d' % (one, other) if one != other else '%d with itself' % one
-            groups.setdefault((total, bound), []).append(pair)
+            groups.setdefault((total, bound), []).append((one, other))
         notes = [
-            'Short: quorums together %d, must exceed %d: %s.' % (*sums, '; '.join(pairs))
+            'Short: quorums together %d, must exceed %d: %s.' % (*sums, '; '.join(pairs_in_words(pairs)))
             for sums, pairs in groups.items()
         ]
-        notes = notes or ['No pair of nodes is short: every two quorums share an honest member.']
+        notes = notes or [NONE_SHORT_OF_BRANCHES if self.branches else NONE_SHORT]
         frames = '%d frame%s forged: nothing is promised.' % (report.forged, '' if report.forged == 1 else 's')
         return notes + [frames] * bool(report.forged)

@@ -8,7 +8,7 @@ use xl_base::{NodeNo, TxId};
 use xl_core::{Core, CoreEvent, Settings};
 use xl_io::MemKeeper;
 use xl_lists::List;
-use xl_store::{Journal, Pass, Store};
+use xl_store::{Entries, Pass, Store};
 use xl_tags::Keys;
 use xl_trie::Trie;
 use xl_wire::LONGEST_FRAME;
@@ -97,9 +97,9 @@ pub fn frame(alloc: Global) -> Result<Vec<u8>, Fail> {
 }
 
 /// How many events of a journal are frames, and how many greet.
-pub fn frames_and_greetings(journal: Journal) -> (u64, u64) {
+pub fn frames_and_greetings(entries: Entries) -> (u64, u64) {
     let (mut frames, mut greetings) = (0u64, 0u64);
-    let mut entries = journal.oldest();
+    let mut entries = entries;
     for _ in 0..1_000_000 {
         match entries.next() {
             Some(entry) => match entry.event {

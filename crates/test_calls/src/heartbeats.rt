@@ -11,7 +11,7 @@ use xl_io::MemSink;
 use xl_links::{Clock, MemClock};
 use xl_lists::List;
 use xl_publish::{Publishers, Publishing, Roll, RollMembers, Took, write_roll};
-use xl_store::{Closed, Journal};
+use xl_store::{Closed, Entries};
 
 /// A beat each second for so long, from second 1 on, of a node that trusts itself alone at first.
 fn pulse_of(run: Millis, publishing: Option<Publishing>) -> Result<Pulse, Fail> {
@@ -92,8 +92,8 @@ fn two_publishers() -> Result<Publishing, Fail> {
     }
 }
 
-/// The journal of a run with these publishers, and how many members are on the list of its core then.
-fn followed<W: Wait>(rt: &W, alloc: Global, sink: &mut MemSink) -> Result<(Journal, u32), Fail> {
+/// The entries of a run with these publishers, and how many members are on the list of its core then.
+fn followed<W: Wait>(rt: &W, alloc: Global, sink: &mut MemSink) -> Result<(Entries, u32), Fail> {
     let (store, mut pass) = stored(alloc, 1, 100, NodeNo::new(2).ok_or("no member")?)?;
     let clock = MemClock::new(1_000);
     let pulse = pulse_of(5_000, Some(two_publishers()?))?;
@@ -104,15 +104,16 @@ fn followed<W: Wait>(rt: &W, alloc: Global, sink: &mut MemSink) -> Result<(Journ
     let Closed {
         core,
         keeper: _,
-        journal,
+        journal: _,
+        entries,
     } = store.close(pass);
-    Ok((journal, core.list().len()))
+    Ok((entries.ok_or("no entries")?, core.list().len()))
 }
 
 /// How many lists a journal sets, when the last of them, and behind how many timers; and how many timers it has.
-fn lists_and_timers(journal: Journal) -> (u64, Millis, u64, u64) {
+fn lists_and_timers(entries: Entries) -> (u64, Millis, u64, u64) {
     let (mut lists, mut moment, mut behind, mut timers) = (0u64, 0, 0u64, 0u64);
-    let mut entries = journal.oldest();
+    let mut entries = entries;
     for _ in 0..100 {
         match entries.next() {
             Some(entry) => match entry.event {
@@ -135,8 +136,8 @@ fn lists_and_timers(journal: Journal) -> (u64, Millis, u64, u64) {
 fn the_beat_of_a_second_sets_its_other_list_once(rt: HostRuntime) -> Result<(), Fail> {
     let alloc = rt.alloc();
     let mut sink = MemSink::new(alloc, 7, Vec::new(alloc));
-    let (journal, members) = followed(&rt, alloc, &mut sink)?;
-    assert!(rt; lists_and_timers(journal) == (1, 3_000, 1, 5));
+    let (entries, members) = followed(&rt, alloc, &mut sink)?;
+    assert!(rt; lists_and_timers(entries) == (1, 3_000, 1, 5));
     assert!(rt; members == 2);
     Ok(())
 }

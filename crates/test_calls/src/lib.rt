@@ -5,8 +5,6 @@
 #![tactic(auto)]
 
 #[cfg(test)]
-mod disputes;
-#[cfg(test)]
 mod fixtures;
 #[cfg(test)]
 mod floods;
@@ -32,9 +30,5 @@ mod stores;
 mod tops;
 #[cfg(test)]
 mod turns;
-#[cfg(test)]
-mod validations;
-#[cfg(test)]
-mod votes;
 #[cfg(test)]
 mod worlds;

@@ -57,7 +57,7 @@ fn entries(store: Stored, pass: Pass) -> Option<u64>
     requires pass { IsOf store pass }
 {
     if pass.is_whole() {
-        Some(store.close(pass).journal.len())
+        Some(store.close(pass).entries?.len())
     } else {
         None
     }
@@ -149,7 +149,7 @@ fn saves(store: Stored, pass: Pass) -> Option<(Option<Saved>, Option<Saved>)>
     if !pass.is_whole() {
         return None;
     }
-    let mut entries = store.close(pass).journal.oldest();
+    let mut entries = store.close(pass).entries?;
     let first = entries.next()?.outcome;
     let second = entries.next()?.outcome;
     Some((first, second))

@@ -31,7 +31,7 @@ fn small(words: &[String], place: usize, greatest: u32) -> u32
     number(words, place).min(u64::from(greatest)) as u32
 }
 
-/// The kinds of turns: a core alone, entries alone, a store with its timers shared out.
+/// The kinds of turns: a core alone, entries alone, a store that keeps none, and one with its timers shared out.
 fn count_turns<W: Threads + Wait + Sync>(
     rt: &W,
     alloc: Global,
@@ -42,6 +42,7 @@ fn count_turns<W: Threads + Wait + Sync>(
     match kind {
         "core" => turns::of_core(alloc, times),
         "entries" => turns::of_entries(alloc, times),
+        "unkept" => turns::of_unkept(rt, alloc, times),
         _ => turns::of_store(rt, alloc, times, small(words, 3, 7)),
     }
 }
@@ -71,7 +72,12 @@ fn main(rt: HostRuntime) -> io::Result<()> {
         ),
         "alike" => println!(rt; "{:?}", sets::alike(alloc, members)),
         "different" => println!(rt; "{:?}", sets::different(alloc, members as u8)),
-        "core" | "entries" | "store" => println!(rt; "{:?}", count_turns(&rt, alloc, kind, &words)),
-        _ => println!(rt; "plain, trie, alike, different, core, entries or store, and numbers"),
+        "core" | "entries" | "store" | "unkept" => println!(rt;
+            "{:?}",
+            count_turns(&rt, alloc, kind, &words)
+        ),
+        _ => println!(rt;
+            "plain, trie, alike, different, core, entries, store or unkept, and numbers"
+        ),
     }
 }

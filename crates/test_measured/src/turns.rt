@@ -83,10 +83,25 @@ pub fn of_store<W: Threads + Wait + Sync>(
     let (store, pass) = Store::open(alloc, core_of(alloc)?, keeper, 1 << 40).ok()?;
     let pass = beat_in(rt, &store, pass, times, halvings)?;
     if pass.is_whole() {
-        Some(store.close(pass).journal.len())
+        Some(store.close(pass).entries?.len())
     } else {
         None
     }
+}
+
+/// Timers and frames of a store that keeps no entry, this many in all. Each frame is refused.
+pub fn of_unkept<W: Wait>(rt: &W, alloc: Global, times: u64) -> Option<u64> {
+    let keeper = PlainKeeper::new(alloc, 4).ok()?;
+    let core = core_of(alloc)?;
+    let (store, mut pass) = Store::open_unkept(alloc, core, keeper, 1 << 40).ok()?;
+    for turn in 0..times {
+        if turn % 2 == 0 {
+            store.timer(rt, &mut pass, 1_000).ok()?;
+        } else {
+            let _ = store.frame(rt, &mut pass, 1_000, &[0; 78]).ok()?;
+        }
+    }
+    Some(times)
 }
 
 /// Timers of a core alone.

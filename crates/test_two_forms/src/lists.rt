@@ -1,6 +1,6 @@
 use std::alloc::Global;
 use xl_base::{MOST_IDS, NodeNo, OutOfMemory, SetId, TxId, set_id};
-use xl_disputes::{Votes, threshold};
+use xl_disputes::Votes;
 
 /// A counted set: our own at 0, and a member's at its number.
 #[derive(Drop)]
@@ -108,11 +108,24 @@ impl Lists {
             let Some(votes) = self.votes_of(tx) else {
                 continue
             };
-            if next.len() < MOST_IDS && wins(&votes, u64::from(threshold(percent)), proposing) {
+            if next.len() < MOST_IDS && wins(&votes, needed(percent), proposing) {
                 next.push(*tx)?;
             }
         }
         self.hold(0, &next)
+    }
+}
+
+/// The percent that a yes vote must exceed after so many percent of the previous round's time.
+fn needed(percent: u64) -> u64 {
+    if percent < 50 {
+        50
+    } else if percent < 85 {
+        65
+    } else if percent < 200 {
+        70
+    } else {
+        95
     }
 }
 

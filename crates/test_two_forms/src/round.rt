@@ -119,7 +119,7 @@ fn update(
 }
 
 /// Whether both have one set of our own, and say the same of some transactions.
-fn are_alike(index: &Disputes, lists: &Lists, dice: &mut Dice, txs: &[TxId]) -> bool {
+fn are_alike(index: &mut Disputes, lists: &Lists, dice: &mut Dice, txs: &[TxId]) -> bool {
     let mut alike = lists.owns(index.own_set(), index.own_id());
     for _ in 0..8 {
         let count = count_of(txs, dice);
@@ -143,7 +143,7 @@ pub fn differing(alloc: Global, calls: u64) -> Result<u64, OutOfMemory> {
         let set = some_set(alloc, &mut Dice { state: seed }, &txs)?;
         call(&mut index, &mut lists, &mut dice, &set)?;
         let same = dice.below(6) > 0 || update(&mut index, &mut lists, &mut dice, &txs)?;
-        if !same || !are_alike(&index, &lists, &mut dice, &txs) {
+        if !same || !are_alike(&mut index, &lists, &mut dice, &txs) {
             differ = differ.saturating_add(1);
         }
     }

@@ -1,6 +1,6 @@
 use std::sync::atomic::{AtomicU64, Ordering};
 use xl_io::Wrote;
-use xl_links::{Link, LinkRead, Opening, PlainLink};
+use xl_links::{Judgement, Link, LinkRead, Opening, PlainLink};
 
 /// A link in memory that gives its bytes and is idle from then on. It counts its reads.
 #[derive(Drop)]
@@ -28,5 +28,9 @@ impl Link for CountedLink<'_> {
 
     fn write(&mut self, piece: &[u8]) -> Wrote {
         self.source.write(piece)
+    }
+
+    fn judged(&mut self, judgement: Judgement) {
+        self.source.judged(judgement);
     }
 }

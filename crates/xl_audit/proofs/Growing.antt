@@ -87,12 +87,16 @@ last_written old mid all core left last w = record {
   held = w.held;
 }
 
--- a cause behind some calls is a cause of all of them
-pub caused_later : {T : Type 0} (r : Result T Fault) (before mid later : ℕ) → before ≤ mid → HasCause mid later r → HasCause before later r
-caused_later r before mid later h cause = record {
-  later = omega (arith, h, cause.later);
-  write = λ is. omega (arith, h, cause.write is);
-  read = cause.read;
+-- a cause behind calls that didn't fail is a cause of all of them
+pub caused_later : {T : Type 0} (r : Result T Fault) (before mid later : ℕ) → mid ≡ before → HasCause mid later r → HasCause before later r
+caused_later r before mid later same cause = subst (λ (n : ℕ). HasCause n later r) same cause
+
+pub caused_none : {T : Type 0} (x : T) (before later : ℕ) → later ≡ before → HasCause before later (Ok x)
+caused_none x before later same = record {
+  later = omega (arith, same);
+  write = λ is. absurd cc;
+  exact = λ _. same;
+  read = λ is. cc;
 }
 
 -- THE HEAD, AND THEN THE ENTRIES

@@ -18,4 +18,5 @@ pub mod Listing
 pub mod Replying
 pub mod Events
 pub mod Heading
+pub mod Counting
 pub mod Rereading

@@ -30,11 +30,12 @@ use Rattle.xl_audit.specs.Auditing.{goes_on, wrong, refuses, answered, judged, e
 use Rattle.xl_audit.specs.Journals.{entries_text, head_text, journal_text, key_lines, key_text, settings_line, start_of}
 use Rattle.xl_audit.specs.Laws.{written_with}
 use Rattle.xl_audit.specs.Opening.{core_of, is_unmet, key_in, unmet}
-use Rattle.xl_audit.specs.Rereading.{KeepsLimits, WrittenGetsYes}
+use Rattle.xl_audit.specs.Rereading.{HasShortLines, WrittenGetsYes}
 use Rattle.xl_audit.specs.Rights.{IsRight, is_right, reply_to}
 use Rattle.xl_base.specs.Ids.{IsId}
 use Rattle.xl_audit.specs.Stored.{IsStored, HasIds}
 use Rattle.xl_audit.specs.Words.{first, tokens}
+use Rattle.xl_audit.proofs.Counting.{lines_are, lines_in, one_more, entry_lines, keys_lines}
 use Rattle.xl_audit.proofs.Events.{entry_text, entry_line_is, text_line, entry_again, counted_of, is_no_key}
 use Rattle.xl_audit.proofs.Heading.{settings_text, settings_line_is, settings_one_line, settings_again, opening_for, Places, ring_of, key_line, key_one_line, key_tokens, key_there, key_again, blank, no_keys_is, keys_text, key_text_is, keys_text_is}
 use Rattle.xl_audit.proofs.Judged.{behind, taken, is_right_of}
@@ -43,14 +44,10 @@ use Rattle.xl_audit.proofs.Spelling.{is_line}
 
 -- LINE BY LINE
 
--- a text without a newline is a line, and the next begins behind its newline
-lines_are : (text rest : List ℕ) → is_line text ≡ true
-    → lines_of (text ++ 10 ∷ rest) ≡ record { bytes = text; ended = true } ∷ lines_of rest
-lines_are [] rest h = refl
-lines_are (b ∷ bs) rest h =
-    let parts = and_parts (not (b == 10)) (is_line bs) h in
-    cond-false (b == 10) (record { bytes = []; ended = true } ∷ lines_of (bs ++ 10 ∷ rest)) (onto b (lines_of (bs ++ 10 ∷ rest))) (not-true (b == 10) parts.0)
-    ∙ ap (onto b) (lines_are bs rest parts.1)
+-- a text with no more lines, and no longer ones, than an auditor takes
+record KeepsLimits (text : List ℕ) : Type 0 where
+  lines : lines_in text ≤ most_lines
+  bytes : HasShortLines text
 
 -- what is told is told of this text, whose lines have room, at this stage
 record IsAt (told : Told) (stage : Stage) (text : List ℕ) : Type 0 where
@@ -231,14 +228,31 @@ head_is settings now kept rest long =
     (settings_line_is settings now kept (keys ++ rest)
     ∙ ap (λ (xs : List ℕ). settings_text settings now kept ++ 10 ∷ (xs ++ rest)) (keys_are settings.keys long))
 
+-- the head has 66 lines at most, and behind it each entry has one
+text_lines : (settings : Settings) (now kept : ℕ) (es : List Entry) → length settings.keys.keys ≡ 64
+    → lines_in (journal_text settings now kept es) ≤ 66 + length es
+text_lines settings now kept es places =
+    let entries : List ℕ = entries_text (start_of settings now kept) es in
+    let keyed : List ℕ = keys_text 0 settings.keys.keys ++ entries in
+    let whole : lines_in (journal_text settings now kept es) ≡ suc (lines_in (settings_text settings now kept ++ 10 ∷ keyed)) =
+    ap lines_in (head_is settings now kept entries places)
+    ∙ one_more (codes "xl-journal 1") (settings_text settings now kept ++ 10 ∷ keyed) refl in
+    let second : lines_in (settings_text settings now kept ++ 10 ∷ keyed) ≡ suc (lines_in keyed) =
+    one_more (settings_text settings now kept) keyed (settings_one_line settings now kept) in
+    let keys : lines_in keyed ≤ length settings.keys.keys + lines_in entries = keys_lines 0 settings.keys.keys entries in
+    let each : lines_in entries ≡ length es = entry_lines (start_of settings now kept) es in
+    omega (arith, whole, second, keys, each, places)
+
 pub written_gets_yes : WrittenGetsYes
-written_gets_yes settings now kept es may stored legal keeps =
+written_gets_yes settings now kept es may stored legal few short =
     let told : Told = audit_of (journal_text settings now kept es) in
     let ring : Ring = settings.keys in
     let opening : Opening = opening_for settings now kept in
     let entries : List ℕ = entries_text (start_of settings now kept) es in
     let keys : List ℕ = keys_text 0 ring.keys in
     let places : length ring.keys ≡ 64 = may.stored.ring.places in
+    let lines : lines_in (journal_text settings now kept es) ≤ 66 + length es = text_lines settings now kept es places in
+    let keeps : KeepsLimits (journal_text settings now kept es) = record { lines = omega (arith, lines, few); bytes = short } in
     let headed : IsAt told Setting (settings_text settings now kept ++ 10 ∷ (keys ++ entries)) =
     one_line told Heading Setting (codes "xl-journal 1") (settings_text settings now kept ++ 10 ∷ (keys ++ entries)) refl refl
     (subst (IsAt told Heading) (head_is settings now kept entries places) (at_start (journal_text settings now kept es) keeps)) in

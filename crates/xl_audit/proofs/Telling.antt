@@ -4,26 +4,22 @@ use Rattle.std.specs.Prelude.{is_some, IsTrue, OnOk}
 use Rattle.std.proofs.lemmas.List.{take-append-le, take_all}
 use Rattle.xl_core.specs.declared.event.CoreEvent.{CoreEvent}
 use Rattle.xl_core.specs.Answers.{Answer}
-use Rattle.xl_core.specs.Core.{Core, core_happens, core_asks}
+use Rattle.xl_core.specs.Core.{Core, CoreReply, core_happens, core_asks}
+use Rattle.xl_core.specs.Deeds.{CountsFailure, Happens, answer_of, save_told}
+use Rattle.xl_core.specs.declared.core_answer.CoreAnswer.{CoreAnswer}
 use Rattle.xl_core.specs.Keeping.{Saves}
 use Rattle.xl_core.specs.Node.{Save, is_kept}
 use Rattle.xl_core.specs.Issuing.Save.{Kept, Failed}
-use Rattle.xl_core.specs.Replies.{Answers, save_of as save_of_refusal}
-use Rattle.xl_core.specs.TimerParts.{CountsBeatFault, save_at}
-use Rattle.xl_core.specs.declared.timer_answer.TimerAnswer.{TimerAnswer}
-use Rattle.xl_core.specs.declared.timer_answer.TimerAnswer.TheVariants as timer_answer
-use Rattle.xl_core.specs.declared.timer_answer.Issued.TheVariants as issued
-use Rattle.xl_core.specs.declared.refusal.Refusal.{Refusal}
-use Rattle.xl_core.specs.declared.refusal.Refusal.TheVariants as why
+use Rattle.xl_core.specs.Replies.{Answers}
+use Rattle.xl_core.proofs.Unasked.{unasked_alike}
 use Rattle.xl_store.specs.declared.entry.Saved.{Saved}
 use Rattle.xl_store.specs.declared.entry.Saved.TheVariants as saved
 use Rattle.xl_store.specs.Entries.{save_of}
-use Rattle.xl_store.proofs.Noting.{outcome_with}
 use Rattle.xl_audit.specs.declared.saving.EntryKeeper.{EntryKeeper}
 use Rattle.xl_audit.specs.Replies.{reply_text}
 use Rattle.xl_audit.specs.Rights.{tells_of}
 use Rattle.xl_audit.specs.Saves.{IsFresh, answers_ok, faults_after, count_of}
-use Rattle.xl_audit.specs.Stepping.{Retells, Replies}
+use Rattle.xl_audit.specs.Stepping.{Retells, RetellsAs, Replies}
 
 -- an entry that tells of no save is told as one that was kept
 tells_none : (outcome : Option Saved) → IsTrue (tells_of false outcome) → Kept ≡ save_of outcome
@@ -61,35 +57,32 @@ met (Some saved.Ok) (Failed n) faults ok counts is = cc
 met (Some (saved.Failed count)) Kept faults ok counts is = cc
 met (Some (saved.Failed count)) (Failed n) faults ok counts is = ap Failed (counts n refl ∙ is)
 
--- where a save was asked it was answered as is told, and where none was, and none is told, it was kept
-same_save : (asks : Option ℕ) (save : Save) (told : Option Saved) (old new : EntryKeeper) → IsFresh old
-    → Saves Gives asks (is_kept save) old new → ((count : ℕ) → save ≡ Failed count → count ≡ new.faults)
-    → save_of told ≡ save → told ≡ outcome_with asks save → IsTrue (tells_of (is_some asks) old.answer)
-    → save ≡ save_of old.answer
-same_save None save told old new fresh gives counts same with t =
-    sym same ∙ (ap save_of with ∙ tells_none old.answer t)
-same_save (Some seq) save told old new fresh gives counts same with t =
-    met old.answer save new.faults gives.0 counts (gives.1 ∙ fresh.counts)
-
 was_asked : (asks : Option ℕ) (kept : Bool) (old new : EntryKeeper) → IsFresh old → Saves Gives asks kept old new
     → new.asked ≡ is_some asks
 was_asked None kept old new fresh gives = ap (λ (k : EntryKeeper). k.asked) gives ∙ fresh.asked
 was_asked (Some seq) kept old new fresh gives = gives.2
 
--- an event that may ask a save
-pub told_so : (before after : Core) (event : CoreEvent) (save : Save) (told : Option Saved) (answer : Answer)
-    (old new : EntryKeeper) → IsFresh old
-    → Answers (core_happens before event save) after answer
-    → Saves Gives (core_asks before event) (is_kept save) old new
-    → ((count : ℕ) → save ≡ Failed count → count ≡ new.faults)
-    → save_of told ≡ save → told ≡ outcome_with (core_asks before event) save
-    → Retells before event old.answer after answer new.asked
-told_so before after event save told answer old new fresh answers gives counts same with = record {
-  asked = was_asked (core_asks before event) (is_kept save) old new fresh gives;
-  answers = λ t.
-      subst (λ (s : Save). Answers (core_happens before event s) after answer)
-      (same_save (core_asks before event) save told old new fresh gives counts same with t) answers;
+-- what happens at a core retells the entry
+pub happened_so : (before after : Core) (event : CoreEvent) (told : CoreAnswer) (old new : EntryKeeper) → IsFresh old
+    → Happens (λ _. None) (λ _. None) (λ k. k.faults) Gives before event after told old new
+    → Retells before event old.answer after (answer_of told) new.asked
+happened_so before after event told old new fresh h = record {
+  asked = was_asked (core_asks before event) (is_kept save) old new fresh h.asks.keeper;
+  answers = by (core_asks before event) refl h.asks.keeper h.fault;
 }
+  where
+    save : Save
+    save = save_told (answer_of told)
+
+    by : (asks : Option ℕ) → core_asks before event ≡ asks → Saves Gives asks (is_kept save) old new
+        → CountsFailure asks save old.faults new.faults → IsTrue (tells_of (is_some asks) old.answer)
+        → Answers (core_happens before event (save_of old.answer)) after (answer_of told)
+    by None is gives counts t =
+        subst (λ (r : CoreReply). Answers r after (answer_of told))
+        (unasked_alike before event save (save_of old.answer) is) h.step
+    by (Some seq) is gives counts t =
+        subst (λ (s : Save). Answers (core_happens before event s) after (answer_of told))
+        (met old.answer save new.faults gives.0 (λ count e. (counts count e).1) (gives.1 ∙ fresh.counts)) h.step
 
 -- THE TEXT OF A REPLY
 
@@ -100,6 +93,19 @@ pub quiet_ok : {T E : Type 0} (r : Result T E) (before after : Core) (event : Co
 quiet_ok (Ok done) before after event told old new asks answers empty is =
     quiet_as before after event told new asks answers (is ∙ ap (λ (xs : List ℕ). xs ++ reply_text told) empty)
 quiet_ok (Err why) before after event told old new asks answers empty is = tt
+
+-- what is added to an empty text of what happens at a core
+pub happened_ok : {T E : Type 0} (r : Result T E) (before after : Core) (event : CoreEvent) (told : CoreAnswer)
+    (ok nk : EntryKeeper) (old new : List ℕ) → IsFresh ok
+    → Happens (λ _. None) (λ _. None) (λ k. k.faults) Gives before event after told ok nk
+    → old ≡ [] → OnOk r (new ≡ old ++ reply_text (answer_of told))
+    → OnOk r (RetellsAs before event ok.answer after new nk.asked)
+happened_ok (Ok done) before after event told ok nk old new fresh h empty is = record {
+  told = answer_of told;
+  is = is ∙ ap (λ (xs : List ℕ). xs ++ reply_text (answer_of told)) empty;
+  retells = happened_so before after event told ok nk fresh h;
+}
+happened_ok (Err why) before after event told ok nk old new fresh h empty is = tt
 
 -- the front of a room that begins with these
 pub front_of : {X : Type 0} (count : ℕ) (room given rest : List X) → count ≡ length given → room ≡ given ++ rest
@@ -112,24 +118,3 @@ pub front_within : {X : Type 0} (count : ℕ) (room given rest : List X) → cou
     → count ≤ length room
 front_within count room given rest many is =
     let long : length room ≡ length given + length rest = ap length is ∙ length-append given rest in omega arith
-
--- A TIMER
-
--- a refusal for a failed save tells the count of faults
-failed_why : (w : Refusal) (count : ℕ) → save_of_refusal w ≡ Failed count → w ≡ why.KeepFault count
-failed_why (why.KeepFault n) count is = cc
-failed_why _ count is = cc
-
-pub beat_counts : (told : TimerAnswer) (old new : ℕ) → CountsBeatFault told old new → (count : ℕ)
-    → save_at told ≡ Failed count → count ≡ new
-beat_counts (timer_answer.Built seq id moved_on (issued.Refused w)) old new counts count is =
-    (counts seq id moved_on count
-    (ap (λ (v : Refusal). timer_answer.Built seq id moved_on (issued.Refused v)) (failed_why w count is))).1
-beat_counts (timer_answer.Built seq id moved_on issued.Full) old new counts count is = cc
-beat_counts (timer_answer.Built seq id moved_on issued.Partial) old new counts count is = cc
-beat_counts (timer_answer.Built seq id moved_on issued.Silent) old new counts count is = cc
-beat_counts timer_answer.Nothing old new counts count is = cc
-beat_counts timer_answer.Closed old new counts count is = cc
-beat_counts timer_answer.Updated old new counts count is = cc
-beat_counts (timer_answer.Switched seq id) old new counts count is = cc
-beat_counts (timer_answer.NoRoom limit) old new counts count is = cc

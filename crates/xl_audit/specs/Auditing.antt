@@ -12,6 +12,7 @@ use Rattle.xl_lines.specs.declared.machine.Verdict.TheVariants as verdict
 use Rattle.xl_lines.specs.Rules.{Rules, Step as LineStep, goes_on as line_goes_on, refuses as line_refuses, finds as line_finds, Told, closes}
 use Rattle.xl_lines.specs.Told.{told_of}
 use Rattle.xl_lines.specs.Soon.{told_soon}
+use Rattle.xl_texts.specs.Promises.{Promise, to_what_is_found, always}
 use Rattle.xl_sched.specs.declared.refusal.SchedRefusal.{SchedRefusal}
 use Rattle.xl_sched.specs.declared.refusal.SchedRefusal.TheVariants.{Header, LongLine, Limit, Word, Late}
 use Rattle.xl_sched.specs.Refusals.{code_of, token_of}
@@ -152,6 +153,10 @@ limits = record { lines = most_lines; bytes = most_bytes; returns = Kept }
 abbrev pub audit_of : List ℕ → Told
 audit_of bytes = told_of limits rules at_first bytes
 
--- what is told of the lines that have ended in them
-abbrev pub audit_soon : List ℕ → List ℕ
+-- what is told as soon as they have come
+abbrev pub audit_soon : List ℕ → Told
 audit_soon bytes = told_soon limits rules at_first bytes
+
+-- an entry that isn't right ends the text before the input's end
+abbrev pub audit_promise : Promise
+audit_promise = record { told = audit_of; soon = audit_soon; reads = to_what_is_found; shows = always }

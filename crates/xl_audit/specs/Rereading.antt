@@ -1,5 +1,5 @@
 -- What is written of a legal history is read back, and gets yes. Source: this project's own formats.
-use Rattle.std.specs.Prelude.{◌≡◌, ◌<◌, ◌≤◌, ◌^◌, ℕ, List, length, All}
+use Rattle.std.specs.Prelude.{◌≡◌, ◌+◌, ◌<◌, ◌≤◌, ◌^◌, ℕ, List, length, All}
 use Rattle.xl_base.specs.Moments.{greatest_millis}
 use Rattle.xl_ledger.specs.Limits.{greatest_limit, least_limit}
 use Rattle.xl_lines.specs.declared.machine.Verdict.TheVariants.{Good}
@@ -15,14 +15,14 @@ use Rattle.xl_audit.specs.Auditing.{audit_of, yes_line}
 use Rattle.xl_audit.specs.Journals.{journal_text, start_of}
 use Rattle.xl_audit.specs.Stored.{AreStored, IsStored}
 
--- a text with no more lines, and no longer ones, than an auditor takes
-pub record KeepsLimits (text : List ℕ) : Type 0 where
-  pub lines : length (lines_of text) ≤ most_lines
-  pub bytes : All (λ line. length line.bytes ≤ most_bytes) (lines_of text)
+-- a text with no longer lines than an auditor takes
+abbrev pub HasShortLines : List ℕ → Type 0
+HasShortLines text = All (λ line. length line.bytes ≤ most_bytes) (lines_of text)
 
--- `audit` says yes to a text, and that it has so many entries
+-- `audit` says yes to a text, and that it has so many entries, if there is room for them behind the 66 lines of a head
 abbrev pub SaysYes : List ℕ → ℕ → Type 0
-SaysYes text entries = KeepsLimits text → audit_of text ≡ closes (yes_line entries) Good
+SaysYes text entries =
+    entries + 66 ≤ most_lines → HasShortLines text → audit_of text ≡ closes (yes_line entries) Good
 
 -- the text of a history gets a yes that counts its entries
 abbrev pub GetsYes : Settings → ℕ → ℕ → List Entry → Type 0

@@ -32,7 +32,7 @@ mod writing;
 mod written;
 
 pub use auditor::Auditor;
-pub use command::audit;
+pub use command::Audit;
 pub use laws::{legal_is_right, right_is_legal, whole_texts, written_gets_yes, yes_and_no};
 pub use limits::{MOST_BYTES, MOST_LINES};
 pub use writing::write_journal;

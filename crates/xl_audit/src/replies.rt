@@ -3,14 +3,14 @@ ghost use Rattle.std.specs.Prelude.{◌≡◌, ◌++◌, OnOk};
 ghost use Rattle.xl_core.specs.Answers.{Beats, Handed, Told};
 ghost use Rattle.hex.specs.Hex.{IsBytes, encode_lower};
 ghost use Rattle.xl_core.specs.declared.timer_answer.TimerAnswer.TheVariants.{Built, Switched};
-ghost use Rattle.xl_core.specs.Replies.{taken_answer, done_answer};
+ghost use Rattle.xl_core.specs.Deeds.{answer_of};
 ghost use Rattle.xl_audit.specs.Replies.{beat_text, bytes_text, issued_text, moved_text, refusal_text, reply_text, report_text, taken_text, told_text};
 
 use crate::reply_text::ReplyText;
 use crate::values::{push_id, push_values};
 use std::alloc::Global;
 use xl_base::{LedgerId, OutOfMemory, Seq};
-use xl_core::{Issued, Refusal, Report, Taken, TimerAnswer};
+use xl_core::{CoreAnswer, Issued, Refusal, Report, Taken, TimerAnswer};
 
 fn push_refusal<T: ReplyText>(alloc: Global, text: &mut T, why: &Refusal) -> Result<(), OutOfMemory>
     ensures { OnOk result (T.told text.new ≡ T.told text.old ++ refusal_text why.now) }
@@ -47,36 +47,6 @@ fn push_taken<T: ReplyText>(alloc: Global, text: &mut T, taken: &Taken) -> Resul
         Taken::Gone => text.word("gone"),
         Taken::Set(id) => push_of_id(alloc, text, "set ", &id.0),
         Taken::Pending => text.word("pending"),
-    }
-}
-
-/// The reply to a frame.
-pub fn push_heard<T: ReplyText>(
-    alloc: Global,
-    text: &mut T,
-    answer: &Result<Taken, Refusal>,
-) -> Result<(), OutOfMemory>
-    ensures { OnOk result
-        (T.told text.new ≡ T.told text.old ++ reply_text (taken_answer answer.now)) }
-{
-    match answer {
-        Ok(taken) => push_taken(alloc, text, taken),
-        Err(why) => push_refusal(alloc, text, why),
-    }
-}
-
-/// The reply to what has nothing to say but why it is refused.
-pub fn push_done<T: ReplyText>(
-    alloc: Global,
-    text: &mut T,
-    answer: &Result<(), Refusal>,
-) -> Result<(), OutOfMemory>
-    ensures { OnOk result
-        (T.told text.new ≡ T.told text.old ++ reply_text (done_answer answer.now)) }
-{
-    match answer {
-        Ok(()) => text.word("ok"),
-        Err(why) => push_refusal(alloc, text, why),
     }
 }
 
@@ -140,7 +110,7 @@ fn push_switched<T: ReplyText>(
 }
 
 /// The reply to a timer.
-pub fn push_beat<T: ReplyText>(
+fn push_beat<T: ReplyText>(
     alloc: Global,
     text: &mut T,
     beat: &TimerAnswer,
@@ -216,8 +186,26 @@ fn told_word(stopped: bool) -> &'static str
 }
 
 /// The reply to whether it was told to stop.
-pub fn push_told<T: ReplyText>(text: &mut T, stopped: bool) -> Result<(), OutOfMemory>
+fn push_told<T: ReplyText>(text: &mut T, stopped: bool) -> Result<(), OutOfMemory>
     ensures { OnOk result (T.told text.new ≡ T.told text.old ++ reply_text (Told stopped)) }
 {
     text.word(told_word(stopped))
+}
+
+/// The reply to what happens at a core, as it is told.
+pub fn push_answer<T: ReplyText>(
+    alloc: Global,
+    text: &mut T,
+    answer: &CoreAnswer,
+) -> Result<(), OutOfMemory>
+    ensures { OnOk result
+        (T.told text.new ≡ T.told text.old ++ reply_text (answer_of answer.now)) }
+{
+    match answer {
+        CoreAnswer::Done => text.word("ok"),
+        CoreAnswer::Refused(why) => push_refusal(alloc, text, why),
+        CoreAnswer::Took(taken) => push_taken(alloc, text, taken),
+        CoreAnswer::Beats(beat) => push_beat(alloc, text, beat),
+        CoreAnswer::Told(stopped) => push_told(text, *stopped),
+    }
 }

@@ -1,27 +1,23 @@
 // A core that is stepped by an entry, and the text of its reply.
 ghost use Rattle.std.specs.Prelude.{◌≡◌, ◌≤◌, ◌++◌, [], length, take, false, IfOk, IsSome, OnOk};
-ghost use Rattle.std.specs.declared.option.Option.{Option};
 ghost use Rattle.xl_base.specs.Moments.{greatest_millis};
 ghost use Rattle.xl_tags.specs.Rings.{key_of};
 ghost use Rattle.xl_wire.specs.Lengths.{longest_frame};
-ghost use Rattle.xl_core.specs.Answers.{Beats};
 ghost use Rattle.xl_core.specs.Core.{all_frames, drained};
+ghost use Rattle.xl_core.specs.Deeds.{MayHappen, event_for};
 ghost use Rattle.xl_core.specs.Queues.{frames_in};
-ghost use Rattle.xl_core.specs.Replies.{done_answer};
-ghost use Rattle.xl_core.specs.declared.event.CoreEvent.TheVariants.{Issue, Frame, Timer, Submit, Relist, Greet, Drain, Reports, Stop, Stopped};
+ghost use Rattle.xl_core.specs.declared.event.CoreEvent.TheVariants.{Drain, Reports};
 ghost use Rattle.xl_store.specs.Entries.{IsAllowed};
-ghost use Rattle.xl_store.specs.declared.entry.Saved.{Saved};
 ghost use Rattle.xl_audit.specs.Pieces.{bytes_given, handed_out};
 ghost use Rattle.xl_audit.specs.Saves.{IsFresh};
-ghost use Rattle.xl_audit.specs.Stepping.{Retells, RetellsAs, Replies};
+ghost use Rattle.xl_audit.specs.Stepping.{RetellsAs, Replies};
 
-use crate::replies::{push_beat, push_bytes, push_done, push_heard, push_reports, push_told};
+use crate::replies::{push_answer, push_bytes, push_reports};
 use crate::reply_text::ReplyText;
 use crate::saving::EntryKeeper;
 use std::alloc::Global;
-use xl_base::{LedgerId, Millis, NodeNo, OutOfMemory, Seq, TxId};
-use xl_core::{Core, CoreEvent, Refusal, Report, TimerAnswer};
-use xl_lists::List;
+use xl_base::{LedgerId, NodeNo, OutOfMemory};
+use xl_core::{Core, CoreAnswer, CoreEvent, Deed, Report};
 use xl_trie::Trie;
 use xl_wire::LONGEST_FRAME;
 
@@ -40,129 +36,23 @@ const BLANK: Report = Report {
     id: LedgerId([0; 32]),
 };
 
-/// The validation that it is asked to issue.
-#[derive(Clone, Copy, Debug)]
-struct Asked {
-    seq: Seq,
-    id: LedgerId,
-    full: bool,
-}
-
-/// It is asked to issue a validation.
-fn issue(
-    core: &mut AuditedCore,
-    now: Millis,
-    asked: &Asked,
-    keeper: &mut EntryKeeper,
-) -> Result<(), Refusal>
-    requires moment { now ≤ greatest_millis }
-    requires fresh { IsFresh keeper.old }
-    ensures { Retells core.old (Issue now asked.now.seq asked.now.id asked.now.full) keeper.old.answer
-        core.new (done_answer result) keeper.new.asked }
-{
-    core.issue(now, asked.seq, asked.id, asked.full, keeper)
-}
-
-/// It has its timer.
-fn timer(core: &mut AuditedCore, now: Millis, keeper: &mut EntryKeeper) -> TimerAnswer
-    requires moment { now ≤ greatest_millis }
-    requires fresh { IsFresh keeper.old }
-    ensures { Retells core.old (Timer now) keeper.old.answer core.new (Beats result) keeper.new.asked }
-{
-    core.timer(now, keeper)
-}
-
-fn reply_to_issue<T: ReplyText>(
+/// What happens at a core, and the text of what is told of it.
+fn reply_to_deed<T: ReplyText>(
     alloc: Global,
     core: &mut AuditedCore,
-    now: Millis,
-    asked: &Asked,
+    deed: &Deed<'_>,
     keeper: &mut EntryKeeper,
     text: &mut T,
 ) -> Result<(), OutOfMemory>
-    requires moment { now ≤ greatest_millis }
+    requires may { MayHappen core.old deed.now }
     requires fresh { IsFresh keeper.old }
     requires text { T.told text.old ≡ [] }
-    ensures { OnOk result (RetellsAs core.old (Issue now asked.now.seq asked.now.id asked.now.full) keeper.old.answer
+    ensures { OnOk result (RetellsAs core.old (event_for core.old deed.now) keeper.old.answer
         core.new (T.told text.new) keeper.new.asked) }
 {
-    let answer = issue(core, now, asked, keeper);
-    push_done(alloc, text, &answer)
-}
-
-fn reply_to_timer<T: ReplyText>(
-    alloc: Global,
-    core: &mut AuditedCore,
-    now: Millis,
-    keeper: &mut EntryKeeper,
-    text: &mut T,
-) -> Result<(), OutOfMemory>
-    requires moment { now ≤ greatest_millis }
-    requires fresh { IsFresh keeper.old }
-    requires text { T.told text.old ≡ [] }
-    ensures { OnOk result (RetellsAs core.old (Timer now) keeper.old.answer
-        core.new (T.told text.new) keeper.new.asked) }
-{
-    let beat = timer(core, now, keeper);
-    push_beat(alloc, text, &beat)
-}
-
-fn reply_to_frame<T: ReplyText>(
-    alloc: Global,
-    core: &mut AuditedCore,
-    now: Millis,
-    bytes: &[u8],
-    text: &mut T,
-) -> Result<(), OutOfMemory>
-    requires moment { now ≤ greatest_millis }
-    requires text { T.told text.old ≡ [] }
-    ensures { OnOk result (Replies core.old (Frame now bytes.now) core.new (T.told text.new)) }
-{
-    let answer = core.frame(now, bytes);
-    push_heard(alloc, text, &answer)
-}
-
-fn reply_to_submit<T: ReplyText>(
-    alloc: Global,
-    core: &mut AuditedCore,
-    now: Millis,
-    tx: TxId,
-    text: &mut T,
-) -> Result<(), OutOfMemory>
-    requires moment { now ≤ greatest_millis }
-    requires text { T.told text.old ≡ [] }
-    ensures { OnOk result (Replies core.old (Submit now tx) core.new (T.told text.new)) }
-{
-    let answer = core.submit(now, tx);
-    push_done(alloc, text, &answer)
-}
-
-fn reply_to_relist<T: ReplyText>(
-    alloc: Global,
-    core: &mut AuditedCore,
-    now: Millis,
-    list: &List,
-    text: &mut T,
-) -> Result<(), OutOfMemory>
-    requires moment { now ≤ greatest_millis }
-    requires text { T.told text.old ≡ [] }
-    ensures { OnOk result (Replies core.old (Relist now list.now) core.new (T.told text.new)) }
-{
-    let answer = core.relist(now, list.copy());
-    push_done(alloc, text, &answer)
-}
-
-fn reply_to_greet<T: ReplyText>(
-    core: &mut AuditedCore,
-    member: NodeNo,
-    text: &mut T,
-) -> Result<(), OutOfMemory>
-    requires peer { IsSome (key_of core.old.node.keys member) }
-    requires text { T.told text.old ≡ [] }
-    ensures { OnOk result (Replies core.old (Greet member) core.new (T.told text.new)) }
-{
-    core.greet(member);
-    text.word("ok")
+    let mut answer = CoreAnswer::Done;
+    core.happen(deed, keeper, &mut answer);
+    push_answer(alloc, text, &answer)
 }
 
 /// The first so many bytes.
@@ -304,21 +194,6 @@ fn reply_to_reports<T: ReplyText>(
     push_reports(alloc, text, given.as_slice())
 }
 
-fn reply_to_stop<T: ReplyText>(core: &mut AuditedCore, text: &mut T) -> Result<(), OutOfMemory>
-    requires text { T.told text.old ≡ [] }
-    ensures { OnOk result (Replies core.old Stop core.new (T.told text.new)) }
-{
-    core.stop();
-    text.word("ok")
-}
-
-fn reply_to_stopped<T: ReplyText>(core: &AuditedCore, text: &mut T) -> Result<(), OutOfMemory>
-    requires text { T.told text.old ≡ [] }
-    ensures { OnOk result (Replies core.now Stopped core.now (T.told text.new)) }
-{
-    push_told(text, core.stopped())
-}
-
 /// Something happens at the core, under a keeper that answers a save as an entry tells. The text of the reply is put
 /// into `text`, and what waits is drained by way of `piece`.
 pub fn reply_to<T: ReplyText>(
@@ -337,25 +212,40 @@ pub fn reply_to<T: ReplyText>(
 {
     match event {
         CoreEvent::Issue { now, seq, id, full } => {
-            let asked = Asked {
+            let deed = Deed::Issue {
+                now: *now,
                 seq: *seq,
                 id: *id,
                 full: *full,
             };
-            reply_to_issue(alloc, core, *now, &asked, keeper, text)
+            reply_to_deed(alloc, core, &deed, keeper, text)
         }
-        CoreEvent::Timer { now } => reply_to_timer(alloc, core, *now, keeper, text),
         CoreEvent::Frame { now, bytes } => {
-            reply_to_frame(alloc, core, *now, bytes.as_slice(), text)
+            let deed = Deed::Frame {
+                now: *now,
+                bytes: bytes.as_slice(),
+            };
+            reply_to_deed(alloc, core, &deed, keeper, text)
         }
-        CoreEvent::Submit { now, tx } => reply_to_submit(alloc, core, *now, *tx, text),
-        CoreEvent::Relist { now, list } => reply_to_relist(alloc, core, *now, list, text),
-        CoreEvent::Greet { member } => reply_to_greet(core, *member, text),
+        CoreEvent::Timer { now } => {
+            reply_to_deed(alloc, core, &Deed::Timer { now: *now }, keeper, text)
+        }
+        CoreEvent::Submit { now, tx } => {
+            let deed = Deed::Submit { now: *now, tx: *tx };
+            reply_to_deed(alloc, core, &deed, keeper, text)
+        }
+        CoreEvent::Relist { now, list } => {
+            let deed = Deed::Relist { now: *now, list };
+            reply_to_deed(alloc, core, &deed, keeper, text)
+        }
+        CoreEvent::Greet { member } => {
+            reply_to_deed(alloc, core, &Deed::Greet { member: *member }, keeper, text)
+        }
+        CoreEvent::Stop => reply_to_deed(alloc, core, &Deed::Stop, keeper, text),
+        CoreEvent::Stopped => reply_to_deed(alloc, core, &Deed::Stopped, keeper, text),
         CoreEvent::Drain { member, room } => {
             reply_to_drain(alloc, core, *member, *room, piece, text)
         }
         CoreEvent::Reports { room } => reply_to_reports(alloc, core, *room, text),
-        CoreEvent::Stop => reply_to_stop(core, text),
-        CoreEvent::Stopped => reply_to_stopped(core, text),
     }
 }

@@ -22,7 +22,7 @@ use xl_base::{Millis, OutOfMemory, Seq};
 use xl_core::Settings;
 use xl_io::{Sink, write_all};
 use xl_lines::Fault;
-use xl_store::{Entry, Journal};
+use xl_store::{Entries, Entry};
 
 /// The line of the next entry of a legal history, with its reply, and the core goes on.
 fn line_of(alloc: Global, auditor: &mut Auditor, entry: &Entry) -> Result<String, OutOfMemory>
@@ -66,7 +66,7 @@ fn write_entry<O: Sink>(
 fn write_entries<O: Sink>(
     alloc: Global,
     auditor: Auditor,
-    journal: Journal,
+    journal: Entries,
     output: &mut O,
 ) -> Result<(), Fault>
     requires legal { IsLegal Leads auditor journal }
@@ -78,8 +78,7 @@ fn write_entries<O: Sink>(
     ensures cause { HasCause (O.faults output.old) (O.faults output.new) result }
     ensures stored { OnOk result (All IsStored journal) }
 {
-    let mut auditor = auditor;
-    let mut left = journal.oldest();
+    let (mut auditor, mut left) = (auditor, journal);
     while let Some(entry) = left.next() {
         write_entry(alloc, &mut auditor, &entry, output)?;
     }
@@ -125,14 +124,14 @@ fn write_head<O: Sink>(
 /// Writes a journal: its settings, its keys, and a line for each entry, whose reply a new core gives that is stepped by
 /// the entries.
 ///
-/// The journal is a legal history of the core that these settings open. A failed write ends it with `Write`, and want
-/// of memory, at any time, with `Memory`.
+/// The journal is a legal history of the core that these settings open, all of whose entries were kept. A failed write
+/// ends it with `Write`, and want of memory, at any time, with `Memory`.
 pub fn write_journal<O: Sink>(
     alloc: Global,
     settings: Settings,
     now: Millis,
     kept: Seq,
-    journal: Journal,
+    journal: Entries,
     output: &mut O,
 ) -> Result<(), Fault>
     requires keyed { IsKeyed settings.me settings.list.members settings.keys }
@@ -149,7 +148,7 @@ pub fn write_journal<O: Sink>(
         → GrewByLess (O.held output.old) (O.held output.new) (journal_text settings now kept journal) }
     // Nothing is read, and a fault of the sink is answered only if its count rose.
     ensures cause { HasCause (O.faults output.old) (O.faults output.new) result }
-    // Within the limits on lines and on bytes a line, an auditor says yes to the whole text.
+    // If it has no more entries, and no longer lines, than an auditor takes, that one says yes to the whole text.
     ensures yes { OnOk result (1 ≤ settings.speak → settings.speak ≤ 2 → GetsYes settings now kept journal) }
 {
     write_head(alloc, &settings, now, kept, output)?;

@@ -26,3 +26,5 @@ pub mod Concluding
 pub mod Covering
 pub mod Accounted
 pub mod Marking
+pub mod Doing
+pub mod Unasked

@@ -19,6 +19,7 @@ pub mod TimerParts
 pub mod Draining
 pub mod Keeping
 pub mod Stops
+pub mod Deeds
 pub mod Rest
 pub mod Lives
 pub mod CoreLives

@@ -17,6 +17,8 @@
 //! except `reopen` takes memory.
 #![tactic(auto)]
 
+mod core_answer;
+mod deed;
 mod event;
 mod hearing;
 mod item;
@@ -33,6 +35,8 @@ mod the_core;
 mod timer_answer;
 mod timer_part;
 
+pub use core_answer::CoreAnswer;
+pub use deed::Deed;
 pub use event::CoreEvent;
 pub use hearing::{Speech, Spoken};
 pub use item::Item;

@@ -246,6 +246,13 @@ impl<B: Branch + Drop> Node<B> {
         self.kept
     }
 
+    /// What was last reported since it opened, and whether the list was set after that.
+    pub fn last(&self) -> &LastReport
+        ensures { result.now ≡ self.now.last }
+    {
+        &self.last
+    }
+
     /// The ledger that the members' votes prefer, or None exactly if there is no vote. The largest sequence issued
     /// counts as the kept number.
     pub fn preferred(&self) -> Option<Report>

@@ -41,6 +41,7 @@ use xl_lists::List;
 use xl_queues::{Broadcast, Queue};
 use xl_rounds::Said;
 
+mod door;
 mod greeting;
 mod marks;
 mod outgoing;

@@ -1,5 +1,5 @@
 -- What is known after a change, once each set has the weight of the positions that stand for it.
-use Rattle.std.proofs.Common.{◌≡◌, ℕ, zero, suc, ◌+◌, ◌-◌, ◌<◌, ◌≤◌, not, cond, List, [], ◌∷◌, length, map, set, get_or, replicate, refl, sym, ap, subst, ◌∙◌, arith}
+use Rattle.std.proofs.Common.{◌≡◌, ℕ, zero, suc, ◌+◌, ◌-◌, ◌<◌, ◌≤◌, Bool, true, false, not, cond, List, [], ◌∷◌, length, map, set, get_or, replicate, refl, sym, ap, subst, ◌∙◌, arith}
 use Rattle.std.specs.Prelude.{fold, Option, Some, None}
 use Rattle.std.specs.List.{prefix_len}
 use Rattle.std.proofs.Math.Path.{fun_ext}
@@ -7,8 +7,8 @@ use Rattle.std.proofs.lemmas.List.{length-set}
 use Rattle.xl_base.specs.declared.ids.TxId.{TxId}
 use Rattle.xl_base.specs.declared.ids.SetId.{SetId}
 use Rattle.xl_disputes.specs.Disputes.{with_own}
-use Rattle.xl_disputes.specs.Holdings.{Holding, member_bits, changed, with_set}
-use Rattle.xl_disputes.specs.Standings.{names, stand, with_one, standings, weighed, own_in, own_ids, held_in, known_of, IsLast, IsReady}
+use Rattle.xl_disputes.specs.Holdings.{Holding, changed, with_set}
+use Rattle.xl_disputes.specs.Standings.{names, stand, with_one, standings, weighed, own_in, own_ids, held_in, known_of, IsKept, IsLast, IsWeighable, IsReady}
 use Rattle.xl_disputes.proofs.Unused.{last_weighed}
 
 -- ---- weights change nothing else
@@ -72,30 +72,37 @@ length_standings hs positions = length_fold hs (replicate 65 0) positions
 
 -- ---- all is kept once the weights are those of the positions
 
--- what has to hold before
-pub record IsWeighable (hs : List Holding) (positions : List (Option SetId)) : Type 0 where
-  pub places : length hs ≡ 65
-  pub own : own_in hs ≡ Some (own_ids hs)
-  pub bits : map (λ h. h.bit) hs ≡ 0 ∷ member_bits
-  pub count : length positions ≡ 64
+pub unsettled : (hs : List Holding) (positions : List (Option SetId)) (last room : ℕ) → IsWeighable hs positions → IsLast last hs positions → 256 ≤ room → IsReady hs positions last room false
+unsettled hs positions last room can ends roomy = record { able = can; ends = ends; roomy = roomy; weights = λ is. absurd (cc is) }
 
-pub weighable : (hs : List Holding) (positions : List (Option SetId)) (last room : ℕ) → IsReady hs positions last room → IsWeighable hs positions
-weighable hs positions last room ready = record { places = ready.kept.places; own = ready.kept.own; bits = ready.kept.bits; count = ready.kept.count }
-
-pub settled : (hs new : List Holding) (positions : List (Option SetId)) (last room : ℕ) → IsWeighable hs positions → IsLast last hs positions → 256 ≤ room → new ≡ weighed (standings hs positions) hs → IsReady new positions last room
-settled hs new positions last room can ends roomy is =
+pub kept_settled : (hs new : List Holding) (positions : List (Option SetId)) → IsWeighable hs positions → new ≡ weighed (standings hs positions) hs → IsKept new positions
+kept_settled hs new positions can is =
     let weights : List ℕ = standings hs positions in
-    subst (λ x. IsReady x positions last room) (sym is) (record {
-      kept = record {
-        places = length_weighed weights hs ∙ can.places;
-        own = own_weighed weights hs ∙ can.own ∙ ap Some (sym (ids_weighed weights hs));
-        bits = bits_weighed weights hs ∙ can.bits;
-        count = can.count;
-        weights = weights_weighed weights hs (length_standings hs positions ∙ sym can.places) ∙ sym (standings_weighed weights hs positions);
-      };
-      ends = last_weighed last hs positions can.places ends;
-      roomy = roomy;
+    subst (λ x. IsKept x positions) (sym is) (record {
+      places = length_weighed weights hs ∙ can.places;
+      own = own_weighed weights hs ∙ can.own ∙ ap Some (sym (ids_weighed weights hs));
+      bits = bits_weighed weights hs ∙ can.bits;
+      count = can.count;
+      weights = weights_weighed weights hs (length_standings hs positions ∙ sym can.places) ∙ sym (standings_weighed weights hs positions);
     })
+
+pub settled : (hs new : List Holding) (positions : List (Option SetId)) (last room : ℕ) → IsWeighable hs positions → IsLast last hs positions → 256 ≤ room → new ≡ weighed (standings hs positions) hs → IsReady new positions last room true
+settled hs new positions last room can ends roomy is =
+    let kept : IsKept new positions = kept_settled hs new positions can is in
+    record {
+      able = record { places = kept.places; own = kept.own; bits = kept.bits; count = kept.count };
+      ends = subst (λ x. IsLast last x positions) (sym is) (last_weighed last hs positions can.places ends);
+      roomy = roomy;
+      weights = λ _. kept.weights;
+    }
+
+weighed_so : (hs : List Holding) → weighed (map (λ h. h.weight) hs) hs ≡ hs
+weighed_so [] = refl
+weighed_so (h ∷ hs) = ap (λ xs. h ∷ xs) (weighed_so hs)
+
+-- weights that are those of the positions stay as they are
+pub weighed_already : (hs : List Holding) (positions : List (Option SetId)) → map (λ h. h.weight) hs ≡ standings hs positions → hs ≡ weighed (standings hs positions) hs
+weighed_already hs positions is = sym (weighed_so hs) ∙ ap (λ weights. weighed weights hs) is
 
 pub known_settled : (hs new : List Holding) (positions : List (Option SetId)) → new ≡ weighed (standings hs positions) hs → known_of new positions ≡ known_of hs positions
 known_settled hs new positions is =
@@ -179,6 +186,5 @@ module _ (s : Option (List TxId)) (member : ℕ) (some : 1 ≤ member) (hs next 
 pub moved_weighable : (hs : List Holding) (old new : List (Option SetId)) → length new ≡ 64 → IsWeighable hs old → IsWeighable hs new
 moved_weighable hs old new count can = record { places = can.places; own = can.own; bits = can.bits; count = count }
 
-pub moved_settled : (hs new : List Holding) (old positions : List (Option SetId)) (before last room : ℕ) → IsReady hs old before room → length positions ≡ 64 → IsLast last hs positions → new ≡ weighed (standings hs positions) hs → IsReady new positions last room
-moved_settled hs new old positions before last room ready count ends is =
-    settled hs new positions last room (moved_weighable hs old positions count (weighable hs old before room ready)) ends ready.roomy is
+pub moved_unsettled : (hs : List Holding) (old positions : List (Option SetId)) (before last room : ℕ) (was : Bool) → IsReady hs old before room was → length positions ≡ 64 → IsLast last hs positions → IsReady hs positions last room false
+moved_unsettled hs old positions before last room was ready count ends = unsettled hs positions last room (moved_weighable hs old positions count ready.able) ends ready.roomy

@@ -211,9 +211,10 @@ all_held_free : (bits : List ℕ) → All IsFree (map no_holding bits)
 all_held_free [] = All-nil IsFree
 all_held_free (bit ∷ bits) = All-cons IsFree (no_holding bit) (map no_holding bits) refl (all_held_free bits)
 
-pub nothing_ready : (hs : List Holding) (room : ℕ) → hs ≡ no_holdings → 256 ≤ room → IsReady hs (replicate 64 None) 0 room
-nothing_ready hs room is roomy = subst (λ x. IsReady x (replicate 64 None) 0 room) (sym is) (record {
-  kept = record { places = refl; own = refl; bits = refl; count = refl; weights = refl };
+pub nothing_ready : (hs : List Holding) (room : ℕ) → hs ≡ no_holdings → 256 ≤ room → IsReady hs (replicate 64 None) 0 room true
+nothing_ready hs room is roomy = subst (λ x. IsReady x (replicate 64 None) 0 room true) (sym is) (record {
+  able = record { places = refl; own = refl; bits = refl; count = refl };
   ends = record { within = omega arith; unnamed = All-replicate IsNone 64 None refl; unheld = all_held_free member_bits };
   roomy = roomy;
+  weights = λ _. refl;
 })

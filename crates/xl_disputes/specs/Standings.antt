@@ -1,6 +1,6 @@
 -- Which set each position stands for, and what is known from the holdings.
 -- Source: what the code of this crate keeps. No public clause cites this file.
-use Rattle.std.specs.Prelude.{◌≡◌, ℕ, suc, ◌+◌, ◌-◌, ◌≤◌, nat_lt, Bool, false, not, List, [], ◌∷◌, ◌++◌, length, map, replicate, fold, take, drop, filter, flat_map, sum_by, slice_set, slice_index_or, All, Option, Some, None, if◌then◌else◌}
+use Rattle.std.specs.Prelude.{◌≡◌, ℕ, suc, ◌+◌, ◌-◌, ◌≤◌, nat_lt, Bool, true, false, not, List, [], ◌∷◌, ◌++◌, length, map, replicate, fold, take, drop, filter, flat_map, sum_by, slice_set, slice_index_or, All, Option, Some, None, if◌then◌else◌}
 use Rattle.std.specs.List.{prefix_len}
 use Rattle.xl_base.specs.declared.ids.TxId.{TxId}
 use Rattle.xl_base.specs.declared.ids.SetId.{SetId}
@@ -88,8 +88,16 @@ pub record IsLast (last : ℕ) (hs : List Holding) (positions : List (Option Set
   pub unnamed : All (λ position. position ≡ None) (drop last positions)
   pub unheld : All (λ h. h ≡ no_holding h.bit) (drop (suc last) hs)
 
--- and there is room for our next set
-pub record IsReady (hs : List Holding) (positions : List (Option SetId)) (last room : ℕ) : Type 0 where
-  pub kept : IsKept hs positions
+-- what is kept while the positions are not counted yet
+pub record IsWeighable (hs : List Holding) (positions : List (Option SetId)) : Type 0 where
+  pub places : length hs ≡ 65
+  pub own : own_in hs ≡ Some (own_ids hs)
+  pub bits : map (λ h. h.bit) hs ≡ 0 ∷ member_bits
+  pub count : length positions ≡ 64
+
+-- and there is room for our next set; once settled, each set has the weight of the positions that stand for it
+pub record IsReady (hs : List Holding) (positions : List (Option SetId)) (last room : ℕ) (settled : Bool) : Type 0 where
+  pub able : IsWeighable hs positions
   pub ends : IsLast last hs positions
   pub roomy : 256 ≤ room
+  pub weights : settled ≡ true → map (λ h. h.weight) hs ≡ standings hs positions

@@ -1,4 +1,4 @@
-ghost use Rattle.std.specs.Prelude.{◌≡◌, ◌≢◌, ◌↔◌, ◌-◌, ◌<◌, ◌≤◌, length, drop, replicate, All, None, IsTrue, IsFalse, IfOk};
+ghost use Rattle.std.specs.Prelude.{◌≡◌, ◌≢◌, ◌↔◌, ◌-◌, ◌<◌, ◌≤◌, length, drop, map, replicate, All, None, true, IsTrue, IsFalse, IfOk};
 ghost use Rattle.xl_base.specs.Sets.{set_id_of, IsSet};
 ghost use Rattle.xl_disputes.specs.Disputes.{
   nothing_known,
@@ -31,6 +31,8 @@ pub struct Disputes {
     positions: [Option<SetId>; MOST_MEMBERS],
     /// No member above this number has a position, or a held set.
     last: usize,
+    /// Whether each set stands for the positions that name it. Else they are counted once votes are asked for.
+    settled: bool,
     /// Room for our next set.
     next: Vec<TxId>,
 }
@@ -44,7 +46,7 @@ impl Model for Disputes {
 
     ghost view = { λ a. known_of a.shares a.positions };
 
-    ghost invariant = { λ a. IsReady a.shares a.positions a.last (vec_capacity a.next) };
+    ghost invariant = { λ a. IsReady a.shares a.positions a.last (vec_capacity a.next) a.settled };
 }
 
 /// The place of a member's position.
@@ -86,6 +88,23 @@ fn settle(shares: &mut Shares, positions: &[Option<SetId>; MOST_MEMBERS], last: 
     shares.weigh_all(&weights[..last + 1]);
 }
 
+/// The same, unless each does already.
+fn settle_unless(
+    settled: bool,
+    shares: &mut Shares,
+    positions: &[Option<SetId>; MOST_MEMBERS],
+    last: usize,
+)
+    requires places { length shares.old ≡ PLACES }
+    requires ends { IsLast last shares.old positions.now }
+    requires weights { settled ≡ true → map (λ h. h.weight) shares.old ≡ standings shares.old positions.now }
+    ensures { shares.new ≡ weighed (standings shares.old positions.now) shares.old }
+{
+    if !settled {
+        settle(shares, positions, last);
+    }
+}
+
 impl Disputes {
     /// No held set, no position, and an empty set of our own, with room for every other, or `OutOfMemory`.
     pub fn open(alloc: Global) -> Result<Disputes, OutOfMemory>
@@ -95,6 +114,7 @@ impl Disputes {
             shares: Shares::open(alloc)?,
             positions: [None; MOST_MEMBERS],
             last: 0,
+            settled: true,
             next: Vec::with_capacity(alloc, SET_IDS)?,
         })
     }
@@ -106,6 +126,7 @@ impl Disputes {
         self.shares.reset();
         clear_first(&mut self.positions, self.last);
         self.last = 0;
+        self.settled = true;
     }
 
     /// Makes these ids our own set.
@@ -114,7 +135,7 @@ impl Disputes {
         ensures { self.new ≡ with_own self.old set.now }
     {
         self.shares.take(OWN, set);
-        settle(&mut self.shares, &self.positions, self.last);
+        self.settled = false;
     }
 
     /// Our own set.
@@ -141,7 +162,7 @@ impl Disputes {
         let place = holding_of(member);
         let id = self.shares.take(place, set);
         self.last = self.last.max(place);
-        settle(&mut self.shares, &self.positions, self.last);
+        self.settled = false;
         id
     }
 
@@ -151,7 +172,7 @@ impl Disputes {
     {
         self.positions[place_of(member)] = Some(set);
         self.last = self.last.max(holding_of(member));
-        settle(&mut self.shares, &self.positions, self.last);
+        self.settled = false;
     }
 
     /// The member has no position any more. What it holds stays.
@@ -159,7 +180,7 @@ impl Disputes {
         ensures { self.new ≡ without_position self.old member }
     {
         self.positions[place_of(member)] = None;
-        settle(&mut self.shares, &self.positions, self.last);
+        self.settled = false;
     }
 
     /// No member has a position any more.
@@ -167,7 +188,7 @@ impl Disputes {
         ensures { self.new ≡ without_positions self.old }
     {
         clear_first(&mut self.positions, self.last);
-        settle(&mut self.shares, &self.positions, self.last);
+        self.settled = false;
     }
 
     /// The member has neither a position nor a held set any more.
@@ -176,13 +197,16 @@ impl Disputes {
     {
         self.shares.release(holding_of(member));
         self.positions[place_of(member)] = None;
-        settle(&mut self.shares, &self.positions, self.last);
+        self.settled = false;
     }
 
     /// The votes on a transaction, or None if no counted set has it. Counted are our own set and all held ones.
-    pub fn votes_of(&self, tx: &TxId) -> Option<Votes>
-        ensures { result ≡ votes_of self.now tx.now }
+    pub fn votes_of(&mut self, tx: &TxId) -> Option<Votes>
+        ensures value { result ≡ votes_of self.old tx.now }
+        ensures same { self.new ≡ self.old }
     {
+        settle_unless(self.settled, &mut self.shares, &self.positions, self.last);
+        self.settled = true;
         let tally = self.shares.tally(tx);
         if tally.is_none() {
             None
@@ -208,11 +232,13 @@ impl Disputes {
         ensures same { IsFalse result ↔ (winners self.old needed proposing ≡ self.old.own) }
         ensures taken { self.new ≡ with_own self.old (winners self.old needed proposing) }
     {
+        settle_unless(self.settled, &mut self.shares, &self.positions, self.last);
+        self.settled = true;
         self.shares.pick(&mut self.next, needed, proposing);
         let changed = self.next.as_slice() != self.shares.own().ids();
         if changed {
             self.shares.replace(OWN, &self.next);
-            settle(&mut self.shares, &self.positions, self.last);
+            self.settled = false;
         }
         changed
     }

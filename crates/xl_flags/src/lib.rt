@@ -20,6 +20,3 @@ pub use flag_votes::{FlagVotes, MOST_AMENDMENTS};
 pub use laws::law_of_moments;
 pub use news::{FlagLine, FlagNews};
 pub use refusal::FlagRefusal;
-
-#[cfg(test)]
-mod tests;

@@ -5,6 +5,7 @@ use Rattle.std.specs.List.{flat_map}
 use Rattle.std.proofs.lemmas.Bool.{cond_both}
 use Rattle.std.proofs.lemmas.List.Elements.{All-append, All-cons, All-contains, All-head, All-map, All-nil, All-tail, All-weaker}
 use Rattle.xl_lists.specs.declared.report.Report.{Report as Reported}
+use Rattle.xl_lists.specs.Agreement.{Agree}
 use Rattle.xl_lists.specs.Lists.{IsValid, TrustedList, all_numbers}
 use Rattle.xl_lists.specs.Quorums.{Enough, bound_of}
 use Rattle.xl_lists.proofs.Rereading.{unrefused}
@@ -14,7 +15,6 @@ use Rattle.xl_sched.specs.declared.event.What.TheVariants.{Timers, Submit, All a
 use Rattle.xl_sched.specs.Reading.{opened}
 use Rattle.xl_world.specs.declared.plan.InForce.{InForce}
 use Rattle.xl_world.specs.Forks.{Fork, IsFork, first_fork}
-use Rattle.xl_world.specs.Headline.{AgreeAt, EnoughAt}
 use Rattle.xl_world.specs.Plans.{IsDeclared, AreDeclared, Shared, up_from}
 use Rattle.xl_world.specs.Schedule.{IsPlausible, after_event, outcomes, steps_of}
 use Rattle.xl_world.specs.Starts.{list_of}
@@ -126,19 +126,16 @@ enough = let bound : bound_of [] list list ≡ 7 = refl in omega (arith, bound)
 enough_for : (a b : TrustedList) → a ≡ list → b ≡ list → Enough [] a b
 enough_for a b is_a is_b = subst (λ (x : TrustedList). Enough [] x b) (sym is_a) (subst (λ (x : TrustedList). Enough [] list x) (sym is_b) enough)
 
-enough_at : (w : World) (steps : List Step) → IsOfSeven w steps → (i j : ℕ) → EnoughAt [] w.reports i j
-enough_at w steps seven i j k d k_in l e l_in of_i of_j same =
-    enough_for _ _ (reporter_list w steps seven k d k_in) (reporter_list w steps seven l e l_in)
-
 -- so two reports of one sequence have one id
 one_id : (w : World) (steps : List Step) → IsOfSeven w steps → w.forged ≡ 0 → (r q : Reported) → Contains w.reports r → Contains w.reports q → r.seq ≡ q.seq → r.id ≡ q.id
 one_id w steps seven none r q has_r has_q one =
-    let agree : AgreeAt w.reports r.node q.node =
-    subst (λ (u : World). AgreeAt u.reports r.node q.node) (sym seven.0)
-    (core_headline at_first_shared [] plan steps r.node q.node are_declared seven.1 (subst (λ (u : World). u.forged ≡ 0) seven.0 none)
-    (subst (λ (u : World). EnoughAt [] u.reports r.node q.node) seven.0 (enough_at w steps seven r.node q.node))) in
-    All-contains (λ x. r.node ≡ r.node → x.node ≡ q.node → r.seq ≡ x.seq → r.id ≡ x.id) w.reports q
-    (All-contains (λ y. All (λ x. y.node ≡ r.node → x.node ≡ q.node → y.seq ≡ x.seq → y.id ≡ x.id) w.reports) w.reports r agree has_r) has_q refl refl one
+    let agree : Agree [] w.reports =
+    subst (λ (u : World). Agree [] u.reports) (sym seven.0)
+    (core_headline at_first_shared [] plan steps are_declared seven.1 (subst (λ (u : World). u.forged ≡ 0) seven.0 none)) in
+    let lists : All (λ x. x.list ≡ list) w.reports = reporter_list w steps seven in
+    let both : Enough [] r.list q.list = enough_for _ _ (All-contains (λ x. x.list ≡ list) w.reports r lists has_r) (All-contains (λ x. x.list ≡ list) w.reports q lists has_q) in
+    All-contains (λ x. Enough [] r.list x.list → r.seq ≡ x.seq → r.id ≡ x.id) w.reports q
+    (All-contains (λ y. All (λ x. Enough [] y.list x.list → y.seq ≡ x.seq → y.id ≡ x.id) w.reports) w.reports r agree has_r) has_q both one
 
 -- and it has no fork
 no_fork_in : (w : World) (steps : List Step) → IsOfSeven w steps → w.forged ≡ 0 → (o : Option Fork) → first_fork w.reports ≡ o → o ≡ None

@@ -2,5 +2,6 @@ pub mod Scripts
 pub mod Memory
 pub mod Sources
 pub mod Sinks
+pub mod Streams
 pub mod Keepers
 pub mod Saves

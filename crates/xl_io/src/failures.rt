@@ -1,4 +1,4 @@
-ghost use Rattle.std.specs.Prelude.{◌≡◌, ◌≤◌, IsTrue};
+ghost use Rattle.std.specs.Prelude.{◌≡◌, ◌≤◌, IsTrue, IsFalse};
 ghost use Rattle.xl_base.specs.Counts.{one_more};
 ghost use Rattle.xl_base.specs.Faults.{Rose};
 ghost use Rattle.xl_io.specs.Scripts.{is_listed};
@@ -46,6 +46,7 @@ impl Failures {
         ensures calls { self.new.calls ≡ one_more self.old.calls }
         ensures later { self.old.count ≤ self.new.count }
         ensures rose { IsTrue result → Rose self.old.count self.new.count }
+        ensures exact { IsFalse result → self.new.count ≡ self.old.count }
     {
         self.calls = self.calls.saturating_add(1);
         let fails = self.failing.contains(&self.calls);

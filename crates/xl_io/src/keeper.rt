@@ -1,4 +1,4 @@
-ghost use Rattle.std.specs.Prelude.{◌≡◌, ℕ, ◌≤◌, Bool, List, Some, option_map, is_ok, IfSome, IfOk, OnErr};
+ghost use Rattle.std.specs.Prelude.{◌≡◌, ℕ, ◌≤◌, Bool, List, Some, option_map, is_ok, IfSome, IfOk, OnOk, OnErr};
 ghost use Rattle.std.specs.declared.option.Option.{Option};
 ghost use Rattle.xl_base.specs.Faults.{Rose};
 ghost use Rattle.xl_io.specs.Keepers.{Held, MayHold, holding, after_save, AddsSave};
@@ -37,7 +37,8 @@ pub trait Keeper {
         ensures gives { IfOk result (λ seq. load_gives self.old seq self.new) }
         ensures saves { saves self.new ≡ saves self.old }
         ensures later { faults self.old ≤ faults self.new }
-        ensures failed { OnErr result (Rose (faults self.old) (faults self.new)) };
+        ensures failed { OnErr result (Rose (faults self.old) (faults self.new)) }
+        ensures exact { OnOk result (faults self.new ≡ faults self.old) };
 
     /// Holds the number alone from then on. After `Failed` it holds the one in force, and may hold this one.
     fn save(&mut self, seq: Seq) -> Result<(), Failed>
@@ -45,7 +46,8 @@ pub trait Keeper {
         ensures saves { AddsSave (saves self.old) (saves self.new) seq }
         ensures gives { save_gives self.old seq (is_ok result) self.new }
         ensures later { faults self.old ≤ faults self.new }
-        ensures failed { OnErr result (Rose (faults self.old) (faults self.new)) };
+        ensures failed { OnErr result (Rose (faults self.old) (faults self.new)) }
+        ensures exact { OnOk result (faults self.new ≡ faults self.old) };
 
     /// How often a call has failed, up to the greatest `u64`.
     fn faults(&self) -> u64

@@ -1,4 +1,4 @@
-ghost use Rattle.std.specs.Prelude.{◌≡◌, ℕ, ◌≤◌, List, OnOk, OnErr};
+ghost use Rattle.std.specs.Prelude.{◌≡◌, ◌≢◌, ℕ, ◌≤◌, List, OnOk, OnErr};
 ghost use Rattle.std.specs.declared.option.Option.{Option};
 ghost use Rattle.std.specs.Io.KnownBytes.{append_known};
 ghost use Rattle.xl_base.specs.Faults.{Rose};
@@ -31,7 +31,8 @@ pub trait Sink {
         ensures fits { FitsPiece result piece.now }
         ensures bytes { Writes (held self.old) (held self.new) result piece.now }
         ensures later { faults self.old ≤ faults self.new }
-        ensures failed { result ≡ Wrote.Failed → Rose (faults self.old) (faults self.new) };
+        ensures failed { result ≡ Wrote.Failed → Rose (faults self.old) (faults self.new) }
+        ensures exact { result ≢ Wrote.Failed → faults self.new ≡ faults self.old };
 }
 
 /// Writes all the bytes. It fails if a write of the sink does, and the sink then holds a front of them, not all.
@@ -41,6 +42,7 @@ pub fn write_all<K: Sink>(sink: &mut K, bytes: &[u8]) -> Result<(), Failed>
     ensures less { OnErr result (GrewByLess (K.held sink.old) (K.held sink.new) bytes.now) }
     ensures later { K.faults sink.old ≤ K.faults sink.new }
     ensures failed { OnErr result (Rose (K.faults sink.old) (K.faults sink.new)) }
+    ensures exact { OnOk result (K.faults sink.new ≡ K.faults sink.old) }
 {
     let mut rest = bytes;
     while !rest.is_empty() {

@@ -1,4 +1,4 @@
-ghost use Rattle.std.specs.Prelude.{◌≡◌, ℕ, ◌≤◌, List, length};
+ghost use Rattle.std.specs.Prelude.{◌≡◌, ◌≢◌, ℕ, ◌≤◌, List, length};
 ghost use Rattle.std.specs.declared.option.Option.{Option};
 ghost use Rattle.xl_base.specs.Faults.{Rose};
 ghost use Rattle.xl_io.specs.Sources.{FitsRoom, Reads};
@@ -30,5 +30,6 @@ pub trait Source {
         ensures fits { FitsRoom result room.new }
         ensures bytes { Reads (left self.old) (left self.new) result room.new }
         ensures later { faults self.old ≤ faults self.new }
-        ensures failed { result ≡ Piece.Failed → Rose (faults self.old) (faults self.new) };
+        ensures failed { result ≡ Piece.Failed → Rose (faults self.old) (faults self.new) }
+        ensures exact { result ≢ Piece.Failed → faults self.new ≡ faults self.old };
 }

@@ -10,9 +10,13 @@ abbrev pub Saved : ℕ → Bool → Places → Places → Type 0
 Saved n ok old new =
     (IsTrue ok → new.stands ≡ Some (text_of n)) × ((new.stands ≡ old.stands) ⊎ (new.stands ≡ Some (text_of n)))
 
--- the text in place says the number that was loaded, and stays
+-- the text in place says this number, and nothing changes
+abbrev pub SaysSo : ℕ → Places → Places → Type 0
+SaysSo n old new = (new ≡ old) × Says old.stands n
+
+-- the text in place says the number that was loaded, and stays, and that number's text was written beside it
 abbrev pub Loaded : ℕ → Places → Places → Type 0
-Loaded n old new = (new ≡ old) × Says old.stands n
+Loaded n old new = (new.stands ≡ old.stands) × (new.beside ≡ Some (text_of n)) × Says old.stands n
 
 -- one fault more where it failed, and else none
 abbrev pub counted : Bool → ℕ → ℕ

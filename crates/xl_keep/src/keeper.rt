@@ -1,7 +1,8 @@
 ghost use Rattle.std.specs.Prelude.{◌≡◌, ◌≤◌, None, IfOk, is_ok};
 ghost use Rattle.std.specs.Result.{result_ok};
-ghost use Rattle.xl_keep.specs.Files.{Told};
-ghost use Rattle.xl_keep.specs.Saves.{Saved, Loaded, Saving, counted};
+ghost use Rattle.xl_keep.specs.Files.{Told, Writes};
+ghost use Rattle.xl_keep.specs.Texts.{text_of};
+ghost use Rattle.xl_keep.specs.Saves.{Saved, Loaded, SaysSo, Saving, counted};
 
 use crate::text::{MOST_BYTES, number_of, spell};
 use crate::whole::WholeFile;
@@ -37,7 +38,7 @@ impl<F: WholeFile + Drop> FileKeeper<F> {
 
     /// The number that the file says.
     fn number(&mut self) -> io::Result<Seq>
-        ensures loaded { IfOk result (λ n. Told (Loaded n) (F.shows self.old.file) (F.shows self.new.file)) }
+        ensures said { IfOk result (λ n. Told (SaysSo n) (F.shows self.old.file) (F.shows self.new.file)) }
         ensures faults { self.new.faults ≡ self.old.faults }
     {
         let mut room = [0; MOST_BYTES + 1];
@@ -50,13 +51,32 @@ impl<F: WholeFile + Drop> FileKeeper<F> {
         }
     }
 
+    /// The same, once a file was written beside: a node that couldn't save would validate nothing.
+    #[tactic(auto, using(crate::proofs::Loads::loaded_beside))]
+    fn number_to_go_on(&mut self) -> io::Result<Seq>
+        ensures loaded { IfOk result (λ n. Told (Loaded n) (F.shows self.old.file) (F.shows self.new.file)) }
+        ensures faults { self.new.faults ≡ self.old.faults }
+    {
+        let seq = self.number()?;
+        self.write_number(seq)?;
+        Ok(seq)
+    }
+
+    /// Writes the number beside the file.
+    fn write_number(&mut self, seq: Seq) -> io::Result<()>
+        ensures written { Told (Writes (text_of seq) (is_ok result)) (F.shows self.old.file) (F.shows self.new.file) }
+        ensures faults { self.new.faults ≡ self.old.faults }
+    {
+        spell(&mut self.text, seq)?;
+        self.file.write_beside(self.text.as_bytes())
+    }
+
     /// Writes the number beside the file, and puts it in its place.
     fn replace(&mut self, seq: Seq) -> io::Result<()>
         ensures saved { Told (Saved seq (is_ok result)) (F.shows self.old.file) (F.shows self.new.file) }
         ensures faults { self.new.faults ≡ self.old.faults }
     {
-        spell(&mut self.text, seq)?;
-        self.file.write_beside(self.text.as_bytes())?;
+        self.write_number(seq)?;
         self.file.put_in_place()
     }
 
@@ -102,9 +122,10 @@ impl<F: WholeFile + Drop> Keeper for FileKeeper<F> {
 
     ghost save_gives = { λ old seq ok new. Saving seq ok (F.shows old.file) (F.shows new.file) old.faults new.faults };
 
-    /// It fails if the file can't be read, and if its text isn't that of a number.
+    /// It fails if the file can't be read, if its text isn't that of a number, and if that number can't be written
+    /// beside it.
     fn load(&mut self) -> Result<Seq, Failed> {
-        let loaded = self.number();
+        let loaded = self.number_to_go_on();
         self.answer(loaded)
     }
 

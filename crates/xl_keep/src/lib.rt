@@ -2,16 +2,19 @@
 //!
 //! It stands on xl_base and xl_io. Its one contract: a call answers `Failed` only if the count rose in that call. Over
 //! a file that tells what it holds, a save that was answered with Ok leaves the number's text in place; one that
-//! failed leaves that or the former text. A load answers the number whose text it is, 0 if there is no file.
+//! failed leaves that or the former text. A load answers the number whose text it is, 0 if there is no file, once it has
+//! written that number's text beside.
 #![tactic(auto)]
 
 mod keeper;
+mod lockable;
 mod memory;
 mod system;
 mod text;
 mod whole;
 
 pub use keeper::FileKeeper;
+pub use lockable::Lockable;
 pub use memory::MemFile;
 pub use system::SystemFile;
 pub use whole::WholeFile;

@@ -1,15 +1,20 @@
 ghost use Rattle.std.specs.Prelude.{◌≡◌, ◌<◌, ◌≤◌, IfOk, None, length};
 
+use crate::lockable::Lockable;
 use crate::whole::WholeFile;
 use std::alloc::Global;
-use std::fs::{self, File, Files, OpenFile};
+use std::fs::{self, File, Files, OpenFile, OpenOptions};
 use std::io::{self, ErrorKind, Read, Write};
+use std::os::unix::fs::OpenOptionsExt;
 use std::thread;
 use std::time::{Clock, Duration};
 use xl_base::OutOfMemory;
 
 /// How long it waits where it is asked to, in milliseconds.
 const WAITS: u64 = 40;
+
+/// Only its owner may open the file that is locked, and so hold its lock.
+const LOCK_MODE: u32 = 0o600;
 
 /// A file of the system. What it holds isn't told.
 ///
@@ -18,71 +23,100 @@ const WAITS: u64 = 40;
 /// yet. So a stop at any moment leaves the former text or the new one in place, and what was read stays, where the
 /// system keeps what it says of these calls.
 ///
-/// The first read or write locks the folder, for as long as this lives, and each fails while another process has it.
+/// Each call fails if a name that it uses is that of a link, a folder, or anything but a plain file. A link would be
+/// replaced by a save, and the file that it leads to would keep the former text.
+///
+/// The first read or write locks the file's name with `.lock` behind it, for as long as this lives, and each fails while
+/// another process has it. Between two saves the folder stays open, and it is closed before the new file is made: so a
+/// save finds a descriptor when no other is left.
 #[derive(Drop)]
-pub struct SystemFile<R> {
+pub struct SystemFile<R: Files> {
     files: R,
-    locked: Option<File>,
+    locked: Option<R::File>,
+    synced: Option<R::File>,
     folder: String,
     place: String,
     beside: String,
+    lock: String,
 }
 
-impl<R: Files<File = File> + Drop> SystemFile<R> {
+impl<R: Files + Drop> SystemFile<R>
+where
+    R::File: Lockable,
+{
     /// The file of this name in the folder, whether there is one or not.
     pub fn new(alloc: Global, files: R, folder: &str, name: &str) -> Result<Self, OutOfMemory> {
         Ok(SystemFile {
             folder: folder.to_string(alloc)?,
             place: format!(in alloc; "{folder}/{name}")?,
             beside: format!(in alloc; "{folder}/{name}.new")?,
+            lock: format!(in alloc; "{folder}/{name}.lock")?,
             locked: None,
+            synced: None,
             files,
         })
     }
 
-    fn sync_folder(&self) -> io::Result<()> {
-        File::open(&self.files, self.folder.as_str())?.sync_all()
+    fn sync_folder(&mut self) -> io::Result<()> {
+        let folder = File::open(&self.files, self.folder.as_str())?;
+        folder.sync_all()?;
+        self.synced = Some(folder);
+        Ok(())
     }
 
-    /// Locks the folder, if it hasn't yet.
-    fn lock_folder(&mut self) -> io::Result<()> {
+    /// Takes the lock, if it hasn't yet.
+    fn take_lock(&mut self) -> io::Result<()> {
         if self.locked.is_none() {
-            let folder = File::open(&self.files, self.folder.as_str())?;
-            folder.try_lock()?;
-            self.locked = Some(folder);
+            is_there(&self.files, self.lock.as_str())?;
+            let file = OpenOptions::new()
+                .write(true)
+                .create(true)
+                .mode(LOCK_MODE)
+                .open(&self.files, self.lock.as_str())?;
+            file.try_lock()?;
+            self.locked = Some(file);
         }
         Ok(())
     }
 
-    /// There is nothing of this name, not even a link that leads nowhere.
-    fn is_absent(&self) -> io::Result<bool> {
-        match fs::symlink_metadata(&self.files, self.place.as_str()) {
-            Ok(_) => Ok(false),
-            Err(error) if error.kind() == ErrorKind::NotFound => Ok(true),
-            Err(error) => Err(error),
-        }
+    /// Makes the new file beside the one in place.
+    fn make_beside(&mut self) -> io::Result<R::File> {
+        is_there(&self.files, self.beside.as_str())?;
+        self.synced = None;
+        File::create(&self.files, self.beside.as_str())
     }
 }
 
-impl<R: Files<File = File> + Clock + Drop> WholeFile for SystemFile<R> {
+/// There is a plain file of this name. It fails if something else has the name.
+fn is_there<R: Files>(files: &R, path: &str) -> io::Result<bool> {
+    match fs::symlink_metadata(files, path) {
+        Ok(what) if what.is_file() => Ok(true),
+        Ok(_) => Err(io::Error::from(ErrorKind::InvalidData)),
+        Err(error) if error.kind() == ErrorKind::NotFound => Ok(false),
+        Err(error) => Err(error),
+    }
+}
+
+impl<R: Files + Clock + Drop> WholeFile for SystemFile<R>
+where
+    R::File: Lockable,
+{
     ghost shows = { λ _. None };
 
     fn read(&mut self, room: &mut [u8]) -> io::Result<Option<usize>> {
-        self.lock_folder()?;
-        match File::open(&self.files, self.place.as_str()) {
-            Ok(mut file) => {
-                let count = read_whole(&mut file, room)?;
-                self.sync_folder()?;
-                Ok(Some(count))
-            }
-            Err(error) if error.kind() == ErrorKind::NotFound && self.is_absent()? => Ok(None),
-            Err(error) => Err(error),
+        self.take_lock()?;
+        if !is_there(&self.files, self.place.as_str())? {
+            return Ok(None);
         }
+        let mut file = File::open(&self.files, self.place.as_str())?;
+        let count = read_whole(&mut file, room)?;
+        self.sync_folder()?;
+        Ok(Some(count))
     }
 
     fn write_beside(&mut self, text: &[u8]) -> io::Result<()> {
-        self.lock_folder()?;
-        let mut file = File::create(&self.files, self.beside.as_str())?;
+        self.take_lock()?;
+        let mut file = self.make_beside()?;
         file.write_all(text)?;
         file.sync_all()
     }

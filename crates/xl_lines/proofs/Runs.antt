@@ -2,6 +2,8 @@
 use Rattle.std.proofs.Common.{◌≡◌, ◌≢◌, Result, Ok, Err, ◌++◌, ◌<◌, length, ℕ, List, [], Option, Some, None, IfSome, refl, sym, ap, ◌∙◌, append_assoc}
 use Rattle.std.specs.Io.KnownBytes.{prepend_known, IsAtEnd}
 use Rattle.xl_io.specs.Sinks.{GrewByFront, GrewByLess}
+use Rattle.xl_io.specs.declared.source.Piece.{Piece}
+use Rattle.xl_io.specs.declared.source.Piece.TheVariants.{Got, End, Failed}
 use Rattle.std.proofs.Common.{true}
 use Rattle.std.proofs.lemmas.Bool.{false≢true}
 use Rattle.xl_lines.specs.declared.machine.Verdict.TheVariants.{Found}
@@ -12,7 +14,7 @@ use Rattle.xl_lines.specs.declared.fault.Fault.{Fault}
 use Rattle.xl_lines.specs.declared.fault.Fault.TheVariants.{Read, Write, Memory}
 use Rattle.xl_lines.specs.Causes.{HasCause}
 use Rattle.xl_lines.specs.Running.{Tells}
-use Rattle.xl_lines.proofs.Telling.{tells_from, tells_none, tells_then, tells_front, front_of_tells, tells_less, less_from, less_of_tells}
+use Rattle.xl_lines.proofs.Telling.{tells_from, tells_none, tells_then, tells_front, front_of_tells, tells_less, less_of_tells}
 
 -- Of what all says about the bytes, a front is held, and now says what is left to tell about those that are to come.
 pub record Runs (left0 left held0 held : Option (List ℕ)) (all now : List ℕ → Told) : Type 0 where
@@ -101,16 +103,16 @@ passed_on (Ok x) s e before later same was cause = absurd same
 passed_on (Err y) s e before later same was cause = record {
   later = cause.later;
   write = λ is. cause.write (write_from (Err y) s e same was is);
+  exact = λ other. cause.exact (λ is. let written : y ≡ Write = cc in other (ap Err written));
   read = λ is. let read : y ≡ Read = cc in cause.read (was ∙ ap Err (sym same ∙ read));
 }
 
-pub less_same : {T : Type 0} (result : Result T Fault) (left before after : Option (List ℕ)) (f g : List ℕ → Told) → ((bytes : List ℕ) → f bytes ≡ g bytes) →
-    IfErr result (λ fault. fault ≢ Memory → IfSome left (λ bytes. GrewByLess before after (f bytes).text)) → IfErr result (λ fault. fault ≢ Memory → IfSome left (λ bytes. GrewByLess before after (g bytes).text))
-less_same (Ok x) left before after f g same less = tt
-less_same (Err e) None before after f g same less = λ other. tt
-less_same (Err e) (Some bytes) before after f g same less = λ other. less_from (sym (same bytes)) (less other)
+-- unless a fault is answered, its count is as before
+pub ok_exact : {T : Type 0} (r : Result T Fault) (x : T) (before later : ℕ) → r ≡ Ok x → HasCause before later r → later ≡ before
+ok_exact (Ok y) x before later is cause = cause.exact (λ written. cc)
+ok_exact (Err y) x before later is cause = absurd cc
 
-pub cut_same : (left before after : Option (List ℕ)) (f g : List ℕ → Told) → ((bytes : List ℕ) → f bytes ≡ g bytes) →
-    IfSome left (λ bytes. GrewByLess before after (f bytes).text) → IfSome left (λ bytes. GrewByLess before after (g bytes).text)
-cut_same None before after f g same cut = tt
-cut_same (Some bytes) before after f g same cut = less_from (sym (same bytes)) cut
+pub got_exact : (piece : Piece) (n before later : ℕ) → piece ≡ Got n → (piece ≢ Failed → later ≡ before) → later ≡ before
+got_exact (Got m) n before later is exact = exact (λ failed. cc)
+got_exact End n before later is exact = absurd cc
+got_exact Failed n before later is exact = absurd cc

@@ -1,15 +1,16 @@
 -- When a run answers which fault. Source: this layer's promise that no fault is invented.
-use Rattle.std.specs.Prelude.{ℕ, ◌<◌, ◌≤◌, Bool, List, length, Result, IsErrOf}
+use Rattle.std.specs.Prelude.{◌≡◌, ℕ, ◌<◌, ◌≤◌, Bool, List, length, Result, IsErrOf}
 use Rattle.xl_base.specs.Faults.{Rose}
 use Rattle.xl_lines.specs.declared.fault.Fault.{Fault}
 use Rattle.xl_lines.specs.declared.fault.Fault.TheVariants.{Read, Write}
 use Rattle.xl_lines.specs.declared.limits.Overrun.{Overrun}
 use Rattle.xl_lines.specs.Rules.{Rules, Step, goes_on, refuses, finds, Told}
 
--- the count of a sink doesn't fall, and it has risen if a write fault is answered; no read fault is
+-- the count of a sink has risen if a write fault is answered, and else it is as before; no read fault is answered
 pub record HasCause {T : Type 0} (before now : ℕ) (result : Result T Fault) : Type 0 where
   pub later : before ≤ now
   pub write : IsErrOf result Write → Rose before now
+  pub exact : ¬ (IsErrOf result Write) → now ≡ before
   pub read : IsErrOf result Read → ⊥
 
 -- whatever is still to come, something is written

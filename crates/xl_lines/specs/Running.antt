@@ -11,16 +11,16 @@ use Rattle.xl_lines.specs.declared.lines.Part.TheVariants as part
 use Rattle.xl_lines.specs.Lines.{lines_of}
 use Rattle.xl_lines.specs.Rules.{Rules, Step, goes_on, refuses, finds, Told, refused, found}
 use Rattle.xl_lines.specs.Told.{after, told_from}
-use Rattle.xl_lines.specs.Soon.{ended, unclosed}
+use Rattle.xl_lines.specs.Soon.{answerable, unclosed}
 
 -- what is told where left lines may come, these bytes of the first have come, and the rest is to come
 unfoldable pub told_at : {S : Type 0} → Limits → Rules S → ℕ → S → List ℕ → List ℕ → Told
 told_at limits rules left state line rest = told_from limits rules left state (lines_of (line ++ rest))
 
 -- what of that is told as soon as the rest has come
-unfoldable pub soon_at : {S : Type 0} → Limits → Rules S → ℕ → S → List ℕ → List ℕ → List ℕ
+unfoldable pub soon_at : {S : Type 0} → Limits → Rules S → ℕ → S → List ℕ → List ℕ → Told
 soon_at limits rules left state line rest =
-    (told_from limits (unclosed rules) left state (ended (lines_of (line ++ rest)))).text
+    told_from limits (unclosed rules) left state (answerable limits (lines_of (line ++ rest)))
 
 -- of what was to be told, a front is written, and this is left
 pub record Tells (old new : Option (List ℕ)) (told left : Told) : Type 0 where
@@ -29,13 +29,13 @@ pub record Tells (old new : Option (List ℕ)) (told left : Told) : Type 0 where
   pub parts : told ≡ after written left
 
 -- of what is told soon, a front is written, whatever rest comes, and this is left
-pub record Puts (old new : Option (List ℕ)) (soon left : List ℕ → List ℕ) : Type 0 where
+pub record Puts (old new : Option (List ℕ)) (soon left : List ℕ → Told) : Type 0 where
   pub written : List ℕ
   pub held : new ≡ append_known old written
-  pub parts : (rest : List ℕ) → soon rest ≡ written ++ left rest
+  pub parts : (rest : List ℕ) → soon rest ≡ after written (left rest)
 
 -- so it is after a part of the bytes, unless a line ended the text
-abbrev pub PutsPart : Part → (old new : Option (List ℕ)) → (soon left : List ℕ → List ℕ) → List ℕ → Type 0
+abbrev pub PutsPart : Part → (old new : Option (List ℕ)) → (soon left : List ℕ → Told) → List ℕ → Type 0
 PutsPart (part.Taken n) old new soon left bytes =
     Puts old new (λ rest. soon (bytes ++ rest)) (λ rest. left (drop n bytes ++ rest))
 PutsPart part.Refused old new soon left bytes = Unit {0}

@@ -1,8 +1,9 @@
-ghost use Rattle.std.specs.Prelude.{◌≡◌, ◌+◌, ◌≤◌, ℕ, List, [], ◌++◌, length, IfOk, IsErrOf};
+ghost use Rattle.std.specs.Prelude.{◌≡◌, ◌+◌, ◌≤◌, true, ℕ, List, [], ◌++◌, length, IfOk, IsErrOf};
 ghost use Rattle.std.specs.Io.KnownBytes.{append_known};
 ghost use Rattle.xl_io.specs.Sinks.{GrewByFront, GrewByLess};
 ghost use Rattle.xl_lines.specs.Causes.{HasCause};
 ghost use Rattle.xl_lines.specs.Rules.{Told};
+ghost use Rattle.xl_lines.specs.Told.{after};
 ghost use Rattle.xl_lines.specs.Running.{Tells, TellsAll, left_unless_ended};
 
 use crate::{Fault, Next, Verdict};
@@ -13,8 +14,8 @@ pub trait Teller {
     /// What it tells about all the bytes that are still to come.
     ghost tells: { Self → List ℕ → Told };
 
-    /// What of that it tells as soon as these bytes have come.
-    ghost soon: { Self → List ℕ → List ℕ };
+    /// What of that it tells as soon as these bytes have come. It is closed unless they end the text.
+    ghost soon: { Self → List ℕ → Told };
 
     /// How many bytes may come at most before it refuses them.
     ghost to_come: { Self → ℕ };
@@ -30,9 +31,11 @@ pub trait Teller {
             GrewByLess (O.held output.old) (O.held output.new) (tells self.old (bytes.now ++ rest)).text }
         // All that is told as soon as these bytes have come is written, and what is told later comes behind it.
         ensures soon { IfOk result (λ next. next ≡ Next.Line →
-            O.held output.new ≡ append_known (O.held output.old) (soon self.old bytes.now)) }
+            O.held output.new ≡ append_known (O.held output.old) (soon self.old bytes.now).text) }
         ensures later { IfOk result (λ next. next ≡ Next.Line → (rest : List ℕ) →
-            soon self.old (bytes.now ++ rest) ≡ soon self.old bytes.now ++ soon self.new rest) }
+            soon self.old (bytes.now ++ rest) ≡ after (soon self.old bytes.now).text (soon self.new rest)) }
+        // It goes on only if the text does.
+        ensures unended { IfOk result (λ next. next ≡ Next.Line → (soon self.old bytes.now).closed ≡ true) }
         ensures fewer { IfOk result (λ next. next ≡ Next.Line →
             to_come self.new + length bytes.now ≤ to_come self.old) }
         ensures cause { HasCause (O.faults output.old) (O.faults output.new) result };

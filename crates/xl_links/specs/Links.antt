@@ -1,6 +1,6 @@
 -- What a link to another member does: it is opened, it gives bytes and it takes bytes. Source: a TCP connection, with a
 -- count of faults.
-use Rattle.std.specs.Prelude.{◌≡◌, ℕ, ◌<◌, ◌≤◌, List, [], ◌∷◌, length, take}
+use Rattle.std.specs.Prelude.{◌≡◌, ◌≢◌, ℕ, ◌<◌, ◌≤◌, List, [], ◌∷◌, length, take}
 use Rattle.std.specs.declared.option.Option.{Option}
 use Rattle.std.specs.Io.KnownBytes.{prepend_known, append_known}
 use Rattle.xl_base.specs.Faults.{Rose}
@@ -56,6 +56,7 @@ pub record Opens (old : Wire) (answer : Opening) (new : Wire) : Type 0 where
   pub took : new.took ≡ old.took
   pub later : old.faults ≤ new.faults
   pub failed : answer ≡ opening.Failed → Rose old.faults new.faults
+  pub exact : answer ≢ opening.Failed → new.faults ≡ old.faults
 
 -- a read gives at most what the room holds, and some of it unless there is no room
 abbrev pub FitsRoom : LinkRead → List ℕ → Type 0
@@ -73,6 +74,7 @@ pub record Reads (old : Wire) (answer : LinkRead) (room : List ℕ) (new : Wire)
   pub readings : AddsTold old.readings new.readings (reading_in room answer ∷ [])
   pub later : old.faults ≤ new.faults
   pub failed : answer ≡ read.Failed → Rose old.faults new.faults
+  pub exact : answer ≢ read.Failed → new.faults ≡ old.faults
 
 -- a write takes bytes from the front of the piece, some of them unless it is empty
 pub record Writes (old : Wire) (answer : Wrote) (piece : List ℕ) (new : Wire) : Type 0 where
@@ -83,3 +85,4 @@ pub record Writes (old : Wire) (answer : Wrote) (piece : List ℕ) (new : Wire) 
   pub readings : new.readings ≡ old.readings
   pub later : old.faults ≤ new.faults
   pub failed : answer ≡ wrote.Failed → Rose old.faults new.faults
+  pub exact : answer ≢ wrote.Failed → new.faults ≡ old.faults

@@ -1,4 +1,4 @@
-ghost use Rattle.std.specs.Prelude.{◌≡◌, ◌≢◌, ◌≤◌, ℕ, List, [], ◌∷◌, IfOk, IfSome, OnErr};
+ghost use Rattle.std.specs.Prelude.{◌≡◌, ◌≢◌, ◌≤◌, ℕ, List, [], ◌∷◌, IfOk, IfSome, OnOk, OnErr};
 ghost use Rattle.std.specs.declared.option.Option.{Option};
 ghost use Rattle.xl_base.specs.Faults.{Rose};
 ghost use Rattle.xl_links.specs.Links.{Wire};
@@ -45,5 +45,6 @@ pub trait Hub {
         ensures others { (other : ℕ) → other ≢ member → gives self.new other ≡ gives self.old other }
         ensures asked { AddsTold (asked self.old) (asked self.new) (target member way ∷ []) }
         ensures later { faults self.old ≤ faults self.new }
-        ensures failed { OnErr result (Rose (faults self.old) (faults self.new)) };
+        ensures failed { OnErr result (Rose (faults self.old) (faults self.new)) }
+        ensures exact { OnOk result (faults self.new ≡ faults self.old) };
 }

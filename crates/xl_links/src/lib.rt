@@ -19,7 +19,7 @@ pub use hub::scripted::{Asked, MemHub};
 pub use hub::{Hub, Spare, Way};
 pub use link::plain::PlainLink;
 pub use link::scripted::MemLink;
-pub use link::{Link, LinkRead, Opening};
+pub use link::{Judgement, Link, LinkRead, Opening};
 pub use script::LinkScript;
 
 #[cfg(test)]

@@ -29,6 +29,19 @@ pub enum LinkRead {
     Failed,
 }
 
+/// How a frame was judged that a link gave.
+#[derive(Clone, Copy, Debug, PartialEq, Eq)]
+pub enum Judgement {
+    /// It carries a right tag, and tells something new.
+    Fresh,
+    /// It carries a right tag, and may be a copy of one that was said before.
+    Known,
+    /// Its sender stands on no list, so nobody tested its tag.
+    Unlisted,
+    /// It is for another node, or carries a wrong tag.
+    Forged,
+}
+
 /// A link to one member, over which one connection after the other may be held.
 pub trait Link {
     /// What it has left, took and answered, if it tells that, and how often a call has failed.
@@ -46,4 +59,8 @@ pub trait Link {
     /// Takes bytes from the front of the piece, at least one if there is one.
     fn write(&mut self, piece: &[u8]) -> Wrote
         ensures { Writes (shows self.old) result piece.now (shows self.new) };
+
+    /// Hears how the next of the frames was judged that it gave, since it knows no key itself.
+    fn judged(&mut self, judgement: Judgement)
+        ensures { shows self.new ≡ shows self.old };
 }

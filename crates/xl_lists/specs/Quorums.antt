@@ -25,3 +25,8 @@ Enough liars a b = bound_of liars a b < a.quorum + b.quorum
 abbrev pub QuorumsMeet : List ℕ → TrustedList → TrustedList → Type 0
 QuorumsMeet liars a b = (p r : ℕ → Bool) → a.quorum ≤ count_by p a.members → b.quorum ≤ count_by r b.members →
     (m : ℕ) × IsTrue (p m) × IsTrue (r m) × IsFalse (is_on liars m)
+
+-- how many members of both lists must have spoken for both ledgers if the quorums report different ones: both quorums
+-- together, less both lists' sizes without the overlap; 0 if that is more
+abbrev pub least_shown : TrustedList → TrustedList → ℕ
+least_shown a b = a.quorum + b.quorum - (length a.members + length b.members - overlap a.members b.members)

@@ -95,6 +95,14 @@ impl List {
         &self.places[..self.len]
     }
 
+    /// The members, each marked.
+    pub(crate) fn marks(&self) -> Marks
+        ensures value { AreMarked result.bits self.now.members }
+        ensures valid { IsValid self.now }
+    {
+        self.marks
+    }
+
     /// An equal list.
     pub fn copy(&self) -> List
         ensures { result ≡ self.now }

@@ -1,4 +1,4 @@
-ghost use Rattle.std.specs.Prelude.{◌≡◌, ◌==◌, ◌||◌, ◌≤◌, ℕ, [], length, take};
+ghost use Rattle.std.specs.Prelude.{◌≡◌, ◌==◌, ◌&&◌, ◌||◌, ◌≤◌, ℕ, [], length, take};
 ghost use Rattle.xl_base.specs.Members.{greatest_node_no};
 ghost use Rattle.xl_lists.specs.Marks.{is_marked, marked, AreMarked};
 
@@ -39,6 +39,22 @@ impl Marks {
         Marks {
             bits: self.bits | 1 << (member.get() - 1),
         }
+    }
+
+    /// The members that are marked in both.
+    pub(crate) fn shared(self, other: Marks) -> Marks
+        ensures { (m : ℕ) → is_marked result.bits m ≡ (is_marked self.bits m && is_marked other.bits m) }
+    {
+        Marks {
+            bits: self.bits & other.bits,
+        }
+    }
+
+    /// How many members are marked.
+    pub(crate) fn count(self) -> u32
+        ensures { result ≡ length (marked self.bits) }
+    {
+        self.bits.count_ones()
     }
 
     /// The members that are marked, by rising number, at the front of the places.

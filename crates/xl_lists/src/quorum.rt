@@ -20,7 +20,7 @@ pub fn overlap(a: &List, b: &List) -> u32
     ensures value { result ≡ overlap_of a.now.members b.now.members }
     ensures within { result ≤ length a.now.members }
 {
-    a.members().iter().filter(|&&member| b.has(member)).count() as u32
+    a.marks().shared(b.marks()).count()
 }
 
 /// What two quorums together must exceed, so that they share a member that is no liar: both lists' sizes, minus the
@@ -51,10 +51,7 @@ fn liars_shared(a: &List, b: &List, liars: &[NodeNo]) -> u32
     ensures { result ≡ liars_shared_of liars.now a.now.members b.now.members }
 {
     let liars = Marks::of(liars);
-    a.members()
-        .iter()
-        .filter(|&&member| b.has(member) && liars.has(member))
-        .count() as u32
+    a.marks().shared(b.marks()).shared(liars).count()
 }
 
 #[cfg(test)]

@@ -14,6 +14,7 @@ use Rattle.xl_sched.specs.Limits.{most_bytes, most_lines}
 use Rattle.xl_sched.specs.declared.refusal.SchedRefusal.{SchedRefusal}
 use Rattle.xl_sched.specs.declared.refusal.SchedRefusal.TheVariants.{Header, LongLine, Limit}
 use Rattle.xl_sched.specs.Tokens.{tokens}
+use Rattle.xl_texts.specs.Promises.{Promise, on, if_read}
 use Rattle.xl_merge.specs.declared.line.Line.{Line}
 use Rattle.xl_merge.specs.declared.line.Line.TheVariants as line
 use Rattle.xl_merge.specs.Lines.{header_line, later_line}
@@ -93,6 +94,10 @@ limits = record { lines = most_lines; bytes = most_bytes; returns = Dropped }
 abbrev pub merge_of : List ℕ → Told
 merge_of bytes = told_of limits rules at_first bytes
 
--- what is told of the lines that have ended in them
-abbrev pub merge_soon : List ℕ → List ℕ
+-- what is told as soon as they have come
+abbrev pub merge_soon : List ℕ → Told
 merge_soon bytes = told_soon limits rules at_first bytes
+
+-- its last lines may be all of the text, so none may be to come behind them
+abbrev pub merge_promise : Promise
+merge_promise = record { told = merge_of; soon = merge_soon; reads = on; shows = if_read }

@@ -13,8 +13,5 @@ mod machine;
 mod reading;
 mod texts;
 
-pub use command::merge;
+pub use command::Merge;
 pub use laws::law_of_orders;
-
-#[cfg(test)]
-mod tests;

@@ -4,7 +4,7 @@ use Rattle.xl_base.specs.Counts.{one_more}
 use Rattle.xl_base.specs.declared.ids.LedgerId.{LedgerId}
 use Rattle.xl_lines.specs.Lines.{lines_of}
 use Rattle.xl_lines.specs.Rules.{Step, Told, goes_on, refuses as stops, finds}
-use Rattle.xl_lines.specs.Soon.{told_soon, unclosed, ended}
+use Rattle.xl_lines.specs.Soon.{told_soon, unclosed, answerable}
 use Rattle.xl_lines.specs.Told.{told_of}
 use Rattle.xl_lists.specs.declared.said.SaidLedger.{SaidLedger}
 use Rattle.xl_running.specs.Running.{Running, answer_in, beyond, knows, limits, world_of}
@@ -136,8 +136,7 @@ first_alike = record { running = refl; lines = refl; seats = first_stand }
 
 pub soon_same : (bytes : List ℕ) → told_soon limits (rules ringed) (at_first ringed) bytes ≡ negative_soon bytes
 soon_same bytes =
-    ap (λ (told : Told). told.text)
-    (told_alike Like (unclosed (rules ringed)) (unclosed (rules listed)) closed_alike limits limits.lines (at_first ringed) (at_first listed) (ended (lines_of bytes)) first_alike)
+    told_alike Like (unclosed (rules ringed)) (unclosed (rules listed)) closed_alike limits limits.lines (at_first ringed) (at_first listed) (answerable limits (lines_of bytes)) first_alike
 
 pub told_same : (bytes : List ℕ) → told_of limits (rules ringed) (at_first ringed) bytes ≡ negative_of bytes
 told_same bytes = told_alike Like (rules ringed) (rules listed) tells_alike limits limits.lines (at_first ringed) (at_first listed) (lines_of bytes) first_alike

@@ -13,3 +13,4 @@ mod Rerunning
 mod StandingFor
 mod Joining
 mod Whole
+mod Lies

@@ -15,7 +15,7 @@ use Rattle.xl_sched.specs.declared.refusal.SchedRefusal.TheVariants.{Header}
 use Rattle.xl_world.specs.Headline.{EnoughAt}
 use Rattle.xl_world.specs.World.{World}
 use Rattle.xl_world.proofs.Listing.{at_node}
-use Rattle.xl_world.proofs.Lists.{world_agrees}
+use Rattle.xl_world.proofs.Lists.{agree_at, world_agrees}
 use Rattle.xl_world.proofs.Reporters.{IsMember, IsReporter, world_reporters}
 use Rattle.xl_running.specs.Running.{answer_in, limits, world_of}
 use Rattle.xl_running.specs.Texts.{bad_line}
@@ -145,4 +145,4 @@ reports_agree bytes full i j after ends only_i only_j least few none_forged =
     let a = report_list bytes full i after ends only_i r (world_reporters w good.sound.is_run k d k_in) of_i in
     let b = report_list bytes full j after ends only_j q (world_reporters w good.sound.is_run l e l_in) of_j in
     lists_enough full r.list q.list w.liars a.0 least few a.1 b.1 in
-    world_agrees w good.sound.is_run i j enough none_forged
+    agree_at w.liars w.reports i j (world_agrees w good.sound.is_run none_forged) enough

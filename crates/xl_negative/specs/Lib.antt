@@ -6,3 +6,4 @@ pub mod Seats
 pub mod Writing
 pub mod States
 pub mod Laws
+pub mod Promises

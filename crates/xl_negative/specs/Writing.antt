@@ -217,6 +217,6 @@ rules keeping = record {
 abbrev pub negative_of : List ℕ → Told
 negative_of bytes = told_of limits (rules listed) (at_first listed) bytes
 
--- what is written of the lines that have ended in these bytes
-abbrev pub negative_soon : List ℕ → List ℕ
+-- what is written as soon as these bytes have come
+abbrev pub negative_soon : List ℕ → Told
 negative_soon bytes = told_soon limits (rules listed) (at_first listed) bytes

@@ -2,6 +2,7 @@
 ghost use Rattle.std.specs.Prelude.{◌≡◌, ◌++◌, ◌==◌, ◌&&◌, drop, map, slice_get, IfOk, OnOk};
 ghost use Rattle.xl_sched.specs.Fits.{IsFitLied};
 ghost use Rattle.xl_tags.specs.Opening.{is_sealed as is_sealed_by};
+ghost use Rattle.xl_tags.specs.Rings.{schedule_ring};
 ghost use Rattle.xl_wire.specs.Bodies.{body_of};
 ghost use Rattle.xl_wire.specs.Raws.{SpellsRaw, raw_frame};
 ghost use Rattle.xl_world.specs.Schedule.{IsPlausible, lied_bytes};
@@ -23,8 +24,8 @@ use xl_base::{NodeNo, OutOfMemory};
 use xl_lists::SaidLedger;
 use xl_sched::{Lied, What};
 use xl_tags::{Keys, is_sealed};
-use xl_wire::{Body, LONGEST_FRAME, Parted, Raw, read_body, split};
-use xl_world::{Sent, World, put_lie};
+use xl_wire::{Body, Parted, Raw, Validation, read_body, split};
+use xl_world::{Sent, World};
 
 /// The node of a number hears that a member says a ledger.
 #[derive(Clone, Copy, Debug, PartialEq, Eq)]
@@ -117,7 +118,7 @@ fn hear_frame(
     hear_bytes(world, frame.to(), bytes.as_slice(), heard)
 }
 
-/// A lie is handed to its receiver.
+/// A lie is handed to its receiver. What it hears there is known without the frame's bytes.
 fn hear_lie(
     world: &World,
     from: NodeNo,
@@ -128,9 +129,38 @@ fn hear_lie(
     requires { IsFitLied lie.now }
     ensures { OnOk result (heard.new.items ≡ heard.old.items ++ heard_of world.now to (lied_bytes from to lie.now)) }
 {
-    let mut room = [0; LONGEST_FRAME];
-    let length = put_lie(from, to, lie, &mut room);
-    hear_bytes(world, to, &room[..length], heard)
+    let Some(_core) = world.node(to) else {
+        return Ok(());
+    };
+    if let Some(said) = said_in_lie(from, to, lie) {
+        heard.push(Heard { node: to, said })?;
+    }
+    Ok(())
+}
+
+/// What the node of a number hears in the frame of a lie to it.
+fn said_in_lie(from: NodeNo, to: NodeNo, lie: &Lied) -> Option<SaidLedger>
+    ensures { result ≡ said_in_bytes (schedule_ring to) (lied_bytes from to lie.now) }
+{
+    match lie {
+        Lied::Validation(validation) => said_in_validation(from, to, *validation),
+        _ => None,
+    }
+}
+
+/// It opens each validation but one of its own number, for which it has no key.
+fn said_in_validation(from: NodeNo, to: NodeNo, validation: Validation) -> Option<SaidLedger>
+    ensures { result ≡ said_in_bytes (schedule_ring to) (lied_bytes from to (Lied.Validation validation)) }
+{
+    if from == to {
+        None
+    } else {
+        Some(SaidLedger {
+            member: from,
+            seq: validation.seq,
+            id: validation.id,
+        })
+    }
 }
 
 /// Bytes are handed to the node of a number, if there is one.

@@ -18,7 +18,7 @@ mod seat;
 mod seats;
 mod writer;
 
-pub use command::negative;
+pub use command::Negative;
 pub use laws::{
     law_of_added_lists, law_of_agreeing_reports, law_of_changes, law_of_lists,
     law_of_lists_in_force, law_of_written_runs,

@@ -15,6 +15,3 @@ mod score;
 pub use deciding::{Decided, decide};
 pub use laws::{law_of_negative_lists, law_of_rings};
 pub use score::Scores;
-
-#[cfg(test)]
-mod tests;

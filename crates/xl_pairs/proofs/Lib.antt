@@ -1,4 +1,3 @@
 pub mod Numbering
 pub mod Placing
-pub mod Keeping
 pub mod AtEnd

@@ -7,6 +7,7 @@ use Rattle.xl_lines.specs.declared.limits.Returns.TheVariants.{Dropped}
 use Rattle.xl_lines.specs.declared.machine.Verdict.TheVariants.{Good, Refused}
 use Rattle.xl_lines.specs.Rules.{Rules, Step, goes_on, refuses as refuses_line, Told, closes}
 use Rattle.xl_lines.specs.Told.{told_of}
+use Rattle.xl_lines.specs.Soon.{told_soon}
 use Rattle.xl_sched.specs.Limits.{most_bytes, most_lines}
 use Rattle.xl_sched.specs.declared.line.Line.{Line}
 use Rattle.xl_sched.specs.declared.line.Line.TheVariants as line
@@ -14,6 +15,7 @@ use Rattle.xl_sched.specs.declared.refusal.SchedRefusal.{SchedRefusal}
 use Rattle.xl_sched.specs.declared.refusal.SchedRefusal.TheVariants.{Header, LongLine, Limit, Word}
 use Rattle.xl_sched.specs.Reading.{Reading, opened}
 use Rattle.xl_sched.specs.Answers.{LineAnswer, passes, gives, refuses, reading_of}
+use Rattle.xl_texts.specs.Promises.{Promise, on, if_read}
 use Rattle.xl_pairs.specs.declared.declared.Node.{Node}
 use Rattle.xl_pairs.specs.Texts.{bad_line, pair_lines}
 use Rattle.xl_pairs.specs.Words.{foreign_word}
@@ -73,3 +75,7 @@ limits = record { lines = most_lines; bytes = most_bytes; returns = Dropped }
 -- what is written about a schedule
 abbrev pub lists_of : List ℕ → Told
 lists_of bytes = told_of limits rules at_first bytes
+
+-- what is told of the lines that have ended in these bytes, and the text is empty if no node is declared
+abbrev pub lists_promise : Promise
+lists_promise = record { told = lists_of; soon = λ bytes. told_soon limits rules at_first bytes; reads = on; shows = if_read }

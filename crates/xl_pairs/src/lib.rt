@@ -12,4 +12,4 @@ mod machine;
 mod texts;
 mod words;
 
-pub use command::lists;
+pub use command::Lists;

@@ -3,7 +3,7 @@
 //!
 //! A session greets the member. In each turn it asks whether the node is to stop, writes all that waits for the
 //! member, and reads once. Each frame that this read made whole is handed to the core, between two passes of a gate
-//! that lets a test hold it. Serving a member is one session after the other, over one link.
+//! that lets a test hold it, and the link is told how it was judged. Serving a member is one session after the other, over one link.
 //!
 //! It stands on the store of xl_store, the links of xl_links and the feed of xl_wire. Its one contract: a session's
 //! calls, which stand in the store's history at the places that its pass gained, are those of its steps. What its
@@ -15,6 +15,7 @@ mod draining;
 mod ends;
 mod handing;
 mod host;
+mod judging;
 mod reading;
 mod sending;
 mod serving;

@@ -123,7 +123,7 @@ fn hear<W: Wait, B: Branch + Drop, K: Keeper + Drop, L: Link, G: Gate, C: Clock>
         pass.old (L.shows link.old) feed.old result pass.new (L.shows link.new) feed.new }
 {
     match read(link, room) {
-        Ok(Some(count)) => hand(host, store, pass, passes, feed, &room[..count]),
+        Ok(Some(count)) => hand(host, store, pass, passes, link, feed, &room[..count]),
         Ok(None) => Ok(()),
         Err(end) => Err(end),
     }

@@ -25,6 +25,3 @@ pub use publishing::Publishing;
 pub use refusal::RollRefusal;
 pub use roll::{GREATEST_PUBLISHER, LONGEST_ROLL, Roll};
 pub use writing::write_roll;
-
-#[cfg(test)]
-mod tests;

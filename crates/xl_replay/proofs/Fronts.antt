@@ -21,6 +21,7 @@ use Rattle.xl_sched.specs.Tokens.{shown_token}
 use Rattle.xl_world.specs.declared.outcome.Outcome.{Outcome}
 use Rattle.xl_world.specs.declared.outcome.Outcome.TheVariants.{Switched, Built, Refused, Full, Preferred, Heard}
 use Rattle.xl_world.specs.Forks.{Fork, first_fork}
+use Rattle.xl_world.specs.World.{World}
 use Rattle.xl_running.specs.Texts.{bad_line, id_text, newline, space}
 use Rattle.xl_replay.specs.Texts.{values_text, preferred_text, heard_text, how_text, outcome_line, forged_line, agreement_line}
 use Rattle.xl_replay.specs.Headlines.{Announced, announced_line, Short, short_text, HasLine, IsReport, IsRefusal, IsUnforged, AddsReport}
@@ -174,23 +175,23 @@ agreement_other names (Some fork) =
 -- FRONTS
 
 -- of a report
-front_of_report : (names : List Named) (told : Told) (r : IsReport names told) (front rest : List ℕ) → told.text ≡ front ++ rest → HasLine front unforged_line → IsUnforged names told front
+front_of_report : (names : List Named) (world : World) (told : Told) (r : IsReport names world told) (front rest : List ℕ) → told.text ≡ front ++ rest → HasLine front unforged_line → IsUnforged names world told front
 unfolding digits
-front_of_report names told r front rest parts has =
+front_of_report names world told r front rest parts has =
     let spoken = flat_map announced_line r.spoken in
     let shorts = flat_map short_text r.shorts in
-    let last = agreement_line names (first_fork r.reports) in
-    let body = codes "forged " ++ decimal r.forged in
+    let last = agreement_line names (first_fork world.reports) in
+    let body = codes "forged " ++ decimal world.forged in
     let after = body ++ 10 ∷ last in
     let whole : spoken ++ (shorts ++ after) ≡ front ++ rest =
-    ap (λ t. spoken ++ t) (ap (λ t. shorts ++ t) (sym (append_assoc body newline last)) ∙ sym (append_assoc shorts (forged_line r.forged) last))
-    ∙ (sym (append_assoc spoken (shorts ++ forged_line r.forged) last) ∙ (sym r.written ∙ parts)) in
+    ap (λ t. spoken ++ t) (ap (λ t. shorts ++ t) (sym (append_assoc body newline last)) ∙ sym (append_assoc shorts (forged_line world.forged) last))
+    ∙ (sym (append_assoc spoken (shorts ++ forged_line world.forged) last) ∙ (sym r.written ∙ parts)) in
     let first : HasAll spoken (shorts ++ after) front rest unforged_line = past unforged_line announced_line spoken_other r.spoken (shorts ++ after) front rest whole has in
     let second : HasAll shorts after first.more rest unforged_line = past unforged_line short_text short_other r.shorts after first.more rest first.parts first.has in
-    let third = at_line unforged_line body last second.more rest (one_line-append (codes "forged ") (decimal r.forged) refl (decimal_one_line r.forged)) second.parts second.has in
+    let third = at_line unforged_line body last second.more rest (one_line-append (codes "forged ") (decimal world.forged) refl (decimal_one_line world.forged)) second.parts second.has in
     elim third.3 [
       | inl same ↦
-          let none : r.forged ≡ 0 = decimal_zero r.forged (ap (drop 7) same) in
+          let none : world.forged ≡ 0 = decimal_zero world.forged (ap (drop 7) same) in
           record {
             report = r;
             none = none;
@@ -201,7 +202,7 @@ front_of_report names told r front rest parts has =
                 ∙ sym (append_assoc shorts (forged_line 0) third.0)))
                 ∙ sym (append_assoc spoken (shorts ++ forged_line 0) third.0));
           }
-      | inr later ↦ absurd (not_alone unforged_line last third.0 rest (agreement_other names (first_fork r.reports)) third.2 later)
+      | inr later ↦ absurd (not_alone unforged_line last third.0 rest (agreement_other names (first_fork world.reports)) third.2 later)
     ]
 
 -- of a report that is refused
@@ -211,19 +212,19 @@ front_of_refusal text r front rest parts has =
     past unforged_line announced_line spoken_other r.spoken (bad_line r.line r.refusal) front rest (sym r.written ∙ parts) has in
     not_alone unforged_line (bad_line r.line r.refusal) first.more rest (bad_other r.line r.refusal) first.parts first.has
 
-front_of_either : (names : List Named) (told : Told) (v : Verdict) → told.verdict ≡ v → (told.verdict ≢ verdict.Refused → IsReport names told) → (told.verdict ≡ verdict.Refused → IsRefusal told.text) →
-    (front rest : List ℕ) → told.text ≡ front ++ rest → HasLine front unforged_line → IsUnforged names told front
-front_of_either names told verdict.Good is report refusal front rest parts has = front_of_report names told (report (λ e. cc)) front rest parts has
-front_of_either names told verdict.Found is report refusal front rest parts has = front_of_report names told (report (λ e. cc)) front rest parts has
-front_of_either names told verdict.Refused is report refusal front rest parts has = absurd (front_of_refusal told.text (refusal is) front rest parts has)
+front_of_either : (names : List Named) (world : World) (told : Told) (v : Verdict) → told.verdict ≡ v → (told.verdict ≢ verdict.Refused → IsReport names world told) → (told.verdict ≡ verdict.Refused → IsRefusal told.text) →
+    (front rest : List ℕ) → told.text ≡ front ++ rest → HasLine front unforged_line → IsUnforged names world told front
+front_of_either names world told verdict.Good is report refusal front rest parts has = front_of_report names world told (report (λ e. cc)) front rest parts has
+front_of_either names world told verdict.Found is report refusal front rest parts has = front_of_report names world told (report (λ e. cc)) front rest parts has
+front_of_either names world told verdict.Refused is report refusal front rest parts has = absurd (front_of_refusal told.text (refusal is) front rest parts has)
 
 -- a front of either that was written
-pub adds_report : (names : List Named) (told : Told) → (told.verdict ≢ verdict.Refused → IsReport names told) → (told.verdict ≡ verdict.Refused → IsRefusal told.text) →
-    (before after : Option (List ℕ)) → GrewByFront before after told.text → AddsReport names before after told
-adds_report names told report refusal before after grew = record {
+pub adds_report : (names : List Named) (world : World) (told : Told) → (told.verdict ≢ verdict.Refused → IsReport names world told) → (told.verdict ≡ verdict.Refused → IsRefusal told.text) →
+    (before after : Option (List ℕ)) → GrewByFront before after told.text → AddsReport names world before after told
+adds_report names world told report refusal before after grew = record {
   written = grew.written;
   missing = grew.missing;
   parts = grew.parts;
   added = grew.held;
-  unforged = front_of_either names told told.verdict refl report refusal grew.written grew.missing grew.parts;
+  unforged = front_of_either names world told told.verdict refl report refusal grew.written grew.missing grew.parts;
 }

@@ -1,6 +1,6 @@
 -- A report of a schedule is such lines: its `full` lines stand for reports of its world, which agree.
 use Rattle.std.proofs.Common.{◌≡◌, ◌≢◌, ℕ, ◌≤◌, IfSome, List, [], ◌∷◌, ◌++◌, append_assoc, refl, arith, ap, sym, ◌∙◌, Option, Some, None, subst, inl, inr}
-use Rattle.std.specs.Prelude.{◌==◌, true, All, Contains, map, filter, slice_index_or}
+use Rattle.std.specs.Prelude.{◌==◌, true, All, Contains, map, filter}
 use Rattle.std.specs.List.{flat_map}
 use Rattle.std.proofs.lemmas.Bool.{cond_both, cases_lt}
 use Rattle.std.proofs.lemmas.List.Elements.{All-contains, All-contains_itself, All-cons, All-map, All-nil, All-weaker, Contains-append_left, Contains-append_right, Contains-push}
@@ -8,6 +8,7 @@ use Rattle.xl_base.specs.declared.ids.LedgerId.{LedgerId}
 use Rattle.xl_io.specs.Sinks.{GrewByFront}
 use Rattle.xl_io.proofs.Growing.{append_known-none}
 use Rattle.xl_lists.specs.declared.report.Report.{Report as Reported}
+use Rattle.xl_lists.specs.Quorums.{Enough}
 use Rattle.xl_lines.specs.declared.machine.Verdict.TheVariants.{Refused as IsRefused}
 use Rattle.xl_lines.specs.Lines.{lines_of}
 use Rattle.xl_lines.specs.Rules.{Told, closes}
@@ -18,15 +19,13 @@ use Rattle.xl_world.specs.declared.outcome.Outcome.TheVariants.{Switched, Built,
 use Rattle.xl_world.specs.Forks.{first_fork}
 use Rattle.xl_world.specs.World.{World}
 use Rattle.xl_world.specs.Starts.{IsRun}
-use Rattle.xl_world.specs.Headline.{AgreeAt, EnoughAt}
 use Rattle.xl_world.proofs.Lists.{world_agrees}
-use Rattle.xl_world.proofs.Listing.{at_node}
 use Rattle.xl_world.proofs.Reporters.{IsReporter, world_reporters}
 use Rattle.xl_running.specs.Texts.{bad_line}
 use Rattle.xl_replay.specs.Texts.{forged_line, agreement_line, end_lines}
 use Rattle.xl_running.specs.Running.{Running, at_first, limits, world_of}
 use Rattle.xl_replay.specs.Replays.{ending, verdict_of, rules, report_of}
-use Rattle.xl_replay.specs.Headlines.{announced_line, short_text, IsPair, is_full, full_of, outcomes_in, state_from, names_of, IsReport, IsRefusal, AddsReport}
+use Rattle.xl_replay.specs.Headlines.{announced_line, short_text, IsPair, is_full, full_of, outcomes_in, state_from, names_of, world_after, IsReport, IsRefusal, AddsReport}
 use Rattle.xl_replay.proofs.Shorts.{short_pairs, short_lines-pairs, pair_enough}
 use Rattle.xl_replay.proofs.Fronts.{adds_report}
 use Rattle.xl_replay.proofs.Telling.{Ends, told_from_ends, told_from_refused}
@@ -35,16 +34,11 @@ use Rattle.xl_running.proofs.Sounding.{first_sound}
 -- two reports of a world in which no frame was forged and whose pair isn't told to be short
 pair_agrees : (w : World) → IsRun w → (r q : Reported) → Contains w.reports r → Contains w.reports q → w.forged ≡ 0 → r.node ≤ q.node → All (λ s. ¬ IsPair r.node q.node s) (short_pairs w) → r.seq ≡ q.seq → r.id ≡ q.id
 pair_agrees w is_run r q has_r has_q none from unshort same =
-    let enough : EnoughAt w.liars w.reports r.node q.node = λ k d k_in l e l_in of_r of_q _.
-    let one : Reported = slice_index_or w.reports k d in
-    let other : Reported = slice_index_or w.reports l e in
-    let of_one : IsReporter w one = world_reporters w is_run k d k_in in
-    let of_other : IsReporter w other = world_reporters w is_run l e l_in in
-    pair_enough w r.node q.node one.list other.list (subst (λ (m : ℕ). 1 ≤ m) of_r of_one.member.least) from (subst (λ (m : ℕ). m ≤ 64) of_q of_other.member.greatest)
-    (subst (λ (m : ℕ). Contains w.lists (at_node m one.list)) of_r of_one.listed) (subst (λ (m : ℕ). Contains w.lists (at_node m other.list)) of_q of_other.listed) unshort in
-    let agree : AgreeAt w.reports r.node q.node = world_agrees w is_run r.node q.node enough none in
-    All-contains (λ x. r.node ≡ r.node → x.node ≡ q.node → r.seq ≡ x.seq → r.id ≡ x.id) w.reports q
-    (All-contains (λ y. All (λ x. y.node ≡ r.node → x.node ≡ q.node → y.seq ≡ x.seq → y.id ≡ x.id) w.reports) w.reports r agree has_r) has_q refl refl same
+    let of_r : IsReporter w r = All-contains (IsReporter w) w.reports r (world_reporters w is_run) has_r in
+    let of_q : IsReporter w q = All-contains (IsReporter w) w.reports q (world_reporters w is_run) has_q in
+    let enough : Enough w.liars r.list q.list = pair_enough w r.node q.node r.list q.list of_r.member.least from of_q.member.greatest of_r.listed of_q.listed unshort in
+    All-contains (λ x. Enough w.liars r.list x.list → r.seq ≡ x.seq → r.id ≡ x.id) w.reports q
+    (All-contains (λ y. All (λ x. Enough w.liars y.list x.list → y.seq ≡ x.seq → y.id ≡ x.id) w.reports) w.reports r (world_agrees w is_run none) has_r) has_q enough same
 
 -- the `full` ones of the outcomes
 full_ones : (os : List Outcome) → All (λ o. is_full o ≡ true → Contains (filter is_full os) o) os
@@ -126,16 +120,14 @@ ending_closes r =
     (λ _ good. absurd (good refl))
     (λ _ _. (ap (λ t. t ++ forged_line (world_of r).forged ++ agreement_line r.reading.names (first_fork (world_of r).reports)) (short_lines-pairs (world_of r)), refl))
 
-ends_report : (r last : Running) (told : Told) → (world_of r).reports ≡ [] → Ends r told last → told.verdict ≢ IsRefused → IsReport last.reading.names told
+ends_report : (r last : Running) (told : Told) → (world_of r).reports ≡ [] → Ends r told last → told.verdict ≢ IsRefused → IsReport last.reading.names (world_of last) told
 ends_report r last told first ends good =
     let w : World = world_of last in
     let closing = ending_closes last (λ e. good (ends.verdict ∙ e)) in
     let fulls : filter is_full (outcomes_in ends.spoken) ≡ map full_of w.reports = ends.adds.told ∙ ap (map full_of) (sym (ends.adds.reports ∙ ap (λ rs. rs ++ ends.adds.more) first)) in
     record {
       spoken = ends.spoken;
-      reports = w.reports;
       shorts = short_pairs w;
-      forged = w.forged;
       written =
           ends.written
           ∙ (ap (λ t. flat_map announced_line ends.spoken ++ t) closing.0
@@ -145,33 +137,15 @@ ends_report r last told first ends good =
       named = ends.named;
       agree = λ i j seq a b has_a has_b none forth back.
           outcomes_agree w ends.sound.is_run i j seq a b (told_report w.reports (outcomes_in ends.spoken) (Full i seq a) fulls refl has_a) (told_report w.reports (outcomes_in ends.spoken) (Full j seq b) fulls refl has_b) none forth back;
+      each = λ none. world_agrees w ends.sound.is_run none;
     }
 
-pub whole_report : (bytes : List ℕ) → (report_of bytes).verdict ≢ IsRefused → IsReport (names_of bytes) (report_of bytes)
+pub whole_report : (bytes : List ℕ) → (report_of bytes).verdict ≢ IsRefused → IsReport (names_of bytes) (world_after bytes) (report_of bytes)
 whole_report bytes good = ends_report at_first (state_from limits limits.lines at_first (lines_of bytes)) (report_of bytes) refl (told_from_ends limits limits.lines at_first (lines_of bytes) first_sound good) good
 
 pub refused_report : (bytes : List ℕ) → (report_of bytes).verdict ≡ IsRefused → IsRefusal (report_of bytes).text
 refused_report bytes bad = told_from_refused limits limits.lines at_first (lines_of bytes) first_sound bad
 
-pub refusal : (left : Option (List ℕ)) → IfSome left (λ bytes. (report_of bytes).verdict ≡ IsRefused → IsRefusal (report_of bytes).text)
-refusal None = tt
-refusal (Some bytes) = refused_report bytes
-
 -- what was written of a report
-pub as_written : (first : Running) → first ≡ at_first → (left before after : Option (List ℕ)) → IfSome left (λ bytes. GrewByFront before after (told_of limits rules first bytes).text) →
-    IfSome left (λ bytes. AddsReport (names_of bytes) before after (report_of bytes))
-as_written first is None before after grew = tt
-as_written first is (Some bytes) before after grew =
-    adds_report (names_of bytes) (report_of bytes) (whole_report bytes) (refused_report bytes) before after
-    (subst (λ (r : Running). GrewByFront before after (told_of limits rules r bytes).text) is grew)
-
--- where nothing was written
-pub nothing_written : (left held : Option (List ℕ)) → IfSome left (λ bytes. AddsReport (names_of bytes) held held (report_of bytes))
-nothing_written None held = tt
-nothing_written (Some bytes) held =
-    adds_report (names_of bytes) (report_of bytes) (whole_report bytes) (refused_report bytes) held held
-    (record { written = []; missing = (report_of bytes).text; parts = refl; held = sym (append_known-none held) })
-
-pub headline : (left : Option (List ℕ)) → IfSome left (λ bytes. (report_of bytes).verdict ≢ IsRefused → IsReport (names_of bytes) (report_of bytes))
-headline None = tt
-headline (Some bytes) = whole_report bytes
+pub as_written : (bytes : List ℕ) (before after : Option (List ℕ)) → GrewByFront before after (report_of bytes).text → AddsReport (names_of bytes) (world_after bytes) before after (report_of bytes)
+as_written bytes before after grew = adds_report (names_of bytes) (world_after bytes) (report_of bytes) (whole_report bytes) (refused_report bytes) before after grew

@@ -9,3 +9,4 @@ pub mod Finding
 pub mod AtEnd
 pub mod SayingOne
 pub mod Reading
+pub mod Absent

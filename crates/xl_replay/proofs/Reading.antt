@@ -31,7 +31,7 @@ use Rattle.xl_world.specs.Forks.{Fork, first_fork}
 use Rattle.xl_running.specs.Running.{Running, answer_in, at_first, declares, knows, limits, world_of}
 use Rattle.xl_running.specs.Texts.{id_text, named_text, newline, space}
 use Rattle.xl_running.proofs.Naming.{AnswerNames, AreNames, StandsForOne, reading_names, root_names}
-use Rattle.xl_replay.specs.Headlines.{Announced, Extends, HasLine, IsReport, Short, announced_line, names_of, outcomes_in, short_text, state_after, state_from}
+use Rattle.xl_replay.specs.Headlines.{Announced, Extends, HasLine, IsReport, Short, announced_line, names_of, outcomes_in, short_text, state_after, state_from, world_after}
 use Rattle.xl_base.specs.Ids.{IsId}
 use Rattle.xl_replay.specs.Readings.{IsFullLine, Says, SaysOneOf}
 use Rattle.xl_replay.specs.Replays.{after_answer, after_line, report_of, rules}
@@ -217,18 +217,18 @@ contains_map f [] x has = absurd (omega (arith, has.1))
 contains_map f (y ∷ ys) x (zero, below, same) = (zero, omega arith, ap f same)
 contains_map f (y ∷ ys) x (suc k, below, same) = Contains-append_right (f y ∷ []) (map f ys) (f x) (contains_map f ys x (k, omega (arith, below), same))
 
-pub report_reads : (bytes line : List ℕ) (report : IsReport (names_of bytes) (report_of bytes)) → HasLine (report_of bytes).text line → IsFullLine line →
+pub report_reads : (bytes line : List ℕ) (report : IsReport (names_of bytes) (world_after bytes) (report_of bytes)) → HasLine (report_of bytes).text line → IsFullLine line →
     SaysOneOf (names_of bytes) (outcomes_in report.spoken) line
 report_reads bytes line report has full =
     let names = names_of bytes in
     let shorts = flat_map short_text report.shorts in
-    let last = agreement_line names (first_fork report.reports) in
-    let body = codes "forged " ++ decimal report.forged in
+    let last = agreement_line names (first_fork (world_after bytes).reports) in
+    let body = codes "forged " ++ decimal (world_after bytes).forged in
     let after = body ++ 10 ∷ last in
     let whole : (report_of bytes).text ≡ flat_map announced_line report.spoken ++ (shorts ++ after) =
     report.written
-    ∙ (append_assoc (flat_map announced_line report.spoken) (shorts ++ forged_line report.forged) last
-    ∙ ap (λ t. flat_map announced_line report.spoken ++ t) (append_assoc shorts (forged_line report.forged) last ∙ ap (λ t. shorts ++ t) (append_assoc body newline last))) in
+    ∙ (append_assoc (flat_map announced_line report.spoken) (shorts ++ forged_line (world_after bytes).forged) last
+    ∙ ap (λ t. flat_map announced_line report.spoken ++ t) (append_assoc shorts (forged_line (world_after bytes).forged) last ∙ ap (λ t. shorts ++ t) (append_assoc body newline last))) in
     elim (among_lines unforged_line announced_line spoken_other report.spoken (shorts ++ after) line (subst (λ t. HasLine t line) whole has)) [
       | inl (s, s_in, is) ↦
           outcome_says names s.names s.line s.outcome (outcomes_in report.spoken) line (schedule_names bytes)
@@ -240,10 +240,10 @@ report_reads bytes line report has full =
     at_end : (last : List ℕ) → IsOther unforged_line last → (BeginsFull last → ⊥) → HasLine last line → ⊥
     at_end last other unlike has = unlike (begins_full last line full (only_line last line unforged_line other has))
 
-    none_behind : ((s : Short) × Contains report.shorts s × (short_text s ≡ line ++ newline)) ⊎ HasLine ((codes "forged " ++ decimal report.forged) ++ 10 ∷ agreement_line (names_of bytes) (first_fork report.reports)) line → ⊥
+    none_behind : ((s : Short) × Contains report.shorts s × (short_text s ≡ line ++ newline)) ⊎ HasLine ((codes "forged " ++ decimal (world_after bytes).forged) ++ 10 ∷ agreement_line (names_of bytes) (first_fork (world_after bytes).reports)) line → ⊥
     none_behind (inl (s, s_in, is)) = short_unlike s (begins_full (short_text s) line full is)
     none_behind (inr later) =
-        elim (found (codes "forged " ++ decimal report.forged) (agreement_line (names_of bytes) (first_fork report.reports)) line (one_line-append (codes "forged ") (decimal report.forged) refl (decimal_one_line report.forged)) later) [
-          | inl same ↦ forged_unlike report.forged (begins_full (forged_line report.forged) line full (ap (λ t. t ++ newline) same))
-          | inr there ↦ at_end (agreement_line (names_of bytes) (first_fork report.reports)) (agreement_other (names_of bytes) (first_fork report.reports)) (agreement_unlike (names_of bytes) (first_fork report.reports)) there
+        elim (found (codes "forged " ++ decimal (world_after bytes).forged) (agreement_line (names_of bytes) (first_fork (world_after bytes).reports)) line (one_line-append (codes "forged ") (decimal (world_after bytes).forged) refl (decimal_one_line (world_after bytes).forged)) later) [
+          | inl same ↦ forged_unlike (world_after bytes).forged (begins_full (forged_line (world_after bytes).forged) line full (ap (λ t. t ++ newline) same))
+          | inr there ↦ at_end (agreement_line (names_of bytes) (first_fork (world_after bytes).reports)) (agreement_other (names_of bytes) (first_fork (world_after bytes).reports)) (agreement_unlike (names_of bytes) (first_fork (world_after bytes).reports)) there
         ]

@@ -6,6 +6,7 @@ use Rattle.std.specs.List.{flat_map}
 use Rattle.std.specs.Io.KnownBytes.{append_known}
 use Rattle.xl_base.specs.declared.ids.LedgerId.{LedgerId}
 use Rattle.xl_lists.specs.declared.report.Report.{Report}
+use Rattle.xl_lists.specs.Agreement.{Agree}
 use Rattle.xl_sched.specs.declared.named.Named.{Named}
 use Rattle.xl_sched.specs.declared.refusal.SchedRefusal.{SchedRefusal}
 use Rattle.xl_lines.specs.declared.limits.Limits.{Limits}
@@ -15,7 +16,8 @@ use Rattle.xl_lines.specs.Told.{step_at}
 use Rattle.xl_world.specs.declared.outcome.Outcome.{Outcome}
 use Rattle.xl_world.specs.declared.outcome.Outcome.TheVariants.{Switched, Built, Refused, Full, Preferred, Heard}
 use Rattle.xl_world.specs.Forks.{first_fork}
-use Rattle.xl_running.specs.Running.{Running, at_first, limits}
+use Rattle.xl_world.specs.World.{World}
+use Rattle.xl_running.specs.Running.{Running, at_first, limits, world_of}
 use Rattle.xl_replay.specs.Replays.{rules, verdict_of}
 use Rattle.xl_running.specs.Texts.{bad_line}
 use Rattle.xl_replay.specs.Texts.{outcome_line, short_line, forged_line, agreement_line}
@@ -63,6 +65,10 @@ state_from within left r (line ∷ rest) =
 abbrev pub names_of : List ℕ → List Named
 names_of bytes = (state_from limits limits.lines at_first (lines_of bytes)).reading.names
 
+-- the world of a schedule, after all of its lines
+abbrev pub world_after : List ℕ → World
+world_after bytes = world_of (state_from limits limits.lines at_first (lines_of bytes))
+
 -- whether an outcome is told by a `full` line
 abbrev pub is_full : Outcome → Bool
 is_full (Switched node seq id) = false
@@ -83,22 +89,22 @@ outcomes_in spoken = map (λ s. s.outcome) spoken
 abbrev pub up_to_forged : List Announced → List Short → ℕ → List ℕ
 up_to_forged spoken shorts forged = flat_map announced_line spoken ++ (flat_map short_text shorts ++ forged_line forged)
 
--- A report that no refused line cuts short is these lines. Its last one says what the reports that its `full` lines
--- tell say together. For each pair with no `short` line, where `forged` says 0, no two `full` lines of that pair share
--- a sequence and stand for different ids. A line's token stands for an id by those of the schedule's names that were
--- declared before it.
-pub record IsReport (names : List Named) (told : Told) : Type 0 where
+-- A report that no refused line cuts short is these lines. Its `full` lines tell the reports of the schedule's world,
+-- in order, and its last line says what those say together. Where `forged` says 0, no two `full` lines of a pair with no
+-- `short` line share a sequence and stand for different ids. Nor do any two, whatever the `short` lines say, at which
+-- lists were in force that are enough for each other. A line's token stands for an id by those of the schedule's names
+-- that were declared before it.
+pub record IsReport (names : List Named) (world : World) (told : Told) : Type 0 where
   pub spoken : List Announced
-  pub reports : List Report
   pub shorts : List Short
-  pub forged : ℕ
-  pub written : told.text ≡ up_to_forged spoken shorts forged ++ agreement_line names (first_fork reports)
-  pub says : told.verdict ≡ verdict_of (first_fork reports)
-  pub fulls : filter is_full (outcomes_in spoken) ≡ map full_of reports
+  pub written : told.text ≡ up_to_forged spoken shorts world.forged ++ agreement_line names (first_fork world.reports)
+  pub says : told.verdict ≡ verdict_of (first_fork world.reports)
+  pub fulls : filter is_full (outcomes_in spoken) ≡ map full_of world.reports
   pub named : All (λ s. Extends s.names names) spoken
   pub agree : (i j seq : ℕ) (a b : LedgerId) →
       Contains (outcomes_in spoken) (Full i seq a) → Contains (outcomes_in spoken) (Full j seq b) →
-      forged ≡ 0 → All (λ s. ¬ IsPair i j s) shorts → All (λ s. ¬ IsPair j i s) shorts → a ≡ b
+      world.forged ≡ 0 → All (λ s. ¬ IsPair i j s) shorts → All (λ s. ¬ IsPair j i s) shorts → a ≡ b
+  pub each : world.forged ≡ 0 → Agree world.liars world.reports
 
 -- A report that a refused line cuts short is lines of outcomes, and then the line that refuses.
 pub record IsRefusal (text : List ℕ) : Type 0 where
@@ -113,16 +119,16 @@ HasLine text line = Contains (lines_of text) (record { bytes = line; ended = tru
 
 -- A front of a report that has the line `forged 0`. All outcomes of the report and all its `short` lines stand in it,
 -- and before that line.
-pub record IsUnforged (names : List Named) (told : Told) (front : List ℕ) : Type 0 where
-  pub report : IsReport names told
-  pub none : report.forged ≡ 0
+pub record IsUnforged (names : List Named) (world : World) (told : Told) (front : List ℕ) : Type 0 where
+  pub report : IsReport names world told
+  pub none : world.forged ≡ 0
   pub rest : List ℕ
   pub has_all : front ≡ up_to_forged report.spoken report.shorts 0 ++ rest
 
 -- A front of the text was written after what was there. If it has the line `forged 0`, it is a report's.
-pub record AddsReport (names : List Named) (before after : Option (List ℕ)) (told : Told) : Type 0 where
+pub record AddsReport (names : List Named) (world : World) (before after : Option (List ℕ)) (told : Told) : Type 0 where
   pub written : List ℕ
   pub missing : List ℕ
   pub parts : told.text ≡ written ++ missing
   pub added : after ≡ append_known before written
-  pub unforged : HasLine written (codes "forged 0") → IsUnforged names told written
+  pub unforged : HasLine written (codes "forged 0") → IsUnforged names world told written

@@ -1,5 +1,4 @@
 pub mod Texts
 pub mod Replays
-pub mod Statuses
 pub mod Headlines
 pub mod Readings

@@ -5,6 +5,7 @@ use Rattle.xl_lines.specs.declared.machine.Verdict.TheVariants as verdict
 use Rattle.xl_lines.specs.Rules.{Rules, Step, goes_on, refuses as refuses_line, Told, closes}
 use Rattle.xl_lines.specs.Told.{told_of}
 use Rattle.xl_lines.specs.Soon.{told_soon}
+use Rattle.xl_texts.specs.Promises.{Promise, on, always}
 use Rattle.xl_sched.specs.declared.line.Line.{Line}
 use Rattle.xl_sched.specs.declared.line.Line.TheVariants as line
 use Rattle.xl_sched.specs.declared.refusal.SchedRefusal.TheVariants.{Header}
@@ -59,6 +60,9 @@ rules = record {
 abbrev pub report_of : List ℕ → Told
 report_of bytes = told_of limits rules at_first bytes
 
--- what is told of the lines that have ended in these bytes
-abbrev pub report_soon : List ℕ → List ℕ
+-- what is told as soon as these bytes have come
+abbrev pub report_soon : List ℕ → Told
 report_soon bytes = told_soon limits rules at_first bytes
+
+abbrev pub report_promise : Promise
+report_promise = record { told = report_of; soon = report_soon; reads = on; shows = always }

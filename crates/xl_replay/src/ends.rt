@@ -1,5 +1,6 @@
 // What is told at the end of a schedule.
 ghost use Rattle.std.specs.Prelude.{◌≡◌, ◌≤◌, ◌++◌, ◌==◌, ◌&&◌, is_some, position, OnOk, option_copied, option_map};
+ghost use Rattle.std.specs.List.{list_any};
 ghost use Rattle.std.specs.String.{string_bytes};
 ghost use Rattle.xl_world.specs.Forks.{first_fork};
 ghost use Rattle.xl_world.specs.Seen.{fork_seen};
@@ -101,11 +102,22 @@ fn push_short(
     Ok(())
 }
 
+/// Whether a list was in force at the node of a number.
+fn has_list(lists: &[InForce], j: NodeNo) -> bool
+    ensures { result ≡ list_any (λ f. f.node == j) lists.now }
+{
+    lists.iter().any(|f| f.node == j)
+}
+
 /// The pair of two numbers, where lists that were in force at their nodes aren't enough.
 fn push_pair(text: &mut String, world: &World, i: NodeNo, j: NodeNo) -> Result<(), OutOfMemory>
     ensures { OnOk result (string_bytes text.new ≡ string_bytes text.old ++ short_pair world.now i j) }
 {
     let (liars, lists) = (world.liars(), world.lists());
+    // Most numbers have no node, and each list at `i` would be held against all lists for each of them.
+    if !has_list(lists, j) {
+        return Ok(());
+    }
     match short_at(liars, lists, i, j) {
         Some(e) => {
             let other = short_with(liars, lists, &e.list, j);

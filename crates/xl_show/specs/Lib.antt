@@ -4,3 +4,4 @@ pub mod Shown
 pub mod Soon
 pub mod Reading
 pub mod Steps
+pub mod Promises

@@ -38,13 +38,13 @@ Goes (part.Taken n) old new = (reach new ≡ reach old + n) × (length new.begun
 Goes part.Refused old new = Unit {0}
 
 -- what is told soon is written, unless the text ended
-abbrev pub PutsLook : Look → (old new : Option (List ℕ)) → (soon left : List ℕ → List ℕ) → Type 0
+abbrev pub PutsLook : Look → (old new : Option (List ℕ)) → (soon left : List ℕ → Told) → Type 0
 PutsLook (look.Frame n) old new soon left = Puts old new soon left
 PutsLook (look.Lacks n) old new soon left = Puts old new soon left
 PutsLook look.Refused old new soon left = Unit {0}
 
 -- so it is after a part of the bytes
-abbrev pub PutsPart : Part → (old new : Option (List ℕ)) → (soon left : List ℕ → List ℕ) → List ℕ → Type 0
+abbrev pub PutsPart : Part → (old new : Option (List ℕ)) → (soon left : List ℕ → Told) → List ℕ → Type 0
 PutsPart (part.Taken n) old new soon left bytes =
     Puts old new (λ rest. soon (bytes ++ rest)) (λ rest. left (drop n bytes ++ rest))
 PutsPart part.Refused old new soon left bytes = Unit {0}

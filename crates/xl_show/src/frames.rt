@@ -6,7 +6,7 @@ ghost use Rattle.xl_lines.specs.Rules.{closes};
 ghost use Rattle.xl_lines.specs.Running.{Tells, TellsAll};
 ghost use Rattle.xl_show.specs.Reading.{left_after};
 ghost use Rattle.xl_show.specs.Shown.{ending, told_from, shown_of};
-ghost use Rattle.xl_show.specs.Soon.{shown_soon};
+ghost use Rattle.xl_show.specs.Soon.{shown_soon, soon_from};
 ghost use Rattle.xl_show.specs.Texts.{limit_line};
 ghost use Rattle.xl_show.specs.Limits.{most_bytes};
 ghost use Rattle.xl_wire.specs.Frames.{decoded_of};
@@ -186,7 +186,7 @@ impl Frames {
 impl Teller for Frames {
     ghost tells = { λ frames rest. told_from frames.place frames.count (frames.begun.items ++ rest) };
 
-    ghost soon = { λ frames bytes. shown_soon (frames.begun.items ++ bytes) };
+    ghost soon = { λ frames bytes. soon_from frames.place (frames.begun.items ++ bytes) };
 
     ghost to_come = { λ frames. most_bytes - (frames.place + length frames.begun.items) };
 

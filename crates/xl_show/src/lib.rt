@@ -12,6 +12,6 @@ mod limits;
 mod reading;
 mod texts;
 
-pub use command::show;
+pub use command::Show;
 pub use frames::Frames;
 pub use limits::MOST_BYTES;

@@ -91,7 +91,7 @@ module _ {B K : Type 0}
   pub cores_run : (a b : Box (Home B K)) (es : List Entry) → Runs (LeadsHome held_by saves_of faults_of gives) a es b
       → Runs Leads a.value.core es b.value.core
   cores_run a b [] r = ap (λ (x : Box (Home B K)). x.value.core) r
-  cores_run a b (e ∷ es) r = (r.0.value.core, r.1.core, cores_run r.0 b es r.2)
+  cores_run a b (e ∷ es) r = (r.0.value.core, r.1.0.core, cores_run r.0 b es r.2)
 
   keeps_more : (before after : Home B K) (e : Entry) (es : List Entry) (b : K)
       → Goes held_by saves_of faults_of gives before e after
@@ -123,6 +123,6 @@ module _ {B K : Type 0}
       (λ (x : Box (Home B K)). KeepsAll held_by saves_of faults_of gives a.value.core [] a.value.keeper x.value.keeper) r
       (keeps_none held_by saves_of faults_of gives a.value.core a.value.keeper)
   keeps_run a b (e ∷ es) r =
-      keeps_more a.value r.0.value e es b.value.keeper r.1
+      keeps_more a.value r.0.value e es b.value.keeper r.1.0
       (subst (λ (c : Core). KeepsAll held_by saves_of faults_of gives c es r.0.value.keeper b.value.keeper)
-      r.1.core.core (keeps_run r.0 b es r.2))
+      r.1.0.core.core (keeps_run r.0 b es r.2))

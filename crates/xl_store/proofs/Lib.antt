@@ -2,5 +2,6 @@ pub mod Peers
 pub mod Journals
 pub mod Making
 pub mod Keeping
+pub mod Kept
 pub mod Noting
 pub mod Turning

@@ -21,6 +21,7 @@ use Rattle.xl_core.proofs.Concluding.{unasked}
 use Rattle.xl_store.specs.declared.entry.Entry.{Entry}
 use Rattle.xl_store.specs.declared.entry.Saved.{Saved}
 use Rattle.xl_store.specs.declared.home.Home.{Home}
+use Rattle.xl_store.specs.declared.page.Page.{Page}
 use Rattle.xl_store.specs.declared.store.Store.{Store}
 use Rattle.xl_store.specs.Entries.{IsAllowed, IsOutcome, Leads, entry_of, page_of, save_of, reply_of}
 use Rattle.xl_store.specs.Homes.{IsCounted, Goes, AnswersHome, LeadsHome}
@@ -58,8 +59,9 @@ module _ {B K : Type 0}
       → Answers (core_happens before.core event save) after.core answer
       → IsAsked held_by saves_of faults_of gives (core_asks before.core event) (is_kept save) before.keeper after.keeper
       → IsCounted outcome (faults_of before.keeper) (faults_of after.keeper)
+      → after.kept ≡ before.kept
       → AnswersHome held_by saves_of faults_of gives before (entry_of event outcome) answer after
-  answers_home before after event save outcome answer allowed same with_save does asked counted = record {
+  answers_home before after event save outcome answer allowed same with_save does asked counted kept = record {
     goes = record {
       core = record {
         allowed = allowed;
@@ -73,12 +75,13 @@ module _ {B K : Type 0}
           (sym same) asked;
       counted = counted;
     };
+    kept = kept;
     answer = ap (λ (s : Save). (core_happens before.core event s).answer) same ∙ sym does.answer;
   }
 
   -- a turn that was begun with a copy of what the event hands in
   pub begun_as : (store : Store B K) (old : Pass Entry) (copy event : CoreEvent)
-      (turn : Turn (Box (Home B K)) Entry) (page : List Entry) → copy ≡ event
+      (turn : Turn (Box (Home B K)) Entry) (page : Page) → copy ≡ event
       → Begun held_by saves_of faults_of gives store old copy turn page
       → Begun held_by saves_of faults_of gives store old event turn page
   begun_as store old copy event turn page same b =
@@ -93,7 +96,7 @@ module _ {B K : Type 0}
 
   -- a peer of the core that the store was opened with is one of the core that the turn finds
   pub still_peer : (store : Store B K) (old : Pass Entry) (event : CoreEvent) (turn : Turn (Box (Home B K)) Entry)
-      (page : List Entry) (member : ℕ) (found : Home B K) → found ≡ turn.object.value
+      (page : Page) (member : ℕ) (found : Home B K) → found ≡ turn.object.value
       → Begun held_by saves_of faults_of gives store old event turn page
       → IsSome (key_of (start_of store).node.keys member) → IsSome (key_of found.core.node.keys member)
   still_peer store old event turn page member found same b peer =
@@ -103,7 +106,7 @@ module _ {B K : Type 0}
       (cores_run held_by saves_of faults_of gives (opening store.lock) turn.object turn.journal b.found))) peer)
 
   pub called : (store : Store B K) (old new : Pass Entry) (event : CoreEvent) (outcome : Option Saved) (answer : Answer)
-      (turn : Turn (Box (Home B K)) Entry) (page done : List Entry) (found : Home B K) → found ≡ turn.object.value
+      (turn : Turn (Box (Home B K)) Entry) (page : Page) (done : List Entry) (found : Home B K) → found ≡ turn.object.value
       → Begun held_by saves_of faults_of gives store old event turn page
       → done ≡ page_of event outcome
       → known new ≡ after_turn (knows turn) (length turn.journal) (turn.journal ++ done)

@@ -1,5 +1,6 @@
 pub mod Entries
 pub mod Outcomes
+pub mod Pages
 pub mod Homes
 pub mod Calls
 pub mod Stores

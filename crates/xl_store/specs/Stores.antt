@@ -22,7 +22,9 @@ use Rattle.xl_store.specs.declared.store.Store.{Store}
 use Rattle.xl_store.specs.declared.store.StoreEnd.{StoreEnd}
 use Rattle.xl_store.specs.declared.store.StoreEnd.TheVariants.{OutOfMemory, StoreFull}
 use Rattle.xl_store.specs.Entries.{Leads, page_of}
-use Rattle.xl_store.specs.Homes.{LeadsHome}
+use Rattle.xl_store.specs.declared.page.Page.{Page}
+use Rattle.xl_store.specs.Pages.{on, has_node}
+use Rattle.xl_store.specs.Homes.{Goes, LeadsHome}
 use Rattle.xl_store.specs.Calls.{Made, IsLast}
 
 module _ {B K : Type 0} where
@@ -37,6 +39,10 @@ module _ {B K : Type 0} where
   -- how many turns it has in all
   abbrev pub turns_of : Store B K → ℕ
   turns_of store = limit_of store.lock
+
+  -- whether it keeps its entries
+  abbrev pub keeps_of : Store B K → Bool
+  keeps_of store = store.keeps
 
   -- it is a pass of this store
   abbrev pub IsOf : Store B K → Pass Entry → Type 0
@@ -85,10 +91,21 @@ module _ {B K : Type 0}
     (gives : K → ℕ → Bool → K → Type 0) where
   -- in its turn the pass has a legal history that begins with all that it had seen, and a page with the event
   pub record Begun (store : Store B K) (old : Pass Entry) (event : CoreEvent) (turn : Turn (Box (Home B K)) Entry)
-      (page : List Entry) : Type 0 where
-    pub written : page ≡ page_of event None
+      (page : Page) : Type 0 where
+    pub written : on page ≡ page_of event None
+    pub node : has_node page ≡ keeps_of store
     pub begins : IsPrefix (known old).seen turn.journal
     pub found : Runs (LeadsHome held_by saves_of faults_of gives) (opening store.lock) turn.journal turn.object
     pub below : length turn.journal < turns_of store
     pub drawn : (known old).drawn ≤ length turn.journal
     pub entered : knows turn ≡ with_drawn (known old) (length turn.journal + 1)
+
+  -- the page's one entry leads from the home that the turn found to the one that it has now, but isn't kept yet
+  pub record Ends (store : Store B K) (turn : Turn (Box (Home B K)) Entry) (page : Page) : Type 0 where
+    pub found : Box (Home B K)
+    pub entry : Entry
+    pub runs : Runs (LeadsHome held_by saves_of faults_of gives) (opening store.lock) turn.journal found
+    pub goes : Goes held_by saves_of faults_of gives found.value entry turn.object.value
+    pub kept : turn.object.value.kept ≡ found.value.kept
+    pub written : on page ≡ entry ∷ []
+    pub node : has_node page ≡ keeps_of store

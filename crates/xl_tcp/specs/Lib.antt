@@ -2,3 +2,8 @@ pub mod Moments
 pub mod Answers
 pub mod Connections
 pub mod Allowances
+pub mod Conduct
+pub mod Callers
+pub mod Starts
+pub mod Waits
+pub mod Granting

@@ -3,7 +3,7 @@ ghost use Rattle.xl_tcp.specs.Allowances.{left_at, after_cost};
 
 use xl_base::Millis;
 
-/// What a caller may still cost: so much at once, and so much more with each millisecond.
+/// What a peer may still cost: so much at once, and so much more with each millisecond.
 #[derive(Clone, Copy, Debug)]
 pub(crate) struct Allowance {
     most: u64,
@@ -25,16 +25,19 @@ impl Allowance {
         }
     }
 
-    /// Takes a cost off, if so much is left, and says whether it was.
-    pub(crate) fn spend(&mut self, cost: u64, now: Millis) -> bool
-        ensures granted { result ≡ nat_le cost (left_at self.old now) }
-        ensures spent { self.new ≡ after_cost cost self.old now }
+    /// So much is left.
+    pub(crate) fn has(&self, cost: u64, now: Millis) -> bool
+        ensures { result ≡ nat_le cost (left_at self.now now) }
     {
-        let left = self.left_at(now);
-        let granted = cost <= left;
-        self.left = if granted { left - cost } else { left };
+        cost <= self.left_at(now)
+    }
+
+    /// Takes a cost off, or all that is left.
+    pub(crate) fn spend(&mut self, cost: u64, now: Millis)
+        ensures { self.new ≡ after_cost cost self.old now }
+    {
+        self.left = self.left_at(now).saturating_sub(cost);
         self.at = now;
-        granted
     }
 
     fn left_at(&self, now: Millis) -> u64

@@ -1,28 +1,33 @@
+ghost use Rattle.std.specs.Prelude.{◌≡◌, ◌≤◌, IfOk, length};
+ghost use Rattle.xl_tcp.specs.Callers.{may_stay, standing_by};
+
 use crate::answers::{is_absence, is_late};
 use std::alloc::Global;
 use std::collections::VecDeque;
 use std::io;
 use std::net::{OpenListener, OpenStream};
 use xl_base::Millis;
-use xl_wire::{Parted, split};
+use xl_wire::{LONGEST_FRAME, Parted, split};
 
-/// How many callers wait here at most. Whoever else calls waits in the system's queue.
-const MOST: usize = 64;
+/// How many callers wait here at most. Whoever else calls waits in the system's queue. A node has 63 links at most, so
+/// all callers that wait at it hold 252 descriptors.
+const MOST: usize = 4;
 
 /// How many calls are taken at once.
 const AT_ONCE: usize = 256;
 
-/// How long a caller may wait until it has shown how a frame begins, in milliseconds.
+/// How long a caller may wait until it has shown a whole frame, in milliseconds.
 const PATIENCE: Millis = 10_000;
 
-/// The length of the shortest frame, which is that of an empty set.
-const SHORTEST_FRAME: usize = 48;
+/// How long one may wait that has.
+const PATIENCE_WHEN_READY: Millis = 60_000;
 
 /// Callers that aren't served yet, in the order in which they came. Their streams don't wait.
 ///
-/// One is ready as soon as it has sent as many bytes as the shortest frame has, if these begin a frame. One that has
-/// sent nothing may be a member that has nothing to say, and is served while nobody is ready. One is let go if it is
-/// gone, if what it has sent begins no frame, and if it isn't ready after ten seconds.
+/// One is ready as soon as it has sent a whole frame. One that has sent nothing may be a member that has nothing to say,
+/// and is served while nobody is ready. One is let go if it is gone, if what it has sent begins no frame, if it isn't
+/// ready after ten seconds, and if it wasn't served within a minute. If as many wait as may, the first that isn't ready
+/// makes room for whoever calls.
 #[derive(Drop)]
 pub(crate) struct Callers<S> {
     waiting: VecDeque<Caller<S>>,
@@ -39,7 +44,7 @@ enum Standing {
     Gone,
     /// It has sent nothing.
     Quiet,
-    /// It has sent less than the shortest frame.
+    /// It has sent less than a whole frame.
     Begun,
     Ready,
 }
@@ -60,7 +65,7 @@ impl<S: OpenStream + Drop> Callers<S> {
     ) -> io::Result<()> {
         self.waiting.retain(|caller| may_wait(caller, now));
         for _ in 0..AT_ONCE {
-            if self.waiting.len() >= MOST {
+            if self.is_full() {
                 break;
             }
             match listener.accept() {
@@ -73,12 +78,34 @@ impl<S: OpenStream + Drop> Callers<S> {
         Ok(())
     }
 
+    /// As many wait as may, and each is ready.
+    fn is_full(&self) -> bool {
+        self.waiting.len() >= MOST && self.first_unready().is_none()
+    }
+
     fn take_in(&mut self, stream: S, now: Millis) -> io::Result<()> {
         stream.set_nonblocking(true)?;
-        if standing_of(&stream) != Standing::Gone {
-            self.waiting.push_back(Caller { stream, came: now })?;
+        if standing_of(&stream) == Standing::Gone {
+            return Ok(());
         }
+        if self.waiting.len() >= MOST {
+            self.let_one_go();
+        }
+        self.waiting.push_back(Caller { stream, came: now })?;
         Ok(())
+    }
+
+    /// Lets go of the first that isn't ready.
+    fn let_one_go(&mut self) {
+        if let Some(place) = self.first_unready() {
+            self.waiting.remove(place);
+        }
+    }
+
+    fn first_unready(&self) -> Option<usize> {
+        self.waiting
+            .iter()
+            .position(|caller| standing_of(&caller.stream) != Standing::Ready)
     }
 
     /// The first that is ready, and if none is, the first that has sent nothing. It waits no longer here.
@@ -104,22 +131,39 @@ impl<S: OpenStream + Drop> Callers<S> {
 }
 
 fn may_wait<S: OpenStream>(caller: &Caller<S>, now: Millis) -> bool {
-    match standing_of(&caller.stream) {
+    let waited = now.saturating_sub(caller.came);
+    may_stay(standing_of(&caller.stream), waited)
+}
+
+/// One that stands so may wait on, after so many milliseconds.
+fn may_stay(standing: Standing, waited: Millis) -> bool
+    ensures { result ≡ may_stay standing waited }
+{
+    match standing {
         Standing::Gone => false,
-        Standing::Quiet | Standing::Begun => now.saturating_sub(caller.came) < PATIENCE,
-        Standing::Ready => true,
+        Standing::Quiet | Standing::Begun => waited < PATIENCE,
+        Standing::Ready => waited < PATIENCE_WHEN_READY,
     }
 }
 
 /// How a caller stands, by what it has sent so far.
 fn standing_of<S: OpenStream>(stream: &S) -> Standing {
-    let mut front = [0; SHORTEST_FRAME];
-    match stream.peek(&mut front) {
+    let mut front = [0; LONGEST_FRAME];
+    let peeked = stream.peek(&mut front);
+    standing_by(peeked, &front)
+}
+
+/// The same, by how many bytes can be seen, and which.
+fn standing_by(peeked: io::Result<usize>, front: &[u8]) -> Standing
+    requires { IfOk peeked (λ count. count ≤ length front.now) }
+    ensures { result ≡ standing_by peeked front.now }
+{
+    match peeked {
         Ok(0) => Standing::Gone,
         Ok(count) => match split(&front[..count]) {
+            Parted::Whole(_) => Standing::Ready,
+            Parted::Need(_) => Standing::Begun,
             Parted::Refused(_) => Standing::Gone,
-            _ if count < SHORTEST_FRAME => Standing::Begun,
-            _ => Standing::Ready,
         },
         Err(error) if is_late(error.kind()) => Standing::Quiet,
         Err(_) => Standing::Gone,

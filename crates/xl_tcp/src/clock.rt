@@ -1,7 +1,7 @@
-ghost use Rattle.std.specs.Prelude.{◌≡◌, ◌≤◌, nat_le};
-ghost use Rattle.std.specs.Duration.{as_nanos};
-ghost use Rattle.xl_base.specs.Moments.{greatest_millis};
+ghost use Rattle.std.specs.Prelude.{◌≡◌, ◌≤◌, ◌+◌, ◌-◌, min, None, IfSome};
+ghost use Rattle.std.specs.Duration.{as_nanos, max_nanos};
 ghost use Rattle.xl_tcp.specs.Moments.{moment_at};
+ghost use Rattle.xl_tcp.specs.Starts.{is_moment_since};
 
 use std::time::{self, Duration};
 use std::{io, thread};
@@ -11,11 +11,11 @@ use xl_links::Clock;
 /// 2000-01-01 00:00:00 UTC, from which the XRP Ledger counts its seconds, in milliseconds from 1970 on.
 const EPOCH_MILLIS: u64 = 946_684_800_000;
 
-/// The system's clock, in milliseconds from 2000-01-01 00:00:00 UTC on. Before that, and where the clock can't be read,
-/// it gives 0; and it gives no later moment than the greatest, which lies in the year 2126.
+/// The system's clock, in milliseconds from 2000-01-01 00:00:00 UTC on. Before that, and if it couldn't be read when this
+/// one was made, it gives 0; and it gives no later moment than the greatest, which lies in the year 2126.
 ///
 /// It reads the time of day once, when it is made, and adds how long it has run since by the clock that is never set. So
-/// nobody who sets the time of day moves it.
+/// nobody who sets the time of day moves it, and it gives no moment before the one at which it was made.
 #[derive(Drop)]
 pub struct SystemClock<C> {
     system: C,
@@ -36,13 +36,25 @@ impl<C: time::Clock> SystemClock<C> {
         SystemClock { system, start }
     }
 
-    /// How long after 1970 began it is.
-    fn since_1970(&self) -> Option<Duration> {
+    /// How long after 1970 began it is. Where the clock that is never set can't be read now, it is as it was at first.
+    fn since_1970(&self) -> Option<Duration>
+        ensures later { IfSome result (λ now. IfSome self.now.start (λ start. as_nanos start.since_1970 ≤ as_nanos now)) }
+        ensures never { result ≡ None → self.now.start ≡ None }
+    {
         let start = self.start?;
-        let now = self.system.monotonic().ok()?;
-        let ran = now.saturating_sub(start.monotonic);
-        Some(start.since_1970.saturating_add(ran))
+        match self.system.monotonic() {
+            Ok(now) => Some(since_1970_at(start, now)),
+            Err(_) => Some(start.since_1970),
+        }
     }
+}
+
+/// How long after 1970 began it is, by what the clock that is never set says.
+fn since_1970_at(start: Start, now: Duration) -> Duration
+    ensures { as_nanos result ≡ min (as_nanos start.since_1970 + (as_nanos now - as_nanos start.monotonic)) max_nanos }
+{
+    let ran = now.saturating_sub(start.monotonic);
+    start.since_1970.saturating_add(ran)
 }
 
 fn start_of<C: time::Clock>(system: &C) -> io::Result<Start> {
@@ -55,7 +67,7 @@ fn start_of<C: time::Clock>(system: &C) -> io::Result<Start> {
 impl<C: time::Clock> Clock for SystemClock<C> {
     ghost use Rattle.std.proofs.Common.{rules};
 
-    ghost may_give = { λ _ moment. nat_le moment greatest_millis };
+    ghost may_give = { λ clock moment. is_moment_since clock.start moment };
 
     fn now(&self) -> Millis {
         match self.since_1970() {

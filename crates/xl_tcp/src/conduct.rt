@@ -1,7 +1,27 @@
+ghost use Rattle.std.specs.Prelude.{◌≡◌};
+ghost use Rattle.xl_wire.specs.Raws.{raw_frame};
+ghost use Rattle.xl_tcp.specs.Conduct.{
+  after_frame,
+  after_given,
+  after_judgement,
+  after_payment,
+  begun_at,
+  cost_of,
+  goes_on,
+  greetings_at,
+  header_in,
+  is_over,
+  is_silent,
+  manner_by,
+  may_give,
+  may_greet,
+  payment_of,
+};
+
 use crate::allowance::Allowance;
-use std::alloc::Global;
-use xl_base::{Millis, OutOfMemory};
-use xl_wire::{Feed, LONGEST_FRAME, Next, Parted, Raw, split};
+use xl_base::Millis;
+use xl_links::Judgement;
+use xl_wire::{Parted, Raw, split};
 
 /// The kind of a frame that tells a header.
 const HEADER: u8 = 3;
@@ -9,129 +29,227 @@ const HEADER: u8 = 3;
 /// What a frame costs besides its bytes.
 const EACH_FRAME: u64 = 1000;
 
-/// What a caller's frames may cost at once, and with each millisecond more. A member that was long away says 64 things
+/// What a peer's frames may cost at once, and with each millisecond more. A member that was long away says 64 things
 /// at once, and later some frames a second.
 const FRAMES: u64 = 100_000;
 
 const FRAMES_EACH_MILLI: u64 = 25;
 
-/// What a greeting's header costs. A link's callers may greet with as many headers as a node may know, and once more in
-/// each hour.
+/// What a greeting's header costs. A member may greet with as many headers as a node may know, and with 300 more in
+/// each second.
 const EACH_HEADER: u64 = 1000;
 
 const HEADERS: u64 = 262_144_000;
 
-const HEADERS_EACH_MILLI: u64 = 73;
+const HEADERS_EACH_MILLI: u64 = 300;
 
-/// What the callers of a link may still greet with.
-pub(crate) fn greetings(now: Millis) -> Allowance {
+/// For how long a peer may send no whole frame, in milliseconds.
+const SILENCE: Millis = 60_000;
+
+/// The same until the first one comes: where it was dialled, others may be served before.
+const SILENCE_AT_FIRST: Millis = 300_000;
+
+/// For how long it may tell nothing while another is ready, once it has told something, and before.
+const PATIENCE: Millis = 20_000;
+
+const PATIENCE_AT_FIRST: Millis = 2000;
+
+/// For how long its frames may be known ones alone while another is ready.
+const PATIENCE_WITH_KNOWN: Millis = 300_000;
+
+/// What a link's members may greet with, one connection after the other.
+pub(crate) fn greetings(now: Millis) -> Allowance
+    ensures { result ≡ greetings_at now }
+{
     Allowance::full(HEADERS, HEADERS_EACH_MILLI, now)
 }
 
-/// How a caller that is served behaves. Nobody here can test a tag, so a caller is judged by how many frames it sends,
-/// how long they are, and when they come.
-#[derive(Drop)]
-pub(crate) struct Conduct {
-    feed: Feed,
-    record: Record,
+/// What is known of a peer, by how its frames were judged.
+#[derive(Clone, Copy, Debug, PartialEq, Eq)]
+pub(crate) enum Manner {
+    /// None was given yet.
+    New,
+    /// The first was given, and isn't judged yet.
+    Shown,
+    /// The latest came from nobody on the list.
+    Unlisted,
+    /// The latest carried a right tag.
+    Member,
+    /// The latest was for another node, or carried a wrong tag.
+    Forger,
 }
 
+/// What pays for a frame that is to be given.
+#[derive(Clone, Copy, Debug, PartialEq, Eq)]
+enum Payment {
+    /// The first one costs nothing.
+    Free,
+    Greeting,
+    Frame,
+    /// It is held back.
+    Lacking,
+}
+
+/// How a peer behaves. Nobody here can test a tag: whoever hears its frames tells how they were judged.
+///
+/// A peer shows one frame, and no more of it is given until that is judged. Then its frames are held back if they come
+/// faster than a member's do. A member's greeting has an allowance of its own.
 #[derive(Clone, Copy, Debug)]
-struct Record {
-    /// When the latest frame came, or the connection began.
+pub(crate) struct Conduct {
+    manner: Manner,
+    /// When the latest whole frame was given, or the connection began.
     latest: Millis,
-    /// Whether a frame has come.
-    has_shown: bool,
-    /// The sequence of the header with which a greeting goes on.
+    /// When it told something: its first frame was given, one was fresh, or its greeting went on.
+    told: Millis,
+    /// When the latest fresh frame came.
+    fresh: Millis,
+    /// Whether one did.
+    has_told: bool,
+    /// The latest frame was one with which a greeting goes on.
+    greets: bool,
+    /// The sequence of the header with which it goes on next.
     next_header: u32,
     greetings: Allowance,
     frames: Allowance,
 }
 
 impl Conduct {
-    /// Of a caller that is served from now on.
-    pub(crate) fn new(
-        alloc: Global,
-        greetings: Allowance,
-        now: Millis,
-    ) -> Result<Self, OutOfMemory> {
-        Ok(Conduct {
-            feed: Feed::open(alloc)?,
-            record: Record {
-                latest: now,
-                has_shown: false,
-                next_header: 1,
-                greetings,
-                frames: Allowance::full(FRAMES, FRAMES_EACH_MILLI, now),
-            },
-        })
-    }
-
-    /// For how long no whole frame has come.
-    pub(crate) fn silence(&self, now: Millis) -> Millis {
-        now.saturating_sub(self.record.latest)
-    }
-
-    /// Whether it has sent a whole frame.
-    pub(crate) fn has_shown(&self) -> bool {
-        self.record.has_shown
-    }
-
-    /// What the link's callers may still greet with.
-    pub(crate) fn greetings(&self) -> Allowance {
-        self.record.greetings
-    }
-
-    /// Hears what comes next, and says whether the caller may send so much. What begins no frame isn't judged, since it
-    /// ends the session.
-    pub(crate) fn hear(&mut self, bytes: &[u8], now: Millis) -> bool {
-        let mut rest = bytes;
-        for _ in 0..bytes.len() {
-            let count = self.feed.push(rest);
-            rest = &rest[count..];
-            if !self.hear_held(now) {
-                return false;
-            }
-            if count == 0 || rest.is_empty() {
-                return true;
-            }
+    /// Of a peer whose connection begins.
+    pub(crate) fn new(greetings: Allowance, now: Millis) -> Self
+        ensures { result ≡ begun_at greetings now }
+    {
+        Conduct {
+            manner: Manner::New,
+            latest: now,
+            told: now,
+            fresh: now,
+            has_told: false,
+            greets: false,
+            next_header: 1,
+            greetings,
+            frames: Allowance::full(FRAMES, FRAMES_EACH_MILLI, now),
         }
+    }
+
+    pub(crate) fn manner(&self) -> Manner
+        ensures { result ≡ self.now.manner }
+    {
+        self.manner
+    }
+
+    /// What the link's members may still greet with.
+    pub(crate) fn greetings(&self) -> Allowance
+        ensures { result ≡ self.now.greetings }
+    {
+        self.greetings
+    }
+
+    /// It has sent no whole frame for a minute, or none at all for five.
+    pub(crate) fn is_silent(&self, now: Millis) -> bool
+        ensures { result ≡ is_silent self.now now }
+    {
+        let silence = if self.manner == Manner::New {
+            SILENCE_AT_FIRST
+        } else {
+            SILENCE
+        };
+        now.saturating_sub(self.latest) >= silence
+    }
+
+    /// It has told nothing for so long that it makes room for another.
+    pub(crate) fn is_over(&self, now: Millis) -> bool
+        ensures { result ≡ is_over self.now now }
+    {
+        let patience = if self.has_told {
+            PATIENCE
+        } else {
+            PATIENCE_AT_FIRST
+        };
+        now.saturating_sub(self.told) >= patience
+            || now.saturating_sub(self.fresh) >= PATIENCE_WITH_KNOWN
+    }
+
+    /// Notes how its next frame was judged.
+    pub(crate) fn judged(&mut self, judgement: Judgement, now: Millis)
+        ensures { self.new ≡ after_judgement self.old judgement now }
+    {
+        self.manner = manner_by(judgement);
+        match judgement {
+            Judgement::Fresh => {
+                self.told = now;
+                self.fresh = now;
+                self.has_told = true;
+            }
+            Judgement::Known if self.greets => self.told = now,
+            _ => {}
+        }
+    }
+
+    /// Whether a whole frame may be given now. One that may is noted.
+    pub(crate) fn gives(&mut self, frame: &[u8], now: Millis) -> bool
+        ensures answer { result ≡ may_give self.old frame.now now }
+        ensures noted { self.new ≡ after_frame self.old frame.now now }
+    {
+        let payment = self.payment(frame, now);
+        if payment == Payment::Lacking {
+            return false;
+        }
+        self.note(frame, now);
+        self.pay(payment, frame, now);
         true
     }
 
-    /// Hears the whole frames that are held.
-    fn hear_held(&mut self, now: Millis) -> bool {
-        for _ in 0..LONGEST_FRAME {
-            match self.feed.next() {
-                Next::Frame(frame) => {
-                    if !self.record.may_send(frame, now) {
-                        return false;
-                    }
-                }
-                Next::Need(_) | Next::Refused(_) => return true,
+    /// What pays for a frame.
+    fn payment(&self, frame: &[u8], now: Millis) -> Payment
+        ensures { result ≡ payment_of self.now frame.now now }
+    {
+        match self.manner {
+            Manner::New => Payment::Free,
+            Manner::Shown | Manner::Forger => Payment::Lacking,
+            Manner::Member if self.may_greet(frame, now) => Payment::Greeting,
+            Manner::Member | Manner::Unlisted if self.frames.has(cost_of(frame), now) => {
+                Payment::Frame
             }
+            Manner::Member | Manner::Unlisted => Payment::Lacking,
         }
-        true
     }
-}
 
-impl Record {
-    /// Notes a whole frame, and says whether it may be sent.
-    fn may_send(&mut self, frame: &[u8], now: Millis) -> bool {
+    /// It is the header with which a greeting goes on, and so much is left.
+    fn may_greet(&self, frame: &[u8], now: Millis) -> bool
+        ensures { result ≡ may_greet self.now frame.now now }
+    {
+        self.is_greeting(frame) && self.greetings.has(EACH_HEADER, now)
+    }
+
+    fn pay(&mut self, payment: Payment, frame: &[u8], now: Millis)
+        ensures { self.new ≡ after_payment payment self.old frame.now now }
+    {
+        match payment {
+            Payment::Greeting => self.greetings.spend(EACH_HEADER, now),
+            Payment::Frame => self.frames.spend(cost_of(frame), now),
+            Payment::Free | Payment::Lacking => {}
+        }
+    }
+
+    /// Notes a frame that is given.
+    fn note(&mut self, frame: &[u8], now: Millis)
+        ensures { self.new ≡ after_given self.old frame.now now }
+    {
+        self.greets = self.is_greeting(frame);
         self.latest = now;
-        self.has_shown = true;
-        if self.is_greeting(frame) {
-            self.next_header = self.next_header.saturating_add(1);
-            if self.greetings.spend(EACH_HEADER, now) {
-                return true;
-            }
+        if self.manner == Manner::New {
+            self.manner = Manner::Shown;
+            self.told = now;
         }
-        let cost = EACH_FRAME.saturating_add(frame.len() as u64);
-        self.frames.spend(cost, now)
+        if self.greets {
+            self.next_header = self.next_header.saturating_add(1);
+        }
     }
 
     /// It is the header with which a greeting goes on.
-    fn is_greeting(&self, frame: &[u8]) -> bool {
+    fn is_greeting(&self, frame: &[u8]) -> bool
+        ensures { result ≡ goes_on self.now frame.now }
+    {
         match split(frame) {
             Parted::Whole(raw) => header_sequence(&raw) == Some(self.next_header),
             Parted::Need(_) | Parted::Refused(_) => false,
@@ -139,8 +257,28 @@ impl Record {
     }
 }
 
+/// What a peer is whose latest frame was judged so.
+fn manner_by(judgement: Judgement) -> Manner
+    ensures { result ≡ manner_by judgement }
+{
+    match judgement {
+        Judgement::Fresh | Judgement::Known => Manner::Member,
+        Judgement::Unlisted => Manner::Unlisted,
+        Judgement::Forged => Manner::Forger,
+    }
+}
+
+/// What a frame costs that is no greeting's header.
+fn cost_of(frame: &[u8]) -> u64
+    ensures { result ≡ cost_of frame.now }
+{
+    EACH_FRAME.saturating_add(frame.len() as u64)
+}
+
 /// The sequence of the header that a frame tells, if it tells one.
-fn header_sequence(raw: &Raw<'_>) -> Option<u32> {
+fn header_sequence(raw: &Raw<'_>) -> Option<u32>
+    ensures { result ≡ header_in (raw_frame raw.now) }
+{
     if raw.kind != HEADER {
         return None;
     }

@@ -1,14 +1,20 @@
-ghost use Rattle.std.specs.Prelude.{◌≡◌, ◌≤◌, IfOk, length};
+ghost use Rattle.std.specs.Prelude.{◌≡◌, ◌≤◌, nat_lt, IfOk, length};
+ghost use Rattle.xl_tcp.specs.Conduct.{after_judgement};
+ghost use Rattle.xl_tcp.specs.Granting.{granted_of};
+ghost use Rattle.xl_tcp.specs.Waits.{most_ahead, most_waits};
 
 use crate::ahead::Ahead;
 use crate::answers::is_late;
-use crate::conduct::Conduct;
+use crate::conduct::{Conduct, Manner};
 use crate::moments::millis_of;
 use std::alloc::Global;
 use std::io::{self, ErrorKind, Read, Write};
 use std::net::OpenStream;
 use std::thread;
 use std::time::{Clock, Duration};
+use xl_base::Millis;
+use xl_links::Judgement;
+use xl_wire::{Parted, split};
 
 /// How long a read waits for a byte, in milliseconds.
 const READ_WAITS: u64 = 1000;
@@ -22,8 +28,17 @@ const WRITE_WAITS: u64 = 50;
 /// After this many waits in a row, in which no byte went either way, a write fails: 900 milliseconds.
 const FRUITLESS_WAITS: u32 = 18;
 
-/// After this many waits a write fails in any case: five minutes.
+/// After this many waits a write to a member fails in any case: five minutes.
 const MOST_WAITS: u32 = 6000;
+
+/// The same to a peer that has shown no right tag yet: one minute.
+const MOST_WAITS_AT_FIRST: u32 = 1200;
+
+/// How long a read waits for a frame that is held back, in milliseconds. Meanwhile the peer's writes go on.
+const HOLDS: u64 = 500;
+
+/// How many frames are granted at once.
+const MOST_FRAMES: u32 = 64;
 
 /// How many bytes are read ahead at once, and how often between two tries to write.
 const PIECE: usize = 16_384;
@@ -34,36 +49,67 @@ const PIECES: usize = 64;
 /// may know, 262,144 frames of 164 bytes each, and what else it says.
 const MOST_AHEAD: usize = 48_000_000;
 
+/// The same of a peer on no list, whose frames are all refused, and which is heard slowly.
+const MOST_AHEAD_OF_OTHERS: usize = 16_000_000;
+
 /// A connection with a peer. What it gives and takes isn't told.
 ///
-/// A read waits a second for a byte, and once one came 50 milliseconds for more. A write waits until the system takes a
-/// byte. While it does, it reads ahead what the peer says, and later reads give that first: two peers that write to each
-/// other at once would else wait for each other. It fails if for 900 milliseconds no byte went either way. As long as
-/// bytes that were read ahead are given, as many are read ahead again.
+/// What comes is read ahead, and given frame by frame, as its conduct allows. A read waits a second for a byte, and once
+/// one came 50 milliseconds for more. If a frame is held back, it waits half a second, and reads ahead meanwhile.
 ///
-/// A caller that sends more than a member does is let go: a read says that no more bytes come, and a write fails.
+/// A write waits until the system takes a byte. While it does, it reads ahead what the peer says, for later reads: two
+/// peers that write to each other at once would else wait for each other. It fails if for 900 milliseconds no byte went
+/// either way, and in any case after five minutes, or one if the peer has shown no right tag yet.
 #[derive(Drop)]
 pub(crate) struct Connection<S> {
     stream: S,
     ahead: Ahead,
-    /// Of a caller. Whoever was dialled isn't judged.
-    conduct: Option<Conduct>,
+    /// How many of the bytes ahead may be given.
+    granted: usize,
+    conduct: Conduct,
 }
 
 impl<S: Read + Write + OpenStream + Drop> Connection<S> {
-    pub(crate) fn new(alloc: Global, stream: S, conduct: Option<Conduct>) -> io::Result<Self> {
+    pub(crate) fn new(alloc: Global, stream: S, conduct: Conduct) -> io::Result<Self> {
         stream.set_read_timeout(Some(Duration::from_millis(READ_WAITS)))?;
         stream.set_write_timeout(Some(Duration::from_millis(WRITE_WAITS)))?;
         stream.set_nodelay(true)?;
         Ok(Connection {
             stream,
             ahead: Ahead::new(alloc),
+            granted: 0,
             conduct,
         })
     }
 
-    pub(crate) fn conduct(&self) -> Option<&Conduct> {
-        self.conduct.as_ref()
+    pub(crate) fn conduct(&self) -> Conduct
+        ensures { result ≡ self.now.conduct }
+    {
+        self.conduct
+    }
+
+    pub(crate) fn judged(&mut self, judgement: Judgement, now: Millis)
+        ensures { self.new.conduct ≡ after_judgement self.old.conduct judgement now }
+    {
+        self.conduct.judged(judgement, now);
+    }
+
+    /// Some of what was read ahead may be given now.
+    pub(crate) fn has_some(&mut self, now: Millis) -> bool
+        ensures some { result ≡ nat_lt 0 self.new.granted }
+        ensures ahead { self.new.ahead ≡ self.old.ahead }
+    {
+        if self.granted > 0 {
+            return true;
+        }
+        self.granted = grant(&mut self.conduct, self.ahead.bytes(), MOST_FRAMES, now);
+        self.granted > 0
+    }
+
+    /// The same, once what has come was read ahead too.
+    pub(crate) fn catches_up(&mut self, now: Millis) -> io::Result<bool> {
+        self.read_piece_ahead(PIECE)?;
+        Ok(self.has_some(now))
     }
 
     /// Reads the next bytes, at least one if there is room, or none at the connection's end.
@@ -71,39 +117,59 @@ impl<S: Read + Write + OpenStream + Drop> Connection<S> {
         ensures same { length room.new ≡ length room.old }
         ensures fits { IfOk result (λ count. count ≤ length room.new) }
     {
-        let given = self.ahead.give(room);
-        if given > 0 {
-            // The peer may still be writing, and is to go on as fast as its bytes are given.
-            self.read_piece_ahead(clock, room.len())?;
-            return Ok(given);
+        if !self.has_some(millis_of(clock)?) && !self.fetch(clock)? {
+            return Ok(0);
         }
-        let count = read_gathering(&mut self.stream, clock, room)?;
-        if self.hear(clock, &room[..count])? {
-            Ok(count)
-        } else {
-            Ok(0)
+        if self.has_some(millis_of(clock)?) {
+            return self.give(room);
         }
+        Err(io::Error::from(ErrorKind::WouldBlock))
     }
 
-    /// Hears what has come, and says whether a caller may send so much.
-    fn hear<C: Clock>(&mut self, clock: &C, bytes: &[u8]) -> io::Result<bool> {
-        match &mut self.conduct {
-            Some(conduct) => Ok(conduct.hear(bytes, millis_of(clock)?)),
-            None => Ok(true),
+    /// Gives what may be given. If much is ahead, the peer may still be writing, and is to go on as fast as its bytes are
+    /// given.
+    fn give(&mut self, room: &mut [u8]) -> io::Result<usize>
+        ensures same { length room.new ≡ length room.old }
+        ensures fits { IfOk result (λ count. count ≤ length room.new) }
+    {
+        let most = self.granted.min(room.len());
+        let given = self.ahead.give(&mut room[..most]);
+        self.granted = self.granted.saturating_sub(given);
+        if self.ahead.len() >= PIECE && self.may_read_ahead() {
+            self.read_piece_ahead(given)?;
         }
+        Ok(given)
+    }
+
+    /// Waits for what comes next and reads it ahead, or for what is held back. It says whether more may come.
+    fn fetch<C: Clock>(&mut self, clock: &C) -> io::Result<bool> {
+        if self.is_held_back() {
+            self.read_ahead()?;
+            thread::sleep(clock, Duration::from_millis(HOLDS));
+            return Ok(true);
+        }
+        let mut piece = [0; PIECE];
+        let count = read_gathering(&mut self.stream, clock, &mut piece)?;
+        self.ahead.put(&piece[..count])?;
+        Ok(count > 0)
+    }
+
+    /// What stands next is a whole frame.
+    fn is_held_back(&self) -> bool {
+        matches!(split(self.ahead.bytes()), Parted::Whole(_))
     }
 
     /// Writes some of the piece, and reads ahead while it can't.
-    pub(crate) fn write<C: Clock>(&mut self, clock: &C, piece: &[u8]) -> io::Result<usize>
+    pub(crate) fn write(&mut self, piece: &[u8]) -> io::Result<usize>
         ensures { IfOk result (λ count. count ≤ length piece.now) }
     {
         let mut left = FRUITLESS_WAITS;
-        for _ in 0..MOST_WAITS {
+        for _ in 0..most_waits(self.conduct.manner()) {
             match write_uninterrupted(&mut self.stream, piece) {
                 Err(error) if is_late(error.kind()) => {}
                 answer => return answer,
             }
-            left = if self.read_ahead(clock)? {
+            left = if self.read_ahead()? {
                 FRUITLESS_WAITS
             } else {
                 left.saturating_sub(1)
@@ -115,11 +181,15 @@ impl<S: Read + Write + OpenStream + Drop> Connection<S> {
         Err(io::Error::from(ErrorKind::TimedOut))
     }
 
+    fn may_read_ahead(&self) -> bool {
+        self.ahead.len() < most_ahead(self.conduct.manner())
+    }
+
     /// Reads ahead what has come, and says whether any has.
-    fn read_ahead<C: Clock>(&mut self, clock: &C) -> io::Result<bool> {
+    fn read_ahead(&mut self) -> io::Result<bool> {
         let before = self.ahead.len();
         for _ in 0..PIECES {
-            if self.ahead.len() >= MOST_AHEAD || self.read_piece_ahead(clock, PIECE)? == 0 {
+            if !self.may_read_ahead() || self.read_piece_ahead(PIECE)? == 0 {
                 break;
             }
         }
@@ -127,15 +197,52 @@ impl<S: Read + Write + OpenStream + Drop> Connection<S> {
     }
 
     /// Reads ahead what has come, at most this many bytes and no more than a piece, and says how many they are.
-    fn read_piece_ahead<C: Clock>(&mut self, clock: &C, most: usize) -> io::Result<usize> {
+    fn read_piece_ahead(&mut self, most: usize) -> io::Result<usize> {
         let mut piece = [0; PIECE];
         let count = read_at_hand(&mut self.stream, &mut piece[..most.min(PIECE)])?;
-        if !self.hear(clock, &piece[..count])? {
-            return Err(io::Error::from(ErrorKind::ConnectionAborted));
-        }
         self.ahead.put(&piece[..count])?;
         Ok(count)
     }
+}
+
+/// After this many waits a write fails in any case.
+fn most_waits(manner: Manner) -> u32
+    ensures { result ≡ most_waits manner }
+{
+    match manner {
+        Manner::Member => MOST_WAITS,
+        Manner::New | Manner::Shown | Manner::Unlisted | Manner::Forger => MOST_WAITS_AT_FIRST,
+    }
+}
+
+/// How many bytes may be read ahead.
+fn most_ahead(manner: Manner) -> usize
+    ensures { result ≡ most_ahead manner }
+{
+    match manner {
+        Manner::New | Manner::Shown | Manner::Member => MOST_AHEAD,
+        Manner::Unlisted | Manner::Forger => MOST_AHEAD_OF_OTHERS,
+    }
+}
+
+/// How many of these bytes may be given: the first whole frames, as far as they may, at most so many, and all of what
+/// begins no frame, since that ends the session.
+fn grant(conduct: &mut Conduct, bytes: &[u8], most: u32, now: Millis) -> usize
+    ensures granted { result ≡ (granted_of most conduct.old bytes.now now).count }
+    ensures noted { conduct.new ≡ (granted_of most conduct.old bytes.now now).peer }
+{
+    if most == 0 {
+        return 0;
+    }
+    let length = match split(bytes) {
+        Parted::Whole(raw) => raw.length.min(bytes.len()),
+        Parted::Need(_) => return 0,
+        Parted::Refused(_) => return bytes.len(),
+    };
+    if !conduct.gives(&bytes[..length], now) {
+        return 0;
+    }
+    length + grant(conduct, &bytes[length..], most - 1, now)
 }
 
 /// Reads the next bytes, and once some came waits for more.

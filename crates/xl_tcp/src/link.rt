@@ -5,7 +5,7 @@ use crate::address::Address;
 use crate::allowance::Allowance;
 use crate::answers::{opening_of, reading_of, writing_of};
 use crate::callers::Callers;
-use crate::conduct::{Conduct, greetings};
+use crate::conduct::{Conduct, Manner, greetings};
 use crate::connection::Connection;
 use crate::moments::millis_of;
 use std::alloc::Global;
@@ -14,20 +14,11 @@ use std::net::{Net, OpenListener, OpenStream, SocketAddr};
 use std::time::{Clock, Duration};
 use xl_base::Millis;
 use xl_io::Wrote;
-use xl_links::{Link, LinkRead, Opening};
+use xl_links::{Judgement, Link, LinkRead, Opening};
 
 /// How long a dial waits for its answer, in milliseconds. With the second that passes before the next opening, a node
 /// that is to stop is held for less than two.
 const PATIENCE: u64 = 900;
-
-/// For how long a caller may send no whole frame, in milliseconds.
-const SILENCE: Millis = 60_000;
-
-/// The same while another is ready. A member whose network stands still sends a frame in 17 seconds.
-const SILENCE_BEFORE_OTHERS: Millis = 20_000;
-
-/// The same of one that has sent no whole frame yet.
-const SILENCE_AT_FIRST: Millis = 2000;
 
 /// A link to one member over TCP, with one connection at a time. What it gives and takes isn't told.
 ///
@@ -41,9 +32,11 @@ const SILENCE_AT_FIRST: Millis = 2000;
 /// A read or a write that is interrupted is made again. If no connection was opened, a read answers End and a write
 /// fails.
 ///
-/// Anybody can call, and the link knows no key. So it lets go of a caller that sends more than a member does, and of
-/// one that has sent no whole frame for a minute. While another is ready the bound is 20 seconds, and two seconds if
-/// it never sent one. A read then says that no more bytes come.
+/// Anybody can call or answer, and the link knows no key. So it gives one frame of a peer, and waits until that is
+/// judged. It lets go of whoever forged a frame, and of one that has sent no whole frame for a minute, or none at all for
+/// five. While another is ready, a peer has 20 seconds from the latest fresh frame on, and two seconds at first; a
+/// greeting's headers count too, for five minutes. A read then says that no more bytes come. What comes faster than a member says things is
+/// held back: a read answers Idle until it may be given.
 #[derive(Drop)]
 pub struct TcpLink<R: Net> {
     alloc: Global,
@@ -82,74 +75,66 @@ impl<R: Net + Clock + Drop> TcpLink<R> {
     fn connect(&mut self) -> io::Result<Connection<R::Stream>>
         ensures faults { self.new.faults ≡ self.old.faults }
     {
-        match &self.address {
-            Address::Dialled(addr) => {
-                let stream = dial(&self.net, *addr)?;
-                Connection::new(self.alloc, stream, None)
-            }
+        let now = millis_of(&self.net)?;
+        let stream = match &self.address {
+            Address::Dialled(addr) => dial(&self.net, *addr)?,
             Address::Bound(listener) => {
-                let now = millis_of(&self.net)?;
                 self.callers.admit(listener, now)?;
-                self.serve_next(now)
+                next_of(&mut self.callers)?
             }
-        }
-    }
-
-    /// Serves the next caller.
-    fn serve_next(&mut self, now: Millis) -> io::Result<Connection<R::Stream>>
-        ensures faults { self.new.faults ≡ self.old.faults }
-    {
-        let Some(stream) = self.callers.next() else {
-            return Err(io::Error::from(ErrorKind::WouldBlock));
         };
-        stream.set_nonblocking(false)?;
         let left = self.greetings.unwrap_or(greetings(now));
-        let conduct = Conduct::new(self.alloc, left, now).map_err(|_| io::Error::from(
-            ErrorKind::OutOfMemory,
-        ))?;
-        Connection::new(self.alloc, stream, Some(conduct))
+        Connection::new(self.alloc, stream, Conduct::new(left, now))
     }
 
-    /// Lets go of the connection, and keeps what callers may still greet with.
+    /// Lets go of the connection, and keeps what members may still greet with.
     fn leave(&mut self)
         ensures faults { self.new.faults ≡ self.old.faults }
     {
         if let Some(connection) = &self.connection {
-            if let Some(conduct) = connection.conduct() {
-                self.greetings = Some(conduct.greetings());
-            }
+            self.greetings = Some(connection.conduct().greetings());
         }
         self.connection = None;
     }
 
-    /// The caller that is served has been silent for too long.
-    fn is_overdue(&mut self) -> io::Result<bool>
+    /// The connection is to end: its peer forged a frame, was silent for too long, or makes room for another.
+    fn is_over(&mut self) -> io::Result<bool>
         ensures faults { self.new.faults ≡ self.old.faults }
     {
         let now = millis_of(&self.net)?;
-        let silence = self.silence(now);
-        if silence < self.silence_before_others() {
-            return Ok(false);
+        let Some(connection) = &self.connection else {
+            return Ok(true);
+        };
+        let conduct = connection.conduct();
+        match conduct.manner() {
+            Manner::Forger => Ok(true),
+            // What has come while something was written to it counts.
+            _ if conduct.is_silent(now) && !self.catches_up(now)? => Ok(true),
+            Manner::New => Ok(
+                conduct.is_over(now) && self.is_any_ready(now)? && !self.catches_up(now)?,
+            ),
+            _ => Ok(conduct.is_over(now) && self.is_any_ready(now)?),
         }
+    }
+
+    /// Another has called, and shown a frame.
+    fn is_any_ready(&mut self, now: Millis) -> io::Result<bool>
+        ensures faults { self.new.faults ≡ self.old.faults }
+    {
         if let Address::Bound(listener) = &self.address {
             self.callers.admit(listener, now)?;
         }
-        Ok(silence >= SILENCE || self.callers.is_any_ready())
+        Ok(self.callers.is_any_ready())
     }
 
-    /// For how long the caller that is served may be silent while another is ready.
-    fn silence_before_others(&self) -> Millis {
-        let conduct = self.connection.as_ref().and_then(|it| it.conduct());
-        match conduct.map_or(true, |it| it.has_shown()) {
-            true => SILENCE_BEFORE_OTHERS,
-            false => SILENCE_AT_FIRST,
+    /// What has come meanwhile may be given.
+    fn catches_up(&mut self, now: Millis) -> io::Result<bool>
+        ensures faults { self.new.faults ≡ self.old.faults }
+    {
+        match &mut self.connection {
+            Some(connection) => connection.catches_up(now),
+            None => Ok(false),
         }
-    }
-
-    /// For how long a caller that is served has sent no whole frame.
-    fn silence(&self, now: Millis) -> Millis {
-        let conduct = self.connection.as_ref().and_then(|it| it.conduct());
-        conduct.map_or(0, |it| it.silence(now))
     }
 }
 
@@ -168,7 +153,7 @@ impl<R: Net + Clock + Drop> Link for TcpLink<R> {
     }
 
     fn read(&mut self, room: &mut [u8]) -> LinkRead {
-        if self.is_overdue().unwrap_or(false) {
+        if self.is_over().unwrap_or(false) {
             return LinkRead::End;
         }
         let answer = match &mut self.connection {
@@ -183,7 +168,7 @@ impl<R: Net + Clock + Drop> Link for TcpLink<R> {
 
     fn write(&mut self, piece: &[u8]) -> Wrote {
         let answer = match &mut self.connection {
-            Some(connection) => writing_of(connection.write(&self.net, piece)),
+            Some(connection) => writing_of(connection.write(piece)),
             None => Wrote::Failed,
         };
         if answer == Wrote::Failed {
@@ -191,6 +176,21 @@ impl<R: Net + Clock + Drop> Link for TcpLink<R> {
         }
         answer
     }
+
+    fn judged(&mut self, judgement: Judgement) {
+        if let (Some(connection), Ok(now)) = (&mut self.connection, millis_of(&self.net)) {
+            connection.judged(judgement, now);
+        }
+    }
+}
+
+/// The next caller's stream, which waits from now on.
+fn next_of<S: OpenStream + Drop>(callers: &mut Callers<S>) -> io::Result<S> {
+    let Some(stream) = callers.next() else {
+        return Err(io::Error::from(ErrorKind::WouldBlock));
+    };
+    stream.set_nonblocking(false)?;
+    Ok(stream)
 }
 
 /// A call to a port of this machine at which nobody listens may be given that very port, and would answer itself.

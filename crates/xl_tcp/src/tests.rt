@@ -6,7 +6,7 @@ use std::time::{self, Duration};
 use std::{io, thread};
 use xl_base::{GREATEST_MILLIS, NodeNo};
 use xl_io::Wrote;
-use xl_links::{Clock, Hub, Link, LinkRead, Opening, Way};
+use xl_links::{Clock, Hub, Judgement, Link, LinkRead, Opening, Way};
 
 #[test]
 fn the_clock_gives_a_moment_of_this_century(rt: HostRuntime) -> Result<(), Fail> {
@@ -175,6 +175,15 @@ fn byte_at(place: usize) -> u8 {
 /// The frame with which a peer begins.
 fn front() -> [u8; FRAME] {
     let mut bytes = [0; FRAME];
+    for (place, byte) in bytes.iter_mut().enumerate() {
+        *byte = byte_at(place);
+    }
+    bytes
+}
+
+/// The beginning of that frame.
+fn begun() -> [u8; 48] {
+    let mut bytes = [0; 48];
     for (place, byte) in bytes.iter_mut().enumerate() {
         *byte = byte_at(place);
     }
@@ -366,8 +375,19 @@ fn gives_frames<L: Link>(link: &mut L, frame: &[u8], count: u32) -> u32 {
     count
 }
 
+/// Reads this many frames, each as long as the room, and says how many came before one didn't.
+fn takes_frames<L: Link>(link: &mut L, room: &mut [u8], count: u32) -> u32 {
+    for taken in 0..count {
+        if link.read(room) != LinkRead::Got(room.len()) {
+            return taken;
+        }
+        link.judged(Judgement::Fresh);
+    }
+    count
+}
+
 #[test]
-fn who_sends_too_much_is_let_go(rt: HostRuntime) -> Result<(), Fail> {
+fn who_sends_too_much_is_held_back(rt: HostRuntime) -> Result<(), Fail> {
     let clock = SystemClock::new(rt.clone()?);
     let Some((mut listening, mut dialling)) = pair(&rt)? else {
         return Err(Fail::from("no link on loopback"));
@@ -376,15 +396,101 @@ fn who_sends_too_much_is_let_go(rt: HostRuntime) -> Result<(), Fail> {
     gives_frames(&mut dialling, &front(), 200);
     assert!(rt; opens(&clock, &mut listening));
     let mut room = [0; FRAME];
-    let mut came = 0u32;
-    for _ in 0..200 {
-        if listening.read(&mut room) != LinkRead::Got(FRAME) {
+    let began = clock.now();
+    assert_eq!(rt; takes_frames(&mut listening, &mut room, 64), 64);
+    let soon = clock.now();
+    assert_eq!(rt; takes_frames(&mut listening, &mut room, 136), 136);
+    let late = clock.now();
+    // Some come at once, and then 25 each second at most.
+    assert!(rt; soon.saturating_sub(began) < 2000);
+    assert!(rt; late.saturating_sub(began) > 3000);
+    Ok(())
+}
+
+#[test]
+fn a_stranger_shows_one_frame_until_that_is_judged(rt: HostRuntime) -> Result<(), Fail> {
+    let clock = SystemClock::new(rt.clone()?);
+    let Some((mut listening, mut dialling)) = pair(&rt)? else {
+        return Err(Fail::from("no link on loopback"));
+    };
+    assert!(rt; opens(&clock, &mut dialling));
+    gives_frames(&mut dialling, &front(), 3);
+    assert!(rt; opens(&clock, &mut listening));
+    let mut room = [0; 2 * FRAME];
+    assert!(rt; listening.read(&mut room) == LinkRead::Got(FRAME));
+    assert!(rt; listening.read(&mut room) == LinkRead::Idle);
+    listening.judged(Judgement::Known);
+    assert!(rt; listening.read(&mut room) == LinkRead::Got(2 * FRAME));
+    listening.judged(Judgement::Forged);
+    assert!(rt; listening.read(&mut room) == LinkRead::End);
+    Ok(())
+}
+
+#[test]
+fn a_peer_that_was_dialled_is_judged_too(rt: HostRuntime) -> Result<(), Fail> {
+    let clock = SystemClock::new(rt.clone()?);
+    let Some((mut listening, mut dialling)) = pair(&rt)? else {
+        return Err(Fail::from("no link on loopback"));
+    };
+    assert!(rt; opens(&clock, &mut dialling));
+    assert!(rt; opens(&clock, &mut listening));
+    gives_frames(&mut listening, &front(), 3);
+    let mut room = [0; 2 * FRAME];
+    assert!(rt; dialling.read(&mut room) == LinkRead::Got(FRAME));
+    assert!(rt; dialling.read(&mut room) == LinkRead::Idle);
+    dialling.judged(Judgement::Forged);
+    assert!(rt; dialling.read(&mut room) == LinkRead::End);
+    Ok(())
+}
+
+#[test]
+fn frames_that_tell_nothing_make_room_for_another(rt: HostRuntime) -> Result<(), Fail> {
+    let clock = SystemClock::new(rt.clone()?);
+    let Some((mut listening, mut gone)) = pair(&rt)? else {
+        return Err(Fail::from("no link on loopback"));
+    };
+    let mut stranger = another(&rt, &listening)?;
+    let mut member = another(&rt, &listening)?;
+    assert!(rt; opens(&clock, &mut gone));
+    drop(gone);
+    assert!(rt; gives(&clock, &mut stranger, &front()));
+    assert!(rt; opens(&clock, &mut listening));
+    assert!(rt; gives(&clock, &mut member, &front()));
+    let mut room = [0; FRAME];
+    for _ in 0..8 {
+        // A whole frame each half second doesn't lengthen its time, since nothing of it was taken.
+        stranger.write(&front());
+        if listening.read(&mut room) == LinkRead::End {
             break;
         }
-        came = came.saturating_add(1);
+        listening.judged(Judgement::Unlisted);
+        clock.wait(500);
     }
-    assert!(rt; 64 < came && came < 200);
     assert!(rt; listening.read(&mut room) == LinkRead::End);
+    assert_eq!(rt; takes(&clock, &mut listening, &mut room), FRAME);
+    Ok(())
+}
+
+#[test]
+fn fronts_of_frames_keep_nobody_out(rt: HostRuntime) -> Result<(), Fail> {
+    let clock = SystemClock::new(rt.clone()?);
+    let Some((mut listening, mut gone)) = pair(&rt)? else {
+        return Err(Fail::from("no link on loopback"));
+    };
+    assert!(rt; opens(&clock, &mut gone));
+    drop(gone);
+    let mut strangers = Vec::new(rt.alloc());
+    for _ in 0..12 {
+        let mut stranger = another(&rt, &listening)?;
+        assert!(rt; gives(&clock, &mut stranger, &begun()));
+        strangers.push(stranger)?;
+    }
+    let mut member = another(&rt, &listening)?;
+    assert!(rt; gives(&clock, &mut member, &front()));
+    clock.wait(50);
+    assert!(rt; opens(&clock, &mut listening));
+    let mut room = [0; FRAME];
+    assert!(rt; listening.read(&mut room) == LinkRead::Got(FRAME));
     Ok(())
 }
 
@@ -406,6 +512,7 @@ fn a_greeting_may_be_long(rt: HostRuntime) -> Result<(), Fail> {
     for sequence in 1..=1000u32 {
         assert!(rt; listening.read(&mut room) == LinkRead::Got(164));
         assert!(rt; &room[14..18] == sequence.to_be_bytes().as_slice());
+        listening.judged(Judgement::Known);
     }
     Ok(())
 }

@@ -2,18 +2,20 @@ ghost use Rattle.std.specs.Prelude.{◌≡◌, ◌≢◌, ◌⊎◌, ℕ, None, 
 ghost use Rattle.xl_base.specs.Faults.{Rose};
 ghost use Rattle.xl_gen.specs.Summaries.{IsSummary};
 ghost use Rattle.xl_lines.specs.declared.machine.Verdict.TheVariants.{Refused};
-ghost use Rattle.xl_replay.specs.Headlines.{names_of, IsReport, IsRefusal};
+ghost use Rattle.xl_replay.specs.Headlines.{names_of, world_after, IsReport, IsRefusal};
 ghost use Rattle.xl_replay.specs.Replays.{report_of};
-ghost use Rattle.xl_top.specs.Commands.{asked_of, told_of, ReadsNothing};
+ghost use Rattle.xl_top.specs.Commands.{asked_of, told_of, promise_by};
 ghost use Rattle.xl_top.specs.Nodes.{EndsSo};
-ghost use Rattle.xl_top.specs.Texts.{WritesText, HasCause, streams};
+ghost use Rattle.xl_top.specs.Texts.{WritesText, HasCause};
+ghost use Rattle.xl_texts.specs.Promises.{nothing};
+ghost use Rattle.xl_texts.specs.Streams.{streams};
 ghost use Rattle.xl_top.specs.Undone.{IsUndone};
 ghost use Rattle.xl_workers.specs.Linking.{hub_seen};
 ghost use Rattle.xl_validator.specs.Ends.{IsQuiet};
 ghost use Rattle.xl_validator.specs.Validators.{Judges, between};
 ghost use Rattle.xl_words.specs.Commands.{words_of};
 
-use crate::running::run;
+use crate::running::write_text;
 use std::sync::Wait;
 use std::thread::Threads;
 use xl_base::Status;
@@ -43,23 +45,23 @@ pub fn top<
     keeper: K,
     hub: &mut H,
 ) -> Ended<K>
-    // Words that ask nothing are refused, and only they, and then nothing is read or written.
-    ensures words { result.status ≡ Status.WordsRefused
-        → (asked_of (words_of words.now) ≡ None) × (input.new ≡ input.old) × (output.new ≡ output.old) }
+    // Words that ask nothing are refused, and only they, or memory runs out. Nothing is read or written then.
+    ensures words { result.status ≡ Status.WordsRefused → asked_of (words_of words.now) ≡ None }
     ensures unasked { asked_of (words_of words.now) ≡ None
-        → (result.status ≡ Status.WordsRefused) ⊎ (result.status ≡ Status.OutOfMemory) }
+        → ((result.status ≡ Status.WordsRefused) ⊎ (result.status ≡ Status.OutOfMemory))
+        × (input.new ≡ input.old) × (output.new ≡ output.old) }
     // Of the commands that write a text: what is written, and what the status says of it.
     ensures text { IfSome (told_of (words_of words.now)) (λ telling. WritesText telling
         (streams (I.left input.old) (I.faults input.old) (O.held output.old) (O.faults output.old))
         (streams (I.left input.new) (I.faults input.new) (O.held output.new) (O.faults output.new)) result.status) }
     // `gen`, help and the version read nothing.
     ensures unread { IfSome (told_of (words_of words.now)) (λ telling.
-        ReadsNothing telling → input.new ≡ input.old) }
+        (promise_by telling).reads ≡ nothing → input.new ≡ input.old) }
     // Unless a line is refused, the report of a replay is lines in which, if it says `forged 0`, no two `full` lines
     // of a pair with no `short` line share a sequence and stand for different ids, by the names that the schedule
     // declares. The last of them says whether the reports that the `full` lines tell agree, or names the first fork.
     ensures headline { IfSome (I.left input.old) (λ bytes.
-        (report_of bytes).verdict ≢ Refused → IsReport (names_of bytes) (report_of bytes)) }
+        (report_of bytes).verdict ≢ Refused → IsReport (names_of bytes) (world_after bytes) (report_of bytes)) }
     // A report that is refused ends with a `bad` line.
     ensures refusal { IfSome (I.left input.old) (λ bytes.
         (report_of bytes).verdict ≡ Refused → IsRefusal (report_of bytes).text) }
@@ -98,7 +100,7 @@ pub fn top<
 {
     match Command::of(host.alloc, words) {
         Ok(Command::Tell(telling)) => {
-            Ended::unopened(run(host.alloc, telling, input, output), keeper)
+            Ended::unopened(write_text(host.alloc, telling, input, output), keeper)
         }
         Ok(Command::Node) => validator(host, input, output, keeper, hub),
         Err(WordsFault::Refused) => Ended::unopened(Status::WordsRefused, keeper),

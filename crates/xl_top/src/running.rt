@@ -1,32 +1,31 @@
 // A text that a command writes, from its input to its status.
-ghost use Rattle.std.specs.Prelude.{◌≡◌, min, IfOk, IsErrOf};
-ghost use Rattle.xl_gen.specs.Sizes.{most_rounds};
+ghost use Rattle.std.specs.Prelude.{◌≡◌};
 ghost use Rattle.xl_base.specs.Faults.{Rose};
-ghost use Rattle.xl_gen.specs.Summaries.{summary};
-ghost use Rattle.xl_io.specs.Sinks.{GrewByFront, GrewByLess};
-ghost use Rattle.xl_lines.specs.Running.{TellsAll};
-ghost use Rattle.xl_replay.specs.Statuses.{IsReplayed};
-ghost use Rattle.xl_top.specs.Commands.{ReadsNothing};
-ghost use Rattle.xl_top.specs.Texts.{WritesText, HasCause, streams};
+ghost use Rattle.xl_texts.specs.Keeps.{Keeps};
+ghost use Rattle.xl_texts.specs.Promises.{nothing};
+ghost use Rattle.xl_texts.specs.Streams.{streams};
+ghost use Rattle.xl_top.specs.Commands.{promise_by};
+ghost use Rattle.xl_top.specs.Statuses.{IsAnswered};
+ghost use Rattle.xl_top.specs.Texts.{WritesText, HasCause};
 
 use crate::ending::status_after;
-use crate::telling::{help, version};
+use crate::telling::{help, made, version};
 use std::alloc::Global;
-use xl_audit::audit;
+use xl_audit::Audit;
 use xl_base::Status;
-use xl_gen::{MOST_ROUNDS, generate};
 use xl_io::{Sink, Source};
 use xl_lines::{Fault, Verdict};
-use xl_merge::merge;
-use xl_negative::negative;
-use xl_pairs::lists;
-use xl_replay::replay;
-use xl_show::show;
-use xl_voting::flags;
+use xl_merge::Merge;
+use xl_negative::Negative;
+use xl_pairs::Lists;
+use xl_replay::Replay;
+use xl_show::Show;
+use xl_texts::{tell, tell_at_once};
+use xl_voting::Flags;
 use xl_words::Telling;
 
-/// Writes a text.
-pub fn run<I: Source, O: Sink>(
+/// Writes a text, without any of what a node needs. It ends whatever the input has.
+pub fn write_text<I: Source, O: Sink>(
     alloc: Global,
     telling: Telling,
     input: &mut I,
@@ -38,32 +37,34 @@ pub fn run<I: Source, O: Sink>(
     ensures cause { HasCause result (Rose (I.faults input.old) (I.faults input.new))
         (Rose (O.faults output.old) (O.faults output.new)) ⊥ ⊥ }
     // A command that needs no input reads none.
-    ensures unread { ReadsNothing telling → input.new ≡ input.old }
-    ensures known { IsReplayed result }
+    ensures unread { (promise_by telling).reads ≡ nothing → input.new ≡ input.old }
+    ensures known { IsAnswered result }
 {
-    match telling {
-        Telling::Replay => replay(alloc, input, output),
-        Telling::Show => status_after(show(alloc, input, output)),
-        Telling::Lists => status_after(lists(alloc, input, output)),
-        Telling::Merge => status_after(merge(alloc, input, output)),
-        Telling::Audit => status_after(audit(alloc, input, output)),
-        Telling::Flags => status_after(flags(alloc, input, output)),
-        Telling::Negative => status_after(negative(alloc, input, output)),
-        Telling::Help => status_after(help(alloc, output)),
-        Telling::Version => status_after(version(alloc, output)),
-        Telling::Gen(rounds) => status_after(make(alloc, rounds, output)),
-    }
+    status_after(told(alloc, telling, input, output))
 }
 
-/// Makes the schedule of this many rounds, or of the most.
-fn make<O: Sink>(alloc: Global, rounds: u32, output: &mut O) -> Result<Verdict, Fault>
-    ensures whole { IfOk result (λ verdict. TellsAll (O.held output.old) (O.held output.new) verdict
-        (summary (min rounds most_rounds))) }
-    ensures front { GrewByFront (O.held output.old) (O.held output.new) (summary (min rounds most_rounds)).text }
-    ensures less { IsErrOf result Fault.Write → GrewByLess (O.held output.old) (O.held output.new)
-        (summary (min rounds most_rounds)).text }
-    ensures read { IsErrOf result Fault.Read → ⊥ }
-    ensures write { IsErrOf result Fault.Write → Rose (O.faults output.old) (O.faults output.new) }
+/// The same, with how it ended.
+fn told<I: Source, O: Sink>(
+    alloc: Global,
+    telling: Telling,
+    input: &mut I,
+    output: &mut O,
+) -> Result<Verdict, Fault>
+    ensures keeps { Keeps (promise_by telling)
+        (streams (I.left input.old) (I.faults input.old) (O.held output.old) (O.faults output.old))
+        (streams (I.left input.new) (I.faults input.new) (O.held output.new) (O.faults output.new)) result }
+    ensures unread { (promise_by telling).reads ≡ nothing → input.new ≡ input.old }
 {
-    generate(alloc, rounds.min(MOST_ROUNDS), output)
+    match telling {
+        Telling::Replay => tell::<Replay, I, O>(alloc, input, output),
+        Telling::Show => tell::<Show, I, O>(alloc, input, output),
+        Telling::Lists => tell_at_once::<Lists, I, O>(alloc, input, output),
+        Telling::Merge => tell::<Merge, I, O>(alloc, input, output),
+        Telling::Audit => tell::<Audit, I, O>(alloc, input, output),
+        Telling::Flags => tell::<Flags, I, O>(alloc, input, output),
+        Telling::Negative => tell::<Negative, I, O>(alloc, input, output),
+        Telling::Help => help(alloc, output),
+        Telling::Version => version(alloc, output),
+        Telling::Gen(rounds) => made(alloc, rounds, output),
+    }
 }

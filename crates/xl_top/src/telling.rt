@@ -1,30 +1,28 @@
-// What the program says of itself.
-ghost use Rattle.std.specs.Prelude.{◌≡◌, ◌≢◌, ◌≤◌, IfOk, IfErr, IsErrOf, string_bytes};
-ghost use Rattle.xl_base.specs.Faults.{Rose};
-ghost use Rattle.xl_io.specs.Sinks.{GrewByFront, GrewByLess};
+// What the program says without an input.
+ghost use Rattle.std.specs.Prelude.{◌≡◌, min, IfOk, string_bytes};
+ghost use Rattle.xl_gen.specs.Sizes.{most_rounds};
+ghost use Rattle.xl_gen.specs.Summaries.{summary};
 ghost use Rattle.xl_lines.specs.Rules.{closes};
-ghost use Rattle.xl_lines.specs.Running.{TellsAll};
+ghost use Rattle.xl_texts.specs.Keeps.{SaysAlone};
 ghost use Rattle.xl_words.specs.Help.{help_text, version_text};
 
 use std::alloc::Global;
 use xl_base::OutOfMemory;
-use xl_io::{Sink, write_all};
+use xl_gen::{MOST_ROUNDS, generate};
+use xl_io::Sink;
 use xl_lines::{Fault, Verdict};
+use xl_texts::say;
 use xl_words::{push_help, push_version};
 
 /// Writes what each command does, what it reads and writes, and how it may end.
 pub fn help<O: Sink>(alloc: Global, output: &mut O) -> Result<Verdict, Fault>
-    ensures whole { IfOk result (λ verdict. TellsAll (O.held output.old) (O.held output.new) verdict
-        (closes help_text Verdict.Good)) }
-    ensures front { GrewByFront (O.held output.old) (O.held output.new) help_text }
-    ensures less { IsErrOf result Fault.Write → GrewByLess (O.held output.old) (O.held output.new) help_text }
-    ensures good { IfOk result (λ verdict. verdict ≡ Verdict.Good) }
-    ensures read { IsErrOf result Fault.Read → ⊥ }
-    ensures write { IsErrOf result Fault.Write → Rose (O.faults output.old) (O.faults output.new) }
+    ensures { SaysAlone (closes help_text Verdict.Good)
+        (O.held output.old) (O.faults output.old) (O.held output.new) (O.faults output.new) result }
 {
-    let text = the_help(alloc)?;
-    write_all(output, text.as_bytes())?;
-    Ok(Verdict::Good)
+    let Ok(text) = the_help(alloc) else {
+        return Err(Fault::Memory);
+    };
+    say(output, text.as_bytes(), Verdict::Good)
 }
 
 fn the_help(alloc: Global) -> Result<String, OutOfMemory>
@@ -37,17 +35,13 @@ fn the_help(alloc: Global) -> Result<String, OutOfMemory>
 
 /// Writes the program's name and version.
 pub fn version<O: Sink>(alloc: Global, output: &mut O) -> Result<Verdict, Fault>
-    ensures whole { IfOk result (λ verdict. TellsAll (O.held output.old) (O.held output.new) verdict
-        (closes version_text Verdict.Good)) }
-    ensures front { GrewByFront (O.held output.old) (O.held output.new) version_text }
-    ensures less { IsErrOf result Fault.Write → GrewByLess (O.held output.old) (O.held output.new) version_text }
-    ensures good { IfOk result (λ verdict. verdict ≡ Verdict.Good) }
-    ensures read { IsErrOf result Fault.Read → ⊥ }
-    ensures write { IsErrOf result Fault.Write → Rose (O.faults output.old) (O.faults output.new) }
+    ensures { SaysAlone (closes version_text Verdict.Good)
+        (O.held output.old) (O.faults output.old) (O.held output.new) (O.faults output.new) result }
 {
-    let text = the_version(alloc)?;
-    write_all(output, text.as_bytes())?;
-    Ok(Verdict::Good)
+    let Ok(text) = the_version(alloc) else {
+        return Err(Fault::Memory);
+    };
+    say(output, text.as_bytes(), Verdict::Good)
 }
 
 fn the_version(alloc: Global) -> Result<String, OutOfMemory>
@@ -56,4 +50,12 @@ fn the_version(alloc: Global) -> Result<String, OutOfMemory>
     let mut text = String::new(alloc);
     push_version(&mut text)?;
     Ok(text)
+}
+
+/// Makes the schedule of this many rounds, or of the most, and writes its summary.
+pub fn made<O: Sink>(alloc: Global, rounds: u32, output: &mut O) -> Result<Verdict, Fault>
+    ensures { SaysAlone (summary (min rounds most_rounds))
+        (O.held output.old) (O.faults output.old) (O.held output.new) (O.faults output.new) result }
+{
+    generate(alloc, rounds.min(MOST_ROUNDS), output)
 }

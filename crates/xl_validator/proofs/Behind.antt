@@ -1,5 +1,5 @@
 -- What a command leaves whose journal is written behind its run, and one whose journal isn't.
-use Rattle.std.proofs.Common.{◌≡◌, ◌≢◌, ℕ, ◌≤◌, Bool, true, false, List, length, Option, Some, None, IfSome, refl, sym, ap, ◌∙◌, subst, arith, inl, inr}
+use Rattle.std.proofs.Common.{◌≡◌, ◌≢◌, ℕ, ◌≤◌, Bool, true, false, List, length, Option, Some, None, Result, Ok, Err, IfSome, IfOk, MatchResult, refl, sym, ap, ◌∙◌, subst, arith, inl, inr}
 use Rattle.std.specs.Prelude.{◌⊎◌, IsSome, is_some}
 use Rattle.xl_base.specs.Faults.{Rose}
 use Rattle.xl_base.specs.declared.status.Status.{Status}
@@ -10,6 +10,7 @@ use Rattle.xl_turns.specs.Histories.{IsLegal}
 use Rattle.xl_core.specs.Core.{Core}
 use Rattle.xl_store.specs.declared.entry.Entry.{Entry}
 use Rattle.xl_store.specs.Entries.{Leads}
+use Rattle.xl_store.specs.Pages.{entries_if}
 use Rattle.xl_heartbeat.specs.Outputs.{Output}
 use Rattle.xl_audit.specs.Journals.{journal_text, start_of}
 use Rattle.xl_audit.specs.Rereading.{SaysYes}
@@ -22,6 +23,7 @@ use Rattle.xl_validator.specs.Preparing.{Leaves}
 use Rattle.xl_validator.specs.Recordings.{IsWritten, is_over, is_written, text_of}
 use Rattle.xl_validator.specs.Validators.{Between, Goes, HasRecorded, HasRun, IsOfNode, IsUnopened, Loads}
 use Rattle.xl_validator.proofs.SettingLists.{are_set}
+use Rattle.xl_validator.proofs.Ending.{by_time, by_full, by_beats}
 
 over_of : (asked : Bool) (ended : Status) → is_written asked ended ≡ true → is_over ended ≡ true
 over_of true ended is = is
@@ -90,7 +92,8 @@ module _ {K O : Type 0}
   -- what `start` promises of how it ends
   pub record Ends : Type 0 where
     pub runs : IfSome journal (Ran at_end end)
-    pub unopened : journal ≡ None → (IsUnopened end × (saves_of new ≡ saves_of old) × (end_output ≡ old_output)) ⊎ Recorded
+    pub unopened : journal ≡ None → (IsUnopened end × (saves_of new ≡ saves_of old) × (new_hub ≡ old_hub)
+        × (end_output ≡ old_output)) ⊎ Recorded
     pub known : IsOfNode end
     pub write : end ≡ status.WriteFault → Rose before.faults after.faults
     pub keeper : end ≢ status.KeepFault
@@ -126,6 +129,7 @@ module _ {K O : Type 0}
       unopened = λ none. inl (
         subst IsUnopened (sym is) (leaves.opened (sym handed ∙ none)),
         ap saves_of (same ∙ leaves.unsaved (sym handed ∙ none)) ∙ loads.saves,
+        leaves.unlinked (sym handed ∙ none),
         silent ∙ leaves.unopened (sym handed ∙ none),
       );
       known = subst IsOfNode (sym is) leaves.known;
@@ -146,7 +150,7 @@ module _ {K O : Type 0}
         → (is_over end ≡ true → SaysYes (text_of s moment kept history) (length history)) → Ends
     goes_behind history handed asked none text audited =
         let over : is_over ended ≡ true = over_of s.journal ended asked in
-        let goes = at_some GoesSo ran history handed leaves.goes in
+        let run = has_run history (at_some GoesSo ran history handed leaves.goes) in
         record {
           runs = subst (λ (j : Option (List Entry)). IfSome j (Ran at_end end)) (sym none) tt;
           unopened = λ _. inr (record {
@@ -154,8 +158,11 @@ module _ {K O : Type 0}
             ended = ended;
             reported = reported;
             asked = asked;
-            run = has_run history goes;
+            run = run;
             text = text;
+            done = by_time held_by saves_of faults_of load_gives save_gives may_give links old new s moment at_run ended history run;
+            full = by_full held_by saves_of faults_of load_gives save_gives may_give links old new s moment at_run ended history run;
+            beats = by_beats held_by saves_of faults_of load_gives save_gives may_give links old new s moment at_run ended history run;
             yes = audited;
           });
           known = written_known (text_of s moment kept history) ended over end reported after text;
@@ -185,6 +192,19 @@ module _ {K O : Type 0}
               let same = left not_so in
               stays (ap (λ (b : Bool). is_written b ended) (sym is) ∙ not_so) same.0 same.1 same.2 (silent same.2)
         ] refl
+
+-- WHAT WAS KEPT
+
+-- if it was asked, all entries of a run were kept
+pub kept_there : {R S : Type 0} (ran : Result R S) (entries_of : R → Option (List Entry)) (history_of : R → List Entry)
+    (entries journal : Option (List Entry)) (keeps asked : Bool)
+    → MatchResult ran (λ r. entries ≡ entries_of r) (λ _. entries ≡ None)
+    → MatchResult ran (λ r. journal ≡ Some (history_of r)) (λ _. journal ≡ None)
+    → IfOk ran (λ r. entries_of r ≡ entries_if keeps (history_of r))
+    → keeps ≡ asked → asked ≡ true → entries ≡ journal
+kept_there (Ok r) entries_of history_of entries journal keeps asked left handed kept same is =
+    left ∙ kept ∙ ap (λ (b : Bool). entries_if b (history_of r)) (same ∙ is) ∙ sym handed
+kept_there (Err s) entries_of history_of entries journal keeps asked left handed kept same is = left ∙ sym handed
 
 -- WHAT A JOURNAL BEGINS WITH
 

@@ -212,6 +212,44 @@ module _ (s : Setting) (d : Doing) (history : List Entry) where
   pub run_beaten : (e : RunEnd) → NodeRun s d e history → AreBeats d.pulse.publishing H
   run_beaten e run = beaten run.done run.submits e run.submitting run.by
 
+-- of a node by its settings
+module _ {K : Type 0}
+    (held_by : K → Option Held) (saves_of : K → Option (List ℕ)) (faults_of : K → ℕ)
+    (load_gives : K → ℕ → K → Type 0) (save_gives : K → ℕ → Bool → K → Type 0)
+    (may_give : ℕ → Bool) (links : ℕ → Option Wire) (old new : K)
+    (s : Settings) (moment : ℕ) (between : Between) (ended : Status) (history : List Entry)
+    (run : HasRun held_by saves_of faults_of load_gives save_gives s moment may_give links between old new ended history) where
+  abbrev made : List Call
+  made = calls_of (opening_core s moment run.kept) history
+
+  -- status 0
+  pub by_time : ended ≡ status.Done → EndsByTime s moment made
+  by_time is =
+      let t = run_timed _ _ history run.goes.run_end run.goes.run (sym run.goes.is ∙ is) in
+      let bounds = bounded (record { opened = moment; every = s.heartbeat_ms; run = s.run_ms }) t.now t.over in
+      record {
+        earlier = t.last.earlier;
+        now = t.now;
+        beat = t.beat;
+        later = t.last.later;
+        parts = t.last.parts;
+        last = t.last.last;
+        bounded = bounds.0;
+        reached = bounds.1;
+      }
+
+  -- status 9
+  pub by_full : ended ≡ status.StoreFull → EndsFull s moment made
+  by_full is = run_full _ _ history run.goes.run_end run.goes.run (sym run.goes.is ∙ is)
+
+  -- status 8
+  pub by_submits : ended ≡ status.NetFault → AreSubmits may_give s moment made
+  by_submits is = run_submits _ _ history run.goes.run_end run.goes.run (sym run.goes.is ∙ is)
+
+  -- the heartbeat
+  pub by_beats : HasBeats s moment made
+  by_beats = run_beaten _ _ history run.goes.run_end run.goes.run
+
 -- OF THE COMMAND
 
 module _ {K O : Type 0}
@@ -275,49 +313,28 @@ module _ {K O : Type 0}
   at_status Holds wanted end journal so judged is = so journal (subst (λ (e : Status). AreJudged e journal) is judged)
 
   -- status 0
-  by_time : (s : Settings) (moment : ℕ) (between : Between) (history : List Entry)
-      (run : Ran s moment between status.Done history)
-      → EndsByTime s moment (calls_of (opening_core s moment run.kept) history)
-  by_time s moment between history run =
-      let t = run_timed _ _ history run.goes.run_end run.goes.run (sym run.goes.is) in
-      let bounds = bounded (record { opened = moment; every = s.heartbeat_ms; run = s.run_ms }) t.now t.over in
-      record {
-        earlier = t.last.earlier;
-        now = t.now;
-        beat = t.beat;
-        later = t.last.later;
-        parts = t.last.parts;
-        last = t.last.last;
-        bounded = bounds.0;
-        reached = bounds.1;
-      }
-
   pub done_by_time : {end : Status} {journal : Option (List Entry)} → AreJudged end journal → end ≡ status.Done
       → HasRunSo EndsByTime input may_give journal
   done_by_time {end} {journal} judged is = at_status EndsByTime status.Done end journal
-      (ran_so EndsByTime status.Done (λ no. no) (λ text ended before after w. w.0) by_time) judged is
+      (ran_so EndsByTime status.Done (λ no. no) (λ text ended before after w. w.0)
+      (λ s moment between history run. by_time held_by saves_of faults_of load_gives save_gives may_give links old new s moment
+      between status.Done history run refl)) judged is
 
   -- status 9
-  by_full : (s : Settings) (moment : ℕ) (between : Between) (history : List Entry)
-      (run : Ran s moment between status.StoreFull history)
-      → EndsFull s moment (calls_of (opening_core s moment run.kept) history)
-  by_full s moment between history run = run_full _ _ history run.goes.run_end run.goes.run (sym run.goes.is)
-
   pub full_at_end : {end : Status} {journal : Option (List Entry)} → AreJudged end journal → end ≡ status.StoreFull
       → HasRunSo EndsFull input may_give journal
   full_at_end {end} {journal} judged is = at_status EndsFull status.StoreFull end journal
-      (ran_so EndsFull status.StoreFull (λ no. no) (λ text ended before after w. w.0) by_full) judged is
+      (ran_so EndsFull status.StoreFull (λ no. no) (λ text ended before after w. w.0)
+      (λ s moment between history run. by_full held_by saves_of faults_of load_gives save_gives may_give links old new s moment
+      between status.StoreFull history run refl)) judged is
 
   -- status 8
-  by_submits : (s : Settings) (moment : ℕ) (between : Between) (history : List Entry)
-      (run : Ran s moment between status.NetFault history)
-      → AreSubmits may_give s moment (calls_of (opening_core s moment run.kept) history)
-  by_submits s moment between history run = run_submits _ _ history run.goes.run_end run.goes.run (sym run.goes.is)
-
   pub submits_at_end : {end : Status} {journal : Option (List Entry)} → AreJudged end journal → end ≡ status.NetFault
       → HasRunSo (AreSubmits may_give) input may_give journal
   submits_at_end {end} {journal} judged is = at_status (AreSubmits may_give) status.NetFault end journal
-      (ran_so (AreSubmits may_give) status.NetFault (λ no. no) (λ text ended before after w. w.0) by_submits) judged is
+      (ran_so (AreSubmits may_give) status.NetFault (λ no. no) (λ text ended before after w. w.0)
+      (λ s moment between history run. by_submits held_by saves_of faults_of load_gives save_gives may_give links old new s moment
+      between status.NetFault history run refl)) judged is
 
   -- the heartbeat
   pub has_beats : {end : Status} (journal : Option (List Entry)) → AreJudged end journal
@@ -333,7 +350,8 @@ module _ {K O : Type 0}
         given = j.given;
         read = j.ran.1;
         handed = refl;
-        holds = run_beaten _ _ history run.goes.run_end run.goes.run;
+        holds = by_beats held_by saves_of faults_of load_gives save_gives may_give links old new j.ran.0 j.moment outside _
+            history run;
       }
 
   -- COMPLETENESS

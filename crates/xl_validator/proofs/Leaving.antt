@@ -52,6 +52,7 @@ module _ {K O : Type 0}
         };
         unopened = λ none. absurd cc;
         unsaved = λ none. absurd cc;
+        unlinked = λ none. absurd cc;
         opened = λ none. absurd cc;
         known = subst IsOfNode (sym is) (known_end e);
         write = λ other. write_cause _ _ e history run (sym is ∙ other);
@@ -61,13 +62,15 @@ module _ {K O : Type 0}
       })
 
   -- nothing ran
-  pub leaves_none : end ≡ status.OutOfMemory → journal ≡ None → new_output ≡ old_output → new ≡ old → Left end journal
-  leaves_none is none same kept = subst (Left end) (sym none)
+  pub leaves_none : end ≡ status.OutOfMemory → journal ≡ None → new_output ≡ old_output → new ≡ old
+      → outside.new_hub ≡ outside.old_hub → Left end journal
+  leaves_none is none same kept still = subst (Left end) (sym none)
       (subst (λ (s : Status). Left s None) (sym is)
       (record {
         goes = tt;
         unopened = λ nothing. same;
         unsaved = λ nothing. kept;
+        unlinked = λ nothing. still;
         opened = λ nothing. tt;
         known = tt;
         write = λ other. absurd cc;
@@ -77,7 +80,8 @@ module _ {K O : Type 0}
       }))
 
   -- what is left of either
-  pub leaves_by : {R S : Type 0} (N : Type 0) (ran : Result R S) (end_of : R → RunEnd) (core_of : R → Core) (kept_by : R → K)
+  pub leaves_by : {R S : Type 0} (N : Type 0) (still : N → outside.new_hub ≡ outside.old_hub)
+      (ran : Result R S) (end_of : R → RunEnd) (core_of : R → Core) (kept_by : R → K)
       (history_of : R → List Entry) (spared_core : S → Core) (spared_by : S → K)
       → MatchResult ran (λ r. end ≡ status_of_end (end_of r)) (λ _. end ≡ status.OutOfMemory)
       → MatchResult ran (λ r. new ≡ kept_by r) (λ s. new ≡ spared_by s)
@@ -91,10 +95,10 @@ module _ {K O : Type 0}
       → IfErr ran (λ s. (spared_core s ≡ start) × (spared_by s ≡ old))
       → OnErr ran (N × (new_output ≡ old_output))
       → Left end journal
-  leaves_by N (Ok r) end_of core_of kept_by history_of spared_core spared_by is same some runs run keeps limit spared silent =
+  leaves_by N still (Ok r) end_of core_of kept_by history_of spared_core spared_by is same some runs run keeps limit spared silent =
       leaves_run (end_of r) (kept_by r) (history_of r) is same some (core_of r, runs) run keeps limit
-  leaves_by N (Err s) end_of core_of kept_by history_of spared_core spared_by is same none runs run keeps limit spared silent =
-      leaves_none is none silent.1 (same ∙ spared.1)
+  leaves_by N still (Err s) end_of core_of kept_by history_of spared_core spared_by is same none runs run keeps limit spared silent =
+      leaves_none is none silent.1 (same ∙ spared.1) (still silent.0)
 
 module _ {K : Type 0}
     (held_by : K → Option Held) (saves_of : K → Option (List ℕ)) (faults_of : K → ℕ)

@@ -5,7 +5,7 @@ pub mod SettingLists
 pub mod Causes
 pub mod Refusing
 pub mod Leaving
-pub mod Behind
 pub mod Timers
 pub mod Beating
 pub mod Ending
+pub mod Behind

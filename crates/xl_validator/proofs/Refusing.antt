@@ -82,7 +82,8 @@ module _ {K O : Type 0}
   pub judged_right : (s : Settings) → IfSome input (λ bytes. settings_of bytes moment ≡ Ok s)
       → IfSome journal (λ history. (is_written s.journal end ≡ false)
       × HasRun held_by saves_of faults_of load_gives save_gives s moment may_give links outside old new end history)
-      → (journal ≡ None → (IsUnopened end × (saves_of new ≡ saves_of old) × (new_output ≡ old_output))
+      → (journal ≡ None → (IsUnopened end × (saves_of new ≡ saves_of old) × (outside.new_hub ≡ outside.old_hub)
+      × (new_output ≡ old_output))
       ⊎ HasRecorded held_by saves_of faults_of load_gives save_gives s moment may_give links outside old new end)
       → IsOfNode end → AreJudged
   judged_right s are ran unopened known = record {
@@ -96,7 +97,8 @@ module _ {K O : Type 0}
         (λ nothing. inl (
           nothing.0,
           nothing.1,
-          some_map input (λ bytes is. ok_then (settings_of bytes moment) s is (λ _. new_output ≡ old_output) nothing.2) are,
+          nothing.2,
+          some_map input (λ bytes is. ok_then (settings_of bytes moment) s is (λ _. new_output ≡ old_output) nothing.3) are,
         ))
         (λ recorded. inr (s, are, recorded))
         (unopened none);
@@ -106,8 +108,9 @@ module _ {K O : Type 0}
   pub judged_refused : (fault : SettingsFault) (why : SettingsRefusal) (told : Status) → fault ≡ Refused why
       → IfSome input (λ bytes. GivenBytes (Err fault) (settings_of bytes moment))
       → journal ≡ None → end ≡ told → (told ≡ status.InputRefused) ⊎ (told ≡ status.WriteFault)
-      → IsRefused (refusal_line why) told outside.old_output.held outside.new_output.held → new ≡ old → AreJudged
-  judged_refused fault why told is given_by none same known line kept =
+      → IsRefused (refusal_line why) told outside.old_output.held outside.new_output.held → new ≡ old
+      → outside.new_hub ≡ outside.old_hub → AreJudged
+  judged_refused fault why told is given_by none same known line kept still =
       let are : IfSome input (λ bytes. settings_of bytes moment ≡ Err why) =
       subst (λ (f : SettingsFault). IfSome input (λ bytes. GivenBytes (Err f) (settings_of bytes moment))) is given_by in
       let line' : IsRefused (refusal_line why) end outside.old_output.held outside.new_output.held =
@@ -116,26 +119,28 @@ module _ {K O : Type 0}
       record {
         moment = moment;
         given = given;
-        refused = some_map input (λ bytes e. err_then (settings_of bytes moment) why e _ (none, kept, line')) are;
-        untouched = λ _. kept;
+        refused = some_map input (λ bytes e. err_then (settings_of bytes moment) why e _ (none, (kept, still), line')) are;
+        untouched = λ _. (kept, still);
         told = λ told. some_map input (λ bytes e. is_err (settings_of bytes moment) why e) are;
         ran = no_run _ journal none;
         unopened = λ _. inl (
           subst IsUnopened (sym same) (⊎_elim (λ e. subst IsUnopened (sym e) tt) (λ e. subst IsUnopened (sym e) tt) known),
           ap saves_of kept,
+          still,
           some_map input (λ bytes e. no_ok (settings_of bytes moment) why e (λ _. new_output ≡ old_output)) are,
         );
       }
 
   -- they weren't read, and nothing was written
   pub judged_unread : journal ≡ None → IsUnopened end → end ≢ status.InputRefused
-      → outside.new_output.held ≡ outside.old_output.held → new_output ≡ old_output → new ≡ old → AreJudged
-  judged_unread none known other held same kept = record {
+      → outside.new_output.held ≡ outside.old_output.held → new_output ≡ old_output → new ≡ old
+      → outside.new_hub ≡ outside.old_hub → AreJudged
+  judged_unread none known other held same kept still = record {
     moment = moment;
     given = given;
     refused = some_any input (λ bytes. any_err (settings_of bytes moment) (λ why. (
       none,
-      kept,
+      (kept, still),
       record {
         front = subst (λ now. GrewByFront outside.old_output.held now (refusal_line why)) (sym held)
             (front_none outside.old_output.held (refusal_line why));
@@ -143,7 +148,7 @@ module _ {K O : Type 0}
       },
     )));
     told = λ is. absurd (other is);
-    untouched = λ _. kept;
+    untouched = λ _. (kept, still);
     ran = no_run _ journal none;
-    unopened = λ _. inl (known, ap saves_of kept, some_any input (λ bytes. any_ok (settings_of bytes moment) (λ s. same)));
+    unopened = λ _. inl (known, ap saves_of kept, still, some_any input (λ bytes. any_ok (settings_of bytes moment) (λ s. same)));
   }

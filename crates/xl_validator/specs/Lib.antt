@@ -3,5 +3,5 @@ pub mod Contacts
 pub mod Preparing
 pub mod ListsSet
 pub mod Recordings
-pub mod Validators
 pub mod Ends
+pub mod Validators

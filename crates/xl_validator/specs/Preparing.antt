@@ -56,6 +56,7 @@ pub record Leaves {K O : Type 0}
       start task may_give links outside old new end history)
   pub unopened : journal ≡ None → new_output ≡ old_output
   pub unsaved : journal ≡ None → new ≡ old
+  pub unlinked : journal ≡ None → outside.new_hub ≡ outside.old_hub
   pub opened : journal ≡ None → IsUnopened end
   pub known : IsOfNode end
   pub write : end ≡ status.WriteFault → Rose outside.old_output.faults outside.new_output.faults

@@ -9,6 +9,7 @@ use Rattle.xl_io.specs.Sinks.{GrewByFront}
 use Rattle.xl_links.specs.Links.{Wire}
 use Rattle.xl_turns.specs.Histories.{IsLegal}
 use Rattle.xl_store.specs.declared.entry.Entry.{Entry}
+use Rattle.xl_store.specs.Calls.{calls_of}
 use Rattle.xl_store.specs.Closing.{KeepsAll}
 use Rattle.xl_store.specs.Entries.{Leads}
 use Rattle.xl_heartbeat.specs.Outputs.{Output, output}
@@ -21,6 +22,7 @@ use Rattle.xl_workers.specs.Linking.{HubSeen}
 use Rattle.xl_workers.specs.Runs.{NodeRun, doing, status_of_end}
 use Rattle.xl_workers.specs.Sharing.{setting}
 use Rattle.xl_core.specs.Core.{Core}
+use Rattle.xl_validator.specs.Ends.{EndsByTime, EndsFull, HasBeats}
 use Rattle.xl_validator.specs.ListsSet.{AreSet}
 use Rattle.xl_validator.specs.Openings.{Task, opening_core, task_of}
 use Rattle.xl_validator.specs.Recordings.{IsWritten, is_over, is_written, text_of}
@@ -30,7 +32,7 @@ pub record IsRefused (line : List ℕ) (end : Status) (old new : Option (List �
   pub front : GrewByFront old new line
   pub whole : end ≡ status.InputRefused → new ≡ append_known old line
 
--- settings that are refused open no store and leave the keeper, and their line is told
+-- settings that are refused open no store and leave the keeper and the hub, and their line is told
 abbrev pub HasRefused : Option (List ℕ) → ℕ → Type 0 → Option (List Entry) → Status → Option (List ℕ)
     → Option (List ℕ) → Type 0
 HasRefused input moment untouched journal end old new =
@@ -61,10 +63,10 @@ IsUnopened status.NetFault = ⊥
 IsUnopened status.StoreFull = ⊥
 IsUnopened other = Unit {0}
 
--- no store was opened and no save was asked, and unless the settings were refused nothing was written
-abbrev pub IsUnopenedAt : Option (List ℕ) → ℕ → Status → Type 0 → Type 0 → Type 0
-IsUnopenedAt input moment end unsaved silent =
-    IsUnopened end × unsaved × IfSome input (λ bytes. IfOk (settings_of bytes moment) (λ _. silent))
+-- no store was opened, no save was asked and no link, and unless the settings were refused nothing was written
+abbrev pub IsUnopenedAt : Option (List ℕ) → ℕ → Status → Type 0 → Type 0 → Type 0 → Type 0
+IsUnopenedAt input moment end unsaved unlinked silent =
+    IsUnopened end × unsaved × unlinked × IfSome input (λ bytes. IfOk (settings_of bytes moment) (λ _. silent))
 
 module _ {K : Type 0}
     (held_by : K → Option Held) (saves_of : K → Option (List ℕ)) (faults_of : K → ℕ)
@@ -122,7 +124,13 @@ module _ {K : Type 0}
     pub asked : is_written s.journal ended ≡ true
     pub run : HasRun s moment may_give links (record outside { new_output = reported }) old new ended history
     pub text : IsWritten (text_of s moment run.kept history) ended end reported outside.new_output
-    -- and if all of that text was written, `audit` says yes to it, with the number of its entries
+    -- its last timer reached the end of its time, or all turns of the settings were drawn; and its timers are those of
+    -- beats
+    pub done : ended ≡ status.Done → EndsByTime s moment (calls_of (opening_core s moment run.kept) history)
+    pub full : ended ≡ status.StoreFull → EndsFull s moment (calls_of (opening_core s moment run.kept) history)
+    pub beats : HasBeats s moment (calls_of (opening_core s moment run.kept) history)
+    -- and if all of that text was written, `audit` says yes to it, with the number of its entries, which may be as many
+    -- as it takes
     pub yes : is_over end ≡ true → SaysYes (text_of s moment run.kept history) (length history)
 
   -- by the settings that the input held
@@ -139,14 +147,17 @@ module _ {K : Type 0}
       : Type 0 where
     pub moment : ℕ
     pub given : may_give moment ≡ true
-    pub refused : HasRefused input moment (new ≡ old) journal end outside.old_output.held outside.new_output.held
+    pub refused : HasRefused input moment ((new ≡ old) × (outside.new_hub ≡ outside.old_hub)) journal end
+        outside.old_output.held outside.new_output.held
     pub told : end ≡ status.InputRefused → IfSome input (λ bytes. IsErr (settings_of bytes moment))
-    -- without settings the keeper is asked nothing
-    pub untouched : (end ≡ status.InputRefused) ⊎ (end ≡ status.ReadFault) → new ≡ old
+    -- without settings keeper and hub are asked nothing
+    pub untouched : (end ≡ status.InputRefused) ⊎ (end ≡ status.ReadFault)
+        → (new ≡ old) × (outside.new_hub ≡ outside.old_hub)
     pub ran : IfSome journal (λ history. IsNodeRun input moment may_give links outside old new end history)
     -- if no journal is handed back it was written, or no store was opened
     pub unopened : journal ≡ None
-        → IsUnopenedAt input moment end (saves_of new ≡ saves_of old) (new_output ≡ old_output)
+        → IsUnopenedAt input moment end (saves_of new ≡ saves_of old) (outside.new_hub ≡ outside.old_hub)
+        (new_output ≡ old_output)
         ⊎ IsRecordedRun input moment may_give links outside old new end
 
 -- a status of this command: it finds no fork, and no words are refused

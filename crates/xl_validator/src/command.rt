@@ -20,7 +20,7 @@ use xl_io::{Keeper, Sink, Source};
 use xl_links::{Clock, Gate, Hub};
 use xl_peers::Host;
 use xl_settings::{SettingsFault, SettingsRefusal, settings_from, write_refusal};
-use xl_store::{Closed, Spared};
+use xl_store::{Closed, Entries, Spared};
 use xl_trie::Trie;
 use xl_workers::{Ran, node};
 
@@ -37,11 +37,14 @@ fn refuse<O: Sink>(output: &mut O, refusal: &SettingsRefusal) -> Status
     }
 }
 
-/// What a run leaves, without its core. If there was no memory for the run's store, that is the keeper alone.
-fn left_by<K: Drop>(ran: Result<Ran<Trie, K>, Spared<Trie, K>>) -> Ended<K>
-    ensures status { MatchResult ran (λ r. result.status ≡ status_of_end r.end) (λ _. result.status ≡ Status.OutOfMemory) }
-    ensures keeper { MatchResult ran (λ r. result.keeper ≡ r.closed.keeper) (λ s. result.keeper ≡ s.keeper) }
-    ensures journal { MatchResult ran (λ r. result.journal ≡ Some r.closed.journal) (λ _. result.journal ≡ None) }
+/// What a run leaves, without its core, and the entries that it kept. If there was no memory for the run's store, that is
+/// the keeper alone.
+fn left_by<K: Drop>(ran: Result<Ran<Trie, K>, Spared<Trie, K>>) -> (Ended<K>, Option<Entries>)
+    ensures status { MatchResult ran (λ r. result.0.status ≡ status_of_end r.end)
+        (λ _. result.0.status ≡ Status.OutOfMemory) }
+    ensures keeper { MatchResult ran (λ r. result.0.keeper ≡ r.closed.keeper) (λ s. result.0.keeper ≡ s.keeper) }
+    ensures journal { MatchResult ran (λ r. result.0.journal ≡ Some r.closed.journal) (λ _. result.0.journal ≡ None) }
+    ensures entries { MatchResult ran (λ r. result.1 ≡ r.closed.entries) (λ _. result.1 ≡ None) }
 {
     match ran {
         Ok(ran) => {
@@ -50,20 +53,18 @@ fn left_by<K: Drop>(ran: Result<Ran<Trie, K>, Spared<Trie, K>>) -> Ended<K>
                 core: _,
                 keeper,
                 journal,
+                entries,
             } = closed;
-            Ended {
+            let ended = Ended {
                 status: end.status(),
                 keeper,
                 journal: Some(journal),
-            }
+            };
+            (ended, entries)
         }
         Err(spared) => {
             let Spared { core: _, keeper } = spared;
-            Ended {
-                status: Status::OutOfMemory,
-                keeper,
-                journal: None,
-            }
+            (Ended::unopened(Status::OutOfMemory, keeper), None)
         }
     }
 }
@@ -86,7 +87,9 @@ fn start<
         (O.held output.old) (O.faults output.old) (O.held output.new) (O.faults output.new))
         keeper result.keeper result.status history) }
     ensures unopened { result.journal ≡ None
-        → (IsUnopened result.status × (K.saves result.keeper ≡ K.saves keeper) × (output.new ≡ output.old))
+        → (IsUnopened result.status × (K.saves result.keeper ≡ K.saves keeper)
+        × (hub_seen (H.faults hub.new) (H.asked hub.new) ≡ hub_seen (H.faults hub.old) (H.asked hub.old))
+        × (output.new ≡ output.old))
         ⊎ HasRecorded K.held K.saves K.faults K.load_gives K.save_gives
         judged.settings judged.now (C.may_give host.now.clock.now) (H.gives hub.old)
         (between (hub_seen (H.faults hub.old) (H.asked hub.old)) (hub_seen (H.faults hub.new) (H.asked hub.new))
@@ -104,8 +107,8 @@ fn start<
     let recording = recording_of(&judged.settings, judged.now, kept);
     match prepare(host.alloc, judged, kept) {
         Ok(Prepared { core, plan }) => {
-            let ended = left_by(node(host, core, keeper, plan, hub, output));
-            recorded(host.alloc, recording, ended, output)
+            let (ended, entries) = left_by(node(host, core, keeper, plan, hub, output));
+            recorded(host.alloc, recording, ended, entries, output)
         }
         Err(_) => Ended::unopened(Status::OutOfMemory, keeper),
     }
@@ -115,7 +118,8 @@ fn start<
 ///
 /// It asks the clock for the moment of the opening, reads the settings as they are at that moment, loads the kept number
 /// and opens the core at it. It submits the ids, opens a link to each peer, and serves all peers beside the heartbeat
-/// until the run is over. The keeper comes back, and so does the journal of the node's store, if one was opened.
+/// until the run is over. The keeper comes back, and so does the journal of the node's store, which only contracts see,
+/// if one was opened.
 ///
 /// If the settings ask for it, the journal of a run that ended by its time, or since its store had no turn left, isn't
 /// handed back: it is written behind the reports. A write that fails there ends the command with `WriteFault`, and
@@ -131,9 +135,10 @@ pub fn validator<
     G: Gate + Sync,
     C: Clock + Sync,
 >(host: &Host<'_, W, G, C>, input: &mut I, output: &mut O, keeper: K, hub: &mut H) -> Ended<K>
-    // Settings are judged at one moment that the clock may give. If they are refused no store is opened, the keeper is
-    // asked nothing, and of their line a front is written. Others run a node that is opened at that moment, or nothing is
-    // written and no save is asked. The journal of the node is handed back, or written behind what the node wrote.
+    // Settings are judged at one moment that the clock may give. If they are refused no store is opened, keeper and hub
+    // are asked nothing, and of their line a front is written. Others run a node that is opened at that moment, or nothing
+    // is written, and no save and no link is asked. The journal of the node is handed back, or written behind what the
+    // node wrote.
     ensures judged { Judges K.held K.saves K.faults K.load_gives K.save_gives
         (I.left input.old) (C.may_give host.now.clock.now) (H.gives hub.old)
         (between (hub_seen (H.faults hub.old) (H.asked hub.old)) (hub_seen (H.faults hub.new) (H.asked hub.new))

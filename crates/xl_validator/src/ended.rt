@@ -3,7 +3,8 @@ ghost use Rattle.std.specs.Prelude.{◌≡◌, None};
 use xl_base::Status;
 use xl_store::Journal;
 
-/// What a command leaves: how it ended, the keeper, and the journal of the node's store, if one was opened.
+/// What a command leaves: how it ended, the keeper, and the journal of the node's store, which only contracts see, if
+/// one was opened.
 #[derive(Drop)]
 pub struct Ended<K> {
     pub status: Status,

@@ -30,13 +30,15 @@ pub(crate) struct Prepared {
     pub plan: Plan,
 }
 
-/// Opens the core of the settings at their moment, with the number that was kept.
+/// Opens the core of the settings at their moment, with the number that was kept. Its store keeps entries only if the
+/// journal is to be written.
 pub(crate) fn prepare(alloc: Global, judged: Judged, kept: Seq) -> Result<Prepared, OutOfMemory>
     requires runnable { AreRunnable judged.settings }
     requires moment { judged.now ≤ greatest_millis }
     ensures core { IfOk result (λ prepared. prepared.core ≡ opening_core judged.settings judged.now kept) }
     ensures task { IfOk result (λ prepared. task_in prepared.plan ≡ task_of judged.settings judged.now) }
     ensures ready { IfOk result IsReady }
+    ensures keeps { IfOk result (λ prepared. prepared.plan.keeps ≡ judged.settings.journal) }
     ensures keyed { IfOk result (λ prepared. IsEverKeyed judged.settings.publishing prepared.core) }
 {
     let Judged { settings, now } = judged;
@@ -52,7 +54,7 @@ pub(crate) fn prepare(alloc: Global, judged: Judged, kept: Seq) -> Result<Prepar
         peers,
         speak,
         publishing,
-        journal: _,
+        journal,
     } = settings;
     let keys = keys_of(me, peers.as_slice());
     let pulse = Pulse {
@@ -64,7 +66,7 @@ pub(crate) fn prepare(alloc: Global, judged: Judged, kept: Seq) -> Result<Prepar
         publishing,
         list: list.copy(),
     };
-    let plan = match plan_of(alloc, turns, submit, peers, pulse) {
+    let plan = match plan_of(alloc, turns, journal, submit, peers, pulse) {
         Ok(plan) => plan,
         Err(_) => return Err(OutOfMemory),
     };
@@ -86,11 +88,13 @@ pub(crate) fn prepare(alloc: Global, judged: Judged, kept: Seq) -> Result<Prepar
 fn plan_of(
     alloc: Global,
     turns: u64,
+    keeps: bool,
     submit: TxIds,
     peers: Peers,
     pulse: Pulse,
 ) -> Result<Plan, OutOfMemory>
     ensures plan { IfOk result (IsPlan turns submit peers pulse) }
+    ensures keeps { IfOk result (λ plan. plan.keeps ≡ keeps) }
 {
     let submits = match Vec::from_slice(alloc, submit.as_slice()) {
         Ok(submits) => submits,
@@ -99,6 +103,7 @@ fn plan_of(
     match contacts_of(alloc, peers.into_vec()) {
         Ok(contacts) => Ok(Plan {
             turns,
+            keeps,
             submits,
             contacts,
             pulse,

@@ -23,7 +23,7 @@ use xl_base::{Millis, Seq, Status};
 use xl_io::Sink;
 use xl_lines::Fault;
 use xl_settings::Settings;
-use xl_store::Journal;
+use xl_store::Entries;
 
 /// What a written journal begins with: the settings of the core, the moment of its opening, and the number that was
 /// kept.
@@ -75,7 +75,7 @@ pub(crate) fn is_over(ended: Status) -> bool
 pub(crate) fn write_behind<O: Sink>(
     alloc: Global,
     recording: Recording,
-    journal: Journal,
+    journal: Entries,
     ended: Status,
     sink: &mut O,
 ) -> Status
@@ -98,16 +98,18 @@ pub(crate) fn write_behind<O: Sink>(
     }
 }
 
-/// Writes the journal of a run that is over behind what the run wrote, if that is asked.
+/// Writes the journal of a run that is over behind what the run wrote, if that is asked. All its entries were kept then.
 pub(crate) fn recorded<O: Sink, K: Drop>(
     alloc: Global,
     recording: Option<Recording>,
     ended: Ended<K>,
+    entries: Option<Entries>,
     sink: &mut O,
 ) -> Ended<K>
     requires legal { IfSome recording (λ r. IfSome ended.journal (λ history.
         IsLegal Leads (start_of r.settings r.now r.kept) history)) }
     requires opened { ended.journal ≡ None → IsUnopened ended.status }
+    requires kept { is_some recording ≡ true → entries ≡ ended.journal }
     ensures keeper { result.keeper ≡ ended.keeper }
     ensures left { is_written (is_some recording) ended.status ≡ false
         → (result.status ≡ ended.status) × (result.journal ≡ ended.journal) × (sink.new ≡ sink.old) }
@@ -129,13 +131,13 @@ pub(crate) fn recorded<O: Sink, K: Drop>(
     let Ended {
         status,
         keeper,
-        journal,
+        journal: _,
     } = ended;
-    let Some(journal) = journal else {
+    let Some(entries) = entries else {
         unreachable!()
     };
     Ended {
-        status: write_behind(alloc, recording, journal, status, sink),
+        status: write_behind(alloc, recording, entries, status, sink),
         keeper,
         journal: None,
     }

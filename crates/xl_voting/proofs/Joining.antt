@@ -8,8 +8,8 @@ use Rattle.xl_flags.specs.Votes.{most_amendments}
 use Rattle.xl_flags.proofs.Remembering.{IsMember}
 use Rattle.xl_lines.specs.declared.machine.Verdict.TheVariants.{Good, Refused}
 use Rattle.xl_lines.specs.Lines.{lines_of}
-use Rattle.xl_lines.specs.Rules.{Told, closes, refuses as refuses_line}
-use Rattle.xl_lines.specs.Soon.{told_soon, unclosed, ended}
+use Rattle.xl_lines.specs.Rules.{closes, refuses as refuses_line}
+use Rattle.xl_lines.specs.Soon.{told_soon, unclosed, answerable}
 use Rattle.xl_lines.specs.Told.{told_of}
 use Rattle.xl_lists.specs.Lists.{is_on}
 use Rattle.xl_running.specs.Running.{Running, answer_in, beyond, knows, limits, world_of}
@@ -158,9 +158,8 @@ closed_alike = record { step = step_alike; overrun = tells_alike.overrun; closin
 
 pub soon_same : (bytes : List ℕ) → told_soon limits (rules tallied) (nothing_read nothing_tallied) bytes ≡ flags_soon bytes
 soon_same bytes =
-    ap (λ (told : Told). told.text) (
-    told_alike Like (unclosed (rules tallied)) (unclosed (rules listed)) closed_alike limits limits.lines (nothing_read nothing_tallied) (nothing_read nothing_listed) (ended (lines_of bytes))
-    (record { running = refl; sound = first_sound; votes = first_stands }))
+    told_alike Like (unclosed (rules tallied)) (unclosed (rules listed)) closed_alike limits limits.lines (nothing_read nothing_tallied) (nothing_read nothing_listed) (answerable limits (lines_of bytes))
+    (record { running = refl; sound = first_sound; votes = first_stands })
 
 pub told_same : (bytes : List ℕ) → told_of limits (rules tallied) (nothing_read nothing_tallied) bytes ≡ flags_of bytes
 told_same bytes =

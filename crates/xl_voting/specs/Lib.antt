@@ -5,3 +5,4 @@ pub mod Texts
 pub mod Reports
 pub mod Voting
 pub mod States
+pub mod Promises

@@ -91,6 +91,6 @@ nothing_read v = record { running = at_first; votes = v }
 abbrev pub flags_of : List ℕ → Told
 flags_of bytes = told_of limits (rules listed) (nothing_read nothing_listed) bytes
 
--- what is told of the lines that have ended in these bytes
-abbrev pub flags_soon : List ℕ → List ℕ
+-- what is told as soon as these bytes have come
+abbrev pub flags_soon : List ℕ → Told
 flags_soon bytes = told_soon limits (rules listed) (nothing_read nothing_listed) bytes

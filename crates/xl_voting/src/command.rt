@@ -1,52 +1,23 @@
-// A whole run of `xl flags`.
-ghost use Rattle.std.specs.Prelude.{◌≡◌, ◌≢◌, ℕ, List, IfOk, IfErr, IfSome, IsErrOf};
-ghost use Rattle.std.specs.Io.KnownBytes.{IsAtEnd, append_known};
-ghost use Rattle.xl_base.specs.Faults.{Rose};
-ghost use Rattle.xl_io.specs.Sinks.{GrewByFront, GrewByLess};
-ghost use Rattle.xl_lines.specs.Running.{TellsAll};
-ghost use Rattle.xl_lines.specs.Soon.{WasRead};
-ghost use Rattle.xl_voting.specs.Voting.{flags_of, flags_soon};
+// The command `xl flags`.
+ghost use Rattle.xl_voting.specs.Promises.{flags_promise};
 
 use crate::voter::Voter;
 use std::alloc::Global;
-use xl_io::{Sink, Source};
-use xl_lines::{Fault, Verdict, run};
+use xl_base::OutOfMemory;
+use xl_lines::Lines;
 use xl_running::LIMITS;
+use xl_texts::TextCommand;
 
-/// Reads a schedule with lines of votes from the input to its end, or up to a line that is refused. What each flag
-/// report says is written to the output as soon as its line was read.
-///
-/// The verdict is `Refused` if the last line says which line was refused. A failed read ends the run with `Read`, a
-/// failed write with `Write`. If memory runs out, at any time, the run ends with `Memory`.
-pub fn flags<I: Source, O: Sink>(
-    alloc: Global,
-    input: &mut I,
-    output: &mut O,
-) -> Result<Verdict, Fault>
-    // The whole text is written, and the verdict is its own.
-    ensures whole { IfOk result (λ verdict. IfSome (I.left input.old) (λ bytes.
-        TellsAll (O.held output.old) (O.held output.new) verdict (flags_of bytes))) }
-    // Unless a line is refused, all the bytes were read.
-    ensures to_end { IfOk result (λ verdict. verdict ≢ Verdict.Refused → IsAtEnd (I.left input.new)) }
-    // A front of the text is written, whatever happens.
-    ensures front { IfSome (I.left input.old) (λ bytes.
-        GrewByFront (O.held output.old) (O.held output.new) (flags_of bytes).text) }
-    // If a read failed, what is told of all lines that had ended in the bytes that were read is written, and no more.
-    ensures soon { IsErrOf result Fault.Read → (bytes : List ℕ) →
-        WasRead (I.left input.old) (I.left input.new) bytes →
-        O.held output.new ≡ append_known (O.held output.old) (flags_soon bytes) }
-    // With a fault of the source or the sink some of it isn't written.
-    ensures less { IfErr result (λ fault. fault ≢ Fault.Memory → IfSome (I.left input.old) (λ bytes.
-        GrewByLess (O.held output.old) (O.held output.new) (flags_of bytes).text)) }
+/// Reads a schedule with lines of votes, and writes what each flag report says.
+pub struct Flags;
 
-    // A fault is answered only if its count rose.
-    ensures read { IsErrOf result Fault.Read → Rose (I.faults input.old) (I.faults input.new) }
-    ensures write { IsErrOf result Fault.Write → Rose (O.faults output.old) (O.faults output.new) }
-    ensures complete { IfErr result (λ fault. ¬ Rose (I.faults input.old) (I.faults input.new)
-        → ¬ Rose (O.faults output.old) (O.faults output.new) → fault ≡ Fault.Memory) }
-{
-    let Ok(voter) = Voter::new(alloc) else {
-        return Err(Fault::Memory);
-    };
-    run(alloc, LIMITS, voter, input, output)
+impl TextCommand for Flags {
+    type By = Lines<Voter>;
+
+    ghost promise = { flags_promise };
+
+    fn open(alloc: Global) -> Result<Lines<Voter>, OutOfMemory> {
+        let voter = Voter::new(alloc)?;
+        Ok(Lines::new(alloc, LIMITS, voter))
+    }
 }

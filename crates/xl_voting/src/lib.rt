@@ -16,7 +16,4 @@ mod tally;
 mod texts;
 mod voter;
 
-pub use command::flags;
-
-#[cfg(test)]
-mod tests;
+pub use command::Flags;

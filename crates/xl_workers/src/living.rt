@@ -94,6 +94,7 @@ pub(crate) fn live<
 {
     let Plan {
         turns: _,
+        keeps: _,
         submits,
         contacts,
         pulse,

@@ -7,6 +7,8 @@ use xl_links::Way;
 pub struct Plan {
     /// How many turns the store has in all, 1 to 2^62.
     pub turns: u64,
+    /// Whether the store keeps its entries.
+    pub keeps: bool,
     /// The ids that are submitted first, in order.
     pub submits: Vec<TxId>,
     /// The members that are served, each once. They are peers of the core.

@@ -2,9 +2,13 @@ ghost use Rattle.std.specs.Prelude.{◌≡◌, ◌<◌, ◌≤◌, ◌^◌, ℕ,
 ghost use Rattle.std.specs.List.{AllByRecursion, IsDistinct};
 ghost use Rattle.xl_tags.specs.Rings.{key_of};
 ghost use Rattle.xl_turns.specs.Histories.{Runs};
+ghost use Rattle.xl_turns.specs.Knowing.{newcomer};
+ghost use Rattle.xl_turns.specs.Passes.{known};
 ghost use Rattle.xl_core.specs.CoreLives.{core_after};
 ghost use Rattle.xl_store.specs.Entries.{Leads, life_of};
 ghost use Rattle.xl_store.specs.Closing.{KeepsAll};
+ghost use Rattle.xl_store.specs.Pages.{entries_if};
+ghost use Rattle.xl_store.specs.Stores.{start_of, keeper_of, turns_of, keeps_of, IsOf};
 ghost use Rattle.xl_heartbeat.specs.Outputs.{output};
 ghost use Rattle.xl_workers.specs.Linking.{contact_of, hub_seen, target_of};
 ghost use Rattle.xl_workers.specs.Sharing.{setting};
@@ -13,6 +17,7 @@ ghost use Rattle.xl_workers.specs.Runs.{doing, NodeRun};
 use crate::ends::RunEnd;
 use crate::living::live;
 use crate::plan::Plan;
+use std::alloc::Global;
 use std::sync::Wait;
 use std::thread::Threads;
 use xl_core::Core;
@@ -20,7 +25,7 @@ use xl_io::{Keeper, Sink};
 use xl_ledger::Branch;
 use xl_links::{Clock, Gate, Hub};
 use xl_peers::Host;
-use xl_store::{Closed, Spared, Store};
+use xl_store::{Closed, Pass, Spared, Store};
 
 /// What a run leaves.
 #[derive(Drop)]
@@ -61,6 +66,7 @@ pub fn node<
     ensures keeper { IfOk result (λ ran. KeepsAll K.held K.saves K.faults K.save_gives
         core ran.closed.journal keeper ran.closed.keeper) }
     ensures limit { IfOk result (λ ran. length ran.closed.journal ≤ plan.turns) }
+    ensures kept { IfOk result (λ ran. ran.closed.entries ≡ entries_if plan.keeps ran.closed.journal) }
     // its places are shared out, its lines are the output, and the hub was asked for links as the plan names them
     ensures run { IfOk result (λ ran. NodeRun
         (setting core plan.turns (C.may_give host.now.clock.now) (H.gives hub.old))
@@ -73,11 +79,33 @@ pub fn node<
     ensures spared { IfErr result (λ spared. (spared.core ≡ core) × (spared.keeper ≡ keeper)) }
     ensures nothing { OnErr result ((hub.new ≡ hub.old) × (sink.new ≡ sink.old)) }
 {
-    let (store, pass) = match Store::open(host.alloc, core, keeper, plan.turns) {
+    let (store, pass) = match store_of(host.alloc, core, keeper, plan.turns, plan.keeps) {
         Ok(opened) => opened,
         Err(spared) => return Err(spared),
     };
     let (end, pass) = live(host, &store, pass, plan, hub, sink);
     let closed = store.close(pass);
     Ok(Ran { end, closed })
+}
+
+/// The store of a run, which keeps its entries if that is asked.
+fn store_of<B: Branch + Drop, K: Keeper + Drop>(
+    alloc: Global,
+    core: Core<B>,
+    keeper: K,
+    turns: u64,
+    keeps: bool,
+) -> Result<(Store<B, K>, Pass), Spared<B, K>>
+    requires turns { (0 < turns) × (turns ≤ 2 ^ 62) }
+    ensures start { IfOk result (λ opened. (start_of opened.0 ≡ core) × (keeper_of opened.0 ≡ keeper)) }
+    ensures limit { IfOk result (λ opened. turns_of opened.0 ≡ turns) }
+    ensures keeps { IfOk result (λ opened. keeps_of opened.0 ≡ keeps) }
+    ensures pass { IfOk result (λ opened. IsOf opened.0 opened.1 × (known opened.1 ≡ newcomer)) }
+    ensures spared { IfErr result (λ spared. (spared.core ≡ core) × (spared.keeper ≡ keeper)) }
+{
+    if keeps {
+        Store::open(alloc, core, keeper, turns)
+    } else {
+        Store::open_unkept(alloc, core, keeper, turns)
+    }
 }

@@ -25,8 +25,8 @@ use Rattle.xl_core.specs.declared.report.Report.{Report}
 use Rattle.xl_core.proofs.Timing.{submit_either, relist_either}
 use Rattle.xl_sched.specs.declared.event.Ask.{Ask}
 use Rattle.xl_sched.specs.declared.event.Ask.TheVariants as ask
-use Rattle.xl_world.specs.declared.act.Deed.{Deed}
-use Rattle.xl_world.specs.declared.act.Deed.TheVariants as deed
+use Rattle.xl_core.specs.declared.deed.Deed.{Deed}
+use Rattle.xl_core.specs.declared.deed.Deed.TheVariants as deed
 use Rattle.xl_world.specs.declared.act.NodeAnswer.{NodeAnswer}
 use Rattle.xl_world.specs.declared.place.Fate.{Fate}
 use Rattle.xl_world.specs.declared.place.Fate.TheVariants.{Saved}
@@ -54,16 +54,18 @@ completed_unsent : (t : TimerOutcome) (save : Save) (from : ℕ) → sent_in fro
 completed_unsent (Quiet n beat said) save from = refl
 completed_unsent (Ending n said h place moved_on) save from = refl
 
-pub deed_unsent : (core : Core) (now : ℕ) (d : Deed) (save : Save) (from : ℕ) → sent_in from (core_happens core (deed_event now d) save).answer ≡ []
-deed_unsent core now (deed.Issue seq id full) save from = (issue_plain core.node now seq id full save).sent from
-deed_unsent core now (deed.Frame bytes) save from = (frame_plain core.node now bytes.now save).sent from
-deed_unsent core now (deed.Sent to kept) save from = (frame_plain core.node now (bytes_as_sealed (schedule_ring to) kept.now) save).sent from
-deed_unsent core now deed.Timer save from = completed_unsent (timer_outcome (at_moment now core.node)) save from
-deed_unsent core now (deed.Submit tx) save from =
+pub deed_unsent : (core : Core) (i : ℕ) (d : Deed) (save : Save) (from : ℕ) → sent_in from (core_happens core (deed_event i d) save).answer ≡ []
+deed_unsent core i (deed.Issue now seq id full) save from = (issue_plain core.node now seq id full save).sent from
+deed_unsent core i (deed.Frame now bytes) save from = (frame_plain core.node now bytes.now save).sent from
+deed_unsent core i (deed.Sealed now bytes) save from = (frame_plain core.node now (bytes_as_sealed (schedule_ring i) bytes.now) save).sent from
+deed_unsent core i (deed.Timer now) save from = completed_unsent (timer_outcome (at_moment now core.node)) save from
+deed_unsent core i (deed.Submit now tx) save from =
     submit_either (λ r. sent_in from r.answer ≡ []) (at_moment now core.node) tx (λ _. refl) refl
-deed_unsent core now (deed.Greet peer) save from = refl
-deed_unsent core now (deed.Relist list) save from =
+deed_unsent core i (deed.Greet peer) save from = refl
+deed_unsent core i (deed.Relist now list) save from =
     relist_either (λ r. sent_in from r.answer ≡ []) (at_moment now core.node) list.now (λ _. refl) (λ _. refl)
+deed_unsent core i deed.Stop save from = refl
+deed_unsent core i deed.Stopped save from = refl
 
 -- THE LISTS
 

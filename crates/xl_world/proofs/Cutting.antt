@@ -28,7 +28,8 @@ use Rattle.xl_world.proofs.Emptying.{emptied, emptied_acts, emptied_node, emptie
 use Rattle.xl_world.proofs.Keeping.{KeepsList, asking_keeps}
 use Rattle.xl_world.proofs.Keeping.{core_keeps}
 use Rattle.xl_world.proofs.Putting.{put_at, put_put}
-use Rattle.xl_world.proofs.Reopening.{again_ran, found_held, restart_ran, torn_ran, unasked_alike}
+use Rattle.xl_world.proofs.Reopening.{again_ran, found_held, restart_ran, torn_ran}
+use Rattle.xl_core.proofs.Unasked.{unasked_alike}
 use Rattle.xl_world.proofs.Runs.{run-append}
 use Rattle.xl_world.proofs.Settling.{at_its_number}
 use Rattle.xl_world.proofs.Telling.{told_append, told_once, told_ran}

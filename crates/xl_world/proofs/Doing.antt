@@ -19,7 +19,10 @@ use Rattle.xl_core.specs.Answers.{Answer, Done as AnsweredDone, refusal_in}
 use Rattle.xl_core.specs.Building.{Knowing, alone, how_issued, knowing}
 use Rattle.xl_core.specs.Core.{Core, CoreReply, core_asks, core_happens}
 use Rattle.xl_core.specs.Hearing.{bytes_as_sealed}
-use Rattle.xl_core.specs.Keeping.{CountsFault, Saves}
+use Rattle.xl_core.specs.Keeping.{Saves}
+use Rattle.xl_core.specs.Deeds.{CountsFailure, Happens, save_told}
+use Rattle.xl_core.specs.Deeds.{answer_of as told_as}
+use Rattle.xl_core.specs.declared.core_answer.CoreAnswer.{CoreAnswer}
 use Rattle.xl_core.specs.Node as nodes
 use Rattle.xl_core.specs.Node.{Node, Reply, Save, TimerOutcome, heartbeat_outcome, asks_for, at_moment, built, built_outcome, chosen, timer_reply, built_reply, kind_outcome, happens, bytes_reply, is_kept, issued_unless_off, issuing_reply, own_validation, refusing, replying, seen, switch_outcome, taken_reply, timer_outcome, validates, validating_built}
 use Rattle.xl_core.specs.Issuing.Save.{Kept as AnsweredOk, Failed as AnsweredFailed}
@@ -33,25 +36,22 @@ use Rattle.xl_core.specs.declared.event.CoreEvent.{CoreEvent}
 use Rattle.xl_core.specs.declared.event.CoreEvent.TheVariants.{Issue, Relist, Timer}
 use Rattle.xl_core.specs.declared.hearing.Speech.{Speech}
 use Rattle.xl_core.specs.declared.hearing.Speech.TheVariants as speech
-use Rattle.xl_core.specs.declared.refusal.Refusal.{Refusal}
 use Rattle.xl_core.specs.declared.refusal.Refusal.TheVariants as why
 use Rattle.xl_core.specs.declared.report.Report.{Report}
 use Rattle.xl_core.specs.declared.taken.Taken.{Taken}
 use Rattle.xl_core.proofs.Frames.{hearing_either}
 use Rattle.xl_core.proofs.Timing.{submit_either, relist_either}
-use Rattle.xl_world.specs.declared.act.Deed.{Deed}
-use Rattle.xl_world.specs.declared.act.Deed.TheVariants as deed
-use Rattle.xl_world.specs.declared.act.Reaction.{Reaction}
-use Rattle.xl_world.specs.declared.act.Reaction.TheVariants as reaction
+use Rattle.xl_core.specs.declared.deed.Deed.{Deed}
+use Rattle.xl_core.specs.declared.deed.Deed.TheVariants as deed
 use Rattle.xl_world.specs.declared.place.Fate.{Fate}
 use Rattle.xl_world.specs.declared.place.Fate.TheVariants.{Saved, Unwritten, Written}
 use Rattle.xl_world.specs.declared.place.Disk.{Disk}
 use Rattle.xl_world.specs.declared.saving.Fated.{Fated}
 use Rattle.xl_world.specs.Disk.{after_save, answer_of, answers_ok}
-use Rattle.xl_world.specs.Seen.{Does, deed_event, is_relisted, list_now, reaction_of, reaction_to, said_by_beat, said_by_issued, said_in}
+use Rattle.xl_world.specs.Seen.{Does, deed_event, is_relisted, list_now, said_by_beat, said_by_issued, said_in}
 use Rattle.xl_world.specs.World.{said_by, set_by}
 use Rattle.xl_world.proofs.Lying.{key_of_another}
-use Rattle.xl_world.proofs.Reopening.{unasked_alike}
+use Rattle.xl_core.proofs.Unasked.{unasked_alike}
 use Rattle.xl_world.proofs.Taking.{same_option, untaken_is}
 
 -- another member's number has a key
@@ -79,7 +79,7 @@ pub record IsFated (asks : Option ℕ) (save : Save) (old new : Fated) : Type 0 
   pub asked : old.asked ≡ None → new.asked ≡ asks
   pub answered : IfSome asks (λ s. save ≡ answer_of old.disk old.fate)
 
-pub fated : (asked : Option ℕ) (save : Save) (old new : Fated) → Saves Gives asked (is_kept save) old new → ((count : ℕ) → save ≡ AnsweredFailed count → count ≡ new.disk.faults) → IsFated asked save old new
+pub fated : (asked : Option ℕ) (save : Save) (old new : Fated) → Saves Gives asked (is_kept save) old new → CountsFailure asked save old.disk.faults new.disk.faults → IsFated asked save old new
 fated None save old new same counts = record {
   disk = ap (λ (f : Fated). f.disk) same;
   asked = λ none. ap (λ (f : Fated). f.asked) same ∙ none;
@@ -88,7 +88,7 @@ fated None save old new same counts = record {
 fated (Some s) save old new gives counts = record {
   disk = gives.1;
   asked = λ _. gives.2;
-  answered = met save old.disk s old.fate gives.0 (λ count is. counts count is ∙ ap (λ (k : Disk). k.faults) gives.1);
+  answered = met save old.disk s old.fate gives.0 (λ count is. (counts count is).1 ∙ ap (λ (k : Disk). k.faults) gives.1);
 }
 
 -- what happens under that answer happens under the fate
@@ -99,34 +99,20 @@ alike core e save k fate answered = by (core_asks core e) refl answered
     by None asks is = unasked_alike core e save (answer_of k fate) asks
     by (Some s) asks is = ap (core_happens core e) is
 
--- the refusal tells the count of faults
-failed_why : (w : Refusal) (count : ℕ) → save_of w ≡ AnsweredFailed count → w ≡ why.KeepFault count
-failed_why (why.KeepFault n) count is = cc
-failed_why _ count is = cc
-
-pub beat_counts : (told : TimerAnswer) (old new : ℕ) → CountsBeatFault told old new → (count : ℕ) → save_at told ≡ AnsweredFailed count → count ≡ new
-beat_counts (timer_answer.Built seq id moved_on (issued.Refused w)) old new counts count is =
-    (counts seq id moved_on count (ap (λ (v : Refusal). timer_answer.Built seq id moved_on (issued.Refused v)) (failed_why w count is))).1
-beat_counts (timer_answer.Built seq id moved_on issued.Full) old new counts count is = cc
-beat_counts (timer_answer.Built seq id moved_on issued.Partial) old new counts count is = cc
-beat_counts (timer_answer.Built seq id moved_on issued.Silent) old new counts count is = cc
-beat_counts timer_answer.Nothing old new counts count is = cc
-beat_counts timer_answer.Closed old new counts count is = cc
-beat_counts timer_answer.Updated old new counts count is = cc
-beat_counts (timer_answer.Switched seq id) old new counts count is = cc
-beat_counts (timer_answer.NoRoom limit) old new counts count is = cc
+-- what happens at a core under a disk
+pub happens_does : (core after : Core) (e : CoreEvent) (told : CoreAnswer) (old new : Fated) → Happens (λ f. Some (record { in_force = f.disk.in_force; asked = f.disk.asked })) (λ f. None) (λ f. f.disk.faults) Gives core e after told old new → Does core e old after told new
+happens_does core after e told old new h =
+    let save : Save = save_told (told_as told) in
+    let is : IsFated (core_asks core e) save old new = fated (core_asks core e) save old new h.asks.keeper h.fault in
+    let same : core_happens core e save ≡ core_happens core e (answer_of old.disk old.fate) = alike core e save old.disk old.fate is.answered in
+    record {
+      core = h.step.core ∙ ap (λ (r : CoreReply). r.core) same;
+      says = h.step.answer ∙ ap (λ (r : CoreReply). r.answer) same;
+      disk = is.disk;
+      asked = is.asked;
+    }
 
 -- WHAT ASKS NO SAVE
-
-pub quiet_does : (core after : Core) (e : CoreEvent) (old : Fated) (told : Reaction) (a : Answer) → core_asks core e ≡ None → Answers (core_happens core e AnsweredOk) after a → told ≡ reaction_of a → Does core e old after told old
-quiet_does core after e old told a asks answers reacts =
-    let same : core_happens core e AnsweredOk ≡ core_happens core e (answer_of old.disk old.fate) = unasked_alike core e AnsweredOk (answer_of old.disk old.fate) asks in
-    record {
-      core = answers.core ∙ ap (λ (r : CoreReply). r.core) same;
-      reaction = reacts ∙ ap reaction_of (answers.answer ∙ ap (λ (r : CoreReply). r.answer) same);
-      disk = ap (λ (o : Option ℕ). after_save old.disk o old.fate) (sym asks);
-      asked = λ none. none ∙ sym asks;
-    }
 
 -- no frame makes a node issue
 taking_quiet : (n : Node) (from : ℕ) (what : Speech) → (taken_reply n from what).issued ≡ None
@@ -139,33 +125,6 @@ taking_quiet n from (speech.Tx tx) = refl
 pub frame_quiet : (n : Node) (now : ℕ) (bytes : List ℕ) → (happens n (nodes.Frame now bytes) AnsweredOk).issued ≡ None
 frame_quiet n now bytes =
     let m : Node = at_moment now n in hearing_either (λ r. r.issued ≡ None) m bytes (λ _. refl) (λ said _. taking_quiet m said.from said.what)
-
-pub reacts_as : (r : Result Taken Refusal) → reaction_to r ≡ reaction_of (taken_answer r)
-reacts_as (Ok taken) = refl
-reacts_as (Err w) = refl
-
-pub done_reacts : {X : Type 0} (r : Result X Refusal) → reaction_to r ≡ reaction_of (done_answer r)
-done_reacts (Ok done) = refl
-done_reacts (Err w) = refl
-
--- WHAT IS ISSUED
-
-issue_counts : {X : Type 0} (r : Result X Refusal) (old new : ℕ) → CountsFault r old new → (count : ℕ) → save_in r ≡ AnsweredFailed count → count ≡ new
-issue_counts (Ok done) old new counts count is = cc
-issue_counts (Err w) old new counts count is = (counts count (ap (λ (v : Refusal). Err v) (failed_why w count is))).1
-
-pub issue_does : {X : Type 0} (r : Result X Refusal) (core after : Core) (now seq : ℕ) (id : LedgerId) (full : Bool) (old new : Fated) (told : Reaction) → Issues core (Issue now seq id full) r after → CountsFault r old.disk.faults new.disk.faults →
-    Saves Gives (asks_for core.node seq) (was_kept r) old new → told ≡ reaction_to r → Does core (Issue now seq id full) old after told new
-issue_does r core after now seq id full old new told answers counts saves reacts =
-    let e : CoreEvent = Issue now seq id full in
-    let is : IsFated (asks_for core.node seq) (save_in r) old new = fated (asks_for core.node seq) (save_in r) old new saves (issue_counts r old.disk.faults new.disk.faults counts) in
-    let same : core_happens core e (save_in r) ≡ core_happens core e (answer_of old.disk old.fate) = alike core e (save_in r) old.disk old.fate is.answered in
-    record {
-      core = answers.core ∙ ap (λ (x : CoreReply). x.core) same;
-      reaction = reacts ∙ (done_reacts r ∙ ap reaction_of (answers.answer ∙ ap (λ (x : CoreReply). x.answer) same));
-      disk = is.disk;
-      asked = is.asked;
-    }
 
 -- A TIMER
 
@@ -213,71 +172,65 @@ validating_told n h moved_on save =
     cond_both (validates n moved_on) (issuing_reply n h.seq (header_id h) (is_proposing n.round.setting.mode) save) (replying n AnsweredDone []) (TellsIssued h.seq (header_id h))
     (λ _. issuing_told n h.seq (header_id h) (is_proposing n.round.setting.mode) save) (λ _ member. refl)
 
-pub timer_does : (beat : TimerAnswer) (core after : Core) (now : ℕ) (old new : Fated) → Beaten core now beat after → CountsBeatFault beat old.disk.faults new.disk.faults →
-    Saves Gives (core_asks core (Timer now)) (beat_was_kept beat) old new → Does core (Timer now) old after (reaction.TimerAnswer beat) new
-timer_does beat core after now old new answers counts saves =
-    let is : IsFated (core_asks core (Timer now)) (save_at beat) old new = fated (core_asks core (Timer now)) (save_at beat) old new saves (beat_counts beat old.disk.faults new.disk.faults counts) in
-    let same : core_happens core (Timer now) (save_at beat) ≡ core_happens core (Timer now) (answer_of old.disk old.fate) = alike core (Timer now) (save_at beat) old.disk old.fate is.answered in
-    record {
-      core = answers.core ∙ ap (λ (x : CoreReply). x.core) same;
-      reaction = ap reaction_of (answers.answer ∙ ap (λ (x : CoreReply). x.answer) same);
-      disk = is.disk;
-      asked = is.asked;
-    }
-
--- WHAT A REACTION TELLS
+-- WHAT AN ANSWER TELLS
 
 -- the validation that was issued
 abbrev TellsSaid : Deed → Reply → Type 0
-TellsSaid d r = (member : ℕ) → said_in member d (reaction_of r.answer) ≡ option_map (said_by member) r.issued
+TellsSaid d r = (member : ℕ) → said_in member d r.answer ≡ option_map (said_by member) r.issued
 
-unless_said : (n : Node) (off : Option ℕ) (save : Save) (seq : ℕ) (id : LedgerId) (full : Bool) → TellsSaid (deed.Issue seq id full) (issued_unless_off n off save (own_validation n seq id full))
-unless_said n None AnsweredOk seq id full member = refl
-unless_said n None (AnsweredFailed count) seq id full member = refl
-unless_said n (Some failed) save seq id full member = refl
+unless_said : (now : ℕ) (n : Node) (off : Option ℕ) (save : Save) (seq : ℕ) (id : LedgerId) (full : Bool) → TellsSaid (deed.Issue now seq id full) (issued_unless_off n off save (own_validation n seq id full))
+unless_said now n None AnsweredOk seq id full member = refl
+unless_said now n None (AnsweredFailed count) seq id full member = refl
+unless_said now n (Some failed) save seq id full member = refl
 
-issuing_said : (n : Node) (seq : ℕ) (id : LedgerId) (full : Bool) (save : Save) → TellsSaid (deed.Issue seq id full) (issuing_reply n seq id full save)
-issuing_said n seq id full save =
-    cond_both (nat_lt n.kept seq) (issued_unless_off n n.failed_save save (own_validation n seq id full)) (refusing n (why.NotAfter n.kept)) (TellsSaid (deed.Issue seq id full)) (λ _. unless_said n n.failed_save save seq id full) (λ _ member. refl)
+issuing_said : (now : ℕ) (n : Node) (seq : ℕ) (id : LedgerId) (full : Bool) (save : Save) → TellsSaid (deed.Issue now seq id full) (issuing_reply n seq id full save)
+issuing_said now n seq id full save =
+    cond_both (nat_lt n.kept seq) (issued_unless_off n n.failed_save save (own_validation n seq id full)) (refusing n (why.NotAfter n.kept)) (TellsSaid (deed.Issue now seq id full)) (λ _. unless_said now n n.failed_save save seq id full) (λ _ member. refl)
 
-timer_said : (n : Node) (save : Save) → TellsSaid deed.Timer (timer_reply (timer_outcome n) save)
-timer_said n save =
-    timed_by (λ t. TellsSaid deed.Timer (timer_reply t save)) n
+timer_said : (now : ℕ) (n : Node) (save : Save) → TellsSaid (deed.Timer now) (timer_reply (timer_outcome n) save)
+timer_said now n save =
+    timed_by (λ t. TellsSaid (deed.Timer now) (timer_reply t save)) n
     (λ r beat said none member. none member)
     (λ ledgers r said h place moved_on member. validating_told (record n { ledgers = ledgers; round = r }) h moved_on save member)
 
-pub said_so : (core : Core) (now : ℕ) (d : Deed) (save : Save) → let r : CoreReply = core_happens core (deed_event now d) save in said_in core.node.me d (reaction_of r.answer) ≡ option_map (said_by core.node.me) r.issued
-said_so core now (deed.Issue seq id full) save = issuing_said (at_moment now core.node) seq id full save core.node.me
-said_so core now (deed.Frame bytes) save = ap (option_map (said_by core.node.me)) (sym (frame_quiet core.node now bytes.now))
-said_so core now (deed.Sent to kept) save = ap (option_map (said_by core.node.me)) (sym (frame_quiet core.node now (bytes_as_sealed (schedule_ring to) kept.now)))
-said_so core now deed.Timer save = timer_said (at_moment now core.node) save core.node.me
-said_so core now (deed.Submit tx) save = submit_either (TellsSaid (deed.Submit tx)) (at_moment now core.node) tx (λ _ member. refl) (λ member. refl) core.node.me
-said_so core now (deed.Greet peer) save = refl
-said_so core now (deed.Relist list) save = relist_either (TellsSaid (deed.Relist list)) (at_moment now core.node) list.now (λ _ member. refl) (λ _ member. refl) core.node.me
+pub said_so : (core : Core) (i : ℕ) (d : Deed) (save : Save) → let r : CoreReply = core_happens core (deed_event i d) save in said_in core.node.me d r.answer ≡ option_map (said_by core.node.me) r.issued
+said_so core i (deed.Issue now seq id full) save = issuing_said now (at_moment now core.node) seq id full save core.node.me
+said_so core i (deed.Frame now bytes) save = ap (option_map (said_by core.node.me)) (sym (frame_quiet core.node now bytes.now))
+said_so core i (deed.Sealed now bytes) save = ap (option_map (said_by core.node.me)) (sym (frame_quiet core.node now (bytes_as_sealed (schedule_ring i) bytes.now)))
+said_so core i (deed.Timer now) save = timer_said now (at_moment now core.node) save core.node.me
+said_so core i (deed.Submit now tx) save = submit_either (TellsSaid (deed.Submit now tx)) (at_moment now core.node) tx (λ _ member. refl) (λ member. refl) core.node.me
+said_so core i (deed.Greet peer) save = refl
+said_so core i (deed.Relist now list) save = relist_either (TellsSaid (deed.Relist now list)) (at_moment now core.node) list.now (λ _ member. refl) (λ _ member. refl) core.node.me
+said_so core i deed.Stop save = refl
+said_so core i deed.Stopped save = refl
 
 -- the list that was set
-pub set_so : (core : Core) (now : ℕ) (d : Deed) (save : Save) → let r : CoreReply = core_happens core (deed_event now d) save in
-    (if is_relisted d (reaction_of r.answer) then Some (list_now r.core.node) else None) ≡ set_by core.node.me (deed_event now d) r.answer
-set_so core now (deed.Issue seq id full) save = refl
-set_so core now (deed.Frame bytes) save = refl
-set_so core now (deed.Sent to kept) save = refl
-set_so core now deed.Timer save = refl
-set_so core now (deed.Submit tx) save = refl
-set_so core now (deed.Greet peer) save = refl
-set_so core now (deed.Relist list) save =
-    relist_either (λ r. (if is_relisted (deed.Relist list) (reaction_of r.answer) then Some (list_now r.node) else None) ≡ set_by core.node.me (Relist now list.now) r.answer) (at_moment now core.node) list.now (λ _. refl) (λ _. refl)
+pub set_so : (core : Core) (i : ℕ) (d : Deed) (save : Save) → let r : CoreReply = core_happens core (deed_event i d) save in
+    (if is_relisted d r.answer then Some (list_now r.core.node) else None) ≡ set_by core.node.me (deed_event i d) r.answer
+set_so core i (deed.Issue now seq id full) save = refl
+set_so core i (deed.Frame now bytes) save = refl
+set_so core i (deed.Sealed now bytes) save = refl
+set_so core i (deed.Timer now) save = refl
+set_so core i (deed.Submit now tx) save = refl
+set_so core i (deed.Greet peer) save = refl
+set_so core i (deed.Relist now list) save =
+    relist_either (λ r. (if is_relisted (deed.Relist now list) r.answer then Some (list_now r.node) else None) ≡ set_by core.node.me (Relist now list.now) r.answer) (at_moment now core.node) list.now (λ _. refl) (λ _. refl)
+set_so core i deed.Stop save = refl
+set_so core i deed.Stopped save = refl
 
 -- THE REPORT THAT IS LEFT
 
 -- what is untaken then is what arose
-pub untaken_then : (core : Core) (now : ℕ) (d : Deed) (save : Save) → core.untaken.items ≡ [] → let r : CoreReply = core_happens core (deed_event now d) save in r.core.untaken.items ≡ option_to_list r.report
-untaken_then core now (deed.Issue seq id full) save none = untaken_is core.untaken (happens core.node (nodes.Issue now seq id full) save).report none
-untaken_then core now (deed.Frame bytes) save none = untaken_is core.untaken (happens core.node (nodes.Frame now bytes.now) save).report none
-untaken_then core now (deed.Sent to kept) save none = untaken_is core.untaken (happens core.node (nodes.Frame now (bytes_as_sealed (schedule_ring to) kept.now)) save).report none
-untaken_then core now deed.Timer save none = untaken_is core.untaken (happens core.node (nodes.Timer now) save).report none
-untaken_then core now (deed.Submit tx) save none = untaken_is core.untaken (happens core.node (nodes.Submit now tx) save).report none
-untaken_then core now (deed.Greet peer) save none = none
-untaken_then core now (deed.Relist list) save none = untaken_is core.untaken (happens core.node (nodes.Relist now list.now) save).report none
+pub untaken_then : (core : Core) (i : ℕ) (d : Deed) (save : Save) → core.untaken.items ≡ [] → let r : CoreReply = core_happens core (deed_event i d) save in r.core.untaken.items ≡ option_to_list r.report
+untaken_then core i (deed.Issue now seq id full) save none = untaken_is core.untaken (happens core.node (nodes.Issue now seq id full) save).report none
+untaken_then core i (deed.Frame now bytes) save none = untaken_is core.untaken (happens core.node (nodes.Frame now bytes.now) save).report none
+untaken_then core i (deed.Sealed now bytes) save none = untaken_is core.untaken (happens core.node (nodes.Frame now (bytes_as_sealed (schedule_ring i) bytes.now)) save).report none
+untaken_then core i (deed.Timer now) save none = untaken_is core.untaken (happens core.node (nodes.Timer now) save).report none
+untaken_then core i (deed.Submit now tx) save none = untaken_is core.untaken (happens core.node (nodes.Submit now tx) save).report none
+untaken_then core i (deed.Greet peer) save none = none
+untaken_then core i (deed.Relist now list) save none = untaken_is core.untaken (happens core.node (nodes.Relist now list.now) save).report none
+untaken_then core i deed.Stop save none = none
+untaken_then core i deed.Stopped save none = none
 
 -- the report that is taken is the one that arose
 pub report_left : (a : Core) (r : CoreReply) (given : Option Report) → r.core.untaken.items ≡ option_to_list r.report → a ≡ r.core → option_to_list given ≡ a.untaken.items → given ≡ r.report

@@ -1,11 +1,11 @@
 -- Spent worlds, and worlds that are not.
 use Rattle.std.proofs.Common.{◌≡◌, ℕ, Bool, true, false, ap, sym, subst, ◌∙◌, inl, inr}
 use Rattle.std.proofs.lemmas.Bool.{cases_Bool}
+use Rattle.xl_lists.specs.Agreement.{Agree}
 use Rattle.xl_sched.specs.declared.event.Event.{Event}
 use Rattle.xl_sched.specs.declared.event.What.{What}
 use Rattle.xl_world.specs.declared.extent.Extent.{Extent}
 use Rattle.xl_world.specs.Ends.{Grows, IsLeft, cut_back, ended, extent_of}
-use Rattle.xl_world.specs.Headline.{AgreeAt, EnoughAt}
 use Rattle.xl_world.specs.Schedule.{IsPlausible, after_event, steps_at}
 use Rattle.xl_world.specs.Starts.{IsRun, start}
 use Rattle.xl_world.specs.World.{World, run}
@@ -48,17 +48,15 @@ kept_same false n w is kept h = sym (unspent_same n (run_unspent n kept.0)) ∙ 
 kept_same true n w is kept h = absurd (never h)
 
 -- reports that agree in a run agree in what is left of it
-left_agrees : (w : World) → IsLeft w → (i j : ℕ) → EnoughAt w.liars w.reports i j → w.forged ≡ 0 → AgreeAt w.reports i j
-left_agrees w left i j enough none =
-    let v : World = left.0 in
-    let is : w ≡ ended v = left.2 in
-    subst (λ (u : World). AgreeAt u.reports i j) (sym is)
-    (world_agrees v left.1 i j (subst (λ (u : World). EnoughAt u.liars u.reports i j) is enough) (subst (λ (u : World). u.forged ≡ 0) is none))
+left_agrees : (w : World) → IsLeft w → w.forged ≡ 0 → Agree w.liars w.reports
+left_agrees w left none =
+    let is : w ≡ ended left.0 = left.2 in
+    subst (λ (u : World). Agree u.liars u.reports) (sym is) (world_agrees left.0 left.1 (subst (λ (u : World). u.forged ≡ 0) is none))
 
-pub all_agree : (w : World) → (w.spent ≡ false → IsRun w) → (w.spent ≡ true → IsLeft w) → (i j : ℕ) → EnoughAt w.liars w.reports i j → w.forged ≡ 0 → AgreeAt w.reports i j
-all_agree w is_run is_left i j enough none = elim (cases_Bool w.spent) [
-  | inl spent ↦ left_agrees w (is_left spent) i j enough none
-  | inr going ↦ world_agrees w (is_run going) i j enough none
+pub all_agree : (w : World) → (w.spent ≡ false → IsRun w) → (w.spent ≡ true → IsLeft w) → w.forged ≡ 0 → Agree w.liars w.reports
+all_agree w is_run is_left none = elim (cases_Bool w.spent) [
+  | inl spent ↦ left_agrees w (is_left spent) none
+  | inr going ↦ world_agrees w (is_run going) none
 ]
 
 -- AN EVENT

@@ -44,3 +44,6 @@ pub mod Liars
 pub mod Emptied
 pub mod Framing
 pub mod Partwise
+pub mod Keyed
+pub mod Rising
+pub mod Lives

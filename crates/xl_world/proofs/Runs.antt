@@ -1,10 +1,11 @@
 -- Each step of an unforged run of cores keeps what is kept, so reports agree.
 use Rattle.std.proofs.Common.{◌≡◌, ℕ, ◌<◌, ◌≤◌, Bool, true, false, cond, List, [], ◌∷◌, ◌++◌, refl, arith, ap, sym, ◌∙◌, Option, Some, None, subst}
-use Rattle.std.specs.Prelude.{◌==◌, All, IfSome, slice_index_or}
+use Rattle.std.specs.Prelude.{◌==◌, All, IfSome, IsTrue}
 use Rattle.std.proofs.lemmas.Bool.{cond_both}
-use Rattle.std.proofs.lemmas.List.Elements.{All-append, All-cons, All-map, All-head, All-tail, All-nil}
+use Rattle.std.proofs.lemmas.List.Elements.{All-append, All-cons, All-head, All-tail, All-nil}
 use Rattle.xl_lists.specs.declared.said.SaidLedger.{SaidLedger}
-use Rattle.xl_lists.specs.Agreement.{IsGenuine, IsBacked, Agree}
+use Rattle.xl_base.specs.declared.ids.LedgerId.{LedgerId}
+use Rattle.xl_lists.specs.Agreement.{IsGenuine, IsBacked, Agree, has_said}
 use Rattle.xl_lists.proofs.Agreement.{law_of_agreement, vouches_still}
 use Rattle.xl_core.specs.declared.event.CoreEvent.{CoreEvent}
 use Rattle.xl_core.specs.declared.event.CoreEvent.TheVariants.{Issue, Frame, Timer, Submit, Greet, Drain, Reports, Stop, Stopped, Relist}
@@ -16,16 +17,15 @@ use Rattle.xl_core.specs.Node.{Node, Save, settings_of}
 use Rattle.xl_core.proofs.Heard.{heard_parts}
 use Rattle.xl_world.specs.declared.place.Disk.{Disk}
 use Rattle.xl_world.specs.declared.place.Fate.{Fate}
-use Rattle.xl_world.specs.declared.plan.PlanNode.{PlanNode}
 use Rattle.xl_io.specs.Keepers.{MayHold, may_hold}
 use Rattle.xl_base.specs.Counts.{one_more}
 use Rattle.xl_world.specs.Disk.{held_by, resting, restored, answer_of}
-use Rattle.xl_world.specs.Plans.{Shared, planned, AreDeclared}
+use Rattle.xl_world.specs.Networks.{IsOpened, IsNew, HeadlineOfNetworks}
 use Rattle.xl_world.proofs.Standing.{FrameSays}
 use Rattle.xl_world.specs.World.{said_by}
 use Rattle.xl_world.specs.declared.place.Place.{Place}
 use Rattle.xl_world.specs.World.{World, Step, Act, Again, Torn, Mark, AreFit, IsFit, IsFitEvent, place_at, is_forged, set_by, acts, reply_at, disk_after, core_again, reopened, again, torn, moment_in, asked_at, marked, step, run}
-use Rattle.xl_world.specs.Starts.{start_of, start, IsRun}
+use Rattle.xl_world.specs.Starts.{start, IsRun}
 use Rattle.xl_world.proofs.Standing.{CoreSays, Stands}
 use Rattle.xl_world.proofs.NodeSteps.{asks_above, failed_rises, opened_well}
 use Rattle.xl_world.proofs.Unforged.{heard_unforged, may_hold-true, never_none}
@@ -48,7 +48,7 @@ heard_genuine w n stands Stop fair = tt
 heard_genuine w n stands Stopped fair = tt
 heard_genuine w n stands (Relist now list) fair = tt
 
-heard_weaker : (P Q : SaidLedger → Type 0) → ((x : SaidLedger) → P x → Q x) → (n : Node) (e : CoreEvent) → CoreHeard P n e → CoreHeard Q n e
+pub heard_weaker : (P Q : SaidLedger → Type 0) → ((x : SaidLedger) → P x → Q x) → (n : Node) (e : CoreEvent) → CoreHeard P n e → CoreHeard Q n e
 heard_weaker P Q h n (Issue now seq id full) says = tt
 heard_weaker P Q h n (Frame now bytes) says = λ from v is. h (said_by from v) (says from v is)
 heard_weaker P Q h n (Timer now) says = tt
@@ -184,29 +184,36 @@ each_at P i (x ∷ xs) p each h =
     cond_both (x.core.node.me == i) (Some x) (place_at i xs) (λ o. o ≡ Some p → P p)
     (λ _ here. subst P (sym (some_same x p here)) (All-head P x xs each)) (λ _ there. each_at P i xs p (All-tail P x xs each) there) h
 
-start_sound : (shared : Shared) (liars : List ℕ) (plan : List PlanNode) → AreDeclared plan → IsSound (start shared liars plan)
-start_sound shared liars plan lists = record {
+opened_says : (P : SaidLedger → Type 0) (p : Place) → IsOpened p → CoreSays P p.core
+opened_says P p is = subst (λ (x : Place). CoreSays P x.core) (sym is.opened) (opened_core_says P is.settings is.moment is.kept)
+
+opened_sits : (p : Place) → IsOpened p → IsWell (seat p.core p.disk)
+opened_sits p is =
+    subst (λ (x : Place). IsWell (seat x.core x.disk)) (sym is.opened)
+    (opened_well is.settings is.moment is.kept (resting is.kept) is.list refl)
+
+nothing_said : (said : List SaidLedger) (m s : ℕ) (id : LedgerId) → said ≡ [] → IsTrue (has_said said m s id) → ⊥
+nothing_said said m s id none is = let no : IsTrue (has_said [] m s id) = subst (λ (xs : List SaidLedger). IsTrue (has_said xs m s id)) none is in cc
+
+pub new_sound : (w : World) → IsNew w → IsSound w
+new_sound w new = record {
   kept = record {
-    saved = λ m s n id said _. cc;
-    once = λ m s a b said _. cc;
+    saved = λ m s n id said _. absurd (nothing_said w.said m s id new.said said);
+    once = λ m s a b said _. absurd (nothing_said w.said m s a new.said said);
     genuine = record {
-      places = λ i p h. each_at (λ x. CoreSays (IsGenuine liars []) x.core) i _ p
-          (All-map (λ x. CoreSays (IsGenuine liars []) x.core) (start_of shared) plan
-          (λ k e _. let d : PlanNode = slice_index_or plan k e in opened_core_says (IsGenuine liars []) (planned shared d) d.moment 0)) h;
-      sent = All-nil (FrameSays (IsGenuine liars []));
+      places = λ i p h. opened_says (IsGenuine w.liars w.said) p (each_at IsOpened i w.places p new.opened h);
+      sent = subst (All (FrameSays (IsGenuine w.liars w.said))) (sym new.sent) (All-nil (FrameSays (IsGenuine w.liars w.said)));
     };
-    backed = All-nil (IsBacked liars []);
+    backed = subst (All (IsBacked w.liars w.said)) (sym new.reports) (All-nil (IsBacked w.liars w.said));
   };
-  well = λ i p h. each_at (λ x. IsWell (seat x.core x.disk)) i _ p
-      (All-map (λ x. IsWell (seat x.core x.disk)) (start_of shared) plan
-      (λ k e in_plan. let d : PlanNode = slice_index_or plan k e in opened_well (planned shared d) d.moment 0 (resting 0) (lists k e in_plan).list refl)) h;
+  well = λ i p h. opened_sits p (each_at IsOpened i w.places p new.opened h);
 }
 
--- reports agree, in each unforged run
-pub agreement : (shared : Shared) (liars : List ℕ) (plan : List PlanNode) (steps : List Step) → AreDeclared plan → AreFit steps → (run (start shared liars plan) steps).forged ≡ 0 → Agree liars (run (start shared liars plan) steps).reports
-agreement shared liars plan steps lists fit none =
-    subst (λ ls. Agree ls (run (start shared liars plan) steps).reports) (run_stays (start shared liars plan) steps).liars
-    (law_of_agreement (run_sound (start shared liars plan) steps fit none (start_sound shared liars plan lists)).kept)
+-- reports agree, in each unforged run of a new network
+pub headline_of_networks : HeadlineOfNetworks
+headline_of_networks w steps new fit none =
+    subst (λ ls. Agree ls (run w steps).reports) (run_stays w steps).liars
+    (law_of_agreement (run_sound w steps fit none (new_sound w new)).kept)
 
 -- RUNS GO ON
 

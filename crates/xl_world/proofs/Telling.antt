@@ -1,8 +1,6 @@
 -- What is told of steps: of what happened at a core, and not of the emptying that follows.
 use Rattle.std.proofs.Common.{◌≡◌, ℕ, List, [], ◌∷◌, ◌++◌, map, refl, ap, sym, ◌∙◌, Option, Some, None, append_assoc, append-nil}
 use Rattle.std.specs.Prelude.{option_map, option_to_list}
-use Rattle.xl_core.specs.Answers.{Answer}
-use Rattle.xl_core.specs.Answers as answer
 use Rattle.xl_core.specs.Core.{Core, CoreReply}
 use Rattle.xl_core.specs.declared.event.CoreEvent.{CoreEvent}
 use Rattle.xl_core.specs.declared.event.CoreEvent.TheVariants.{Drain, Reports}
@@ -15,7 +13,7 @@ use Rattle.xl_world.specs.declared.place.Fate.TheVariants.{Saved}
 use Rattle.xl_world.specs.declared.place.Place.{Place}
 use Rattle.xl_world.specs.Emptying.{draining, emptying_at, event_steps, handed_out}
 use Rattle.xl_world.specs.Schedule.{told_in, told_of_answer, told_of_reply, told_of_step}
-use Rattle.xl_world.specs.Seen.{Answers, AnswersAt, outcomes_told, reaction_of, told_of_reaction}
+use Rattle.xl_world.specs.Seen.{Answers, AnswersAt, outcomes_told}
 use Rattle.xl_world.specs.World.{Act, Step, World, place_at, reply_at, run, step}
 use Rattle.xl_world.proofs.Emptying.{AreDrains, drain_by, turns_are}
 
@@ -61,20 +59,11 @@ told_once w i e fate =
 
 -- ANSWERS
 
-reaction_told : (i : ℕ) (a : Answer) → told_of_reaction i (reaction_of a) ≡ told_of_answer i a
-reaction_told i (answer.Refused why) = refl
-reaction_told i (answer.Took taken) = refl
-reaction_told i (answer.Beats beat) = refl
-reaction_told i answer.Done = refl
-reaction_told i (answer.Gave to frames) = refl
-reaction_told i (answer.Handed reports) = refl
-reaction_told i (answer.Told stopped) = refl
-
 answer_told : (i : ℕ) (e : CoreEvent) (fate : Fate) (a : NodeAnswer) (o : Option Place) → Answers e fate o (Some a) → outcomes_told i a ≡ told_of_reply i (option_map (λ p. reply_at p e fate) o)
 answer_told i e fate a None never = absurd never
 answer_told i e fate a (Some p) is =
     let r : CoreReply = reply_at p e fate in
-    ap (λ (os : List Outcome). os ++ option_to_list (option_map (λ (q : Report). Full i q.seq q.id) a.report)) (ap (told_of_reaction i) is.reaction ∙ reaction_told i r.answer)
+    ap (λ (os : List Outcome). os ++ option_to_list (option_map (λ (q : Report). Full i q.seq q.id) a.report)) (ap (told_of_answer i) is.told)
     ∙ ap (λ (o : Option Report). told_of_answer i r.answer ++ option_to_list (option_map (λ (q : Report). Full i q.seq q.id) o)) is.report
 
 -- what the code tells of an answer is what is told of the steps of its event

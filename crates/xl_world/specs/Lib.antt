@@ -5,6 +5,8 @@ pub mod Forgeries
 pub mod World
 pub mod Starts
 pub mod Ends
+pub mod Networks
+pub mod Lives
 pub mod Headline
 pub mod Emptying
 pub mod Rested

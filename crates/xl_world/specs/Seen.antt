@@ -1,6 +1,6 @@
 -- How the definitions see the types of the code. Source: what the code of this crate keeps.
 use Rattle.std.specs.Prelude.{◌≡◌, ◌<◌, ◌≤◌, ℕ, Bool, true, false, [], ◌∷◌, List, ◌++◌, length, All, option_map, option_to_list, not, ◌==◌, ◌&&◌, ◌||◌, if◌then◌else◌}
-use Rattle.std.specs.Prelude.{Some, None, Result, Ok, Err}
+use Rattle.std.specs.Prelude.{Some, None}
 use Rattle.std.specs.declared.option.Option.{Option}
 use Rattle.std.specs.List.{list_all}
 use Rattle.xl_base.specs.Ids.{same_id}
@@ -11,29 +11,28 @@ use Rattle.xl_lists.specs.declared.said.SaidLedger.{SaidLedger}
 use Rattle.xl_core.specs.Answers.{Answer}
 use Rattle.xl_core.specs.Answers as answer
 use Rattle.xl_core.specs.Core.{Core, core_asks, core_happens}
-use Rattle.xl_core.specs.Hearing.{bytes_as_sealed}
+use Rattle.xl_core.specs.Deeds.{MayUnder, event_under}
+use Rattle.xl_core.specs.Deeds.{answer_of as told_as}
 use Rattle.xl_core.specs.Node.{Node}
+use Rattle.xl_core.specs.declared.core_answer.CoreAnswer.{CoreAnswer}
+use Rattle.xl_core.specs.declared.core_answer.CoreAnswer.TheVariants as told
+use Rattle.xl_core.specs.declared.deed.Deed.{Deed}
+use Rattle.xl_core.specs.declared.deed.Deed.TheVariants as deed
 use Rattle.xl_tags.specs.Rings.{schedule_ring}
 use Rattle.xl_core.specs.declared.timer_answer.TimerAnswer.{TimerAnswer}
 use Rattle.xl_core.specs.declared.timer_answer.TimerAnswer.TheVariants as timer_answer
 use Rattle.xl_core.specs.declared.timer_answer.Issued.{Issued}
 use Rattle.xl_core.specs.declared.timer_answer.Issued.TheVariants as issued
 use Rattle.xl_core.specs.declared.event.CoreEvent.{CoreEvent}
-use Rattle.xl_core.specs.declared.event.CoreEvent.TheVariants.{Issue, Frame, Timer, Submit, Greet, Relist}
-use Rattle.xl_core.specs.declared.refusal.Refusal.{Refusal}
 use Rattle.xl_core.specs.declared.report.Report.{Report}
 use Rattle.xl_wire.specs.Heads.{split_of}
 use Rattle.xl_wire.specs.Heads.Split.{Whole}
 use Rattle.xl_wire.specs.Kinds.{span}
 use Rattle.xl_wire.specs.Raws.{RawFrame, SpellsRaw}
-use Rattle.xl_world.specs.declared.act.Deed.{Deed}
-use Rattle.xl_world.specs.declared.act.Deed.TheVariants as deed
 use Rattle.xl_world.specs.declared.act.NodeAnswer.{NodeAnswer}
-use Rattle.xl_world.specs.declared.act.Reaction.{Reaction}
-use Rattle.xl_world.specs.declared.act.Reaction.TheVariants as reaction
 use Rattle.xl_world.specs.declared.fork.Fork.{Fork}
 use Rattle.xl_world.specs.declared.outcome.Outcome.{Outcome}
-use Rattle.xl_world.specs.declared.outcome.Outcome.TheVariants.{Refused, Full}
+use Rattle.xl_world.specs.declared.outcome.Outcome.TheVariants.{Full}
 use Rattle.xl_world.specs.declared.place.Fate.{Fate}
 use Rattle.xl_world.specs.declared.place.Disk.{Disk}
 use Rattle.xl_world.specs.declared.place.Place.{Place}
@@ -44,7 +43,7 @@ use Rattle.xl_world.specs.Emptying.{after_events, draining, given_by, handed_out
 use Rattle.xl_world.specs.Forgeries.{forges}
 use Rattle.xl_world.specs.Forks as Forks
 use Rattle.xl_world.specs.Disk.{after_save, answer_of}
-use Rattle.xl_world.specs.Schedule.{told_of_beat}
+use Rattle.xl_world.specs.Schedule.{told_of_answer}
 use Rattle.xl_world.specs.World.{World, core_again, disk_after, place_at, put, reply_at, reported_by, said_by, set_by}
 
 abbrev pub fork_seen : Fork → Forks.Fork
@@ -58,39 +57,13 @@ agrees_at j r q = not (q.node == j && (r.seq == q.seq && not (same_id r.id q.id)
 abbrev pub accords : ℕ → ℕ → List Reported → Reported → Bool
 accords i j reports r = not (r.node == i) || list_all (λ q. agrees_at j r q) reports
 
--- what happens at a node, as its core's event
+-- what happens at the node of a number, as its core's event: in a schedule it has the keys of its number
 abbrev pub deed_event : ℕ → Deed → CoreEvent
-deed_event now (deed.Issue seq id full) = Issue now seq id full
-deed_event now (deed.Frame bytes) = Frame now bytes.now
-deed_event now (deed.Sent to kept) = Frame now (bytes_as_sealed (schedule_ring to) kept.now)
-deed_event now deed.Timer = Timer now
-deed_event now (deed.Submit tx) = Submit now tx
-deed_event now (deed.Greet peer) = Greet peer
-deed_event now (deed.Relist list) = Relist now list.now
+deed_event i d = event_under (schedule_ring i) d
 
--- a node greets another, and a sent frame comes to its receiver
+-- and its conditions
 abbrev pub MayDo : ℕ → Deed → Type 0
-MayDo me (deed.Issue seq id full) = Unit {0}
-MayDo me (deed.Frame bytes) = Unit {0}
-MayDo me (deed.Sent to kept) = to ≡ me
-MayDo me deed.Timer = Unit {0}
-MayDo me (deed.Submit tx) = Unit {0}
-MayDo me (deed.Greet peer) = ¬ (peer ≡ me)
-MayDo me (deed.Relist list) = Unit {0}
-
--- what a node says in an answer of what happened at it
-abbrev pub reaction_of : Answer → Reaction
-reaction_of (answer.Refused why) = reaction.Refused why
-reaction_of (answer.Took taken) = reaction.Done
-reaction_of (answer.Beats beat) = reaction.TimerAnswer beat
-reaction_of answer.Done = reaction.Done
-reaction_of (answer.Gave to frames) = reaction.Done
-reaction_of (answer.Handed reports) = reaction.Done
-reaction_of (answer.Told stopped) = reaction.Done
-
-abbrev pub reaction_to : {X : Type 0} → Result X Refusal → Reaction
-reaction_to (Ok done) = reaction.Done
-reaction_to (Err why) = reaction.Refused why
+MayDo i d = MayUnder (schedule_ring i) d
 
 -- the validation that a node issued of a ledger that it built
 abbrev pub said_by_issued : ℕ → ℕ → LedgerId → Issued → Option SaidLedger
@@ -107,29 +80,25 @@ said_by_beat member (timer_answer.Switched seq id) = None
 said_by_beat member (timer_answer.NoRoom limit) = None
 said_by_beat member (timer_answer.Built seq id moved_on how) = said_by_issued member seq id how
 
--- the validation that a node issued by what happened at it, as its reaction tells
-abbrev pub said_in : ℕ → Deed → Reaction → Option SaidLedger
-said_in member (deed.Issue seq id full) reaction.Done = Some (record { member = member; seq = seq; id = id })
-said_in member deed.Timer (reaction.TimerAnswer beat) = said_by_beat member beat
-said_in member other other_reaction = None
+-- the validation that a node issued by what happened at it, as it is told
+abbrev pub said_in : ℕ → Deed → Answer → Option SaidLedger
+said_in member (deed.Issue now seq id full) answer.Done = Some (record { member = member; seq = seq; id = id })
+said_in member (deed.Timer now) (answer.Beats beat) = said_by_beat member beat
+said_in member other other_answer = None
 
--- whether it went over to another list, as its reaction tells
-abbrev pub is_relisted : Deed → Reaction → Bool
-is_relisted (deed.Relist list) (reaction.Refused why) = false
-is_relisted (deed.Relist list) other = true
-is_relisted other other_reaction = false
+-- whether it went over to another list, as it is told
+abbrev pub is_relisted : Deed → Answer → Bool
+is_relisted (deed.Relist now list) (answer.Refused why) = false
+is_relisted (deed.Relist now list) other = true
+is_relisted other other_answer = false
 
 -- what an event does to a core, under a disk whose save meets a fate
-pub record Does (before : Core) (event : CoreEvent) (old : Fated) (after : Core) (told : Reaction) (new : Fated)
+pub record Does (before : Core) (event : CoreEvent) (old : Fated) (after : Core) (told : CoreAnswer) (new : Fated)
     : Type 0 where
   pub core : after ≡ (core_happens before event (answer_of old.disk old.fate)).core
-  pub reaction : told ≡ reaction_of (core_happens before event (answer_of old.disk old.fate)).answer
+  pub says : told_as told ≡ (core_happens before event (answer_of old.disk old.fate)).answer
   pub disk : new.disk ≡ after_save old.disk (core_asks before event) old.fate
   pub asked : old.asked ≡ None → new.asked ≡ core_asks before event
-
--- what an event does to a core that asks no save by it, whatever its disk
-abbrev pub DoesUnsaved : Core → CoreEvent → Core → Reaction → Type 0
-DoesUnsaved before event after told = (disk : Fated) → Does before event disk after told disk
 
 -- the list in force at a node
 abbrev pub list_now : Node → InForce
@@ -137,7 +106,7 @@ list_now n = record { node = n.me; list = n.list }
 
 -- what came of an event at a place is this answer: the node's own report, and whether its list is one that was set
 pub record IsAnswer (p : Place) (e : CoreEvent) (fate : Fate) (a : NodeAnswer) : Type 0 where
-  pub reaction : a.reaction ≡ reaction_of (reply_at p e fate).answer
+  pub told : told_as a.told ≡ (reply_at p e fate).answer
   pub asked : a.asked ≡ core_asks p.core e
   pub said : a.said ≡ option_map (said_by p.core.node.me) (reply_at p e fate).issued
   pub report : a.report ≡ (reply_at p e fate).report
@@ -146,7 +115,7 @@ pub record IsAnswer (p : Place) (e : CoreEvent) (fate : Fate) (a : NodeAnswer) :
 
 -- what comes of nothing
 abbrev pub no_answer : NodeAnswer
-no_answer = record { reaction = reaction.Done; asked = None; said = None; report = None; relisted = false }
+no_answer = record { told = told.Done; asked = None; said = None; report = None; relisted = false }
 
 -- a place after an event, of which the report was handed out
 abbrev pub place_after : Place → CoreEvent → Fate → Place
@@ -183,16 +152,10 @@ abbrev pub given_at : List ℕ → Option Place → List Sent
 given_at numbers None = []
 given_at numbers (Some p) = given_by p.core (draining numbers p.core)
 
--- what is told of what a node says
-abbrev pub told_of_reaction : ℕ → Reaction → List Outcome
-told_of_reaction i reaction.Done = []
-told_of_reaction i (reaction.Refused why) = Refused i why ∷ []
-told_of_reaction i (reaction.TimerAnswer beat) = told_of_beat i beat
-
--- and of what it reports
+-- what is told of what a node says and reports
 abbrev pub outcomes_told : ℕ → NodeAnswer → List Outcome
 outcomes_told i a =
-    told_of_reaction i a.reaction ++ option_to_list (option_map (λ r. Full i r.seq r.id) a.report)
+    told_of_answer i (told_as a.told) ++ option_to_list (option_map (λ r. Full i r.seq r.id) a.report)
 
 -- a report of the node at a place, if there is one, under its list
 abbrev pub report_noted : Option Report → Option Place → Option Reported

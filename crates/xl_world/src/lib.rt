@@ -36,7 +36,7 @@ mod world;
 
 pub use fork::{Fork, first_fork, law_of_forks};
 pub use frames::SentFrames;
-pub use laws::law_of_drains;
+pub use laws::{law_of_drains, law_of_lives, law_of_networks};
 pub use lie::put_lie;
 pub use outcome::{Happened, Outcome};
 pub use parts::parts_are_the_whole;

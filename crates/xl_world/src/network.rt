@@ -3,9 +3,10 @@ ghost use Rattle.std.specs.Prelude.{if◌then◌else◌};
 ghost use Rattle.xl_base.specs.Counts.{one_more};
 ghost use Rattle.xl_world.specs.Schedule.{event_asked, failing, node_asked};
 ghost use Rattle.xl_world.specs.Seen.{MayDo, deed_event};
-ghost use Rattle.std.specs.Prelude.{◌≡◌};
+ghost use Rattle.std.specs.Prelude.{◌≡◌, ◌≤◌};
+ghost use Rattle.xl_base.specs.Moments.{greatest_millis};
 
-use crate::act::{Deed, NodeAnswer, act_at, core_at, preferred_at};
+use crate::act::{NodeAnswer, act_at, core_at, preferred_at};
 use crate::anew::{disk_at, reopen_at};
 use crate::draining::drain_at;
 use crate::extent::Extent;
@@ -19,6 +20,7 @@ use crate::{Happened, InForce, Outcome, Plan, WorldReport, open};
 use std::alloc::Global;
 use std::marker::Model;
 use xl_base::{Millis, NodeNo, OutOfMemory};
+use xl_core::Deed;
 use xl_lists::SaidLedger;
 use xl_sched::{Ask, Event, Lied, What};
 use xl_wire::LONGEST_FRAME;
@@ -132,21 +134,19 @@ impl Network {
     fn act(
         &mut self,
         i: NodeNo,
-        at: Millis,
         deed: &Deed<'_>,
         fate: Fate,
         told: &mut Vec<Outcome>,
     ) -> Result<(), OutOfMemory>
-        requires moment { at ≤ greatest_millis }
         requires rest { IsAtRest self.old }
         requires may { MayDo i deed.now }
         ensures world { OnOk result (self.new
-            ≡ with_forged self.old.forged (run self.old (event_steps self.old i (deed_event at deed.now) fate))) }
+            ≡ with_forged self.old.forged (run self.old (event_steps self.old i (deed_event i deed.now) fate))) }
         ensures told { OnOk result (told.new.items
-            ≡ told.old.items ++ told_in self.old (event_steps self.old i (deed_event at deed.now) fate)) }
+            ≡ told.old.items ++ told_in self.old (event_steps self.old i (deed_event i deed.now) fate)) }
         ensures grows { Grows self.old self.new }
     {
-        match act_at(&mut self.places, i, at, deed, fate) {
+        match act_at(&mut self.places, i, deed, fate) {
             Some(ref answer) => self.settle(i, answer, told),
             None => Ok(()),
         }
@@ -167,8 +167,8 @@ impl Network {
             ≡ told.old.items ++ told_in self.old (ask_steps self.old at ask.now fate)) }
         ensures grows { Grows self.old self.new }
     {
-        let (node, deed) = asked_by(ask);
-        self.act(node, at, &deed, fate, told)
+        let (node, deed) = asked_by(at, ask);
+        self.act(node, &deed, fate, told)
     }
 
     /// A timer comes to each node, by rising number.
@@ -190,13 +190,11 @@ impl Network {
     /// A node greets another, which is this deed; itself it doesn't greet.
     fn greet(
         &mut self,
-        at: Millis,
         node: NodeNo,
         peer: NodeNo,
         deed: &Deed<'_>,
         told: &mut Vec<Outcome>,
     ) -> Result<(), OutOfMemory>
-        requires moment { at ≤ greatest_millis }
         requires deed { deed.now ≡ Deed.Greet peer }
         requires rest { IsAtRest self.old }
         ensures world { OnOk result (self.new ≡ run self.old (greet_steps self.old node peer)) }
@@ -207,7 +205,9 @@ impl Network {
         if node == peer {
             return Ok(());
         }
-        self.act(node, at, deed, Fate::Saved, told)
+        // A member's number, for which there is a key.
+        let _number = peer.get();
+        self.act(node, deed, Fate::Saved, told)
     }
 
     /// The sent frame of a place, from 0 on, is handed to its receiver; to a liar that does nothing. It isn't forged,
@@ -232,8 +232,11 @@ impl Network {
         let to = frame.to();
         let length = frame.put(&mut self.room);
         let kept = &self.room[..length];
-        let deed = Deed::Sent { to, kept };
-        match act_at(&mut self.places, to, at, &deed, Fate::Saved) {
+        let deed = Deed::Sealed {
+            now: at,
+            bytes: kept,
+        };
+        match act_at(&mut self.places, to, &deed, Fate::Saved) {
             Some(ref answer) => self.settle(to, answer, told),
             None => Ok(()),
         }
@@ -270,7 +273,8 @@ impl Network {
         ensures grows { Grows self.old self.new }
     {
         let forged = is_forged(&self.liars, &mut self.traffic, &self.places, to, bytes);
-        self.act(to, at, &Deed::Frame(bytes), Fate::Saved, told)?;
+        let deed = Deed::Frame { now: at, bytes };
+        self.act(to, &deed, Fate::Saved, told)?;
         self.forged = counted(self.forged, forged);
         Ok(())
     }
@@ -298,8 +302,11 @@ impl Network {
         }
         let length = put_blank_lie(from, to, lie, &mut *self.room);
         let kept = &self.room[..length];
-        let deed = Deed::Sent { to, kept };
-        match act_at(&mut self.places, to, at, &deed, Fate::Saved) {
+        let deed = Deed::Sealed {
+            now: at,
+            bytes: kept,
+        };
+        match act_at(&mut self.places, to, &deed, Fate::Saved) {
             Some(ref answer) => self.settle(to, answer, told),
             None => Ok(()),
         }
@@ -367,13 +374,13 @@ impl Network {
         ensures told { OnOk result (told.new.items ≡ told.old.items ++ outcomes_at self.old at (What.Cut new ask.now)) }
         ensures grows { Grows self.old self.new }
     {
-        let (node, deed) = asked_by(ask);
+        let (node, deed) = asked_by(at, ask);
         let Some(disk) = disk_at(&self.places, node) else {
             return Ok(());
         };
         // A save that is cut off is tried as one that fails: what comes of it ends with the node, and its disk is as
         // it was before.
-        let Some(answer) = act_at(&mut self.places, node, at, &deed, Fate::Unwritten) else {
+        let Some(answer) = act_at(&mut self.places, node, &deed, Fate::Unwritten) else {
             return Ok(());
         };
         match answer.asked {
@@ -398,10 +405,11 @@ impl Network {
             What::Ask(ask) => self.ask(at, ask, Fate::Saved, told),
             What::Timers => self.timers(at, told),
             What::Submit { node, tx } => {
-                self.act(*node, at, &Deed::Submit(*tx), Fate::Saved, told)
+                let deed = Deed::Submit { now: at, tx: *tx };
+                self.act(*node, &deed, Fate::Saved, told)
             }
             What::Greet { node, peer } => {
-                self.greet(at, *node, *peer, &Deed::Greet(*peer), told)
+                self.greet(*node, *peer, &Deed::Greet { member: *peer }, told)
             }
             What::Deliver { place } => match place.checked_sub(1) {
                 Some(before) => self.deliver(at, before as usize, told),
@@ -419,7 +427,8 @@ impl Network {
             What::Raw { to, bytes } => self.hand_in(at, *to, bytes.as_slice(), told),
             What::Prefer { node } => push_some(told, preferred_at(&self.places, *node)),
             What::List { node, list } => {
-                self.act(*node, at, &Deed::Relist(list), Fate::Saved, told)
+                let deed = Deed::Relist { now: at, list };
+                self.act(*node, &deed, Fate::Saved, told)
             }
             What::Heard { node } => tell_heard_at(told, &self.places, *node),
         }
@@ -497,9 +506,10 @@ fn failing(new: bool) -> Fate
 }
 
 /// The node that is asked, and what then happens at it.
-fn asked_by(ask: &Ask) -> (NodeNo, Deed<'_>)
+fn asked_by(at: Millis, ask: &Ask) -> (NodeNo, Deed<'_>)
+    requires moment { at ≤ greatest_millis }
     ensures node { result.0 ≡ node_asked ask.now }
-    ensures deed { (at : _) → deed_event at result.1 ≡ event_asked at ask.now }
+    ensures deed { (i : _) → deed_event i result.1 ≡ event_asked at ask.now }
     ensures may { (me : _) → MayDo me result.1 }
 {
     match *ask {
@@ -508,7 +518,15 @@ fn asked_by(ask: &Ask) -> (NodeNo, Deed<'_>)
             seq,
             id,
             full,
-        } => (node, Deed::Issue { seq, id, full }),
-        Ask::Timer { node } => (node, Deed::Timer),
+        } => {
+            let deed = Deed::Issue {
+                now: at,
+                seq,
+                id,
+                full,
+            };
+            (node, deed)
+        }
+        Ask::Timer { node } => (node, Deed::Timer { now: at }),
     }
 }

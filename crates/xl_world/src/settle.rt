@@ -1,15 +1,16 @@
 // What came of what happened at a node, taken into the lists of a world.
 ghost use Rattle.std.specs.Prelude.{◌≡◌, ◌++◌, [], ◌∷◌, map, option_map, option_to_list, OnOk};
-ghost use Rattle.xl_world.specs.Schedule.{hearsay, hearsay_of, told_of_beat, told_of_issued};
+ghost use Rattle.xl_world.specs.Schedule.{hearsay, hearsay_of, told_of_answer, told_of_beat, told_of_issued};
+ghost use Rattle.xl_core.specs.Deeds.{answer_of};
 ghost use Rattle.xl_world.specs.World.{place_at};
 ghost use Rattle.xl_world.specs.Ends.{IsLonger};
-ghost use Rattle.xl_world.specs.Seen.{list_noted, outcomes_told, report_noted, told_of_reaction};
+ghost use Rattle.xl_world.specs.Seen.{list_noted, outcomes_told, report_noted};
 
-use crate::act::{NodeAnswer, Reaction, core_at};
+use crate::act::{NodeAnswer, core_at};
 use crate::place::{NodeCore, Place};
 use crate::{InForce, Outcome, WorldReport};
 use xl_base::{LedgerId, NodeNo, OutOfMemory, Seq};
-use xl_core::{Issued, Refusal, Report, TimerAnswer};
+use xl_core::{CoreAnswer, Issued, Refusal, Report, TimerAnswer};
 use xl_ledger::AddRefusal;
 
 /// Adds an element if there is one.
@@ -98,17 +99,17 @@ fn tell_beat(told: &mut Vec<Outcome>, node: NodeNo, beat: &TimerAnswer) -> Resul
 }
 
 /// What a node says of what happened at it.
-fn tell_reaction(
+fn tell_answer(
     told: &mut Vec<Outcome>,
     node: NodeNo,
-    reaction: &Reaction,
+    answer: &CoreAnswer,
 ) -> Result<(), OutOfMemory>
-    ensures { OnOk result (told.new.items ≡ told.old.items ++ told_of_reaction node reaction.now) }
+    ensures { OnOk result (told.new.items ≡ told.old.items ++ told_of_answer node (answer_of answer.now)) }
 {
-    match reaction {
-        Reaction::Done => Ok(()),
-        Reaction::Refused(refusal) => tell_refused(told, node, refusal),
-        Reaction::TimerAnswer(beat) => tell_beat(told, node, beat),
+    match answer {
+        CoreAnswer::Done | CoreAnswer::Took(_) | CoreAnswer::Told(_) => Ok(()),
+        CoreAnswer::Refused(refusal) => tell_refused(told, node, refusal),
+        CoreAnswer::Beats(beat) => tell_beat(told, node, beat),
     }
 }
 
@@ -144,7 +145,7 @@ fn tell_report(
 pub fn tell(told: &mut Vec<Outcome>, node: NodeNo, answer: &NodeAnswer) -> Result<(), OutOfMemory>
     ensures { OnOk result (told.new.items ≡ told.old.items ++ outcomes_told node answer.now) }
 {
-    tell_reaction(told, node, &answer.reaction)?;
+    tell_answer(told, node, &answer.told)?;
     tell_report(told, node, &answer.report)
 }
 

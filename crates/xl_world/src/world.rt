@@ -34,9 +34,11 @@ impl Model for World {
 }
 
 impl World {
-    ghost use Rattle.std.specs.Prelude.{◌≡◌, ◌≤◌, ◌↔◌, option_copied, None, true, false, IsErr, IsTrue, IfOk, OnOk, OnErr};
+    ghost use Rattle.std.specs.Prelude.{◌≡◌, ◌≤◌, ◌↔◌, option_copied, None, Some, true, false, IsErr, IsTrue, IfOk, OnOk, OnErr};
     ghost use Rattle.xl_base.specs.Moments.{greatest_millis};
     ghost use Rattle.xl_ledger.specs.Limits.{greatest_limit, least_limit};
+    ghost use Rattle.xl_tags.specs.Rings.{schedule_ring};
+    ghost use Rattle.xl_lists.specs.Agreement.{Agree};
     ghost use Rattle.xl_world.specs.Headline.{AgreeAt, EnoughAt, Headline};
     ghost use Rattle.xl_world.specs.Plans.{AreTimely, list_at};
     ghost use Rattle.xl_world.specs.Schedule.{IsPlausible, after_event, outcomes};
@@ -113,6 +115,8 @@ impl World {
         ensures none { (shared : _) (liars : _) (plan : _) (steps : _) → self.now ≡ run (start shared liars plan) steps →
             (option_copied result ≡ None) ↔ (list_at plan node ≡ None) }
         ensures spent { self.now.spent ≡ true → option_copied result ≡ None }
+        // Its keys are those that a schedule gives its number.
+        ensures keys { (core : _) → core_in self.now node ≡ Some core → core.node.keys ≡ schedule_ring node }
     {
         self.network.core_of(node)
     }
@@ -123,6 +127,9 @@ impl World {
         // The world comes from a declared one by steps that are fit to happen, or it is what is left of one that does.
         ensures run { self.now.spent ≡ false → IsRun self.now }
         ensures left { self.now.spent ≡ true → IsLeft self.now }
+        // If no frame was forged, two of one sequence name one ledger, wherever the quorums of the lists that were in
+        // force at the two are enough.
+        ensures agree { self.now.forged ≡ 0 → Agree self.now.liars self.now.reports }
     {
         &self.network.reports
     }
@@ -148,7 +155,8 @@ impl World {
         // It is so if no frame was forged, and the quorums of the lists that were in force at any two reports of one
         // sequence are enough.
         ensures enough { EnoughAt self.now.liars self.now.reports i j → self.now.forged ≡ 0 → IsTrue result }
-        // And in every run of every declared plan in which no frame was forged, not in this world's alone.
+        // And in every run of every declared plan in which no frame was forged, not in this world's alone, two reports
+        // agree wherever the lists that were in force at the two are enough.
         ensures headline { Headline }
     {
         all_agree(self.reports(), i, j)

@@ -82,7 +82,7 @@ impl MemKeeper {
 }
 
 impl Keeper for MemKeeper {
-    ghost use Rattle.std.specs.Prelude.{◌↔◌, is_ok, IfSome, IsErr, IsTrue, OnErr};
+    ghost use Rattle.std.specs.Prelude.{◌↔◌, is_ok, IfSome, IsErr, IsTrue, OnOk, OnErr};
     ghost use Rattle.xl_base.specs.Faults.{Rose};
     ghost use Rattle.xl_io.specs.Keepers.{MayHold};
     ghost use Rattle.xl_io.specs.Memory.{
@@ -110,6 +110,7 @@ impl Keeper for MemKeeper {
         ensures left { OnErr result (numbers_held self.new ≡ numbers_held self.old) }
         ensures later { keeper_faults self.old ≤ keeper_faults self.new }
         ensures failed { OnErr result (Rose (keeper_faults self.old) (keeper_faults self.new)) }
+        ensures exact { OnOk result (keeper_faults self.new ≡ keeper_faults self.old) }
 
         // What the script makes of it.
         ensures answer { IfOk result (λ seq. seq ≡ next_load self.old) }
@@ -131,6 +132,7 @@ impl Keeper for MemKeeper {
         ensures held { numbers_held self.new ≡ held_after self.old seq (is_ok result) }
         ensures later { keeper_faults self.old ≤ keeper_faults self.new }
         ensures failed { OnErr result (Rose (keeper_faults self.old) (keeper_faults self.new)) }
+        ensures exact { OnOk result (keeper_faults self.new ≡ keeper_faults self.old) }
 
         // What the script makes of it.
         ensures next { next_load self.new ≡ next_after self.old seq (is_ok result) }

@@ -38,7 +38,7 @@ impl MemSink {
 }
 
 impl Sink for MemSink {
-    ghost use Rattle.std.specs.Prelude.{IsTrue};
+    ghost use Rattle.std.specs.Prelude.{◌≢◌, IsTrue};
     ghost use Rattle.xl_base.specs.Faults.{Rose};
     ghost use Rattle.xl_io.specs.Memory.{bytes_held, write_faults, write_script};
     ghost use Rattle.xl_io.specs.Scripts.{called, next_fails};
@@ -53,6 +53,7 @@ impl Sink for MemSink {
         ensures bytes { Writes (bytes_held self.old) (bytes_held self.new) result piece.now }
         ensures later { write_faults self.old ≤ write_faults self.new }
         ensures failed { result ≡ Wrote.Failed → Rose (write_faults self.old) (write_faults self.new) }
+        ensures exact { result ≢ Wrote.Failed → write_faults self.new ≡ write_faults self.old }
         ensures script { write_script self.new ≡ called (write_script self.old) }
         ensures scripted { IsTrue (next_fails (write_script self.old)) → result ≡ Wrote.Failed }
     {

@@ -1,4 +1,7 @@
-ghost use Rattle.std.specs.Prelude.{◌≡◌, ◌≤◌, None, IfSome, length};
+ghost use Rattle.std.specs.Prelude.{◌≡◌, ◌≢◌, ◌≤◌, None, IfSome, length};
+ghost use Rattle.xl_base.specs.Faults.{Rose};
+ghost use Rattle.xl_io.specs.Sinks.{FitsPiece, Writes};
+ghost use Rattle.xl_io.specs.Streams.{TookIn, WritesOn};
 
 use crate::{Sink, Wrote};
 use std::io::{ErrorKind, Write};
@@ -24,7 +27,16 @@ impl<W: Write> Sink for StdSink<W> {
 
     ghost faults = { λ s. s.faults };
 
-    fn write(&mut self, piece: &[u8]) -> Wrote {
+    fn write(&mut self, piece: &[u8]) -> Wrote
+        ensures fits { FitsPiece result piece.now }
+        ensures bytes { Writes None None result piece.now }
+        ensures later { self.old.faults ≤ self.new.faults }
+        ensures failed { result ≡ Wrote.Failed → Rose self.old.faults self.new.faults }
+        ensures exact { result ≢ Wrote.Failed → self.new.faults ≡ self.old.faults }
+
+        // By what the writer tells.
+        ensures stream { WritesOn (W.contents self.old.writer) (W.contents self.new.writer) result piece.now }
+    {
         match write_uninterrupted(&mut self.writer, piece) {
             Some(count) if count > 0 => Wrote::Took(count),
             _ => {
@@ -38,7 +50,8 @@ impl<W: Write> Sink for StdSink<W> {
 /// Writes again after each write that was interrupted, and answers how many bytes were taken, or None if the
 /// writer failed.
 fn write_uninterrupted<W: Write>(writer: &mut W, piece: &[u8]) -> Option<usize>
-    ensures { IfSome result (λ count. count ≤ length piece.now) }
+    ensures fits { IfSome result (λ count. count ≤ length piece.now) }
+    ensures stream { TookIn (W.contents writer.old) (W.contents writer.new) result piece.now }
 {
     for _ in 0..u64::MAX {
         match writer.write(piece) {

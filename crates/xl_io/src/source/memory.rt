@@ -68,7 +68,7 @@ impl MemSource {
 }
 
 impl Source for MemSource {
-    ghost use Rattle.std.specs.Prelude.{◌↔◌, IsTrue};
+    ghost use Rattle.std.specs.Prelude.{◌↔◌, ◌≢◌, IsTrue};
     ghost use Rattle.xl_base.specs.Faults.{Rose};
     ghost use Rattle.xl_io.specs.Memory.{bytes_left, read_faults, read_script};
     ghost use Rattle.xl_io.specs.Scripts.{called, next_fails};
@@ -82,6 +82,7 @@ impl Source for MemSource {
         ensures bytes { Reads (bytes_left self.old) (bytes_left self.new) result room.new }
         ensures later { read_faults self.old ≤ read_faults self.new }
         ensures failed { result ≡ Piece.Failed → Rose (read_faults self.old) (read_faults self.new) }
+        ensures exact { result ≢ Piece.Failed → read_faults self.new ≡ read_faults self.old }
         ensures script { read_script self.new ≡ called (read_script self.old) }
         ensures scripted { (result ≡ Piece.Failed) ↔ IsTrue (next_fails (read_script self.old)) }
     {

@@ -1,4 +1,7 @@
-ghost use Rattle.std.specs.Prelude.{◌≡◌, ◌≤◌, None, IfSome, length};
+ghost use Rattle.std.specs.Prelude.{◌≡◌, ◌≢◌, ◌≤◌, None, IfSome, length};
+ghost use Rattle.xl_base.specs.Faults.{Rose};
+ghost use Rattle.xl_io.specs.Sources.{FitsRoom, Reads};
+ghost use Rattle.xl_io.specs.Streams.{Gave, ReadsOn};
 
 use crate::{Piece, Source};
 use std::io::{ErrorKind, Read};
@@ -24,7 +27,16 @@ impl<R: Read> Source for StdSource<R> {
 
     ghost faults = { λ s. s.faults };
 
-    fn read(&mut self, room: &mut [u8]) -> Piece {
+    fn read(&mut self, room: &mut [u8]) -> Piece
+        ensures fits { FitsRoom result room.new }
+        ensures bytes { Reads None None result room.new }
+        ensures later { self.old.faults ≤ self.new.faults }
+        ensures failed { result ≡ Piece.Failed → Rose self.old.faults self.new.faults }
+        ensures exact { result ≢ Piece.Failed → self.new.faults ≡ self.old.faults }
+
+        // By what the reader tells.
+        ensures stream { ReadsOn (R.remaining self.old.reader) (R.remaining self.new.reader) result room.new }
+    {
         match read_uninterrupted(&mut self.reader, room) {
             Some(0) => Piece::End,
             Some(count) => Piece::Got(count),
@@ -38,7 +50,8 @@ impl<R: Read> Source for StdSource<R> {
 
 /// Reads again after each read that was interrupted, and answers how many bytes came, or None if the reader failed.
 fn read_uninterrupted<R: Read>(reader: &mut R, room: &mut [u8]) -> Option<usize>
-    ensures { IfSome result (λ count. count ≤ length room.new) }
+    ensures fits { IfSome result (λ count. count ≤ length room.new) }
+    ensures stream { Gave (R.remaining reader.old) (R.remaining reader.new) result room.new }
 {
     for _ in 0..u64::MAX {
         match reader.read(room) {

@@ -95,6 +95,7 @@ impl<L: Link + Send + Drop> Hub for MemHub<L> {
         ensures asked { AddsTold (targets_of self.old) (targets_of self.new) (target member way ∷ []) }
         ensures later { hub_faults self.old ≤ hub_faults self.new }
         ensures failed { OnErr result (Rose (hub_faults self.old) (hub_faults self.new)) }
+        ensures exact { OnOk result (hub_faults self.new ≡ hub_faults self.old) }
 
         // What the script makes of it.
         ensures scripted { OnOk result (next_link_fails self.old ≡ false) }

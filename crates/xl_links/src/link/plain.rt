@@ -1,6 +1,6 @@
 ghost use Rattle.std.specs.Prelude.{◌≡◌, ◌<◌, ◌≤◌, length, vec_len};
 
-use crate::link::{Link, LinkRead, Opening};
+use crate::link::{Judgement, Link, LinkRead, Opening};
 use std::alloc::Global;
 use xl_io::{Discard, Sink, Wrote};
 
@@ -91,4 +91,6 @@ impl Link for PlainLink {
     fn write(&mut self, piece: &[u8]) -> Wrote {
         Discard.write(piece)
     }
+
+    fn judged(&mut self, _judgement: Judgement) {}
 }

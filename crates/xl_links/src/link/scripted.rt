@@ -4,7 +4,7 @@ ghost use Rattle.xl_links.specs.Links.{Reads};
 ghost use Rattle.xl_links.specs.Memory.{counted_wire, course_of, course_over, piece_of, plain_bytes, plain_left, plain_piece};
 
 use crate::link::plain::PlainLink;
-use crate::link::{Link, LinkRead, Opening};
+use crate::link::{Judgement, Link, LinkRead, Opening};
 use crate::script::{Course, LinkScript};
 use crate::told::Told;
 use std::alloc::Global;
@@ -186,6 +186,8 @@ impl Link for MemLink {
         self.faults = self.faults.saturating_add(1);
         Wrote::Failed
     }
+
+    fn judged(&mut self, _judgement: Judgement) {}
 }
 
 /// A read that goes so.

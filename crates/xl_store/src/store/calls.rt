@@ -8,7 +8,7 @@ ghost use Rattle.xl_core.specs.declared.event.CoreEvent.TheVariants.{Issue, Fram
 ghost use Rattle.xl_store.specs.Stores.{start_of, IsOf, Called, Drained, HandedOut, Refused};
 
 use super::{Pass, Store, StoreEnd};
-use crate::entry::{copy_of, note};
+use crate::entry::copy_of;
 use crate::outcome;
 use std::sync::Wait;
 use xl_base::{LedgerId, Millis, NodeNo, Seq, TxId};
@@ -38,7 +38,7 @@ impl<B: Branch + Drop, K: Keeper + Drop> Store<B, K> {
         let copy = copy_of(self.alloc, bytes)?;
         let (mut turn, page) = self.enter(rt, pass, CoreEvent::Frame { now, bytes: copy })?;
         let answer = turn.object.core.frame(now, bytes);
-        self.lock.finish(pass, turn, page);
+        self.finish(pass, turn, page);
         Ok(answer)
     }
 
@@ -57,8 +57,8 @@ impl<B: Branch + Drop, K: Keeper + Drop> Store<B, K> {
     {
         let (mut turn, mut page) = self.enter(rt, pass, CoreEvent::Timer { now })?;
         let beat = turn.object.timer(now);
-        note(&mut page, outcome::of_beat(&beat));
-        self.lock.finish(pass, turn, page);
+        page.note(outcome::of_beat(&beat));
+        self.finish(pass, turn, page);
         Ok(beat)
     }
 
@@ -79,7 +79,7 @@ impl<B: Branch + Drop, K: Keeper + Drop> Store<B, K> {
     {
         let (mut turn, page) = self.enter(rt, pass, CoreEvent::Submit { now, tx })?;
         let answer = turn.object.core.submit(now, tx);
-        self.lock.finish(pass, turn, page);
+        self.finish(pass, turn, page);
         Ok(answer)
     }
 
@@ -106,7 +106,7 @@ impl<B: Branch + Drop, K: Keeper + Drop> Store<B, K> {
         };
         let (mut turn, page) = self.enter(rt, pass, event)?;
         let answer = turn.object.core.relist(now, list);
-        self.lock.finish(pass, turn, page);
+        self.finish(pass, turn, page);
         Ok(answer)
     }
 
@@ -130,8 +130,8 @@ impl<B: Branch + Drop, K: Keeper + Drop> Store<B, K> {
         let event = CoreEvent::Issue { now, seq, id, full };
         let (mut turn, mut page) = self.enter(rt, pass, event)?;
         let answer = turn.object.issue(now, seq, id, full);
-        note(&mut page, outcome::of_issue(&answer));
-        self.lock.finish(pass, turn, page);
+        page.note(outcome::of_issue(&answer));
+        self.finish(pass, turn, page);
         Ok(answer)
     }
 
@@ -146,7 +146,7 @@ impl<B: Branch + Drop, K: Keeper + Drop> Store<B, K> {
     {
         let (mut turn, page) = self.enter(rt, pass, CoreEvent::Greet { member })?;
         turn.object.core.greet(member);
-        self.lock.finish(pass, turn, page);
+        self.finish(pass, turn, page);
         Ok(())
     }
 
@@ -173,7 +173,7 @@ impl<B: Branch + Drop, K: Keeper + Drop> Store<B, K> {
         };
         let (mut turn, page) = self.enter(rt, pass, event)?;
         let written = turn.object.core.drain(member, room);
-        self.lock.finish(pass, turn, page);
+        self.finish(pass, turn, page);
         Ok(written)
     }
 
@@ -194,7 +194,7 @@ impl<B: Branch + Drop, K: Keeper + Drop> Store<B, K> {
         let event = CoreEvent::Reports { room: room.len() };
         let (mut turn, page) = self.enter(rt, pass, event)?;
         let written = turn.object.core.reports(room);
-        self.lock.finish(pass, turn, page);
+        self.finish(pass, turn, page);
         Ok(written)
     }
 
@@ -207,7 +207,7 @@ impl<B: Branch + Drop, K: Keeper + Drop> Store<B, K> {
     {
         let (mut turn, page) = self.enter(rt, pass, CoreEvent::Stop)?;
         turn.object.core.stop();
-        self.lock.finish(pass, turn, page);
+        self.finish(pass, turn, page);
         Ok(())
     }
 
@@ -220,7 +220,7 @@ impl<B: Branch + Drop, K: Keeper + Drop> Store<B, K> {
     {
         let (turn, page) = self.enter(rt, pass, CoreEvent::Stopped)?;
         let stopped = turn.object.core.stopped();
-        self.lock.finish(pass, turn, page);
+        self.finish(pass, turn, page);
         Ok(stopped)
     }
 }

@@ -1,23 +1,23 @@
 -- what was written, before the lines of the entries left, is the whole text, and the next of legal entries is allowed
-use Rattle.std.proofs.Common.{◌≡◌, List, [], sym, subst, arith, refl}
+use Rattle.std.proofs.Common.{◌≡◌, ◌∙◌, List, [], sym, subst, arith, refl}
 use Rattle.std.specs.Prelude.{All}
 use Rattle.std.proofs.lemmas.List.Elements.{All-cons, All-nil}
 use Rattle.xl_io.proofs.Growing.{Written, written_none, front_of_written, all_written}
-use Rattle.xl_lines.proofs.Runs.{write_from, passed_on}
+use Rattle.xl_lines.proofs.Runs.{write_from, passed_on, ok_exact}
 use Rattle.xl_turns.specs.Histories.{IsLegal}
 use Rattle.xl_core.specs.Core.{Core}
 use Rattle.xl_store.specs.declared.entry.Entry.{Entry}
 use Rattle.xl_store.specs.Entries.{Leads, reply_of}
 use Rattle.xl_audit.specs.Journals.{entries_text}
 use Rattle.xl_audit.specs.Stored.{IsStored}
-use Rattle.xl_audit.proofs.Growing.{next_allowed, next_outcome, later_legal, line_of, next_written, last_written, none_left, piece_written, piece_front, piece_less, caused_later}
+use Rattle.xl_audit.proofs.Growing.{next_allowed, next_outcome, later_legal, line_of, next_written, last_written, none_left, piece_written, piece_front, piece_less, caused_later, caused_none}
 use Rattle.xl_audit.proofs.writing.write_entries.Goals as goal
 
 pub loop-entry-init : goal.loop-entry-init
 loop-entry-init g c = record {
-  legal = subst (IsLegal Leads c.args.auditor) (sym c.oldest-left.ensures) c.requires.legal;
-  written = subst (λ (es : List Entry). Written (g.O.Sink.held c.args.output.now) (g.O.Sink.held c.args.output.now) (entries_text c.args.auditor c.args.journal) (entries_text c.args.auditor es)) (sym c.oldest-left.ensures) (written_none _ _);
-  stored = λ (all : All IsStored c.oldest-left.result). subst (All IsStored) c.oldest-left.ensures all;
+  legal = c.requires.legal;
+  written = written_none _ _;
+  stored = λ (all : All IsStored c.args.journal). all;
   later = omega arith;
 }
 
@@ -38,7 +38,7 @@ loop-entry-preserved-in_ok-write_entry g c =
           c.in_ok-write_entry.ensures.whole;
       stored = λ (all : All IsStored c.next.new.self).
           c.loop-entry.invariant.stored (subst (All IsStored) (sym c.in-Some.ensures.next) (All-cons IsStored c.in-Some.entry c.next.new.self c.in_ok-write_entry.ensures.stored all));
-      later = omega (arith, c.loop-entry.invariant.later, c.write_entry.ensures.cause.later);
+      later = ok_exact c.write_entry.result _ _ _ c.in_ok-write_entry.was c.write_entry.ensures.cause ∙ c.loop-entry.invariant.later;
     }
 
 pub loop-entry-preserved : goal.loop-entry-preserved
@@ -52,7 +52,7 @@ loop-entry-preserved g c =
           c.in_ok-write_entry.ensures.whole;
       stored = λ (all : All IsStored c.next.new.self).
           c.loop-entry.invariant.stored (subst (All IsStored) (sym c.in-Some.ensures.next) (All-cons IsStored c.in-Some.entry c.next.new.self c.in_ok-write_entry.ensures.stored all));
-      later = omega (arith, c.loop-entry.invariant.later, c.write_entry.ensures.cause.later);
+      later = ok_exact c.write_entry.result _ _ _ c.in_ok-write_entry.was c.write_entry.ensures.cause ∙ c.loop-entry.invariant.later;
     }
 
 pub returns-clause-whole : goal.returns-clause-whole
@@ -87,3 +87,6 @@ pub returns-clause-stored : goal.returns-clause-stored
 returns-clause-stored g c =
     c.loop-entry.invariant.stored
     (subst (All IsStored) (sym (none_left c.next.result (c.loop-entry.left ≡ []) (c.next.new.self ≡ []) c.in_default.is c.next.ensures.last)) (All-nil IsStored))
+
+pub returns-clause-cause : goal.returns-clause-cause
+returns-clause-cause g c = caused_none _ _ _ c.loop-entry.invariant.later

@@ -1,4 +1,4 @@
-use Rattle.std.proofs.Common.{◌≤◌, length}
+use Rattle.std.proofs.Common.{◌≡◌, length}
 use Rattle.std.specs.Prelude.{All}
 use Rattle.xl_io.proofs.Growing.{Written}
 use Rattle.xl_turns.specs.Histories.{IsLegal}
@@ -13,7 +13,7 @@ invariant-loop-entry g l = record {
   legal : IsLegal Leads l.auditor l.left;
   written : Written (g.O.Sink.held l.initial.output) (g.O.Sink.held l.output) (entries_text l.initial.auditor l.fn.journal) (entries_text l.auditor l.left);
   stored : All IsStored l.left → All IsStored l.fn.journal;
-  later : g.O.Sink.faults l.initial.output ≤ g.O.Sink.faults l.output;
+  later : g.O.Sink.faults l.output ≡ g.O.Sink.faults l.initial.output;
 }
 
 abbrev pub decreases-loop-entry : goal.decreases-loop-entry

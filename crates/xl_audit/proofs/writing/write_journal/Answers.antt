@@ -6,7 +6,7 @@ use Rattle.xl_io.specs.Sinks.{GrewByFront, GrewByLess}
 use Rattle.xl_turns.specs.Histories.{IsLegal}
 use Rattle.xl_core.specs.Core.{Core}
 use Rattle.xl_store.specs.Entries.{Leads}
-use Rattle.xl_lines.proofs.Runs.{write_from, passed_on}
+use Rattle.xl_lines.proofs.Runs.{write_from, passed_on, ok_exact}
 use Rattle.xl_audit.specs.Journals.{entries_text, head_text}
 use Rattle.xl_audit.proofs.Growing.{front_before, less_before, front_at, whole_behind, front_behind, less_behind, caused_later}
 use Rattle.xl_audit.proofs.Rereading.{yes_if, written_gets_yes}
@@ -39,7 +39,7 @@ returns-clause-less g c is =
     (less_behind _ _ _ (head_text c.args.settings c.args.now c.args.kept) (entries_text c.in_ok-auditor.auditor c.args.journal) c.in_ok-write_head.ensures.whole (c.write_entries.ensures.less is))
 
 pub returns-clause-cause : goal.returns-clause-cause
-returns-clause-cause g c = caused_later c.write_entries.result _ _ _ c.write_head.ensures.cause.later c.write_entries.ensures.cause
+returns-clause-cause g c = caused_later c.write_entries.result _ _ _ (ok_exact c.write_head.result _ _ _ c.in_ok-write_head.was c.write_head.ensures.cause) c.write_entries.ensures.cause
 
 pub returns-in_err-write_head-clause-front : goal.returns-in_err-write_head-clause-front
 returns-in_err-write_head-clause-front g c = front_before _ _ _ _ c.write_head.ensures.front

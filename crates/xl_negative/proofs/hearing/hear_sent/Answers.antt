@@ -1,4 +1,4 @@
-use Rattle.std.proofs.Common.{◌∙◌, ap, arith, drop, length, sym, ◌++◌}
+use Rattle.std.proofs.Common.{ap, arith, drop, length, ◌++◌}
 use Rattle.xl_negative.specs.Hearing.{heard_in_sent}
 use Rattle.xl_negative.proofs.Handing.{heard_all, heard_next}
 use Rattle.xl_negative.proofs.hearing.hear_sent.Goals as goal

@@ -12,6 +12,7 @@ use Rattle.xl_peers.proofs.handing.hand.Goals as goal
 
 pub loop-rest-preserved : goal.loop-rest-preserved
 loop-rest-preserved g c = record {
+  wire = c.in-Ok.ensures.wire ∙ c.loop-rest.invariant.wire;
   pass = c.in-Ok.ensures.pass;
   takes = c.in-Ok.ensures.handed.0.takes;
   needs = c.in-Ok.ensures.handed.1;

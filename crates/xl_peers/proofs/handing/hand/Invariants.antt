@@ -9,6 +9,7 @@ use Rattle.xl_peers.proofs.handing.hand.Given as goal
 
 abbrev pub invariant-loop-rest : goal.invariant-loop-rest
 invariant-loop-rest g l = record {
+  wire : g.L.Link.shows l.link ≡ g.L.Link.shows l.initial.link;
   pass : IsOf l.store l.pass;
   takes : l.feed.refused ≡ false;
   needs : NeedsMore l.feed.held;

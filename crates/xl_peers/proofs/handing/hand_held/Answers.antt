@@ -1,10 +1,11 @@
 -- handing some frames over and then one more hands them all over in order, and the last look finds less than one
-use Rattle.std.proofs.Common.{refl}
+use Rattle.std.proofs.Common.{refl, ◌∙◌}
 use Rattle.xl_peers.proofs.Handed.{hands_none, hands_both}
 use Rattle.xl_peers.proofs.handing.hand_held.Goals as goal
 
 pub loop-init : goal.loop-init
 loop-init g c = record {
+  wire = refl;
   pass = c.requires.pass;
   on = hands_none c.args.store.now (g.C.Clock.may_give c.args.host.now.clock.now) c.args.pass.now c.args.feed.now
       c.args.feed.now refl c.requires.takes;
@@ -18,6 +19,7 @@ hand_next-requires-clause-takes g c = c.loop.invariant.on.takes
 
 pub loop-preserved : goal.loop-preserved
 loop-preserved g c = record {
+  wire = c.in-Ok-true.ensures.wire ∙ c.loop.invariant.wire;
   pass = c.in-Ok-true.ensures.pass;
   on = hands_both c.args.store.now (g.C.Clock.may_give c.args.host.now.clock.now) _ c.loop.pass _ _ c.loop.feed _
       c.loop.invariant.on c.in-Ok-true.ensures.handed.0;

@@ -4,14 +4,15 @@ use Rattle.std.specs.Prelude.{option_and_then}
 use Rattle.xl_base.specs.Faults.{Rose}
 use Rattle.xl_base.specs.declared.status.Status.{Status}
 use Rattle.xl_base.specs.declared.status.Status.TheVariants as status
-use Rattle.xl_replay.specs.Statuses.{IsReplayed}
-use Rattle.xl_replay.proofs.Headline.{headline, refusal}
+use Rattle.xl_top.specs.Statuses.{IsAnswered}
+use Rattle.xl_replay.proofs.Headline.{whole_report, refused_report}
 use Rattle.xl_gen.proofs.Summing.{summarized}
 use Rattle.xl_validator.specs.Validators.{IsKnown}
 use Rattle.xl_words.specs.declared.command.Telling.{Telling}
 use Rattle.xl_words.specs.Commands.{command_of, words_of}
 use Rattle.xl_top.specs.Commands.{telling_in, told_of}
-use Rattle.xl_top.specs.Texts.{WritesText, HasCause, streams}
+use Rattle.xl_top.specs.Texts.{WritesText, HasCause}
+use Rattle.xl_texts.specs.Streams.{streams}
 use Rattle.xl_top.proofs.After.{if_any, cause_of, cause_among, nothing_done}
 use Rattle.xl_top.proofs.Asking.{by_asked, unasked, by_none}
 use Rattle.xl_top.proofs.command.top.Goals as goal
@@ -22,11 +23,11 @@ returns-in-Ok-Tell-clause-unasked g c =
 
 pub returns-in-Ok-Tell-clause-headline : goal.returns-in-Ok-Tell-clause-headline
 returns-in-Ok-Tell-clause-headline g c =
-    headline (g.I.Source.left c.args.input.now)
+    if_any (g.I.Source.left c.args.input.now) _ whole_report
 
 pub returns-in-Ok-Tell-clause-refusal : goal.returns-in-Ok-Tell-clause-refusal
 returns-in-Ok-Tell-clause-refusal g c =
-    refusal (g.I.Source.left c.args.input.now)
+    if_any (g.I.Source.left c.args.input.now) _ refused_report
 
 pub returns-in-Ok-Tell-clause-summaries : goal.returns-in-Ok-Tell-clause-summaries
 returns-in-Ok-Tell-clause-summaries g c =
@@ -34,11 +35,11 @@ returns-in-Ok-Tell-clause-summaries g c =
 
 pub returns-in-Ok-Node-clause-headline : goal.returns-in-Ok-Node-clause-headline
 returns-in-Ok-Node-clause-headline g c =
-    headline (g.I.Source.left c.args.input.now)
+    if_any (g.I.Source.left c.args.input.now) _ whole_report
 
 pub returns-in-Ok-Node-clause-refusal : goal.returns-in-Ok-Node-clause-refusal
 returns-in-Ok-Node-clause-refusal g c =
-    refusal (g.I.Source.left c.args.input.now)
+    if_any (g.I.Source.left c.args.input.now) _ refused_report
 
 pub returns-in-Ok-Node-clause-summaries : goal.returns-in-Ok-Node-clause-summaries
 returns-in-Ok-Node-clause-summaries g c =
@@ -46,11 +47,11 @@ returns-in-Ok-Node-clause-summaries g c =
 
 pub returns-in-Err-Refused-clause-headline : goal.returns-in-Err-Refused-clause-headline
 returns-in-Err-Refused-clause-headline g c =
-    headline (g.I.Source.left c.args.input.now)
+    if_any (g.I.Source.left c.args.input.now) _ whole_report
 
 pub returns-in-Err-Refused-clause-refusal : goal.returns-in-Err-Refused-clause-refusal
 returns-in-Err-Refused-clause-refusal g c =
-    refusal (g.I.Source.left c.args.input.now)
+    if_any (g.I.Source.left c.args.input.now) _ refused_report
 
 pub returns-in-Err-Refused-clause-summaries : goal.returns-in-Err-Refused-clause-summaries
 returns-in-Err-Refused-clause-summaries g c =
@@ -58,11 +59,11 @@ returns-in-Err-Refused-clause-summaries g c =
 
 pub returns-in-Err-Memory-clause-headline : goal.returns-in-Err-Memory-clause-headline
 returns-in-Err-Memory-clause-headline g c =
-    headline (g.I.Source.left c.args.input.now)
+    if_any (g.I.Source.left c.args.input.now) _ whole_report
 
 pub returns-in-Err-Memory-clause-refusal : goal.returns-in-Err-Memory-clause-refusal
 returns-in-Err-Memory-clause-refusal g c =
-    refusal (g.I.Source.left c.args.input.now)
+    if_any (g.I.Source.left c.args.input.now) _ refused_report
 
 pub returns-in-Err-Memory-clause-summaries : goal.returns-in-Err-Memory-clause-summaries
 returns-in-Err-Memory-clause-summaries g c =
@@ -74,7 +75,7 @@ returns-in-Ok-Tell-clause-others g c =
 
 pub returns-in-Ok-Tell-clause-store : goal.returns-in-Ok-Tell-clause-store
 returns-in-Ok-Tell-clause-store g c =
-    λ is. absurd (subst IsReplayed (sym c.unopened.ensures.status ∙ is) c.run.ensures.known)
+    λ is. absurd (subst IsAnswered (sym c.unopened.ensures.status ∙ is) c.write_text.ensures.known)
 
 pub returns-in-Ok-Node-clause-unasked : goal.returns-in-Ok-Node-clause-unasked
 returns-in-Ok-Node-clause-unasked g c =
@@ -90,7 +91,7 @@ returns-in-Ok-Node-clause-store g c =
 
 pub returns-in-Err-Refused-clause-unasked : goal.returns-in-Err-Refused-clause-unasked
 returns-in-Err-Refused-clause-unasked g c =
-    λ _. inl c.unopened-in-Err-Refused.ensures.status
+    λ _. (inl c.unopened-in-Err-Refused.ensures.status, refl, refl)
 
 pub returns-in-Err-Refused-clause-store : goal.returns-in-Err-Refused-clause-store
 returns-in-Err-Refused-clause-store g c =
@@ -106,7 +107,7 @@ returns-in-Err-Memory-clause-store g c =
 
 pub returns-in-Err-Memory-clause-unasked : goal.returns-in-Err-Memory-clause-unasked
 returns-in-Err-Memory-clause-unasked g c =
-    λ _. inr c.unopened-in-Err-Memory.ensures.status
+    λ _. (inr c.unopened-in-Err-Memory.ensures.status, refl, refl)
 
 pub returns-in-Err-Memory-clause-others : goal.returns-in-Err-Memory-clause-others
 returns-in-Err-Memory-clause-others g c =
@@ -114,15 +115,15 @@ returns-in-Err-Memory-clause-others g c =
 
 pub returns-in-Ok-Tell-clause-words : goal.returns-in-Ok-Tell-clause-words
 returns-in-Ok-Tell-clause-words g c =
-    λ is. absurd (subst IsReplayed (sym c.unopened.ensures.status ∙ is) c.run.ensures.known)
+    λ is. absurd (subst IsAnswered (sym c.unopened.ensures.status ∙ is) c.write_text.ensures.known)
 
 pub returns-in-Ok-Tell-clause-text : goal.returns-in-Ok-Tell-clause-text
 returns-in-Ok-Tell-clause-text g c =
-    by_asked (told_of (words_of c.args.words.now)) c.in-Ok-Tell.telling _ (ap (option_and_then telling_in) (c.in-Ok-Tell.ensures.found ∙ ap Some c.in-Ok-Tell.field-0-is)) (subst (WritesText c.in-Ok-Tell.telling (streams (g.I.Source.left c.args.input.now) (g.I.Source.faults c.args.input.now) (g.O.Sink.held c.args.output.now) (g.O.Sink.faults c.args.output.now)) (streams (g.I.Source.left c.run.new.input) (g.I.Source.faults c.run.new.input) (g.O.Sink.held c.run.new.output) (g.O.Sink.faults c.run.new.output))) (sym c.unopened.ensures.status) c.run.ensures.writes)
+    by_asked (told_of (words_of c.args.words.now)) c.in-Ok-Tell.telling _ (ap (option_and_then telling_in) (c.in-Ok-Tell.ensures.found ∙ ap Some c.in-Ok-Tell.field-0-is)) (subst (WritesText c.in-Ok-Tell.telling (streams (g.I.Source.left c.args.input.now) (g.I.Source.faults c.args.input.now) (g.O.Sink.held c.args.output.now) (g.O.Sink.faults c.args.output.now)) (streams (g.I.Source.left c.write_text.new.input) (g.I.Source.faults c.write_text.new.input) (g.O.Sink.held c.write_text.new.output) (g.O.Sink.faults c.write_text.new.output))) (sym c.unopened.ensures.status) c.write_text.ensures.writes)
 
 pub returns-in-Ok-Tell-clause-cause : goal.returns-in-Ok-Tell-clause-cause
 returns-in-Ok-Tell-clause-cause g c =
-    subst (λ (x : Status). HasCause x (Rose (g.I.Source.faults c.args.input.now) (g.I.Source.faults c.run.new.input)) (Rose (g.O.Sink.faults c.args.output.now) (g.O.Sink.faults c.run.new.output)) (Rose (g.K.Keeper.faults c.args.keeper) (g.K.Keeper.faults c.unopened.result.keeper)) (Rose (g.H.Hub.faults c.args.hub.now) (g.H.Hub.faults c.args.hub.now))) (sym c.unopened.ensures.status) (cause_among c.run.result (Rose (g.I.Source.faults c.args.input.now) (g.I.Source.faults c.run.new.input)) (Rose (g.O.Sink.faults c.args.output.now) (g.O.Sink.faults c.run.new.output)) (Rose (g.K.Keeper.faults c.args.keeper) (g.K.Keeper.faults c.unopened.result.keeper)) (Rose (g.H.Hub.faults c.args.hub.now) (g.H.Hub.faults c.args.hub.now)) c.run.ensures.cause)
+    subst (λ (x : Status). HasCause x (Rose (g.I.Source.faults c.args.input.now) (g.I.Source.faults c.write_text.new.input)) (Rose (g.O.Sink.faults c.args.output.now) (g.O.Sink.faults c.write_text.new.output)) (Rose (g.K.Keeper.faults c.args.keeper) (g.K.Keeper.faults c.unopened.result.keeper)) (Rose (g.H.Hub.faults c.args.hub.now) (g.H.Hub.faults c.args.hub.now))) (sym c.unopened.ensures.status) (cause_among c.write_text.result (Rose (g.I.Source.faults c.args.input.now) (g.I.Source.faults c.write_text.new.input)) (Rose (g.O.Sink.faults c.args.output.now) (g.O.Sink.faults c.write_text.new.output)) (Rose (g.K.Keeper.faults c.args.keeper) (g.K.Keeper.faults c.unopened.result.keeper)) (Rose (g.H.Hub.faults c.args.hub.now) (g.H.Hub.faults c.args.hub.now)) c.write_text.ensures.cause)
 
 pub returns-in-Ok-Node-clause-words : goal.returns-in-Ok-Node-clause-words
 returns-in-Ok-Node-clause-words g c =
@@ -138,7 +139,7 @@ returns-in-Ok-Node-clause-cause g c =
 
 pub returns-in-Err-Refused-clause-words : goal.returns-in-Err-Refused-clause-words
 returns-in-Err-Refused-clause-words g c =
-    λ _. ((unasked (command_of (words_of c.args.words.now)) (Err c.in-Err-Refused.field-0) (ap Err c.in-Err-Refused.field-0-is) c.in-Err-Refused.ensures.given), refl, refl)
+    λ _. unasked (command_of (words_of c.args.words.now)) (Err c.in-Err-Refused.field-0) (ap Err c.in-Err-Refused.field-0-is) c.in-Err-Refused.ensures.given
 
 pub returns-in-Err-Refused-clause-text : goal.returns-in-Err-Refused-clause-text
 returns-in-Err-Refused-clause-text g c =
@@ -162,7 +163,7 @@ returns-in-Err-Memory-clause-cause g c =
 
 pub returns-in-Ok-Tell-clause-unread : goal.returns-in-Ok-Tell-clause-unread
 returns-in-Ok-Tell-clause-unread g c =
-    by_asked (told_of (words_of c.args.words.now)) c.in-Ok-Tell.telling _ (ap (option_and_then telling_in) (c.in-Ok-Tell.ensures.found ∙ ap Some c.in-Ok-Tell.field-0-is)) c.run.ensures.unread
+    by_asked (told_of (words_of c.args.words.now)) c.in-Ok-Tell.telling _ (ap (option_and_then telling_in) (c.in-Ok-Tell.ensures.found ∙ ap Some c.in-Ok-Tell.field-0-is)) c.write_text.ensures.unread
 
 pub returns-in-Ok-Node-clause-unread : goal.returns-in-Ok-Node-clause-unread
 returns-in-Ok-Node-clause-unread g c =

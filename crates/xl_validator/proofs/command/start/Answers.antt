@@ -1,5 +1,5 @@
 -- the core opens at the number that the keeper gave, and its run's history is legal, so it can be written as it was
-use Rattle.std.proofs.Common.{◌≡◌, ap, length}
+use Rattle.std.proofs.Common.{◌≡◌, ap, sym, ◌∙◌, length}
 use Rattle.std.specs.Prelude.{is_some}
 use Rattle.xl_heartbeat.specs.Outputs.{Output, output}
 use Rattle.xl_audit.specs.Rereading.{SaysYes}
@@ -8,7 +8,7 @@ use Rattle.xl_validator.specs.Preparing.{task_in}
 use Rattle.xl_validator.specs.Recordings.{IsWritten}
 use Rattle.xl_validator.specs.Validators.{between}
 use Rattle.xl_validator.specs.declared.recording.Recording.{Recording}
-use Rattle.xl_validator.proofs.Behind.{ends, legal_there, text_there, legal_of}
+use Rattle.xl_validator.proofs.Behind.{ends, kept_there, legal_there, text_there, legal_of}
 use Rattle.xl_validator.proofs.Leaving.{leaves_by}
 use Rattle.xl_validator.proofs.command.start.Goals as goal
 
@@ -26,19 +26,23 @@ recorded-requires g c =
     (g.O.Sink.held old) (g.O.Sink.faults old) (g.O.Sink.held new) (g.O.Sink.faults new) in
     let leaves = leaves_by g.K.Keeper.held g.K.Keeper.saves g.K.Keeper.faults g.K.Keeper.save_gives core task
     (g.C.Clock.may_give c.args.host.now.clock.now) (g.H.Hub.gives c.args.hub.now) outside old new
-    c.load.new.self left.result.keeper left.result.status left.result.journal
-    (c.node.new.hub ≡ c.args.hub.now) c.node.result (λ r. r.end) (λ r. r.closed.core) (λ r. r.closed.keeper) (λ r. r.closed.journal)
+    c.load.new.self left.result.0.keeper left.result.0.status left.result.0.journal
+    (c.node.new.hub ≡ c.args.hub.now)
+    (λ same. ap (λ h. hub_seen (g.H.Hub.faults h) (g.H.Hub.asked h)) same) c.node.result (λ r. r.end) (λ r. r.closed.core) (λ r. r.closed.keeper) (λ r. r.closed.journal)
     (λ s. s.core) (λ s. s.keeper)
     left.ensures.status left.ensures.keeper left.ensures.journal
     ran.legal ran.run ran.keeper ran.limit ran.spared ran.nothing in
     record {
       legal = legal_there (λ (r : Recording). r.settings) (λ (r : Recording). r.now) (λ (r : Recording). r.kept)
-          c.args.judged.settings c.args.judged.now c.in-Ok.kept made.result left.result.journal core
+          c.args.judged.settings c.args.judged.now c.in-Ok.kept made.result left.result.0.journal core
           c.in-Ok-prepare.ensures.core made.ensures.settings made.ensures.now made.ensures.kept
           (legal_of g.K.Keeper.held g.K.Keeper.saves g.K.Keeper.faults g.K.Keeper.save_gives core task
           (g.C.Clock.may_give c.args.host.now.clock.now) (g.H.Hub.gives c.args.hub.now) outside
-          c.load.new.self left.result.keeper left.result.status left.result.journal leaves.goes);
+          c.load.new.self left.result.0.keeper left.result.0.status left.result.0.journal leaves.goes);
       opened = leaves.opened;
+      kept = λ asked. kept_there c.node.result (λ r. r.closed.entries) (λ r. r.closed.journal)
+          left.result.1 left.result.0.journal c.in-Ok-prepare.field-0.plan.keeps c.args.judged.settings.journal
+          left.ensures.entries left.ensures.journal ran.kept c.in-Ok-prepare.ensures.keeps (sym made.ensures.asked ∙ asked);
     }
 
 pub returns-in-Ok-prepare : goal.returns-in-Ok-prepare
@@ -57,8 +61,9 @@ returns-in-Ok-prepare g c =
     let leaves = leaves_by g.K.Keeper.held g.K.Keeper.saves g.K.Keeper.faults g.K.Keeper.save_gives core task
     (g.C.Clock.may_give c.args.host.now.clock.now) (g.H.Hub.gives c.args.hub.now)
     (between old_hub new_hub (g.O.Sink.held old) (g.O.Sink.faults old) (g.O.Sink.held new) (g.O.Sink.faults new)) old new
-    c.load.new.self left.result.keeper left.result.status left.result.journal
-    (c.node.new.hub ≡ c.args.hub.now) c.node.result (λ r. r.end) (λ r. r.closed.core) (λ r. r.closed.keeper) (λ r. r.closed.journal)
+    c.load.new.self left.result.0.keeper left.result.0.status left.result.0.journal
+    (c.node.new.hub ≡ c.args.hub.now)
+    (λ same. ap (λ h. hub_seen (g.H.Hub.faults h) (g.H.Hub.asked h)) same) c.node.result (λ r. r.end) (λ r. r.closed.core) (λ r. r.closed.keeper) (λ r. r.closed.journal)
     (λ s. s.core) (λ s. s.keeper)
     left.ensures.status left.ensures.keeper left.ensures.journal
     ran.legal ran.run ran.keeper ran.limit ran.spared ran.nothing in
@@ -70,8 +75,8 @@ returns-in-Ok-prepare g c =
     (g.C.Clock.may_give c.args.host.now.clock.now) (g.H.Hub.gives c.args.hub.now)
     old_hub new_hub (shown old) (shown new) (shown done.new.sink)
     old new done.new.sink
-    c.args.keeper c.load.new.self left.result.keeper done.result.keeper left.result.status done.result.status
-    left.result.journal done.result.journal
+    c.args.keeper c.load.new.self left.result.0.keeper done.result.keeper left.result.0.status done.result.status
+    left.result.0.journal done.result.journal
     core task c.in-Ok-prepare.ensures.core c.in-Ok-prepare.ensures.task
     c.in-Ok-prepare.ensures.keyed
     (record {
@@ -84,11 +89,11 @@ returns-in-Ok-prepare g c =
     leaves done.ensures.keeper
     (is_some made.result) made.ensures.asked
     done.ensures.left (λ same. ap shown same) done.ensures.none done.ensures.some
-    (λ yes. there (λ text _. IsWritten text left.result.status done.result.status (shown new) (shown done.new.sink))
-    made.result left.result.journal left.result.status yes made.ensures.settings made.ensures.now made.ensures.kept
+    (λ yes. there (λ text _. IsWritten text left.result.0.status done.result.status (shown new) (shown done.new.sink))
+    made.result left.result.0.journal left.result.0.status yes made.ensures.settings made.ensures.now made.ensures.kept
     (done.ensures.written yes))
     (λ yes over. there (λ text history. SaysYes text (length history))
-    made.result left.result.journal left.result.status yes made.ensures.settings made.ensures.now made.ensures.kept
+    made.result left.result.0.journal left.result.0.status yes made.ensures.settings made.ensures.now made.ensures.kept
     (done.ensures.yes yes over)) in
     record {
       ran = all.runs;

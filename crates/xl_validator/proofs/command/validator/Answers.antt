@@ -35,7 +35,7 @@ returns-in-Err-Refused-clause-judged g c =
     old new c.args.keeper c.unopened.result.keeper c.unopened.result.status c.unopened.result.journal
     c.now-now.result c.now-now.ensures.may c.in-Err-Refused.field-0 c.in-Err-Refused.refusal c.refuse.result
     c.in-Err-Refused.field-0-is c.in-Err-Refused.ensures.settings c.unopened.ensures.journal c.unopened.ensures.status
-    c.refuse.ensures.told line c.unopened.ensures.keeper
+    c.refuse.ensures.told line c.unopened.ensures.keeper refl
 
 pub returns-in-Err-Read-clause-judged : goal.returns-in-Err-Read-clause-judged
 returns-in-Err-Read-clause-judged g c =
@@ -48,7 +48,7 @@ returns-in-Err-Read-clause-judged g c =
     between hub hub held faults held faults)
     c.args.output.now c.args.output.now c.args.keeper ended.result.keeper ended.result.status ended.result.journal
     c.now-now.result c.now-now.ensures.may ended.ensures.journal (subst IsUnopened (sym ended.ensures.status) tt)
-    (λ is. let no = sym ended.ensures.status ∙ is in cc) refl refl ended.ensures.keeper
+    (λ is. let no = sym ended.ensures.status ∙ is in cc) refl refl ended.ensures.keeper refl
 
 pub returns-in-Err-OutOfMemory-clause-judged : goal.returns-in-Err-OutOfMemory-clause-judged
 returns-in-Err-OutOfMemory-clause-judged g c =
@@ -61,7 +61,7 @@ returns-in-Err-OutOfMemory-clause-judged g c =
     between hub hub held faults held faults)
     c.args.output.now c.args.output.now c.args.keeper ended.result.keeper ended.result.status ended.result.journal
     c.now-now.result c.now-now.ensures.may ended.ensures.journal (subst IsUnopened (sym ended.ensures.status) tt)
-    (λ is. let no = sym ended.ensures.status ∙ is in cc) refl refl ended.ensures.keeper
+    (λ is. let no = sym ended.ensures.status ∙ is in cc) refl refl ended.ensures.keeper refl
 
 pub returns-in-Ok-clause-done : goal.returns-in-Ok-clause-done
 returns-in-Ok-clause-done g c = λ is. done_by_time _ _ _ _ _ _ _ _ _ _ _ _ _ (returns-in-Ok-clause-judged g c) is

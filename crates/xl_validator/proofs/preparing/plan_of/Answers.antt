@@ -11,4 +11,5 @@ returns-in-Ok-contacts_of c = record {
     pulse = refl;
     numbers = c.in-Ok-contacts_of.ensures.numbers;
   };
+  keeps = refl;
 }

@@ -3,7 +3,7 @@ use Rattle.std.proofs.Common.{List, length, Option, vec_capacity, sym, ap, subst
 use Rattle.xl_base.specs.declared.ids.SetId.{SetId}
 use Rattle.xl_disputes.specs.Disputes.{without_positions}
 use Rattle.xl_disputes.specs.Standings.{known_of, IsLast}
-use Rattle.xl_disputes.proofs.Keeping.{known_settled, moved_settled}
+use Rattle.xl_disputes.proofs.Keeping.{moved_unsettled}
 use Rattle.xl_disputes.proofs.Unused.{last_cleared}
 use Rattle.xl_disputes.proofs.disputes.Disputes.clear.Goals as goal
 use Rattle.xl_disputes.proofs.disputes.Disputes.clear.Goals.{After-clear_first}
@@ -13,15 +13,11 @@ ends c =
     subst (λ (ps : List (Option SetId)). IsLast c.self.inside.last c.self.inside.shares ps) (sym c.clear_first.ensures)
     (last_cleared c.self.inside.last c.self.inside.shares c.self.inside.positions c.self.invariant.ends)
 
-pub settle-requires-clause-ends : goal.settle-requires-clause-ends
-settle-requires-clause-ends c = ends (goal.at.settle-requires-clause-ends c).After-clear_first
-
 pub invariant_of-self : goal.invariant_of-self
 invariant_of-self c =
-    moved_settled c.self.inside.shares c.settle.new.shares c.self.inside.positions c.clear_first.new.positions c.self.inside.last c.self.inside.last (vec_capacity c.self.inside.next)
-    c.self.invariant (ap length c.clear_first.ensures) (ends (goal.at.invariant_of-self c).After-clear_first) c.settle.ensures
+    moved_unsettled c.self.inside.shares c.self.inside.positions c.clear_first.new.positions c.self.inside.last c.self.inside.last (vec_capacity c.self.inside.next) c.self.inside.settled
+    c.self.invariant (ap length c.clear_first.ensures) (ends (goal.at.invariant_of-self c).After-clear_first)
 
 pub returns : goal.returns
 returns c =
-    known_settled c.self.inside.shares c.settle.new.shares c.clear_first.new.positions c.settle.ensures
-    ∙ ap (λ (ps : List (Option SetId)). known_of c.self.inside.shares ps) c.clear_first.ensures ∙ ap without_positions c.self.view_is
+    ap (λ (ps : List (Option SetId)). known_of c.self.inside.shares ps) c.clear_first.ensures ∙ ap without_positions c.self.view_is

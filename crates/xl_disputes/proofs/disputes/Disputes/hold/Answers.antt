@@ -2,14 +2,14 @@
 use Rattle.std.proofs.Common.{Some, vec_capacity, ap, sym, subst, ◌∙◌, arith}
 use Rattle.xl_disputes.specs.Disputes.{with_held}
 use Rattle.xl_disputes.specs.Holdings.{with_set}
-use Rattle.xl_disputes.specs.Standings.{known_of, IsLast}
-use Rattle.xl_disputes.proofs.Keeping.{IsWeighable, weighable, settled, known_settled, member_weighable, member_known}
+use Rattle.xl_disputes.specs.Standings.{known_of, IsLast, IsWeighable}
+use Rattle.xl_disputes.proofs.Keeping.{unsettled, member_weighable, member_known}
 use Rattle.xl_disputes.proofs.Unused.{later_last, last_held}
 use Rattle.xl_disputes.proofs.disputes.Disputes.hold.Goals as goal
 use Rattle.xl_disputes.proofs.disputes.Disputes.hold.Goals.{After-max-self-inside}
 
 before : (c : After-max-self-inside) → IsWeighable c.self.inside.shares c.self.inside.positions
-before c = weighable c.self.inside.shares c.self.inside.positions c.self.inside.last (vec_capacity c.self.inside.next) c.self.invariant
+before c = c.self.invariant.able
 
 after : (c : After-max-self-inside) → IsWeighable c.take-id.new.self c.self.inside.positions
 after c =
@@ -23,21 +23,14 @@ ends c =
     (later_last c.self.inside.last c.max-self-inside.result c.self.inside.shares c.self.inside.positions (omega (arith, c.max-self-inside.ensures))
     (omega (arith, c.max-self-inside.ensures, c.self.invariant.ends.within, c.holding_of-place.ensures.within)) c.self.invariant.ends))
 
-pub settle-requires-clause-places : goal.settle-requires-clause-places
-settle-requires-clause-places c = (after (goal.at.settle-requires-clause-places c).After-max-self-inside).places
-
-pub settle-requires-clause-ends : goal.settle-requires-clause-ends
-settle-requires-clause-ends c = ends (goal.at.settle-requires-clause-ends c).After-max-self-inside
-
 pub invariant_of-self : goal.invariant_of-self
 invariant_of-self c =
     let taken = (goal.at.invariant_of-self c).After-max-self-inside in
-    settled c.take-id.new.self c.settle.new.shares c.self.inside.positions c.max-self-inside.result (vec_capacity c.self.inside.next) (after taken) (ends taken) c.self.invariant.roomy c.settle.ensures
+    unsettled c.take-id.new.self c.self.inside.positions c.max-self-inside.result (vec_capacity c.self.inside.next) (after taken) (ends taken) c.self.invariant.roomy
 
 pub returns-clause-taken : goal.returns-clause-taken
 returns-clause-taken c =
-    known_settled c.take-id.new.self c.settle.new.shares c.self.inside.positions c.settle.ensures
-    ∙ member_known (Some c.args.set.now) c.holding_of-place.result c.holding_of-place.ensures.some c.self.inside.shares c.take-id.new.self c.self.inside.positions c.take-id.ensures.taken
+    member_known (Some c.args.set.now) c.holding_of-place.result c.holding_of-place.ensures.some c.self.inside.shares c.take-id.new.self c.self.inside.positions c.take-id.ensures.taken
     (before (goal.at.returns-clause-taken c).After-max-self-inside)
     ∙ ap (λ n. with_held (known_of c.self.inside.shares c.self.inside.positions) n c.args.set.now) c.holding_of-place.ensures.value
     ∙ ap (λ k. with_held k c.args.member c.args.set.now) c.self.view_is

@@ -2,14 +2,14 @@
 use Rattle.std.proofs.Common.{Some, vec_capacity, ap, sym, subst, ◌∙◌, arith}
 use Rattle.xl_disputes.specs.Disputes.{with_own}
 use Rattle.xl_disputes.specs.Holdings.{with_set}
-use Rattle.xl_disputes.specs.Standings.{IsLast}
-use Rattle.xl_disputes.proofs.Keeping.{IsWeighable, weighable, settled, known_settled, own_weighable, own_known}
+use Rattle.xl_disputes.specs.Standings.{IsLast, IsWeighable}
+use Rattle.xl_disputes.proofs.Keeping.{unsettled, own_weighable, own_known}
 use Rattle.xl_disputes.proofs.Unused.{last_held}
 use Rattle.xl_disputes.proofs.disputes.Disputes.own.Goals as goal
 use Rattle.xl_disputes.proofs.disputes.Disputes.own.Goals.{After-take}
 
 before : (c : After-take) → IsWeighable c.self.inside.shares c.self.inside.positions
-before c = weighable c.self.inside.shares c.self.inside.positions c.self.inside.last (vec_capacity c.self.inside.next) c.self.invariant
+before c = c.self.invariant.able
 
 after : (c : After-take) → IsWeighable c.take.new.self c.self.inside.positions
 after c = own_weighable c.args.set.now c.self.inside.shares c.take.new.self c.self.inside.positions c.take.ensures.taken (before c)
@@ -19,19 +19,12 @@ ends c =
     subst (λ hs. IsLast c.self.inside.last hs c.self.inside.positions) (sym c.take.ensures.taken)
     (last_held (with_set (Some c.args.set.now)) c.self.inside.last 0 c.self.inside.shares c.self.inside.positions (omega arith) c.self.invariant.ends)
 
-pub settle-requires-clause-places : goal.settle-requires-clause-places
-settle-requires-clause-places c = (after (goal.at.settle-requires-clause-places c).After-take).places
-
-pub settle-requires-clause-ends : goal.settle-requires-clause-ends
-settle-requires-clause-ends c = ends (goal.at.settle-requires-clause-ends c).After-take
-
 pub invariant_of-self : goal.invariant_of-self
 invariant_of-self c =
     let taken = (goal.at.invariant_of-self c).After-take in
-    settled c.take.new.self c.settle.new.shares c.self.inside.positions c.self.inside.last (vec_capacity c.self.inside.next) (after taken) (ends taken) c.self.invariant.roomy c.settle.ensures
+    unsettled c.take.new.self c.self.inside.positions c.self.inside.last (vec_capacity c.self.inside.next) (after taken) (ends taken) c.self.invariant.roomy
 
 pub returns : goal.returns
 returns c =
-    known_settled c.take.new.self c.settle.new.shares c.self.inside.positions c.settle.ensures
-    ∙ own_known c.args.set.now c.self.inside.shares c.take.new.self c.self.inside.positions c.take.ensures.taken (before (goal.at.returns c).After-take)
+    own_known c.args.set.now c.self.inside.shares c.take.new.self c.self.inside.positions c.take.ensures.taken (before (goal.at.returns c).After-take)
     ∙ ap (λ k. with_own k c.args.set.now) c.self.view_is

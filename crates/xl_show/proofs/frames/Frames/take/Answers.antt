@@ -57,4 +57,4 @@ put-requires-clause-short g c =
 
 pub returns-clause-soon : goal.returns-clause-soon
 returns-clause-soon g c =
-    puts_none _ _ _ (λ rest. soon_taken c.min-count.result c.args.self.now.begun.items c.put.new.self.begun.items c.args.bytes.now rest c.in_ok-put.ensures.begun)
+    puts_none _ _ _ (λ rest. soon_taken c.min-count.result c.args.self.now.place c.put.new.self.place c.args.self.now.begun.items c.put.new.self.begun.items c.args.bytes.now rest c.in_ok-put.ensures.begun c.in_ok-put.ensures.place)

@@ -2,15 +2,17 @@
 use Rattle.std.proofs.Common.{◌≡◌, ◌++◌, ℕ, List, [], ◌∷◌, length, length-drop, ap, subst, arith, refl, sym, ◌∙◌}
 use Rattle.std.proofs.lemmas.Bool.Decides.{nat_tests}
 use Rattle.std.proofs.lemmas.List.{take_rest}
-use Rattle.xl_lines.specs.Running.{Tells}
-use Rattle.xl_lines.proofs.Runs.{write_from}
+use Rattle.xl_lines.specs.Running.{Tells, Puts}
+use Rattle.xl_lines.specs.Soon.{silence}
+use Rattle.xl_lines.proofs.Runs.{write_from, ok_exact}
 use Rattle.xl_lines.proofs.Telling.{tells_then, tells_front, tells_less}
 use Rattle.xl_show.specs.Shown.{told_from}
 use Rattle.xl_wire.specs.Frames.{decoded_of}
-use Rattle.xl_lines.proofs.Soon.{puts_then, puts_rest, puts_all, puts_later}
-use Rattle.xl_show.specs.Soon.{shown_soon}
+use Rattle.xl_lines.proofs.Soon.{puts_then, puts_rest, puts_all, puts_later, puts_open}
+use Rattle.xl_show.specs.Soon.{soon_from}
 use Rattle.xl_show.proofs.Soon.{puts_more, soon_begun}
 use Rattle.xl_show.proofs.frames.FramesTeller.feed.Goals as goal
+use Rattle.xl_show.proofs.frames.FramesTeller.feed.Goals.{In-Lacks}
 
 empty : (xs : List ℕ) → length xs ≡ 0 → xs ≡ []
 empty [] none = refl
@@ -31,7 +33,7 @@ loop-lack-preserved-in-Frame g c =
       reach = omega (arith, follows.0, c.loop-lack.invariant.reach);
       tells = λ more. tells_then (c.loop-lack.invariant.tells more) (rw c.in-Frame.is at (c.in_ok-advance.ensures.ok (c.loop-lack.rest.now ++ more)));
       soon = puts_then c.loop-lack.invariant.soon (puts_more _ _ c.loop-lack.rest.now (rw c.in-Frame.is at c.in_ok-advance.ensures.soon));
-      later = omega arith;
+      writes = ok_exact c.advance.result _ _ _ c.in_ok-advance.was c.advance.ensures.cause ∙ c.loop-lack.invariant.writes;
     }
 
 pub returns-in-Refused-clause-ok : goal.returns-in-Refused-clause-ok
@@ -73,7 +75,9 @@ loop-lack-preserved g c =
       tells = λ more.
           tells_then (tells_then (c.loop-lack.invariant.tells more) (rw c.in-Lacks-2.is at (c.in_ok-advance.ensures.ok (rest ++ more)))) (rw c.in-Taken.is at (c.in_ok-count-in-Lacks-2.ensures.ok more));
       soon = puts_then (puts_then c.loop-lack.invariant.soon (puts_more _ _ rest (rw c.in-Lacks-2.is at c.in_ok-advance.ensures.soon))) (rw c.in-Taken.is at c.in_ok-count-in-Lacks-2.ensures.soon);
-      later = omega arith;
+      writes =
+          ok_exact c.take.result _ _ _ c.in_ok-count-in-Lacks-2.was c.take.ensures.cause
+          ∙ (ok_exact c.advance.result _ _ _ c.in_ok-advance.was c.advance.ensures.cause ∙ c.loop-lack.invariant.writes);
     })
 
 pub returns-in-Refused-2-clause-ok : goal.returns-in-Refused-2-clause-ok
@@ -84,20 +88,34 @@ pub returns-in-Refused-2-clause-front : goal.returns-in-Refused-2-clause-front
 returns-in-Refused-2-clause-front g c = λ more.
     tells_front (tells_then (c.loop-lack.invariant.tells more) (rw c.in-Lacks-2.is at (c.in_ok-advance.ensures.ok (c.loop-lack.rest.now ++ more)))) (c.take.ensures.front more)
 
+-- bytes of the next frame lack, and none are left
+begun : (g : _) (c : In-Lacks g) → soon_from c.advance.new.self.place (c.advance.new.self.begun.items ++ []) ≡ silence
+begun g c =
+    let new = c.advance.new.self in
+    let follows = rw c.in-Lacks.is at c.in_ok-advance.ensures.follows in
+    soon_begun new.place new.begun.items c.in-Lacks.field-0 (ap (λ begun. decoded_of begun.items) follows.0 ∙ follows.3) (omega (arith, new.within, new.begun.ok.0))
+
+told : (g : _) (c : In-Lacks g) → length c.loop-lack.rest.now ≡ 0 → Puts (g.O.Sink.held c.args.output.now) (g.O.Sink.held c.advance.new.output) (λ more. soon_from c.args.self.now.place (c.args.self.now.begun.items ++ (c.args.bytes.now ++ more))) (λ more. soon_from c.advance.new.self.place (c.advance.new.self.begun.items ++ more))
+told g c none =
+    puts_rest (λ (more : List ℕ). soon_from c.advance.new.self.place (c.advance.new.self.begun.items ++ more)) c.loop-lack.rest.now none (puts_then c.loop-lack.invariant.soon (puts_more _ _ c.loop-lack.rest.now (rw c.in-Lacks.is at c.in_ok-advance.ensures.soon)))
+
 pub returns-in-Lacks-clause-soon : goal.returns-in-Lacks-clause-soon
 returns-in-Lacks-clause-soon g c is =
+    let at = (goal.at.returns-in-Lacks-clause-soon g c).In-Lacks in
     let none : length c.loop-lack.rest.now ≡ 0 = grind (arith, nat_tests) in
-    let follows = rw c.in-Lacks.is at c.in_ok-advance.ensures.follows in
-    let now = λ (more : List ℕ). shown_soon (c.advance.new.self.begun.items ++ more) in
-    puts_all (λ more. shown_soon (c.args.self.now.begun.items ++ more)) now c.args.bytes.now
-    (puts_rest now c.loop-lack.rest.now none (puts_then c.loop-lack.invariant.soon (puts_more _ _ c.loop-lack.rest.now (rw c.in-Lacks.is at c.in_ok-advance.ensures.soon))))
-    (soon_begun c.advance.new.self.begun.items c.in-Lacks.field-0 (ap (λ begun. decoded_of begun.items) follows.0 ∙ follows.3))
+    puts_all (λ more. soon_from c.args.self.now.place (c.args.self.now.begun.items ++ more)) (λ (more : List ℕ). soon_from c.advance.new.self.place (c.advance.new.self.begun.items ++ more)) c.args.bytes.now
+    (told g at none) (ap (λ told. told.text) (begun g at))
 
 pub returns-in-Lacks-clause-later : goal.returns-in-Lacks-clause-later
 returns-in-Lacks-clause-later g c is =
+    let at = (goal.at.returns-in-Lacks-clause-later g c).In-Lacks in
     let none : length c.loop-lack.rest.now ≡ 0 = grind (arith, nat_tests) in
-    let follows = rw c.in-Lacks.is at c.in_ok-advance.ensures.follows in
-    let now = λ (more : List ℕ). shown_soon (c.advance.new.self.begun.items ++ more) in
-    puts_later (λ more. shown_soon (c.args.self.now.begun.items ++ more)) now c.args.bytes.now
-    (puts_rest now c.loop-lack.rest.now none (puts_then c.loop-lack.invariant.soon (puts_more _ _ c.loop-lack.rest.now (rw c.in-Lacks.is at c.in_ok-advance.ensures.soon))))
-    (soon_begun c.advance.new.self.begun.items c.in-Lacks.field-0 (ap (λ begun. decoded_of begun.items) follows.0 ∙ follows.3))
+    puts_later (λ more. soon_from c.args.self.now.place (c.args.self.now.begun.items ++ more)) (λ (more : List ℕ). soon_from c.advance.new.self.place (c.advance.new.self.begun.items ++ more)) c.args.bytes.now
+    (told g at none) (ap (λ told. told.text) (begun g at))
+
+pub returns-in-Lacks-clause-unended : goal.returns-in-Lacks-clause-unended
+returns-in-Lacks-clause-unended g c is =
+    let at = (goal.at.returns-in-Lacks-clause-unended g c).In-Lacks in
+    let none : length c.loop-lack.rest.now ≡ 0 = grind (arith, nat_tests) in
+    puts_open (λ more. soon_from c.args.self.now.place (c.args.self.now.begun.items ++ more)) (λ (more : List ℕ). soon_from c.advance.new.self.place (c.advance.new.self.begun.items ++ more)) c.args.bytes.now
+    (told g at none) (ap (λ told. told.closed) (begun g at))

@@ -1,7 +1,7 @@
 -- each frame told leaves the rest to tell, and once bytes lack and no more come, only the end is left
 use Rattle.std.proofs.Common.{◌≡◌, ◌++◌, [], false, ap, arith, ◌∙◌}
 use Rattle.std.proofs.lemmas.Result.{IfOk-weaker}
-use Rattle.xl_lines.proofs.Runs.{write_from}
+use Rattle.xl_lines.proofs.Runs.{write_from, ok_exact}
 use Rattle.xl_lines.proofs.Telling.{tells_then, tells_front, tells_less, tells_all_then, tells_all_refused, all_from, front_from, less_from}
 use Rattle.xl_show.specs.Shown.{ending, told_from}
 use Rattle.xl_show.proofs.Telling.{told_end}
@@ -24,7 +24,7 @@ returns-in_err-advance-clause-less g c = λ is.
 pub loop-lack-preserved : goal.loop-lack-preserved
 loop-lack-preserved g c = record {
   tells = λ more. tells_then (c.loop-lack.invariant.tells more) (rw c.in-Frame.is at (c.in_ok-advance.ensures.ok more));
-  later = omega arith;
+  writes = ok_exact c.advance.result _ _ _ c.in_ok-advance.was c.advance.ensures.cause ∙ c.loop-lack.invariant.writes;
 }
 
 pub returns-in-Refused-clause-ok : goal.returns-in-Refused-clause-ok

@@ -15,4 +15,4 @@ returns g c =
     (issue_with c.issue.result (at_moment c.args.now c.args.self.now.core.node) c.args.seq c.args.id c.args.full
     (save_in c.issue.result) refl done.step.answer) done.step
     (record { held = done.held; saves = done.saves; keeper = done.keeper; later = done.later })
-    (issue_counted c.issue.result _ _ done.fault)
+    (issue_counted c.issue.result _ _ done.fault) refl

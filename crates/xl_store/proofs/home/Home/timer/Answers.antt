@@ -1,3 +1,4 @@
+use Rattle.std.proofs.Common.{refl}
 use Rattle.xl_core.specs.Answers.{Beats}
 use Rattle.xl_core.specs.declared.event.CoreEvent.TheVariants.{Timer}
 use Rattle.xl_core.specs.Node.{at_moment}
@@ -14,4 +15,4 @@ returns g c =
     (save_at c.timer.result) (outcome_at c.timer.result) (Beats c.timer.result) c.requires.moment (same_at c.timer.result)
     (beat_with (at_moment c.args.now c.args.self.now.core.node) (save_at c.timer.result) c.timer.result done.step.answer) done.step
     (record { held = done.held; saves = done.saves; keeper = done.keeper; later = done.later })
-    (beat_counted c.timer.result _ _ done.fault)
+    (beat_counted c.timer.result _ _ done.fault) refl

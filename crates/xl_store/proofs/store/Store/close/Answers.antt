@@ -1,5 +1,6 @@
--- the journal leads from the first core and keeper to the last, so it leads from core to core and keeper to keeper
-use Rattle.std.proofs.Common.{sym, subst}
+-- the journal leads from the first core and keeper to the last, so it leads from core to core and keeper to keeper, and
+-- leaves what is kept
+use Rattle.std.proofs.Common.{sym, subst, ap, ◌∙◌}
 use Rattle.xl_turns.specs.Histories.{Runs}
 use Rattle.xl_turns.specs.Passes.{opening}
 use Rattle.xl_store.specs.declared.home.Home.{Home}
@@ -8,6 +9,7 @@ use Rattle.xl_store.specs.Entries.{Leads}
 use Rattle.xl_store.specs.Stores.{start_of, keeper_of}
 use Rattle.xl_store.proofs.Journals.{after_runs}
 use Rattle.xl_store.proofs.Keeping.{cores_run, keeps_run}
+use Rattle.xl_store.proofs.Kept.{kept_all}
 use Rattle.xl_store.proofs.store.Store.close.Goals as goal
 
 pub returns-clause-legal : goal.returns-clause-legal
@@ -25,3 +27,10 @@ returns-clause-keeper g c =
     (start_of c.args.self) c.close-object.result.journal (keeper_of c.args.self) h.keeper)
     (sym c.into_inner-core.ensures)
     (keeps_run g.K.Keeper.held g.K.Keeper.saves g.K.Keeper.faults g.K.Keeper.save_gives (opening c.args.self.lock) _ _ c.close-object.ensures.legal)
+
+pub returns-clause-kept : goal.returns-clause-kept
+returns-clause-kept g c =
+    c.handed_out.ensures
+    ∙ ap (λ (h : Home g.row.B.Denot g.row.K.Denot). h.kept) c.into_inner-core.ensures
+    ∙ kept_all g.K.Keeper.held g.K.Keeper.saves g.K.Keeper.faults g.K.Keeper.save_gives c.args.self.keeps
+    (opening c.args.self.lock) _ c.close-object.result.journal c.args.self.kept c.close-object.ensures.legal

@@ -3,25 +3,29 @@ use Rattle.std.proofs.Common.{refl, sym, None}
 use Rattle.xl_core.specs.declared.event.CoreEvent.{CoreEvent}
 use Rattle.xl_core.specs.declared.event.CoreEvent.TheVariants.{Stopped}
 use Rattle.xl_store.specs.Entries.{entry_of}
+use Rattle.xl_store.specs.Pages.{on}
 use Rattle.xl_store.proofs.Turning.{goes_on, called}
 use Rattle.xl_store.proofs.store.Store.stopped.Goals as goal
 
-pub finish-requires-clause-leads : goal.finish-requires-clause-leads
-finish-requires-clause-leads g c =
+pub finish-requires-clause-ends : goal.finish-requires-clause-ends
+finish-requires-clause-ends g c =
     let event : CoreEvent = Stopped in
-    let b = c.in_ok-turn.ensures.begun in (
-      c.in_ok-turn.turn.object,
-      entry_of event None,
-      b.found,
-      goes_on g.K.Keeper.held g.K.Keeper.saves g.K.Keeper.faults g.K.Keeper.save_gives
-          c.in_ok-turn.turn.object.value c.in_ok-turn.turn.object.value _ event refl tt refl refl refl,
-      b.written,
-    )
+    let b = c.in_ok-turn.ensures.begun in
+    record {
+      found = c.in_ok-turn.turn.object;
+      entry = entry_of event None;
+      runs = b.found;
+      goes = goes_on g.K.Keeper.held g.K.Keeper.saves g.K.Keeper.faults g.K.Keeper.save_gives
+          c.in_ok-turn.turn.object.value c.in_ok-turn.turn.object.value _ event refl tt refl refl refl;
+      kept = refl;
+      written = b.written;
+      node = b.node;
+    }
 
 pub returns-clause-called : goal.returns-clause-called
 returns-clause-called g c =
     let b = c.in_ok-turn.ensures.begun in
     called g.K.Keeper.held g.K.Keeper.saves g.K.Keeper.faults g.K.Keeper.save_gives c.args.self.now c.args.pass.now c.finish.new.pass
-    Stopped None _ c.in_ok-turn.turn c.in_ok-turn.page c.in_ok-turn.page
+    Stopped None _ c.in_ok-turn.turn c.in_ok-turn.page (on c.in_ok-turn.page)
     c.deref.result.now c.deref.ensures b b.written c.finish.ensures.known c.finish.ensures.legal
     (sym c.stopped-stopped.ensures.step.answer)

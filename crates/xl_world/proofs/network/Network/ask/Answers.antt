@@ -15,7 +15,7 @@ pub returns-clause-world : goal.returns-clause-world
 returns-clause-world c =
     let w : World = c.args.self.now in
     subst (λ (v : World). OnOk c.act.result (c.act.new.self ≡ v))
-    (ap (λ (e : CoreEvent). with_forged w.forged (run w (event_steps w c.asked_by-node.result.0 e c.args.fate))) (c.asked_by-node.ensures.deed c.args.at)
+    (ap (λ (e : CoreEvent). with_forged w.forged (run w (event_steps w c.asked_by-node.result.0 e c.args.fate))) (c.asked_by-node.ensures.deed c.asked_by-node.result.0)
     ∙ (ap (λ (i : ℕ). with_forged w.forged (run w (event_steps w i (event_asked c.args.at c.args.ask.now) c.args.fate))) c.asked_by-node.ensures.node
     ∙ fair_ran w (node_asked c.args.ask.now) (event_asked c.args.at c.args.ask.now) c.args.fate (asked_fair c.args.at c.args.ask.now w)))
     c.act.ensures.world

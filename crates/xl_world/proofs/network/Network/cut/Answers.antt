@@ -21,7 +21,7 @@ abbrev number : After-act_at → ℕ
 number c = c.asked_by-node.result.0
 
 abbrev event : After-act_at → CoreEvent
-event c = deed_event c.args.at c.asked_by-node.result.1
+event c = deed_event c.asked_by-node.result.0 c.asked_by-node.result.1
 
 -- the places after it
 placed : (c : After-act_at) → (with_items c.self.inside.places c.act_at.new.places).items ≡ acted_at (number c) (event c) Unwritten c.args.self.now.places
@@ -34,9 +34,9 @@ held : (c : After-act_at) → Some c.in-Some.disk ≡ disk_in (number c) c.args.
 held c = c.in-Some.ensures ∙ ap (disk_in (number c)) (c.deref.ensures.value ∙ ap (λ (w : World). w.places) c.self.view_is)
 
 -- what the node answered
-answers : (c : In-Some-act_at) → AnswersAt c.asked_by-node.result.0 (deed_event c.args.at c.asked_by-node.result.1) Unwritten c.args.self.now.places (Some c.in-Some-act_at.answer)
+answers : (c : In-Some-act_at) → AnswersAt c.asked_by-node.result.0 (deed_event c.asked_by-node.result.0 c.asked_by-node.result.1) Unwritten c.args.self.now.places (Some c.in-Some-act_at.answer)
 answers c =
-    subst (λ (ps : List Place). AnswersAt c.asked_by-node.result.0 (deed_event c.args.at c.asked_by-node.result.1) Unwritten ps (Some c.in-Some-act_at.answer)) (c.deref_mut.ensures.value ∙ ap (λ (w : World). w.places) c.self.view_is)
+    subst (λ (ps : List Place). AnswersAt c.asked_by-node.result.0 (deed_event c.asked_by-node.result.0 c.asked_by-node.result.1) Unwritten ps (Some c.in-Some-act_at.answer)) (c.deref_mut.ensures.value ∙ ap (λ (w : World). w.places) c.self.view_is)
     c.in-Some-act_at.ensures.answer
 
 pub act_at-requires-clause-rested : goal.act_at-requires-clause-rested
@@ -68,7 +68,7 @@ returns-in-Some-asked-clause-world c =
     (ap (λ (u : World). with_places u (put_again at c.restored.result (place_at i ps) ps)) c.self.view_is
     ∙ (ap (λ (xs : List Place). with_places w (put_again at c.restored.result (place_at i xs) xs)) (placed d)
     ∙ (ap (λ (k : Disk). with_places w (put_again at k (place_at i acted) acted)) its
-    ∙ (cuts_torn w at c.args.new c.args.ask.now i (event d) Unwritten kept c.in-Some-act_at.answer c.in-Some-asked.seq c.asked_by-node.ensures.node (c.asked_by-node.ensures.deed at) (held d) (answers s) c.in-Some-asked.is).world)))
+    ∙ (cuts_torn w at c.args.new c.args.ask.now i (event d) Unwritten kept c.in-Some-act_at.answer c.in-Some-asked.seq c.asked_by-node.ensures.node (c.asked_by-node.ensures.deed c.asked_by-node.result.0) (held d) (answers s) c.in-Some-asked.is).world)))
     c.reopen.ensures.places
 
 pub returns-in_ok-settle-in-None-clause-world : goal.returns-in_ok-settle-in-None-clause-world
@@ -87,8 +87,8 @@ returns-in_ok-settle-in-None-clause-world c =
     ∙ (ap (λ (u : World). noted (with_places u ps) i c.in-Some-act_at.answer) c.self.view_is ∙ ap (λ (xs : List Place). noted (with_places w xs) i c.in-Some-act_at.answer) (placed d)) in
     subst (λ (u : World). OnOk c.reopen-in-None.result (c.reopen-in-None.new.self ≡ u))
     (ap (λ (k : Disk). with_places v (put_again at k (place_at i v.places) v.places)) its
-    ∙ (cuts_none w v at c.args.new c.args.ask.now i (event d) Unwritten kept c.in-Some-act_at.answer c.asked_by-node.ensures.node (c.asked_by-node.ensures.deed at) (held d) (answers s) c.in-None.is
-    (λ p from. deed_unsent p.core at c.asked_by-node.result.1 (answer_of p.disk Unwritten) from) settled).world)
+    ∙ (cuts_none w v at c.args.new c.args.ask.now i (event d) Unwritten kept c.in-Some-act_at.answer c.asked_by-node.ensures.node (c.asked_by-node.ensures.deed c.asked_by-node.result.0) (held d) (answers s) c.in-None.is
+    (λ p from. deed_unsent p.core c.asked_by-node.result.0 c.asked_by-node.result.1 (answer_of p.disk Unwritten) from) settled).world)
     c.reopen-in-None.ensures.places
 
 pub returns-in_ok-settle-in-None-clause-told : goal.returns-in_ok-settle-in-None-clause-told
@@ -106,8 +106,8 @@ returns-in_ok-settle-in-None-clause-told c =
     any_ok _ c.reopen-in-None.result
     (c.in_ok-settle-in-None.ensures.told
     ∙ ap (λ (os : List Outcome). c.args.told.now.items ++ os)
-    (cuts_none w v at c.args.new c.args.ask.now i (event d) Unwritten c.in-Some.disk c.in-Some-act_at.answer c.asked_by-node.ensures.node (c.asked_by-node.ensures.deed at) (held d) (answers s) c.in-None.is
-    (λ p from. deed_unsent p.core at c.asked_by-node.result.1 (answer_of p.disk Unwritten) from) settled).tells)
+    (cuts_none w v at c.args.new c.args.ask.now i (event d) Unwritten c.in-Some.disk c.in-Some-act_at.answer c.asked_by-node.ensures.node (c.asked_by-node.ensures.deed c.asked_by-node.result.0) (held d) (answers s) c.in-None.is
+    (λ p from. deed_unsent p.core c.asked_by-node.result.0 c.asked_by-node.result.1 (answer_of p.disk Unwritten) from) settled).tells)
 
 -- WHAT WAS TOLD STAYS
 

@@ -19,4 +19,5 @@ returns-clause-read c =
       readings = inl refl;
       later = omega arith;
       failed = λ no. absurd cc;
+      exact = λ other. refl;
     }

@@ -1,0 +1,9 @@
+use Rattle.xl_core.specs.Deeds.{event_for}
+use Rattle.xl_audit.proofs.Telling.{happened_ok}
+use Rattle.xl_audit.proofs.stepping.reply_to_deed.Goals as goal
+
+pub returns : goal.returns
+returns g c =
+    happened_ok c.push_answer.result c.args.core.now c.happen.new.self (event_for c.args.core.now c.args.deed.now)
+    c.happen.new.answer c.args.keeper.now c.happen.new.keeper (g.T.ReplyText.told c.args.text.now)
+    (g.T.ReplyText.told c.push_answer.new.text) c.requires.fresh c.happen.ensures c.requires.text c.push_answer.ensures

@@ -1,0 +1,4 @@
+pub mod Evidence
+pub mod Innocence
+pub mod Journals
+pub mod Networks

@@ -1,0 +1,56 @@
+ghost use Rattle.std.specs.Prelude.{◌≡◌, ◌++◌, length, IfOk, IfErr, OnErr};
+ghost use Rattle.xl_turns.specs.Histories.{IsLegal};
+ghost use Rattle.xl_turns.specs.Knowing.{after_turn};
+ghost use Rattle.xl_turns.specs.Passes.{known, knows, opening, HasTurn};
+ghost use Rattle.xl_store.specs.Pages.{on};
+ghost use Rattle.xl_store.specs.Homes.{LeadsHome};
+ghost use Rattle.xl_store.specs.Stores.{IsOf, Begun, Ends, Refused};
+
+use super::{Pass, Store, StoreEnd};
+use crate::entry::Entry;
+use crate::home::Home;
+use crate::page::Page;
+use std::sync::Wait;
+use xl_core::CoreEvent;
+use xl_io::Keeper;
+use xl_ledger::Branch;
+use xl_turns::{Full, Turn};
+
+impl<B: Branch + Drop, K: Keeper + Drop> Store<B, K> {
+    /// Takes the memory for the entry, and then a turn.
+    pub(crate) fn enter<W: Wait>(
+        &self,
+        rt: &W,
+        pass: &mut Pass,
+        event: CoreEvent,
+    ) -> Result<(Turn<Box<Home<B, K>>, Entry>, Page), StoreEnd>
+        requires pass { IsOf self.now pass.old }
+        ensures turn { IfOk result (λ begun. HasTurn self.now.lock pass.new begun.0) }
+        ensures begun { IfOk result (λ begun. Begun K.held K.saves K.faults K.save_gives
+            self.now pass.old event begun.0 begun.1) }
+        ensures pass { OnErr result (IsOf self.now pass.new) }
+        ensures refused { IfErr result (λ end. Refused self.now pass.old end pass.new) }
+    {
+        let page = Page::of(self.alloc, event, self.keeps)?;
+        match self.lock.enter(rt, pass) {
+            Ok(turn) => Ok((turn, page)),
+            Err(Full(limit)) => Err(StoreEnd::StoreFull(limit)),
+        }
+    }
+
+    /// Ends the turn: the page's entry stands in the journal, and is kept if entries are.
+    pub(crate) fn finish(&self, pass: &mut Pass, mut turn: Turn<Box<Home<B, K>>, Entry>, page: Page)
+        requires turn { HasTurn self.now.lock pass.old turn }
+        requires ends { Ends K.held K.saves K.faults K.save_gives self.now turn page }
+        ensures pass { IsOf self.now pass.new }
+        ensures legal { IsLegal (LeadsHome K.held K.saves K.faults K.save_gives)
+            (opening self.now.lock) (known pass.new).seen }
+        ensures known { known pass.new
+            ≡ after_turn (knows turn) (length turn.journal) (turn.journal ++ on page) }
+    {
+        let written = turn.written(page.entry());
+        // What isn't kept is freed behind the turn.
+        let _passing = turn.object.keep(page);
+        self.lock.finish(pass, turn, written);
+    }
+}

@@ -1,0 +1,83 @@
+// What is shown of a text that the program writes.
+'use strict'
+const MOST_COLOURED = 5000
+const fill = (text, values) => text.replace(/\{(\d)\}/g, (_, place) => values[place] ?? '?')
+const linesOf = text => text.split('\n').slice(0, -1)
+const lastWords = text => (linesOf(text).at(-1) || '').split(' ')
+
+// The cause of a refusal in words, if this page knows the code.
+function causeOf(code, values) {
+  const why = known.lines[code] || (known.refusals[code] || [])[1]
+  return why ? fill(why, values) : 'code ' + code
+}
+
+function element(kind, name, ...parts) {
+  const made = document.createElement(kind)
+  if (name) made.className = name
+  made.append(...parts)
+  return made
+}
+
+// A line in colours, with what it says behind it. A refusal of a line of the input leads there.
+function drawnLine(line, command) {
+  const [word, ...values] = line.split(' '), isCounted = word === 'refused' && command === 'gen'
+  if (command === 'show' || command === 'negative' && word !== 'bad') return coloured(line)
+  const isRefusal = !isCounted && (word === 'refused' || word === 'bad')
+  const drawn = element(isRefusal ? 'button' : 'span', isRefusal ? 'line goes' : 'line', ...coloured(line))
+  if (isRefusal) {
+    const of = word === 'bad' || command === 'merge' ? 1 : 2
+    drawn.dataset.says = causeOf(values[of], values.slice(of + 1))
+    drawn.onclick = () => goTo(Number(values[0]))
+  } else if (Object.hasOwn(known.words, word)) drawn.dataset.says = fill(known.words[word], values)
+  return [drawn]
+}
+
+function drawnText(text, command) {
+  const pre = document.createElement('pre'), lines = linesOf(text)
+  if (lines.length > MOST_COLOURED) pre.textContent = text
+  else pre.append(...lines.flatMap(it => [...drawnLine(it, command), '\n']))
+  return pre
+}
+
+// Each pair of `lists` as a cell: both quorums together, and what they must exceed.
+function matrixOf(text) {
+  const pairs = linesOf(text).map(it => it.split(' ')).filter(it => it[0] === 'pair')
+  const numbers = [...new Set(pairs.flatMap(it => [it[1], it[2]]))].sort((a, b) => a - b)
+  const cells = new Map(pairs.map(it => [it[1] + ' ' + it[2], it]))
+  const head = element('tr', '', document.createElement('td'), ...numbers.map(it => element('th', '', it)))
+  const rows = numbers.map(one => element('tr', '', element('th', '', one), ...numbers.map(other => cellOf(cells.get(one + ' ' + other)))))
+  const caption = element('caption', '', 'Both quorums together, and what they must exceed so that no two reports of one sequence differ. A red pair is short.')
+  return element('table', '', caption, head, ...rows)
+}
+
+function cellOf(pair) {
+  if (!pair) return document.createElement('td')
+  const [, one, other, overlap, liars, sum, bound, answer] = pair
+  const cell = element('td', answer, `${sum} > ${bound}`)
+  if (answer === 'short') cell.textContent = `${sum} ≤ ${bound}`
+  cell.title = `${one} and ${other}: ${overlap} on both lists, of them ${liars} liars`
+  return cell
+}
+
+// What is said of a run in one sentence, and whether it is good.
+function verdictOf(command, told, text) {
+  if (told.fault) return [`The program ended: ${told.fault}`, 'wrong']
+  if (told.status === 6) return ['Memory ran out.', 'wrong']
+  if (told.status === 3) return [refusalOf(command, lastWords(text)), 'wrong']
+  if (command === 'lists') return verdictOfLists(text)
+  if (command !== 'replay' && command !== 'gen') return ['All is written.', 'good']
+  const [, sequence, one, its, other, theirs] = lastWords(text)
+  if (told.status === 1) return [`Fork at sequence ${sequence}: node ${one} reports ${its}, and node ${other} reports ${theirs}.`, 'wrong']
+  return ['Agreed: no two reports of one sequence differ.', 'good']
+}
+
+function verdictOfLists(text) {
+  const pairs = linesOf(text).filter(it => it.startsWith('pair ')), short = pairs.filter(it => it.endsWith(' short')).length
+  if (!pairs.length) return ['No node is declared.', '']
+  return short ? [`${short} of ${pairs.length} pairs are short.`, 'wrong'] : ['No pair is short.', 'good']
+}
+
+function refusalOf(command, [, place, code, ...values]) {
+  const where = command === 'show' ? `What begins at byte ${place}` : `Line ${place}`
+  return `${where} is refused (${code}): ${causeOf(code, values)}.`
+}
