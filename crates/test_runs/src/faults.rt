@@ -8,7 +8,7 @@ use std::thread::Threads;
 use xl_base::Status;
 
 /// Which calls fail.
-#[derive(Clone, Copy, Debug, PartialEq, Eq)]
+#[derive(Clone, Copy, PartialEq, Eq)]
 enum Calls {
     Reads,
     Writes,
@@ -24,14 +24,14 @@ impl Calls {
 }
 
 /// How many reads and how many writes a run makes, each of which ended it with its fault if it failed.
-#[derive(Clone, Copy, Debug, PartialEq, Eq)]
+#[derive(Clone, Copy, PartialEq, Eq)]
 pub struct Faults {
     pub reads: u64,
     pub writes: u64,
 }
 
 /// What became of a run whose call of one number is to fail.
-#[derive(Clone, Copy, Debug, PartialEq, Eq)]
+#[derive(Clone, Copy, PartialEq, Eq)]
 enum Turn {
     /// It ended with the fault, behind a front of its text.
     Failed,

@@ -35,7 +35,7 @@ pub enum Stage {
 }
 
 /// Why a line is refused.
-#[derive(Debug, Drop)]
+#[derive(Drop)]
 pub enum BadLine {
     Refused(SchedRefusal),
     /// This member is listed and has no key.
@@ -43,7 +43,7 @@ pub enum BadLine {
 }
 
 /// What a line leads to.
-#[derive(Debug, Drop)]
+#[derive(Drop)]
 pub enum Step {
     GoesOn,
     /// The entry of this place, from 1 on, isn't right.

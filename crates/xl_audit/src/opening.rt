@@ -16,7 +16,7 @@ use xl_sched::{Cause, LineFault, member, member_numbers, number, number_within, 
 use xl_tags::Keys;
 
 /// The settings of a journal's core, except its keys, and what it was opened with.
-#[derive(Debug, Drop)]
+#[derive(Drop)]
 pub struct Opening {
     pub me: NodeNo,
     pub list: List,

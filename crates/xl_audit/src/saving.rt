@@ -8,7 +8,7 @@ use xl_store::Saved;
 
 /// A keeper whose saves are answered as an entry tells, and whether it was asked one. Where the entry tells of none it
 /// answers with Ok.
-#[derive(Clone, Copy, Debug)]
+#[derive(Clone, Copy)]
 pub struct EntryKeeper {
     answer: Option<Saved>,
     faults: u64,

@@ -86,7 +86,7 @@ impl Ord for SetId {
 }
 
 /// A transaction. Ids are ordered by their bytes.
-#[derive(Clone, Copy, Debug, Eq)]
+#[derive(Clone, Copy, Eq)]
 pub struct TxId(pub [u8; 32]);
 
 impl PartialEq for TxId {

@@ -10,7 +10,7 @@ pub const GREATEST_NODE_NO: u32 = 64;
 pub const MOST_MEMBERS: usize = GREATEST_NODE_NO as usize;
 
 /// A member's number, from 1 to 64.
-#[derive(Clone, Copy, Debug, PartialEq, Eq, PartialOrd, Ord)]
+#[derive(Clone, Copy, PartialEq, Eq, PartialOrd, Ord)]
 pub struct NodeNo {
     number: u8,
 }

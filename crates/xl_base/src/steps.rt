@@ -4,7 +4,7 @@ ghost use Rattle.xl_base.specs.Counts.{one_more};
 use std::marker::Model;
 
 /// A count of steps, which stops at the greatest `u64`.
-#[derive(Debug, Drop)]
+#[derive(Drop)]
 pub struct Steps {
     taken: u64,
 }

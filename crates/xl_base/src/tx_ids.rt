@@ -4,7 +4,7 @@ use crate::TxId;
 use std::marker::Model;
 
 /// A vector of transactions' ids, which contracts see as a list.
-#[derive(Debug, Drop)]
+#[derive(Drop)]
 pub struct TxIds {
     ids: Vec<TxId>,
 }

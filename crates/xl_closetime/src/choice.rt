@@ -24,7 +24,7 @@ pub struct Choice {
 }
 
 /// A time, and how often it occurs.
-#[derive(Clone, Copy, Debug)]
+#[derive(Clone, Copy)]
 struct Frequent {
     time: Secs,
     count: u32,

@@ -1,7 +1,7 @@
 use crate::{Refusal, Taken, TimerAnswer};
 
 /// What a core answers to what happens at it.
-#[derive(Clone, Copy, Debug, PartialEq, Eq)]
+#[derive(Clone, Copy, PartialEq, Eq)]
 pub enum CoreAnswer {
     /// It was done, and there is nothing to say.
     Done,

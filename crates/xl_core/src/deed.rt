@@ -3,7 +3,7 @@ use xl_lists::List;
 
 /// What happens at a core, by what is lent to it. It is every event but the two that hand out into a room of the
 /// caller's: those are the calls `drain` and `reports`.
-#[derive(Clone, Copy, Debug)]
+#[derive(Clone, Copy)]
 pub enum Deed<'a> {
     /// It is asked to issue a validation.
     Issue {

@@ -2,7 +2,7 @@ use xl_base::{Bytes, LedgerId, Millis, NodeNo, Seq, TxId};
 use xl_lists::List;
 
 /// What may happen at a core. A room stands for how much it holds.
-#[derive(Debug, Drop)]
+#[derive(Drop)]
 pub enum CoreEvent {
     /// It is asked to issue a validation.
     Issue {

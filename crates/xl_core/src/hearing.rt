@@ -16,7 +16,7 @@ use xl_tags::{Keys, TagRefusal, open_as_sealed, open_raw};
 use xl_wire::{Ids, Proposal, Raw, Validation};
 
 /// What members say, as contracts speak of it. The code takes it from the body of a frame where that was read.
-#[derive(Debug, Drop)]
+#[derive(Drop)]
 pub enum Speech<'a> {
     Validation(Validation),
     Header(Header),
@@ -26,14 +26,14 @@ pub enum Speech<'a> {
 }
 
 /// What a frame says, and the member that says it.
-#[derive(Debug, Drop)]
+#[derive(Drop)]
 pub struct Spoken<'a> {
     pub from: NodeNo,
     pub what: Speech<'a>,
 }
 
 /// How the tag of a frame is taken.
-#[derive(Clone, Copy, Debug)]
+#[derive(Clone, Copy)]
 pub enum Tags {
     /// As it is: it is to be the one under our key.
     Tested,

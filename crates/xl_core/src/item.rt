@@ -2,7 +2,7 @@ use xl_base::{LedgerId, SetId, TxId};
 use xl_wire::{Proposal, Validation};
 
 /// What waits for a peer until it is sent in a frame.
-#[derive(Clone, Copy, Debug, PartialEq, Eq)]
+#[derive(Clone, Copy, PartialEq, Eq)]
 pub enum Item {
     Validation(Validation),
     /// A transaction that was handed in.

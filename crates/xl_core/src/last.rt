@@ -5,7 +5,7 @@ use crate::Report;
 use xl_base::{LedgerId, Seq};
 
 /// What was last reported since the node opened, and whether the node's list was set after that.
-#[derive(Clone, Copy, Debug, PartialEq, Eq)]
+#[derive(Clone, Copy, PartialEq, Eq)]
 pub struct LastReport {
     pub report: Option<Report>,
     pub relisted: bool,

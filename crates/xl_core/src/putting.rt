@@ -3,7 +3,7 @@ ghost use Rattle.std.specs.Prelude.{◌≤◌, Some, length};
 ghost use Rattle.xl_core.specs.Draining.{IsPut};
 
 /// What became of an item that is to be sent.
-#[derive(Clone, Copy, Debug, PartialEq, Eq)]
+#[derive(Clone, Copy, PartialEq, Eq)]
 pub enum Put {
     /// Its frame, of this many bytes, was put into the room.
     Written(usize),

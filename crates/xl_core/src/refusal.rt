@@ -10,7 +10,7 @@ use xl_wire::WireRefusal;
 
 /// Why a node refuses an event, with the values that show it. Only its time has gone on then, and what expires by it;
 /// but a save that failed is remembered.
-#[derive(Clone, Copy, Debug, PartialEq, Eq)]
+#[derive(Clone, Copy, PartialEq, Eq)]
 pub enum Refusal {
     /// The bytes begin no frame, or the frame's body is none.
     Frame(WireRefusal),

@@ -11,7 +11,7 @@ use xl_tags::{Keys, seal};
 use xl_wire::{Body, Frame, LONGEST_FRAME, encode};
 
 /// What is written where the tag of a frame goes.
-#[derive(Clone, Copy, Debug)]
+#[derive(Clone, Copy)]
 pub enum TagPlace {
     /// The tag under the receiver's key.
     Sealed,

@@ -2,7 +2,7 @@ use crate::{Refusal, Report};
 use xl_base::{LedgerId, SetId};
 
 /// What a node took of a frame.
-#[derive(Clone, Copy, Debug, PartialEq, Eq)]
+#[derive(Clone, Copy, PartialEq, Eq)]
 pub enum Taken {
     /// A validation, into its sender's row.
     Validation,
@@ -24,7 +24,7 @@ pub enum Taken {
 pub(crate) const UNHEARD: Result<Heard, Refusal> = Err(Refusal::Short(0));
 
 /// What a node took of a frame, and what it reports then.
-#[derive(Clone, Copy, Debug, PartialEq, Eq)]
+#[derive(Clone, Copy, PartialEq, Eq)]
 pub struct Heard {
     pub taken: Taken,
     pub report: Option<Report>,

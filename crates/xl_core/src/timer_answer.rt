@@ -5,7 +5,7 @@ use crate::Refusal;
 use xl_base::{LedgerId, Seq};
 
 /// How a node validated a ledger that it built.
-#[derive(Clone, Copy, Debug, PartialEq, Eq)]
+#[derive(Clone, Copy, PartialEq, Eq)]
 pub enum Issued {
     /// By a full validation.
     Full,
@@ -19,7 +19,7 @@ pub enum Issued {
 }
 
 /// What came of a node's timer.
-#[derive(Clone, Copy, Debug, PartialEq, Eq)]
+#[derive(Clone, Copy, PartialEq, Eq)]
 pub enum TimerAnswer {
     Nothing,
     /// It closed the round's open phase.

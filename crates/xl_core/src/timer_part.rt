@@ -4,7 +4,7 @@ use xl_ledger::{Header, LedgerNo};
 use xl_rounds::Said;
 
 /// What a timer comes to before the built ledger is validated.
-#[derive(Clone, Copy, Debug)]
+#[derive(Clone, Copy)]
 pub(crate) enum TimerPart {
     /// Nothing was built; a position is said, or none.
     Quiet {
@@ -21,7 +21,7 @@ pub(crate) const NOT_BEATEN: TimerPart = TimerPart::Quiet {
 };
 
 /// A ledger that was built and accepted, and the position that is said before it, or none.
-#[derive(Clone, Copy, Debug)]
+#[derive(Clone, Copy)]
 pub(crate) struct Built {
     pub(crate) said: Option<Said>,
     pub(crate) header: Header,

@@ -24,7 +24,7 @@ use xl_base::{MOST_MEMBERS, NodeNo, OutOfMemory, SetId, TxId};
 const OWN: usize = 0;
 
 /// Our own set, each member's held set, and the set id that each member's position names. `open` takes all memory.
-#[derive(Debug, Drop)]
+#[derive(Drop)]
 pub struct Disputes {
     shares: Shares,
     /// The set ids of the members' positions, from member 1 on.

@@ -40,7 +40,7 @@ use std::marker::Model;
 use xl_base::{OutOfMemory, TxId};
 
 /// The ids of our own set and of the held sets in rising order, each once, with what it has.
-#[derive(Debug, Drop)]
+#[derive(Drop)]
 pub(crate) struct Index {
     rows: Rows,
 }

@@ -11,7 +11,7 @@ use xl_base::{OutOfMemory, SetId, TxId};
 
 /// A place for our own set or a member's, with how many positions the set stands for. Its room is taken when it is
 /// opened.
-#[derive(Debug, Drop)]
+#[derive(Drop)]
 pub(crate) struct Place {
     set: Set,
     holds: bool,

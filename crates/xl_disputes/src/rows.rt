@@ -16,7 +16,7 @@ use xl_pool::{Name, Pool};
 pub(crate) const ROWS: u32 = 16_640;
 
 /// An id and what it has.
-#[derive(Clone, Copy, Debug)]
+#[derive(Clone, Copy)]
 pub(crate) struct Row {
     pub(crate) id: TxId,
     pub(crate) tally: Tally,
@@ -26,7 +26,7 @@ pub(crate) struct Row {
 const _: () = prove!(align_of::<Row>() == 4);
 
 /// Rows in order, with room for as many as there may be. A row stays in its slot while others come and go.
-#[derive(Debug, Drop)]
+#[derive(Drop)]
 pub(crate) struct Rows {
     pool: Pool<Row>,
     order: Vec<Name>,

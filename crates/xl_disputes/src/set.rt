@@ -10,7 +10,7 @@ use xl_base::{MOST_IDS, OutOfMemory, SetId, TxId};
 pub(crate) const SET_IDS: usize = MOST_IDS;
 
 /// A set of transactions and its id, which is handed in with it. Its room is taken when it is opened.
-#[derive(Debug, Drop)]
+#[derive(Drop)]
 pub(crate) struct Set {
     ids: Vec<TxId>,
     id: SetId,

@@ -59,7 +59,7 @@ use xl_base::{OutOfMemory, SetId, TxId, empty_set, set_id};
 pub(crate) const PLACES: usize = 65;
 
 /// The places, and the index of what each id has from them.
-#[derive(Debug, Drop)]
+#[derive(Drop)]
 pub(crate) struct Shares {
     places: Vec<Place>,
     index: Index,

@@ -6,7 +6,7 @@ use crate::Votes;
 use std::marker::Model;
 
 /// Which sets have an id, and how many positions stand for one of them: sums over the sets that have it.
-#[derive(Clone, Copy, Debug)]
+#[derive(Clone, Copy)]
 pub(crate) struct Tally {
     /// A member's set gives the member's own bit, so bit m - 1 says whether the set of member m has the id. The 64 bits
     /// stand in two halves, so that no row is padded to a multiple of eight bytes.

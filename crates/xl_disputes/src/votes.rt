@@ -3,7 +3,7 @@ ghost use Rattle.xl_disputes.specs.Votes.{threshold as threshold_of, weight as w
 
 /// How the members' positions vote on a transaction, and whether our own set has it. Our own position is in neither
 /// count.
-#[derive(Clone, Copy, Debug, PartialEq, Eq)]
+#[derive(Clone, Copy, PartialEq, Eq)]
 pub struct Votes {
     /// The members whose position's set is held and has it.
     pub yays: u32,

@@ -8,7 +8,7 @@ use crate::standing::Standing;
 use xl_base::{MOST_MEMBERS, NodeNo, Secs, Seq, TxId};
 
 /// An amendment, who favours it, and how it stands at each node. The first place is that of member 1.
-#[derive(Clone, Copy, Debug)]
+#[derive(Clone, Copy)]
 pub(crate) struct Amendment {
     pub(crate) id: TxId,
     pub(crate) favoured: [bool; MOST_MEMBERS],

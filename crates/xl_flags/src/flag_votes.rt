@@ -17,7 +17,7 @@ use xl_base::{MOST_MEMBERS, NodeNo, OutOfMemory, Secs, Seq, TxId};
 pub const MOST_AMENDMENTS: usize = 4096;
 
 /// What members vote for, and what each node's reports of flag ledgers made of it.
-#[derive(Debug, Drop)]
+#[derive(Drop)]
 pub struct FlagVotes {
     /// By rising id, each once.
     amendments: Vec<Amendment>,

@@ -4,7 +4,7 @@ use std::marker::Model;
 use xl_base::{NodeNo, Seq, TxId};
 
 /// What a report of a flag ledger says of an amendment or of the fee.
-#[derive(Clone, Copy, Debug, PartialEq, Eq)]
+#[derive(Clone, Copy, PartialEq, Eq)]
 pub enum FlagLine {
     /// The amendment is enabled now.
     Enabled(NodeNo, Seq, TxId),
@@ -17,7 +17,7 @@ pub enum FlagLine {
 }
 
 /// The lines of one report, which contracts see as a list.
-#[derive(Debug, Drop)]
+#[derive(Drop)]
 pub struct FlagNews {
     lines: Vec<FlagLine>,
 }

@@ -8,7 +8,7 @@ use xl_base::{NodeNo, Secs, Seq, TxId};
 const LASTING: u64 = 1_209_600;
 
 /// How an amendment stands at a node, after its last report.
-#[derive(Clone, Copy, Debug, PartialEq, Eq)]
+#[derive(Clone, Copy, PartialEq, Eq)]
 pub(crate) enum Standing {
     /// It had no majority there.
     Without,

@@ -7,7 +7,7 @@ use xl_base::OutOfMemory;
 use xl_world::Outcome;
 
 /// How many outcomes were told by `refused` lines, by `built` lines and by `full` lines.
-#[derive(Clone, Copy, Debug, PartialEq, Eq)]
+#[derive(Clone, Copy, PartialEq, Eq)]
 pub struct Counts {
     pub refused: u64,
     pub built: u64,

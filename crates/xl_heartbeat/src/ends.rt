@@ -4,7 +4,7 @@ ghost use Rattle.xl_heartbeat.specs.Going.{ending_of, after_reports};
 use xl_store::StoreEnd;
 
 /// How a part of a run ended.
-#[derive(Clone, Copy, Debug, PartialEq, Eq)]
+#[derive(Clone, Copy, PartialEq, Eq)]
 pub enum Ending {
     /// All was done: the time of the run was over, or the last reports were written.
     Done,
@@ -16,7 +16,7 @@ pub enum Ending {
 }
 
 /// How the telling of the store that the node is to stop ended. For lack of memory it is told again.
-#[derive(Clone, Copy, Debug, PartialEq, Eq)]
+#[derive(Clone, Copy, PartialEq, Eq)]
 pub enum Stopping {
     Done,
     /// All turns of the store are drawn: it has this many, and wasn't told.
@@ -24,7 +24,7 @@ pub enum Stopping {
 }
 
 /// How a heartbeat ended: why no further beat came, and then its stop.
-#[derive(Clone, Copy, Debug, PartialEq, Eq)]
+#[derive(Clone, Copy, PartialEq, Eq)]
 pub struct BeatEnd {
     pub run: Ending,
     pub stop: Stopping,

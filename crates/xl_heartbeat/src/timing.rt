@@ -4,7 +4,7 @@ ghost use Rattle.xl_heartbeat.specs.Beats.{is_over};
 use xl_base::Millis;
 
 /// When beats come, and until when.
-#[derive(Clone, Copy, Debug, PartialEq, Eq)]
+#[derive(Clone, Copy, PartialEq, Eq)]
 pub struct Timing {
     /// The moment at which the run began.
     pub opened: Millis,

@@ -1,3 +1,3 @@
 /// A call on the outside failed, and the count of its faults rose.
-#[derive(Clone, Copy, Debug, PartialEq, Eq)]
+#[derive(Clone, Copy, PartialEq, Eq)]
 pub struct Failed;

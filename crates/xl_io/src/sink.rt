@@ -10,7 +10,7 @@ pub mod standard;
 use crate::Failed;
 
 /// What a write answers.
-#[derive(Clone, Copy, Debug, PartialEq, Eq)]
+#[derive(Clone, Copy, PartialEq, Eq)]
 pub enum Wrote {
     /// It took this many bytes from the front of the piece.
     Took(usize),

@@ -7,7 +7,7 @@ pub mod memory;
 pub mod standard;
 
 /// What a read answers.
-#[derive(Clone, Copy, Debug, PartialEq, Eq)]
+#[derive(Clone, Copy, PartialEq, Eq)]
 pub enum Piece {
     /// This many bytes stand at the front of the room.
     Got(usize),

@@ -6,7 +6,7 @@ use xl_base::LedgerId;
 pub(crate) const LEVELS: usize = 18;
 
 /// A ledger as it is stored.
-#[derive(Clone, Copy, Debug)]
+#[derive(Clone, Copy)]
 pub(crate) struct Ledger {
     pub(crate) header: Header,
     pub(crate) id: LedgerId,

@@ -5,7 +5,7 @@ use crate::LedgerNo;
 use std::marker::Model;
 
 /// A ledger, or none, in four bytes: one more than the ledger's place, and 0 for none.
-#[derive(Clone, Copy, Debug)]
+#[derive(Clone, Copy)]
 pub(crate) struct Link {
     number: u32,
 }

@@ -25,7 +25,7 @@ pub const GREATEST_LIMIT: u32 = 262_144;
 
 /// The ledgers that are known: the root, and each header whose parent was known when it came. No call after `open`
 /// takes memory.
-#[derive(Debug, Drop)]
+#[derive(Drop)]
 pub struct Registry {
     limit: u32,
     ledgers: Vec<Ledger>,

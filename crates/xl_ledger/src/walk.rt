@@ -13,7 +13,7 @@ use xl_base::{LedgerId, Seq, Steps};
 /// The one way along the chains of a registry, which counts its steps: jumps that it takes, and headers that it reads.
 ///
 /// It stays on its registry, and hands out neither that nor its count of steps.
-#[derive(Debug, Drop)]
+#[derive(Drop)]
 pub struct Walk<'a> {
     registry: &'a Registry,
     steps: Steps,

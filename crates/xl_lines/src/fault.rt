@@ -2,7 +2,7 @@ use xl_base::OutOfMemory;
 use xl_io::Failed;
 
 /// Why a text wasn't written whole.
-#[derive(Clone, Copy, Debug, PartialEq, Eq)]
+#[derive(Clone, Copy, PartialEq, Eq)]
 pub enum Fault {
     /// A read of the source failed.
     Read,

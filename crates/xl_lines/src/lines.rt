@@ -17,7 +17,7 @@ use xl_base::OutOfMemory;
 use xl_io::Sink;
 
 /// What became of the next bytes.
-#[derive(Clone, Copy, Debug, PartialEq, Eq)]
+#[derive(Clone, Copy, PartialEq, Eq)]
 pub enum Part {
     /// This many of them were taken.
     Taken(usize),

@@ -5,7 +5,7 @@ use crate::{Overrun, Text};
 use xl_base::OutOfMemory;
 
 /// Whether a machine goes on to the next line.
-#[derive(Clone, Copy, Debug, PartialEq, Eq)]
+#[derive(Clone, Copy, PartialEq, Eq)]
 pub enum Next {
     Line,
     /// The line is refused, and the text ends there.
@@ -15,7 +15,7 @@ pub enum Next {
 }
 
 /// What a whole text says.
-#[derive(Clone, Copy, Debug, PartialEq, Eq)]
+#[derive(Clone, Copy, PartialEq, Eq)]
 pub enum Verdict {
     Good,
     /// What the command looks for was found.

@@ -22,7 +22,7 @@ pub trait Clock {
 }
 
 /// A clock in memory, whose `wait` moves its moment. It may give its first moment and each later one.
-#[derive(Debug, Drop)]
+#[derive(Drop)]
 pub struct MemClock {
     first: Millis,
     waited: AtomicU64,

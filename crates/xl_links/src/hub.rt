@@ -13,7 +13,7 @@ use xl_base::NodeNo;
 use xl_io::Failed;
 
 /// How a member is reached: it is dialled at an address, or it dials in at one.
-#[derive(Debug, Drop)]
+#[derive(Drop)]
 pub enum Way {
     Dial(String),
     Listen(String),

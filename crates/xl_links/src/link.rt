@@ -7,7 +7,7 @@ pub mod scripted;
 use xl_io::Wrote;
 
 /// What an opening answers.
-#[derive(Clone, Copy, Debug, PartialEq, Eq)]
+#[derive(Clone, Copy, PartialEq, Eq)]
 pub enum Opening {
     Open,
     /// No peer is there now.
@@ -17,7 +17,7 @@ pub enum Opening {
 }
 
 /// What a read answers.
-#[derive(Clone, Copy, Debug, PartialEq, Eq)]
+#[derive(Clone, Copy, PartialEq, Eq)]
 pub enum LinkRead {
     /// This many bytes stand at the front of the room.
     Got(usize),
@@ -30,7 +30,7 @@ pub enum LinkRead {
 }
 
 /// How a frame was judged that a link gave.
-#[derive(Clone, Copy, Debug, PartialEq, Eq)]
+#[derive(Clone, Copy, PartialEq, Eq)]
 pub enum Judgement {
     /// It carries a right tag, and tells something new.
     Fresh,

@@ -19,7 +19,7 @@ pub struct LinkScript {
 }
 
 /// How a read goes.
-#[derive(Clone, Copy, Debug, PartialEq, Eq)]
+#[derive(Clone, Copy, PartialEq, Eq)]
 pub(crate) enum Course {
     Gives,
     Idles,

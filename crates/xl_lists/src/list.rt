@@ -12,7 +12,7 @@ use xl_base::{MOST_MEMBERS, NodeNo};
 /// The members that a node trusts, by rising number, and how many of them are a quorum.
 ///
 /// There are 1 to 64 members, each once, and the quorum is more than half of them and at most all.
-#[derive(Debug, Drop)]
+#[derive(Drop)]
 pub struct List {
     /// The members stand at the front.
     places: [NodeNo; MOST_MEMBERS],

@@ -5,7 +5,7 @@ ghost use Rattle.xl_lists.specs.Marks.{is_marked, marked, AreMarked};
 use xl_base::{GREATEST_NODE_NO, MOST_MEMBERS, NodeNo};
 
 /// A set of members, a bit for each: the lowest bit is that of member 1.
-#[derive(Clone, Copy, Debug)]
+#[derive(Clone, Copy)]
 pub struct Marks {
     bits: u64,
 }

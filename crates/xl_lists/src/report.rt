@@ -2,7 +2,7 @@ use crate::List;
 use xl_base::{LedgerId, NodeNo, Seq};
 
 /// A node reported a ledger as fully validated, under the list that was in force then.
-#[derive(Debug, Drop)]
+#[derive(Drop)]
 pub struct Report {
     pub node: NodeNo,
     pub list: List,

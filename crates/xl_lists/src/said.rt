@@ -1,7 +1,7 @@
 use xl_base::{LedgerId, NodeNo, Seq};
 
 /// A member said that this ledger is the one of this sequence.
-#[derive(Clone, Copy, Debug, PartialEq, Eq)]
+#[derive(Clone, Copy, PartialEq, Eq)]
 pub struct SaidLedger {
     pub member: NodeNo,
     pub seq: Seq,

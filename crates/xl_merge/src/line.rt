@@ -1,7 +1,7 @@
 use xl_base::{Bytes, Millis};
 
 /// What a line says, unless it is passed over.
-#[derive(Debug, Drop)]
+#[derive(Drop)]
 pub enum Line {
     /// A publisher has this key, which had none before.
     Publisher { publisher: u32, key: [u8; 32] },

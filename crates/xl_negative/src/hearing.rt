@@ -28,7 +28,7 @@ use xl_wire::{Body, Parted, Raw, Validation, read_body, split};
 use xl_world::{Sent, World};
 
 /// The node of a number hears that a member says a ledger.
-#[derive(Clone, Copy, Debug, PartialEq, Eq)]
+#[derive(Clone, Copy, PartialEq, Eq)]
 pub struct Heard {
     pub node: NodeNo,
     pub said: SaidLedger,

@@ -29,7 +29,7 @@ const BACK_ABOVE: u32 = 204;
 const OUT_BELOW: u32 = 128;
 
 /// What a node decided at a flag ledger, and the list that is in force then.
-#[derive(Debug, Drop)]
+#[derive(Drop)]
 pub struct Decided {
     /// The member that is left out no longer.
     pub left: Option<NodeNo>,

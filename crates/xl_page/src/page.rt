@@ -8,7 +8,7 @@ use xl_io::MemSink;
 use xl_lines::{Fault, Verdict};
 
 /// How a command ended, and how many bytes it wrote.
-#[derive(Clone, Copy, Debug, PartialEq, Eq)]
+#[derive(Clone, Copy, PartialEq, Eq)]
 pub struct Page {
     pub status: Status,
     pub length: usize,

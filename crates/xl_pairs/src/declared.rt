@@ -6,7 +6,7 @@ use xl_base::NodeNo;
 use xl_lists::List;
 
 /// An honest node and its trusted list.
-#[derive(Debug, Drop)]
+#[derive(Drop)]
 pub struct Node {
     pub me: NodeNo,
     pub list: List,

@@ -6,7 +6,7 @@ use xl_store::StoreEnd;
 use xl_wire::WireRefusal;
 
 /// How a session ended.
-#[derive(Clone, Copy, Debug, PartialEq, Eq)]
+#[derive(Clone, Copy, PartialEq, Eq)]
 pub enum End {
     /// The link said that no more bytes come.
     End,
@@ -31,7 +31,7 @@ pub(crate) fn end_of(end: StoreEnd) -> End
 }
 
 /// How serving ended.
-#[derive(Clone, Copy, Debug, PartialEq, Eq)]
+#[derive(Clone, Copy, PartialEq, Eq)]
 pub enum Served {
     /// The store said that the node is to stop.
     Stopped,

@@ -5,14 +5,14 @@ ghost use Rattle.xl_pool.specs.Entries.{value_of, next_of, holding, freed};
 use std::mem;
 
 /// A slot as it lies in memory.
-#[derive(Debug, Drop)]
+#[derive(Drop)]
 pub(crate) struct Entry<T> {
     pub(crate) generation: u32,
     pub(crate) content: Content<T>,
 }
 
 /// What a slot has: a value, or the free slot after it, which is the number of slots after the last.
-#[derive(Debug, Drop)]
+#[derive(Drop)]
 pub(crate) enum Content<T> {
     Free(u32),
     Held(T),

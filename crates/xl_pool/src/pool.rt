@@ -20,7 +20,7 @@ use std::marker::Model;
 
 /// Values in a fixed number of slots, each under a name that the pool picks. No call after `with_slots` takes memory,
 /// and each takes a fixed number of steps. A slot's memory is written when the slot first holds a value.
-#[derive(Debug, Drop)]
+#[derive(Drop)]
 pub struct Pool<T> {
     // The slots that have held a value so far. All others follow them, each free and leading to the next.
     entries: Vec<Entry<T>>,

@@ -5,7 +5,7 @@ use std::marker::Model;
 use xl_base::MOST_MEMBERS;
 
 /// At most 64 numbers of members, which contracts see as a list.
-#[derive(Debug, Drop)]
+#[derive(Drop)]
 pub struct RollMembers {
     /// The numbers stand at the front.
     places: [u32; MOST_MEMBERS],

@@ -16,8 +16,8 @@ use crate::reading::{
 };
 use crate::roll::GREATEST_PUBLISHER;
 use crate::{RollMembers, RollRefusal};
+use std::array;
 use std::marker::Model;
-use std::{array, fmt};
 use xl_base::{GREATEST_NODE_NO, NodeNo, Secs};
 use xl_lists::{List, default_quorum};
 use xl_tags::{hmac, is_same_tag};
@@ -26,7 +26,7 @@ use xl_tags::{hmac, is_same_tag};
 const MOST_PUBLISHERS: usize = GREATEST_PUBLISHER as usize;
 
 /// What became of a roll that isn't refused.
-#[derive(Clone, Copy, Debug, PartialEq, Eq)]
+#[derive(Clone, Copy, PartialEq, Eq)]
 pub enum Took {
     /// It is its publisher's kept roll now.
     New,
@@ -227,13 +227,6 @@ impl Publishers {
             .iter()
             .filter(|kept| stands_for(kept, member, now))
             .count()
-    }
-}
-
-/// Tells no key.
-impl fmt::Debug for Publishers {
-    fn fmt<W: fmt::Write>(&self, f: &mut fmt::Formatter<W>) -> fmt::Result {
-        f.write_str("Publishers { .. }")
     }
 }
 

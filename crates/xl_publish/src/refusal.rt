@@ -4,7 +4,7 @@ ghost use Rattle.xl_publish.specs.Codes.{code_of};
 use xl_base::Secs;
 
 /// Why bytes aren't taken as a roll. The causes are tested in this order, and the first that holds is answered.
-#[derive(Clone, Copy, Debug, PartialEq, Eq)]
+#[derive(Clone, Copy, PartialEq, Eq)]
 pub enum RollRefusal {
     /// The byte at this place, 0 or 1, is the first that isn't the mark's.
     Magic(usize),

@@ -8,7 +8,7 @@ pub const GREATEST_PUBLISHER: u32 = 16;
 pub const LONGEST_ROLL: usize = 53 + 4 * MOST_MEMBERS;
 
 /// What a publisher says: these are the members from one second until another.
-#[derive(Debug, Drop)]
+#[derive(Drop)]
 pub struct Roll {
     /// The publisher that signs it: any number.
     pub publisher: u32,

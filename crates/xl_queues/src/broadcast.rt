@@ -10,7 +10,7 @@ use std::marker::Model;
 use xl_base::OutOfMemory;
 
 /// How far a reader is.
-#[derive(Clone, Copy, Debug)]
+#[derive(Clone, Copy)]
 pub struct Reader {
     /// How many of the pushed items are behind it: it took them, passed them over or lost them.
     read: u64,

@@ -7,7 +7,7 @@ use xl_base::{NodeNo, OutOfMemory, Seq};
 use xl_ledger::{Branch, LedgerNo, Registry, Vote, Walk};
 
 /// A list of votes, whose room is taken when it is opened.
-#[derive(Debug, Drop)]
+#[derive(Drop)]
 pub struct Plain {
     votes: Vec<Vote>,
     members: u32,

@@ -10,7 +10,7 @@ pub(crate) const LEAST_MS: Millis = 1_950;
 const CONSENSUS_PERCENT: u64 = 80;
 
 /// What says whether there is consensus.
-#[derive(Clone, Copy, Debug)]
+#[derive(Clone, Copy)]
 pub(crate) struct Tally {
     /// How long this round has taken since it closed.
     pub(crate) round_ms: Millis,
@@ -29,7 +29,7 @@ pub(crate) struct Tally {
 }
 
 /// Whether the members agree.
-#[derive(Clone, Copy, Debug, PartialEq, Eq)]
+#[derive(Clone, Copy, PartialEq, Eq)]
 pub(crate) enum Consensus {
     No,
     Yes,

@@ -13,7 +13,7 @@ const IDLE_MS: Millis = 15_000;
 const LEAST_OPEN_MS: Millis = 2_000;
 
 /// What says whether the open phase closes.
-#[derive(Clone, Copy, Debug)]
+#[derive(Clone, Copy)]
 pub(crate) struct Waiting {
     /// How long the previous round took.
     pub(crate) previous_ms: Millis,

@@ -2,7 +2,7 @@ use xl_base::{Secs, SetId};
 use xl_wire::Proposal;
 
 /// What a heartbeat learns of the validations that the node holds.
-#[derive(Clone, Copy, Debug, PartialEq, Eq)]
+#[derive(Clone, Copy, PartialEq, Eq)]
 pub struct Seen {
     /// The members other than us whose current validation names the previous ledger.
     pub validated: u32,
@@ -11,7 +11,7 @@ pub struct Seen {
 }
 
 /// What a proposing node sends: our set, if it goes with the proposal, and then the proposal.
-#[derive(Clone, Copy, Debug, PartialEq, Eq)]
+#[derive(Clone, Copy, PartialEq, Eq)]
 pub struct Said {
     pub proposal: Proposal,
     pub with_set: bool,
@@ -30,14 +30,14 @@ pub enum HeartbeatKind {
 }
 
 /// What a heartbeat did, and what is to be sent.
-#[derive(Clone, Copy, Debug, PartialEq, Eq)]
+#[derive(Clone, Copy, PartialEq, Eq)]
 pub struct Heartbeat {
     pub kind: HeartbeatKind,
     pub said: Option<Said>,
 }
 
 /// What a round agreed on: the set of the next ledger, our close time, 0 if none was chosen, and the resolution.
-#[derive(Clone, Copy, Debug, PartialEq, Eq)]
+#[derive(Clone, Copy, PartialEq, Eq)]
 pub struct Agreed {
     pub set: SetId,
     pub close: Secs,

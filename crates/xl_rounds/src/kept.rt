@@ -8,7 +8,7 @@ use xl_base::MOST_MEMBERS;
 use xl_wire::Proposal;
 
 /// At most one proposal of each member, from member 1 on. What is kept is found without a look at the other places.
-#[derive(Debug, Drop)]
+#[derive(Drop)]
 pub(crate) struct Kept {
     proposals: [Option<Proposal>; MOST_MEMBERS],
     /// A bit for each place, the lowest for the first: a proposal stands at marked places alone.

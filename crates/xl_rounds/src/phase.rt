@@ -1,5 +1,5 @@
 /// How a node takes part in a round.
-#[derive(Clone, Copy, Debug, PartialEq, Eq)]
+#[derive(Clone, Copy, PartialEq, Eq)]
 pub enum Mode {
     /// It proposes its position to the members.
     Proposing,
@@ -11,7 +11,7 @@ pub enum Mode {
 }
 
 /// How far a round has come.
-#[derive(Clone, Copy, Debug, PartialEq, Eq)]
+#[derive(Clone, Copy, PartialEq, Eq)]
 pub enum Phase {
     /// Transactions are collected, until the ledger closes.
     Open,

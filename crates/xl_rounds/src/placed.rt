@@ -1,5 +1,5 @@
 /// What became of a proposal that was taken.
-#[derive(Clone, Copy, Debug, PartialEq, Eq)]
+#[derive(Clone, Copy, PartialEq, Eq)]
 pub enum Placed {
     /// It is the member's position.
     Position,

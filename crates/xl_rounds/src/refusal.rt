@@ -5,7 +5,7 @@ use xl_base::{LedgerId, NodeNo, Secs, TxId};
 
 /// Why a round doesn't take a transaction or a proposal. Each cause is told only if no earlier one of its call
 /// holds.
-#[derive(Clone, Copy, Debug, PartialEq, Eq)]
+#[derive(Clone, Copy, PartialEq, Eq)]
 pub enum RoundRefusal {
     /// The transaction is pending.
     Pending(TxId),

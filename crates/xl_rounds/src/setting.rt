@@ -16,7 +16,7 @@ use xl_ledger::{LedgerNo, Registry};
 const USUAL_RESOLUTION: u8 = 30;
 
 /// What a round is on: it stays from the round's start to its end.
-#[derive(Clone, Copy, Debug)]
+#[derive(Clone, Copy)]
 pub(crate) struct Setting {
     /// The ledger that the next one is to follow, and its id.
     pub(crate) previous: LedgerNo,
@@ -28,7 +28,7 @@ pub(crate) struct Setting {
 }
 
 /// What a round remembers of the one before it.
-#[derive(Clone, Copy, Debug)]
+#[derive(Clone, Copy)]
 pub(crate) struct Former {
     /// How long it took, from its close on.
     pub(crate) round_ms: Millis,
@@ -37,7 +37,7 @@ pub(crate) struct Former {
 }
 
 /// Our own position, except for the ledger and the set that it names, and when our open phase closed.
-#[derive(Clone, Copy, Debug)]
+#[derive(Clone, Copy)]
 pub(crate) struct Stance {
     pub(crate) closed: Millis,
     /// How often we have renewed it.

@@ -4,14 +4,14 @@ use xl_lists::List;
 use xl_wire::{Proposal, Validation};
 
 /// What happens in a schedule, and the moment in force at its line.
-#[derive(Debug, Drop)]
+#[derive(Drop)]
 pub struct Event {
     pub at: Millis,
     pub what: What,
 }
 
 /// What happens.
-#[derive(Debug, Drop)]
+#[derive(Drop)]
 pub enum What {
     /// A declared node does what it is asked.
     Ask(Ask),
@@ -77,7 +77,7 @@ pub enum What {
 }
 
 /// What a declared node is asked to do, and may save a number for.
-#[derive(Clone, Copy, Debug, PartialEq, Eq)]
+#[derive(Clone, Copy, PartialEq, Eq)]
 pub enum Ask {
     /// It issues its validation of a ledger.
     Issue {
@@ -93,7 +93,7 @@ pub enum Ask {
 }
 
 /// What a liar says.
-#[derive(Debug, Drop)]
+#[derive(Drop)]
 pub enum Lied {
     Proposal(Proposal),
     Validation(Validation),

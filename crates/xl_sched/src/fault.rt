@@ -6,7 +6,7 @@ use std::marker::Model;
 use xl_base::{Bytes, OutOfMemory};
 
 /// What a line is refused for.
-#[derive(Clone, Copy, Debug, PartialEq, Eq)]
+#[derive(Clone, Copy, PartialEq, Eq)]
 pub enum Cause {
     Header,
     LongLine,
@@ -48,7 +48,7 @@ impl Cause {
 }
 
 /// The token that is printed: a part of the line, or a number.
-#[derive(Clone, Copy, Debug)]
+#[derive(Clone, Copy)]
 pub enum Token<'a> {
     Text(&'a [u8]),
     Decimal(u64),
@@ -69,7 +69,7 @@ impl Token<'_> {
 }
 
 /// A refusal whose token isn't copied yet, so that it takes no memory. Contracts see it as the refusal.
-#[derive(Debug, Drop)]
+#[derive(Drop)]
 pub struct LineFault<'a> {
     cause: Cause,
     token: Token<'a>,

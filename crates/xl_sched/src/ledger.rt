@@ -4,7 +4,7 @@ use xl_base::{LedgerId, Secs};
 use xl_ledger::{Header, root_header};
 
 /// A ledger that a schedule names: its header, and the header's id. The root has an id that is no hash.
-#[derive(Clone, Copy, Debug, PartialEq, Eq)]
+#[derive(Clone, Copy, PartialEq, Eq)]
 pub struct Ledger {
     pub id: LedgerId,
     pub header: Header,

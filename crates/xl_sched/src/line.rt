@@ -4,7 +4,7 @@ use xl_ledger::Header;
 use xl_lists::List;
 
 /// What a line says, unless it is passed over.
-#[derive(Debug, Drop)]
+#[derive(Drop)]
 pub enum Line {
     /// Each node may know this many ledgers, 2 to 16,384. No such line stood before.
     Limit(u32),

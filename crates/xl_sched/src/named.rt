@@ -2,7 +2,7 @@ use xl_base::Bytes;
 use xl_ledger::Header;
 
 /// A declared name, and the 32 bytes that it stands for: the id of a ledger, a set or a transaction.
-#[derive(Debug, Drop)]
+#[derive(Drop)]
 pub struct Named {
     pub name: Bytes,
     pub id: [u8; 32],

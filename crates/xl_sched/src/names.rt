@@ -14,7 +14,7 @@ use xl_base::{Bytes, LedgerId, OutOfMemory, SetId, TxId};
 use xl_ledger::{Header, id_of};
 
 /// The names in the order of their declaration, `root` first. Contracts see them as a list.
-#[derive(Debug, Drop)]
+#[derive(Drop)]
 pub struct Names {
     declared: Vec<Named>,
     places: Places,

@@ -10,7 +10,7 @@ use xl_base::NodeNo;
 
 /// Declared nodes, the honest ones or the liars, in the order of their declaration. Contracts see them as a list of
 /// numbers.
-#[derive(Debug, Drop)]
+#[derive(Drop)]
 pub struct Nodes {
     numbers: Vec<NodeNo>,
 }

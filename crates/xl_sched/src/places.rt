@@ -5,7 +5,7 @@ use std::collections::BTreeMap;
 use xl_base::OutOfMemory;
 
 /// If each name, and the first name of each id, stands in the order of declaration.
-#[derive(Debug, Drop)]
+#[derive(Drop)]
 pub struct Places {
     by_name: BTreeMap<Vec<u8>, usize>,
     by_id: BTreeMap<[u8; 32], usize>,

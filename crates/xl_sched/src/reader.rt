@@ -27,7 +27,7 @@ use xl_base::{Millis, OutOfMemory};
 const FIRST_MOMENT: Millis = 1_000;
 
 /// Reads a schedule line by line. Contracts see what it knows of the lines that it has read.
-#[derive(Debug, Drop)]
+#[derive(Drop)]
 pub struct Reader {
     lines: u32,
     moment: Millis,

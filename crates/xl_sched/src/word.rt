@@ -4,7 +4,7 @@ ghost use Rattle.xl_sched.specs.Lies.{lie_word};
 ghost use Rattle.xl_sched.specs.Words.{setting_word, event_word, is_declaration};
 
 /// The words of lines at which nothing happens.
-#[derive(Clone, Copy, Debug, PartialEq, Eq)]
+#[derive(Clone, Copy, PartialEq, Eq)]
 pub enum SettingWord {
     Limit,
     Speak,
@@ -43,7 +43,7 @@ impl SettingWord {
 }
 
 /// The words of events.
-#[derive(Clone, Copy, Debug, PartialEq, Eq)]
+#[derive(Clone, Copy, PartialEq, Eq)]
 pub enum EventWord {
     Issue,
     Submit,
@@ -90,7 +90,7 @@ impl EventWord {
 }
 
 /// The words of what a liar says.
-#[derive(Clone, Copy, Debug, PartialEq, Eq)]
+#[derive(Clone, Copy, PartialEq, Eq)]
 pub enum LieWord {
     Proposal,
     Validation,

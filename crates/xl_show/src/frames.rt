@@ -22,7 +22,7 @@ use xl_io::{Sink, write_all};
 use xl_lines::{Fault, Next, Teller, Verdict};
 
 /// What became of the next bytes.
-#[derive(Clone, Copy, Debug, PartialEq, Eq)]
+#[derive(Clone, Copy, PartialEq, Eq)]
 pub enum Part {
     /// This many of them were taken.
     Taken(usize),

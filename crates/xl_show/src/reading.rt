@@ -8,7 +8,7 @@ use xl_base::OutOfMemory;
 use xl_wire::{Decoded, decode};
 
 /// What the bytes that have come begin with.
-#[derive(Clone, Copy, Debug, PartialEq, Eq)]
+#[derive(Clone, Copy, PartialEq, Eq)]
 pub enum Look {
     /// A frame of this many bytes.
     Frame(usize),

@@ -5,7 +5,7 @@ use xl_base::{Bytes, OutOfMemory};
 use xl_core::CoreEvent;
 
 /// How a save was answered.
-#[derive(Clone, Copy, Debug, PartialEq, Eq)]
+#[derive(Clone, Copy, PartialEq, Eq)]
 pub enum Saved {
     Ok,
     /// With a failure: the keeper's count of faults then.
@@ -13,7 +13,7 @@ pub enum Saved {
 }
 
 /// What happened at a core in one turn.
-#[derive(Debug, Drop)]
+#[derive(Drop)]
 pub struct Entry {
     pub event: CoreEvent,
     /// How the save was answered that the event asked, if it asked one.

@@ -18,7 +18,7 @@ mod passes;
 mod turns;
 
 /// Why a call had no turn. Nothing happened at the core then.
-#[derive(Clone, Copy, Debug, PartialEq, Eq)]
+#[derive(Clone, Copy, PartialEq, Eq)]
 pub enum StoreEnd {
     /// Nothing was drawn: the memory for the entry is taken first. If entries aren't kept, only a frame's takes some.
     OutOfMemory,

@@ -8,8 +8,8 @@ ghost use Rattle.xl_tags.specs.Rings.{key_of, with_key, no_keys, schedule_key, s
 
 use crate::prepared::Prepared;
 use crate::{hmac, pair_key};
+use std::array;
 use std::marker::Model;
-use std::{array, fmt};
 use xl_base::{GREATEST_NODE_NO, MOST_MEMBERS, NodeNo};
 use xl_lists::List;
 
@@ -214,12 +214,5 @@ impl Keys {
                 None => unreachable!(),
             },
         }
-    }
-}
-
-/// Shows no key.
-impl fmt::Debug for Keys {
-    fn fmt<W: fmt::Write>(&self, f: &mut fmt::Formatter<W>) -> fmt::Result {
-        f.write_str("Keys { .. }")
     }
 }

@@ -4,7 +4,7 @@ ghost use Rattle.xl_tcp.specs.Allowances.{left_at, after_cost};
 use xl_base::Millis;
 
 /// What a peer may still cost: so much at once, and so much more with each millisecond.
-#[derive(Clone, Copy, Debug)]
+#[derive(Clone, Copy)]
 pub(crate) struct Allowance {
     most: u64,
     each_milli: u64,

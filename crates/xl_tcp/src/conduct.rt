@@ -65,7 +65,7 @@ pub(crate) fn greetings(now: Millis) -> Allowance
 }
 
 /// What is known of a peer, by how its frames were judged.
-#[derive(Clone, Copy, Debug, PartialEq, Eq)]
+#[derive(Clone, Copy, PartialEq, Eq)]
 pub(crate) enum Manner {
     /// None was given yet.
     New,
@@ -80,7 +80,7 @@ pub(crate) enum Manner {
 }
 
 /// What pays for a frame that is to be given.
-#[derive(Clone, Copy, Debug, PartialEq, Eq)]
+#[derive(Clone, Copy, PartialEq, Eq)]
 enum Payment {
     /// The first one costs nothing.
     Free,
@@ -94,7 +94,7 @@ enum Payment {
 ///
 /// A peer shows one frame, and no more of it is given until that is judged. Then its frames are held back if they come
 /// faster than a member's do. A member's greeting has an allowance of its own.
-#[derive(Clone, Copy, Debug)]
+#[derive(Clone, Copy)]
 pub(crate) struct Conduct {
     manner: Manner,
     /// When the latest whole frame was given, or the connection began.

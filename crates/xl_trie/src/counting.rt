@@ -14,7 +14,7 @@ use xl_ledger::Registry;
 use xl_pool::{Name, Pool};
 
 /// What a vote that comes, or one that goes, does to the counts.
-#[derive(Clone, Copy, Debug)]
+#[derive(Clone, Copy)]
 pub(crate) enum Change {
     OneMore,
     OneFewer,

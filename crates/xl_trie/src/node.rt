@@ -7,7 +7,7 @@ use xl_pool::{Name, Pool};
 
 /// The ledgers after those of the parent's span, up to one. For all of them but the last, no vote is, and none leaves
 /// them by another child.
-#[derive(Clone, Copy, Debug)]
+#[derive(Clone, Copy)]
 pub(crate) struct Span {
     /// The last ledger of the span.
     pub(crate) ledger: LedgerNo,
@@ -21,7 +21,7 @@ pub(crate) struct Span {
 }
 
 /// A span with the names that lead to its children: that of the first, and from each to the next.
-#[derive(Clone, Copy, Debug)]
+#[derive(Clone, Copy)]
 pub(crate) struct Node {
     pub(crate) span: Span,
     pub(crate) child: Option<Name>,

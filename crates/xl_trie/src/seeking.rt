@@ -13,7 +13,7 @@ use xl_ledger::{LedgerNo, Registry};
 use xl_pool::{Name, Pool};
 
 /// The deepest span that ends on the way to a ledger, and the child into whose span the way goes from there.
-#[derive(Clone, Copy, Debug)]
+#[derive(Clone, Copy)]
 pub(crate) struct Place {
     pub(crate) at: Name,
     pub(crate) within: Option<Name>,

@@ -20,7 +20,7 @@ use xl_ledger::{Branch, LedgerNo, Registry, Vote, Walk};
 use xl_pool::{Name, Pool};
 
 /// A list of votes, and the spans of the trie of their chains. All room is taken when it is opened.
-#[derive(Debug, Drop)]
+#[derive(Drop)]
 pub struct Trie {
     nodes: Pool<Node>,
     root: Name,

@@ -8,7 +8,7 @@ use xl_base::{LedgerId, Seq};
 use xl_wire::Validation;
 
 /// A sequence and an id, and how many rows hold a full validation of them.
-#[derive(Clone, Copy, Debug)]
+#[derive(Clone, Copy)]
 pub(crate) struct Counted {
     pub(crate) seq: Seq,
     pub(crate) id: LedgerId,

@@ -4,7 +4,7 @@ ghost use Rattle.xl_validations.specs.Codes.{code_of};
 use xl_base::{LedgerId, Secs, Seq};
 
 /// Why a validation isn't taken, tested in this order. The rows then stay as they were.
-#[derive(Clone, Copy, Debug, PartialEq, Eq)]
+#[derive(Clone, Copy, PartialEq, Eq)]
 pub enum ValRefusal {
     /// It isn't current: the second now, and the second at which it was signed.
     Stale(Secs, Secs),

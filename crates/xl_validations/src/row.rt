@@ -19,7 +19,7 @@ use xl_base::{FUTURE_SECS, LedgerId, NodeNo, PAST_SECS, Secs, Seq};
 use xl_wire::Validation;
 
 /// A member's row.
-#[derive(Clone, Copy, Debug, PartialEq, Eq)]
+#[derive(Clone, Copy, PartialEq, Eq)]
 pub struct Row {
     pub member: NodeNo,
     /// The greatest sequence taken since the node opened, 0 at first.

@@ -29,7 +29,7 @@ use xl_lists::List;
 use xl_wire::Validation;
 
 /// The rows of a list's members, in the order of the list. No call after `open` takes memory.
-#[derive(Debug, Drop)]
+#[derive(Drop)]
 pub struct Rows {
     rows: Vec<Row>,
     /// Room for the rows of another list.

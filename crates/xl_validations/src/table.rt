@@ -32,7 +32,7 @@ use xl_wire::Validation;
 ///
 /// It goes with one registry. After each ledger that is added there, and before any other call that is handed the
 /// registry, comes one `header_known`.
-#[derive(Debug, Drop)]
+#[derive(Drop)]
 pub struct Table<B> {
     me: NodeNo,
     rows: Rows,

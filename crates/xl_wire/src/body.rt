@@ -10,7 +10,7 @@ use byteorder::{BigEndian, ByteOrder};
 use xl_base::{LedgerId, SetId, TxId, bytes_at};
 
 /// What a frame says.
-#[derive(Debug, Drop)]
+#[derive(Drop)]
 pub enum Body<'a> {
     Proposal(Proposal),
     Validation(Validation),

@@ -5,7 +5,7 @@ ghost use Rattle.xl_wire.specs.Frames.{decoded_of, SpellsFirst};
 use crate::{Frame, Parted, WireRefusal, read_body, split};
 
 /// What bytes begin with.
-#[derive(Debug, Drop)]
+#[derive(Drop)]
 pub enum Decoded<'a> {
     /// A frame, and how many bytes it has.
     Whole(Frame<'a>, usize),

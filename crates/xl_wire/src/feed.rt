@@ -8,7 +8,7 @@ use std::marker::Model;
 use xl_base::{OutOfMemory, put};
 
 /// What a feed hands out.
-#[derive(Clone, Copy, Debug)]
+#[derive(Clone, Copy)]
 pub enum Next<'a> {
     /// The bytes of the next whole frame.
     Frame(&'a [u8]),
@@ -19,7 +19,7 @@ pub enum Next<'a> {
 }
 
 /// Cuts a stream that comes in pieces into frames. It holds at most the bytes of the longest frame.
-#[derive(Debug, Drop)]
+#[derive(Drop)]
 pub struct Feed {
     bytes: Vec<u8>,
     start: usize,

@@ -1,7 +1,7 @@
 use crate::Body;
 
 /// A frame whose body is read.
-#[derive(Debug, Drop)]
+#[derive(Drop)]
 pub struct Frame<'a> {
     /// The member that sent it: any number.
     pub from: u32,

@@ -12,7 +12,7 @@ use std::marker::Model;
 use xl_base::{TxId, bytes_at};
 
 /// Where the ids of a set lie.
-#[derive(Clone, Copy, Debug)]
+#[derive(Clone, Copy)]
 pub enum Kept<'a> {
     /// One after the other in the bytes of a frame.
     Spelled(&'a [u8]),
@@ -20,7 +20,7 @@ pub enum Kept<'a> {
 }
 
 /// The ids of a set of transactions, strictly rising and at most 256, which contracts see as a list.
-#[derive(Debug, Drop)]
+#[derive(Drop)]
 pub struct Ids<'a> {
     kept: Kept<'a>,
 }

@@ -1,7 +1,7 @@
 use xl_base::{LedgerId, Secs, SetId};
 
 /// A member's word for the set of transactions and the close time of the next ledger.
-#[derive(Clone, Copy, Debug, PartialEq, Eq)]
+#[derive(Clone, Copy, PartialEq, Eq)]
 pub struct Proposal {
     /// The ledger that the next one is to follow.
     pub prev: LedgerId,

@@ -2,7 +2,7 @@ ghost use Rattle.std.specs.Prelude.{◌≡◌};
 ghost use Rattle.xl_wire.specs.Kinds.{IsLawful, span};
 
 /// A whole frame whose body isn't read yet. It borrows the bytes that it was split off.
-#[derive(Clone, Copy, Debug)]
+#[derive(Clone, Copy)]
 pub struct Raw<'a> {
     /// 1 or 2.
     pub version: u8,

@@ -10,7 +10,7 @@ use byteorder::{BigEndian, ByteOrder};
 use xl_base::bytes_at;
 
 /// What bytes begin with.
-#[derive(Clone, Copy, Debug)]
+#[derive(Clone, Copy)]
 pub enum Parted<'a> {
     /// A whole frame.
     Whole(Raw<'a>),

@@ -1,7 +1,7 @@
 use xl_base::{LedgerId, Secs, Seq};
 
 /// A member's word that a ledger is the one of its sequence.
-#[derive(Clone, Copy, Debug, PartialEq, Eq)]
+#[derive(Clone, Copy, PartialEq, Eq)]
 pub struct Validation {
     pub id: LedgerId,
     pub seq: Seq,

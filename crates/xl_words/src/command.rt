@@ -10,7 +10,7 @@ use clap::error::ErrorKind;
 use std::alloc::Global;
 
 /// What the words ask the program to do.
-#[derive(Clone, Copy, Debug, PartialEq, Eq)]
+#[derive(Clone, Copy, PartialEq, Eq)]
 pub enum Command {
     /// Runs a validator by the settings that it reads.
     Node,
@@ -19,7 +19,7 @@ pub enum Command {
 }
 
 /// A command that writes a text, which what it reads decides.
-#[derive(Clone, Copy, Debug, PartialEq, Eq)]
+#[derive(Clone, Copy, PartialEq, Eq)]
 pub enum Telling {
     /// Runs a schedule, and writes what each node does.
     Replay,
@@ -42,7 +42,7 @@ pub enum Telling {
 }
 
 /// Why the words ask nothing.
-#[derive(Clone, Copy, Debug, PartialEq, Eq)]
+#[derive(Clone, Copy, PartialEq, Eq)]
 pub enum WordsFault {
     /// They are no command.
     Refused,

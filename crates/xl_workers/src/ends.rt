@@ -5,7 +5,7 @@ use xl_base::Status;
 use xl_heartbeat::{BeatEnd, Ending, status_of_run};
 
 /// How a run ended.
-#[derive(Clone, Copy, Debug, PartialEq, Eq)]
+#[derive(Clone, Copy, PartialEq, Eq)]
 pub enum RunEnd {
     /// The heartbeat and the workers ran. The heartbeat ended so, and then the last reports did.
     Ran { beats: BeatEnd, last: Ending },

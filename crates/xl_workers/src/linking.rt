@@ -17,7 +17,7 @@ pub struct Peer<L> {
 }
 
 /// Why not every link was opened.
-#[derive(Clone, Copy, Debug, PartialEq, Eq)]
+#[derive(Clone, Copy, PartialEq, Eq)]
 pub(crate) enum NoLinks {
     /// The hub's count of faults rose.
     NetFault,

@@ -18,7 +18,7 @@ pub struct Plan {
 }
 
 /// A member that is to be served, and how it is reached.
-#[derive(Debug, Drop)]
+#[derive(Drop)]
 pub struct Contact {
     pub member: NodeNo,
     pub way: Way,

@@ -16,7 +16,7 @@ use xl_core::{CoreAnswer, Deed, Issued, Report, TimerAnswer};
 use xl_lists::{List, SaidLedger};
 
 /// What came of what happened at a node.
-#[derive(Clone, Copy, Debug)]
+#[derive(Clone, Copy)]
 pub struct NodeAnswer {
     /// What the node says of it.
     pub told: CoreAnswer,

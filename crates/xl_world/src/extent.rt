@@ -1,5 +1,5 @@
 /// How much a world has told: so many frames, validations, reports and lists, and the mark and the count as they are.
-#[derive(Clone, Copy, Debug)]
+#[derive(Clone, Copy)]
 pub struct Extent {
     pub sent: usize,
     pub mark: usize,

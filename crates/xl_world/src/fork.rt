@@ -10,7 +10,7 @@ use std::collections::BTreeMap;
 use xl_base::{OutOfMemory, Seq};
 
 /// The first report that has an earlier one of its sequence with another id, and the earliest such one.
-#[derive(Clone, Copy, Debug)]
+#[derive(Clone, Copy)]
 pub struct Fork<'a> {
     pub earlier: &'a WorldReport,
     pub later: &'a WorldReport,

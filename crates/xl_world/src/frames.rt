@@ -14,7 +14,7 @@ use std::marker::Model;
 use xl_base::{NodeNo, OutOfMemory};
 
 /// Where what is kept of a frame stands among the bytes of all, and who sent it to whom.
-#[derive(Clone, Copy, Debug)]
+#[derive(Clone, Copy)]
 pub struct SentPlace {
     begins: usize,
     length: u32,
@@ -37,7 +37,7 @@ pub struct SentFrames {
 }
 
 /// Which frame the next one may be once more.
-#[derive(Clone, Copy, Debug)]
+#[derive(Clone, Copy)]
 struct Cursor {
     /// From which place on all frames have the last one's sender and receiver.
     turn: usize,

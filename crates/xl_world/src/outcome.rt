@@ -6,7 +6,7 @@ use xl_base::{LedgerId, NodeNo, Seq};
 use xl_core::{Issued, Refusal, Report};
 
 /// What is told of an event.
-#[derive(Clone, Copy, Debug, PartialEq, Eq)]
+#[derive(Clone, Copy, PartialEq, Eq)]
 pub enum Outcome {
     /// The node's votes chose this ledger, on which it started a round.
     Switched {
@@ -47,7 +47,7 @@ pub enum Outcome {
 }
 
 /// All that is told of an event, in order. Contracts see it as a list.
-#[derive(Debug, Drop)]
+#[derive(Drop)]
 pub struct Happened {
     outcomes: Vec<Outcome>,
 }

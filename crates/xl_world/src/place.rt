@@ -3,7 +3,7 @@ use xl_core::Core;
 use xl_trie::Trie;
 
 /// How a save is answered, and what it leaves.
-#[derive(Clone, Copy, Debug, PartialEq, Eq)]
+#[derive(Clone, Copy, PartialEq, Eq)]
 pub enum Fate {
     /// With Ok.
     Saved,
@@ -15,7 +15,7 @@ pub enum Fate {
 
 /// What outlives a stop of a node: the number in force; after a save that failed the one that was asked, and whether
 /// it was written all the same. Also how often a save has failed, up to the greatest `u64`.
-#[derive(Clone, Copy, Debug, PartialEq, Eq)]
+#[derive(Clone, Copy, PartialEq, Eq)]
 pub struct Disk {
     pub in_force: Seq,
     pub asked: Option<Seq>,

@@ -2,7 +2,7 @@ use xl_base::{Millis, NodeNo};
 use xl_lists::List;
 
 /// An honest node as it is declared.
-#[derive(Debug, Drop)]
+#[derive(Drop)]
 pub struct PlanNode {
     pub me: NodeNo,
     pub list: List,
@@ -13,7 +13,7 @@ pub struct PlanNode {
 }
 
 /// A list that was in force at a node.
-#[derive(Debug, Drop)]
+#[derive(Drop)]
 pub struct InForce {
     pub node: NodeNo,
     pub list: List,
@@ -21,7 +21,7 @@ pub struct InForce {
 
 /// Who is in the world: the honest nodes, in the order in which they are declared, and the liars. Each node may know so
 /// many ledgers, the root among them: 2 to 262,144; and the validations of each are of the version `speak`.
-#[derive(Debug, Drop)]
+#[derive(Drop)]
 pub struct Plan {
     pub nodes: Vec<PlanNode>,
     pub liars: Vec<NodeNo>,

@@ -6,7 +6,7 @@ use xl_base::Seq;
 use xl_io::Failed;
 
 /// A disk, the fate of its next save, and the number that it was asked to save.
-#[derive(Clone, Copy, Debug)]
+#[derive(Clone, Copy)]
 pub struct Fated {
     pub disk: Disk,
     pub fate: Fate,

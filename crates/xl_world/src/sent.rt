@@ -21,7 +21,7 @@ pub(crate) const ADDRESS: usize = 13;
 /// A frame that a node has sent to one receiver, sealed under the key that the schedule gives the two.
 ///
 /// Its tag is computed when it is looked at: what is kept of the frame may have any.
-#[derive(Debug, Drop)]
+#[derive(Drop)]
 pub struct Sent<'a> {
     from: NodeNo,
     to: NodeNo,

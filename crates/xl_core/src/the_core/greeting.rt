@@ -12,7 +12,7 @@ use xl_base::{LedgerId, MOST_MEMBERS, NodeNo, Seq};
 use xl_ledger::Branch;
 
 /// The headers of a ledger's chain that a peer is yet to be handed.
-#[derive(Clone, Copy, Debug, PartialEq, Eq)]
+#[derive(Clone, Copy, PartialEq, Eq)]
 pub struct Greeting {
     /// The last ledger of the chain.
     pub target: LedgerId,

@@ -9,7 +9,7 @@ use std::alloc::Global;
 use xl_base::{OutOfMemory, Seq};
 
 /// A save that failed: the number that was asked, and whether it was written all the same.
-#[derive(Clone, Copy, Debug, PartialEq, Eq)]
+#[derive(Clone, Copy, PartialEq, Eq)]
 struct FailedSave {
     seq: Seq,
     written: bool,

@@ -75,7 +75,7 @@ impl Sink for MemSink {
 ///
 /// It keeps nothing and tells nothing. To tell all that it took it would have to hold any number of bytes, and memory
 /// can be refused; then it would have to fail, as `MemSink` does, or lose bytes that it had told.
-#[derive(Clone, Copy, Debug, PartialEq, Eq)]
+#[derive(Clone, Copy, PartialEq, Eq)]
 pub struct Discard;
 
 impl Sink for Discard {

@@ -9,7 +9,7 @@ use xl_base::{NodeNo, OutOfMemory};
 use xl_io::Failed;
 
 /// A link that was asked for: to whom, and how the member is reached.
-#[derive(Debug, Drop)]
+#[derive(Drop)]
 pub struct Asked {
     pub member: NodeNo,
     pub way: Way,

@@ -12,7 +12,7 @@ use xl_base::OutOfMemory;
 use xl_io::Wrote;
 
 /// How many calls of each kind there were.
-#[derive(Clone, Copy, Debug, PartialEq, Eq)]
+#[derive(Clone, Copy, PartialEq, Eq)]
 struct Calls {
     openings: u64,
     reads: u64,
@@ -20,7 +20,7 @@ struct Calls {
 }
 
 /// What a read answered, and how many bytes were given before.
-#[derive(Clone, Copy, Debug, PartialEq, Eq)]
+#[derive(Clone, Copy, PartialEq, Eq)]
 struct Given {
     answer: LinkRead,
     from: usize,
