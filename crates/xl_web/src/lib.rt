@@ -1,7 +1,7 @@
 //! What a web page calls: a command, the bytes that it reads, and the room that it writes to.
 //!
 //! It stands on xl_page. Its one contract is that of each command there, by the program's exit statuses.
-#![tactic(auto, using(crate::proofs::Answers::answers))]
+#![tactic(auto)]
 
 ghost use Rattle.std.specs.Prelude.{◌≡◌, min};
 ghost use Rattle.xl_base.specs.Statuses.{code_of};
@@ -34,6 +34,7 @@ fn answer(page: Page, length: &mut usize) -> u8
 }
 
 /// `xl flags`: the text stands at the front of the room, if it has at most the room's length.
+#[tactic(auto, using(crate::proofs::Answers::answers))]
 #[unsafe(no_mangle)]
 pub extern "C" fn xl_flags(alloc: Global, input: &[u8], room: &mut [u8], length: &mut usize) -> u8
     ensures { IsAnswer (flags_of input.now) result length.new room.new }
@@ -43,6 +44,7 @@ pub extern "C" fn xl_flags(alloc: Global, input: &[u8], room: &mut [u8], length:
 
 /// `xl gen` of this many rounds, or of the most: the text stands at the front of the room, if it has at most the
 /// room's length.
+#[tactic(auto, using(crate::proofs::Answers::answers))]
 #[unsafe(no_mangle)]
 pub extern "C" fn xl_gen(alloc: Global, rounds: u32, room: &mut [u8], length: &mut usize) -> u8
     ensures { IsAnswer (summary (min rounds most_rounds)) result length.new room.new }
@@ -51,6 +53,7 @@ pub extern "C" fn xl_gen(alloc: Global, rounds: u32, room: &mut [u8], length: &m
 }
 
 /// `xl lists`: the text stands at the front of the room, if it has at most the room's length.
+#[tactic(auto, using(crate::proofs::Answers::answers))]
 #[unsafe(no_mangle)]
 pub extern "C" fn xl_lists(alloc: Global, input: &[u8], room: &mut [u8], length: &mut usize) -> u8
     ensures { IsAnswer (lists_of input.now) result length.new room.new }
@@ -59,6 +62,7 @@ pub extern "C" fn xl_lists(alloc: Global, input: &[u8], room: &mut [u8], length:
 }
 
 /// `xl merge`: the text stands at the front of the room, if it has at most the room's length.
+#[tactic(auto, using(crate::proofs::Answers::answers))]
 #[unsafe(no_mangle)]
 pub extern "C" fn xl_merge(alloc: Global, input: &[u8], room: &mut [u8], length: &mut usize) -> u8
     ensures { IsAnswer (merge_of input.now) result length.new room.new }
@@ -67,6 +71,7 @@ pub extern "C" fn xl_merge(alloc: Global, input: &[u8], room: &mut [u8], length:
 }
 
 /// `xl negative`: the text stands at the front of the room, if it has at most the room's length.
+#[tactic(auto, using(crate::proofs::Answers::answers))]
 #[unsafe(no_mangle)]
 pub extern "C" fn xl_negative(
     alloc: Global,
@@ -80,6 +85,7 @@ pub extern "C" fn xl_negative(
 }
 
 /// `xl replay`: the text stands at the front of the room, if it has at most the room's length.
+#[tactic(auto, using(crate::proofs::Answers::answers))]
 #[unsafe(no_mangle)]
 pub extern "C" fn xl_replay(alloc: Global, input: &[u8], room: &mut [u8], length: &mut usize) -> u8
     ensures { IsAnswer (report_of input.now) result length.new room.new }
@@ -88,6 +94,7 @@ pub extern "C" fn xl_replay(alloc: Global, input: &[u8], room: &mut [u8], length
 }
 
 /// `xl show`: the text stands at the front of the room, if it has at most the room's length.
+#[tactic(auto, using(crate::proofs::Answers::answers))]
 #[unsafe(no_mangle)]
 pub extern "C" fn xl_show(alloc: Global, input: &[u8], room: &mut [u8], length: &mut usize) -> u8
     ensures { IsAnswer (shown_of input.now) result length.new room.new }
