@@ -21,8 +21,12 @@ ABOUT = """<p class="about">The slack of a pair is both quorums together, less b
 Each liar on both lists takes one away. From 1 on it is proved, for runs in which no message is forged, that two honest
 nodes with these lists never report different ledgers of one sequence. At 0 or less the pair is short (red). The paper's
 condition is also about ledgers of different sequences on different branches; nothing that is proved rests on it.</p>
-<p class="about"><strong>No signature was tested</strong>, neither of a list nor of a manifest. These are the lists as the
-files have them, and who uses which list isn't known here.</p>"""
+"""
+UNTESTED = """<p class="about"><strong>No signature was tested</strong>, neither of a list nor of a manifest. These are the
+lists as the files have them, and who uses which list isn't known here.</p>"""
+TESTED = """<p class="about">Each list of this page was to be signed by the key that its publisher's manifest names, and each
+manifest by both of its keys. Whether a later manifest revokes one isn't known here, nor who uses which list. What
+validators.txt names is signed by nobody.</p>"""
 PAGE = """<!doctype html>
 <html lang="en">
 <meta charset="utf-8">

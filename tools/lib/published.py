@@ -1,4 +1,6 @@
-"""Real trusted lists: validators.txt, and published lists that were fetched before. Signatures aren't tested."""
+"""Real trusted lists: validators.txt, and published lists that were fetched before.
+
+No signature is tested here; what is signed is handed on."""
 import base64
 import binascii
 import datetime
@@ -10,6 +12,7 @@ import sys
 from dataclasses import dataclass, field
 
 import schedules
+from signatures import Signed
 
 LETTERS = 'rpshnaf39wBUDNEGHJKLM4PQRST7VWXYZ2bcdeCg65jkm8oFqi1tuvAxyz'
 NODE_KEY, KEY_BYTES, SUM_BYTES = 28, 33, 4
@@ -70,6 +73,7 @@ class Trusted:
     publisher: bytes = None
     publishers: list = field(default_factory=list)
     threshold: int = 0
+    signed: Signed = None
 
     def add(self, text):
         key = key_of(text)
@@ -115,17 +119,18 @@ def number_of(path, text):
     return int(text)
 
 
-def decoded(path, blob):
-    """What a blob says: an object with a sequence, an expiration and the validators."""
+def decoded(path, part):
+    """What a blob says: its sequence, its two times, its keys, and the blob itself with its members' manifests."""
     try:
-        told = json.loads(base64.b64decode(blob, validate=True))
+        told = json.loads(base64.b64decode(part.get('blob'), validate=True))
         entries = [entry['validation_public_key'] for entry in told['validators']]
+        manifests = [(entry['validation_public_key'], str(entry.get('manifest') or '')) for entry in told['validators']]
         times = [told['sequence'], told.get('effective', 0), told['expiration']]
     except (ValueError, binascii.Error, TypeError, KeyError, AttributeError, RecursionError):
         raise Damaged('%s: a blob of it can\'t be read' % path) from None
     if not all(isinstance(it, str) for it in entries) or not all(type(it) is int for it in times):
         raise Damaged('%s: a blob of it can\'t be read' % path)
-    return (*times, entries)
+    return (*times, entries, part, manifests)
 
 
 def day(seconds):
@@ -137,9 +142,10 @@ def day(seconds):
 
 
 def in_force(path, blobs, now):
-    """The keys of the blob with the greatest sequence that has begun and isn't over, or None."""
+    """The blob with the greatest sequence that has begun and isn't over, or None."""
     best = None
-    for sequence, begins, ends, entries in sorted(blobs, key=lambda blob: blob[0]):
+    for blob in sorted(blobs, key=lambda blob: blob[0]):
+        sequence, begins, ends = blob[:3]
         if begins > now:
             say('%s: sequence %d is left out, since it begins on %s' % (path, sequence, day(begins)))
         elif ends <= now:
@@ -147,27 +153,31 @@ def in_force(path, blobs, now):
         else:
             if best:
                 say('%s: sequence %d is left out, since %d is in force' % (path, best[0], sequence))
-            best = sequence, entries
-    return best and best[1]
+            best = blob
+    return best
 
 
 def blobs_of(path, told):
     if told.get('version') == 1:
-        return [told.get('blob')]
+        return [told]
     found = told.get('blobs_v2')
     if told.get('version') != 2 or not isinstance(found, list) or not all(isinstance(it, dict) for it in found):
         raise Damaged('%s is no published list of version 1 or 2' % path)
-    return [it.get('blob') for it in found]
+    return found
 
 
 def read_published(path, told, now):
     """A published list, or None where no blob of it is in force."""
     if not isinstance(told, dict):
         raise Damaged('%s is no published list of version 1 or 2' % path)
-    entries = in_force(path, [decoded(path, blob) for blob in blobs_of(path, told)], now)
-    if entries is None:
+    best = in_force(path, [decoded(path, part) for part in blobs_of(path, told)], now)
+    if best is None:
         return None
+    *_, entries, part, manifests = best
     trusted = Trusted(path, publisher=key_of(str(told.get('public_key'))))
+    members = [(key_of(text), manifest) for text, manifest in manifests if key_of(text)]
+    manifest = part.get('manifest') or told.get('manifest')
+    trusted.signed = Signed(trusted.publisher, manifest, part.get('blob'), part.get('signature'), members)
     for text in entries:
         trusted.add(text)
     return trusted
