@@ -192,7 +192,7 @@ byId('report').replaceChildren(...told.map(it => {
   button.append(make('span', it.line), make('span', it.words[1]))
   item.append(button)
   item.title = it.words[2]
-  button.onclick = () => go(it.index + 1)
+  button.onclick = () => ask(it.index + 1)
   return item
 }))
 if (!told.length) byId('report').append(make('li', 'Nothing is reported.'))

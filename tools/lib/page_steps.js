@@ -105,7 +105,16 @@ function go(to) {
     else item.firstChild.removeAttribute('aria-current')
   })
   document.body.dataset.at = at
-  history.replaceState(null, '', '#' + at)
+  if (location.protocol !== 'about:') history.replaceState(null, '', '#' + at)
+}
+
+// a page beside another has no slider of its own: it asks for an event, and hands on the keys that move both
+let ask = go, press = () => false
+function besideAnother(asked, pressed) {
+  document.body.classList.add('beside')
+  ask = to => asked(Math.max(0, Math.min(steps.length, to)))
+  press = pressed
+  layOut()
 }
 
 function nextReport() {
@@ -135,18 +144,19 @@ const keys = {
 }
 const scrolls = ['ArrowUp', 'ArrowDown', 'Home', 'End']
 addEventListener('keydown', event => {
-  if (!keys[event.key] || event.ctrlKey || event.metaKey || event.altKey || event.shiftKey) return
+  if (event.ctrlKey || event.metaKey || event.altKey || event.shiftKey) return
+  if (!keys[event.key]) return press(event.key)
   if (event.key === 'r' && !byId('letters').checked) return
   // a pane that has the focus is scrolled, as everywhere
   if (scrolls.includes(event.key) && document.activeElement.closest('#picture, #side')) return
   event.preventDefault()
-  go(keys[event.key]())
+  if (!press(event.key)) ask(keys[event.key]())
 })
 byId('slider').max = steps.length
-byId('slider').oninput = event => go(Number(event.target.value))
-byId('back').onclick = () => go(at - 1)
-byId('on').onclick = () => go(at + 1)
-byId('next').onclick = () => go(nextReport())
+byId('slider').oninput = event => ask(Number(event.target.value))
+byId('back').onclick = () => ask(at - 1)
+byId('on').onclick = () => ask(at + 1)
+byId('next').onclick = () => ask(nextReport())
 // what a cell means stands in its title, which neither a finger nor a key shows: so a click says it, and the focus
 const cellAt = event => event.target.closest('table [title]')
 const tell = event => { if (cellAt(event)) byId('means').textContent = cellAt(event).title }
@@ -207,7 +217,7 @@ byId('picture').onclick = event => {
   const y = (event.clientY - drawing.getBoundingClientRect().top) / scale()
   let near = 0
   steps.forEach((step, index) => { if (Math.abs(step.y - y) < Math.abs(steps[near].y - y)) near = index })
-  if (steps.length) go(near + 1)
+  if (steps.length) ask(near + 1)
 }
 if (isNarrow) {
   byId('nodes').className = byId('rounds').className = 'narrow'
