@@ -1,4 +1,4 @@
-" Schedules of xl, and what its commands write of them. docs/FORMATS.md has the lines; tools/test_editors holds this file
+" Schedules of xl, and what its commands write of them. docs/FORMATS.md has the lines; tools/tests/test_editors holds this file
 " against them. Vim finds it by `set runtimepath+=PATH/docs/editors/vim`, or below ~/.vim.
 if exists('b:current_syntax')
   finish

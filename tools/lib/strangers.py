@@ -1,0 +1,132 @@
+"""Somebody without a key, who calls at the ports of validators or answers where they dial, in one of several ways.
+
+Each way says what is good: of the ledgers that a node reports without strangers in the same time it reports so many in a
+hundred, and its other figures stay below those named. tools/hostile_peers holds it against that."""
+import hashlib
+import hmac
+import secrets
+import socket
+import struct
+import threading
+import time
+
+
+def frame(kind, sender, receiver, body, key):
+    """A frame with its tag."""
+    said = b"XL\x01" + struct.pack(">BHII", kind, len(body), sender, receiver) + body
+    return said + hmac.new(key, said, hashlib.sha256).digest()
+
+
+def swallow(link):
+    try:
+        while link.recv(65536):
+            pass
+    except OSError:
+        pass
+
+
+class Stranger:
+    """Somebody without a key, who calls at one address again and again, in a way of its own."""
+
+    def __init__(self, way, first, second, address):
+        self.way, self.address = way, address
+        body = secrets.token_bytes(32)
+        self.members = first, second
+        self.frame = frame(5, second, first, body, secrets.token_bytes(32))
+        self.frames = 500 * self.frame
+        threading.Thread(target=self.stay, daemon=True).start()
+
+    def stay(self):
+        while True:
+            try:
+                with socket.create_connection(self.address, 5) as link:
+                    getattr(self, self.way)(link)
+            except OSError:
+                pass
+            time.sleep(0.01)
+
+    def silent(self, link):
+        """Sends three bytes, and stays. Good: 80 in a hundred reports."""
+        link.settimeout(None)
+        link.sendall(b"XL\x01")
+        swallow(link)
+
+    def calling(self, link):
+        """Calls and goes, 100 times a second. Good: 80 in a hundred reports, and 10,000 turns a minute."""
+
+    def flooding(self, link):
+        """Sends frames with wrong tags as fast as it can. Good: 80 in a hundred reports, and 10,000 turns a minute; its memory
+        grows by less than a megabyte a second."""
+        link.settimeout(None)
+        threading.Thread(target=swallow, args=(link,), daemon=True).start()
+        while True:
+            link.sendall(self.frames)
+
+    def fronts(self, link):
+        """Holds 66 calls, each with 48 bytes of the front of a frame. Good: 80 in a hundred reports, so that no save lacks a
+        descriptor."""
+        calls = [link] + [socket.create_connection(self.address, 5) for _ in range(CALLS - 1)]
+        try:
+            for call in calls:
+                call.sendall(self.frame[:48])
+            time.sleep(5)
+        finally:
+            for call in calls:
+                call.close()
+
+    def greeting(self, link):
+        """Greets with 262,144 false headers. Good: 80 in a hundred reports, and 10,000 turns a minute; its memory grows by
+        less than a megabyte a second."""
+        link.settimeout(None)
+        threading.Thread(target=swallow, args=(link,), daemon=True).start()
+        first, second = self.members
+        for sequence in range(1, 262145):
+            link.sendall(b"XL\x01\x03" + struct.pack(">HIII", 118, second, first, sequence) + bytes(146))
+
+    def slow(self, link):
+        """Sends a frame with a wrong tag each ten seconds. Good: 80 in a hundred reports."""
+        link.settimeout(None)
+        threading.Thread(target=swallow, args=(link,), daemon=True).start()
+        while True:
+            link.sendall(self.frame)
+            time.sleep(10)
+
+
+class Answering:
+    """Somebody without a key, at an address at which nodes dial a member that is away. It floods whoever dials. Good: 80 in
+    a hundred reports, and 10,000 turns a minute; its memory grows by less than a megabyte a second."""
+
+    def __init__(self, member, address):
+        self.member = member
+        listener = socket.create_server(address)
+        threading.Thread(target=self.answer, args=(listener,), daemon=True).start()
+
+    def answer(self, listener):
+        while True:
+            link, _ = listener.accept()
+            threading.Thread(target=self.flood, args=(link,), daemon=True).start()
+
+    def flood(self, link):
+        threading.Thread(target=swallow, args=(link,), daemon=True).start()
+        said = 500 * frame(5, self.member, 1, secrets.token_bytes(32), secrets.token_bytes(32))
+        try:
+            while True:
+                link.sendall(said)
+        except OSError:
+            link.close()
+
+
+# How many calls a stranger holds at once, which shows the beginnings of frames.
+CALLS = 66
+CALLERS = ["silent", "calling", "flooding", "fronts", "greeting", "slow"]
+STRANGERS = [*CALLERS, "answering"]
+
+
+def invite(way, pairs):
+    """Strangers at each address at which a node listens, and at the one that nodes dial in vain."""
+    if pairs.away:
+        Answering(*pairs.away)
+    if way != "answering":
+        for (first, second), (_, address) in pairs.of.items():
+            for each in CALLERS if way == "all" else [way]:
+                Stranger(each, first, second, address)

@@ -1,0 +1,184 @@
+"""Validators on this machine: their keys and addresses, their settings, and their processes."""
+import os
+import secrets
+import signal
+import socket
+import subprocess
+import sys
+
+import rolls
+
+# The status of a node that has spent its turns.
+SPENT = 9
+# How long before and behind the change of a list its rolls hold, in seconds.
+HOLDS = 86400
+# How a written journal begins.
+JOURNAL = b"xl-journal 1\n"
+FIRST_PORT = 20000
+LAST_PORT = 32000
+
+
+def free_ports(count):
+    """Ports of the loopback that nobody listens at. The system gives none of these to whoever dials."""
+    found = []
+    for port in range(FIRST_PORT + secrets.randbelow(8000), LAST_PORT):
+        with socket.socket() as listener:
+            try:
+                listener.bind(("127.0.0.1", port))
+            except OSError:
+                continue
+        found.append(port)
+        if len(found) == count:
+            return found
+    sys.exit("cluster: there are not enough free ports")
+
+
+class Pairs:
+    """A key and an address for each two nodes, of which the first listens. The members that feed them come behind the
+    nodes, and dial all. The nodes dial at fronts, if there are some, behind which the addresses stand."""
+
+    def __init__(self, count, feeders, away=None):
+        self.of = {}
+        self.fronts = {}
+        members = count + feeders
+        ports = free_ports(members * (members - 1) + 1)
+        self.away = (away, ("127.0.0.1", ports.pop())) if away else None
+        for first in range(1, members + 1):
+            for second in range(first + 1, members + 1):
+                address = ("127.0.0.1", ports.pop())
+                self.of[first, second] = (secrets.token_bytes(32), address)
+                if feeders:
+                    self.fronts[first, second] = ("127.0.0.1", ports.pop())
+
+    def peer(self, me, other):
+        """The lines of the settings that name a peer."""
+        pair = min(me, other), max(me, other)
+        key, (host, port) = self.of[pair]
+        way = "listen" if me < other else "dial"
+        if way == "dial" and pair in self.fronts:
+            host, port = self.fronts[pair]
+        return f'[[peer]]\nnumber = {other}\nkey = "{key.hex()}"\n{way} = "{host}:{port}"\n'
+
+    def peer_away(self):
+        """The same of a member that is away, at whose address a stranger listens."""
+        if not self.away:
+            return ""
+        number, (host, port) = self.away
+        return f'[[peer]]\nnumber = {number}\nkey = "{secrets.token_hex(32)}"\ndial = "{host}:{port}"\n'
+
+
+def memory_of(process):
+    """How many kilobytes of memory a process has."""
+    try:
+        with open(f"/proc/{process.pid}/statm", encoding="ascii") as file:
+            return int(file.read().split()[1]) * os.sysconf("SC_PAGE_SIZE") // 1024
+    except (OSError, ValueError, IndexError):
+        return None
+
+
+def quorum_of(count):
+    """Four fifths of so many members, rounded up; of four or fewer, more than half."""
+    return -(-4 * count // 5) if count > 4 else count // 2 + 1
+
+
+class Publishers:
+    """So many publishers, all but one of which must name a member. Their rolls let the last member join at a second.
+
+    Each has one roll, since no node keeps two of a publisher. The last publisher's holds from that second on. The one
+    before it leaves out the last member, so that this one is named once too rarely until then."""
+
+    def __init__(self, count, members, change):
+        self.change, self.members, self.threshold = change, members, count - 1
+        self.keys = {publisher: secrets.token_bytes(32) for publisher in range(1, count + 1)}
+        self.rolls = [self.roll(publisher) for publisher in self.keys]
+
+    def roll(self, publisher):
+        first = self.change if publisher == len(self.keys) else self.change - HOLDS
+        named = self.members[:-1] if publisher == len(self.keys) - 1 else self.members
+        return rolls.Roll(publisher, 1, first, self.change + HOLDS, tuple(named))
+
+    def lines(self):
+        """What stands in the settings in the place of a list and a quorum."""
+        sealed = [rolls.written(roll, self.keys[roll.publisher]).hex() for roll in self.rolls]
+        return [f"threshold = {self.threshold}", "roll = [" + ", ".join(f'"{it}"' for it in sealed) + "]"]
+
+    def tables(self):
+        return "".join(
+            f'[[publisher]]\nnumber = {publisher}\nkey = "{key.hex()}"\n' for publisher, key in self.keys.items()
+        )
+
+
+def settings(me, members, pairs, publishers, milliseconds, asked):
+    """The settings of one node, all of whose members trust all, or whom the publishers name."""
+    lines = [
+        f"me = {me}",
+        *(publishers.lines() if publishers else [f"list = {members}", f"quorum = {quorum_of(len(members))}"]),
+        f"heartbeat_ms = {asked.heartbeat}",
+        f"run_ms = {milliseconds}",
+        f"turns = {asked.turns}",
+        "limit = 262144",
+        f'submit = ["{secrets.token_hex(32)}"]',
+        *(["journal = true"] if asked.journal else []),
+        "",
+    ]
+    tables = publishers.tables() if publishers else ""
+    peers = "".join(pairs.peer(me, other) for other in members if other != me)
+    return "\n".join(lines) + tables + peers + pairs.peer_away()
+
+
+class Node:
+    """One validator, over all its lives. What a life reports is added to the former ones' reports."""
+
+    def __init__(self, program, folder, me):
+        self.program = program
+        self.folder = folder
+        self.me = me
+        self.lives = 0
+        self.process = None
+        self.ended = None
+        folder.mkdir(parents=True)
+
+    def start(self, text):
+        (self.folder / "settings.toml").write_text(text)
+        os.chmod(self.folder / "settings.toml", 0o600)
+        self.lives += 1
+        with (
+            open(self.folder / "settings.toml", "rb") as source,
+            open(self.folder / "reports", "ab") as reports,
+            open(self.folder / "complaints", "ab") as complaints,
+        ):
+            self.process = subprocess.Popen(
+                [self.program, "node"], cwd=self.folder, stdin=source, stdout=reports, stderr=complaints
+            )
+
+    def kill(self):
+        self.process.send_signal(signal.SIGKILL)
+        self.process.wait()
+
+    def reports(self):
+        """The reported ledgers, as pairs of a sequence and an id; a line that a kill cut off is none, and no line of a
+        journal is one."""
+        text = (self.folder / "reports").read_text()
+        lines = text.split("\n")[:-1]
+        words = [line.split(" ") for line in lines]
+        return [(int(line[1]), line[2]) for line in words if len(line) == 3 and line[0] == "full"]
+
+    def journal(self):
+        """The journal that its last life wrote behind its reports, or None."""
+        text = (self.folder / "reports").read_bytes()
+        place = text.rfind(JOURNAL)
+        return None if place < 0 else text[place:]
+
+    def is_over(self, turns):
+        """Whether its last life came to its end by itself: by its time, or since it had spent its turns."""
+        return self.process.returncode == 0 or bool(turns) and self.process.returncode == SPENT
+
+    def kept(self):
+        """The number that the node keeps."""
+        try:
+            return int((self.folder / "xl.keep").read_text())
+        except (OSError, ValueError):
+            return 0
+
+    def complaint(self):
+        return (self.folder / "complaints").read_text().strip()
