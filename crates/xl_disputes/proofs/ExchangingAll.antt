@@ -1,6 +1,6 @@
 -- An exchange with each of some ids that rise.
 use Rattle.std.proofs.Common.{◌≡◌, ℕ, zero, suc, ◌+◌, ◌<◌, ◌≤◌, ◌||◌, Bool, true, false, cond, List, [], ◌∷◌, ◌++◌, length, take, get_or, refl, sym, ap, subst, ◌∙◌, arith}
-use Rattle.std.proofs.lemmas.List.{take_more, take_all, length-take-le}
+use Rattle.std.proofs.lemmas.List.{take_more, length-take-le}
 use Rattle.std.proofs.lemmas.List.Folds.{list_any-append}
 use Rattle.xl_base.specs.Sets.{is_below, RisesFrom, IsRising}
 use Rattle.xl_base.specs.declared.ids.TxId.{TxId}
@@ -92,9 +92,3 @@ module _ (old mid new : List Row) (ids : List TxId) (i : ℕ) (x d : TxId) (from
           let now : length (take (i + 1) ids) ≡ i + 1 = length-take-le (i + 1) ids (omega (arith, within)) in
           omega (arith, now, few_so_far, ap length exact, exchange_length x from to mid);
     }
-
-pub exchanges_none : (rows : List Row) (ids : List TxId) (from to : Tally) → IsIndex rows → Exchanges rows rows (take 0 ids) from to
-exchanges_none rows ids from to index = record { index = index; each = λ t. refl; few = omega arith }
-
-pub exchanges_all : (old new : List Row) (ids : List TxId) (i : ℕ) (from to : Tally) → length ids ≤ i → Exchanges old new (take i ids) from to → Exchanges old new ids from to
-exchanges_all old new ids i from to past done = subst (λ xs. Exchanges old new xs from to) (take_all i ids past) done

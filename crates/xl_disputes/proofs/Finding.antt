@@ -1,7 +1,7 @@
 -- Where the code finds an id in an index, and what it does there.
 use Rattle.std.proofs.Common.{◌≡◌, ◌≢◌, ℕ, zero, suc, ◌+◌, ◌<◌, ◌≤◌, ◌==◌, nat_lt, Bool, true, false, cond, List, [], ◌∷◌, ◌++◌, length, take, drop, set, get_or, refl, sym, ap, subst, ◌∙◌, arith, drop-cons}
 use Rattle.std.proofs.lemmas.Bool.Decides.{nat_tests}
-use Rattle.std.proofs.lemmas.List.{set_split, drop_all, take-append-drop}
+use Rattle.std.proofs.lemmas.List.{set_split, take-append-drop}
 use Rattle.std.proofs.lemmas.List.Sums.{prefix_len-le-length}
 use Rattle.xl_base.specs.Sets.{is_below, RisesFrom, IsRising}
 use Rattle.xl_base.specs.declared.ids.TxId.{TxId}
@@ -157,10 +157,6 @@ is_absent tx rows place row r rises is some at same differs =
     lower false known high =
         let one : row.id ≡ tx = neither_below row.id tx high (sym known) in
         absurd (cc (sym differs ∙ same ∙ ap (λ x. is_same x tx) one ∙ same_itself tx))
-
--- past the end
-pub is_absent-end : (tx : TxId) (rows : List Row) (place : ℕ) → place ≡ place_of tx rows → place ≡ length rows → IsAbsent tx rows place
-is_absent-end tx rows place is end = record { is = is; above = ap (λ rs. goes_before tx (ids_of rs)) (drop_all place rows (omega (arith, end))) }
 
 module _ (tx : TxId) (from to : Tally) (rows : List Row) (place : ℕ) (row : Row) (index : IsIndex rows) (there : IsThere tx rows place) (at : row ≡ get_or rows place row) where
   pub tally_at : row.tally ≡ tally_of rows tx

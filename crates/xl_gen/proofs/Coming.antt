@@ -69,13 +69,6 @@ told_both w (e ∷ es) fs =
 pub come_none : (g : Generator) → Comes g g []
 come_none g = record { world = refl; counts = sym (counted_none g.counts) }
 
--- one event
-pub come_one : (g h : Generator) (e : Event) (os : List Outcome) → h.world ≡ after_event g.world e → os ≡ outcomes g.world e → h.counts ≡ counted g.counts os → Comes g h (e ∷ [])
-come_one g h e os world is counts = record {
-  world = world;
-  counts = counts ∙ ap (counted g.counts) (is ∙ sym (append-nil (outcomes g.world e)));
-}
-
 -- more events
 pub come_both : (g h i : Generator) (es fs : List Event) → Comes g h es → Comes h i fs → Comes g i (es ++ fs)
 come_both g h i es fs first next = record {

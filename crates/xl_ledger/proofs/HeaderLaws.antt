@@ -86,12 +86,6 @@ header_spelled bytes fits long =
 behind : (front rest bytes : List ℕ) (n : ℕ) → bytes ≡ front ++ rest → length front ≡ n → drop n bytes ≡ rest
 behind front rest bytes n e long = ap (drop n) e ∙ drop_at front rest n long
 
-field_behind : (front field rest bytes : List ℕ) (n k : ℕ) → bytes ≡ front ++ (field ++ rest) → length front ≡ n → length field ≡ k → take k (drop n bytes) ≡ field
-field_behind front field rest bytes n k e long wide = ap (take k) (behind front (field ++ rest) bytes n e long) ∙ take_at field rest k wide
-
-cell_behind : (front rest bytes : List ℕ) (n i : ℕ) → bytes ≡ front ++ rest → length front ≡ n → slice_index bytes (n + i) ≡ slice_index rest i
-cell_behind front rest bytes n i e long = sym (get_or-drop n bytes i 0) ∙ ap (λ (x : List ℕ). slice_index x i) (behind front rest bytes n e long)
-
 abbrev header_of : ℕ → ℕ → List ℕ → List ℕ → List ℕ → ℕ → ℕ → ℕ → ℕ → Header
 header_of seq drops parent tx account parent_close close resolution flags =
     record { seq = seq; drops = drops; parent = record { 0 = parent }; tx_hash = tx; account_hash = account; parent_close = parent_close; close = close; resolution = resolution; flags = flags }

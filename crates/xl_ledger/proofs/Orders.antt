@@ -70,9 +70,6 @@ all-within n (v ∷ votes) none =
 pub same_refl : (votes : List Vote) → AreSame votes votes
 same_refl votes p = refl
 
-pub same_sym : (a b : List Vote) → AreSame a b → AreSame b a
-same_sym a b same p = sym (same p)
-
 pub same_trans : (a b c : List Vote) → AreSame a b → AreSame b c → AreSame a c
 same_trans a b c left right p = left p ∙ right p
 

@@ -1,6 +1,5 @@
 -- Walks that go on, and what the loops of a walk keep.
 use Rattle.std.proofs.Common.{◌≡◌, ◌≢◌, ℕ, ◌<◌, ◌≤◌, ◌==◌, Bool, true, false, not, List, length, Some, refl, sym, ap, subst, ◌∙◌, arith}
-use Rattle.std.specs.Ordering.{nat_cmp, is_gt}
 use Rattle.std.proofs.lemmas.Bool.Decides.{nat_tests}
 use Rattle.xl_ledger.specs.declared.header.Header.{Header}
 use Rattle.xl_ledger.specs.Registries.{Ledgers}
@@ -33,12 +32,6 @@ module _ (ls : List Header) (ok : AreLedgers ls) where
       some_is a b e = cc
 
 -- ---- what the tests of two places tell
-
-pub later_if : (a b : ℕ) (t : Bool) → t ≡ is_gt (nat_cmp a b) → t ≡ true → b < a
-later_if a b t e is = grind (arith, nat_tests)
-
-pub earlier_if : (a b : ℕ) (t n : Bool) → t ≡ is_gt (nat_cmp a b) → t ≡ false → n ≡ not (a == b) → n ≡ true → a < b
-earlier_if a b t n e is d other = grind (arith, nat_tests)
 
 pub same_if : (a b : ℕ) (n : Bool) → n ≡ not (a == b) → n ≡ false → a ≡ b
 same_if a b n d same = grind (arith, nat_tests)

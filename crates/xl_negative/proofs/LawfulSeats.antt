@@ -104,11 +104,6 @@ set_full (y ∷ ys) zero (suc i) x same = refl
 set_full (y ∷ ys) (suc k) zero x same = refl
 set_full (y ∷ ys) (suc k) (suc i) x same = set_full ys k i x same
 
--- who hears, is opened anew or leaves out others keeps its full list
-pub hears_full : (hs : List Heard) (seats : List ListSeat) (i : ℕ) → (seat_at listed (hears listed seats hs) i).full ≡ (seat_at listed seats i).full
-hears_full [] seats i = refl
-hears_full (h ∷ hs) seats i = hears_full hs (with_hearing listed seats h) i ∙ set_full seats (h.node - 1) (i - 1) _ refl
-
 pub leaving_full : (seats : List ListSeat) (k i : ℕ) (negative : List ℕ) → (seat_at listed (with_leaving_out listed seats k negative) i).full ≡ (seat_at listed seats i).full
 leaving_full seats k i negative = set_full seats (k - 1) (i - 1) _ refl
 

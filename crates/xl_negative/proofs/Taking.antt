@@ -1,8 +1,6 @@
 -- One element more of the lists that loops go through.
-use Rattle.std.proofs.Common.{◌≡◌, ℕ, ◌+◌, ◌<◌, Bool, cond, List, [], ◌∷◌, ◌++◌, length, take, drop, get_or, refl, sym, ap, ◌∙◌}
-use Rattle.std.specs.Prelude.{filter}
+use Rattle.std.proofs.Common.{◌≡◌, ℕ, ◌+◌, ◌<◌, List, [], ◌∷◌, ◌++◌, length, take, drop, get_or, refl, sym, ap, ◌∙◌}
 use Rattle.std.proofs.lemmas.List.{take_more, drop_more}
-use Rattle.std.proofs.lemmas.List.Elements.{filter_more}
 use Rattle.xl_negative.specs.declared.hearing.Heard.{Heard}
 use Rattle.xl_negative.specs.Ringing.{Places, ringed}
 use Rattle.xl_negative.specs.Seats.{Seat, hears, with_hearing}
@@ -22,7 +20,3 @@ hears_more seats (x ∷ hs) h = hears_more (with_hearing ringed seats x) hs h
 pub hears_next : (seats : List (Seat Places)) (hs : List Heard) (i : ℕ) (h : Heard) → i < length hs → h ≡ get_or hs i h →
     hears ringed seats (take (i + 1) hs) ≡ with_hearing ringed (hears ringed seats (take i hs)) h
 hears_next seats hs i h within here = ap (hears ringed seats) (next_taken hs i h within here) ∙ hears_more seats (take i hs) h
-
--- those that pass so far, and the next one if it does
-pub filter_next : (p : ℕ → Bool) (xs : List ℕ) (i x : ℕ) → i < length xs → x ≡ get_or xs i x → filter p (take (i + 1) xs) ≡ filter p (take i xs) ++ cond (p x) (x ∷ []) []
-filter_next p xs i x within here = filter_more p xs i x within ∙ ap (λ y. filter p (take i xs) ++ cond (p y) (y ∷ []) []) (sym here)

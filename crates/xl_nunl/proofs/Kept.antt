@@ -13,7 +13,7 @@ use Rattle.xl_lists.specs.declared.said.SaidLedger.{SaidLedger}
 use Rattle.xl_lists.specs.Lists.{is_outside}
 use Rattle.xl_lists.proofs.Counting.{count_by-cons}
 use Rattle.xl_nunl.specs.Heard.{agrees, is_alike, last_heard, names, score_of}
-use Rattle.xl_nunl.specs.Rings.{IsKept, Remembers, RingsAreEnough, agrees_in, last_kept, nothing_kept, place_of, score_in, with_heard}
+use Rattle.xl_nunl.specs.Rings.{IsKept, RingsAreEnough, agrees_in, last_kept, nothing_kept, place_of, score_in, with_heard}
 use Rattle.xl_nunl.proofs.Rings.{none_heard}
 
 -- ---- nothing is kept
@@ -135,13 +135,6 @@ more_kept places heard x is = record {
       ∙ ap (λ (o : Option SaidLedger). cond (is_alike m s x) (Some x) o) (is.last m s low high)
       ∙ sym (last_more heard x m s);
 }
-
--- a member's is put at its place
-pub with_members : (places : Places) (member seq : ℕ) (x : SaidLedger) → x.member ≡ member → x.seq ≡ seq → 1 ≤ member → member ≤ 64 →
-    set places (place_of member seq) (Some x) ≡ with_heard places x
-with_members places member seq x member_is seq_is low high =
-    ap (λ (k : ℕ). set places k (Some x)) (ap (λ (m : ℕ). place_of m seq) (sym member_is) ∙ ap (place_of x.member) (sym seq_is))
-    ∙ sym (cond-false (is_outside x.member) places (set places (place_of x.member x.seq) (Some x)) (ap is_outside member_is ∙ not_outside member low high))
 
 -- ---- scores
 

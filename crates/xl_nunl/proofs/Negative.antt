@@ -8,7 +8,6 @@ use Rattle.std.proofs.lemmas.Cmp.{nat_eq_equiv}
 use Rattle.std.proofs.lemmas.Map.Keys.{IsDistinct-push}
 use Rattle.std.proofs.lemmas.List.{length-append}
 use Rattle.std.proofs.lemmas.List.Elements.{All-nil, All-filter, All-push}
-use Rattle.std.proofs.lemmas.List.Folds.{list_any-append}
 use Rattle.std.proofs.lemmas.List.Sums.{length-filter, count_by-le-length}
 use Rattle.xl_lists.specs.Lists.{is_on}
 use Rattle.xl_nunl.specs.Lists.{IsNegative}
@@ -32,14 +31,6 @@ on_without left m (x ∷ xs) =
       | inl same ↦ ap (λ (b : Bool). is_on (cond (not b) (x ∷ rest) rest) m) same ∙ on_without left m xs ∙ dropped m x left (is_on xs m) same
       | inr other ↦ ap (λ (b : Bool). is_on (cond (not b) (x ∷ rest) rest) m) other ∙ ap (λ (b : Bool). m == x || b) (on_without left m xs) ∙ kept m x left (is_on xs m) other
     ]
-
-last_or : (b c : Bool) → (b || c) ≡ (b || (c || false))
-last_or true c = refl
-last_or false true = refl
-last_or false false = refl
-
-pub on_with_one : (joined m : ℕ) (negative : List ℕ) → is_on (with_one negative (Some joined)) m ≡ (is_on negative m || m == joined)
-on_with_one joined m negative = list_any-append (λ k. m == k) negative (joined ∷ []) ∙ sym (last_or (is_on negative m) (m == joined))
 
 -- ---- what a filter leaves
 

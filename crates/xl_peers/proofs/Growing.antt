@@ -3,10 +3,10 @@ use Rattle.std.proofs.Common.{◌≡◌, ◌++◌, ℕ, List, [], Some, None, Op
 use Rattle.std.proofs.Common.{append-nil, arith, subst, inl, inr}
 use Rattle.std.proofs.lemmas.List.{take-append-drop}
 use Rattle.std.specs.Io.KnownBytes.{prepend_known, append_known}
-use Rattle.xl_io.specs.declared.sink.Wrote.TheVariants.{Took, Failed}
+use Rattle.xl_io.specs.declared.sink.Wrote.TheVariants.{Took}
 use Rattle.xl_links.specs.Links.{Wire, Writes}
 use Rattle.xl_links.specs.Tellings.{append_told, AddsTold}
-use Rattle.xl_peers.specs.Going.{Sent, SentFront}
+use Rattle.xl_peers.specs.Going.{Sent}
 
 pub append_known-none : (known : Option (List ℕ)) → append_known known [] ≡ known
 append_known-none None = refl
@@ -74,9 +74,6 @@ sent_both old mid new xs ys a b = record {
   later = let p = a.later in let q = b.later in omega arith;
 }
 
-pub sending_none : (w : Wire) (all : List ℕ) → Sending w w all all
-sending_none w all = record { front = []; parts = refl; sent = sent_none w }
-
 pub sending_more : (old mid new : Wire) (all rest : List ℕ) (n : ℕ) → Sending old mid all rest
     → Sent mid (take n rest) new → Sending old new all (drop n rest)
 sending_more old mid new all rest n s more = record {
@@ -88,20 +85,3 @@ sending_more old mid new all rest n s more = record {
 
 pub sent_took : (old new : Wire) (n : ℕ) (rest : List ℕ) → Writes old (Took n) rest new → Sent old (take n rest) new
 sent_took old new n rest w = record { took = w.took; left = w.left; openings = w.openings; readings = w.readings; later = w.later }
-
--- a failed write changes nothing but the count
-pub sent_front : (start old new : Wire) (all rest : List ℕ) → Sending start old all rest → Writes old Failed rest new
-    → SentFront start all new
-sent_front start old new all rest s w =
-    let none : Sent old [] new = record { took = w.took; left = w.left; openings = w.openings; readings = w.readings; later = w.later } in
-    let sent : Sent start s.front new = subst (λ xs. Sent start xs new) (append-nil s.front)
-    (sent_both start old new s.front [] s.sent none) in
-    record {
-      written = s.front;
-      front = (rest, sym s.parts);
-      sent = sent;
-      failed = let r = w.failed refl in let p = s.sent.later in omega arith;
-    }
-
-pub sent_all : (old new : Wire) (all : List ℕ) → Sending old new all [] → Sent old all new
-sent_all old new all s = subst (λ xs. Sent old xs new) (sym (append-nil s.front) ∙ sym s.parts) s.sent

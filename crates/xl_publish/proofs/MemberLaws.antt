@@ -1,5 +1,5 @@
 -- The members in the bytes of a roll, one after the other.
-use Rattle.std.proofs.Common.{◌≡◌, ◌≢◌, ℕ, suc, ◌+◌, ◌-◌, ◌*◌, ◌<◌, ◌≤◌, Bool, true, false, List, [], ◌∷◌, drop, Some, None, refl, sym, ap, ◌∙◌, arith}
+use Rattle.std.proofs.Common.{◌≡◌, ◌≢◌, ℕ, suc, ◌+◌, ◌-◌, ◌*◌, ◌<◌, Bool, true, false, List, ◌∷◌, drop, Some, refl, sym, ap, ◌∙◌, arith}
 use Rattle.std.specs.Prelude.{◌==◌, ◌||◌}
 use Rattle.std.proofs.lemmas.Bool.{cond-true, cond-false}
 use Rattle.std.proofs.lemmas.Bool.Decides.{nat_tests}
@@ -26,11 +26,6 @@ left_more place bytes lt =
     ap (λ (k : ℕ). numbers_in k (drop (21 + 4 * place) bytes)) one
     ∙ ap (λ (x : List ℕ). member_in place bytes ∷ numbers_in (count_in bytes - (place + 1)) x) next
 
-pub left_none : (place : ℕ) (bytes : List ℕ) → count_in bytes ≤ place → left_at place bytes ≡ []
-left_none place bytes le =
-    let none : count_in bytes - place ≡ 0 = omega arith in
-    ap (λ (k : ℕ). numbers_in k (drop (21 + 4 * place) bytes)) none
-
 -- a member that may follow is passed over
 pub wrong_later : (place before m : ℕ) (bytes : List ℕ) → place < count_in bytes → m ≡ member_in place bytes → may_follow before m ≡ true →
     first_wrong (place + 1) m (left_at (place + 1) bytes) ≡ first_wrong place before (left_at place bytes)
@@ -44,9 +39,6 @@ pub wrong_here : (place before m : ℕ) (bytes : List ℕ) → place < count_in 
 wrong_here place before m bytes there is test =
     ap (first_wrong place before) (left_more place bytes there ∙ ap (λ (k : ℕ). k ∷ left_at (place + 1) bytes) (sym is))
     ∙ cond-false (may_follow before m) (first_wrong (place + 1) m (left_at (place + 1) bytes)) (Some place) test
-
-pub wrong_none : (place before : ℕ) (bytes : List ℕ) → count_in bytes ≤ place → first_wrong place before (left_at place bytes) ≡ None
-wrong_none place before bytes le = ap (first_wrong place before) (left_none place bytes le)
 
 on_here : (same rest : Bool) → same ≡ true → (same || rest) ≡ true
 on_here true rest e = refl
@@ -72,6 +64,3 @@ named_later number place bytes there other =
   where
     differs : (a b : ℕ) → a ≢ b → (a == b) ≡ false
     differs a b e = grind (arith, nat_tests)
-
-pub named_none : (number place : ℕ) (bytes : List ℕ) → count_in bytes ≤ place → is_on (left_at place bytes) number ≡ false
-named_none number place bytes le = ap (λ (ms : List ℕ). is_on ms number) (left_none place bytes le)

@@ -1,6 +1,6 @@
 -- The fields of a roll, put one after the other.
 use Rattle.std.proofs.Common.{◌≡◌, ℕ, ◌+◌, ◌*◌, ◌<◌, ◌≤◌, List, [], ◌∷◌, ◌++◌, length, get_or, take, drop, refl, sym, ap, subst, ◌∙◌, arith}
-use Rattle.std.proofs.lemmas.List.{take-append-drop, append-nil, take_at, drop_at, take_all, take_more, flat_map_more, length-append, length-take}
+use Rattle.std.proofs.lemmas.List.{take-append-drop, append-nil, take_at, drop_at, take_more, flat_map_more, length-append, length-take}
 use Rattle.byteorder.specs.Endian.{big_bytes}
 use Rattle.xl_base.specs.Putting.{Puts}
 use Rattle.xl_tags.specs.Macs.{mac}
@@ -29,10 +29,6 @@ puts_member members i old mid new within p q =
     let joined : member_bytes (take i members) ++ big_bytes 4 m ≡ member_bytes (take (i + 1) members) =
     flat_map_more (λ (k : ℕ). big_bytes 4 k) [] (take i members) m ∙ ap member_bytes more in
     subst (λ (x : List ℕ). Puts 21 x old new) joined (puts_then 21 (21 + 4 * i) (member_bytes (take i members)) (big_bytes 4 m) old mid new p q at)
-
--- all members
-pub puts_members : (members : List ℕ) (i : ℕ) (old new : List ℕ) → length members ≤ i → Puts 21 (member_bytes (take i members)) old new → Puts 21 (member_bytes members) old new
-puts_members members i old new le p = subst (λ (x : List ℕ). Puts 21 (member_bytes x) old new) (take_all i members le) p
 
 -- the fields before the members
 abbrev fields : Roll → ℕ → List ℕ

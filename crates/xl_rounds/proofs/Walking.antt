@@ -1,9 +1,9 @@
 -- Two lists of rising ids are walked at once.
-use Rattle.std.proofs.Common.{◌≡◌, ℕ, zero, suc, ◌+◌, ◌<◌, ◌≤◌, ◌||◌, Bool, true, false, not, cond, List, [], ◌∷◌, ◌++◌, length, take, drop, set, get_or, refl, sym, ap, subst, ◌∙◌, arith, append-nil}
+use Rattle.std.proofs.Common.{◌≡◌, ℕ, ◌+◌, ◌<◌, ◌≤◌, ◌||◌, Bool, true, false, not, cond, List, [], ◌∷◌, ◌++◌, length, take, drop, set, get_or, refl, sym, ap, subst, ◌∙◌, arith, append-nil}
 use Rattle.std.proofs.Math.Bool.{or-true}
 use Rattle.std.specs.List.{prefix_len}
 use Rattle.std.specs.Str.{bytes_eq}
-use Rattle.std.proofs.lemmas.List.{drop_more, take_more, take_more_set, take_all, drop-set-lt, get_or-drop, length-set}
+use Rattle.std.proofs.lemmas.List.{drop_more, take_more, take_more_set, drop-set-lt, get_or-drop, length-set}
 use Rattle.std.proofs.lemmas.List.Elements.{filter-append}
 use Rattle.std.proofs.lemmas.Grind.{drop_more_same}
 use Rattle.xl_base.specs.Sets.{is_below, RisesFrom, IsRising}
@@ -22,9 +22,6 @@ pub record IsWalked (accepted old now rest : List TxId) (place left : ℕ) : Typ
   pub few : left ≤ place
   pub still : (t : TxId) → has (drop place old) t ≡ true → has accepted t ≡ has rest t
   pub rises : IsRising rest
-
-pub all_walked : (accepted old now rest : List TxId) (place left : ℕ) → IsWalked accepted old now rest place left → length old ≤ place → take left now ≡ without_accepted accepted old
-all_walked accepted old now rest place left walked past = walked.front ∙ ap (without_accepted accepted) (take_all place old past)
 
 -- as the code has it
 pub walked_as : (accepted old now rest : List TxId) (place left : ℕ) (now' rest' : List TxId) (left' : ℕ) → now' ≡ now → rest' ≡ rest → left' ≡ left →

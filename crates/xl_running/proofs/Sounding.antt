@@ -14,7 +14,7 @@ use Rattle.xl_world.specs.Starts.{IsRun, start}
 use Rattle.xl_world.specs.World.{IsFit, World}
 use Rattle.xl_world.proofs.Fitting.{steps_fit}
 use Rattle.xl_world.proofs.Runs.{run_on}
-use Rattle.xl_running.specs.Running.{Running, at_first, declares, happens, in_world, knows, world_of}
+use Rattle.xl_running.specs.Running.{Running, at_first, declares, happens, knows, world_of}
 use Rattle.xl_running.proofs.Declaring.{Declares}
 
 -- the world so far is a run, and the nodes may be declared
@@ -31,9 +31,6 @@ first_sound = record { declared = All-nil IsDeclared; is_run = world_run at_firs
 
 pub knows_sound : (r : Running) (reading : Reading) → IsSound r → IsSound (knows r reading)
 knows_sound r reading sound = record { declared = sound.declared; is_run = sound.is_run }
-
-pub opened_sound : (r : Running) → IsSound r → IsSound (in_world r (world_of r))
-opened_sound r sound = record { declared = sound.declared; is_run = sound.is_run }
 
 pub happens_sound : (r : Running) (e : Event) → IsPlausible e.what → IsSound r → IsSound (happens r e)
 happens_sound r e plausible sound = record {

@@ -35,7 +35,3 @@ read_on-none xs entries i entry refusal here e =
 -- nothing is left
 pub read_on-all : (xs : List ℕ) (entries : List (List ℕ)) (i : ℕ) → length entries ≤ i → read_on xs (numbers_of (drop i entries)) ≡ Ok (xs ++ [])
 read_on-all xs entries i h = at_drop_all (λ rest. read_on xs (numbers_of rest)) entries i h
-
-pub read_on-nothing : {A : Type 0} (rest : Result (List A) SchedRefusal) → read_on [] rest ≡ rest
-read_on-nothing (Ok ys) = refl
-read_on-nothing (Err e) = refl

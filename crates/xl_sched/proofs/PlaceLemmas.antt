@@ -81,12 +81,6 @@ with_place-new None is_key place h = refl
 with_place-new (Some k) true place h = absurd (Some≢None k (h refl))
 with_place-new (Some k) false place h = refl
 
--- a place for a key that had one
-pub with_place-kept : (kept : Option ℕ) (is_key : Bool) (place : ℕ) → (is_key ≡ true → kept ≡ None → ⊥) → kept ≡ with_place kept is_key place
-with_place-kept None true place h = absurd (h refl refl)
-with_place-kept None false place h = refl
-with_place-kept (Some k) is_key place h = refl
-
 -- a name with the same bytes has no place either
 pub none_too : (place_of : List ℕ → Option ℕ) (t name : List ℕ) → place_of name ≡ None → bytes_eq t name ≡ true → place_of t ≡ None
 none_too place_of t name h e = ap place_of ((bytes_eq-Decides t name).0 e) ∙ h

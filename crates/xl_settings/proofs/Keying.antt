@@ -1,12 +1,9 @@
 -- Publishers of different numbers, and their keys.
-use Rattle.std.proofs.Common.{◌≡◌, ◌∙◌, ◌+◌, ◌<◌, ℕ, Bool, true, false, List, [], ◌∷◌, ◌||◌, map, get_or, take, length, nat_eq, refl, sym, ap}
-use Rattle.std.specs.List.{fold, list_any}
-use Rattle.std.proofs.lemmas.List.{take_more}
-use Rattle.std.proofs.lemmas.List.Sums.{fold-append}
-use Rattle.xl_publish.specs.Registers.{no_publishers}
+use Rattle.std.proofs.Common.{◌≡◌, ℕ, Bool, true, false, List, [], ◌∷◌, ◌||◌, map, nat_eq, refl, ap}
+use Rattle.std.specs.List.{list_any}
 use Rattle.xl_settings.specs.declared.publishers.PublisherKey.{PublisherKey}
 use Rattle.xl_settings.specs.Different.{are_different}
-use Rattle.xl_settings.specs.Publishers.{keyed, publisher_number, with_publisher}
+use Rattle.xl_settings.specs.Publishers.{publisher_number}
 
 among_numbers : (ps : List PublisherKey) (number : ℕ)
     → list_any (λ p. nat_eq number p.number) ps ≡ list_any (nat_eq number) (map publisher_number ps)
@@ -22,10 +19,3 @@ pub single : (rest others : List PublisherKey) (first : PublisherKey) → rest �
     → list_any (λ p. nat_eq first.number p.number) others ≡ false
     → are_different nat_eq (map publisher_number rest) ≡ are_different nat_eq (map publisher_number others)
 single rest others first is new = rw (is, ← among_numbers others first.number, new) refl
-
--- one key more
-pub keyed_more : (ps : List PublisherKey) (i : ℕ) (d : PublisherKey) → i < length ps
-    → with_publisher (keyed (take i ps)) (get_or ps i d) ≡ keyed (take (i + 1) ps)
-keyed_more ps i d lt =
-    sym (fold-append with_publisher no_publishers (take i ps) (get_or ps i d ∷ []))
-    ∙ ap (fold with_publisher no_publishers) (sym (take_more ps i d lt))

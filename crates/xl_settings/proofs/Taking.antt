@@ -39,9 +39,6 @@ pub record AreTaken (keys : List PublisherKey) (rolls : List (List ℕ)) (i : �
   pub register : r ≡ registered keys (take i rolls)
   pub all_of : all ≡ list_all (is_taken (keyed keys)) (take i rolls)
 
-pub none_taken : (keys : List PublisherKey) (rolls : List (List ℕ)) → AreTaken keys rolls 0 (keyed keys) true
-none_taken keys rolls = record { register = refl; all_of = refl }
-
 right_if : (refusal : Option RollRefusal) (took : Took) (answer : Result Took RollRefusal)
     → answer ≡ unless_refused refusal took → is_err answer ≡ false → is_none refusal ≡ true
 right_if None took answer is ok = refl

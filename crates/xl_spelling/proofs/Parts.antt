@@ -1,10 +1,9 @@
 -- Parts of lines, each of which says again what it said.
-use Rattle.std.proofs.Common.{◌≡◌, ◌^◌, ◌-◌, ◌≤◌, ◌<◌, ◌&&◌, ◌||◌, ℕ, Bool, true, false, not, cond, nat_le, nat_lt, List, [], ◌∷◌, map, Result, Ok, Err, refl, ap, sym, ◌∙◌, arith, decimal, codes}
+use Rattle.std.proofs.Common.{◌≡◌, ◌^◌, ◌-◌, ◌≤◌, ◌<◌, ◌&&◌, ◌||◌, ℕ, Bool, true, false, not, cond, nat_le, nat_lt, List, Result, Ok, Err, refl, ap, sym, ◌∙◌, arith, decimal, codes}
 use Rattle.std.specs.Option.{option_or, ok_or}
 use Rattle.std.specs.Str.{bytes_eq}
 use Rattle.std.proofs.lemmas.Bool.{and_parts}
 use Rattle.std.proofs.lemmas.Bool.Decides.{nat_tests}
-use Rattle.std.proofs.lemmas.List.Splits.{join_with_byte-slice_split}
 use Rattle.std.proofs.lemmas.Slice.Eq.{bytes_eq-Decides}
 use Rattle.hex.specs.Hex.{encode_lower}
 use Rattle.xl_lists.specs.Lists.{is_on}
@@ -12,12 +11,11 @@ use Rattle.xl_sched.specs.declared.named.Named.{Named}
 use Rattle.xl_sched.specs.declared.refusal.SchedRefusal.{SchedRefusal}
 use Rattle.xl_sched.specs.declared.refusal.SchedRefusal.TheVariants as refusal
 use Rattle.xl_sched.specs.Refusals.{◌>>=◌}
-use Rattle.xl_sched.specs.Tokens.{entries}
 use Rattle.xl_sched.specs.Numbers.{is_number, value_of, number_within, number_of, place_of}
 use Rattle.xl_sched.specs.Choices.{validating_of, full_of, new_of}
 use Rattle.xl_sched.specs.Names.{id_of, id_named}
-use Rattle.xl_sched.specs.Members.{member_of, declared_of, new_member_of, numbers_of, members_of}
-use Rattle.xl_spelling.specs.Spellings.{kind_word, held_word, with_commas}
+use Rattle.xl_sched.specs.Members.{member_of, declared_of, new_member_of}
+use Rattle.xl_spelling.specs.Spellings.{kind_word, held_word}
 use Rattle.xl_base.specs.Ids.{IsId}
 use Rattle.xl_spelling.proofs.Numerals.{id-written, decimal-value}
 
@@ -111,18 +109,6 @@ pub mode-same : (t : List ℕ) (validating : Bool) → validating_of t ≡ Ok va
 mode-same t validating e =
     let p = passed (bytes_eq t (codes "observing")) false validating (refusal.Choice t) e in
     (sym p.1, same_bytes t (codes "observing") p.0)
-
-numbers-same : (parts : List (List ℕ)) (ns : List ℕ) → numbers_of parts ≡ Ok ns → map (λ n. decimal n) ns ≡ parts
-numbers-same [] ns e = ap (map (λ n. decimal n)) (sym (same-ok [] ns e))
-numbers-same (part ∷ parts) ns e =
-    let s = steps (number_of part) (λ n. numbers_of parts >>= (λ ns. Ok (n ∷ ns))) ns e in
-    let r = steps (numbers_of parts) (λ ns. Ok (s.value ∷ ns)) ns s.rest in
-    ap (map (λ n. decimal n)) (sym (same-ok (s.value ∷ r.value) ns r.rest))
-    ∙ ap (λ t. t ∷ map (λ n. decimal n) r.value) (number-same part s.value s.gave)
-    ∙ ap (λ ts. part ∷ ts) (numbers-same parts r.value r.gave)
-
-pub members-same : (t ns : List ℕ) → members_of t ≡ Ok ns → with_commas (map (λ n. decimal n) ns) ≡ t
-members-same t ns e = ap with_commas (numbers-same (entries t) ns e) ∙ join_with_byte-slice_split 44 t
 
 -- the digits of an id are that id
 pub id-read : (names : List Named) (id : List ℕ) → IsId id → id_of names (encode_lower id) ≡ Ok id

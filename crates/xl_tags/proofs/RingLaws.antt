@@ -33,10 +33,6 @@ pub key_at : (ring : Ring) (member : ℕ) → 1 ≤ member → key_of ring membe
 key_at ring member low =
     cond_both (member == 0) None (get_or ring.keys (member - 1) None) (λ k. k ≡ get_or ring.keys (member - 1) None) (λ yes. absurd (grind (arith, nat_tests))) (λ _. refl)
 
--- 0 has no key
-pub key_of-zero : (ring : Ring) → key_of ring 0 ≡ None
-key_of-zero ring = refl
-
 pub key_of-outside : (ring : Ring) (member : ℕ) → IsRing ring → is_outside member ≡ true → key_of ring member ≡ None
 key_of-outside ring member ok out = elim (cases_eq member 0) [
   | inl zero ↦ ap (key_of ring) zero

@@ -1,11 +1,8 @@
 -- Lines of siblings, as nodes come, go, hang and are taken off.
 use Rattle.std.proofs.Common.{arith, ◌≡◌, ◌≢◌, ◌⊎◌, List, [], ◌∷◌, Option, Some, None, refl, sym, ap, subst, ◌∙◌, inl, inr}
-use Rattle.xl_trie.proofs.Common.{Slot, get, Updates, Name, Node, Span, In, span_of, spans, Becomes, Leads, HasKids, AllKids, AllHang}
+use Rattle.xl_trie.proofs.Common.{Slot, get, Updates, Name, Node, Span, In, span_of, spans, Leads, HasKids, AllKids, AllHang}
 use Rattle.xl_trie.proofs.Listing.{some_is, none_some}
 use Rattle.xl_trie.proofs.Trees.{one_name}
-
-pub becomes : (old new : List (Slot Node)) (x : Name) (v : Option Node) → Updates old new x v → Becomes (spans old) (spans new) x (span_of v)
-becomes old new x v up = record { changed = ap span_of up.changed; others = λ b other. ap span_of (up.others b other) }
 
 pub came_from : (old new : List (Slot Node)) (x : Name) (v : Node) → Updates old new x (Some v) → (a : Name) (m : Node) → get new a ≡ Some m → ((a ≡ x) × (m ≡ v)) ⊎ ((a ≢ x) × (get old a ≡ Some m))
 came_from old new x v up a m e = grind (arith, one_name a x, up.changed, up.others a)

@@ -1,6 +1,5 @@
 -- The ledgers that validations name, before and after one more is known.
 use Rattle.std.proofs.Common.{◌≡◌, ℕ, ◌+◌, ◌<◌, ◌==◌, ◌&&◌, Bool, true, false, cond, List, [], ◌∷◌, ◌++◌, length, take, Option, Some, None, refl, sym, ap, subst, ◌∙◌, arith, inl, inr}
-use Rattle.std.specs.Prelude.{IfSome}
 use Rattle.std.specs.Option.{option_and_then}
 use Rattle.std.proofs.lemmas.Bool.{cases_lt, and_parts, eqb-true, eq-eqb, cond-true, cond-false}
 use Rattle.std.proofs.lemmas.Bool.Decides.{nat_tests}
@@ -32,19 +31,6 @@ module _ (ls : List Header) (ok : AreLedgers ls) where
   found place within =
       position_is (same_id (id_at ls place)) (ids ls) place root_id (omega (arith, length-ids ls)) (same_self (id_at ls place) (id_at ls place) refl)
       (λ k lt. earlier_differs ls ok k place lt within)
-
--- the ledger that is named is a known one
-pub named_known : (ls : List Header) (o : Option Validation) → IfSome (ledger_named ls o) (λ l. l < length ls)
-named_known ls None = tt
-named_known ls (Some v) = by_cases (place_of ls v.id) refl
-  where
-    test : (p : ℕ) (b : Bool) → p < length ls → IfSome (cond b (Some p) None) (λ l. l < length ls)
-    test p true lt = lt
-    test p false lt = tt
-
-    by_cases : (o : Option ℕ) → place_of ls v.id ≡ o → IfSome (option_and_then (if_of_sequence ls v.seq) o) (λ l. l < length ls)
-    by_cases None e = tt
-    by_cases (Some p) e = let at = position-Some (same_id v.id) (ids ls) p root_id e in test p (seq_at ls p == v.seq) (omega (arith, at.0, length-ids ls))
 
 -- the ledgers before the newest, and the newest
 pub split : (ls : List Header) (ledger : ℕ) → IsNewest ls ledger → ls ≡ take ledger ls ++ header_at ls ledger ∷ []

@@ -1,6 +1,6 @@
 -- A member's row is the first one of its number, and stands at a place.
-use Rattle.std.proofs.Common.{◌≡◌, ℕ, zero, suc, ◌<◌, true, false, List, [], ◌∷◌, length, get_or, set, arith, ap, sym, ◌∙◌, Some, None, subst}
-use Rattle.std.specs.Prelude.{◌==◌, position, IfSome, is_some, nat_lt}
+use Rattle.std.proofs.Common.{◌≡◌, ℕ, zero, suc, ◌<◌, true, false, List, [], ◌∷◌, length, get_or, set, arith, ap, sym, ◌∙◌, Some, None}
+use Rattle.std.specs.Prelude.{◌==◌, position, is_some, nat_lt}
 use Rattle.std.specs.List.{position_or_len}
 use Rattle.std.proofs.lemmas.List.Folds.{find_at}
 use Rattle.std.proofs.lemmas.Option.{slice_get_past, slice_get-get_or}
@@ -38,12 +38,6 @@ change_at_place member f rows k row found is =
     let at = position-Some (λ r. r.member == member) rows k row found in
     ap (λ r. set rows k (f r)) is ∙ change_there member f rows k row at.0 at.1 (λ j h. at.2 j h)
 
--- and where it stays, the rows do
-pub same_at_place : (rows : List Row) (k : ℕ) (row : Row) → k < length rows → row ≡ get_or rows k row → set rows k row ≡ rows
-same_at_place [] k row k_in is = absurd (omega arith)
-same_at_place (x ∷ xs) zero row k_in is = ap (λ r. r ∷ xs) is
-same_at_place (x ∷ xs) (suc k) row k_in is = ap (λ rest. x ∷ rest) (same_at_place xs k row (omega arith) is)
-
 -- a member has a place exactly if it has a row
 pub place_if_row : (member : ℕ) (rows : List Row) → is_some (position (λ row. row.member == member) rows) ≡ is_some (row_of rows member)
 place_if_row member rows =
@@ -51,7 +45,3 @@ place_if_row member rows =
     cond_both (nat_lt n (length rows)) (Some n) None (λ o. is_some o ≡ is_some (row_of rows member))
     (λ inside. sym (ap is_some (find_at (λ row. row.member == member) rows ∙ slice_get-get_or rows n (empty_row member) (ltb-true n (length rows) inside))))
     (λ past. sym (ap is_some (find_at (λ row. row.member == member) rows ∙ slice_get_past rows n (ltb-false n (length rows) past))))
-
--- what holds of the row that is found holds of the member's row
-pub says_of_row : (member : ℕ) (rows : List Row) (row : Row) (P : Row → Type 0) → row_of rows member ≡ Some row → P row → IfSome (row_of rows member) P
-says_of_row member rows row P found says = subst (λ o. IfSome o P) (sym found) says

@@ -1,5 +1,5 @@
 -- Rows of another list: the votes that are left of the former ones are those of the new rows.
-use Rattle.std.proofs.Common.{◌≡◌, ℕ, ◌+◌, ◌≤◌, ◌==◌, ◌||◌, Bool, true, false, cond, List, [], ◌∷◌, length, map, Option, Some, None, refl, sym, ap, subst, ◌∙◌, arith, inl, inr}
+use Rattle.std.proofs.Common.{◌≡◌, ℕ, ◌+◌, ◌≤◌, ◌==◌, ◌||◌, Bool, true, false, cond, List, [], ◌∷◌, length, Option, Some, None, refl, sym, ap, subst, ◌∙◌, arith, inl, inr}
 use Rattle.std.specs.Prelude.{nat_eq, count_by, unwrap_or}
 use Rattle.std.specs.List.{IsDistinct, AllByRecursion}
 use Rattle.std.specs.Option.{option_and_then}
@@ -45,11 +45,6 @@ its_current rows m = by (row_of rows m)
 pub members_relisted : (ms : List ℕ) (rows : List Row) → members (relisted ms rows) ≡ ms
 members_relisted [] rows = refl
 members_relisted (m ∷ ms) rows = ap (λ (k : ℕ). k ∷ members (relisted ms rows)) (its_member rows m) ∙ ap (λ (ks : List ℕ). m ∷ ks) (members_relisted ms rows)
-
--- the rows of a list on which nobody stood before are empty
-pub relisted-nobody : (ms : List ℕ) → relisted ms [] ≡ map empty_row ms
-relisted-nobody [] = refl
-relisted-nobody (m ∷ ms) = ap (λ (rs : List Row). empty_row m ∷ rs) (relisted-nobody ms)
 
 -- THE VOTES OF THE NEW ROWS
 

@@ -53,6 +53,3 @@ number_at_2 at bytes fits long =
 
 pub below_4 : (bytes : List ℕ) → IsBytes bytes → big_number 4 bytes < 2 ^ 32
 below_4 bytes fits = omega (arith, big_from-lt 0 4 bytes fits)
-
-pub below_2 : (bytes : List ℕ) → IsBytes bytes → big_number 2 bytes < 2 ^ 16
-below_2 bytes fits = omega (arith, big_from-lt 0 2 bytes fits)

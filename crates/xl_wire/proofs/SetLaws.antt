@@ -1,5 +1,5 @@
 -- Sets in bytes: what lies where, and the first fall.
-use Rattle.std.proofs.Common.{◌≡◌, ℕ, zero, suc, ◌+◌, ◌-◌, ◌⊎◌, ◌*◌, ◌/◌, ◌<◌, ◌≤◌, Bor, Bool, true, false, cond, List, [], ◌∷◌, length, slice_get, get_or, take, drop, Option, Some, None, refl, sym, ap, subst, ◌∙◌, arith, inl, inr}
+use Rattle.std.proofs.Common.{◌≡◌, ℕ, zero, suc, ◌+◌, ◌-◌, ◌*◌, ◌/◌, ◌<◌, ◌≤◌, Bor, Bool, true, false, cond, List, [], ◌∷◌, length, slice_get, get_or, take, drop, Option, Some, None, refl, sym, ap, subst, ◌∙◌, arith}
 use Rattle.std.proofs.lemmas.List.{drop-drop}
 use Rattle.std.specs.Ordering.{nat_cmp, is_lt, is_some_and, ordering_then, partial_ordering_then}
 use Rattle.std.specs.Cmp.Lexicographic.{slice_cmp, slice_partial_cmp}
@@ -52,14 +52,6 @@ abbrev pub fall_at : ℕ → List TxId → Option ℕ
 fall_at place [] = None
 fall_at place (a ∷ ids) = fall_from place a ids
 
-le_one : (n : ℕ) → n ≤ 1 → (n ≡ 0) ⊎ (n ≡ 1)
-le_one zero h = inl refl
-le_one (suc zero) h = inr refl
-le_one (suc (suc n)) h = absurd (omega arith)
-
-fall_two : (m place : ℕ) (x : List ℕ) → fall_at place (ids_in (suc (suc m)) x) ≡ cond (comes_before (take 32 x) (take 32 (drop 32 x))) (fall_at (place + 1) (ids_in (suc m) (drop 32 x))) (Some place)
-fall_two m place x = refl
-
 -- an id that doesn't come after the one before is the first fall
 pub fall_here : (n place : ℕ) (bytes x before id : List ℕ) → 1 ≤ place → place < n → x ≡ drop (32 * (place - 1)) bytes → before ≡ take 32 x → id ≡ take 32 (drop 32 x) → comes_before before id ≡ false
     → fall_at place (ids_in (n - (place - 1)) (drop (32 * (place - 1)) bytes)) ≡ Some place
@@ -85,14 +77,6 @@ fall_later n place bytes x before id low lt at b i test =
     ap (λ (k : ℕ). fall_at (place + 1) (ids_in k (drop (32 * (place + 1 - 1)) bytes))) left'
     ∙ ap (λ (y : List ℕ). fall_at (place + 1) (ids_in (suc (n - place - 1)) y)) (sym next)
     ∙ sym here
-
--- at the end there is none
-pub fall_none : (n place : ℕ) (x : List ℕ) → n ≤ place → fall_at place (ids_in (n - (place - 1)) x) ≡ None
-fall_none n place x le =
-    elim (le_one (n - (place - 1)) (omega arith)) [
-      | inl e ↦ ap (λ (k : ℕ). fall_at place (ids_in k x)) e
-      | inr e ↦ ap (λ (k : ℕ). fall_at place (ids_in k x)) e
-    ]
 
 then_is : (o p : Ordering) → partial_ordering_then (Some o) (Some p) ≡ Some (ordering_then o p)
 then_is Less p = refl

@@ -11,9 +11,7 @@ use Rattle.clap.specs.ValueTests.{is_unsigned_in}
 use Rattle.clap.proofs.ValueTestLemmas.{Accepts-accepts}
 use Rattle.clap.specs.declared.builder.value_parser.ValueParser.TheVariants as vp
 use Rattle.clap.specs.declared.error.Error.{Error}
-use Rattle.clap.specs.declared.error.kind.ErrorKind.{ErrorKind}
-use Rattle.clap.specs.declared.error.kind.ErrorKind.TheVariants.{OutOfMemory}
-use Rattle.clap.specs.Words.{HasKind, IsAmong, Kinds, kind_of, Text, is_simple, is_simple_and_free}
+use Rattle.clap.specs.Words.{HasKind, Kinds, kind_of, Text, is_simple, is_simple_and_free}
 use Rattle.xl_words.specs.declared.command.Command.{Command}
 use Rattle.xl_words.specs.declared.command.Command.TheVariants.{Node, Tell}
 use Rattle.xl_words.specs.declared.command.Telling.TheVariants.{Replay, Show, Lists, Merge, Audit, Flags, Negative, Gen, Help, Version}
@@ -79,43 +77,6 @@ version_is name = refl
 short_version_is : (name : Text) → command_of (name ∷ codes "-V" ∷ []) ≡ Some (Tell Version)
 unfolding clap_on_literals
 short_version_is name = refl
-
--- other words that may be met
-help_of_a_command : (name : Text) → command_of (name ∷ codes "show" ∷ codes "--help" ∷ []) ≡ Some (Tell Help)
-unfolding clap_on_literals
-help_of_a_command name = refl
-
-dashes_behind : (name : Text) → command_of (name ∷ codes "replay" ∷ codes "--" ∷ []) ≡ Some (Tell Replay)
-unfolding clap_on_literals
-dashes_behind name = refl
-
-zero_in_front : (name : Text) → command_of (name ∷ codes "gen" ∷ codes "05" ∷ []) ≡ None
-unfolding clap_on_literals
-zero_in_front name = refl
-
-no_round : (name : Text) → command_of (name ∷ codes "gen" ∷ codes "0" ∷ []) ≡ None
-unfolding clap_on_literals
-no_round name = refl
-
-a_round_too_many : (name : Text) → command_of (name ∷ codes "gen" ∷ codes "1001" ∷ []) ≡ None
-unfolding clap_on_literals
-a_round_too_many name = refl
-
-a_word_more : (name : Text) → command_of (name ∷ codes "replay" ∷ codes "x" ∷ []) ≡ None
-unfolding clap_on_literals
-a_word_more name = refl
-
-another_word : (name : Text) → command_of (name ∷ codes "Replay" ∷ []) ≡ None
-unfolding clap_on_literals
-another_word name = refl
-
-name_alone : (name : Text) → command_of (name ∷ []) ≡ None
-unfolding clap_on_literals
-name_alone name = refl
-
-no_words : command_of [] ≡ None
-unfolding clap_on_literals
-no_words = refl
 
 gen_at : (name : Text) (k : ℕ) (ds : List ℕ) (n : ℕ) → k < 9 → is_unsigned_in 1 1000 ((49 + k) ∷ ds) ≡ true → digits_value 10 ((49 + k) ∷ ds) ≡ n
     → command_of (name ∷ codes "gen" ∷ ((49 + k) ∷ ds) ∷ []) ≡ Some (gen n)

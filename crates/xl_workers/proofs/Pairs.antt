@@ -62,11 +62,6 @@ pub all_of_map : {A B : Type 0} (P : B → Type 0) (f : A → B) (xs : List A) �
 all_of_map P f [] h = tt
 all_of_map P f (x ∷ xs) h = (h.0, all_of_map P f xs h.1)
 
-pub all_map : {A B : Type 0} (P : B → Type 0) (f : A → B) (xs : List A) → AllByRecursion (λ x. P (f x)) xs
-    → AllByRecursion P (map f xs)
-all_map P f [] h = tt
-all_map P f (x ∷ xs) h = (h.0, all_map P f xs h.1)
-
 pub all_more : {A : Type 0} (P : A → Type 0) (xs : List A) (x : A) → AllByRecursion P xs → P x
     → AllByRecursion P (xs ++ x ∷ [])
 all_more P [] x h p = (p, tt)
