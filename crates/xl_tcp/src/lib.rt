@@ -20,6 +20,3 @@ mod moments;
 pub use clock::SystemClock;
 pub use hub::TcpHub;
 pub use link::TcpLink;
-
-#[cfg(test)]
-mod tests;
