@@ -83,6 +83,29 @@ def restarts(lines):
     return two_with_a_liar(['restart 1'] * lines)
 
 
+def relists(lines):
+    """Two nodes with lists of 35 get lists of 35 and of 36, one behind the other."""
+    lists = [','.join(map(str, range(1, last + 1))) for last in (35, 36)]
+    nodes = ['node %d 28 %s' % (node, lists[0]) for node in (1, 2)]
+    return text_of([*nodes, *('list %d 29 %s' % (1 + it % 2, lists[it // 2 % 2]) for it in range(1, lines + 1))])
+
+
+def flags(ledgers):
+    """Two members vote for an amendment at each flag ledger."""
+    made = []
+    for seq in range(256, 256 * ledgers + 1, 256):
+        made += ['issue 1 %d x full' % seq, 'lie 2 1 validation %d x 1 full' % seq]
+    return two_with_a_liar(['favor 1 10 x', 'favor 2 10 x', *made])
+
+
+def silences(ledgers):
+    """Four of five members validate each ledger, and the fifth is silent."""
+    made = []
+    for seq in range(1, ledgers + 1):
+        made += ['issue 1 %d x full' % seq, *('lie %d 1 validation %d x 1 full' % (member, seq) for member in (2, 3, 4))]
+    return text_of([X, *('liar %d' % member for member in range(2, 6)), 'node 1 4 1,2,3,4,5', *made])
+
+
 def submits(lines):
     """One of five nodes is given a transaction, and `all` delivers it: two lines each."""
     made = []
