@@ -83,6 +83,36 @@ def restarts(lines):
     return two_with_a_liar(['restart 1'] * lines)
 
 
+def relists(lines):
+    """Two nodes with lists of 35 get lists of 35 and of 36, one behind the other."""
+    lists = [','.join(map(str, range(1, last + 1))) for last in (35, 36)]
+    nodes = ['node %d 28 %s' % (node, lists[0]) for node in (1, 2)]
+    return text_of([*nodes, *('list %d 29 %s' % (1 + it % 2, lists[it // 2 % 2]) for it in range(1, lines + 1))])
+
+
+def chain(ledgers):
+    """Names of so many ledgers of a chain, and the lines that make each known to node 1."""
+    parents = ['root', *('l%d' % it for it in range(1, ledgers))]
+    return [('l%d' % it, ['ledger l%d %s %d' % (it, parent, it), 'lie 2 1 header l%d' % it]) for it, parent in enumerate(parents, 1)]
+
+
+def flags(ledgers):
+    """Two members vote for an amendment at each flag ledger."""
+    made = []
+    for number, (name, known) in enumerate(chain(ledgers), 1):
+        made += [*known, 'issue 1 %d %s full' % (256 * number, name), 'lie 2 1 validation %d %s 1 full' % (256 * number, name)]
+    return two_with_a_liar(['favor 1 10 x', 'favor 2 10 x', *made])
+
+
+def silences(ledgers):
+    """Four of five members validate each ledger, and the fifth is silent."""
+    made = []
+    for seq, (name, known) in enumerate(chain(ledgers), 1):
+        made += [*known, 'issue 1 %d %s full' % (seq, name)]
+        made += ['lie %d 1 validation %d %s 1 full' % (member, seq, name) for member in (2, 3, 4)]
+    return text_of([*('liar %d' % member for member in range(2, 6)), 'node 1 4 1,2,3,4,5', *made])
+
+
 def submits(lines):
     """One of five nodes is given a transaction, and `all` delivers it: two lines each."""
     made = []

@@ -9,6 +9,7 @@ import time
 
 STARTS = 180  # seconds that a browser may take to start, and a script to answer
 WIDTH, HEIGHT = 1280, 860
+SCHEME = 'layout.css.prefers-color-scheme.content-override'  # 0 is dark, 1 is light
 
 
 class Fault(Exception):
@@ -74,6 +75,10 @@ class Chromium:
         """What is seen, as a PNG in base64."""
         return self.ask('Page.captureScreenshot', self.session)['data']
 
+    def printed(self):
+        """The page as it is printed, as a PDF in base64."""
+        return self.ask('Page.printToPDF', self.session, printBackground=True)['data']
+
     def close(self):
         self.process.kill()
         self.process.wait()
@@ -94,7 +99,7 @@ class Firefox:
             port = free.getsockname()[1]
         with open(self.folder + '/user.js', 'w', encoding='ascii') as file:
             file.write('user_pref("marionette.port", %d);\nuser_pref("ui.systemUsesDarkTheme", 0);\n' % port)
-        words = [self.name, '--headless', '--marionette', '--no-remote', '--profile', self.folder]
+        words = [self.name, '--headless', '--marionette', '--remote-allow-system-access', '--no-remote', '--profile', self.folder]
         words += ['--width', str(width), '--height', str(height)]
         quiet = dict(stdin=subprocess.DEVNULL, stdout=subprocess.DEVNULL, stderr=subprocess.DEVNULL)
         self.process = subprocess.Popen(words, env={**os.environ, 'HOME': self.folder}, **quiet)
@@ -154,10 +159,18 @@ class Firefox:
 
     def resize(self, width, height, is_dark=False):
         self.ask('WebDriver:SetWindowRect', width=width, height=height)
+        # a setting of the browser, which a page can't change
+        self.ask('Marionette:SetContext', value='chrome')
+        self.ask('WebDriver:ExecuteScript', script='Services.prefs.setIntPref(arguments[0], arguments[1])', args=[SCHEME, 1 - is_dark])
+        self.ask('Marionette:SetContext', value='content')
 
     def picture(self):
         """What is seen, as a PNG in base64."""
         return self.ask('WebDriver:TakeScreenshot', full=False)['value']
+
+    def printed(self):
+        """The page as it is printed, as a PDF in base64."""
+        return self.ask('WebDriver:Print', background=True)['value']
 
     def close(self):
         if self.link:
